@@ -1,0 +1,34 @@
+-- Tokens as the definitions see them: without where their text lies in the program's own memory.
+use Rattle.std.specs.Prelude.{ℕ, List, map}
+use Rattle.lex.specs.declared.token.Kind.{Kind}
+use Rattle.lex.specs.declared.token.Kind.TheVariants.{Name, Constant, Text, Fixed, Reserved}
+use Rattle.lex.specs.declared.token.Mark.{Mark}
+use Rattle.lex.specs.declared.token.Scalar.{Scalar}
+use Rattle.lex.specs.declared.token.Span.{Span}
+use Rattle.lex.specs.declared.token.Token.{Token}
+
+-- what a token says: a terminal of the grammar
+pub data Terminal : Type 0 where
+  name : (text : List ℕ) → Terminal
+  constant : (value : ℕ) (of : Scalar) → Terminal
+  text : (written : List ℕ) → Terminal
+  mark : Mark → Terminal
+  reserved : Terminal
+
+abbrev pub terminal : Kind → Terminal
+terminal (Name s) = name s.now
+terminal (Constant n t) = constant n t
+terminal (Text s) = text s.now
+terminal (Fixed m) = mark m
+terminal Reserved = reserved
+
+-- a token, and where it stands
+pub record Tok : Type 0 where
+  pub terminal : Terminal
+  pub span : Span
+
+abbrev pub tok : Token → Tok
+tok t = record { terminal = terminal t.kind; span = t.span }
+
+abbrev pub toks : List Token → List Tok
+toks = map tok
