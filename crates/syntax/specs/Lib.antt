@@ -1,0 +1,14 @@
+pub mod Tree
+pub mod Views
+pub mod Depth
+pub mod Numbers
+pub mod Names
+pub mod Types
+pub mod Formats
+pub mod Behaviours
+pub mod Actions
+pub mod Meaning
+pub mod Typing
+pub mod More
+pub mod Threads
+pub mod Laws

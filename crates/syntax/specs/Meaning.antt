@@ -1,0 +1,400 @@
+-- What expressions and statements do.
+use Rattle.std.specs.Prelude.{ℕ, zero, suc, ◌+◌, List, [], ◌∷◌, ◌++◌, length, take, Option, Some, None, if◌then◌else◌, Bool, true, false, not, ◌==◌, nat_lt, unwrap_or, option_map}
+use Rattle.std.specs.Fmt.{signed_decimal}
+use Rattle.lex.specs.declared.token.Scalar.{Scalar}
+use Rattle.lex.specs.declared.token.Scalar.TheVariants.{Int, Unsigned}
+use Rattle.syntax.specs.declared.tree.BinaryOp.{BinaryOp}
+use Rattle.syntax.specs.declared.tree.BinaryOp.TheVariants.{Add, Subtract}
+use Rattle.syntax.specs.declared.tree.LogicalOp.TheVariants.{AndThen, OrElse}
+use Rattle.syntax.specs.declared.tree.Step.{Step}
+use Rattle.syntax.specs.declared.tree.Step.TheVariants.{Up, Down}
+use Rattle.syntax.specs.declared.tree.Mode.{Mode}
+use Rattle.syntax.specs.declared.tree.Mode.TheVariants.{Atomic, Relaxed}
+use Rattle.syntax.specs.declared.numbers.Trap.TheVariants.{Index, Frames}
+use Rattle.syntax.specs.Tree as Tree
+use Rattle.syntax.specs.Tree.{Name, Expr, Exprs, Variable, Constant, Element, Call, Parenthesized, Cast, Unary, Binary, Logical, Conditional, Simple, Value as Just, Assign, Change, Declarator, Declaration, Start, Nothing, Declares, Does, Stmt, Stmts, Empty, Declare, Do, Block, Print, If, IfElse, While, DoWhile, For, Break, Continue, Return, Transaction, Cancel, Parameter, Function, Program}
+use Rattle.syntax.specs.declared.numbers.Value.{Value}
+use Rattle.syntax.specs.Numbers.{number, converted, is_zero, flag, unary, binary}
+use Rattle.syntax.specs.Names.{Local, newest, word_at, with_word, global_of, cells, definition_of}
+use Rattle.syntax.specs.Formats.{Piece, Literal, Figure, pieces}
+use Rattle.syntax.specs.Types.{type_of, running_scope}
+use Rattle.syntax.specs.declared.numbers.Stop.TheVariants.{Trapped, Wants, Spent, Astray}
+use Rattle.syntax.specs.Behaviours.{Memory}
+use Rattle.syntax.specs.Actions.{Place, Outside, Inside, State, Answer, Gives, Stops, Action, pure, stop, go_on, ◌>>=◌, ◌>>◌, tick, trap, or_trap, or_astray, locals, put_locals, load, store, may_print, say}
+
+-- where a value stands: in a local variable, by its place among the locals, or in a shared cell
+pub data Spot : Type 0 where
+  InLocal : (i : ℕ) (of : Scalar) → Spot
+  InCell : (cell : ℕ) (of : Scalar) → Spot
+
+abbrev pub fetch : Spot → Action Value
+fetch (InLocal i t) = do
+  mine ← locals
+  pure (record { of = t; word = word_at mine i })
+fetch (InCell c t) = do
+  w ← load c
+  pure (record { of = t; word = w })
+
+abbrev pub assign : Spot → Value → Action (Unit {0})
+assign (InLocal i t) v = do
+  mine ← locals
+  put_locals (with_word mine i (converted t v).word)
+assign (InCell c t) v = store c (converted t v).word
+
+abbrev pub say_all : List Piece → List Value → Action (Unit {0})
+say_all [] vs = pure tt
+say_all (Literal text ∷ ps) vs = say text >> say_all ps vs
+say_all (Figure t ∷ ps) [] = stop Astray
+say_all (Figure t ∷ ps) (v ∷ vs) = say (signed_decimal (number t v.word)) >> say_all ps vs
+
+-- how a statement ends
+pub data End : Type 0 where
+  Next : End
+  Breaks : End
+  Continues : End
+  Returns : (v : Value) → End
+  Cancels : End
+
+abbrev pub on_next : Action End → End → Action End
+on_next rest Next = rest
+on_next rest Breaks = pure Breaks
+on_next rest Continues = pure Continues
+on_next rest (Returns v) = pure (Returns v)
+on_next rest Cancels = pure Cancels
+
+-- a stretch with names of its own: they are gone at its end
+abbrev pub scoped : Action End → Action End
+scoped run = do
+  outer ← locals
+  end ← run
+  all ← locals
+  put_locals (take (length outer) all)
+  pure end
+
+-- a loop: each turn takes a tick, and tells how the loop ends, if it does
+abbrev pub after_turn : Action End → Option End → Action End
+after_turn rest None = rest
+after_turn rest (Some end) = pure end
+
+abbrev pub turns : ℕ → Action (Option End) → Action End
+turns zero turn = stop Spent
+turns (suc n) turn = tick >> (turn >>= after_turn (turns n turn))
+
+-- there are never more turns than ticks
+abbrev pub loop : Action (Option End) → Action End
+loop turn s = turns s.ticks turn s
+
+-- what the end of a loop's body says of the loop, where the next thing is to go on with
+abbrev pub after_body : Action (Option End) → End → Action (Option End)
+after_body go Next = go
+after_body go Continues = go
+after_body go Breaks = pure (Some Next)
+after_body go (Returns v) = pure (Some (Returns v))
+after_body go Cancels = pure (Some Cancels)
+
+-- the memory of a state inside a transaction
+abbrev pub memory_in : Place → Memory
+memory_in (Outside founds lefts) = []
+memory_in (Inside mode m) = m
+
+-- what a transaction leaves: a cancel undoes shared memory and locals, and the run goes on after it
+pub record Left : Type 0 where
+  pub end : End
+  pub locals : List Local
+  pub memory : Memory
+
+abbrev pub left_by : List Local → Memory → End → State → Left
+left_by mine found Cancels now = record { end = Next; locals = mine; memory = found }
+left_by mine found Next now = record { end = Next; locals = now.locals; memory = memory_in now.place }
+left_by mine found Breaks now = record { end = Breaks; locals = now.locals; memory = memory_in now.place }
+left_by mine found Continues now = record { end = Continues; locals = now.locals; memory = memory_in now.place }
+left_by mine found (Returns v) now = record { end = Returns v; locals = now.locals; memory = memory_in now.place }
+
+-- a transaction inside one that runs as outer
+abbrev pub leave_inner : Mode → Left → State → Answer End
+leave_inner outer left now = Gives left.end (record now { locals = left.locals; place = Inside outer left.memory })
+
+abbrev pub close_inner : Mode → List Local → Memory → Answer End → Answer End
+close_inner outer mine found (Gives end now) = leave_inner outer (left_by mine found end now) now
+close_inner outer mine found (Stops why now) = Stops why now
+
+abbrev pub inner : (outer mode : Mode) → Memory → Action End → Action End
+inner outer mode found run s = close_inner outer s.locals found (run (record s { place = Inside mode found }))
+
+-- an outermost transaction that is left: its tick is due before the memory left is added
+abbrev pub leave : List Memory → List Memory → Left → Action End
+leave founds lefts left now =
+    go_on (tick (record now { place = Outside founds lefts }))
+    (λ u then_. Gives left.end (record then_ { locals = left.locals; place = Outside founds (lefts ++ left.memory ∷ []) }))
+
+abbrev pub close : List Memory → List Memory → List Local → Memory → Answer End → Answer End
+close founds lefts mine found (Gives end now) = leave founds lefts (left_by mine found end now) now
+close founds lefts mine found (Stops (Trapped k) now) = Stops (Trapped k) (record now { place = Outside founds (lefts ++ found ∷ []) })
+close founds lefts mine found (Stops Wants now) = Stops Wants (record now { place = Outside founds lefts })
+close founds lefts mine found (Stops Spent now) = Stops Spent (record now { place = Outside founds lefts })
+close founds lefts mine found (Stops Astray now) = Stops Astray (record now { place = Outside founds lefts })
+
+abbrev pub outermost : Mode → Memory → List Memory → List Memory → Action End → Action End
+outermost mode found founds lefts run s =
+    close founds lefts s.locals found (run (record s { place = Inside mode found }))
+
+abbrev pub enter : Place → Mode → Action End → Action End
+enter (Outside [] lefts) mode run = stop Wants
+enter (Outside (found ∷ founds) lefts) mode run = outermost mode found founds lefts run
+enter (Inside Relaxed found) mode run = inner Relaxed mode found run
+enter (Inside Atomic found) Atomic run = inner Atomic Atomic found run
+enter (Inside Atomic found) Relaxed run = stop Astray
+
+abbrev pub transaction : Mode → Action End → Action End
+transaction mode run s = enter s.place mode run s
+
+abbrev pub op_of : Step → BinaryOp
+op_of Up = Add
+op_of Down = Subtract
+
+abbrev pub one : Value
+one = record { of = Int; word = 1 }
+
+-- a call of a function by its name
+abbrev pub Caller : Type 0
+Caller = List ℕ → List Value → Action Value
+
+module _ (p : Program) (call : Caller) where
+  abbrev pub spot_from : List ℕ → Option (ℕ × Scalar) → Action Spot
+  spot_from x (Some l) = pure (InLocal l.0 l.1)
+  spot_from x None = do
+    g ← or_astray (global_of p x)
+    pure (InCell g.cell g.global.of)
+
+  abbrev pub named : List ℕ → Action Spot
+  named x = do
+    mine ← locals
+    spot_from x (newest mine x)
+
+  -- an index is tested when it is computed
+  abbrev pub element : List ℕ → Value → Action Spot
+  element x k = do
+    g ← or_astray (global_of p x)
+    if nat_lt k.word (cells g.global) then pure (InCell (g.cell + k.word) g.global.of) else trap Index
+
+  abbrev mutual
+    pub expr : Expr → Action Value
+    expr (Variable x) = do
+      at ← named x.text
+      fetch at
+    expr (Constant n t at) = pure (record { of = t; word = n })
+    expr (Element x i at) = do
+      k ← expr i
+      at ← element x.text k
+      fetch at
+    expr (Call f es at) = do
+      vs ← exprs es
+      tick
+      call f.text vs
+    expr (Parenthesized e at) = expr e
+    expr (Cast t e at) = do
+      v ← expr e
+      pure (converted t v)
+    expr (Unary op e at) = do
+      v ← expr e
+      or_trap (unary op v)
+    expr (Binary op a b at) = do
+      v ← expr a
+      w ← expr b
+      or_trap (binary op v w)
+    expr (Logical AndThen a b at) = do
+      v ← expr a
+      if is_zero v then pure (flag false) else (expr b >>= λ w. pure (flag (not (is_zero w))))
+    expr (Logical OrElse a b at) = do
+      v ← expr a
+      if is_zero v then (expr b >>= λ w. pure (flag (not (is_zero w)))) else pure (flag true)
+    expr (Conditional c a b at) = do
+      v ← expr c
+      w ← if is_zero v then expr b else expr a
+      mine ← locals
+      t ← or_astray (type_of (running_scope p mine) (Conditional c a b at))
+      pure (converted t w)
+
+    pub exprs : Exprs → Action (List Value)
+    exprs Tree.[] = pure []
+    exprs (Tree.◌∷◌ e es) = do
+      v ← expr e
+      vs ← exprs es
+      pure (v ∷ vs)
+
+  -- the left side of an assignment
+  abbrev pub spot : Expr → Action Spot
+  spot (Variable x) = named x.text
+  spot (Element x i at) = do
+    k ← expr i
+    element x.text k
+  spot e = stop Astray
+
+  -- what an operator's assignment writes, the old value read first
+  abbrev pub changed : Spot → Action Value → BinaryOp → Action (Unit {0})
+  changed at by op = do
+    old ← fetch at
+    v ← by
+    new ← or_trap (binary op old v)
+    assign at new
+
+  abbrev pub assigned : Spot → Action Value → Option BinaryOp → Action (Unit {0})
+  assigned at by None = do
+    v ← by
+    assign at v
+  assigned at by (Some op) = changed at by op
+
+  abbrev pub simple : Simple → Action End
+  simple (Just e) = do
+    expr e
+    pure Next
+  simple (Assign to op e) = do
+    at ← spot to
+    assigned at (expr e) op
+    pure Next
+  simple (Change to by) = do
+    at ← spot to
+    changed at (pure one) (op_of by)
+    pure Next
+
+  -- a declared name is 0 and then, in its own scope, its first value
+  abbrev pub first_value : Spot → Option Expr → Action (Unit {0})
+  first_value at None = pure tt
+  first_value at (Some e) = do
+    v ← expr e
+    assign at v
+
+  abbrev pub declare : Scalar → List Declarator → Action End
+  declare t [] = pure Next
+  declare t (d ∷ ds) = do
+    mine ← locals
+    put_locals (mine ++ record { name = d.name.text; of = t; word = 0 } ∷ [])
+    first_value (InLocal (length mine) t) d.first
+    declare t ds
+
+  abbrev pub start_with : Start → Action End
+  start_with Nothing = pure Next
+  start_with (Declares d) = declare d.of d.declarators
+  start_with (Does s) = simple s
+
+  -- a missing condition is true
+  abbrev pub holds : Option Expr → Action Bool
+  holds None = pure true
+  holds (Some e) = do
+    v ← expr e
+    pure (not (is_zero v))
+
+  abbrev pub stepped : Option Simple → Action (Option End)
+  stepped None = pure None
+  stepped (Some s) = do
+    simple s
+    pure None
+
+  abbrev pub return_value : Option Expr → Action Value
+  return_value None = pure (flag false)
+  return_value (Some e) = expr e
+
+  abbrev mutual
+    pub stmt : Stmt → Action End
+    stmt Empty = do
+      tick
+      pure Next
+    stmt (Declare d) = do
+      tick
+      declare d.of d.declarators
+    stmt (Do s) = do
+      tick
+      simple s
+    stmt (Block ss) = do
+      tick
+      scoped (stmts ss)
+    stmt (Print at format format_at es) = do
+      tick
+      may_print
+      vs ← exprs es
+      say_all (pieces false format) vs
+      pure Next
+    stmt (If c a) = do
+      tick
+      v ← expr c
+      if is_zero v then pure Next else stmt a
+    stmt (IfElse c a b) = do
+      tick
+      v ← expr c
+      if is_zero v then stmt b else stmt a
+    stmt (While c a) = do
+      tick
+      loop (do
+        v ← expr c
+        if is_zero v then pure (Some Next) else (stmt a >>= after_body (pure None)))
+    stmt (DoWhile a c) = do
+      tick
+      loop (stmt a >>= after_body (do
+        v ← expr c
+        pure (if is_zero v then Some Next else None)))
+    stmt (For start c step a) = do
+      tick
+      scoped (do
+        start_with start
+        loop (do
+          more ← holds c
+          if more then (stmt a >>= after_body (stepped step)) else pure (Some Next)))
+    stmt (Break at) = do
+      tick
+      pure Breaks
+    stmt (Continue at) = do
+      tick
+      pure Continues
+    stmt (Return e at) = do
+      tick
+      v ← return_value e
+      pure (Returns v)
+    stmt (Transaction mode ss at) = do
+      tick
+      transaction mode (scoped (stmts ss))
+    stmt (Cancel at) = do
+      tick
+      pure Cancels
+
+    pub stmts : Stmts → Action End
+    stmts Tree.[] = pure Next
+    stmts (Tree.◌∷◌ s ss) = stmt s >>= on_next (stmts ss)
+
+-- the parameters, with the arguments converted
+abbrev pub bound : Parameter → Value → Option Local
+bound q v = option_map (λ x. record { name = x.text; of = q.of; word = (converted q.of v).word }) q.name
+
+abbrev pub both : Option Local → Option (List Local) → Option (List Local)
+both (Some l) (Some ls) = Some (l ∷ ls)
+both (Some l) None = None
+both None o = None
+
+abbrev pub entered : List Parameter → List Value → Option (List Local)
+entered [] [] = Some []
+entered [] (v ∷ vs) = None
+entered (q ∷ qs) [] = None
+entered (q ∷ qs) (v ∷ vs) = both (bound q v) (entered qs vs)
+
+-- the value of a call, of the function's own type: one that runs off its end gives 0, and no other end leaves it
+abbrev pub result_of : Option Scalar → End → Action Value
+result_of t Next = pure (converted (unwrap_or t Int) (flag false))
+result_of t (Returns v) = pure (converted (unwrap_or t Int) v)
+result_of t Breaks = stop Astray
+result_of t Continues = stop Astray
+result_of t Cancels = stop Astray
+
+-- a function's body, with locals of its own
+abbrev pub invoke : Program → Caller → Caller
+invoke p call x vs = do
+  f ← or_astray (definition_of p x)
+  mine ← or_astray (entered f.0.parameters vs)
+  outer ← locals
+  put_locals mine
+  end ← stmts p call f.1
+  put_locals outer
+  result_of f.0.result end
+
+-- a call where so many further frames may come to live
+abbrev pub calls : Program → ℕ → Caller
+calls p zero x vs = trap Frames
+calls p (suc k) x vs = invoke p (calls p k) x vs

@@ -1,0 +1,91 @@
+-- What names are known as, and the types of expressions.
+use Rattle.std.specs.Prelude.{bytes_eq, ℕ, List, [], ◌∷◌, map, Option, Some, None, if◌then◌else◌, option_map, unwrap_or}
+use Rattle.lex.specs.declared.token.Scalar.{Scalar}
+use Rattle.lex.specs.declared.token.Scalar.TheVariants.{Int}
+use Rattle.syntax.specs.declared.tree.UnaryOp.{UnaryOp}
+use Rattle.syntax.specs.declared.tree.UnaryOp.TheVariants.{Negate, Keep, Not, Complement}
+use Rattle.syntax.specs.declared.tree.BinaryOp.{BinaryOp}
+use Rattle.syntax.specs.declared.tree.BinaryOp.TheVariants.{ShiftLeft, ShiftRight}
+use Rattle.syntax.specs.Tree.{Expr, Variable, Constant, Element, Call, Parenthesized, Cast, Unary, Binary, Logical, Conditional, Function, Global, Item, Defines, Shares, Program}
+use Rattle.syntax.specs.Names.{Local, newest}
+use Rattle.syntax.specs.Numbers.{common, result_type}
+
+-- what a name is known as
+pub data Known : Type 0 where
+  Number : (of : Scalar) → Known
+  Array : (of : Scalar) (length : ℕ) → Known
+  Code : (result : Option Scalar) (takes : List Scalar) → Known
+
+abbrev pub Scope : Type 0
+Scope = List ℕ → Option Known
+
+abbrev pub known_global : Global → Known
+known_global g = unwrap_or (option_map (λ n. Array g.of n.0) g.length) (Number g.of)
+
+abbrev pub known_function : Function → Known
+known_function f = Code f.result (map (λ q. q.of) f.parameters)
+
+abbrev pub known_among : List Global → Scope → Scope
+known_among [] rest x = rest x
+known_among (g ∷ gs) rest x = if bytes_eq g.name.text x then Some (known_global g) else known_among gs rest x
+
+-- what the file makes known
+abbrev pub file_scope : List Item → Scope
+file_scope [] x = None
+file_scope (Defines f ∷ items) x = if bytes_eq f.name.text x then Some (known_function f) else file_scope items x
+file_scope (Shares gs ∷ items) x = known_among gs (file_scope items) x
+
+-- a further name hides an outer one
+abbrev pub with_number : List ℕ → Scalar → Scope → Scope
+with_number x t outer y = if bytes_eq x y then Some (Number t) else outer y
+
+abbrev pub number_type : Option Known → Option Scalar
+number_type None = None
+number_type (Some (Number t)) = Some t
+number_type (Some (Array t n)) = None
+number_type (Some (Code r ts)) = None
+
+abbrev pub element_type : Option Known → Option Scalar
+element_type None = None
+element_type (Some (Number t)) = None
+element_type (Some (Array t n)) = Some t
+element_type (Some (Code r ts)) = None
+
+abbrev pub call_type : Option Known → Option Scalar
+call_type None = None
+call_type (Some (Number t)) = None
+call_type (Some (Array t n)) = None
+call_type (Some (Code r ts)) = r
+
+abbrev pub common_of : Option Scalar → Option Scalar → Option Scalar
+common_of (Some s) (Some t) = Some (common s t)
+common_of (Some s) None = None
+common_of None t = None
+
+abbrev pub unary_type : UnaryOp → Option Scalar → Option Scalar
+unary_type Not t = Some Int
+unary_type Negate t = t
+unary_type Keep t = t
+unary_type Complement t = t
+
+abbrev pub binary_type : BinaryOp → Option Scalar → Option Scalar → Option Scalar
+binary_type ShiftLeft s t = s
+binary_type ShiftRight s t = s
+binary_type op s t = option_map (result_type op) (common_of s t)
+
+-- the type of the number that an expression gives; none where it gives none
+abbrev pub type_of : Scope → Expr → Option Scalar
+type_of known (Variable x) = number_type (known x.text)
+type_of known (Constant n t at) = Some t
+type_of known (Element x i at) = element_type (known x.text)
+type_of known (Call f es at) = call_type (known f.text)
+type_of known (Parenthesized e at) = type_of known e
+type_of known (Cast t e at) = Some t
+type_of known (Unary op e at) = unary_type op (type_of known e)
+type_of known (Binary op a b at) = binary_type op (type_of known a) (type_of known b)
+type_of known (Logical op a b at) = Some Int
+type_of known (Conditional c a b at) = common_of (type_of known a) (type_of known b)
+
+-- what is known while a function runs with these locals
+abbrev pub running_scope : Program → List Local → Scope
+running_scope p ls x = unwrap_or (option_map (λ l. Some (Number l.1)) (newest ls x)) (file_scope p x)
