@@ -12,4 +12,6 @@ pub mod Typing
 pub mod More
 pub mod Threads
 pub mod Laws
+pub mod Phrases
+pub mod Grammar
 pub mod StraightLine
