@@ -12,3 +12,4 @@ pub mod Typing
 pub mod More
 pub mod Threads
 pub mod Laws
+pub mod StraightLine
