@@ -9,6 +9,5 @@ pub mod Behaviours
 pub mod Actions
 pub mod Meaning
 pub mod Typing
-pub mod More
 pub mod Threads
 pub mod Laws
