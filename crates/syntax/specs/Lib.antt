@@ -11,3 +11,4 @@ pub mod Meaning
 pub mod Typing
 pub mod Threads
 pub mod Laws
+pub mod StraightLine
