@@ -1,1 +1,2 @@
+mod Further
 pub mod Seen
