@@ -1,1 +1,4 @@
+pub mod Depths
+pub mod Pushes
+pub mod Sames
 pub mod Seen
