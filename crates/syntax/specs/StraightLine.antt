@@ -1,9 +1,9 @@
 -- Programs of straight lines: single variables of type `int`, and then one function whose transactions assign sums.
 use Rattle.std.specs.Prelude.{◌≡◌, List, [], ◌∷◌, Option, Some, None, IsSome}
-use Rattle.lex.specs.declared.token.Scalar.TheVariants.{Int, Unsigned}
+use Rattle.lex.specs.declared.token.Scalar.TheVariants.{Int}
 use Rattle.syntax.specs.declared.tree.BinaryOp.{BinaryOp}
 use Rattle.syntax.specs.declared.tree.BinaryOp.TheVariants.{Add, Subtract}
-use Rattle.syntax.specs.declared.tree.Mode.TheVariants.{Atomic, Relaxed}
+use Rattle.syntax.specs.declared.tree.Mode.TheVariants.{Atomic}
 use Rattle.syntax.specs.declared.tree.First.{First}
 use Rattle.syntax.specs.Tree as Tree
 use Rattle.syntax.specs.Tree.{Expr, Variable, Constant, Binary, Simple, Assign, Stmt, Stmts, Do, Transaction, Parameter, Function, Global, Item, Defines, Shares, Program}
