@@ -11,4 +11,6 @@ pub mod Meaning
 pub mod Typing
 pub mod Threads
 pub mod Laws
+pub mod Phrases
+pub mod Grammar
 pub mod StraightLine
