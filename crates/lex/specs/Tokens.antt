@@ -1,5 +1,5 @@
 -- Tokens as the definitions see them: without where their text lies in the program's own memory.
-use Rattle.std.specs.Prelude.{ℕ, List, map}
+use Rattle.std.specs.Prelude.{ℕ, List, [], ◌∷◌, ◌==◌, if◌then◌else◌, map}
 use Rattle.lex.specs.declared.token.Kind.{Kind}
 use Rattle.lex.specs.declared.token.Kind.TheVariants.{Name, Constant, Text, Fixed, Reserved}
 use Rattle.lex.specs.declared.token.Mark.{Mark}
@@ -32,3 +32,13 @@ tok t = record { terminal = terminal t.kind; span = t.span }
 
 abbrev pub toks : List Token → List Tok
 toks = map tok
+
+-- the byte that a backslash and this one stand for: `\n` is LF, `\t` is tab, `\\` and `\"` are their second byte
+abbrev pub stands_for : ℕ → ℕ
+stands_for b = if b == 110 then 10 else (if b == 116 then 9 else b)
+
+-- the bytes that a string stands for, of those that it is written with: a backslash and the byte behind it are one
+abbrev pub unescaped : List ℕ → List ℕ
+unescaped [] = []
+unescaped (a ∷ []) = a ∷ []
+unescaped (a ∷ b ∷ rest) = if a == 92 then stands_for b ∷ unescaped rest else a ∷ unescaped (b ∷ rest)
