@@ -7,8 +7,11 @@ mod Memories
 mod MoreRows
 mod OneTick
 mod Rows
-pub mod Seen
 mod Steady
 mod ThreadLaws
 mod ValueTypes
 mod Words
+pub mod Depths
+pub mod Pushes
+pub mod Sames
+pub mod Seen
