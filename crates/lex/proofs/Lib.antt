@@ -7,3 +7,4 @@ pub mod Marks
 pub mod Directives
 pub mod Steps
 pub mod Cuts
+pub mod Lies
