@@ -8,3 +8,6 @@ pub mod Directives
 pub mod Steps
 pub mod Cuts
 pub mod Lies
+pub mod Spellings
+pub mod Once
+pub mod Ways

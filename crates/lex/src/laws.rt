@@ -9,5 +9,9 @@ ghost use Rattle.lex.specs.Laws.{Lie};
 /// bytes of its own span mean.
 pub fn tokens_lie_in_order()
     ensures { (text : List ℕ) (ts : List Tok) → IsLexed text ts → Lie text 0 (length text) ts }
-{
-}
+{}
+
+/// A text has at most one list of tokens.
+pub fn one_list_of_tokens()
+    ensures { (text : List ℕ) (ts us : List Tok) → IsLexed text ts → IsLexed text us → ts ≡ us }
+{}
