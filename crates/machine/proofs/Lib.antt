@@ -14,3 +14,8 @@ pub mod Follow
 pub mod Explained
 pub mod Insert
 pub mod Main
+pub mod Aborts
+pub mod Within
+pub mod Order
+pub mod InTime
+pub mod Extended

@@ -1,5 +1,5 @@
 -- The main theorem: from the new world every list of steps is serializable.
-use Rattle.std.proofs.Common.{◌≡◌, ◌≢◌, ◌<◌, ◌≤◌, ◌+◌, ◌==◌, ◌⊎◌, inl, inr, ℕ, zero, suc, true, false, List, [], ◌∷◌, ◌++◌, Option, None, Some, refl, sym, ◌∙◌, ap, subst, length, slice_get, set, add-zero, zero-add, add-suc, suc-add, arith}
+use Rattle.std.proofs.Common.{◌≡◌, ◌≢◌, ◌<◌, ◌≤◌, ◌+◌, ◌==◌, ◌⊎◌, inl, inr, ℕ, zero, suc, true, false, List, [], ◌∷◌, ◌++◌, Option, None, Some, refl, sym, ◌∙◌, ap, subst, length, slice_get, set, add-zero, zero-add, add-suc, suc-add, append-nil, arith}
 use Rattle.std.specs.List.{AllByRecursion}
 use Rattle.std.proofs.lemmas.Bool.Decides.{eqb_tells}
 use Rattle.std.proofs.lemmas.Option.{slice_get_within}
@@ -7,10 +7,10 @@ use Rattle.std.proofs.Math.ListN.{length-set}
 use Rattle.syntax.specs.Behaviours.{IsMemory}
 use Rattle.bytecode.specs.Effects.{Effect, FitsCells}
 use Rattle.bytecode.specs.Sequential.{meaning}
-use Rattle.machine.specs.Invariant.{History, Invariant, Ordered, PartOk}
+use Rattle.machine.specs.Invariant.{History, Invariant, Ordered, PartOk, bound_of}
 use Rattle.machine.specs.Merges.{Entry, IsMerge, insert, insert_made, key_of, made_of, merged, own}
 use Rattle.machine.specs.Serializable.{IsSerializable}
-use Rattle.machine.specs.Threads.{access, after, told}
+use Rattle.machine.specs.Threads.{Next, access, after, told}
 use Rattle.machine.specs.Worlds.{Part, Record, World, added, answer, new_part, new_parts, new_world, part_after, recorded, run, step, step_of}
 use Rattle.machine.proofs.Explained.{explained}
 use Rattle.machine.proofs.Insert.{insert_all, insert_sorted, keys_before, own-insert_other, own-insert_same}
@@ -79,6 +79,35 @@ module _ {C : Type 0} (code : C → Effect C) (init : ℕ → C) (m0 : List ℕ)
               ∙ ap (λ l. l ++ x ∷ []) (m.own_records t p here) ∙ sym is)
               (λ u ne. own-insert_other u e es (λ f. ne (sym f)));
         }
+
+  -- a thread's own entries only grow
+  pub own_grows : (cells : ℕ) (fits : FitsCells code cells) (w : World C) (h : History) (u t : ℕ) (es : List Entry) → Invariant code cells init m0 h w → IsMerge w.parts es → (further : List Record) × (own t (insert_made u (made_of code w (slice_get w.parts u)) es) ≡ own t es ++ further)
+  own_grows cells fits w h u t es v m = at (slice_get w.parts u) refl (step_kept code cells init m0 fits w h u v)
+    where
+      none : (further : List Record) × (own t es ≡ own t es ++ further)
+      none = ([], sym (append-nil (own t es)))
+
+      at : (o : Option (Part C)) → slice_get w.parts u ≡ o → (k : History) × Invariant code cells init m0 k (step code w u) → (further : List Record) × (own t (insert_made u (made_of code w o) es) ≡ own t es ++ further)
+      at None e later = none
+      at (Some p) e later = by (recorded p.base n.completed) (λ x is. subst (λ l. Ordered 0 l (bound_of later.0 n.thread.attempt)) (ap (added p.records) is) ok.ordered)
+        where
+          n : Next C
+          n = told code p.thread (answer w.lock w.words (access code p.thread))
+
+          ok : PartOk code cells later.0 u (init u) (part_after w.words p n)
+          ok = later.1.parts u (part_after w.words p n) (ap (λ o'. slice_get (step_of code w u o').parts u) e ∙ get-set_same w.parts u (part_after w.words p n) p e)
+
+          by : (o : Option Record) → ((x : Record) → o ≡ Some x → Ordered 0 (p.records ++ x ∷ []) (bound_of later.0 n.thread.attempt)) → (further : List Record) × (own t (insert_made u o es) ≡ own t es ++ further)
+          by None ord = none
+          by (Some x) ord = or_other (eqb_tells u t)
+            where
+              keys : AllByRecursion (λ (y : Record). key_of y.snapshot y.marked ≤ key_of x.snapshot x.marked) p.records
+              keys = keys_before 0 p.records x (bound_of later.0 n.thread.attempt) (ord x refl)
+
+              or_other : ((u == t) ≡ true) × (u ≡ t) ⊎ ((u == t) ≡ false) × (u ≢ t) → (further : List Record) × (own t (insert_made u (Some x) es) ≡ own t es ++ further)
+              or_other (inl f) = (x ∷ [], subst (λ r. own r (insert_made u (Some x) es) ≡ own r es ++ x ∷ []) f.1
+                  (own-insert_same u 0 (record { thread = u; item = x }) es refl m.sorted (subst (AllByRecursion (λ (y : Record). key_of y.snapshot y.marked ≤ key_of x.snapshot x.marked)) (sym (m.own_records u p e)) keys)))
+              or_other (inr f) = ([], own-insert_other t (record { thread = u; item = x }) es f.1 ∙ sym (append-nil (own t es)))
 
   module _ (cells : ℕ) (fits : FitsCells code cells) where
     pub merge_step : (w : World C) (h : History) (t : ℕ) (es : List Entry) → Invariant code cells init m0 h w → IsMerge w.parts es → IsMerge (step code w t).parts (insert_made t (made_of code w (slice_get w.parts t)) es)
