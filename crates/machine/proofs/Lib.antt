@@ -19,3 +19,8 @@ pub mod Within
 pub mod Order
 pub mod InTime
 pub mod Extended
+pub mod Alone
+pub mod OneThread
+pub mod Rows
+pub mod Steps
+pub mod Programs
