@@ -1,0 +1,13 @@
+pub mod Runs
+pub mod Classes
+pub mod Pieces
+pub mod Quotes
+pub mod Numbers
+pub mod Marks
+pub mod Directives
+pub mod Steps
+pub mod Cuts
+pub mod Lies
+pub mod Spellings
+pub mod Once
+pub mod Ways
