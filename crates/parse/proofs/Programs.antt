@@ -57,7 +57,7 @@ program_goes x p s = subst (ProgramL (whole_tree x)) (sym s.whole) (items_go x.0
 
 depth_of : (xs : List Item) (f : Function) (p : List Tok) → Many ShareL xs p → program_depth (program_tree xs f) ≡ max (body_depth f.body) 0
 depth_of [] f p l = refl
-depth_of (Shares gs ∷ xs) f p s = depth_of xs f s.back s.second
+depth_of (Shares gs ∷ xs) f p s = let rest : program_depth (program_tree xs f) ≡ max (body_depth f.body) 0 = depth_of xs f s.back s.second in omega arith
 depth_of (Defines g ∷ xs) f p s = absurd s.first
 
 -- a program apart: what is shared, and the function
@@ -94,8 +94,8 @@ fits d (Defines f ∷ xs) p s = absurd s.first
 
 deepens : (d : ℕ) (xs : List Item) (f : Function) → ManyFit ItemW d xs → FuncW d f → program_depth (program_tree xs f) ≤ d + 4
 deepens d [] f w v = let h : body_depth f.body ≤ d + 4 = v in omega arith
-deepens d (Shares gs ∷ xs) f w v = deepens d xs f w.1 v
-deepens d (Defines g ∷ xs) f w v = let rest = deepens d xs f w.1 v in let h : max (body_depth g.body) 0 ≤ d + 4 = w.0 in omega arith
+deepens d (Shares gs ∷ xs) f w v = let rest : program_depth (program_tree xs f) ≤ d + 4 = deepens d xs f w.1 v in omega arith
+deepens d (Defines g ∷ xs) f w v = let rest : program_depth (program_tree xs f) ≤ d + 4 = deepens d xs f w.1 v in let h : max (body_depth g.body) 0 ≤ d + 4 = w.0 in omega arith
 
 pub program_exact : (d : ℕ) → Exact program ProgramL ProgramW Always Always d
 program_exact d =

@@ -8,7 +8,7 @@ use Rattle.syntax.specs.Depth.{program_depth}
 use Rattle.syntax.specs.Phrases.{Begins, IsUnexpected, IsUnfinished, IsTooDeep, end_of}
 use Rattle.syntax.specs.Grammar.{Source, source_depth}
 use Rattle.syntax.specs.StraightLine.{SpellsStraightLine}
-use Rattle.parse.specs.Reading.{Fault, wrong, deep, program, finished, whole_at}
+use Rattle.parse.specs.Reading.{Fault, wrong, deep, program_tree, program, whole_at}
 use Rattle.parse.proofs.Exact.{Exact, Always}
 use Rattle.parse.proofs.Lines.{func_begins}
 use Rattle.parse.proofs.Programs.{ProgramL, program_exact, program_goes}
@@ -24,7 +24,7 @@ deep_exact d high = record {
 }
 
 some_program : Begins ProgramL []
-some_program = let b = func_begins in record { value = _; more = b.more; spelled = program_goes ([], b.value) b.more (record { front = []; back = b.more; first = refl; second = b.spelled; whole = refl }) }
+some_program = let b = func_begins in record { value = program_tree [] b.value; more = b.more; spelled = program_goes ([], b.value) b.more (record { front = []; back = b.more; first = refl; second = b.spelled; whole = refl }) }
 
 -- ---- programs with the place of their end
 
@@ -34,10 +34,10 @@ source_spells p ts l = ((l.0, refl), l.1, l.2)
 program_spells : (s : Source) (ts : List Tok) → SpellsStraightLine s ts → ProgramL s.program ts
 program_spells s ts l = (l.0.0, l.1, l.2)
 
-source_begins : (ts : List Tok) → Begins ProgramL ts → Begins SpellsStraightLine ts
+abbrev source_begins : (ts : List Tok) → Begins ProgramL ts → Begins SpellsStraightLine ts
 source_begins ts b = record { value = record { program = b.value; ends = end_of (ts ++ b.more) }; more = b.more; spelled = source_spells b.value (ts ++ b.more) b.spelled }
 
-program_begins : (ts : List Tok) → Begins SpellsStraightLine ts → Begins ProgramL ts
+abbrev program_begins : (ts : List Tok) → Begins SpellsStraightLine ts → Begins ProgramL ts
 program_begins ts b = record { value = (b.value).program; more = b.more; spelled = program_spells b.value (ts ++ b.more) b.spelled }
 
 source_same : (a b : Source) → a.program ≡ b.program → a.ends ≡ b.ends → a ≡ b

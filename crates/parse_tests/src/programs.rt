@@ -1,8 +1,9 @@
 //! A program with its tree, one list of tokens for each fault, and each growth refused in turn.
 
-use super::{parse, ParseFault};
+use parse::parse;
 use lex::token::{Kind, Mark, Scalar, Span, Token};
 use refusing::Refusing;
+use std::alloc::{AllocError, Allocator};
 use std::test::Fail;
 use syntax::tree::{BinaryOp, Expr, Item, Simple, Stmt};
 
