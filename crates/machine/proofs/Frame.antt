@@ -1,16 +1,15 @@
 -- A step of one thread keeps what holds of the part of another.
 use Rattle.std.proofs.Common.{◌≡◌, ◌≢◌, ◌<◌, ◌≤◌, ◌+◌, ◌%◌, ◌⊎◌, inl, inr, ℕ, Bool, true, false, List, [], ◌∷◌, ◌++◌, Option, None, Some, refl, sym, ◌∙◌, ap, ap₂, subst, get_or, arith}
 use Rattle.std.specs.List.{AllByRecursion}
-use Rattle.write_log.specs.Overlay.{overlay}
 use Rattle.read_log.specs.Agreement.{Agrees, AgreesBelow}
 use Rattle.bytecode.specs.Effects.{Effect}
-use Rattle.bytecode.specs.Sequential.{Status, steps, start, outside}
-use Rattle.norec_core.specs.Attempts.{Phase, Attempt, Record}
+use Rattle.norec_core.specs.Attempts.{Attempt}
+use Rattle.norec_core.specs.declared.step.Phase.{Phase}
+use Rattle.norec_core.specs.declared.step.Phase.TheVariants.{AtOperation, ReadsLock, Stores, ValidatesEntry, ValidatesTime}
+use Rattle.machine.specs.Explained.{has_lock}
+use Rattle.machine.specs.Invariant.{Begun, HasMarked, History, InHand, Left, LockBy, LockIs, Moves, Now, Ordered, PartOk, Reaches, RecordOk, bound_of, next_snapshot}
 use Rattle.machine.specs.Threads.{Thread}
-use Rattle.machine.specs.Worlds.{Part}
-use Rattle.machine.specs.Invariant.{History, LockIs, Took, RecordOk, Ordered, HasMarked, next_snapshot, bound_of, founds_of, lefts_of, ComesTo, Reaches, Begun, holding_of, LockBy, InHand, Now, PartOk, Moves}
-use Rattle.bytecode.specs.Sequential.Status.{Running}
-use Rattle.norec_core.specs.Attempts.Phase.{AtOperation, ReadsLock, ValidatesTime, ValidatesEntry, Stores, ReleasesAfterTrap}
+use Rattle.machine.specs.Worlds.{Part, Record}
 
 -- the lock is top or one more
 pub lock_bounds : (h : History) (o : Option ℕ) → LockIs h o → (h.top ≤ h.lock) × (h.lock ≤ h.top + 1)
@@ -22,46 +21,30 @@ pub even_lock : (h : History) (o : Option ℕ) → h.top % 2 ≡ 0 → LockIs h 
 even_lock h None even l e = l.0
 even_lock h (Some t) even l e = omega arith
 
-pub snap_le : (h : History) (t : ℕ) (x : Record) (b : Bool) → Took h t x b → x.snapshot ≤ h.top
-snap_le h t x true k = let e = k.0 in omega arith
-snap_le h t x false k = k.0
+pub snapshot_le : (h : History) (t : ℕ) (x : Record) (b : Bool) → Left h t x b → x.snapshot ≤ h.top
+snapshot_le h t x true k = let e = k.0 in omega arith
+snapshot_le h t x false k = k.0
 
-pub founds-same : (h : History) (t : ℕ) (mem : ℕ → List ℕ) (xs : List Record) → AllByRecursion (RecordOk h t) xs → ((s : ℕ) → s ≤ h.top → mem s ≡ h.mem s) → founds_of mem xs ≡ founds_of h.mem xs
-founds-same h t mem [] all same = refl
-founds-same h t mem (x ∷ xs) all same = ap₂ (λ m ms. m ∷ ms) (same x.snapshot (snap_le h t x x.marked all.0.took)) (founds-same h t mem xs all.1 same)
-
-pub lefts-same : (h : History) (t : ℕ) (mem : ℕ → List ℕ) (xs : List Record) → AllByRecursion (RecordOk h t) xs → ((s : ℕ) → s ≤ h.top → mem s ≡ h.mem s) → lefts_of mem xs ≡ lefts_of h.mem xs
-lefts-same h t mem [] all same = refl
-lefts-same h t mem (x ∷ xs) all same = ap₂ (λ m ms. overlay m x.writes ∷ ms) (same x.snapshot (snap_le h t x x.marked all.0.took)) (lefts-same h t mem xs all.1 same)
-
-took_frame : (t u : ℕ) (h k : History) (x : Record) (b : Bool) → Moves t h k → Took h u x b → Took k u x b
-took_frame t u h k x true m p =
-    let le = p.0 in
-    let top = m.top in (
-      omega arith,
-      m.owner x.snapshot (omega arith) ∙ p.1,
-      m.mem (x.snapshot + 2) le ∙ p.2 ∙ ap (λ n. overlay n x.writes) (sym (m.mem x.snapshot (omega arith))),
-    )
-took_frame t u h k x false m p = let le = p.0 in let top = m.top in (omega arith, p.1)
+left_frame : (t u : ℕ) (h k : History) (x : Record) (b : Bool) → Moves t h k → Left h u x b → Left k u x b
+left_frame t u h k x true m p = let le = p.0 in let top = m.top in (omega arith, m.owner x.snapshot (omega arith) ∙ p.1, p.2 ∙ sym (m.mem (x.snapshot + 2) le))
+left_frame t u h k x false m p = let le = p.0 in let top = m.top in (omega arith, p.1)
 
 pub each_frame : (t u : ℕ) (h k : History) (xs : List Record) → Moves t h k → AllByRecursion (RecordOk h u) xs → AllByRecursion (RecordOk k u) xs
 each_frame t u h k [] m all = all
-each_frame t u h k (x ∷ xs) m all = (record { even = all.0.even; took = took_frame t u h k x x.marked m all.0.took }, each_frame t u h k xs m all.1)
+each_frame t u h k (x ∷ xs) m all = (
+  record {
+    even = all.0.even;
+    found = all.0.found ∙ sym (m.mem x.snapshot (snapshot_le h u x x.marked all.0.left));
+    left = left_frame t u h k x x.marked m all.0.left;
+  },
+  each_frame t u h k xs m all.1,
+)
 
 pub ordered_up : (s : ℕ) (xs : List Record) (d e : ℕ) → d ≤ e → Ordered s xs d → Ordered s xs e
 ordered_up s [] d e le o = omega arith
 ordered_up s (x ∷ xs) d e le o = (o.0, ordered_up (next_snapshot x.snapshot x.marked) xs d e le o.1)
 
 module _ {C : Type 0} (code : C → Effect C) where
-  pub stands_frame : (c0 : C) (h : History) (t : ℕ) (mem : ℕ → List ℕ) (xs : List Record) (c : C) (text : List ℕ) (status : Status) → AllByRecursion (RecordOk h t) xs → ((s : ℕ) → s ≤ h.top → mem s ≡ h.mem s) → ComesTo code c0 h.mem xs c text status → ComesTo code c0 mem xs c text status
-  stands_frame c0 h t mem xs c text status all same s = (
-    s.0,
-    λ more.
-        ap (λ fs. steps code s.0 (start c0 (fs ++ more))) (founds-same h t mem xs all same)
-        ∙ s.1 more
-        ∙ ap (λ ls. outside c more ls text status) (sym (lefts-same h t mem xs all same)),
-  )
-
   holds_frame : (t u : ℕ) (h k : History) (a : Attempt C) (b : Bool) → u ≢ t → Moves t h k → LockBy h u a b → LockBy k u a b
   holds_frame t u h k a true ne m p =
       let q = m.holds u ne p.0 in
@@ -95,24 +78,23 @@ module _ {C : Type 0} (code : C → Effect C) where
             let same : h.lock ≡ time = omega arith in
             let top : h.lock ≡ h.top = even_lock h h.holder even l (rw same ev) in
             subst (λ n'. AgreesBelow n n' a.reads) (sym (m.mem time (omega arith))) (i.4 same),
+        i.5,
       )
   in_hand_frame t h k a c (Stores n) even l es le m i = i
-  in_hand_frame t h k a c (ReleasesAfterTrap cause) even l es le m i = i
 
-  pub begun_frame : (cells t u : ℕ) (h k : History) (c0 : C) (xs : List Record) (c : C) (a : Attempt C) (text : List ℕ) → AllByRecursion (RecordOk h u) xs → a.snapshot ≤ h.top → Moves t h k → Begun code cells h c0 xs c a text → Begun code cells k c0 xs c a text
-  begun_frame cells t u h k c0 xs c a text all le m b = record {
+  pub begun_frame : (cells t : ℕ) (h k : History) (c0 : C) (xs : List Record) (c : C) (a : Attempt C) (text : List ℕ) → a.snapshot ≤ h.top → Moves t h k → Begun code cells h c0 xs c a text → Begun code cells k c0 xs c a text
+  begun_frame cells t h k c0 xs c a text le m b = record {
     c1 = b.c1;
     text1 = b.text1;
     begins = b.begins;
-    comes_to = stands_frame c0 h u k.mem xs a.saved b.text1 Running all m.mem b.comes_to;
+    comes_to = b.comes_to;
     same_text = b.same_text;
     reaches = subst (λ n. Reaches code cells n b.c1 b.text1 c a text) (sym (m.mem a.snapshot le)) b.reaches;
   }
 
-  now_frame : (cells t u : ℕ) (h k : History) (c0 : C) (xs : List Record) (th : Thread C) (o : Option (Attempt C)) → h.top % 2 ≡ 0 → LockIs h h.holder → u ≢ t → Moves t h k → AllByRecursion (RecordOk h u) xs → Now code cells h u c0 xs th o → Now code cells k u c0 xs th o
-  now_frame cells t u h k c0 xs th None even l ne m all n =
-      (stands_frame c0 h u k.mem xs th.configuration th.text th.status all m.mem n.0, λ e. n.1 (m.held u ne e))
-  now_frame cells t u h k c0 xs th (Some a) even l ne m all n =
+  now_frame : (cells t u : ℕ) (h k : History) (c0 : C) (xs : List Record) (base : List ℕ) (th : Thread C) (o : Option (Attempt C)) → h.top % 2 ≡ 0 → LockIs h h.holder → u ≢ t → Moves t h k → Now code cells h u c0 xs base th o → Now code cells k u c0 xs base th o
+  now_frame cells t u h k c0 xs base th None even l ne m n = (n.0, λ e. n.1 (m.held u ne e))
+  now_frame cells t u h k c0 xs base th (Some a) even l ne m n =
       let up = m.top in
       let le = n.in_time in
       record {
@@ -120,11 +102,12 @@ module _ {C : Type 0} (code : C → Effect C) where
         even = n.even;
         first = n.first;
         in_time = omega arith;
+        based = n.based ∙ sym (m.mem a.snapshot le);
         agrees = subst (λ w. Agrees w a.reads) (sym (m.mem a.snapshot le)) n.agrees;
-        distinct = n.distinct;
+        log = n.log;
         marks = n.marks;
-        begun = begun_frame cells t u h k c0 xs th.configuration a th.text all le m n.begun;
-        holds = holds_frame t u h k a (holding_of a.kept a.phase) ne m n.holds;
+        begun = begun_frame cells t h k c0 xs th.configuration a th.text le m n.begun;
+        holds = holds_frame t u h k a (has_lock a.kept a.phase) ne m n.holds;
         in_hand = in_hand_frame t h k a th.configuration a.phase even l n.even le m n.in_hand;
       }
 
@@ -148,5 +131,5 @@ module _ {C : Type 0} (code : C → Effect C) where
     each = each_frame t u h k p.records m ok.each;
     ordered = ordered_up 0 p.records _ _ (floor_up t h k p.thread.attempt m) ok.ordered;
     complete = complete_frame t u h k p.records ne m ok.complete;
-    now = now_frame cells t u h k c0 p.records p.thread p.thread.attempt even l ne m ok.each ok.now;
+    now = now_frame cells t u h k c0 p.records p.base p.thread p.thread.attempt even l ne m ok.now;
   }

@@ -1,19 +1,15 @@
 -- Steps of the code meaning, put one after another.
 use Rattle.std.proofs.Common.{◌≡◌, ◌+◌, ℕ, zero, suc, Bool, false, List, [], ◌∷◌, ◌++◌, refl, sym, ◌∙◌, ap, length, zero-add, suc-add, append_assoc}
+use Rattle.std.proofs.lemmas.List.{map-append}
+use Rattle.syntax.specs.Behaviours.{Status}
+use Rattle.syntax.specs.Behaviours.Status.{Running}
 use Rattle.write_log.specs.Overlay.{overlay}
 use Rattle.bytecode.specs.Effects.{Effect}
-use Rattle.bytecode.specs.Sequential.{Status, Sequential, next, steps, start, outside, outside_step, inside_step}
-use Rattle.norec_core.specs.Attempts.{Phase, Checkpoint, Attempt, Record}
-use Rattle.machine.specs.Invariant.{History, founds_of, lefts_of, inside_of, inside, MayHaveFound, ComesTo, Begun}
-use Rattle.bytecode.specs.Sequential.Status.{Running}
-
-pub founds-append : (mem : ℕ → List ℕ) (xs : List Record) (x : Record) → founds_of mem (xs ++ x ∷ []) ≡ founds_of mem xs ++ mem x.snapshot ∷ []
-founds-append mem [] x = refl
-founds-append mem (y ∷ xs) x = ap (λ ms. mem y.snapshot ∷ ms) (founds-append mem xs x)
-
-pub lefts-append : (mem : ℕ → List ℕ) (xs : List Record) (x : Record) → lefts_of mem (xs ++ x ∷ []) ≡ lefts_of mem xs ++ overlay (mem x.snapshot) x.writes ∷ []
-lefts-append mem [] x = refl
-lefts-append mem (y ∷ xs) x = ap (λ ms. overlay (mem y.snapshot) y.writes ∷ ms) (lefts-append mem xs x)
+use Rattle.bytecode.specs.Sequential.{Sequential, inside_step, next, outside, outside_step, start, steps}
+use Rattle.norec_core.specs.Attempts.{Attempt, Checkpoint}
+use Rattle.norec_core.specs.declared.step.Phase.{Phase}
+use Rattle.machine.specs.Invariant.{Begun, ComesTo, History, MayHaveFound, founds_in, inside, inside_of, lefts_in}
+use Rattle.machine.specs.Worlds.{Record, record_of}
 
 module _ {C : Type 0} (code : C → Effect C) where
   pub steps-add : (n m : ℕ) (s : Sequential C) → steps code (n + m) s ≡ steps code m (steps code n s)
@@ -25,12 +21,12 @@ module _ {C : Type 0} (code : C → Effect C) where
   steps-last n s r e = steps-add n 1 s ∙ ap (next code) e
 
   -- one more step outside transactions
-  pub stands_step : (c0 : C) (mem : ℕ → List ℕ) (xs : List Record) (c d : C) (text text' : List ℕ) (status : Status) (x : Effect C) → code c ≡ x → ((more : List (List ℕ)) → outside_step (outside c more (lefts_of mem xs) text Running) x ≡ outside d more (lefts_of mem xs) text' status) → ComesTo code c0 mem xs c text Running → ComesTo code c0 mem xs d text' status
-  stands_step c0 mem xs c d text text' status x e one s = (
+  pub comes_step : (c0 : C) (xs : List Record) (c d : C) (text text' : List ℕ) (status : Status) (x : Effect C) → code c ≡ x → ((more : List (List ℕ)) → outside_step (outside c more (lefts_in xs) text Running) x ≡ outside d more (lefts_in xs) text' status) → ComesTo code c0 xs c text Running → ComesTo code c0 xs d text' status
+  comes_step c0 xs c d text text' status x e one s = (
     s.0 + 1,
     λ more.
         steps-last s.0 _ _ (s.1 more)
-        ∙ ap (outside_step (outside c more (lefts_of mem xs) text Running)) e
+        ∙ ap (outside_step (outside c more (lefts_in xs) text Running)) e
         ∙ one more,
   )
 
@@ -40,7 +36,7 @@ module _ {C : Type 0} (code : C → Effect C) where
       → ((m : List ℕ) → MayHaveFound reads a.kept (h.mem a.snapshot) m → MayHaveFound a.reads a.kept (h.mem a.snapshot) m)
       → (a.kept ≡ false → text ≡ text')
       → ((m : List ℕ) (founds lefts : List (List ℕ)) → length m ≡ cells → MayHaveFound reads a.kept (h.mem a.snapshot) m →
-      inside_step (inside c (inside_of m a.cancelled a.writes a.inner a.kept) founds lefts text) (inside_of m a.cancelled a.writes a.inner a.kept) x ≡ inside d (inside_of m a.cancelled writes inner a.kept) founds lefts text')
+      inside_step (inside c (inside_of code m a.saved a.writes a.inner a.kept) founds lefts text) (inside_of code m a.saved a.writes a.inner a.kept) x ≡ inside d (inside_of code m a.saved writes inner a.kept) founds lefts text')
       → Begun code cells h c0 xs c a text → Begun code cells h c0 xs d (record a { reads = reads; writes = writes; inner = inner; phase = phase }) text'
   begun_step cells h c0 xs c d a text text' reads writes inner phase x e less same one b = record {
     c1 = b.c1;
@@ -52,33 +48,33 @@ module _ {C : Type 0} (code : C → Effect C) where
       b.reaches.0 + 1,
       λ m founds lefts size ok.
           steps-last b.reaches.0 _ _ (b.reaches.1 m founds lefts size (less m ok))
-          ∙ ap (inside_step (inside c (inside_of m a.cancelled a.writes a.inner a.kept) founds lefts text) (inside_of m a.cancelled a.writes a.inner a.kept)) e
+          ∙ ap (inside_step (inside c (inside_of code m a.saved a.writes a.inner a.kept) founds lefts text) (inside_of code m a.saved a.writes a.inner a.kept)) e
           ∙ one m founds lefts size ok,
     );
   }
 
   -- the attempt takes effect
-  pub joined : (cells : ℕ) (h : History) (c0 : C) (xs : List Record) (c d : C) (a : Attempt C) (text : List ℕ) (status : Status) (marked : Bool) (writes : List (ℕ × ℕ)) (x : Effect C)
+  pub joined : (cells : ℕ) (h : History) (c0 : C) (xs : List Record) (base : List ℕ) (c d : C) (a : Attempt C) (text : List ℕ) (status : Status) (marked : Bool) (writes : List (ℕ × ℕ)) (x : Effect C)
       → code c ≡ x
-      → length (h.mem a.snapshot) ≡ cells
-      → MayHaveFound a.reads a.kept (h.mem a.snapshot) (h.mem a.snapshot)
+      → base ≡ h.mem a.snapshot
+      → length base ≡ cells
+      → MayHaveFound a.reads a.kept (h.mem a.snapshot) base
       → ((founds lefts : List (List ℕ)) →
-      inside_step (inside c (inside_of (h.mem a.snapshot) a.cancelled a.writes a.inner a.kept) founds lefts text) (inside_of (h.mem a.snapshot) a.cancelled a.writes a.inner a.kept) x ≡ outside d founds (lefts ++ overlay (h.mem a.snapshot) writes ∷ []) text status)
+      inside_step (inside c (inside_of code base a.saved a.writes a.inner a.kept) founds lefts text) (inside_of code base a.saved a.writes a.inner a.kept) x ≡ outside d founds (lefts ++ overlay base writes ∷ []) text status)
       → Begun code cells h c0 xs c a text
-      → ComesTo code c0 h.mem (xs ++ record { snapshot = a.snapshot; marked = marked; writes = writes } ∷ []) d text status
-  joined cells h c0 xs c d a text status marked writes x e size ok one b =
-      let base : List ℕ = h.mem a.snapshot in
-      let item : Record = record { snapshot = a.snapshot; marked = marked; writes = writes } in (
+      → ComesTo code c0 (xs ++ record_of base (record { snapshot = a.snapshot; marked = marked; writes = writes }) ∷ []) d text status
+  joined cells h c0 xs base c d a text status marked writes x e based size ok one b =
+      let item : Record = record_of base (record { snapshot = a.snapshot; marked = marked; writes = writes }) in (
         ((b.comes_to.0 + 1) + b.reaches.0) + 1,
         λ more.
-            ap (λ fs. steps code (((b.comes_to.0 + 1) + b.reaches.0) + 1) (start c0 fs)) (ap (λ fs. fs ++ more) (founds-append h.mem xs item) ∙ append_assoc (founds_of h.mem xs) (base ∷ []) more)
+            ap (λ fs. steps code (((b.comes_to.0 + 1) + b.reaches.0) + 1) (start c0 fs)) (ap (λ fs. fs ++ more) (map-append (λ (r : Record). r.found) xs (item ∷ [])) ∙ append_assoc (founds_in xs) (base ∷ []) more)
             ∙ steps-last ((b.comes_to.0 + 1) + b.reaches.0) _ _
             (steps-add (b.comes_to.0 + 1) b.reaches.0 _
             ∙ ap (steps code b.reaches.0)
             (steps-last b.comes_to.0 _ _ (b.comes_to.1 (base ∷ more))
-            ∙ ap (outside_step (outside a.saved (base ∷ more) (lefts_of h.mem xs) b.text1 Running)) b.begins)
-            ∙ b.reaches.1 base more (lefts_of h.mem xs) size ok)
-            ∙ ap (inside_step (inside c (inside_of base a.cancelled a.writes a.inner a.kept) more (lefts_of h.mem xs) text) (inside_of base a.cancelled a.writes a.inner a.kept)) e
-            ∙ one more (lefts_of h.mem xs)
-            ∙ ap (λ ls. outside d more ls text status) (sym (lefts-append h.mem xs item)),
+            ∙ ap (outside_step (outside a.saved (base ∷ more) (lefts_in xs) b.text1 Running)) b.begins)
+            ∙ b.reaches.1 base more (lefts_in xs) size ok)
+            ∙ ap (inside_step (inside c (inside_of code base a.saved a.writes a.inner a.kept) more (lefts_in xs) text) (inside_of code base a.saved a.writes a.inner a.kept)) e
+            ∙ one more (lefts_in xs)
+            ∙ ap (λ ls. outside d more ls text status) (sym (map-append (λ (r : Record). r.left) xs (item ∷ []))),
       )

@@ -1,4 +1,5 @@
 mod Counted
+pub mod Depths
 mod Expressions
 mod Further
 mod Kept
@@ -6,12 +7,12 @@ mod MeaningSteady
 mod Memories
 mod MoreRows
 mod OneTick
-mod Rows
-mod Steady
-mod ThreadLaws
-mod ValueTypes
-mod Words
-pub mod Depths
 pub mod Pushes
+pub mod Rows
 pub mod Sames
 pub mod Seen
+mod Steady
+mod ThreadLaws
+mod TypeRows
+mod ValueTypes
+mod Words
