@@ -1,2 +1,7 @@
+pub mod Alone
+pub mod Bodies
+pub mod Cells
 pub mod Runs
+pub mod Shapes
+pub mod Source
 pub mod Words
