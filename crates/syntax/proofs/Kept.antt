@@ -1,6 +1,6 @@
 -- A property of runs that the words of runs keep holds of all that a program does.
 use Rattle.std.specs.Prelude.{if◌then◌else◌}
-use Rattle.std.proofs.Common.{length, ℕ, zero, suc, List, [], ◌∷◌, ◌++◌, Option, Some, None, Bool, true, false, Result, Ok, Err}
+use Rattle.std.proofs.Common.{length, ℕ, ◌<◌, ◌^◌, zero, suc, List, [], ◌∷◌, ◌++◌, Option, Some, None, Bool, true, false, Result, Ok, Err}
 use Rattle.lex.specs.declared.token.Scalar.{Scalar}
 use Rattle.syntax.specs.declared.tree.BinaryOp.{BinaryOp}
 use Rattle.syntax.specs.declared.tree.LogicalOp.TheVariants.{AndThen, OrElse}
@@ -10,11 +10,13 @@ use Rattle.syntax.specs.declared.tree.Mode.{Mode}
 use Rattle.syntax.specs.Tree as Tree
 use Rattle.syntax.specs.Tree.{Name, Expr, Exprs, Variable, Constant, Element, Call, Parenthesized, Cast, Unary, Binary, Logical, Conditional, Simple, Value as Just, Assign, Change, Declarator, Declaration, Start, Nothing, Declares, Does, Stmt, Stmts, Empty, Declare, Do, Block, Print, If, IfElse, While, DoWhile, For, Break, Continue, Return, Transaction, Cancel, Parameter, Function, Program}
 use Rattle.syntax.specs.declared.numbers.Value.{Value}
+use Rattle.syntax.specs.Numbers.{number_of}
 use Rattle.syntax.specs.Names.{Local, newest, global_of, definition_of}
-use Rattle.syntax.specs.declared.numbers.Stop.TheVariants.{Trapped, Astray}
-use Rattle.syntax.specs.Actions.{Action, pure, stop, ◌>>=◌, ◌>>◌, tick, trap, or_trap, or_astray, locals, put_locals, load, store, may_print, write, print_piece}
+use Rattle.syntax.specs.declared.numbers.Stop.TheVariants.{Astray}
+use Rattle.syntax.specs.Actions.{Action, pure, stop, ◌>>=◌, ◌>>◌, tick, trap, or_trap, or_astray, locals, put_locals, load, store, may_print, print_piece}
 use Rattle.syntax.specs.Formats.{Piece, Literal, Figure, pieces}
 use Rattle.syntax.specs.Meaning.{Spot, InLocal, InCell, fetch, assign, print_pieces, End, Next, Breaks, Continues, Returns, Cancels, on_next, scoped, loop, after_body, transaction, op_of, int_one, Caller, spot_from, named, element, expr, exprs, spot, changed, assigned, simple, first_value, declare, start_with, holds, stepped, return_value, stmt, stmts, entered, result_of, invoke, calls}
+use Rattle.syntax.proofs.Words.{word_below}
 use Rattle.syntax.specs.Threads.{worker_run}
 
 -- a property that each word of runs keeps
@@ -22,19 +24,19 @@ pub record IsKept (Q : (A : Type 0) → Action A → Type 0) : Type 1 where
   pub pure_holds : {A : Type 0} (a : A) → Q A (pure a)
   pub on_holds : {A B : Type 0} {run : Action A} {rest : A → Action B} → Q A run → ((a : A) → Q B (rest a)) → Q B (run >>= rest)
   pub astray_holds : {A : Type 0} → Q A (stop Astray)
-  pub trapped_holds : {A : Type 0} (t : Trap) → Q A (stop (Trapped t))
+  pub trap_holds : {A : Type 0} (t : Trap) → Q A (trap t)
   pub tick_holds : Q (Unit {0}) tick
   pub locals_holds : Q (List Local) locals
   pub put_locals_holds : (ls : List Local) → Q (Unit {0}) (put_locals ls)
   pub load_holds : (c : ℕ) → Q ℕ (load c)
-  pub store_holds : (c w : ℕ) → Q (Unit {0}) (store c w)
+  pub store_holds : (c w : ℕ) → w < 2 ^ 32 → Q (Unit {0}) (store c w)
   pub may_print_holds : Q (Unit {0}) may_print
-  pub write_holds : (text : List ℕ) → Q (Unit {0}) (write text)
+  pub print_piece_holds : (text : List ℕ) → Q (Unit {0}) (print_piece text)
   pub loop_holds : {turn : Action (Option End)} → Q (Option End) turn → Q End (loop turn)
   pub transaction_holds : (mode : Mode) {run : Action End} → Q End run → Q End (transaction mode run)
 
 module _ (Q : (A : Type 0) → Action A → Type 0) (kept : IsKept Q) where
-  open kept use {pure_holds, on_holds, astray_holds, trapped_holds, tick_holds, locals_holds, put_locals_holds, load_holds, store_holds, may_print_holds, write_holds, loop_holds, transaction_holds}
+  open kept use {pure_holds, on_holds, astray_holds, trap_holds, tick_holds, locals_holds, put_locals_holds, load_holds, store_holds, may_print_holds, print_piece_holds, loop_holds, transaction_holds}
 
   then_holds : {A B : Type 0} {run : Action A} {rest : Action B} → Q A run → Q B rest → Q B (run >> rest)
   then_holds g h = on_holds g (λ _. h)
@@ -42,9 +44,6 @@ module _ (Q : (A : Type 0) → Action A → Type 0) (kept : IsKept Q) where
   if_holds : {A : Type 0} (b : Bool) {x y : Action A} → Q A x → Q A y → Q A (if b then x else y)
   if_holds true g h = g
   if_holds false g h = h
-
-  trap_holds : {A : Type 0} (t : Trap) → Q A (trap t)
-  trap_holds t = then_holds tick_holds (trapped_holds t)
 
   or_trap_holds : {A : Type 0} (r : Result A Trap) → Q A (or_trap r)
   or_trap_holds (Ok a) = pure_holds a
@@ -54,16 +53,13 @@ module _ (Q : (A : Type 0) → Action A → Type 0) (kept : IsKept Q) where
   or_astray_holds (Some a) = pure_holds a
   or_astray_holds None = astray_holds
 
-  print_piece_holds : (text : List ℕ) → Q _ (print_piece text)
-  print_piece_holds text = then_holds tick_holds (write_holds text)
-
   fetch_holds : (at : Spot) → Q _ (fetch at)
   fetch_holds (InLocal i t) = on_holds locals_holds (λ mine. pure_holds _)
   fetch_holds (InCell c t) = on_holds (load_holds c) (λ w. pure_holds _)
 
   assign_holds : (at : Spot) (v : Value) → Q _ (assign at v)
   assign_holds (InLocal i t) v = on_holds locals_holds (λ mine. put_locals_holds _)
-  assign_holds (InCell c t) v = store_holds c _
+  assign_holds (InCell c t) v = store_holds c _ (word_below (number_of v))
 
   print_pieces_holds : (ps : List Piece) (vs : List Value) → Q _ (print_pieces ps vs)
   print_pieces_holds [] vs = pure_holds tt

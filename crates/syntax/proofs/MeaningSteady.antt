@@ -12,7 +12,7 @@ use Rattle.syntax.specs.Meaning.{End, Next, Breaks, Continues, Returns, Cancels,
 use Rattle.syntax.specs.Threads.{worker_run}
 use Rattle.syntax.proofs.Further.{state_of, added, with_founds, with_more, Follows, Grown, Extends, IsSteady}
 use Rattle.syntax.proofs.Kept.{IsKept, worker_holds}
-use Rattle.syntax.proofs.Steady.{still, grown_trans, more_grown, on_grown, on_extends, on_steady, pure_steady, astray_steady, tick_steady, locals_steady, put_locals_steady, load_steady, store_steady, may_print_steady, trapped_steady, write_steady}
+use Rattle.syntax.proofs.Steady.{still, grown_trans, more_grown, on_grown, on_extends, on_steady, pure_steady, astray_steady, tick_steady, locals_steady, put_locals_steady, load_steady, store_steady, may_print_steady, trap_steady, print_piece_steady}
 
 after_turn_grows : (rest : Action End) → ((s : State) → Grown s (state_of (rest s))) → (o : Option End) (s : State) → Grown s (state_of (after_turn rest o s))
 after_turn_grows rest h None s = h s
@@ -175,14 +175,14 @@ steady_kept = record {
   pure_holds = pure_steady;
   on_holds = on_steady;
   astray_holds = astray_steady;
-  trapped_holds = trapped_steady;
+  trap_holds = trap_steady;
   tick_holds = tick_steady;
   locals_holds = locals_steady;
   put_locals_holds = put_locals_steady;
   load_holds = load_steady;
-  store_holds = store_steady;
+  store_holds = λ c w below. store_steady c w;
   may_print_holds = may_print_steady;
-  write_holds = write_steady;
+  print_piece_holds = print_piece_steady;
   loop_holds = loop_steady;
   transaction_holds = transaction_steady;
 }

@@ -148,5 +148,5 @@ write_steady text = record {
   extends = λ k extra s. refl;
 }
 
-pub say_steady : (text : List ℕ) → IsSteady (print_piece text)
-say_steady text = then_steady tick_steady (write_steady text)
+pub print_piece_steady : (text : List ℕ) → IsSteady (print_piece text)
+print_piece_steady text = then_steady tick_steady (write_steady text)

@@ -85,10 +85,10 @@ pub record Means (cells : ℕ) (code source : Behaviour) : Type 0 where
   pub back : (t : ℕ) (founds : List Memory) → t < 2 ^ 32 → AllByRecursion (IsMemory cells) founds → (k : ℕ) → (n : ℕ) × (source t founds n ≡ code t founds k)
 
 -- the elements of one list stand in another in their order
-pub data IsWithin {X : Type 0} : List X → List X → Type 0 where
-  none : IsWithin [] []
-  more : (y : X) (xs ys : List X) → IsWithin xs ys → IsWithin xs (y ∷ ys)
-  same : (x : X) (xs ys : List X) → IsWithin xs ys → IsWithin (x ∷ xs) (x ∷ ys)
+abbrev pub IsWithin : {X : Type 0} → List X → List X → Type 0
+IsWithin [] ys = Unit {0}
+IsWithin (x ∷ xs) [] = ⊥
+IsWithin (x ∷ xs) (y ∷ ys) = ((x ≡ y) × IsWithin xs ys) ⊎ IsWithin (x ∷ xs) ys
 
 -- a later run holds the steps of an earlier one in their order, and each thread's earlier steps come first among its own
 pub record Extends (earlier later : List Step) : Type 0 where
