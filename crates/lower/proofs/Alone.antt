@@ -1,10 +1,10 @@
 -- Running thread 0 alone: from the code of the worker's transactions to the run of the source.
-use Rattle.std.proofs.Common.{◌≡◌, ℕ, zero, suc, ◌<◌, List, [], ◌∷◌, ◌++◌, length, Option, Some, None, refl, sym, ap, ◌∙◌, subst, inl, arith}
+use Rattle.std.proofs.Common.{◌≡◌, ℕ, zero, suc, ◌<◌, List, [], ◌∷◌, ◌++◌, Option, Some, refl, sym, ap, ◌∙◌, subst, inl, arith}
 use Rattle.std.specs.Prelude.{Result, Ok, Err, codes}
 use Rattle.std.specs.List.{AllByRecursion}
 use Rattle.std.proofs.lemmas.List.{append-nil, append_assoc}
 use Rattle.lex.specs.declared.token.Scalar.{Scalar}
-use Rattle.lex.specs.declared.token.Scalar.TheVariants.{Int, Unsigned}
+use Rattle.lex.specs.declared.token.Scalar.TheVariants.{Unsigned}
 use Rattle.syntax.specs.declared.numbers.Trap.{Trap}
 use Rattle.syntax.specs.declared.numbers.Value.{Value}
 use Rattle.syntax.specs.declared.numbers.Stop.TheVariants as StopIs
@@ -14,9 +14,9 @@ use Rattle.syntax.specs.Names as Names
 use Rattle.syntax.specs.Names.{initial_memory, definition_of}
 use Rattle.syntax.specs.Behaviours as Behaviours
 use Rattle.syntax.specs.Behaviours.{Memory, Step, Outcome, ThreadEnd, Stopped, Matches, founds_of, lefts_of, last_memory, IsChained}
-use Rattle.syntax.specs.Actions.{Outside, State, Answer, Gives, Stops, Action, ◌>>=◌, ◌>>◌, pure, go_on, or_astray, locals, put_locals, tick}
+use Rattle.syntax.specs.Actions.{State, Answer, Gives, Stops, Action, ◌>>=◌, ◌>>◌, go_on, or_astray, locals, put_locals, tick}
 use Rattle.syntax.specs.Meaning.{End as StmtEnd, Next, Caller, stmt, stmts, on_next, invoke, calls, entered, result_of}
-use Rattle.syntax.specs.Threads.{thread, outcome_of, worker_run, first_state, IsSourceRun, StandsInSource}
+use Rattle.syntax.specs.Threads.{thread, outcome_of, first_state}
 use Rattle.lower.specs.declared.code.Store.{Store}
 use Rattle.lower.specs.declared.code.Code.{Code}
 use Rattle.lower.specs.declared.code.End.{End}
@@ -73,15 +73,17 @@ transaction_then : (run rest : Action StmtEnd) (x : List ℕ) (d : Data) (q : Re
     (lefts : List Memory) → BodyGoes (run >>= on_next rest) x d lefts (steps_after d.memory q steps) (after_transaction d.memory q last).end
 transaction_then run rest x d (Ok e) steps last h g lefts =
     let first = h (founds_of 0 (steps e)) lefts in
-    let more = g e (lefts ++ e.memory ∷ []) in
-    (more.0, record {
-      ticks = added first.ticks more.1.ticks;
-      goes = λ k.
-        ap (λ n. go_on (run (outside x n d.local (d.memory ∷ founds_of 0 (steps e)) lefts)) (on_next rest)) (added_joins first.ticks more.1.ticks k)
-        ∙ ap (λ a. go_on a (on_next rest)) (first.goes (added more.1.ticks k))
-        ∙ more.1.goes k
-        ∙ ap (λ ls. ends (last e).end (outside x k more.0 [] ls)) (append_assoc lefts (e.memory ∷ []) (lefts_of 0 (steps e)));
-    })
+    let more = g e (lefts ++ e.memory ∷ []) in (
+      more.0,
+      record {
+        ticks = added first.ticks more.1.ticks;
+        goes = λ k.
+            ap (λ n. go_on (run (outside x n d.local (d.memory ∷ founds_of 0 (steps e)) lefts)) (on_next rest)) (added_joins first.ticks more.1.ticks k)
+            ∙ ap (λ a. go_on a (on_next rest)) (first.goes (added more.1.ticks k))
+            ∙ more.1.goes k
+            ∙ ap (λ ls. ends (last e).end (outside x k more.0 [] ls)) (append_assoc lefts (e.memory ∷ []) (lefts_of 0 (steps e)));
+      },
+    )
 transaction_then run rest x d (Err t) steps last h g lefts =
     let first = h [] lefts in
     (first.0, record { ticks = first.1.ticks; goes = λ k. ap (λ a. go_on a (on_next rest)) (first.1.goes k) })
@@ -129,12 +131,13 @@ module _ {A : Type 0} where
       let same : stmts_from h.body ≡ b = cc (h.is_body, is) in
       let goes = body_goes p h.parameter (calls p 63) h.body txs h.each d [] in
       let founds = founds_of 0 (steps_in txs d) in
-      let n = added goes.1.ticks 1 in
-      (n,
+      let n = added goes.1.ticks 1 in (
+        n,
         ap (λ a. outcome_of (go_on a (λ _. tick))) (invoke_goes p (calls p 63) (codes "worker") (record { of = Unsigned; word = 0 } ∷ []) f b (only h.parameter 0) e h.enters (first_state founds n))
-        ∙ ap (λ b'. outcome_of (go_on (go_on (stmts p (calls p 63) b' (outside h.parameter n 0 founds [])) (λ end. put_locals [] >> result_of f.result end)) (λ _. tick))) (sym same)
-        ∙ ap (λ a. outcome_of (go_on (go_on a (λ end. put_locals [] >> result_of f.result end)) (λ _. tick))) (goes.1.goes 1)
-        ∙ seen f.result h.parameter goes.0 (last_of txs d).end (lefts_of 0 (steps_in txs d)))
+            ∙ ap (λ b'. outcome_of (go_on (go_on (stmts p (calls p 63) b' (outside h.parameter n 0 founds [])) (λ end. put_locals [] >> result_of f.result end)) (λ _. tick))) (sym same)
+            ∙ ap (λ a. outcome_of (go_on (go_on a (λ end. put_locals [] >> result_of f.result end)) (λ _. tick))) (goes.1.goes 1)
+            ∙ seen f.result h.parameter goes.0 (last_of txs d).end (lefts_of 0 (steps_in txs d)),
+      )
 
   pub alone : (p : Program) (f : Function) (b : Stmts) (txs : List (List (Store A))) → definition_of p (codes "worker") ≡ Some (f, b) → FunctionMeans p f txs → f.body ≡ Some b →
       let last = last_of txs (record { memory = initial_memory p; local = 0 }) in IsRunOfOne p last.memory (status_of last.end) []
@@ -160,3 +163,6 @@ module _ {A : Type 0} where
           end = matches (last_of txs d).end _ (ap (λ (o : Outcome). o.end) whole);
         };
       }
+
+  pub means : (p : Program) (f g : Function) (b : Stmts) (code : Code A) → code.initial ≡ initial_memory p → definition_of p (codes "worker") ≡ Some (f, b) → f.body ≡ Some b → f ≡ g → FunctionMeans p g code.transactions → Means p code
+  means p f g b code starts e is same h = record { initial = starts; alone = alone p f b code.transactions e (subst (λ (k : Function). FunctionMeans p k code.transactions) (sym same) h) is }

@@ -1,14 +1,12 @@
 -- Bodies, statement by statement, and functions with one parameter.
-use Rattle.std.proofs.Common.{◌≡◌, ℕ, ◌+◌, ◌<◌, ◌≤◌, List, [], ◌∷◌, ◌++◌, length, map, get_or, take, drop, Option, Some, None, refl, sym, ap, ◌∙◌, subst, arith}
+use Rattle.std.proofs.Common.{◌≡◌, ℕ, ◌+◌, ◌<◌, List, [], ◌∷◌, ◌++◌, length, map, get_or, take, Option, Some, None, refl, sym, ap, ◌∙◌, subst}
 use Rattle.std.specs.Prelude.{option_map, unwrap_or, IsSome, IfOk, Result, Ok, Err}
 use Rattle.std.proofs.lemmas.List.{take_more, map-append}
 use Rattle.lex.specs.declared.token.Scalar.{Scalar}
 use Rattle.lex.specs.declared.token.Scalar.TheVariants.{Int, Unsigned}
-use Rattle.syntax.specs.declared.numbers.Value.{Value}
 use Rattle.syntax.specs.Tree.{Name, Parameter}
 use Rattle.syntax.specs.Numbers.{converted}
-use Rattle.syntax.specs.Names.{Local}
-use Rattle.syntax.specs.Meaning.{both, entered}
+use Rattle.syntax.specs.Meaning.{with_first, entered}
 use Rattle.syntax.specs.StraightLine.{IsOneNumber}
 use Rattle.lower.specs.Lowering.{Each, only, parameter_in}
 
@@ -34,8 +32,8 @@ each_all R f vs i ys e h = subst (λ us. Each R (map f us) ys) e h
 -- the worker's argument, as its one local
 
 one_enters : (t : Scalar) (x : Option Name) → t ≡ Int → IsSome x →
-    both (option_map (λ (n : Name). record { name = n.text; of = t; word = (converted t (record { of = Unsigned; word = 0 })).word }) x) (Some []) ≡ Some (only (unwrap_or (option_map (λ (n : Name). n.text) x) []) 0)
-one_enters Int None e h = absurd h
+    with_first (option_map (λ (n : Name). record { name = n.text; of = t; word = (converted t (record { of = Unsigned; word = 0 })).word }) x) (Some []) ≡ Some (only (unwrap_or (option_map (λ (n : Name). n.text) x) []) 0)
+one_enters Int None e h = absurd cc
 one_enters Int (Some x) e h = refl
 one_enters Unsigned x e h = absurd cc
 

@@ -1,8 +1,8 @@
 -- Globals, item by item: their cells, and the words in which they begin.
-use Rattle.std.proofs.Common.{◌≡◌, ℕ, ◌+◌, ◌<◌, ◌≤◌, ◌^◌, Bool, true, false, List, [], ◌∷◌, ◌++◌, length, map, get_or, drop, Option, Some, None, refl, sym, ap, ◌∙◌, subst, arith}
+use Rattle.std.proofs.Common.{◌≡◌, ℕ, ◌+◌, ◌<◌, ◌^◌, Bool, true, false, List, [], ◌∷◌, ◌++◌, length, map, get_or, drop, Option, Some, None, refl, sym, ap, ◌∙◌, subst, arith}
 use Rattle.std.specs.Prelude.{option_map, unwrap_or, if◌then◌else◌, cond, bytes_eq}
 use Rattle.std.specs.List.{position, position_from}
-use Rattle.std.proofs.lemmas.List.{at_drop_more, at_drop_all, append_assoc, append-nil, length-append, length-map}
+use Rattle.std.proofs.lemmas.List.{at_drop_more, append_assoc, length-append, length-map}
 use Rattle.std.proofs.lemmas.List.Elements.{All-append, All-cons, All-nil}
 use Rattle.std.proofs.lemmas.Iterator.Adapters.{position_from-zero}
 use Rattle.syntax.specs.declared.tree.Global as G
@@ -12,7 +12,7 @@ use Rattle.syntax.specs.declared.tree.Function as F
 use Rattle.syntax.specs.Tree.{Global}
 use Rattle.syntax.specs.Names.{GlobalCells, cells, globals, global_from, first_words, initial_from}
 use Rattle.syntax.specs.Views.{item_of, global_of}
-use Rattle.syntax.specs.StraightLine.{IsSingle, AreSingle}
+use Rattle.syntax.specs.StraightLine.{AreSingle}
 use Rattle.lower.specs.Code.{AreWords}
 
 -- what is left of a list, from a turn of a loop on

@@ -4,4 +4,5 @@ pub mod Cells
 pub mod Runs
 pub mod Shapes
 pub mod Source
+pub mod Typed
 pub mod Words

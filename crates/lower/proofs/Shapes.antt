@@ -1,9 +1,9 @@
 -- What a part of a straight-line program can be.
-use Rattle.std.proofs.Common.{◌≡◌, ℕ, List, [], ◌∷◌, Option, Some, None, true, false, Bool, refl, sym, ap, ◌∙◌, subst, ◌+◌}
+use Rattle.std.proofs.Common.{◌≡◌, ℕ, List, [], ◌∷◌, Option, Some, None, true, false, Bool, refl, ap, ◌∙◌, ◌+◌}
 use Rattle.std.specs.Prelude.{if◌then◌else◌, bytes_eq}
 use Rattle.lex.specs.declared.token.Span.{Span}
 use Rattle.lex.specs.declared.token.Scalar.{Scalar}
-use Rattle.lex.specs.declared.token.Scalar.TheVariants.{Int, Unsigned}
+use Rattle.lex.specs.declared.token.Scalar.TheVariants.{Int}
 use Rattle.syntax.specs.declared.tree.BinaryOp.{BinaryOp}
 use Rattle.syntax.specs.declared.tree.Mode.{Mode}
 use Rattle.syntax.specs.declared.tree.Mode.TheVariants.{Atomic, Relaxed}

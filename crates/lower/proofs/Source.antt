@@ -1,5 +1,5 @@
 -- The source's meaning of a transaction's parts, beside what their code computes.
-use Rattle.std.proofs.Common.{◌≡◌, ℕ, zero, suc, ◌+◌, Bool, true, false, List, [], ◌∷◌, ◌++◌, length, take, Option, Some, None, refl, sym, ap, ◌∙◌, subst}
+use Rattle.std.proofs.Common.{◌≡◌, ℕ, zero, suc, Bool, true, false, List, [], ◌∷◌, ◌++◌, take, Option, Some, None, refl, sym, ap, ◌∙◌}
 use Rattle.std.specs.Prelude.{Result, Ok, Err, option_map, if◌then◌else◌, bytes_eq}
 use Rattle.lex.specs.declared.token.Span.{Span}
 use Rattle.lex.specs.declared.token.Scalar.{Scalar}
@@ -16,8 +16,8 @@ use Rattle.syntax.specs.Tree as Tree
 use Rattle.syntax.specs.Tree.{Name, Expr, Simple, Stmt, Stmts, Variable, Assign, Binary, Transaction, Do, Program}
 use Rattle.syntax.specs.Views.{stmts_from}
 use Rattle.syntax.specs.Behaviours.{Memory}
-use Rattle.syntax.specs.Actions.{Outside, Inside, State, Answer, Gives, Stops, Action, ◌>>=◌, ◌>>◌, pure, go_on, or_trap, or_astray, trap, tick, locals, put_locals}
-use Rattle.syntax.specs.Meaning.{End, Next, Caller, InCell, fetch, expr, spot, spot_from, simple, stmt, stmts, on_next, scoped, transaction, close, assign, assigned}
+use Rattle.syntax.specs.Actions.{Answer, Gives, Stops, Action, ◌>>=◌, ◌>>◌, pure, go_on, or_trap, or_astray, trap, tick, locals, put_locals}
+use Rattle.syntax.specs.Meaning.{End, Next, Caller, InCell, fetch, expr, spot_from, stmt, stmts, on_next, scoped, transaction, close, assign, assigned}
 use Rattle.lower.specs.declared.code.Place.{Place}
 use Rattle.lower.specs.declared.code.Place.TheVariants.{Cell, Local}
 use Rattle.lower.specs.declared.code.Atom.{Atom}

@@ -1,9 +1,8 @@
 -- Which code a part of a program has: what the source's meaning says of a thread with one local.
-use Rattle.std.specs.Prelude.{◌≡◌, ℕ, zero, suc, unwrap_or, IsSome, List, [], ◌∷◌, ◌++◌, Option, Some, None, Result, Ok, Err, option_map, if◌then◌else◌, bytes_eq, length}
+use Rattle.std.specs.Prelude.{◌≡◌, ℕ, zero, suc, unwrap_or, IsSome, List, [], ◌∷◌, ◌++◌, Option, Some, None, Result, Ok, Err, option_map, if◌then◌else◌, bytes_eq}
 use Rattle.lex.specs.declared.token.Scalar.TheVariants.{Int, Unsigned}
 use Rattle.syntax.specs.declared.tree.Mode.TheVariants.{Atomic}
 use Rattle.syntax.specs.declared.numbers.Trap.{Trap}
-use Rattle.syntax.specs.declared.numbers.Value.{Value}
 use Rattle.syntax.specs.declared.numbers.Stop.TheVariants.{Trapped}
 use Rattle.syntax.specs.Tree as Tree
 use Rattle.syntax.specs.Tree.{Expr, Simple, Stmt, Stmts, Parameter, Function, Program}
@@ -125,3 +124,9 @@ parameter_in (q ∷ qs) = unwrap_or (option_map (λ x. x.text) q.name) []
 
 abbrev pub IsPlacedFunction : Program → Function → Type 0
 IsPlacedFunction p f = ArePlaced p (parameter_in f.parameters) (unwrap_or f.body Tree.[])
+
+-- the function that stands first
+abbrev pub worker_in : Program → Option Function
+worker_in [] = None
+worker_in (Tree.Shares gs ∷ items) = worker_in items
+worker_in (Tree.Defines f ∷ items) = Some f

@@ -8,5 +8,5 @@ mod running;
 mod scope;
 
 pub use code::{Code, End, LowerFault, Outcome};
-// pub use lowering::lower;
+pub use lowering::lower;
 pub use running::run;

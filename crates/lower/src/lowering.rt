@@ -1,13 +1,13 @@
 //! Lowers a worker of straight lines: its names become cells, and its transactions lists of stores.
 
-ghost use Rattle.std.specs.Prelude.{◌≡◌, ◌≤◌, map, length, IfOk};
+ghost use Rattle.std.specs.Prelude.{◌≡◌, ◌≤◌, map, length, IfOk, Some};
 ghost use Rattle.syntax.specs.Names.{globals};
 ghost use Rattle.syntax.specs.Views.{expr_of, simple_of, stmt_of, stmts_of, function_of, item_of, program_of};
 ghost use Rattle.syntax.specs.Typing.{IsTypedProgram};
 ghost use Rattle.syntax.specs.StraightLine.{IsAdding, IsAtom, IsSum, IsVariable, IsAssigned, IsAssignment, AreAssignments, IsStraightTransaction, AreTransactions, IsStraightFunction, AreSingle, IsStraightLine};
 ghost use Rattle.lower.specs.Code.{op_of};
 ghost use Rattle.lower.specs.Alone.{Means, HasWords};
-ghost use Rattle.lower.specs.Lowering.{Each, AtomMeans, TargetMeans, SumMeans, SimpleMeans, StoreMeans, TransactionMeans, FunctionMeans, IsPlaced, IsPlacedSimple, IsPlacedStmt, ArePlaced, IsPlacedFunction, parameter_in};
+ghost use Rattle.lower.specs.Lowering.{Each, AtomMeans, TargetMeans, SumMeans, SimpleMeans, StoreMeans, TransactionMeans, FunctionMeans, IsPlaced, IsPlacedSimple, IsPlacedStmt, ArePlaced, IsPlacedFunction, parameter_in, worker_in};
 
 use crate::code::{Atom, Code, LowerFault, Place, Sign, Store, Sum, Term};
 use crate::scope::{initial_words, place_of};
@@ -56,7 +56,12 @@ fn lower_target<A: Allocator>(items: &[Item<A>], parameter: &str, e: &Expr<A>) -
 }
 
 /// The code of a sum.
-fn lower_sum<A: Allocator + Copy>(alloc: A, items: &[Item<A>], parameter: &str, e: &Expr<A>) -> Result<Sum<A>, AllocError>
+fn lower_sum<A: Allocator + Copy>(
+    alloc: A,
+    items: &[Item<A>],
+    parameter: &str,
+    e: &Expr<A>,
+) -> Result<Sum<A>, AllocError>
     requires single { AreSingle (globals (map item_of items.now)) }
     requires few { length (globals (map item_of items.now)) ≤ 4096 }
     requires sum { IsSum (expr_of e.now) }
@@ -84,7 +89,12 @@ fn lower_sum<A: Allocator + Copy>(alloc: A, items: &[Item<A>], parameter: &str, 
 }
 
 /// The code of an assignment.
-fn lower_assignment<A: Allocator + Copy>(alloc: A, items: &[Item<A>], parameter: &str, s: &Simple<A>) -> Result<Store<A>, AllocError>
+fn lower_assignment<A: Allocator + Copy>(
+    alloc: A,
+    items: &[Item<A>],
+    parameter: &str,
+    s: &Simple<A>,
+) -> Result<Store<A>, AllocError>
     requires single { AreSingle (globals (map item_of items.now)) }
     requires few { length (globals (map item_of items.now)) ≤ 4096 }
     requires assigned { IsAssigned (simple_of s.now) }
@@ -102,7 +112,12 @@ fn lower_assignment<A: Allocator + Copy>(alloc: A, items: &[Item<A>], parameter:
 }
 
 /// The code of a statement in a transaction.
-fn lower_store<A: Allocator + Copy>(alloc: A, items: &[Item<A>], parameter: &str, s: &Stmt<A>) -> Result<Store<A>, AllocError>
+fn lower_store<A: Allocator + Copy>(
+    alloc: A,
+    items: &[Item<A>],
+    parameter: &str,
+    s: &Stmt<A>,
+) -> Result<Store<A>, AllocError>
     requires single { AreSingle (globals (map item_of items.now)) }
     requires few { length (globals (map item_of items.now)) ≤ 4096 }
     requires assignment { IsAssignment (stmt_of s.now) }
@@ -116,7 +131,12 @@ fn lower_store<A: Allocator + Copy>(alloc: A, items: &[Item<A>], parameter: &str
 }
 
 /// The code of a transaction's statements.
-fn lower_stores<A: Allocator + Copy>(alloc: A, items: &[Item<A>], parameter: &str, body: &[Stmt<A>]) -> Result<Items<Store<A>, A>, AllocError>
+fn lower_stores<A: Allocator + Copy>(
+    alloc: A,
+    items: &[Item<A>],
+    parameter: &str,
+    body: &[Stmt<A>],
+) -> Result<Items<Store<A>, A>, AllocError>
     requires single { AreSingle (globals (map item_of items.now)) }
     requires few { length (globals (map item_of items.now)) ≤ 4096 }
     requires assignments { AreAssignments (stmts_of body.now) }
@@ -132,7 +152,12 @@ fn lower_stores<A: Allocator + Copy>(alloc: A, items: &[Item<A>], parameter: &st
 }
 
 /// The code of a transaction.
-fn lower_transaction<A: Allocator + Copy>(alloc: A, items: &[Item<A>], parameter: &str, s: &Stmt<A>) -> Result<Items<Store<A>, A>, AllocError>
+fn lower_transaction<A: Allocator + Copy>(
+    alloc: A,
+    items: &[Item<A>],
+    parameter: &str,
+    s: &Stmt<A>,
+) -> Result<Items<Store<A>, A>, AllocError>
     requires single { AreSingle (globals (map item_of items.now)) }
     requires few { length (globals (map item_of items.now)) ≤ 4096 }
     requires transaction { IsStraightTransaction (stmt_of s.now) }
@@ -146,7 +171,12 @@ fn lower_transaction<A: Allocator + Copy>(alloc: A, items: &[Item<A>], parameter
 }
 
 /// The code of a body of transactions.
-fn lower_body<A: Allocator + Copy>(alloc: A, items: &[Item<A>], parameter: &str, body: &[Stmt<A>]) -> Result<Items<Items<Store<A>, A>, A>, AllocError>
+fn lower_body<A: Allocator + Copy>(
+    alloc: A,
+    items: &[Item<A>],
+    parameter: &str,
+    body: &[Stmt<A>],
+) -> Result<Items<Items<Store<A>, A>, A>, AllocError>
     requires single { AreSingle (globals (map item_of items.now)) }
     requires few { length (globals (map item_of items.now)) ≤ 4096 }
     requires transactions { AreTransactions (stmts_of body.now) }
@@ -176,7 +206,11 @@ fn parameter_of<A: Allocator>(function: &Function<A>) -> &str
 }
 
 /// The code of the worker.
-fn lower_function<A: Allocator + Copy>(alloc: A, items: &[Item<A>], function: &Function<A>) -> Result<Items<Items<Store<A>, A>, A>, AllocError>
+fn lower_function<A: Allocator + Copy>(
+    alloc: A,
+    items: &[Item<A>],
+    function: &Function<A>,
+) -> Result<Items<Items<Store<A>, A>, A>, AllocError>
     requires single { AreSingle (globals (map item_of items.now)) }
     requires few { length (globals (map item_of items.now)) ≤ 4096 }
     requires straight { IsStraightFunction (function_of function.now) }
@@ -186,5 +220,47 @@ fn lower_function<A: Allocator + Copy>(alloc: A, items: &[Item<A>], function: &F
     match &function.body {
         Some(body) => lower_body(alloc, items, parameter_of(function), body.as_slice()),
         None => unreachable!(),
+    }
+}
+
+/// The function of a program.
+fn worker_of<A: Allocator>(items: &[Item<A>]) -> &Function<A>
+    requires { IsStraightLine (map item_of items.now) }
+    ensures { worker_in (map item_of items.now) ≡ Some (function_of result.now) }
+{
+    'items: for item in items {
+        match item {
+            Item::Function(function) => return function,
+            Item::Globals(_) => {}
+        }
+    }
+    unreachable!()
+}
+
+/// The code of a program.
+fn lower_items<A: Allocator + Copy>(alloc: A, items: &[Item<A>]) -> Result<Code<A>, AllocError>
+    requires straight { IsStraightLine (map item_of items.now) }
+    requires typed { IsTypedProgram (map item_of items.now) }
+    ensures meaning { IfOk result (λ code. Means (map item_of items.now) code) }
+    ensures words { IfOk result (λ code. HasWords code) }
+{
+    let initial = initial_words(alloc, items)?;
+    let transactions = lower_function(alloc, items, worker_of(items))?;
+    Ok(Code {
+        initial,
+        transactions,
+    })
+}
+
+/// Lowers a program of straight lines. The error is want of memory.
+pub fn lower<A: Allocator + Copy>(alloc: A, unit: &Unit<A>) -> Result<Code<A>, LowerFault>
+    requires straight { IsStraightLine (program_of unit.now) }
+    requires typed { IsTypedProgram (program_of unit.now) }
+    ensures meaning { IfOk result (λ code. Means (program_of unit.now) code) }
+    ensures words { IfOk result (λ code. HasWords code) }
+{
+    match lower_items(alloc, unit.items.as_slice()) {
+        Ok(code) => Ok(code),
+        Err(_) => Err(LowerFault::OutOfMemory),
     }
 }

@@ -17,7 +17,9 @@ use syntax::tree::{Global, Item};
 fn index_of<A: Allocator>(globals: &[Global<A>], name: &str) -> Option<usize>
     ensures { result ≡ position (λ g. bytes_eq g.name.text name.now) globals.now }
 {
-    globals.iter().position(|global| global.name.text.as_str() == name)
+    globals
+        .iter()
+        .position(|global| global.name.text.as_str() == name)
 }
 
 /// The cell of a global.
@@ -74,7 +76,10 @@ fn first_word<A: Allocator>(global: &Global<A>) -> u64
 }
 
 /// Adds the words in which these variables begin.
-fn push_words<A: Allocator + Copy>(words: &mut Items<u64, A>, globals: &[Global<A>]) -> Result<(), AllocError>
+fn push_words<A: Allocator + Copy>(
+    words: &mut Items<u64, A>,
+    globals: &[Global<A>],
+) -> Result<(), AllocError>
     requires single { AreSingle (map global_of globals.now) }
     requires fits { AreWords words.old }
     ensures value { OnOk result (words.new ≡ words.old ++ initial_from (map global_of globals.now)) }
@@ -87,7 +92,10 @@ fn push_words<A: Allocator + Copy>(words: &mut Items<u64, A>, globals: &[Global<
 }
 
 /// The memory in which a program begins.
-pub fn initial_words<A: Allocator + Copy>(alloc: A, items: &[Item<A>]) -> Result<Items<u64, A>, AllocError>
+pub fn initial_words<A: Allocator + Copy>(
+    alloc: A,
+    items: &[Item<A>],
+) -> Result<Items<u64, A>, AllocError>
     requires { AreSingle (globals_in (map item_of items.now)) }
     ensures value { IfOk result (λ words. words ≡ initial_memory (map item_of items.now)) }
     ensures fits { IfOk result (λ words. AreWords words) }

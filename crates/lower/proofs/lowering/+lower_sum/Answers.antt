@@ -1,8 +1,8 @@
-use Rattle.std.proofs.Common.{◌≡◌, List, ℕ, [], ◌∷◌, ◌++◌, map, sym, ap, ◌∙◌, subst}
+use Rattle.std.proofs.Common.{List, map, sym, ap, ◌∙◌, subst}
 use Rattle.syntax.specs.declared.tree.Expr as E
 use Rattle.syntax.specs.Tree as Tree
 use Rattle.syntax.specs.Tree.{Expr}
-use Rattle.syntax.specs.Views.{expr_of, name_of, item_of}
+use Rattle.syntax.specs.Views.{expr_of, item_of}
 use Rattle.syntax.specs.StraightLine.{IsAtom, IsSum}
 use Rattle.syntax.proofs.Seen.{expr_of_variable, expr_of_constant, expr_of_binary}
 use Rattle.lower.specs.declared.code.Term.{Term}
@@ -47,9 +47,9 @@ returns-in_ok-push-in-Binary g t c =
     let term : Term = record { sign = c.sign_of-sign.result; atom = c.lower_atom-atom.result } in
     subst (λ (e : Expr). SumMeans p x {A = g.row.A.Denot} e (record { first = sum.first; rest = c.push.new.self })) (sym (ap expr_of c.in-Binary.is ∙ expr_of_binary c.in-Binary.op left right c.in-Binary.field-3))
     (subst (λ (ts : List Term). SumMeans p x {A = g.row.A.Denot} (Tree.Binary c.in-Binary.op (expr_of left) (expr_of right) c.in-Binary.field-3) (record { first = sum.first; rest = ts })) (sym c.in_ok-push-in-Binary.ensures.ok)
-     (sum_means p x (expr_of left) (expr_of right) c.in-Binary.field-3 sum term c.in-Binary.op c.sign_of-sign.ensures
-      (subst (λ (e : E.Expr g.row.A.Denot). SumMeans p x (expr_of e) sum) c.get.ensures c.in_ok-sum-in-Binary.ensures)
-      (subst (λ (e : E.Expr g.row.A.Denot). AtomMeans p x (expr_of e) c.lower_atom-atom.result) c.get-in-Binary.ensures c.lower_atom-atom.ensures)))
+    (sum_means p x (expr_of left) (expr_of right) c.in-Binary.field-3 sum term c.in-Binary.op c.sign_of-sign.ensures
+    (subst (λ (e : E.Expr g.row.A.Denot). SumMeans p x (expr_of e) sum) c.get.ensures c.in_ok-sum-in-Binary.ensures)
+    (subst (λ (e : E.Expr g.row.A.Denot). AtomMeans p x (expr_of e) c.lower_atom-atom.result) c.get-in-Binary.ensures c.lower_atom-atom.ensures)))
 
 pub returns-in-Variable : goal.returns-in-Variable
 returns-in-Variable g t c =

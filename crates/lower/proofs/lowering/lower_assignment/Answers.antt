@@ -1,4 +1,4 @@
-use Rattle.std.proofs.Common.{◌≡◌, List, ℕ, Option, None, map, sym, ap, ◌∙◌, subst}
+use Rattle.std.proofs.Common.{Option, map, sym, subst}
 use Rattle.syntax.specs.declared.tree.BinaryOp.{BinaryOp}
 use Rattle.syntax.specs.declared.tree.Simple as I
 use Rattle.syntax.specs.Tree as Tree
@@ -31,4 +31,4 @@ returns g c =
     let store : Store g.row.A.Denot = record { target = c.lower_target-target.result; sum = c.in_ok-sum-in-Assign.sum } in
     subst (λ (s : I.Simple g.row.A.Denot). SimpleMeans p x (simple_of s) store) (sym c.in-Assign.is)
     (subst (λ (o : Option BinaryOp). SimpleMeans p x (Tree.Assign (expr_of to) o (expr_of e)) store) (sym (assigned_parts _ _ _ (subst (λ (s : I.Simple g.row.A.Denot). IsAssigned (simple_of s)) c.in-Assign.is c.requires.assigned)).0)
-     (assign_means p x (expr_of to) (expr_of e) store c.lower_target-target.ensures c.in_ok-sum-in-Assign.ensures))
+    (assign_means p x (expr_of to) (expr_of e) store c.lower_target-target.ensures c.in_ok-sum-in-Assign.ensures))

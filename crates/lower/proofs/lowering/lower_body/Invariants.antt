@@ -9,5 +9,5 @@ invariant-body g l =
     record {
       value : Each (TransactionMeans (map item_of l.items) l.parameter) (map stmt_of (take l.s-index l.body)) l.transactions;
       straight : AreTransactions (stmts_of (drop l.s-index l.body));
-      placed : ArePlaced (map item_of l.items) l.parameter (stmts_of (drop l.s-index l.body))
+      placed : ArePlaced (map item_of l.items) l.parameter (stmts_of (drop l.s-index l.body));
     }

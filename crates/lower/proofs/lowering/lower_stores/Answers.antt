@@ -1,8 +1,8 @@
-use Rattle.std.proofs.Common.{◌≡◌, map, take, drop, refl, sym, ap, ◌∙◌, subst}
+use Rattle.std.proofs.Common.{map, refl, subst}
 use Rattle.std.proofs.lemmas.List.{take_all}
 use Rattle.syntax.specs.Views.{stmt_of, stmts_of, item_of}
 use Rattle.syntax.specs.StraightLine.{AreAssignments}
-use Rattle.lower.specs.Lowering.{Each, StoreMeans, ArePlaced}
+use Rattle.lower.specs.Lowering.{StoreMeans, ArePlaced}
 use Rattle.lower.proofs.Cells.{at_turn}
 use Rattle.lower.proofs.Bodies.{each_more, each_all}
 use Rattle.lower.proofs.lowering.lower_stores.Goals as goal

@@ -9,5 +9,5 @@ invariant-body g l =
     record {
       value : Each (StoreMeans (map item_of l.items) l.parameter) (map stmt_of (take l.s-index l.body)) l.stores;
       straight : AreAssignments (stmts_of (drop l.s-index l.body));
-      placed : ArePlaced (map item_of l.items) l.parameter (stmts_of (drop l.s-index l.body))
+      placed : ArePlaced (map item_of l.items) l.parameter (stmts_of (drop l.s-index l.body));
     }

@@ -1,4 +1,4 @@
-use Rattle.std.proofs.Common.{◌≡◌, List, map, sym, ap, ◌∙◌, subst}
+use Rattle.std.proofs.Common.{List, map, sym, ap, ◌∙◌, subst}
 use Rattle.std.specs.Prelude.{IfOk}
 use Rattle.syntax.specs.declared.tree.Mode.{Mode}
 use Rattle.syntax.specs.declared.tree.Stmt as S
@@ -39,4 +39,4 @@ returns g c =
     let mode = transaction_mode c.in-Transaction.field-0 _ at (subst IsStraightTransaction seen c.requires.transaction) in
     subst (λ (s : Stmt). IfOk c.lower_stores.result (λ (stores : List (Store g.row.A.Denot)). TransactionMeans p x s stores)) (sym (seen ∙ ap (λ (m : Mode). Transaction m (stmts_of body) at) mode.0))
     (if_ok c.lower_stores.result _ _ (λ (stores : List (Store g.row.A.Denot)) h. transaction_means p x (map stmt_of body) at stores h)
-     (subst (λ (ss : List (S.Stmt g.row.A.Denot)). IfOk c.lower_stores.result (λ (stores : List (Store g.row.A.Denot)). Each (StoreMeans p x) (map stmt_of ss) stores)) c.as_slice.ensures c.lower_stores.ensures))
+    (subst (λ (ss : List (S.Stmt g.row.A.Denot)). IfOk c.lower_stores.result (λ (stores : List (Store g.row.A.Denot)). Each (StoreMeans p x) (map stmt_of ss) stores)) c.as_slice.ensures c.lower_stores.ensures))

@@ -10,5 +10,5 @@ invariant-items g l =
     record {
       value : option_map (λ g. g.cell) (global_from l.before (globals (map item_of (drop l.item-index l.items))) l.name) ≡ option_map (λ g. g.cell) (global_of (map item_of l.items) l.name);
       few : l.before + length (globals (map item_of (drop l.item-index l.items))) ≤ 4096;
-      single : AreSingle (globals (map item_of (drop l.item-index l.items)))
+      single : AreSingle (globals (map item_of (drop l.item-index l.items)));
     }

@@ -10,5 +10,5 @@ invariant-items g l =
     record {
       value : l.words ++ initial_from (globals (map item_of (drop l.item-index l.items))) ≡ initial_memory (map item_of l.items);
       fits : AreWords l.words;
-      single : AreSingle (globals (map item_of (drop l.item-index l.items)))
+      single : AreSingle (globals (map item_of (drop l.item-index l.items)));
     }

@@ -1,9 +1,6 @@
-use Rattle.std.proofs.Common.{◌≡◌, ◌+◌, ◌<◌, ◌++◌, List, [], ◌∷◌, length, map, drop, refl, sym, ap, ◌∙◌, subst}
-use Rattle.std.proofs.lemmas.List.Elements.{All-append, All-cons, All-nil}
-use Rattle.syntax.specs.Names.{initial_from}
+use Rattle.std.proofs.Common.{map, refl, subst}
 use Rattle.syntax.specs.Views.{global_of}
 use Rattle.syntax.specs.StraightLine.{AreSingle}
-use Rattle.lower.specs.Code.{AreWords}
 use Rattle.lower.proofs.Cells.{at_turn, words_turn, fits_more}
 use Rattle.lower.proofs.scope.push_words.Goals as goal
 

@@ -10,5 +10,5 @@ invariant-globals g l =
     record {
       value : l.words ++ initial_from (map global_of (drop l.global-index l.globals)) ≡ l.initial.words ++ initial_from (map global_of l.globals);
       fits : AreWords l.words;
-      single : AreSingle (map global_of (drop l.global-index l.globals))
+      single : AreSingle (map global_of (drop l.global-index l.globals));
     }
