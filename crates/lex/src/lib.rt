@@ -5,6 +5,7 @@ mod bytes;
 mod comment;
 mod constant;
 pub mod fault;
+pub mod laws;
 mod lexer;
 mod line;
 mod sign;
@@ -15,3 +16,6 @@ mod word;
 pub use fault::LexFault;
 pub use lexer::lex;
 pub use line::place;
+
+#[cfg(test)]
+mod tests;

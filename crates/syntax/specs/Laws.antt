@@ -1,7 +1,10 @@
 -- Laws of what programs mean.
-use Rattle.std.specs.Prelude.{◌≡◌, ◌≢◌, ℕ, ◌+◌, ◌^◌, ◌<◌, ◌≤◌, ◌⊎◌, List, [], ◌∷◌, ◌++◌, length, All, Some}
+use Rattle.std.specs.Prelude.{◌≡◌, ◌≢◌, ℕ, ◌+◌, ◌^◌, ◌<◌, ◌≤◌, ◌⊎◌, List, [], ◌∷◌, ◌++◌, length, All, Some, IfOk}
 use Rattle.lex.specs.declared.token.Scalar.{Scalar}
+use Rattle.syntax.specs.declared.tree.BinaryOp.{BinaryOp}
+use Rattle.syntax.specs.declared.numbers.Value.{Value}
 use Rattle.syntax.specs.Tree.{Program, Expr}
+use Rattle.syntax.specs.Numbers.{computed, converted}
 use Rattle.syntax.specs.declared.numbers.Stop.TheVariants.{Wants, Spent}
 use Rattle.syntax.specs.Names.{initial_memory}
 use Rattle.syntax.specs.Types.{type_of, running_scope}
@@ -10,6 +13,12 @@ use Rattle.syntax.specs.Behaviours.{Memory, Stopped, Outcome}
 use Rattle.syntax.specs.Actions.{State, Answer, Gives, Stops}
 use Rattle.syntax.specs.Meaning.{expr, calls}
 use Rattle.syntax.specs.Threads.{thread}
+
+-- an operator on two words gives a word or traps, and a conversion gives a word
+abbrev pub GivesWords : Type 0
+GivesWords =
+    ((op : BinaryOp) (t : Scalar) (a b : ℕ) → a < 2 ^ 32 → b < 2 ^ 32 → IfOk (computed op t a b) (λ w. w < 2 ^ 32))
+    × ((t : Scalar) (v : Value) → (converted t v).word < 2 ^ 32)
 
 -- text and memories left begin with those of another outcome
 pub record Begins (first whole : Outcome) : Type 0 where
@@ -51,6 +60,10 @@ OneTickMore = (p : Program) (t : ℕ) (founds : List Memory) (n : ℕ) → Shows
 -- a memory of a program: a word below 2^32 for each of its cells
 abbrev pub IsMemoryOf : Program → Memory → Type 0
 IsMemoryOf p m = (length m ≡ length (initial_memory p)) × All (λ w. w < 2 ^ 32) m
+
+-- the first memory is a memory of its program
+abbrev pub BeginsWithMemory : Type 0
+BeginsWithMemory = (p : Program) → IsMemoryOf p (initial_memory p)
 
 -- a thread that finds memories of its program leaves memories of its program
 abbrev pub LeavesMemories : Type 0

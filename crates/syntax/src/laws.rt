@@ -1,6 +1,6 @@
 //! Laws of the meaning of programs. A law has no code: its contract is what it says.
 
-ghost use Rattle.syntax.specs.Laws.{GivesItsType, GoesOn, KeepsLocals, LeavesMemories, LeftAsManyAsFound, MoreMemories, MoreTicks, NeverMoreLeft, OneTickMore};
+ghost use Rattle.syntax.specs.Laws.{BeginsWithMemory, GivesItsType, GivesWords, GoesOn, KeepsLocals, LeavesMemories, LeftAsManyAsFound, MoreMemories, MoreTicks, NeverMoreLeft, OneTickMore};
 
 /// A thread that is not spent does the same with more ticks.
 pub fn more_ticks()
@@ -45,4 +45,14 @@ pub fn keeps_locals()
 /// In a typed program an expression that gives a value gives one of the expression's type.
 pub fn gives_its_type()
     ensures { GivesItsType }
+{}
+
+/// An operator on two words gives a word below 2^32 or traps, and so does a conversion.
+pub fn gives_words()
+    ensures { GivesWords }
+{}
+
+/// The memory that a program begins with has a word below 2^32 for each of its cells.
+pub fn begins_with_memory()
+    ensures { BeginsWithMemory }
 {}
