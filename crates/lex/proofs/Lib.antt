@@ -10,4 +10,7 @@ pub mod Cuts
 pub mod Lies
 pub mod Spellings
 pub mod Once
+pub mod Flaws
 pub mod Ways
+pub mod Examples
+pub mod Escapes
