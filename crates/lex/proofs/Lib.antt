@@ -10,4 +10,6 @@ pub mod Cuts
 pub mod Lies
 pub mod Spellings
 pub mod Once
+pub mod Flaws
 pub mod Ways
+pub mod Examples

@@ -1,7 +1,5 @@
 -- The tokens of a text lie in it in their order.
-use Rattle.std.proofs.Common.{◌≡◌, ℕ, zero, suc, ◌+◌, ◌-◌, ◌<◌, ◌≤◌, List, [], ◌∷◌, ◌++◌, length, take, drop, refl, sym, ap, ◌∙◌, arith, subst}
-use Rattle.lex.specs.declared.token.Mark.{Mark}
-use Rattle.lex.specs.Spelling.{spelling}
+use Rattle.std.proofs.Common.{◌≡◌, ℕ, zero, suc, ◌+◌, ◌-◌, ◌<◌, ◌≤◌, List, [], ◌∷◌, ◌++◌, length, take, drop, arith, subst}
 use Rattle.lex.specs.Tokens.{Tok, Terminal}
 use Rattle.lex.specs.Cutting.{Cut, Means, Shape, Longest, IsToken, IsGap, IsLexed}
 use Rattle.lex.specs.Cutting as s

@@ -1,20 +1,17 @@
 -- A text is cut in one way.
-use Rattle.std.proofs.Common.{◌≡◌, ◌≢◌, ℕ, zero, suc, ◌+◌, ◌-◌, ◌<◌, ◌≤◌, ◌⊎◌, inl, inr, Bool, true, false, ◌&&◌, ◌||◌, ◌==◌, List, [], ◌∷◌, ◌++◌, length, take, drop, slice_index, codes, Option, Some, None, refl, sym, ap, ◌∙◌, arith, subst, length-append, append_assoc}
+use Rattle.std.proofs.Common.{◌≡◌, ◌≢◌, ℕ, ◌<◌, ◌⊎◌, inl, inr, Bool, true, false, List, [], ◌∷◌, ◌++◌, length, take, drop, slice_index, Option, Some, refl, sym, ap, ◌∙◌, arith, subst}
 use Rattle.std.specs.List.{prefix_len}
-use Rattle.std.proofs.lemmas.List.{take_at, drop_at, length-take-le}
+use Rattle.std.proofs.lemmas.List.{take_at, drop_at}
 use Rattle.lex.specs.declared.constant.Base.{Base}
 use Rattle.lex.specs.declared.constant.Base.TheVariants.{Decimal, Octal, Hexadecimal}
 use Rattle.lex.specs.declared.token.Mark.{Mark}
-use Rattle.lex.specs.declared.token.Mark.TheVariants as m
 use Rattle.lex.specs.declared.token.Scalar.{Scalar}
-use Rattle.lex.specs.Spelling.{spelling, Reserved}
-use Rattle.lex.specs.Spelling as words
+use Rattle.lex.specs.Spelling.{spelling}
 use Rattle.lex.specs.Tokens.{Terminal}
 use Rattle.lex.specs.Tokens as tokens
 use Rattle.lex.specs.Cutting.{Only, starts, is_digit_of, is_octal, is_part, IsWritten, IsSuffix, Constant, typed, value, value_from, radix, Means, Gap, Longest, Inside, IsString, IsWord}
 use Rattle.lex.specs.Cutting as s
-use Rattle.lex.specs.Constants.{before_len}
-use Rattle.lex.proofs.Classes.{Class, space, letter, digit, number, quotes, slash, other, class, class_of, MarkClass, mark_class, slash_length, constant_first, white_class, letter_class, digit_class, byte_class}
+use Rattle.lex.proofs.Classes.{Class, space, letter, digit, number, quotes, slash, other, class, MarkClass, mark_class, constant_first, white_class, letter_class, digit_class, byte_class}
 use Rattle.lex.proofs.Directives.{run_is}
 use Rattle.lex.proofs.Quotes.{inside_same}
 use Rattle.lex.proofs.Spellings.{one_mark, reserved_no_mark, reserved_class, slash_second}
@@ -125,13 +122,13 @@ same_type {w} c d =
 
 -- ---- a piece says one thing
 
-word_class : (w : List ℕ) → IsWord w → class w ≡ letter
+pub word_class : (w : List ℕ) → IsWord w → class w ≡ letter
 word_class w h = letter_class (slice_index w 0) h.1
 
-constant_class : {w : List ℕ} → Constant w → class w ≡ digit
+pub constant_class : {w : List ℕ} → Constant w → class w ≡ digit
 constant_class {w} c = digit_class (slice_index w 0) (constant_first c)
 
-string_class : (w inner : List ℕ) → IsString w inner → class w ≡ quotes
+pub string_class : (w inner : List ℕ) → IsString w inner → class w ≡ quotes
 string_class w inner h = ap class h.written
 
 apart : (w : List ℕ) (a b : Class) → class w ≡ a → class w ≡ b → a ≡ b
@@ -147,7 +144,7 @@ digit_quotes : (w : List ℕ) → class w ≡ digit → class w ≡ quotes → �
 digit_quotes w e f = let g = apart w digit quotes e f in cc
 
 -- no mark begins like this
-no_mark : (w : List ℕ) (k : Mark) (c : Class) → w ≡ spelling k → class w ≡ c → MarkClass c
+pub no_mark : (w : List ℕ) (k : Mark) (c : Class) → w ≡ spelling k → class w ≡ c → MarkClass c
 no_mark w k c e f = subst MarkClass (sym (ap class e) ∙ f) (mark_class k)
 
 one_inner : (w a b : List ℕ) → IsString w a → IsString w b → a ≡ b
@@ -189,7 +186,7 @@ means_same w t u (s.string i h) (s.string k j) = ap tokens.text (one_inner w i k
 -- ---- what stands between tokens says nothing
 
 -- the classes of tokens that are no sign
-abbrev TokenClass : Class → Type 0
+abbrev pub TokenClass : Class → Type 0
 TokenClass letter = Unit {0}
 TokenClass digit = Unit {0}
 TokenClass quotes = Unit {0}
@@ -198,25 +195,25 @@ TokenClass number = ⊥
 TokenClass slash = ⊥
 TokenClass other = ⊥
 
-means_class : (w : List ℕ) (t : Terminal) → Means w t → TokenClass (class w) ⊎ ((k : Mark) × (w ≡ spelling k))
+pub means_class : (w : List ℕ) (t : Terminal) → Means w t → TokenClass (class w) ⊎ ((k : Mark) × (w ≡ spelling k))
 means_class w t (s.name h n r) = inl (subst TokenClass (sym (word_class w h)) tt)
 means_class w t (s.reserved r) = inl (subst TokenClass (sym (reserved_class w r)) tt)
 means_class w t (s.mark k e) = inr (k, e)
 means_class w t (s.constant c v e) = inl (subst TokenClass (sym (constant_class c)) tt)
 means_class w t (s.string i h) = inl (subst TokenClass (sym (string_class w i h)) tt)
 
-comment_class : (w : List ℕ) → s.IsComment w → class w ≡ slash
+pub comment_class : (w : List ℕ) → s.IsComment w → class w ≡ slash
 comment_class w h = byte_class (slice_index w 0) 47 h.opens.0
 
-line_class : (w : List ℕ) → s.IsLine w → class w ≡ slash
+pub line_class : (w : List ℕ) → s.IsLine w → class w ≡ slash
 line_class w h = byte_class (slice_index w 0) 47 h.slashes.0
 
-second_of : (w : List ℕ) (k : Mark) (b : ℕ) → w ≡ spelling k → class w ≡ slash → slice_index w 1 ≡ b → (b ≡ 0) ⊎ (b ≡ 61)
+pub second_of : (w : List ℕ) (k : Mark) (b : ℕ) → w ≡ spelling k → class w ≡ slash → slice_index w 1 ≡ b → (b ≡ 0) ⊎ (b ≡ 61)
 second_of w k b e c h =
     let same : slice_index (spelling k) 1 ≡ b = ap (λ (z : List ℕ). slice_index z 1) (sym e) ∙ h in
     elim (slash_second k (sym (ap class e) ∙ c)) [ inl z ↦ inl (sym same ∙ z) | inr z ↦ inr (sym same ∙ z) ]
 
-second_apart : (b : ℕ) → (b ≡ 0) ⊎ (b ≡ 61) → (b ≡ 42) ⊎ (b ≡ 47) → ⊥
+pub second_apart : (b : ℕ) → (b ≡ 0) ⊎ (b ≡ 61) → (b ≡ 42) ⊎ (b ≡ 47) → ⊥
 second_apart b (inl e) (inl f) = omega arith
 second_apart b (inl e) (inr f) = omega arith
 second_apart b (inr e) (inl f) = omega arith

@@ -1,10 +1,10 @@
 -- What marks and reserved words are spelled like.
-use Rattle.std.proofs.Common.{◌≡◌, ℕ, ◌&&◌, ◌||◌, ◌==◌, ◌⊎◌, inl, inr, Bool, true, false, if◌then◌else◌, List, [], ◌∷◌, slice_index, codes, Option, Some, None, refl, sym, ap, ◌∙◌, arith}
+use Rattle.std.proofs.Common.{◌≡◌, ℕ, ◌&&◌, ◌||◌, ◌==◌, ◌⊎◌, inl, inr, Bool, true, false, if◌then◌else◌, List, [], ◌∷◌, slice_index, codes, Option, Some, None, refl, sym, ap, ◌∙◌}
 use Rattle.lex.specs.declared.token.Mark.{Mark}
 use Rattle.lex.specs.declared.token.Mark.TheVariants as m
 use Rattle.lex.specs.Spelling.{spelling, Reserved}
 use Rattle.lex.specs.Spelling as words
-use Rattle.lex.proofs.Classes.{Class, letter, slash, class}
+use Rattle.lex.proofs.Classes.{letter, slash, class}
 
 abbrev same : List ℕ → List ℕ → Bool
 same [] [] = true
