@@ -7,6 +7,7 @@ mod Memories
 mod MoreRows
 mod OlderLocals
 mod OneTick
+mod Spelled
 mod Steady
 mod ThreadLaws
 mod TypeRows
