@@ -238,11 +238,17 @@ expr_covers (Conditional c a b at) p l = l.1.0
 
 sum_joined : (op : BinaryOp) (a b : Expr) (t : Tok) (pa pb : List Tok) → the_adding t ≡ Some op → SumL a pa → SumL b pb → precedence op ≤ level a → precedence op < level b → SumL (binary_node op a b) (pa ++ (t ∷ pb))
 sum_joined op a b t pa pb has la lb le lt =
-    let is = adding_is t.terminal t.span op has in
-    (((le, lt), (covers_both (span_of a) (span_of b) pa t pb (expr_covers a pa la.0) (expr_covers b pb lb.0),
-      record { front = pa; back = t ∷ pb; first = la.0; second = record { front = t ∷ []; back = pb; first = record { token = t; has = is.0; whole = refl }; second = lb.0; whole = refl }; whole = refl })),
-     (is.1, la.1, tight_atom op b is.1 lb.1 lt),
-     lacks_append m.Signed pa (t ∷ pb) la.2 (is.2, lb.2))
+    let is = adding_is t.terminal t.span op has in (
+      (
+        (le, lt),
+        (
+          covers_both (span_of a) (span_of b) pa t pb (expr_covers a pa la.0) (expr_covers b pb lb.0),
+          record { front = pa; back = t ∷ pb; first = la.0; second = record { front = t ∷ []; back = pb; first = record { token = t; has = is.0; whole = refl }; second = lb.0; whole = refl }; whole = refl },
+        ),
+      ),
+      (is.1, la.1, tight_atom op b is.1 lb.1 lt),
+      lacks_append m.Signed pa (t ∷ pb) la.2 (is.2, lb.2),
+    )
 
 sum_split : (e : Expr) (p : List Tok) → SumL e p → 0 ≤ level e → level e < 12 → Split sums SumL level e p
 sum_split (Binary op a b at) p l low high =
@@ -256,7 +262,12 @@ sum_split (Binary op a b at) p l low high =
     let covers : Covers at (pa ++ (t ∷ pb)) = subst (Covers at) whole l.0.1.0 in
     let here = covers_one at (across (span_of a) (span_of b)) (pa ++ (t ∷ pb)) covers (covers_both (span_of a) (span_of b) pa t pb (expr_covers a pa s.first) (expr_covers b pb s.second.second)) in
     record {
-      op = op; left = a; right = b; token = t; before = pa; after = pb;
+      op = op;
+      left = a;
+      right = b;
+      token = t;
+      before = pa;
+      after = pb;
       same = ap (Binary op a b) here;
       has = binary_is t.terminal op l.1.0 f.has;
       first = (s.first, l.1.1, lacks_front m.Signed pa (t ∷ pb) lacks);

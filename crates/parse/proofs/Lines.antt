@@ -94,17 +94,20 @@ HalfL (Do s) p = simple s p × IsAssigned s × Lacks m.Signed p
 HalfL s p = ⊥
 
 half_goes : (x : Name × Expr) (p : List Tok) → NamedL x p → HalfL (assigned_tree x.0 x.1) p
-half_goes x p s =
-    (seq_map s (λ q n. n) (λ q a. seq_map a (λ r o. record { token = o.token; has = assign_mark o.token o.has; whole = o.whole }) (λ r l. l.0)),
-     (tt, s.second.second.1),
-     seq_lacks p s (name_lacks x.0) (λ q a. seq_lacks q a (λ r e. is_lacks m.Assign r refl e) (λ r l. l.2)))
+half_goes x p s = (
+  seq_map s (λ q n. n) (λ q a. seq_map a (λ r o. record { token = o.token; has = assign_mark o.token o.has; whole = o.whole }) (λ r l. l.0)),
+  (tt, s.second.second.1),
+  seq_lacks p s (name_lacks x.0) (λ q a. seq_lacks q a (λ r e. is_lacks m.Assign r refl e) (λ r l. l.2)),
+)
 
 simple_comes : (x : Name) (e : Expr) (p : List Tok) → simple (Assign (Variable x) None e) p → IsSum e → Lacks m.Signed p → NamedL (x, e) p
 simple_comes x e p s i k =
     let back = (lacks_parts p s.front s.back s.whole k).1 in
     let inner = (lacks_parts s.back s.second.front s.second.back s.second.whole back).1 in
     record {
-      front = s.front; back = s.back; first = s.first;
+      front = s.front;
+      back = s.back;
+      first = s.first;
       second = record { front = s.second.front; back = s.second.back; first = record { token = s.second.first.token; has = mark_assign s.second.first.token s.second.first.has; whole = s.second.first.whole }; second = (s.second.second, i, inner); whole = s.second.whole };
       whole = s.whole;
     }
@@ -219,9 +222,12 @@ assign_begins =
       value = assigned_tree n.value v.value;
       more = (n.more ++ (a_mark m.Assign ∷ v.more)) ++ o.more;
       spelled = assign_goes (assigned_tree n.value v.value) _ (record {
-        front = n.more ++ (a_mark m.Assign ∷ v.more); back = o.more;
+        front = n.more ++ (a_mark m.Assign ∷ v.more);
+        back = o.more;
         first = half_goes (n.value, v.value) _ (record { front = n.more; back = a_mark m.Assign ∷ v.more; first = n.spelled; second = record { front = a_mark m.Assign ∷ []; back = v.more; first = record { token = a_mark m.Assign; has = mark_has m.Assign (a_mark m.Assign) refl; whole = refl }; second = v.spelled; whole = refl }; whole = refl });
-        second = o.spelled; whole = refl });
+        second = o.spelled;
+        whole = refl;
+      });
     }
 
 -- ---- lists of statements
@@ -268,10 +274,11 @@ module _ (Kind : Stmt → Type 0) (plain : (s : Stmt) → Kind s → Plain s) wh
   pub many_goes : (xs : List Stmt) (p : List Tok) → Many KindL xs p → stmts (stmts_from xs) p × AreKind (stmts_from xs) × Lacks m.Signed p
   many_goes [] p l = (l, tt, subst (Lacks m.Signed) (sym l) tt)
   many_goes (x ∷ xs) p s =
-      let rest = many_goes xs s.back s.second in
-      (subst (λ (T : Type 0). T) (sym (plain_seq x (stmts_from xs) p (plain x s.first.1))) (record { front = s.front; back = s.back; first = s.first.0; second = rest.0; whole = s.whole }),
-       (s.first.1, rest.1),
-       seq_lacks p s (λ q a. a.2) (λ q a. (many_goes xs q a).2))
+      let rest = many_goes xs s.back s.second in (
+        subst (λ (T : Type 0). T) (sym (plain_seq x (stmts_from xs) p (plain x s.first.1))) (record { front = s.front; back = s.back; first = s.first.0; second = rest.0; whole = s.whole }),
+        (s.first.1, rest.1),
+        seq_lacks p s (λ q a. a.2) (λ q a. (many_goes xs q a).2),
+      )
 
   pub many_comes : (ss : Stmts) (p : List Tok) → stmts ss p → AreKind ss → Lacks m.Signed p → Many KindL (statements ss) p
   many_comes Tree.[] p l a k = l
@@ -298,8 +305,8 @@ module _ (Kind : Stmt → Type 0) (plain : (s : Stmt) → Kind s → Plain s) (P
   braced_exact =
       behind_exact m.OpenBrace
       (before_exact m.CloseBrace
-        (many_exact P (KindL Kind plain) W Always Always d E (is_next m.CloseBrace) (λ h. Unit {0}) (λ x p l. (begins x p [] l).0) (λ x p q l. (begins x p q l).1) (λ x h s t. tt) (λ x y p q l. tt))
-        (λ a t is. (rw is refl, tt)))
+      (many_exact P (KindL Kind plain) W Always Always d E (is_next m.CloseBrace) (λ h. Unit {0}) (λ x p l. (begins x p [] l).0) (λ x p q l. (begins x p q l).1) (λ x h s t. tt) (λ x y p q l. tt))
+      (λ a t is. (rw is refl, tt)))
       (tail_begins m.CloseBrace (Many (KindL Kind plain)) (record { value = []; more = []; spelled = refl }))
 
 fit_as : (W V : ℕ → Stmt → Type 0) (d e : ℕ) → ((s : Stmt) → W d s → V e s) → (xs : List Stmt) → ManyFit W d xs → ManyFit V e xs
@@ -379,10 +386,11 @@ TransPart = Two (One (place_of m.Atomic)) (InBraces AssignL)
 trans_goes : (x : Span × List Stmt) (p : List Tok) → TransPart x p → TransL (Transaction Atomic (stmts_from x.1) x.0) p
 trans_goes x p s =
     let all = s.second.second.first in
-    let made = many_goes IsAssignment assignment_plain x.1 s.second.second.front all in
-    (seq_map s (λ q k. k) (λ q b. seq_map b (λ r o. o) (λ r c. seq_map c (λ u a. (many_goes IsAssignment assignment_plain x.1 u a).0) (λ u e. e))),
-     are_assignments (stmts_from x.1) made.1,
-     seq_lacks p s (λ q k. spot_lacks m.Atomic x.0 q refl k) (λ q b. seq_lacks q b (λ r e. is_lacks m.OpenBrace r refl e) (λ r c. seq_lacks r c (λ u a. (many_goes IsAssignment assignment_plain x.1 u a).2) (λ u e. is_lacks m.CloseBrace u refl e))))
+    let made = many_goes IsAssignment assignment_plain x.1 s.second.second.front all in (
+      seq_map s (λ q k. k) (λ q b. seq_map b (λ r o. o) (λ r c. seq_map c (λ u a. (many_goes IsAssignment assignment_plain x.1 u a).0) (λ u e. e))),
+      are_assignments (stmts_from x.1) made.1,
+      seq_lacks p s (λ q k. spot_lacks m.Atomic x.0 q refl k) (λ q b. seq_lacks q b (λ r e. is_lacks m.OpenBrace r refl e) (λ r c. seq_lacks r c (λ u a. (many_goes IsAssignment assignment_plain x.1 u a).2) (λ u e. is_lacks m.CloseBrace u refl e))),
+    )
 
 abbrev trans_tree : Span × List Stmt → Stmt
 trans_tree x = Transaction Atomic (stmts_from x.1) x.0
@@ -486,9 +494,11 @@ head_lacks x p a = seq_lacks p a (λ r e. is_lacks m.Void r refl e) (λ r n. nam
 func_goes : (x : Name × (Name × List Stmt)) (p : List Tok) → FuncPart x p → FuncL (func_tree x) p
 func_goes x p s =
     let all = s.second.second.second.first in
-    let made = many_goes IsStraightTransaction transaction_plain (x.1).1 s.second.second.second.front all in
-    (func_spelled x p s, (refl, refl, (refl, refl), are_transactions (stmts_from (x.1).1) made.1),
-     seq_lacks p s (head_lacks x.0) (λ q a. seq_lacks q a (number_lacks (x.1).0) (braces_lack (x.1).1)))
+    let made = many_goes IsStraightTransaction transaction_plain (x.1).1 s.second.second.second.front all in (
+      func_spelled x p s,
+      (refl, refl, (refl, refl), are_transactions (stmts_from (x.1).1) made.1),
+      seq_lacks p s (head_lacks x.0) (λ q a. seq_lacks q a (number_lacks (x.1).0) (braces_lack (x.1).1)),
+    )
 
 -- ---- and back
 
@@ -516,7 +526,9 @@ parameter_comes of x p e s k =
     let n : parameter (record { of = of; name = Some x }) i.front = un_seq i.first in
     let k3 = (lacks_parts i.front n.front n.back n.whole k2).0 in
     record {
-      front = s.front; back = s.back; first = s.first;
+      front = s.front;
+      back = s.back;
+      first = s.first;
       second = seq_right (record { front = i.front; back = i.back; first = record { front = n.front; back = n.back; first = int_is of n.front e n.first k3; second = n.second; whole = n.whole }; second = i.second; whole = i.whole });
       whole = s.whole;
     }
@@ -544,7 +556,7 @@ module _ (d : ℕ) (f : Function) (p : List Tok) (k : Lacks m.Signed p) (none : 
       let kp = lacks_parts n.back ps.front ps.back ps.whole k2 in
       let rest = un_seq_left (seq_map ps.second (λ u a. no_attributes after u e.1 a) (λ u a. a)) in
       let same : ◌≡◌ {A = Function} (record { attributes = f.attributes; result = f.result; name = f.name; parameters = f.parameters; body = f.body }) (func_tree (f.name, (x, statements ss))) =
-        rw (none, r, q, b, i, from_statements ss) refl in
+      rw (none, r, q, b, i, from_statements ss) refl in
       record {
         value = (f.name, (x, statements ss));
         same = same;
@@ -588,7 +600,7 @@ func_exact d =
     value_of func_tree FuncL FuncW Always Always
     (two (behind_exact m.Void (take_exact the_name d) name_begins)
     (two (behind_exact m.OpenParen (behind_exact m.Int (before_exact m.CloseParen (take_exact the_name d) (λ a t e. tt)) (name_then_begins m.CloseParen)) (head_begins m.Int (λ x. Seq (One the_name x) (Is m.CloseParen)) (name_then_begins m.CloseParen)))
-      (braced_exact IsStraightTransaction transaction_plain transaction TransW d (trans_exact d) (λ s p q l. trans_first s p q l)) (λ a b p q l h. tt) (braces_begin TransL))
+    (braced_exact IsStraightTransaction transaction_plain transaction TransW d (trans_exact d) (λ s p q l. trans_first s p q l)) (λ a b p q l h. tt) (braces_begin TransL))
     (λ a b p q l h. tt) tail_begins_both)
     (func_comes d) func_goes deepens (λ x h c. tt)
   where

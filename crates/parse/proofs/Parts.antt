@@ -17,14 +17,17 @@ seq_map s f g = record { front = s.front; back = s.back; first = f s.front s.fir
 
 pub seq_right : {L M N : Phrase} {p : List Tok} → Seq (Seq L M) N p → Seq L (Seq M N) p
 seq_right s = record {
-  front = s.first.front; back = s.first.back ++ s.back; first = s.first.first;
+  front = s.first.front;
+  back = s.first.back ++ s.back;
+  first = s.first.first;
   second = record { front = s.first.back; back = s.back; first = s.first.second; second = s.second; whole = refl };
   whole = s.whole ∙ ap (λ (z : List Tok). z ++ s.back) s.first.whole ∙ append_assoc s.first.front s.first.back s.back;
 }
 
 pub seq_left : {L M N : Phrase} {p : List Tok} → Seq L (Seq M N) p → Seq (Seq L M) N p
 seq_left s = record {
-  front = s.front ++ s.second.front; back = s.second.back;
+  front = s.front ++ s.second.front;
+  back = s.second.back;
   first = record { front = s.front; back = s.second.front; first = s.first; second = s.second.first; whole = refl };
   second = s.second.second;
   whole = s.whole ∙ ap (λ (z : List Tok). s.front ++ z) s.second.whole ∙ sym (append_assoc s.front s.second.front s.second.back);

@@ -80,7 +80,8 @@ apart (Shares gs ∷ items) p l =
       last = A.last;
       same = ap (λ (z : Program). Shares gs ∷ z) A.same;
       spelled = record {
-        front = s.front ++ A.spelled.front; back = A.spelled.back;
+        front = s.front ++ A.spelled.front;
+        back = A.spelled.back;
         first = record { front = s.front; back = A.spelled.front; first = (s.first, l.1.0, k.0); second = A.spelled.first; whole = refl };
         second = A.spelled.second;
         whole = s.whole ∙ ap (λ (z : List Tok). s.front ++ z) A.spelled.whole ∙ sym (append_assoc s.front A.spelled.front A.spelled.back);

@@ -221,10 +221,11 @@ further_goes : (gs : List Global) (p : List Tok) → Many CommaL gs p → Many (
 further_goes [] p l = (l, tt, subst (Lacks m.Signed) (sym l) tt)
 further_goes (g ∷ gs) p s =
     let rest = further_goes gs s.back s.second in
-    let one = s.first.second in
-    (record { front = s.front; back = s.back; first = seq_map s.first (λ q e. e) (λ q l. (l.1.0, l.0)); second = rest.0; whole = s.whole },
-     (one.1, rest.1),
-     seq_lacks p s (λ q a. seq_lacks q a (λ r e. is_lacks m.Comma r refl e) (λ r l. l.2)) (λ q a. (further_goes gs q a).2))
+    let one = s.first.second in (
+      record { front = s.front; back = s.back; first = seq_map s.first (λ q e. e) (λ q l. (l.1.0, l.0)); second = rest.0; whole = s.whole },
+      (one.1, rest.1),
+      seq_lacks p s (λ q a. seq_lacks q a (λ r e. is_lacks m.Comma r refl e) (λ r l. l.2)) (λ q a. (further_goes gs q a).2),
+    )
 
 further_comes : (t : Scalar) (gs : List Global) (p : List Tok) → Many (λ g. Seq (Is m.Comma) (given (g.of ≡ t) (global g))) gs p → AreSingle gs → Lacks m.Signed p → Many CommaL gs p
 further_comes t [] p l a k = l
@@ -232,7 +233,8 @@ further_comes t (g ∷ gs) p s a k =
     let parts = lacks_parts p s.front s.back s.whole k in
     let inner = (lacks_parts s.front s.first.front s.first.back s.first.whole parts.0).1 in
     record {
-      front = s.front; back = s.back;
+      front = s.front;
+      back = s.back;
       first = record { front = s.first.front; back = s.first.back; first = s.first.first; second = (s.first.second.1, a.0, inner); whole = s.first.whole };
       second = further_comes t gs s.back s.second a.1 parts.1;
       whole = s.whole;
@@ -249,16 +251,26 @@ shared_goes : (gs : List Global) (p : List Tok) → Seq (Is m.Int) (λ q. Seq (L
 shared_goes [] p s = absurd s.second.first
 shared_goes (g ∷ gs) p s =
     let all = s.second.first in
-    let rest = further_goes gs all.back all.second in
-    ((Int, record {
-      front = s.front; back = s.back; first = inl s.first;
-      second = record {
-        front = s.second.front; back = s.second.back;
-        first = record { front = all.front; back = all.back; first = (all.first.1.0, all.first.0); second = rest.0; whole = all.whole };
-        second = s.second.second; whole = s.second.whole };
-      whole = s.whole }),
-     (all.first.1, rest.1),
-     seq_lacks p s (λ q e. is_lacks m.Int q refl e) (λ q a. seq_lacks q a (λ r l. seq_lacks r l (λ u x. x.2) (λ u x. (further_goes gs u x).2)) (λ r e. is_lacks m.Semicolon r refl e)))
+    let rest = further_goes gs all.back all.second in (
+      (
+        Int,
+        record {
+          front = s.front;
+          back = s.back;
+          first = inl s.first;
+          second = record {
+            front = s.second.front;
+            back = s.second.back;
+            first = record { front = all.front; back = all.back; first = (all.first.1.0, all.first.0); second = rest.0; whole = all.whole };
+            second = s.second.second;
+            whole = s.second.whole;
+          };
+          whole = s.whole;
+        },
+      ),
+      (all.first.1, rest.1),
+      seq_lacks p s (λ q e. is_lacks m.Int q refl e) (λ q a. seq_lacks q a (λ r l. seq_lacks r l (λ u x. x.2) (λ u x. (further_goes gs u x).2)) (λ r e. is_lacks m.Semicolon r refl e)),
+    )
 
 -- `int` is written by one word
 pub int_is : (t : Scalar) (p : List Tok) → t ≡ Int → scalar t p → Lacks m.Signed p → Is m.Int p
@@ -283,12 +295,16 @@ shared_comes (g ∷ gs) p l =
     let kk = (lacks_parts s.back s.second.front s.second.back s.second.whole k.1).0 in
     let ks = lacks_parts s.second.front all.front all.back all.whole kk in
     record {
-      front = s.front; back = s.back;
+      front = s.front;
+      back = s.back;
       first = int_is t s.front (sym all.first.0 ∙ l.1.0.0) s.first k.0;
       second = record {
-        front = s.second.front; back = s.second.back;
+        front = s.second.front;
+        back = s.second.back;
         first = record { front = all.front; back = all.back; first = (all.first.1, l.1.0, ks.0); second = further_comes t gs all.back all.second l.1.1 ks.1; whole = all.whole };
-        second = s.second.second; whole = s.second.whole };
+        second = s.second.second;
+        whole = s.second.whole;
+      };
       whole = s.whole;
     }
 

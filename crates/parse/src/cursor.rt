@@ -34,7 +34,10 @@ pub fn expect<'t, 'a>(tokens: &'t [Token<'a>], mark: Mark) -> Result<&'t [Token<
 }
 
 /// A keyword or sign at the front, and where it stands.
-pub fn spot<'t, 'a>(tokens: &'t [Token<'a>], mark: Mark) -> Result<(Span, &'t [Token<'a>]), Stop<'t, 'a>>
+pub fn spot<'t, 'a>(
+    tokens: &'t [Token<'a>],
+    mark: Mark,
+) -> Result<(Span, &'t [Token<'a>]), Stop<'t, 'a>>
     ensures { Gives (λ x. (x.0, toks x.1.now)) result (spot mark (toks tokens.now)) }
 {
     match tokens {

@@ -46,9 +46,9 @@ impl ParseFault {
     {
         match self {
             ParseFault::OutOfMemory => None,
-            ParseFault::Unexpected(span) | ParseFault::TooDeep(span) | ParseFault::Unfinished(span) => {
-                Some(*span)
-            }
+            ParseFault::Unexpected(span)
+            | ParseFault::TooDeep(span)
+            | ParseFault::Unfinished(span) => { Some(*span) }
         }
     }
 }

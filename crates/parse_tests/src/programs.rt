@@ -1,7 +1,7 @@
 //! A program with its tree, one list of tokens for each fault, and each growth refused in turn.
 
-use parse::parse;
 use lex::token::{Kind, Mark, Scalar, Span, Token};
+use parse::parse;
 use refusing::Refusing;
 use std::alloc::{AllocError, Allocator};
 use std::test::Fail;
@@ -88,7 +88,8 @@ fn a_program_has_its_tree(rt: HostRuntime) -> Result<(), Fail> {
         return Ok(());
     };
     assert_eq!(rt; *place, Span { start: 26, end: 27 });
-    let [Stmt::Do(Simple::Assign(_, None, Expr::Binary(outer, left, _, sum)))] = inner.as_slice() else {
+    let [Stmt::Do(Simple::Assign(_, None, Expr::Binary(outer, left, _, sum)))] = inner.as_slice()
+    else {
         assert!(rt; false);
         return Ok(());
     };
@@ -108,7 +109,10 @@ fn each_fault_has_its_place(rt: HostRuntime) -> Result<(), Fail> {
     let tokens = sample();
     let (begun, _) = tokens.as_slice().split_at(9);
     let unfinished = parse(rt.alloc(), begun).err();
-    assert_eq!(rt; unfinished.and_then(|f| f.span()), Some(Span { start: 17, end: 17 }));
+    assert_eq!(rt;
+        unfinished.and_then(|f| f.span()),
+        Some(Span { start: 17, end: 17 })
+    );
     assert_eq!(rt; unfinished.map(|f| f.number()), Some(12));
     let wrong = [
         mark(Mark::Int, 0),
@@ -118,7 +122,10 @@ fn each_fault_has_its_place(rt: HostRuntime) -> Result<(), Fail> {
         mark(Mark::Semicolon, 4),
     ];
     let unexpected = parse(rt.alloc(), wrong.as_slice()).err();
-    assert_eq!(rt; unexpected.and_then(|f| f.span()), Some(Span { start: 6, end: 7 }));
+    assert_eq!(rt;
+        unexpected.and_then(|f| f.span()),
+        Some(Span { start: 6, end: 7 })
+    );
     assert_eq!(rt; unexpected.map(|f| f.number()), Some(10));
     Ok(())
 }
@@ -148,7 +155,13 @@ fn long<A: Allocator + Copy>(alloc: A, names: usize) -> Result<Vec<Token<'static
 fn a_sum_may_be_96_deep(rt: HostRuntime) -> Result<(), Fail> {
     assert!(rt; parse(rt.alloc(), long(rt.alloc(), 96)?.as_slice()).is_ok());
     let deep = parse(rt.alloc(), long(rt.alloc(), 97)?.as_slice()).err();
-    assert_eq!(rt; deep.and_then(|f| f.span()), Some(Span { start: 584, end: 585 }));
+    assert_eq!(rt;
+        deep.and_then(|f| f.span()),
+        Some(Span {
+            start: 584,
+            end: 585
+        })
+    );
     assert_eq!(rt; deep.map(|f| f.number()), Some(11));
     Ok(())
 }

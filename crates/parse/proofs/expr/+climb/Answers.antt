@@ -51,10 +51,10 @@ turns-preserved g t c =
     let right = expr_of c.in_ok-right.right in
     let at : ◌≡◌ (record { start = c.span_of.result.start; «end» = c.span_of-in-turns.result.«end» }) (across (span_of left) (span_of right)) = rw (c.span_of.ensures, c.span_of-in-turns.ensures) refl in
     let v : expr_of (E.Binary op c.in_ok-new.field-0 c.in_ok-new-2.field-0 (record { start = c.span_of.result.start; «end» = c.span_of-in-turns.result.«end» })) ≡ binary_node op left right =
-      ap (λ a. expr_of (E.Binary op a c.in_ok-new-2.field-0 (record { start = c.span_of.result.start; «end» = c.span_of-in-turns.result.«end» }))) c.in_ok-new.ensures
-      ∙ ap (λ b. expr_of (E.Binary op c.turns.left b (record { start = c.span_of.result.start; «end» = c.span_of-in-turns.result.«end» }))) c.in_ok-new-2.ensures
-      ∙ expr_of_binary op c.turns.left c.in_ok-right.right _
-      ∙ ap (Binary op left right) at in
+    ap (λ a. expr_of (E.Binary op a c.in_ok-new-2.field-0 (record { start = c.span_of.result.start; «end» = c.span_of-in-turns.result.«end» }))) c.in_ok-new.ensures
+    ∙ ap (λ b. expr_of (E.Binary op c.turns.left b (record { start = c.span_of.result.start; «end» = c.span_of-in-turns.result.«end» }))) c.in_ok-new-2.ensures
+    ∙ expr_of_binary op c.turns.left c.in_ok-right.right _
+    ∙ ap (Binary op left right) at in
     let most : c.max-deep.result ≡ max c.turns.deep c.in_ok-right.right_deep = c.max-deep.ensures in
     let left_deep : c.turns.deep ≡ expr_depth left = c.turns.invariant.deep in
     let right_deep : c.in_ok-right.right_deep ≡ expr_depth right = c.in_ok-right.ensures.deep in
@@ -64,8 +64,8 @@ turns-preserved g t c =
       within = omega (arith, c.in_ok-right.ensures.within);
       deep = deep ∙ ap expr_depth (sym v);
       value =
-        ap (λ e. climb_loop sums (climb_at (c.args.depth - 1)) c.args.min c.args.depth (c.args.depth - (c.turns._turn + 1)) e (toks c.in_ok-right.after.now)) v
-        ∙ turn_goes sums (climb_at (c.args.depth - 1)) c.args.min c.args.depth c.turns._turn (c.precedence.result + 1) left right _ _ (op, toks c.in-Some.after.now) _ c.turns-test.true (ap (λ n. n + 1) c.precedence.ensures) c.in-Some.ensures (omega (arith, c.turns.invariant.deep)) c.turns.invariant.value c.in_ok-right.ensures.value;
+          ap (λ e. climb_loop sums (climb_at (c.args.depth - 1)) c.args.min c.args.depth (c.args.depth - (c.turns._turn + 1)) e (toks c.in_ok-right.after.now)) v
+          ∙ turn_goes sums (climb_at (c.args.depth - 1)) c.args.min c.args.depth c.turns._turn (c.precedence.result + 1) left right _ _ (op, toks c.in-Some.after.now) _ c.turns-test.true (ap (λ n. n + 1) c.precedence.ensures) c.in-Some.ensures (omega (arith, c.turns.invariant.deep)) c.turns.invariant.value c.in_ok-right.ensures.value;
     }
 
 pub returns-in-Some-next_op-clause-value : goal.returns-in-Some-next_op-clause-value

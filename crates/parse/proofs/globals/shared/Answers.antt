@@ -17,9 +17,9 @@ returns-in_err-one g c =
     let p = err_from_is_err_and c.from_residual-in_err-one.result c.from_residual-in_err-one.ensures.1 in
     let front : map global_of c.push.new.self ≡ global_of c.in_ok-first.first ∷ [] = rw (c.in_ok-push.ensures.ok, c.new-all.ensures) refl in
     rw (p.1, p.2) (fails_along c.in_err-one.field-0.0 _ _ (λ f e.
-        shared_is (toks c.args.tokens.now) (toks c.in_ok-rest.rest.now) (toks c.in_ok-first.inner.now) (global_of c.in_ok-first.first) c.in_ok-rest.ensures c.in_ok-first.ensures
-        ∙ ap (λ xs. ended m.Semicolon (onward xs (many_until (is_other m.Comma) (behind m.Comma single) (toks c.in_ok-first.inner.now)))) (sym front)
-        ∙ ended_fails m.Semicolon _ f (fails_on (is_other m.Comma) (behind m.Comma single) (map global_of c.turns.all) (length c.in_ok-first.inner.now) c.turns._turn (toks c.turns.rest.now) f _ c.turns-test.true (ap not (sym c.is_next.ensures ∙ c.if-not-is_next.false)) e c.turns.invariant.value)) c.in_err-one.ensures)
+    shared_is (toks c.args.tokens.now) (toks c.in_ok-rest.rest.now) (toks c.in_ok-first.inner.now) (global_of c.in_ok-first.first) c.in_ok-rest.ensures c.in_ok-first.ensures
+    ∙ ap (λ xs. ended m.Semicolon (onward xs (many_until (is_other m.Comma) (behind m.Comma single) (toks c.in_ok-first.inner.now)))) (sym front)
+    ∙ ended_fails m.Semicolon _ f (fails_on (is_other m.Comma) (behind m.Comma single) (map global_of c.turns.all) (length c.in_ok-first.inner.now) c.turns._turn (toks c.turns.rest.now) f _ c.turns-test.true (ap not (sym c.is_next.ensures ∙ c.if-not-is_next.false)) e c.turns.invariant.value)) c.in_err-one.ensures)
 
 pub turns-preserved : goal.turns-preserved
 turns-preserved g c =
@@ -36,9 +36,9 @@ returns-in_err-rest-2 g c =
     let way : (length c.in_ok-first.inner.now - c.turns._turn ≡ 0) ⊎ (is_other m.Comma (head (toks c.turns.rest.now)) ≡ true) =
     elim c.turns-test.branch [ else-turns-test w ↦ inl (omega (arith, w.turns-test.false)) | then-turns-test+then-not-is_next w ↦ inr (ap not (sym w.is_next.ensures ∙ w.if-not-is_next.true)) ] in
     rw (p.1, p.2) (fails_along c.in_err-rest-2.field-0.0 _ _ (λ f e.
-        shared_is (toks c.args.tokens.now) (toks c.in_ok-rest.rest.now) (toks c.in_ok-first.inner.now) (global_of c.in_ok-first.first) c.in_ok-rest.ensures c.in_ok-first.ensures
-        ∙ ap (λ xs. ended m.Semicolon (onward xs (many_until (is_other m.Comma) (behind m.Comma single) (toks c.in_ok-first.inner.now)))) (sym front)
-        ∙ ended_bad m.Semicolon (onward (map global_of c.push.new.self) (many_until (is_other m.Comma) (behind m.Comma single) (toks c.in_ok-first.inner.now))) f (bad_end (is_other m.Comma) (behind m.Comma single) (expect m.Semicolon) (map global_of c.turns.all) (length c.in_ok-first.inner.now - c.turns._turn) (toks c.turns.rest.now) _ (λ h. other_false m.Comma m.Semicolon (toks c.turns.rest.now) refl h) c.turns.invariant.value f way e)) c.in_err-rest-2.ensures)
+    shared_is (toks c.args.tokens.now) (toks c.in_ok-rest.rest.now) (toks c.in_ok-first.inner.now) (global_of c.in_ok-first.first) c.in_ok-rest.ensures c.in_ok-first.ensures
+    ∙ ap (λ xs. ended m.Semicolon (onward xs (many_until (is_other m.Comma) (behind m.Comma single) (toks c.in_ok-first.inner.now)))) (sym front)
+    ∙ ended_bad m.Semicolon (onward (map global_of c.push.new.self) (many_until (is_other m.Comma) (behind m.Comma single) (toks c.in_ok-first.inner.now))) f (bad_end (is_other m.Comma) (behind m.Comma single) (expect m.Semicolon) (map global_of c.turns.all) (length c.in_ok-first.inner.now - c.turns._turn) (toks c.turns.rest.now) _ (λ h. other_false m.Comma m.Semicolon (toks c.turns.rest.now) refl h) c.turns.invariant.value f way e)) c.in_err-rest-2.ensures)
 
 pub returns : goal.returns
 returns g c =

@@ -20,8 +20,8 @@ pub returns-in_err-one : goal.returns-in_err-one
 returns-in_err-one g c =
     let p = err_from_is_err_and c.from_residual-in_err-one.result c.from_residual-in_err-one.ensures.1 in
     rw (p.1, p.2) (fails_along c.in_err-one.field-0.0 _ _ (λ f e.
-        braced_is (assignment c.args.depth) (toks c.args.tokens.now) (toks c.in_ok-inner.inner.now) c.in_ok-inner.ensures
-        ∙ ended_fails m.CloseBrace _ f (fails_on (is_next m.CloseBrace) (assignment c.args.depth) (map stmt_of c.turns.all) (length c.in_ok-inner.inner.now) c.turns._turn (toks c.turns.rest.now) f _ c.turns-test.true (sym c.is_next.ensures ∙ c.if-is_next.false) e c.turns.invariant.value)) c.in_err-one.ensures)
+    braced_is (assignment c.args.depth) (toks c.args.tokens.now) (toks c.in_ok-inner.inner.now) c.in_ok-inner.ensures
+    ∙ ended_fails m.CloseBrace _ f (fails_on (is_next m.CloseBrace) (assignment c.args.depth) (map stmt_of c.turns.all) (length c.in_ok-inner.inner.now) c.turns._turn (toks c.turns.rest.now) f _ c.turns-test.true (sym c.is_next.ensures ∙ c.if-is_next.false) e c.turns.invariant.value)) c.in_err-one.ensures)
 
 pub turns-preserved : goal.turns-preserved
 turns-preserved g c =
@@ -37,8 +37,8 @@ returns-in_err-rest g c =
     let way : (length c.in_ok-inner.inner.now - c.turns._turn ≡ 0) ⊎ (is_next m.CloseBrace (head (toks c.turns.rest.now)) ≡ true) =
     elim c.turns-test.branch [ else-turns-test w ↦ inl (omega (arith, w.turns-test.false)) | then-turns-test+then-is_next w ↦ inr (sym w.is_next.ensures ∙ w.if-is_next.true) ] in
     rw (p.1, p.2) (fails_along c.in_err-rest.field-0.0 _ _ (λ f e.
-        braced_is (assignment c.args.depth) (toks c.args.tokens.now) (toks c.in_ok-inner.inner.now) c.in_ok-inner.ensures
-        ∙ ended_bad m.CloseBrace (many_until (is_next m.CloseBrace) (assignment c.args.depth) (toks c.in_ok-inner.inner.now)) f (bad_end (is_next m.CloseBrace) (assignment c.args.depth) (expect m.CloseBrace) (map stmt_of c.turns.all) (length c.in_ok-inner.inner.now - c.turns._turn) (toks c.turns.rest.now) _ (λ h. expect_not m.CloseBrace (toks c.turns.rest.now) h) c.turns.invariant.value f way e)) c.in_err-rest.ensures)
+    braced_is (assignment c.args.depth) (toks c.args.tokens.now) (toks c.in_ok-inner.inner.now) c.in_ok-inner.ensures
+    ∙ ended_bad m.CloseBrace (many_until (is_next m.CloseBrace) (assignment c.args.depth) (toks c.in_ok-inner.inner.now)) f (bad_end (is_next m.CloseBrace) (assignment c.args.depth) (expect m.CloseBrace) (map stmt_of c.turns.all) (length c.in_ok-inner.inner.now - c.turns._turn) (toks c.turns.rest.now) _ (λ h. expect_not m.CloseBrace (toks c.turns.rest.now) h) c.turns.invariant.value f way e)) c.in_err-rest.ensures)
 
 pub returns : goal.returns
 returns g c =

@@ -21,7 +21,7 @@ pub returns-in_err-globals : goal.returns-in_err-globals
 returns-in_err-globals g c =
     let p = err_from_is_err_and c.from_residual.result c.from_residual.ensures.1 in
     rw (p.1, p.2) (fails_along c.in_err-globals.field-0.0 _ _ (λ f e.
-        program_fails c.args.depth (toks c.args.tokens.now) f (fails_on (is_other m.Int) (mapped Shares shared) (map item_of c.turns.all) c.start-count.result.1 c.turns._turn (toks c.turns.rest.now) f _ c.turns-test.true (ap not (sym c.is_next.ensures ∙ c.if-not-is_next.false)) (shares_fails (toks c.turns.rest.now) f e) c.turns.invariant.value)) c.in_err-globals.ensures)
+    program_fails c.args.depth (toks c.args.tokens.now) f (fails_on (is_other m.Int) (mapped Shares shared) (map item_of c.turns.all) c.start-count.result.1 c.turns._turn (toks c.turns.rest.now) f _ c.turns-test.true (ap not (sym c.is_next.ensures ∙ c.if-not-is_next.false)) (shares_fails (toks c.turns.rest.now) f e) c.turns.invariant.value)) c.in_err-globals.ensures)
 
 pub turns-preserved : goal.turns-preserved
 turns-preserved g c =
@@ -37,8 +37,8 @@ returns-in_err-last g c =
     let way : (c.start-count.result.1 - c.turns._turn ≡ 0) ⊎ (is_other m.Int (head (toks c.turns.rest.now)) ≡ true) =
     elim c.turns-test.branch [ else-turns-test w ↦ inl (omega (arith, w.turns-test.false)) | then-turns-test+then-not-is_next w ↦ inr (ap not (sym w.is_next.ensures ∙ w.if-not-is_next.true)) ] in
     rw (p.1, p.2) (fails_along c.in_err-last.field-0.0 _ _ (λ f e.
-        program_bad c.args.depth (toks c.args.tokens.now) f
-        (bad_end (is_other m.Int) (mapped Shares shared) (function c.args.depth) (map item_of c.turns.all) (c.start-count.result.1 - c.turns._turn) (toks c.turns.rest.now) (many_until (is_other m.Int) (mapped Shares shared) (toks c.args.tokens.now)) (λ h. function_not c.args.depth (toks c.turns.rest.now) h) c.turns.invariant.value f way e)) c.in_err-last.ensures)
+    program_bad c.args.depth (toks c.args.tokens.now) f
+    (bad_end (is_other m.Int) (mapped Shares shared) (function c.args.depth) (map item_of c.turns.all) (c.start-count.result.1 - c.turns._turn) (toks c.turns.rest.now) (many_until (is_other m.Int) (mapped Shares shared) (toks c.args.tokens.now)) (λ h. function_not c.args.depth (toks c.turns.rest.now) h) c.turns.invariant.value f way e)) c.in_err-last.ensures)
 
 pub returns : goal.returns
 returns g c =
