@@ -1,4 +1,9 @@
 //! The base of every layer: a box, a list and a text whose contracts show what they hold and nothing else.
+//!
+//! A `Box`, a `Vec` and a `String` are compared in a contract with their pointers and capacities, so a copy of a tree
+//! would not equal the tree. These three are seen as the value, the list of items and the bytes that they hold: a tree
+//! over them is plain data, `≡` on it means "the same tree", and a refused call can promise to hand back the very value
+//! that it was given. A type may hold itself through a `Boxed` or an `Items` (`specs/formers`).
 #![tactic(auto)]
 
 mod boxed;
@@ -8,3 +13,6 @@ mod text;
 pub use boxed::Boxed;
 pub use items::Items;
 pub use text::Text;
+
+#[cfg(test)]
+mod tests;

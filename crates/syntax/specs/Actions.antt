@@ -1,5 +1,5 @@
 -- Runs: what carries ticks, locals, memory and text along, and the ways in which a run stops.
-use Rattle.std.specs.Prelude.{ℕ, zero, suc, List, ◌++◌, Option, Some, None, Result, Ok, Err, slice_index, slice_set}
+use Rattle.std.specs.Prelude.{ℕ, zero, suc, List, [], ◌++◌, Option, Some, None, Result, Ok, Err, slice_index, slice_set}
 use Rattle.syntax.specs.declared.tree.Mode.{Mode}
 use Rattle.syntax.specs.declared.tree.Mode.TheVariants.{Atomic, Relaxed}
 use Rattle.syntax.specs.declared.numbers.Trap.{Trap}
@@ -14,16 +14,29 @@ pub data Place : Type 0 where
   Outside : (founds lefts : List Memory) → Place
   Inside : (mode : Mode) (memory : Memory) → Place
 
+-- the memories left so far
+abbrev pub lefts_in : Place → List Memory
+lefts_in (Outside founds lefts) = lefts
+lefts_in (Inside mode memory) = []
+
+-- the memory of a place inside a transaction
+abbrev pub memory_in : Place → Memory
+memory_in (Outside founds lefts) = []
+memory_in (Inside mode memory) = memory
+
+-- what a run carries along
 pub record State : Type 0 where
   pub ticks : ℕ
   pub locals : List Local
   pub place : Place
   pub text : List ℕ
 
+-- a run gives something, or stops; either in the state then reached
 pub data Answer (A : Type 0) : Type 0 where
   Gives : (a : A) (s : State) → Answer A
   Stops : (stop : Stop) (s : State) → Answer A
 
+-- what may be done in any state
 abbrev pub Action : Type 0 → Type 0
 Action A = State → Answer A
 
@@ -97,9 +110,9 @@ may_print_at (Inside Atomic m) = stop Astray
 abbrev pub may_print : Action (Unit {0})
 may_print s = may_print_at s.place s
 
--- one piece of text, for one tick
 abbrev pub write : List ℕ → Action (Unit {0})
 write text s = Gives tt (record s { text = s.text ++ text })
 
-abbrev pub say : List ℕ → Action (Unit {0})
-say text = tick >> write text
+-- one piece of text, for one tick
+abbrev pub print_piece : List ℕ → Action (Unit {0})
+print_piece text = tick >> write text

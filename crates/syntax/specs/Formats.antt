@@ -1,5 +1,5 @@
 -- The pieces of a format: what one `printf` prints, in order.
-use Rattle.std.specs.Prelude.{ℕ, List, [], ◌∷◌, Bool, true, false, if◌then◌else◌, ◌==◌}
+use Rattle.std.specs.Prelude.{ℕ, List, [], ◌∷◌, Bool, true, not, if◌then◌else◌, ◌==◌, ◌&&◌, ◌||◌}
 use Rattle.lex.specs.declared.token.Scalar.{Scalar}
 use Rattle.lex.specs.declared.token.Scalar.TheVariants.{Int, Unsigned}
 
@@ -8,17 +8,30 @@ pub data Piece : Type 0 where
   Literal : (text : List ℕ) → Piece
   Figure : (of : Scalar) → Piece
 
+-- one byte of text, joined to the text behind it
 abbrev pub literal : ℕ → List Piece → List Piece
 literal c [] = Literal (c ∷ []) ∷ []
 literal c (Literal cs ∷ ps) = Literal (c ∷ cs) ∷ ps
 literal c (Figure t ∷ ps) = Literal (c ∷ []) ∷ Figure t ∷ ps
 
--- what a letter after % stands for: d, u, and else itself, as in %%
+-- what a byte behind a percent sign stands for: `d` and `u` for a number, and else itself, as in `%%`
 abbrev pub conversion : ℕ → List Piece → List Piece
 conversion c ps = if c == 100 then Figure Int ∷ ps else (if c == 117 then Figure Unsigned ∷ ps else literal c ps)
 
--- the pieces of a format, where a % has just been passed or not
-abbrev pub pieces : Bool → List ℕ → List Piece
-pieces passed [] = []
-pieces true (c ∷ cs) = conversion c (pieces false cs)
-pieces false (c ∷ cs) = if c == 37 then pieces true cs else literal c (pieces false cs)
+-- the pieces of a format; 37 is the percent sign
+abbrev pub pieces : List ℕ → List Piece
+pieces [] = []
+pieces (a ∷ []) = literal a []
+pieces (a ∷ b ∷ rest) = if a == 37 then conversion b (pieces rest) else literal a (pieces (b ∷ rest))
+
+-- behind each percent sign stands `d`, `u` or a percent sign
+abbrev pub is_format : List ℕ → Bool
+is_format [] = true
+is_format (a ∷ []) = not (a == 37)
+is_format (a ∷ b ∷ rest) = if a == 37 then ((b == 100) || ((b == 117) || (b == 37))) && is_format rest else is_format (b ∷ rest)
+
+-- the types of the numbers that a format prints
+abbrev pub figures : List Piece → List Scalar
+figures [] = []
+figures (Literal text ∷ ps) = figures ps
+figures (Figure t ∷ ps) = t ∷ figures ps

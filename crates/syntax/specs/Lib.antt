@@ -9,6 +9,8 @@ pub mod Behaviours
 pub mod Actions
 pub mod Meaning
 pub mod Typing
-pub mod More
 pub mod Threads
 pub mod Laws
+pub mod Phrases
+pub mod Grammar
+pub mod StraightLine

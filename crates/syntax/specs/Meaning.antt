@@ -1,8 +1,8 @@
 -- What expressions and statements do.
-use Rattle.std.specs.Prelude.{ℕ, zero, suc, ◌+◌, List, [], ◌∷◌, ◌++◌, length, take, Option, Some, None, if◌then◌else◌, Bool, true, false, not, ◌==◌, nat_lt, unwrap_or, option_map}
+use Rattle.std.specs.Prelude.{ℕ, zero, suc, ◌+◌, List, [], ◌∷◌, ◌++◌, length, take, Option, Some, None, if◌then◌else◌, Bool, true, false, not, nat_lt, unwrap_or, option_map}
 use Rattle.std.specs.Fmt.{signed_decimal}
 use Rattle.lex.specs.declared.token.Scalar.{Scalar}
-use Rattle.lex.specs.declared.token.Scalar.TheVariants.{Int, Unsigned}
+use Rattle.lex.specs.declared.token.Scalar.TheVariants.{Int}
 use Rattle.syntax.specs.declared.tree.BinaryOp.{BinaryOp}
 use Rattle.syntax.specs.declared.tree.BinaryOp.TheVariants.{Add, Subtract}
 use Rattle.syntax.specs.declared.tree.LogicalOp.TheVariants.{AndThen, OrElse}
@@ -20,7 +20,7 @@ use Rattle.syntax.specs.Formats.{Piece, Literal, Figure, pieces}
 use Rattle.syntax.specs.Types.{type_of, running_scope}
 use Rattle.syntax.specs.declared.numbers.Stop.TheVariants.{Trapped, Wants, Spent, Astray}
 use Rattle.syntax.specs.Behaviours.{Memory}
-use Rattle.syntax.specs.Actions.{Place, Outside, Inside, State, Answer, Gives, Stops, Action, pure, stop, go_on, ◌>>=◌, ◌>>◌, tick, trap, or_trap, or_astray, locals, put_locals, load, store, may_print, say}
+use Rattle.syntax.specs.Actions.{Place, Outside, Inside, State, Answer, Gives, Stops, Action, pure, stop, go_on, ◌>>=◌, ◌>>◌, tick, trap, or_trap, or_astray, locals, put_locals, load, store, may_print, print_piece, memory_in}
 
 -- where a value stands: in a local variable, by its place among the locals, or in a shared cell
 pub data Spot : Type 0 where
@@ -41,11 +41,12 @@ assign (InLocal i t) v = do
   put_locals (with_word mine i (converted t v).word)
 assign (InCell c t) v = store c (converted t v).word
 
-abbrev pub say_all : List Piece → List Value → Action (Unit {0})
-say_all [] vs = pure tt
-say_all (Literal text ∷ ps) vs = say text >> say_all ps vs
-say_all (Figure t ∷ ps) [] = stop Astray
-say_all (Figure t ∷ ps) (v ∷ vs) = say (signed_decimal (number t v.word)) >> say_all ps vs
+-- the pieces of a format, with these values for its figures
+abbrev pub print_pieces : List Piece → List Value → Action (Unit {0})
+print_pieces [] vs = pure tt
+print_pieces (Literal text ∷ ps) vs = print_piece text >> print_pieces ps vs
+print_pieces (Figure t ∷ ps) [] = stop Astray
+print_pieces (Figure t ∷ ps) (v ∷ vs) = print_piece (signed_decimal (number t v.word)) >> print_pieces ps vs
 
 -- how a statement ends
 pub data End : Type 0 where
@@ -55,12 +56,10 @@ pub data End : Type 0 where
   Returns : (v : Value) → End
   Cancels : End
 
+-- the rest follows where the first has come to its end
 abbrev pub on_next : Action End → End → Action End
 on_next rest Next = rest
-on_next rest Breaks = pure Breaks
-on_next rest Continues = pure Continues
-on_next rest (Returns v) = pure (Returns v)
-on_next rest Cancels = pure Cancels
+on_next rest end = pure end
 
 -- a stretch with names of its own: they are gone at its end
 abbrev pub scoped : Action End → Action End
@@ -89,13 +88,7 @@ abbrev pub after_body : Action (Option End) → End → Action (Option End)
 after_body go Next = go
 after_body go Continues = go
 after_body go Breaks = pure (Some Next)
-after_body go (Returns v) = pure (Some (Returns v))
-after_body go Cancels = pure (Some Cancels)
-
--- the memory of a state inside a transaction
-abbrev pub memory_in : Place → Memory
-memory_in (Outside founds lefts) = []
-memory_in (Inside mode m) = m
+after_body go end = pure (Some end)
 
 -- what a transaction leaves: a cancel undoes shared memory and locals, and the run goes on after it
 pub record Left : Type 0 where
@@ -105,10 +98,7 @@ pub record Left : Type 0 where
 
 abbrev pub left_by : List Local → Memory → End → State → Left
 left_by mine found Cancels now = record { end = Next; locals = mine; memory = found }
-left_by mine found Next now = record { end = Next; locals = now.locals; memory = memory_in now.place }
-left_by mine found Breaks now = record { end = Breaks; locals = now.locals; memory = memory_in now.place }
-left_by mine found Continues now = record { end = Continues; locals = now.locals; memory = memory_in now.place }
-left_by mine found (Returns v) now = record { end = Returns v; locals = now.locals; memory = memory_in now.place }
+left_by mine found end now = record { end = end; locals = now.locals; memory = memory_in now.place }
 
 -- a transaction inside one that runs as outer
 abbrev pub leave_inner : Mode → Left → State → Answer End
@@ -127,17 +117,17 @@ leave founds lefts left now =
     go_on (tick (record now { place = Outside founds lefts }))
     (λ u then_. Gives left.end (record then_ { locals = left.locals; place = Outside founds (lefts ++ left.memory ∷ []) }))
 
+-- a trap leaves the memory that was found, and a run that otherwise stops leaves none
 abbrev pub close : List Memory → List Memory → List Local → Memory → Answer End → Answer End
 close founds lefts mine found (Gives end now) = leave founds lefts (left_by mine found end now) now
 close founds lefts mine found (Stops (Trapped k) now) = Stops (Trapped k) (record now { place = Outside founds (lefts ++ found ∷ []) })
-close founds lefts mine found (Stops Wants now) = Stops Wants (record now { place = Outside founds lefts })
-close founds lefts mine found (Stops Spent now) = Stops Spent (record now { place = Outside founds lefts })
-close founds lefts mine found (Stops Astray now) = Stops Astray (record now { place = Outside founds lefts })
+close founds lefts mine found (Stops why now) = Stops why (record now { place = Outside founds lefts })
 
 abbrev pub outermost : Mode → Memory → List Memory → List Memory → Action End → Action End
 outermost mode found founds lefts run s =
     close founds lefts s.locals found (run (record s { place = Inside mode found }))
 
+-- a transaction that begins here: outside it takes the next memory, and inside an atomic one no relaxed one begins
 abbrev pub enter : Place → Mode → Action End → Action End
 enter (Outside [] lefts) mode run = stop Wants
 enter (Outside (found ∷ founds) lefts) mode run = outermost mode found founds lefts run
@@ -152,14 +142,15 @@ abbrev pub op_of : Step → BinaryOp
 op_of Up = Add
 op_of Down = Subtract
 
-abbrev pub one : Value
-one = record { of = Int; word = 1 }
+abbrev pub int_one : Value
+int_one = record { of = Int; word = 1 }
 
 -- a call of a function by its name
 abbrev pub Caller : Type 0
 Caller = List ℕ → List Value → Action Value
 
 module _ (p : Program) (call : Caller) where
+  -- where a name's value stands: in the newest local of that name, else in the global
   abbrev pub spot_from : List ℕ → Option (ℕ × Scalar) → Action Spot
   spot_from x (Some l) = pure (InLocal l.0 l.1)
   spot_from x None = do
@@ -254,7 +245,7 @@ module _ (p : Program) (call : Caller) where
     pure Next
   simple (Change to by) = do
     at ← spot to
-    changed at (pure one) (op_of by)
+    changed at (pure int_one) (op_of by)
     pure Next
 
   -- a declared name is 0 and then, in its own scope, its first value
@@ -312,7 +303,7 @@ module _ (p : Program) (call : Caller) where
       tick
       may_print
       vs ← exprs es
-      say_all (pieces false format) vs
+      print_pieces (pieces format) vs
       pure Next
     stmt (If c a) = do
       tick
@@ -364,24 +355,20 @@ module _ (p : Program) (call : Caller) where
 abbrev pub bound : Parameter → Value → Option Local
 bound q v = option_map (λ x. record { name = x.text; of = q.of; word = (converted q.of v).word }) q.name
 
-abbrev pub both : Option Local → Option (List Local) → Option (List Local)
-both (Some l) (Some ls) = Some (l ∷ ls)
-both (Some l) None = None
-both None o = None
+abbrev pub with_first : Option Local → Option (List Local) → Option (List Local)
+with_first (Some l) (Some ls) = Some (l ∷ ls)
+with_first l ls = None
 
 abbrev pub entered : List Parameter → List Value → Option (List Local)
 entered [] [] = Some []
-entered [] (v ∷ vs) = None
-entered (q ∷ qs) [] = None
-entered (q ∷ qs) (v ∷ vs) = both (bound q v) (entered qs vs)
+entered (q ∷ qs) (v ∷ vs) = with_first (bound q v) (entered qs vs)
+entered qs vs = None
 
 -- the value of a call, of the function's own type: one that runs off its end gives 0, and no other end leaves it
 abbrev pub result_of : Option Scalar → End → Action Value
 result_of t Next = pure (converted (unwrap_or t Int) (flag false))
 result_of t (Returns v) = pure (converted (unwrap_or t Int) v)
-result_of t Breaks = stop Astray
-result_of t Continues = stop Astray
-result_of t Cancels = stop Astray
+result_of t end = stop Astray
 
 -- a function's body, with locals of its own
 abbrev pub invoke : Program → Caller → Caller

@@ -1,5 +1,6 @@
 -- What a program's names stand for, and its shared memory.
 use Rattle.std.specs.Prelude.{bytes_eq, slice_get, zero, suc, ℕ, ◌+◌, ◌-◌, List, [], ◌∷◌, ◌++◌, length, replicate, map, Option, Some, None, if◌then◌else◌, pos, neg_ℤ, option_map, unwrap_or}
+use Rattle.std.specs.Option.{option_or}
 use Rattle.lex.specs.declared.token.Scalar.{Scalar}
 use Rattle.syntax.specs.declared.tree.First.{First}
 use Rattle.syntax.specs.Tree.{Function, Global, Item, Defines, Shares, Program, Stmts}
@@ -63,13 +64,9 @@ definition_of (Defines f ∷ items) x = defined f x f.body (definition_of items 
 
 -- the newest local of a name, by its place and type: locals stand in order of declaration,
 -- and a later one hides an earlier one
-abbrev pub later : Option (ℕ × Scalar) → Option (ℕ × Scalar) → Option (ℕ × Scalar)
-later (Some found) o = Some found
-later None o = o
-
 abbrev pub newest_from : ℕ → List Local → List ℕ → Option (ℕ × Scalar)
 newest_from i [] x = None
-newest_from i (l ∷ ls) x = later (newest_from (i + 1) ls x) (if bytes_eq l.name x then Some (i, l.of) else None)
+newest_from i (l ∷ ls) x = option_or (newest_from (i + 1) ls x) (if bytes_eq l.name x then Some (i, l.of) else None)
 
 abbrev pub newest : List Local → List ℕ → Option (ℕ × Scalar)
 newest ls x = newest_from 0 ls x

@@ -12,7 +12,15 @@ use Rattle.syntax.specs.declared.tree.BinaryOp.{BinaryOp}
 use Rattle.syntax.specs.declared.tree.BinaryOp.TheVariants.{Or, Xor, And, Equal, NotEqual, Less, Greater, LessEqual, GreaterEqual, ShiftLeft, ShiftRight, Add, Subtract, Multiply, Divide, Remainder}
 use Rattle.syntax.specs.declared.numbers.Value.{Value}
 use Rattle.syntax.specs.declared.numbers.Trap.{Trap}
-use Rattle.syntax.specs.declared.numbers.Trap.TheVariants.{OutOfRange, ZeroDivisor, ShiftCount}
+use Rattle.syntax.specs.declared.numbers.Trap.TheVariants.{OutOfRange, ZeroDivisor, Index, Frames, ShiftCount}
+
+-- a trap's number, as it is reported
+abbrev pub trap_number : Trap → ℕ
+trap_number OutOfRange = 1
+trap_number ZeroDivisor = 2
+trap_number Index = 3
+trap_number Frames = 4
+trap_number ShiftCount = 5
 
 -- the residue of a number modulo 2^32
 abbrev pub word_of : ℤ → ℕ
@@ -47,6 +55,7 @@ abbrev pub fitted : Scalar → ℤ → Result ℕ Trap
 fitted Int z = if in_range Int z then Ok (word_of z) else Err OutOfRange
 fitted Unsigned z = Ok (word_of z)
 
+-- the word of a test
 abbrev pub truth : Bool → ℕ
 truth true = 1
 truth false = 0
@@ -55,9 +64,10 @@ truth false = 0
 abbrev pub quotient : Scalar → ℕ → ℕ → Result ℕ Trap
 quotient t a b = if b == 0 then Err ZeroDivisor else fitted t (int_div (number t a) (number t b))
 
-abbrev pub after : Result ℕ Trap → Result ℕ Trap → Result ℕ Trap
-after (Ok w) rest = rest
-after (Err k) rest = Err k
+-- the second result, where the first is no trap
+abbrev pub if_ok : Result ℕ Trap → Result ℕ Trap → Result ℕ Trap
+if_ok (Ok w) rest = rest
+if_ok (Err k) rest = Err k
 
 -- a count outside 0 to 31, whose word then is not below 32, traps before anything else does
 abbrev pub shift : (ℕ → Result ℕ Trap) → ℕ → Result ℕ Trap
@@ -69,7 +79,7 @@ computed Add t a b = fitted t (number t a +ℤ number t b)
 computed Subtract t a b = fitted t (number t a -ℤ number t b)
 computed Multiply t a b = fitted t (number t a *ℤ number t b)
 computed Divide t a b = quotient t a b
-computed Remainder t a b = after (quotient t a b) (fitted t (int_rem (number t a) (number t b)))
+computed Remainder t a b = if_ok (quotient t a b) (fitted t (int_rem (number t a) (number t b)))
 computed ShiftLeft t a b = shift (λ k. fitted t (number t a *ℤ pos (2 ^ k))) b
 computed ShiftRight t a b = shift (λ k. fitted t (int_div_euclid (number t a) (pos (2 ^ k)))) b
 computed And t a b = Ok (bit_and a b)
@@ -92,6 +102,7 @@ result_type LessEqual t = Int
 result_type GreaterEqual t = Int
 result_type op t = t
 
+-- a result as a value of this type
 abbrev pub typed : Scalar → Result ℕ Trap → Result Value Trap
 typed t (Ok w) = Ok (record { of = t; word = w })
 typed t (Err k) = Err k
@@ -115,6 +126,7 @@ is_zero v = v.word == 0
 abbrev pub flag : Bool → Value
 flag b = record { of = Int; word = truth b }
 
+-- an operator on one value
 abbrev pub unary : UnaryOp → Value → Result Value Trap
 unary Negate v = typed v.of (fitted v.of (neg_ℤ (number_of v)))
 unary Keep v = Ok v

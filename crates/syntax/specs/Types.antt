@@ -10,57 +10,53 @@ use Rattle.syntax.specs.Tree.{Expr, Variable, Constant, Element, Call, Parenthes
 use Rattle.syntax.specs.Names.{Local, newest}
 use Rattle.syntax.specs.Numbers.{common, result_type}
 
--- what a name is known as
+-- what a name is known as: nothing, a variable, an array, or a function with what it gives and takes
 pub data Known : Type 0 where
+  Unknown : Known
   Number : (of : Scalar) → Known
   Array : (of : Scalar) (length : ℕ) → Known
-  Code : (result : Option Scalar) (takes : List Scalar) → Known
+  Callable : (result : Option Scalar) (takes : List Scalar) → Known
 
+-- what each name is known as at a place of a program
 abbrev pub Scope : Type 0
-Scope = List ℕ → Option Known
+Scope = List ℕ → Known
 
 abbrev pub known_global : Global → Known
 known_global g = unwrap_or (option_map (λ n. Array g.of n.0) g.length) (Number g.of)
 
 abbrev pub known_function : Function → Known
-known_function f = Code f.result (map (λ q. q.of) f.parameters)
+known_function f = Callable f.result (map (λ q. q.of) f.parameters)
 
 abbrev pub known_among : List Global → Scope → Scope
 known_among [] rest x = rest x
-known_among (g ∷ gs) rest x = if bytes_eq g.name.text x then Some (known_global g) else known_among gs rest x
+known_among (g ∷ gs) rest x = if bytes_eq g.name.text x then known_global g else known_among gs rest x
 
 -- what the file makes known
 abbrev pub file_scope : List Item → Scope
-file_scope [] x = None
-file_scope (Defines f ∷ items) x = if bytes_eq f.name.text x then Some (known_function f) else file_scope items x
+file_scope [] x = Unknown
+file_scope (Defines f ∷ items) x = if bytes_eq f.name.text x then known_function f else file_scope items x
 file_scope (Shares gs ∷ items) x = known_among gs (file_scope items) x
 
 -- a further name hides an outer one
 abbrev pub with_number : List ℕ → Scalar → Scope → Scope
-with_number x t outer y = if bytes_eq x y then Some (Number t) else outer y
+with_number x t outer y = if bytes_eq x y then Number t else outer y
 
-abbrev pub number_type : Option Known → Option Scalar
-number_type None = None
-number_type (Some (Number t)) = Some t
-number_type (Some (Array t n)) = None
-number_type (Some (Code r ts)) = None
+-- the type of a variable, of an array's elements, and of what a function gives
+abbrev pub number_type : Known → Option Scalar
+number_type (Number t) = Some t
+number_type other = None
 
-abbrev pub element_type : Option Known → Option Scalar
-element_type None = None
-element_type (Some (Number t)) = None
-element_type (Some (Array t n)) = Some t
-element_type (Some (Code r ts)) = None
+abbrev pub element_type : Known → Option Scalar
+element_type (Array t n) = Some t
+element_type other = None
 
-abbrev pub call_type : Option Known → Option Scalar
-call_type None = None
-call_type (Some (Number t)) = None
-call_type (Some (Array t n)) = None
-call_type (Some (Code r ts)) = r
+abbrev pub call_type : Known → Option Scalar
+call_type (Callable result takes) = result
+call_type other = None
 
 abbrev pub common_of : Option Scalar → Option Scalar → Option Scalar
 common_of (Some s) (Some t) = Some (common s t)
-common_of (Some s) None = None
-common_of None t = None
+common_of s t = None
 
 abbrev pub unary_type : UnaryOp → Option Scalar → Option Scalar
 unary_type Not t = Some Int
@@ -88,4 +84,4 @@ type_of known (Conditional c a b at) = common_of (type_of known a) (type_of know
 
 -- what is known while a function runs with these locals
 abbrev pub running_scope : Program → List Local → Scope
-running_scope p ls x = unwrap_or (option_map (λ l. Some (Number l.1)) (newest ls x)) (file_scope p x)
+running_scope p ls x = unwrap_or (option_map (λ l. Number l.1) (newest ls x)) (file_scope p x)

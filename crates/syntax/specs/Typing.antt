@@ -2,7 +2,7 @@
 --
 -- Each rule is a demand with its fault number and its place. A program is typed where every demand is met.
 -- A fault breaks the rule of its number at its place where the demands of that number and place are not all met.
-use Rattle.std.specs.Prelude.{◌≡◌, ℕ, ◌+◌, List, [], ◌∷◌, ◌++◌, length, map, drop, sum_by, Option, Some, None, Bool, true, false, not, ◌&&◌, ◌||◌, IsTrue, is_some, is_none, codes, option_map, unwrap_or, ◌==◌, nat_le, bytes_eq}
+use Rattle.std.specs.Prelude.{◌≡◌, ℕ, ◌+◌, List, [], ◌∷◌, ◌++◌, length, map, drop, sum_by, Option, Some, None, Bool, true, false, not, ◌&&◌, ◌||◌, IsTrue, is_some, is_none, if◌then◌else◌, codes, option_map, unwrap_or, ◌==◌, nat_le, bytes_eq}
 use Rattle.std.specs.List.{list_any}
 use Rattle.lex.specs.declared.token.Span.{Span}
 use Rattle.lex.specs.declared.token.Scalar.{Scalar}
@@ -11,94 +11,83 @@ use Rattle.syntax.specs.declared.tree.First.{First}
 use Rattle.syntax.specs.Tree as Tree
 use Rattle.syntax.specs.Tree.{Name, Expr, Exprs, Variable, Constant, Element, Call, Parenthesized, Cast, Unary, Binary, Logical, Conditional, Simple, Value as Just, Assign, Change, Declarator, Declaration, Start, Nothing, Declares, Does, Stmt, Stmts, Empty, Declare, Do, Block, Print, If, IfElse, While, DoWhile, For, Break, Continue, Return, Transaction, Cancel, Parameter, Function, Global, Item, Defines, Shares, Program}
 use Rattle.syntax.specs.Names.{cells, definition_of}
-use Rattle.syntax.specs.Types.{Known, Number, Array, Code, Scope, file_scope, with_number, number_type, element_type, type_of}
-use Rattle.syntax.specs.Formats.{Piece, Literal, Figure, pieces}
+use Rattle.syntax.specs.Types.{Known, Unknown, Callable, Scope, file_scope, with_number, number_type, element_type, type_of}
+use Rattle.syntax.specs.Formats.{pieces, is_format, figures}
 
 -- a list of names has a name
-abbrev pub has : List (List ℕ) → List ℕ → Bool
-has xs x = list_any (λ y. bytes_eq y x) xs
+abbrev pub has_name : List (List ℕ) → List ℕ → Bool
+has_name xs x = list_any (λ y. bytes_eq y x) xs
 
-abbrev pub is_function : Option Known → Bool
-is_function None = true
-is_function (Some (Number t)) = false
-is_function (Some (Array t n)) = false
-is_function (Some (Code r ts)) = true
+abbrev pub is_unknown : Known → Bool
+is_unknown Unknown = true
+is_unknown other = false
 
-abbrev pub takes : Option Known → ℕ → Bool
-takes None n = true
-takes (Some (Number t)) n = true
-takes (Some (Array t m)) n = true
-takes (Some (Code r ts)) n = n == length ts
+-- a name may stand for a variable, an array or a function; one that is not known breaks another rule
+abbrev pub may_be_number : Known → Bool
+may_be_number k = is_unknown k || is_some (number_type k)
 
+abbrev pub may_be_array : Known → Bool
+may_be_array k = is_unknown k || is_some (element_type k)
+
+abbrev pub may_be_function : Known → Bool
+may_be_function Unknown = true
+may_be_function (Callable result takes) = true
+may_be_function other = false
+
+-- a call with so many arguments
+abbrev pub takes_so_many : Known → ℕ → Bool
+takes_so_many (Callable result takes) n = n == length takes
+takes_so_many other n = true
+
+-- the number of expressions
 abbrev pub count : Exprs → ℕ
 count Tree.[] = 0
 count (Tree.◌∷◌ e es) = count es + 1
 
 abbrev pub same_type : Scalar → Scalar → Bool
 same_type Int Int = true
-same_type Int Unsigned = false
-same_type Unsigned Int = false
 same_type Unsigned Unsigned = true
+same_type s t = false
 
 abbrev pub is_type : Scalar → Option Scalar → Bool
 is_type t None = false
 is_type t (Some s) = same_type s t
 
 abbrev pub same_result : Option Scalar → Option Scalar → Bool
-same_result None None = true
-same_result None (Some t) = false
+same_result None o = is_none o
 same_result (Some s) o = is_type s o
 
 abbrev pub same_types : List Scalar → List Scalar → Bool
 same_types [] [] = true
-same_types [] (t ∷ ts) = false
-same_types (s ∷ ss) [] = false
 same_types (s ∷ ss) (t ∷ ts) = same_type s t && same_types ss ts
+same_types ss ts = false
 
--- a function may stand beside what its name is known as: nothing, or a function of the same types
-abbrev pub agrees : Function → Option Known → Bool
-agrees f None = true
-agrees f (Some (Number t)) = true
-agrees f (Some (Array t n)) = true
-agrees f (Some (Code r ts)) = same_result r f.result && same_types ts (map (λ q. q.of) f.parameters)
+-- a function is declared with the same types as before, if it was
+abbrev pub agrees : Function → Known → Bool
+agrees f (Callable result takes) = same_result result f.result && same_types takes (map (λ q. q.of) f.parameters)
+agrees f other = true
 
--- after each % stands d, u or %
-abbrev pub is_format : Bool → List ℕ → Bool
-is_format passed [] = not passed
-is_format true (c ∷ cs) = ((c == 100) || ((c == 117) || (c == 37))) && is_format false cs
-is_format false (c ∷ cs) = is_format (c == 37) cs
-
-abbrev pub figures : List Piece → List Scalar
-figures [] = []
-figures (Literal text ∷ ps) = figures ps
-figures (Figure t ∷ ps) = t ∷ figures ps
-
--- both there, or both not there
-abbrev pub same_option : Option Scalar → Option Expr → Bool
-same_option None None = true
-same_option None (Some e) = false
-same_option (Some t) None = false
-same_option (Some t) (Some e) = true
+-- a value is returned exactly where the function gives one
+abbrev pub returns_right : Option Scalar → Option Expr → Bool
+returns_right gives e = if is_some gives then is_some e else is_none e
 
 -- where an expression stands
-abbrev pub place : Expr → Span
-place (Variable x) = x.at
-place (Constant n t at) = at
-place (Element x i at) = at
-place (Call f es at) = at
-place (Parenthesized e at) = at
-place (Cast t e at) = at
-place (Unary op e at) = at
-place (Binary op a b at) = at
-place (Logical op a b at) = at
-place (Conditional c a b at) = at
+abbrev pub span_of : Expr → Span
+span_of (Variable x) = x.at
+span_of (Constant n t at) = at
+span_of (Element x i at) = at
+span_of (Call f es at) = at
+span_of (Parenthesized e at) = at
+span_of (Cast t e at) = at
+span_of (Unary op e at) = at
+span_of (Binary op a b at) = at
+span_of (Logical op a b at) = at
+span_of (Conditional c a b at) = at
 
 -- no value: a call of a function that gives none
-abbrev pub gives_nothing : Option Known → Bool
-gives_nothing None = false
-gives_nothing (Some (Number t)) = false
-gives_nothing (Some (Array t n)) = false
-gives_nothing (Some (Code r ts)) = is_none r
+abbrev pub gives_nothing : Known → Bool
+gives_nothing (Callable result takes) = is_none result
+gives_nothing other = false
 
 abbrev pub is_void : Scope → Expr → Bool
 is_void known (Call f es at) = gives_nothing (known f.text)
@@ -142,11 +131,10 @@ all_cells [] = 0
 all_cells (Defines f ∷ items) = all_cells items
 all_cells (Shares gs ∷ items) = sum_by cells gs + all_cells items
 
-abbrev pub is_worker : Option Known → Bool
-is_worker None = false
-is_worker (Some (Number t)) = false
-is_worker (Some (Array t n)) = false
-is_worker (Some (Code r ts)) = is_none r && same_types ts (Int ∷ [])
+-- a function that gives nothing and takes one int
+abbrev pub is_worker : Known → Bool
+is_worker (Callable result takes) = is_none result && same_types takes (Int ∷ [])
+is_worker other = false
 
 -- the demands of which a fact speaks, by number and place
 module _ (asked : ℕ → Span → Type 0) where
@@ -156,18 +144,18 @@ module _ (asked : ℕ → Span → Type 0) where
   module _ (known : Scope) where
     -- a name that is known
     abbrev pub IsKnown : Name → Type 0
-    IsKnown x = Demand 20 x.at (is_some (known x.text))
+    IsKnown x = Demand 20 x.at (not (is_unknown (known x.text)))
 
     -- a value that is a number
     abbrev pub GivesNumber : Expr → Type 0
-    GivesNumber e = Demand 22 (place e) (not (is_void known e))
+    GivesNumber e = Demand 22 (span_of e) (not (is_void known e))
 
     abbrev mutual
       pub IsTyped : Expr → Type 0
-      IsTyped (Variable x) = IsKnown x × Demand 22 x.at (is_none (known x.text) || is_some (number_type (known x.text)))
+      IsTyped (Variable x) = IsKnown x × Demand 22 x.at (may_be_number (known x.text))
       IsTyped (Constant n t at) = Unit {0}
-      IsTyped (Element x i at) = IsKnown x × Demand 22 at (is_none (known x.text) || is_some (element_type (known x.text))) × IsTyped i × GivesNumber i
-      IsTyped (Call f es at) = IsKnown f × Demand 22 at (is_function (known f.text)) × AreNumbers es × Demand 23 f.at (takes (known f.text) (count es))
+      IsTyped (Element x i at) = IsKnown x × Demand 22 at (may_be_array (known x.text)) × IsTyped i × GivesNumber i
+      IsTyped (Call f es at) = IsKnown f × Demand 22 at (may_be_function (known f.text)) × AreNumbers es × Demand 23 f.at (takes_so_many (known f.text) (count es))
       IsTyped (Parenthesized e at) = IsTyped e
       IsTyped (Cast t e at) = IsTyped e × GivesNumber e
       IsTyped (Unary op e at) = IsTyped e × GivesNumber e
@@ -186,39 +174,45 @@ module _ (asked : ℕ → Span → Type 0) where
     IsNumberIfAny None = Unit {0}
     IsNumberIfAny (Some e) = IsNumber e
 
-    abbrev pub IsTypedPlace : Expr → Type 0
-    IsTypedPlace (Variable x) = IsKnown x × Demand 24 x.at (is_none (known x.text) || is_some (number_type (known x.text)))
-    IsTypedPlace (Element x i at) = IsTyped (Element x i at)
-    IsTypedPlace e = IsTyped e × Demand 24 (place e) false
+    -- the left side of an assignment: a variable, or an element
+    abbrev pub may_be_assigned : Expr → Bool
+    may_be_assigned (Variable x) = may_be_number (known x.text)
+    may_be_assigned (Element x i at) = true
+    may_be_assigned e = false
+
+    abbrev pub IsTypedTarget : Expr → Type 0
+    IsTypedTarget (Variable x) = IsKnown x
+    IsTypedTarget e = IsTyped e
+
+    abbrev pub IsAssignable : Expr → Type 0
+    IsAssignable e = Demand 24 (span_of e) (may_be_assigned e)
 
     abbrev pub IsTypedSimple : Simple → Type 0
     IsTypedSimple (Just e) = IsTyped e
-    IsTypedSimple (Assign to op e) = IsTypedPlace to × IsNumber e
-    IsTypedSimple (Change to by) = IsTypedPlace to
+    IsTypedSimple (Assign to op e) = IsTypedTarget to × IsNumber e × IsAssignable to
+    IsTypedSimple (Change to by) = IsTypedTarget to × IsAssignable to
 
     -- each figure has an argument of its own type
-    abbrev pub AreFigures : List Scalar → Exprs → Type 0
-    AreFigures [] es = AreNumbers es
-    AreFigures (t ∷ ts) Tree.[] = Unit {0}
-    AreFigures (t ∷ ts) (Tree.◌∷◌ e es) = IsNumber e × Demand 27 (place e) (is_none (type_of known e) || is_type t (type_of known e)) × AreFigures ts es
+    abbrev pub HaveTypes : List Scalar → Exprs → Type 0
+    HaveTypes (t ∷ ts) (Tree.◌∷◌ e es) = Demand 27 (span_of e) (is_none (type_of known e) || is_type t (type_of known e)) × HaveTypes ts es
+    HaveTypes ts es = Unit {0}
 
     abbrev pub IsTypedPrint : List ℕ → Span → Exprs → Type 0
     IsTypedPrint format at es =
-        Demand 27 at (is_format false format && (length (figures (pieces false format)) == count es))
-        × AreFigures (figures (pieces false format)) es
+        let printed = figures (pieces format) in
+        AreNumbers es × Demand 27 at (is_format format && (length printed == count es)) × HaveTypes printed es
 
-    -- a value is returned exactly where the function gives one
-    abbrev pub IsReturned : Span → Option Scalar → Option Expr → Type 0
-    IsReturned at gives e = Demand 22 at (same_option gives e) × IsNumberIfAny e
+    abbrev pub IsTypedReturn : Span → Option Scalar → Option Expr → Type 0
+    IsTypedReturn at gives e = IsNumberIfAny e × Demand 22 at (returns_right gives e)
 
   -- each new name is new in its scope, and known from its own first value on
   abbrev pub AreTypedDeclarators : Scope → List (List ℕ) → Scalar → List Declarator → Type 0
-  AreTypedDeclarators known mine t [] = Unit {0}
-  AreTypedDeclarators known mine t (d ∷ ds) =
+  AreTypedDeclarators known declared t [] = Unit {0}
+  AreTypedDeclarators known declared t (d ∷ ds) =
       let known' = with_number d.name.text t known in
-      Demand 21 d.name.at (not (has mine d.name.text))
+      Demand 21 d.name.at (not (has_name declared d.name.text))
       × IsNumberIfAny known' d.first
-      × AreTypedDeclarators known' (d.name.text ∷ mine) t ds
+      × AreTypedDeclarators known' (d.name.text ∷ declared) t ds
 
   abbrev pub IsTypedStart : Scope → Start → Type 0
   IsTypedStart known Nothing = Unit {0}
@@ -229,52 +223,51 @@ module _ (asked : ℕ → Span → Type 0) where
   IsTypedStep known None = Unit {0}
   IsTypedStep known (Some s) = IsTypedSimple known s
 
-  -- statements of a function that gives this, in a loop or not; mine are the names of the scope that they stand in
+  -- statements of a function that gives this, in a loop or not; declared are the names of the scope that they stand in
   module _ (gives : Option Scalar) where
     abbrev mutual
-      pub IsTypedStmt : Stmt → (known : Scope) (mine : List (List ℕ)) (looping : Bool) → Type 0
-      IsTypedStmt Empty known mine looping = Unit {0}
-      IsTypedStmt (Declare d) known mine looping = AreTypedDeclarators known mine d.of d.declarators
-      IsTypedStmt (Do s) known mine looping = IsTypedSimple known s
-      IsTypedStmt (Block ss) known mine looping = AreTypedStmts ss known [] looping
-      IsTypedStmt (Print at format format_at es) known mine looping = IsTypedPrint known format format_at es
-      IsTypedStmt (If c a) known mine looping = IsNumber known c × IsTypedStmt a known mine looping
-      IsTypedStmt (IfElse c a b) known mine looping = IsNumber known c × IsTypedStmt a known mine looping × IsTypedStmt b known mine looping
-      IsTypedStmt (While c a) known mine looping = IsNumber known c × IsTypedStmt a known mine true
-      IsTypedStmt (DoWhile a c) known mine looping = IsTypedStmt a known mine true × IsNumber known c
-      IsTypedStmt (For start c step a) known mine looping =
+      pub IsTypedStmt : Stmt → (known : Scope) (declared : List (List ℕ)) (looping : Bool) → Type 0
+      IsTypedStmt Empty known declared looping = Unit {0}
+      IsTypedStmt (Declare d) known declared looping = AreTypedDeclarators known declared d.of d.declarators
+      IsTypedStmt (Do s) known declared looping = IsTypedSimple known s
+      IsTypedStmt (Block ss) known declared looping = AreTypedStmts ss known [] looping
+      IsTypedStmt (Print at format format_at es) known declared looping = IsTypedPrint known format format_at es
+      IsTypedStmt (If c a) known declared looping = IsNumber known c × IsTypedStmt a known declared looping
+      IsTypedStmt (IfElse c a b) known declared looping = IsNumber known c × IsTypedStmt a known declared looping × IsTypedStmt b known declared looping
+      IsTypedStmt (While c a) known declared looping = IsNumber known c × IsTypedStmt a known declared true
+      IsTypedStmt (DoWhile a c) known declared looping = IsTypedStmt a known declared true × IsNumber known c
+      IsTypedStmt (For start c step a) known declared looping =
           let known' = scope_of_start start known in
           IsTypedStart known start × IsNumberIfAny known' c × IsTypedStep known' step × IsTypedStmt a known' [] true
-      IsTypedStmt (Break at) known mine looping = Demand 26 at looping
-      IsTypedStmt (Continue at) known mine looping = Demand 26 at looping
-      IsTypedStmt (Return e at) known mine looping = IsReturned known at gives e
-      IsTypedStmt (Transaction mode ss at) known mine looping = AreTypedStmts ss known [] looping
-      IsTypedStmt (Cancel at) known mine looping = Unit {0}
+      IsTypedStmt (Break at) known declared looping = Demand 26 at looping
+      IsTypedStmt (Continue at) known declared looping = Demand 26 at looping
+      IsTypedStmt (Return e at) known declared looping = IsTypedReturn known at gives e
+      IsTypedStmt (Transaction mode ss at) known declared looping = AreTypedStmts ss known [] looping
+      IsTypedStmt (Cancel at) known declared looping = Unit {0}
 
-      pub AreTypedStmts : Stmts → (known : Scope) (mine : List (List ℕ)) (looping : Bool) → Type 0
-      AreTypedStmts Tree.[] known mine looping = Unit {0}
-      AreTypedStmts (Tree.◌∷◌ s ss) known mine looping =
-          IsTypedStmt s known mine looping × AreTypedStmts ss (scope_after s known) (names_of s ++ mine) looping
+      pub AreTypedStmts : Stmts → (known : Scope) (declared : List (List ℕ)) (looping : Bool) → Type 0
+      AreTypedStmts Tree.[] known declared looping = Unit {0}
+      AreTypedStmts (Tree.◌∷◌ s ss) known declared looping =
+          IsTypedStmt s known declared looping × AreTypedStmts ss (scope_after s known) (names_of s ++ declared) looping
 
   abbrev pub IsNew : List (List ℕ) → Option Name → Type 0
-  IsNew mine None = Unit {0}
-  IsNew mine (Some x) = Demand 21 x.at (not (has mine x.text))
+  IsNew declared None = Unit {0}
+  IsNew declared (Some x) = Demand 21 x.at (not (has_name declared x.text))
 
   abbrev pub AreDistinct : List (List ℕ) → List Parameter → Type 0
-  AreDistinct mine [] = Unit {0}
-  AreDistinct mine (q ∷ qs) = IsNew mine q.name × AreDistinct (parameter_names (q ∷ []) ++ mine) qs
+  AreDistinct declared [] = Unit {0}
+  AreDistinct declared (q ∷ qs) = IsNew declared q.name × AreDistinct (parameter_names (q ∷ []) ++ declared) qs
 
   abbrev pub IsTypedBody : List Item → Function → Option Stmts → Type 0
   IsTypedBody earlier f None = Unit {0}
   IsTypedBody earlier f (Some ss) =
-      Demand 21 f.name.at (not (has (defined_names earlier) f.name.text))
-      × AreTypedStmts f.result ss (with_parameters f.parameters (file_scope (earlier ++ Defines f ∷ []))) (parameter_names f.parameters) false
+      AreTypedStmts f.result ss (with_parameters f.parameters (file_scope (earlier ++ Defines f ∷ []))) (parameter_names f.parameters) false
 
-  -- a function after these items
+  -- a function after these items: no global has its name, no second body stands, and earlier types are the same
   abbrev pub IsTypedFunction : List Item → Function → Type 0
   IsTypedFunction earlier f =
       let before = file_scope earlier f.name.text in
-      Demand 21 f.name.at (is_none before || is_function before)
+      Demand 21 f.name.at (may_be_function before && (is_none f.body || not (has_name (defined_names earlier) f.name.text)))
       × Demand 22 f.name.at (agrees f before)
       × AreDistinct [] f.parameters
       × IsTypedBody earlier f f.body
@@ -292,7 +285,7 @@ module _ (asked : ℕ → Span → Type 0) where
   abbrev pub AreTypedGlobals : List Item → List Global → ℕ → List Global → Type 0
   AreTypedGlobals earlier before taken [] = Unit {0}
   AreTypedGlobals earlier before taken (g ∷ gs) =
-      Demand 21 g.name.at (is_none (file_scope (earlier ++ Shares before ∷ []) g.name.text))
+      Demand 21 g.name.at (is_unknown (file_scope (earlier ++ Shares before ∷ []) g.name.text))
       × IsLength g.length
       × HaveCells (drop (cells g) g.first)
       × Demand 25 g.name.at (nat_le (taken + cells g) 4096)
@@ -311,7 +304,7 @@ module _ (asked : ℕ → Span → Type 0) where
   AreDefined p earlier [] = Unit {0}
   AreDefined p earlier (Shares gs ∷ items) = AreDefined p (earlier ++ Shares gs ∷ []) items
   AreDefined p earlier (Defines f ∷ items) =
-      Demand 29 f.name.at (is_some (file_scope earlier f.name.text) || is_some (definition_of p f.name.text))
+      Demand 29 f.name.at (not (is_unknown (file_scope earlier f.name.text)) || is_some (definition_of p f.name.text))
       × AreDefined p (earlier ++ Defines f ∷ []) items
 
   -- the demands of a program whose last token ends at this place
@@ -327,4 +320,4 @@ IsTypedProgram p = Meets (λ n at. Unit {0}) 0 p
 
 -- a fault of this number at this place breaks its rule
 abbrev pub BreaksRule : ℕ → Span → ℕ → Program → Type 0
-BreaksRule n at end p = Meets (λ m place_. (m ≡ n) × (place_ ≡ at)) end p → ⊥
+BreaksRule n at end p = Meets (λ m span. (m ≡ n) × (span ≡ at)) end p → ⊥

@@ -4,11 +4,6 @@ use Rattle.syntax.specs.declared.numbers.Stop.TheVariants.{Trapped, Wants, Spent
 use Rattle.syntax.specs.Behaviours.{Memory}
 use Rattle.syntax.specs.Actions.{Place, Outside, Inside, State, Answer, Gives, Stops, Action}
 
--- the memories left so far
-abbrev pub lefts_in : Place → List Memory
-lefts_in (Outside founds lefts) = lefts
-lefts_in (Inside mode m) = []
-
 abbrev pub state_of : {A : Type 0} → Answer A → State
 state_of (Gives a s) = s
 state_of (Stops why s) = s
@@ -18,13 +13,13 @@ abbrev pub added : ℕ → ℕ → ℕ
 added zero k = k
 added (suc n) k = suc (added n k)
 
-abbrev pub further : List Memory → Place → Place
-further extra (Outside founds lefts) = Outside (founds ++ extra) lefts
-further extra (Inside mode m) = Inside mode m
+abbrev pub with_founds : List Memory → Place → Place
+with_founds extra (Outside founds lefts) = Outside (founds ++ extra) lefts
+with_founds extra (Inside mode m) = Inside mode m
 
 -- the state with k further ticks and further memories to be found
 abbrev pub with_more : ℕ → List Memory → State → State
-with_more k extra s = record s { ticks = added s.ticks k; place = further extra s.place }
+with_more k extra s = record s { ticks = added s.ticks k; place = with_founds extra s.place }
 
 -- a later place: outside transactions the memories left begin with the earlier ones,
 -- and a run that begins inside a transaction stays inside

@@ -1,0 +1,2 @@
+mod Further
+pub mod Seen

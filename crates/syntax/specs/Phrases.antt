@@ -1,0 +1,137 @@
+-- Phrases: lists of tokens that stand for something, and how a grammar is put together of them.
+use Rattle.std.specs.Prelude.{◌≡◌, ◌⊎◌, ℕ, ◌<◌, List, [], ◌∷◌, ◌++◌, Option, Some, None, Bool, true, false, if◌then◌else◌}
+use denote.Enum.Bare.{sameb}
+use Rattle.lex.specs.declared.token.Mark.{Mark}
+use Rattle.lex.specs.declared.token.Mark.TheVariants as m
+use Rattle.lex.specs.contracts.token.Mark.{the_type}
+use Rattle.lex.specs.declared.token.Span.{Span}
+use Rattle.lex.specs.Tokens.{Terminal, name, constant, text, mark, reserved, Tok}
+
+abbrev pub Phrase : Type 1
+Phrase = List Tok → Type 0
+
+-- a phrase of the first kind, and then one of the second
+pub record Seq (L M : Phrase) (ts : List Tok) : Type 0 where
+  pub front : List Tok
+  pub back : List Tok
+  pub first : L front
+  pub second : M back
+  pub whole : ts ≡ front ++ back
+
+-- one token, which says x
+pub record One {A : Type 0} (f : Tok → Option A) (x : A) (ts : List Tok) : Type 0 where
+  pub token : Tok
+  pub has : f token ≡ Some x
+  pub whole : ts ≡ token ∷ []
+
+-- no token
+abbrev pub Nil : Phrase
+Nil ts = ts ≡ []
+
+abbrev pub never : Phrase
+never ts = ⊥
+
+infixr 40 ◌⨾◌
+infixr 30 ◌∣◌
+
+-- one and then the other
+abbrev pub ◌⨾◌ : Phrase → Phrase → Phrase
+◌⨾◌ L M = Seq L M
+
+-- one or the other
+abbrev pub ◌∣◌ : Phrase → Phrase → Phrase
+◌∣◌ L M ts = L ts ⊎ M ts
+
+-- a phrase under a condition
+abbrev pub given : Type 0 → Phrase → Phrase
+given c L ts = c × L ts
+
+-- any number, one after another
+abbrev pub Many : {A : Type 0} → (A → Phrase) → List A → Phrase
+Many L [] = Nil
+Many L (x ∷ xs) = L x ⨾ Many L xs
+
+-- ---- single tokens
+
+abbrev pub same_mark : Mark → Mark → Bool
+same_mark = sameb the_type
+
+abbrev pub is_mark : Mark → Terminal → Bool
+is_mark m (name s) = false
+is_mark m (constant n t) = false
+is_mark m (text s) = false
+is_mark m (mark k) = same_mark k m
+is_mark m reserved = false
+
+-- the sign or keyword m
+abbrev pub the_mark : Mark → Tok → Option (Unit {0})
+the_mark m t = if is_mark m t.terminal then Some tt else None
+
+abbrev pub Is : Mark → Phrase
+Is m = One (the_mark m) tt
+
+-- the keyword m, by its place
+abbrev pub place_of : Mark → Tok → Option Span
+place_of m t = if is_mark m t.terminal then Some t.span else None
+
+abbrev pub Keyword : Mark → Span → Phrase
+Keyword m = One (place_of m)
+
+-- one or more, with commas between
+abbrev pub Listed : {A : Type 0} → (A → Phrase) → List A → Phrase
+Listed L [] = never
+Listed L (x ∷ xs) = L x ⨾ Many (λ y. Is m.Comma ⨾ L y) xs
+
+-- ---- places
+
+abbrev pub end_from : ℕ → List Tok → ℕ
+end_from e [] = e
+end_from e (t ∷ ts) = end_from t.span.end ts
+
+-- where the last token ends, or 0 where there is none
+abbrev pub end_of : List Tok → ℕ
+end_of ts = end_from 0 ts
+
+-- from the first token's start to the last one's end
+abbrev pub Covers : Span → Phrase
+Covers at [] = ⊥
+Covers at (t ∷ ts) = at ≡ record { start = t.span.start; end = end_from t.span.end ts }
+
+-- a phrase whose tokens cover this place
+abbrev pub spanning : Span → Phrase → Phrase
+spanning at L ts = Covers at ts × L ts
+
+-- ---- what is wrong with tokens that spell nothing
+
+-- one of the tokens
+pub record At (ts : List Tok) (at : Span) : Type 0 where
+  pub before : List Tok
+  pub token : Tok
+  pub after : List Tok
+  pub whole : ts ≡ before ++ token ∷ after
+  pub there : token.span ≡ at
+
+module _ {A : Type 0} (L : A → Phrase) where
+  -- something that is spelled begins with these tokens
+  pub record Begins (front : List Tok) : Type 0 where
+    pub value : A
+    pub more : List Tok
+    pub spelled : L value (front ++ more)
+
+  -- the first token with which nothing begins any more
+  pub record IsUnexpected (ts : List Tok) (at : Span) : Type 0 where
+    pub here : At ts at
+    pub begins : Begins here.before
+    pub not : Begins (here.before ++ here.token ∷ []) → ⊥
+
+  -- the tokens begin something and are nothing; the place is empty, where the last one ends
+  pub record IsUnfinished (ts : List Tok) (at : Span) : Type 0 where
+    pub begins : Begins ts
+    pub not : (x : A) → L x ts → ⊥
+    pub place : at ≡ record { start = end_of ts; end = end_of ts }
+
+  -- something begins with the tokens up to this one, and all that does is deeper than the limit
+  pub record IsTooDeep (depth : A → ℕ) (limit : ℕ) (ts : List Tok) (at : Span) : Type 0 where
+    pub here : At ts at
+    pub begins : Begins (here.before ++ here.token ∷ [])
+    pub deep : (b : Begins (here.before ++ here.token ∷ [])) → limit < depth b.value
