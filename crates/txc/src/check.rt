@@ -1,14 +1,14 @@
 //! The names and types of a program of straight lines.
 
-ghost use Rattle.std.specs.Prelude.{◌≡◌, ◌++◌, ◌∷◌, ◌+◌, ◌<◌, ◌≤◌, [], map, sum_by, None, IfOk, OnOk, false};
+ghost use Rattle.std.specs.Prelude.{◌≡◌, ◌++◌, ◌∷◌, ◌+◌, ◌<◌, ◌≤◌, [], map, sum_by, codes, None, IfOk, IfErr, OnOk, false};
 ghost use Rattle.lex.specs.declared.token.Scalar.TheVariants.{Int};
 ghost use Rattle.syntax.specs.Tree as Tree;
 ghost use Rattle.syntax.specs.Views.{program_of, item_of, global_of, name_of, expr_of, simple_of, stmt_of, stmts_of, function_of};
 ghost use Rattle.syntax.specs.Names.{cells};
 ghost use Rattle.syntax.specs.Types.{known_global, known_among, file_scope};
-ghost use Rattle.syntax.specs.StraightLine.{IsAtom, IsSum, IsVariable, IsAssigned, IsAssignment, AreAssignments, IsStraightTransaction, AreTransactions, IsSingle, AreSingle};
-ghost use Rattle.syntax.specs.Typing.{IsTyped, IsTypedSimple, IsTypedStmt, AreTypedStmts, IsTypedTarget, IsAssignable, AreTypedGlobals, AreTypedItems, Meets};
-ghost use Rattle.txc.specs.Checks.{Checked, IsTypedGlobal, AreShared, scope, symbol_of, number_in, span_in};
+ghost use Rattle.syntax.specs.StraightLine.{IsAtom, IsSum, IsVariable, IsAssigned, IsAssignment, AreAssignments, IsStraightTransaction, AreTransactions, IsSingle, AreSingle, IsStraightFunction, IsStraightLine};
+ghost use Rattle.syntax.specs.Typing.{IsTyped, IsTypedSimple, IsTypedStmt, AreTypedStmts, IsTypedTarget, IsAssignable, AreTypedGlobals, IsTypedItem, AreTypedItems, all_cells, is_worker, IsTypedFunction, Demand, IsTypedProgram, BreaksRule};
+ghost use Rattle.txc.specs.Checks.{Checked, IsTypedGlobal, AreShared, IsLast, scope, symbol_of, number_in, span_in};
 
 use lex::token::Span;
 use std::alloc::Allocator;
@@ -367,16 +367,117 @@ fn check_globals<A: Allocator>(
     Ok(count)
 }
 
+/// A declaration of globals after items that take so many cells. Gives the cells that are taken after it.
+fn check_declaration<A: Allocator>(
+    earlier: &[Item<A>],
+    taken: usize,
+    item: &Item<A>,
+) -> Result<usize, CheckFault>
+    requires shared { AreShared (item_of item.now ∷ []) }
+    requires count { taken ≡ all_cells (map item_of earlier.now) }
+    requires taken { taken ≤ 4096 }
+    ensures checked { Checked (λ asked. IsTypedItem asked (map item_of earlier.now) (item_of item.now)) result }
+    ensures count { IfOk result (λ n. n ≡ taken + all_cells (item_of item.now ∷ [])) }
+    ensures within { IfOk result (λ n. n ≤ 4096) }
+{
+    match item {
+        Item::Globals(globals) => check_globals(earlier, taken, globals.as_slice()),
+        Item::Function(_) => Ok(taken),
+    }
+}
+
 /// All declarations of globals.
-fn check_shared<A: Allocator>(items: &[Item<A>]) -> Result<(), CheckFault>
+fn check_declarations<A: Allocator>(items: &[Item<A>]) -> Result<(), CheckFault>
     requires { AreShared (map item_of items.now) }
     ensures { Checked (λ asked. AreTypedItems asked [] (map item_of items.now)) result }
 {
     let mut taken = 0;
     'items: for (i, item) in items.iter().enumerate() {
-        if let Item::Globals(globals) = item {
-            taken = check_globals(&items[..i], taken, globals.as_slice())?;
-        }
+        taken = check_declaration(&items[..i], taken, item)?;
     }
     Ok(())
+}
+
+/// The transactions of a function whose name is new.
+fn check_inside<A: Allocator>(
+    globals: &[Item<A>],
+    items: &[Item<A>],
+    function: &Function<A>,
+) -> Result<(), CheckFault>
+    requires shared { AreShared (map item_of globals.now) }
+    requires straight { IsStraightFunction (function_of function.now) }
+    requires whole { map item_of items.now ≡ map item_of globals.now ++ Tree.Defines (function_of function.now) ∷ [] }
+    requires new { symbol_of (file_scope (map item_of globals.now) function.now.name.text) ≡ Symbol.Unknown }
+    ensures { Checked (λ asked. IsTypedFunction asked (map item_of globals.now) (function_of function.now)) result }
+{
+    let Some(parameter) = function.parameters.as_slice().first() else {
+        return Ok(());
+    };
+    let Some(name) = &parameter.name else {
+        return Ok(());
+    };
+    let Some(body) = &function.body else {
+        return Ok(());
+    };
+    check_transactions(items, name, body.as_slice())
+}
+
+/// The function behind the declarations of globals.
+fn check_function<A: Allocator>(
+    globals: &[Item<A>],
+    items: &[Item<A>],
+    function: &Function<A>,
+) -> Result<(), CheckFault>
+    requires shared { AreShared (map item_of globals.now) }
+    requires straight { IsStraightFunction (function_of function.now) }
+    requires whole { map item_of items.now ≡ map item_of globals.now ++ Tree.Defines (function_of function.now) ∷ [] }
+    ensures { Checked (λ asked. IsTypedFunction asked (map item_of globals.now) (function_of function.now)) result }
+{
+    match known_as(globals, function.name.text.as_str()) {
+        Symbol::Unknown => check_inside(globals, items, function),
+        _ => Err(CheckFault::DeclaredTwice(function.name.span)),
+    }
+}
+
+/// The last item, which is the function.
+fn check_last<A: Allocator>(
+    globals: &[Item<A>],
+    items: &[Item<A>],
+    last: &Item<A>,
+) -> Result<(), CheckFault>
+    requires shared { AreShared (map item_of globals.now) }
+    requires straight { IsLast (item_of last.now) }
+    requires whole { map item_of items.now ≡ map item_of globals.now ++ item_of last.now ∷ [] }
+    ensures { Checked (λ asked. IsTypedItem asked (map item_of globals.now) (item_of last.now)) result }
+{
+    match last {
+        Item::Function(function) => check_function(globals, items, function),
+        Item::Globals(_) => Ok(()),
+    }
+}
+
+/// A function is the worker.
+fn check_worker<A: Allocator>(items: &[Item<A>], end: usize) -> Result<(), CheckFault>
+    requires { IsStraightLine (map item_of items.now) }
+    ensures { Checked (λ asked. Demand asked 28 (record { start = end; end = end }) (is_worker (file_scope (map item_of items.now) (codes "worker")))) result }
+{
+    match known_as(items, "worker") {
+        Symbol::Function => Ok(()),
+        _ => Err(CheckFault::NoWorker(Span { start: end, end })),
+    }
+}
+
+/// Checks names and types. A fault names the first rule that is broken, in the order of the text.
+pub fn check<A: Allocator>(unit: &Unit<A>) -> Result<(), CheckFault>
+    requires { IsStraightLine (program_of unit.now) }
+    ensures ok { OnOk result (IsTypedProgram (program_of unit.now)) }
+    ensures err { IfErr result (λ fault. BreaksRule (number_in fault) (span_in fault) unit.now.end (program_of unit.now)) }
+{
+    let items = unit.items.as_slice();
+    let Some((last, globals)) = items.split_last() else {
+        return Ok(());
+    };
+    check_declarations(globals)?;
+    check_last(globals, items, last)?;
+    check_worker(items, unit.end)
 }
