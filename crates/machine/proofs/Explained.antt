@@ -1,37 +1,63 @@
 -- By the invariant each merge is a run in which every thread stands.
-use Rattle.std.proofs.Common.{◌≡◌, ◌<◌, ◌≤◌, ◌+◌, ◌*◌, ◌%◌, ◌⊎◌, inl, inr, ℕ, zero, suc, Bool, true, false, List, [], ◌∷◌, ◌++◌, Option, None, Some, refl, sym, ◌∙◌, ap, subst, length, slice_get, append-nil, zero-add, arith}
+use Rattle.std.proofs.Common.{◌≡◌, ◌<◌, ◌≤◌, ◌+◌, ◌*◌, ◌%◌, ◌⊎◌, inl, inr, ℕ, zero, suc, Bool, true, false, cond, List, [], ◌∷◌, ◌++◌, Option, None, Some, refl, sym, ◌∙◌, ap, subst, length, slice_get, append-nil, zero-add, arith}
 use Rattle.std.specs.List.{AllByRecursion}
+use Rattle.syntax.specs.Behaviours.{IsMemory, IsRun, Matches, Stands, Status, founds_of, last_memory, lefts_of}
+use Rattle.syntax.specs.Behaviours.Status.{HasEnded, HasTrapped, Running}
+use Rattle.write_log.specs.Overlay.{overlay}
 use Rattle.read_log.specs.Agreement.{Agrees}
 use Rattle.bytecode.specs.Effects.{Effect}
-use Rattle.bytecode.specs.Sequential.{Status, Sequential, steps, thread, outside, outside_step}
-use Rattle.norec_core.specs.Attempts.{Attempt, Record}
-use Rattle.machine.specs.Worlds.{Part, World}
-use Rattle.machine.specs.Invariant.{History, RecordOk, Ordered, HasMarked, bound_of, founds_of, lefts_of, ComesTo, next_snapshot, holding_of, LockBy, Now, PartOk, Invariant}
-use Rattle.machine.specs.Runs.{last, founds, lefts, IsRun, SameEnd, IsStanding, MergeEntry, own, IsMerge, steps_of, count_marked, HasMomentIf, IsExplainedBy}
-use Rattle.bytecode.specs.Sequential.Status.{Running, Ended, Trapped, Wants}
-use Rattle.machine.proofs.Parts.{quiet}
+use Rattle.bytecode.specs.Sequential.{Sequential, end_of, meaning, outside, outside_step, steps, thread}
+use Rattle.norec_core.specs.Attempts.{Attempt}
+use Rattle.machine.specs.Explained.{HasLock, HasMomentIf, IsExplainedBy, IsFree, IsHeld, IsNumbered, has_lock, stored_of}
+use Rattle.machine.specs.Invariant.{ComesTo, HasMarked, History, Invariant, Left, LockBy, LockIs, Now, Ordered, PartOk, RecordOk, bound_of, founds_in, lefts_in, next_snapshot}
+use Rattle.machine.specs.Merges.{Entry, IsMerge, count_marked, own, run_of}
+use Rattle.machine.specs.Threads.{after}
+use Rattle.machine.specs.Worlds.{Part, Record, World, run}
+use Rattle.machine.proofs.Follow.{Cut, all_left, all_right, chained, counted, cut, ended_by, founds_are, last_is, lefts_are, memories_are, none_later, own-append, threads_below}
 use Rattle.machine.proofs.Meaning.{steps-add, steps-last}
-use Rattle.machine.proofs.Merge.{all_own, Rising, rising, Has, has_own, EntryOk, Follows, follows}
-use Rattle.machine.proofs.Follow.{is_chain, threads_below, last_is, founds_are, lefts_are, counted, Cut, cut, own-append, all_left, all_right, ended_by, none_later}
+use Rattle.machine.proofs.Memories.{memory-overlay}
+use Rattle.machine.proofs.Merge.{EntryOk, Follows, Has, Rising, all_own, follows, has_own, rising}
+use Rattle.machine.proofs.Parts.{even_words}
 
 part_at : {X : Type 0} (xs : List X) (t : ℕ) → t < length xs → (x : X) × (slice_get xs t ≡ Some x)
 part_at [] t lt = absurd (omega arith)
 part_at (x ∷ xs) zero lt = (x, refl)
 part_at (x ∷ xs) (suc t) lt = part_at xs t (omega arith)
 
-all_low : (es : List MergeEntry) → AllByRecursion (λ (e : MergeEntry). 0 ≤ e.item.snapshot) es
+all_low : (es : List Entry) → AllByRecursion (λ (e : Entry). 0 ≤ e.item.snapshot) es
 all_low [] = tt
 all_low (e ∷ es) = (omega arith, all_low es)
 
-same_end : (s : Status) → SameEnd s s []
+same_end : (s : Status) → Matches s [] (end_of false s)
 same_end Running = inl refl
-same_end Ended = (refl, refl)
-same_end (Trapped cause) = (refl, refl)
-same_end Wants = (refl, refl)
+same_end HasEnded = (refl, refl)
+same_end (HasTrapped cause) = (refl, refl)
 
-module _ {C : Type 0} (code : C → Effect C) (cells : ℕ) (init : ℕ → C) (m0 : List ℕ) (w : World C) (h : History) (v : Invariant code cells init m0 h w) (es : List MergeEntry) (merge : IsMerge w.parts es) where
+-- an unmarked record leaves what it found
+idle_left : (h : History) (t : ℕ) (x : Record) (b : Bool) → b ≡ false → Left h t x b → x.left ≡ x.found
+idle_left h t x true e k = absurd (cc)
+idle_left h t x false e k = k.1
+
+numbers : (h : History) (s : ℕ) (es : List Entry) (e : ℕ) → Follows s es e → AllByRecursion (EntryOk h) es → (before : List Entry) (x : Entry) (after : List Entry) → es ≡ before ++ x ∷ after → (x.item.snapshot ≡ s + 2 * count_marked before) × (x.item.marked ≡ false → x.item.left ≡ x.item.found)
+numbers h s [] e f ok [] x after p = absurd (cc)
+numbers h s [] e f ok (b ∷ bs) x after p = absurd (cc)
+numbers h s (y ∷ ys) e f ok [] x after p =
+    let is : y ≡ x = cc in
+    let snapshot : x.item.snapshot ≡ s = ap (λ (z : Entry). z.item.snapshot) (sym is) ∙ f.0 in
+    (omega arith, subst (λ (z : Entry). z.item.marked ≡ false → z.item.left ≡ z.item.found) is (λ m. idle_left h y.thread y.item y.item.marked m ok.0.left))
+numbers h s (y ∷ ys) e f ok (b ∷ bs) x after p =
+    let is : y ≡ b = cc in
+    let rest : ys ≡ bs ++ x ∷ after = cc in
+    let r = numbers h (next_snapshot s y.item.marked) ys e f.1 ok.1 bs x after rest in
+    (r.0 ∙ at y.item.marked ∙ ap (λ (z : Entry). s + 2 * cond z.item.marked (suc (count_marked bs)) (count_marked bs)) is, r.1)
+  where
+    at : (m : Bool) → next_snapshot s m + 2 * count_marked bs ≡ s + 2 * cond m (suc (count_marked bs)) (count_marked bs)
+    at true = omega arith
+    at false = omega arith
+
+module _ {C : Type 0} (code : C → Effect C) (init : ℕ → C) (m0 : List ℕ) (w : World C) (h : History) (v : Invariant code (length m0) init m0 h w) (es : List Entry) (merge : IsMerge w.parts es) where
   -- a thread's own entries
-  own_part : (t : ℕ) → t < length w.parts → (p : Part C) × (slice_get w.parts t ≡ Some p) × (own t es ≡ p.records) × PartOk code cells h t (init t) p
+  own_part : (t : ℕ) → t < length w.parts → (p : Part C) × (slice_get w.parts t ≡ Some p) × (own t es ≡ p.records) × PartOk code (length m0) h t (init t) p
   own_part t lt = let g = part_at w.parts t lt in (g.0, g.1, merge.own_records t g.0 g.1, v.parts t g.0 g.1)
 
   pub each_ok : AllByRecursion (EntryOk h) es
@@ -48,52 +74,52 @@ module _ {C : Type 0} (code : C → Effect C) (cells : ℕ) (init : ℕ → C) (
   whole : Follows 0 es h.top
   whole = follows h (length w.parts) 0 0 es v.history.even refl (omega arith) each_ok merge.sorted (all_low es) merge.below ups all_marked
 
-  last_mem : last m0 (steps_of m0 es) ≡ h.mem h.top
+  last_mem : last_memory m0 (run_of es) ≡ h.mem h.top
   last_mem = last_is h 0 m0 es h.top (sym v.first) whole each_ok
 
-  founds_own : (t : ℕ) (p : Part C) → slice_get w.parts t ≡ Some p → founds t (steps_of m0 es) ≡ founds_of h.mem p.records
-  founds_own t p e = founds_are h t 0 m0 es h.top (sym v.first) whole each_ok ∙ ap (founds_of h.mem) (merge.own_records t p e)
+  founds_own : (t : ℕ) (p : Part C) → slice_get w.parts t ≡ Some p → founds_of t (run_of es) ≡ founds_in p.records
+  founds_own t p e = founds_are t es ∙ ap founds_in (merge.own_records t p e)
 
-  lefts_own : (t : ℕ) (p : Part C) → slice_get w.parts t ≡ Some p → lefts t (steps_of m0 es) ≡ lefts_of h.mem p.records
-  lefts_own t p e = lefts_are h t 0 m0 es h.top (sym v.first) whole each_ok ∙ ap (lefts_of h.mem) (merge.own_records t p e)
+  lefts_own : (t : ℕ) (p : Part C) → slice_get w.parts t ≡ Some p → lefts_of t (run_of es) ≡ lefts_in p.records
+  lefts_own t p e = lefts_are t es ∙ ap lefts_in (merge.own_records t p e)
 
   -- the thread's meaning, when it was last outside transactions
-  base : (t : ℕ) (p : Part C) (o : Option (Attempt C)) → Now code cells h t (init t) p.records p.thread o → (c : C) × (text : List ℕ) × (status : Status) × ComesTo code (init t) h.mem p.records c text status
-  base t p None n = (p.thread.configuration, p.thread.text, p.thread.status, n.0)
-  base t p (Some a) n = (a.saved, n.begun.text1, Running, n.begun.comes_to)
+  stood : (t : ℕ) (p : Part C) (o : Option (Attempt C)) → Now code (length m0) h t (init t) p.records p.base p.thread o → (c : C) × (text : List ℕ) × (status : Status) × ComesTo code (init t) p.records c text status
+  stood t p None n = (p.thread.configuration, p.thread.text, p.thread.status, n.0)
+  stood t p (Some a) n = (a.saved, n.begun.text1, Running, n.begun.comes_to)
 
-  is_run : IsRun code init (length w.parts) m0 (steps_of m0 es)
+  is_run : IsRun (meaning code init) (length w.parts) m0 (run_of es)
   is_run = record {
-    chain = is_chain m0 es;
-    below = threads_below (length w.parts) m0 es merge.below;
-    meant = λ t lt.
+    named = threads_below (length w.parts) es merge.below;
+    chained = chained h 0 m0 es h.top (sym v.first) whole each_ok;
+    each = λ t lt.
         let o = own_part t lt in
-        let b = base t o.0 o.0.thread.attempt o.3.now in (
+        let b = stood t o.0 o.0.thread.attempt o.3.now in (
           b.3.0,
-          ap (λ fs. (thread code (init t) fs b.3.0).lefts) (founds_own t o.0 o.1 ∙ sym (append-nil (founds_of h.mem o.0.records)))
+          ap (λ fs. (thread code (init t) fs b.3.0).lefts) (founds_own t o.0 o.1 ∙ sym (append-nil (founds_in o.0.records)))
               ∙ ap (λ (r : Sequential C). r.lefts) (b.3.1 [])
               ∙ sym (lefts_own t o.0 o.1),
         );
   }
 
   -- a state of the meaning in which the thread stands
-  stands_by : (t : ℕ) (p : Part C) (n : ℕ) (extra : List (List ℕ)) (r : Sequential C) → slice_get w.parts t ≡ Some p → (extra ≡ []) ⊎ (extra ≡ last m0 (steps_of m0 es) ∷ []) → thread code (init t) (founds_of h.mem p.records ++ extra) n ≡ r → r.lefts ≡ lefts_of h.mem p.records → r.text ≡ p.thread.text → SameEnd p.thread.status r.status extra → IsStanding code (init t) m0 t (steps_of m0 es) p.thread
+  stands_by : (t : ℕ) (p : Part C) (n : ℕ) (extra : List (List ℕ)) (r : Sequential C) → slice_get w.parts t ≡ Some p → (extra ≡ []) ⊎ (extra ≡ last_memory m0 (run_of es) ∷ []) → thread code (init t) (founds_in p.records ++ extra) n ≡ r → r.lefts ≡ lefts_in p.records → r.text ≡ p.thread.text → Matches p.thread.status extra (end_of r.wants r.status) → Stands (meaning code init) m0 (run_of es) t p.thread.text p.thread.status
   stands_by t p n extra r e one run ls text end =
-      let same : thread code (init t) (founds t (steps_of m0 es) ++ extra) n ≡ r = ap (λ fs. thread code (init t) (fs ++ extra) n) (founds_own t p e) ∙ run in
+      let same : thread code (init t) (founds_of t (run_of es) ++ extra) n ≡ r = ap (λ fs. thread code (init t) (fs ++ extra) n) (founds_own t p e) ∙ run in
       record {
-        n = n;
+        ticks = n;
         extra = extra;
-        one = one;
+        at_most_last = one;
         lefts = ap (λ (x : Sequential C). x.lefts) same ∙ ls ∙ sym (lefts_own t p e);
         text = ap (λ (x : Sequential C). x.text) same ∙ text;
-        end = subst (λ s. SameEnd p.thread.status s extra) (ap (λ (x : Sequential C). x.status) (sym same)) end;
+        end = subst (λ (x : Sequential C). Matches p.thread.status extra (end_of x.wants x.status)) (sym same) end;
       }
 
-  standing_of : (t : ℕ) (p : Part C) → slice_get w.parts t ≡ Some p → (o : Option (Attempt C)) → Now code cells h t (init t) p.records p.thread o → IsStanding code (init t) m0 t (steps_of m0 es) p.thread
+  standing_of : (t : ℕ) (p : Part C) → slice_get w.parts t ≡ Some p → (o : Option (Attempt C)) → Now code (length m0) h t (init t) p.records p.base p.thread o → Stands (meaning code init) m0 (run_of es) t p.thread.text p.thread.status
   standing_of t p e None n = stands_by t p n.0.0 [] _ e (inl refl) (n.0.1 []) refl refl (same_end p.thread.status)
   standing_of t p e (Some a) n = at a.kept refl
     where
-      at : (b : Bool) → a.kept ≡ b → IsStanding code (init t) m0 t (steps_of m0 es) p.thread
+      at : (b : Bool) → a.kept ≡ b → Stands (meaning code init) m0 (run_of es) t p.thread.text p.thread.status
       at false k = stands_by t p n.begun.comes_to.0 [] _ e (inl refl) (n.begun.comes_to.1 []) refl (n.begun.same_text k) (rw n.running (inl refl))
       at true k =
           let m : List ℕ = h.mem a.snapshot in
@@ -102,15 +128,15 @@ module _ {C : Type 0} (code : C → Effect C) (cells : ℕ) (init : ℕ → C) (
           (steps-add code (n.begun.comes_to.0 + 1) n.begun.reaches.0 _
           ∙ ap (steps code n.begun.reaches.0)
           (steps-last code n.begun.comes_to.0 _ _ (n.begun.comes_to.1 (m ∷ []))
-          ∙ ap (outside_step (outside a.saved (m ∷ []) (lefts_of h.mem p.records) n.begun.text1 Running)) n.begun.begins)
-          ∙ n.begun.reaches.1 m [] (lefts_of h.mem p.records) (v.history.sized a.snapshot n.in_time) (record { agrees = n.agrees; known = λ x. refl }))
+          ∙ ap (outside_step (outside a.saved (m ∷ []) (lefts_in p.records) n.begun.text1 Running)) n.begun.begins)
+          ∙ n.begun.reaches.1 m [] (lefts_in p.records) (v.history.memories a.snapshot n.in_time).0 (record { agrees = n.agrees; known = λ x. refl }))
           refl refl (rw n.running (inl refl))
         where
-          kept_top : (b : Bool) → b ≡ true → LockBy h t a (holding_of b a.phase) → a.snapshot ≡ h.top
+          kept_top : (b : Bool) → b ≡ true → LockBy h t a (has_lock b a.phase) → a.snapshot ≡ h.top
           kept_top true k' hold = hold.1
           kept_top false k' hold = absurd (cc)
 
-  moment_of : (t : ℕ) (p : Part C) → slice_get w.parts t ≡ Some p → (o : Option (Attempt C)) → Ordered 0 p.records (bound_of h o) → Now code cells h t (init t) p.records p.thread o → HasMomentIf m0 t o es
+  moment_of : (t : ℕ) (p : Part C) → slice_get w.parts t ≡ Some p → (o : Option (Attempt C)) → Ordered 0 p.records (bound_of h o) → Now code (length m0) h t (init t) p.records p.base p.thread o → HasMomentIf m0 t o es
   moment_of t p e None ord n = tt
   moment_of t p e (Some a) ord n =
       let c : Cut 0 a.snapshot es = cut 0 a.snapshot 0 es h.top refl n.even (omega arith) n.in_time merge.sorted whole in
@@ -121,16 +147,80 @@ module _ {C : Type 0} (code : C → Effect C) (cells : ℕ) (init : ℕ → C) (
           after = c.after;
           place = c.place;
           number = counted 0 c.before a.snapshot c.follows ∙ zero-add (2 * count_marked c.before);
-          no_later = none_later t a.snapshot (a.snapshot + 1) c.after (omega arith) c.later (all_right (λ (x : Record). next_snapshot x.snapshot x.marked ≤ a.snapshot) (own t c.before) (own t c.after) ended);
+          no_later = none_later t a.snapshot (2 * a.snapshot + 1) c.after (omega arith) c.later (all_right (λ (x : Record). next_snapshot x.snapshot x.marked ≤ a.snapshot) (own t c.before) (own t c.after) ended);
           agrees = subst (λ m. Agrees m a.reads) (sym (last_is h 0 m0 c.before a.snapshot (sym v.first) c.follows (all_left (EntryOk h) c.before c.after (subst (AllByRecursion (EntryOk h)) c.place each_ok)))) n.agrees;
         },
       )
 
-  pub explained : IsExplainedBy code init m0 w es
-  explained = record {
-    is_run = is_run;
-    memory = λ even. (quiet cells h w.words v.history (sym (ap (λ l. l % 2) v.lock) ∙ even)).1 ∙ sym last_mem;
-    lock = λ even. v.lock ∙ (quiet cells h w.words v.history (sym (ap (λ l. l % 2) v.lock) ∙ even)).0 ∙ counted 0 es h.top whole ∙ zero-add (2 * count_marked es);
+  even_top : w.lock % 2 ≡ 0 → (h.lock ≡ h.top) × (w.words ≡ h.mem h.top)
+  even_top even = even_words (length m0) h w.words v.history (sym (ap (λ l. l % 2) v.lock) ∙ even)
+
+  count : h.top ≡ 2 * count_marked es
+  count = counted 0 es h.top whole ∙ zero-add (2 * count_marked es)
+
+  numbered : IsNumbered es
+  numbered before x after p =
+      let r = numbers h 0 es h.top whole each_ok before x after p in
+      (r.0 ∙ zero-add (2 * count_marked before), r.1)
+
+  lock_of : (t : ℕ) (p : Part C) (a : Attempt C) → slice_get w.parts t ≡ Some p → HasLock p a → (h.holder ≡ Some t) × (a.snapshot ≡ h.top) × (h.stored ≡ stored_of a.writes a.phase)
+  lock_of t p a e has = at p.thread.attempt has.0 (v.parts t p e).now
+    where
+      holds : (b : Bool) → b ≡ true → LockBy h t a b → (h.holder ≡ Some t) × (a.snapshot ≡ h.top) × (h.stored ≡ stored_of a.writes a.phase)
+      holds true f k = k
+      holds false f k = absurd (cc)
+
+      at : (o : Option (Attempt C)) → o ≡ Some a → Now code (length m0) h t (init t) p.records p.base p.thread o → (h.holder ≡ Some t) × (a.snapshot ≡ h.top) × (h.stored ≡ stored_of a.writes a.phase)
+      at None f n = absurd (cc)
+      at (Some b) f n =
+          let same : b ≡ a = cc in
+          holds (has_lock a.kept a.phase) has.1 (subst (λ (c : Attempt C). LockBy h t c (has_lock c.kept c.phase)) same n.holds)
+
+  holder_has : (t : ℕ) (p : Part C) → slice_get w.parts t ≡ Some p → h.holder ≡ Some t → (a : Attempt C) × HasLock p a
+  holder_has t p e is = at p.thread.attempt refl (v.parts t p e).now
+    where
+      holding : (a : Attempt C) (b : Bool) → has_lock a.kept a.phase ≡ b → LockBy h t a b → has_lock a.kept a.phase ≡ true
+      holding a true f k = f
+      holding a false f k = absurd (k is)
+
+      at : (o : Option (Attempt C)) → p.thread.attempt ≡ o → Now code (length m0) h t (init t) p.records p.base p.thread o → (a : Attempt C) × HasLock p a
+      at None f n = absurd (n.1 is)
+      at (Some a) f n = (a, (f, holding a (has_lock a.kept a.phase) refl n.holds))
+
+  free_or_held : IsFree m0 w es ⊎ IsHeld m0 w es
+  free_or_held = at h.holder refl v.history.lock
+    where
+      at : (o : Option ℕ) → h.holder ≡ o → LockIs h o → IsFree m0 w es ⊎ IsHeld m0 w es
+      at None f l = inl (record {
+        lock = v.lock ∙ l.0 ∙ count;
+        words = v.history.contents ∙ ap (overlay (h.mem h.top)) l.1 ∙ sym last_mem;
+        nobody = λ t p a e has. let r = lock_of t p a e has in absurd (let x = r.0 in cc);
+      })
+      at (Some t) f l =
+          let g = part_at w.parts t (v.holder t f) in
+          let b = holder_has t g.0 g.1 f in
+          let r = lock_of t g.0 b.0 g.1 b.1 in
+          inr (record {
+            thread = t;
+            part = g.0;
+            attempt = b.0;
+            here = g.1;
+            has = b.1;
+            lock = v.lock ∙ l ∙ ap (λ n. n + 1) count;
+            words = v.history.contents ∙ ap (overlay (h.mem h.top)) r.2 ∙ ap (λ m. overlay m (stored_of b.0.writes b.0.phase)) (sym last_mem);
+            alone = λ u p a e has. let q = lock_of u p a e has in let x = q.0 in cc;
+          })
+
+  pub explained : (threads : ℕ) → length w.parts ≡ threads → IsExplainedBy (meaning code init) m0 threads w es
+  explained threads same = record {
+    count = same;
+    is_run = subst (λ n. IsRun (meaning code init) n m0 (run_of es)) same is_run;
+    memories = memories_are (length m0) h es v.history.memories each_ok;
     standing = λ t p e. standing_of t p e p.thread.attempt (v.parts t p e).now;
+    memory = λ even. (even_top even).1 ∙ sym last_mem;
+    lock = λ even. v.lock ∙ (even_top even).0 ∙ count;
+    held = free_or_held;
+    words = subst (IsMemory (length m0)) (sym v.history.contents) (memory-overlay (length m0) (h.mem h.top) h.stored (v.history.memories h.top (omega arith)) v.history.stored_words);
+    numbered = numbered;
     moments = λ t p e. moment_of t p e p.thread.attempt (v.parts t p e).ordered (v.parts t p e).now;
   }

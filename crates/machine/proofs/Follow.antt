@@ -1,46 +1,63 @@
 -- What a list of entries that follows the history finds and leaves.
-use Rattle.std.proofs.Common.{◌≡◌, ◌<◌, ◌≤◌, ◌+◌, ◌*◌, ◌%◌, ◌==◌, ◌⊎◌, inl, inr, ℕ, suc, Bool, true, false, cond, List, [], ◌∷◌, ◌++◌, refl, sym, ◌∙◌, ap, ap₂, arith}
+use Rattle.std.proofs.Common.{◌≡◌, ◌<◌, ◌≤◌, ◌+◌, ◌*◌, ◌%◌, ◌==◌, ◌⊎◌, inl, inr, ℕ, suc, Bool, true, false, cond, List, [], ◌∷◌, ◌++◌, refl, map, sym, ◌∙◌, ap, subst, arith}
 use Rattle.std.specs.List.{AllByRecursion}
-use Rattle.write_log.specs.Overlay.{overlay}
-use Rattle.norec_core.specs.Attempts.{Record}
-use Rattle.machine.specs.Invariant.{History, Took, next_snapshot, Ordered, founds_of, lefts_of}
-use Rattle.machine.specs.Runs.{Step, IsChain, last, founds, lefts, MergeEntry, key_of, key, IsSorted, own, steps_of, count_marked}
-use Rattle.machine.proofs.Merge.{EntryOk, Follows}
+use Rattle.syntax.specs.Behaviours.{IsChained, IsMemory, Step, founds_of, last_memory, lefts_of, of_thread}
+use Rattle.machine.specs.Invariant.{History, Left, Ordered, founds_in, lefts_in, next_snapshot}
+use Rattle.machine.specs.Merges.{Entry, IsSorted, count_marked, key, key_of, own, run_of, step_of_entry}
+use Rattle.machine.specs.Threads.{after}
+use Rattle.machine.specs.Worlds.{Record}
+use Rattle.machine.proofs.Frame.{snapshot_le}
+use Rattle.machine.proofs.Merge.{EntryOk, Follows, follows}
 
-pub is_chain : (m : List ℕ) (es : List MergeEntry) → IsChain m (steps_of m es)
-is_chain m [] = tt
-is_chain m (e ∷ es) = (refl, is_chain (overlay m e.item.writes) es)
+-- what a record leaves
+left_after : (h : History) (s : ℕ) (t : ℕ) (x : Record) (b : Bool) → x.snapshot ≡ s → x.found ≡ h.mem x.snapshot → Left h t x b → x.left ≡ h.mem (next_snapshot s b)
+left_after h s t x true at is k = k.2 ∙ ap (λ n. h.mem (n + 2)) at
+left_after h s t x false at is k = k.1 ∙ is ∙ ap h.mem at
 
-pub threads_below : (threads : ℕ) (m : List ℕ) (es : List MergeEntry) → AllByRecursion (λ (e : MergeEntry). e.thread < threads) es → AllByRecursion (λ (s : Step). s.thread < threads) (steps_of m es)
-threads_below threads m [] b = tt
-threads_below threads m (e ∷ es) b = (b.0, threads_below threads (overlay m e.item.writes) es b.1)
+pub chained : (h : History) (s : ℕ) (m : List ℕ) (es : List Entry) (e : ℕ) → m ≡ h.mem s → Follows s es e → AllByRecursion (EntryOk h) es → IsChained m (run_of es)
+chained h s m [] e is f ok = tt
+chained h s m (x ∷ xs) e is f ok = (
+  ok.0.found ∙ ap h.mem f.0 ∙ sym is,
+  chained h (next_snapshot s x.item.marked) x.item.left xs e (left_after h s x.thread x.item x.item.marked f.0 ok.0.found ok.0.left) f.1 ok.1,
+)
 
--- the memory after one more
-mem_after : (h : History) (s : ℕ) (m : List ℕ) (e : MergeEntry) (b : Bool) → m ≡ h.mem s → e.item.snapshot ≡ s → Took h e.thread e.item b → overlay m e.item.writes ≡ h.mem (next_snapshot s b)
-mem_after h s m e true is at k = ap (λ n. overlay n e.item.writes) (is ∙ ap h.mem (sym at)) ∙ sym k.2 ∙ ap (λ n. h.mem (n + 2)) at
-mem_after h s m e false is at k = ap (overlay m) k.1 ∙ is
+pub threads_below : (threads : ℕ) (es : List Entry) → AllByRecursion (λ (e : Entry). e.thread < threads) es → AllByRecursion (λ (s : Step). s.thread < threads) (run_of es)
+threads_below threads [] b = tt
+threads_below threads (e ∷ es) b = (b.0, threads_below threads es b.1)
 
-pub last_is : (h : History) (s : ℕ) (m : List ℕ) (es : List MergeEntry) (e : ℕ) → m ≡ h.mem s → Follows s es e → AllByRecursion (EntryOk h) es → last m (steps_of m es) ≡ h.mem e
+pub last_is : (h : History) (s : ℕ) (m : List ℕ) (es : List Entry) (e : ℕ) → m ≡ h.mem s → Follows s es e → AllByRecursion (EntryOk h) es → last_memory m (run_of es) ≡ h.mem e
 last_is h s m [] e is f ok = is ∙ ap h.mem f
-last_is h s m (x ∷ xs) e is f ok = last_is h (next_snapshot s x.item.marked) (overlay m x.item.writes) xs e (mem_after h s m x x.item.marked is f.0 ok.0.took) f.1 ok.1
+last_is h s m (x ∷ xs) e is f ok = last_is h (next_snapshot s x.item.marked) x.item.left xs e (left_after h s x.thread x.item x.item.marked f.0 ok.0.found ok.0.left) f.1 ok.1
 
-pub founds_are : (h : History) (t s : ℕ) (m : List ℕ) (es : List MergeEntry) (e : ℕ) → m ≡ h.mem s → Follows s es e → AllByRecursion (EntryOk h) es → founds t (steps_of m es) ≡ founds_of h.mem (own t es)
-founds_are h t s m [] e is f ok = refl
-founds_are h t s m (x ∷ xs) e is f ok = at (x.thread == t) (founds_are h t (next_snapshot s x.item.marked) (overlay m x.item.writes) xs e (mem_after h s m x x.item.marked is f.0 ok.0.took) f.1 ok.1)
+pub founds_are : (t : ℕ) (es : List Entry) → founds_of t (run_of es) ≡ founds_in (own t es)
+founds_are t [] = refl
+founds_are t (x ∷ xs) = at (x.thread == t) (founds_are t xs)
   where
-    at : (b : Bool) → founds t (steps_of (overlay m x.item.writes) xs) ≡ founds_of h.mem (own t xs) → cond b (m ∷ founds t (steps_of (overlay m x.item.writes) xs)) (founds t (steps_of (overlay m x.item.writes) xs)) ≡ founds_of h.mem (cond b (x.item ∷ own t xs) (own t xs))
-    at true ih = ap₂ (λ n ns. n ∷ ns) (is ∙ ap h.mem (sym f.0)) ih
+    at : (b : Bool) → founds_of t (run_of xs) ≡ founds_in (own t xs) → map (λ (s : Step). s.found) (cond b (step_of_entry x ∷ of_thread t (run_of xs)) (of_thread t (run_of xs))) ≡ founds_in (cond b (x.item ∷ own t xs) (own t xs))
+    at true ih = ap (λ ms. x.item.found ∷ ms) ih
     at false ih = ih
 
-pub lefts_are : (h : History) (t s : ℕ) (m : List ℕ) (es : List MergeEntry) (e : ℕ) → m ≡ h.mem s → Follows s es e → AllByRecursion (EntryOk h) es → lefts t (steps_of m es) ≡ lefts_of h.mem (own t es)
-lefts_are h t s m [] e is f ok = refl
-lefts_are h t s m (x ∷ xs) e is f ok = at (x.thread == t) (lefts_are h t (next_snapshot s x.item.marked) (overlay m x.item.writes) xs e (mem_after h s m x x.item.marked is f.0 ok.0.took) f.1 ok.1)
+pub lefts_are : (t : ℕ) (es : List Entry) → lefts_of t (run_of es) ≡ lefts_in (own t es)
+lefts_are t [] = refl
+lefts_are t (x ∷ xs) = at (x.thread == t) (lefts_are t xs)
   where
-    at : (b : Bool) → lefts t (steps_of (overlay m x.item.writes) xs) ≡ lefts_of h.mem (own t xs) → cond b (overlay m x.item.writes ∷ lefts t (steps_of (overlay m x.item.writes) xs)) (lefts t (steps_of (overlay m x.item.writes) xs)) ≡ lefts_of h.mem (cond b (x.item ∷ own t xs) (own t xs))
-    at true ih = ap₂ (λ n ns. n ∷ ns) (ap (λ n. overlay n x.item.writes) (is ∙ ap h.mem (sym f.0))) ih
+    at : (b : Bool) → lefts_of t (run_of xs) ≡ lefts_in (own t xs) → map (λ (s : Step). s.left) (cond b (step_of_entry x ∷ of_thread t (run_of xs)) (of_thread t (run_of xs))) ≡ lefts_in (cond b (x.item ∷ own t xs) (own t xs))
+    at true ih = ap (λ ms. x.item.left ∷ ms) ih
     at false ih = ih
 
-pub counted : (s : ℕ) (es : List MergeEntry) (e : ℕ) → Follows s es e → e ≡ s + 2 * count_marked es
+-- what records find and leave are memories
+pub memories_are : (cells : ℕ) (h : History) (es : List Entry) → ((s : ℕ) → s ≤ h.top → IsMemory cells (h.mem s)) → AllByRecursion (EntryOk h) es → AllByRecursion (λ (s : Step). IsMemory cells s.found × IsMemory cells s.left) (run_of es)
+memories_are cells h [] all ok = tt
+memories_are cells h (x ∷ xs) all ok = ((found, left x.item.marked ok.0.left), memories_are cells h xs all ok.1)
+  where
+    found : IsMemory cells x.item.found
+    found = subst (IsMemory cells) (sym ok.0.found) (all x.item.snapshot (snapshot_le h x.thread x.item x.item.marked ok.0.left))
+
+    left : (b : Bool) → Left h x.thread x.item b → IsMemory cells x.item.left
+    left true k = subst (IsMemory cells) (sym k.2) (all (x.item.snapshot + 2) k.0)
+    left false k = subst (IsMemory cells) (sym k.1) found
+
+pub counted : (s : ℕ) (es : List Entry) (e : ℕ) → Follows s es e → e ≡ s + 2 * count_marked es
 counted s [] e f = omega arith
 counted s (x ∷ xs) e f = at x.item.marked (counted (next_snapshot s x.item.marked) xs e f.1)
   where
@@ -49,14 +66,14 @@ counted s (x ∷ xs) e f = at x.item.marked (counted (next_snapshot s x.item.mar
     at false ih = ih
 
 -- a merge cut at the place of a lock value
-pub record Cut (s snapshot : ℕ) (es : List MergeEntry) : Type 0 where
-  pub before : List MergeEntry
-  pub after : List MergeEntry
+pub record Cut (s snapshot : ℕ) (es : List Entry) : Type 0 where
+  pub before : List Entry
+  pub after : List Entry
   pub place : es ≡ before ++ after
   pub follows : Follows s before snapshot
-  pub later : IsSorted (snapshot + 1) after
+  pub later : IsSorted (2 * snapshot + 1) after
 
-pub cut : (s snapshot k : ℕ) (es : List MergeEntry) (e : ℕ) → s % 2 ≡ 0 → snapshot % 2 ≡ 0 → s ≤ snapshot → snapshot ≤ e → IsSorted k es → Follows s es e → Cut s snapshot es
+pub cut : (s snapshot k : ℕ) (es : List Entry) (e : ℕ) → s % 2 ≡ 0 → snapshot % 2 ≡ 0 → s ≤ snapshot → snapshot ≤ e → IsSorted k es → Follows s es e → Cut s snapshot es
 cut s snapshot k [] e even even' lo hi o f = record { before = []; after = []; place = refl; follows = omega arith; later = tt }
 cut s snapshot k (x ∷ xs) e even even' lo hi o f = at x.item.marked refl (λ s' ev lo' g. cut s' snapshot (key x) xs e ev even' lo' hi o.1 g)
   where
@@ -77,14 +94,14 @@ cut s snapshot k (x ∷ xs) e even even' lo hi o f = at x.item.marked refl (λ s
             parity (inl q) = inl q
             parity (inr q) = inr (omega arith)
 
-        key_is : key x ≡ snapshot + 1 → IsSorted (snapshot + 1) (x ∷ xs)
+        key_is : key x ≡ 2 * snapshot + 1 → IsSorted (2 * snapshot + 1) (x ∷ xs)
         key_is q = (omega arith, o.1)
 
         go : (s ≡ snapshot) ⊎ (s + 2 ≤ snapshot) → Cut s snapshot (x ∷ xs)
-        go (inl q) = record { before = []; after = x ∷ xs; place = refl; follows = q; later = key_is (ap (key_of x.item.snapshot) m ∙ ap (λ n. n + 1) (f.0 ∙ q)) }
+        go (inl q) = record { before = []; after = x ∷ xs; place = refl; follows = q; later = key_is (ap (key_of x.item.snapshot) m ∙ ap (λ n. 2 * n + 1) (f.0 ∙ q)) }
         go (inr q) = more (f.0, refl) (rec (next_snapshot s x.item.marked) (rw m (omega arith)) (rw m q) f.1)
 
-pub own-append : (t : ℕ) (xs ys : List MergeEntry) → own t (xs ++ ys) ≡ own t xs ++ own t ys
+pub own-append : (t : ℕ) (xs ys : List Entry) → own t (xs ++ ys) ≡ own t xs ++ own t ys
 own-append t [] ys = refl
 own-append t (x ∷ xs) ys = at (x.thread == t) (own-append t xs ys)
   where
@@ -113,7 +130,7 @@ ended_by s (x ∷ xs) e o = (low (next_snapshot x.snapshot x.marked) xs o.1, end
     low r [] o' = o'
     low r (y ∷ ys) o' = let a = o'.0 in let b = step_up y.snapshot y.marked in let c = low (next_snapshot y.snapshot y.marked) ys o'.1 in omega arith
 
-pub none_later : (t s k : ℕ) (es : List MergeEntry) → s + 1 ≤ k → IsSorted k es → AllByRecursion (λ (x : Record). next_snapshot x.snapshot x.marked ≤ s) (own t es) → own t es ≡ []
+pub none_later : (t s k : ℕ) (es : List Entry) → 2 * s + 1 ≤ k → IsSorted k es → AllByRecursion (λ (x : Record). next_snapshot x.snapshot x.marked ≤ s) (own t es) → own t es ≡ []
 none_later t s k [] le o all = refl
 none_later t s k (e ∷ es) le o all = at (e.thread == t) all (none_later t s (key e) es (let up = o.0 in omega arith) o.1)
   where

@@ -1,12 +1,12 @@
 -- The merge that keeps equals in the order in which they took effect.
-use Rattle.std.proofs.Common.{◌≡◌, ◌≢◌, ◌<◌, ◌≤◌, ◌==◌, ◌⊎◌, inl, inr, ℕ, Bool, true, false, cond, leb, List, [], ◌∷◌, ◌++◌, refl, ap, arith}
+use Rattle.std.proofs.Common.{◌≡◌, ◌≢◌, ◌<◌, ◌≤◌, ◌+◌, ◌*◌, ◌==◌, ◌⊎◌, inl, inr, ℕ, Bool, true, false, cond, leb, List, [], ◌∷◌, ◌++◌, refl, ap, arith}
 use Rattle.std.specs.List.{AllByRecursion}
 use Rattle.std.proofs.lemmas.Bool.Decides.{eqb_tells, leb_tells}
-use Rattle.norec_core.specs.Attempts.{Record}
-use Rattle.machine.specs.Invariant.{next_snapshot, Ordered}
-use Rattle.machine.specs.Runs.{MergeEntry, key_of, key, IsSorted, own, insert}
+use Rattle.machine.specs.Invariant.{Ordered, next_snapshot}
+use Rattle.machine.specs.Merges.{Entry, IsSorted, insert, key, key_of, own}
+use Rattle.machine.specs.Worlds.{Record}
 
-pub insert_sorted : (k : ℕ) (e : MergeEntry) (es : List MergeEntry) → k ≤ key e → IsSorted k es → IsSorted k (insert e es)
+pub insert_sorted : (k : ℕ) (e : Entry) (es : List Entry) → k ≤ key e → IsSorted k es → IsSorted k (insert e es)
 insert_sorted k e [] le o = (le, tt)
 insert_sorted k e (f ∷ fs) le o = at (leb_tells (key f) (key e)) (insert_sorted (key f) e fs)
   where
@@ -14,7 +14,7 @@ insert_sorted k e (f ∷ fs) le o = at (leb_tells (key f) (key e)) (insert_sorte
     at (inl g) ih = rw g.0 (o.0, ih g.1 o.1)
     at (inr g) ih = let lt = g.1 in rw g.0 (le, (omega arith, o.1))
 
-pub insert_all : (P : MergeEntry → Type 0) (e : MergeEntry) (es : List MergeEntry) → P e → AllByRecursion P es → AllByRecursion P (insert e es)
+pub insert_all : (P : Entry → Type 0) (e : Entry) (es : List Entry) → P e → AllByRecursion P es → AllByRecursion P (insert e es)
 insert_all P e [] h all = (h, tt)
 insert_all P e (f ∷ fs) h all = at (leb (key f) (key e)) (insert_all P e fs h all.1)
   where
@@ -22,7 +22,7 @@ insert_all P e (f ∷ fs) h all = at (leb (key f) (key e)) (insert_all P e fs h 
     at true ih = (all.0, ih)
     at false ih = (h, all)
 
-pub own-insert_other : (t : ℕ) (e : MergeEntry) (es : List MergeEntry) → e.thread ≢ t → own t (insert e es) ≡ own t es
+pub own-insert_other : (t : ℕ) (e : Entry) (es : List Entry) → e.thread ≢ t → own t (insert e es) ≡ own t es
 own-insert_other t e [] ne = at (eqb_tells e.thread t)
   where
     at : ((e.thread == t) ≡ true) × (e.thread ≡ t) ⊎ ((e.thread == t) ≡ false) × (e.thread ≢ t) → cond (e.thread == t) (e.item ∷ []) [] ≡ []
@@ -36,7 +36,7 @@ own-insert_other t e (f ∷ fs) ne = at (eqb_tells e.thread t) (leb (key f) (key
     at (inr g) false ih = rw g.0 refl
 
 -- later entries of a sorted list have no key up to this one
-none_above : (t n k : ℕ) (es : List MergeEntry) → n < k → IsSorted k es → AllByRecursion (λ (x : Record). key_of x.snapshot x.marked ≤ n) (own t es) → own t es ≡ []
+none_above : (t n k : ℕ) (es : List Entry) → n < k → IsSorted k es → AllByRecursion (λ (x : Record). key_of x.snapshot x.marked ≤ n) (own t es) → own t es ≡ []
 none_above t n k [] lt o all = refl
 none_above t n k (e ∷ es) lt o all = at (e.thread == t) all (none_above t n (key e) es (let up = o.0 in omega arith) o.1)
   where
@@ -44,7 +44,7 @@ none_above t n k (e ∷ es) lt o all = at (e.thread == t) all (none_above t n (k
     at true all' ih = absurd (let up = o.0 in let le = all'.0 in omega arith)
     at false all' ih = ih all'
 
-pub own-insert_same : (t k : ℕ) (e : MergeEntry) (es : List MergeEntry) → e.thread ≡ t → IsSorted k es → AllByRecursion (λ (x : Record). key_of x.snapshot x.marked ≤ key e) (own t es) → own t (insert e es) ≡ own t es ++ e.item ∷ []
+pub own-insert_same : (t k : ℕ) (e : Entry) (es : List Entry) → e.thread ≡ t → IsSorted k es → AllByRecursion (λ (x : Record). key_of x.snapshot x.marked ≤ key e) (own t es) → own t (insert e es) ≡ own t es ++ e.item ∷ []
 own-insert_same t k e [] is o all = at (eqb_tells e.thread t)
   where
     at : ((e.thread == t) ≡ true) × (e.thread ≡ t) ⊎ ((e.thread == t) ≡ false) × (e.thread ≢ t) → cond (e.thread == t) (e.item ∷ []) [] ≡ e.item ∷ []

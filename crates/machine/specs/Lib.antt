@@ -1,9 +1,9 @@
 pub mod Threads
-pub mod Operations
 pub mod Worlds
+pub mod Merges
+pub mod Explained
+pub mod Serializable
 pub mod Invariant
-pub mod Runs
 pub mod Alone
-pub mod Counts
 pub mod Samples
 pub mod Replays

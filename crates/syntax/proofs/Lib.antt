@@ -1,2 +1,18 @@
+mod Counted
+pub mod Depths
+mod Expressions
 mod Further
+mod Kept
+mod MeaningSteady
+mod Memories
+mod MoreRows
+mod OneTick
+pub mod Pushes
+pub mod Rows
+pub mod Sames
 pub mod Seen
+mod Steady
+mod ThreadLaws
+mod TypeRows
+mod ValueTypes
+mod Words

@@ -1,5 +1,6 @@
 -- What threads do, for whatever says it: the source or its code. Runs of single steps, and how a thread stands in one.
-use Rattle.std.specs.Prelude.{◌≡◌, ℕ, ◌<◌, ◌==◌, ◌⊎◌, List, [], ◌∷◌, ◌++◌, map, filter, All}
+use Rattle.std.specs.Prelude.{◌≡◌, ℕ, ◌<◌, ◌==◌, ◌^◌, ◌⊎◌, List, [], ◌∷◌, ◌++◌, length, map, filter}
+use Rattle.std.specs.List.{AllByRecursion}
 use Rattle.syntax.specs.declared.numbers.Trap.{Trap}
 use Rattle.syntax.specs.declared.numbers.Stop.{Stop}
 use Rattle.syntax.specs.declared.numbers.Stop.TheVariants.{Trapped, Wants, Spent}
@@ -7,6 +8,10 @@ use Rattle.syntax.specs.declared.numbers.Stop.TheVariants.{Trapped, Wants, Spent
 -- a shared memory: a word for each cell
 abbrev pub Memory : Type 0
 Memory = List ℕ
+
+-- a memory of so many cells: each word is a value's residue modulo 2 ^ 32
+abbrev pub IsMemory : ℕ → Memory → Type 0
+IsMemory cells m = (length m ≡ cells) × AllByRecursion (λ (w : ℕ). w < 2 ^ 32) m
 
 -- how a thread is found after its ticks
 pub data ThreadEnd : Type 0 where
@@ -44,7 +49,7 @@ IsChained m (s ∷ run) = (s.found ≡ m) × IsChained s.left run
 
 -- a run of so many threads from an initial memory
 pub record IsRun (does : Behaviour) (threads : ℕ) (initial : Memory) (run : List Step) : Type 0 where
-  pub named : All (λ s. s.thread < threads) run
+  pub named : AllByRecursion (λ (s : Step). s.thread < threads) run
   pub chained : IsChained initial run
   pub each : (t : ℕ) → t < threads → (n : ℕ) × ((does t (founds_of t run) n).lefts ≡ lefts_of t run)
 
@@ -72,3 +77,20 @@ pub record Stands (does : Behaviour) (initial : Memory) (run : List Step) (t : �
   pub lefts : (does t (founds_of t run ++ extra) ticks).lefts ≡ lefts_of t run
   pub text : (does t (founds_of t run ++ extra) ticks).text ≡ printed
   pub end : Matches status extra (does t (founds_of t run ++ extra) ticks).end
+
+-- One behaviour means another: in whatever memories its transactions find, each does what the other does within some
+-- number of ticks.
+pub record Means (cells : ℕ) (code source : Behaviour) : Type 0 where
+  pub there : (t : ℕ) (founds : List Memory) → t < 2 ^ 32 → AllByRecursion (IsMemory cells) founds → (n : ℕ) → (k : ℕ) × (code t founds k ≡ source t founds n)
+  pub back : (t : ℕ) (founds : List Memory) → t < 2 ^ 32 → AllByRecursion (IsMemory cells) founds → (k : ℕ) → (n : ℕ) × (source t founds n ≡ code t founds k)
+
+-- the elements of one list stand in another in their order
+abbrev pub IsWithin : {X : Type 0} → List X → List X → Type 0
+IsWithin [] ys = Unit {0}
+IsWithin (x ∷ xs) [] = ⊥
+IsWithin (x ∷ xs) (y ∷ ys) = ((x ≡ y) × IsWithin xs ys) ⊎ IsWithin (x ∷ xs) ys
+
+-- a later run holds the steps of an earlier one in their order, and each thread's earlier steps come first among its own
+pub record Extends (earlier later : List Step) : Type 0 where
+  pub in_order : IsWithin earlier later
+  pub own_first : (t : ℕ) → (further : List Step) × (of_thread t later ≡ of_thread t earlier ++ further)

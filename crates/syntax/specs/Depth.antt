@@ -73,7 +73,11 @@ abbrev pub body_depth : Option Stmts → ℕ
 body_depth None = 0
 body_depth (Some ss) = block_depth ss
 
+-- a prototype and global variables have none
+abbrev pub item_depth : Item → ℕ
+item_depth (Shares gs) = 0
+item_depth (Defines f) = body_depth f.body
+
 abbrev pub program_depth : Program → ℕ
 program_depth [] = 0
-program_depth (Shares gs ∷ items) = program_depth items
-program_depth (Defines f ∷ items) = max (body_depth f.body) (program_depth items)
+program_depth (i ∷ items) = max (item_depth i) (program_depth items)

@@ -1,9 +1,14 @@
--- Laws of threads.
-use Rattle.std.specs.Prelude.{◌≡◌, ◌≢◌, ℕ, ◌+◌, ◌⊎◌, List, ◌++◌}
-use Rattle.syntax.specs.Tree.{Program}
+-- Laws of what programs mean.
+use Rattle.std.specs.Prelude.{◌≡◌, ◌≢◌, ℕ, ◌+◌, ◌^◌, ◌<◌, ◌≤◌, ◌⊎◌, List, [], ◌∷◌, ◌++◌, length, All, Some}
+use Rattle.lex.specs.declared.token.Scalar.{Scalar}
+use Rattle.syntax.specs.Tree.{Program, Expr}
 use Rattle.syntax.specs.declared.numbers.Stop.TheVariants.{Wants, Spent}
-use Rattle.syntax.specs.Behaviours.{Memory}
-use Rattle.syntax.specs.Behaviours.{ThreadEnd, Stopped, Outcome}
+use Rattle.syntax.specs.Names.{initial_memory}
+use Rattle.syntax.specs.Types.{type_of, running_scope}
+use Rattle.syntax.specs.Typing.{IsTypedProgram}
+use Rattle.syntax.specs.Behaviours.{Memory, Stopped, Outcome}
+use Rattle.syntax.specs.Actions.{State, Answer, Gives, Stops}
+use Rattle.syntax.specs.Meaning.{expr, calls}
 use Rattle.syntax.specs.Threads.{thread}
 
 -- text and memories left begin with those of another outcome
@@ -12,10 +17,6 @@ pub record Begins (first whole : Outcome) : Type 0 where
   pub text : whole.text ≡ first.text ++ printed
   pub further : List Memory
   pub lefts : whole.lefts ≡ first.lefts ++ further
-
--- the thread may go on
-abbrev pub MayGoOn : ThreadEnd → Type 0
-MayGoOn end = (end ≡ Stopped Spent) ⊎ (end ≡ Stopped Wants)
 
 -- a thread that is not spent does the same with more ticks
 abbrev pub MoreTicks : Type 0
@@ -28,3 +29,44 @@ MoreMemories = (p : Program) (t : ℕ) (founds extra : List Memory) (n k : ℕ) 
 -- with more ticks and further memories a thread begins with what it did before
 abbrev pub GoesOn : Type 0
 GoesOn = (p : Program) (t : ℕ) (founds extra : List Memory) (n k : ℕ) → Begins (thread p t founds n) (thread p t (founds ++ extra) (n + k))
+
+-- where a thread wants a memory, it has left one for each that it found
+abbrev pub LeftAsManyAsFound : Type 0
+LeftAsManyAsFound = (p : Program) (t : ℕ) (founds : List Memory) (n : ℕ) → (thread p t founds n).end ≡ Stopped Wants → length (thread p t founds n).lefts ≡ length founds
+
+-- never are more memories left than there were to find
+abbrev pub NeverMoreLeft : Type 0
+NeverMoreLeft = (p : Program) (t : ℕ) (founds : List Memory) (n : ℕ) → length (thread p t founds n).lefts ≤ length founds
+
+-- one outcome shows what another does, and at most one piece of text or one memory left more
+abbrev pub ShowsOneMore : Outcome → Outcome → Type 0
+ShowsOneMore before after =
+    ((piece : List ℕ) × (after.text ≡ before.text ++ piece) × (after.lefts ≡ before.lefts))
+    ⊎ ((left : Memory) × (after.text ≡ before.text) × (after.lefts ≡ before.lefts ++ left ∷ []))
+
+-- one tick more shows at most one piece of text or one memory left more
+abbrev pub OneTickMore : Type 0
+OneTickMore = (p : Program) (t : ℕ) (founds : List Memory) (n : ℕ) → ShowsOneMore (thread p t founds n) (thread p t founds (n + 1))
+
+-- a memory of a program: a word below 2^32 for each of its cells
+abbrev pub IsMemoryOf : Program → Memory → Type 0
+IsMemoryOf p m = (length m ≡ length (initial_memory p)) × All (λ w. w < 2 ^ 32) m
+
+-- a thread that finds memories of its program leaves memories of its program
+abbrev pub LeavesMemories : Type 0
+LeavesMemories = (p : Program) (t : ℕ) (founds : List Memory) (n : ℕ) → All (IsMemoryOf p) founds → All (IsMemoryOf p) (thread p t founds n).lefts
+
+-- where an answer gives something, this holds of it and of the state then reached
+abbrev pub WhereGiven : {A : Type 0} → Answer A → (A → State → Type 0) → Type 0
+WhereGiven (Gives a s) holds = holds a s
+WhereGiven (Stops why s) holds = Unit {0}
+
+-- an expression leaves the locals as they were
+abbrev pub KeepsLocals : Type 0
+KeepsLocals = (p : Program) (frames : ℕ) (e : Expr) (s : State) → WhereGiven (expr p (calls p frames) e s) (λ v now. now.locals ≡ s.locals)
+
+-- in a typed program an expression's value has the expression's type
+abbrev pub GivesItsType : Type 0
+GivesItsType =
+    (p : Program) → IsTypedProgram p → (frames : ℕ) (e : Expr) (s : State) (t : Scalar) →
+    type_of (running_scope p s.locals) e ≡ Some t → WhereGiven (expr p (calls p frames) e s) (λ v now. v.of ≡ t)

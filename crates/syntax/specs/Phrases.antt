@@ -33,7 +33,6 @@ never ts = ⊥
 
 infixr 40 ◌⨾◌
 infixr 30 ◌∣◌
-
 -- one and then the other
 abbrev pub ◌⨾◌ : Phrase → Phrase → Phrase
 ◌⨾◌ L M = Seq L M

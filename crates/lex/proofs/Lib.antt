@@ -1,0 +1,9 @@
+pub mod Runs
+pub mod Classes
+pub mod Pieces
+pub mod Quotes
+pub mod Numbers
+pub mod Marks
+pub mod Directives
+pub mod Steps
+pub mod Cuts

@@ -1,0 +1,119 @@
+//! Comments and directives.
+
+ghost use Rattle.std.specs.Prelude.{◌≡◌, ◌≢◌, ℕ, List, ◌++◌, codes, ◌+◌, ◌<◌, ◌≤◌, ◌^◌, true, length, slice_index, take, MatchOption};
+ghost use Rattle.std.specs.Bool.{MatchBool};
+ghost use Rattle.lex.specs.Cutting.{Answers, Closes, Opens, Only, FirstOnLine, IsInclude, in_line};
+
+use crate::bytes::{blanks_len, is_blank, line_len, starts_part};
+use crate::fault::LexFault;
+use crate::token::{Kind, Span};
+
+// Where the first `*/` from the third byte on stands.
+fn close(rest: &[u8]) -> Option<usize>
+    requires { length rest.now < 2 ^ 62 }
+    ensures { MatchOption result ((k : ℕ) → 2 ≤ k → k + 2 ≤ length rest.now → Closes rest.now k → ⊥) (λ n. (2 ≤ n) × (n + 2 ≤ length rest.now) × Closes rest.now n × ((k : ℕ) → 2 ≤ k → k < n → Closes rest.now k → ⊥)) }
+{
+    let mut k = 2;
+    'close: while k + 1 < rest.len() {
+        if rest[k] == b'*' && rest[k + 1] == b'/' {
+            return Some(k);
+        }
+        k += 1;
+    }
+    None
+}
+
+// The comment at the place, that `/*` opens.
+pub(crate) fn comment<'a>(text: &'a str, at: usize) -> Result<(Option<Kind<'a>>, usize), LexFault>
+    requires within { at + 1 < length text.now }
+    requires fits { length text.now < 2 ^ 62 }
+    requires begins { (slice_index text.now at ≡ 47) × (slice_index text.now (at + 1) ≡ 42) }
+    ensures { Answers text.now at result }
+{
+    let (_, rest) = text.as_bytes().split_at(at);
+    match close(rest) {
+        Some(k) => Ok((None, k + 2)),
+        None => Err(LexFault::OpenComment(Span {
+            start: at,
+            end: text.len(),
+        })),
+    }
+}
+
+// The comment at the place, that `//` opens.
+pub(crate) fn line_comment<'a>(
+    text: &'a str,
+    at: usize,
+) -> Result<(Option<Kind<'a>>, usize), LexFault>
+    requires within { at + 1 < length text.now }
+    requires fits { length text.now < 2 ^ 62 }
+    requires begins { (slice_index text.now at ≡ 47) × (slice_index text.now (at + 1) ≡ 47) }
+    ensures { Answers text.now at result }
+{
+    let (_, rest) = text.as_bytes().split_at(at);
+    Ok((None, line_len(rest)))
+}
+
+// Whether only spaces and tabs stand behind the last LF.
+fn is_first_on_line(before: &[u8]) -> bool
+    ensures { MatchBool result (FirstOnLine before.now) (FirstOnLine before.now → ⊥) }
+{
+    let mut k = before.len();
+    'back: while k > 0 {
+        if before[k - 1] == b'\n' {
+            return true;
+        }
+        if !is_blank(before[k - 1]) {
+            return false;
+        }
+        k -= 1;
+    }
+    true
+}
+
+// What stands behind `include`, where the text begins with it.
+fn after_include(word: &[u8]) -> Option<&[u8]>
+    ensures { MatchOption result ((more : List ℕ) → word.now ≢ codes "include" ++ more) (λ rest. word.now ≡ codes "include" ++ rest.now) }
+{
+    match word {
+        [b'i', b'n', b'c', b'l', b'u', b'd', b'e', rest @ ..] => Some(rest),
+        _ => None,
+    }
+}
+
+// Whether `include` stands behind the `#` and its spaces and tabs, as a word.
+fn is_include(line: &[u8]) -> bool
+    requires some { 0 < length line.now }
+    requires begins { slice_index line.now 0 ≡ 35 }
+    ensures { MatchBool result (IsInclude line.now) (IsInclude line.now → ⊥) }
+{
+    let (_, behind) = line.split_at(1);
+    let (_, word) = behind.split_at(blanks_len(behind));
+    match after_include(word) {
+        Some(rest) => !starts_part(rest),
+        None => false,
+    }
+}
+
+// The line at the place from its `#` on.
+pub(crate) fn directive<'a>(text: &'a str, at: usize) -> Result<(Option<Kind<'a>>, usize), LexFault>
+    requires within { at < length text.now }
+    requires fits { length text.now < 2 ^ 62 }
+    requires begins { slice_index text.now at ≡ 35 }
+    ensures { Answers text.now at result }
+{
+    let (before, rest) = text.as_bytes().split_at(at);
+    let span = Span {
+        start: at,
+        end: at + 1,
+    };
+    if !is_first_on_line(before) {
+        return Err(LexFault::BadCharacter(span));
+    }
+    let len = line_len(rest);
+    let (line, _) = rest.split_at(len);
+    if !is_include(line) {
+        return Err(LexFault::Directive(span));
+    }
+    Ok((None, len))
+}

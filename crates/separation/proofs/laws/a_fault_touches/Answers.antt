@@ -1,0 +1,5 @@
+use Rattle.separation.proofs.Least.{breaking_touches as the_law}
+use Rattle.separation.proofs.laws.a_fault_touches.Goals as goal
+
+pub returns : goal.returns
+returns c = the_law

@@ -1,0 +1,55 @@
+use Rattle.std.proofs.Common.{arith, ap, sym, ◌∙◌}
+use Rattle.std.proofs.lemmas.List.{take_all}
+use denote.Param.Weighed.{most, at_most}
+use Rattle.syntax.specs.declared.tree.Stmt.{the_lemmas}
+use Rattle.syntax.specs.declared.tree.Stmt as S
+use Rattle.syntax.proofs.tree.Stmt.TheLaws.{the_size}
+use Rattle.syntax.proofs.Pushes.{pushed, ap_3, ap_4}
+use Rattle.syntax.proofs.+copy_stmt.Goals as goal
+
+pub copy_stmt::copy_stmts-each-preserved : goal.copy_stmt::copy_stmts-each-preserved
+copy_stmt::copy_stmts-each-preserved g t c =
+    pushed c.args.all.now c.each.copies c.push.new.self c.each.one-index _ c.one-item.result c.each.invariant c.in_ok-push.ensures.ok c.in_ok-copy.ensures c.one-item.is c.each-test.true
+
+pub copy_stmt::copy_stmts-returns : goal.copy_stmt::copy_stmts-returns
+copy_stmt::copy_stmts-returns g t c = c.each.invariant ∙ take_all c.each.one-index c.args.all.now c.each-test.false
+
+pub copy_stmt::copy_stmts-copy-requires : goal.copy_stmt::copy_stmts-copy-requires
+copy_stmt::copy_stmts-copy-requires g t c κs within =
+    let size = the_size g.row.A g.A.Allocator g.A.laws in
+    let below = at_most size c.args.all.now c.each.one-index c.one-item.result c.each-test.true in
+    let here = ap size c.one-item.is in
+    (omega (arith, below, here, c.decreases), within)
+
+pub tree::Stmt::copy-copy_stmts-requires : goal.tree::Stmt::copy-copy_stmts-requires
+tree::Stmt::copy-copy_stmts-requires g t c κs within =
+    let size = simp the_lemmas at (ap (the_size g.row.A g.A.Allocator g.A.laws) c.in-Block.is) in
+    let here = ap (most (the_size g.row.A g.A.Allocator g.A.laws)) c.as_slice.ensures in
+    (omega (arith, size, here, c.decreases), within)
+
+pub tree::Stmt::copy-copy_stmts-requires-in-Transaction : goal.tree::Stmt::copy-copy_stmts-requires-in-Transaction
+tree::Stmt::copy-copy_stmts-requires-in-Transaction g t c κs within =
+    let size = simp the_lemmas at (ap (the_size g.row.A g.A.Allocator g.A.laws) c.in-Transaction.is) in
+    let here = ap (most (the_size g.row.A g.A.Allocator g.A.laws)) c.as_slice-in-Transaction.ensures in
+    (omega (arith, size, here, c.decreases), within)
+
+pub tree::Stmt::copy-copy_boxed-requires-in-For : goal.tree::Stmt::copy-copy_boxed-requires-in-For
+tree::Stmt::copy-copy_boxed-requires-in-For g t c κs within =
+    let size = simp the_lemmas at (ap (the_size g.row.A g.A.Allocator g.A.laws) c.in-For.is) in
+    (omega (arith, size, c.decreases), within)
+
+pub tree::Stmt::copy-returns-in_ok-copy_stmts-in-Block : goal.tree::Stmt::copy-returns-in_ok-copy_stmts-in-Block
+tree::Stmt::copy-returns-in_ok-copy_stmts-in-Block g t c =
+    ap S.Block (c.in_ok-copy_stmts-in-Block.ensures ∙ c.as_slice.ensures) ∙ sym c.in-Block.is
+
+pub tree::Stmt::copy-returns-in_ok-copy_else-in-If : goal.tree::Stmt::copy-returns-in_ok-copy_else-in-If
+tree::Stmt::copy-returns-in_ok-copy_else-in-If g t c =
+    ap_3 S.If c.in_ok-c-in-If.ensures c.in_ok-a-in-If.ensures c.in_ok-copy_else-in-If.ensures ∙ sym c.in-If.is
+
+pub tree::Stmt::copy-returns-in_ok-copy_boxed-in-For : goal.tree::Stmt::copy-returns-in_ok-copy_boxed-in-For
+tree::Stmt::copy-returns-in_ok-copy_boxed-in-For g t c =
+    ap_4 S.For c.in_ok-start-in-For.ensures c.in_ok-c-in-For.ensures c.in_ok-step-in-For.ensures c.in_ok-copy_boxed-in-For.ensures ∙ sym c.in-For.is
+
+pub tree::Stmt::copy-returns-in_ok-body-in-Transaction : goal.tree::Stmt::copy-returns-in_ok-body-in-Transaction
+tree::Stmt::copy-returns-in_ok-body-in-Transaction g t c =
+    ap (λ body. S.Transaction c.in-Transaction.mode body c.in-Transaction.at) (c.in_ok-body-in-Transaction.ensures ∙ c.as_slice-in-Transaction.ensures) ∙ sym c.in-Transaction.is

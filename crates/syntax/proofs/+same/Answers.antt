@@ -1,0 +1,15 @@
+use Rattle.std.proofs.Common.{refl}
+use Rattle.syntax.proofs.Sames.{same_more, same_not, same_all, same_of}
+use Rattle.syntax.proofs.+same.Goals as goal
+
+pub same::same_exprs-each-preserved : goal.same::same_exprs-each-preserved
+same::same_exprs-each-preserved g t c =
+    same_more c.as_slice-xs.result.now c.as_slice-ys.result.now c.each.i c.index-xs-i.result c.index-ys-i.result c.each.invariant c.index-xs-i.is c.index-ys-i.is (c.if-not-same.ensures.0 refl) c.each-test.true c.if-xs-ys.false
+
+pub same::same_exprs-returns-then-not-same : goal.same::same_exprs-returns-then-not-same
+same::same_exprs-returns-then-not-same g t c =
+    same_of _ c.as_slice-xs.result.now c.as_slice-ys.result.now c.args.xs.now c.args.ys.now (same_not c.as_slice-xs.result.now c.as_slice-ys.result.now c.each.i c.index-xs-i.result c.index-ys-i.result c.same.result c.same.ensures c.if-not-same.true c.index-xs-i.is c.index-ys-i.is c.each-test.true c.if-xs-ys.false) c.as_slice-xs.ensures c.as_slice-ys.ensures
+
+pub same::same_exprs-returns : goal.same::same_exprs-returns
+same::same_exprs-returns g t c =
+    same_of _ c.as_slice-xs.result.now c.as_slice-ys.result.now c.args.xs.now c.args.ys.now (same_all c.as_slice-xs.result.now c.as_slice-ys.result.now c.each.i c.each.invariant c.each-test.false c.if-xs-ys.false) c.as_slice-xs.ensures c.as_slice-ys.ensures

@@ -1,0 +1,196 @@
+-- A property of runs that the words of runs keep holds of all that a program does.
+use Rattle.std.specs.Prelude.{if◌then◌else◌}
+use Rattle.std.proofs.Common.{length, ℕ, ◌<◌, ◌^◌, zero, suc, List, [], ◌∷◌, ◌++◌, Option, Some, None, Bool, true, false, Result, Ok, Err}
+use Rattle.lex.specs.declared.token.Scalar.{Scalar}
+use Rattle.syntax.specs.declared.tree.BinaryOp.{BinaryOp}
+use Rattle.syntax.specs.declared.tree.LogicalOp.TheVariants.{AndThen, OrElse}
+use Rattle.syntax.specs.declared.numbers.Trap.{Trap}
+use Rattle.syntax.specs.declared.numbers.Trap.TheVariants.{Index, Frames}
+use Rattle.syntax.specs.declared.tree.Mode.{Mode}
+use Rattle.syntax.specs.Tree as Tree
+use Rattle.syntax.specs.Tree.{Name, Expr, Exprs, Variable, Constant, Element, Call, Parenthesized, Cast, Unary, Binary, Logical, Conditional, Simple, Value as Just, Assign, Change, Declarator, Declaration, Start, Nothing, Declares, Does, Stmt, Stmts, Empty, Declare, Do, Block, Print, If, IfElse, While, DoWhile, For, Break, Continue, Return, Transaction, Cancel, Parameter, Function, Program}
+use Rattle.syntax.specs.declared.numbers.Value.{Value}
+use Rattle.syntax.specs.Numbers.{number_of}
+use Rattle.syntax.specs.Names.{Local, newest, global_of, definition_of}
+use Rattle.syntax.specs.declared.numbers.Stop.TheVariants.{Astray}
+use Rattle.syntax.specs.Actions.{Action, pure, stop, ◌>>=◌, ◌>>◌, tick, trap, or_trap, or_astray, locals, put_locals, load, store, may_print, print_piece}
+use Rattle.syntax.specs.Formats.{Piece, Literal, Figure, pieces}
+use Rattle.syntax.specs.Meaning.{Spot, InLocal, InCell, fetch, assign, print_pieces, End, Next, Breaks, Continues, Returns, Cancels, on_next, scoped, loop, after_body, transaction, op_of, int_one, Caller, spot_from, named, element, expr, exprs, spot, changed, assigned, simple, first_value, declare, start_with, holds, stepped, return_value, stmt, stmts, entered, result_of, invoke, calls}
+use Rattle.syntax.proofs.Words.{word_below}
+use Rattle.syntax.specs.Threads.{worker_run}
+
+-- a property that each word of runs keeps
+pub record IsKept (Q : (A : Type 0) → Action A → Type 0) : Type 1 where
+  pub pure_holds : {A : Type 0} (a : A) → Q A (pure a)
+  pub on_holds : {A B : Type 0} {run : Action A} {rest : A → Action B} → Q A run → ((a : A) → Q B (rest a)) → Q B (run >>= rest)
+  pub astray_holds : {A : Type 0} → Q A (stop Astray)
+  pub trap_holds : {A : Type 0} (t : Trap) → Q A (trap t)
+  pub tick_holds : Q (Unit {0}) tick
+  pub locals_holds : Q (List Local) locals
+  pub put_locals_holds : (ls : List Local) → Q (Unit {0}) (put_locals ls)
+  pub load_holds : (c : ℕ) → Q ℕ (load c)
+  pub store_holds : (c w : ℕ) → w < 2 ^ 32 → Q (Unit {0}) (store c w)
+  pub may_print_holds : Q (Unit {0}) may_print
+  pub print_piece_holds : (text : List ℕ) → Q (Unit {0}) (print_piece text)
+  pub loop_holds : {turn : Action (Option End)} → Q (Option End) turn → Q End (loop turn)
+  pub transaction_holds : (mode : Mode) {run : Action End} → Q End run → Q End (transaction mode run)
+
+module _ (Q : (A : Type 0) → Action A → Type 0) (kept : IsKept Q) where
+  open kept use {pure_holds, on_holds, astray_holds, trap_holds, tick_holds, locals_holds, put_locals_holds, load_holds, store_holds, may_print_holds, print_piece_holds, loop_holds, transaction_holds}
+
+  then_holds : {A B : Type 0} {run : Action A} {rest : Action B} → Q A run → Q B rest → Q B (run >> rest)
+  then_holds g h = on_holds g (λ _. h)
+
+  if_holds : {A : Type 0} (b : Bool) {x y : Action A} → Q A x → Q A y → Q A (if b then x else y)
+  if_holds true g h = g
+  if_holds false g h = h
+
+  or_trap_holds : {A : Type 0} (r : Result A Trap) → Q A (or_trap r)
+  or_trap_holds (Ok a) = pure_holds a
+  or_trap_holds (Err t) = trap_holds t
+
+  or_astray_holds : {A : Type 0} (o : Option A) → Q A (or_astray o)
+  or_astray_holds (Some a) = pure_holds a
+  or_astray_holds None = astray_holds
+
+  fetch_holds : (at : Spot) → Q _ (fetch at)
+  fetch_holds (InLocal i t) = on_holds locals_holds (λ mine. pure_holds _)
+  fetch_holds (InCell c t) = on_holds (load_holds c) (λ w. pure_holds _)
+
+  assign_holds : (at : Spot) (v : Value) → Q _ (assign at v)
+  assign_holds (InLocal i t) v = on_holds locals_holds (λ mine. put_locals_holds _)
+  assign_holds (InCell c t) v = store_holds c _ (word_below (number_of v))
+
+  print_pieces_holds : (ps : List Piece) (vs : List Value) → Q _ (print_pieces ps vs)
+  print_pieces_holds [] vs = pure_holds tt
+  print_pieces_holds (Literal text ∷ ps) vs = then_holds (print_piece_holds text) (print_pieces_holds ps vs)
+  print_pieces_holds (Figure t ∷ ps) [] = astray_holds
+  print_pieces_holds (Figure t ∷ ps) (v ∷ vs) = then_holds (print_piece_holds _) (print_pieces_holds ps vs)
+
+  on_next_holds : {rest : Action End} → Q _ rest → (end : End) → Q _ (on_next rest end)
+  on_next_holds h Next = h
+  on_next_holds h Breaks = pure_holds Breaks
+  on_next_holds h Continues = pure_holds Continues
+  on_next_holds h (Returns v) = pure_holds (Returns v)
+  on_next_holds h Cancels = pure_holds Cancels
+
+  scoped_holds : {run : Action End} → Q _ run → Q _ (scoped run)
+  scoped_holds h = on_holds locals_holds (λ outer. on_holds h (λ end. on_holds locals_holds (λ all. then_holds (put_locals_holds _) (pure_holds end))))
+
+  after_body_holds : {go : Action (Option End)} → Q _ go → (end : End) → Q _ (after_body go end)
+  after_body_holds h Next = h
+  after_body_holds h Breaks = pure_holds (Some Next)
+  after_body_holds h Continues = h
+  after_body_holds h (Returns v) = pure_holds (Some (Returns v))
+  after_body_holds h Cancels = pure_holds (Some Cancels)
+
+  -- every expression and every statement, where each call is steady
+  module _ (p : Program) (call : Caller) (h : (x : List ℕ) (vs : List Value) → Q Value (call x vs)) where
+    spot_from_holds : (x : List ℕ) (o : Option (ℕ × Scalar)) → Q _ (spot_from p call x o)
+    spot_from_holds x (Some l) = pure_holds _
+    spot_from_holds x None = on_holds (or_astray_holds (global_of p x)) (λ g. pure_holds _)
+
+    named_holds : (x : List ℕ) → Q _ (named p call x)
+    named_holds x = on_holds locals_holds (λ mine. spot_from_holds x (newest mine x))
+
+    element_holds : (x : List ℕ) (k : Value) → Q _ (element p call x k)
+    element_holds x k = on_holds (or_astray_holds (global_of p x)) (λ g. if_holds _ (pure_holds _) (trap_holds Index))
+
+    mutual
+      expr_holds : (e : Expr) → Q _ (expr p call e)
+      expr_holds (Variable x) = on_holds (named_holds x.text) fetch_holds
+      expr_holds (Constant n t at) = pure_holds _
+      expr_holds (Element x i at) = on_holds (expr_holds i) (λ k. on_holds (element_holds x.text k) fetch_holds)
+      expr_holds (Call f es at) = on_holds (exprs_holds es) (λ vs. then_holds tick_holds (h f.text vs))
+      expr_holds (Parenthesized e at) = expr_holds e
+      expr_holds (Cast t e at) = on_holds (expr_holds e) (λ v. pure_holds _)
+      expr_holds (Unary op e at) = on_holds (expr_holds e) (λ v. or_trap_holds _)
+      expr_holds (Binary op a b at) = on_holds (expr_holds a) (λ v. on_holds (expr_holds b) (λ w. or_trap_holds _))
+      expr_holds (Logical AndThen a b at) = on_holds (expr_holds a) (λ v. if_holds _ (pure_holds _) (on_holds (expr_holds b) (λ w. pure_holds _)))
+      expr_holds (Logical OrElse a b at) = on_holds (expr_holds a) (λ v. if_holds _ (on_holds (expr_holds b) (λ w. pure_holds _)) (pure_holds _))
+      expr_holds (Conditional c a b at) = on_holds (expr_holds c) (λ v. on_holds (if_holds _ (expr_holds b) (expr_holds a)) (λ w. on_holds locals_holds (λ mine. on_holds (or_astray_holds _) (λ t. pure_holds _))))
+
+      exprs_holds : (es : Exprs) → Q _ (exprs p call es)
+      exprs_holds Tree.[] = pure_holds []
+      exprs_holds (Tree.◌∷◌ e es) = on_holds (expr_holds e) (λ v. on_holds (exprs_holds es) (λ vs. pure_holds _))
+
+    spot_holds : (e : Expr) → Q _ (spot p call e)
+    spot_holds (Variable x) = named_holds x.text
+    spot_holds (Element x i at) = on_holds (expr_holds i) (λ k. element_holds x.text k)
+    spot_holds e = astray_holds
+
+    changed_holds : (at : Spot) {by : Action Value} → Q _ by → (op : BinaryOp) → Q _ (changed p call at by op)
+    changed_holds at g op = on_holds (fetch_holds at) (λ old. on_holds g (λ v. on_holds (or_trap_holds _) (λ new. assign_holds at new)))
+
+    assigned_holds : (at : Spot) {by : Action Value} → Q _ by → (op : Option BinaryOp) → Q _ (assigned p call at by op)
+    assigned_holds at g None = on_holds g (λ v. assign_holds at v)
+    assigned_holds at g (Some op) = changed_holds at g op
+
+    simple_holds : (s : Simple) → Q _ (simple p call s)
+    simple_holds (Just e) = then_holds (expr_holds e) (pure_holds Next)
+    simple_holds (Assign to op e) = on_holds (spot_holds to) (λ at. then_holds (assigned_holds at (expr_holds e) op) (pure_holds Next))
+    simple_holds (Change to by) = on_holds (spot_holds to) (λ at. then_holds (changed_holds at (pure_holds int_one) (op_of by)) (pure_holds Next))
+
+    first_value_holds : (at : Spot) (o : Option Expr) → Q _ (first_value p call at o)
+    first_value_holds at None = pure_holds tt
+    first_value_holds at (Some e) = on_holds (expr_holds e) (λ v. assign_holds at v)
+
+    declare_holds : (t : Scalar) (ds : List Declarator) → Q _ (declare p call t ds)
+    declare_holds t [] = pure_holds Next
+    declare_holds t (d ∷ ds) = on_holds locals_holds (λ mine. then_holds (put_locals_holds (mine ++ record { name = d.name.text; of = t; word = 0 } ∷ [])) (then_holds (first_value_holds (InLocal (length mine) t) d.first) (declare_holds t ds)))
+
+    start_with_holds : (s : Start) → Q _ (start_with p call s)
+    start_with_holds Nothing = pure_holds Next
+    start_with_holds (Declares d) = declare_holds d.of d.declarators
+    start_with_holds (Does s) = simple_holds s
+
+    holds_holds : (o : Option Expr) → Q _ (holds p call o)
+    holds_holds None = pure_holds true
+    holds_holds (Some e) = on_holds (expr_holds e) (λ v. pure_holds _)
+
+    stepped_holds : (o : Option Simple) → Q _ (stepped p call o)
+    stepped_holds None = pure_holds None
+    stepped_holds (Some s) = then_holds (simple_holds s) (pure_holds None)
+
+    return_value_holds : (o : Option Expr) → Q _ (return_value p call o)
+    return_value_holds None = pure_holds _
+    return_value_holds (Some e) = expr_holds e
+
+    mutual
+      stmt_holds : (s : Stmt) → Q _ (stmt p call s)
+      stmt_holds Empty = then_holds tick_holds (pure_holds Next)
+      stmt_holds (Declare d) = then_holds tick_holds (declare_holds d.of d.declarators)
+      stmt_holds (Do s) = then_holds tick_holds (simple_holds s)
+      stmt_holds (Block ss) = then_holds tick_holds (scoped_holds (stmts_holds ss))
+      stmt_holds (Print at format format_at es) = then_holds tick_holds (then_holds may_print_holds (on_holds (exprs_holds es) (λ vs. then_holds (print_pieces_holds (pieces format) vs) (pure_holds Next))))
+      stmt_holds (If c a) = then_holds tick_holds (on_holds (expr_holds c) (λ v. if_holds _ (pure_holds Next) (stmt_holds a)))
+      stmt_holds (IfElse c a b) = then_holds tick_holds (on_holds (expr_holds c) (λ v. if_holds _ (stmt_holds b) (stmt_holds a)))
+      stmt_holds (While c a) = then_holds tick_holds (loop_holds (on_holds (expr_holds c) (λ v. if_holds _ (pure_holds _) (on_holds (stmt_holds a) (after_body_holds (pure_holds None))))))
+      stmt_holds (DoWhile a c) = then_holds tick_holds (loop_holds (on_holds (stmt_holds a) (after_body_holds (on_holds (expr_holds c) (λ v. pure_holds _)))))
+      stmt_holds (For start c step a) = then_holds tick_holds (scoped_holds (then_holds (start_with_holds start) (loop_holds (on_holds (holds_holds c) (λ more. if_holds _ (on_holds (stmt_holds a) (after_body_holds (stepped_holds step))) (pure_holds _))))))
+      stmt_holds (Break at) = then_holds tick_holds (pure_holds Breaks)
+      stmt_holds (Continue at) = then_holds tick_holds (pure_holds Continues)
+      stmt_holds (Return e at) = then_holds tick_holds (on_holds (return_value_holds e) (λ v. pure_holds _))
+      stmt_holds (Transaction mode ss at) = then_holds tick_holds (transaction_holds mode (scoped_holds (stmts_holds ss)))
+      stmt_holds (Cancel at) = then_holds tick_holds (pure_holds Cancels)
+
+      stmts_holds : (ss : Stmts) → Q _ (stmts p call ss)
+      stmts_holds Tree.[] = pure_holds Next
+      stmts_holds (Tree.◌∷◌ s ss) = on_holds (stmt_holds s) (on_next_holds (stmts_holds ss))
+
+    result_of_holds : (t : Option Scalar) (end : End) → Q _ (result_of t end)
+    result_of_holds t Next = pure_holds _
+    result_of_holds t (Returns v) = pure_holds _
+    result_of_holds t Breaks = astray_holds
+    result_of_holds t Continues = astray_holds
+    result_of_holds t Cancels = astray_holds
+
+    invoke_holds : (x : List ℕ) (vs : List Value) → Q _ (invoke p call x vs)
+    invoke_holds x vs = on_holds (or_astray_holds (definition_of p x)) (λ f. on_holds (or_astray_holds (entered f.0.parameters vs)) (λ mine. on_holds locals_holds (λ outer. then_holds (put_locals_holds mine) (on_holds (stmts_holds f.1) (λ end. then_holds (put_locals_holds outer) (result_of_holds f.0.result end))))))
+
+  calls_holds : (p : Program) (n : ℕ) (x : List ℕ) (vs : List Value) → Q _ (calls p n x vs)
+  calls_holds p zero x vs = trap_holds Frames
+  calls_holds p (suc n) x vs = invoke_holds p (calls p n) (calls_holds p n) x vs
+
+  pub worker_holds : (p : Program) (t : ℕ) → Q _ (worker_run p t)
+  worker_holds p t = then_holds (invoke_holds p (calls p 63) (calls_holds p 63) _ _) tick_holds

@@ -1,0 +1,48 @@
+//! Laws of the meaning of programs. A law has no code: its contract is what it says.
+
+ghost use Rattle.syntax.specs.Laws.{GivesItsType, GoesOn, KeepsLocals, LeavesMemories, LeftAsManyAsFound, MoreMemories, MoreTicks, NeverMoreLeft, OneTickMore};
+
+/// A thread that is not spent does the same with more ticks.
+pub fn more_ticks()
+    ensures { MoreTicks }
+{}
+
+/// A thread that neither is spent nor wants a memory does the same with more of both.
+pub fn more_memories()
+    ensures { MoreMemories }
+{}
+
+/// With more ticks and further memories a thread begins with what it did before.
+pub fn goes_on()
+    ensures { GoesOn }
+{}
+
+/// Where a thread wants a memory, it has left one for each that it found.
+pub fn left_as_many_as_found()
+    ensures { LeftAsManyAsFound }
+{}
+
+/// A thread never leaves more memories than it could find.
+pub fn never_more_left()
+    ensures { NeverMoreLeft }
+{}
+
+/// With one tick more a thread shows at most one piece of text or one memory left more, and never both.
+pub fn one_tick_more()
+    ensures { OneTickMore }
+{}
+
+/// A thread that finds memories of its program, with a word below 2^32 for each cell, leaves such memories.
+pub fn leaves_memories()
+    ensures { LeavesMemories }
+{}
+
+/// An expression that gives a value leaves the local variables as they were.
+pub fn keeps_locals()
+    ensures { KeepsLocals }
+{}
+
+/// In a typed program an expression that gives a value gives one of the expression's type.
+pub fn gives_its_type()
+    ensures { GivesItsType }
+{}
