@@ -53,9 +53,12 @@ module _ (asked : ℕ → Span → Type 0) (earlier : List Item) (f : Function) 
 pub function_typed : (asked : ℕ → Span → Type 0) (earlier : List Item) (f : Function) (q : Parameter) (x : Name) (ss : Stmts) → Shape f q x ss → AreShared earlier → symbol_of (file_scope earlier f.name.text) ≡ symbol.Unknown → AreTypedStmts asked None ss (scope x.text (earlier ++ Defines f ∷ [])) (x.text ∷ []) false → IsTypedFunction asked earlier f
 function_typed asked earlier f q x ss s shared new typed =
     let none = none_defined earlier shared in
-    let free = unknown (file_scope earlier f.name.text) new in
-    (λ _. rw (free, s.body, none) refl, λ _. rw free refl, rw (s.takes, s.named) (λ _. refl, tt),
-     to_stmts asked earlier f ss f.body s.body (to_body asked (file_scope (earlier ++ Defines f ∷ [])) f.result f.parameters q x ss s.gives s.takes s.of s.named typed))
+    let free = unknown (file_scope earlier f.name.text) new in (
+      λ _. rw (free, s.body, none) refl,
+      λ _. rw free refl,
+      rw (s.takes, s.named) (λ _. refl, tt),
+      to_stmts asked earlier f ss f.body s.body (to_body asked (file_scope (earlier ++ Defines f ∷ [])) f.result f.parameters q x ss s.gives s.takes s.of s.named typed),
+    )
 
 pub function_body : (asked : ℕ → Span → Type 0) (earlier : List Item) (f : Function) (q : Parameter) (x : Name) (ss : Stmts) → Shape f q x ss → IsTypedFunction asked earlier f → AreTypedStmts asked None ss (scope x.text (earlier ++ Defines f ∷ [])) (x.text ∷ []) false
 function_body asked earlier f q x ss s typed =

@@ -113,7 +113,6 @@ pub transaction_is_quiet : (s : Stmt) → IsStraightTransaction s → IsQuiet s
 transaction_is_quiet (Tree.Declare d) h = absurd h
 transaction_is_quiet s h = record { scope = λ known. refl; names = refl }
 
-
 module _ {A : Type 0} (known : Scope) (declared : List (List ℕ)) (all : (ℕ → Span → Type 0) → Type 0) (ss : List (S.Stmt A)) (i : ℕ) (s : S.Stmt A) where
   -- the statement here breaks no rule
   pub stmts_next : s ≡ get_or ss i s → i < length ss → IsQuiet (stmt_of s) → IsTypedStmt every None (stmt_of s) known declared false → Leaves all (λ asked. AreTypedStmts asked None (stmts_of (drop i ss)) known declared false) → Leaves all (λ asked. AreTypedStmts asked None (stmts_of (drop (i + 1) ss)) known declared false)

@@ -7,8 +7,8 @@ use Rattle.syntax.specs.Tree.{Global, Program}
 use Rattle.syntax.specs.Numbers.{number}
 use Rattle.syntax.specs.Names.{cells, globals}
 use Rattle.syntax.specs.Behaviours.{Memory}
-use Rattle.txc.specs.declared.report.End.{End}
-use Rattle.txc.specs.declared.report.End.TheVariants.{Ended, Trapped}
+use Rattle.lower.specs.declared.code.End.{End}
+use Rattle.lower.specs.declared.code.End.TheVariants.{Ended, Trapped}
 
 -- how a thread has ended
 abbrev pub end_text : End → List ℕ

@@ -8,16 +8,10 @@ ghost use Rattle.txc.specs.Report.{end_text, value_texts, global_text, words_aft
 
 use itoa::Buffer;
 use lex::token::Scalar;
+use lower::End;
 use std::alloc::{AllocError, Allocator};
 use syntax::numbers::Trap;
 use syntax::tree::{Global, Item, Unit};
-
-/// How a thread is found after its run.
-#[derive(Clone, Copy, PartialEq, Eq, Debug)]
-pub enum End {
-    Ended,
-    Trapped(Trap),
-}
 
 /// The report of a run that left these words in memory.
 pub fn report<A: Allocator + Copy>(

@@ -24,9 +24,9 @@ returns-in_ok-check_sum-in-Binary g t c =
     let known = scope c.args.parameter.now.text (map item_of c.args.items.now) in
     let same = ap expr_of c.in-Binary.is ∙ expr_of_binary c.in-Binary.field-0 c.in-Binary.left c.in-Binary.right c.in-Binary.field-3 in
     rw same (checked_by (λ asked. IsTyped asked known (expr_of c.in-Binary.right)) (λ asked. IsTyped asked known (Binary c.in-Binary.field-0 (expr_of c.in-Binary.left) (expr_of c.in-Binary.right) c.in-Binary.field-3)) c.check_atom.result
-        (λ right. binary_typed known every c.in-Binary.field-0 (expr_of c.in-Binary.left) (expr_of c.in-Binary.right) c.in-Binary.field-3 (rw same at c.requires) (rw c.get.ensures at c.in_ok-check_sum-in-Binary.ensures) right)
-        (λ fault h. h.2)
-        (rw c.get-in-Binary.ensures at c.check_atom.ensures))
+    (λ right. binary_typed known every c.in-Binary.field-0 (expr_of c.in-Binary.left) (expr_of c.in-Binary.right) c.in-Binary.field-3 (rw same at c.requires) (rw c.get.ensures at c.in_ok-check_sum-in-Binary.ensures) right)
+    (λ fault h. h.2)
+    (rw c.get-in-Binary.ensures at c.check_atom.ensures))
 
 pub check_atom-requires-in_default : goal.check_atom-requires-in_default
 check_atom-requires-in_default g t c = sum_is_atom c.args.sum.now c.requires c.in_default.not-Binary

@@ -23,8 +23,8 @@ stmts-preserved g c =
     let split = drop_here c.args.stmts.now c.stmts.stmt-index c.stmt-item.result c.stmt-item.is c.stmts-test.true in
     let parts = rw split at c.stmts.invariant.straight in
     record {
-        straight = parts.1;
-        left = stmts_next (scope c.args.parameter.now.text (map item_of c.args.items.now)) [] (λ asked. AreTypedStmts asked None (stmts_of c.args.stmts.now) (scope c.args.parameter.now.text (map item_of c.args.items.now)) [] false) c.args.stmts.now c.stmts.stmt-index c.stmt-item.result c.stmt-item.is c.stmts-test.true (assignment_is_quiet (stmt_of c.stmt-item.result) parts.0) c.in_ok-check_assignment.ensures c.stmts.invariant.left
+      straight = parts.1;
+      left = stmts_next (scope c.args.parameter.now.text (map item_of c.args.items.now)) [] (λ asked. AreTypedStmts asked None (stmts_of c.args.stmts.now) (scope c.args.parameter.now.text (map item_of c.args.items.now)) [] false) c.args.stmts.now c.stmts.stmt-index c.stmt-item.result c.stmt-item.is c.stmts-test.true (assignment_is_quiet (stmt_of c.stmt-item.result) parts.0) c.in_ok-check_assignment.ensures c.stmts.invariant.left;
     }
 
 pub returns : goal.returns

@@ -12,8 +12,8 @@ returns-in_err-taken g c =
 
 pub items-preserved : goal.items-preserved
 items-preserved g c = record {
-    shared = (shared_here item_of c.args.items.now c.items.i c.index-items-i.result c.index-items-i.is c.items-test.true c.items.invariant.shared).1;
-    count = c.in_ok-taken.ensures.count ∙ ap (λ n. n + all_cells (item_of c.index-items-i.result ∷ [])) c.items.invariant.count ∙ cells_next item_of (λ asked. AreTypedItems asked [] (map item_of c.args.items.now)) c.args.items.now c.items.i c.index-items-i.result c.index-items-i.is c.items-test.true;
-    within = c.in_ok-taken.ensures.within;
-    left = items_next item_of (λ asked. AreTypedItems asked [] (map item_of c.args.items.now)) c.args.items.now c.items.i c.index-items-i.result c.index-items-i.is c.items-test.true c.in_ok-taken.ensures.checked c.items.invariant.left
+  shared = (shared_here item_of c.args.items.now c.items.i c.index-items-i.result c.index-items-i.is c.items-test.true c.items.invariant.shared).1;
+  count = c.in_ok-taken.ensures.count ∙ ap (λ n. n + all_cells (item_of c.index-items-i.result ∷ [])) c.items.invariant.count ∙ cells_next item_of (λ asked. AreTypedItems asked [] (map item_of c.args.items.now)) c.args.items.now c.items.i c.index-items-i.result c.index-items-i.is c.items-test.true;
+  within = c.in_ok-taken.ensures.within;
+  left = items_next item_of (λ asked. AreTypedItems asked [] (map item_of c.args.items.now)) c.args.items.now c.items.i c.index-items-i.result c.index-items-i.is c.items-test.true c.in_ok-taken.ensures.checked c.items.invariant.left;
 }

@@ -18,6 +18,6 @@ pub returns-in_default : goal.returns-in_default
 returns-in_default g c =
     let known = rw c.as_str.ensures at c.known_before.ensures in
     record {
-        checked = λ met. known_of (file_scope (map item_of c.args.earlier.now ++ Shares (map global_of c.args.before.now) ∷ []) c.args.global.now.name.text) (λ e. c.in_default.not-Unknown (known ∙ e)) (met.0 (refl, refl));
-        room = tt
+      checked = λ met. known_of (file_scope (map item_of c.args.earlier.now ++ Shares (map global_of c.args.before.now) ∷ []) c.args.global.now.name.text) (λ e. c.in_default.not-Unknown (known ∙ e)) (met.0 (refl, refl));
+      room = tt;
     }

@@ -16,8 +16,8 @@ globals-preserved g c =
     let split = drop_here c.args.globals.now c.globals.i c.index-globals-i.result c.index-globals-i.is c.globals-test.true in
     let singles = rw split at c.globals.invariant.single in
     record {
-        single = singles.1;
-        count = sums_next global_of c.args.globals.now c.globals.i c.index-globals-i.result c.globals.count _ c.index-globals-i.is c.globals-test.true singles.0 c.globals.invariant.count;
-        within = omega (arith, c.in_ok-check_global.ensures.room);
-        left = globals_next global_of (map item_of c.args.earlier.now) (λ asked. AreTypedGlobals asked (map item_of c.args.earlier.now) [] c.args.taken (map global_of c.args.globals.now)) c.args.globals.now c.globals.i c.globals.count c.index-globals-i.result c.index-globals-i.is c.globals-test.true singles.0 c.in_ok-check_global.ensures.checked c.globals.invariant.left
+      single = singles.1;
+      count = sums_next global_of c.args.globals.now c.globals.i c.index-globals-i.result c.globals.count _ c.index-globals-i.is c.globals-test.true singles.0 c.globals.invariant.count;
+      within = omega (arith, c.in_ok-check_global.ensures.room);
+      left = globals_next global_of (map item_of c.args.earlier.now) (λ asked. AreTypedGlobals asked (map item_of c.args.earlier.now) [] c.args.taken (map global_of c.args.globals.now)) c.args.globals.now c.globals.i c.globals.count c.index-globals-i.result c.index-globals-i.is c.globals-test.true singles.0 c.in_ok-check_global.ensures.checked c.globals.invariant.left;
     }

@@ -9,8 +9,8 @@ use Rattle.txc.proofs.check.check_globals.Given as goal
 -- what the globals that are left ask for is all that is asked for still
 abbrev pub invariant-globals : goal.invariant-globals
 invariant-globals g l = record {
-    single : AreSingle (map global_of (drop l.i l.globals));
-    count : l.count + sum_by cells (map global_of (drop l.i l.globals)) ≡ l.taken + sum_by cells (map global_of l.globals);
-    within : l.count ≤ 4096;
-    left : Leaves (λ asked. AreTypedGlobals asked (map item_of l.earlier) [] l.taken (map global_of l.globals)) (λ asked. AreTypedGlobals asked (map item_of l.earlier) (map global_of (take l.i l.globals)) l.count (map global_of (drop l.i l.globals)))
+  single : AreSingle (map global_of (drop l.i l.globals));
+  count : l.count + sum_by cells (map global_of (drop l.i l.globals)) ≡ l.taken + sum_by cells (map global_of l.globals);
+  within : l.count ≤ 4096;
+  left : Leaves (λ asked. AreTypedGlobals asked (map item_of l.earlier) [] l.taken (map global_of l.globals)) (λ asked. AreTypedGlobals asked (map item_of l.earlier) (map global_of (take l.i l.globals)) l.count (map global_of (drop l.i l.globals)));
 }

@@ -7,6 +7,6 @@ use Rattle.txc.proofs.report.push_items.Given as goal
 -- what is written and what is to come make up the whole
 abbrev pub invariant-items : goal.invariant-items
 invariant-items g l = record {
-    text : string_bytes l.text ++ memory_text (globals (map item_of (drop l.item-index l.items))) l.rest ≡ string_bytes l.initial.text ++ memory_text (globals (map item_of l.items)) l.words;
-    fit : All (λ w. w < 2 ^ 32) l.rest
+  text : string_bytes l.text ++ memory_text (globals (map item_of (drop l.item-index l.items))) l.rest ≡ string_bytes l.initial.text ++ memory_text (globals (map item_of l.items)) l.words;
+  fit : All (λ w. w < 2 ^ 32) l.rest;
 }
