@@ -1,6 +1,6 @@
 //! Answers a request over readers and writers.
 
-ghost use Rattle.std.specs.Prelude.{◌≡◌, ◌≤◌, OnOk};
+ghost use Rattle.std.specs.Prelude.{◌≡◌, ◌≢◌, ◌≤◌, OnOk};
 ghost use Rattle.std.specs.Io.KnownBytes.{Appends};
 ghost use Rattle.txc.specs.Runs.{exit_status, Prints};
 
@@ -126,7 +126,9 @@ fn status_of(end: End) -> u8
 
 /// Says why a source is refused.
 fn refuse<E: Write>(text: &str, fault: RunTextFault, err: &mut E) -> u8
-    ensures { result ≤ 4 }
+    ensures within { result ≤ 4 }
+    ensures not_ended { result ≢ 0 }
+    ensures not_trapped { result ≢ 3 }
 {
     match fault.span() {
         None => out_of_memory(err),
