@@ -7,3 +7,10 @@ pub mod Marks
 pub mod Directives
 pub mod Steps
 pub mod Cuts
+pub mod Lies
+pub mod Spellings
+pub mod Once
+pub mod Flaws
+pub mod Ways
+pub mod Examples
+pub mod Escapes

@@ -1,4 +1,5 @@
--- How a text is cut into tokens: at each place the longest piece that has a shape, and what it says.
+-- How a text is cut into tokens: at each place the longest piece that has a shape, and what it says. The shapes are
+-- those of C11 6.4, as far as this language has them.
 use Rattle.std.specs.Prelude.{◌≡◌, ◌≢◌, ℕ, ◌+◌, ◌-◌, ◌*◌, ◌^◌, ◌<◌, ◌≤◌, Bool, true, false, not, ◌&&◌, ◌||◌, ◌⊎◌, ◌==◌, nat_le, nat_lt, if◌then◌else◌, List, [], ◌∷◌, ◌++◌, length, take, drop, slice_index, codes, Option, Some, None, Result, Ok, Err}
 use Rattle.std.specs.List.{prefix_len}
 use Rattle.std.specs.Char.{digit_value}
@@ -67,7 +68,7 @@ starts p (b ∷ w) = p b
 abbrev pub IsWhite : List ℕ → Type 0
 IsWhite w = (length w ≡ 1) × (is_white (slice_index w 0) ≡ true)
 
--- a letter or `_`, then letters, digits and `_`
+-- a letter or `_`, then letters, digits and `_` (C11 6.4.2.1)
 abbrev pub IsWord : List ℕ → Type 0
 IsWord w = (0 < length w) × (is_letter (slice_index w 0) ≡ true) × Only is_part w
 
@@ -78,7 +79,7 @@ Closes w k = (slice_index w k ≡ 42) × (slice_index w (k + 1) ≡ 47)
 abbrev pub Opens : List ℕ → Type 0
 Opens w = (slice_index w 0 ≡ 47) × (slice_index w 1 ≡ 42)
 
--- from `/*` to the first `*/` behind it
+-- from `/*` to the first `*/` behind it (C11 6.4.9)
 pub record IsComment (w : List ℕ) : Type 0 where
   pub opens : Opens w
   pub large : 4 ≤ length w
@@ -91,7 +92,7 @@ pub record IsOpen (w : List ℕ) : Type 0 where
   pub large : 2 ≤ length w
   pub never : (k : ℕ) → 2 ≤ k → k + 2 ≤ length w → Closes w k → ⊥
 
--- `//` and more of its line
+-- `//` and more of its line (C11 6.4.9)
 pub record IsLine (w : List ℕ) : Type 0 where
   pub large : 2 ≤ length w
   pub slashes : (slice_index w 0 ≡ 47) × (slice_index w 1 ≡ 47)
@@ -103,7 +104,7 @@ pub record IsDirective (w : List ℕ) : Type 0 where
   pub number : slice_index w 0 ≡ 35
   pub within : Only in_line w
 
--- `#`, spaces and tabs, and then the word `include`
+-- `#`, spaces and tabs, and then the word `include` (C11 6.10.2)
 pub record IsInclude (w : List ℕ) : Type 0 where
   pub blanks : List ℕ
   pub rest : List ℕ
@@ -125,12 +126,12 @@ Inside [] = Unit {0}
 Inside (a ∷ []) = is_plain a ≡ true
 Inside (a ∷ b ∷ w) = ((is_plain a ≡ true) × Inside (b ∷ w)) ⊎ ((a ≡ 92) × (is_escape b ≡ true) × Inside w)
 
--- a string, by what stands between its quotes
+-- a string, by what stands between its quotes (C11 6.4.5)
 pub record IsString (w inner : List ℕ) : Type 0 where
   pub written : w ≡ 34 ∷ (inner ++ 34 ∷ [])
   pub inside : Inside inner
 
--- ---- constants
+-- ---- constants (C11 6.4.4.1)
 
 abbrev pub radix : Base → ℕ
 radix Decimal = 10
@@ -152,6 +153,7 @@ IsWritten Hexadecimal before digits = ((before ≡ codes "0x") ⊎ (before ≡ c
 abbrev pub IsSuffix : List ℕ → Type 0
 IsSuffix s = (s ≡ []) ⊎ (s ≡ codes "u") ⊎ (s ≡ codes "U")
 
+-- a constant, by its parts
 pub record Constant (w : List ℕ) : Type 0 where
   pub base : Base
   pub before : List ℕ
@@ -175,11 +177,12 @@ is_decimal Decimal = true
 is_decimal Octal = false
 is_decimal Hexadecimal = false
 
--- the type of a value, by whether it is a plain decimal one without suffix: `int` if it has no suffix and fits, else
--- `unsigned` if it fits and has a suffix or is not decimal
+-- a constant's type, by whether its base is decimal, whether it has a suffix, and its value: `int` if it has no suffix
+-- and fits, else `unsigned` if it fits and has a suffix or another base
 abbrev pub type_of : (is_decimal suffixed : Bool) → ℕ → Option Scalar
 type_of is_decimal suffixed n = if not suffixed && nat_lt n (2 ^ 31) then Some Int else (if (suffixed || not is_decimal) && nat_lt n (2 ^ 32) then Some Unsigned else None)
 
+-- whether there is a byte
 abbrev pub is_some_byte : List ℕ → Bool
 is_some_byte [] = false
 is_some_byte (b ∷ w) = true
@@ -190,7 +193,7 @@ typed c = type_of (is_decimal c.base) (is_some_byte c.suffix) (value c)
 
 -- ---- the longest piece
 
--- bytes that have the shape of a piece
+-- bytes that have the shape of a piece; a comment without its end, a lone quote and a line that begins with `#` have one too
 pub data Shape (w : List ℕ) : Type 0 where
   white : IsWhite w → Shape w
   comment : IsComment w → Shape w

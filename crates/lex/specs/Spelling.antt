@@ -3,7 +3,7 @@ use Rattle.std.specs.Prelude.{ℕ, List, ◌≡◌, codes}
 use Rattle.lex.specs.declared.token.Mark.{Mark}
 use Rattle.lex.specs.declared.token.Mark.TheVariants as m
 
--- keywords, and then signs
+-- keywords (C11 6.4.1 and the transactions of GNU C), and then signs (C11 6.4.6)
 abbrev pub spelling : Mark → List ℕ
 spelling m.Int = codes "int"
 spelling m.Unsigned = codes "unsigned"

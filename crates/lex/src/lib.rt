@@ -4,7 +4,9 @@
 mod bytes;
 mod comment;
 mod constant;
+mod escape;
 pub mod fault;
+pub mod laws;
 mod lexer;
 mod line;
 mod sign;
@@ -12,6 +14,10 @@ mod string;
 pub mod token;
 mod word;
 
+pub use escape::unescape;
 pub use fault::LexFault;
 pub use lexer::lex;
 pub use line::place;
+
+#[cfg(test)]
+mod tests;

@@ -5,18 +5,20 @@ use Rattle.std.proofs.lemmas.List.{at_drop_more, at_drop_all, length-set}
 use Rattle.std.proofs.Math.Seq.{take-append_seam}
 use Rattle.syntax.specs.declared.numbers.Trap.{Trap}
 use Rattle.syntax.specs.declared.numbers.Value.{Value}
-use Rattle.syntax.specs.Behaviours.{Memory, Status, HasEnded, HasTrapped}
+use Rattle.syntax.specs.Behaviours.{Memory}
 use Rattle.syntax.specs.Tree.{Program}
 use Rattle.syntax.specs.Names.{initial_memory}
 use Rattle.lower.specs.declared.code.Place.{Place}
 use Rattle.lower.specs.declared.code.Place.TheVariants.{Cell, Local}
 use Rattle.lower.specs.declared.code.Store.{Store}
 use Rattle.lower.specs.declared.code.Code.{Code}
+use Rattle.lower.specs.declared.code.End.{End}
+use Rattle.lower.specs.declared.code.End.TheVariants.{Ended, Trapped}
 use Rattle.lower.specs.declared.code.Term.{Term}
 use Rattle.lex.specs.declared.token.Scalar.TheVariants.{Int}
 use Rattle.syntax.specs.Numbers.{typed, computed, binary}
 use Rattle.lower.proofs.Words.{binary_same}
-use Rattle.lower.specs.Code.{Data, Last, int, op_of, atom_in, sum_from, on_ok, put, sum_in, stored, stores_in, last_of, after_transaction}
+use Rattle.lower.specs.Code.{Data, Last, int, op_of, atom_in, sum_from, on_ok, put, sum_in, stored, stores_in, last_of, after_transaction, status_of}
 use Rattle.lower.specs.Alone.{IsRunOfOne, Means}
 
 -- a slice that is the whole of a vector
@@ -64,13 +66,13 @@ module _ {A : Type 0} where
       ∙ ap (λ x. after_transaction d.memory (stores_in x d) (last_of (drop (i + 1) txs))) e
       ∙ sym (at_drop_more (λ rest. last_of rest d) txs i ss h) ∙ g
 
-  pub traps : (txs : List (List (Store A))) (i : ℕ) (ss : List (Store A)) (d : Data) (k : Trap) (L : Last) → i < length txs → ss ≡ get_or txs i ss → Err k ≡ stores_in ss d → last_of (drop i txs) d ≡ L → record { memory = d.memory; status = HasTrapped k } ≡ L
+  pub traps : (txs : List (List (Store A))) (i : ℕ) (ss : List (Store A)) (d : Data) (k : Trap) (L : Last) → i < length txs → ss ≡ get_or txs i ss → Err k ≡ stores_in ss d → last_of (drop i txs) d ≡ L → record { memory = d.memory; end = Trapped k } ≡ L
   traps txs i ss d k L h e f g =
       ap (λ r. after_transaction d.memory r (last_of (drop (i + 1) txs))) f
       ∙ ap (λ x. after_transaction d.memory (stores_in x d) (last_of (drop (i + 1) txs))) e
       ∙ sym (at_drop_more (λ rest. last_of rest d) txs i ss h) ∙ g
 
-  pub ends : (txs : List (List (Store A))) (i : ℕ) (d : Data) (L : Last) → length txs ≤ i → last_of (drop i txs) d ≡ L → record { memory = d.memory; status = HasEnded } ≡ L
+  pub ends : (txs : List (List (Store A))) (i : ℕ) (d : Data) (L : Last) → length txs ≤ i → last_of (drop i txs) d ≡ L → record { memory = d.memory; end = Ended } ≡ L
   ends txs i d L h g = sym (at_drop_all (λ rest. last_of rest d) txs i h) ∙ g
 
   stores_keep : (ss : List (Store A)) (n : ℕ) (d : Data) → length d.memory ≡ n → Keeps n (stores_in ss d)
@@ -81,9 +83,9 @@ module _ {A : Type 0} where
   last_keeps [] n d h = h
   last_keeps (ss ∷ txs) n d h = after_keeps n d.memory (stores_in ss d) (last_of txs) h (stores_keep ss n d h) (last_keeps txs n)
 
-  pub has_run : (p : Program) (code : Code A) (words : Memory) (status : Status) → record { memory = words; status = status } ≡ last_of code.transactions (record { memory = code.initial; local = 0 }) → Means p code → IsRunOfOne p words status []
-  has_run p code words status e m =
-      subst (λ (last : Last). IsRunOfOne p last.memory last.status []) (ap (λ (i : Memory). last_of code.transactions (record { memory = i; local = 0 })) (sym m.initial) ∙ sym e) m.alone
+  pub has_run : (p : Program) (code : Code A) (words : Memory) (end : End) → record { memory = words; end = end } ≡ last_of code.transactions (record { memory = code.initial; local = 0 }) → Means p code → IsRunOfOne p words (status_of end) []
+  has_run p code words end e m =
+      subst (λ (last : Last). IsRunOfOne p last.memory (status_of last.end) []) (ap (λ (i : Memory). last_of code.transactions (record { memory = i; local = 0 })) (sym m.initial) ∙ sym e) m.alone
 
-  pub has_cells : (p : Program) (code : Code A) (words : Memory) (status : Status) → record { memory = words; status = status } ≡ last_of code.transactions (record { memory = code.initial; local = 0 }) → Means p code → length words ≡ length (initial_memory p)
-  has_cells p code words status e m = ap (λ (last : Last). length last.memory) e ∙ last_keeps code.transactions _ _ refl ∙ ap length m.initial
+  pub has_cells : (p : Program) (code : Code A) (words : Memory) (end : End) → record { memory = words; end = end } ≡ last_of code.transactions (record { memory = code.initial; local = 0 }) → Means p code → length words ≡ length (initial_memory p)
+  has_cells p code words end e m = ap (λ (last : Last). length last.memory) e ∙ last_keeps code.transactions _ _ refl ∙ ap length m.initial

@@ -2,17 +2,17 @@
 use Rattle.std.specs.Prelude.{◌≡◌, ℕ, List, []}
 use Rattle.syntax.specs.Tree.{Program}
 use Rattle.syntax.specs.Names.{initial_memory}
-use Rattle.syntax.specs.Threads.{thread}
-use Rattle.syntax.specs.Behaviours.{Memory, Step, Status, IsRun, Stands, last_memory}
+use Rattle.syntax.specs.Threads.{IsSourceRun, StandsInSource}
+use Rattle.syntax.specs.Behaviours.{Memory, Step, Status, last_memory}
 use Rattle.lower.specs.declared.code.Code.{Code}
-use Rattle.lower.specs.Code.{last_of, AreWords}
+use Rattle.lower.specs.Code.{last_of, status_of, AreWords}
 
 -- thread 0 alone, each found memory being the one left before it: the last memory, how the thread stands, and what it has printed
 pub record IsRunOfOne (p : Program) (words : Memory) (status : Status) (printed : List ℕ) : Type 0 where
   pub run : List Step
-  pub is_run : IsRun (thread p) 1 (initial_memory p) run
+  pub is_run : IsSourceRun p 1 run
   pub last : last_memory (initial_memory p) run ≡ words
-  pub stands : Stands (thread p) (initial_memory p) run 0 printed status
+  pub stands : StandsInSource p run 0 printed status
 
 module _ {A : Type 0} where
   -- the memory in which the code begins has residues modulo 2^32
@@ -22,4 +22,4 @@ module _ {A : Type 0} where
   -- the code begins in the program's initial memory, and what it leaves is what running the program's thread 0 alone leaves
   pub record Means (p : Program) (code : Code A) : Type 0 where
     pub initial : code.initial ≡ initial_memory p
-    pub alone : let last = last_of code.transactions (record { memory = initial_memory p; local = 0 }) in IsRunOfOne p last.memory last.status []
+    pub alone : let last = last_of code.transactions (record { memory = initial_memory p; local = 0 }) in IsRunOfOne p last.memory (status_of last.end) []

@@ -57,12 +57,12 @@ put Local v d = record { memory = d.memory; local = (converted Int v).word }
 -- what is left of a run: the last memory, and how the thread has ended
 pub record Last : Type 0 where
   pub memory : Memory
-  pub status : Status
+  pub end : End
 
 -- a transaction that traps leaves the memory that it found, and ends the thread
 abbrev pub after_transaction : Memory → Result Data Trap → (Data → Last) → Last
 after_transaction found (Ok d) rest = rest d
-after_transaction found (Err k) rest = record { memory = found; status = HasTrapped k }
+after_transaction found (Err k) rest = record { memory = found; end = Trapped k }
 
 module _ {A : Type 0} where
   abbrev pub sum_in : Sum A → Data → Result Value Trap
@@ -76,7 +76,7 @@ module _ {A : Type 0} where
   stores_in (s ∷ ss) d = on_ok (stored s d) (stores_in ss)
 
   abbrev pub last_of : List (List (Store A)) → Data → Last
-  last_of [] d = record { memory = d.memory; status = HasEnded }
+  last_of [] d = record { memory = d.memory; end = Ended }
   last_of (ss ∷ rest) d = after_transaction d.memory (stores_in ss d) (last_of rest)
 
 abbrev pub status_of : End → Status

@@ -1,3 +1,4 @@
 pub mod Code
 pub mod Alone
 pub mod Running
+pub mod Lowering

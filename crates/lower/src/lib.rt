@@ -1,9 +1,12 @@
-//! Code for programs of straight lines, and its runner: each transaction is a list of stores.
+//! From a program's tree to code, and the code's runner: each transaction is a list of stores.
 #![tactic(auto)]
 
 mod arithmetic;
 mod code;
+mod lowering;
 mod running;
+mod scope;
 
 pub use code::{Code, End, LowerFault, Outcome};
+pub use lowering::lower;
 pub use running::run;

@@ -24,3 +24,4 @@ pub mod OneThread
 pub mod Rows
 pub mod Steps
 pub mod Programs
+pub mod Holders

@@ -9,7 +9,7 @@ ghost use Rattle.bytecode.specs.Sequential.{meaning};
 ghost use Rattle.norec_core.specs.Attempts.{Attempt};
 ghost use Rattle.machine.specs.Threads.{Thread, access, told};
 ghost use Rattle.machine.specs.Worlds.{World, Reached, answer};
-ghost use Rattle.machine.specs.Serializable.{world_after, IsSerializable, IsOpaque, IsInTime, IsExtended, HasChanged};
+ghost use Rattle.machine.specs.Serializable.{world_after, IsSerializable, IsOpaque, IsInTime, IsExtended, HasChanged, HoldersGoOn};
 ghost use Rattle.machine.specs.Alone.{ReachesEnd};
 
 /// For every code, number of threads and list of steps the transactions that took effect can be put one after another.
@@ -43,6 +43,12 @@ pub fn aborts_only_on_a_changed_value<C>()
     ensures { (code : C → Effect C) (th : Thread C) (a : Attempt C) (lock : ℕ) (words : List ℕ) → th.attempt ≡ Some a →
         (told code th (answer lock words (access code th))).thread.attempt ≡ None →
         (told code th (answer lock words (access code th))).completed ≡ None → HasChanged a words }
+{}
+
+/// A thread that has taken the lock is never dropped, whatever other threads do.
+pub fn a_holder_never_aborts<C>()
+    ensures { (code : C → Effect C) (init : ℕ → C) (m0 : Memory) (threads : ℕ) (steps : List ℕ) → FitsCells code (length m0) → IsMemory (length m0) m0 →
+        HoldersGoOn code (world_after code init m0 threads steps) }
 {}
 
 /// Where thread t's next step makes a transaction take effect, this stands in the run after every transaction that stood

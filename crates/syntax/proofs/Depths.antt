@@ -38,11 +38,18 @@ cut_all_one top most rest all a b = omega arith
 pub cut_none_one : (top all : ℕ) → 1 ≤ all → 1 ≤ top → max 1 (min all top) ≡ min all top
 cut_none_one top all a b = omega arith
 
+-- the greater of two depths
+pub cut_max : (top a b x y m : ℕ) → x ≡ min a top → y ≡ min b top → m ≡ max x y → m ≡ min (max a b) top
+cut_max top a b x y m c d e = omega arith
+
 -- one more than a depth
 pub cut_one_more : (top depth part cut result : ℕ) → depth ≡ part + 1 → cut ≡ min part top → result ≡ min (cut + 1) top → result ≡ min depth top
 cut_one_more top depth part cut result a b e = omega arith
 
 module _ {A : Type 0} where
+  pub read_depth : (top : ℕ) (e f : E.Expr A) (n : ℕ) → n ≡ min (expr_depth (expr_of e)) top → e ≡ f → n ≡ min (expr_depth (expr_of f)) top
+  read_depth top e f n a b = a ∙ ap (λ x. min (expr_depth (expr_of x)) top) b
+
   pub deepest_more : (es : List (E.Expr A)) (i : ℕ) (e : E.Expr A) → e ≡ get_or es i e → i < length es → deepest (exprs_of (drop i es)) ≡ max (expr_depth (expr_of e)) (deepest (exprs_of (drop (i + 1) es)))
   deepest_more es i e is h = at_drop_more (λ xs. deepest (exprs_of xs)) es i e h ∙ ap (λ x. max (expr_depth (expr_of x)) (deepest (exprs_of (drop (i + 1) es)))) (sym is)
 

@@ -1,15 +1,24 @@
 -- Laws of what programs mean.
-use Rattle.std.specs.Prelude.{◌≡◌, ◌≢◌, ℕ, ◌+◌, ◌^◌, ◌<◌, ◌≤◌, ◌⊎◌, List, [], ◌∷◌, ◌++◌, length, All, Some}
+use Rattle.std.specs.Prelude.{◌≡◌, ◌≢◌, ℕ, ◌+◌, ◌^◌, ◌<◌, ◌≤◌, ◌⊎◌, List, [], ◌∷◌, ◌++◌, length, map, All, Some, IfOk}
 use Rattle.lex.specs.declared.token.Scalar.{Scalar}
-use Rattle.syntax.specs.Tree.{Program, Expr}
+use Rattle.syntax.specs.declared.tree.BinaryOp.{BinaryOp}
+use Rattle.syntax.specs.declared.numbers.Value.{Value}
+use Rattle.syntax.specs.Tree.{Program, Expr, Stmt}
+use Rattle.syntax.specs.Numbers.{computed, converted}
 use Rattle.syntax.specs.declared.numbers.Stop.TheVariants.{Wants, Spent}
-use Rattle.syntax.specs.Names.{initial_memory}
+use Rattle.syntax.specs.Names.{Local, initial_memory}
 use Rattle.syntax.specs.Types.{type_of, running_scope}
 use Rattle.syntax.specs.Typing.{IsTypedProgram}
 use Rattle.syntax.specs.Behaviours.{Memory, Stopped, Outcome}
 use Rattle.syntax.specs.Actions.{State, Answer, Gives, Stops}
-use Rattle.syntax.specs.Meaning.{expr, calls}
+use Rattle.syntax.specs.Meaning.{expr, stmt, calls}
 use Rattle.syntax.specs.Threads.{thread}
+
+-- an operator on two words gives a word or traps, and a conversion gives a word
+abbrev pub GivesWords : Type 0
+GivesWords =
+    ((op : BinaryOp) (t : Scalar) (a b : ℕ) → a < 2 ^ 32 → b < 2 ^ 32 → IfOk (computed op t a b) (λ w. w < 2 ^ 32))
+    × ((t : Scalar) (v : Value) → (converted t v).word < 2 ^ 32)
 
 -- text and memories left begin with those of another outcome
 pub record Begins (first whole : Outcome) : Type 0 where
@@ -52,6 +61,10 @@ OneTickMore = (p : Program) (t : ℕ) (founds : List Memory) (n : ℕ) → Shows
 abbrev pub IsMemoryOf : Program → Memory → Type 0
 IsMemoryOf p m = (length m ≡ length (initial_memory p)) × All (λ w. w < 2 ^ 32) m
 
+-- the first memory is a memory of its program
+abbrev pub BeginsWithMemory : Type 0
+BeginsWithMemory = (p : Program) → IsMemoryOf p (initial_memory p)
+
 -- a thread that finds memories of its program leaves memories of its program
 abbrev pub LeavesMemories : Type 0
 LeavesMemories = (p : Program) (t : ℕ) (founds : List Memory) (n : ℕ) → All (IsMemoryOf p) founds → All (IsMemoryOf p) (thread p t founds n).lefts
@@ -64,6 +77,18 @@ WhereGiven (Stops why s) holds = Unit {0}
 -- an expression leaves the locals as they were
 abbrev pub KeepsLocals : Type 0
 KeepsLocals = (p : Program) (frames : ℕ) (e : Expr) (s : State) → WhereGiven (expr p (calls p frames) e s) (λ v now. now.locals ≡ s.locals)
+
+-- a local's name and type
+abbrev pub shape : Local → List ℕ × Scalar
+shape l = (l.name, l.of)
+
+-- locals that begin with others, by name and type
+abbrev pub BeginsWithLocals : (first whole : List Local) → Type 0
+BeginsWithLocals first whole = (more : List (List ℕ × Scalar)) × (map shape whole ≡ map shape first ++ more)
+
+-- a statement keeps the names and types of the locals before it, and so their places
+abbrev pub KeepsOlderLocals : Type 0
+KeepsOlderLocals = (p : Program) (frames : ℕ) (st : Stmt) (s : State) → WhereGiven (stmt p (calls p frames) st s) (λ end now. BeginsWithLocals s.locals now.locals)
 
 -- in a typed program an expression's value has the expression's type
 abbrev pub GivesItsType : Type 0

@@ -1,6 +1,6 @@
 //! Laws of the meaning of programs. A law has no code: its contract is what it says.
 
-ghost use Rattle.syntax.specs.Laws.{GivesItsType, GoesOn, KeepsLocals, LeavesMemories, LeftAsManyAsFound, MoreMemories, MoreTicks, NeverMoreLeft, OneTickMore};
+ghost use Rattle.syntax.specs.Laws.{BeginsWithMemory, GivesItsType, GivesWords, GoesOn, KeepsLocals, KeepsOlderLocals, LeavesMemories, LeftAsManyAsFound, MoreMemories, MoreTicks, NeverMoreLeft, OneTickMore};
 
 /// A thread that is not spent does the same with more ticks.
 pub fn more_ticks()
@@ -42,7 +42,23 @@ pub fn keeps_locals()
     ensures { KeepsLocals }
 {}
 
+/// A statement that comes to an end keeps the names and types of the local variables before it, and so their
+/// places: the locals after it begin with them.
+pub fn keeps_older_locals()
+    ensures { KeepsOlderLocals }
+{}
+
 /// In a typed program an expression that gives a value gives one of the expression's type.
 pub fn gives_its_type()
     ensures { GivesItsType }
+{}
+
+/// An operator on two words gives a word below 2^32 or traps, and so does a conversion.
+pub fn gives_words()
+    ensures { GivesWords }
+{}
+
+/// The memory that a program begins with has a word below 2^32 for each of its cells.
+pub fn begins_with_memory()
+    ensures { BeginsWithMemory }
 {}

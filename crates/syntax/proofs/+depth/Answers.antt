@@ -1,7 +1,8 @@
 use Rattle.std.proofs.Common.{◌-◌, ◌^◌, min, ap, ◌∙◌, sym, max}
 use Rattle.syntax.specs.Depth.{deepest, expr_depth}
 use Rattle.syntax.specs.Views.{expr_of, exprs_of}
-use Rattle.syntax.proofs.Depths.{ord_max_is, cut_more, cut_all, cut_one_more, deepest_more, deepest_all, depth_call}
+use Rattle.syntax.proofs.Seen.{expr_of_element, expr_of_parenthesized, expr_of_cast, expr_of_unary, expr_of_binary, expr_of_logical, expr_of_conditional}
+use Rattle.syntax.proofs.Depths.{cut_max, read_depth, ord_max_is, cut_more, cut_all, cut_one_more, deepest_more, deepest_all, depth_call}
 use Rattle.syntax.proofs.+depth.Goals as goal
 
 pub depth::deepest_of-each-preserved : goal.depth::deepest_of-each-preserved
@@ -18,3 +19,42 @@ depth::deepest_of-returns g t c =
 pub tree::Expr::depth-returns-in-Call : goal.tree::Expr::depth-returns-in-Call
 tree::Expr::depth-returns-in-Call g t c =
     cut_one_more (2 ^ 64 - 1) _ _ c.deepest_of.result c.saturating_add-in-Call.result (depth_call c.args.self.now c.in-Call.field-0 c.in-Call.args c.in-Call.field-2 c.in-Call.is) (c.deepest_of.ensures ∙ ap (λ es. min (deepest (exprs_of es)) (2 ^ 64 - 1)) c.as_slice.ensures) c.saturating_add-in-Call.ensures
+
+pub tree::Expr::depth-returns-in-Element : goal.tree::Expr::depth-returns-in-Element
+tree::Expr::depth-returns-in-Element g t c =
+    let is = ap expr_depth (ap expr_of c.in-Element.is ∙ expr_of_element c.in-Element.field-0 c.in-Element.i c.in-Element.field-2) in
+    cut_one_more (2 ^ 64 - 1) _ _ c.depth.result c.saturating_add.result is (read_depth (2 ^ 64 - 1) c.get.result.now c.in-Element.i c.depth.result c.depth.ensures c.get.ensures) c.saturating_add.ensures
+
+pub tree::Expr::depth-returns-in-Parenthesized : goal.tree::Expr::depth-returns-in-Parenthesized
+tree::Expr::depth-returns-in-Parenthesized g t c =
+    let is = ap expr_depth (ap expr_of c.in-Parenthesized.is ∙ expr_of_parenthesized c.in-Parenthesized.e c.in-Parenthesized.field-1) in
+    cut_one_more (2 ^ 64 - 1) _ _ c.depth-in-Parenthesized.result c.saturating_add-in-Parenthesized.result is (read_depth (2 ^ 64 - 1) c.get-in-Parenthesized.result.now c.in-Parenthesized.e c.depth-in-Parenthesized.result c.depth-in-Parenthesized.ensures c.get-in-Parenthesized.ensures) c.saturating_add-in-Parenthesized.ensures
+
+pub tree::Expr::depth-returns-in-Cast : goal.tree::Expr::depth-returns-in-Cast
+tree::Expr::depth-returns-in-Cast g t c =
+    let is = ap expr_depth (ap expr_of c.in-Cast.is ∙ expr_of_cast c.in-Cast.field-0 c.in-Cast.e c.in-Cast.field-2) in
+    cut_one_more (2 ^ 64 - 1) _ _ c.depth-in-Cast.result c.saturating_add-in-Cast.result is (read_depth (2 ^ 64 - 1) c.get-in-Cast.result.now c.in-Cast.e c.depth-in-Cast.result c.depth-in-Cast.ensures c.get-in-Cast.ensures) c.saturating_add-in-Cast.ensures
+
+pub tree::Expr::depth-returns-in-Unary : goal.tree::Expr::depth-returns-in-Unary
+tree::Expr::depth-returns-in-Unary g t c =
+    let is = ap expr_depth (ap expr_of c.in-Unary.is ∙ expr_of_unary c.in-Unary.field-0 c.in-Unary.e c.in-Unary.field-2) in
+    cut_one_more (2 ^ 64 - 1) _ _ c.depth-in-Unary.result c.saturating_add-in-Unary.result is (read_depth (2 ^ 64 - 1) c.get-in-Unary.result.now c.in-Unary.e c.depth-in-Unary.result c.depth-in-Unary.ensures c.get-in-Unary.ensures) c.saturating_add-in-Unary.ensures
+
+pub tree::Expr::depth-returns-in-Binary : goal.tree::Expr::depth-returns-in-Binary
+tree::Expr::depth-returns-in-Binary g t c =
+    let is = ap expr_depth (ap expr_of c.in-Binary.is ∙ expr_of_binary c.in-Binary.field-0 c.in-Binary.a c.in-Binary.b c.in-Binary.field-3) in
+    let parts = cut_max (2 ^ 64 - 1) _ _ c.depth-in-Binary.result c.depth-in-Binary-2.result c.max.result (read_depth (2 ^ 64 - 1) c.get-in-Binary.result.now c.in-Binary.a c.depth-in-Binary.result c.depth-in-Binary.ensures c.get-in-Binary.ensures) (read_depth (2 ^ 64 - 1) c.get-in-Binary-2.result.now c.in-Binary.b c.depth-in-Binary-2.result c.depth-in-Binary-2.ensures c.get-in-Binary-2.ensures) c.max.ensures in
+    cut_one_more (2 ^ 64 - 1) _ _ c.max.result c.saturating_add-in-Binary.result is parts c.saturating_add-in-Binary.ensures
+
+pub tree::Expr::depth-returns-in-Logical : goal.tree::Expr::depth-returns-in-Logical
+tree::Expr::depth-returns-in-Logical g t c =
+    let is = ap expr_depth (ap expr_of c.in-Logical.is ∙ expr_of_logical c.in-Logical.field-0 c.in-Logical.a c.in-Logical.b c.in-Logical.field-3) in
+    let parts = cut_max (2 ^ 64 - 1) _ _ c.depth-in-Logical.result c.depth-in-Logical-2.result c.max-in-Logical.result (read_depth (2 ^ 64 - 1) c.get-in-Logical.result.now c.in-Logical.a c.depth-in-Logical.result c.depth-in-Logical.ensures c.get-in-Logical.ensures) (read_depth (2 ^ 64 - 1) c.get-in-Logical-2.result.now c.in-Logical.b c.depth-in-Logical-2.result c.depth-in-Logical-2.ensures c.get-in-Logical-2.ensures) c.max-in-Logical.ensures in
+    cut_one_more (2 ^ 64 - 1) _ _ c.max-in-Logical.result c.saturating_add-in-Logical.result is parts c.saturating_add-in-Logical.ensures
+
+pub tree::Expr::depth-returns-in-Conditional : goal.tree::Expr::depth-returns-in-Conditional
+tree::Expr::depth-returns-in-Conditional g t c =
+    let is = ap expr_depth (ap expr_of c.in-Conditional.is ∙ expr_of_conditional c.in-Conditional.c c.in-Conditional.a c.in-Conditional.b c.in-Conditional.field-3) in
+    let branches = cut_max (2 ^ 64 - 1) _ _ c.depth-in-Conditional.result c.depth-in-Conditional-2.result c.max-branches.result (read_depth (2 ^ 64 - 1) c.get-in-Conditional.result.now c.in-Conditional.a c.depth-in-Conditional.result c.depth-in-Conditional.ensures c.get-in-Conditional.ensures) (read_depth (2 ^ 64 - 1) c.get-in-Conditional-2.result.now c.in-Conditional.b c.depth-in-Conditional-2.result c.depth-in-Conditional-2.ensures c.get-in-Conditional-2.ensures) c.max-branches.ensures in
+    let parts = cut_max (2 ^ 64 - 1) _ _ c.depth-in-Conditional-3.result c.max-branches.result c.max-in-Conditional.result (read_depth (2 ^ 64 - 1) c.get-in-Conditional-3.result.now c.in-Conditional.c c.depth-in-Conditional-3.result c.depth-in-Conditional-3.ensures c.get-in-Conditional-3.ensures) branches c.max-in-Conditional.ensures in
+    cut_one_more (2 ^ 64 - 1) _ _ c.max-in-Conditional.result c.saturating_add-in-Conditional.result is parts c.saturating_add-in-Conditional.ensures

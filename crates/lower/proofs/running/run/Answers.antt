@@ -1,5 +1,6 @@
 use Rattle.std.proofs.Common.{◌≡◌, ◌+◌, ◌<◌, ◌≤◌, List, length, take, drop, ◌++◌, get_or, sym, ap, ◌∙◌, subst}
-use Rattle.syntax.specs.Behaviours.{Memory, HasEnded, HasTrapped}
+use Rattle.syntax.specs.Behaviours.{Memory}
+use Rattle.lower.specs.declared.code.End.TheVariants.{Ended, Trapped}
 use Rattle.lower.specs.declared.code.Store.{Store}
 use Rattle.lower.specs.Code.{AreWords, stores_in, last_of}
 use Rattle.lower.specs.Running.{held}
@@ -7,11 +8,11 @@ use Rattle.lower.proofs.Runs.{whole, goes_on, traps, ends, has_run, has_cells}
 use Rattle.lower.proofs.running.run.Given.{Over}
 use Rattle.lower.proofs.running.run.Goals as goal
 
-trapped : (g : Over) (c : goal.After-drop-copy g) → record { memory = c.from_vec.result; status = HasTrapped c.in-Err.trap } ≡ last_of c.args.code.now.transactions (held c.args.code.now.initial 0)
+trapped : (g : Over) (c : goal.After-drop-copy g) → record { memory = c.from_vec.result; end = Trapped c.in-Err.trap } ≡ last_of c.args.code.now.transactions (held c.args.code.now.initial 0)
 trapped g c =
     let i = c.transactions.stores-index in
     let item = c.stores-item.result in
-    ap (λ m. record { memory = m; status = HasTrapped c.in-Err.trap }) c.from_vec.ensures
+    ap (λ m. record { memory = m; end = Trapped c.in-Err.trap }) c.from_vec.ensures
     ∙ traps c.args.code.now.transactions i item (held c.transactions.memory.items c.transactions.local) c.in-Err.trap _
     (subst (λ (x : List (List (Store g.row.A.Denot))). i < length x) c.as_slice-stores-items.ensures c.transactions-test.true)
     (c.stores-item.is ∙ ap (λ (x : List (List (Store g.row.A.Denot))). get_or x i item) c.as_slice-stores-items.ensures)
@@ -49,7 +50,7 @@ transactions-preserved g c =
 pub returns-clause-cells : goal.returns-clause-cells
 returns-clause-cells g c p m =
     has_cells p c.args.code.now _ _
-    (ap (λ x. record { memory = x; status = HasEnded }) c.from_vec-2.ensures
+    (ap (λ x. record { memory = x; end = Ended }) c.from_vec-2.ensures
     ∙ ends c.args.code.now.transactions c.transactions.stores-index (held c.transactions.memory.items c.transactions.local) _
     (subst (λ (x : List (List (Store g.row.A.Denot))). length x ≤ c.transactions.stores-index) c.as_slice-stores-items.ensures c.transactions-test.false)
     c.transactions.invariant.value) m

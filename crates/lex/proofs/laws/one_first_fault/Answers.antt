@@ -1,0 +1,5 @@
+use Rattle.lex.proofs.Ways.{one_fault_law}
+use Rattle.lex.proofs.laws.one_first_fault.Goals as goal
+
+pub returns : goal.returns
+returns c = one_fault_law
