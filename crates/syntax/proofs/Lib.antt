@@ -1,5 +1,4 @@
 mod Counted
-pub mod Depths
 mod Expressions
 mod Further
 mod Kept
@@ -8,13 +7,14 @@ mod Memories
 mod MoreRows
 mod OlderLocals
 mod OneTick
-pub mod Pushes
-pub mod Rows
-pub mod Sames
-pub mod Seen
 mod Spelled
 mod Steady
 mod ThreadLaws
 mod TypeRows
 mod ValueTypes
 mod Words
+pub mod Depths
+pub mod Pushes
+pub mod Rows
+pub mod Sames
+pub mod Seen
