@@ -17,11 +17,7 @@ struct Served<A: Allocator> {
     err: Vec<u8, A>,
 }
 
-fn serve_bytes<A: Allocator + Copy>(
-    alloc: A,
-    request: &Request,
-    source: &[u8],
-) -> Served<A> {
+fn serve_bytes<A: Allocator + Copy>(alloc: A, request: &Request, source: &[u8]) -> Served<A> {
     let mut out = Vec::new(alloc);
     let mut err = Vec::new(alloc);
     let status = serve(alloc, request, source, b"".as_slice(), &mut out, &mut err);
@@ -52,7 +48,8 @@ impl Write for Closed {
     }
 }
 
-const FIRST: &[u8] = b"int x = 40, y; void worker(int self) { __transaction_atomic { x = x + 2; y = x - 1; } }";
+const FIRST: &[u8] =
+    b"int x = 40, y; void worker(int self) { __transaction_atomic { x = x + 2; y = x - 1; } }";
 
 const FIRST_REPORT: &[u8] = b"== thread 0: ended\n== memory\nx = 42\ny = 41\n";
 
@@ -67,7 +64,10 @@ fn reads_words(rt: HostRuntime) -> Result<(), Fail> {
         ["txc", "check", "a.c", "b.c"],
     ] {
         let fault = command(rt.alloc(), words.as_slice());
-        assert!(rt; matches!(&fault, Err(UsageFault::Wrong { .. })), "{words:?}");
+        assert!(rt;
+            matches!(&fault, Err(UsageFault::Wrong { .. })),
+            "{words:?}"
+        );
     }
     let none = command(rt.alloc(), ["txc"].as_slice());
     assert!(rt; matches!(&none, Err(UsageFault::Wrong { .. })));
@@ -142,7 +142,10 @@ fn refuses_a_long_file(rt: HostRuntime) -> Result<(), Fail> {
         source.push(b' ')?;
     }
     let answer = serve_bytes(rt.alloc(), &request, source.as_slice());
-    assert_eq!(rt; answer.err.as_slice(), b"txc: fault 05 at 1:1: file too long\n".as_slice());
+    assert_eq!(rt;
+        answer.err.as_slice(),
+        b"txc: fault 05 at 1:1: file too long\n".as_slice()
+    );
     assert_eq!(rt; answer.status, 1);
     Ok(())
 }
@@ -152,11 +155,25 @@ fn says_what_cannot_be_read_or_written(rt: HostRuntime) -> Result<(), Fail> {
     let request = command(rt.alloc(), ["txc", "run", "a.c"].as_slice())?;
     let mut out = Vec::new(rt.alloc());
     let mut err = Vec::new(rt.alloc());
-    let status = serve(rt.alloc(), &request, Broken, b"".as_slice(), &mut out, &mut err);
+    let status = serve(
+        rt.alloc(),
+        &request,
+        Broken,
+        b"".as_slice(),
+        &mut out,
+        &mut err,
+    );
     assert_eq!(rt; err.as_slice(), b"txc: cannot read a.c\n".as_slice());
     assert_eq!(rt; status, 2);
     let mut err = Vec::new(rt.alloc());
-    let status = serve(rt.alloc(), &request, FIRST, b"".as_slice(), &mut Closed, &mut err);
+    let status = serve(
+        rt.alloc(),
+        &request,
+        FIRST,
+        b"".as_slice(),
+        &mut Closed,
+        &mut err,
+    );
     assert_eq!(rt; err.as_slice(), b"txc: cannot write\n".as_slice());
     assert_eq!(rt; status, 4);
     Ok(())
@@ -164,7 +181,8 @@ fn says_what_cannot_be_read_or_written(rt: HostRuntime) -> Result<(), Fail> {
 
 #[test]
 fn each_growth_is_refused_once(rt: HostRuntime) -> Result<(), Fail> {
-    let text = "int x = 40, y; void worker(int self) { __transaction_atomic { x = x + 2; y = x - 1; } }";
+    let text =
+        "int x = 40, y; void worker(int self) { __transaction_atomic { x = x + 2; y = x - 1; } }";
     let mut met = 0;
     for nth in 1..200u64 {
         let alloc = Refusing::new(rt.alloc(), nth);
