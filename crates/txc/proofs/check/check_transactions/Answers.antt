@@ -1,0 +1,31 @@
+use Rattle.std.proofs.Common.{map, drop, [], ◌∷◌, false, None}
+use Rattle.std.proofs.lemmas.List.{drop_all}
+use Rattle.std.proofs.lemmas.Result.{err_from_is_err_and}
+use Rattle.syntax.specs.Views.{item_of, stmt_of, stmts_of}
+use Rattle.syntax.specs.Typing.{AreTypedStmts}
+use Rattle.txc.specs.Checks.{scope}
+use Rattle.txc.proofs.Steps.{drop_here}
+use Rattle.txc.proofs.Statements.{transaction_is_quiet, stmts_next, stmts_broken}
+use Rattle.txc.proofs.check.check_transactions.Goals as goal
+
+pub check_transaction-requires : goal.check_transaction-requires
+check_transaction-requires g c =
+    let split = drop_here c.args.stmts.now c.stmts.stmt-index c.stmt-item.result c.stmt-item.is c.stmts-test.true in
+    (rw split at c.stmts.invariant.straight).0
+
+pub returns-in_err-check_transaction : goal.returns-in_err-check_transaction
+returns-in_err-check_transaction g c =
+    let p = err_from_is_err_and c.from_residual.result c.from_residual.ensures.1 in
+    rw (p.1, p.2) (stmts_broken (scope c.args.parameter.now.text (map item_of c.args.items.now)) (c.args.parameter.now.text ∷ []) (λ asked. AreTypedStmts asked None (stmts_of c.args.stmts.now) (scope c.args.parameter.now.text (map item_of c.args.items.now)) (c.args.parameter.now.text ∷ []) false) c.args.stmts.now c.stmts.stmt-index c.stmt-item.result c.stmt-item.is c.stmts-test.true c.stmts.invariant.left c.in_err-check_transaction.field-0.0 c.in_err-check_transaction.ensures)
+
+pub stmts-preserved : goal.stmts-preserved
+stmts-preserved g c =
+    let split = drop_here c.args.stmts.now c.stmts.stmt-index c.stmt-item.result c.stmt-item.is c.stmts-test.true in
+    let parts = rw split at c.stmts.invariant.straight in
+    record {
+      straight = parts.1;
+      left = stmts_next (scope c.args.parameter.now.text (map item_of c.args.items.now)) (c.args.parameter.now.text ∷ []) (λ asked. AreTypedStmts asked None (stmts_of c.args.stmts.now) (scope c.args.parameter.now.text (map item_of c.args.items.now)) (c.args.parameter.now.text ∷ []) false) c.args.stmts.now c.stmts.stmt-index c.stmt-item.result c.stmt-item.is c.stmts-test.true (transaction_is_quiet (stmt_of c.stmt-item.result) parts.0) c.in_ok-check_transaction.ensures c.stmts.invariant.left;
+    }
+
+pub returns : goal.returns
+returns g c = c.stmts.invariant.left.0 (rw (drop_all c.stmts.stmt-index c.args.stmts.now c.stmts-test.false) tt)

@@ -1,0 +1,84 @@
+//! The words of a command line.
+
+use clap::{Arg, ArgAction, ArgMatches, Command};
+use std::alloc::{AllocError, Global};
+use std::io::ErrorKind;
+use thiserror::Error;
+
+/// What is asked.
+#[derive(Debug, Drop)]
+pub enum Request {
+    /// Runs the program in a file, with one thread.
+    Run { file: String },
+}
+
+/// Why words are not a request.
+#[derive(Debug, Drop, Error)]
+pub enum UsageFault {
+    #[error("out of memory")]
+    OutOfMemory(#[from(alloc)] AllocError),
+    /// Help was asked for; this is its text.
+    #[error("{text}")]
+    Help { text: String },
+    /// The words are no command line of the program; this says why.
+    #[error("{text}")]
+    Wrong { text: String },
+}
+
+impl UsageFault {
+    /// Why the words of the command line could not be had: memory was refused, or one is not UTF-8.
+    pub fn from_words(alloc: Global, kind: ErrorKind) -> UsageFault {
+        match kind {
+            ErrorKind::OutOfMemory => UsageFault::OutOfMemory(AllocError),
+            _ => wrong(alloc, "txc: a word is not UTF-8\n"),
+        }
+    }
+}
+
+/// The command line of the program.
+fn program<'a>(alloc: Global) -> Result<Command<'a>, AllocError> {
+    let file = Arg::new(alloc, "FILE")
+        .required(true)
+        .action(ArgAction::Set);
+    let run = Command::new(alloc, "run").arg(file)?;
+    Command::new(alloc, "txc")
+        .subcommand_required(true)
+        .subcommand(run)
+}
+
+/// Reads the words of a command line, the program's own name first.
+///
+/// A command or an option that the program does not have is `Wrong`. Memory is taken from the global allocator, as `clap` does.
+pub fn command(alloc: Global, words: &[&str]) -> Result<Request, UsageFault> {
+    let program = program(alloc)?;
+    match program.try_get_matches_from(words) {
+        Ok(matches) => request_of(alloc, &matches),
+        Err(error) => {
+            let text = error.to_string(alloc)?;
+            if error.use_stderr() {
+                Err(UsageFault::Wrong { text })
+            } else {
+                Err(UsageFault::Help { text })
+            }
+        }
+    }
+}
+
+fn request_of(alloc: Global, matches: &ArgMatches<'_>) -> Result<Request, UsageFault> {
+    match matches.subcommand() {
+        Some(("run", given)) => match given.get_str("FILE") {
+            Some(file) => Ok(Request::Run {
+                file: String::from_str(alloc, file)?,
+            }),
+            None => Err(wrong(alloc, "txc: FILE is wanted\n")),
+        },
+        _ => Err(wrong(alloc, "txc: a command is wanted\n")),
+    }
+}
+
+fn wrong(alloc: Global, text: &str) -> UsageFault {
+    match String::from_str(alloc, text) {
+        Ok(text) => UsageFault::Wrong { text },
+        Err(error) => UsageFault::OutOfMemory(error),
+    }
+}

@@ -1,0 +1,128 @@
+//! From a source's text to its report.
+
+ghost use Rattle.std.specs.Prelude.{◌≡◌, IfOk, IfErr, string_bytes};
+ghost use Rattle.syntax.specs.Views.{program_of};
+ghost use Rattle.syntax.specs.StraightLine.{IsStraightLine};
+ghost use Rattle.syntax.specs.Typing.{IsTypedProgram};
+ghost use Rattle.parse.specs.Faults.{source_of};
+ghost use Rattle.lower.specs.declared.code.End.{End};
+ghost use Rattle.txc.specs.Runs.{IsSourceOf, IsReportOf, Reports, IsFaultOfText, number_of_run, span_of_run};
+
+use crate::check::{CheckFault, check};
+use crate::report::report;
+use lex::token::Span;
+use lex::{LexFault, lex};
+use lower::{End, lower, run};
+use parse::{ParseFault, parse};
+use std::alloc::Allocator;
+use syntax::tree::Unit;
+use thiserror::Error;
+
+/// Why a source is not run.
+#[derive(Clone, Copy, Debug, Error)]
+pub enum RunTextFault {
+    /// A growth was refused. It says nothing of the source.
+    #[error("out of memory")]
+    OutOfMemory,
+    #[error("{0}")]
+    Lex(LexFault),
+    #[error("{0}")]
+    Parse(ParseFault),
+    #[error("{0}")]
+    Check(CheckFault),
+}
+
+impl RunTextFault {
+    /// The fault's number: 0 where memory was refused, and else that of the phase that found it.
+    pub fn number(&self) -> u32
+        ensures { result ≡ number_of_run self.now }
+    {
+        match self {
+            RunTextFault::OutOfMemory => 0,
+            RunTextFault::Lex(fault) => fault.number(),
+            RunTextFault::Parse(fault) => fault.number(),
+            RunTextFault::Check(fault) => fault.number(),
+        }
+    }
+
+    /// Where the fault stands in the text. Want of memory stands nowhere.
+    pub fn span(&self) -> Option<Span>
+        ensures { result ≡ span_of_run self.now }
+    {
+        match self {
+            RunTextFault::OutOfMemory => None,
+            RunTextFault::Lex(fault) => fault.span(),
+            RunTextFault::Parse(fault) => fault.span(),
+            RunTextFault::Check(fault) => Some(fault.span()),
+        }
+    }
+}
+
+/// What a run gives: its report, and how the thread has ended.
+#[derive(Drop)]
+pub struct Ran<A: Allocator> {
+    pub report: String<A>,
+    pub end: End,
+}
+
+/// The program that a text spells.
+fn read<A: Allocator + Copy>(alloc: A, text: &str) -> Result<Unit<A>, RunTextFault>
+    ensures ok { IfOk result (λ u. IsSourceOf text.now (source_of u)) }
+    ensures err { IfErr result (λ f. IsFaultOfText text.now f) }
+{
+    match lex(alloc, text) {
+        Ok(tokens) => match parse(alloc, tokens.as_slice()) {
+            Ok(unit) => Ok(unit),
+            Err(fault) => Err(RunTextFault::Parse(fault)),
+        },
+        Err(fault) => Err(RunTextFault::Lex(fault)),
+    }
+}
+
+/// Runs a typed program.
+fn run_unit<A: Allocator + Copy>(alloc: A, unit: &Unit<A>) -> Result<Ran<A>, RunTextFault>
+    requires straight { IsStraightLine (program_of unit.now) }
+    requires typed { IsTypedProgram (program_of unit.now) }
+    ensures ok { IfOk result (λ r. IsReportOf (program_of unit.now) (string_bytes r.report) r.end) }
+    ensures err { IfErr result (λ f. f ≡ RunTextFault.OutOfMemory) }
+{
+    let Ok(code) = lower(alloc, unit) else {
+        return Err(RunTextFault::OutOfMemory);
+    };
+    let Ok(outcome) = run(alloc, &code) else {
+        return Err(RunTextFault::OutOfMemory);
+    };
+    match report(alloc, unit, outcome.words.as_slice(), outcome.end) {
+        Ok(report) => Ok(Ran {
+            report,
+            end: outcome.end,
+        }),
+        Err(_) => Err(RunTextFault::OutOfMemory),
+    }
+}
+
+/// Runs a source's text with one thread, and gives its report and the thread's end.
+pub fn run_source<A: Allocator + Copy>(alloc: A, text: &str) -> Result<Ran<A>, RunTextFault>
+    ensures ok { IfOk result (λ r. Reports text.now (string_bytes r.report) r.end) }
+    ensures err { IfErr result (λ f. IsFaultOfText text.now f) }
+{
+    let unit = read(alloc, text)?;
+    match check(&unit) {
+        Ok(()) => run_unit(alloc, &unit),
+        Err(fault) => Err(RunTextFault::Check(fault)),
+    }
+}
+
+/// Runs a source's text with one thread, and gives its report.
+///
+/// The fault is that of the first phase that finds one: the lexer, the parser or the check. `OutOfMemory` comes only
+/// where a growth was refused.
+pub fn run_text<A: Allocator + Copy>(alloc: A, text: &str) -> Result<String<A>, RunTextFault>
+    ensures ok { IfOk result (λ t. (end : End) × Reports text.now (string_bytes t) end) }
+    ensures err { IfErr result (λ f. IsFaultOfText text.now f) }
+{
+    match run_source(alloc, text) {
+        Ok(ran) => Ok(ran.report),
+        Err(fault) => Err(fault),
+    }
+}

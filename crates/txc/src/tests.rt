@@ -1,0 +1,225 @@
+//! Runs over readers and writers in memory.
+
+use crate::command::{Request, UsageFault, command};
+use crate::run::{RunTextFault, run_text};
+use crate::serve::serve;
+use refusing::Refusing;
+use std::alloc::Allocator;
+use std::io;
+use std::io::{ErrorKind, Read, Write};
+use std::test::Fail;
+
+/// What serving a source gives: the status, the output and the standard error.
+#[derive(Drop)]
+struct Served<A: Allocator> {
+    status: u8,
+    out: Vec<u8, A>,
+    err: Vec<u8, A>,
+}
+
+fn serve_bytes<A: Allocator + Copy>(alloc: A, request: &Request, source: &[u8]) -> Served<A> {
+    let mut out = Vec::new(alloc);
+    let mut err = Vec::new(alloc);
+    let status = serve(alloc, request, source, b"".as_slice(), &mut out, &mut err);
+    Served { status, out, err }
+}
+
+/// A reader that gives no byte.
+#[derive(Drop)]
+struct Broken;
+
+impl Read for Broken {
+    fn read(&mut self, _buf: &mut [u8]) -> io::Result<usize> {
+        Err(io::Error::from(ErrorKind::PermissionDenied))
+    }
+}
+
+/// A writer that takes no byte.
+#[derive(Drop)]
+struct Closed;
+
+impl Write for Closed {
+    fn write(&mut self, _buf: &[u8]) -> io::Result<usize> {
+        Err(io::Error::from(ErrorKind::BrokenPipe))
+    }
+
+    fn flush(&mut self) -> io::Result<()> {
+        Ok(())
+    }
+}
+
+const FIRST: &[u8] =
+    b"int x = 40, y; void worker(int self) { __transaction_atomic { x = x + 2; y = x - 1; } }";
+
+const FIRST_REPORT: &[u8] = b"== thread 0: ended\n== memory\nx = 42\ny = 41\n";
+
+#[test]
+fn reads_words(rt: HostRuntime) -> Result<(), Fail> {
+    let run = command(rt.alloc(), ["txc", "run", "a.c"].as_slice())?;
+    let Request::Run { file } = &run;
+    assert_eq!(rt; file.as_str(), "a.c");
+    for words in [
+        ["txc", "run", "--threads=2", "a.c"],
+        ["txc", "run", "a.c", "b.c"],
+        ["txc", "check", "a.c", "b.c"],
+    ] {
+        let fault = command(rt.alloc(), words.as_slice());
+        assert!(rt;
+            matches!(&fault, Err(UsageFault::Wrong { .. })),
+            "{words:?}"
+        );
+    }
+    let none = command(rt.alloc(), ["txc"].as_slice());
+    assert!(rt; matches!(&none, Err(UsageFault::Wrong { .. })));
+    let help = command(rt.alloc(), ["txc", "--help"].as_slice());
+    assert!(rt; matches!(&help, Err(UsageFault::Help { .. })));
+    Ok(())
+}
+
+#[test]
+fn serves_sources(rt: HostRuntime) -> Result<(), Fail> {
+    let request = command(rt.alloc(), ["txc", "run", "a.c"].as_slice())?;
+    let rows: [(&[u8], u8, &[u8], &[u8]); 9] = [
+        (FIRST, 0, FIRST_REPORT, b""),
+        (
+            b"int x = 2147483647, y = 5; void worker(int self) { __transaction_atomic { y = 1; x = x + 1; } }",
+            3,
+            b"== thread 0: trap 1\n== memory\nx = 2147483647\ny = 5\n",
+            b"",
+        ),
+        (
+            b"int x; void worker(int self) { __transaction_atomic { x = 3; } __transaction_atomic { x = x - 5; } }",
+            0,
+            b"== thread 0: ended\n== memory\nx = -2\n",
+            b"",
+        ),
+        (
+            b"void worker(int self) { __transaction_atomic { z = 1; } }",
+            1,
+            b"",
+            b"txc: fault 20 at 1:48: unknown name\n",
+        ),
+        (
+            b"int x;\nint y, x; void worker(int self) { }",
+            1,
+            b"",
+            b"txc: fault 21 at 2:8: declared twice\n",
+        ),
+        (
+            b"void other(int self) { }",
+            1,
+            b"",
+            b"txc: fault 28 at 1:25: no worker\n",
+        ),
+        (
+            b"int x = 2147483648;",
+            1,
+            b"",
+            b"txc: fault 02 at 1:9: constant too large\n",
+        ),
+        (
+            b"void worker(int self) {",
+            1,
+            b"",
+            b"txc: fault 12 at 1:24: unexpected end\n",
+        ),
+        (b"int \xff;", 2, b"", b"txc: a.c is not UTF-8\n"),
+    ];
+    for (source, status, out, err) in rows {
+        let answer = serve_bytes(rt.alloc(), &request, source);
+        assert_eq!(rt; answer.err.as_slice(), err);
+        assert_eq!(rt; answer.out.as_slice(), out);
+        assert_eq!(rt; answer.status, status);
+    }
+    Ok(())
+}
+
+#[test]
+fn refuses_a_long_file(rt: HostRuntime) -> Result<(), Fail> {
+    let request = command(rt.alloc(), ["txc", "run", "a.c"].as_slice())?;
+    let mut source = Vec::new(rt.alloc());
+    for _ in 0..1048577u32 {
+        source.push(b' ')?;
+    }
+    let answer = serve_bytes(rt.alloc(), &request, source.as_slice());
+    assert_eq!(rt;
+        answer.err.as_slice(),
+        b"txc: fault 05 at 1:1: file too long\n".as_slice()
+    );
+    assert_eq!(rt; answer.status, 1);
+    Ok(())
+}
+
+#[test]
+fn says_what_cannot_be_read_or_written(rt: HostRuntime) -> Result<(), Fail> {
+    let request = command(rt.alloc(), ["txc", "run", "a.c"].as_slice())?;
+    let mut out = Vec::new(rt.alloc());
+    let mut err = Vec::new(rt.alloc());
+    let status = serve(
+        rt.alloc(),
+        &request,
+        Broken,
+        b"".as_slice(),
+        &mut out,
+        &mut err,
+    );
+    assert_eq!(rt; err.as_slice(), b"txc: cannot read a.c\n".as_slice());
+    assert_eq!(rt; status, 2);
+    let mut err = Vec::new(rt.alloc());
+    let status = serve(
+        rt.alloc(),
+        &request,
+        FIRST,
+        b"".as_slice(),
+        &mut Closed,
+        &mut err,
+    );
+    assert_eq!(rt; err.as_slice(), b"txc: cannot write\n".as_slice());
+    assert_eq!(rt; status, 4);
+    Ok(())
+}
+
+#[test]
+fn each_growth_is_refused_once(rt: HostRuntime) -> Result<(), Fail> {
+    let text =
+        "int x = 40, y; void worker(int self) { __transaction_atomic { x = x + 2; y = x - 1; } }";
+    let mut met = 0;
+    for nth in 1..200u64 {
+        let alloc = Refusing::new(rt.alloc(), nth);
+        match run_text(&alloc, text) {
+            Ok(report) => {
+                assert!(rt; alloc.is_waiting());
+                assert_eq!(rt; report.as_str().as_bytes(), FIRST_REPORT);
+                break;
+            }
+            Err(fault) => {
+                met = nth;
+                assert_eq!(rt; fault.number(), 0);
+                let again = run_text(&alloc, text);
+                assert!(rt; again.is_ok());
+            }
+        }
+    }
+    assert!(rt; met > 0 && met < 199);
+    Ok(())
+}
+
+#[test]
+fn each_growth_of_serve_is_refused_once(rt: HostRuntime) -> Result<(), Fail> {
+    let request = command(rt.alloc(), ["txc", "run", "a.c"].as_slice())?;
+    for nth in 1..200u64 {
+        let alloc = Refusing::new(rt.alloc(), nth);
+        let mut out = Vec::new(rt.alloc());
+        let mut err = Vec::new(rt.alloc());
+        let status = serve(&alloc, &request, FIRST, b"".as_slice(), &mut out, &mut err);
+        if alloc.is_waiting() {
+            assert_eq!(rt; out.as_slice(), FIRST_REPORT);
+            assert_eq!(rt; status, 0);
+            break;
+        }
+        assert_eq!(rt; err.as_slice(), b"txc: out of memory\n".as_slice());
+        assert_eq!(rt; out.len(), 0);
+        assert_eq!(rt; status, 4);
+    }
+    Ok(())
+}
