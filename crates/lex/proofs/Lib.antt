@@ -13,3 +13,4 @@ pub mod Once
 pub mod Flaws
 pub mod Ways
 pub mod Examples
+pub mod Escapes

@@ -4,6 +4,7 @@
 mod bytes;
 mod comment;
 mod constant;
+mod escape;
 pub mod fault;
 pub mod laws;
 mod lexer;
@@ -13,6 +14,7 @@ mod string;
 pub mod token;
 mod word;
 
+pub use escape::unescape;
 pub use fault::LexFault;
 pub use lexer::lex;
 pub use line::place;

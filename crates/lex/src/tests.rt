@@ -1,7 +1,7 @@
 //! Each call once with ample memory, each fault with its span, and a refused growth.
 
 use crate::token::{Kind, Mark, Scalar, Span, Token};
-use crate::{LexFault, lex, place};
+use crate::{lex, place, unescape};
 use refusing::Refusing;
 use std::test::Fail;
 
@@ -150,6 +150,18 @@ fn a_text_has_at_most_a_mebibyte(rt: HostRuntime) -> Result<(), Fail> {
         text.push_str(" ")?;
     }
     assert!(rt; stand_at(&rt, text.as_str(), &[]));
+    Ok(())
+}
+
+#[test]
+fn an_escape_is_one_character(rt: HostRuntime) -> Result<(), Fail> {
+    assert_eq!(rt;
+        unescape(rt.alloc(), "a\\n\\t\\\\\\\"n\u{e4}")?.as_str(),
+        "a\n\t\\\"n\u{e4}"
+    );
+    let alloc = Refusing::new(rt.alloc(), 1);
+    assert!(rt; unescape(&alloc, "a").is_err());
+    assert_eq!(rt; unescape(&alloc, "a")?.as_str(), "a");
     Ok(())
 }
 

@@ -49,8 +49,7 @@ pub fn aborts_only_on_a_changed_value<C>()
 pub fn a_holder_never_aborts<C>()
     ensures { (code : C → Effect C) (init : ℕ → C) (m0 : Memory) (threads : ℕ) (steps : List ℕ) → FitsCells code (length m0) → IsMemory (length m0) m0 →
         HoldersGoOn code (world_after code init m0 threads steps) }
-{
-}
+{}
 
 /// Where thread t's next step makes a transaction take effect, this stands in the run after every transaction that stood
 /// there when its attempt loaded its first snapshot, as often as it stood there.

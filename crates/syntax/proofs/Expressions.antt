@@ -53,7 +53,7 @@ tick_holds = record { leaves = λ s. spend_leaves s.ticks s }
 trap_holds : {A : Type 0} (t : Trap) → LeavesLocals (trap {A = A} t)
 trap_holds t = then_holds tick_holds (stop_holds (Trapped t))
 
-or_trap_holds : {A : Type 0} (r : Result A Trap) → LeavesLocals (or_trap r)
+pub or_trap_holds : {A : Type 0} (r : Result A Trap) → LeavesLocals (or_trap r)
 or_trap_holds (Ok a) = pure_holds a
 or_trap_holds (Err t) = trap_holds t
 
@@ -71,7 +71,7 @@ load_leaves (Inside mode m) c s = refl
 load_holds : (c : ℕ) → LeavesLocals (load c)
 load_holds c = record { leaves = λ s. load_leaves s.place c s }
 
-fetch_holds : (at : Spot) → LeavesLocals (fetch at)
+pub fetch_holds : (at : Spot) → LeavesLocals (fetch at)
 fetch_holds (InLocal i t) = on_holds locals_holds (λ mine. pure_holds _)
 fetch_holds (InCell c t) = on_holds (load_holds c) (λ w. pure_holds _)
 

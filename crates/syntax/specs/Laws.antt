@@ -1,17 +1,17 @@
 -- Laws of what programs mean.
-use Rattle.std.specs.Prelude.{◌≡◌, ◌≢◌, ℕ, ◌+◌, ◌^◌, ◌<◌, ◌≤◌, ◌⊎◌, List, [], ◌∷◌, ◌++◌, length, All, Some, IfOk}
+use Rattle.std.specs.Prelude.{◌≡◌, ◌≢◌, ℕ, ◌+◌, ◌^◌, ◌<◌, ◌≤◌, ◌⊎◌, List, [], ◌∷◌, ◌++◌, length, map, All, Some, IfOk}
 use Rattle.lex.specs.declared.token.Scalar.{Scalar}
 use Rattle.syntax.specs.declared.tree.BinaryOp.{BinaryOp}
 use Rattle.syntax.specs.declared.numbers.Value.{Value}
-use Rattle.syntax.specs.Tree.{Program, Expr}
+use Rattle.syntax.specs.Tree.{Program, Expr, Stmt}
 use Rattle.syntax.specs.Numbers.{computed, converted}
 use Rattle.syntax.specs.declared.numbers.Stop.TheVariants.{Wants, Spent}
-use Rattle.syntax.specs.Names.{initial_memory}
+use Rattle.syntax.specs.Names.{Local, initial_memory}
 use Rattle.syntax.specs.Types.{type_of, running_scope}
 use Rattle.syntax.specs.Typing.{IsTypedProgram}
 use Rattle.syntax.specs.Behaviours.{Memory, Stopped, Outcome}
 use Rattle.syntax.specs.Actions.{State, Answer, Gives, Stops}
-use Rattle.syntax.specs.Meaning.{expr, calls}
+use Rattle.syntax.specs.Meaning.{expr, stmt, calls}
 use Rattle.syntax.specs.Threads.{thread}
 
 -- an operator on two words gives a word or traps, and a conversion gives a word
@@ -77,6 +77,18 @@ WhereGiven (Stops why s) holds = Unit {0}
 -- an expression leaves the locals as they were
 abbrev pub KeepsLocals : Type 0
 KeepsLocals = (p : Program) (frames : ℕ) (e : Expr) (s : State) → WhereGiven (expr p (calls p frames) e s) (λ v now. now.locals ≡ s.locals)
+
+-- a local's name and type
+abbrev pub shape : Local → List ℕ × Scalar
+shape l = (l.name, l.of)
+
+-- locals that begin with others, by name and type
+abbrev pub BeginsWithLocals : (first whole : List Local) → Type 0
+BeginsWithLocals first whole = (more : List (List ℕ × Scalar)) × (map shape whole ≡ map shape first ++ more)
+
+-- a statement keeps the names and types of the locals before it, and so their places
+abbrev pub KeepsOlderLocals : Type 0
+KeepsOlderLocals = (p : Program) (frames : ℕ) (st : Stmt) (s : State) → WhereGiven (stmt p (calls p frames) st s) (λ end now. BeginsWithLocals s.locals now.locals)
 
 -- in a typed program an expression's value has the expression's type
 abbrev pub GivesItsType : Type 0

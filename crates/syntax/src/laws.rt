@@ -1,6 +1,6 @@
 //! Laws of the meaning of programs. A law has no code: its contract is what it says.
 
-ghost use Rattle.syntax.specs.Laws.{BeginsWithMemory, GivesItsType, GivesWords, GoesOn, KeepsLocals, LeavesMemories, LeftAsManyAsFound, MoreMemories, MoreTicks, NeverMoreLeft, OneTickMore};
+ghost use Rattle.syntax.specs.Laws.{BeginsWithMemory, GivesItsType, GivesWords, GoesOn, KeepsLocals, KeepsOlderLocals, LeavesMemories, LeftAsManyAsFound, MoreMemories, MoreTicks, NeverMoreLeft, OneTickMore};
 
 /// A thread that is not spent does the same with more ticks.
 pub fn more_ticks()
@@ -40,6 +40,12 @@ pub fn leaves_memories()
 /// An expression that gives a value leaves the local variables as they were.
 pub fn keeps_locals()
     ensures { KeepsLocals }
+{}
+
+/// A statement that comes to an end keeps the names and types of the local variables before it, and so their
+/// places: the locals after it begin with them.
+pub fn keeps_older_locals()
+    ensures { KeepsOlderLocals }
 {}
 
 /// In a typed program an expression that gives a value gives one of the expression's type.

@@ -1,0 +1,42 @@
+-- What each fault says of the tokens.
+use Rattle.std.specs.Prelude.{◌≡◌, ℕ, List, Option, Some, None, Result, Ok, Err}
+use Rattle.lex.specs.declared.token.Span.{Span}
+use Rattle.lex.specs.Tokens.{Tok}
+use Rattle.syntax.specs.declared.tree.Unit.{Unit as Tree}
+use Rattle.syntax.specs.Views.{program_of}
+use Rattle.syntax.specs.Phrases.{IsUnexpected, IsUnfinished, IsTooDeep}
+use Rattle.syntax.specs.Grammar.{Source, source_depth, deepest_program}
+use Rattle.syntax.specs.StraightLine.{SpellsStraightLine}
+use Rattle.parse.specs.declared.fault.ParseFault.{ParseFault}
+use Rattle.parse.specs.declared.fault.ParseFault.TheVariants as fault
+
+abbrev pub number_of : ParseFault → ℕ
+number_of fault.OutOfMemory = 0
+number_of (fault.Unexpected at) = 10
+number_of (fault.TooDeep at) = 11
+number_of (fault.Unfinished at) = 12
+
+abbrev pub span_of : ParseFault → Option Span
+span_of fault.OutOfMemory = None
+span_of (fault.Unexpected at) = Some at
+span_of (fault.TooDeep at) = Some at
+span_of (fault.Unfinished at) = Some at
+
+-- the program that a unit holds, and where its last token ends
+abbrev pub source_of : {A : Type 0} → Tree A → Source
+source_of u = record { program = program_of u; ends = u.end }
+
+-- what a fault says, of the part of the language that is parsed; want of memory says nothing
+abbrev pub IsFaultOf : List Tok → ParseFault → Type 0
+IsFaultOf ts fault.OutOfMemory = Unit {0}
+IsFaultOf ts (fault.Unexpected at) = IsUnexpected SpellsStraightLine ts at
+IsFaultOf ts (fault.TooDeep at) = IsTooDeep SpellsStraightLine source_depth deepest_program ts at
+IsFaultOf ts (fault.Unfinished at) = IsUnfinished SpellsStraightLine ts at
+
+-- this program was found, if memory sufficed
+abbrev pub Finds : {A : Type 0} → Source → Result (Tree A) ParseFault → Type 0
+Finds s (Ok u) = source_of u ≡ s
+Finds s (Err fault.OutOfMemory) = Unit {0}
+Finds s (Err (fault.Unexpected at)) = ⊥
+Finds s (Err (fault.TooDeep at)) = ⊥
+Finds s (Err (fault.Unfinished at)) = ⊥

@@ -1,0 +1,12 @@
+//! The parser: from tokens to the one tree that they spell, or to the first place where they spell none.
+#![tactic(auto)]
+
+mod cursor;
+mod expr;
+mod fault;
+mod globals;
+mod stmt;
+mod unit;
+
+pub use fault::ParseFault;
+pub use unit::{one_tree, parse};
