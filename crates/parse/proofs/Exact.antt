@@ -76,24 +76,24 @@ ok_pair {A = A} x y r s e p q =
 pub err_is : {A : Type 0} (x y : Fault) (e : Result A Fault) → e ≡ Err x → e ≡ Err y → x ≡ y
 err_is x y e p q = cc
 
-module _ {A B : Type 0} (P : ℕ → Parser A) (Q : ℕ → Parser B) (L : A → Phrase) (M : B → Phrase) (J : A → B → Type 0) (W1 : ℕ → A → Type 0) (W2 : ℕ → B → Type 0) (S1 C1 : A → Option Tok → Type 0) (S2 C2 : B → Option Tok → Type 0) (d : ℕ)
-    (EP : Exact P L W1 S1 C1 d) (EQ : Exact Q M W2 S2 C2 d)
+module _ {A B : Type 0} (P : ℕ → Parser A) (Q : ℕ → Parser B) (L : A → Phrase) (M : B → Phrase) (J : A → B → Type 0) (WP : ℕ → A → Type 0) (WQ : ℕ → B → Type 0) (S1 C1 : A → Option Tok → Type 0) (S2 C2 : B → Option Tok → Type 0) (d : ℕ)
+    (EP : Exact P L WP S1 C1 d) (EQ : Exact Q M WQ S2 C2 d)
     (follow : (a : A) (b : B) (p q : List Tok) → M b p → J a b → S2 b (head q) → S1 a (head (p ++ q)))
     (joins : (a : A) (b : B) (p r : List Tok) → M b p → C1 a (head (p ++ r)) → J a b)
     (ends : (a : A) → Ends M (J a)) where
-  seq_again : (x : A × B) (p q : List Tok) → SeqL L M J x p → W1 d x.0 × W2 d x.1 → S2 x.1 (head q) → seq (P d) (Q d) (p ++ q) ≡ Ok (x, q)
+  seq_again : (x : A × B) (p q : List Tok) → SeqL L M J x p → WP d x.0 × WQ d x.1 → S2 x.1 (head q) → seq (P d) (Q d) (p ++ q) ≡ Ok (x, q)
   seq_again x p q s w h =
       let eP = EP.again x.0 s.0.front (s.0.back ++ q) s.0.first w.0 (follow x.0 x.1 s.0.back q s.0.second s.1 h) in
       let eQ = EQ.again x.1 s.0.back q s.0.second w.1 h in
       rw (s.0.whole, append_assoc s.0.front s.0.back q, eP, eQ) refl
 
   -- the front of a whole that goes on as the second part goes on
-  seq_go : (ts r1 r : List Tok) (a : A) (RP : Reads P L W1 C1 d ts a r1) (fq : List Tok) → r1 ≡ fq ++ r → (D : ℕ) (s : List Tok) → d ≤ D → head r ≡ head s → seq (P D) (Q D) ((RP.front ++ fq) ++ s) ≡ (Q D (fq ++ s) >>= λ y. Ok ((a, y.0), y.1))
+  seq_go : (ts r1 r : List Tok) (a : A) (RP : Reads P L WP C1 d ts a r1) (fq : List Tok) → r1 ≡ fq ++ r → (D : ℕ) (s : List Tok) → d ≤ D → head r ≡ head s → seq (P D) (Q D) ((RP.front ++ fq) ++ s) ≡ (Q D (fq ++ s) >>= λ y. Ok ((a, y.0), y.1))
   seq_go ts r1 r a RP fq e D s le same =
       let eP = RP.stable D (fq ++ s) le (ap head e ∙ head_append fq r s same) in
       rw (append_assoc RP.front fq s, eP) refl
 
-  seq_ok_parts : (ts r1 r : List Tok) (a : A) (b : B) → P d ts ≡ Ok (a, r1) → Q d r1 ≡ Ok (b, r) → Reads (λ D. seq (P D) (Q D)) (SeqL L M J) (λ D x. W1 D x.0 × W2 D x.1) (λ x h. C2 x.1 h) d ts (a, b) r
+  seq_ok_parts : (ts r1 r : List Tok) (a : A) (b : B) → P d ts ≡ Ok (a, r1) → Q d r1 ≡ Ok (b, r) → Reads (λ D. seq (P D) (Q D)) (SeqL L M J) (λ D x. WP D x.0 × WQ D x.1) (λ x h. C2 x.1 h) d ts (a, b) r
   seq_ok_parts ts r1 r a b p q =
       let RP = EP.ok ts a r1 p in
       let RQ = EQ.ok r1 b r q in
@@ -106,12 +106,12 @@ module _ {A B : Type 0} (P : ℕ → Parser A) (Q : ℕ → Parser B) (L : A →
         stable = λ D s le same. seq_go ts r1 r a RP RQ.front RQ.whole D s le same ∙ rw (RQ.stable D s le same) refl;
       }
 
-  seq_ok : (ts : List Tok) (x : A × B) (r : List Tok) → seq (P d) (Q d) ts ≡ Ok (x, r) → Reads (λ D. seq (P D) (Q D)) (SeqL L M J) (λ D x. W1 D x.0 × W2 D x.1) (λ x h. C2 x.1 h) d ts x r
+  seq_ok : (ts : List Tok) (x : A × B) (r : List Tok) → seq (P d) (Q d) ts ≡ Ok (x, r) → Reads (λ D. seq (P D) (Q D)) (SeqL L M J) (λ D x. WP D x.0 × WQ D x.1) (λ x h. C2 x.1 h) d ts x r
   seq_ok ts x r e =
       let b1 = bind_ok (P d ts) (λ (x : A × List Tok). Q d x.1 >>= λ (y : B × List Tok). Ok ((x.0, y.0), y.1)) (x, r) e in
       let b2 = bind_ok (Q d (b1.0).1) (λ (y : B × List Tok). Ok (((b1.0).0, y.0), y.1)) (x, r) b1.2 in
       let same = ok_pair ((b1.0).0, (b2.0).0) x (b2.0).1 r _ refl b2.2 in
-      subst (λ (y : A × B). Reads (λ D. seq (P D) (Q D)) (SeqL L M J) (λ D x. W1 D x.0 × W2 D x.1) (λ x h. C2 x.1 h) d ts y r) same.0
+      subst (λ (y : A × B). Reads (λ D. seq (P D) (Q D)) (SeqL L M J) (λ D x. WP D x.0 × WQ D x.1) (λ x h. C2 x.1 h) d ts y r) same.0
       (seq_ok_parts ts (b1.0).1 r (b1.0).0 (b2.0).0 b1.1 (b2.1 ∙ ap (λ (t : List Tok). Ok ((b2.0).0, t)) same.1))
 
   -- a beginning of the first part, ended
@@ -125,14 +125,14 @@ module _ {A B : Type 0} (P : ℕ → Parser A) (Q : ℕ → Parser B) (L : A →
       }
 
   -- the first part and a beginning of the second, which isn't empty
-  seq_second : (ts r1 : List Tok) (a : A) (RP : Reads P L W1 C1 d ts a r1) (t : Tok) (p r2 : List Tok) → r1 ≡ (t ∷ p) ++ r2 → Begins M (t ∷ p) → Begins (SeqL L M J) (RP.front ++ (t ∷ p))
+  seq_second : (ts r1 : List Tok) (a : A) (RP : Reads P L WP C1 d ts a r1) (t : Tok) (p r2 : List Tok) → r1 ≡ (t ∷ p) ++ r2 → Begins M (t ∷ p) → Begins (SeqL L M J) (RP.front ++ (t ∷ p))
   seq_second ts r1 a RP t p r2 e b = record {
     value = (a, b.value);
     more = b.more;
     spelled = (record { front = RP.front; back = (t ∷ p) ++ b.more; first = RP.spelled; second = b.spelled; whole = append_assoc RP.front (t ∷ p) b.more }, joins a b.value ((t ∷ p) ++ b.more) [] b.spelled (subst (λ (h : Option Tok). C1 a h) (ap head e) RP.closed));
   }
 
-  seq_wrong_second : (ts r1 r : List Tok) (a : A) → P d ts ≡ Ok (a, r1) → Q d r1 ≡ Err (wrong r) → Refuses (λ D. seq (P D) (Q D)) (SeqL L M J) (λ D x. W1 D x.0 × W2 D x.1) (λ x h. C2 x.1 h) d ts r
+  seq_wrong_second : (ts r1 r : List Tok) (a : A) → P d ts ≡ Ok (a, r1) → Q d r1 ≡ Err (wrong r) → Refuses (λ D. seq (P D) (Q D)) (SeqL L M J) (λ D x. WP D x.0 × WQ D x.1) (λ x h. C2 x.1 h) d ts r
   seq_wrong_second ts r1 r a p q =
       let RP = EP.ok ts a r1 p in
       let RQ = EQ.wrong r1 r q in
@@ -143,7 +143,7 @@ module _ {A B : Type 0} (P : ℕ → Parser A) (Q : ℕ → Parser B) (L : A →
         stable = λ D s le same. seq_go ts r1 r a RP RQ.front RQ.whole D s le same ∙ rw (RQ.stable D s le same) refl;
       }
     where
-      begun : (RP : Reads P L W1 C1 d ts a r1) (fq : List Tok) → r1 ≡ fq ++ r → (Nonempty fq → Begins M fq) → Begins (SeqL L M J) (RP.front ++ fq)
+      begun : (RP : Reads P L WP C1 d ts a r1) (fq : List Tok) → r1 ≡ fq ++ r → (Nonempty fq → Begins M fq) → Begins (SeqL L M J) (RP.front ++ fq)
       begun RP [] e b =
           let n = ends a in
           record {
@@ -153,7 +153,7 @@ module _ {A B : Type 0} (P : ℕ → Parser A) (Q : ℕ → Parser B) (L : A →
           }
       begun RP (t ∷ fq) e b = seq_second ts r1 a RP t fq r e (b tt)
 
-  seq_wrong : (ts r : List Tok) → seq (P d) (Q d) ts ≡ Err (wrong r) → Refuses (λ D. seq (P D) (Q D)) (SeqL L M J) (λ D x. W1 D x.0 × W2 D x.1) (λ x h. C2 x.1 h) d ts r
+  seq_wrong : (ts r : List Tok) → seq (P d) (Q d) ts ≡ Err (wrong r) → Refuses (λ D. seq (P D) (Q D)) (SeqL L M J) (λ D x. WP D x.0 × WQ D x.1) (λ x h. C2 x.1 h) d ts r
   seq_wrong ts r e =
       elim (bind_err (P d ts) (λ (x : A × List Tok). Q d x.1 >>= λ (y : B × List Tok). Ok ((x.0, y.0), y.1)) (wrong r) e) [
         | inl p ↦
@@ -174,7 +174,7 @@ module _ {A B : Type 0} (P : ℕ → Parser A) (Q : ℕ → Parser B) (L : A →
       ok_no_err : {X : Type 0} {x : X} → Ok x ≡ Err (wrong r) → ⊥
       ok_no_err h = cc
 
-  seq_deep_second : (ts r1 r : List Tok) (a : A) → P d ts ≡ Ok (a, r1) → Q d r1 ≡ Err (deep r) → Sinks (λ D. seq (P D) (Q D)) (SeqL L M J) (λ D x. W1 D x.0 × W2 D x.1) (λ x h. C2 x.1 h) d ts r
+  seq_deep_second : (ts r1 r : List Tok) (a : A) → P d ts ≡ Ok (a, r1) → Q d r1 ≡ Err (deep r) → Sinks (λ D. seq (P D) (Q D)) (SeqL L M J) (λ D x. WP D x.0 × WQ D x.1) (λ x h. C2 x.1 h) d ts r
   seq_deep_second ts r1 r a p q =
       let RP = EP.ok ts a r1 p in
       let RQ = EQ.deep r1 r q in
@@ -188,11 +188,11 @@ module _ {A B : Type 0} (P : ℕ → Parser A) (Q : ℕ → Parser B) (L : A →
         stable = λ s same. seq_go ts r1 r a RP RQ.front RQ.whole d s (omega arith) same ∙ rw (RQ.stable s same) refl;
       }
     where
-      begun : (RP : Reads P L W1 C1 d ts a r1) (fq : List Tok) (t : Tok) (after : List Tok) → r1 ≡ fq ++ (t ∷ after) → Begins M (fq ++ t ∷ []) → Begins (SeqL L M J) (RP.front ++ (fq ++ t ∷ []))
+      begun : (RP : Reads P L WP C1 d ts a r1) (fq : List Tok) (t : Tok) (after : List Tok) → r1 ≡ fq ++ (t ∷ after) → Begins M (fq ++ t ∷ []) → Begins (SeqL L M J) (RP.front ++ (fq ++ t ∷ []))
       begun RP [] t after e b = seq_second ts r1 a RP t [] after e b
       begun RP (u ∷ fq) t after e b = seq_second ts r1 a RP u (fq ++ t ∷ []) after (e ∙ ap (λ (x : List Tok). u ∷ x) (sym (append_assoc fq (t ∷ []) after))) b
 
-  seq_deep : (ts r : List Tok) → seq (P d) (Q d) ts ≡ Err (deep r) → Sinks (λ D. seq (P D) (Q D)) (SeqL L M J) (λ D x. W1 D x.0 × W2 D x.1) (λ x h. C2 x.1 h) d ts r
+  seq_deep : (ts r : List Tok) → seq (P d) (Q d) ts ≡ Err (deep r) → Sinks (λ D. seq (P D) (Q D)) (SeqL L M J) (λ D x. WP D x.0 × WQ D x.1) (λ x h. C2 x.1 h) d ts r
   seq_deep ts r e =
       elim (bind_err (P d ts) (λ (x : A × List Tok). Q d x.1 >>= λ (y : B × List Tok). Ok ((x.0, y.0), y.1)) (deep r) e) [
         | inl p ↦
@@ -217,7 +217,7 @@ module _ {A B : Type 0} (P : ℕ → Parser A) (Q : ℕ → Parser B) (L : A →
       ok_no_err h = cc
 
   -- Two exact parsers, one after the other.
-  pub seq_exact : Exact (λ D. seq (P D) (Q D)) (SeqL L M J) (λ D x. W1 D x.0 × W2 D x.1) (λ x h. S2 x.1 h) (λ x h. C2 x.1 h) d
+  pub seq_exact : Exact (λ D. seq (P D) (Q D)) (SeqL L M J) (λ D x. WP D x.0 × WQ D x.1) (λ x h. S2 x.1 h) (λ x h. C2 x.1 h) d
   seq_exact = record { again = seq_again; ok = seq_ok; wrong = seq_wrong; deep = seq_deep }
 
 -- ---- another language for the same phrases
@@ -241,14 +241,14 @@ abbrev pub Two : {A B : Type 0} → (A → Phrase) → (B → Phrase) → A × B
 Two L M x = Seq (L x.0) (M x.1)
 
 -- one after the other, where nothing else joins them
-module _ {A B : Type 0} (P : ℕ → Parser A) (Q : ℕ → Parser B) (L : A → Phrase) (M : B → Phrase) (W1 : ℕ → A → Type 0) (W2 : ℕ → B → Type 0) (S1 C1 : A → Option Tok → Type 0) (S2 C2 : B → Option Tok → Type 0) (d : ℕ)
-    (EP : Exact P L W1 S1 C1 d) (EQ : Exact Q M W2 S2 C2 d)
+module _ {A B : Type 0} (P : ℕ → Parser A) (Q : ℕ → Parser B) (L : A → Phrase) (M : B → Phrase) (WP : ℕ → A → Type 0) (WQ : ℕ → B → Type 0) (S1 C1 : A → Option Tok → Type 0) (S2 C2 : B → Option Tok → Type 0) (d : ℕ)
+    (EP : Exact P L WP S1 C1 d) (EQ : Exact Q M WQ S2 C2 d)
     (follow : (a : A) (b : B) (p q : List Tok) → M b p → S2 b (head q) → S1 a (head (p ++ q)))
     (ends : Begins M []) where
-  pub two_exact : Exact (λ D. seq (P D) (Q D)) (Two L M) (λ D x. W1 D x.0 × W2 D x.1) (λ x h. S2 x.1 h) (λ x h. C2 x.1 h) d
+  pub two_exact : Exact (λ D. seq (P D) (Q D)) (Two L M) (λ D x. WP D x.0 × WQ D x.1) (λ x h. S2 x.1 h) (λ x h. C2 x.1 h) d
   two_exact =
-      relabel (λ D. seq (P D) (Q D)) (SeqL L M (λ a b. Unit {0})) (Two L M) (λ D x. W1 D x.0 × W2 D x.1) (λ D x. W1 D x.0 × W2 D x.1) (λ x h. S2 x.1 h) (λ x h. S2 x.1 h) (λ x h. C2 x.1 h) (λ x h. C2 x.1 h) d
-      (seq_exact P Q L M (λ a b. Unit {0}) W1 W2 S1 C1 S2 C2 d EP EQ (λ a b p q m j h. follow a b p q m h) (λ a b p r m h. tt) (λ a. record { value = ends.value; text = ends.more; spelled = ends.spelled; joined = tt }))
+      relabel (λ D. seq (P D) (Q D)) (SeqL L M (λ a b. Unit {0})) (Two L M) (λ D x. WP D x.0 × WQ D x.1) (λ D x. WP D x.0 × WQ D x.1) (λ x h. S2 x.1 h) (λ x h. S2 x.1 h) (λ x h. C2 x.1 h) (λ x h. C2 x.1 h) d
+      (seq_exact P Q L M (λ a b. Unit {0}) WP WQ S1 C1 S2 C2 d EP EQ (λ a b p q m j h. follow a b p q m h) (λ a b p r m h. tt) (λ a. record { value = ends.value; text = ends.more; spelled = ends.spelled; joined = tt }))
       (λ x p l. l.0) (λ x p l. (l, tt)) (λ x p l w. w) (λ x w. w) (λ x h s. s) (λ x h c. c)
 
 -- ---- another value
@@ -470,13 +470,13 @@ module _ {A : Type 0} (c : ℕ → Option Tok → Parser A) (Lc : Option Tok →
 
 -- ---- the same, with what can be seen left out
 
-pub two : {A B : Type 0} {P : ℕ → Parser A} {Q : ℕ → Parser B} {L : A → List Tok → Type 0} {M : B → List Tok → Type 0} {W1 : ℕ → A → Type 0} {W2 : ℕ → B → Type 0} {S1 C1 : A → Option Tok → Type 0} {S2 C2 : B → Option Tok → Type 0} {d : ℕ}
-    → Exact P L W1 S1 C1 d → Exact Q M W2 S2 C2 d
+pub two : {A B : Type 0} {P : ℕ → Parser A} {Q : ℕ → Parser B} {L : A → List Tok → Type 0} {M : B → List Tok → Type 0} {WP : ℕ → A → Type 0} {WQ : ℕ → B → Type 0} {S1 C1 : A → Option Tok → Type 0} {S2 C2 : B → Option Tok → Type 0} {d : ℕ}
+    → Exact P L WP S1 C1 d → Exact Q M WQ S2 C2 d
     → ((a : A) (b : B) (p q : List Tok) → M b p → S2 b (head q) → S1 a (head (p ++ q)))
     → Begins M []
-    → Exact (λ D. seq (P D) (Q D)) (Two L M) (λ D x. W1 D x.0 × W2 D x.1) (λ x h. S2 x.1 h) (λ x h. C2 x.1 h) d
-two {P = P} {Q = Q} {L = L} {M = M} {W1 = W1} {W2 = W2} {S1 = S1} {C1 = C1} {S2 = S2} {C2 = C2} {d = d} EP EQ follow ends =
-    two_exact P Q L M W1 W2 S1 C1 S2 C2 d EP EQ follow ends
+    → Exact (λ D. seq (P D) (Q D)) (Two L M) (λ D x. WP D x.0 × WQ D x.1) (λ x h. S2 x.1 h) (λ x h. C2 x.1 h) d
+two {P = P} {Q = Q} {L = L} {M = M} {WP = WP} {WQ = WQ} {S1 = S1} {C1 = C1} {S2 = S2} {C2 = C2} {d = d} EP EQ follow ends =
+    two_exact P Q L M WP WQ S1 C1 S2 C2 d EP EQ follow ends
 
 pub value_of : {A B : Type 0} (f : A → B) {P : ℕ → Parser A} {L : A → List Tok → Type 0} (M : B → Phrase) {W : ℕ → A → Type 0} (W' : ℕ → B → Type 0) {S C : A → Option Tok → Type 0} (S' C' : B → Option Tok → Type 0) {d : ℕ}
     → Exact P L W S C d
