@@ -1,5 +1,5 @@
 -- Sums are read exactly.
-use Rattle.std.proofs.Common.{◌≡◌, ℕ, zero, suc, ◌+◌, ◌<◌, ◌≤◌, Bool, true, false, max, List, [], ◌∷◌, ◌++◌, Option, Some, None, Result, Ok, Err, refl, sym, ap, subst, ◌∙◌, arith, lit≤, lit<}
+use Rattle.std.proofs.Common.{◌≡◌, ℕ, zero, suc, ◌<◌, ◌≤◌, true, false, List, [], ◌∷◌, ◌++◌, Option, Some, None, Err, refl, sym, ap, subst, ◌∙◌, arith, lit≤, lit<}
 use Rattle.lex.specs.declared.token.Mark.{Mark}
 use Rattle.lex.specs.declared.token.Mark.TheVariants as m
 use Rattle.lex.specs.declared.token.Scalar.TheVariants.{Int, Unsigned}
@@ -10,10 +10,10 @@ use Rattle.syntax.specs.declared.tree.BinaryOp.TheVariants.{Or, Xor, And, Equal,
 use Rattle.syntax.specs.Tree.{Name, Expr, Variable, Constant, Element, Call, Parenthesized, Cast, Unary, Binary, Logical, Conditional}
 use Rattle.syntax.specs.Depth.{expr_depth}
 use Rattle.syntax.specs.Typing.{span_of}
-use Rattle.syntax.specs.Phrases.{Phrase, Seq, One, Begins, Covers, the_mark}
-use Rattle.syntax.specs.Grammar.{by_mark, name_in, the_name, Number, number_in, the_number, binary_of, the_binary, precedence, level, expr, named}
+use Rattle.syntax.specs.Phrases.{Phrase, One, Begins, Covers, the_mark}
+use Rattle.syntax.specs.Grammar.{by_mark, name_in, Number, number_in, binary_of, precedence, level, expr}
 use Rattle.syntax.specs.StraightLine.{IsAtom, IsAdding, IsSum, Lacks}
-use Rattle.parse.specs.Reading.{Fault, wrong, deep, ◌>>=◌, Parser, head, take, Operators, op_at, climb_loop, atom_in, the_atom, adding_of, the_adding, across, binary_node, sums, starts_atom, climb_at}
+use Rattle.parse.specs.Reading.{wrong, head, take, op_at, atom_in, the_atom, adding_of, the_adding, across, binary_node, sums, starts_atom, climb_at}
 use Rattle.parse.proofs.Exact.{Exact, Always, Shallow, take_exact, relabel}
 use Rattle.parse.proofs.Chain.{Split, climb_step}
 use Rattle.parse.proofs.Knot.{base_exact}

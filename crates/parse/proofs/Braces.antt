@@ -1,5 +1,5 @@
 -- Lists that end at a mark, as loops read them.
-use Rattle.std.proofs.Common.{◌≡◌, ℕ, ◌⊎◌, Bool, true, false, List, [], ◌∷◌, Option, Some, None, Result, Ok, Err, refl, ap, ◌∙◌}
+use Rattle.std.proofs.Common.{◌≡◌, ℕ, false, List, [], ◌∷◌, Result, Ok, Err, refl, ◌∙◌}
 use Rattle.lex.specs.declared.token.Mark.{Mark}
 use Rattle.lex.specs.declared.token.Mark.TheVariants as m
 use Rattle.lex.specs.declared.token.Span.{Span}

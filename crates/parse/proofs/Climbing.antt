@@ -1,10 +1,10 @@
 -- One turn of a chain of operators, as the loop makes it.
-use Rattle.std.proofs.Common.{◌≡◌, ℕ, zero, suc, ◌+◌, ◌-◌, ◌<◌, ◌≤◌, List, Option, Some, None, Result, Ok, Err, refl, sym, ◌∙◌, arith}
+use Rattle.std.proofs.Common.{◌≡◌, ℕ, zero, suc, ◌+◌, ◌-◌, ◌<◌, ◌≤◌, List, Some, None, Result, Ok, Err, refl, sym, ◌∙◌, arith}
 use Rattle.std.proofs.lemmas.Bool.{le-ltb, lt-ltb}
 use Rattle.lex.specs.Tokens.{Tok}
 use Rattle.parse.specs.declared.fault.Stop.{Stop}
 use Rattle.parse.specs.declared.fault.Stop.TheVariants as stops
-use Rattle.parse.specs.Reading.{Fault, wrong, deep, ◌>>=◌, Fails, Parser, Operators, next_op, climb_loop}
+use Rattle.parse.specs.Reading.{Fault, deep, ◌>>=◌, Fails, Parser, Operators, next_op, climb_loop}
 
 -- what fails in a part fails in the whole
 pub fails_along : {A B : Type 0} (e : Stop) (part : Result A Fault) (whole : Result B Fault) → ((f : Fault) → part ≡ Err f → whole ≡ Err f) → Fails e part → Fails e whole

@@ -1,8 +1,8 @@
 -- What it means that a parser reads a language exactly, and how such parsers are put together.
-use Rattle.std.proofs.Common.{◌≡◌, ℕ, zero, suc, ◌+◌, ◌<◌, ◌≤◌, Bool, true, false, cond, List, [], ◌∷◌, ◌++◌, length, Option, Some, None, Result, Ok, Err, refl, sym, ap, subst, ◌∙◌, append_assoc, arith, ◌⊎◌, inl, inr}
+use Rattle.std.proofs.Common.{◌≡◌, ℕ, ◌≤◌, List, [], ◌∷◌, ◌++◌, Option, Some, None, Result, Ok, Err, refl, sym, ap, subst, ◌∙◌, append_assoc, arith, ◌⊎◌, inl, inr}
 use Rattle.lex.specs.Tokens.{Tok}
 use Rattle.syntax.specs.Phrases.{Phrase, Seq, One, Begins}
-use Rattle.parse.specs.Reading.{Fault, wrong, deep, ◌>>=◌, Parser, head, none, give, seq, mapped, choice, many, taken, take}
+use Rattle.parse.specs.Reading.{Fault, wrong, deep, ◌>>=◌, Parser, head, none, give, seq, mapped, choice, taken, take}
 
 pub head_append : (p r s : List Tok) → head r ≡ head s → head (p ++ r) ≡ head (p ++ s)
 head_append [] r s e = e

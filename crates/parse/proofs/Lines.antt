@@ -1,8 +1,8 @@
 -- Assignments, transactions and the function are read exactly.
-use Rattle.std.proofs.Common.{◌≡◌, ℕ, zero, suc, ◌+◌, ◌<◌, ◌≤◌, max, Bool, true, false, List, [], ◌∷◌, ◌++◌, Option, Some, None, refl, sym, ap, subst, ◌∙◌, arith, lit≤, ◌⊎◌, inl, inr, is_some}
+use Rattle.std.proofs.Common.{◌≡◌, ℕ, ◌+◌, ◌≤◌, max, true, false, List, [], ◌∷◌, ◌++◌, Option, Some, None, refl, sym, ap, subst, ◌∙◌, arith, lit≤, inl, inr, is_some}
 use Rattle.lex.specs.declared.token.Mark.{Mark}
 use Rattle.lex.specs.declared.token.Mark.TheVariants as m
-use Rattle.lex.specs.declared.token.Scalar.TheVariants.{Int, Unsigned}
+use Rattle.lex.specs.declared.token.Scalar.TheVariants.{Int}
 use Rattle.lex.specs.declared.token.Span.{Span}
 use Rattle.lex.specs.Tokens.{Terminal, name, constant, text, mark, reserved, Tok}
 use Rattle.syntax.specs.declared.tree.Attribute.{Attribute}
@@ -12,16 +12,16 @@ use Rattle.syntax.specs.Tree as Tree
 use Rattle.syntax.specs.Tree.{Name, Expr, Variable, Constant, Element, Call, Parenthesized, Cast, Unary, Binary, Logical, Conditional, Simple, Value, Assign, Change, Stmt, Stmts, Empty, Declare, Do, Block, Print, If, IfElse, While, DoWhile, For, Break, Continue, Return, Transaction, Cancel, Parameter, Function}
 use Rattle.syntax.specs.Depth.{expr_depth, stmt_depth, block_depth, body_depth}
 use Rattle.syntax.specs.Views.{stmts_from}
-use Rattle.syntax.specs.Phrases.{Phrase, Seq, One, Is, Keyword, Begins, Many, is_mark, the_mark, place_of}
-use Rattle.syntax.specs.Grammar.{by_mark, the_name, expr, level, assigning_of, the_assigning, simple, stmt, stmts, attributes, attribute_list, joined, result, parameter, parameters, body, function}
-use Rattle.syntax.specs.StraightLine.{Lacks, IsSum, IsVariable, IsAssigned, IsAssignment, AreAssignments, IsStraightTransaction, AreTransactions, IsOneNumber, IsStraightBody, IsStraightFunction}
+use Rattle.syntax.specs.Phrases.{Phrase, Seq, One, Is, Begins, Many, is_mark, the_mark, place_of}
+use Rattle.syntax.specs.Grammar.{by_mark, the_name, level, assigning_of, the_assigning, simple, stmt, stmts, attributes, attribute_list, joined, result, parameter, parameters, body, function}
+use Rattle.syntax.specs.StraightLine.{Lacks, IsSum, IsAssigned, IsAssignment, AreAssignments, IsStraightTransaction, AreTransactions, IsOneNumber, IsStraightBody, IsStraightFunction}
 use Rattle.parse.specs.Reading.{Parser, head, take, is_next, mapped, seq, spot, behind, before, braced, many_until, climb_at, op_at, sums, assigned_tree, assignment, transaction, function_tree}
 use Rattle.parse.specs.Reading as R
-use Rattle.parse.proofs.Exact.{Exact, Always, Shallow, Comes, Two, take_exact, relabel, two, value_of, Nonempty}
+use Rattle.parse.proofs.Exact.{Exact, Always, Comes, Two, take_exact, relabel, two, value_of, Nonempty}
 use Rattle.parse.proofs.Many.{ManyFit, many_exact}
-use Rattle.parse.proofs.Marks.{mark_is, mark_has, one_begins, one_head, a_mark}
-use Rattle.parse.proofs.Parts.{seq_map, seq_left, seq_right, no_seq, un_seq, un_seq_left, no_seq_left, seq_here, seq_not_here, is_here, is_not_here, mark_place, place_mark, head_begins, tail_begins, behind_exact, before_exact}
-use Rattle.parse.proofs.Adding.{SumL, SumLevel, SumFits, SumStops, climb_exact, lacks_append}
+use Rattle.parse.proofs.Marks.{mark_is, mark_has, one_begins, a_mark}
+use Rattle.parse.proofs.Parts.{seq_map, seq_left, seq_right, no_seq, un_seq, un_seq_left, seq_not_here, place_mark, head_begins, tail_begins, behind_exact, before_exact}
+use Rattle.parse.proofs.Adding.{SumL, SumLevel, SumFits, SumStops, climb_exact}
 use Rattle.parse.proofs.Singles.{is_lacks, seq_lacks, lacks_parts, name_lacks, name_begins, int_is}
 
 -- ---- sums as they stand in statements

@@ -1,10 +1,10 @@
 -- A list of phrases, up to a token that stops it, is read exactly where one phrase is. T: what else may be said of that token.
-use Rattle.std.proofs.Common.{◌≡◌, ℕ, zero, suc, ◌+◌, ◌-◌, ◌<◌, ◌≤◌, Bool, true, false, cond, List, [], ◌∷◌, ◌++◌, length, Option, Some, None, Result, Ok, Err, refl, sym, ap, subst, ◌∙◌, append_assoc, arith, ◌⊎◌, inl, inr, length-append}
+use Rattle.std.proofs.Common.{◌≡◌, ℕ, zero, suc, ◌-◌, ◌<◌, ◌≤◌, Bool, true, false, List, [], ◌∷◌, ◌++◌, length, Option, Some, None, Result, Ok, Err, refl, sym, ap, subst, ◌∙◌, append_assoc, arith, ◌⊎◌, inl, inr, length-append}
 use Rattle.std.proofs.lemmas.List.{append-nil}
 use Rattle.lex.specs.Tokens.{Tok}
-use Rattle.syntax.specs.Phrases.{Phrase, Seq, Begins, Many}
+use Rattle.syntax.specs.Phrases.{Phrase, Begins, Many}
 use Rattle.parse.specs.Reading.{Fault, wrong, deep, ◌>>=◌, Parser, head, many, many_until}
-use Rattle.parse.proofs.Exact.{head_append, Nonempty, Reads, Refuses, Sinks, Exact, bind_ok, bind_err, ok_pair, err_is}
+use Rattle.parse.proofs.Exact.{head_append, Nonempty, Reads, Exact, bind_ok, bind_err, ok_pair, err_is}
 
 abbrev pub ManyFit : {A : Type 0} → (ℕ → A → Type 0) → ℕ → List A → Type 0
 ManyFit W d [] = Unit {0}

@@ -1,11 +1,11 @@
 -- Tokens that are signs or keywords.
-use Rattle.std.proofs.Common.{◌≡◌, Bool, true, false, cond, not, List, [], ◌∷◌, ◌++◌, Option, Some, None, Result, Ok, Err, refl, sym, ap, subst, ◌∙◌}
+use Rattle.std.proofs.Common.{◌≡◌, Bool, true, false, cond, not, List, [], ◌∷◌, ◌++◌, Option, Some, None, Err, refl, ap, ◌∙◌}
 use denote.Enum.Bare.{same_true, true_same}
 use Rattle.lex.specs.declared.token.Mark.{Mark}
 use Rattle.lex.specs.contracts.token.Mark.{the_type}
 use Rattle.lex.specs.Tokens.{Terminal, name, constant, text, mark, reserved, Tok}
-use Rattle.syntax.specs.Phrases.{Phrase, Seq, One, Begins, same_mark, is_mark, the_mark, place_of}
-use Rattle.parse.specs.Reading.{Fault, wrong, head, expect, is_next, is_other}
+use Rattle.syntax.specs.Phrases.{Phrase, Seq, One, Begins, same_mark, is_mark, the_mark}
+use Rattle.parse.specs.Reading.{wrong, head, expect, is_other}
 
 mark_terminal : {A : Type 0} (k : Mark) (l : Terminal) (x b : A) → cond (is_mark k l) (Some x) None ≡ Some b → l ≡ mark k
 mark_terminal k (name s) x b e = absurd cc

@@ -3,12 +3,12 @@ use Rattle.std.proofs.Common.{◌≡◌, ℕ, Bool, true, false, List, [], ◌�
 use Rattle.std.proofs.lemmas.List.{append-nil}
 use Rattle.lex.specs.declared.token.Mark.{Mark}
 use Rattle.lex.specs.declared.token.Span.{Span}
-use Rattle.lex.specs.Tokens.{Terminal, name, constant, text, mark, reserved, Tok}
+use Rattle.lex.specs.Tokens.{mark, Tok}
 use Rattle.syntax.specs.Phrases.{Phrase, Seq, One, Is, Begins, is_mark, the_mark, place_of}
 use Rattle.syntax.specs.Grammar.{optional}
-use Rattle.parse.specs.Reading.{Parser, head, give, mapped, seq, choice, expect, is_next, if_there, perhaps, behind, before}
+use Rattle.parse.specs.Reading.{Parser, head, give, is_next, if_there, perhaps, behind, before}
 use Rattle.parse.proofs.Exact.{Exact, Always, Comes, Two, Empty, give_exact, take_exact, choice_exact, relabel, two, value_of}
-use Rattle.parse.proofs.Marks.{mark_is, mark_has, that_mark, one_begins, a_mark, one_head}
+use Rattle.parse.proofs.Marks.{mark_is, mark_has, one_begins, a_mark, one_head}
 
 -- ---- phrases in phrases
 

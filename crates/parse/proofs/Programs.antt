@@ -1,15 +1,14 @@
 -- A program is read exactly.
-use Rattle.std.proofs.Common.{◌≡◌, ℕ, ◌+◌, ◌-◌, ◌≤◌, max, Bool, true, false, not, List, [], ◌∷◌, ◌++◌, Option, Some, None, refl, sym, ap, subst, ◌∙◌, append_assoc, arith}
+use Rattle.std.proofs.Common.{◌≡◌, ℕ, ◌+◌, ◌≤◌, max, true, false, not, List, [], ◌∷◌, ◌++◌, refl, sym, ap, subst, ◌∙◌, append_assoc, arith}
 use Rattle.lex.specs.declared.token.Mark.TheVariants as m
 use Rattle.lex.specs.Tokens.{Tok}
-use Rattle.syntax.specs.Tree.{Global, Function, Item, Defines, Shares, Program}
+use Rattle.syntax.specs.Tree.{Function, Item, Defines, Shares, Program}
 use Rattle.syntax.specs.Depth.{body_depth, program_depth}
-use Rattle.syntax.specs.Phrases.{Phrase, Seq, Begins, Many}
+use Rattle.syntax.specs.Phrases.{Phrase, Seq, Many}
 use Rattle.syntax.specs.Grammar.{item}
-use Rattle.syntax.specs.StraightLine.{Lacks, AreSingle, IsStraightLine}
-use Rattle.parse.specs.Reading.{Parser, head, is_next, is_other, mapped, seq, many_until, shared, program_tree, program}
-use Rattle.parse.specs.Reading as R
-use Rattle.parse.proofs.Exact.{Exact, Always, Shallow, Comes, Two, two, value_of, Nonempty}
+use Rattle.syntax.specs.StraightLine.{Lacks, IsStraightLine}
+use Rattle.parse.specs.Reading.{head, is_other, mapped, shared, program_tree, program}
+use Rattle.parse.proofs.Exact.{Exact, Always, Comes, Two, two, value_of, Nonempty}
 use Rattle.parse.proofs.Many.{ManyFit, many_exact}
 use Rattle.parse.proofs.Parts.{no_seq, un_seq}
 use Rattle.parse.proofs.Singles.{SharedL, shared_exact, shared_here, shared_solid, seq_lacks, lacks_parts}

@@ -1,5 +1,5 @@
 -- Declarations of variables are read exactly.
-use Rattle.std.proofs.Common.{◌≡◌, ℕ, zero, suc, ◌+◌, ◌≤◌, Bool, true, false, not, List, [], ◌∷◌, ◌++◌, Option, Some, None, refl, sym, ap, subst, ◌∙◌, ◌⊎◌, inl, inr}
+use Rattle.std.proofs.Common.{◌≡◌, ℕ, Bool, true, false, not, List, [], ◌∷◌, ◌++◌, Option, Some, None, refl, sym, ap, subst, ◌∙◌, inl, inr}
 use Rattle.lex.specs.declared.token.Mark.{Mark}
 use Rattle.lex.specs.declared.token.Mark.TheVariants as m
 use Rattle.lex.specs.declared.token.Scalar.{Scalar}
@@ -7,15 +7,15 @@ use Rattle.lex.specs.declared.token.Scalar.TheVariants.{Int, Unsigned}
 use Rattle.lex.specs.declared.token.Span.{Span}
 use Rattle.lex.specs.Tokens.{Terminal, name, constant, text, mark, reserved, Tok}
 use Rattle.syntax.specs.declared.tree.First.{First}
-use Rattle.syntax.specs.Tree.{Name, Global, Item, Shares}
-use Rattle.syntax.specs.Phrases.{Phrase, Seq, One, Nil, Is, Begins, Many, Listed, Covers, is_mark, the_mark, place_of, given}
-use Rattle.syntax.specs.Grammar.{name_in, the_name, value_in, the_value, minus, initialiser, optional, sized, global, globals, scalar, item}
+use Rattle.syntax.specs.Tree.{Name, Global, Shares}
+use Rattle.syntax.specs.Phrases.{Phrase, Seq, One, Is, Begins, Many, Covers, is_mark, the_mark, place_of, given}
+use Rattle.syntax.specs.Grammar.{name_in, the_name, value_in, the_value, minus, initialiser, optional, sized, global, scalar, item}
 use Rattle.syntax.specs.StraightLine.{Lacks, IsOneFirst, IsSingle, AreSingle}
-use Rattle.parse.specs.Reading.{Parser, head, take, is_next, is_other, perhaps, behind, before, mapped, seq, spot, many_until, int_in, the_int, first_tree, first_value, firsts, global_tree, single, shared, across}
+use Rattle.parse.specs.Reading.{head, is_next, is_other, behind, mapped, seq, many_until, int_in, the_int, first_tree, first_value, global_tree, single, shared, across}
 use Rattle.parse.proofs.Exact.{Exact, Always, Shallow, Comes, Two, take_exact, relabel, two, value_of, Nonempty}
 use Rattle.parse.proofs.Many.{ManyFit, many_exact}
-use Rattle.parse.proofs.Marks.{mark_is, mark_has, one_begins, one_head}
-use Rattle.parse.proofs.Parts.{seq_map, no_seq, un_seq, is_here, is_not_here, seq_here, seq_not_here, mark_place, place_mark, head_begins, behind_exact, before_exact, perhaps_exact, MaybeW, MaybeS}
+use Rattle.parse.proofs.Marks.{mark_is, one_begins, one_head}
+use Rattle.parse.proofs.Parts.{seq_map, no_seq, is_here, seq_here, seq_not_here, mark_place, place_mark, behind_exact, before_exact, perhaps_exact, MaybeW, MaybeS}
 use Rattle.parse.proofs.Adding.{lacks_append, lacks_front, lacks_back, some_name, some_name_token}
 
 -- ---- constants of type `int`

@@ -1,7 +1,6 @@
 -- What the whole call promises, of the part of the language that is parsed.
-use Rattle.std.proofs.Common.{◌≡◌, ℕ, ◌+◌, ◌-◌, ◌<◌, ◌≤◌, List, [], ◌∷◌, ◌++◌, Result, Ok, Err, refl, sym, ap, ◌∙◌, arith, length, slice_index_or, ◌==◌, false}
+use Rattle.std.proofs.Common.{◌≡◌, ℕ, ◌+◌, ◌-◌, ◌<◌, ◌≤◌, List, [], ◌∷◌, ◌++◌, Ok, Err, refl, sym, ap, ◌∙◌, arith, length, slice_index_or, ◌==◌, false}
 use Rattle.lex.specs.declared.token.Token.{Token}
-use Rattle.lex.specs.declared.token.Span.{Span}
 use Rattle.lex.specs.Tokens.{Tok, tok, toks}
 use Rattle.syntax.specs.Tree.{Program}
 use Rattle.syntax.specs.Depth.{program_depth}

@@ -1,9 +1,9 @@
 -- From an exact parser to what a whole call promises, for any language.
-use Rattle.std.proofs.Common.{◌≡◌, ℕ, ◌+◌, ◌<◌, ◌≤◌, max, List, [], ◌∷◌, ◌++◌, Option, Some, None, Result, Ok, Err, refl, sym, ap, subst, ◌∙◌, append_assoc, arith, inl, inr}
+use Rattle.std.proofs.Common.{◌≡◌, ℕ, ◌≤◌, max, List, [], ◌∷◌, ◌++◌, Result, Ok, Err, refl, sym, ap, subst, ◌∙◌, append_assoc, arith, inl, inr}
 use Rattle.std.proofs.lemmas.Bool.{cases_lt}
 use Rattle.std.proofs.lemmas.List.{append-nil}
 use Rattle.lex.specs.Tokens.{Tok}
-use Rattle.syntax.specs.Phrases.{Phrase, Begins, IsUnexpected, IsUnfinished, IsTooDeep}
+use Rattle.syntax.specs.Phrases.{Phrase, Begins, IsUnexpected, IsTooDeep}
 use Rattle.parse.specs.Reading.{Fault, wrong, deep, ◌>>=◌, Parser, head, finished}
 use Rattle.parse.proofs.Exact.{Nonempty, Exact, Always, bind_ok, bind_err}
 

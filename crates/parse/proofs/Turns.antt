@@ -1,8 +1,8 @@
 -- Reading a list item by item, as a loop does.
-use Rattle.std.proofs.Common.{◌≡◌, ℕ, zero, suc, ◌+◌, ◌-◌, ◌<◌, ◌≤◌, Bool, true, false, List, [], ◌∷◌, ◌++◌, Option, Result, Ok, Err, refl, sym, ap, ◌∙◌, append_assoc, arith, ◌⊎◌, inl, inr}
+use Rattle.std.proofs.Common.{◌≡◌, ℕ, zero, suc, ◌+◌, ◌-◌, ◌<◌, Bool, true, false, List, [], ◌∷◌, ◌++◌, Option, Result, Ok, Err, refl, sym, ap, ◌∙◌, append_assoc, arith, ◌⊎◌, inl, inr}
 use Rattle.std.proofs.lemmas.List.{append-nil}
 use Rattle.lex.specs.Tokens.{Tok}
-use Rattle.parse.specs.Reading.{Fault, wrong, deep, ◌>>=◌, Parser, head, many}
+use Rattle.parse.specs.Reading.{Fault, wrong, ◌>>=◌, Parser, head, many}
 
 -- what was read before, and what is still read
 abbrev pub onward : {A : Type 0} → List A → Result (List A × List Tok) Fault → Result (List A × List Tok) Fault

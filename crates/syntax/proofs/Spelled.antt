@@ -1,5 +1,5 @@
 -- Small texts and their trees.
-use Rattle.std.proofs.Common.{◌≡◌, ℕ, ◌+◌, List, [], ◌∷◌, Some, None, refl, inl}
+use Rattle.std.proofs.Common.{ℕ, ◌+◌, List, [], ◌∷◌, None, refl, inl}
 use Rattle.lex.specs.declared.token.Mark.{Mark}
 use Rattle.lex.specs.declared.token.Mark.TheVariants as m
 use Rattle.lex.specs.declared.token.Scalar.TheVariants.{Int}

@@ -1,5 +1,5 @@
 -- Words are below 2^32.
-use Rattle.std.proofs.Common.{◌≡◌, refl, ℕ, ◌<◌, ◌-◌, ◌%◌, ◌^◌, arith, List, [], ◌∷◌, ◌++◌, length, Bool, true, false, Result, Ok, Err}
+use Rattle.std.proofs.Common.{refl, ℕ, ◌<◌, ◌-◌, ◌^◌, arith, List, [], ◌∷◌, length, Bool, true, false, Result, Ok, Err}
 use Rattle.std.specs.Prelude.{ℤ, pos, negsuc, ◌*ℤ◌, IfOk, if◌then◌else◌, ◌==◌, nat_lt, int_div, int_rem, All, replicate, map}
 use Rattle.std.proofs.lemmas.Nat.{mod_below, or_of_32, xor_of_32}
 use Rattle.std.specs.Int.{int_div_euclid}
@@ -12,10 +12,10 @@ use Rattle.syntax.specs.declared.tree.BinaryOp.{BinaryOp}
 use Rattle.syntax.specs.declared.tree.BinaryOp.TheVariants.{Or, Xor, And, Equal, NotEqual, Less, Greater, LessEqual, GreaterEqual, ShiftLeft, ShiftRight, Add, Subtract, Multiply, Divide, Remainder}
 use Rattle.syntax.specs.declared.numbers.Trap.{Trap}
 use Rattle.syntax.specs.declared.numbers.Trap.TheVariants.{OutOfRange, ZeroDivisor, ShiftCount}
-use Rattle.syntax.specs.Tree.{Global, Program}
-use Rattle.syntax.specs.Numbers.{word_of, number, number_of, in_range, fitted, truth, quotient, if_ok, shift, computed, converted}
-use Rattle.syntax.specs.Names.{globals, cells, first_word, first_words, initial_from, initial_memory}
-use Rattle.syntax.specs.Laws.{GivesWords, IsMemoryOf, BeginsWithMemory}
+use Rattle.syntax.specs.Tree.{Global}
+use Rattle.syntax.specs.Numbers.{word_of, number, number_of, in_range, fitted, truth, quotient, if_ok, shift, computed}
+use Rattle.syntax.specs.Names.{globals, cells, first_word, first_words, initial_from}
+use Rattle.syntax.specs.Laws.{GivesWords, BeginsWithMemory}
 
 pub word_below : (z : ℤ) → word_of z < 2 ^ 32
 word_below (pos a) = mod_below a (2 ^ 32) (omega arith)

@@ -23,7 +23,7 @@ use Rattle.syntax.specs.declared.tree.First.{First}
 use Rattle.syntax.specs.Tree as Tree
 use Rattle.syntax.specs.Tree.{Name, Expr, Exprs, Variable, Constant, Element, Call, Parenthesized, Cast, Unary, Binary, Logical, Conditional, Simple, Value, Assign, Change, Declarator, Declaration, Start, Nothing, Declares, Does, Stmt, Stmts, Empty, Declare, Do, Block, Print, If, IfElse, While, DoWhile, For, Break, Continue, Return, Transaction, Cancel, Parameter, Function, Global, Item, Defines, Shares, Program}
 use Rattle.syntax.specs.Depth.{program_depth}
-use Rattle.syntax.specs.Phrases.{Phrase, Seq, One, Nil, never, ◌⨾◌, ◌∣◌, given, Many, Is, Keyword, Listed, spanning, end_of, Begins}
+use Rattle.syntax.specs.Phrases.{Phrase, One, Nil, never, ◌⨾◌, ◌∣◌, given, Many, Is, Keyword, Listed, spanning, end_of, Begins}
 
 -- ---- what single tokens say
 

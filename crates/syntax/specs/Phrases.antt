@@ -1,5 +1,5 @@
 -- Phrases: lists of tokens that stand for something, and how a grammar is put together of them.
-use Rattle.std.specs.Prelude.{◌≡◌, ◌⊎◌, ℕ, ◌<◌, List, [], ◌∷◌, ◌++◌, Option, Some, None, Bool, true, false, if◌then◌else◌}
+use Rattle.std.specs.Prelude.{◌≡◌, ◌⊎◌, ℕ, ◌<◌, List, [], ◌∷◌, ◌++◌, Option, Some, None, Bool, false, if◌then◌else◌}
 use denote.Enum.Bare.{sameb}
 use Rattle.lex.specs.declared.token.Mark.{Mark}
 use Rattle.lex.specs.declared.token.Mark.TheVariants as m

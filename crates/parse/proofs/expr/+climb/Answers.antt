@@ -2,7 +2,7 @@ use Rattle.std.proofs.Common.{◌≡◌, ◌+◌, ◌-◌, refl, sym, ap, ◌∙
 use Rattle.std.proofs.lemmas.Result.{err_from_is_err_and}
 use Rattle.lex.specs.Tokens.{toks}
 use Rattle.syntax.specs.declared.tree.Expr as E
-use Rattle.syntax.specs.Tree.{Expr, Binary}
+use Rattle.syntax.specs.Tree.{Binary}
 use Rattle.syntax.specs.Depth.{expr_depth}
 use Rattle.syntax.specs.Typing.{span_of}
 use Rattle.syntax.specs.Views.{expr_of}

@@ -1,4 +1,4 @@
-use Rattle.std.proofs.Common.{◌≡◌, ℕ, ◌+◌, ◌-◌, ◌≤◌}
+use Rattle.std.proofs.Common.{◌≡◌, ◌+◌, ◌-◌, ◌≤◌}
 use Rattle.lex.specs.Tokens.{toks}
 use Rattle.syntax.specs.Depth.{expr_depth}
 use Rattle.syntax.specs.Views.{expr_of}

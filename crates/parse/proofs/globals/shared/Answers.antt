@@ -1,13 +1,13 @@
-use Rattle.std.proofs.Common.{◌≡◌, ◌+◌, ◌-◌, ◌++◌, ◌∷◌, [], Ok, not, true, length, map, refl, sym, ap, ◌∙◌, arith, ◌⊎◌, inl, inr}
+use Rattle.std.proofs.Common.{◌≡◌, ◌-◌, ◌++◌, ◌∷◌, [], not, true, length, map, refl, sym, ap, ◌∙◌, arith, ◌⊎◌, inl, inr}
 use Rattle.std.proofs.lemmas.Result.{err_from_is_err_and}
 use Rattle.std.proofs.lemmas.List.{map_push}
 use Rattle.lex.specs.declared.token.Mark.TheVariants as m
 use Rattle.lex.specs.Tokens.{toks}
 use Rattle.syntax.specs.Views.{global_of}
-use Rattle.parse.specs.Reading.{head, expect, is_next, is_other, many_until, behind, single, shared}
+use Rattle.parse.specs.Reading.{head, expect, is_other, many_until, behind, single}
 use Rattle.parse.proofs.Climbing.{fails_along}
 use Rattle.parse.proofs.Turns.{onward, goes_on, fails_on, good_end, bad_end}
-use Rattle.parse.proofs.Braces.{expect_not, ended, ended_fails, ended_bad, ended_good, shared_is}
+use Rattle.parse.proofs.Braces.{ended, ended_fails, ended_bad, ended_good, shared_is}
 use Rattle.parse.proofs.Marks.{other_false}
 use Rattle.parse.proofs.globals.shared.Goals.{else-turns-test, then-turns-test+then-not-is_next}
 use Rattle.parse.proofs.globals.shared.Goals as goal

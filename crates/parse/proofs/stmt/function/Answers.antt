@@ -1,8 +1,7 @@
-use Rattle.std.proofs.Common.{◌≡◌, Ok, Some, None, [], ◌∷◌, map, sym, ap, ◌∙◌, refl}
+use Rattle.std.proofs.Common.{◌≡◌, Ok, Some, None, map, sym, ap, ◌∙◌, refl}
 use Rattle.lex.specs.Tokens.{toks}
-use Rattle.lex.specs.declared.token.Scalar.TheVariants.{Int}
 use Rattle.syntax.specs.Tree.{Function}
-use Rattle.syntax.specs.Views.{name_of, stmt_of, function_of, parameter_of, stmts_from}
+use Rattle.syntax.specs.Views.{name_of, stmt_of, parameter_of, stmts_from}
 use Rattle.parse.specs.Reading.{function_tree}
 use Rattle.parse.proofs.Braces.{function_is}
 use Rattle.parse.proofs.stmt.function.Goals as goal

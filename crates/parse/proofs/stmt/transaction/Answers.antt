@@ -1,4 +1,4 @@
-use Rattle.std.proofs.Common.{◌≡◌, Ok, map, sym, ap, ◌∙◌}
+use Rattle.std.proofs.Common.{Ok, map, sym, ap, ◌∙◌}
 use Rattle.lex.specs.Tokens.{toks}
 use Rattle.syntax.specs.declared.tree.Mode.TheVariants.{Atomic}
 use Rattle.syntax.specs.Views.{stmt_of}

@@ -1,4 +1,4 @@
-use Rattle.std.proofs.Common.{◌≡◌, map, refl, sym, ◌∙◌}
+use Rattle.std.proofs.Common.{map}
 use Rattle.lex.specs.Tokens.{toks}
 use Rattle.syntax.specs.Views.{item_of}
 use Rattle.parse.specs.Reading.{wrong, deep}
