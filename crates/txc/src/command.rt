@@ -39,9 +39,13 @@ impl UsageFault {
 fn program<'a>(alloc: Global) -> Result<Command<'a>, AllocError> {
     let file = Arg::new(alloc, "FILE")
         .required(true)
-        .action(ArgAction::Set);
-    let run = Command::new(alloc, "run").arg(file)?;
+        .action(ArgAction::Set)
+        .help("A C source with transactions");
+    let run = Command::new(alloc, "run")
+        .about("Runs a program with one thread, and prints its end and its globals")
+        .arg(file)?;
     Command::new(alloc, "txc")
+        .about("A compiler and a machine for C programs with transactions")
         .subcommand_required(true)
         .subcommand(run)
 }
