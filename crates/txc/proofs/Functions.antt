@@ -1,18 +1,17 @@
 -- The demands of the function, and of the program as a whole.
-use Rattle.std.proofs.Common.{◌≡◌, ℕ, List, [], ◌∷◌, ◌++◌, map, refl, sym, ap, ◌∙◌, true, false, Bool, append_assoc, append-nil, if◌then◌else◌}
-use Rattle.std.specs.Prelude.{bytes_eq, Option, Some, None, IsSome, is_some, not, ◌||◌, ◌&&◌, codes, slice_get}
+use Rattle.std.proofs.Common.{◌≡◌, ℕ, List, [], ◌∷◌, ◌++◌, map, refl, sym, ◌∙◌, true, false, Bool, append_assoc, append-nil, if◌then◌else◌}
+use Rattle.std.specs.Prelude.{bytes_eq, Option, Some, None, IsSome, is_some, ◌||◌, ◌&&◌, slice_get}
 use Rattle.std.proofs.lemmas.Slice.Eq.{bytes_eq-Decides}
 use Rattle.lex.specs.declared.token.Span.{Span}
 use Rattle.lex.specs.declared.token.Scalar.{Scalar}
-use Rattle.lex.specs.declared.token.Scalar.TheVariants.{Int, Unsigned}
+use Rattle.lex.specs.declared.token.Scalar.TheVariants.{Int}
 use Rattle.syntax.specs.Tree.{Name, Item, Global, Function, Parameter, Stmts, Program, Shares, Defines}
 use Rattle.syntax.specs.Names.{definition_of, defined}
 use Rattle.syntax.specs.Types.{Known, Unknown, Number, Array, Callable, Scope, known_global, known_function, known_among, file_scope, with_number}
-use Rattle.syntax.specs.StraightLine.{IsSingle, AreSingle, IsOneNumber, IsStraightBody, AreTransactions, IsStraightFunction, IsStraightLine}
-use Rattle.syntax.specs.Typing.{is_unknown, is_worker, may_be_function, has_name, defined_names, agrees, with_parameters, parameter_names, AreTypedStmts, IsTypedBody, IsTypedFunction, IsTypedItem, AreTypedItems, AreDefined, Meets}
-use Rattle.txc.specs.declared.check.Symbol.{Symbol}
+use Rattle.syntax.specs.StraightLine.{AreSingle, IsOneNumber, IsStraightBody, IsStraightFunction, IsStraightLine}
+use Rattle.syntax.specs.Typing.{is_unknown, is_worker, may_be_function, defined_names, with_parameters, parameter_names, AreTypedStmts, IsTypedBody, IsTypedFunction, IsTypedItem, AreTypedItems, AreDefined}
 use Rattle.txc.specs.declared.check.Symbol.TheVariants as symbol
-use Rattle.txc.specs.Checks.{every, that, symbol_of, scope, AreShared, IsLast}
+use Rattle.txc.specs.Checks.{symbol_of, scope, AreShared, IsLast}
 
 -- ---- the function
 

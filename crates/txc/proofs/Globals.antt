@@ -1,5 +1,5 @@
 -- The demands of globals.
-use Rattle.std.proofs.Common.{◌≡◌, ℕ, ◌+◌, ◌<◌, ◌≤◌, List, [], ◌∷◌, ◌++◌, map, get_or, length, take, drop, refl, sym, ap, ◌∙◌, true, arith, rules, None, append_assoc, append-nil}
+use Rattle.std.proofs.Common.{◌≡◌, ℕ, ◌+◌, ◌<◌, ◌≤◌, List, [], ◌∷◌, ◌++◌, map, get_or, length, take, drop, refl, sym, ap, ◌∙◌, true, arith, rules}
 use Rattle.std.specs.Prelude.{nat_le}
 use Rattle.std.proofs.lemmas.Bool.Decides.{nat_tests}
 use Rattle.std.proofs.lemmas.List.{map-append, take_more}
@@ -10,10 +10,9 @@ use Rattle.syntax.specs.declared.tree.First.{First}
 use Rattle.syntax.specs.Tree.{Item, Global, Shares, Defines}
 use Rattle.syntax.specs.Names.{cells}
 use Rattle.syntax.specs.Types.{Known, Unknown, Number, Array, Callable, file_scope}
-use Rattle.syntax.specs.StraightLine.{IsOneFirst, IsSingle, AreSingle}
-use Rattle.syntax.specs.Typing.{IsLength, HaveCells, is_unknown, AreTypedGlobals, IsTypedItem, AreTypedItems, all_cells}
+use Rattle.syntax.specs.StraightLine.{IsOneFirst, IsSingle}
+use Rattle.syntax.specs.Typing.{HaveCells, is_unknown, AreTypedGlobals, IsTypedItem, AreTypedItems, all_cells}
 use Rattle.txc.specs.declared.check.CheckFault.{CheckFault}
-use Rattle.txc.specs.declared.check.Symbol.{Symbol}
 use Rattle.txc.specs.declared.check.Symbol.TheVariants as symbol
 use Rattle.txc.specs.Checks.{every, that, Leaves, symbol_of, IsTypedGlobal, AreShared}
 use Rattle.txc.proofs.Steps.{drop_here}

@@ -1,9 +1,8 @@
 -- What names are known as after items.
 use Rattle.std.proofs.Common.{◌≡◌, ℕ, List, [], ◌∷◌, ◌++◌, map, get_or, length, ◌<◌, drop, ◌+◌, refl, sym, ap, ◌∙◌, true, false, Bool, if◌then◌else◌}
 use Rattle.std.specs.Prelude.{bytes_eq, Option, Some, None}
-use Rattle.syntax.specs.Tree.{Item, Global, Defines, Shares, Function}
+use Rattle.syntax.specs.Tree.{Item, Global, Defines, Shares}
 use Rattle.syntax.specs.Types.{Known, Unknown, Number, Array, Callable, Scope, known_global, known_function, known_among, file_scope}
-use Rattle.txc.specs.declared.check.Symbol.{Symbol}
 use Rattle.txc.specs.declared.check.Symbol.TheVariants as symbol
 use Rattle.txc.specs.Checks.{symbol_of}
 use Rattle.txc.proofs.Steps.{drop_here}

@@ -1,5 +1,5 @@
 -- The demands of transactions and of the assignments in them.
-use Rattle.std.proofs.Common.{◌≡◌, ℕ, List, [], ◌∷◌, ◌++◌, get_or, length, ◌<◌, drop, ◌+◌, refl, sym, ap, ◌∙◌, false, None, Some, Option}
+use Rattle.std.proofs.Common.{◌≡◌, ℕ, List, [], get_or, length, ◌<◌, drop, ◌+◌, refl, false, None, Some, Option}
 use Rattle.lex.specs.declared.token.Span.{Span}
 use Rattle.syntax.specs.declared.tree.Mode.{Mode}
 use Rattle.syntax.specs.declared.tree.Mode.TheVariants.{Atomic, Relaxed}
@@ -18,7 +18,7 @@ use Rattle.syntax.specs.Tree as Tree
 use Rattle.syntax.specs.Tree.{Expr, Simple, Stmt, Stmts, Assign, Do, Transaction}
 use Rattle.syntax.specs.Views.{expr_of, expr_step, stmt_of, stmt_step, stmts_of}
 use Rattle.syntax.specs.Types.{Scope}
-use Rattle.syntax.specs.StraightLine.{IsVariable, IsSum, IsAssigned, IsAssignment, AreAssignments, IsStraightTransaction, AreTransactions}
+use Rattle.syntax.specs.StraightLine.{IsVariable, IsSum, IsAssigned, IsAssignment, AreAssignments, IsStraightTransaction}
 use Rattle.syntax.specs.Typing.{scope_after, names_of, IsTypedStmt, AreTypedStmts}
 use Rattle.txc.specs.declared.check.CheckFault.{CheckFault}
 use Rattle.txc.specs.Checks.{every, that, Leaves}

@@ -1,5 +1,5 @@
 -- The demands of sums.
-use Rattle.std.proofs.Common.{◌≡◌, ℕ, false, true, refl, sym, ap}
+use Rattle.std.proofs.Common.{◌≡◌, ℕ, false, refl}
 use Rattle.lex.specs.declared.token.Span.{Span}
 use Rattle.lex.specs.declared.token.Scalar.TheVariants.{Int, Unsigned}
 use Rattle.syntax.specs.declared.tree.BinaryOp.{BinaryOp}
@@ -9,7 +9,7 @@ use Rattle.syntax.specs.declared.tree.Expr.TheOpen.{Expr-F}
 use Rattle.syntax.specs.declared.tree.Expr.TheFolds.{ind-Expr, fold-roll-Expr}
 use Rattle.syntax.specs.declared.tree.Expr.TheVariants as EV
 use Rattle.syntax.specs.Views.{expr_of, expr_step}
-use Rattle.syntax.specs.Tree.{Expr, Variable, Constant, Element, Call, Parenthesized, Cast, Unary, Binary, Logical, Conditional}
+use Rattle.syntax.specs.Tree.{Expr, Call, Parenthesized, Binary}
 use Rattle.syntax.specs.Types.{Scope}
 use Rattle.syntax.specs.StraightLine.{IsAtom, IsSum}
 use Rattle.syntax.specs.Typing.{is_void, IsTyped, GivesNumber}

@@ -1,12 +1,12 @@
-use Rattle.std.proofs.Common.{ap, ◌∙◌, map, rules}
+use Rattle.std.proofs.Common.{ap, ◌∙◌, map}
 use Rattle.std.proofs.lemmas.Result.{err_from_is_err_and}
 use Rattle.syntax.proofs.Seen.{expr_of_binary}
 use Rattle.syntax.specs.Views.{expr_of, item_of}
 use Rattle.syntax.specs.Tree.{Binary}
 use Rattle.syntax.specs.Typing.{IsTyped}
-use Rattle.txc.specs.Checks.{scope, that, every}
+use Rattle.txc.specs.Checks.{scope, every}
 use Rattle.txc.proofs.Answered.{checked_by}
-use Rattle.txc.proofs.Sums.{binary_typed, atom_is_sum, sum_is_atom}
+use Rattle.txc.proofs.Sums.{binary_typed, sum_is_atom}
 use Rattle.txc.proofs.check.+check_sum.Goals as goal
 
 pub returns-in_err-check_sum-in-Binary : goal.returns-in_err-check_sum-in-Binary

@@ -1,4 +1,4 @@
-use Rattle.std.proofs.Common.{map, drop, [], ◌∷◌, false, None}
+use Rattle.std.proofs.Common.{map, drop, [], false, None}
 use Rattle.syntax.specs.Views.{item_of, stmts_of}
 use Rattle.syntax.specs.StraightLine.{AreAssignments}
 use Rattle.syntax.specs.Typing.{AreTypedStmts}

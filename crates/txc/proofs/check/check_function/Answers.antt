@@ -1,6 +1,5 @@
 use Rattle.std.proofs.Common.{map, sym, ◌∙◌, refl}
 use Rattle.syntax.specs.Views.{item_of}
-use Rattle.syntax.specs.Types.{file_scope}
 use Rattle.txc.proofs.Functions.{known_function_name, and_first}
 use Rattle.txc.proofs.check.check_function.Goals as goal
 

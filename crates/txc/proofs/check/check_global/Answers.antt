@@ -1,4 +1,4 @@
-use Rattle.std.proofs.Common.{map, sym, ◌∙◌, refl, ap, ◌++◌, ◌∷◌, []}
+use Rattle.std.proofs.Common.{map, sym, ◌∙◌, refl, ◌++◌, ◌∷◌, []}
 use Rattle.syntax.specs.Tree.{Shares}
 use Rattle.syntax.specs.Types.{file_scope}
 use Rattle.syntax.specs.Views.{item_of, global_of}

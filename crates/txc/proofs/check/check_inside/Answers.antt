@@ -1,4 +1,4 @@
-use Rattle.std.proofs.Common.{map, sym, ◌∙◌, ap, [], ◌∷◌, ◌++◌, None, option_map, false}
+use Rattle.std.proofs.Common.{map, ap, [], ◌∷◌, ◌++◌, None, option_map, false}
 use Rattle.syntax.specs.Tree.{Defines}
 use Rattle.syntax.specs.Views.{item_of, function_of, parameter_of, name_of, stmts_of}
 use Rattle.syntax.specs.Typing.{AreTypedStmts, IsTypedFunction}

@@ -1,4 +1,4 @@
-use Rattle.std.proofs.Common.{map, drop, [], ◌∷◌, false, None}
+use Rattle.std.proofs.Common.{map, [], ◌∷◌, false, None}
 use Rattle.std.proofs.lemmas.List.{drop_all}
 use Rattle.std.proofs.lemmas.Result.{err_from_is_err_and}
 use Rattle.syntax.specs.Views.{item_of, stmt_of, stmts_of}
