@@ -4,14 +4,7 @@ pub mod Turns
 pub mod Knot
 pub mod Climbing
 pub mod Chain
-pub mod Sums
 pub mod Marks
-pub mod Braces
 pub mod Ends
 pub mod Parts
-pub mod Adding
-pub mod Singles
-pub mod Lines
-pub mod Programs
 pub mod Theorems
-pub mod Sources

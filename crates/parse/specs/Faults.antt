@@ -5,8 +5,7 @@ use Rattle.lex.specs.Tokens.{Tok}
 use Rattle.syntax.specs.declared.tree.Unit.{Unit as Tree}
 use Rattle.syntax.specs.Views.{program_of}
 use Rattle.syntax.specs.Phrases.{IsUnexpected, IsUnfinished, IsTooDeep}
-use Rattle.syntax.specs.Grammar.{Source, source_depth, deepest_program}
-use Rattle.syntax.specs.StraightLine.{SpellsStraightLine}
+use Rattle.syntax.specs.Grammar.{Source, Spells, source_depth, deepest_program}
 use Rattle.parse.specs.declared.fault.ParseFault.{ParseFault}
 use Rattle.parse.specs.declared.fault.ParseFault.TheVariants as fault
 
@@ -26,12 +25,12 @@ span_of (fault.Unfinished at) = Some at
 abbrev pub source_of : {A : Type 0} → Tree A → Source
 source_of u = record { program = program_of u; ends = u.end }
 
--- what a fault says, of the part of the language that is parsed; want of memory says nothing
+-- what a fault says of the tokens; want of memory says nothing
 abbrev pub IsFaultOf : List Tok → ParseFault → Type 0
 IsFaultOf ts fault.OutOfMemory = Unit {0}
-IsFaultOf ts (fault.Unexpected at) = IsUnexpected SpellsStraightLine ts at
-IsFaultOf ts (fault.TooDeep at) = IsTooDeep SpellsStraightLine source_depth deepest_program ts at
-IsFaultOf ts (fault.Unfinished at) = IsUnfinished SpellsStraightLine ts at
+IsFaultOf ts (fault.Unexpected at) = IsUnexpected Spells ts at
+IsFaultOf ts (fault.TooDeep at) = IsTooDeep Spells source_depth deepest_program ts at
+IsFaultOf ts (fault.Unfinished at) = IsUnfinished Spells ts at
 
 -- this program was found, if memory sufficed
 abbrev pub Finds : {A : Type 0} → Source → Result (Tree A) ParseFault → Type 0

@@ -56,8 +56,12 @@ none ts = Err (wrong ts)
 abbrev pub give : {A : Type 0} → A → Parser A
 give x ts = Ok (x, ts)
 
+-- one thing, and then another that depends on it
+abbrev pub chained : {A B : Type 0} → Parser A → (A → Parser B) → Parser (A × B)
+chained P Q ts = P ts >>= λ x. Q x.0 x.1 >>= λ y. Ok ((x.0, y.0), y.1)
+
 abbrev pub seq : {A B : Type 0} → Parser A → Parser B → Parser (A × B)
-seq P Q ts = P ts >>= λ x. Q x.1 >>= λ y. Ok ((x.0, y.0), y.1)
+seq P Q = chained P (λ x. Q)
 
 -- another value
 abbrev pub mapped : {A B : Type 0} → (A → B) → Parser A → Parser B
@@ -66,6 +70,14 @@ mapped f P ts = P ts >>= λ x. Ok (f x.0, x.1)
 -- as the first token says
 abbrev pub choice : {A : Type 0} → (Option Tok → Parser A) → Parser A
 choice c ts = c (head ts) ts
+
+-- one thing or another, as a test of the first token says
+abbrev pub either : {A : Type 0} → (Option Tok → Bool) → Parser A → Parser A → Parser A
+either test P Q ts = if test (head ts) then P ts else Q ts
+
+-- too deep, where something begins
+abbrev pub sunk : {A : Type 0} → (Option Tok → Bool) → Parser A
+sunk starts ts = if starts (head ts) then Err (deep ts) else Err (wrong ts)
 
 -- at most n, up to a token that stops
 abbrev pub many : {A : Type 0} → (Option Tok → Bool) → ℕ → Parser A → Parser (List A)
@@ -115,6 +127,22 @@ behind k P = mapped (λ x. x.1) (seq (expect k) P)
 abbrev pub before : {A : Type 0} → Mark → Parser A → Parser A
 before k P = mapped (λ x. x.0) (seq P (expect k))
 
+-- nothing, where the next token is this mark
+abbrev pub unless : {A : Type 0} → Mark → Parser A → Parser (Option A)
+unless k P = either (is_next k) (give None) (mapped Some P)
+
+abbrev pub in_front : {A : Type 0} → A × List A → List A
+in_front x = x.0 ∷ x.1
+
+-- one or more, with commas between
+abbrev pub listed : {A : Type 0} → Parser A → Parser (List A)
+listed P = mapped in_front (seq P (many_until (is_other m.Comma) (behind m.Comma P)))
+
+-- further ones, each behind a comma, and perhaps a comma behind the last, up to a brace; at most n
+abbrev pub trailing : {A : Type 0} → ℕ → Parser A → Parser (List A)
+trailing zero P ts = if is_next m.Comma (head ts) then Err (wrong ts) else Ok ([], ts)
+trailing (suc n) P ts = if is_next m.Comma (head ts) then (expect m.Comma ts >>= λ c. if is_next m.CloseBrace (head c.1) then Ok ([], c.1) else (P c.1 >>= λ x. trailing n P x.1 >>= λ y. Ok (x.0 ∷ y.0, y.1))) else Ok ([], ts)
+
 -- ---- operators that group to the left
 
 -- operators, by their tokens and levels, and the trees that they make
@@ -157,117 +185,10 @@ abbrev pub GivesOp : {Op : Type 0} → Option (Op × Bor (List Token)) → Optio
 GivesOp None read = read ≡ None
 GivesOp (Some x) read = read ≡ Some (x.0, toks (x.1).now)
 
--- ---- sums
-
-abbrev pub atom_in : Terminal → Span → Option Expr
-atom_in (name s) at = Some (Variable (record { text = s; at = at }))
-atom_in (constant n Int) at = Some (Constant n Int at)
-atom_in (constant n Unsigned) at = None
-atom_in (text s) at = None
-atom_in (mark k) at = None
-atom_in reserved at = None
-
--- a name or a constant of type `int`
-abbrev pub the_atom : Tok → Option Expr
-the_atom t = atom_in t.terminal t.span
-
-abbrev pub adding_of : Mark → Option BinaryOp
-adding_of m.Plus = Some Add
-adding_of m.Minus = Some Subtract
-adding_of _ = None
-
-abbrev pub the_adding : Tok → Option BinaryOp
-the_adding t = by_mark adding_of t.terminal
-
 -- from the start of one to the end of the other
 abbrev pub across : Span → Span → Span
 across a b = record { start = a.start; «end» = b.«end» }
 
-abbrev pub binary_node : BinaryOp → Expr → Expr → Expr
-binary_node op a b = Binary op a b (across (span_of a) (span_of b))
-
-abbrev pub sums : Operators Expr BinaryOp
-sums = record { the = the_adding; precedence = precedence; node = binary_node; depth = expr_depth }
-
-abbrev pub starts_atom : Option Tok → Bool
-starts_atom None = false
-starts_atom (Some t) = is_some_expr (the_atom t)
-  where
-    is_some_expr : Option Expr → Bool
-    is_some_expr None = false
-    is_some_expr (Some e) = true
-
--- a sum within depth d, of operators that bind at least so tightly
-unfoldable pub climb_at : ℕ → ℕ → Parser Expr
-climb_at zero min ts = if starts_atom (head ts) then Err (deep ts) else Err (wrong ts)
-climb_at (suc d) min ts = take the_atom ts >>= λ x. climb_loop sums (climb_at d) min (suc d) (suc d) x.0 x.1
-
--- ---- the program
-
--- a constant of type `int`, by its value and place
-abbrev pub int_in : Terminal → Span → Option (ℕ × Span)
-int_in (name s) at = None
-int_in (constant n Int) at = Some (n, at)
-int_in (constant n Unsigned) at = None
-int_in (text s) at = None
-int_in (mark k) at = None
-int_in reserved at = None
-
-abbrev pub the_int : Tok → Option (ℕ × Span)
-the_int t = int_in t.terminal t.span
-
-abbrev pub first_tree : Option Span → ℕ × Span → First
-first_tree None x = record { negative = false; value = x.0; of = Int; span = x.1 }
-first_tree (Some at) x = record { negative = true; value = x.0; of = Int; span = across at x.1 }
-
-abbrev pub first_value : Parser First
-first_value = mapped (λ x. first_tree x.0 x.1) (seq (perhaps m.Minus (spot m.Minus)) (take the_int))
-
-abbrev pub firsts : Option First → List First
-firsts None = []
-firsts (Some i) = i ∷ []
-
-abbrev pub global_tree : Name → Option First → Global
-global_tree x first = record { of = Int; name = x; length = None; first = firsts first }
-
-abbrev pub single : Parser Global
-single = mapped (λ x. global_tree x.0 x.1) (seq (take the_name) (perhaps m.Assign (behind m.Assign first_value)))
-
-abbrev pub shared : Parser (List Global)
-shared = behind m.Int (before m.Semicolon (mapped (λ x. x.0 ∷ x.1) (seq single (many_until (is_other m.Comma) (behind m.Comma single)))))
-
-abbrev pub assigned_tree : Name → Expr → Stmt
-assigned_tree x e = Do (Assign (Variable x) None e)
-
-abbrev pub assignment : ℕ → Parser Stmt
-assignment d = before m.Semicolon (mapped (λ x. assigned_tree x.0 x.1) (seq (take the_name) (behind m.Assign (climb_at d 0))))
-
--- up to the closing brace
-abbrev pub braced : {A : Type 0} → Parser A → Parser (List A)
-braced P = behind m.OpenBrace (before m.CloseBrace (many_until (is_next m.CloseBrace) P))
-
-abbrev pub transaction : ℕ → Parser Stmt
-transaction d = mapped (λ x. Transaction Atomic (stmts_from x.1) x.0) (seq (spot m.Atomic) (braced (assignment d)))
-
-abbrev pub function_tree : Name → Name → List Stmt → Function
-function_tree f x body = record { attributes = []; result = None; name = f; parameters = record { of = Int; name = Some x } ∷ []; body = Some (stmts_from body) }
-
-abbrev pub function : ℕ → Parser Function
-function d =
-    mapped (λ x. function_tree x.0 (x.1).0 (x.1).1)
-    (seq (behind m.Void (take the_name)) (seq (behind m.OpenParen (behind m.Int (before m.CloseParen (take the_name)))) (braced (transaction d))))
-
-abbrev pub program_tree : List Item → Function → Program
-program_tree items f = items ++ Defines f ∷ []
-
--- a program whose sums are within depth d
-abbrev pub program : ℕ → Parser Program
-program d = mapped (λ x. program_tree x.0 x.1) (seq (many_until (is_other m.Int) (mapped Shares shared)) (function d))
-
 abbrev pub finished : {A : Type 0} → A × List Tok → Result A Fault
 finished (x, []) = Ok x
 finished (x, t ∷ ts) = Err (wrong (t ∷ ts))
-
--- a program, and no token after it: a sum stands in an assignment in a block in a transaction in a block
-abbrev pub whole_at : ℕ → List Tok → Result Program Fault
-whole_at d ts = program (d - 4) ts >>= finished

@@ -2,11 +2,7 @@
 #![tactic(auto)]
 
 mod cursor;
-mod expr;
 mod fault;
-mod globals;
-mod stmt;
-mod unit;
+mod lead;
 
 pub use fault::ParseFault;
-pub use unit::{one_tree, parse};

@@ -1,0 +1,197 @@
+-- What the parser's functions over statements answer, as functions on lists.
+use Rattle.std.specs.Prelude.{◌≡◌, ℕ, zero, suc, Bool, true, false, List, [], ◌∷◌, Option, Some, None, Result, Ok, Err, if◌then◌else◌}
+use Rattle.lex.specs.declared.token.Mark.{Mark}
+use Rattle.lex.specs.declared.token.Mark.TheVariants as m
+use Rattle.lex.specs.declared.token.Scalar.{Scalar}
+use Rattle.lex.specs.declared.token.Span.{Span}
+use Rattle.lex.specs.Tokens.{Terminal, name, constant, text, mark, reserved, Tok}
+use Rattle.syntax.specs.declared.tree.BinaryOp.{BinaryOp}
+use Rattle.syntax.specs.declared.tree.Mode.{Mode}
+use Rattle.syntax.specs.declared.tree.Mode.TheVariants.{Atomic, Relaxed}
+use Rattle.syntax.specs.declared.tree.Step.{Step}
+use Rattle.syntax.specs.Tree.{Name, Expr, Simple, Value, Assign, Change, Declarator, Declaration, Start, Nothing, Declares, Does, Stmt, Empty, Declare, Do, Block, Print, If, IfElse, While, DoWhile, For, Break, Continue, Return, Transaction, Cancel}
+use Rattle.syntax.specs.Views.{exprs_from, stmts_from}
+use Rattle.syntax.specs.Grammar.{the_name, the_text, the_assigning, the_step, mode_mark}
+use Rattle.parse.specs.declared.lead.Lead.{Lead}
+use Rattle.parse.specs.declared.lead.Lead.TheVariants as lead
+use Rattle.parse.specs.Reading.{Fault, ◌>>=◌, Parser, head, give, chained, seq, mapped, choice, either, sunk, many_until, unless, listed, take, expect, spot, is_next, is_other, perhaps, behind, before}
+use Rattle.parse.specs.Expressions.{says, starts_type, scalar, starts_expr, expr_at, whole_at}
+
+-- ---- assignments, steps and values; whole: any expression
+
+module _ (whole : Parser Expr) where
+  -- `++e` and `--e`
+  abbrev pub stepped : Parser Simple
+  stepped = mapped (λ x. Change x.1 x.0) (seq (take the_step) whole)
+
+  -- behind an expression
+  abbrev pub assigned_from : Expr → Parser Simple
+  assigned_from to = mapped (λ x. Assign to x.0 x.1) (seq (take the_assigning) whole)
+
+  abbrev pub changed_from : Expr → Parser Simple
+  changed_from to = mapped (Change to) (take the_step)
+
+  abbrev pub simple_from : Expr → Parser Simple
+  simple_from to = either (says the_assigning) (assigned_from to) (either (says the_step) (changed_from to) (give (Value to)))
+
+  abbrev pub simple : Parser Simple
+  simple = either (says the_step) stepped (mapped (λ x. x.1) (chained whole simple_from))
+
+abbrev pub starts_simple : Option Tok → Bool
+starts_simple h = if says the_step h then true else starts_expr h
+
+-- what stands with a semicolon behind it, within this depth
+abbrev pub simple_at : ℕ → Parser Simple
+simple_at zero = sunk starts_simple
+simple_at (suc d) = simple (whole_at d)
+
+-- ---- declarations
+
+abbrev pub declarator_tree : Name × Option Expr → Declarator
+declarator_tree x = record { name = x.0; first = x.1 }
+
+abbrev pub declaration_tree : Scalar × List Declarator → Declaration
+declaration_tree x = record { of = x.0; declarators = x.1 }
+
+module _ (whole : Parser Expr) where
+  abbrev pub declarator : Parser Declarator
+  declarator = mapped declarator_tree (seq (take the_name) (perhaps m.Assign (behind m.Assign whole)))
+
+  abbrev pub declaration : Parser Declaration
+  declaration = mapped declaration_tree (seq scalar (before m.Semicolon (listed declarator)))
+
+abbrev pub declaration_at : ℕ → Parser Declaration
+declaration_at zero = sunk starts_type
+declaration_at (suc d) = declaration (whole_at d)
+
+-- ---- what statements begin with
+
+abbrev pub lead_mark : Mark → Lead
+lead_mark m.Semicolon = lead.Empty
+lead_mark m.OpenBrace = lead.Block
+lead_mark m.Printf = lead.Print
+lead_mark m.If = lead.If
+lead_mark m.While = lead.While
+lead_mark m.Do = lead.Do
+lead_mark m.For = lead.For
+lead_mark m.Break = lead.Break
+lead_mark m.Continue = lead.Continue
+lead_mark m.Return = lead.Return
+lead_mark m.Atomic = lead.Transaction Atomic
+lead_mark m.Relaxed = lead.Transaction Relaxed
+lead_mark m.Cancel = lead.Cancel
+lead_mark _ = lead.Simple
+
+abbrev pub lead_terminal : Terminal → Lead
+lead_terminal (name s) = lead.Simple
+lead_terminal (constant n of) = lead.Simple
+lead_terminal (text s) = lead.Simple
+lead_terminal (mark k) = lead_mark k
+lead_terminal reserved = lead.Simple
+
+-- the kind of statement that a token begins
+abbrev pub lead_at : Option Tok → Lead
+lead_at None = lead.Simple
+lead_at (Some t) = lead_terminal t.terminal
+
+abbrev pub is_lead : Lead → Option Tok → Bool
+is_lead lead.Simple h = starts_simple h
+is_lead _ h = true
+
+abbrev pub starts_stmt : Option Tok → Bool
+starts_stmt h = is_lead (lead_at h) h
+
+-- ---- statements
+
+abbrev pub if_tree : Expr × (Stmt × Option Stmt) → Stmt
+if_tree (c, (a, None)) = If c a
+if_tree (c, (a, Some b)) = IfElse c a b
+
+abbrev pub print_tree : Span × ((List ℕ × Span) × List Expr) → Stmt
+print_tree x = Print x.0 x.1.0.0 x.1.0.1 (exprs_from x.1.1)
+
+abbrev pub for_tree : (Start × (Option Expr × Option Simple)) × Stmt → Stmt
+for_tree x = For x.0.0 x.0.1.0 x.0.1.1 x.1
+
+abbrev pub in_parens : {A : Type 0} → Parser A → Parser A
+in_parens P = behind m.OpenParen (before m.CloseParen P)
+
+-- up to the closing brace
+abbrev pub braced : {A : Type 0} → Parser A → Parser (List A)
+braced P = behind m.OpenBrace (before m.CloseBrace (many_until (is_next m.CloseBrace) P))
+
+-- d: the depth of a statement's parts
+module _ (d : ℕ) where
+  -- what stands in a block; stmt: a statement
+  abbrev pub entry : Parser Stmt → Parser Stmt
+  entry stmt = either starts_type (mapped Declare (declaration_at d)) stmt
+
+  abbrev pub empty : Parser Stmt
+  empty = mapped (λ x. Empty) (expect m.Semicolon)
+
+  abbrev pub print : Parser Stmt
+  print = mapped print_tree (seq (spot m.Printf) (behind m.OpenParen (seq (take the_text) (before m.Semicolon (before m.CloseParen (many_until (is_other m.Comma) (behind m.Comma (whole_at d))))))))
+
+  abbrev pub start : Parser Start
+  start = either (is_next m.Semicolon) (mapped (λ x. Nothing) (expect m.Semicolon)) (either starts_type (mapped Declares (declaration_at d)) (mapped Does (before m.Semicolon (simple_at d))))
+
+  abbrev pub jump : Mark → (Span → Stmt) → Parser Stmt
+  jump k tree = mapped tree (before m.Semicolon (spot k))
+
+  abbrev pub return : Parser Stmt
+  return = mapped (λ x. Return x.1 x.0) (seq (spot m.Return) (before m.Semicolon (unless m.Semicolon (whole_at d))))
+
+  abbrev pub does : Parser Stmt
+  does = mapped Do (before m.Semicolon (simple_at (suc d)))
+
+  -- stmt: a statement; block: statements in braces
+  module _ (stmt : Parser Stmt) (block : Parser (List Stmt)) where
+    abbrev pub chosen : Parser Stmt
+    chosen = mapped if_tree (behind m.If (seq (in_parens (whole_at d)) (seq stmt (perhaps m.Else (behind m.Else stmt)))))
+
+    abbrev pub looped : Parser Stmt
+    looped = mapped (λ x. While x.0 x.1) (behind m.While (seq (in_parens (whole_at d)) stmt))
+
+    abbrev pub done : Parser Stmt
+    done = mapped (λ x. DoWhile x.0 x.1) (behind m.Do (seq stmt (behind m.While (before m.Semicolon (in_parens (whole_at d))))))
+
+    abbrev pub head_of_for : Parser (Start × (Option Expr × Option Simple))
+    head_of_for = behind m.OpenParen (seq start (seq (before m.Semicolon (unless m.Semicolon (whole_at d))) (before m.CloseParen (unless m.CloseParen (simple_at d)))))
+
+    abbrev pub counted : Parser Stmt
+    counted = mapped for_tree (behind m.For (seq head_of_for stmt))
+
+    abbrev pub transaction : Mode → Parser Stmt
+    transaction mode = mapped (λ x. Transaction mode (stmts_from x.1) x.0) (seq (spot (mode_mark mode)) block)
+
+    abbrev pub nested : Parser Stmt
+    nested = mapped (λ x. Block (stmts_from x)) (braced (entry stmt))
+
+    abbrev pub stmt_of : Lead → Parser Stmt
+    stmt_of lead.Empty = empty
+    stmt_of lead.Block = nested
+    stmt_of lead.Print = print
+    stmt_of lead.If = chosen
+    stmt_of lead.While = looped
+    stmt_of lead.Do = done
+    stmt_of lead.For = counted
+    stmt_of lead.Break = jump m.Break Break
+    stmt_of lead.Continue = jump m.Continue Continue
+    stmt_of lead.Return = return
+    stmt_of (lead.Transaction mode) = transaction mode
+    stmt_of lead.Cancel = jump m.Cancel Cancel
+    stmt_of lead.Simple = does
+
+    abbrev pub any_stmt : Parser Stmt
+    any_stmt = choice (λ h. stmt_of (lead_at h))
+
+unfoldable mutual
+  -- a statement within this depth
+  pub stmt_at : ℕ → Parser Stmt
+  stmt_at zero ts = sunk starts_stmt ts
+  stmt_at (suc d) ts = any_stmt d (stmt_at d) (block_at d) ts
+
+  -- statements and declarations in braces, within this depth
+  pub block_at : ℕ → Parser (List Stmt)
+  block_at zero ts = sunk (is_next m.OpenBrace) ts
+  block_at (suc d) ts = braced (entry d (stmt_at d)) ts
