@@ -7,7 +7,7 @@ use Rattle.lex.specs.declared.token.Scalar.TheVariants.{Int, Unsigned}
 use Rattle.syntax.specs.Tree.{Name, Parameter}
 use Rattle.syntax.specs.Numbers.{converted}
 use Rattle.syntax.specs.Meaning.{with_first, entered}
-use Rattle.syntax.specs.StraightLine.{IsOneNumber}
+use Rattle.lower.specs.StraightLine.{IsOneNumber}
 use Rattle.lower.specs.Lowering.{Each, only, parameter_in}
 
 pub if_ok : {X Y : Type 0} (r : Result X Y) (P Q : X → Type 0) → ((x : X) → P x → Q x) → IfOk r P → IfOk r Q

@@ -12,7 +12,7 @@ use Rattle.syntax.specs.declared.tree.Function as F
 use Rattle.syntax.specs.Tree.{Global}
 use Rattle.syntax.specs.Names.{GlobalCells, cells, globals, global_from, first_words, initial_from}
 use Rattle.syntax.specs.Views.{item_of, global_of}
-use Rattle.syntax.specs.StraightLine.{AreSingle}
+use Rattle.lower.specs.StraightLine.{AreSingle}
 use Rattle.lower.specs.Code.{AreWords}
 
 -- what is left of a list, from a turn of a loop on

@@ -1,8 +1,10 @@
 pub mod Alone
 pub mod Bodies
 pub mod Cells
+pub mod Recognized
 pub mod Runs
 pub mod Shapes
+pub mod EachKind
 pub mod Source
 pub mod Typed
 pub mod Words

@@ -21,7 +21,7 @@ use Rattle.syntax.specs.Tree as Tree
 use Rattle.syntax.specs.Tree.{Expr, Simple, Stmt, Stmts, Global, Assign, Transaction, Program}
 use Rattle.syntax.specs.Names.{GlobalCells, cells, globals, global_from, global_of}
 use Rattle.syntax.specs.Views.{expr_of, expr_step, stmt_of, stmt_step}
-use Rattle.syntax.specs.StraightLine.{IsAtom, IsSum, IsVariable, IsAssigned, IsAssignment, AreAssignments, IsStraightTransaction, AreSingle}
+use Rattle.lower.specs.StraightLine.{IsAtom, IsSum, IsVariable, IsAssigned, IsAssignment, AreAssignments, IsStraightTransaction, AreSingle}
 
 module _ {A : Type 0} where
   atom_layer : (l : Expr-F A (E.Expr A)) → IsAtom (expr_of (E.roll-Expr A l)) → ((x : N.Name A) → E.roll-Expr A l ≡ E.Variable x → ⊥) → ((n : ℕ) (t : Scalar) (at : Span) → E.roll-Expr A l ≡ E.Constant n t at → ⊥) → ⊥

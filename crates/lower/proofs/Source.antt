@@ -4,7 +4,7 @@ use Rattle.std.specs.Prelude.{Result, Ok, Err, option_map, if◌then◌else◌, 
 use Rattle.lex.specs.declared.token.Span.{Span}
 use Rattle.lex.specs.declared.token.Scalar.{Scalar}
 use Rattle.lex.specs.declared.token.Scalar.TheVariants.{Int, Unsigned}
-use Rattle.syntax.specs.StraightLine.{IsAtom}
+use Rattle.lower.specs.StraightLine.{IsAtom}
 use Rattle.syntax.specs.declared.tree.BinaryOp.{BinaryOp}
 use Rattle.syntax.specs.declared.tree.Mode.TheVariants.{Atomic}
 use Rattle.syntax.specs.declared.numbers.Trap.{Trap}

@@ -1,3 +1,4 @@
+pub mod StraightLine
 pub mod Code
 pub mod Alone
 pub mod Running

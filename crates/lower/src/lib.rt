@@ -6,7 +6,9 @@ mod code;
 mod lowering;
 mod running;
 mod scope;
+mod straight;
 
 pub use code::{Code, End, LowerFault, Outcome};
 pub use lowering::lower;
 pub use running::run;
+pub use straight::is_straight_line;

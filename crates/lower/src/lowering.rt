@@ -4,7 +4,7 @@ ghost use Rattle.std.specs.Prelude.{◌≡◌, ◌≤◌, map, length, IfOk, Som
 ghost use Rattle.syntax.specs.Names.{globals};
 ghost use Rattle.syntax.specs.Views.{expr_of, simple_of, stmt_of, stmts_of, function_of, item_of, program_of};
 ghost use Rattle.syntax.specs.Typing.{IsTypedProgram};
-ghost use Rattle.syntax.specs.StraightLine.{IsAdding, IsAtom, IsSum, IsVariable, IsAssigned, IsAssignment, AreAssignments, IsStraightTransaction, AreTransactions, IsStraightFunction, AreSingle, IsStraightLine};
+ghost use Rattle.lower.specs.StraightLine.{IsAdding, IsAtom, IsSum, IsVariable, IsAssigned, IsAssignment, AreAssignments, IsStraightTransaction, AreTransactions, IsStraightFunction, AreSingle, IsStraightLine};
 ghost use Rattle.lower.specs.Code.{op_of};
 ghost use Rattle.lower.specs.Alone.{Means, HasWords};
 ghost use Rattle.lower.specs.Lowering.{Each, AtomMeans, TargetMeans, SumMeans, SimpleMeans, StoreMeans, TransactionMeans, FunctionMeans, IsPlaced, IsPlacedSimple, IsPlacedStmt, ArePlaced, IsPlacedFunction, parameter_in, worker_in};

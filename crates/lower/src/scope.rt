@@ -3,7 +3,7 @@
 ghost use Rattle.std.specs.Prelude.{◌≡◌, ◌≤◌, ◌<◌, ◌^◌, ◌++◌, [], ◌∷◌, map, length, position, option_map, bytes_eq, Some, IfOk, OnOk, OnErr, IsSome};
 ghost use Rattle.syntax.specs.Names.{globals as globals_in, global_of as global_in, first_words, initial_from, initial_memory};
 ghost use Rattle.syntax.specs.Views.{item_of, global_of};
-ghost use Rattle.syntax.specs.StraightLine.{IsSingle, AreSingle};
+ghost use Rattle.lower.specs.StraightLine.{IsSingle, AreSingle};
 ghost use Rattle.lower.specs.Code.{AreWords};
 ghost use Rattle.lower.specs.Lowering.{place_of as place_in};
 

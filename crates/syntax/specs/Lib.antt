@@ -13,4 +13,3 @@ pub mod Threads
 pub mod Laws
 pub mod Phrases
 pub mod Grammar
-pub mod StraightLine

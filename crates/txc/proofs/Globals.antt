@@ -10,7 +10,7 @@ use Rattle.syntax.specs.declared.tree.First.{First}
 use Rattle.syntax.specs.Tree.{Item, Global, Shares, Defines}
 use Rattle.syntax.specs.Names.{cells}
 use Rattle.syntax.specs.Types.{Known, Unknown, Number, Array, Callable, file_scope}
-use Rattle.syntax.specs.StraightLine.{IsOneFirst, IsSingle}
+use Rattle.lower.specs.StraightLine.{IsOneFirst, IsSingle}
 use Rattle.syntax.specs.Typing.{HaveCells, is_unknown, AreTypedGlobals, IsTypedItem, AreTypedItems, all_cells}
 use Rattle.txc.specs.declared.check.CheckFault.{CheckFault}
 use Rattle.txc.specs.declared.check.Symbol.TheVariants as symbol

@@ -18,7 +18,7 @@ use Rattle.syntax.specs.Tree as Tree
 use Rattle.syntax.specs.Tree.{Expr, Simple, Stmt, Stmts, Assign, Do, Transaction}
 use Rattle.syntax.specs.Views.{expr_of, expr_step, stmt_of, stmt_step, stmts_of}
 use Rattle.syntax.specs.Types.{Scope}
-use Rattle.syntax.specs.StraightLine.{IsVariable, IsSum, IsAssigned, IsAssignment, AreAssignments, IsStraightTransaction}
+use Rattle.lower.specs.StraightLine.{IsVariable, IsSum, IsAssigned, IsAssignment, AreAssignments, IsStraightTransaction}
 use Rattle.syntax.specs.Typing.{scope_after, names_of, IsTypedStmt, AreTypedStmts}
 use Rattle.txc.specs.declared.check.CheckFault.{CheckFault}
 use Rattle.txc.specs.Checks.{every, that, Leaves}

@@ -11,7 +11,7 @@ use Rattle.syntax.specs.declared.tree.Expr.TheVariants as EV
 use Rattle.syntax.specs.Views.{expr_of, expr_step}
 use Rattle.syntax.specs.Tree.{Expr, Call, Parenthesized, Binary}
 use Rattle.syntax.specs.Types.{Scope}
-use Rattle.syntax.specs.StraightLine.{IsAtom, IsSum}
+use Rattle.lower.specs.StraightLine.{IsAtom, IsSum}
 use Rattle.syntax.specs.Typing.{is_void, IsTyped, GivesNumber}
 use Rattle.txc.specs.Checks.{every}
 

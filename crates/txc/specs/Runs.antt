@@ -8,7 +8,7 @@ use Rattle.lex.specs.Cutting.{IsLexed, IsFault}
 use Rattle.syntax.specs.Tree.{Program}
 use Rattle.syntax.specs.Behaviours.{Memory}
 use Rattle.syntax.specs.Grammar.{Source}
-use Rattle.syntax.specs.StraightLine.{SpellsStraightLine}
+use Rattle.lower.specs.StraightLine.{SpellsStraightLine}
 use Rattle.syntax.specs.Typing.{IsTypedProgram, BreaksRule}
 use Rattle.parse.specs.Faults.{IsFaultOf}
 use Rattle.lower.specs.declared.code.End.{End}

@@ -6,7 +6,7 @@ ghost use Rattle.syntax.specs.Tree as Tree;
 ghost use Rattle.syntax.specs.Views.{program_of, item_of, global_of, name_of, expr_of, simple_of, stmt_of, stmts_of, function_of};
 ghost use Rattle.syntax.specs.Names.{cells};
 ghost use Rattle.syntax.specs.Types.{known_global, known_among, file_scope};
-ghost use Rattle.syntax.specs.StraightLine.{IsAtom, IsSum, IsVariable, IsAssigned, IsAssignment, AreAssignments, IsStraightTransaction, AreTransactions, IsSingle, AreSingle, IsStraightFunction, IsStraightLine};
+ghost use Rattle.lower.specs.StraightLine.{IsAtom, IsSum, IsVariable, IsAssigned, IsAssignment, AreAssignments, IsStraightTransaction, AreTransactions, IsSingle, AreSingle, IsStraightFunction, IsStraightLine};
 ghost use Rattle.syntax.specs.Typing.{IsTyped, IsTypedSimple, IsTypedStmt, AreTypedStmts, IsTypedTarget, IsAssignable, AreTypedGlobals, IsTypedItem, AreTypedItems, all_cells, is_worker, IsTypedFunction, Demand, IsTypedProgram, BreaksRule};
 ghost use Rattle.txc.specs.Checks.{Checked, IsTypedGlobal, AreShared, IsLast, scope, symbol_of, number_in, span_in};
 

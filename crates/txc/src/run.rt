@@ -2,7 +2,7 @@
 
 ghost use Rattle.std.specs.Prelude.{◌≡◌, IfOk, IfErr, string_bytes};
 ghost use Rattle.syntax.specs.Views.{program_of};
-ghost use Rattle.syntax.specs.StraightLine.{IsStraightLine};
+ghost use Rattle.lower.specs.StraightLine.{IsStraightLine};
 ghost use Rattle.syntax.specs.Typing.{IsTypedProgram};
 ghost use Rattle.parse.specs.Faults.{source_of};
 ghost use Rattle.lower.specs.declared.code.End.{End};

@@ -3,7 +3,7 @@ use Rattle.syntax.specs.declared.tree.Expr as E
 use Rattle.syntax.specs.Tree as Tree
 use Rattle.syntax.specs.Tree.{Expr}
 use Rattle.syntax.specs.Views.{expr_of, item_of}
-use Rattle.syntax.specs.StraightLine.{IsAtom, IsSum}
+use Rattle.lower.specs.StraightLine.{IsAtom, IsSum}
 use Rattle.syntax.proofs.Seen.{expr_of_variable, expr_of_constant, expr_of_binary}
 use Rattle.lower.specs.declared.code.Term.{Term}
 use Rattle.lower.specs.Lowering.{SumMeans, AtomMeans, IsPlaced}

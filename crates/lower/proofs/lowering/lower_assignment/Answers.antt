@@ -3,7 +3,7 @@ use Rattle.syntax.specs.declared.tree.BinaryOp.{BinaryOp}
 use Rattle.syntax.specs.declared.tree.Simple as I
 use Rattle.syntax.specs.Tree as Tree
 use Rattle.syntax.specs.Views.{expr_of, simple_of, item_of}
-use Rattle.syntax.specs.StraightLine.{IsAssigned}
+use Rattle.lower.specs.StraightLine.{IsAssigned}
 use Rattle.lower.specs.declared.code.Store.{Store}
 use Rattle.lower.specs.Lowering.{SimpleMeans, IsPlacedSimple}
 use Rattle.lower.proofs.Shapes.{assigned_parts}

@@ -2,7 +2,7 @@ use Rattle.std.proofs.Common.{List, ℕ, map, sym, ap, ◌∙◌, subst}
 use Rattle.std.specs.Prelude.{IsSome}
 use Rattle.syntax.specs.Tree.{Expr}
 use Rattle.syntax.specs.Views.{expr_of, name_of, item_of}
-use Rattle.syntax.specs.StraightLine.{IsAtom}
+use Rattle.lower.specs.StraightLine.{IsAtom}
 use Rattle.syntax.proofs.Seen.{expr_of_variable, expr_of_constant}
 use Rattle.lower.specs.declared.code.Atom.TheVariants as AtomIs
 use Rattle.lower.specs.Lowering.{place_of, AtomMeans, IsPlaced}

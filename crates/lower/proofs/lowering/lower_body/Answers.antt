@@ -1,7 +1,7 @@
 use Rattle.std.proofs.Common.{map, refl, subst}
 use Rattle.std.proofs.lemmas.List.{take_all}
 use Rattle.syntax.specs.Views.{stmt_of, stmts_of, item_of}
-use Rattle.syntax.specs.StraightLine.{AreTransactions}
+use Rattle.lower.specs.StraightLine.{AreTransactions}
 use Rattle.lower.specs.Lowering.{TransactionMeans, ArePlaced}
 use Rattle.lower.proofs.Cells.{at_turn}
 use Rattle.lower.proofs.Bodies.{each_more, each_all}

@@ -1,6 +1,6 @@
 use Rattle.std.proofs.Common.{map, take, drop}
 use Rattle.syntax.specs.Views.{item_of, stmt_of, stmts_of}
-use Rattle.syntax.specs.StraightLine.{AreTransactions}
+use Rattle.lower.specs.StraightLine.{AreTransactions}
 use Rattle.lower.specs.Lowering.{Each, TransactionMeans, ArePlaced}
 use Rattle.lower.proofs.lowering.lower_body.Given as goal
 

@@ -4,7 +4,7 @@ use Rattle.syntax.specs.declared.tree.Stmt as S
 use Rattle.syntax.specs.Tree as Tree
 use Rattle.syntax.specs.Tree.{Stmts}
 use Rattle.syntax.specs.Views.{stmt_of, stmts_of, function_of, item_of}
-use Rattle.syntax.specs.StraightLine.{IsStraightBody, AreTransactions}
+use Rattle.lower.specs.StraightLine.{IsStraightBody, AreTransactions}
 use Rattle.lower.specs.declared.code.Store.{Store}
 use Rattle.lower.specs.Lowering.{Each, TransactionMeans, ArePlaced, parameter_in}
 use Rattle.lower.proofs.Bodies.{enters, if_ok}

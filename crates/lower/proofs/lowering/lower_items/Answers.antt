@@ -1,7 +1,7 @@
 use Rattle.std.proofs.Common.{map, subst}
 use Rattle.syntax.specs.Tree.{Function}
 use Rattle.syntax.specs.Views.{function_of, item_of}
-use Rattle.syntax.specs.StraightLine.{IsStraightFunction}
+use Rattle.lower.specs.StraightLine.{IsStraightFunction}
 use Rattle.lower.specs.Lowering.{IsPlacedFunction}
 use Rattle.lower.proofs.Alone.{means}
 use Rattle.lower.proofs.Typed.{ready, are_single, same_worker}

@@ -2,7 +2,7 @@ use Rattle.std.proofs.Common.{map, sym, ap, ◌∙◌, subst}
 use Rattle.std.specs.Prelude.{IfOk}
 use Rattle.syntax.specs.Tree.{Stmt}
 use Rattle.syntax.specs.Views.{stmt_of, simple_of, item_of}
-use Rattle.syntax.specs.StraightLine.{IsAssignment}
+use Rattle.lower.specs.StraightLine.{IsAssignment}
 use Rattle.syntax.proofs.Seen.{stmt_of_do}
 use Rattle.lower.specs.declared.code.Store.{Store}
 use Rattle.lower.proofs.Bodies.{if_ok}

@@ -4,7 +4,7 @@ use Rattle.syntax.specs.declared.tree.Mode.{Mode}
 use Rattle.syntax.specs.declared.tree.Stmt as S
 use Rattle.syntax.specs.Tree.{Stmt, Transaction}
 use Rattle.syntax.specs.Views.{stmt_of, stmts_of, item_of}
-use Rattle.syntax.specs.StraightLine.{AreAssignments, IsStraightTransaction}
+use Rattle.lower.specs.StraightLine.{AreAssignments, IsStraightTransaction}
 use Rattle.syntax.proofs.Seen.{stmt_of_transaction}
 use Rattle.lower.specs.declared.code.Store.{Store}
 use Rattle.lower.proofs.Bodies.{if_ok}

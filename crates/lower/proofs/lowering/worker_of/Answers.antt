@@ -1,7 +1,7 @@
 use Rattle.std.proofs.Common.{map, ap, subst}
 use Rattle.std.proofs.lemmas.List.{drop_all}
 use Rattle.syntax.specs.Views.{item_of}
-use Rattle.syntax.specs.StraightLine.{IsStraightLine}
+use Rattle.lower.specs.StraightLine.{IsStraightLine}
 use Rattle.lower.proofs.lowering.worker_of.Goals as goal
 
 pub unreachable-requires : goal.unreachable-requires

@@ -1,6 +1,6 @@
 use Rattle.std.proofs.Common.{◌≡◌, map, drop}
 use Rattle.syntax.specs.Views.{item_of}
-use Rattle.syntax.specs.StraightLine.{IsStraightLine}
+use Rattle.lower.specs.StraightLine.{IsStraightLine}
 use Rattle.lower.specs.Lowering.{worker_in}
 use Rattle.lower.proofs.lowering.worker_of.Given as goal
 

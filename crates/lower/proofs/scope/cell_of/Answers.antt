@@ -2,7 +2,7 @@ use Rattle.std.proofs.Common.{◌≡◌, ◌+◌, ◌<◌, ◌≤◌, List, leng
 use Rattle.syntax.specs.declared.tree.Global as G
 use Rattle.syntax.specs.Names.{GlobalCells, globals, global_from}
 use Rattle.syntax.specs.Views.{item_of, global_of}
-use Rattle.syntax.specs.StraightLine.{AreSingle}
+use Rattle.lower.specs.StraightLine.{AreSingle}
 use Rattle.lower.proofs.Cells.{found_at, found_later, skips, turns_to, index_below, counts, single_rest}
 use Rattle.lower.proofs.scope.cell_of.Given.{Over}
 use Rattle.lower.proofs.scope.cell_of.Goals as goal

@@ -2,7 +2,7 @@ use Rattle.std.proofs.Common.{◌≡◌, ◌+◌, ◌≤◌, length, map, drop}
 use Rattle.std.specs.Prelude.{option_map}
 use Rattle.syntax.specs.Names.{globals, global_from, global_of}
 use Rattle.syntax.specs.Views.{item_of}
-use Rattle.syntax.specs.StraightLine.{AreSingle}
+use Rattle.lower.specs.StraightLine.{AreSingle}
 use Rattle.lower.proofs.scope.cell_of.Given as goal
 
 abbrev pub invariant-items : goal.invariant-items

@@ -2,7 +2,7 @@ use Rattle.std.proofs.Common.{◌+◌, ◌++◌, List, map, drop, sym, ap, ◌�
 use Rattle.syntax.specs.declared.tree.Global as G
 use Rattle.syntax.specs.Names.{globals, initial_from}
 use Rattle.syntax.specs.Views.{item_of, global_of}
-use Rattle.syntax.specs.StraightLine.{AreSingle}
+use Rattle.lower.specs.StraightLine.{AreSingle}
 use Rattle.lower.specs.Code.{AreWords}
 use Rattle.lower.proofs.Cells.{turns_to, skips, single_first, single_rest, all_words_turn}
 use Rattle.lower.proofs.scope.initial_words.Goals as goal

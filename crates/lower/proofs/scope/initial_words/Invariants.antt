@@ -1,7 +1,7 @@
 use Rattle.std.proofs.Common.{◌≡◌, ◌++◌, map, drop}
 use Rattle.syntax.specs.Names.{globals, initial_from, initial_memory}
 use Rattle.syntax.specs.Views.{item_of}
-use Rattle.syntax.specs.StraightLine.{AreSingle}
+use Rattle.lower.specs.StraightLine.{AreSingle}
 use Rattle.lower.specs.Code.{AreWords}
 use Rattle.lower.proofs.scope.initial_words.Given as goal
 

@@ -1,6 +1,6 @@
 use Rattle.std.proofs.Common.{map, refl, subst}
 use Rattle.syntax.specs.Views.{global_of}
-use Rattle.syntax.specs.StraightLine.{AreSingle}
+use Rattle.lower.specs.StraightLine.{AreSingle}
 use Rattle.lower.proofs.Cells.{at_turn, words_turn, fits_more}
 use Rattle.lower.proofs.scope.push_words.Goals as goal
 

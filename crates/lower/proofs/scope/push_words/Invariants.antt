@@ -1,7 +1,7 @@
 use Rattle.std.proofs.Common.{◌≡◌, ◌++◌, map, drop}
 use Rattle.syntax.specs.Names.{initial_from}
 use Rattle.syntax.specs.Views.{global_of}
-use Rattle.syntax.specs.StraightLine.{AreSingle}
+use Rattle.lower.specs.StraightLine.{AreSingle}
 use Rattle.lower.specs.Code.{AreWords}
 use Rattle.lower.proofs.scope.push_words.Given as goal
 

@@ -1,7 +1,7 @@
 use Rattle.std.proofs.Common.{◌≡◌, ◌+◌, ◌≤◌, map, take, drop, [], sum_by}
 use Rattle.syntax.specs.Views.{item_of, global_of}
 use Rattle.syntax.specs.Names.{cells}
-use Rattle.syntax.specs.StraightLine.{AreSingle}
+use Rattle.lower.specs.StraightLine.{AreSingle}
 use Rattle.syntax.specs.Typing.{AreTypedGlobals}
 use Rattle.txc.specs.Checks.{Leaves}
 use Rattle.txc.proofs.check.check_globals.Given as goal

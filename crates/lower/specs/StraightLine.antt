@@ -1,7 +1,5 @@
 -- Programs of straight lines: single variables of type `int`, and then one function whose transactions assign sums.
 use Rattle.std.specs.Prelude.{◌≡◌, List, [], ◌∷◌, Option, Some, None, IsSome}
-use Rattle.lex.specs.declared.token.Mark.{Mark}
-use Rattle.lex.specs.declared.token.Mark.TheVariants as m
 use Rattle.lex.specs.declared.token.Scalar.TheVariants.{Int}
 use Rattle.syntax.specs.declared.tree.BinaryOp.{BinaryOp}
 use Rattle.syntax.specs.declared.tree.BinaryOp.TheVariants.{Add, Subtract}
@@ -9,8 +7,6 @@ use Rattle.syntax.specs.declared.tree.Mode.TheVariants.{Atomic}
 use Rattle.syntax.specs.declared.tree.First.{First}
 use Rattle.syntax.specs.Tree as Tree
 use Rattle.syntax.specs.Tree.{Expr, Variable, Constant, Binary, Simple, Assign, Stmt, Stmts, Do, Transaction, Parameter, Function, Global, Item, Defines, Shares, Program}
-use Rattle.syntax.specs.Phrases.{Phrase, the_mark}
-use Rattle.syntax.specs.Grammar.{Source, Spells}
 
 -- a name, or a constant of type `int`
 abbrev pub IsAtom : Expr → Type 0
@@ -86,12 +82,3 @@ IsStraightLine [] = ⊥
 IsStraightLine (Shares gs ∷ items) = AreSingle gs × IsStraightLine items
 IsStraightLine (Defines f ∷ []) = IsStraightFunction f
 IsStraightLine (Defines f ∷ i ∷ items) = ⊥
-
--- no token is this sign or keyword
-abbrev pub Lacks : Mark → Phrase
-Lacks m [] = Unit {0}
-Lacks m (t ∷ ts) = (the_mark m t ≡ None) × Lacks m ts
-
--- the part of the language with these programs, in which `int` is written with the word `int`
-abbrev pub SpellsStraightLine : Source → Phrase
-SpellsStraightLine s ts = Spells s ts × IsStraightLine s.program × Lacks m.Signed ts
