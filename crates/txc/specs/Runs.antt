@@ -7,8 +7,7 @@ use Rattle.lex.specs.Tokens.{Tok}
 use Rattle.lex.specs.Cutting.{IsLexed, IsFault}
 use Rattle.syntax.specs.Tree.{Program}
 use Rattle.syntax.specs.Behaviours.{Memory}
-use Rattle.syntax.specs.Grammar.{Source}
-use Rattle.lower.specs.StraightLine.{SpellsStraightLine}
+use Rattle.syntax.specs.Grammar.{Source, Spells}
 use Rattle.syntax.specs.Typing.{IsTypedProgram, BreaksRule}
 use Rattle.parse.specs.Faults.{IsFaultOf}
 use Rattle.lower.specs.declared.code.End.{End}
@@ -16,9 +15,10 @@ use Rattle.lower.specs.declared.code.End.TheVariants.{Ended, Trapped}
 use Rattle.std.specs.Io.KnownBytes.{Appends}
 use Rattle.lower.specs.Code.{status_of}
 use Rattle.lower.specs.Alone.{IsRunOfOne}
+use Rattle.lower.specs.StraightLine.{IsStraightLine}
 use Rattle.txc.specs.declared.check.CheckFault.{CheckFault}
 use Rattle.txc.specs.declared.run.RunTextFault.{RunTextFault}
-use Rattle.txc.specs.declared.run.RunTextFault.TheVariants.{OutOfMemory, Lex, Parse, Check}
+use Rattle.txc.specs.declared.run.RunTextFault.TheVariants.{OutOfMemory, Lex, Parse, Check, NotLowered}
 use Rattle.txc.specs.Checks.{number_in, span_in}
 use Rattle.txc.specs.Report.{report_text}
 
@@ -26,7 +26,7 @@ use Rattle.txc.specs.Report.{report_text}
 pub record IsSourceOf (text : List ℕ) (source : Source) : Type 0 where
   pub tokens : List Tok
   pub lexed : IsLexed text tokens
-  pub spelled : SpellsStraightLine source tokens
+  pub spelled : Spells source tokens
 
 -- the report of a run of thread 0 alone, in which each transaction finds the memory that was left before it
 pub record IsReportOf (p : Program) (printed : List ℕ) (end : End) : Type 0 where
@@ -53,24 +53,33 @@ pub record IsMistyped (text : List ℕ) (fault : CheckFault) : Type 0 where
   pub spelled : IsSourceOf text source
   pub breaks : BreaksRule (number_in fault) (span_in fault) source.ends source.program
 
+-- the program that a text spells is not one of straight lines, the only ones that are lowered today
+pub record IsNotLowered (text : List ℕ) : Type 0 where
+  pub source : Source
+  pub spelled : IsSourceOf text source
+  pub other : IsStraightLine source.program → ⊥
+
 -- what a fault says of a text; want of memory says nothing
 abbrev pub IsFaultOfText : List ℕ → RunTextFault → Type 0
 IsFaultOfText text OutOfMemory = Unit {0}
 IsFaultOfText text (Lex fault) = IsFault text fault
 IsFaultOfText text (Parse fault) = IsMisspelled text (λ tokens. IsFaultOf tokens fault)
 IsFaultOfText text (Check fault) = IsMistyped text fault
+IsFaultOfText text NotLowered = IsNotLowered text
 
 abbrev pub number_of_run : RunTextFault → ℕ
 number_of_run OutOfMemory = 0
 number_of_run (Lex fault) = lex.number_of fault
 number_of_run (Parse fault) = parse.number_of fault
 number_of_run (Check fault) = number_in fault
+number_of_run NotLowered = 63
 
 abbrev pub span_of_run : RunTextFault → Option Span
 span_of_run OutOfMemory = None
 span_of_run (Lex fault) = lex.span_of fault
 span_of_run (Parse fault) = parse.span_of fault
 span_of_run (Check fault) = Some (span_in fault)
+span_of_run NotLowered = None
 
 -- the exit status of a run
 abbrev pub exit_status : End → ℕ

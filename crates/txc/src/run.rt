@@ -12,7 +12,7 @@ use crate::check::{CheckFault, check};
 use crate::report::report;
 use lex::token::Span;
 use lex::{LexFault, lex};
-use lower::{End, lower, run};
+use lower::{End, is_straight_line, lower, run};
 use parse::{ParseFault, parse};
 use std::alloc::Allocator;
 use syntax::tree::Unit;
@@ -30,6 +30,9 @@ pub enum RunTextFault {
     Parse(ParseFault),
     #[error("{0}")]
     Check(CheckFault),
+    /// The program is not one of straight lines: it is well formed, and cannot be run yet.
+    #[error("not lowered yet")]
+    NotLowered,
 }
 
 impl RunTextFault {
@@ -42,15 +45,16 @@ impl RunTextFault {
             RunTextFault::Lex(fault) => fault.number(),
             RunTextFault::Parse(fault) => fault.number(),
             RunTextFault::Check(fault) => fault.number(),
+            RunTextFault::NotLowered => 63,
         }
     }
 
-    /// Where the fault stands in the text. Want of memory stands nowhere.
+    /// Where the fault stands in the text. Want of memory stands nowhere, and neither does a program that is not lowered.
     pub fn span(&self) -> Option<Span>
         ensures { result ≡ span_of_run self.now }
     {
         match self {
-            RunTextFault::OutOfMemory => None,
+            RunTextFault::OutOfMemory | RunTextFault::NotLowered => None,
             RunTextFault::Lex(fault) => fault.span(),
             RunTextFault::Parse(fault) => fault.span(),
             RunTextFault::Check(fault) => Some(fault.span()),
@@ -107,6 +111,9 @@ pub fn run_source<A: Allocator + Copy>(alloc: A, text: &str) -> Result<Ran<A>, R
     ensures err { IfErr result (λ f. IsFaultOfText text.now f) }
 {
     let unit = read(alloc, text)?;
+    if !is_straight_line(&unit) {
+        return Err(RunTextFault::NotLowered);
+    }
     match check(&unit) {
         Ok(()) => run_unit(alloc, &unit),
         Err(fault) => Err(RunTextFault::Check(fault)),
@@ -115,8 +122,9 @@ pub fn run_source<A: Allocator + Copy>(alloc: A, text: &str) -> Result<Ran<A>, R
 
 /// Runs a source's text with one thread, and gives its report.
 ///
-/// The fault is that of the first phase that finds one: the lexer, the parser or the check. `OutOfMemory` comes only
-/// where a growth was refused.
+/// The fault is that of the first phase that finds one: the lexer, the parser or the check. A program that the parser
+/// accepts and that is not one of straight lines is `NotLowered`; its names and types are not checked yet. `OutOfMemory`
+/// comes only where a growth was refused.
 pub fn run_text<A: Allocator + Copy>(alloc: A, text: &str) -> Result<String<A>, RunTextFault>
     ensures ok { IfOk result (λ t. (end : End) × Reports text.now (string_bytes t) end) }
     ensures err { IfErr result (λ f. IsFaultOfText text.now f) }

@@ -57,8 +57,8 @@ fn read_source<A: Allocator + Copy, R: Read + Drop>(alloc: A, source: R) -> io::
 /// Does what is asked over two readers and two writers, and gives the exit status.
 ///
 /// The source's text is read from `source`; `run` reads no schedule. The report goes to `out`, and faults to `err`; what `err` does not take is
-/// lost. The status is 0 where the thread ended, 1 where the source is refused, 2 where it cannot be read or is not
-/// UTF-8, 3 where the thread trapped, and 4 where memory or `out` was refused.
+/// lost. The status is 0 where the thread ended, 1 where the source is refused, 2 where it cannot be read, is not UTF-8 or
+/// is a program that cannot be run yet, 3 where the thread trapped, and 4 where memory or `out` was refused.
 pub fn serve<A: Allocator + Copy, R: Read + Drop, S: Read + Drop, W: Write, E: Write>(
     alloc: A,
     request: &Request,
@@ -130,13 +130,17 @@ fn refuse<E: Write>(text: &str, fault: RunTextFault, err: &mut E) -> u8
     ensures not_ended { result ≢ 0 }
     ensures not_trapped { result ≢ 3 }
 {
-    match fault.span() {
-        None => out_of_memory(err),
-        Some(span) => {
+    let number = fault.number();
+    match (fault.span(), number) {
+        (Some(span), _) => {
             let (line, column) = place(text, span.start.min(text.len()));
-            let number = fault.number();
             let _ = writeln!(err, "txc: fault {number:02} at {line}:{column}: {fault}");
             REFUSED
+        }
+        (None, 0) => out_of_memory(err),
+        (None, _) => {
+            let _ = writeln!(err, "txc: fault {number:02}");
+            UNUSABLE
         }
     }
 }
