@@ -139,8 +139,8 @@ enter_counted mode run h (Inside Relaxed m) n ls t = close_inner_counted Relaxed
 enter_counted Atomic run h (Inside Atomic m) n ls t = close_inner_counted Atomic Atomic m m ls _ (h.counts (record { ticks = n; locals = ls; place = Inside Atomic m; text = t }))
 enter_counted Relaxed run h (Inside Atomic m) n ls t = tt
 
-counted_kept : IsKept (λ A run. IsCounted run)
-counted_kept = record {
+counted_kept : (p : Program) → IsKept p (λ A run. IsCounted run)
+counted_kept p = record {
   pure_holds = λ a. record { counts = λ s. keeps_refl s.place };
   on_holds = λ g h. record { counts = λ s. on_counted s.place _ _ (g.counts s) (λ a t. (h a).counts t) };
   astray_holds = record { counts = λ s. bounded_refl s.place };
@@ -151,7 +151,7 @@ counted_kept = record {
   load_holds = λ c. record { counts = λ s. load_counted s.place c s };
   store_holds = λ c w below. record { counts = λ s. store_counted s.ticks s.locals s.place s.text c w };
   may_print_holds = record { counts = λ s. may_print_counted s.place s };
-  print_piece_holds = λ text. record { counts = λ s. on_counted s.place (tick s) (λ _. write text) (spend_counted s.ticks s) (λ _ u. keeps_refl u.place) };
+  print_piece_holds = λ text shown. record { counts = λ s. on_counted s.place (tick s) (λ _. write text) (spend_counted s.ticks s) (λ _ u. keeps_refl u.place) };
   loop_holds = λ h. record { counts = λ s. turns_counted _ h s.ticks s };
   transaction_holds = λ mode h. record { counts = λ s. enter_counted mode _ h s.place s.ticks s.locals s.text };
 }
@@ -187,7 +187,7 @@ answer_bounded founds (Stops Astray s) c = lefts_bounded founds s.place c
 answer_bounded founds (Stops Wants s) c = lefts_wanting founds s.place c
 
 worker_counted : (p : Program) (t : ℕ) (founds : List Memory) (n : ℕ) → Counted (Outside founds []) (worker_run p t (first_state founds n))
-worker_counted p t founds n = (worker_holds (λ A run. IsCounted run) counted_kept p t).counts (first_state founds n)
+worker_counted p t founds n = (worker_holds p (λ A run. IsCounted run) (counted_kept p) t).counts (first_state founds n)
 
 pub left_as_many_as_found : LeftAsManyAsFound
 left_as_many_as_found p t founds n e = wants_counted founds (worker_run p t (first_state founds n)) (worker_counted p t founds n) e

@@ -1,6 +1,7 @@
 -- A property of runs that the words of runs keep holds of all that a program does.
-use Rattle.std.specs.Prelude.{if◌then◌else◌}
-use Rattle.std.proofs.Common.{length, ℕ, ◌<◌, ◌^◌, zero, suc, List, [], ◌∷◌, ◌++◌, Option, Some, None, Bool, true, false, Result, Ok, Err}
+use Rattle.std.specs.Prelude.{if◌then◌else◌, Contains}
+use Rattle.std.proofs.lemmas.List.Elements.{Contains-append_left, Contains-append_right}
+use Rattle.std.proofs.Common.{◌≡◌, refl, inl, inr, arith, length, ℕ, ◌<◌, ◌^◌, zero, suc, List, [], ◌∷◌, ◌++◌, Option, Some, None, Bool, true, false, Result, Ok, Err}
 use Rattle.lex.specs.declared.token.Scalar.{Scalar}
 use Rattle.syntax.specs.declared.tree.BinaryOp.{BinaryOp}
 use Rattle.syntax.specs.declared.tree.LogicalOp.TheVariants.{AndThen, OrElse}
@@ -10,17 +11,18 @@ use Rattle.syntax.specs.declared.tree.Mode.{Mode}
 use Rattle.syntax.specs.Tree as Tree
 use Rattle.syntax.specs.Tree.{Name, Expr, Exprs, Variable, Constant, Element, Call, Parenthesized, Cast, Unary, Binary, Logical, Conditional, Simple, Value as Just, Assign, Change, Declarator, Declaration, Start, Nothing, Declares, Does, Stmt, Stmts, Empty, Declare, Do, Block, Print, If, IfElse, While, DoWhile, For, Break, Continue, Return, Transaction, Cancel, Parameter, Function, Program}
 use Rattle.syntax.specs.declared.numbers.Value.{Value}
-use Rattle.syntax.specs.Numbers.{number_of}
+use Rattle.syntax.specs.Numbers.{number, number_of}
 use Rattle.syntax.specs.Names.{Local, newest, global_of, definition_of}
 use Rattle.syntax.specs.declared.numbers.Stop.TheVariants.{Astray}
 use Rattle.syntax.specs.Actions.{Action, pure, stop, ◌>>=◌, ◌>>◌, tick, trap, or_trap, or_astray, locals, put_locals, load, store, may_print, print_piece}
-use Rattle.syntax.specs.Formats.{Piece, Literal, Figure, pieces}
+use Rattle.syntax.specs.Formats.{Piece, Literal, Figure, pieces, formats_in, formats_among, IsFormatOf}
+use Rattle.syntax.specs.Laws.{IsPieceOf}
 use Rattle.syntax.specs.Meaning.{Spot, InLocal, InCell, fetch, assign, print_pieces, End, Next, Breaks, Continues, Returns, Cancels, on_next, scoped, loop, after_body, transaction, op_of, int_one, Caller, spot_from, named, element, expr, exprs, spot, changed, assigned, simple, first_value, declare, start_with, holds, stepped, return_value, stmt, stmts, entered, result_of, invoke, calls}
 use Rattle.syntax.proofs.Words.{word_below}
 use Rattle.syntax.specs.Threads.{worker_run}
 
--- a property that each word of runs keeps
-pub record IsKept (Q : (A : Type 0) → Action A → Type 0) : Type 1 where
+-- a property that each word of runs keeps, where only pieces of the program are printed
+pub record IsKept (p : Program) (Q : (A : Type 0) → Action A → Type 0) : Type 1 where
   pub pure_holds : {A : Type 0} (a : A) → Q A (pure a)
   pub on_holds : {A B : Type 0} {run : Action A} {rest : A → Action B} → Q A run → ((a : A) → Q B (rest a)) → Q B (run >>= rest)
   pub astray_holds : {A : Type 0} → Q A (stop Astray)
@@ -31,11 +33,17 @@ pub record IsKept (Q : (A : Type 0) → Action A → Type 0) : Type 1 where
   pub load_holds : (c : ℕ) → Q ℕ (load c)
   pub store_holds : (c w : ℕ) → w < 2 ^ 32 → Q (Unit {0}) (store c w)
   pub may_print_holds : Q (Unit {0}) may_print
-  pub print_piece_holds : (text : List ℕ) → Q (Unit {0}) (print_piece text)
+  pub print_piece_holds : (text : List ℕ) → IsPieceOf p text → Q (Unit {0}) (print_piece text)
   pub loop_holds : {turn : Action (Option End)} → Q (Option End) turn → Q End (loop turn)
   pub transaction_holds : (mode : Mode) {run : Action End} → Q End run → Q End (transaction mode run)
 
-module _ (Q : (A : Type 0) → Action A → Type 0) (kept : IsKept Q) where
+contains_first : {X : Type 0} (x : X) (xs : List X) → Contains (x ∷ xs) x
+contains_first x xs = (0, omega arith, refl)
+
+contains_later : {X : Type 0} (x : X) (xs : List X) (y : X) → Contains xs y → Contains (x ∷ xs) y
+contains_later x xs y c = (suc c.0, omega (arith, c.1), c.2)
+
+module _ (p : Program) (Q : (A : Type 0) → Action A → Type 0) (kept : IsKept p Q) where
   open kept use {pure_holds, on_holds, astray_holds, trap_holds, tick_holds, locals_holds, put_locals_holds, load_holds, store_holds, may_print_holds, print_piece_holds, loop_holds, transaction_holds}
 
   then_holds : {A B : Type 0} {run : Action A} {rest : Action B} → Q A run → Q B rest → Q B (run >> rest)
@@ -61,11 +69,26 @@ module _ (Q : (A : Type 0) → Action A → Type 0) (kept : IsKept Q) where
   assign_holds (InLocal i t) v = on_holds locals_holds (λ mine. put_locals_holds _)
   assign_holds (InCell c t) v = store_holds c _ (word_below (number_of v))
 
-  print_pieces_holds : (ps : List Piece) (vs : List Value) → Q _ (print_pieces ps vs)
-  print_pieces_holds [] vs = pure_holds tt
-  print_pieces_holds (Literal text ∷ ps) vs = then_holds (print_piece_holds text) (print_pieces_holds ps vs)
-  print_pieces_holds (Figure t ∷ ps) [] = astray_holds
-  print_pieces_holds (Figure t ∷ ps) (v ∷ vs) = then_holds (print_piece_holds _) (print_pieces_holds ps vs)
+  -- what is there may be said to be there
+  found_holds : {A B : Type 0} (o : Option A) {rest : A → Action B} → ((a : A) → o ≡ Some a → Q B (rest a)) → Q B (or_astray o >>= rest)
+  found_holds (Some a) h = h a refl
+  found_holds None h = astray_holds
+
+  print_pieces_holds : (ps : List Piece) (vs : List Value) → ((text : List ℕ) → Contains ps (Literal text) → IsPieceOf p text) → Q _ (print_pieces ps vs)
+  print_pieces_holds [] vs h = pure_holds tt
+  print_pieces_holds (Literal text ∷ ps) vs h = then_holds (print_piece_holds text (h text (contains_first (Literal text) ps))) (print_pieces_holds ps vs (λ t c. h t (contains_later (Literal text) ps (Literal t) c)))
+  print_pieces_holds (Figure t ∷ ps) [] h = astray_holds
+  print_pieces_holds (Figure t ∷ ps) (v ∷ vs) h = then_holds (print_piece_holds _ (inr (number t v.word, refl))) (print_pieces_holds ps vs (λ text c. h text (contains_later (Figure t) ps (Literal text) c)))
+
+  -- formats of the program
+  abbrev Stand : List (List ℕ) → Type 0
+  Stand formats = (format : List ℕ) → Contains formats format → IsFormatOf p format
+
+  front_stands : (fs gs : List (List ℕ)) → Stand (fs ++ gs) → Stand fs
+  front_stands fs gs h format c = h format (Contains-append_left fs gs format c)
+
+  back_stands : (fs gs : List (List ℕ)) → Stand (fs ++ gs) → Stand gs
+  back_stands fs gs h format c = h format (Contains-append_right fs gs format c)
 
   on_next_holds : {rest : Action End} → Q _ rest → (end : End) → Q _ (on_next rest end)
   on_next_holds h Next = h
@@ -85,7 +108,7 @@ module _ (Q : (A : Type 0) → Action A → Type 0) (kept : IsKept Q) where
   after_body_holds h Cancels = pure_holds (Some Cancels)
 
   -- every expression and every statement, where each call is steady
-  module _ (p : Program) (call : Caller) (h : (x : List ℕ) (vs : List Value) → Q Value (call x vs)) where
+  module _ (call : Caller) (h : (x : List ℕ) (vs : List Value) → Q Value (call x vs)) where
     spot_from_holds : (x : List ℕ) (o : Option (ℕ × Scalar)) → Q _ (spot_from p call x o)
     spot_from_holds x (Some l) = pure_holds _
     spot_from_holds x None = on_holds (or_astray_holds (global_of p x)) (λ g. pure_holds _)
@@ -157,26 +180,26 @@ module _ (Q : (A : Type 0) → Action A → Type 0) (kept : IsKept Q) where
     return_value_holds (Some e) = expr_holds e
 
     mutual
-      stmt_holds : (s : Stmt) → Q _ (stmt p call s)
-      stmt_holds Empty = then_holds tick_holds (pure_holds Next)
-      stmt_holds (Declare d) = then_holds tick_holds (declare_holds d.of d.declarators)
-      stmt_holds (Do s) = then_holds tick_holds (simple_holds s)
-      stmt_holds (Block ss) = then_holds tick_holds (scoped_holds (stmts_holds ss))
-      stmt_holds (Print at format format_at es) = then_holds tick_holds (then_holds may_print_holds (on_holds (exprs_holds es) (λ vs. then_holds (print_pieces_holds (pieces format) vs) (pure_holds Next))))
-      stmt_holds (If c a) = then_holds tick_holds (on_holds (expr_holds c) (λ v. if_holds _ (pure_holds Next) (stmt_holds a)))
-      stmt_holds (IfElse c a b) = then_holds tick_holds (on_holds (expr_holds c) (λ v. if_holds _ (stmt_holds b) (stmt_holds a)))
-      stmt_holds (While c a) = then_holds tick_holds (loop_holds (on_holds (expr_holds c) (λ v. if_holds _ (pure_holds _) (on_holds (stmt_holds a) (after_body_holds (pure_holds None))))))
-      stmt_holds (DoWhile a c) = then_holds tick_holds (loop_holds (on_holds (stmt_holds a) (after_body_holds (on_holds (expr_holds c) (λ v. pure_holds _)))))
-      stmt_holds (For start c step a) = then_holds tick_holds (scoped_holds (then_holds (start_with_holds start) (loop_holds (on_holds (holds_holds c) (λ more. if_holds _ (on_holds (stmt_holds a) (after_body_holds (stepped_holds step))) (pure_holds _))))))
-      stmt_holds (Break at) = then_holds tick_holds (pure_holds Breaks)
-      stmt_holds (Continue at) = then_holds tick_holds (pure_holds Continues)
-      stmt_holds (Return e at) = then_holds tick_holds (on_holds (return_value_holds e) (λ v. pure_holds _))
-      stmt_holds (Transaction mode ss at) = then_holds tick_holds (transaction_holds mode (scoped_holds (stmts_holds ss)))
-      stmt_holds (Cancel at) = then_holds tick_holds (pure_holds Cancels)
+      stmt_holds : (s : Stmt) → Stand (formats_in s) → Q _ (stmt p call s)
+      stmt_holds Empty st = then_holds tick_holds (pure_holds Next)
+      stmt_holds (Declare d) st = then_holds tick_holds (declare_holds d.of d.declarators)
+      stmt_holds (Do s) st = then_holds tick_holds (simple_holds s)
+      stmt_holds (Block ss) st = then_holds tick_holds (scoped_holds (stmts_holds ss st))
+      stmt_holds (Print at format format_at es) st = then_holds tick_holds (then_holds may_print_holds (on_holds (exprs_holds es) (λ vs. then_holds (print_pieces_holds (pieces format) vs (λ text c. inl (format, st format (contains_first format []), c))) (pure_holds Next))))
+      stmt_holds (If c a) st = then_holds tick_holds (on_holds (expr_holds c) (λ v. if_holds _ (pure_holds Next) (stmt_holds a st)))
+      stmt_holds (IfElse c a b) st = then_holds tick_holds (on_holds (expr_holds c) (λ v. if_holds _ (stmt_holds b (back_stands (formats_in a) (formats_in b) st)) (stmt_holds a (front_stands (formats_in a) (formats_in b) st))))
+      stmt_holds (While c a) st = then_holds tick_holds (loop_holds (on_holds (expr_holds c) (λ v. if_holds _ (pure_holds _) (on_holds (stmt_holds a st) (after_body_holds (pure_holds None))))))
+      stmt_holds (DoWhile a c) st = then_holds tick_holds (loop_holds (on_holds (stmt_holds a st) (after_body_holds (on_holds (expr_holds c) (λ v. pure_holds _)))))
+      stmt_holds (For start c step a) st = then_holds tick_holds (scoped_holds (then_holds (start_with_holds start) (loop_holds (on_holds (holds_holds c) (λ more. if_holds _ (on_holds (stmt_holds a st) (after_body_holds (stepped_holds step))) (pure_holds _))))))
+      stmt_holds (Break at) st = then_holds tick_holds (pure_holds Breaks)
+      stmt_holds (Continue at) st = then_holds tick_holds (pure_holds Continues)
+      stmt_holds (Return e at) st = then_holds tick_holds (on_holds (return_value_holds e) (λ v. pure_holds _))
+      stmt_holds (Transaction mode ss at) st = then_holds tick_holds (transaction_holds mode (scoped_holds (stmts_holds ss st)))
+      stmt_holds (Cancel at) st = then_holds tick_holds (pure_holds Cancels)
 
-      stmts_holds : (ss : Stmts) → Q _ (stmts p call ss)
-      stmts_holds Tree.[] = pure_holds Next
-      stmts_holds (Tree.◌∷◌ s ss) = on_holds (stmt_holds s) (on_next_holds (stmts_holds ss))
+      stmts_holds : (ss : Stmts) → Stand (formats_among ss) → Q _ (stmts p call ss)
+      stmts_holds Tree.[] st = pure_holds Next
+      stmts_holds (Tree.◌∷◌ s ss) st = on_holds (stmt_holds s (front_stands (formats_in s) (formats_among ss) st)) (on_next_holds (stmts_holds ss (back_stands (formats_in s) (formats_among ss) st)))
 
     result_of_holds : (t : Option Scalar) (end : End) → Q _ (result_of t end)
     result_of_holds t Next = pure_holds _
@@ -186,11 +209,11 @@ module _ (Q : (A : Type 0) → Action A → Type 0) (kept : IsKept Q) where
     result_of_holds t Cancels = astray_holds
 
     invoke_holds : (x : List ℕ) (vs : List Value) → Q _ (invoke p call x vs)
-    invoke_holds x vs = on_holds (or_astray_holds (definition_of p x)) (λ f. on_holds (or_astray_holds (entered f.0.parameters vs)) (λ mine. on_holds locals_holds (λ outer. then_holds (put_locals_holds mine) (on_holds (stmts_holds f.1) (λ end. then_holds (put_locals_holds outer) (result_of_holds f.0.result end))))))
+    invoke_holds x vs = found_holds (definition_of p x) (λ f e. on_holds (or_astray_holds (entered f.0.parameters vs)) (λ mine. on_holds locals_holds (λ outer. then_holds (put_locals_holds mine) (on_holds (stmts_holds f.1 (λ format c. (x, f, e, c))) (λ end. then_holds (put_locals_holds outer) (result_of_holds f.0.result end))))))
 
-  calls_holds : (p : Program) (n : ℕ) (x : List ℕ) (vs : List Value) → Q _ (calls p n x vs)
-  calls_holds p zero x vs = trap_holds Frames
-  calls_holds p (suc n) x vs = invoke_holds p (calls p n) (calls_holds p n) x vs
+  calls_holds : (n : ℕ) (x : List ℕ) (vs : List Value) → Q _ (calls p n x vs)
+  calls_holds zero x vs = trap_holds Frames
+  calls_holds (suc n) x vs = invoke_holds (calls p n) (calls_holds n) x vs
 
-  pub worker_holds : (p : Program) (t : ℕ) → Q _ (worker_run p t)
-  worker_holds p t = then_holds (invoke_holds p (calls p 63) (calls_holds p 63) _ _) tick_holds
+  pub worker_holds : (t : ℕ) → Q _ (worker_run p t)
+  worker_holds t = then_holds (invoke_holds (calls p 63) (calls_holds 63) _ _) tick_holds

@@ -170,8 +170,8 @@ transaction_steady mode {run} h = record {
   extends = λ k extra s. enter_extends k extra mode run h s.place s.ticks s.locals s.text;
 }
 
-steady_kept : IsKept (λ A run. IsSteady run)
-steady_kept = record {
+steady_kept : (p : Program) → IsKept p (λ A run. IsSteady run)
+steady_kept p = record {
   pure_holds = pure_steady;
   on_holds = on_steady;
   astray_holds = astray_steady;
@@ -182,10 +182,10 @@ steady_kept = record {
   load_holds = load_steady;
   store_holds = λ c w below. store_steady c w;
   may_print_holds = may_print_steady;
-  print_piece_holds = print_piece_steady;
+  print_piece_holds = λ text shown. print_piece_steady text;
   loop_holds = loop_steady;
   transaction_holds = transaction_steady;
 }
 
 pub worker_steady : (p : Program) (t : ℕ) → IsSteady (worker_run p t)
-worker_steady p t = worker_holds (λ A run. IsSteady run) steady_kept p t
+worker_steady p t = worker_holds p (λ A run. IsSteady run) (steady_kept p) t

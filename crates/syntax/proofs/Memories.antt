@@ -1,18 +1,18 @@
 -- A thread that finds memories of its program leaves memories of its program.
 use Rattle.std.proofs.Common.{ℕ, zero, suc, ◌<◌, ◌^◌, ◌∙◌, List, [], ◌∷◌, ◌++◌, Option, Some, None}
-use Rattle.std.specs.Prelude.{All, slice_set}
+use Rattle.std.specs.Prelude.{All, length, slice_set}
 use Rattle.std.proofs.lemmas.List.{length-set}
-use Rattle.std.proofs.lemmas.List.Elements.{All-nil, All-head, All-tail, All-push, All-set}
+use Rattle.std.proofs.lemmas.List.Elements.{All-nil, All-from_recursion, recursion_from_All, All-head, All-tail, All-push, All-set}
 use Rattle.syntax.specs.declared.tree.Mode.{Mode}
 use Rattle.syntax.specs.declared.tree.Mode.TheVariants.{Atomic, Relaxed}
 use Rattle.syntax.specs.declared.numbers.Stop.TheVariants.{Trapped, Wants, Spent, Astray}
 use Rattle.syntax.specs.Tree.{Program}
-use Rattle.syntax.specs.Names.{Local}
-use Rattle.syntax.specs.Behaviours.{Memory}
+use Rattle.syntax.specs.Names.{Local, initial_memory}
+use Rattle.syntax.specs.Behaviours.{Memory, IsMemory}
 use Rattle.syntax.specs.Actions.{Place, Outside, Inside, State, Answer, Gives, Stops, Action, stop, go_on, ◌>>=◌, spend, tick, load_at, store, may_print_at, write, lefts_in, memory_in}
 use Rattle.syntax.specs.Meaning.{End, Next, Breaks, Continues, Returns, Cancels, after_turn, turns, Left, left_by, close_inner, close, enter}
 use Rattle.syntax.specs.Threads.{outcome_of, first_state, worker_run, thread}
-use Rattle.syntax.specs.Laws.{IsMemoryOf, LeavesMemories}
+use Rattle.syntax.specs.Laws.{LeavesMemories}
 use Rattle.syntax.proofs.Further.{state_of}
 use Rattle.syntax.proofs.Kept.{IsKept, worker_holds}
 
@@ -107,8 +107,8 @@ module _ (M : Memory → Type 0) (written : (m : Memory) (c w : ℕ) → w < 2 ^
   enter_keeps Atomic run h (Inside Atomic m) n ls t = close_inner_keeps Atomic Atomic m ls (run (record { ticks = n; locals = ls; place = Inside Atomic m; text = t })) (h.keeps (record { ticks = n; locals = ls; place = Inside Atomic m; text = t }))
   enter_keeps Relaxed run h (Inside Atomic m) n ls t = keeps_refl (Inside Atomic m)
 
-  keeping_kept : IsKept (λ A run. IsKeeping run)
-  keeping_kept = record {
+  keeping_kept : (p : Program) → IsKept p (λ A run. IsKeeping run)
+  keeping_kept p = record {
     pure_holds = λ a. record { keeps = λ s. keeps_refl s.place };
     on_holds = on_keeping;
     astray_holds = record { keeps = λ s. keeps_refl s.place };
@@ -119,7 +119,7 @@ module _ (M : Memory → Type 0) (written : (m : Memory) (c w : ℕ) → w < 2 ^
     load_holds = λ c. record { keeps = λ s. load_keeps s.place c s };
     store_holds = λ c w below. record { keeps = λ s. store_keeps s.ticks s.locals s.place s.text c w below };
     may_print_holds = record { keeps = λ s. may_print_keeps s.place s };
-    print_piece_holds = λ text. record { keeps = λ s. on_keeps s.place (tick s) (λ _. write text) (spend_keeps s.ticks s) (λ _ u. keeps_refl u.place) };
+    print_piece_holds = λ text shown. record { keeps = λ s. on_keeps s.place (tick s) (λ _. write text) (spend_keeps s.ticks s) (λ _ u. keeps_refl u.place) };
     loop_holds = λ h. record { keeps = λ s. turns_keep _ h s.ticks s };
     transaction_holds = λ mode h. record { keeps = λ s. enter_keeps mode _ h s.place s.ticks s.locals s.text };
   }
@@ -133,11 +133,16 @@ module _ (M : Memory → Type 0) (written : (m : Memory) (c w : ℕ) → w < 2 ^
   answer_kept founds (Stops why s) c h = lefts_kept founds s.place c h
 
   threads_keep : (p : Program) (t : ℕ) (founds : List Memory) (n : ℕ) → All M founds → All M (thread p t founds n).lefts
-  threads_keep p t founds n h = answer_kept founds (worker_run p t (first_state founds n)) ((worker_holds (λ A run. IsKeeping run) keeping_kept p t).keeps (first_state founds n)) h
+  threads_keep p t founds n h = answer_kept founds (worker_run p t (first_state founds n)) ((worker_holds p (λ A run. IsKeeping run) (keeping_kept p) t).keeps (first_state founds n)) h
 
--- a write keeps a memory one of its program
-written_memory : (p : Program) (m : Memory) (c w : ℕ) → w < 2 ^ 32 → IsMemoryOf p m → IsMemoryOf p (slice_set m c w)
-written_memory p m c w below h = (length-set m c w ∙ h.0, All-set (λ x. x < 2 ^ 32) m c w below h.1)
+abbrev IsWord : ℕ → Type 0
+IsWord w = w < 2 ^ 32
+
+-- a write keeps a memory
+written_memory : (cells : ℕ) (m : Memory) (c w : ℕ) → w < 2 ^ 32 → IsMemory cells m → IsMemory cells (slice_set m c w)
+written_memory cells m c w below h = (length-set m c w ∙ h.0, recursion_from_All IsWord (slice_set m c w) (All-set IsWord m c w below (All-from_recursion IsWord m h.1)))
 
 pub leaves_memories : LeavesMemories
-leaves_memories p t founds n h = threads_keep (IsMemoryOf p) (written_memory p) p t founds n h
+leaves_memories p t founds n h =
+    let M = IsMemory (length (initial_memory p)) in
+    recursion_from_All M (thread p t founds n).lefts (threads_keep M (written_memory (length (initial_memory p))) p t founds n (All-from_recursion M founds h))

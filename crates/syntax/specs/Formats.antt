@@ -1,7 +1,10 @@
--- The pieces of a format: what one `printf` prints, in order.
-use Rattle.std.specs.Prelude.{ℕ, List, [], ◌∷◌, Bool, true, not, if◌then◌else◌, ◌==◌, ◌&&◌, ◌||◌}
+-- The pieces of a format: what one `printf` prints, in order. And the formats of a program.
+use Rattle.std.specs.Prelude.{◌≡◌, ℕ, List, [], ◌∷◌, ◌++◌, Contains, Some, Bool, true, not, if◌then◌else◌, ◌==◌, ◌&&◌, ◌||◌}
 use Rattle.lex.specs.declared.token.Scalar.{Scalar}
 use Rattle.lex.specs.declared.token.Scalar.TheVariants.{Int, Unsigned}
+use Rattle.syntax.specs.Tree as Tree
+use Rattle.syntax.specs.Tree.{Function, Stmt, Stmts, Block, Print, If, IfElse, While, DoWhile, For, Transaction, Program}
+use Rattle.syntax.specs.Names.{definition_of}
 
 -- a piece of what is printed: a maximal run of literal text, or a number of a type
 pub data Piece : Type 0 where
@@ -35,3 +38,24 @@ abbrev pub figures : List Piece → List Scalar
 figures [] = []
 figures (Literal text ∷ ps) = figures ps
 figures (Figure t ∷ ps) = t ∷ figures ps
+
+-- the formats of a statement's prints
+abbrev mutual
+  pub formats_in : Stmt → List (List ℕ)
+  formats_in (Print at format format_at es) = format ∷ []
+  formats_in (Block ss) = formats_among ss
+  formats_in (If c a) = formats_in a
+  formats_in (IfElse c a b) = formats_in a ++ formats_in b
+  formats_in (While c a) = formats_in a
+  formats_in (DoWhile a c) = formats_in a
+  formats_in (For start c step a) = formats_in a
+  formats_in (Transaction mode ss at) = formats_among ss
+  formats_in s = []
+
+  pub formats_among : Stmts → List (List ℕ)
+  formats_among Tree.[] = []
+  formats_among (Tree.◌∷◌ s ss) = formats_in s ++ formats_among ss
+
+-- a print of a function's body has this format
+abbrev pub IsFormatOf : Program → List ℕ → Type 0
+IsFormatOf p format = (x : List ℕ) × (f : Function × Stmts) × (definition_of p x ≡ Some f) × Contains (formats_among f.1) format

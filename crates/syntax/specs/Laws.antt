@@ -1,5 +1,7 @@
 -- Laws of what programs mean.
-use Rattle.std.specs.Prelude.{◌≡◌, ◌≢◌, ℕ, ◌+◌, ◌^◌, ◌<◌, ◌≤◌, ◌⊎◌, List, [], ◌∷◌, ◌++◌, length, map, All, Some, IfOk}
+use Rattle.std.specs.Prelude.{◌≡◌, ◌≢◌, ℕ, ◌+◌, ◌^◌, ◌<◌, ◌≤◌, ◌⊎◌, List, [], ◌∷◌, ◌++◌, ℤ, length, map, Contains, Some, IfOk}
+use Rattle.std.specs.List.{AllByRecursion}
+use Rattle.std.specs.Fmt.{signed_decimal}
 use Rattle.lex.specs.declared.token.Scalar.{Scalar}
 use Rattle.syntax.specs.declared.tree.BinaryOp.{BinaryOp}
 use Rattle.syntax.specs.declared.numbers.Value.{Value}
@@ -9,7 +11,8 @@ use Rattle.syntax.specs.declared.numbers.Stop.TheVariants.{Wants, Spent}
 use Rattle.syntax.specs.Names.{Local, initial_memory}
 use Rattle.syntax.specs.Types.{type_of, running_scope}
 use Rattle.syntax.specs.Typing.{IsTypedProgram}
-use Rattle.syntax.specs.Behaviours.{Memory, Stopped, Outcome}
+use Rattle.syntax.specs.Behaviours.{Memory, IsMemory, Stopped, Outcome}
+use Rattle.syntax.specs.Formats.{Literal, pieces, IsFormatOf}
 use Rattle.syntax.specs.Actions.{State, Answer, Gives, Stops}
 use Rattle.syntax.specs.Meaning.{expr, stmt, calls}
 use Rattle.syntax.specs.Threads.{thread}
@@ -47,27 +50,32 @@ LeftAsManyAsFound = (p : Program) (t : ℕ) (founds : List Memory) (n : ℕ) →
 abbrev pub NeverMoreLeft : Type 0
 NeverMoreLeft = (p : Program) (t : ℕ) (founds : List Memory) (n : ℕ) → length (thread p t founds n).lefts ≤ length founds
 
--- one outcome shows what another does, and at most one piece of text or one memory left more
-abbrev pub ShowsOneMore : Outcome → Outcome → Type 0
-ShowsOneMore before after =
-    ((piece : List ℕ) × (after.text ≡ before.text ++ piece) × (after.lefts ≡ before.lefts))
+-- the text of one piece: a run of literal text in a format of the program, or a number in decimal
+abbrev pub IsPieceOf : Program → List ℕ → Type 0
+IsPieceOf p text =
+    ((format : List ℕ) × IsFormatOf p format × Contains (pieces format) (Literal text))
+    ⊎ ((number : ℤ) × (text ≡ signed_decimal number))
+
+-- one outcome shows what another does; or one piece more; or one memory left more
+abbrev pub ShowsOneMore : Program → Outcome → Outcome → Type 0
+ShowsOneMore p before after =
+    ((after.text ≡ before.text) × (after.lefts ≡ before.lefts))
+    ⊎ ((piece : List ℕ) × IsPieceOf p piece × (after.text ≡ before.text ++ piece) × (after.lefts ≡ before.lefts))
     ⊎ ((left : Memory) × (after.text ≡ before.text) × (after.lefts ≡ before.lefts ++ left ∷ []))
 
--- one tick more shows at most one piece of text or one memory left more
+-- one tick more shows at most one piece more, of those that the program prints, or one memory left more, and never both
 abbrev pub OneTickMore : Type 0
-OneTickMore = (p : Program) (t : ℕ) (founds : List Memory) (n : ℕ) → ShowsOneMore (thread p t founds n) (thread p t founds (n + 1))
+OneTickMore = (p : Program) (t : ℕ) (founds : List Memory) (n : ℕ) → ShowsOneMore p (thread p t founds n) (thread p t founds (n + 1))
 
--- a memory of a program: a word below 2^32 for each of its cells
-abbrev pub IsMemoryOf : Program → Memory → Type 0
-IsMemoryOf p m = (length m ≡ length (initial_memory p)) × All (λ w. w < 2 ^ 32) m
-
--- the first memory is a memory of its program
+-- the memories of a program have a word below 2^32 for each of its cells: the first one is such
 abbrev pub BeginsWithMemory : Type 0
-BeginsWithMemory = (p : Program) → IsMemoryOf p (initial_memory p)
+BeginsWithMemory = (p : Program) → IsMemory (length (initial_memory p)) (initial_memory p)
 
 -- a thread that finds memories of its program leaves memories of its program
 abbrev pub LeavesMemories : Type 0
-LeavesMemories = (p : Program) (t : ℕ) (founds : List Memory) (n : ℕ) → All (IsMemoryOf p) founds → All (IsMemoryOf p) (thread p t founds n).lefts
+LeavesMemories =
+    (p : Program) (t : ℕ) (founds : List Memory) (n : ℕ) →
+    AllByRecursion (IsMemory (length (initial_memory p))) founds → AllByRecursion (IsMemory (length (initial_memory p))) (thread p t founds n).lefts
 
 -- where an answer gives something, this holds of it and of the state then reached
 abbrev pub WhereGiven : {A : Type 0} → Answer A → (A → State → Type 0) → Type 0

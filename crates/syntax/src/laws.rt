@@ -27,7 +27,8 @@ pub fn never_more_left()
     ensures { NeverMoreLeft }
 {}
 
-/// With one tick more a thread shows at most one piece of text or one memory left more, and never both.
+/// With one tick more a thread shows at most one piece more, or one memory left more, and never both. A piece is a run of
+/// literal text in a format of the program, or a number in decimal.
 pub fn one_tick_more()
     ensures { OneTickMore }
 {}
