@@ -56,8 +56,8 @@ fn measure(rt: &HostRuntime, lines: usize, rounds: u32) -> io::Result<()> {
 }
 
 fn main(rt: HostRuntime) -> io::Result<()> {
-    measure(&rt, 286, 100)?;
-    measure(&rt, 2857, 10)
+    measure(&rt, 294, 100)?;
+    measure(&rt, 2941, 10)
 }
 END
 cd "$work/crates/parse_speed"
