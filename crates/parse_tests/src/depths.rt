@@ -58,7 +58,13 @@ fn a_program_may_be_100_deep(rt: HostRuntime) -> Result<(), Fail> {
     };
     let fault = parse(rt.alloc(), tokens.as_slice()).err();
     assert_eq!(rt; fault.map(|f| f.number()), Some(11));
-    assert_eq!(rt; fault.and_then(|f| f.span()), Some(Span { start: 130, end: 131 }));
+    assert_eq!(rt;
+        fault.and_then(|f| f.span()),
+        Some(Span {
+            start: 130,
+            end: 131
+        })
+    );
     Ok(())
 }
 
@@ -79,7 +85,13 @@ fn blocks_may_be_100_deep(rt: HostRuntime) -> Result<(), Fail> {
 
 #[test]
 fn a_long_chain_is_too_deep(rt: HostRuntime) -> Result<(), Fail> {
-    let text = repeated(rt.alloc(), "void worker(int self) { a = 1", " + 1", 1000, "; }")?;
+    let text = repeated(
+        rt.alloc(),
+        "void worker(int self) { a = 1",
+        " + 1",
+        1000,
+        "; }",
+    )?;
     let Ok(tokens) = lex(rt.alloc(), text.as_str()) else {
         assert!(rt; false);
         return Ok(());
@@ -91,7 +103,13 @@ fn a_long_chain_is_too_deep(rt: HostRuntime) -> Result<(), Fail> {
 
 #[test]
 fn a_block_may_be_long(rt: HostRuntime) -> Result<(), Fail> {
-    let text = repeated(rt.alloc(), "void worker(int self) { ", "a = b[1]; ", 10000, "}")?;
+    let text = repeated(
+        rt.alloc(),
+        "void worker(int self) { ",
+        "a = b[1]; ",
+        10000,
+        "}",
+    )?;
     let Ok(tokens) = lex(rt.alloc(), text.as_str()) else {
         assert!(rt; false);
         return Ok(());

@@ -50,7 +50,11 @@ fn each_fault_has_its_place(rt: HostRuntime) -> Result<(), Fail> {
         };
         let fault = parse(rt.alloc(), tokens.as_slice()).err();
         assert_eq!(rt; fault.map(|f| f.number()), Some(number), "{text}");
-        assert_eq!(rt; fault.and_then(|f| f.span()), Some(Span { start, end }), "{text}");
+        assert_eq!(rt;
+            fault.and_then(|f| f.span()),
+            Some(Span { start, end }),
+            "{text}"
+        );
     }
     Ok(())
 }

@@ -5,7 +5,8 @@ use parse::parse;
 use refusing::Refusing;
 use std::test::Fail;
 
-const SAMPLE: &str = "int x = -2, a[2] = {1, 2,}; [[transaction_safe]] int f(int b, unsigned) __attribute__((transaction_callable)); \
+const SAMPLE: &str =
+    "int x = -2, a[2] = {1, 2,}; [[transaction_safe]] int f(int b, unsigned) __attribute__((transaction_callable)); \
 void worker(int self) { int c = f(x, (int)-a[1]) ? 1 : 2; if (c) ; else x++; while (c) break; do c = 1; while (c); \
 for (int i = 0; i < 2; i++) { } __transaction_atomic { x += 1; } printf(\"%d\", c && x | 1); return; }";
 

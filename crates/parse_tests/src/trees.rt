@@ -11,10 +11,19 @@ use syntax::tree::{Attribute, Item};
 const ROWS: [(&str, &str); 30] = [
     // an else belongs to the nearest if that can take it
     ("if (a) if (b) ; else ;", "{if a {if b ; else ;}}"),
-    ("if (a) if (b) ; else ; else ;", "{if a {if b ; else ;} else ;}"),
+    (
+        "if (a) if (b) ; else ; else ;",
+        "{if a {if b ; else ;} else ;}",
+    ),
     ("if (a) { if (b) ; } else ;", "{if a {{if b ;}} else ;}"),
-    ("if (a) while (b) if (c) ; else ;", "{if a {while b {if c ; else ;}}}"),
-    ("if (a) do if (b) ; while (c); else ;", "{if a {do {if b ;} c} else ;}"),
+    (
+        "if (a) while (b) if (c) ; else ;",
+        "{if a {while b {if c ; else ;}}}",
+    ),
+    (
+        "if (a) do if (b) ; while (c); else ;",
+        "{if a {do {if b ;} c} else ;}",
+    ),
     // operators group to the left, ?: to the right
     ("a - b - c;", "(- (- a b) c)"),
     ("a - b + c;", "(+ (- a b) c)"),
@@ -38,12 +47,21 @@ const ROWS: [(&str, &str); 30] = [
     ("(int)-a[b];", "(cast (unary [a b]))"),
     ("(a) + f(b, c - 1);", "(+ (a) (call f b (- c 1)))"),
     // steps and assignments
-    ("a++; ++a; a[b]--; --a[b];", "(step a)(step a)(step [a b])(step [a b])"),
+    (
+        "a++; ++a; a[b]--; --a[b];",
+        "(step a)(step a)(step [a b])(step [a b])",
+    ),
     ("a = b; a += b; (a) = b;", "(= a b)(op= a b)(= (a) b)"),
     // heads of for
-    ("for (;;) ; for (int a;;) ; for (a = 1; b; c++) ;", "{for - - - ;}{for declaration - - ;}{for simple c s ;}"),
+    (
+        "for (;;) ; for (int a;;) ; for (a = 1; b; c++) ;",
+        "{for - - - ;}{for declaration - - ;}{for simple c s ;}",
+    ),
     // blocks and transactions
-    ("{ int a; ; } __transaction_atomic { a = 1; }", "{{declare};}{transaction (= a 1)}"),
+    (
+        "{ int a; ; } __transaction_atomic { a = 1; }",
+        "{{declare};}{transaction (= a 1)}",
+    ),
     ("printf(\"x\\n%d\", a, b);", "{print x\n%d a b}"),
 ];
 
@@ -76,7 +94,8 @@ fn statements_have_their_shapes(rt: HostRuntime) -> Result<(), Fail> {
 
 #[test]
 fn a_function_keeps_its_attributes_and_parameters(rt: HostRuntime) -> Result<(), Fail> {
-    let text = "[[transaction_safe, transaction_unsafe]] unsigned f(int a, unsigned) __attribute__((transaction_callable));";
+    let text =
+        "[[transaction_safe, transaction_unsafe]] unsigned f(int a, unsigned) __attribute__((transaction_callable));";
     let Ok(tokens) = lex(rt.alloc(), text) else {
         assert!(rt; false);
         return Ok(());
