@@ -2,4 +2,14 @@
 #![tactic(auto)]
 
 #[cfg(test)]
-mod programs;
+mod depths;
+#[cfg(test)]
+mod faults;
+#[cfg(test)]
+mod growths;
+#[cfg(test)]
+mod productions;
+#[cfg(test)]
+mod shape;
+#[cfg(test)]
+mod trees;
