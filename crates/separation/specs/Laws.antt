@@ -1,7 +1,6 @@
 -- Laws of touching functions.
 use Rattle.std.specs.Prelude.{ℕ, codes}
-use Rattle.lex.specs.declared.token.Span.{Span}
-use Rattle.syntax.specs.Tree.{Program}
+use Rattle.syntax.specs.Tree.{Span, Program}
 use Rattle.separation.specs.Touching.{IsTouchingSet, IsTouching, BreaksSeparation}
 
 -- the touching functions are themselves such a set, and so the least one

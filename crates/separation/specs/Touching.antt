@@ -1,7 +1,6 @@
 -- Touching functions, and programs that keep shared data to transactions.
 use Rattle.std.specs.Prelude.{◌≡◌, ℕ, List, false, IsTrue, Contains, codes}
-use Rattle.lex.specs.declared.token.Span.{Span}
-use Rattle.syntax.specs.Tree.{Program}
+use Rattle.syntax.specs.Tree.{Span, Program}
 use Rattle.syntax.specs.Typing.{IsTypedProgram}
 use Rattle.safety.specs.Marks.{Mark, Prints, Relaxes, Cancels, Calls, Uses, Marked, marks_of}
 use Rattle.safety.specs.Safe.{FunctionSet, IsSafeProgram}

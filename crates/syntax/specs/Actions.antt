@@ -1,12 +1,9 @@
 -- Runs: what carries ticks, locals, memory and text along, and the ways in which a run stops.
 use Rattle.std.specs.Prelude.{ℕ, zero, suc, List, [], ◌++◌, Option, Some, None, Result, Ok, Err, slice_index, slice_set}
-use Rattle.syntax.specs.declared.tree.Mode.{Mode}
-use Rattle.syntax.specs.declared.tree.Mode.TheVariants.{Atomic, Relaxed}
-use Rattle.syntax.specs.declared.numbers.Trap.{Trap}
-use Rattle.syntax.specs.declared.numbers.Stop.{Stop}
-use Rattle.syntax.specs.declared.numbers.Stop.TheVariants.{Trapped, Spent, Astray}
+use Rattle.syntax.specs.Tree.{Mode, Atomic, Relaxed}
+use Rattle.syntax.specs.Numbers.{Trap}
 use Rattle.syntax.specs.Names.{Local}
-use Rattle.syntax.specs.Behaviours.{Memory}
+use Rattle.syntax.specs.Behaviours.{Memory, Stop, Trapped, Spent, Astray}
 
 -- outside transactions: the memories that are still to be found, and those left so far;
 -- inside one: its memory, and how the innermost one runs

@@ -1,9 +1,9 @@
 -- What threads do, for whatever says it: the source or its code. Runs of single steps, and how a thread stands in one.
 use Rattle.std.specs.Prelude.{◌≡◌, ℕ, ◌<◌, ◌==◌, ◌^◌, ◌⊎◌, List, [], ◌∷◌, ◌++◌, length, map, filter}
 use Rattle.std.specs.List.{AllByRecursion}
-use Rattle.syntax.specs.declared.numbers.Trap.{Trap}
-use Rattle.syntax.specs.declared.numbers.Stop.{Stop}
-use Rattle.syntax.specs.declared.numbers.Stop.TheVariants.{Trapped, Wants, Spent}
+use Rattle.syntax.specs.Numbers.{Trap}
+pub use Rattle.syntax.specs.declared.numbers.Stop.{Stop}
+pub use Rattle.syntax.specs.declared.numbers.Stop.TheVariants.{Trapped, Wants, Spent, Astray}
 
 -- a shared memory: a word for each cell
 abbrev pub Memory : Type 0

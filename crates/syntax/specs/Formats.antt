@@ -1,9 +1,7 @@
 -- The pieces of a format: what one `printf` prints, in order. And the formats of a program.
 use Rattle.std.specs.Prelude.{◌≡◌, ℕ, List, [], ◌∷◌, ◌++◌, Contains, Some, Bool, true, not, if◌then◌else◌, ◌==◌, ◌&&◌, ◌||◌}
-use Rattle.lex.specs.declared.token.Scalar.{Scalar}
-use Rattle.lex.specs.declared.token.Scalar.TheVariants.{Int, Unsigned}
 use Rattle.syntax.specs.Tree as Tree
-use Rattle.syntax.specs.Tree.{Function, Stmt, Stmts, Block, Print, If, IfElse, While, DoWhile, For, Transaction, Program}
+use Rattle.syntax.specs.Tree.{Scalar, Int, Unsigned, Function, Stmt, Stmts, Block, Print, If, IfElse, While, DoWhile, For, Transaction, Program}
 use Rattle.syntax.specs.Names.{definition_of}
 
 -- a piece of what is printed: a maximal run of literal text, or a number of a type

@@ -1,27 +1,11 @@
 -- Which tokens spell which tree.
-use Rattle.std.specs.Prelude.{◌≡◌, ℕ, ◌≤◌, ◌<◌, List, [], ◌∷◌, ◌++◌, Option, Some, None, IsSome, Bool, true, false, IsFalse, codes, bytes_eq, if◌then◌else◌}
+use Rattle.std.specs.Prelude.{◌≡◌, ℕ, ◌≤◌, ◌<◌, List, [], ◌∷◌, ◌++◌, Option, Some, None, IsSome, Bool, true, false, IsFalse, codes, bytes_eq, option_map, if◌then◌else◌}
 use Rattle.lex.specs.declared.token.Mark.{Mark}
 use Rattle.lex.specs.declared.token.Mark.TheVariants as m
-use Rattle.lex.specs.declared.token.Span.{Span}
-use Rattle.lex.specs.declared.token.Scalar.{Scalar}
-use Rattle.lex.specs.declared.token.Scalar.TheVariants.{Int, Unsigned}
 use Rattle.lex.specs.Tokens as t
 use Rattle.lex.specs.Tokens.{Terminal, Tok, unescaped}
-use Rattle.syntax.specs.declared.tree.UnaryOp.{UnaryOp}
-use Rattle.syntax.specs.declared.tree.UnaryOp.TheVariants.{Negate, Keep, Not, Complement}
-use Rattle.syntax.specs.declared.tree.BinaryOp.{BinaryOp}
-use Rattle.syntax.specs.declared.tree.BinaryOp.TheVariants.{Or, Xor, And, Equal, NotEqual, Less, Greater, LessEqual, GreaterEqual, ShiftLeft, ShiftRight, Add, Subtract, Multiply, Divide, Remainder}
-use Rattle.syntax.specs.declared.tree.LogicalOp.{LogicalOp}
-use Rattle.syntax.specs.declared.tree.LogicalOp.TheVariants.{AndThen, OrElse}
-use Rattle.syntax.specs.declared.tree.Step.{Step}
-use Rattle.syntax.specs.declared.tree.Step.TheVariants.{Up, Down}
-use Rattle.syntax.specs.declared.tree.Mode.{Mode}
-use Rattle.syntax.specs.declared.tree.Mode.TheVariants.{Atomic, Relaxed}
-use Rattle.syntax.specs.declared.tree.Attribute.{Attribute}
-use Rattle.syntax.specs.declared.tree.Attribute.TheVariants.{Safe, Unsafe, Callable}
-use Rattle.syntax.specs.declared.tree.First.{First}
 use Rattle.syntax.specs.Tree as Tree
-use Rattle.syntax.specs.Tree.{Name, Expr, Exprs, Variable, Constant, Element, Call, Parenthesized, Cast, Unary, Binary, Logical, Conditional, Simple, Value, Assign, Change, Declarator, Declaration, Start, Nothing, Declares, Does, Stmt, Stmts, Empty, Declare, Do, Block, Print, If, IfElse, While, DoWhile, For, Break, Continue, Return, Transaction, Cancel, Parameter, Function, Global, Item, Defines, Shares, Program}
+use Rattle.syntax.specs.Tree.{Span, Scalar, Int, Unsigned, UnaryOp, Negate, Keep, Not, Complement, BinaryOp, Or, Xor, And, Equal, NotEqual, Less, Greater, LessEqual, GreaterEqual, ShiftLeft, ShiftRight, Add, Subtract, Multiply, Divide, Remainder, LogicalOp, AndThen, OrElse, Step, Up, Down, Mode, Atomic, Relaxed, Attribute, Safe, Unsafe, Callable, First, Name, Expr, Exprs, Variable, Constant, Element, Call, Parenthesized, Cast, Unary, Binary, Logical, Conditional, Simple, Value, Assign, Change, Declarator, Declaration, Start, Nothing, Declares, Does, Stmt, Stmts, Empty, Declare, Do, Block, Print, If, IfElse, While, DoWhile, For, Break, Continue, Return, Transaction, Cancel, Parameter, Function, Global, Item, Defines, Shares, Program}
 use Rattle.syntax.specs.Depth.{program_depth}
 use Rattle.syntax.specs.Phrases.{Phrase, One, Nil, never, ◌⨾◌, ◌∣◌, given, Many, Is, Keyword, Listed, spanning, end_of, Begins}
 
@@ -29,18 +13,12 @@ use Rattle.syntax.specs.Phrases.{Phrase, One, Nil, never, ◌⨾◌, ◌∣◌, 
 
 -- what a sign or keyword says by a table
 abbrev pub by_mark : {A : Type 0} → (Mark → Option A) → Terminal → Option A
-by_mark table (t.name s) = None
-by_mark table (t.constant n of) = None
-by_mark table (t.text s) = None
 by_mark table (t.mark k) = table k
-by_mark table t.reserved = None
+by_mark table _ = None
 
 abbrev pub name_in : Terminal → Span → Option Name
 name_in (t.name s) at = Some (record { text = s; at = at })
-name_in (t.constant n of) at = None
-name_in (t.text s) at = None
-name_in (t.mark k) at = None
-name_in t.reserved at = None
+name_in _ at = None
 
 abbrev pub the_name : Tok → Option Name
 the_name t = name_in t.terminal t.span
@@ -52,22 +30,16 @@ pub record Number : Type 0 where
   pub at : Span
 
 abbrev pub number_in : Terminal → Span → Option Number
-number_in (t.name s) at = None
 number_in (t.constant n of) at = Some (record { value = n; of = of; at = at })
-number_in (t.text s) at = None
-number_in (t.mark k) at = None
-number_in t.reserved at = None
+number_in _ at = None
 
 abbrev pub the_number : Tok → Option Number
 the_number t = number_in t.terminal t.span
 
 -- what a string stands for, and its place
 abbrev pub text_in : Terminal → Span → Option (List ℕ × Span)
-text_in (t.name s) at = None
-text_in (t.constant n of) at = None
 text_in (t.text s) at = Some (unescaped s, at)
-text_in (t.mark k) at = None
-text_in t.reserved at = None
+text_in _ at = None
 
 abbrev pub the_text : Tok → Option (List ℕ × Span)
 the_text t = text_in t.terminal t.span
@@ -80,10 +52,7 @@ attribute_named s =
 
 abbrev pub attribute_in : Terminal → Option Attribute
 attribute_in (t.name s) = attribute_named s
-attribute_in (t.constant n of) = None
-attribute_in (t.text s) = None
-attribute_in (t.mark k) = None
-attribute_in t.reserved = None
+attribute_in _ = None
 
 abbrev pub the_attribute : Tok → Option Attribute
 the_attribute t = attribute_in t.terminal
@@ -334,11 +303,8 @@ minus false = Nil
 
 -- a constant's value and type
 abbrev pub value_in : Terminal → Option (ℕ × Scalar)
-value_in (t.name s) = None
 value_in (t.constant n of) = Some (n, of)
-value_in (t.text s) = None
-value_in (t.mark k) = None
-value_in t.reserved = None
+value_in _ = None
 
 abbrev pub the_value : Tok → Option (ℕ × Scalar)
 the_value t = value_in t.terminal
@@ -348,11 +314,7 @@ initialiser i = spanning i.span (minus i.negative ⨾ One the_value (i.value, i.
 
 -- a length: a constant of either type, by its value and place
 abbrev pub length_in : Terminal → Span → Option (ℕ × Span)
-length_in (t.name s) at = None
-length_in (t.constant n of) at = Some (n, at)
-length_in (t.text s) at = None
-length_in (t.mark k) at = None
-length_in t.reserved at = None
+length_in terminal at = option_map (λ v. (v.0, at)) (value_in terminal)
 
 abbrev pub the_length : Tok → Option (ℕ × Span)
 the_length t = length_in t.terminal t.span

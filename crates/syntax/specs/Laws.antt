@@ -2,16 +2,12 @@
 use Rattle.std.specs.Prelude.{◌≡◌, ◌≢◌, ℕ, ◌+◌, ◌^◌, ◌<◌, ◌≤◌, ◌⊎◌, List, [], ◌∷◌, ◌++◌, ℤ, length, map, Contains, Some, IfOk}
 use Rattle.std.specs.List.{AllByRecursion}
 use Rattle.std.specs.Fmt.{signed_decimal}
-use Rattle.lex.specs.declared.token.Scalar.{Scalar}
-use Rattle.syntax.specs.declared.tree.BinaryOp.{BinaryOp}
-use Rattle.syntax.specs.declared.numbers.Value.{Value}
-use Rattle.syntax.specs.Tree.{Program, Expr, Stmt}
-use Rattle.syntax.specs.Numbers.{computed, converted}
-use Rattle.syntax.specs.declared.numbers.Stop.TheVariants.{Wants, Spent}
+use Rattle.syntax.specs.Tree.{Scalar, BinaryOp, Program, Expr, Stmt}
+use Rattle.syntax.specs.Numbers.{Value, computed, converted}
 use Rattle.syntax.specs.Names.{Local, initial_memory}
 use Rattle.syntax.specs.Types.{type_of, running_scope}
 use Rattle.syntax.specs.Typing.{IsTypedProgram}
-use Rattle.syntax.specs.Behaviours.{Memory, IsMemory, Stopped, Outcome}
+use Rattle.syntax.specs.Behaviours.{Memory, IsMemory, Wants, Spent, Stopped, Outcome}
 use Rattle.syntax.specs.Formats.{Literal, pieces, IsFormatOf}
 use Rattle.syntax.specs.Actions.{State, Answer, Gives, Stops}
 use Rattle.syntax.specs.Meaning.{expr, stmt, calls}

@@ -1,25 +1,13 @@
 -- What expressions and statements do.
 use Rattle.std.specs.Prelude.{ℕ, zero, suc, ◌+◌, List, [], ◌∷◌, ◌++◌, length, take, Option, Some, None, if◌then◌else◌, Bool, true, false, not, nat_lt, unwrap_or, option_map}
 use Rattle.std.specs.Fmt.{signed_decimal}
-use Rattle.lex.specs.declared.token.Scalar.{Scalar}
-use Rattle.lex.specs.declared.token.Scalar.TheVariants.{Int}
-use Rattle.syntax.specs.declared.tree.BinaryOp.{BinaryOp}
-use Rattle.syntax.specs.declared.tree.BinaryOp.TheVariants.{Add, Subtract}
-use Rattle.syntax.specs.declared.tree.LogicalOp.TheVariants.{AndThen, OrElse}
-use Rattle.syntax.specs.declared.tree.Step.{Step}
-use Rattle.syntax.specs.declared.tree.Step.TheVariants.{Up, Down}
-use Rattle.syntax.specs.declared.tree.Mode.{Mode}
-use Rattle.syntax.specs.declared.tree.Mode.TheVariants.{Atomic, Relaxed}
-use Rattle.syntax.specs.declared.numbers.Trap.TheVariants.{Index, Frames}
 use Rattle.syntax.specs.Tree as Tree
-use Rattle.syntax.specs.Tree.{Name, Expr, Exprs, Variable, Constant, Element, Call, Parenthesized, Cast, Unary, Binary, Logical, Conditional, Simple, Value as Just, Assign, Change, Declarator, Declaration, Start, Nothing, Declares, Does, Stmt, Stmts, Empty, Declare, Do, Block, Print, If, IfElse, While, DoWhile, For, Break, Continue, Return, Transaction, Cancel, Parameter, Function, Program}
-use Rattle.syntax.specs.declared.numbers.Value.{Value}
-use Rattle.syntax.specs.Numbers.{number, converted, is_zero, flag, unary, binary}
+use Rattle.syntax.specs.Tree.{Scalar, Int, BinaryOp, Add, Subtract, AndThen, OrElse, Step, Up, Down, Mode, Atomic, Relaxed, Name, Expr, Exprs, Variable, Constant, Element, Call, Parenthesized, Cast, Unary, Binary, Logical, Conditional, Simple, Value as Just, Assign, Change, Declarator, Declaration, Start, Nothing, Declares, Does, Stmt, Stmts, Empty, Declare, Do, Block, Print, If, IfElse, While, DoWhile, For, Break, Continue, Return, Transaction, Cancel, Parameter, Function, Program}
+use Rattle.syntax.specs.Numbers.{Value, Index, Frames, number, converted, is_zero, flag, unary, binary}
 use Rattle.syntax.specs.Names.{Local, newest, word_at, with_word, global_of, cells, definition_of}
 use Rattle.syntax.specs.Formats.{Piece, Literal, Figure, pieces}
 use Rattle.syntax.specs.Types.{type_of, running_scope}
-use Rattle.syntax.specs.declared.numbers.Stop.TheVariants.{Trapped, Wants, Spent, Astray}
-use Rattle.syntax.specs.Behaviours.{Memory}
+use Rattle.syntax.specs.Behaviours.{Memory, Trapped, Wants, Spent, Astray}
 use Rattle.syntax.specs.Actions.{Place, Outside, Inside, State, Answer, Gives, Stops, Action, pure, stop, go_on, ◌>>=◌, ◌>>◌, tick, trap, or_trap, or_astray, locals, put_locals, load, store, may_print, print_piece, memory_in}
 
 -- where a value stands: in a local variable, by its place among the locals, or in a shared cell
@@ -28,17 +16,11 @@ pub data Spot : Type 0 where
   InCell : (cell : ℕ) (of : Scalar) → Spot
 
 abbrev pub fetch : Spot → Action Value
-fetch (InLocal i t) = do
-  mine ← locals
-  pure (record { of = t; word = word_at mine i })
-fetch (InCell c t) = do
-  w ← load c
-  pure (record { of = t; word = w })
+fetch (InLocal i t) = do mine ← locals; pure (record { of = t; word = word_at mine i })
+fetch (InCell c t) = do w ← load c; pure (record { of = t; word = w })
 
 abbrev pub assign : Spot → Value → Action (Unit {0})
-assign (InLocal i t) v = do
-  mine ← locals
-  put_locals (with_word mine i (converted t v).word)
+assign (InLocal i t) v = do mine ← locals; put_locals (with_word mine i (converted t v).word)
 assign (InCell c t) v = store c (converted t v).word
 
 -- the pieces of a format, with these values for its figures
@@ -153,14 +135,10 @@ module _ (p : Program) (call : Caller) where
   -- where a name's value stands: in the newest local of that name, else in the global
   abbrev pub spot_from : List ℕ → Option (ℕ × Scalar) → Action Spot
   spot_from x (Some l) = pure (InLocal l.0 l.1)
-  spot_from x None = do
-    g ← or_astray (global_of p x)
-    pure (InCell g.cell g.global.of)
+  spot_from x None = do g ← or_astray (global_of p x); pure (InCell g.cell g.global.of)
 
   abbrev pub named : List ℕ → Action Spot
-  named x = do
-    mine ← locals
-    spot_from x (newest mine x)
+  named x = do mine ← locals; spot_from x (newest mine x)
 
   -- an index is tested when it is computed
   abbrev pub element : List ℕ → Value → Action Spot
@@ -170,29 +148,14 @@ module _ (p : Program) (call : Caller) where
 
   abbrev mutual
     pub expr : Expr → Action Value
-    expr (Variable x) = do
-      at ← named x.text
-      fetch at
+    expr (Variable x) = do at ← named x.text; fetch at
     expr (Constant n t at) = pure (record { of = t; word = n })
-    expr (Element x i at) = do
-      k ← expr i
-      at ← element x.text k
-      fetch at
-    expr (Call f es at) = do
-      vs ← exprs es
-      tick
-      call f.text vs
+    expr (Element x i at) = do k ← expr i; at ← element x.text k; fetch at
+    expr (Call f es at) = do vs ← exprs es; tick; call f.text vs
     expr (Parenthesized e at) = expr e
-    expr (Cast t e at) = do
-      v ← expr e
-      pure (converted t v)
-    expr (Unary op e at) = do
-      v ← expr e
-      or_trap (unary op v)
-    expr (Binary op a b at) = do
-      v ← expr a
-      w ← expr b
-      or_trap (binary op v w)
+    expr (Cast t e at) = do v ← expr e; pure (converted t v)
+    expr (Unary op e at) = do v ← expr e; or_trap (unary op v)
+    expr (Binary op a b at) = do v ← expr a; w ← expr b; or_trap (binary op v w)
     expr (Logical AndThen a b at) = do
       v ← expr a
       if is_zero v then pure (flag false) else (expr b >>= λ w. pure (flag (not (is_zero w))))
@@ -208,17 +171,12 @@ module _ (p : Program) (call : Caller) where
 
     pub exprs : Exprs → Action (List Value)
     exprs Tree.[] = pure []
-    exprs (Tree.◌∷◌ e es) = do
-      v ← expr e
-      vs ← exprs es
-      pure (v ∷ vs)
+    exprs (Tree.◌∷◌ e es) = do v ← expr e; vs ← exprs es; pure (v ∷ vs)
 
   -- the left side of an assignment
   abbrev pub spot : Expr → Action Spot
   spot (Variable x) = named x.text
-  spot (Element x i at) = do
-    k ← expr i
-    element x.text k
+  spot (Element x i at) = do k ← expr i; element x.text k
   spot e = stop Astray
 
   -- what an operator's assignment writes, the old value read first
@@ -230,30 +188,18 @@ module _ (p : Program) (call : Caller) where
     assign at new
 
   abbrev pub assigned : Spot → Action Value → Option BinaryOp → Action (Unit {0})
-  assigned at by None = do
-    v ← by
-    assign at v
+  assigned at by None = do v ← by; assign at v
   assigned at by (Some op) = changed at by op
 
   abbrev pub simple : Simple → Action End
-  simple (Just e) = do
-    expr e
-    pure Next
-  simple (Assign to op e) = do
-    at ← spot to
-    assigned at (expr e) op
-    pure Next
-  simple (Change to by) = do
-    at ← spot to
-    changed at (pure int_one) (op_of by)
-    pure Next
+  simple (Just e) = do expr e; pure Next
+  simple (Assign to op e) = do at ← spot to; assigned at (expr e) op; pure Next
+  simple (Change to by) = do at ← spot to; changed at (pure int_one) (op_of by); pure Next
 
   -- a declared name is 0 and then, in its own scope, its first value
   abbrev pub first_value : Spot → Option Expr → Action (Unit {0})
   first_value at None = pure tt
-  first_value at (Some e) = do
-    v ← expr e
-    assign at v
+  first_value at (Some e) = do v ← expr e; assign at v
 
   abbrev pub declare : Scalar → List Declarator → Action End
   declare t [] = pure Next
@@ -271,15 +217,11 @@ module _ (p : Program) (call : Caller) where
   -- a missing condition is true
   abbrev pub holds : Option Expr → Action Bool
   holds None = pure true
-  holds (Some e) = do
-    v ← expr e
-    pure (not (is_zero v))
+  holds (Some e) = do v ← expr e; pure (not (is_zero v))
 
   abbrev pub stepped : Option Simple → Action (Option End)
   stepped None = pure None
-  stepped (Some s) = do
-    simple s
-    pure None
+  stepped (Some s) = do simple s; pure None
 
   abbrev pub return_value : Option Expr → Action Value
   return_value None = pure (flag false)
@@ -287,32 +229,18 @@ module _ (p : Program) (call : Caller) where
 
   abbrev mutual
     pub stmt : Stmt → Action End
-    stmt Empty = do
-      tick
-      pure Next
-    stmt (Declare d) = do
-      tick
-      declare d.of d.declarators
-    stmt (Do s) = do
-      tick
-      simple s
-    stmt (Block ss) = do
-      tick
-      scoped (stmts ss)
+    stmt Empty = do tick; pure Next
+    stmt (Declare d) = do tick; declare d.of d.declarators
+    stmt (Do s) = do tick; simple s
+    stmt (Block ss) = do tick; scoped (stmts ss)
     stmt (Print at format format_at es) = do
       tick
       may_print
       vs ← exprs es
       print_pieces (pieces format) vs
       pure Next
-    stmt (If c a) = do
-      tick
-      v ← expr c
-      if is_zero v then pure Next else stmt a
-    stmt (IfElse c a b) = do
-      tick
-      v ← expr c
-      if is_zero v then stmt b else stmt a
+    stmt (If c a) = do tick; v ← expr c; if is_zero v then pure Next else stmt a
+    stmt (IfElse c a b) = do tick; v ← expr c; if is_zero v then stmt b else stmt a
     stmt (While c a) = do
       tick
       loop (do
@@ -330,22 +258,11 @@ module _ (p : Program) (call : Caller) where
         loop (do
           more ← holds c
           if more then (stmt a >>= after_body (stepped step)) else pure (Some Next)))
-    stmt (Break at) = do
-      tick
-      pure Breaks
-    stmt (Continue at) = do
-      tick
-      pure Continues
-    stmt (Return e at) = do
-      tick
-      v ← return_value e
-      pure (Returns v)
-    stmt (Transaction mode ss at) = do
-      tick
-      transaction mode (scoped (stmts ss))
-    stmt (Cancel at) = do
-      tick
-      pure Cancels
+    stmt (Break at) = do tick; pure Breaks
+    stmt (Continue at) = do tick; pure Continues
+    stmt (Return e at) = do tick; v ← return_value e; pure (Returns v)
+    stmt (Transaction mode ss at) = do tick; transaction mode (scoped (stmts ss))
+    stmt (Cancel at) = do tick; pure Cancels
 
     pub stmts : Stmts → Action End
     stmts Tree.[] = pure Next

@@ -5,7 +5,7 @@ use Rattle.lex.specs.declared.token.Mark.{Mark}
 use Rattle.lex.specs.declared.token.Mark.TheVariants as m
 use Rattle.lex.specs.contracts.token.Mark.{the_type}
 use Rattle.lex.specs.declared.token.Span.{Span}
-use Rattle.lex.specs.Tokens.{Terminal, name, constant, text, mark, reserved, Tok}
+use Rattle.lex.specs.Tokens.{Terminal, mark, Tok}
 
 abbrev pub Phrase : Type 1
 Phrase = List Tok → Type 0
@@ -56,11 +56,8 @@ abbrev pub same_mark : Mark → Mark → Bool
 same_mark = sameb the_type
 
 abbrev pub is_mark : Mark → Terminal → Bool
-is_mark m (name s) = false
-is_mark m (constant n t) = false
-is_mark m (text s) = false
 is_mark m (mark k) = same_mark k m
-is_mark m reserved = false
+is_mark m _ = false
 
 -- the sign or keyword m
 abbrev pub the_mark : Mark → Tok → Option (Unit {0})

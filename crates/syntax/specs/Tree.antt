@@ -1,14 +1,13 @@
 -- The trees of a program, without the pointers and capacities of the values that hold them.
 use Rattle.std.specs.Prelude.{ℕ, List, Option}
-use Rattle.lex.specs.declared.token.Span.{Span}
-use Rattle.lex.specs.declared.token.Scalar.{Scalar}
-use Rattle.syntax.specs.declared.tree.UnaryOp.{UnaryOp}
-use Rattle.syntax.specs.declared.tree.BinaryOp.{BinaryOp}
-use Rattle.syntax.specs.declared.tree.LogicalOp.{LogicalOp}
-use Rattle.syntax.specs.declared.tree.Step.{Step}
-use Rattle.syntax.specs.declared.tree.Mode.{Mode}
-use Rattle.syntax.specs.declared.tree.Attribute.{Attribute}
-use Rattle.syntax.specs.declared.tree.First.{First}
+pub use Rattle.lex.specs.declared.token.{Span.Span, Scalar.Scalar, Scalar.TheVariants.Int, Scalar.TheVariants.Unsigned}
+pub use Rattle.syntax.specs.declared.tree.{UnaryOp.UnaryOp, BinaryOp.BinaryOp, LogicalOp.LogicalOp, Step.Step, Mode.Mode, Attribute.Attribute, First.First}
+pub use Rattle.syntax.specs.declared.tree.UnaryOp.TheVariants.{Negate, Keep, Not, Complement}
+pub use Rattle.syntax.specs.declared.tree.BinaryOp.TheVariants.{Or, Xor, And, Equal, NotEqual, Less, Greater, LessEqual, GreaterEqual, ShiftLeft, ShiftRight, Add, Subtract, Multiply, Divide, Remainder}
+pub use Rattle.syntax.specs.declared.tree.LogicalOp.TheVariants.{AndThen, OrElse}
+pub use Rattle.syntax.specs.declared.tree.Step.TheVariants.{Up, Down}
+pub use Rattle.syntax.specs.declared.tree.Mode.TheVariants.{Atomic, Relaxed}
+pub use Rattle.syntax.specs.declared.tree.Attribute.TheVariants.{Safe, Unsafe, Callable}
 
 -- a name, where it stands
 pub record Name : Type 0 where

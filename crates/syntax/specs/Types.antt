@@ -1,12 +1,6 @@
 -- What names are known as, and the types of expressions.
 use Rattle.std.specs.Prelude.{bytes_eq, ℕ, List, [], ◌∷◌, map, Option, Some, None, if◌then◌else◌, option_map, unwrap_or}
-use Rattle.lex.specs.declared.token.Scalar.{Scalar}
-use Rattle.lex.specs.declared.token.Scalar.TheVariants.{Int}
-use Rattle.syntax.specs.declared.tree.UnaryOp.{UnaryOp}
-use Rattle.syntax.specs.declared.tree.UnaryOp.TheVariants.{Negate, Keep, Not, Complement}
-use Rattle.syntax.specs.declared.tree.BinaryOp.{BinaryOp}
-use Rattle.syntax.specs.declared.tree.BinaryOp.TheVariants.{ShiftLeft, ShiftRight}
-use Rattle.syntax.specs.Tree.{Expr, Variable, Constant, Element, Call, Parenthesized, Cast, Unary, Binary, Logical, Conditional, Function, Global, Item, Defines, Shares, Program}
+use Rattle.syntax.specs.Tree.{Scalar, Int, UnaryOp, Negate, Keep, Not, Complement, BinaryOp, ShiftLeft, ShiftRight, Expr, Variable, Constant, Element, Call, Parenthesized, Cast, Unary, Binary, Logical, Conditional, Function, Global, Item, Defines, Shares, Program}
 use Rattle.syntax.specs.Names.{Local, newest}
 use Rattle.syntax.specs.Numbers.{common, result_type}
 

@@ -1,24 +1,9 @@
 -- The clean tree that a value of the program's own types holds.
 use Rattle.std.specs.Prelude.{List, [], ◌∷◌, map, Some, None, option_map}
-use Rattle.syntax.specs.declared.tree.Name as N
-use Rattle.syntax.specs.declared.tree.Expr as E
-use Rattle.syntax.specs.declared.tree.Expr.TheOpen.{Expr-F}
-use Rattle.syntax.specs.declared.tree.Expr.TheFolds.{fold-Expr}
-use Rattle.syntax.specs.declared.tree.Stmt as S
-use Rattle.syntax.specs.declared.tree.Stmt.TheOpen.{Stmt-F}
-use Rattle.syntax.specs.declared.tree.Stmt.TheFolds.{fold-Stmt}
-use Rattle.syntax.specs.declared.tree.Simple as I
-use Rattle.syntax.specs.declared.tree.Simple.TheVariants as IV
-use Rattle.syntax.specs.declared.tree.Declarator as R
-use Rattle.syntax.specs.declared.tree.Declaration as D
-use Rattle.syntax.specs.declared.tree.Start as B
-use Rattle.syntax.specs.declared.tree.Start.TheVariants as BV
-use Rattle.syntax.specs.declared.tree.Parameter as P
-use Rattle.syntax.specs.declared.tree.Function as F
-use Rattle.syntax.specs.declared.tree.Global as G
-use Rattle.syntax.specs.declared.tree.Item as T
-use Rattle.syntax.specs.declared.tree.Item.TheVariants as TV
-use Rattle.syntax.specs.declared.tree.Unit as U
+use Rattle.syntax.specs.declared.tree.{Name.Name as OwnName, Expr.Expr as OwnExpr, Expr.TheOpen.Expr-F, Expr.TheFolds.fold-Expr, Stmt.Stmt as OwnStmt, Stmt.TheOpen.Stmt-F, Stmt.TheFolds.fold-Stmt, Simple.Simple as OwnSimple, Declarator.Declarator as OwnDeclarator, Declaration.Declaration as OwnDeclaration, Start.Start as OwnStart, Parameter.Parameter as OwnParameter, Function.Function as OwnFunction, Global.Global as OwnGlobal, Item.Item as OwnItem, Unit.Unit as OwnUnit}
+use Rattle.syntax.specs.declared.tree.Simple.TheVariants as simple
+use Rattle.syntax.specs.declared.tree.Start.TheVariants as start
+use Rattle.syntax.specs.declared.tree.Item.TheVariants as item
 use Rattle.syntax.specs.Tree.{Name, Expr, Exprs, Variable, Constant, Element, Call, Parenthesized, Cast, Unary, Binary, Logical, Conditional, Simple, Value, Assign, Change, Declarator, Declaration, Start, Nothing, Declares, Does, Stmt, Stmts, Empty, Declare, Do, Block, Print, If, IfElse, While, DoWhile, For, Break, Continue, Return, Transaction, Cancel, Parameter, Function, Global, Item, Defines, Shares, Program}
 use Rattle.syntax.specs.Tree as Tree
 
@@ -31,7 +16,7 @@ stmts_from [] = Tree.[]
 stmts_from (s ∷ ss) = Tree.◌∷◌ s (stmts_from ss)
 
 module _ {A : Type 0} where
-  abbrev pub name_of : N.Name A → Name
+  abbrev pub name_of : OwnName A → Name
   name_of x = record { text = x.text; at = x.span }
 
   -- one level, with the clean tree of each child in its place
@@ -47,27 +32,27 @@ module _ {A : Type 0} where
   expr_step (Expr-F.Logical op a b at) = Logical op a b at
   expr_step (Expr-F.Conditional c a b at) = Conditional c a b at
 
-  abbrev pub expr_of : E.Expr A → Expr
+  abbrev pub expr_of : OwnExpr A → Expr
   expr_of = fold-Expr A Expr expr_step
 
-  abbrev pub exprs_of : List (E.Expr A) → Exprs
+  abbrev pub exprs_of : List (OwnExpr A) → Exprs
   exprs_of es = exprs_from (map expr_of es)
 
-  abbrev pub simple_of : I.Simple A → Simple
-  simple_of (IV.Value e) = Value (expr_of e)
-  simple_of (IV.Assign a op e) = Assign (expr_of a) op (expr_of e)
-  simple_of (IV.Step a by) = Change (expr_of a) by
+  abbrev pub simple_of : OwnSimple A → Simple
+  simple_of (simple.Value e) = Value (expr_of e)
+  simple_of (simple.Assign a op e) = Assign (expr_of a) op (expr_of e)
+  simple_of (simple.Step a by) = Change (expr_of a) by
 
-  abbrev pub declarator_of : R.Declarator A → Declarator
+  abbrev pub declarator_of : OwnDeclarator A → Declarator
   declarator_of d = record { name = name_of d.name; first = option_map expr_of d.first }
 
-  abbrev pub declaration_of : D.Declaration A → Declaration
+  abbrev pub declaration_of : OwnDeclaration A → Declaration
   declaration_of d = record { of = d.of; declarators = map declarator_of d.declarators }
 
-  abbrev pub start_of : B.Start A → Start
-  start_of BV.Nothing = Nothing
-  start_of (BV.Declare d) = Declares (declaration_of d)
-  start_of (BV.Do s) = Does (simple_of s)
+  abbrev pub start_of : OwnStart A → Start
+  start_of start.Nothing = Nothing
+  start_of (start.Declare d) = Declares (declaration_of d)
+  start_of (start.Do s) = Does (simple_of s)
 
   abbrev pub stmt_step : Stmt-F A Stmt → Stmt
   stmt_step Stmt-F.Empty = Empty
@@ -79,32 +64,32 @@ module _ {A : Type 0} where
   stmt_step (Stmt-F.If c a (Some b)) = IfElse (expr_of c) a b
   stmt_step (Stmt-F.While c s) = While (expr_of c) s
   stmt_step (Stmt-F.DoWhile s c) = DoWhile s (expr_of c)
-  stmt_step (Stmt-F.For start c step s) = For (start_of start) (option_map expr_of c) (option_map simple_of step) s
+  stmt_step (Stmt-F.For first c step s) = For (start_of first) (option_map expr_of c) (option_map simple_of step) s
   stmt_step (Stmt-F.Break at) = Break at
   stmt_step (Stmt-F.Continue at) = Continue at
   stmt_step (Stmt-F.Return e at) = Return (option_map expr_of e) at
   stmt_step (Stmt-F.Transaction mode ss at) = Transaction mode (stmts_from ss) at
   stmt_step (Stmt-F.Cancel at) = Cancel at
 
-  abbrev pub stmt_of : S.Stmt A → Stmt
+  abbrev pub stmt_of : OwnStmt A → Stmt
   stmt_of = fold-Stmt A Stmt stmt_step
 
-  abbrev pub stmts_of : List (S.Stmt A) → Stmts
+  abbrev pub stmts_of : List (OwnStmt A) → Stmts
   stmts_of ss = stmts_from (map stmt_of ss)
 
-  abbrev pub parameter_of : P.Parameter A → Parameter
+  abbrev pub parameter_of : OwnParameter A → Parameter
   parameter_of p = record { of = p.of; name = option_map name_of p.name }
 
-  abbrev pub function_of : F.Function A → Function
+  abbrev pub function_of : OwnFunction A → Function
   function_of f = record { attributes = f.attributes; result = f.result; name = name_of f.name; parameters = map parameter_of f.parameters; body = option_map stmts_of f.body }
 
-  abbrev pub global_of : G.Global A → Global
+  abbrev pub global_of : OwnGlobal A → Global
   global_of g = record { of = g.of; name = name_of g.name; length = g.length; first = g.first }
 
-  abbrev pub item_of : T.Item A → Item
-  item_of (TV.Function f) = Defines (function_of f)
-  item_of (TV.Globals gs) = Shares (map global_of gs)
+  abbrev pub item_of : OwnItem A → Item
+  item_of (item.Function f) = Defines (function_of f)
+  item_of (item.Globals gs) = Shares (map global_of gs)
 
   -- the program that a unit holds
-  abbrev pub program_of : U.Unit A → Program
+  abbrev pub program_of : OwnUnit A → Program
   program_of u = map item_of u.items
