@@ -7,9 +7,7 @@ use Rattle.syntax.specs.Typing.{has_name, names_of, parameter_names}
 -- what of a function's body the rules on transactions speak of: a print, a relaxed transaction, a cancel,
 -- a call of a function, and an access to a global
 pub data Mark : Type 0 where
-  Prints : Mark
-  Relaxes : Mark
-  Cancels : Mark
+  Prints Relaxes Cancels : Mark
   Calls : (f : List ℕ) → Mark
   Uses : (x : List ℕ) → Mark
 
@@ -59,9 +57,10 @@ abbrev mutual
   exprs_marks Tree.[] w = []
   exprs_marks (Tree.◌∷◌ e es) w = expr_marks e w ++ exprs_marks es w
 
-abbrev pub optional_marks : Option Expr → Around → List Marked
-optional_marks None w = []
-optional_marks (Some e) w = expr_marks e w
+-- the marks of what may be missing
+abbrev pub marks_if_any : {A : Type 0} → (A → Around → List Marked) → Option A → Around → List Marked
+marks_if_any marks None w = []
+marks_if_any marks (Some x) w = marks x w
 
 abbrev pub simple_marks : Simple → Around → List Marked
 simple_marks (Just e) w = expr_marks e w
@@ -72,7 +71,7 @@ abbrev pub declarator_marks : List Declarator → Around → List Marked
 declarator_marks [] w = []
 declarator_marks (d ∷ ds) w =
     let w' = with_names (d.name.text ∷ []) w in
-    optional_marks d.first w' ++ declarator_marks ds w'
+    marks_if_any expr_marks d.first w' ++ declarator_marks ds w'
 
 abbrev pub start_marks : Start → Around → List Marked
 start_marks Nothing w = []
@@ -87,13 +86,8 @@ abbrev pub mode_mark : Mode → Around → Span → List Marked
 mode_mark Atomic w at = []
 mode_mark Relaxed w at = mark w Relaxes at
 
-abbrev pub step_marks : Option Simple → Around → List Marked
-step_marks None w = []
-step_marks (Some s) w = simple_marks s w
-
 abbrev mutual
   pub stmt_marks : Stmt → Around → List Marked
-  stmt_marks Empty w = []
   stmt_marks (Declare d) w = declarator_marks d.declarators w
   stmt_marks (Do s) w = simple_marks s w
   stmt_marks (Block ss) w = stmts_marks ss w
@@ -104,12 +98,11 @@ abbrev mutual
   stmt_marks (DoWhile a c) w = stmt_marks a w ++ expr_marks c w
   stmt_marks (For start c step a) w =
       let w' = with_names (names_of_start start) w in
-      start_marks start w ++ optional_marks c w' ++ step_marks step w' ++ stmt_marks a w'
-  stmt_marks (Break at) w = []
-  stmt_marks (Continue at) w = []
-  stmt_marks (Return e at) w = optional_marks e w
+      start_marks start w ++ marks_if_any expr_marks c w' ++ marks_if_any simple_marks step w' ++ stmt_marks a w'
+  stmt_marks (Return e at) w = marks_if_any expr_marks e w
   stmt_marks (Transaction mode ss at) w = mode_mark mode w at ++ stmts_marks ss (in_transaction mode w)
   stmt_marks (Cancel at) w = mark w Cancels at
+  stmt_marks s w = []
 
   pub stmts_marks : Stmts → Around → List Marked
   stmts_marks Tree.[] w = []

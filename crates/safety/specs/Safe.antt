@@ -12,8 +12,7 @@ abbrev pub IsSafeMark : (List ℕ → Type 0) → Mark → Type 0
 IsSafeMark safe Prints = ⊥
 IsSafeMark safe Relaxes = ⊥
 IsSafeMark safe (Calls f) = safe f
-IsSafeMark safe Cancels = Unit {0}
-IsSafeMark safe (Uses x) = Unit {0}
+IsSafeMark safe m = Unit {0}
 
 -- no function of the set is marked unsafe, holds anything unsafe or calls out of the set
 abbrev pub IsSafeSet : Program → (List ℕ → Type 0) → Type 0

@@ -9,9 +9,7 @@ use Rattle.safety.specs.Safe.{FunctionSet, IsSafeProgram}
 abbrev pub IsAccess : (List ℕ → Type 0) → Mark → Type 0
 IsAccess set (Calls f) = set f
 IsAccess set (Uses x) = Unit {0}
-IsAccess set Prints = ⊥
-IsAccess set Relaxes = ⊥
-IsAccess set Cancels = ⊥
+IsAccess set m = ⊥
 
 -- a bare one: no transaction of its function is round it
 abbrev pub Touches : (List ℕ → Type 0) → Marked → Type 0
@@ -35,9 +33,7 @@ pub record IsAccepted (p : Program) : Type 0 where
 abbrev pub BreaksBare : Program → ℕ → Mark → Type 0
 BreaksBare p n (Uses x) = n ≡ 50
 BreaksBare p n (Calls f) = (n ≡ 51) × IsTouching p f
-BreaksBare p n Prints = ⊥
-BreaksBare p n Relaxes = ⊥
-BreaksBare p n Cancels = ⊥
+BreaksBare p n m = ⊥
 
 -- a fault of this number at this place breaks its rule: it is bare in the body of worker
 abbrev pub BreaksSeparation : ℕ → Span → Program → Type 0

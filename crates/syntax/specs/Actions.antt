@@ -1,6 +1,6 @@
 -- Runs: what carries ticks, locals, memory and text along, and the ways in which a run stops.
 use Rattle.std.specs.Prelude.{ℕ, zero, suc, List, [], ◌++◌, Option, Some, None, Result, Ok, Err, slice_index, slice_set}
-use Rattle.syntax.specs.Tree.{Mode, Atomic, Relaxed}
+use Rattle.syntax.specs.Tree.{Mode, Atomic}
 use Rattle.syntax.specs.Numbers.{Trap}
 use Rattle.syntax.specs.Names.{Local}
 use Rattle.syntax.specs.Behaviours.{Memory, Stop, Trapped, Spent, Astray}
@@ -100,9 +100,8 @@ store c w s = store_at s.place c w s
 
 -- inside an atomic transaction nothing is printed
 abbrev pub may_print_at : Place → Action (Unit {0})
-may_print_at (Outside founds lefts) = pure tt
-may_print_at (Inside Relaxed m) = pure tt
 may_print_at (Inside Atomic m) = stop Astray
+may_print_at place = pure tt
 
 abbrev pub may_print : Action (Unit {0})
 may_print s = may_print_at s.place s

@@ -5,8 +5,6 @@ use Rattle.syntax.specs.Tree.{Expr, Exprs, Variable, Constant, Element, Call, Pa
 
 abbrev mutual
   pub expr_depth : Expr → ℕ
-  expr_depth (Variable x) = 1
-  expr_depth (Constant n t at) = 1
   expr_depth (Element x i at) = expr_depth i + 1
   expr_depth (Call f es at) = deepest es + 1
   expr_depth (Parenthesized e at) = expr_depth e + 1
@@ -15,6 +13,7 @@ abbrev mutual
   expr_depth (Binary op a b at) = max (expr_depth a) (expr_depth b) + 1
   expr_depth (Logical op a b at) = max (expr_depth a) (expr_depth b) + 1
   expr_depth (Conditional c a b at) = max (expr_depth c) (max (expr_depth a) (expr_depth b)) + 1
+  expr_depth _ = 1
 
   pub deepest : Exprs → ℕ
   deepest Tree.[] = 0
@@ -48,7 +47,6 @@ start_depth (Does s) = simple_depth s
 
 abbrev mutual
   pub stmt_depth : Stmt → ℕ
-  stmt_depth Empty = 1
   stmt_depth (Declare d) = declaration_depth d
   stmt_depth (Do s) = simple_depth s
   stmt_depth (Block ss) = block_depth ss
@@ -58,12 +56,10 @@ abbrev mutual
   stmt_depth (While c a) = max (expr_depth c) (stmt_depth a) + 1
   stmt_depth (DoWhile a c) = max (stmt_depth a) (expr_depth c) + 1
   stmt_depth (For start c step a) = max (max (start_depth start) (optional_depth c)) (max (optional_simple_depth step) (stmt_depth a)) + 1
-  stmt_depth (Break at) = 1
-  stmt_depth (Continue at) = 1
   stmt_depth (Return e at) = optional_depth e + 1
   -- its block is a part of it
   stmt_depth (Transaction mode ss at) = block_depth ss + 1
-  stmt_depth (Cancel at) = 1
+  stmt_depth _ = 1
 
   pub block_depth : Stmts → ℕ
   block_depth Tree.[] = 1

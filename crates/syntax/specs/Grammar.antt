@@ -7,7 +7,7 @@ use Rattle.lex.specs.Tokens.{Terminal, Tok, unescaped}
 use Rattle.syntax.specs.Tree as Tree
 use Rattle.syntax.specs.Tree.{Span, Scalar, Int, Unsigned, UnaryOp, Negate, Keep, Not, Complement, BinaryOp, Or, Xor, And, Equal, NotEqual, Less, Greater, LessEqual, GreaterEqual, ShiftLeft, ShiftRight, Add, Subtract, Multiply, Divide, Remainder, LogicalOp, AndThen, OrElse, Step, Up, Down, Mode, Atomic, Relaxed, Attribute, Safe, Unsafe, Callable, First, Name, Expr, Exprs, Variable, Constant, Element, Call, Parenthesized, Cast, Unary, Binary, Logical, Conditional, Simple, Value, Assign, Change, Declarator, Declaration, Start, Nothing, Declares, Does, Stmt, Stmts, Empty, Declare, Do, Block, Print, If, IfElse, While, DoWhile, For, Break, Continue, Return, Transaction, Cancel, Parameter, Function, Global, Item, Defines, Shares, Program}
 use Rattle.syntax.specs.Depth.{program_depth}
-use Rattle.syntax.specs.Phrases.{Phrase, One, Nil, never, ◌⨾◌, ◌∣◌, given, Many, Is, Keyword, Listed, spanning, end_of, Begins}
+use Rattle.syntax.specs.Phrases.{Phrase, One, Nil, never, ◌⨾◌, ◌∣◌, given, Many, Is, Keyword, Listed, spanning, end_of}
 
 -- ---- what single tokens say
 
@@ -359,6 +359,3 @@ deepest_program = 100
 
 abbrev pub source_depth : Source → ℕ
 source_depth s = program_depth s.program
-
-abbrev pub BeginsProgram : Phrase
-BeginsProgram = Begins Spells

@@ -1,7 +1,6 @@
 -- Laws of what programs mean.
 use Rattle.std.specs.Prelude.{◌≡◌, ◌≢◌, ℕ, ◌+◌, ◌^◌, ◌<◌, ◌≤◌, ◌⊎◌, List, [], ◌∷◌, ◌++◌, ℤ, length, map, Contains, Some, IfOk}
-use Rattle.std.specs.List.{AllByRecursion}
-use Rattle.std.specs.Fmt.{signed_decimal}
+use Rattle.std.specs.{List.AllByRecursion, Fmt.signed_decimal}
 use Rattle.syntax.specs.Tree.{Scalar, BinaryOp, Program, Expr, Stmt}
 use Rattle.syntax.specs.Numbers.{Value, computed, converted}
 use Rattle.syntax.specs.Names.{Local, initial_memory}

@@ -32,9 +32,7 @@ print_pieces (Figure t ∷ ps) (v ∷ vs) = print_piece (signed_decimal (number 
 
 -- how a statement ends
 pub data End : Type 0 where
-  Next : End
-  Breaks : End
-  Continues : End
+  Next Breaks Continues : End
   Returns : (v : Value) → End
   Cancels : End
 
@@ -181,11 +179,7 @@ module _ (p : Program) (call : Caller) where
 
   -- what an operator's assignment writes, the old value read first
   abbrev pub changed : Spot → Action Value → BinaryOp → Action (Unit {0})
-  changed at by op = do
-    old ← fetch at
-    v ← by
-    new ← or_trap (binary op old v)
-    assign at new
+  changed at by op = do old ← fetch at; v ← by; new ← or_trap (binary op old v); assign at new
 
   abbrev pub assigned : Spot → Action Value → Option BinaryOp → Action (Unit {0})
   assigned at by None = do v ← by; assign at v
@@ -233,24 +227,11 @@ module _ (p : Program) (call : Caller) where
     stmt (Declare d) = do tick; declare d.of d.declarators
     stmt (Do s) = do tick; simple s
     stmt (Block ss) = do tick; scoped (stmts ss)
-    stmt (Print at format format_at es) = do
-      tick
-      may_print
-      vs ← exprs es
-      print_pieces (pieces format) vs
-      pure Next
+    stmt (Print at format format_at es) = do tick; may_print; vs ← exprs es; print_pieces (pieces format) vs; pure Next
     stmt (If c a) = do tick; v ← expr c; if is_zero v then pure Next else stmt a
     stmt (IfElse c a b) = do tick; v ← expr c; if is_zero v then stmt b else stmt a
-    stmt (While c a) = do
-      tick
-      loop (do
-        v ← expr c
-        if is_zero v then pure (Some Next) else (stmt a >>= after_body (pure None)))
-    stmt (DoWhile a c) = do
-      tick
-      loop (stmt a >>= after_body (do
-        v ← expr c
-        pure (if is_zero v then Some Next else None)))
+    stmt (While c a) = do tick; loop (do v ← expr c; if is_zero v then pure (Some Next) else (stmt a >>= after_body (pure None)))
+    stmt (DoWhile a c) = do tick; loop (stmt a >>= after_body (do v ← expr c; pure (if is_zero v then Some Next else None)))
     stmt (For start c step a) = do
       tick
       scoped (do

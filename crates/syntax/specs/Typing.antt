@@ -3,7 +3,7 @@
 -- Each rule is a demand with its fault number and its place. A program is typed where every demand is met.
 -- A fault breaks the rule of its number at its place where the demands of that number and place are not all met.
 use Rattle.std.specs.Prelude.{◌≡◌, ℕ, ◌+◌, List, [], ◌∷◌, ◌++◌, length, map, drop, sum_by, Option, Some, None, Bool, true, false, not, ◌&&◌, ◌||◌, IsTrue, is_some, is_none, if◌then◌else◌, codes, option_map, unwrap_or, ◌==◌, nat_le, bytes_eq}
-use Rattle.std.specs.List.{list_any}
+use Rattle.std.specs.{List.list_any, Option.IfSome}
 use Rattle.syntax.specs.Tree as Tree
 use Rattle.syntax.specs.Tree.{Span, Scalar, Int, Unsigned, First, Name, Expr, Exprs, Variable, Constant, Element, Call, Parenthesized, Cast, Unary, Binary, Logical, Conditional, Simple, Value as Just, Assign, Change, Declarator, Declaration, Start, Nothing, Declares, Does, Stmt, Stmts, Empty, Declare, Do, Block, Print, If, IfElse, While, DoWhile, For, Break, Continue, Return, Transaction, Cancel, Parameter, Function, Global, Item, Defines, Shares, Program}
 use Rattle.syntax.specs.Names.{cells, definition_of}
@@ -103,9 +103,8 @@ names_of (Declare d) = map (λ e. e.name.text) d.declarators
 names_of s = []
 
 abbrev pub scope_of_start : Start → Scope → Scope
-scope_of_start Nothing known = known
 scope_of_start (Declares d) known = knows d.of d.declarators known
-scope_of_start (Does s) known = known
+scope_of_start start known = known
 
 -- the parameters' names, and what is known with them
 abbrev pub parameter_names : List Parameter → List (List ℕ)
@@ -166,10 +165,6 @@ module _ (asked : ℕ → Span → Type 0) where
     abbrev pub IsNumber : Expr → Type 0
     IsNumber e = IsTyped e × GivesNumber e
 
-    abbrev pub IsNumberIfAny : Option Expr → Type 0
-    IsNumberIfAny None = Unit {0}
-    IsNumberIfAny (Some e) = IsNumber e
-
     -- the left side of an assignment: a variable, or an element
     abbrev pub may_be_assigned : Expr → Bool
     may_be_assigned (Variable x) = may_be_number (known x.text)
@@ -198,16 +193,13 @@ module _ (asked : ℕ → Span → Type 0) where
         let printed = figures (pieces format) in
         AreNumbers es × Demand 27 at (is_format format && (length printed == count es)) × HaveTypes printed es
 
-    abbrev pub IsTypedReturn : Span → Option Scalar → Option Expr → Type 0
-    IsTypedReturn at gives e = IsNumberIfAny e × Demand 22 at (returns_right gives e)
-
   -- each new name is new in its scope, and known from its own first value on
   abbrev pub AreTypedDeclarators : Scope → List (List ℕ) → Scalar → List Declarator → Type 0
   AreTypedDeclarators known declared t [] = Unit {0}
   AreTypedDeclarators known declared t (d ∷ ds) =
       let known' = with_number d.name.text t known in
       Demand 21 d.name.at (not (has_name declared d.name.text))
-      × IsNumberIfAny known' d.first
+      × IfSome d.first (IsNumber known')
       × AreTypedDeclarators known' (d.name.text ∷ declared) t ds
 
   abbrev pub IsTypedStart : Scope → Start → Type 0
@@ -215,15 +207,10 @@ module _ (asked : ℕ → Span → Type 0) where
   IsTypedStart known (Declares d) = AreTypedDeclarators known [] d.of d.declarators
   IsTypedStart known (Does s) = IsTypedSimple known s
 
-  abbrev pub IsTypedStep : Scope → Option Simple → Type 0
-  IsTypedStep known None = Unit {0}
-  IsTypedStep known (Some s) = IsTypedSimple known s
-
   -- statements of a function that gives this, in a loop or not; declared are the names of the scope that they stand in
   module _ (gives : Option Scalar) where
     abbrev mutual
       pub IsTypedStmt : Stmt → (known : Scope) (declared : List (List ℕ)) (looping : Bool) → Type 0
-      IsTypedStmt Empty known declared looping = Unit {0}
       IsTypedStmt (Declare d) known declared looping = AreTypedDeclarators known declared d.of d.declarators
       IsTypedStmt (Do s) known declared looping = IsTypedSimple known s
       IsTypedStmt (Block ss) known declared looping = AreTypedStmts ss known [] looping
@@ -234,25 +221,23 @@ module _ (asked : ℕ → Span → Type 0) where
       IsTypedStmt (DoWhile a c) known declared looping = IsTypedStmt a known declared true × IsNumber known c
       IsTypedStmt (For start c step a) known declared looping =
           let known' = scope_of_start start known in
-          IsTypedStart known start × IsNumberIfAny known' c × IsTypedStep known' step × IsTypedStmt a known' [] true
+          IsTypedStart known start × IfSome c (IsNumber known') × IfSome step (IsTypedSimple known') × IsTypedStmt a known' [] true
       IsTypedStmt (Break at) known declared looping = Demand 26 at looping
       IsTypedStmt (Continue at) known declared looping = Demand 26 at looping
-      IsTypedStmt (Return e at) known declared looping = IsTypedReturn known at gives e
+      IsTypedStmt (Return e at) known declared looping = IfSome e (IsNumber known) × Demand 22 at (returns_right gives e)
       IsTypedStmt (Transaction mode ss at) known declared looping = AreTypedStmts ss known [] looping
-      IsTypedStmt (Cancel at) known declared looping = Unit {0}
+      IsTypedStmt s known declared looping = Unit {0}
 
       pub AreTypedStmts : Stmts → (known : Scope) (declared : List (List ℕ)) (looping : Bool) → Type 0
       AreTypedStmts Tree.[] known declared looping = Unit {0}
       AreTypedStmts (Tree.◌∷◌ s ss) known declared looping =
           IsTypedStmt s known declared looping × AreTypedStmts ss (scope_after s known) (names_of s ++ declared) looping
 
-  abbrev pub IsNew : List (List ℕ) → Option Name → Type 0
-  IsNew declared None = Unit {0}
-  IsNew declared (Some x) = Demand 21 x.at (not (has_name declared x.text))
-
   abbrev pub AreDistinct : List (List ℕ) → List Parameter → Type 0
   AreDistinct declared [] = Unit {0}
-  AreDistinct declared (q ∷ qs) = IsNew declared q.name × AreDistinct (parameter_names (q ∷ []) ++ declared) qs
+  AreDistinct declared (q ∷ qs) =
+      IfSome q.name (λ x. Demand 21 x.at (not (has_name declared x.text)))
+      × AreDistinct (parameter_names (q ∷ []) ++ declared) qs
 
   abbrev pub IsTypedBody : List Item → Function → Option Stmts → Type 0
   IsTypedBody earlier f None = Unit {0}
