@@ -1,7 +1,7 @@
 -- The marks of a function's body: what the rules on transactions speak of, in the order of the text.
 use Rattle.std.specs.Prelude.{ℕ, List, [], ◌∷◌, ◌++◌, Option, Some, None, Bool, true, false, if◌then◌else◌, bytes_eq}
-use Rattle.syntax.specs.Tree as Tree
-use Rattle.syntax.specs.Tree.{Span, Mode, Atomic, Relaxed, Attribute, Name, Expr, Exprs, Variable, Constant, Element, Call, Parenthesized, Cast, Unary, Binary, Logical, Conditional, Simple, Value as Just, Assign, Change, Declarator, Start, Nothing, Declares, Does, Stmt, Stmts, Empty, Declare, Do, Block, Print, If, IfElse, While, DoWhile, For, Break, Continue, Return, Transaction, Cancel, Parameter, Defines, Shares, Program}
+use Rattle.syntax.specs.declared.tree.{Mode.Mode, Mode.TheVariants.Atomic, Mode.TheVariants.Relaxed, Attribute.Attribute}
+use Rattle.syntax.specs.Tree.{Span, Name, Expr, Exprs, Variable, Constant, Element, Call, Parenthesized, Cast, Unary, Binary, Logical, Conditional, Simple, Value as Just, Assign, Change, Declarator, Start, Nothing, Declares, Does, Stmt, Stmts, Declare, Do, Block, Print, If, IfElse, While, DoWhile, For, Return, Transaction, Cancel, Parameter, Defines, Shares, Program}
 use Rattle.syntax.specs.Typing.{has_name, names_of, parameter_names}
 
 -- what of a function's body the rules on transactions speak of: a print, a relaxed transaction, a cancel,
@@ -54,8 +54,8 @@ abbrev mutual
   expr_marks (Conditional c a b at) w = expr_marks c w ++ expr_marks a w ++ expr_marks b w
 
   pub exprs_marks : Exprs → Around → List Marked
-  exprs_marks Tree.[] w = []
-  exprs_marks (Tree.◌∷◌ e es) w = expr_marks e w ++ exprs_marks es w
+  exprs_marks Exprs.[] w = []
+  exprs_marks (Exprs.◌∷◌ e es) w = expr_marks e w ++ exprs_marks es w
 
 -- the marks of what may be missing
 abbrev pub marks_if_any : {A : Type 0} → (A → Around → List Marked) → Option A → Around → List Marked
@@ -105,8 +105,8 @@ abbrev mutual
   stmt_marks s w = []
 
   pub stmts_marks : Stmts → Around → List Marked
-  stmts_marks Tree.[] w = []
-  stmts_marks (Tree.◌∷◌ s ss) w = stmt_marks s w ++ stmts_marks ss (with_names (names_of s) w)
+  stmts_marks Stmts.[] w = []
+  stmts_marks (Stmts.◌∷◌ s ss) w = stmt_marks s w ++ stmts_marks ss (with_names (names_of s) w)
 
 abbrev pub body_marks : List Parameter → Option Stmts → List Marked
 body_marks qs None = []

@@ -1,7 +1,8 @@
 -- Safe functions, and programs whose atomic transactions hold nothing unsafe.
 use Rattle.std.specs.Prelude.{◌≡◌, ℕ, List, Bool, true, false, IsTrue, All, Contains, is_some, ◌⊎◌}
-use Rattle.syntax.specs.Tree.{Span, Safe, Unsafe, Function, Defines, Program}
-use Rattle.safety.specs.Marks.{Mark, Prints, Relaxes, Cancels, Calls, Uses, Marked, marks_of, attributes_of}
+use Rattle.syntax.specs.declared.tree.Attribute.TheVariants.{Safe, Unsafe}
+use Rattle.syntax.specs.Tree.{Span, Function, Defines, Program}
+use Rattle.safety.specs.Marks.{Mark, Prints, Relaxes, Cancels, Calls, Marked, marks_of, attributes_of}
 
 -- a set of functions, as a test of their names
 abbrev pub FunctionSet : Type 0

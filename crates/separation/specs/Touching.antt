@@ -2,7 +2,7 @@
 use Rattle.std.specs.Prelude.{◌≡◌, ℕ, List, false, IsTrue, Contains, codes}
 use Rattle.syntax.specs.Tree.{Span, Program}
 use Rattle.syntax.specs.Typing.{IsTypedProgram}
-use Rattle.safety.specs.Marks.{Mark, Prints, Relaxes, Cancels, Calls, Uses, Marked, marks_of}
+use Rattle.safety.specs.Marks.{Mark, Calls, Uses, Marked, marks_of}
 use Rattle.safety.specs.Safe.{FunctionSet, IsSafeProgram}
 
 -- an access to shared data, or a call of a function of the set

@@ -129,8 +129,8 @@ module _ (p : Program) (Q : (A : Type 0) → Action A → Type 0) (kept : IsKept
       expr_holds (Cast t e at) = on_holds (expr_holds e) (λ v. pure_holds _)
       expr_holds (Unary op e at) = on_holds (expr_holds e) (λ v. or_trap_holds _)
       expr_holds (Binary op a b at) = on_holds (expr_holds a) (λ v. on_holds (expr_holds b) (λ w. or_trap_holds _))
-      expr_holds (Logical AndThen a b at) = on_holds (expr_holds a) (λ v. if_holds _ (pure_holds _) (on_holds (expr_holds b) (λ w. pure_holds _)))
-      expr_holds (Logical OrElse a b at) = on_holds (expr_holds a) (λ v. if_holds _ (on_holds (expr_holds b) (λ w. pure_holds _)) (pure_holds _))
+      expr_holds (Logical AndThen a b at) = on_holds (expr_holds a) (λ v. on_holds (if_holds _ (pure_holds v) (expr_holds b)) (λ w. pure_holds _))
+      expr_holds (Logical OrElse a b at) = on_holds (expr_holds a) (λ v. on_holds (if_holds _ (expr_holds b) (pure_holds v)) (λ w. pure_holds _))
       expr_holds (Conditional c a b at) = on_holds (expr_holds c) (λ v. on_holds (if_holds _ (expr_holds b) (expr_holds a)) (λ w. on_holds locals_holds (λ mine. on_holds (or_astray_holds _) (λ t. pure_holds _))))
 
       exprs_holds : (es : Exprs) → Q _ (exprs p call es)

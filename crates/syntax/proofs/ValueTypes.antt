@@ -331,14 +331,6 @@ module _ (p : Program) (checked : IsTypedProgram p) where
     logical_typed : (o : Option Scalar) (t : Bool) (s : State) → o ≡ Some Int → GivesType o (pure (flag t) s)
     logical_typed o t s e = λ i f. some_same Int i (sym e ∙ f)
 
-    flagged : (b : Bool) (r : Action Value) (t : Bool) (s : State) → GivesType (Some Int) (r s) → GivesType (Some Int) ((if b then pure (flag t) else r) s)
-    flagged true r t s h = λ i f. some_same Int i f
-    flagged false r t s h = h
-
-    flagged_else : (b : Bool) (r : Action Value) (t : Bool) (s : State) → GivesType (Some Int) (r s) → GivesType (Some Int) ((if b then r else pure (flag t)) s)
-    flagged_else true r t s h = h
-    flagged_else false r t s h = λ i f. some_same Int i f
-
     branch_locals : (b : Bool) (x y : Expr) (s : State) → WhereGiven ((if b then expr p (calls p n) x else expr p (calls p n) y) s) (λ v now. now.locals ≡ s.locals)
     branch_locals true x y s = at_locals x s
     branch_locals false x y s = at_locals y s
@@ -362,11 +354,11 @@ module _ (p : Program) (checked : IsTypedProgram p) where
         (λ v u g e. on_typed (type_at s.locals b) (type_at s.locals (Binary op a b at)) (expr p (calls p n) b u) (λ w. or_trap (binary op v w)) (subst (λ ls. GivesType (type_at ls b) (expr p (calls p n) b u)) e (expr_typed b u))
         (λ w x h. binary_typed op (type_at s.locals a) (type_at s.locals b) v w x g h))
     expr_typed (Logical AndThen a b at) s =
-        on_any (Some Int) (expr p (calls p n) a s) (λ v. if is_zero v then pure (flag false) else (expr p (calls p n) b >>= λ w. pure (flag (not (is_zero w)))))
-        (λ v u. flagged (is_zero v) (expr p (calls p n) b >>= λ w. pure (flag (not (is_zero w)))) false u (on_any (Some Int) (expr p (calls p n) b u) (λ w. pure (flag (not (is_zero w)))) (λ w x i f. some_same Int i f)))
+        on_any (Some Int) (expr p (calls p n) a s) (λ v. (if is_zero v then pure v else expr p (calls p n) b) >>= λ w. pure (flag (not (is_zero w))))
+        (λ v u. on_any (Some Int) ((if is_zero v then pure v else expr p (calls p n) b) u) (λ w. pure (flag (not (is_zero w)))) (λ w x i f. some_same Int i f))
     expr_typed (Logical OrElse a b at) s =
-        on_any (Some Int) (expr p (calls p n) a s) (λ v. if is_zero v then (expr p (calls p n) b >>= λ w. pure (flag (not (is_zero w)))) else pure (flag true))
-        (λ v u. flagged_else (is_zero v) (expr p (calls p n) b >>= λ w. pure (flag (not (is_zero w)))) true u (on_any (Some Int) (expr p (calls p n) b u) (λ w. pure (flag (not (is_zero w)))) (λ w x i f. some_same Int i f)))
+        on_any (Some Int) (expr p (calls p n) a s) (λ v. (if is_zero v then expr p (calls p n) b else pure v) >>= λ w. pure (flag (not (is_zero w))))
+        (λ v u. on_any (Some Int) ((if is_zero v then expr p (calls p n) b else pure v) u) (λ w. pure (flag (not (is_zero w)))) (λ w x i f. some_same Int i f))
     expr_typed (Conditional c a b at) s =
         let o = type_at s.locals (Conditional c a b at) in
         on_locals s.locals o (expr p (calls p n) c s) (λ v. (if is_zero v then expr p (calls p n) b else expr p (calls p n) a) >>= λ w. locals >>= λ mine. or_astray (type_at mine (Conditional c a b at)) >>= λ t. pure (converted t w)) (at_locals c s)

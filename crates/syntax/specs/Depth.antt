@@ -1,7 +1,6 @@
 -- How deep a tree is.
 use Rattle.std.specs.Prelude.{ℕ, ◌+◌, max, List, [], ◌∷◌, Option, Some, None}
-use Rattle.syntax.specs.Tree as Tree
-use Rattle.syntax.specs.Tree.{Expr, Exprs, Variable, Constant, Element, Call, Parenthesized, Cast, Unary, Binary, Logical, Conditional, Simple, Value, Assign, Change, Declarator, Declaration, Start, Nothing, Declares, Does, Stmt, Stmts, Empty, Declare, Do, Block, Print, If, IfElse, While, DoWhile, For, Break, Continue, Return, Transaction, Cancel, Function, Item, Defines, Shares, Program}
+use Rattle.syntax.specs.Tree.{Expr, Exprs, Element, Call, Parenthesized, Cast, Unary, Binary, Logical, Conditional, Simple, Value, Assign, Change, Declarator, Declaration, Start, Nothing, Declares, Does, Stmt, Stmts, Declare, Do, Block, Print, If, IfElse, While, DoWhile, For, Return, Transaction, Item, Defines, Shares, Program}
 
 abbrev mutual
   pub expr_depth : Expr → ℕ
@@ -16,8 +15,8 @@ abbrev mutual
   expr_depth _ = 1
 
   pub deepest : Exprs → ℕ
-  deepest Tree.[] = 0
-  deepest (Tree.◌∷◌ e es) = max (expr_depth e) (deepest es)
+  deepest Exprs.[] = 0
+  deepest (Exprs.◌∷◌ e es) = max (expr_depth e) (deepest es)
 
 abbrev pub optional_depth : Option Expr → ℕ
 optional_depth None = 0
@@ -62,8 +61,8 @@ abbrev mutual
   stmt_depth _ = 1
 
   pub block_depth : Stmts → ℕ
-  block_depth Tree.[] = 1
-  block_depth (Tree.◌∷◌ s ss) = max (stmt_depth s + 1) (block_depth ss)
+  block_depth Stmts.[] = 1
+  block_depth (Stmts.◌∷◌ s ss) = max (stmt_depth s + 1) (block_depth ss)
 
 abbrev pub body_depth : Option Stmts → ℕ
 body_depth None = 0

@@ -1,10 +1,7 @@
 -- Which tokens spell which tree.
 use Rattle.std.specs.Prelude.{◌≡◌, ℕ, ◌≤◌, ◌<◌, List, [], ◌∷◌, ◌++◌, Option, Some, None, IsSome, Bool, true, false, IsFalse, codes, bytes_eq, option_map, if◌then◌else◌}
-use Rattle.lex.specs.declared.token.Mark.{Mark}
+use Rattle.lex.specs.{declared.token.Mark.Mark, Tokens.Terminal, Tokens.Tok, Tokens.unescaped}
 use Rattle.lex.specs.declared.token.Mark.TheVariants as m
-use Rattle.lex.specs.Tokens as t
-use Rattle.lex.specs.Tokens.{Terminal, Tok, unescaped}
-use Rattle.syntax.specs.Tree as Tree
 use Rattle.syntax.specs.Tree.{Span, Scalar, Int, Unsigned, UnaryOp, Negate, Keep, Not, Complement, BinaryOp, Or, Xor, And, Equal, NotEqual, Less, Greater, LessEqual, GreaterEqual, ShiftLeft, ShiftRight, Add, Subtract, Multiply, Divide, Remainder, LogicalOp, AndThen, OrElse, Step, Up, Down, Mode, Atomic, Relaxed, Attribute, Safe, Unsafe, Callable, First, Name, Expr, Exprs, Variable, Constant, Element, Call, Parenthesized, Cast, Unary, Binary, Logical, Conditional, Simple, Value, Assign, Change, Declarator, Declaration, Start, Nothing, Declares, Does, Stmt, Stmts, Empty, Declare, Do, Block, Print, If, IfElse, While, DoWhile, For, Break, Continue, Return, Transaction, Cancel, Parameter, Function, Global, Item, Defines, Shares, Program}
 use Rattle.syntax.specs.Depth.{program_depth}
 use Rattle.syntax.specs.Phrases.{Phrase, One, Nil, never, ◌⨾◌, ◌∣◌, given, Many, Is, Keyword, Listed, spanning, end_of}
@@ -13,11 +10,11 @@ use Rattle.syntax.specs.Phrases.{Phrase, One, Nil, never, ◌⨾◌, ◌∣◌, 
 
 -- what a sign or keyword says by a table
 abbrev pub by_mark : {A : Type 0} → (Mark → Option A) → Terminal → Option A
-by_mark table (t.mark k) = table k
+by_mark table (Terminal.mark k) = table k
 by_mark table _ = None
 
 abbrev pub name_in : Terminal → Span → Option Name
-name_in (t.name s) at = Some (record { text = s; at = at })
+name_in (Terminal.name s) at = Some (record { text = s; at = at })
 name_in _ at = None
 
 abbrev pub the_name : Tok → Option Name
@@ -30,7 +27,7 @@ pub record Number : Type 0 where
   pub at : Span
 
 abbrev pub number_in : Terminal → Span → Option Number
-number_in (t.constant n of) at = Some (record { value = n; of = of; at = at })
+number_in (Terminal.constant n of) at = Some (record { value = n; of = of; at = at })
 number_in _ at = None
 
 abbrev pub the_number : Tok → Option Number
@@ -38,7 +35,7 @@ the_number t = number_in t.terminal t.span
 
 -- what a string stands for, and its place
 abbrev pub text_in : Terminal → Span → Option (List ℕ × Span)
-text_in (t.text s) at = Some (unescaped s, at)
+text_in (Terminal.text s) at = Some (unescaped s, at)
 text_in _ at = None
 
 abbrev pub the_text : Tok → Option (List ℕ × Span)
@@ -51,7 +48,7 @@ attribute_named s =
     (if bytes_eq s (codes "transaction_callable") then Some Callable else None))
 
 abbrev pub attribute_in : Terminal → Option Attribute
-attribute_in (t.name s) = attribute_named s
+attribute_in (Terminal.name s) = attribute_named s
 attribute_in _ = None
 
 abbrev pub the_attribute : Tok → Option Attribute
@@ -183,13 +180,13 @@ abbrev mutual
   expr (Conditional c a b at) = given (1 ≤ level c) (spanning at (expr c ⨾ Is m.Question ⨾ expr a ⨾ Is m.Colon ⨾ expr b))
 
   pub arguments : Exprs → Phrase
-  arguments Tree.[] = Nil
-  arguments (Tree.◌∷◌ e es) = expr e ⨾ further es
+  arguments Exprs.[] = Nil
+  arguments (Exprs.◌∷◌ e es) = expr e ⨾ further es
 
   -- each behind a comma
   pub further : Exprs → Phrase
-  further Tree.[] = Nil
-  further (Tree.◌∷◌ e es) = Is m.Comma ⨾ expr e ⨾ further es
+  further Exprs.[] = Nil
+  further (Exprs.◌∷◌ e es) = Is m.Comma ⨾ expr e ⨾ further es
 
 abbrev pub optional : {A : Type 0} → (A → Phrase) → Option A → Phrase
 optional L None = Nil
@@ -248,9 +245,9 @@ abbrev mutual
 
   -- what stands in a block: declarations too
   pub stmts : Stmts → Phrase
-  stmts Tree.[] = Nil
-  stmts (Tree.◌∷◌ (Declare d) ss) = declaration d ⨾ stmts ss
-  stmts (Tree.◌∷◌ s ss) = stmt s ⨾ stmts ss
+  stmts Stmts.[] = Nil
+  stmts (Stmts.◌∷◌ (Declare d) ss) = declaration d ⨾ stmts ss
+  stmts (Stmts.◌∷◌ s ss) = stmt s ⨾ stmts ss
 
 abbrev pub block : Stmts → Phrase
 block ss = Is m.OpenBrace ⨾ stmts ss ⨾ Is m.CloseBrace
@@ -303,7 +300,7 @@ minus false = Nil
 
 -- a constant's value and type
 abbrev pub value_in : Terminal → Option (ℕ × Scalar)
-value_in (t.constant n of) = Some (n, of)
+value_in (Terminal.constant n of) = Some (n, of)
 value_in _ = None
 
 abbrev pub the_value : Tok → Option (ℕ × Scalar)

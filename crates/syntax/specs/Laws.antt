@@ -5,12 +5,11 @@ use Rattle.syntax.specs.Tree.{Scalar, BinaryOp, Program, Expr, Stmt}
 use Rattle.syntax.specs.Numbers.{Value, computed, converted}
 use Rattle.syntax.specs.Names.{Local, initial_memory}
 use Rattle.syntax.specs.Types.{type_of, running_scope}
-use Rattle.syntax.specs.Typing.{IsTypedProgram}
 use Rattle.syntax.specs.Behaviours.{Memory, IsMemory, Wants, Spent, Stopped, Outcome}
 use Rattle.syntax.specs.Formats.{Literal, pieces, IsFormatOf}
 use Rattle.syntax.specs.Actions.{State, Answer, Gives, Stops}
 use Rattle.syntax.specs.Meaning.{expr, stmt, calls}
-use Rattle.syntax.specs.Threads.{thread}
+use Rattle.syntax.specs.{Typing.IsTypedProgram, Threads.thread}
 
 -- an operator on two words gives a word or traps, and a conversion gives a word
 abbrev pub GivesWords : Type 0

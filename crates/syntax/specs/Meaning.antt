@@ -1,8 +1,7 @@
 -- What expressions and statements do.
 use Rattle.std.specs.Prelude.{ℕ, zero, suc, ◌+◌, List, [], ◌∷◌, ◌++◌, length, take, Option, Some, None, if◌then◌else◌, Bool, true, false, not, nat_lt, unwrap_or, option_map}
 use Rattle.std.specs.Fmt.{signed_decimal}
-use Rattle.syntax.specs.Tree as Tree
-use Rattle.syntax.specs.Tree.{Scalar, Int, BinaryOp, Add, Subtract, AndThen, OrElse, Step, Up, Down, Mode, Atomic, Relaxed, Name, Expr, Exprs, Variable, Constant, Element, Call, Parenthesized, Cast, Unary, Binary, Logical, Conditional, Simple, Value as Just, Assign, Change, Declarator, Declaration, Start, Nothing, Declares, Does, Stmt, Stmts, Empty, Declare, Do, Block, Print, If, IfElse, While, DoWhile, For, Break, Continue, Return, Transaction, Cancel, Parameter, Function, Program}
+use Rattle.syntax.specs.Tree.{Scalar, Int, BinaryOp, Add, Subtract, AndThen, OrElse, Step, Up, Down, Mode, Atomic, Relaxed, Expr, Exprs, Variable, Constant, Element, Call, Parenthesized, Cast, Unary, Binary, Logical, Conditional, Simple, Value as Just, Assign, Change, Declarator, Start, Nothing, Declares, Does, Stmt, Stmts, Empty, Declare, Do, Block, Print, If, IfElse, While, DoWhile, For, Break, Continue, Return, Transaction, Cancel, Parameter, Program}
 use Rattle.syntax.specs.Numbers.{Value, Index, Frames, number, converted, is_zero, flag, unary, binary}
 use Rattle.syntax.specs.Names.{Local, newest, word_at, with_word, global_of, cells, definition_of}
 use Rattle.syntax.specs.Formats.{Piece, Literal, Figure, pieces}
@@ -154,12 +153,8 @@ module _ (p : Program) (call : Caller) where
     expr (Cast t e at) = do v ← expr e; pure (converted t v)
     expr (Unary op e at) = do v ← expr e; or_trap (unary op v)
     expr (Binary op a b at) = do v ← expr a; w ← expr b; or_trap (binary op v w)
-    expr (Logical AndThen a b at) = do
-      v ← expr a
-      if is_zero v then pure (flag false) else (expr b >>= λ w. pure (flag (not (is_zero w))))
-    expr (Logical OrElse a b at) = do
-      v ← expr a
-      if is_zero v then (expr b >>= λ w. pure (flag (not (is_zero w)))) else pure (flag true)
+    expr (Logical AndThen a b at) = do v ← expr a; w ← if is_zero v then pure v else expr b; pure (flag (not (is_zero w)))
+    expr (Logical OrElse a b at) = do v ← expr a; w ← if is_zero v then expr b else pure v; pure (flag (not (is_zero w)))
     expr (Conditional c a b at) = do
       v ← expr c
       w ← if is_zero v then expr b else expr a
@@ -168,8 +163,8 @@ module _ (p : Program) (call : Caller) where
       pure (converted t w)
 
     pub exprs : Exprs → Action (List Value)
-    exprs Tree.[] = pure []
-    exprs (Tree.◌∷◌ e es) = do v ← expr e; vs ← exprs es; pure (v ∷ vs)
+    exprs Exprs.[] = pure []
+    exprs (Exprs.◌∷◌ e es) = do v ← expr e; vs ← exprs es; pure (v ∷ vs)
 
   -- the left side of an assignment
   abbrev pub spot : Expr → Action Spot
@@ -246,8 +241,8 @@ module _ (p : Program) (call : Caller) where
     stmt (Cancel at) = do tick; pure Cancels
 
     pub stmts : Stmts → Action End
-    stmts Tree.[] = pure Next
-    stmts (Tree.◌∷◌ s ss) = stmt s >>= on_next (stmts ss)
+    stmts Stmts.[] = pure Next
+    stmts (Stmts.◌∷◌ s ss) = stmt s >>= on_next (stmts ss)
 
 -- the parameters, with the arguments converted
 abbrev pub bound : Parameter → Value → Option Local

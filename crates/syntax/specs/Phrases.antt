@@ -1,11 +1,8 @@
 -- Phrases: lists of tokens that stand for something, and how a grammar is put together of them.
 use Rattle.std.specs.Prelude.{◌≡◌, ◌⊎◌, ℕ, ◌<◌, List, [], ◌∷◌, ◌++◌, Option, Some, None, Bool, false, if◌then◌else◌}
 use denote.Enum.Bare.{sameb}
-use Rattle.lex.specs.declared.token.Mark.{Mark}
+use Rattle.lex.specs.{declared.token.Mark.Mark, declared.token.Span.Span, contracts.token.Mark.the_type, Tokens.Terminal, Tokens.Tok}
 use Rattle.lex.specs.declared.token.Mark.TheVariants as m
-use Rattle.lex.specs.contracts.token.Mark.{the_type}
-use Rattle.lex.specs.declared.token.Span.{Span}
-use Rattle.lex.specs.Tokens.{Terminal, mark, Tok}
 
 abbrev pub Phrase : Type 1
 Phrase = List Tok → Type 0
@@ -56,7 +53,7 @@ abbrev pub same_mark : Mark → Mark → Bool
 same_mark = sameb the_type
 
 abbrev pub is_mark : Mark → Terminal → Bool
-is_mark m (mark k) = same_mark k m
+is_mark m (Terminal.mark k) = same_mark k m
 is_mark m _ = false
 
 -- the sign or keyword m

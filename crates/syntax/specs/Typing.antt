@@ -4,8 +4,7 @@
 -- A fault breaks the rule of its number at its place where the demands of that number and place are not all met.
 use Rattle.std.specs.Prelude.{◌≡◌, ℕ, ◌+◌, List, [], ◌∷◌, ◌++◌, length, map, drop, sum_by, Option, Some, None, Bool, true, false, not, ◌&&◌, ◌||◌, IsTrue, is_some, is_none, if◌then◌else◌, codes, option_map, unwrap_or, ◌==◌, nat_le, bytes_eq}
 use Rattle.std.specs.{List.list_any, Option.IfSome}
-use Rattle.syntax.specs.Tree as Tree
-use Rattle.syntax.specs.Tree.{Span, Scalar, Int, Unsigned, First, Name, Expr, Exprs, Variable, Constant, Element, Call, Parenthesized, Cast, Unary, Binary, Logical, Conditional, Simple, Value as Just, Assign, Change, Declarator, Declaration, Start, Nothing, Declares, Does, Stmt, Stmts, Empty, Declare, Do, Block, Print, If, IfElse, While, DoWhile, For, Break, Continue, Return, Transaction, Cancel, Parameter, Function, Global, Item, Defines, Shares, Program}
+use Rattle.syntax.specs.Tree.{Span, Scalar, Int, Unsigned, First, Name, Expr, Exprs, Variable, Constant, Element, Call, Parenthesized, Cast, Unary, Binary, Logical, Conditional, Simple, Value as Just, Assign, Change, Declarator, Start, Nothing, Declares, Does, Stmt, Stmts, Declare, Do, Block, Print, If, IfElse, While, DoWhile, For, Break, Continue, Return, Transaction, Parameter, Function, Global, Item, Defines, Shares, Program}
 use Rattle.syntax.specs.Names.{cells, definition_of}
 use Rattle.syntax.specs.Types.{Known, Unknown, Callable, Scope, file_scope, with_number, number_type, element_type, type_of}
 use Rattle.syntax.specs.Formats.{pieces, is_format, figures}
@@ -37,8 +36,8 @@ takes_so_many other n = true
 
 -- the number of expressions
 abbrev pub count : Exprs → ℕ
-count Tree.[] = 0
-count (Tree.◌∷◌ e es) = count es + 1
+count Exprs.[] = 0
+count (Exprs.◌∷◌ e es) = count es + 1
 
 abbrev pub same_type : Scalar → Scalar → Bool
 same_type Int Int = true
@@ -159,8 +158,8 @@ module _ (asked : ℕ → Span → Type 0) where
       IsTyped (Conditional c a b at) = IsTyped c × GivesNumber c × IsTyped a × GivesNumber a × IsTyped b × GivesNumber b
 
       pub AreNumbers : Exprs → Type 0
-      AreNumbers Tree.[] = Unit {0}
-      AreNumbers (Tree.◌∷◌ e es) = IsTyped e × GivesNumber e × AreNumbers es
+      AreNumbers Exprs.[] = Unit {0}
+      AreNumbers (Exprs.◌∷◌ e es) = IsTyped e × GivesNumber e × AreNumbers es
 
     abbrev pub IsNumber : Expr → Type 0
     IsNumber e = IsTyped e × GivesNumber e
@@ -185,7 +184,7 @@ module _ (asked : ℕ → Span → Type 0) where
 
     -- each figure has an argument of its own type
     abbrev pub HaveTypes : List Scalar → Exprs → Type 0
-    HaveTypes (t ∷ ts) (Tree.◌∷◌ e es) = Demand 27 (span_of e) (is_none (type_of known e) || is_type t (type_of known e)) × HaveTypes ts es
+    HaveTypes (t ∷ ts) (Exprs.◌∷◌ e es) = Demand 27 (span_of e) (is_none (type_of known e) || is_type t (type_of known e)) × HaveTypes ts es
     HaveTypes ts es = Unit {0}
 
     abbrev pub IsTypedPrint : List ℕ → Span → Exprs → Type 0
@@ -229,8 +228,8 @@ module _ (asked : ℕ → Span → Type 0) where
       IsTypedStmt s known declared looping = Unit {0}
 
       pub AreTypedStmts : Stmts → (known : Scope) (declared : List (List ℕ)) (looping : Bool) → Type 0
-      AreTypedStmts Tree.[] known declared looping = Unit {0}
-      AreTypedStmts (Tree.◌∷◌ s ss) known declared looping =
+      AreTypedStmts Stmts.[] known declared looping = Unit {0}
+      AreTypedStmts (Stmts.◌∷◌ s ss) known declared looping =
           IsTypedStmt s known declared looping × AreTypedStmts ss (scope_after s known) (names_of s ++ declared) looping
 
   abbrev pub AreDistinct : List (List ℕ) → List Parameter → Type 0
