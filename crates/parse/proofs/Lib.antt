@@ -7,4 +7,5 @@ pub mod Chain
 pub mod Marks
 pub mod Ends
 pub mod Parts
+pub mod Choices
 pub mod Theorems
