@@ -8,3 +8,4 @@ pub mod Marks
 pub mod Ends
 pub mod Parts
 pub mod Theorems
+pub mod Scalars
