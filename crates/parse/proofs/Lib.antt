@@ -7,5 +7,6 @@ pub mod Chain
 pub mod Marks
 pub mod Ends
 pub mod Parts
+pub mod Choices
 pub mod Theorems
 pub mod Scalars
