@@ -4,5 +4,6 @@
 mod cursor;
 mod fault;
 mod lead;
+mod scalar;
 
 pub use fault::ParseFault;
