@@ -9,3 +9,5 @@ pub mod Ends
 pub mod Parts
 pub mod Choices
 pub mod Theorems
+pub mod Starts
+pub mod Scalars
