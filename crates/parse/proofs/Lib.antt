@@ -3,6 +3,7 @@ pub mod Many
 pub mod Turns
 pub mod Knot
 pub mod Climbing
+pub mod Levels
 pub mod Chain
 pub mod Marks
 pub mod Ends

@@ -2,6 +2,7 @@
 #![tactic(auto)]
 
 mod cursor;
+mod expr;
 mod fault;
 mod lead;
 mod node;
