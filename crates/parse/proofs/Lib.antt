@@ -11,3 +11,7 @@ pub mod Choices
 pub mod Theorems
 pub mod Starts
 pub mod Scalars
+pub mod Attributes
+pub mod Functions
+pub mod Globals
+pub mod Programs
