@@ -10,3 +10,4 @@ pub mod Parts
 pub mod Choices
 pub mod Theorems
 pub mod Scalars
+pub mod Wholes
