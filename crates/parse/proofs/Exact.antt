@@ -235,20 +235,28 @@ module _ {A B : Type 0} (P : ℕ → Parser A) (Q : ℕ → Parser B) (L : A →
 
 -- ---- another language for the same phrases
 
+-- the same phrases in other words; what the depth allows and what may follow may be said of the phrases alone
+module _ {A : Type 0} (P : ℕ → Parser A) (L M : A → Phrase) (W W' : ℕ → A → Type 0) (S S' C C' : A → Option Tok → Type 0) (d : ℕ) (E : Exact P L W S C d)
+    (to : (x : A) (p : List Tok) → L x p → M x p) (from : (x : A) (p : List Tok) → M x p → L x p)
+    (w_to : (x : A) (p : List Tok) → L x p → W d x → W' d x) (w_from : (x : A) (p : List Tok) → M x p → W' d x → W d x)
+    (s_from : (x : A) (p : List Tok) (h : Option Tok) → M x p → S' x h → S x h) (c_to : (x : A) (p : List Tok) (h : Option Tok) → L x p → C x h → C' x h) where
+  to_begins : (p : List Tok) → Begins L p → Begins M p
+  to_begins p b = record { value = b.value; more = b.more; spelled = to b.value (p ++ b.more) b.spelled }
+
+  pub restate : Exact P M W' S' C' d
+  restate = record {
+    again = λ x p q l w h. E.again x p q (from x p l) (w_from x p l w) (s_from x p (head q) l h);
+    ok = λ ts x r e. let R = E.ok ts x r e in record { front = R.front; whole = R.whole; spelled = to x R.front R.spelled; within = w_to x R.front R.spelled R.within; closed = c_to x R.front (head r) R.spelled R.closed; stable = R.stable };
+    wrong = λ ts r e. let R = E.wrong ts r e in record { front = R.front; whole = R.whole; begins = λ n. to_begins R.front (R.begins n); stable = R.stable };
+    deep = λ ts r e. let R = E.deep ts r e in record { front = R.front; whole = R.whole; at = R.at; after = R.after; here = R.here; begins = to_begins (R.front ++ R.at ∷ []) R.begins; stable = R.stable };
+  }
+
 module _ {A : Type 0} (P : ℕ → Parser A) (L M : A → Phrase) (W W' : ℕ → A → Type 0) (S S' C C' : A → Option Tok → Type 0) (d : ℕ) (E : Exact P L W S C d)
     (to : (x : A) (p : List Tok) → L x p → M x p) (from : (x : A) (p : List Tok) → M x p → L x p)
     (w_to : (x : A) (p : List Tok) → L x p → W d x → W' d x) (w_from : (x : A) → W' d x → W d x)
     (s_from : (x : A) (h : Option Tok) → S' x h → S x h) (c_to : (x : A) (h : Option Tok) → C x h → C' x h) where
-  to_begins : (p : List Tok) → Begins L p → Begins M p
-  to_begins p b = record { value = b.value; more = b.more; spelled = to b.value (p ++ b.more) b.spelled }
-
   pub relabel : Exact P M W' S' C' d
-  relabel = record {
-    again = λ x p q l w h. E.again x p q (from x p l) (w_from x w) (s_from x (head q) h);
-    ok = λ ts x r e. let R = E.ok ts x r e in record { front = R.front; whole = R.whole; spelled = to x R.front R.spelled; within = w_to x R.front R.spelled R.within; closed = c_to x (head r) R.closed; stable = R.stable };
-    wrong = λ ts r e. let R = E.wrong ts r e in record { front = R.front; whole = R.whole; begins = λ n. to_begins R.front (R.begins n); stable = R.stable };
-    deep = λ ts r e. let R = E.deep ts r e in record { front = R.front; whole = R.whole; at = R.at; after = R.after; here = R.here; begins = to_begins (R.front ++ R.at ∷ []) R.begins; stable = R.stable };
-  }
+  relabel = restate P L M W W' S S' C C' d E to from w_to (λ x p l. w_from x) (λ x p h l. s_from x h) (λ x p h l. c_to x h)
 
 abbrev pub Two : {A B : Type 0} → (A → Phrase) → (B → Phrase) → A × B → List Tok → Type 0
 Two L M x = Seq (L x.0) (M x.1)
@@ -520,3 +528,15 @@ pub value_of : {A B : Type 0} (f : A → B) {P : ℕ → Parser A} {L : A → Li
     → Exact (λ D. mapped f (P D)) M W' S' C' d
 value_of f {P = P} {L = L} M {W = W} W' {S = S} {C = C} S' C' {d = d} EP comes goes deepens closes =
     map_exact f P L M W W' S C S' C' d EP comes goes deepens closes
+
+pub restated : {A : Type 0} {P : ℕ → Parser A} {L : A → List Tok → Type 0} (M : A → Phrase) {W : ℕ → A → Type 0} (W' : ℕ → A → Type 0) {S C : A → Option Tok → Type 0} (S' C' : A → Option Tok → Type 0) {d : ℕ}
+    → Exact P L W S C d
+    → ((x : A) (p : List Tok) → L x p → M x p)
+    → ((x : A) (p : List Tok) → M x p → L x p)
+    → ((x : A) (p : List Tok) → L x p → W d x → W' d x)
+    → ((x : A) (p : List Tok) → M x p → W' d x → W d x)
+    → ((x : A) (p : List Tok) (h : Option Tok) → M x p → S' x h → S x h)
+    → ((x : A) (p : List Tok) (h : Option Tok) → L x p → C x h → C' x h)
+    → Exact P M W' S' C' d
+restated {P = P} {L = L} M {W = W} W' {S = S} {C = C} S' C' {d = d} E to from w_to w_from s_from c_to =
+    restate P L M W W' S S' C C' d E to from w_to w_from s_from c_to

@@ -9,5 +9,6 @@ pub mod Ends
 pub mod Parts
 pub mod Choices
 pub mod Theorems
+pub mod Starts
 pub mod Scalars
 pub mod Wholes
