@@ -4,6 +4,7 @@
 mod cursor;
 mod fault;
 mod lead;
+mod node;
 mod scalar;
 
 pub use fault::ParseFault;
