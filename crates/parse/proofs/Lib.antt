@@ -9,6 +9,8 @@ pub mod Marks
 pub mod Ends
 pub mod Parts
 pub mod Choices
+pub mod Lists
 pub mod Theorems
 pub mod Starts
 pub mod Scalars
+pub mod Wholes

@@ -5,6 +5,7 @@ mod attributes;
 mod cursor;
 mod fault;
 mod lead;
+mod node;
 mod scalar;
 
 pub use fault::ParseFault;
