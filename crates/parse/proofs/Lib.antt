@@ -1,6 +1,7 @@
 pub mod Exact
 pub mod Many
 pub mod Turns
+pub mod Loops
 pub mod Knot
 pub mod Climbing
 pub mod Chain
@@ -8,6 +9,8 @@ pub mod Marks
 pub mod Ends
 pub mod Parts
 pub mod Choices
+pub mod Lists
+pub mod Braces
 pub mod Theorems
 pub mod Starts
 pub mod Scalars
@@ -15,3 +18,4 @@ pub mod Attributes
 pub mod Functions
 pub mod Globals
 pub mod Programs
+pub mod Wholes
