@@ -14,8 +14,6 @@ pub mod Braces
 pub mod Theorems
 pub mod Starts
 pub mod Scalars
-pub mod Attributes
-pub mod Functions
-pub mod Globals
-pub mod Programs
+pub mod Headers
+pub mod Definitions
 pub mod Wholes

@@ -1,5 +1,5 @@
 -- What stands behind a function's name is read exactly.
-use Rattle.std.proofs.Common.{◌≡◌, ℕ, ◌≤◌, Bool, true, false, if◌then◌else◌, IsSome, List, [], ◌∷◌, ◌++◌, Option, Some, None, refl, sym, ap, subst, ◌∙◌, append_assoc, arith, ◌⊎◌, inl, inr}
+use Rattle.std.proofs.Common.{◌≡◌, ℕ, ◌≤◌, Bool, true, false, not, if◌then◌else◌, IsSome, List, [], ◌∷◌, ◌++◌, Option, Some, None, refl, sym, ap, subst, ◌∙◌, append_assoc, arith, ◌⊎◌, inl, inr}
 use Rattle.std.proofs.lemmas.List.{append-nil}
 use Rattle.lex.specs.declared.token.Mark.{Mark}
 use Rattle.lex.specs.declared.token.Mark.TheVariants as m
@@ -12,17 +12,18 @@ use Rattle.syntax.specs.Depth.{block_depth, body_depth, item_depth}
 use Rattle.syntax.specs.Views.{stmts_from}
 use Rattle.syntax.specs.Phrases.{Phrase, Seq, One, Is, Nil, never, Begins, Listed, is_mark}
 use Rattle.syntax.specs.Grammar.{name_in, the_name, optional, block, attributes, scalar, parameter, parameters, AreNamed, body}
-use Rattle.parse.specs.Reading.{head, give, none, mapped, either, listed, expect, is_next}
+use Rattle.parse.specs.Reading.{head, none, mapped, either, listed, expect, is_next}
 use Rattle.parse.specs.Expressions.{is_some, says, type_of_mark}
 use Rattle.parse.specs.Statements.{block_at}
-use Rattle.parse.specs.Items.{parameter_tree, maybe_name, is_plain, are_named, defined_at, body_at, Header, function_tree, function_at}
+use Rattle.parse.specs.Items.{parameter_tree, parameter_list, maybe_name, is_plain, are_named, defined_at, body_at, Header, function_tree, function_at}
 use Rattle.parse.specs.Items as read
-use Rattle.parse.proofs.Exact.{Exact, Always, Shallow, Comes, Two, Dep, Empty, Nothing, take_exact, give_exact, none_exact, relabel, two, chained_one, value_of}
+use Rattle.parse.proofs.Exact.{Exact, Always, Shallow, Comes, Two, Dep, Empty, Nothing, take_exact, give_exact, none_exact, relabel, restated, two, chained_one, value_of}
 use Rattle.parse.proofs.Marks.{that_mark, one_begins, one_head}
 use Rattle.parse.proofs.Parts.{is_here, is_not_here, seq_here, seq_not_here, tail_begins, behind_exact, before_exact}
+use Rattle.parse.proofs.Lists.{listed_exact}
 use Rattle.parse.proofs.Starts.{true_not_false}
-use Rattle.parse.proofs.Scalars.{name_not_mark, scalar_exact}
-use Rattle.parse.proofs.Attributes.{next_not, Next, Parted, parted_not, front_head, one_of, SomeL, some_exact, sign_exact, Plain, plain_true, attributes_exact, no_words, scalar_not}
+use Rattle.parse.proofs.Scalars.{name_not_mark, scalar_exact, scalar_begins}
+use Rattle.parse.proofs.Headers.{next_not, Next, Parted, parted_not, front_head, one_of, SomeL, some_exact, sign_exact, Plain, plain_true, all_shallow, attributes_exact, no_words, scalar_not}
 
 -- ---- parameters
 
@@ -76,8 +77,14 @@ parameter_exact d =
     follow a None p q l h = ap (λ (z : List Tok). is_next m.Int (head (z ++ q))) l ∙ parted_not m.CloseParen m.Int a refl refl (head q) h
     follow a (Some x) p q l h = name_not_mark m.Int x p q l
 
+parameter_begins : Begins parameter []
+parameter_begins = let b = scalar_begins in record { value = record { of = b.value; name = None }; more = b.more; spelled = record { front = b.more; back = []; first = b.spelled; second = refl; whole = sym (append-nil b.more) } }
+
 listed_parameters : (d : ℕ) → Exact (λ D. listed read.parameter) (Listed parameter) (λ D. Shallow D) (λ x. Next m.CloseParen x) Always d
-listed_parameters d = ?
+listed_parameters d =
+    restated (Listed parameter) (λ D. Shallow D) (λ x. Next m.CloseParen x) Always
+    (listed_exact (λ h. is_next m.CloseParen h ≡ true) (parameter_exact d) parameter_begins (λ x h o e. inr e) (λ x t is. inl (rw is refl)))
+    (λ x p l. l) (λ x p l. l) (λ x p l w. tt) (λ x p l w. all_shallow d x) (λ x p h l s. (ap not (next_not m.CloseParen m.Comma refl h s), s)) (λ x p h l c. tt)
 
 parameter_not : (j : Mark) → is_some (type_of_mark j) ≡ false → (xs : List Parameter) (p q : List Tok) → Listed parameter xs p → is_next j (head (p ++ q)) ≡ false
 parameter_not j apart [] p q l = absurd l
@@ -95,7 +102,7 @@ written_not : (x : List Parameter) (p q : List Tok) → WrittenL x p → is_next
 written_not x p q (inl l) = is_not_here m.Void m.CloseParen p q refl l.1
 written_not x p q (inr l) = parameter_not m.CloseParen refl x p q l
 
-inner_exact : (d : ℕ) → Exact (λ D. either (is_next m.CloseParen) (give []) (either (is_next m.Void) (mapped (λ x. []) (expect m.Void)) (listed read.parameter))) InnerL (λ D. Shallow D) (λ x. Next m.CloseParen x) Always d
+inner_exact : (d : ℕ) → Exact (λ D. parameter_list) InnerL (λ D. Shallow D) (λ x. Next m.CloseParen x) Always d
 inner_exact d =
     one_of (is_next m.CloseParen) InnerL (give_exact [] (λ D. Shallow D) (λ x. Next m.CloseParen x) Always d tt (λ h. tt)) (written_exact d)
     (λ x p q l h. ap (λ (z : List Tok). is_next m.CloseParen (head (z ++ q))) l.1 ∙ h) (λ x p q l h. written_not x p q l)

@@ -14,11 +14,12 @@ use Rattle.parse.specs.Reading.{Parser, head, mapped, either, expect, is_next, i
 use Rattle.parse.specs.Expressions.{is_some, type_of_mark}
 use Rattle.parse.specs.Items.{is_plain, Header}
 use Rattle.parse.specs.Items as read
-use Rattle.parse.proofs.Exact.{Exact, Always, Shallow, Comes, Two, take_exact, relabel, two, value_of, Nonempty}
+use Rattle.parse.proofs.Exact.{Exact, Always, Shallow, Comes, Two, take_exact, relabel, restated, two, value_of, Nonempty}
 use Rattle.parse.proofs.Many.{ManyFit, many_exact}
 use Rattle.parse.proofs.Marks.{that_mark, one_begins, one_head}
 use Rattle.parse.proofs.Parts.{seq_map, seq_left, seq_right, is_here, is_not_here, seq_here, seq_not_here, tail_begins, head_begins, behind_exact, before_exact}
 use Rattle.parse.proofs.Choices.{either_exact}
+use Rattle.parse.proofs.Lists.{listed_exact, listed_begins}
 use Rattle.parse.proofs.Scalars.{name_begins, name_not_mark, scalar_exact, scalar_first, type_not_mark}
 
 -- ---- what is next
@@ -94,21 +95,24 @@ sign_exact {A = A} k x W S d w = value_of (λ u. x) (λ y p. (y ≡ x) × Is k p
 abbrev pub Words : List Attribute → Phrase
 Words = Listed (One the_attribute)
 
-words_exact : (d : ℕ) → Exact (λ D. read.words) Words (λ D. Shallow D) (λ x h. is_next m.Comma h ≡ false) Always d
-words_exact d = ?
-
 abbrev safe_word : Tok
 safe_word = record { terminal = name (codes "transaction_safe"); span = record { start = 0; «end» = 0 } }
 
-words_begin : Begins Words []
-words_begin = record { value = Safe ∷ []; more = safe_word ∷ []; spelled = record { front = safe_word ∷ []; back = []; first = record { token = safe_word; has = refl; whole = refl }; second = refl; whole = refl } }
+word_begins : Begins (One the_attribute) []
+word_begins = record { value = Safe; more = safe_word ∷ []; spelled = record { token = safe_word; has = refl; whole = refl } }
+
+words_exact : (d : ℕ) → Exact (λ D. read.words) Words (λ D. Shallow D) (λ x h. is_next m.Comma h ≡ false) Always d
+words_exact d =
+    restated Words (λ D. Shallow D) (λ x h. is_next m.Comma h ≡ false) Always
+    (listed_exact (λ h. Unit {0}) (take_exact the_attribute d) word_begins (λ x h o t. tt) (λ x t is. tt))
+    (λ x p l. l) (λ x p l. l) (λ x p l w. tt) (λ x p l w. all_shallow d x) (λ x p h l s. (ap not s, tt)) (λ x p h l c. tt)
 
 -- words that two marks close
 abbrev Closed : Mark → List Attribute → Phrase
 Closed k x = Seq (Seq (Words x) (Is k)) (Is k)
 
 closed_begins : (k : Mark) → Begins (Closed k) []
-closed_begins k = tail_begins k (λ x. Seq (Words x) (Is k)) (tail_begins k Words words_begin)
+closed_begins k = tail_begins k (λ x. Seq (Words x) (Is k)) (tail_begins k Words (listed_begins word_begins))
 
 abbrev BracketsL : List Attribute → Phrase
 BracketsL x = Seq (Is m.OpenBracket) (Seq (Is m.OpenBracket) (Closed m.CloseBracket x))
