@@ -13,3 +13,4 @@ pub mod Theorems
 pub mod Starts
 pub mod Scalars
 pub mod Wholes
+pub mod Operands
