@@ -10,6 +10,7 @@ pub mod Parts
 pub mod Choices
 pub mod Lists
 pub mod Braces
+pub mod Trailing
 pub mod Theorems
 pub mod Starts
 pub mod Scalars
