@@ -1,6 +1,7 @@
 pub mod Exact
 pub mod Many
 pub mod Turns
+pub mod Loops
 pub mod Knot
 pub mod Climbing
 pub mod Chain
