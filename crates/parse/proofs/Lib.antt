@@ -1,6 +1,7 @@
 pub mod Exact
 pub mod Many
 pub mod Turns
+pub mod Loops
 pub mod Knot
 pub mod Climbing
 pub mod Chain
@@ -9,6 +10,8 @@ pub mod Ends
 pub mod Parts
 pub mod Choices
 pub mod Lists
+pub mod Braces
+pub mod Trailing
 pub mod Theorems
 pub mod Starts
 pub mod Scalars

@@ -1,5 +1,5 @@
 -- From an exact parser to what a whole call promises, for any language.
-use Rattle.std.proofs.Common.{◌≡◌, ℕ, ◌≤◌, max, List, [], ◌∷◌, ◌++◌, Result, Ok, Err, refl, sym, ap, subst, ◌∙◌, append_assoc, arith, inl, inr}
+use Rattle.std.proofs.Common.{◌≡◌, ℕ, ◌≤◌, max, List, [], ◌∷◌, ◌++◌, None, Result, Ok, Err, refl, sym, ap, subst, ◌∙◌, append_assoc, arith, inl, inr}
 use Rattle.std.proofs.lemmas.Bool.{cases_lt}
 use Rattle.std.proofs.lemmas.List.{append-nil}
 use Rattle.lex.specs.Tokens.{Tok}
@@ -25,9 +25,9 @@ finished_deep : {A : Type 0} (x : A × List Tok) (r : List Tok) → finished x �
 finished_deep (x, []) r h = cc
 finished_deep (x, t ∷ ts) r h = cc
 
--- low: a depth that every tree's parts but those that are measured fit into
+-- Nothing follows what is read. low: a depth that every tree's parts but those that are measured fit into
 module _ {A : Type 0} (P : ℕ → Parser A) (L : A → Phrase) (depth : A → ℕ) (low : ℕ)
-    (E : (d : ℕ) → low ≤ d → Exact P L (λ D x. depth x ≤ D) Always Always d) (some : Begins L []) where
+    (E : (d : ℕ) → low ≤ d → Exact P L (λ D x. depth x ≤ D) (λ x h. h ≡ None) Always d) (some : Begins L []) where
   -- something that the tokens spell to their end
   abbrev pub whole : ℕ → List Tok → Result A Fault
   whole d ts = P d ts >>= finished
@@ -35,7 +35,7 @@ module _ {A : Type 0} (P : ℕ → Parser A) (L : A → Phrase) (depth : A → �
   -- what is spelled is read, within its depth
   pub whole_again : (d : ℕ) (e : A) (ts : List Tok) → low ≤ d → L e ts → depth e ≤ d → whole d ts ≡ Ok e
   whole_again d e ts high s w =
-      let read = (E d high).again e ts [] s w tt in
+      let read = (E d high).again e ts [] s w refl in
       let same : ts ++ [] ≡ ts = append-nil ts in
       let read' : P d ts ≡ Ok (e, []) = ap (P d) (sym same) ∙ read in
       rw read' refl

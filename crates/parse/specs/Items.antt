@@ -50,8 +50,12 @@ maybe_name = either (says the_name) (mapped Some (take the_name)) (give None)
 abbrev pub parameter : Parser Parameter
 parameter = mapped parameter_tree (seq scalar maybe_name)
 
+-- nothing, `void`, or parameters
+abbrev pub parameter_list : Parser (List Parameter)
+parameter_list = either (is_next m.CloseParen) (give []) (either (is_next m.Void) (mapped (λ x. []) (expect m.Void)) (listed parameter))
+
 abbrev pub parameters : Parser (List Parameter)
-parameters = behind m.OpenParen (before m.CloseParen (either (is_next m.CloseParen) (give []) (either (is_next m.Void) (mapped (λ x. []) (expect m.Void)) (listed parameter))))
+parameters = behind m.OpenParen (before m.CloseParen parameter_list)
 
 -- all of them have names
 abbrev pub are_named : List Parameter → Bool

@@ -1,6 +1,7 @@
 //! The parser: from tokens to the one tree that they spell, or to the first place where they spell none.
 #![tactic(auto)]
 
+mod attributes;
 mod cursor;
 mod fault;
 mod lead;
