@@ -11,7 +11,9 @@ pub mod Parts
 pub mod Choices
 pub mod Lists
 pub mod Braces
+pub mod Trailing
 pub mod Theorems
 pub mod Starts
 pub mod Scalars
 pub mod Wholes
+pub mod Operands
