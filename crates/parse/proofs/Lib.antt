@@ -11,9 +11,11 @@ pub mod Parts
 pub mod Choices
 pub mod Lists
 pub mod Braces
+pub mod Trailing
 pub mod Theorems
 pub mod Starts
 pub mod Scalars
 pub mod Headers
 pub mod Definitions
 pub mod Wholes
+pub mod Operands
