@@ -4,6 +4,7 @@
 mod attributes;
 mod cursor;
 mod fault;
+mod globals;
 mod lead;
 mod node;
 mod scalar;
