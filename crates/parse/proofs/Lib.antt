@@ -17,3 +17,4 @@ pub mod Starts
 pub mod Scalars
 pub mod Wholes
 pub mod Operands
+pub mod Levels
