@@ -17,5 +17,7 @@ pub mod Starts
 pub mod Scalars
 pub mod Headers
 pub mod Definitions
+pub mod Shares
+pub mod Programs
 pub mod Wholes
 pub mod Operands
