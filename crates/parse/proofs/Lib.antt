@@ -15,6 +15,10 @@ pub mod Trailing
 pub mod Theorems
 pub mod Starts
 pub mod Scalars
+pub mod Headers
+pub mod Definitions
+pub mod Shares
+pub mod Programs
 pub mod Wholes
 pub mod Operands
 pub mod Levels
