@@ -19,5 +19,6 @@ pub mod Headers
 pub mod Definitions
 pub mod Shares
 pub mod Programs
+pub mod Sources
 pub mod Wholes
 pub mod Operands
