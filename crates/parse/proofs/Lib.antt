@@ -19,6 +19,7 @@ pub mod Headers
 pub mod Definitions
 pub mod Shares
 pub mod Programs
+pub mod Sources
 pub mod Wholes
 pub mod Operands
 pub mod Levels
