@@ -23,3 +23,6 @@ pub mod Sources
 pub mod Wholes
 pub mod Operands
 pub mod Levels
+pub mod Simples
+pub mod Declarations
+pub mod Leaves
