@@ -22,3 +22,7 @@ pub mod Programs
 pub mod Sources
 pub mod Wholes
 pub mod Operands
+pub mod Levels
+pub mod Simples
+pub mod Declarations
+pub mod Leaves
