@@ -1,23 +1,23 @@
 -- Items and programs are read exactly.
-use Rattle.std.proofs.Common.{◌≡◌, ℕ, ◌≤◌, Bool, true, false, List, [], ◌∷◌, ◌++◌, Option, Some, None, refl, sym, ap, subst, ◌∙◌, arith, ◌⊎◌, inl, inr}
+use Rattle.std.proofs.Common.{◌≡◌, ℕ, ◌≤◌, true, false, List, [], ◌∷◌, ◌++◌, Some, None, refl, sym, ap, subst, ◌∙◌, arith, ◌⊎◌, inl, inr}
 use Rattle.lex.specs.declared.token.Mark.TheVariants as m
 use Rattle.lex.specs.declared.token.Scalar.{Scalar}
 use Rattle.lex.specs.Tokens.{Tok}
 use Rattle.syntax.specs.declared.tree.Attribute.{Attribute}
-use Rattle.syntax.specs.Tree.{Name, Stmt, Parameter, Stmts, Global, Item, Defines, Shares, Program}
+use Rattle.syntax.specs.Tree.{Item, Defines, Shares, Program}
 use Rattle.syntax.specs.Depth.{block_depth, item_depth, program_depth}
 use Rattle.syntax.specs.Views.{stmts_from}
 use Rattle.syntax.specs.Phrases.{Phrase, Seq, One, Is, Begins, Many}
 use Rattle.syntax.specs.Grammar.{the_name, block, attributes, scalar, result, parameters, body, item}
-use Rattle.parse.specs.Reading.{head, is_next, many_until}
+use Rattle.parse.specs.Reading.{head, is_next}
 use Rattle.parse.specs.Statements.{block_at}
-use Rattle.parse.specs.Items.{Header, Size, function_tree, globals_tree, shared_from, item_from, item_at, at_end, program_at}
+use Rattle.parse.specs.Items.{Header, function_tree, globals_tree, shared_from, item_from, item_at, at_end, program_at}
 use Rattle.parse.proofs.Exact.{Exact, Always, Comes, Two, Dep, none_exact, relabel, chained_one, value_of, Nonempty}
 use Rattle.parse.proofs.Many.{ManyFit, many_exact}
 use Rattle.parse.proofs.Parts.{seq_map, seq_left, seq_right, un_seq_left}
 use Rattle.parse.proofs.Headers.{one_of, no_words, no_attributes, HeaderL, HeaderW, header_exact}
 use Rattle.parse.proofs.Definitions.{FunctionL, ItemW, function_first, function_begins, function_exact}
-use Rattle.parse.proofs.Shares.{GlobalL, NextL, SizedL, GlobalsL, globals_exact, globals_first}
+use Rattle.parse.proofs.Shares.{NextL, SizedL, GlobalsL, globals_exact, globals_first}
 
 -- ---- what stands behind a header
 

@@ -9,7 +9,7 @@ use Rattle.lex.specs.declared.token.Span.{Span}
 use Rattle.lex.specs.Tokens.{Terminal, name, constant, text, mark, reserved, Tok}
 use Rattle.syntax.specs.declared.tree.First.{First}
 use Rattle.syntax.specs.Tree.{Name, Global, Item}
-use Rattle.syntax.specs.Phrases.{Phrase, Seq, One, Is, Nil, Begins, Many, Listed, Covers, is_mark, the_mark, place_of, given}
+use Rattle.syntax.specs.Phrases.{Phrase, Seq, One, Is, Begins, Many, Covers, is_mark, place_of}
 use Rattle.syntax.specs.Grammar.{the_name, the_value, the_length, minus, initialiser, first_value, first_values, optional, sized, global}
 use Rattle.syntax.specs.Grammar as grammar
 use Rattle.parse.specs.Reading.{head, take, is_next, is_other, across, mapped, seq, many_until, behind, before, in_front}

@@ -1,8 +1,8 @@
 -- What the whole call promises.
-use Rattle.std.proofs.Common.{◌≡◌, ℕ, ◌<◌, ◌≤◌, List, [], ◌∷◌, ◌++◌, Option, None, Ok, Err, refl, sym, ap, ◌∙◌, arith, length, slice_index_or, ◌==◌, false}
+use Rattle.std.proofs.Common.{◌≡◌, ℕ, ◌<◌, ◌≤◌, List, [], ◌∷◌, ◌++◌, None, Ok, Err, refl, sym, ap, ◌∙◌, arith, length, slice_index_or, ◌==◌, false}
 use Rattle.lex.specs.declared.token.Token.{Token}
 use Rattle.lex.specs.Tokens.{Tok, tok, toks}
-use Rattle.syntax.specs.Tree.{Stmt, Item, Program}
+use Rattle.syntax.specs.Tree.{Program}
 use Rattle.syntax.specs.Depth.{block_depth, program_depth}
 use Rattle.syntax.specs.Views.{stmts_from}
 use Rattle.syntax.specs.Phrases.{Begins, Many, IsUnexpected, IsUnfinished, IsTooDeep, end_of}
