@@ -1,5 +1,6 @@
 -- Loops that begin with an item, and loops over lists of items.
-use Rattle.std.proofs.Common.{◌≡◌, ℕ, zero, suc, ◌+◌, ◌-◌, ◌<◌, Bool, true, false, List, [], ◌∷◌, ◌++◌, Option, Result, Ok, Err, length, refl, sym, ap, ◌∙◌, append_assoc, arith}
+use Rattle.std.proofs.Common.{◌≡◌, ℕ, zero, suc, ◌+◌, ◌-◌, ◌<◌, Bool, true, false, List, [], ◌∷◌, ◌++◌, Option, Result, Ok, Err, length, ◌==◌, refl, sym, ap, ◌∙◌, append_assoc, arith}
+use Rattle.std.proofs.Math.Dec.{eqb-suc-zero}
 use Rattle.std.proofs.lemmas.List.{append-nil, length-map}
 use Rattle.lex.specs.declared.token.Token.{Token}
 use Rattle.lex.specs.declared.token.Mark.{Mark}
@@ -9,13 +10,22 @@ use Rattle.lex.specs.declared.token.Scalar.{Scalar}
 use Rattle.syntax.specs.Tree.{Name, Global, Shares}
 use Rattle.syntax.specs.declared.tree.Attribute.{Attribute}
 use Rattle.syntax.specs.Grammar.{joined}
-use Rattle.parse.specs.Reading.{Fault, wrong, ◌>>=◌, Parser, head, seq, expect, is_next, is_other, many, many_until, mapped, behind, before, listed, trailing, in_front}
-use Rattle.parse.specs.Items.{Size, global_tree, sized, global, several, globals_from}
+use Rattle.parse.specs.Reading.{Fault, wrong, ◌>>=◌, Parser, head, seq, expect, is_next, is_other, many, many_until, mapped, behind, before, listed, trailing, in_front, finished}
+use Rattle.parse.specs.Items.{at_end, Size, global_tree, sized, global, several, globals_from}
 use Rattle.parse.proofs.Turns.{onward}
 
 -- as many turns as there are tokens
 pub all_turns : (rest : List Token) → length rest - 0 ≡ length (toks rest)
 all_turns rest = omega (arith, length-map rest tok)
+
+-- whether tokens are left
+pub ended : (rest : List Token) (b : Bool) → (length rest == 0) ≡ b → at_end (head (toks rest)) ≡ b
+ended [] b h = h
+ended (t ∷ rest) b h = sym (eqb-suc-zero (length rest)) ∙ h
+
+pub ended_at : {A : Type 0} (rest : List Token) (all : A) → (length rest == 0) ≡ true → finished (all, toks rest) ≡ Ok all
+ended_at [] all h = refl
+ended_at (t ∷ rest) all h = let none : false ≡ true = sym (eqb-suc-zero (length rest)) ∙ h in absurd cc
 
 -- one was read, and others follow
 pub listed_begins : {A : Type 0} (P : Parser A) (front : List A) (x : A) (ts : List Tok) (rest : List Token) → front ≡ x ∷ [] → P ts ≡ Ok (x, toks rest)

@@ -1,11 +1,11 @@
-use Rattle.std.proofs.Common.{◌≡◌, ◌-◌, ◌++◌, ◌∷◌, [], not, map, length, refl, sym, ap, ◌∙◌, arith}
+use Rattle.std.proofs.Common.{◌≡◌, ◌++◌, ◌∷◌, [], not, map, length, refl, sym, ap, ◌∙◌, arith}
 use Rattle.std.proofs.lemmas.Result.{err_from_is_err_and}
 use Rattle.std.proofs.lemmas.List.{map_push}
 use Rattle.lex.specs.declared.token.Mark.TheVariants as m
 use Rattle.lex.specs.Tokens.{toks}
 use Rattle.syntax.specs.Views.{name_of, global_of}
 use Rattle.parse.specs.Reading.{is_other, behind}
-use Rattle.parse.specs.Items.{global, global_tree}
+use Rattle.parse.specs.Items.{global}
 use Rattle.parse.proofs.Climbing.{fails_along}
 use Rattle.parse.proofs.Turns.{goes_on, fails_on, stops_at, runs_out}
 use Rattle.parse.proofs.Loops.{several_begins}
