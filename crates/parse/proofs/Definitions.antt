@@ -4,14 +4,14 @@ use Rattle.std.proofs.lemmas.List.{append-nil}
 use Rattle.lex.specs.declared.token.Mark.{Mark}
 use Rattle.lex.specs.declared.token.Mark.TheVariants as m
 use Rattle.lex.specs.declared.token.Scalar.{Scalar}
-use Rattle.lex.specs.Tokens.{Terminal, name, constant, text, mark, reserved, Tok}
+use Rattle.lex.specs.Tokens.{Terminal, mark, Tok}
 use Rattle.syntax.specs.declared.tree.Attribute.{Attribute}
 use Rattle.syntax.specs.Tree as Tree
 use Rattle.syntax.specs.Tree.{Name, Stmt, Stmts, Parameter, Function, Item, Defines}
 use Rattle.syntax.specs.Depth.{block_depth, body_depth, item_depth}
 use Rattle.syntax.specs.Views.{stmts_from}
-use Rattle.syntax.specs.Phrases.{Phrase, Seq, One, Is, Nil, never, Begins, Listed, is_mark}
-use Rattle.syntax.specs.Grammar.{name_in, the_name, optional, block, attributes, scalar, parameter, parameters, AreNamed, body}
+use Rattle.syntax.specs.Phrases.{Phrase, Seq, One, Is, Nil, Begins, Listed, is_mark}
+use Rattle.syntax.specs.Grammar.{name_in, the_name, optional, block, attributes, parameter, parameters, AreNamed, body}
 use Rattle.parse.specs.Reading.{head, none, mapped, either, listed, expect, is_next}
 use Rattle.parse.specs.Expressions.{is_some, says, type_of_mark}
 use Rattle.parse.specs.Statements.{block_at}
@@ -23,7 +23,7 @@ use Rattle.parse.proofs.Parts.{is_here, is_not_here, seq_here, seq_not_here, tai
 use Rattle.parse.proofs.Lists.{listed_exact}
 use Rattle.parse.proofs.Starts.{true_not_false}
 use Rattle.parse.proofs.Scalars.{name_not_mark, scalar_exact, scalar_begins}
-use Rattle.parse.proofs.Headers.{next_not, Next, Parted, parted_not, front_head, one_of, SomeL, some_exact, sign_exact, Plain, plain_true, all_shallow, attributes_exact, no_words, scalar_not}
+use Rattle.parse.proofs.Headers.{next_not, Next, Parted, parted_not, front_head, one_of, SomeL, some_exact, sign_exact, plain_true, all_shallow, attributes_exact, no_words, scalar_not}
 
 -- ---- parameters
 

@@ -3,20 +3,19 @@ use Rattle.std.proofs.Common.{◌≡◌, ℕ, Bool, true, false, if◌then◌els
 use Rattle.lex.specs.declared.token.Mark.{Mark}
 use Rattle.lex.specs.declared.token.Mark.TheVariants as m
 use Rattle.lex.specs.declared.token.Scalar.{Scalar}
-use Rattle.lex.specs.declared.token.Scalar.TheVariants.{Int, Unsigned}
-use Rattle.lex.specs.Tokens.{Terminal, name, constant, text, mark, reserved, Tok}
+use Rattle.lex.specs.Tokens.{name, mark, Tok}
 use Rattle.syntax.specs.declared.tree.Attribute.{Attribute}
 use Rattle.syntax.specs.declared.tree.Attribute.TheVariants.{Safe}
 use Rattle.syntax.specs.Tree.{Name}
-use Rattle.syntax.specs.Phrases.{Phrase, Seq, One, Is, Nil, never, Begins, Many, Listed, is_mark, the_mark}
-use Rattle.syntax.specs.Grammar.{name_in, the_name, the_attribute, attribute_list, attributes, joined, scalar, result}
+use Rattle.syntax.specs.Phrases.{Phrase, Seq, One, Is, never, Begins, Many, Listed, is_mark, the_mark}
+use Rattle.syntax.specs.Grammar.{the_name, the_attribute, attribute_list, attributes, joined, scalar, result}
 use Rattle.parse.specs.Reading.{Parser, head, mapped, either, expect, is_next, is_other}
 use Rattle.parse.specs.Expressions.{is_some, type_of_mark}
 use Rattle.parse.specs.Items.{is_plain, Header}
 use Rattle.parse.specs.Items as read
 use Rattle.parse.proofs.Exact.{Exact, Always, Shallow, Comes, Two, take_exact, relabel, restated, two, value_of, Nonempty}
 use Rattle.parse.proofs.Many.{ManyFit, many_exact}
-use Rattle.parse.proofs.Marks.{that_mark, one_begins, one_head}
+use Rattle.parse.proofs.Marks.{that_mark, one_begins}
 use Rattle.parse.proofs.Parts.{seq_map, seq_left, seq_right, is_here, is_not_here, seq_here, seq_not_here, tail_begins, head_begins, behind_exact, before_exact}
 use Rattle.parse.proofs.Choices.{either_exact}
 use Rattle.parse.proofs.Lists.{listed_exact, listed_begins}

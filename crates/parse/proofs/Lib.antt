@@ -17,5 +17,12 @@ pub mod Starts
 pub mod Scalars
 pub mod Headers
 pub mod Definitions
+pub mod Shares
+pub mod Programs
+pub mod Sources
 pub mod Wholes
 pub mod Operands
+pub mod Levels
+pub mod Simples
+pub mod Declarations
+pub mod Leaves
