@@ -26,3 +26,7 @@ pub mod Levels
 pub mod Simples
 pub mod Declarations
 pub mod Leaves
+pub mod Leads
+pub mod Entries
+pub mod Compounds
+pub mod Stmts
