@@ -3,9 +3,9 @@ use Rattle.std.proofs.Common.{◌≡◌, ℕ, suc, ◌≤◌, ◌<◌, Bool, tru
 use Rattle.std.proofs.lemmas.Bool.{cases_lt, le-leb, lt-leb}
 use Rattle.lex.specs.declared.token.Mark.{Mark}
 use Rattle.lex.specs.Tokens.{Tok}
-use Rattle.syntax.specs.Phrases.{Phrase, Nil, Begins}
+use Rattle.syntax.specs.Phrases.{Phrase, Begins}
 use Rattle.syntax.specs.Grammar.{optional}
-use Rattle.parse.specs.Reading.{Fault, wrong, deep, Parser, head, none, give, mapped, choice, either, is_next, unless}
+use Rattle.parse.specs.Reading.{Fault, wrong, deep, Parser, head, none, mapped, choice, either, is_next, unless}
 use Rattle.parse.proofs.Exact.{head_append, Reads, Refuses, Sinks, Exact, Comes, Empty, err_is, give_exact, choice_exact, value_of, restated}
 use Rattle.parse.proofs.Parts.{MaybeW, BranchC}
 

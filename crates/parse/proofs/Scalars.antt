@@ -7,10 +7,10 @@ use Rattle.lex.specs.declared.token.Scalar.TheVariants.{Int, Unsigned}
 use Rattle.lex.specs.declared.token.Span.{Span}
 use Rattle.lex.specs.Tokens.{Terminal, name, constant, text, mark, reserved, Tok}
 use Rattle.syntax.specs.Tree.{Name}
-use Rattle.syntax.specs.Phrases.{Phrase, Seq, One, Begins, is_mark, the_mark}
+use Rattle.syntax.specs.Phrases.{Phrase, One, Begins, is_mark, the_mark}
 use Rattle.syntax.specs.Grammar.{by_mark, name_in, the_name, optional}
 use Rattle.syntax.specs.Grammar as Grammar
-use Rattle.parse.specs.Reading.{head, give, chained, take, expect, is_next}
+use Rattle.parse.specs.Reading.{head, is_next}
 use Rattle.parse.specs.Expressions.{type_of_mark, the_type_word, is_some, starts_type, longer_type, scalar}
 use Rattle.parse.proofs.Exact.{Nonempty, Exact, Always, Shallow, Comes, Dep, Empty, take_exact, give_exact, relabel, chained_one, value_of}
 use Rattle.parse.proofs.Marks.{that_mark, mark_is, mark_has, a_mark, one_head, seq_head}

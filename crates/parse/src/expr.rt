@@ -64,9 +64,7 @@ fn next_op<'t, 'a>(tokens: &'t [Token<'a>], min: usize) -> Option<(Infix, &'t [T
 }
 
 // A constant.
-fn constant<'t, 'a, A: Allocator>(
-    tokens: &'t [Token<'a>],
-) -> Result<Found<'t, 'a, A>, Stop<'t, 'a>>
+fn constant<'t, 'a, A: Allocator>(tokens: &'t [Token<'a>]) -> Result<Found<'t, 'a, A>, Stop<'t, 'a>>
     ensures value { Gives (λ x. (expr_of x.0, toks x.2.now)) result (take the_constant (toks tokens.now)) }
     ensures deep { IfOk result (λ x. x.1 ≡ expr_depth (expr_of x.0)) }
     ensures flat { IfOk result (λ x. x.1 ≡ 1) }

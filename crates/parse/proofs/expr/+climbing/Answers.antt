@@ -5,7 +5,7 @@ use Rattle.syntax.specs.Views.{expr_of, exprs_of, name_of, exprs_from}
 use Rattle.syntax.proofs.Seen.{expr_of_variable}
 use Rattle.parse.specs.Expressions.{arguments, expr_at, whole_at, infix_node, operators}
 use Rattle.parse.proofs.Climbing.{fails_along, loop_none, loop_deep, loop_full, turn_fails, turn_goes}
-use Rattle.parse.proofs.Levels.{variable_goes, call_goes, unclosed, listed_goes, behind_none, behind_fails, behind_goes, deepest_push, none_left, climb_start, infix_depth, chosen_alone, chosen_deep, question_fails, then_fails, colon_fails, other_fails, chosen_goes, whole_goes, whole_fails}
+use Rattle.parse.proofs.ExprSteps.{variable_goes, call_goes, unclosed, listed_goes, behind_none, behind_fails, behind_goes, deepest_push, none_left, climb_start, infix_depth, chosen_alone, chosen_deep, question_fails, then_fails, colon_fails, other_fails, chosen_goes, whole_goes, whole_fails}
 use Rattle.parse.specs.Reading.{behind, is_other, mapped, many_until, climb_loop}
 use Rattle.std.proofs.lemmas.List.{map_push, length-map}
 use Rattle.syntax.specs.Depth.{expr_depth, deepest}
@@ -20,7 +20,7 @@ named-returns-in_err-last-2-clause-value g t c =
     let p = err_from_is_err_and c.from_residual-in_err-last-2.result c.from_residual-in_err-last-2.ensures.1 in
     rw (p.1, p.2) (fails_along c.in_err-last-2.field-0.0 _ _ (λ f e.
     call_goes (whole_at c.args.depth) (expr_at c.args.depth 11) (toks c.args.tokens.now) (toks c.in_ok-name.rest.now) (name_of c.in_ok-name.name) c.in_ok-name.ensures (sym c.is_next.ensures ∙ c.if-is_next.false) (sym c.is_next-2.ensures ∙ c.if-is_next-2.true)
-    ∙ unclosed m.OpenParen m.CloseParen (arguments (whole_at c.args.depth) (expr_at c.args.depth 11)) _ (toks c.in_ok-name.rest.now) (toks c.in_ok-rest-2.rest.now) c.in_ok-rest-2.ensures _ (toks c.in_ok-args.rest.now) f c.in_ok-args.ensures.value e) c.in_err-last-2.ensures)
+    ∙ unclosed m.OpenParen m.CloseParen (arguments (whole_at c.args.depth) (expr_at c.args.depth 11)) _ (toks c.in_ok-name.rest.now) (toks c.in_ok-rest-2.rest.now) (toks c.in_ok-args.rest.now) _ f c.in_ok-rest-2.ensures c.in_ok-args.ensures.value e) c.in_err-last-2.ensures)
 
 pub named-returns-clause-value : goal.named-returns-clause-value
 named-returns-clause-value g t c =
@@ -70,7 +70,7 @@ extend-turns-preserved g t c =
       within = omega (arith, most, c.turns.invariant.within, c.in_ok-one.ensures.within);
       deep = omega (arith, most, pushed, c.turns.invariant.deep, c.in_ok-one.ensures.deep);
       value = rw e (goes_on (is_other m.Comma) (behind m.Comma (whole_at c.args.depth)) (map expr_of c.turns.all) c.start-count.result.1 c.turns._turn (toks c.turns.rest.now) (toks c.in_ok-one.after.now) (expr_of c.in_ok-one.one) _ c.turns-test.true (ap not (sym c.is_next.ensures ∙ c.if-not-is_next.false))
-      (behind_goes m.Comma (whole_at c.args.depth) (toks c.turns.rest.now) (toks c.in_ok-after.after.now) (toks c.in_ok-one.after.now) (expr_of c.in_ok-one.one) c.in_ok-after.ensures c.in_ok-one.ensures.value) c.turns.invariant.value);
+          (behind_goes m.Comma (whole_at c.args.depth) (toks c.turns.rest.now) (toks c.in_ok-after.after.now) (toks c.in_ok-one.after.now) (expr_of c.in_ok-one.one) c.in_ok-after.ensures c.in_ok-one.ensures.value) c.turns.invariant.value);
     }
 
 pub extend-returns-then-is_next-clause-value : goal.extend-returns-then-is_next-clause-value
