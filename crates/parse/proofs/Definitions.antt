@@ -6,7 +6,7 @@ use Rattle.lex.specs.declared.token.Mark.TheVariants as m
 use Rattle.lex.specs.declared.token.Scalar.{Scalar}
 use Rattle.lex.specs.Tokens.{Terminal, mark, Tok}
 use Rattle.syntax.specs.declared.tree.Attribute.{Attribute}
-use Rattle.syntax.specs.Tree.{Name, Stmt, Stmts, Parameter, Function, Item, Defines}
+use Rattle.syntax.specs.Tree.{Name, Stmt, Stmts, Parameter, Item}
 use Rattle.syntax.specs.Depth.{block_depth, body_depth, item_depth}
 use Rattle.syntax.specs.Views.{stmts_from}
 use Rattle.syntax.specs.Phrases.{Phrase, Seq, One, Is, Nil, Begins, Listed, is_mark}
