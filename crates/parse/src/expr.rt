@@ -19,10 +19,10 @@ use lex::token::{Kind, Mark, Span, Token};
 use std::alloc::Allocator;
 use syntax::tree::{Expr, UnaryOp};
 
-/// An expression, its depth, and the tokens after it.
+// An expression, its depth, and the tokens after it.
 type Found<'t, 'a, A> = (Expr<A>, usize, &'t [Token<'a>]);
 
-/// Expressions, the greatest of their depths, and the tokens after them.
+// Expressions, the greatest of their depths, and the tokens after them.
 type Listed<'t, 'a, A> = (Items<Expr<A>, A>, usize, &'t [Token<'a>]);
 
 /// Whether an expression begins here.
@@ -113,7 +113,7 @@ fn prefixed<'t, 'a, A: Allocator + Copy>(
     Ok((node::unary(alloc, at, op, inner)?, deep + 1, rest))
 }
 
-// A cast, or an expression in brackets.
+// A cast, or an expression in parentheses.
 #[cycle(climbing)]
 fn opened<'t, 'a, A: Allocator + Copy>(
     alloc: A,
@@ -279,7 +279,7 @@ fn climb<'t, 'a, A: Allocator + Copy>(
     }
 }
 
-// A condition with what it chooses from, or what would be the condition alone.
+// A condition and what it chooses from, or where no `?` follows the expression alone.
 #[cycle(climbing)]
 fn chosen<'t, 'a, A: Allocator + Copy>(
     alloc: A,

@@ -41,7 +41,7 @@ pub fn span_of<A: Allocator>(e: &Expr<A>) -> Span
     }
 }
 
-/// An element of an array, up to the place of its bracket.
+/// An element of an array, up to the place of its closing bracket.
 pub fn element<A: Allocator + Copy>(
     alloc: A,
     name: Name<A>,
@@ -54,7 +54,7 @@ pub fn element<A: Allocator + Copy>(
     Ok(Expr::Element(name, Boxed::new(alloc, index)?, at))
 }
 
-/// A call, up to the place of its bracket.
+/// A call, up to the place of its closing parenthesis.
 pub fn call<A: Allocator>(name: Name<A>, args: Items<Expr<A>, A>, last: Span) -> Expr<A>
     ensures { expr_of result ≡ Call (name_of name) (exprs_of args) (across name.span last) }
 {
@@ -62,7 +62,7 @@ pub fn call<A: Allocator>(name: Name<A>, args: Items<Expr<A>, A>, last: Span) ->
     Expr::Call(name, args, at)
 }
 
-/// An expression in brackets, which stand at these places.
+/// An expression in parentheses, which stand at these places.
 pub fn group<A: Allocator + Copy>(
     alloc: A,
     first: Span,
@@ -75,7 +75,7 @@ pub fn group<A: Allocator + Copy>(
     Ok(Expr::Parenthesized(Boxed::new(alloc, inner)?, at))
 }
 
-/// An operand as a number of another type, from the place of the cast's bracket.
+/// A cast of an operand, from the place of its opening parenthesis.
 pub fn cast<A: Allocator + Copy>(
     alloc: A,
     first: Span,
