@@ -1,8 +1,7 @@
 -- What cannot begin a phrase is refused at its first token.
-use Rattle.std.proofs.Common.{◌≡◌, ℕ, Bool, true, false, List, [], ◌∷◌, ◌++◌, Option, None, Result, Ok, Err, refl, sym, ap, ◌∙◌}
-use Rattle.std.proofs.lemmas.List.{append-nil}
+use Rattle.std.proofs.Common.{◌≡◌, ℕ, Bool, true, false, List, [], ◌∷◌, ◌++◌, Option, None, Result, Ok, Err, refl, sym, ap, subst, ◌∙◌, append_assoc}
 use Rattle.lex.specs.Tokens.{Tok}
-use Rattle.syntax.specs.Phrases.{Phrase, Begins}
+use Rattle.syntax.specs.Phrases.{Phrase, Seq, Begins}
 use Rattle.parse.specs.Reading.{Fault, wrong, deep, Parser, head}
 use Rattle.parse.proofs.Exact.{Nonempty, Exact}
 
@@ -13,6 +12,10 @@ true_not_false p q = cc
 pub solid_by : (test : Option Tok → Bool) (p : List Tok) → test None ≡ false → test (head (p ++ [])) ≡ true → Nonempty p
 solid_by test [] none h = true_not_false h none
 solid_by test (t ∷ p) none h = tt
+
+-- what is known of the first token of the first part
+pub first_of : {L M : Phrase} (Q : Option Tok → Type 0) (p q : List Tok) → Seq L M p → ((r s : List Tok) → L r → Q (head (r ++ s))) → Q (head (p ++ q))
+first_of Q p q l first = subst (λ (z : List Tok). Q (head z)) (sym (ap (λ (z : List Tok). z ++ q) l.whole ∙ append_assoc l.front l.back q)) (first l.front (l.back ++ q) l.first)
 
 module _ {A : Type 0} (P : ℕ → Parser A) (L : A → Phrase) (W : ℕ → A → Type 0) (S C : A → Option Tok → Type 0) (d : ℕ) (E : Exact P L W S C d) (test : Option Tok → Bool)
     (first : (x : A) (p q : List Tok) → L x p → test (head (p ++ q)) ≡ true) where

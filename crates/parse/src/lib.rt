@@ -4,6 +4,8 @@
 mod attributes;
 mod cursor;
 mod fault;
+mod functions;
+mod globals;
 mod lead;
 mod node;
 mod scalar;
