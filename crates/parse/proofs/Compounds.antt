@@ -1,10 +1,10 @@
 -- Statements that have statements in them are read exactly where those are.
-use Rattle.std.proofs.Common.{◌≡◌, ℕ, suc, ◌+◌, ◌≤◌, Bool, true, false, IsFalse, List, [], ◌++◌, Option, Some, None, refl, sym, ap, subst, ◌∙◌, arith}
+use Rattle.std.proofs.Common.{◌≡◌, ℕ, suc, ◌≤◌, Bool, true, false, IsFalse, List, [], ◌++◌, Option, Some, None, refl, sym, ap, subst, ◌∙◌, arith}
 use Rattle.lex.specs.declared.token.Mark.TheVariants as m
 use Rattle.lex.specs.declared.token.Span.{Span}
 use Rattle.lex.specs.Tokens.{mark, Tok}
 use Rattle.syntax.specs.declared.tree.Mode.{Mode}
-use Rattle.syntax.specs.Tree.{Expr, Simple, Start, Stmt, Stmts, Empty, Do, Block, If, IfElse, While, DoWhile, For, Transaction}
+use Rattle.syntax.specs.Tree.{Expr, Simple, Start, Stmt, Stmts, Empty, Block, If, IfElse, While, DoWhile, For, Transaction}
 use Rattle.syntax.specs.Depth.{expr_depth, optional_depth, simple_depth, optional_simple_depth, start_depth, stmt_depth, block_depth}
 use Rattle.syntax.specs.Views.{stmts_from}
 use Rattle.syntax.specs.Phrases.{Phrase, Seq, One, Is, Keyword, Begins, place_of}

@@ -6,15 +6,13 @@ use Rattle.lex.specs.declared.token.Mark.TheVariants as m
 use Rattle.lex.specs.declared.token.Scalar.{Scalar}
 use Rattle.lex.specs.Tokens.{Terminal, mark, Tok}
 use Rattle.syntax.specs.declared.tree.Attribute.{Attribute}
-use Rattle.syntax.specs.Tree as Tree
-use Rattle.syntax.specs.Tree.{Name, Stmt, Stmts, Parameter, Function, Item, Defines}
+use Rattle.syntax.specs.Tree.{Name, Stmt, Stmts, Parameter, Item}
 use Rattle.syntax.specs.Depth.{block_depth, body_depth, item_depth}
 use Rattle.syntax.specs.Views.{stmts_from}
 use Rattle.syntax.specs.Phrases.{Phrase, Seq, One, Is, Nil, Begins, Listed, is_mark}
 use Rattle.syntax.specs.Grammar.{name_in, the_name, optional, block, attributes, parameter, parameters, AreNamed, body}
 use Rattle.parse.specs.Reading.{head, none, mapped, either, listed, expect, is_next}
 use Rattle.parse.specs.Expressions.{is_some, says, type_of_mark}
-use Rattle.parse.specs.Statements.{block_at}
 use Rattle.parse.specs.Items.{parameter_tree, parameter_list, maybe_name, is_plain, are_named, defined_at, body_at, Header, function_tree, function_at}
 use Rattle.parse.specs.Items as read
 use Rattle.parse.proofs.Exact.{Exact, Always, Shallow, Comes, Two, Dep, Empty, Nothing, take_exact, give_exact, none_exact, relabel, restated, two, chained_one, value_of}
@@ -23,6 +21,8 @@ use Rattle.parse.proofs.Parts.{is_here, is_not_here, seq_here, seq_not_here, tai
 use Rattle.parse.proofs.Lists.{listed_exact}
 use Rattle.parse.proofs.Starts.{true_not_false}
 use Rattle.parse.proofs.Scalars.{name_not_mark, scalar_exact, scalar_begins}
+use Rattle.parse.proofs.Entries.{statements, from_statements}
+use Rattle.parse.proofs.Stmts.{block_exact}
 use Rattle.parse.proofs.Headers.{next_not, Next, Parted, parted_not, front_head, one_of, SomeL, some_exact, sign_exact, plain_true, all_shallow, attributes_exact, no_words, scalar_not}
 
 -- ---- parameters
@@ -134,11 +134,6 @@ parameters_exact d =
 
 -- ---- bodies
 
--- what stands for statements one by one
-statements : (ss : Stmts) → (xs : List Stmt) × (ss ≡ stmts_from xs)
-statements Tree.[] = ([], refl)
-statements (Tree.◌∷◌ s ss) = let rest = statements ss in (s ∷ rest.0, ap (λ (z : Stmts). Tree.◌∷◌ s z) rest.1)
-
 some_is : (o : Option Name) → IsSome o → is_some o ≡ true
 some_is None h = absurd cc
 some_is (Some x) h = refl
@@ -227,52 +222,50 @@ function_begins h =
       );
     }
 
-module _ (block_exact : (d : ℕ) → Exact block_at (λ ss. block (stmts_from ss)) (λ D ss. block_depth (stmts_from ss) ≤ D) Always Always d) where
-  defined_exact : (d : ℕ) (qs : List Parameter) (b : Bool) → are_named qs ≡ b → Exact (λ D. defined_at D b) (DefinedL qs) BodyW Always Always d
-  defined_exact d qs true e = value_of (λ ss. Some (stmts_from ss)) (DefinedL qs) BodyW Always Always (block_exact d) comes (λ x p l. (is_are_named qs e, l)) (λ x w. w) (λ x h c. tt)
-    where
-      comes : (y : Option Stmts) (p : List Tok) → DefinedL qs y p → Comes (λ (ss : List Stmt). Some (stmts_from ss)) (λ ss. block (stmts_from ss)) (λ ss. block_depth (stmts_from ss) ≤ d) (λ b. body_depth b ≤ d) (λ x h. Unit {0}) Always y p
-      comes None p l = absurd l
-      comes (Some ss) p l =
-          let xs = statements ss in
-          record {
-            value = xs.0;
-            same = ap Some xs.1;
-            spelled = subst (λ (z : Stmts). block z p) xs.1 l.1;
-            within = λ w. subst (λ (z : Stmts). block_depth z ≤ d) xs.1 w;
-            stops = λ h s. tt;
-          }
-  defined_exact d qs false e = relabel (λ D. none) Nothing (DefinedL qs) BodyW BodyW Always Always Always Always d (none_exact BodyW Always Always d) (λ x p l. absurd l) from (λ x p l w. w) (λ x w. w) (λ x h s. s) (λ x h c. c)
-    where
-      from : (x : Option Stmts) (p : List Tok) → DefinedL qs x p → Nothing x p
-      from None p l = l
-      from (Some ss) p l = let n = are_named_is qs l.0 in true_not_false n e
+defined_exact : (d : ℕ) (qs : List Parameter) (b : Bool) → are_named qs ≡ b → Exact (λ D. defined_at D b) (DefinedL qs) BodyW Always Always d
+defined_exact d qs true e = value_of (λ ss. Some (stmts_from ss)) (DefinedL qs) BodyW Always Always (block_exact d) comes (λ x p l. (is_are_named qs e, l)) (λ x w. w) (λ x h c. tt)
+  where
+    comes : (y : Option Stmts) (p : List Tok) → DefinedL qs y p → Comes (λ (ss : List Stmt). Some (stmts_from ss)) (λ ss. block (stmts_from ss)) (λ ss. block_depth (stmts_from ss) ≤ d) (λ b. body_depth b ≤ d) (λ x h. Unit {0}) Always y p
+    comes None p l = absurd l
+    comes (Some ss) p l =
+        record {
+          value = statements ss;
+          same = ap Some (sym (from_statements ss));
+          spelled = subst (λ (z : Stmts). block z p) (sym (from_statements ss)) l.1;
+          within = λ w. subst (λ (z : Stmts). block_depth z ≤ d) (sym (from_statements ss)) w;
+          stops = λ h s. tt;
+        }
+defined_exact d qs false e = relabel (λ D. none) Nothing (DefinedL qs) BodyW BodyW Always Always Always Always d (none_exact BodyW Always Always d) (λ x p l. absurd l) from (λ x p l w. w) (λ x w. w) (λ x h s. s) (λ x h c. c)
+  where
+    from : (x : Option Stmts) (p : List Tok) → DefinedL qs x p → Nothing x p
+    from None p l = l
+    from (Some ss) p l = let n = are_named_is qs l.0 in true_not_false n e
 
-  body_exact : (d : ℕ) (qs : List Parameter) → Exact (λ D. body_at D qs) (body qs) BodyW Always Always d
-  body_exact d qs =
-      one_of (is_next m.OpenBrace) (body qs) (defined_exact d qs (are_named qs) refl) (sign_exact m.Semicolon None BodyW Always d (omega arith))
-      defined_here (λ x p q l h. is_not_here m.Semicolon m.OpenBrace p q refl l.1) defined_is (λ x p l. subst (λ (z : Option Stmts). body qs z p) (sym l.0) l.1) from
-    where
-      defined_here : (x : Option Stmts) (p q : List Tok) → DefinedL qs x p → Unit {0} → is_next m.OpenBrace (head (p ++ q)) ≡ true
-      defined_here None p q l h = absurd l
-      defined_here (Some ss) p q l h = seq_here m.OpenBrace _ p q l.1
+body_exact : (d : ℕ) (qs : List Parameter) → Exact (λ D. body_at D qs) (body qs) BodyW Always Always d
+body_exact d qs =
+    one_of (is_next m.OpenBrace) (body qs) (defined_exact d qs (are_named qs) refl) (sign_exact m.Semicolon None BodyW Always d (omega arith))
+    defined_here (λ x p q l h. is_not_here m.Semicolon m.OpenBrace p q refl l.1) defined_is (λ x p l. subst (λ (z : Option Stmts). body qs z p) (sym l.0) l.1) from
+  where
+    defined_here : (x : Option Stmts) (p q : List Tok) → DefinedL qs x p → Unit {0} → is_next m.OpenBrace (head (p ++ q)) ≡ true
+    defined_here None p q l h = absurd l
+    defined_here (Some ss) p q l h = seq_here m.OpenBrace _ p q l.1
 
-      defined_is : (x : Option Stmts) (p : List Tok) → DefinedL qs x p → body qs x p
-      defined_is None p l = absurd l
-      defined_is (Some ss) p l = l
+    defined_is : (x : Option Stmts) (p : List Tok) → DefinedL qs x p → body qs x p
+    defined_is None p l = absurd l
+    defined_is (Some ss) p l = l
 
-      from : (x : Option Stmts) (p : List Tok) → body qs x p → DefinedL qs x p ⊎ PrototypeL x p
-      from None p l = inr (refl, l)
-      from (Some ss) p l = inl l
+    from : (x : Option Stmts) (p : List Tok) → body qs x p → DefinedL qs x p ⊎ PrototypeL x p
+    from None p l = inr (refl, l)
+    from (Some ss) p l = inl l
 
-  pub function_exact : (d : ℕ) (h : Header) → Exact (λ D. function_at D h) (FunctionL h) ItemW Always Always d
-  function_exact d h =
-      value_of (function_tree h) (FunctionL h) ItemW Always Always
-      (chained_one (two (parameters_exact d) (attributes_exact d) (λ a b p q l s. tt) (record { value = []; more = []; spelled = no_words })) (λ x. body_exact d x.0) follow (λ x. body_begins x.0))
-      comes (λ x p l. (x, refl, l)) (λ x w. w.1) (λ x h c. tt)
-    where
-      follow : (a : List Parameter × List Attribute) (b : Option Stmts) (p q : List Tok) → body a.0 b p → Unit {0} → is_plain (head (p ++ q)) ≡ true
-      follow a b p q l s = plain_true (head (p ++ q)) (body_not m.OpenBracket refl refl a.0 b p q l) (body_not m.Attribute refl refl a.0 b p q l)
+pub function_exact : (d : ℕ) (h : Header) → Exact (λ D. function_at D h) (FunctionL h) ItemW Always Always d
+function_exact d h =
+    value_of (function_tree h) (FunctionL h) ItemW Always Always
+    (chained_one (two (parameters_exact d) (attributes_exact d) (λ a b p q l s. tt) (record { value = []; more = []; spelled = no_words })) (λ x. body_exact d x.0) follow (λ x. body_begins x.0))
+    comes (λ x p l. (x, refl, l)) (λ x w. w.1) (λ x h c. tt)
+  where
+    follow : (a : List Parameter × List Attribute) (b : Option Stmts) (p q : List Tok) → body a.0 b p → Unit {0} → is_plain (head (p ++ q)) ≡ true
+    follow a b p q l s = plain_true (head (p ++ q)) (body_not m.OpenBracket refl refl a.0 b p q l) (body_not m.Attribute refl refl a.0 b p q l)
 
-      comes : (y : Item) (p : List Tok) → FunctionL h y p → Comes (function_tree h) PartsL (λ x. (Unit {0} × Unit {0}) × BodyW d x.1) (ItemW d) (λ x o. Unit {0}) Always y p
-      comes y p l = record { value = l.0; same = l.1; spelled = l.2; within = λ w. ((tt, tt), subst (λ (z : Item). item_depth z ≤ d) l.1 w); stops = λ o s. tt }
+    comes : (y : Item) (p : List Tok) → FunctionL h y p → Comes (function_tree h) PartsL (λ x. (Unit {0} × Unit {0}) × BodyW d x.1) (ItemW d) (λ x o. Unit {0}) Always y p
+    comes y p l = record { value = l.0; same = l.1; spelled = l.2; within = λ w. ((tt, tt), subst (λ (z : Item). item_depth z ≤ d) l.1 w); stops = λ o s. tt }

@@ -4,6 +4,7 @@ pub mod Turns
 pub mod Loops
 pub mod Knot
 pub mod Climbing
+pub mod ExprSteps
 pub mod Chain
 pub mod Marks
 pub mod Ends

@@ -5,12 +5,10 @@ use Rattle.lex.specs.declared.token.Scalar.{Scalar}
 use Rattle.lex.specs.Tokens.{Tok}
 use Rattle.syntax.specs.declared.tree.Attribute.{Attribute}
 use Rattle.syntax.specs.Tree.{Item, Defines, Shares, Program}
-use Rattle.syntax.specs.Depth.{block_depth, item_depth, program_depth}
-use Rattle.syntax.specs.Views.{stmts_from}
+use Rattle.syntax.specs.Depth.{item_depth, program_depth}
 use Rattle.syntax.specs.Phrases.{Phrase, Seq, One, Is, Begins, Many}
-use Rattle.syntax.specs.Grammar.{the_name, block, attributes, scalar, result, parameters, body, item}
+use Rattle.syntax.specs.Grammar.{the_name, attributes, scalar, result, parameters, body, item}
 use Rattle.parse.specs.Reading.{head, is_next}
-use Rattle.parse.specs.Statements.{block_at}
 use Rattle.parse.specs.Items.{Header, function_tree, globals_tree, shared_from, item_from, item_at, at_end, program_at}
 use Rattle.parse.proofs.Exact.{Exact, Always, Comes, Two, Dep, none_exact, relabel, chained_one, value_of, Nonempty}
 use Rattle.parse.proofs.Many.{ManyFit, many_exact}
@@ -135,20 +133,19 @@ deepens : (d : ℕ) (p : Program) → ManyFit ItemW d p → program_depth p ≤ 
 deepens d [] w = omega arith
 deepens d (i ∷ items) w = let one : item_depth i ≤ d = w.0 in let rest = deepens d items w.1 in omega arith
 
-module _ (block_exact : (d : ℕ) → Exact block_at (λ ss. block (stmts_from ss)) (λ D ss. block_depth (stmts_from ss) ≤ D) Always Always d) where
-  rest_exact : (d : ℕ) (h : Header) → Exact (λ D. item_from D h) (RestL h) ItemW Always Always d
-  rest_exact d h =
-      one_of (is_next m.OpenParen) (RestL h) (function_exact block_exact d h) (shared_exact d h)
-      (λ i p q l s. function_first h i p q l) (λ i p q l s. shared_first h i p q l) (λ i p l. inl l) (λ i p l. inr l) (λ i p l. l)
+rest_exact : (d : ℕ) (h : Header) → Exact (λ D. item_from D h) (RestL h) ItemW Always Always d
+rest_exact d h =
+    one_of (is_next m.OpenParen) (RestL h) (function_exact d h) (shared_exact d h)
+    (λ i p q l s. function_first h i p q l) (λ i p q l s. shared_first h i p q l) (λ i p l. inl l) (λ i p l. inr l) (λ i p l. l)
 
-  pub item_exact : (d : ℕ) → Exact item_at item ItemW Always Always d
-  item_exact d =
-      value_of (λ x. x.1) item ItemW Always Always
-      (chained_one (header_exact d) (rest_exact d) (λ a b p q l h. tt) rest_begins)
-      (item_comes d) item_goes (λ x w. w.1) (λ x h c. tt)
+pub item_exact : (d : ℕ) → Exact item_at item ItemW Always Always d
+item_exact d =
+    value_of (λ x. x.1) item ItemW Always Always
+    (chained_one (header_exact d) (rest_exact d) (λ a b p q l h. tt) rest_begins)
+    (item_comes d) item_goes (λ x w. w.1) (λ x h c. tt)
 
-  pub program_exact : (d : ℕ) → Exact program_at (Many item) (λ D p. program_depth p ≤ D) (λ x h. h ≡ None) Always d
-  program_exact d =
-      relabel program_at (Many item) (Many item) (ManyFit ItemW) (λ D p. program_depth p ≤ D) (λ xs h. (at_end h ≡ true) × Unit {0}) (λ x h. h ≡ None) (λ xs h. at_end h ≡ true) Always d
-      (many_exact item_at item ItemW Always Always d (item_exact d) at_end (λ h. Unit {0}) item_solid (λ i p q l. not_end p q (item_solid i p l)) (λ x h s t. tt) (λ x y p q l. tt))
-      (λ x p l. l) (λ x p l. l) (λ x p l w. deepens d x w) (λ x w. fits d x w) (λ x h s. (ap at_end s, tt)) (λ x h c. tt)
+pub program_exact : (d : ℕ) → Exact program_at (Many item) (λ D p. program_depth p ≤ D) (λ x h. h ≡ None) Always d
+program_exact d =
+    relabel program_at (Many item) (Many item) (ManyFit ItemW) (λ D p. program_depth p ≤ D) (λ xs h. (at_end h ≡ true) × Unit {0}) (λ x h. h ≡ None) (λ xs h. at_end h ≡ true) Always d
+    (many_exact item_at item ItemW Always Always d (item_exact d) at_end (λ h. Unit {0}) item_solid (λ i p q l. not_end p q (item_solid i p l)) (λ x h s t. tt) (λ x y p q l. tt))
+    (λ x p l. l) (λ x p l. l) (λ x p l w. deepens d x w) (λ x w. fits d x w) (λ x h s. (ap at_end s, tt)) (λ x h c. tt)

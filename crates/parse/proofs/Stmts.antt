@@ -1,5 +1,5 @@
 -- Statements and blocks are read exactly.
-use Rattle.std.proofs.Common.{◌≡◌, ℕ, zero, suc, ◌+◌, ◌≤◌, true, false, List, [], ◌∷◌, ◌++◌, Some, None, Err, refl, sym, ap, subst, ◌∙◌, arith}
+use Rattle.std.proofs.Common.{◌≡◌, ℕ, zero, suc, ◌≤◌, true, false, List, [], ◌∷◌, ◌++◌, Some, None, Err, refl, sym, ap, subst, ◌∙◌, arith}
 use Rattle.lex.specs.declared.token.Mark.{Mark}
 use Rattle.lex.specs.declared.token.Mark.TheVariants as m
 use Rattle.lex.specs.declared.token.Span.{Span}

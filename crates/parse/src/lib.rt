@@ -3,6 +3,7 @@
 
 mod attributes;
 mod cursor;
+mod expr;
 mod fault;
 mod functions;
 mod globals;
