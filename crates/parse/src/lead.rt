@@ -5,6 +5,7 @@ ghost use Rattle.lex.specs.Tokens.{toks};
 ghost use Rattle.syntax.specs.Grammar.{binary_of, logical_of};
 ghost use Rattle.parse.specs.Reading.{head};
 ghost use Rattle.parse.specs.Expressions.{infix_of, infix_precedence, operand_at};
+ghost use Rattle.parse.specs.Statements.{lead_mark, lead_at};
 
 use lex::token::{Kind, Mark, Token};
 use syntax::tree::{BinaryOp, LogicalOp, Mode};
@@ -45,6 +46,41 @@ pub enum Lead {
     Cancel,
     /// An expression or an assignment, if anything.
     Simple,
+}
+
+// The kind of statement that a keyword or sign begins.
+fn lead_mark(mark: Mark) -> Lead
+    ensures { result ≡ lead_mark mark }
+{
+    match mark {
+        Mark::Semicolon => Lead::Empty,
+        Mark::OpenBrace => Lead::Block,
+        Mark::Printf => Lead::Print,
+        Mark::If => Lead::If,
+        Mark::While => Lead::While,
+        Mark::Do => Lead::Do,
+        Mark::For => Lead::For,
+        Mark::Break => Lead::Break,
+        Mark::Continue => Lead::Continue,
+        Mark::Return => Lead::Return,
+        Mark::Atomic => Lead::Transaction(Mode::Atomic),
+        Mark::Relaxed => Lead::Transaction(Mode::Relaxed),
+        Mark::Cancel => Lead::Cancel,
+        _ => Lead::Simple,
+    }
+}
+
+/// The kind of statement that the first token begins.
+pub fn lead_at(tokens: &[Token]) -> Lead
+    ensures { result ≡ lead_at (head (toks tokens.now)) }
+{
+    match tokens {
+        [first, ..] => match first.kind {
+            Kind::Fixed(mark) => lead_mark(mark),
+            _ => Lead::Simple,
+        },
+        [] => Lead::Simple,
+    }
 }
 
 /// The kind of operand that begins here.
