@@ -2,7 +2,7 @@
 use Rattle.std.proofs.Common.{◌≡◌, ℕ, ◌≤◌, List, [], ◌∷◌, ◌++◌, Option, Some, None, Result, Ok, Err, refl, sym, ap, subst, ◌∙◌, append_assoc, arith, ◌⊎◌, inl, inr}
 use Rattle.lex.specs.Tokens.{Tok}
 use Rattle.syntax.specs.Phrases.{Phrase, Seq, One, Begins}
-use Rattle.parse.specs.Reading.{Fault, wrong, deep, ◌>>=◌, Parser, head, none, give, seq, mapped, choice, taken, take}
+use Rattle.parse.specs.Reading.{Fault, wrong, deep, ◌>>=◌, Parser, head, none, give, chained, seq, mapped, choice, taken, take}
 
 pub head_append : (p r s : List Tok) → head r ≡ head s → head (p ++ r) ≡ head (p ++ s)
 head_append [] r s e = e
@@ -65,8 +65,12 @@ pub record Ends {B : Type 0} (M : B → Phrase) (J : B → Type 0) : Type 0 wher
   pub spelled : M value text
   pub joined : J value
 
+-- one thing and then another that depends on it; J joins them
+abbrev pub ChainL : {A B : Type 0} → (A → Phrase) → (A → B → Phrase) → (A → B → Type 0) → A × B → Phrase
+ChainL L M J x ts = Seq (L x.0) (M x.0 x.1) ts × J x.0 x.1
+
 abbrev pub SeqL : {A B : Type 0} → (A → Phrase) → (B → Phrase) → (A → B → Type 0) → A × B → Phrase
-SeqL L M J x ts = Seq (L x.0) (M x.1) ts × J x.0 x.1
+SeqL L M J = ChainL L (λ x. M) J
 
 pub ok_pair : {A : Type 0} (x y : A) (r s : List Tok) (e : Result (A × List Tok) Fault) → e ≡ Ok (x, r) → e ≡ Ok (y, s) → (x ≡ y) × (r ≡ s)
 ok_pair {A = A} x y r s e p q =
@@ -76,47 +80,47 @@ ok_pair {A = A} x y r s e p q =
 pub err_is : {A : Type 0} (x y : Fault) (e : Result A Fault) → e ≡ Err x → e ≡ Err y → x ≡ y
 err_is x y e p q = cc
 
-module _ {A B : Type 0} (P : ℕ → Parser A) (Q : ℕ → Parser B) (L : A → Phrase) (M : B → Phrase) (J : A → B → Type 0) (WP : ℕ → A → Type 0) (WQ : ℕ → B → Type 0) (S1 C1 : A → Option Tok → Type 0) (S2 C2 : B → Option Tok → Type 0) (d : ℕ)
-    (EP : Exact P L WP S1 C1 d) (EQ : Exact Q M WQ S2 C2 d)
-    (follow : (a : A) (b : B) (p q : List Tok) → M b p → J a b → S2 b (head q) → S1 a (head (p ++ q)))
-    (joins : (a : A) (b : B) (p r : List Tok) → M b p → C1 a (head (p ++ r)) → J a b)
-    (ends : (a : A) → Ends M (J a)) where
-  seq_again : (x : A × B) (p q : List Tok) → SeqL L M J x p → WP d x.0 × WQ d x.1 → S2 x.1 (head q) → seq (P d) (Q d) (p ++ q) ≡ Ok (x, q)
-  seq_again x p q s w h =
+module _ {A B : Type 0} (P : ℕ → Parser A) (Q : A → ℕ → Parser B) (L : A → Phrase) (M : A → B → Phrase) (J : A → B → Type 0) (WP : ℕ → A → Type 0) (WQ : A → ℕ → B → Type 0) (S1 C1 : A → Option Tok → Type 0) (S2 C2 : A → B → Option Tok → Type 0) (d : ℕ)
+    (EP : Exact P L WP S1 C1 d) (EQ : (a : A) → Exact (Q a) (M a) (WQ a) (S2 a) (C2 a) d)
+    (follow : (a : A) (b : B) (p q : List Tok) → M a b p → J a b → S2 a b (head q) → S1 a (head (p ++ q)))
+    (joins : (a : A) (b : B) (p r : List Tok) → M a b p → C1 a (head (p ++ r)) → J a b)
+    (ends : (a : A) → Ends (M a) (J a)) where
+  chained_again : (x : A × B) (p q : List Tok) → ChainL L M J x p → WP d x.0 × WQ x.0 d x.1 → S2 x.0 x.1 (head q) → chained (P d) (λ a. Q a d) (p ++ q) ≡ Ok (x, q)
+  chained_again x p q s w h =
       let eP = EP.again x.0 s.0.front (s.0.back ++ q) s.0.first w.0 (follow x.0 x.1 s.0.back q s.0.second s.1 h) in
-      let eQ = EQ.again x.1 s.0.back q s.0.second w.1 h in
+      let eQ = (EQ x.0).again x.1 s.0.back q s.0.second w.1 h in
       rw (s.0.whole, append_assoc s.0.front s.0.back q, eP, eQ) refl
 
   -- the front of a whole that goes on as the second part goes on
-  seq_go : (ts r1 r : List Tok) (a : A) (RP : Reads P L WP C1 d ts a r1) (fq : List Tok) → r1 ≡ fq ++ r → (D : ℕ) (s : List Tok) → d ≤ D → head r ≡ head s → seq (P D) (Q D) ((RP.front ++ fq) ++ s) ≡ (Q D (fq ++ s) >>= λ y. Ok ((a, y.0), y.1))
-  seq_go ts r1 r a RP fq e D s le same =
+  chained_go : (ts r1 r : List Tok) (a : A) (RP : Reads P L WP C1 d ts a r1) (fq : List Tok) → r1 ≡ fq ++ r → (D : ℕ) (s : List Tok) → d ≤ D → head r ≡ head s → chained (P D) (λ a. Q a D) ((RP.front ++ fq) ++ s) ≡ (Q a D (fq ++ s) >>= λ y. Ok ((a, y.0), y.1))
+  chained_go ts r1 r a RP fq e D s le same =
       let eP = RP.stable D (fq ++ s) le (ap head e ∙ head_append fq r s same) in
       rw (append_assoc RP.front fq s, eP) refl
 
-  seq_ok_parts : (ts r1 r : List Tok) (a : A) (b : B) → P d ts ≡ Ok (a, r1) → Q d r1 ≡ Ok (b, r) → Reads (λ D. seq (P D) (Q D)) (SeqL L M J) (λ D x. WP D x.0 × WQ D x.1) (λ x h. C2 x.1 h) d ts (a, b) r
-  seq_ok_parts ts r1 r a b p q =
+  chained_ok_parts : (ts r1 r : List Tok) (a : A) (b : B) → P d ts ≡ Ok (a, r1) → Q a d r1 ≡ Ok (b, r) → Reads (λ D. chained (P D) (λ a. Q a D)) (ChainL L M J) (λ D x. WP D x.0 × WQ x.0 D x.1) (λ x h. C2 x.0 x.1 h) d ts (a, b) r
+  chained_ok_parts ts r1 r a b p q =
       let RP = EP.ok ts a r1 p in
-      let RQ = EQ.ok r1 b r q in
+      let RQ = (EQ a).ok r1 b r q in
       record {
         front = RP.front ++ RQ.front;
         whole = RP.whole ∙ ap (λ (t : List Tok). RP.front ++ t) RQ.whole ∙ sym (append_assoc RP.front RQ.front r);
         spelled = (record { front = RP.front; back = RQ.front; first = RP.spelled; second = RQ.spelled; whole = refl }, joins a b RQ.front r RQ.spelled (subst (λ (t : List Tok). C1 a (head t)) RQ.whole RP.closed));
         within = (RP.within, RQ.within);
         closed = RQ.closed;
-        stable = λ D s le same. seq_go ts r1 r a RP RQ.front RQ.whole D s le same ∙ rw (RQ.stable D s le same) refl;
+        stable = λ D s le same. chained_go ts r1 r a RP RQ.front RQ.whole D s le same ∙ rw (RQ.stable D s le same) refl;
       }
 
-  seq_ok : (ts : List Tok) (x : A × B) (r : List Tok) → seq (P d) (Q d) ts ≡ Ok (x, r) → Reads (λ D. seq (P D) (Q D)) (SeqL L M J) (λ D x. WP D x.0 × WQ D x.1) (λ x h. C2 x.1 h) d ts x r
-  seq_ok ts x r e =
-      let b1 = bind_ok (P d ts) (λ (x : A × List Tok). Q d x.1 >>= λ (y : B × List Tok). Ok ((x.0, y.0), y.1)) (x, r) e in
-      let b2 = bind_ok (Q d (b1.0).1) (λ (y : B × List Tok). Ok (((b1.0).0, y.0), y.1)) (x, r) b1.2 in
+  chained_ok : (ts : List Tok) (x : A × B) (r : List Tok) → chained (P d) (λ a. Q a d) ts ≡ Ok (x, r) → Reads (λ D. chained (P D) (λ a. Q a D)) (ChainL L M J) (λ D x. WP D x.0 × WQ x.0 D x.1) (λ x h. C2 x.0 x.1 h) d ts x r
+  chained_ok ts x r e =
+      let b1 = bind_ok (P d ts) (λ (x : A × List Tok). Q x.0 d x.1 >>= λ (y : B × List Tok). Ok ((x.0, y.0), y.1)) (x, r) e in
+      let b2 = bind_ok (Q (b1.0).0 d (b1.0).1) (λ (y : B × List Tok). Ok (((b1.0).0, y.0), y.1)) (x, r) b1.2 in
       let same = ok_pair ((b1.0).0, (b2.0).0) x (b2.0).1 r _ refl b2.2 in
-      subst (λ (y : A × B). Reads (λ D. seq (P D) (Q D)) (SeqL L M J) (λ D x. WP D x.0 × WQ D x.1) (λ x h. C2 x.1 h) d ts y r) same.0
-      (seq_ok_parts ts (b1.0).1 r (b1.0).0 (b2.0).0 b1.1 (b2.1 ∙ ap (λ (t : List Tok). Ok ((b2.0).0, t)) same.1))
+      subst (λ (y : A × B). Reads (λ D. chained (P D) (λ a. Q a D)) (ChainL L M J) (λ D x. WP D x.0 × WQ x.0 D x.1) (λ x h. C2 x.0 x.1 h) d ts y r) same.0
+      (chained_ok_parts ts (b1.0).1 r (b1.0).0 (b2.0).0 b1.1 (b2.1 ∙ ap (λ (t : List Tok). Ok ((b2.0).0, t)) same.1))
 
   -- a beginning of the first part, ended
-  seq_first : (p : List Tok) → Begins L p → Begins (SeqL L M J) p
-  seq_first p b =
+  chained_first : (p : List Tok) → Begins L p → Begins (ChainL L M J) p
+  chained_first p b =
       let e = ends b.value in
       record {
         value = (b.value, e.value);
@@ -125,25 +129,25 @@ module _ {A B : Type 0} (P : ℕ → Parser A) (Q : ℕ → Parser B) (L : A →
       }
 
   -- the first part and a beginning of the second, which isn't empty
-  seq_second : (ts r1 : List Tok) (a : A) (RP : Reads P L WP C1 d ts a r1) (t : Tok) (p r2 : List Tok) → r1 ≡ (t ∷ p) ++ r2 → Begins M (t ∷ p) → Begins (SeqL L M J) (RP.front ++ (t ∷ p))
-  seq_second ts r1 a RP t p r2 e b = record {
+  chained_second : (ts r1 : List Tok) (a : A) (RP : Reads P L WP C1 d ts a r1) (t : Tok) (p r2 : List Tok) → r1 ≡ (t ∷ p) ++ r2 → Begins (M a) (t ∷ p) → Begins (ChainL L M J) (RP.front ++ (t ∷ p))
+  chained_second ts r1 a RP t p r2 e b = record {
     value = (a, b.value);
     more = b.more;
     spelled = (record { front = RP.front; back = (t ∷ p) ++ b.more; first = RP.spelled; second = b.spelled; whole = append_assoc RP.front (t ∷ p) b.more }, joins a b.value ((t ∷ p) ++ b.more) [] b.spelled (subst (λ (h : Option Tok). C1 a h) (ap head e) RP.closed));
   }
 
-  seq_wrong_second : (ts r1 r : List Tok) (a : A) → P d ts ≡ Ok (a, r1) → Q d r1 ≡ Err (wrong r) → Refuses (λ D. seq (P D) (Q D)) (SeqL L M J) (λ D x. WP D x.0 × WQ D x.1) (λ x h. C2 x.1 h) d ts r
-  seq_wrong_second ts r1 r a p q =
+  chained_wrong_second : (ts r1 r : List Tok) (a : A) → P d ts ≡ Ok (a, r1) → Q a d r1 ≡ Err (wrong r) → Refuses (λ D. chained (P D) (λ a. Q a D)) (ChainL L M J) (λ D x. WP D x.0 × WQ x.0 D x.1) (λ x h. C2 x.0 x.1 h) d ts r
+  chained_wrong_second ts r1 r a p q =
       let RP = EP.ok ts a r1 p in
-      let RQ = EQ.wrong r1 r q in
+      let RQ = (EQ a).wrong r1 r q in
       record {
         front = RP.front ++ RQ.front;
         whole = RP.whole ∙ ap (λ (t : List Tok). RP.front ++ t) RQ.whole ∙ sym (append_assoc RP.front RQ.front r);
         begins = λ _. begun RP RQ.front RQ.whole RQ.begins;
-        stable = λ D s le same. seq_go ts r1 r a RP RQ.front RQ.whole D s le same ∙ rw (RQ.stable D s le same) refl;
+        stable = λ D s le same. chained_go ts r1 r a RP RQ.front RQ.whole D s le same ∙ rw (RQ.stable D s le same) refl;
       }
     where
-      begun : (RP : Reads P L WP C1 d ts a r1) (fq : List Tok) → r1 ≡ fq ++ r → (Nonempty fq → Begins M fq) → Begins (SeqL L M J) (RP.front ++ fq)
+      begun : (RP : Reads P L WP C1 d ts a r1) (fq : List Tok) → r1 ≡ fq ++ r → (Nonempty fq → Begins (M a) fq) → Begins (ChainL L M J) (RP.front ++ fq)
       begun RP [] e b =
           let n = ends a in
           record {
@@ -151,22 +155,22 @@ module _ {A B : Type 0} (P : ℕ → Parser A) (Q : ℕ → Parser B) (L : A →
             more = n.text;
             spelled = (record { front = RP.front; back = n.text; first = RP.spelled; second = n.spelled; whole = append_assoc RP.front [] n.text }, n.joined);
           }
-      begun RP (t ∷ fq) e b = seq_second ts r1 a RP t fq r e (b tt)
+      begun RP (t ∷ fq) e b = chained_second ts r1 a RP t fq r e (b tt)
 
-  seq_wrong : (ts r : List Tok) → seq (P d) (Q d) ts ≡ Err (wrong r) → Refuses (λ D. seq (P D) (Q D)) (SeqL L M J) (λ D x. WP D x.0 × WQ D x.1) (λ x h. C2 x.1 h) d ts r
-  seq_wrong ts r e =
-      elim (bind_err (P d ts) (λ (x : A × List Tok). Q d x.1 >>= λ (y : B × List Tok). Ok ((x.0, y.0), y.1)) (wrong r) e) [
+  chained_wrong : (ts r : List Tok) → chained (P d) (λ a. Q a d) ts ≡ Err (wrong r) → Refuses (λ D. chained (P D) (λ a. Q a D)) (ChainL L M J) (λ D x. WP D x.0 × WQ x.0 D x.1) (λ x h. C2 x.0 x.1 h) d ts r
+  chained_wrong ts r e =
+      elim (bind_err (P d ts) (λ (x : A × List Tok). Q x.0 d x.1 >>= λ (y : B × List Tok). Ok ((x.0, y.0), y.1)) (wrong r) e) [
         | inl p ↦
             let RP = EP.wrong ts r p in
             record {
               front = RP.front;
               whole = RP.whole;
-              begins = λ n. seq_first RP.front (RP.begins n);
+              begins = λ n. chained_first RP.front (RP.begins n);
               stable = λ D s le same. rw (RP.stable D s le same) refl;
             }
         | inr p ↦
-            elim (bind_err (Q d (p.0).1) (λ (y : B × List Tok). Ok (((p.0).0, y.0), y.1)) (wrong r) p.2) [
-              | inl q ↦ seq_wrong_second ts (p.0).1 r (p.0).0 p.1 q
+            elim (bind_err (Q (p.0).0 d (p.0).1) (λ (y : B × List Tok). Ok (((p.0).0, y.0), y.1)) (wrong r) p.2) [
+              | inl q ↦ chained_wrong_second ts (p.0).1 r (p.0).0 p.1 q
               | inr q ↦ absurd (ok_no_err q.2)
             ]
       ]
@@ -174,10 +178,10 @@ module _ {A B : Type 0} (P : ℕ → Parser A) (Q : ℕ → Parser B) (L : A →
       ok_no_err : {X : Type 0} {x : X} → Ok x ≡ Err (wrong r) → ⊥
       ok_no_err h = cc
 
-  seq_deep_second : (ts r1 r : List Tok) (a : A) → P d ts ≡ Ok (a, r1) → Q d r1 ≡ Err (deep r) → Sinks (λ D. seq (P D) (Q D)) (SeqL L M J) (λ D x. WP D x.0 × WQ D x.1) (λ x h. C2 x.1 h) d ts r
-  seq_deep_second ts r1 r a p q =
+  chained_deep_second : (ts r1 r : List Tok) (a : A) → P d ts ≡ Ok (a, r1) → Q a d r1 ≡ Err (deep r) → Sinks (λ D. chained (P D) (λ a. Q a D)) (ChainL L M J) (λ D x. WP D x.0 × WQ x.0 D x.1) (λ x h. C2 x.0 x.1 h) d ts r
+  chained_deep_second ts r1 r a p q =
       let RP = EP.ok ts a r1 p in
-      let RQ = EQ.deep r1 r q in
+      let RQ = (EQ a).deep r1 r q in
       record {
         front = RP.front ++ RQ.front;
         whole = RP.whole ∙ ap (λ (t : List Tok). RP.front ++ t) RQ.whole ∙ sym (append_assoc RP.front RQ.front r);
@@ -185,16 +189,16 @@ module _ {A B : Type 0} (P : ℕ → Parser A) (Q : ℕ → Parser B) (L : A →
         after = RQ.after;
         here = RQ.here;
         begins = rw (append_assoc RP.front RQ.front (RQ.at ∷ [])) (begun RP RQ.front RQ.at RQ.after (RQ.whole ∙ ap (λ (t : List Tok). RQ.front ++ t) RQ.here) RQ.begins);
-        stable = λ s same. seq_go ts r1 r a RP RQ.front RQ.whole d s (omega arith) same ∙ rw (RQ.stable s same) refl;
+        stable = λ s same. chained_go ts r1 r a RP RQ.front RQ.whole d s (omega arith) same ∙ rw (RQ.stable s same) refl;
       }
     where
-      begun : (RP : Reads P L WP C1 d ts a r1) (fq : List Tok) (t : Tok) (after : List Tok) → r1 ≡ fq ++ (t ∷ after) → Begins M (fq ++ t ∷ []) → Begins (SeqL L M J) (RP.front ++ (fq ++ t ∷ []))
-      begun RP [] t after e b = seq_second ts r1 a RP t [] after e b
-      begun RP (u ∷ fq) t after e b = seq_second ts r1 a RP u (fq ++ t ∷ []) after (e ∙ ap (λ (x : List Tok). u ∷ x) (sym (append_assoc fq (t ∷ []) after))) b
+      begun : (RP : Reads P L WP C1 d ts a r1) (fq : List Tok) (t : Tok) (after : List Tok) → r1 ≡ fq ++ (t ∷ after) → Begins (M a) (fq ++ t ∷ []) → Begins (ChainL L M J) (RP.front ++ (fq ++ t ∷ []))
+      begun RP [] t after e b = chained_second ts r1 a RP t [] after e b
+      begun RP (u ∷ fq) t after e b = chained_second ts r1 a RP u (fq ++ t ∷ []) after (e ∙ ap (λ (x : List Tok). u ∷ x) (sym (append_assoc fq (t ∷ []) after))) b
 
-  seq_deep : (ts r : List Tok) → seq (P d) (Q d) ts ≡ Err (deep r) → Sinks (λ D. seq (P D) (Q D)) (SeqL L M J) (λ D x. WP D x.0 × WQ D x.1) (λ x h. C2 x.1 h) d ts r
-  seq_deep ts r e =
-      elim (bind_err (P d ts) (λ (x : A × List Tok). Q d x.1 >>= λ (y : B × List Tok). Ok ((x.0, y.0), y.1)) (deep r) e) [
+  chained_deep : (ts r : List Tok) → chained (P d) (λ a. Q a d) ts ≡ Err (deep r) → Sinks (λ D. chained (P D) (λ a. Q a D)) (ChainL L M J) (λ D x. WP D x.0 × WQ x.0 D x.1) (λ x h. C2 x.0 x.1 h) d ts r
+  chained_deep ts r e =
+      elim (bind_err (P d ts) (λ (x : A × List Tok). Q x.0 d x.1 >>= λ (y : B × List Tok). Ok ((x.0, y.0), y.1)) (deep r) e) [
         | inl p ↦
             let RP = EP.deep ts r p in
             record {
@@ -203,12 +207,12 @@ module _ {A B : Type 0} (P : ℕ → Parser A) (Q : ℕ → Parser B) (L : A →
               at = RP.at;
               after = RP.after;
               here = RP.here;
-              begins = seq_first (RP.front ++ RP.at ∷ []) RP.begins;
+              begins = chained_first (RP.front ++ RP.at ∷ []) RP.begins;
               stable = λ s same. rw (RP.stable s same) refl;
             }
         | inr p ↦
-            elim (bind_err (Q d (p.0).1) (λ (y : B × List Tok). Ok (((p.0).0, y.0), y.1)) (deep r) p.2) [
-              | inl q ↦ seq_deep_second ts (p.0).1 r (p.0).0 p.1 q
+            elim (bind_err (Q (p.0).0 d (p.0).1) (λ (y : B × List Tok). Ok (((p.0).0, y.0), y.1)) (deep r) p.2) [
+              | inl q ↦ chained_deep_second ts (p.0).1 r (p.0).0 p.1 q
               | inr q ↦ absurd (ok_no_err q.2)
             ]
       ]
@@ -217,39 +221,68 @@ module _ {A B : Type 0} (P : ℕ → Parser A) (Q : ℕ → Parser B) (L : A →
       ok_no_err h = cc
 
   -- Two exact parsers, one after the other.
+  pub chained_exact : Exact (λ D. chained (P D) (λ a. Q a D)) (ChainL L M J) (λ D x. WP D x.0 × WQ x.0 D x.1) (λ x h. S2 x.0 x.1 h) (λ x h. C2 x.0 x.1 h) d
+  chained_exact = record { again = chained_again; ok = chained_ok; wrong = chained_wrong; deep = chained_deep }
+
+-- one after the other, where the second does not depend on the first
+module _ {A B : Type 0} (P : ℕ → Parser A) (Q : ℕ → Parser B) (L : A → Phrase) (M : B → Phrase) (J : A → B → Type 0) (WP : ℕ → A → Type 0) (WQ : ℕ → B → Type 0) (S1 C1 : A → Option Tok → Type 0) (S2 C2 : B → Option Tok → Type 0) (d : ℕ)
+    (EP : Exact P L WP S1 C1 d) (EQ : Exact Q M WQ S2 C2 d)
+    (follow : (a : A) (b : B) (p q : List Tok) → M b p → J a b → S2 b (head q) → S1 a (head (p ++ q)))
+    (joins : (a : A) (b : B) (p r : List Tok) → M b p → C1 a (head (p ++ r)) → J a b)
+    (ends : (a : A) → Ends M (J a)) where
   pub seq_exact : Exact (λ D. seq (P D) (Q D)) (SeqL L M J) (λ D x. WP D x.0 × WQ D x.1) (λ x h. S2 x.1 h) (λ x h. C2 x.1 h) d
-  seq_exact = record { again = seq_again; ok = seq_ok; wrong = seq_wrong; deep = seq_deep }
+  seq_exact = chained_exact P (λ a. Q) L (λ a. M) J WP (λ a. WQ) S1 C1 (λ a. S2) (λ a. C2) d EP (λ a. EQ) follow joins ends
 
 -- ---- another language for the same phrases
+
+-- the same phrases in other words; what the depth allows and what may follow may be said of the phrases alone
+module _ {A : Type 0} (P : ℕ → Parser A) (L M : A → Phrase) (W W' : ℕ → A → Type 0) (S S' C C' : A → Option Tok → Type 0) (d : ℕ) (E : Exact P L W S C d)
+    (to : (x : A) (p : List Tok) → L x p → M x p) (from : (x : A) (p : List Tok) → M x p → L x p)
+    (w_to : (x : A) (p : List Tok) → L x p → W d x → W' d x) (w_from : (x : A) (p : List Tok) → M x p → W' d x → W d x)
+    (s_from : (x : A) (p : List Tok) (h : Option Tok) → M x p → S' x h → S x h) (c_to : (x : A) (p : List Tok) (h : Option Tok) → L x p → C x h → C' x h) where
+  to_begins : (p : List Tok) → Begins L p → Begins M p
+  to_begins p b = record { value = b.value; more = b.more; spelled = to b.value (p ++ b.more) b.spelled }
+
+  pub restate : Exact P M W' S' C' d
+  restate = record {
+    again = λ x p q l w h. E.again x p q (from x p l) (w_from x p l w) (s_from x p (head q) l h);
+    ok = λ ts x r e. let R = E.ok ts x r e in record { front = R.front; whole = R.whole; spelled = to x R.front R.spelled; within = w_to x R.front R.spelled R.within; closed = c_to x R.front (head r) R.spelled R.closed; stable = R.stable };
+    wrong = λ ts r e. let R = E.wrong ts r e in record { front = R.front; whole = R.whole; begins = λ n. to_begins R.front (R.begins n); stable = R.stable };
+    deep = λ ts r e. let R = E.deep ts r e in record { front = R.front; whole = R.whole; at = R.at; after = R.after; here = R.here; begins = to_begins (R.front ++ R.at ∷ []) R.begins; stable = R.stable };
+  }
 
 module _ {A : Type 0} (P : ℕ → Parser A) (L M : A → Phrase) (W W' : ℕ → A → Type 0) (S S' C C' : A → Option Tok → Type 0) (d : ℕ) (E : Exact P L W S C d)
     (to : (x : A) (p : List Tok) → L x p → M x p) (from : (x : A) (p : List Tok) → M x p → L x p)
     (w_to : (x : A) (p : List Tok) → L x p → W d x → W' d x) (w_from : (x : A) → W' d x → W d x)
     (s_from : (x : A) (h : Option Tok) → S' x h → S x h) (c_to : (x : A) (h : Option Tok) → C x h → C' x h) where
-  to_begins : (p : List Tok) → Begins L p → Begins M p
-  to_begins p b = record { value = b.value; more = b.more; spelled = to b.value (p ++ b.more) b.spelled }
-
   pub relabel : Exact P M W' S' C' d
-  relabel = record {
-    again = λ x p q l w h. E.again x p q (from x p l) (w_from x w) (s_from x (head q) h);
-    ok = λ ts x r e. let R = E.ok ts x r e in record { front = R.front; whole = R.whole; spelled = to x R.front R.spelled; within = w_to x R.front R.spelled R.within; closed = c_to x (head r) R.closed; stable = R.stable };
-    wrong = λ ts r e. let R = E.wrong ts r e in record { front = R.front; whole = R.whole; begins = λ n. to_begins R.front (R.begins n); stable = R.stable };
-    deep = λ ts r e. let R = E.deep ts r e in record { front = R.front; whole = R.whole; at = R.at; after = R.after; here = R.here; begins = to_begins (R.front ++ R.at ∷ []) R.begins; stable = R.stable };
-  }
+  relabel = restate P L M W W' S S' C C' d E to from w_to (λ x p l. w_from x) (λ x p h l. s_from x h) (λ x p h l. c_to x h)
 
 abbrev pub Two : {A B : Type 0} → (A → Phrase) → (B → Phrase) → A × B → List Tok → Type 0
 Two L M x = Seq (L x.0) (M x.1)
 
--- one after the other, where nothing else joins them
+-- one thing and then another that depends on it
+abbrev pub Dep : {A B : Type 0} → (A → Phrase) → (A → B → Phrase) → A × B → List Tok → Type 0
+Dep L M x = Seq (L x.0) (M x.0 x.1)
+
+-- where nothing else joins them
+module _ {A B : Type 0} (P : ℕ → Parser A) (Q : A → ℕ → Parser B) (L : A → Phrase) (M : A → B → Phrase) (WP : ℕ → A → Type 0) (WQ : A → ℕ → B → Type 0) (S1 C1 : A → Option Tok → Type 0) (S2 C2 : A → B → Option Tok → Type 0) (d : ℕ)
+    (EP : Exact P L WP S1 C1 d) (EQ : (a : A) → Exact (Q a) (M a) (WQ a) (S2 a) (C2 a) d)
+    (follow : (a : A) (b : B) (p q : List Tok) → M a b p → S2 a b (head q) → S1 a (head (p ++ q)))
+    (ends : (a : A) → Begins (M a) []) where
+  pub dep_exact : Exact (λ D. chained (P D) (λ a. Q a D)) (Dep L M) (λ D x. WP D x.0 × WQ x.0 D x.1) (λ x h. S2 x.0 x.1 h) (λ x h. C2 x.0 x.1 h) d
+  dep_exact =
+      relabel (λ D. chained (P D) (λ a. Q a D)) (ChainL L M (λ a b. Unit {0})) (Dep L M) (λ D x. WP D x.0 × WQ x.0 D x.1) (λ D x. WP D x.0 × WQ x.0 D x.1) (λ x h. S2 x.0 x.1 h) (λ x h. S2 x.0 x.1 h) (λ x h. C2 x.0 x.1 h) (λ x h. C2 x.0 x.1 h) d
+      (chained_exact P Q L M (λ a b. Unit {0}) WP WQ S1 C1 S2 C2 d EP EQ (λ a b p q m j h. follow a b p q m h) (λ a b p r m h. tt) (λ a. record { value = (ends a).value; text = (ends a).more; spelled = (ends a).spelled; joined = tt }))
+      (λ x p l. l.0) (λ x p l. (l, tt)) (λ x p l w. w) (λ x w. w) (λ x h s. s) (λ x h c. c)
+
+-- the same, where the second does not depend on the first
 module _ {A B : Type 0} (P : ℕ → Parser A) (Q : ℕ → Parser B) (L : A → Phrase) (M : B → Phrase) (WP : ℕ → A → Type 0) (WQ : ℕ → B → Type 0) (S1 C1 : A → Option Tok → Type 0) (S2 C2 : B → Option Tok → Type 0) (d : ℕ)
     (EP : Exact P L WP S1 C1 d) (EQ : Exact Q M WQ S2 C2 d)
     (follow : (a : A) (b : B) (p q : List Tok) → M b p → S2 b (head q) → S1 a (head (p ++ q)))
     (ends : Begins M []) where
   pub two_exact : Exact (λ D. seq (P D) (Q D)) (Two L M) (λ D x. WP D x.0 × WQ D x.1) (λ x h. S2 x.1 h) (λ x h. C2 x.1 h) d
-  two_exact =
-      relabel (λ D. seq (P D) (Q D)) (SeqL L M (λ a b. Unit {0})) (Two L M) (λ D x. WP D x.0 × WQ D x.1) (λ D x. WP D x.0 × WQ D x.1) (λ x h. S2 x.1 h) (λ x h. S2 x.1 h) (λ x h. C2 x.1 h) (λ x h. C2 x.1 h) d
-      (seq_exact P Q L M (λ a b. Unit {0}) WP WQ S1 C1 S2 C2 d EP EQ (λ a b p q m j h. follow a b p q m h) (λ a b p r m h. tt) (λ a. record { value = ends.value; text = ends.more; spelled = ends.spelled; joined = tt }))
-      (λ x p l. l.0) (λ x p l. (l, tt)) (λ x p l w. w) (λ x w. w) (λ x h s. s) (λ x h c. c)
+  two_exact = dep_exact P (λ a. Q) L (λ a. M) WP (λ a. WQ) S1 C1 (λ a. S2) (λ a. C2) d EP (λ a. EQ) follow (λ a. ends)
 
 -- ---- another value
 
@@ -470,6 +503,14 @@ module _ {A : Type 0} (c : ℕ → Option Tok → Parser A) (Lc : Option Tok →
 
 -- ---- the same, with what can be seen left out
 
+pub chained_one : {A B : Type 0} {P : ℕ → Parser A} {Q : A → ℕ → Parser B} {L : A → List Tok → Type 0} {M : A → B → List Tok → Type 0} {WP : ℕ → A → Type 0} {WQ : A → ℕ → B → Type 0} {S1 C1 : A → Option Tok → Type 0} {S2 C2 : A → B → Option Tok → Type 0} {d : ℕ}
+    → Exact P L WP S1 C1 d → ((a : A) → Exact (Q a) (M a) (WQ a) (S2 a) (C2 a) d)
+    → ((a : A) (b : B) (p q : List Tok) → M a b p → S2 a b (head q) → S1 a (head (p ++ q)))
+    → ((a : A) → Begins (M a) [])
+    → Exact (λ D. chained (P D) (λ a. Q a D)) (Dep L M) (λ D x. WP D x.0 × WQ x.0 D x.1) (λ x h. S2 x.0 x.1 h) (λ x h. C2 x.0 x.1 h) d
+chained_one {P = P} {Q = Q} {L = L} {M = M} {WP = WP} {WQ = WQ} {S1 = S1} {C1 = C1} {S2 = S2} {C2 = C2} {d = d} EP EQ follow ends =
+    dep_exact P Q L M WP WQ S1 C1 S2 C2 d EP EQ follow ends
+
 pub two : {A B : Type 0} {P : ℕ → Parser A} {Q : ℕ → Parser B} {L : A → List Tok → Type 0} {M : B → List Tok → Type 0} {WP : ℕ → A → Type 0} {WQ : ℕ → B → Type 0} {S1 C1 : A → Option Tok → Type 0} {S2 C2 : B → Option Tok → Type 0} {d : ℕ}
     → Exact P L WP S1 C1 d → Exact Q M WQ S2 C2 d
     → ((a : A) (b : B) (p q : List Tok) → M b p → S2 b (head q) → S1 a (head (p ++ q)))
@@ -487,3 +528,15 @@ pub value_of : {A B : Type 0} (f : A → B) {P : ℕ → Parser A} {L : A → Li
     → Exact (λ D. mapped f (P D)) M W' S' C' d
 value_of f {P = P} {L = L} M {W = W} W' {S = S} {C = C} S' C' {d = d} EP comes goes deepens closes =
     map_exact f P L M W W' S C S' C' d EP comes goes deepens closes
+
+pub restated : {A : Type 0} {P : ℕ → Parser A} {L : A → List Tok → Type 0} (M : A → Phrase) {W : ℕ → A → Type 0} (W' : ℕ → A → Type 0) {S C : A → Option Tok → Type 0} (S' C' : A → Option Tok → Type 0) {d : ℕ}
+    → Exact P L W S C d
+    → ((x : A) (p : List Tok) → L x p → M x p)
+    → ((x : A) (p : List Tok) → M x p → L x p)
+    → ((x : A) (p : List Tok) → L x p → W d x → W' d x)
+    → ((x : A) (p : List Tok) → M x p → W' d x → W d x)
+    → ((x : A) (p : List Tok) (h : Option Tok) → M x p → S' x h → S x h)
+    → ((x : A) (p : List Tok) (h : Option Tok) → L x p → C x h → C' x h)
+    → Exact P M W' S' C' d
+restated {P = P} {L = L} M {W = W} W' {S = S} {C = C} S' C' {d = d} E to from w_to w_from s_from c_to =
+    restate P L M W W' S S' C C' d E to from w_to w_from s_from c_to

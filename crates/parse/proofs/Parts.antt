@@ -122,7 +122,7 @@ abbrev pub MaybeS : {A : Type 0} → Mark → (A → Option Tok → Type 0) → 
 MaybeS k S None h = is_next k h ≡ false
 MaybeS k S (Some x) h = S x h
 
-abbrev BranchC : {A : Type 0} → (A → Option Tok → Type 0) → Option A → Option Tok → Type 0
+abbrev pub BranchC : {A : Type 0} → (A → Option Tok → Type 0) → Option A → Option Tok → Type 0
 BranchC C None h = Unit {0}
 BranchC C (Some x) h = C x h
 

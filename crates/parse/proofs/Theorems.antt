@@ -1,5 +1,5 @@
 -- From an exact parser to what a whole call promises, for any language.
-use Rattle.std.proofs.Common.{◌≡◌, ℕ, ◌≤◌, max, List, [], ◌∷◌, ◌++◌, Result, Ok, Err, refl, sym, ap, subst, ◌∙◌, append_assoc, arith, inl, inr}
+use Rattle.std.proofs.Common.{◌≡◌, ℕ, ◌≤◌, max, List, [], ◌∷◌, ◌++◌, None, Result, Ok, Err, refl, sym, ap, subst, ◌∙◌, append_assoc, arith, inl, inr}
 use Rattle.std.proofs.lemmas.Bool.{cases_lt}
 use Rattle.std.proofs.lemmas.List.{append-nil}
 use Rattle.lex.specs.Tokens.{Tok}
@@ -25,17 +25,17 @@ finished_deep : {A : Type 0} (x : A × List Tok) (r : List Tok) → finished x �
 finished_deep (x, []) r h = cc
 finished_deep (x, t ∷ ts) r h = cc
 
--- low: a depth that every tree's parts but those that are measured fit into
-module _ {A : Type 0} (P : ℕ → Parser A) (L : A → Phrase) (depth : A → ℕ) (low : ℕ)
-    (E : (d : ℕ) → low ≤ d → Exact P L (λ D x. depth x ≤ D) Always Always d) (some : Begins L []) where
+-- Nothing follows what is read.
+module _ {A : Type 0} (P : ℕ → Parser A) (L : A → Phrase) (depth : A → ℕ)
+    (E : (d : ℕ) → Exact P L (λ D x. depth x ≤ D) (λ x h. h ≡ None) Always d) (some : Begins L []) where
   -- something that the tokens spell to their end
   abbrev pub whole : ℕ → List Tok → Result A Fault
   whole d ts = P d ts >>= finished
 
   -- what is spelled is read, within its depth
-  pub whole_again : (d : ℕ) (e : A) (ts : List Tok) → low ≤ d → L e ts → depth e ≤ d → whole d ts ≡ Ok e
-  whole_again d e ts high s w =
-      let read = (E d high).again e ts [] s w tt in
+  pub whole_again : (d : ℕ) (e : A) (ts : List Tok) → L e ts → depth e ≤ d → whole d ts ≡ Ok e
+  whole_again d e ts s w =
+      let read = (E d).again e ts [] s w refl in
       let same : ts ++ [] ≡ ts = append-nil ts in
       let read' : P d ts ≡ Ok (e, []) = ap (P d) (sym same) ∙ read in
       rw read' refl
@@ -43,17 +43,17 @@ module _ {A : Type 0} (P : ℕ → Parser A) (L : A → Phrase) (depth : A → �
   -- no list of tokens spells two trees
   pub one_tree_law : (ts : List Tok) (a b : A) → L a ts → L b ts → a ≡ b
   one_tree_law ts a b sa sb =
-      let d = max low (max (depth a) (depth b)) in
-      let ra = whole_again d a ts (omega arith) sa (omega arith) in
-      let rb = whole_again d b ts (omega arith) sb (omega arith) in
+      let d = max (depth a) (depth b) in
+      let ra = whole_again d a ts sa (omega arith) in
+      let rb = whole_again d b ts sb (omega arith) in
       cc
 
   -- what is read is spelled so
-  pub whole_found : (d : ℕ) (ts : List Tok) (e : A) → low ≤ d → whole d ts ≡ Ok e → L e ts × (depth e ≤ d)
-  whole_found d ts e high h =
+  pub whole_found : (d : ℕ) (ts : List Tok) (e : A) → whole d ts ≡ Ok e → L e ts × (depth e ≤ d)
+  whole_found d ts e h =
       let b = bind_ok (P d ts) finished e h in
       let f = finished_ok b.0 e b.2 in
-      let R = (E d high).ok ts (b.0).0 (b.0).1 b.1 in
+      let R = (E d).ok ts (b.0).0 (b.0).1 b.1 in
       let whole : ts ≡ R.front = R.whole ∙ ap (λ (z : List Tok). R.front ++ z) f.1 ∙ append-nil R.front in
       subst (λ (x : A). L x ts × (depth x ≤ d)) f.0 (subst (L (b.0).0) (sym whole) R.spelled, R.within)
 
@@ -71,15 +71,15 @@ module _ {A : Type 0} (P : ℕ → Parser A) (L : A → Phrase) (depth : A → �
   closed_wrong : (D : ℕ) (ts : List Tok) (e : A) (t : Tok) (s : List Tok) → P D ts ≡ Ok (e, t ∷ s) → whole D ts ≡ Err (wrong (t ∷ s))
   closed_wrong D ts e t s h = rw h refl
 
-  pub whole_wrong : (d : ℕ) (ts r : List Tok) → low ≤ d → whole d ts ≡ Err (wrong r) → Blocked d ts r
-  whole_wrong d ts r high h =
+  pub whole_wrong : (d : ℕ) (ts r : List Tok) → whole d ts ≡ Err (wrong r) → Blocked d ts r
+  whole_wrong d ts r h =
       elim (bind_err (P d ts) finished (wrong r) h) [
         | inl p ↦
-            let R = (E d high).wrong ts r p in
+            let R = (E d).wrong ts r p in
             record { front = R.front; parts = R.whole; begun = begun_any R.front R.begins; stable = λ D s le same. rw (R.stable D s le same) refl }
         | inr b ↦
             let f = finished_wrong b.0 r b.2 in
-            let R = (E d high).ok ts (b.0).0 (b.0).1 b.1 in
+            let R = (E d).ok ts (b.0).0 (b.0).1 b.1 in
             record {
               front = R.front;
               parts = R.whole ∙ ap (λ (z : List Tok). R.front ++ z) f.0;
@@ -93,37 +93,37 @@ module _ {A : Type 0} (P : ℕ → Parser A) (L : A → Phrase) (depth : A → �
       nonempty D e front [] (t ∷ r) n same h = absurd cc
       nonempty D e front (u ∷ s) r n same h = closed_wrong D (front ++ (u ∷ s)) e u s h
 
-  pub unexpected : (ts : List Tok) (t : Tok) (after : List Tok) (d : ℕ) → low ≤ d → whole d ts ≡ Err (wrong (t ∷ after)) → IsUnexpected L ts t.span
-  unexpected ts t after d high h =
-      let B = whole_wrong d ts (t ∷ after) high h in
+  pub unexpected : (ts : List Tok) (t : Tok) (after : List Tok) (d : ℕ) → whole d ts ≡ Err (wrong (t ∷ after)) → IsUnexpected L ts t.span
+  unexpected ts t after d h =
+      let B = whole_wrong d ts (t ∷ after) h in
       record {
         here = record { before = B.front; token = t; after = after; whole = B.parts; there = refl };
         begins = B.begun;
         not = λ b.
             let D = max d (depth b.value) in
             let parts = append_assoc B.front (t ∷ []) b.more in
-            let ok = whole_again D b.value (B.front ++ (t ∷ b.more)) (omega arith) (subst (L b.value) parts b.spelled) (omega arith) in
+            let ok = whole_again D b.value (B.front ++ (t ∷ b.more)) (subst (L b.value) parts b.spelled) (omega arith) in
             no_both (whole D (B.front ++ (t ∷ b.more))) b.value (wrong (t ∷ b.more)) ok (B.stable D (t ∷ b.more) (omega arith) refl);
       }
 
-  pub begins_all : (ts : List Tok) (d : ℕ) → low ≤ d → whole d ts ≡ Err (wrong []) → Begins L ts
-  begins_all ts d high h =
-      let B = whole_wrong d ts [] high h in
+  pub begins_all : (ts : List Tok) (d : ℕ) → whole d ts ≡ Err (wrong []) → Begins L ts
+  begins_all ts d h =
+      let B = whole_wrong d ts [] h in
       subst (Begins L) (sym (B.parts ∙ append-nil B.front)) B.begun
 
-  pub spells_none : (ts : List Tok) (d : ℕ) → low ≤ d → whole d ts ≡ Err (wrong []) → (e : A) → L e ts → ⊥
-  spells_none ts d high h e l =
-      let B = whole_wrong d ts [] high h in
+  pub spells_none : (ts : List Tok) (d : ℕ) → whole d ts ≡ Err (wrong []) → (e : A) → L e ts → ⊥
+  spells_none ts d h e l =
+      let B = whole_wrong d ts [] h in
       let D = max d (depth e) in
-      let ok = whole_again D e ts (omega arith) l (omega arith) in
+      let ok = whole_again D e ts l (omega arith) in
       let err : whole D ts ≡ Err (wrong []) = ap (whole D) B.parts ∙ B.stable D [] (omega arith) refl in
       no_both (whole D ts) e (wrong []) ok err
 
-  pub too_deep : (ts : List Tok) (t : Tok) (after : List Tok) (d : ℕ) → low ≤ d → whole d ts ≡ Err (deep (t ∷ after)) → IsTooDeep L depth d ts t.span
-  too_deep ts t after d high h =
+  pub too_deep : (ts : List Tok) (t : Tok) (after : List Tok) (d : ℕ) → whole d ts ≡ Err (deep (t ∷ after)) → IsTooDeep L depth d ts t.span
+  too_deep ts t after d h =
       elim (bind_err (P d ts) finished (deep (t ∷ after)) h) [
         | inl p ↦
-            let R = (E d high).deep ts (t ∷ after) p in
+            let R = (E d).deep ts (t ∷ after) p in
             let same : t ≡ R.at = first_same R.here in
             record {
               here = record { before = R.front; token = t; after = after; whole = R.whole; there = refl };
@@ -132,7 +132,7 @@ module _ {A : Type 0} (P : ℕ → Parser A) (L : A → Phrase) (depth : A → �
                 | inl lt ↦ lt
                 | inr le ↦
                     let parts = append_assoc R.front (t ∷ []) b.more in
-                    let ok = whole_again d b.value (R.front ++ (t ∷ b.more)) high (subst (L b.value) parts b.spelled) le in
+                    let ok = whole_again d b.value (R.front ++ (t ∷ b.more)) (subst (L b.value) parts b.spelled) le in
                     let err : whole d (R.front ++ (t ∷ b.more)) ≡ Err (deep (t ∷ b.more)) = rw (R.stable (t ∷ b.more) refl) refl in
                     absurd (no_both (whole d (R.front ++ (t ∷ b.more))) b.value (deep (t ∷ b.more)) ok err)
               ];
@@ -143,10 +143,10 @@ module _ {A : Type 0} (P : ℕ → Parser A) (L : A → Phrase) (depth : A → �
       first_same : {a b : List Tok} {x y : Tok} → x ∷ a ≡ y ∷ b → x ≡ y
       first_same h = cc
 
-  pub no_deep_end : (ts : List Tok) (d : ℕ) → low ≤ d → whole d ts ≡ Err (deep []) → ⊥
-  no_deep_end ts d high h =
+  pub no_deep_end : (ts : List Tok) (d : ℕ) → whole d ts ≡ Err (deep []) → ⊥
+  no_deep_end ts d h =
       elim (bind_err (P d ts) finished (deep []) h) [
-        | inl p ↦ (let R = (E d high).deep ts [] p in empty_not R.here)
+        | inl p ↦ (let R = (E d).deep ts [] p in empty_not R.here)
         | inr b ↦ finished_deep b.0 [] b.2
       ]
     where
@@ -154,5 +154,5 @@ module _ {A : Type 0} (P : ℕ → Parser A) (L : A → Phrase) (depth : A → �
       empty_not h = cc
 
   -- what is spelled within the depth meets no fault
-  pub none_fails : (ts : List Tok) (d : ℕ) (f : Fault) → low ≤ d → whole d ts ≡ Err f → (e : A) → L e ts → depth e ≤ d → ⊥
-  none_fails ts d f high h e l w = no_both (whole d ts) e f (whole_again d e ts high l w) h
+  pub none_fails : (ts : List Tok) (d : ℕ) (f : Fault) → whole d ts ≡ Err f → (e : A) → L e ts → depth e ≤ d → ⊥
+  none_fails ts d f h e l w = no_both (whole d ts) e f (whole_again d e ts l w) h

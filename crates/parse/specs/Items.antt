@@ -50,8 +50,12 @@ maybe_name = either (says the_name) (mapped Some (take the_name)) (give None)
 abbrev pub parameter : Parser Parameter
 parameter = mapped parameter_tree (seq scalar maybe_name)
 
+-- nothing, `void`, or parameters
+abbrev pub parameter_list : Parser (List Parameter)
+parameter_list = either (is_next m.CloseParen) (give []) (either (is_next m.Void) (mapped (λ x. []) (expect m.Void)) (listed parameter))
+
 abbrev pub parameters : Parser (List Parameter)
-parameters = behind m.OpenParen (before m.CloseParen (either (is_next m.CloseParen) (give []) (either (is_next m.Void) (mapped (λ x. []) (expect m.Void)) (listed parameter))))
+parameters = behind m.OpenParen (before m.CloseParen parameter_list)
 
 -- all of them have names
 abbrev pub are_named : List Parameter → Bool
@@ -110,9 +114,13 @@ first_value = either (is_next m.Assign) (mapped one_first (behind m.Assign initi
 abbrev pub further_values : Parser (List First)
 further_values ts = trailing (length ts) initialiser ts
 
+-- those between an array's braces
+abbrev pub value_list : Parser (List First)
+value_list = mapped in_front (seq initialiser further_values)
+
 -- those of an array
 abbrev pub first_values : Parser (List First)
-first_values = either (is_next m.Assign) (behind m.Assign (behind m.OpenBrace (before m.CloseBrace (mapped in_front (seq initialiser further_values))))) (give [])
+first_values = either (is_next m.Assign) (behind m.Assign (behind m.OpenBrace (before m.CloseBrace value_list))) (give [])
 
 abbrev pub Size : Type 0
 Size = Option (ℕ × Span) × List First
@@ -132,6 +140,10 @@ global_tree t x size = record { of = t; name = x; length = size.0; first = size.
 
 abbrev pub global : Scalar → Parser Global
 global t = mapped (λ x. global_tree t x.0 x.1) (seq (take the_name) sized)
+
+-- the globals of one declaration, behind the first one's name
+abbrev pub several : Scalar → Name → Parser (List Global)
+several t x = mapped (λ y. global_tree t x y.0 ∷ y.1) (seq sized (many_until (is_other m.Comma) (behind m.Comma (global t))))
 
 abbrev pub globals_tree : Scalar → Name → Size × List Global → Item
 globals_tree t x y = Shares (global_tree t x y.0 ∷ y.1)

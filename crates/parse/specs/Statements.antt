@@ -1,10 +1,12 @@
 -- What the parser's functions over statements answer, as functions on lists.
 use Rattle.std.specs.Prelude.{◌≡◌, ℕ, zero, suc, Bool, true, false, List, [], ◌∷◌, Option, Some, None, Result, Ok, Err, if◌then◌else◌}
+use Rattle.std.specs.Borrow.{Bor}
 use Rattle.lex.specs.declared.token.Mark.{Mark}
 use Rattle.lex.specs.declared.token.Mark.TheVariants as m
 use Rattle.lex.specs.declared.token.Scalar.{Scalar}
 use Rattle.lex.specs.declared.token.Span.{Span}
-use Rattle.lex.specs.Tokens.{Terminal, name, constant, text, mark, reserved, Tok}
+use Rattle.lex.specs.declared.token.Token.{Token}
+use Rattle.lex.specs.Tokens.{Terminal, name, constant, text, mark, reserved, Tok, toks}
 use Rattle.syntax.specs.declared.tree.BinaryOp.{BinaryOp}
 use Rattle.syntax.specs.declared.tree.Mode.{Mode}
 use Rattle.syntax.specs.declared.tree.Mode.TheVariants.{Atomic, Relaxed}
@@ -16,6 +18,11 @@ use Rattle.parse.specs.declared.lead.Lead.{Lead}
 use Rattle.parse.specs.declared.lead.Lead.TheVariants as lead
 use Rattle.parse.specs.Reading.{Fault, ◌>>=◌, Parser, head, give, chained, seq, mapped, choice, either, sunk, many_until, unless, listed, take, expect, spot, is_next, is_other, perhaps, behind, before}
 use Rattle.parse.specs.Expressions.{says, starts_type, scalar, starts_expr, expr_at, whole_at}
+
+-- what a function found at the front: a token that says something of this kind, and the tokens after it, or none
+abbrev pub GivesToken : {A : Type 0} → (Tok → Option A) → List Tok → Option (A × Bor (List Token)) → Type 0
+GivesToken f ts None = says f (head ts) ≡ false
+GivesToken f ts (Some x) = (says f (head ts) ≡ true) × (take f ts ≡ Ok (x.0, toks (x.1).now))
 
 -- ---- assignments, steps and values; whole: any expression
 
@@ -129,11 +136,22 @@ module _ (d : ℕ) where
   abbrev pub empty : Parser Stmt
   empty = mapped (λ x. Empty) (expect m.Semicolon)
 
+  -- what follows the format
+  abbrev pub printed : Parser (List Expr)
+  printed = before m.Semicolon (before m.CloseParen (many_until (is_other m.Comma) (behind m.Comma (whole_at d))))
+
   abbrev pub print : Parser Stmt
-  print = mapped print_tree (seq (spot m.Printf) (behind m.OpenParen (seq (take the_text) (before m.Semicolon (before m.CloseParen (many_until (is_other m.Comma) (behind m.Comma (whole_at d))))))))
+  print = mapped print_tree (seq (spot m.Printf) (behind m.OpenParen (seq (take the_text) printed)))
 
   abbrev pub start : Parser Start
   start = either (is_next m.Semicolon) (mapped (λ x. Nothing) (expect m.Semicolon)) (either starts_type (mapped Declares (declaration_at d)) (mapped Does (before m.Semicolon (simple_at d))))
+
+  -- the condition and the step of a for
+  abbrev pub rest_of_head : Parser (Option Expr × Option Simple)
+  rest_of_head = seq (before m.Semicolon (unless m.Semicolon (whole_at d))) (before m.CloseParen (unless m.CloseParen (simple_at d)))
+
+  abbrev pub head_of_for : Parser (Start × (Option Expr × Option Simple))
+  head_of_for = behind m.OpenParen (seq start rest_of_head)
 
   abbrev pub jump : Mark → (Span → Stmt) → Parser Stmt
   jump k tree = mapped tree (before m.Semicolon (spot k))
@@ -154,9 +172,6 @@ module _ (d : ℕ) where
 
     abbrev pub done : Parser Stmt
     done = mapped (λ x. DoWhile x.0 x.1) (behind m.Do (seq stmt (behind m.While (before m.Semicolon (in_parens (whole_at d))))))
-
-    abbrev pub head_of_for : Parser (Start × (Option Expr × Option Simple))
-    head_of_for = behind m.OpenParen (seq start (seq (before m.Semicolon (unless m.Semicolon (whole_at d))) (before m.CloseParen (unless m.CloseParen (simple_at d)))))
 
     abbrev pub counted : Parser Stmt
     counted = mapped for_tree (behind m.For (seq head_of_for stmt))

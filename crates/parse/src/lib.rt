@@ -1,8 +1,14 @@
 //! The parser: from tokens to the one tree that they spell, or to the first place where they spell none.
 #![tactic(auto)]
 
+mod attributes;
 mod cursor;
+mod expr;
 mod fault;
+mod functions;
+mod globals;
 mod lead;
+mod node;
+mod scalar;
 
 pub use fault::ParseFault;

@@ -1,0 +1,187 @@
+use Rattle.std.proofs.Common.{◌≡◌, Ok, sym, ◌∙◌, ap, [], ◌∷◌, ◌++◌, map, refl, ◌+◌, ◌-◌, length, max, not, arith}
+use Rattle.std.proofs.lemmas.Result.{err_from_is_err_and}
+use Rattle.lex.specs.Tokens.{toks, tok}
+use Rattle.syntax.specs.Views.{expr_of, exprs_of, name_of, exprs_from}
+use Rattle.syntax.proofs.Seen.{expr_of_variable}
+use Rattle.parse.specs.Expressions.{arguments, expr_at, whole_at, infix_node, operators}
+use Rattle.parse.proofs.Climbing.{fails_along, loop_none, loop_deep, loop_full, turn_fails, turn_goes}
+use Rattle.parse.proofs.ExprSteps.{variable_goes, call_goes, unclosed, listed_goes, behind_none, behind_fails, behind_goes, deepest_push, none_left, climb_start, infix_depth, chosen_alone, chosen_deep, question_fails, then_fails, colon_fails, other_fails, chosen_goes, whole_goes, whole_fails}
+use Rattle.parse.specs.Reading.{behind, is_other, mapped, many_until, climb_loop}
+use Rattle.std.proofs.lemmas.List.{map_push, length-map}
+use Rattle.syntax.specs.Depth.{expr_depth, deepest}
+use Rattle.parse.proofs.Turns.{goes_on, fails_on, stops_at, runs_out}
+use Rattle.lex.specs.declared.token.Mark.TheVariants as m
+use Rattle.parse.proofs.expr.+climbing.Goals as goal
+
+-- ---- a name, and what may follow it
+
+pub named-returns-in_err-last-2-clause-value : goal.named-returns-in_err-last-2-clause-value
+named-returns-in_err-last-2-clause-value g t c =
+    let p = err_from_is_err_and c.from_residual-in_err-last-2.result c.from_residual-in_err-last-2.ensures.1 in
+    rw (p.1, p.2) (fails_along c.in_err-last-2.field-0.0 _ _ (λ f e.
+    call_goes (whole_at c.args.depth) (expr_at c.args.depth 11) (toks c.args.tokens.now) (toks c.in_ok-name.rest.now) (name_of c.in_ok-name.name) c.in_ok-name.ensures (sym c.is_next.ensures ∙ c.if-is_next.false) (sym c.is_next-2.ensures ∙ c.if-is_next-2.true)
+    ∙ unclosed m.OpenParen m.CloseParen (arguments (whole_at c.args.depth) (expr_at c.args.depth 11)) _ (toks c.in_ok-name.rest.now) (toks c.in_ok-rest-2.rest.now) (toks c.in_ok-args.rest.now) _ f c.in_ok-rest-2.ensures c.in_ok-args.ensures.value e) c.in_err-last-2.ensures)
+
+pub named-returns-clause-value : goal.named-returns-clause-value
+named-returns-clause-value g t c =
+    variable_goes (whole_at c.args.depth) (expr_at c.args.depth 11) (toks c.args.tokens.now) (toks c.in_ok-name.rest.now) (name_of c.in_ok-name.name) c.in_ok-name.ensures (sym c.is_next.ensures ∙ c.if-is_next.false) (sym c.is_next-2.ensures ∙ c.if-is_next-2.false)
+    ∙ ap (λ e. Ok (e, toks c.in_ok-name.rest.now)) (sym (expr_of_variable c.in_ok-name.name))
+
+-- ---- arguments
+
+pub arguments-returns-clause-value : goal.arguments-returns-clause-value
+arguments-returns-clause-value g t c =
+    let e : map expr_of c.push.new.self ≡ expr_of c.in_ok-first.first ∷ [] = rw (c.in_ok-push.ensures.ok, c.new-args.ensures) refl in
+    let start : arguments (whole_at c.args.depth) (expr_at c.args.depth 11) (toks c.args.tokens.now) ≡ mapped (λ es. map expr_of c.push.new.self ++ es) (many_until (is_other m.Comma) (behind m.Comma (whole_at c.args.depth))) (toks c.in_ok-first.rest.now) =
+    rw (sym c.is_next.ensures ∙ c.if-is_next.false, e) (listed_goes (whole_at c.args.depth) (many_until (is_other m.Comma) (behind m.Comma (whole_at c.args.depth))) (toks c.args.tokens.now) (toks c.in_ok-first.rest.now) (expr_of c.in_ok-first.first) c.in_ok-first.ensures.value) in
+    rw start c.extend.ensures.value
+
+-- ---- further arguments
+
+pub extend-turns-init : goal.extend-turns-init
+extend-turns-init g t c =
+    let n : c.start-count.result.1 - 0 ≡ length (toks c.args.tokens.now) = omega (arith, length-map c.args.tokens.now tok, c.start-count.ensures.count) in
+    record { long = c.start-count.ensures.count; within = c.requires.shallow; deep = c.requires.measured; value = rw (n, c.start-count.ensures.all) refl }
+
+pub extend-returns-then-not-is_next-clause-value : goal.extend-returns-then-not-is_next-clause-value
+extend-returns-then-not-is_next-clause-value g t c = stops_at (is_other m.Comma) (behind m.Comma (whole_at c.args.depth)) (map expr_of c.turns.all) (c.start-count.result.1 - c.turns._turn) (toks c.turns.rest.now) _ (ap not (sym c.is_next.ensures ∙ c.if-not-is_next.true)) c.turns.invariant.value
+
+pub extend-returns-in_err-after-clause-value : goal.extend-returns-in_err-after-clause-value
+extend-returns-in_err-after-clause-value g t c =
+    let p = err_from_is_err_and c.from_residual.result c.from_residual.ensures.1 in
+    rw (p.1, p.2) (fails_along c.in_err-after.field-0.0 _ _ (λ f e.
+    fails_on (is_other m.Comma) (behind m.Comma (whole_at c.args.depth)) (map expr_of c.turns.all) c.start-count.result.1 c.turns._turn (toks c.turns.rest.now) f _ c.turns-test.true (ap not (sym c.is_next.ensures ∙ c.if-not-is_next.false))
+    (behind_none m.Comma (whole_at c.args.depth) (toks c.turns.rest.now) f e) c.turns.invariant.value) c.in_err-after.ensures)
+
+pub extend-returns-in_err-one-clause-value : goal.extend-returns-in_err-one-clause-value
+extend-returns-in_err-one-clause-value g t c =
+    let p = err_from_is_err_and c.from_residual-in_err-one.result c.from_residual-in_err-one.ensures.1 in
+    rw (p.1, p.2) (fails_along c.in_err-one.field-0.0 _ _ (λ f e.
+    fails_on (is_other m.Comma) (behind m.Comma (whole_at c.args.depth)) (map expr_of c.turns.all) c.start-count.result.1 c.turns._turn (toks c.turns.rest.now) f _ c.turns-test.true (ap not (sym c.is_next.ensures ∙ c.if-not-is_next.false))
+    (behind_fails m.Comma (whole_at c.args.depth) (toks c.turns.rest.now) (toks c.in_ok-after.after.now) f c.in_ok-after.ensures e) c.turns.invariant.value) c.in_err-one.ensures.value)
+
+pub extend-turns-preserved : goal.extend-turns-preserved
+extend-turns-preserved g t c =
+    let e : map expr_of c.push.new.self ≡ map expr_of c.turns.all ++ expr_of c.in_ok-one.one ∷ [] = rw c.in_ok-push.ensures.ok (map_push _ c.turns.all c.in_ok-one.one) in
+    let pushed : deepest (exprs_of c.push.new.self) ≡ max (deepest (exprs_of c.turns.all)) (expr_depth (expr_of c.in_ok-one.one)) = ap (λ es. deepest (exprs_from es)) e ∙ deepest_push (map expr_of c.turns.all) (expr_of c.in_ok-one.one) in
+    let most : c.max-most.result ≡ max c.turns.most c.in_ok-one.one_deep = c.max-most.ensures in
+    record {
+      long = c.turns.invariant.long;
+      within = omega (arith, most, c.turns.invariant.within, c.in_ok-one.ensures.within);
+      deep = omega (arith, most, pushed, c.turns.invariant.deep, c.in_ok-one.ensures.deep);
+      value = rw e (goes_on (is_other m.Comma) (behind m.Comma (whole_at c.args.depth)) (map expr_of c.turns.all) c.start-count.result.1 c.turns._turn (toks c.turns.rest.now) (toks c.in_ok-one.after.now) (expr_of c.in_ok-one.one) _ c.turns-test.true (ap not (sym c.is_next.ensures ∙ c.if-not-is_next.false))
+          (behind_goes m.Comma (whole_at c.args.depth) (toks c.turns.rest.now) (toks c.in_ok-after.after.now) (toks c.in_ok-one.after.now) (expr_of c.in_ok-one.one) c.in_ok-after.ensures c.in_ok-one.ensures.value) c.turns.invariant.value);
+    }
+
+pub extend-returns-then-is_next-clause-value : goal.extend-returns-then-is_next-clause-value
+extend-returns-then-is_next-clause-value g t c = runs_out (is_other m.Comma) (behind m.Comma (whole_at c.args.depth)) (map expr_of c.turns.all) (c.start-count.result.1 - c.turns._turn) (toks c.turns.rest.now) _ (omega (arith, c.turns-test.false)) (ap not (sym c.is_next-2.ensures ∙ c.if-is_next.true)) c.turns.invariant.value
+
+pub extend-returns-clause-value : goal.extend-returns-clause-value
+extend-returns-clause-value g t c = stops_at (is_other m.Comma) (behind m.Comma (whole_at c.args.depth)) (map expr_of c.turns.all) (c.start-count.result.1 - c.turns._turn) (toks c.turns.rest.now) _ (ap not (sym c.is_next-2.ensures ∙ c.if-is_next.false)) c.turns.invariant.value
+
+-- ---- operators
+
+pub climb-returns-then-depth-eq0-clause-value : goal.climb-returns-then-depth-eq0-clause-value
+climb-returns-then-depth-eq0-clause-value g t c = rw (none_left c.args.depth c.args.min (toks c.args.tokens.now) c.if-depth-eq0.true) c.sunk.ensures
+
+pub climb-returns-in_err-left-clause-value : goal.climb-returns-in_err-left-clause-value
+climb-returns-in_err-left-clause-value g t c =
+    let p = err_from_is_err_and c.from_residual.result c.from_residual.ensures.1 in
+    rw (p.1, p.2) (fails_along c.in_err-left.field-0.0 _ _ (λ f e. climb_start c.args.depth (c.args.depth - 1) c.args.min (toks c.args.tokens.now) (omega arith) c.requires.operators ∙ rw e refl) c.in_err-left.ensures.value)
+
+pub climb-turns-init : goal.climb-turns-init
+climb-turns-init g t c = record {
+  below = omega arith;
+  within = omega (arith, c.in_ok-left.ensures.within);
+  deep = c.in_ok-left.ensures.deep;
+  value =
+      let n : c.args.depth - 0 ≡ c.args.depth = omega arith in
+      rw n (sym (climb_start c.args.depth (c.args.depth - 1) c.args.min (toks c.args.tokens.now) (omega arith) c.requires.operators ∙ rw (c.in_ok-left.ensures.value) refl));
+}
+
+pub climb-returns-in_default-clause-value : goal.climb-returns-in_default-clause-value
+climb-returns-in_default-clause-value g t c = sym c.turns.invariant.value ∙ loop_none operators (expr_at (c.args.depth - 1)) c.args.min c.args.depth _ _ _ c.in_default.ensures
+
+pub climb-returns-then-deep-depth-clause-value : goal.climb-returns-then-deep-depth-clause-value
+climb-returns-then-deep-depth-clause-value g t c = sym c.turns.invariant.value ∙ loop_deep operators (expr_at (c.args.depth - 1)) c.args.min c.args.depth _ _ _ _ c.in-Some.ensures (omega (arith, c.turns.invariant.deep))
+
+pub climb-returns-in_err-right-clause-value : goal.climb-returns-in_err-right-clause-value
+climb-returns-in_err-right-clause-value g t c =
+    let p = err_from_is_err_and c.from_residual-in_err-right.result c.from_residual-in_err-right.ensures.1 in
+    rw (p.1, p.2) (fails_along c.in_err-right.field-0.0 _ _ (λ f e. turn_fails operators (expr_at (c.args.depth - 1)) c.args.min c.args.depth c.turns._turn (c.precedence.result + 1) (expr_of c.turns.left) _ (c.in-Some.op, toks c.in-Some.after.now) f _ c.turns-test.true (ap (λ n. n + 1) c.precedence.ensures) c.in-Some.ensures (omega (arith, c.turns.invariant.deep)) c.turns.invariant.value e) c.in_err-right.ensures.value)
+
+pub climb-turns-preserved : goal.climb-turns-preserved
+climb-turns-preserved g t c =
+    let op = c.in-Some.op in
+    let left = expr_of c.turns.left in
+    let right = expr_of c.in_ok-right.right in
+    let v : expr_of c.in_ok-left-2.left ≡ infix_node op left right = c.in_ok-left-2.ensures in
+    let most : c.max-deep.result ≡ max c.turns.deep c.in_ok-right.right_deep = c.max-deep.ensures in
+    let left_deep : c.turns.deep ≡ expr_depth left = c.turns.invariant.deep in
+    let right_deep : c.in_ok-right.right_deep ≡ expr_depth right = c.in_ok-right.ensures.deep in
+    let deep : c.max-deep.result + 1 ≡ max (expr_depth left) (expr_depth right) + 1 = omega arith in
+    record {
+      below = omega arith;
+      within = omega (arith, c.in_ok-right.ensures.within);
+      deep = deep ∙ sym (infix_depth op left right) ∙ ap expr_depth (sym v);
+      value =
+          ap (λ e. climb_loop operators (expr_at (c.args.depth - 1)) c.args.min c.args.depth (c.args.depth - (c.turns._turn + 1)) e (toks c.in_ok-right.after.now)) v
+          ∙ turn_goes operators (expr_at (c.args.depth - 1)) c.args.min c.args.depth c.turns._turn (c.precedence.result + 1) left right _ _ (op, toks c.in-Some.after.now) _ c.turns-test.true (ap (λ n. n + 1) c.precedence.ensures) c.in-Some.ensures (omega (arith, c.turns.invariant.deep)) c.turns.invariant.value c.in_ok-right.ensures.value;
+    }
+
+pub climb-returns-in-Some-next_op-clause-value : goal.climb-returns-in-Some-next_op-clause-value
+climb-returns-in-Some-next_op-clause-value g t c = sym c.turns.invariant.value ∙ loop_full operators (expr_at (c.args.depth - 1)) c.args.min c.args.depth _ _ _ _ (omega arith) c.in-Some-next_op.ensures
+
+pub climb-returns-in-None-clause-value : goal.climb-returns-in-None-clause-value
+climb-returns-in-None-clause-value g t c = sym c.turns.invariant.value ∙ loop_none operators (expr_at (c.args.depth - 1)) c.args.min c.args.depth _ _ _ c.in-None.ensures
+
+-- ---- what a condition chooses from
+
+pub chosen-returns-then-not-is_next-clause-value : goal.chosen-returns-then-not-is_next-clause-value
+chosen-returns-then-not-is_next-clause-value g t c = chosen_alone (whole_at c.args.depth) c.args.depth (expr_of c.args.condition) (toks c.args.tokens.now) (sym c.is_next.ensures ∙ c.if-not-is_next.true)
+
+pub chosen-returns-then-deep-depth-clause-value : goal.chosen-returns-then-deep-depth-clause-value
+chosen-returns-then-deep-depth-clause-value g t c = chosen_deep (whole_at c.args.depth) c.args.depth (expr_of c.args.condition) (toks c.args.tokens.now) (sym c.is_next.ensures ∙ c.if-not-is_next.false) (omega (arith, c.requires.measured, c.if-deep-depth.true))
+
+pub chosen-returns-in_err-rest-clause-value : goal.chosen-returns-in_err-rest-clause-value
+chosen-returns-in_err-rest-clause-value g t c =
+    let p = err_from_is_err_and c.from_residual.result c.from_residual.ensures.1 in
+    rw (p.1, p.2) (fails_along c.in_err-rest.field-0.0 _ _ (question_fails (whole_at c.args.depth) c.args.depth (expr_of c.args.condition) (toks c.args.tokens.now) (sym c.is_next.ensures ∙ c.if-not-is_next.false) (omega (arith, c.requires.measured, c.if-deep-depth.false))) c.in_err-rest.ensures)
+
+pub chosen-returns-in_err-then-clause-value : goal.chosen-returns-in_err-then-clause-value
+chosen-returns-in_err-then-clause-value g t c =
+    let p = err_from_is_err_and c.from_residual-in_err-then.result c.from_residual-in_err-then.ensures.1 in
+    rw (p.1, p.2) (fails_along c.in_err-then.field-0.0 _ _ (then_fails (whole_at c.args.depth) c.args.depth (expr_of c.args.condition) (toks c.args.tokens.now) (sym c.is_next.ensures ∙ c.if-not-is_next.false) (omega (arith, c.requires.measured, c.if-deep-depth.false)) (toks c.in_ok-rest.rest.now) c.in_ok-rest.ensures) c.in_err-then.ensures.value)
+
+pub chosen-returns-in_err-rest-2-clause-value : goal.chosen-returns-in_err-rest-2-clause-value
+chosen-returns-in_err-rest-2-clause-value g t c =
+    let p = err_from_is_err_and c.from_residual-in_err-rest-2.result c.from_residual-in_err-rest-2.ensures.1 in
+    rw (p.1, p.2) (fails_along c.in_err-rest-2.field-0.0 _ _ (λ f k. colon_fails (whole_at c.args.depth) c.args.depth (expr_of c.args.condition) (toks c.args.tokens.now) (sym c.is_next.ensures ∙ c.if-not-is_next.false) (omega (arith, c.requires.measured, c.if-deep-depth.false)) (toks c.in_ok-rest.rest.now) c.in_ok-rest.ensures (expr_of c.in_ok-then.then) (toks c.in_ok-then.rest.now) f c.in_ok-then.ensures.value k) c.in_err-rest-2.ensures)
+
+pub chosen-returns-in_err-other-clause-value : goal.chosen-returns-in_err-other-clause-value
+chosen-returns-in_err-other-clause-value g t c =
+    let p = err_from_is_err_and c.from_residual-in_err-other.result c.from_residual-in_err-other.ensures.1 in
+    rw (p.1, p.2) (fails_along c.in_err-other.field-0.0 _ _ (λ f b. other_fails (whole_at c.args.depth) c.args.depth (expr_of c.args.condition) (toks c.args.tokens.now) (sym c.is_next.ensures ∙ c.if-not-is_next.false) (omega (arith, c.requires.measured, c.if-deep-depth.false)) (toks c.in_ok-rest.rest.now) c.in_ok-rest.ensures (expr_of c.in_ok-then.then) (toks c.in_ok-then.rest.now) (toks c.in_ok-rest-2.rest.now) f c.in_ok-then.ensures.value c.in_ok-rest-2.ensures b) c.in_err-other.ensures.value)
+
+pub chosen-returns-clause-value : goal.chosen-returns-clause-value
+chosen-returns-clause-value g t c =
+    chosen_goes (whole_at c.args.depth) c.args.depth (expr_of c.args.condition) (toks c.args.tokens.now) (sym c.is_next.ensures ∙ c.if-not-is_next.false) (omega (arith, c.requires.measured, c.if-deep-depth.false)) (toks c.in_ok-rest.rest.now) c.in_ok-rest.ensures (expr_of c.in_ok-then.then) (expr_of c.in_ok-other.other) (toks c.in_ok-then.rest.now) (toks c.in_ok-rest-2.rest.now) (toks c.in_ok-other.rest.now) c.in_ok-then.ensures.value c.in_ok-rest-2.ensures c.in_ok-other.ensures.value
+    ∙ ap (λ e. Ok (e, toks c.in_ok-other.rest.now)) (sym c.in_ok-conditional.ensures)
+
+pub chosen-returns-clause-deep : goal.chosen-returns-clause-deep
+chosen-returns-clause-deep g t c =
+    let d : expr_depth (expr_of c.in_ok-conditional.field-0) ≡ max (expr_depth (expr_of c.args.condition)) (max (expr_depth (expr_of c.in_ok-then.then)) (expr_depth (expr_of c.in_ok-other.other))) + 1 = ap expr_depth c.in_ok-conditional.ensures in
+    omega (arith, d, c.requires.measured, c.in_ok-then.ensures.deep, c.in_ok-other.ensures.deep, c.max.ensures, c.max-most.ensures)
+
+-- ---- any expression
+
+pub whole-returns-then-depth-eq0-clause-value : goal.whole-returns-then-depth-eq0-clause-value
+whole-returns-then-depth-eq0-clause-value g t c = rw (none_left c.args.depth 0 (toks c.args.tokens.now) c.if-depth-eq0.true) c.sunk.ensures
+
+pub whole-returns-in_err-condition-clause-value : goal.whole-returns-in_err-condition-clause-value
+whole-returns-in_err-condition-clause-value g t c =
+    let p = err_from_is_err_and c.from_residual.result c.from_residual.ensures.1 in
+    rw (p.1, p.2) (fails_along c.in_err-condition.field-0.0 _ _ (λ f e. whole_fails c.args.depth (c.args.depth - 1) (toks c.args.tokens.now) f (omega arith) e) c.in_err-condition.ensures.value)
+
+pub whole-returns-clause-value : goal.whole-returns-clause-value
+whole-returns-clause-value g t c = rw (whole_goes c.args.depth (c.args.depth - 1) (toks c.args.tokens.now) (toks c.in_ok-condition.rest.now) (expr_of c.in_ok-condition.condition) (omega arith) c.in_ok-condition.ensures.value) c.chosen.ensures.value

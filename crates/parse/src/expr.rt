@@ -1,0 +1,359 @@
+//! Expressions: operators by climbing their levels.
+
+ghost use Rattle.std.specs.Prelude.{◌≡◌, ◌^◌, ◌<◌, ◌≤◌, ◌+◌, ◌++◌, map, IfOk};
+ghost use Rattle.lex.specs.Tokens.{toks};
+ghost use Rattle.lex.specs.declared.token.Mark.TheVariants as m;
+ghost use Rattle.syntax.specs.Tree as E;
+ghost use Rattle.syntax.specs.Depth.{expr_depth, deepest};
+ghost use Rattle.syntax.specs.Views.{expr_of, exprs_of};
+ghost use Rattle.parse.specs.Reading.{Fails, Gives, GivesOp, behind, head, is_other, many_until, mapped, next_op, sunk, take};
+ghost use Rattle.parse.specs.Expressions.{arguments, chosen_from, expr_at, named, opened, operand, operators, prefixed, starts_expr, the_constant, the_prefix, whole_at};
+
+use crate::cursor::{expect, is_next, name, spot, start};
+use crate::fault::Stop;
+use crate::lead::{Infix, Operand, infix_of, operand_at, precedence};
+use crate::node;
+use crate::scalar::{scalar, starts_type};
+use containers::Items;
+use lex::token::{Kind, Mark, Span, Token};
+use std::alloc::Allocator;
+use syntax::tree::{Expr, UnaryOp};
+
+// An expression, its depth, and the tokens after it.
+type Found<'t, 'a, A> = (Expr<A>, usize, &'t [Token<'a>]);
+
+// Expressions, the greatest of their depths, and the tokens after them.
+type Listed<'t, 'a, A> = (Items<Expr<A>, A>, usize, &'t [Token<'a>]);
+
+/// Whether an expression begins here.
+pub fn starts_expr(tokens: &[Token]) -> bool
+    ensures { result ≡ starts_expr (head (toks tokens.now)) }
+{
+    match operand_at(tokens) {
+        Operand::None => false,
+        _ => true,
+    }
+}
+
+// Why no expression is read where no depth is left.
+fn sunk<'t, 'a>(tokens: &'t [Token<'a>]) -> Stop<'t, 'a>
+    ensures { Fails result (sunk {A = E.Expr} starts_expr (toks tokens.now)) }
+{
+    if starts_expr(tokens) {
+        Stop::Deep(tokens)
+    } else {
+        Stop::Wrong(tokens)
+    }
+}
+
+// An operator at the front that binds at least as tightly as `min`, and the tokens after it.
+fn next_op<'t, 'a>(tokens: &'t [Token<'a>], min: usize) -> Option<(Infix, &'t [Token<'a>])>
+    ensures { GivesOp result (next_op operators min (toks tokens.now)) }
+{
+    let [first, after @ ..] = tokens else {
+        return None;
+    };
+    let Kind::Fixed(mark) = first.kind else {
+        return None;
+    };
+    let op = infix_of(mark)?;
+    if precedence(op) < min {
+        return None;
+    }
+    Some((op, after))
+}
+
+// A constant.
+fn constant<'t, 'a, A: Allocator>(tokens: &'t [Token<'a>]) -> Result<Found<'t, 'a, A>, Stop<'t, 'a>>
+    ensures value { Gives (λ x. (expr_of x.0, toks x.2.now)) result (take the_constant (toks tokens.now)) }
+    ensures deep { IfOk result (λ x. x.1 ≡ expr_depth (expr_of x.0)) }
+    ensures flat { IfOk result (λ x. x.1 ≡ 1) }
+{
+    match tokens {
+        [first, rest @ ..] => match first.kind {
+            Kind::Constant(n, of) => Ok((Expr::Constant(n, of, first.span), 1, rest)),
+            _ => Err(Stop::Wrong(tokens)),
+        },
+        [] => Err(Stop::Wrong(tokens)),
+    }
+}
+
+// An operator before its operand, and where it stands.
+fn prefix<'t, 'a>(
+    tokens: &'t [Token<'a>],
+) -> Result<((UnaryOp, Span), &'t [Token<'a>]), Stop<'t, 'a>>
+    ensures { Gives (λ x. (x.0, toks x.1.now)) result (take the_prefix (toks tokens.now)) }
+{
+    match tokens {
+        [first, rest @ ..] => match first.kind {
+            Kind::Fixed(Mark::Minus) => Ok(((UnaryOp::Negate, first.span), rest)),
+            Kind::Fixed(Mark::Plus) => Ok(((UnaryOp::Keep, first.span), rest)),
+            Kind::Fixed(Mark::Not) => Ok(((UnaryOp::Not, first.span), rest)),
+            Kind::Fixed(Mark::Complement) => Ok(((UnaryOp::Complement, first.span), rest)),
+            _ => Err(Stop::Wrong(tokens)),
+        },
+        [] => Err(Stop::Wrong(tokens)),
+    }
+}
+
+// An operand behind an operator before it.
+#[cycle(climbing)]
+fn prefixed<'t, 'a, A: Allocator + Copy>(
+    alloc: A,
+    tokens: &'t [Token<'a>],
+    depth: usize,
+) -> Result<Found<'t, 'a, A>, Stop<'t, 'a>>
+    requires { depth < 2 ^ 32 }
+    ensures value { Gives (λ x. (expr_of x.0, toks x.2.now)) result (prefixed (whole_at depth) (expr_at depth 11) (toks tokens.now)) }
+    ensures deep { IfOk result (λ x. x.1 ≡ expr_depth (expr_of x.0)) }
+    ensures within { IfOk result (λ x. x.1 ≤ depth + 1) }
+{
+    let ((op, at), rest) = prefix(tokens)?;
+    let (inner, deep, rest) = climb(alloc, rest, depth, 11)?;
+    Ok((node::unary(alloc, at, op, inner)?, deep + 1, rest))
+}
+
+// A cast, or an expression in parentheses.
+#[cycle(climbing)]
+fn opened<'t, 'a, A: Allocator + Copy>(
+    alloc: A,
+    tokens: &'t [Token<'a>],
+    depth: usize,
+) -> Result<Found<'t, 'a, A>, Stop<'t, 'a>>
+    requires { depth < 2 ^ 32 }
+    ensures value { Gives (λ x. (expr_of x.0, toks x.2.now)) result (opened (whole_at depth) (expr_at depth 11) (toks tokens.now)) }
+    ensures deep { IfOk result (λ x. x.1 ≡ expr_depth (expr_of x.0)) }
+    ensures within { IfOk result (λ x. x.1 ≤ depth + 1) }
+{
+    let (at, rest) = spot(tokens, Mark::OpenParen)?;
+    if starts_type(rest) {
+        let (to, rest) = scalar(rest)?;
+        let rest = expect(rest, Mark::CloseParen)?;
+        let (inner, deep, rest) = climb(alloc, rest, depth, 11)?;
+        return Ok((node::cast(alloc, at, to, inner)?, deep + 1, rest));
+    }
+    let (inner, deep, rest) = whole(alloc, rest, depth)?;
+    let (last, rest) = spot(rest, Mark::CloseParen)?;
+    Ok((node::group(alloc, at, inner, last)?, deep + 1, rest))
+}
+
+// Adds further expressions, each behind a comma, to those that were read.
+#[cycle(climbing)]
+fn extend<'t, 'a, A: Allocator + Copy>(
+    alloc: A,
+    read: Items<Expr<A>, A>,
+    deep: usize,
+    tokens: &'t [Token<'a>],
+    depth: usize,
+) -> Result<Listed<'t, 'a, A>, Stop<'t, 'a>>
+    requires fits { depth < 2 ^ 32 }
+    requires measured { deep ≡ deepest (exprs_of read) }
+    requires shallow { deep ≤ depth }
+    ensures value { Gives (λ x. (map expr_of x.0, toks x.2.now)) result (mapped (λ es. map expr_of read ++ es) (many_until (is_other m.Comma) (behind m.Comma (whole_at depth))) (toks tokens.now)) }
+    ensures deep { IfOk result (λ x. x.1 ≡ deepest (exprs_of x.0)) }
+    ensures within { IfOk result (λ x. x.1 ≤ depth) }
+{
+    let (mut rest, count) = start(tokens);
+    let mut all = read;
+    let mut most = deep;
+    'turns: for _turn in 0..count {
+        if !is_next(rest, Mark::Comma) {
+            return Ok((all, most, rest));
+        }
+        let after = expect(rest, Mark::Comma)?;
+        let (one, one_deep, after) = whole(alloc, after, depth)?;
+        all.push(one)?;
+        most = most.max(one_deep);
+        rest = after;
+    }
+    if is_next(rest, Mark::Comma) {
+        return Err(Stop::Wrong(rest));
+    }
+    Ok((all, most, rest))
+}
+
+// A call's arguments.
+#[cycle(climbing)]
+fn arguments<'t, 'a, A: Allocator + Copy>(
+    alloc: A,
+    tokens: &'t [Token<'a>],
+    depth: usize,
+) -> Result<Listed<'t, 'a, A>, Stop<'t, 'a>>
+    requires { depth < 2 ^ 32 }
+    ensures value { Gives (λ x. (map expr_of x.0, toks x.2.now)) result (arguments (whole_at depth) (expr_at depth 11) (toks tokens.now)) }
+    ensures deep { IfOk result (λ x. x.1 ≡ deepest (exprs_of x.0)) }
+    ensures within { IfOk result (λ x. x.1 ≤ depth) }
+{
+    let mut args = Items::new(alloc);
+    if is_next(tokens, Mark::CloseParen) {
+        return Ok((args, 0, tokens));
+    }
+    let (first, deep, rest) = whole(alloc, tokens, depth)?;
+    args.push(first)?;
+    extend(alloc, args, deep, rest, depth)
+}
+
+// A name, with an index or arguments where there are any.
+#[cycle(climbing)]
+fn named<'t, 'a, A: Allocator + Copy>(
+    alloc: A,
+    tokens: &'t [Token<'a>],
+    depth: usize,
+) -> Result<Found<'t, 'a, A>, Stop<'t, 'a>>
+    requires { depth < 2 ^ 32 }
+    ensures value { Gives (λ x. (expr_of x.0, toks x.2.now)) result (named (whole_at depth) (expr_at depth 11) (toks tokens.now)) }
+    ensures deep { IfOk result (λ x. x.1 ≡ expr_depth (expr_of x.0)) }
+    ensures within { IfOk result (λ x. x.1 ≤ depth + 1) }
+{
+    let (name, rest) = name(alloc, tokens)?;
+    if is_next(rest, Mark::OpenBracket) {
+        let rest = expect(rest, Mark::OpenBracket)?;
+        let (index, deep, rest) = whole(alloc, rest, depth)?;
+        let (last, rest) = spot(rest, Mark::CloseBracket)?;
+        return Ok((node::element(alloc, name, index, last)?, deep + 1, rest));
+    }
+    if is_next(rest, Mark::OpenParen) {
+        let rest = expect(rest, Mark::OpenParen)?;
+        let (args, deep, rest) = arguments(alloc, rest, depth)?;
+        let (last, rest) = spot(rest, Mark::CloseParen)?;
+        return Ok((node::call(name, args, last), deep + 1, rest));
+    }
+    Ok((Expr::Variable(name), 1, rest))
+}
+
+// An operand of an operator.
+#[cycle(climbing)]
+fn operand<'t, 'a, A: Allocator + Copy>(
+    alloc: A,
+    tokens: &'t [Token<'a>],
+    depth: usize,
+) -> Result<Found<'t, 'a, A>, Stop<'t, 'a>>
+    requires { depth < 2 ^ 32 }
+    ensures value { Gives (λ x. (expr_of x.0, toks x.2.now)) result (operand (whole_at depth) (expr_at depth 11) (toks tokens.now)) }
+    ensures deep { IfOk result (λ x. x.1 ≡ expr_depth (expr_of x.0)) }
+    ensures within { IfOk result (λ x. x.1 ≤ depth + 1) }
+{
+    match operand_at(tokens) {
+        Operand::Name => named(alloc, tokens, depth),
+        Operand::Constant => constant(tokens),
+        Operand::Open => opened(alloc, tokens, depth),
+        Operand::Prefix => prefixed(alloc, tokens, depth),
+        Operand::None => Err(Stop::Wrong(tokens)),
+    }
+}
+
+// Operands, and operators that bind at least as tightly as `min`, which is 1 or more.
+#[cycle(climbing)]
+fn climb<'t, 'a, A: Allocator + Copy>(
+    alloc: A,
+    tokens: &'t [Token<'a>],
+    depth: usize,
+    min: usize,
+) -> Result<Found<'t, 'a, A>, Stop<'t, 'a>>
+    requires fits { depth < 2 ^ 32 }
+    requires operators { 1 ≤ min }
+    ensures value { Gives (λ x. (expr_of x.0, toks x.2.now)) result (expr_at depth min (toks tokens.now)) }
+    ensures deep { IfOk result (λ x. x.1 ≡ expr_depth (expr_of x.0)) }
+    ensures within { IfOk result (λ x. x.1 ≤ depth) }
+{
+    if depth == 0 {
+        return Err(sunk(tokens));
+    }
+    let below = depth - 1;
+    let (mut left, mut deep, mut rest) = operand(alloc, tokens, below)?;
+    'turns: for _turn in 0..depth {
+        let Some((op, after)) = next_op(rest, min) else {
+            return Ok((left, deep, rest));
+        };
+        if deep >= depth {
+            return Err(Stop::Deep(rest));
+        }
+        let (right, right_deep, after) = climb(alloc, after, below, precedence(op) + 1)?;
+        left = node::infix(alloc, op, left, right)?;
+        deep = deep.max(right_deep) + 1;
+        rest = after;
+    }
+    match next_op(rest, min) {
+        Some(_) => Err(Stop::Deep(rest)),
+        None => Ok((left, deep, rest)),
+    }
+}
+
+// A condition and what it chooses from, or where no `?` follows the expression alone.
+#[cycle(climbing)]
+fn chosen<'t, 'a, A: Allocator + Copy>(
+    alloc: A,
+    condition: Expr<A>,
+    deep: usize,
+    tokens: &'t [Token<'a>],
+    depth: usize,
+) -> Result<Found<'t, 'a, A>, Stop<'t, 'a>>
+    requires fits { depth < 2 ^ 32 }
+    requires measured { deep ≡ expr_depth (expr_of condition) }
+    requires shallow { deep ≤ depth + 1 }
+    ensures value { Gives (λ x. (expr_of x.0, toks x.2.now)) result (chosen_from (whole_at depth) depth (expr_of condition) (toks tokens.now)) }
+    ensures deep { IfOk result (λ x. x.1 ≡ expr_depth (expr_of x.0)) }
+    ensures within { IfOk result (λ x. x.1 ≤ depth + 1) }
+{
+    if !is_next(tokens, Mark::Question) {
+        return Ok((condition, deep, tokens));
+    }
+    if deep > depth {
+        return Err(Stop::Deep(tokens));
+    }
+    let rest = expect(tokens, Mark::Question)?;
+    let (then, then_deep, rest) = whole(alloc, rest, depth)?;
+    let rest = expect(rest, Mark::Colon)?;
+    let (other, other_deep, rest) = whole(alloc, rest, depth)?;
+    let most = deep.max(then_deep.max(other_deep));
+    Ok((
+        node::conditional(alloc, condition, then, other)?,
+        most + 1,
+        rest,
+    ))
+}
+
+// Any expression within a depth.
+#[cycle(climbing)]
+fn whole<'t, 'a, A: Allocator + Copy>(
+    alloc: A,
+    tokens: &'t [Token<'a>],
+    depth: usize,
+) -> Result<Found<'t, 'a, A>, Stop<'t, 'a>>
+    requires { depth < 2 ^ 32 }
+    ensures value { Gives (λ x. (expr_of x.0, toks x.2.now)) result (whole_at depth (toks tokens.now)) }
+    ensures deep { IfOk result (λ x. x.1 ≡ expr_depth (expr_of x.0)) }
+    ensures within { IfOk result (λ x. x.1 ≤ depth) }
+{
+    if depth == 0 {
+        return Err(sunk(tokens));
+    }
+    let (condition, deep, rest) = climb(alloc, tokens, depth, 1)?;
+    chosen(alloc, condition, deep, rest, depth - 1)
+}
+
+/// Any expression within a depth.
+pub fn expression<'t, 'a, A: Allocator + Copy>(
+    alloc: A,
+    tokens: &'t [Token<'a>],
+    depth: usize,
+) -> Result<(Expr<A>, &'t [Token<'a>]), Stop<'t, 'a>>
+    requires { depth < 2 ^ 32 }
+    ensures { Gives (λ x. (expr_of x.0, toks x.1.now)) result (whole_at depth (toks tokens.now)) }
+{
+    let (e, _, rest) = whole(alloc, tokens, depth)?;
+    Ok((e, rest))
+}
+
+/// Further expressions within a depth, each behind a comma.
+pub fn further<'t, 'a, A: Allocator + Copy>(
+    alloc: A,
+    tokens: &'t [Token<'a>],
+    depth: usize,
+) -> Result<(Items<Expr<A>, A>, &'t [Token<'a>]), Stop<'t, 'a>>
+    requires { depth < 2 ^ 32 }
+    ensures { Gives (λ x. (map expr_of x.0, toks x.1.now)) result (many_until (is_other m.Comma) (behind m.Comma (whole_at depth)) (toks tokens.now)) }
+{
+    let (all, _, rest) = extend(alloc, Items::new(alloc), 0, tokens, depth)?;
+    Ok((all, rest))
+}

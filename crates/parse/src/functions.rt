@@ -1,0 +1,163 @@
+//! Prototypes and definitions of functions.
+
+ghost use Rattle.std.specs.Prelude.{◌≡◌, ◌<◌, ◌^◌, map, option_map};
+ghost use Rattle.lex.specs.Tokens.{toks};
+ghost use Rattle.lex.specs.declared.token.Mark.TheVariants as m;
+ghost use Rattle.syntax.specs.Views.{name_of, parameter_of, stmts_of, item_of};
+ghost use Rattle.syntax.specs.Grammar.{the_name};
+ghost use Rattle.parse.specs.Reading.{Gives, behind, listed, head};
+ghost use Rattle.parse.specs.Expressions.{says};
+ghost use Rattle.parse.specs.Items.{parameter, parameter_list, parameters, are_named, body_at, function_at, header};
+ghost use Rattle.parse.specs.Items as items;
+ghost use Rattle.parse.specs.Headings.{heading_of};
+
+use crate::attributes::attributes;
+use crate::cursor::{expect, is_next, name};
+use crate::fault::Stop;
+use crate::scalar::scalar;
+use containers::Items;
+use lex::token::{Kind, Mark, Scalar, Token};
+use std::alloc::Allocator;
+use syntax::tree::{Attribute, Name, Parameter};
+
+/// What stands before a function's parameters, or up to the first global's name.
+#[derive(Drop)]
+pub struct Heading<A: Allocator> {
+    pub attributes: Items<Attribute, A>,
+
+    /// `None` for `void`.
+    pub result: Option<Scalar>,
+    pub name: Name<A>,
+}
+
+// The type of a function's value, or `void`.
+fn result<'t, 'a>(
+    tokens: &'t [Token<'a>],
+) -> Result<(Option<Scalar>, &'t [Token<'a>]), Stop<'t, 'a>>
+    ensures { Gives (λ x. (x.0, toks x.1.now)) result (items.result (toks tokens.now)) }
+{
+    if is_next(tokens, Mark::Void) {
+        let rest = expect(tokens, Mark::Void)?;
+        return Ok((None, rest));
+    }
+    let (of, rest) = scalar(tokens)?;
+    Ok((Some(of), rest))
+}
+
+/// What an item begins with.
+pub fn header<'t, 'a, A: Allocator + Copy>(
+    alloc: A,
+    tokens: &'t [Token<'a>],
+) -> Result<(Heading<A>, &'t [Token<'a>]), Stop<'t, 'a>>
+    ensures { Gives (λ x. (heading_of x.0, toks x.1.now)) result (header (toks tokens.now)) }
+{
+    let (attributes, rest) = attributes(alloc, tokens)?;
+    let (result, rest) = result(rest)?;
+    let (name, rest) = name(alloc, rest)?;
+    Ok((
+        Heading {
+            attributes,
+            result,
+            name,
+        },
+        rest,
+    ))
+}
+
+fn is_name(tokens: &[Token]) -> bool
+    ensures { result ≡ says the_name (head (toks tokens.now)) }
+{
+    match tokens {
+        [first, ..] => matches!(first.kind, Kind::Name(_)),
+        [] => false,
+    }
+}
+
+// A parameter, which may have no name.
+fn parameter<'t, 'a, A: Allocator + Copy>(
+    alloc: A,
+    tokens: &'t [Token<'a>],
+) -> Result<(Parameter<A>, &'t [Token<'a>]), Stop<'t, 'a>>
+    ensures { Gives (λ x. (parameter_of x.0, toks x.1.now)) result (parameter (toks tokens.now)) }
+{
+    let (of, rest) = scalar(tokens)?;
+    if is_name(rest) {
+        let (name, rest) = name(alloc, rest)?;
+        let name = Some(name);
+        return Ok((Parameter { of, name }, rest));
+    }
+    Ok((Parameter { of, name: None }, rest))
+}
+
+// A further parameter, behind its comma.
+fn another<'t, 'a, A: Allocator + Copy>(
+    alloc: A,
+    tokens: &'t [Token<'a>],
+) -> Result<(Parameter<A>, &'t [Token<'a>]), Stop<'t, 'a>>
+    ensures { Gives (λ x. (parameter_of x.0, toks x.1.now)) result (behind m.Comma parameter (toks tokens.now)) }
+{
+    let rest = expect(tokens, Mark::Comma)?;
+    let (one, rest) = parameter(alloc, rest)?;
+    Ok((one, rest))
+}
+
+// One parameter or more, with commas between.
+fn several<'t, 'a, A: Allocator + Copy>(
+    alloc: A,
+    tokens: &'t [Token<'a>],
+) -> Result<(Items<Parameter<A>, A>, &'t [Token<'a>]), Stop<'t, 'a>>
+    ensures { Gives (λ x. (map parameter_of x.0, toks x.1.now)) result (listed parameter (toks tokens.now)) }
+{
+    let (first, inner) = parameter(alloc, tokens)?;
+    let mut all = Items::new(alloc);
+    all.push(first)?;
+    let mut rest = inner;
+    'turns: for _turn in 0..inner.len() {
+        if !is_next(rest, Mark::Comma) {
+            return Ok((all, rest));
+        }
+        let (one, after) = another(alloc, rest)?;
+        all.push(one)?;
+        rest = after;
+    }
+    if is_next(rest, Mark::Comma) {
+        return Err(Stop::Wrong(rest));
+    }
+    Ok((all, rest))
+}
+
+// What stands between the parentheses: nothing, `void`, or parameters.
+fn parameter_list<'t, 'a, A: Allocator + Copy>(
+    alloc: A,
+    tokens: &'t [Token<'a>],
+) -> Result<(Items<Parameter<A>, A>, &'t [Token<'a>]), Stop<'t, 'a>>
+    ensures { Gives (λ x. (map parameter_of x.0, toks x.1.now)) result (parameter_list (toks tokens.now)) }
+{
+    if is_next(tokens, Mark::CloseParen) {
+        return Ok((Items::new(alloc), tokens));
+    }
+    if is_next(tokens, Mark::Void) {
+        let rest = expect(tokens, Mark::Void)?;
+        return Ok((Items::new(alloc), rest));
+    }
+    several(alloc, tokens)
+}
+
+fn parameters<'t, 'a, A: Allocator + Copy>(
+    alloc: A,
+    tokens: &'t [Token<'a>],
+) -> Result<(Items<Parameter<A>, A>, &'t [Token<'a>]), Stop<'t, 'a>>
+    ensures { Gives (λ x. (map parameter_of x.0, toks x.1.now)) result (parameters (toks tokens.now)) }
+{
+    let rest = expect(tokens, Mark::OpenParen)?;
+    let (all, rest) = parameter_list(alloc, rest)?;
+    let rest = expect(rest, Mark::CloseParen)?;
+    Ok((all, rest))
+}
+
+// Whether each of them has a name.
+fn are_named<A: Allocator>(parameters: &[Parameter<A>]) -> bool
+    ensures { result ≡ are_named (map parameter_of parameters.now) }
+{
+    parameters.iter().all(|parameter| parameter.name.is_some())
+}

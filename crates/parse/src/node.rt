@@ -1,0 +1,136 @@
+//! Nodes of an expression, by their parts.
+
+ghost use Rattle.std.specs.Prelude.{◌≡◌, IfOk};
+ghost use Rattle.syntax.specs.Tree.{Element, Call, Parenthesized, Cast, Unary, Conditional};
+ghost use Rattle.syntax.specs.Typing.{span_of};
+ghost use Rattle.syntax.specs.Views.{expr_of, exprs_of, name_of};
+ghost use Rattle.parse.specs.Reading.{across};
+ghost use Rattle.parse.specs.Expressions.{infix_node};
+
+use crate::lead::Infix;
+use containers::{Boxed, Items};
+use lex::token::{Scalar, Span};
+use std::alloc::{AllocError, Allocator};
+use syntax::tree::{Expr, Name, UnaryOp};
+
+/// From the start of one place to the end of another.
+pub fn across(first: Span, last: Span) -> Span
+    ensures { result ≡ across first last }
+{
+    Span {
+        start: first.start,
+        end: last.end,
+    }
+}
+
+/// Where an expression stands.
+pub fn span_of<A: Allocator>(e: &Expr<A>) -> Span
+    ensures { result ≡ span_of (expr_of e.now) }
+{
+    match e {
+        Expr::Variable(name) => name.span,
+        Expr::Constant(_, _, at)
+        | Expr::Element(_, _, at)
+        | Expr::Call(_, _, at)
+        | Expr::Parenthesized(_, at)
+        | Expr::Cast(_, _, at)
+        | Expr::Unary(_, _, at)
+        | Expr::Binary(_, _, _, at)
+        | Expr::Logical(_, _, _, at)
+        | Expr::Conditional(_, _, _, at) => *at,
+    }
+}
+
+/// An element of an array, up to the place of its closing bracket.
+pub fn element<A: Allocator + Copy>(
+    alloc: A,
+    name: Name<A>,
+    index: Expr<A>,
+    last: Span,
+) -> Result<Expr<A>, AllocError>
+    ensures { IfOk result (λ e. expr_of e ≡ Element (name_of name) (expr_of index) (across name.span last)) }
+{
+    let at = across(name.span, last);
+    Ok(Expr::Element(name, Boxed::new(alloc, index)?, at))
+}
+
+/// A call, up to the place of its closing parenthesis.
+pub fn call<A: Allocator>(name: Name<A>, args: Items<Expr<A>, A>, last: Span) -> Expr<A>
+    ensures { expr_of result ≡ Call (name_of name) (exprs_of args) (across name.span last) }
+{
+    let at = across(name.span, last);
+    Expr::Call(name, args, at)
+}
+
+/// An expression in parentheses, which stand at these places.
+pub fn group<A: Allocator + Copy>(
+    alloc: A,
+    first: Span,
+    inner: Expr<A>,
+    last: Span,
+) -> Result<Expr<A>, AllocError>
+    ensures { IfOk result (λ e. expr_of e ≡ Parenthesized (expr_of inner) (across first last)) }
+{
+    let at = across(first, last);
+    Ok(Expr::Parenthesized(Boxed::new(alloc, inner)?, at))
+}
+
+/// A cast of an operand, from the place of its opening parenthesis.
+pub fn cast<A: Allocator + Copy>(
+    alloc: A,
+    first: Span,
+    to: Scalar,
+    inner: Expr<A>,
+) -> Result<Expr<A>, AllocError>
+    ensures { IfOk result (λ e. expr_of e ≡ Cast to (expr_of inner) (across first (span_of (expr_of inner)))) }
+{
+    let at = across(first, span_of(&inner));
+    Ok(Expr::Cast(to, Boxed::new(alloc, inner)?, at))
+}
+
+/// An operator, which stands at a place, and its operand.
+pub fn unary<A: Allocator + Copy>(
+    alloc: A,
+    first: Span,
+    op: UnaryOp,
+    inner: Expr<A>,
+) -> Result<Expr<A>, AllocError>
+    ensures { IfOk result (λ e. expr_of e ≡ Unary op (expr_of inner) (across first (span_of (expr_of inner)))) }
+{
+    let at = across(first, span_of(&inner));
+    Ok(Expr::Unary(op, Boxed::new(alloc, inner)?, at))
+}
+
+/// An operator between its operands.
+pub fn infix<A: Allocator + Copy>(
+    alloc: A,
+    op: Infix,
+    left: Expr<A>,
+    right: Expr<A>,
+) -> Result<Expr<A>, AllocError>
+    ensures { IfOk result (λ e. expr_of e ≡ infix_node op (expr_of left) (expr_of right)) }
+{
+    let at = across(span_of(&left), span_of(&right));
+    let left = Boxed::new(alloc, left)?;
+    let right = Boxed::new(alloc, right)?;
+    match op {
+        Infix::Computing(op) => Ok(Expr::Binary(op, left, right, at)),
+        Infix::Choosing(op) => Ok(Expr::Logical(op, left, right, at)),
+    }
+}
+
+/// A condition, and the expressions that it chooses from.
+pub fn conditional<A: Allocator + Copy>(
+    alloc: A,
+    condition: Expr<A>,
+    then: Expr<A>,
+    other: Expr<A>,
+) -> Result<Expr<A>, AllocError>
+    ensures { IfOk result (λ e. expr_of e ≡ Conditional (expr_of condition) (expr_of then) (expr_of other) (across (span_of (expr_of condition)) (span_of (expr_of other)))) }
+{
+    let at = across(span_of(&condition), span_of(&other));
+    let condition = Boxed::new(alloc, condition)?;
+    let then = Boxed::new(alloc, then)?;
+    let other = Boxed::new(alloc, other)?;
+    Ok(Expr::Conditional(condition, then, other, at))
+}
