@@ -4,7 +4,7 @@ use Rattle.lex.specs.{declared.token.Mark.Mark, Tokens.Terminal, Tokens.Tok, Tok
 use Rattle.lex.specs.declared.token.Mark.TheVariants as m
 use Rattle.syntax.specs.Tree.{Span, Scalar, Int, Unsigned, UnaryOp, Negate, Keep, Not, Complement, BinaryOp, Or, Xor, And, Equal, NotEqual, Less, Greater, LessEqual, GreaterEqual, ShiftLeft, ShiftRight, Add, Subtract, Multiply, Divide, Remainder, LogicalOp, AndThen, OrElse, Step, Up, Down, Mode, Atomic, Relaxed, Attribute, Safe, Unsafe, Callable, First, Name, Expr, Exprs, Variable, Constant, Element, Call, Parenthesized, Cast, Unary, Binary, Logical, Conditional, Simple, Value, Assign, Change, Declarator, Declaration, Start, Nothing, Declares, Does, Stmt, Stmts, Empty, Declare, Do, Block, Print, If, IfElse, While, DoWhile, For, Break, Continue, Return, Transaction, Cancel, Parameter, Function, Global, Item, Defines, Shares, Program}
 use Rattle.syntax.specs.Depth.{program_depth}
-use Rattle.syntax.specs.Phrases.{Phrase, One, Nil, never, ◌⨾◌, ◌∣◌, given, Many, Is, Keyword, Listed, spanning, end_of}
+use Rattle.syntax.specs.Phrases.{Phrase, One, Nil, never, ◌⨾◌, ◌∣◌, given, Many, Is, Keyword, Listed, spanning, end_of, Begins}
 
 -- ---- what single tokens say
 
@@ -349,6 +349,10 @@ pub record Source : Type 0 where
 
 abbrev pub Spells : Source → Phrase
 Spells s ts = Many item s.program ts × (s.ends ≡ end_of ts)
+
+-- tokens with which some program begins
+abbrev pub BeginsProgram : Phrase
+BeginsProgram = Begins Spells
 
 -- how deep a program may be
 abbrev pub deepest_program : ℕ
