@@ -11,14 +11,15 @@ ghost use Rattle.parse.specs.Items.{parameter, parameter_list, parameters, are_n
 ghost use Rattle.parse.specs.Items as items;
 ghost use Rattle.parse.specs.Headings.{heading_of};
 
-use crate::attributes::attributes;
+use crate::attributes::{attributes, joined};
 use crate::cursor::{expect, is_next, name};
 use crate::fault::Stop;
 use crate::scalar::scalar;
+use crate::stmt::block;
 use containers::Items;
 use lex::token::{Kind, Mark, Scalar, Token};
 use std::alloc::Allocator;
-use syntax::tree::{Attribute, Name, Parameter};
+use syntax::tree::{Attribute, Function, Item, Name, Parameter, Stmt};
 
 /// What stands before a function's parameters, or up to the first global's name.
 #[derive(Drop)]
@@ -160,4 +161,50 @@ fn are_named<A: Allocator>(parameters: &[Parameter<A>]) -> bool
     ensures { result ≡ are_named (map parameter_of parameters.now) }
 {
     parameters.iter().all(|parameter| parameter.name.is_some())
+}
+
+// A prototype's end, or a body where the parameters allow one.
+fn body<'t, 'a, A: Allocator + Copy>(
+    alloc: A,
+    tokens: &'t [Token<'a>],
+    depth: usize,
+    parameters: &[Parameter<A>],
+) -> Result<(Option<Items<Stmt<A>, A>>, &'t [Token<'a>]), Stop<'t, 'a>>
+    requires { depth < 2 ^ 32 }
+    ensures { Gives (λ x. (option_map stmts_of x.0, toks x.1.now)) result (body_at depth (map parameter_of parameters.now) (toks tokens.now)) }
+{
+    if !is_next(tokens, Mark::OpenBrace) {
+        let rest = expect(tokens, Mark::Semicolon)?;
+        return Ok((None, rest));
+    }
+    if !are_named(parameters) {
+        return Err(Stop::Wrong(tokens));
+    }
+    let (body, rest) = block(alloc, tokens, depth)?;
+    Ok((Some(body), rest))
+}
+
+/// A function, behind its header.
+pub fn function<'t, 'a, A: Allocator + Copy>(
+    alloc: A,
+    tokens: &'t [Token<'a>],
+    depth: usize,
+    heading: Heading<A>,
+) -> Result<(Item<A>, &'t [Token<'a>]), Stop<'t, 'a>>
+    requires { depth < 2 ^ 32 }
+    ensures { Gives (λ x. (item_of x.0, toks x.1.now)) result (function_at depth (heading_of heading) (toks tokens.now)) }
+{
+    let (parameters, rest) = parameters(alloc, tokens)?;
+    let (more, rest) = attributes(alloc, rest)?;
+    let (body, rest) = body(alloc, rest, depth, parameters.as_slice())?;
+    Ok((
+        Item::Function(Function {
+            attributes: joined(heading.attributes, more)?,
+            result: heading.result,
+            name: heading.name,
+            parameters,
+            body,
+        }),
+        rest,
+    ))
 }

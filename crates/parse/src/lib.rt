@@ -10,5 +10,8 @@ mod globals;
 mod lead;
 mod node;
 mod scalar;
+mod stmt;
+mod unit;
 
 pub use fault::ParseFault;
+pub use unit::{one_tree, parse};

@@ -1,0 +1,5 @@
+use Rattle.parse.proofs.Sources.{one_source}
+use Rattle.parse.proofs.unit.one_tree.Goals as goal
+
+pub returns : goal.returns
+returns c = one_source

@@ -1,0 +1,128 @@
+//! A whole list of tokens.
+
+ghost use Rattle.std.specs.Prelude.{◌≡◌, ◌≤◌, ◌<◌, ◌^◌, List, map, IfOk, IfErr, IsErr};
+ghost use Rattle.lex.specs.Tokens.{Tok, toks};
+ghost use Rattle.syntax.specs.Views.{item_of};
+ghost use Rattle.syntax.specs.Phrases.{end_of};
+ghost use Rattle.syntax.specs.Grammar.{Source, Spells, source_depth, deepest_program};
+ghost use Rattle.parse.specs.Reading.{Gives};
+ghost use Rattle.parse.specs.Items.{shared_from, item_at, whole_program};
+ghost use Rattle.parse.specs.Headings.{heading_of};
+ghost use Rattle.parse.specs.Faults.{IsFaultOf, Finds, source_of};
+
+use crate::cursor::{is_next, start};
+use crate::fault::{ParseFault, Stop};
+use crate::functions::{Heading, function, header};
+use crate::globals::globals;
+use containers::Items;
+use lex::token::{Mark, Span, Token};
+use std::alloc::Allocator;
+use syntax::tree::{Item, Unit};
+
+/// How deep a program may be.
+const DEEPEST: usize = 100;
+
+// Globals, where they have a type and no attributes.
+fn shared<'t, 'a, A: Allocator + Copy>(
+    alloc: A,
+    tokens: &'t [Token<'a>],
+    heading: Heading<A>,
+) -> Result<(Item<A>, &'t [Token<'a>]), Stop<'t, 'a>>
+    ensures { Gives (λ x. (item_of x.0, toks x.1.now)) result (shared_from (heading_of heading) (toks tokens.now)) }
+{
+    if !heading.attributes.is_empty() {
+        return Err(Stop::Wrong(tokens));
+    }
+    match heading.result {
+        Some(of) => globals(alloc, tokens, of, heading.name),
+        None => Err(Stop::Wrong(tokens)),
+    }
+}
+
+fn item<'t, 'a, A: Allocator + Copy>(
+    alloc: A,
+    tokens: &'t [Token<'a>],
+    depth: usize,
+) -> Result<(Item<A>, &'t [Token<'a>]), Stop<'t, 'a>>
+    requires { depth < 2 ^ 32 }
+    ensures { Gives (λ x. (item_of x.0, toks x.1.now)) result (item_at depth (toks tokens.now)) }
+{
+    let (heading, rest) = header(alloc, tokens)?;
+    if is_next(rest, Mark::OpenParen) {
+        let (item, rest) = function(alloc, rest, depth, heading)?;
+        return Ok((item, rest));
+    }
+    let (item, rest) = shared(alloc, rest, heading)?;
+    Ok((item, rest))
+}
+
+// A program that the tokens spell to their end.
+fn program<'t, 'a, A: Allocator + Copy>(
+    alloc: A,
+    tokens: &'t [Token<'a>],
+    depth: usize,
+) -> Result<Items<Item<A>, A>, Stop<'t, 'a>>
+    requires { depth < 2 ^ 32 }
+    ensures { Gives (λ x. map item_of x) result (whole_program depth (toks tokens.now)) }
+{
+    let (mut rest, count) = start(tokens);
+    let mut all = Items::new(alloc);
+    'turns: for _turn in 0..count {
+        if rest.is_empty() {
+            return Ok(all);
+        }
+        let (one, after) = item(alloc, rest, depth)?;
+        all.push(one)?;
+        rest = after;
+    }
+    if rest.is_empty() {
+        Ok(all)
+    } else {
+        Err(Stop::Wrong(rest))
+    }
+}
+
+// Where the last token ends, or 0 where there is none.
+fn end_of(tokens: &[Token]) -> usize
+    ensures { result ≡ end_of (toks tokens.now) }
+{
+    match tokens {
+        [.., last] => last.span.end,
+        [] => 0,
+    }
+}
+
+/// The program that the tokens spell, all of them.
+///
+/// The tree owns its names: it outlives the tokens and their text. Only a refused growth can stop it where the tokens
+/// spell a program within the depth of 100.
+pub fn parse<A: Allocator + Copy>(alloc: A, tokens: &[Token<'_>]) -> Result<Unit<A>, ParseFault>
+    // It is spelled so, within the depth.
+    ensures found { IfOk result (λ u. Spells (source_of u) (toks tokens.now) × (source_depth (source_of u) ≤ deepest_program)) }
+    // Which fault comes, and at which token.
+    ensures fault { IfErr result (λ f. IsFaultOf (toks tokens.now) f) }
+    // What is spelled within the depth is found.
+    ensures complete { (s : Source) → Spells s (toks tokens.now) → source_depth s ≤ deepest_program → Finds s result }
+    // What is spelled deeper is refused.
+    ensures refused { (s : Source) → Spells s (toks tokens.now) → deepest_program < source_depth s → IsErr result }
+{
+    match program(alloc, tokens, DEEPEST) {
+        Ok(items) => Ok(Unit {
+            items,
+            end: end_of(tokens),
+        }),
+        Err(Stop::Memory) => Err(ParseFault::OutOfMemory),
+        Err(Stop::Wrong([])) => {
+            let end = end_of(tokens);
+            Err(ParseFault::Unfinished(Span { start: end, end }))
+        }
+        Err(Stop::Wrong([token, ..])) => Err(ParseFault::Unexpected(token.span)),
+        Err(Stop::Deep([token, ..])) => Err(ParseFault::TooDeep(token.span)),
+        Err(Stop::Deep([])) => unreachable!(),
+    }
+}
+
+/// No list of tokens spells two programs.
+pub fn one_tree()
+    ensures { (ts : List Tok) (a b : Source) → Spells a ts → Spells b ts → a ≡ b }
+{}
