@@ -31,3 +31,6 @@ pub mod Leads
 pub mod Entries
 pub mod Compounds
 pub mod Stmts
+pub mod Rounds
+pub mod Within
+pub mod Nodes

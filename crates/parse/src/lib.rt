@@ -9,7 +9,9 @@ mod functions;
 mod globals;
 mod lead;
 mod node;
+mod plain;
 mod scalar;
+mod simple;
 mod stmt;
 mod unit;
 

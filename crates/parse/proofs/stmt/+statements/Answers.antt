@@ -1,0 +1,143 @@
+use Rattle.std.proofs.Common.{◌≡◌, ◌-◌, ◌++◌, ◌∷◌, [], Ok, true, length, map, option_map, refl, sym, ap, ◌∙◌, arith, ◌⊎◌, inl, inr}
+use Rattle.std.proofs.lemmas.Result.{err_from_is_err_and}
+use Rattle.std.proofs.lemmas.List.{map_push}
+use Rattle.lex.specs.declared.token.Mark.TheVariants as m
+use Rattle.lex.specs.Tokens.{toks}
+use Rattle.syntax.specs.declared.tree.Stmt as S
+use Rattle.syntax.specs.Views.{expr_of, declaration_of, stmt_of}
+use Rattle.syntax.proofs.Seen.{stmt_of_declare, stmt_of_block, stmt_of_transaction}
+use Rattle.parse.specs.declared.lead.Lead.TheVariants as lead
+use Rattle.parse.specs.Reading.{head, spot, is_next}
+use Rattle.parse.specs.Statements.{entry, stmt_at}
+use Rattle.parse.proofs.Climbing.{fails_along}
+use Rattle.parse.proofs.Within.{stmt_none, stmt_deep, stmt_start, block_none, block_deep, block_start, nested_is, nested_fails, does_is, entry_is}
+use Rattle.parse.proofs.Loops.{all_turns}
+use Rattle.parse.proofs.Braces.{expect_not, braced_is}
+use Rattle.parse.proofs.Nodes.{chosen_is, stmt_of_any_if, counted_fails, counted_is, transaction_is}
+use Rattle.parse.proofs.Rounds.{round_starts, round_goes, round_fails, round_bad, round_good}
+use Rattle.parse.proofs.stmt.+statements.Goals.{block-else-turns-test, block-then-turns-test+then-is_next}
+use Rattle.parse.proofs.stmt.+statements.Goals as goal
+
+pub block-returns-in_err-inner : goal.block-returns-in_err-inner
+block-returns-in_err-inner g t c =
+    let p = err_from_is_err_and c.from_residual.result c.from_residual.ensures.1 in
+    rw (p.1, p.2) (fails_along c.in_err-inner.field-0.0 _ _ (λ f e. block_none c.args.depth (toks c.args.tokens.now) f e) c.in_err-inner.ensures)
+
+pub block-returns-then-depth-eq0 : goal.block-returns-then-depth-eq0
+block-returns-then-depth-eq0 g t c = block_deep c.args.depth (toks c.args.tokens.now) (toks c.in_ok-inner.inner.now) c.if-depth-eq0.true c.in_ok-inner.ensures
+
+pub block-turns-init : goal.block-turns-init
+block-turns-init g t c =
+    let b = c.args.depth - 1 in
+    record {
+      long = refl;
+      value = rw c.new-all.ensures (round_starts (is_next m.CloseBrace) (entry b (stmt_at b)) m.CloseBrace _ (toks c.in_ok-inner.inner.now) _ (all_turns c.in_ok-inner.inner.now)
+          (sym (block_start c.args.depth b (toks c.args.tokens.now) (omega arith) ∙ braced_is (entry b (stmt_at b)) (toks c.args.tokens.now) (toks c.in_ok-inner.inner.now) c.in_ok-inner.ensures)));
+    }
+
+pub block-returns-in_err-one : goal.block-returns-in_err-one
+block-returns-in_err-one g t c =
+    let p = err_from_is_err_and c.from_residual-in_err-one.result c.from_residual-in_err-one.ensures.1 in
+    rw (p.1, p.2) (round_fails (is_next m.CloseBrace) (entry (c.args.depth - 1) (stmt_at (c.args.depth - 1))) m.CloseBrace _ c.in_err-one.field-0.0 (map stmt_of c.turns.all) (length c.in_ok-inner.inner.now) c.turns._turn (toks c.turns.rest.now) c.turns.invariant.value c.turns-test.true (sym c.is_next.ensures ∙ c.if-is_next.false) c.in_err-one.ensures)
+
+pub block-turns-preserved : goal.block-turns-preserved
+block-turns-preserved g t c =
+    let e : map stmt_of c.push.new.self ≡ map stmt_of c.turns.all ++ stmt_of c.in_ok-one.one ∷ [] = rw c.in_ok-push.ensures.ok (map_push _ c.turns.all c.in_ok-one.one) in
+    record {
+      long = refl;
+      value = rw e (round_goes (is_next m.CloseBrace) (entry (c.args.depth - 1) (stmt_at (c.args.depth - 1))) m.CloseBrace _ (map stmt_of c.turns.all) (length c.in_ok-inner.inner.now) c.turns._turn (toks c.turns.rest.now) (toks c.in_ok-one.after.now) (stmt_of c.in_ok-one.one) c.turns.invariant.value c.turns-test.true (sym c.is_next.ensures ∙ c.if-is_next.false) c.in_ok-one.ensures);
+    }
+
+pub block-returns-in_err-rest : goal.block-returns-in_err-rest
+block-returns-in_err-rest g t c =
+    let p = err_from_is_err_and c.from_residual-in_err-rest.result c.from_residual-in_err-rest.ensures.1 in
+    let way : (length c.in_ok-inner.inner.now - c.turns._turn ≡ 0) ⊎ (is_next m.CloseBrace (head (toks c.turns.rest.now)) ≡ true) =
+    elim c.turns-test.branch [ block-else-turns-test w ↦ inl (omega (arith, w.turns-test.false)) | block-then-turns-test+then-is_next w ↦ inr (sym w.is_next.ensures ∙ w.if-is_next.true) ] in
+    rw (p.1, p.2) (round_bad (is_next m.CloseBrace) (entry (c.args.depth - 1) (stmt_at (c.args.depth - 1))) m.CloseBrace _ (map stmt_of c.turns.all) (length c.in_ok-inner.inner.now - c.turns._turn) (toks c.turns.rest.now) (λ h. expect_not m.CloseBrace (toks c.turns.rest.now) h) c.in_err-rest.field-0.0 c.turns.invariant.value way c.in_err-rest.ensures)
+
+pub block-returns : goal.block-returns
+block-returns g t c = round_good (is_next m.CloseBrace) (entry (c.args.depth - 1) (stmt_at (c.args.depth - 1))) m.CloseBrace _ (map stmt_of c.turns.all) (length c.in_ok-inner.inner.now - c.turns._turn) (toks c.turns.rest.now) (λ h. expect_not m.CloseBrace (toks c.turns.rest.now) h) _ c.turns.invariant.value c.in_ok-rest.ensures
+
+pub stmt-returns-then-starts_stmt : goal.stmt-returns-then-starts_stmt
+stmt-returns-then-starts_stmt g t c = stmt_deep c.args.depth _ c.if-depth-eq0.true (sym c.starts_stmt.ensures ∙ c.if-starts_stmt.true)
+
+pub stmt-returns-then-depth-eq0 : goal.stmt-returns-then-depth-eq0
+stmt-returns-then-depth-eq0 g t c = stmt_none c.args.depth _ c.if-depth-eq0.true (sym c.starts_stmt.ensures ∙ c.if-starts_stmt.false)
+
+pub stmt-returns-in-Empty : goal.stmt-returns-in-Empty
+stmt-returns-in-Empty g t c = rw (stmt_start c.args.depth (c.args.depth - 1) (toks c.args.tokens.now) lead.Empty (omega arith) (sym c.lead_at.ensures ∙ c.in-Empty.is)) c.empty_stmt.ensures
+
+pub stmt-returns-in-Print : goal.stmt-returns-in-Print
+stmt-returns-in-Print g t c = rw (stmt_start c.args.depth (c.args.depth - 1) (toks c.args.tokens.now) lead.Print (omega arith) (sym c.lead_at.ensures ∙ c.in-Print.is)) c.print_stmt.ensures
+
+pub stmt-returns-in-If : goal.stmt-returns-in-If
+stmt-returns-in-If g t c = rw (stmt_start c.args.depth (c.args.depth - 1) (toks c.args.tokens.now) lead.If (omega arith) (sym c.lead_at.ensures ∙ c.in-If.is)) c.if_stmt.ensures
+
+pub stmt-returns-in-While : goal.stmt-returns-in-While
+stmt-returns-in-While g t c = rw (stmt_start c.args.depth (c.args.depth - 1) (toks c.args.tokens.now) lead.While (omega arith) (sym c.lead_at.ensures ∙ c.in-While.is)) c.while_stmt.ensures
+
+pub stmt-returns-in-Do : goal.stmt-returns-in-Do
+stmt-returns-in-Do g t c = rw (stmt_start c.args.depth (c.args.depth - 1) (toks c.args.tokens.now) lead.Do (omega arith) (sym c.lead_at.ensures ∙ c.in-Do.is)) c.do_stmt.ensures
+
+pub stmt-returns-in-For : goal.stmt-returns-in-For
+stmt-returns-in-For g t c = rw (stmt_start c.args.depth (c.args.depth - 1) (toks c.args.tokens.now) lead.For (omega arith) (sym c.lead_at.ensures ∙ c.in-For.is)) c.for_stmt.ensures
+
+pub stmt-returns-in-Break : goal.stmt-returns-in-Break
+stmt-returns-in-Break g t c = rw (stmt_start c.args.depth (c.args.depth - 1) (toks c.args.tokens.now) lead.Break (omega arith) (sym c.lead_at.ensures ∙ c.in-Break.is)) c.break_stmt.ensures
+
+pub stmt-returns-in-Continue : goal.stmt-returns-in-Continue
+stmt-returns-in-Continue g t c = rw (stmt_start c.args.depth (c.args.depth - 1) (toks c.args.tokens.now) lead.Continue (omega arith) (sym c.lead_at.ensures ∙ c.in-Continue.is)) c.continue_stmt.ensures
+
+pub stmt-returns-in-Return : goal.stmt-returns-in-Return
+stmt-returns-in-Return g t c = rw (stmt_start c.args.depth (c.args.depth - 1) (toks c.args.tokens.now) lead.Return (omega arith) (sym c.lead_at.ensures ∙ c.in-Return.is)) c.return_stmt.ensures
+
+pub stmt-returns-in-Cancel : goal.stmt-returns-in-Cancel
+stmt-returns-in-Cancel g t c = rw (stmt_start c.args.depth (c.args.depth - 1) (toks c.args.tokens.now) lead.Cancel (omega arith) (sym c.lead_at.ensures ∙ c.in-Cancel.is)) c.cancel_stmt.ensures
+
+pub stmt-returns-in-Transaction : goal.stmt-returns-in-Transaction
+stmt-returns-in-Transaction g t c = rw (stmt_start c.args.depth (c.args.depth - 1) (toks c.args.tokens.now) (lead.Transaction c.in-Transaction.mode) (omega arith) (sym c.lead_at.ensures ∙ c.in-Transaction.is)) c.transaction_stmt.ensures
+
+pub stmt-returns-in-Simple : goal.stmt-returns-in-Simple
+stmt-returns-in-Simple g t c =
+    let b = c.args.depth - 1 in
+    rw (stmt_start c.args.depth b (toks c.args.tokens.now) lead.Simple (omega arith) (sym c.lead_at.ensures ∙ c.in-Simple.is) ∙ does_is c.args.depth b (toks c.args.tokens.now) (omega arith)) c.simple_stmt.ensures
+
+pub stmt-returns-in_err-body-in-Block : goal.stmt-returns-in_err-body-in-Block
+stmt-returns-in_err-body-in-Block g t c =
+    let b = c.args.depth - 1 in
+    let p = err_from_is_err_and c.from_residual.result c.from_residual.ensures.1 in
+    rw (p.1, p.2) (fails_along c.in_err-body-in-Block.field-0.0 _ _ (λ f e.
+    stmt_start c.args.depth b (toks c.args.tokens.now) lead.Block (omega arith) (sym c.lead_at.ensures ∙ c.in-Block.is) ∙ nested_fails c.args.depth b (toks c.args.tokens.now) f (omega arith) e) c.in_err-body-in-Block.ensures)
+
+pub stmt-returns-in_ok-body-in-Block : goal.stmt-returns-in_ok-body-in-Block
+stmt-returns-in_ok-body-in-Block g t c =
+    let b = c.args.depth - 1 in
+    stmt_start c.args.depth b (toks c.args.tokens.now) lead.Block (omega arith) (sym c.lead_at.ensures ∙ c.in-Block.is)
+    ∙ nested_is c.args.depth b (toks c.args.tokens.now) (toks c.in_ok-body-in-Block.rest.now) (map stmt_of c.in_ok-body-in-Block.body) (omega arith) c.in_ok-body-in-Block.ensures
+    ∙ ap (λ s. Ok (s, toks c.in_ok-body-in-Block.rest.now)) (sym (stmt_of_block c.in_ok-body-in-Block.body))
+
+pub entry-returns-then-starts_type : goal.entry-returns-then-starts_type
+entry-returns-then-starts_type g t c =
+    entry_is c.args.depth (toks c.args.tokens.now) (toks c.in_ok-declaration.rest.now) (declaration_of c.in_ok-declaration.declaration) (sym c.starts_type.ensures ∙ c.if-starts_type.true) c.in_ok-declaration.ensures
+    ∙ ap (λ s. Ok (s, toks c.in_ok-declaration.rest.now)) (sym (stmt_of_declare c.in_ok-declaration.declaration))
+
+pub for_stmt-returns-in_err-body : goal.for_stmt-returns-in_err-body
+for_stmt-returns-in_err-body g t c =
+    let p = err_from_is_err_and c.from_residual-in_err-body.result c.from_residual-in_err-body.ensures.1 in
+    rw (p.1, p.2) (fails_along c.in_err-body.field-0.0 _ _ (λ f e. counted_fails c.args.depth (toks c.args.tokens.now) (toks c.in_ok-rest.rest.now) (toks c.in_ok-head.rest.now) _ f c.in_ok-rest.ensures c.in_ok-head.ensures e) c.in_err-body.ensures)
+
+pub for_stmt-returns : goal.for_stmt-returns
+for_stmt-returns g t c =
+    counted_is c.args.depth (toks c.args.tokens.now) (toks c.in_ok-rest.rest.now) (toks c.in_ok-head.rest.now) (toks c.in_ok-body.rest.now) _ _ c.in_ok-rest.ensures c.in_ok-head.ensures c.in_ok-body.ensures
+    ∙ ap (λ s. Ok (s, toks c.in_ok-body.rest.now)) (sym c.in_ok-for_node.ensures)
+
+pub if_stmt-returns : goal.if_stmt-returns
+if_stmt-returns g t c =
+    chosen_is c.args.depth (toks c.args.tokens.now) (toks c.in_ok-rest.rest.now) (toks c.in_ok-condition.rest.now) (toks c.in_ok-then.rest.now) (toks c.in_ok-other.rest.now) (expr_of c.in_ok-condition.condition) (stmt_of c.in_ok-then.then) (option_map stmt_of c.in_ok-other.other)
+    c.in_ok-rest.ensures c.in_ok-condition.ensures c.in_ok-then.ensures c.in_ok-other.ensures
+    ∙ ap (λ s. Ok (s, toks c.in_ok-other.rest.now)) (sym (ap (λ a. stmt_of (S.If c.in_ok-condition.condition a c.in_ok-other.other)) c.in_ok-then-2.ensures ∙ stmt_of_any_if c.in_ok-condition.condition c.in_ok-then.then c.in_ok-other.other))
+
+pub transaction_stmt-returns : goal.transaction_stmt-returns
+transaction_stmt-returns g t c =
+    transaction_is c.args.depth c.args.mode (toks c.args.tokens.now) (toks c.in_ok-at.rest.now) (toks c.in_ok-body.rest.now) c.in_ok-at.at (map stmt_of c.in_ok-body.body) (ap (λ k. spot k (toks c.args.tokens.now)) (sym c.mode_mark.ensures) ∙ c.in_ok-at.ensures) c.in_ok-body.ensures
+    ∙ ap (λ s. Ok (s, toks c.in_ok-body.rest.now)) (sym (stmt_of_transaction c.args.mode c.in_ok-body.body c.in_ok-at.at))
