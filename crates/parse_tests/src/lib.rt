@@ -10,6 +10,4 @@ mod growths;
 #[cfg(test)]
 mod productions;
 #[cfg(test)]
-mod shape;
-#[cfg(test)]
 mod trees;

@@ -1,73 +1,21 @@
 //! Trees of sources: what the grammar groups, and what a tree keeps.
 
-use crate::shape::push_stmts;
 use lex::lex;
 use lex::token::{Scalar, Span};
 use parse::parse;
 use std::test::Fail;
-use syntax::tree::{Attribute, Item};
+use syntax::tree::{Attribute, BinaryOp, Expr, Item, Simple, Stmt};
 
-/// Statements of a worker, and their shape.
-const ROWS: [(&str, &str); 30] = [
-    // an else belongs to the nearest if that can take it
-    ("if (a) if (b) ; else ;", "{if a {if b ; else ;}}"),
-    (
-        "if (a) if (b) ; else ; else ;",
-        "{if a {if b ; else ;} else ;}",
-    ),
-    ("if (a) { if (b) ; } else ;", "{if a {{if b ;}} else ;}"),
-    (
-        "if (a) while (b) if (c) ; else ;",
-        "{if a {while b {if c ; else ;}}}",
-    ),
-    (
-        "if (a) do if (b) ; while (c); else ;",
-        "{if a {do {if b ;} c} else ;}",
-    ),
-    // operators group to the left, ?: to the right
-    ("a - b - c;", "(- (- a b) c)"),
-    ("a - b + c;", "(+ (- a b) c)"),
-    ("a << b << c;", "(<< (<< a b) c)"),
-    ("a ? b : c ? d : e;", "(if a b (if c d e))"),
-    ("a ? b ? c : d : e;", "(if a (if b c d) e)"),
-    // levels
-    ("a + b * c;", "(+ a (* b c))"),
-    ("a * b + c;", "(+ (* a b) c)"),
-    ("a << b + c;", "(<< a (+ b c))"),
-    ("a < b << c;", "(< a (<< b c))"),
-    ("a == b < c;", "(== a (< b c))"),
-    ("a & b == c;", "(& a (== b c))"),
-    ("a ^ b & c;", "(^ a (& b c))"),
-    ("a | b ^ c;", "(| a (^ b c))"),
-    ("a && b | c;", "(logical a (| b c))"),
-    ("a || b && c;", "(logical a (logical b c))"),
-    ("a || b ? c : d;", "(if (logical a b) c d)"),
-    ("-a * b;", "(* (unary a) b)"),
-    ("(int)a + b;", "(+ (cast a) b)"),
-    ("(int)-a[b];", "(cast (unary [a b]))"),
-    ("(a) + f(b, c - 1);", "(+ (a) (call f b (- c 1)))"),
-    // steps and assignments
-    (
-        "a++; ++a; a[b]--; --a[b];",
-        "(step a)(step a)(step [a b])(step [a b])",
-    ),
-    ("a = b; a += b; (a) = b;", "(= a b)(op= a b)(= (a) b)"),
-    // heads of for
-    (
-        "for (;;) ; for (int a;;) ; for (a = 1; b; c++) ;",
-        "{for - - - ;}{for declaration - - ;}{for simple c s ;}",
-    ),
-    // blocks and transactions
-    (
-        "{ int a; ; } __transaction_atomic { a = 1; }",
-        "{{declare};}{transaction (= a 1)}",
-    ),
-    ("printf(\"x\\n%d\", a, b);", "{print x\n%d a b}"),
+/// Statements of a worker that are one `if`, and whether the `else` is that of the inner one.
+const CHOICES: [(&str, bool); 3] = [
+    ("if (a) if (b) ; else ;", true),
+    ("if (a) { if (b) ; } else ;", false),
+    ("if (a) do if (b) ; while (c); else ;", false),
 ];
 
 #[test]
-fn statements_have_their_shapes(rt: HostRuntime) -> Result<(), Fail> {
-    for (inner, shape) in ROWS {
+fn an_else_belongs_to_the_nearest_if(rt: HostRuntime) -> Result<(), Fail> {
+    for (inner, nearest) in CHOICES {
         let text = format!(in rt.alloc(); "void worker(int self) {{ {inner} }}")?;
         let Ok(tokens) = lex(rt.alloc(), text.as_str()) else {
             assert!(rt; false, "{inner}");
@@ -85,9 +33,67 @@ fn statements_have_their_shapes(rt: HostRuntime) -> Result<(), Fail> {
             assert!(rt; false, "{inner}");
             return Ok(());
         };
-        let mut out = String::new(rt.alloc());
-        push_stmts(&mut out, body.as_slice())?;
-        assert_eq!(rt; out.as_str(), shape, "{inner}");
+        let [Stmt::If(_, then, other)] = body.as_slice() else {
+            assert!(rt; false, "{inner}");
+            return Ok(());
+        };
+        assert_eq!(rt; other.is_none(), nearest, "{inner}");
+        if nearest {
+            assert!(rt; matches!(then.get(), Stmt::If(_, _, Some(_))), "{inner}");
+        }
+    }
+    Ok(())
+}
+
+/// A value, its outermost operator, and whether the left operand is an operator's and whether the right one is.
+const SUMS: [(&str, BinaryOp, bool, bool); 10] = [
+    ("a - b - c;", BinaryOp::Subtract, true, false),
+    ("a - b + c;", BinaryOp::Add, true, false),
+    ("a + b * c;", BinaryOp::Add, false, true),
+    ("a * b + c;", BinaryOp::Add, true, false),
+    ("a << b + c;", BinaryOp::ShiftLeft, false, true),
+    ("a < b << c;", BinaryOp::Less, false, true),
+    ("a == b < c;", BinaryOp::Equal, false, true),
+    ("a & b == c;", BinaryOp::And, false, true),
+    ("a ^ b & c;", BinaryOp::Xor, false, true),
+    ("a | b ^ c;", BinaryOp::Or, false, true),
+];
+
+#[test]
+fn operators_group_by_level_and_to_the_left(rt: HostRuntime) -> Result<(), Fail> {
+    for (inner, outer, left, right) in SUMS {
+        let text = format!(in rt.alloc(); "void worker(int self) {{ {inner} }}")?;
+        let Ok(tokens) = lex(rt.alloc(), text.as_str()) else {
+            assert!(rt; false, "{inner}");
+            return Ok(());
+        };
+        let Ok(unit) = parse(rt.alloc(), tokens.as_slice()) else {
+            assert!(rt; false, "{inner}");
+            return Ok(());
+        };
+        let [Item::Function(function)] = unit.items.as_slice() else {
+            assert!(rt; false, "{inner}");
+            return Ok(());
+        };
+        let Some(body) = &function.body else {
+            assert!(rt; false, "{inner}");
+            return Ok(());
+        };
+        let [Stmt::Do(Simple::Value(Expr::Binary(op, a, b, _)))] = body.as_slice() else {
+            assert!(rt; false, "{inner}");
+            return Ok(());
+        };
+        assert_eq!(rt; *op, outer, "{inner}");
+        assert_eq!(rt;
+            matches!(a.get(), Expr::Binary(_, _, _, _)),
+            left,
+            "{inner}"
+        );
+        assert_eq!(rt;
+            matches!(b.get(), Expr::Binary(_, _, _, _)),
+            right,
+            "{inner}"
+        );
     }
     Ok(())
 }
