@@ -1,5 +1,5 @@
 -- How the reading of an expression goes on, step by step.
-use Rattle.std.proofs.Common.{◌≡◌, ℕ, zero, suc, ◌+◌, ◌-◌, ◌<◌, ◌≤◌, true, false, max, List, [], ◌∷◌, ◌++◌, Result, Ok, Err, refl, ◌∙◌, arith}
+use Rattle.std.proofs.Common.{◌≡◌, ℕ, zero, suc, ◌+◌, ◌<◌, ◌≤◌, true, false, max, List, [], ◌∷◌, ◌++◌, Result, Ok, Err, refl, ◌∙◌, arith}
 use Rattle.std.proofs.lemmas.Bool.{le-leb, lt-leb}
 use Rattle.lex.specs.declared.token.Mark.{Mark}
 use Rattle.lex.specs.declared.token.Mark.TheVariants as m
@@ -13,7 +13,7 @@ use Rattle.syntax.specs.Grammar.{the_name}
 use Rattle.parse.specs.declared.lead.Infix.{Infix}
 use Rattle.parse.specs.declared.lead.Infix.TheVariants.{Computing, Choosing}
 use Rattle.parse.specs.Reading.{Fault, deep, ◌>>=◌, Parser, across, behind, chained, climb_loop, expect, give, head, is_next, mapped, in_front, seq, spot, sunk, take}
-use Rattle.parse.specs.Expressions.{arguments, call_from, chosen_from, expr_at, infix_node, named, named_from, operand, operators, starts_expr, whole_at}
+use Rattle.parse.specs.Expressions.{call_from, chosen_from, expr_at, infix_node, named, named_from, operand, operators, starts_expr, whole_at}
 
 -- ---- levels
 

@@ -1,5 +1,5 @@
 -- What the parser's functions over expressions answer, as functions on lists.
-use Rattle.std.specs.Prelude.{◌≡◌, ℕ, zero, suc, Bool, true, false, List, [], ◌∷◌, Option, Some, None, Result, Ok, Err, if◌then◌else◌, nat_le}
+use Rattle.std.specs.Prelude.{ℕ, zero, suc, Bool, true, false, List, [], Option, Some, None, Err, if◌then◌else◌, nat_le}
 use Rattle.lex.specs.declared.token.Mark.{Mark}
 use Rattle.lex.specs.declared.token.Mark.TheVariants as m
 use Rattle.lex.specs.declared.token.Scalar.{Scalar}
@@ -18,7 +18,7 @@ use Rattle.parse.specs.declared.lead.Infix.{Infix}
 use Rattle.parse.specs.declared.lead.Infix.TheVariants.{Computing, Choosing}
 use Rattle.parse.specs.declared.lead.Operand.{Operand}
 use Rattle.parse.specs.declared.lead.Operand.TheVariants as kind
-use Rattle.parse.specs.Reading.{Fault, deep, ◌>>=◌, Parser, head, none, give, chained, seq, mapped, choice, either, sunk, listed, take, expect, spot, is_next, perhaps, behind, before, Operators, climb_loop, across}
+use Rattle.parse.specs.Reading.{deep, ◌>>=◌, Parser, none, give, chained, seq, mapped, choice, either, sunk, listed, take, expect, spot, is_next, perhaps, behind, before, Operators, climb_loop, across}
 
 -- ---- types
 

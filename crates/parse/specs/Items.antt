@@ -1,16 +1,15 @@
 -- What the parser's functions over functions and globals answer, as functions on lists.
-use Rattle.std.specs.Prelude.{◌≡◌, ℕ, zero, suc, Bool, true, false, not, List, [], ◌∷◌, ◌++◌, length, Option, Some, None, Result, Ok, Err, if◌then◌else◌}
-use Rattle.lex.specs.declared.token.Mark.{Mark}
+use Rattle.std.specs.Prelude.{ℕ, Bool, true, false, List, [], ◌∷◌, ◌++◌, length, Option, Some, None, Result, if◌then◌else◌}
 use Rattle.lex.specs.declared.token.Mark.TheVariants as m
 use Rattle.lex.specs.declared.token.Scalar.{Scalar}
 use Rattle.lex.specs.declared.token.Span.{Span}
 use Rattle.lex.specs.Tokens.{Terminal, name, constant, text, mark, reserved, Tok}
 use Rattle.syntax.specs.declared.tree.Attribute.{Attribute}
 use Rattle.syntax.specs.declared.tree.First.{First}
-use Rattle.syntax.specs.Tree.{Name, Stmt, Stmts, Parameter, Function, Global, Item, Defines, Shares, Program}
+use Rattle.syntax.specs.Tree.{Name, Stmts, Parameter, Global, Item, Defines, Shares, Program}
 use Rattle.syntax.specs.Views.{stmts_from}
 use Rattle.syntax.specs.Grammar.{the_name, the_attribute, the_length, joined}
-use Rattle.parse.specs.Reading.{Fault, ◌>>=◌, Parser, head, none, give, chained, seq, mapped, either, many_until, in_front, trailing, listed, take, expect, spot, is_next, is_other, perhaps, behind, before, across, finished}
+use Rattle.parse.specs.Reading.{Fault, ◌>>=◌, Parser, none, give, chained, seq, mapped, either, many_until, in_front, trailing, listed, take, expect, spot, is_next, is_other, perhaps, behind, before, across, finished}
 use Rattle.parse.specs.Expressions.{is_some, says, scalar}
 use Rattle.parse.specs.Statements.{block_at}
 

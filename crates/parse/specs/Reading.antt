@@ -1,22 +1,12 @@
 -- What each function of the parser answers, as functions on lists.
-use Rattle.std.specs.Prelude.{◌≡◌, ℕ, zero, suc, ◌-◌, Bool, true, false, not, List, [], ◌∷◌, ◌++◌, length, Option, Some, None, Result, Ok, Err, if◌then◌else◌, nat_lt, nat_le}
+use Rattle.std.specs.Prelude.{◌≡◌, ℕ, zero, suc, Bool, true, false, not, List, [], ◌∷◌, length, Option, Some, None, Result, Ok, Err, if◌then◌else◌, nat_lt, nat_le}
 use Rattle.std.specs.Borrow.{Bor}
 use Rattle.lex.specs.declared.token.Mark.{Mark}
 use Rattle.lex.specs.declared.token.Mark.TheVariants as m
-use Rattle.lex.specs.declared.token.Scalar.TheVariants.{Int, Unsigned}
 use Rattle.lex.specs.declared.token.Span.{Span}
 use Rattle.lex.specs.declared.token.Token.{Token}
-use Rattle.lex.specs.Tokens.{Terminal, name, constant, text, mark, reserved, Tok, toks}
-use Rattle.syntax.specs.declared.tree.BinaryOp.{BinaryOp}
-use Rattle.syntax.specs.declared.tree.BinaryOp.TheVariants.{Add, Subtract}
-use Rattle.syntax.specs.declared.tree.First.{First}
-use Rattle.syntax.specs.declared.tree.Mode.TheVariants.{Atomic}
-use Rattle.syntax.specs.Tree.{Name, Expr, Variable, Constant, Binary, Assign, Stmt, Do, Transaction, Function, Global, Item, Defines, Shares, Program}
-use Rattle.syntax.specs.Depth.{expr_depth}
-use Rattle.syntax.specs.Typing.{span_of}
-use Rattle.syntax.specs.Views.{stmts_from}
+use Rattle.lex.specs.Tokens.{Tok, toks}
 use Rattle.syntax.specs.Phrases.{is_mark, the_mark, place_of}
-use Rattle.syntax.specs.Grammar.{the_name, by_mark, precedence}
 use Rattle.parse.specs.declared.fault.Stop.{Stop}
 use Rattle.parse.specs.declared.fault.Stop.TheVariants.{Memory, Wrong, Deep}
 

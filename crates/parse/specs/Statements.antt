@@ -1,5 +1,5 @@
 -- What the parser's functions over statements answer, as functions on lists.
-use Rattle.std.specs.Prelude.{◌≡◌, ℕ, zero, suc, Bool, true, false, List, [], ◌∷◌, Option, Some, None, Result, Ok, Err, if◌then◌else◌}
+use Rattle.std.specs.Prelude.{◌≡◌, ℕ, zero, suc, Bool, true, false, List, Option, Some, None, Ok, if◌then◌else◌}
 use Rattle.std.specs.Borrow.{Bor}
 use Rattle.lex.specs.declared.token.Mark.{Mark}
 use Rattle.lex.specs.declared.token.Mark.TheVariants as m
@@ -7,17 +7,15 @@ use Rattle.lex.specs.declared.token.Scalar.{Scalar}
 use Rattle.lex.specs.declared.token.Span.{Span}
 use Rattle.lex.specs.declared.token.Token.{Token}
 use Rattle.lex.specs.Tokens.{Terminal, name, constant, text, mark, reserved, Tok, toks}
-use Rattle.syntax.specs.declared.tree.BinaryOp.{BinaryOp}
 use Rattle.syntax.specs.declared.tree.Mode.{Mode}
 use Rattle.syntax.specs.declared.tree.Mode.TheVariants.{Atomic, Relaxed}
-use Rattle.syntax.specs.declared.tree.Step.{Step}
 use Rattle.syntax.specs.Tree.{Name, Expr, Simple, Value, Assign, Change, Declarator, Declaration, Start, Nothing, Declares, Does, Stmt, Empty, Declare, Do, Block, Print, If, IfElse, While, DoWhile, For, Break, Continue, Return, Transaction, Cancel}
 use Rattle.syntax.specs.Views.{exprs_from, stmts_from}
 use Rattle.syntax.specs.Grammar.{the_name, the_text, the_assigning, the_step, mode_mark}
 use Rattle.parse.specs.declared.lead.Lead.{Lead}
 use Rattle.parse.specs.declared.lead.Lead.TheVariants as lead
-use Rattle.parse.specs.Reading.{Fault, ◌>>=◌, Parser, head, give, chained, seq, mapped, choice, either, sunk, many_until, unless, listed, take, expect, spot, is_next, is_other, perhaps, behind, before}
-use Rattle.parse.specs.Expressions.{says, starts_type, scalar, starts_expr, expr_at, whole_at}
+use Rattle.parse.specs.Reading.{Parser, head, give, chained, seq, mapped, choice, either, sunk, many_until, unless, listed, take, expect, spot, is_next, is_other, perhaps, behind, before}
+use Rattle.parse.specs.Expressions.{says, starts_type, scalar, starts_expr, whole_at}
 
 -- what a function found at the front: a token that says something of this kind, and the tokens after it, or none
 abbrev pub GivesToken : {A : Type 0} → (Tok → Option A) → List Tok → Option (A × Bor (List Token)) → Type 0

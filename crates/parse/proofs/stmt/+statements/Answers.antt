@@ -1,11 +1,11 @@
-use Rattle.std.proofs.Common.{◌≡◌, ◌-◌, ◌++◌, ◌∷◌, [], Ok, true, length, map, option_map, refl, sym, ap, ◌∙◌, arith, ◌⊎◌, inl, inr}
+use Rattle.std.proofs.Common.{◌≡◌, ◌-◌, ◌++◌, ◌∷◌, [], Ok, Some, true, length, map, option_map, refl, sym, ap, ◌∙◌, arith, ◌⊎◌, inl, inr}
 use Rattle.std.proofs.lemmas.Result.{err_from_is_err_and}
 use Rattle.std.proofs.lemmas.List.{map_push}
 use Rattle.lex.specs.declared.token.Mark.TheVariants as m
 use Rattle.lex.specs.Tokens.{toks}
 use Rattle.syntax.specs.declared.tree.Stmt as S
 use Rattle.syntax.specs.Views.{expr_of, declaration_of, stmt_of}
-use Rattle.syntax.proofs.Seen.{stmt_of_declare, stmt_of_block, stmt_of_transaction}
+use Rattle.syntax.proofs.Seen.{stmt_of_declare, stmt_of_block, stmt_of_while, stmt_of_do_while, stmt_of_transaction}
 use Rattle.parse.specs.declared.lead.Lead.TheVariants as lead
 use Rattle.parse.specs.Reading.{head, spot, is_next}
 use Rattle.parse.specs.Statements.{entry, stmt_at}
@@ -13,7 +13,7 @@ use Rattle.parse.proofs.Climbing.{fails_along}
 use Rattle.parse.proofs.Within.{stmt_none, stmt_deep, stmt_start, block_none, block_deep, block_start, nested_is, nested_fails, does_is, entry_is}
 use Rattle.parse.proofs.Loops.{all_turns}
 use Rattle.parse.proofs.Braces.{expect_not, braced_is}
-use Rattle.parse.proofs.Nodes.{chosen_is, stmt_of_any_if, counted_fails, counted_is, transaction_is}
+use Rattle.parse.proofs.Nodes.{looped_none, looped_unless, looped_fails, looped_is, done_none, done_fails, done_alone, done_unless, done_open, done_is, chosen_none, chosen_unless, chosen_fails, chosen_other, chosen_is, stmt_of_any_if, no_else, else_none, else_fails, else_is, counted_none, counted_unless, counted_fails, counted_is, transaction_none, transaction_fails, transaction_is, entry_stmt, entry_fails}
 use Rattle.parse.proofs.Rounds.{round_starts, round_goes, round_fails, round_bad, round_good}
 use Rattle.parse.proofs.stmt.+statements.Goals.{block-else-turns-test, block-then-turns-test+then-is_next}
 use Rattle.parse.proofs.stmt.+statements.Goals as goal
@@ -141,3 +141,149 @@ pub transaction_stmt-returns : goal.transaction_stmt-returns
 transaction_stmt-returns g t c =
     transaction_is c.args.depth c.args.mode (toks c.args.tokens.now) (toks c.in_ok-at.rest.now) (toks c.in_ok-body.rest.now) c.in_ok-at.at (map stmt_of c.in_ok-body.body) (ap (λ k. spot k (toks c.args.tokens.now)) (sym c.mode_mark.ensures) ∙ c.in_ok-at.ensures) c.in_ok-body.ensures
     ∙ ap (λ s. Ok (s, toks c.in_ok-body.rest.now)) (sym (stmt_of_transaction c.args.mode c.in_ok-body.body c.in_ok-at.at))
+
+pub while_stmt-returns-in_err-rest : goal.while_stmt-returns-in_err-rest
+while_stmt-returns-in_err-rest g t c =
+    let p = err_from_is_err_and c.from_residual.result c.from_residual.ensures.1 in
+    rw (p.1, p.2) (fails_along c.in_err-rest.field-0.0 _ _ (λ f e. looped_none c.args.depth (toks c.args.tokens.now) f e) c.in_err-rest.ensures)
+
+pub while_stmt-returns-in_err-condition : goal.while_stmt-returns-in_err-condition
+while_stmt-returns-in_err-condition g t c =
+    let p = err_from_is_err_and c.from_residual-in_err-condition.result c.from_residual-in_err-condition.ensures.1 in
+    rw (p.1, p.2) (fails_along c.in_err-condition.field-0.0 _ _ (λ f e. looped_unless c.args.depth (toks c.args.tokens.now) (toks c.in_ok-rest.rest.now) f c.in_ok-rest.ensures e) c.in_err-condition.ensures)
+
+pub while_stmt-returns-in_err-body : goal.while_stmt-returns-in_err-body
+while_stmt-returns-in_err-body g t c =
+    let p = err_from_is_err_and c.from_residual-in_err-body.result c.from_residual-in_err-body.ensures.1 in
+    rw (p.1, p.2) (fails_along c.in_err-body.field-0.0 _ _ (λ f e. looped_fails c.args.depth (toks c.args.tokens.now) (toks c.in_ok-rest.rest.now) (toks c.in_ok-condition.rest.now) _ f c.in_ok-rest.ensures c.in_ok-condition.ensures e) c.in_err-body.ensures)
+
+pub while_stmt-returns-in_err-new : goal.while_stmt-returns-in_err-new
+while_stmt-returns-in_err-new g t c =
+    let p = err_from_is_err_and c.from_residual-in_err-new.result c.from_residual-in_err-new.ensures.1 in
+    rw (p.1, p.2) tt
+
+pub while_stmt-returns : goal.while_stmt-returns
+while_stmt-returns g t c =
+    looped_is c.args.depth (toks c.args.tokens.now) (toks c.in_ok-rest.rest.now) (toks c.in_ok-condition.rest.now) (toks c.in_ok-body.rest.now) (expr_of c.in_ok-condition.condition) (stmt_of c.in_ok-body.body) c.in_ok-rest.ensures c.in_ok-condition.ensures c.in_ok-body.ensures
+    ∙ ap (λ s. Ok (s, toks c.in_ok-body.rest.now)) (sym (ap (λ a. stmt_of (S.While c.in_ok-condition.condition a)) c.in_ok-new.ensures ∙ stmt_of_while c.in_ok-condition.condition c.in_ok-body.body))
+
+pub do_stmt-returns-in_err-rest : goal.do_stmt-returns-in_err-rest
+do_stmt-returns-in_err-rest g t c =
+    let p = err_from_is_err_and c.from_residual.result c.from_residual.ensures.1 in
+    rw (p.1, p.2) (fails_along c.in_err-rest.field-0.0 _ _ (λ f e. done_none c.args.depth (toks c.args.tokens.now) f e) c.in_err-rest.ensures)
+
+pub do_stmt-returns-in_err-body : goal.do_stmt-returns-in_err-body
+do_stmt-returns-in_err-body g t c =
+    let p = err_from_is_err_and c.from_residual-in_err-body.result c.from_residual-in_err-body.ensures.1 in
+    rw (p.1, p.2) (fails_along c.in_err-body.field-0.0 _ _ (λ f e. done_fails c.args.depth (toks c.args.tokens.now) (toks c.in_ok-rest.rest.now) f c.in_ok-rest.ensures e) c.in_err-body.ensures)
+
+pub do_stmt-returns-in_err-body-2 : goal.do_stmt-returns-in_err-body-2
+do_stmt-returns-in_err-body-2 g t c =
+    let p = err_from_is_err_and c.from_residual-in_err-body-2.result c.from_residual-in_err-body-2.ensures.1 in
+    rw (p.1, p.2) tt
+
+pub do_stmt-returns-in_err-rest-2 : goal.do_stmt-returns-in_err-rest-2
+do_stmt-returns-in_err-rest-2 g t c =
+    let p = err_from_is_err_and c.from_residual-in_err-rest-2.result c.from_residual-in_err-rest-2.ensures.1 in
+    rw (p.1, p.2) (fails_along c.in_err-rest-2.field-0.0 _ _ (λ f e. done_alone c.args.depth (toks c.args.tokens.now) (toks c.in_ok-rest.rest.now) (toks c.in_ok-body.rest.now) _ f c.in_ok-rest.ensures c.in_ok-body.ensures e) c.in_err-rest-2.ensures)
+
+pub do_stmt-returns-in_err-condition : goal.do_stmt-returns-in_err-condition
+do_stmt-returns-in_err-condition g t c =
+    let p = err_from_is_err_and c.from_residual-in_err-condition.result c.from_residual-in_err-condition.ensures.1 in
+    rw (p.1, p.2) (fails_along c.in_err-condition.field-0.0 _ _ (λ f e. done_unless c.args.depth (toks c.args.tokens.now) (toks c.in_ok-rest.rest.now) (toks c.in_ok-body.rest.now) (toks c.in_ok-rest-2.rest.now) _ f c.in_ok-rest.ensures c.in_ok-body.ensures c.in_ok-rest-2.ensures e) c.in_err-condition.ensures)
+
+pub do_stmt-returns-in_err-rest-3 : goal.do_stmt-returns-in_err-rest-3
+do_stmt-returns-in_err-rest-3 g t c =
+    let p = err_from_is_err_and c.from_residual-in_err-rest-3.result c.from_residual-in_err-rest-3.ensures.1 in
+    rw (p.1, p.2) (fails_along c.in_err-rest-3.field-0.0 _ _ (λ f e. done_open c.args.depth (toks c.args.tokens.now) (toks c.in_ok-rest.rest.now) (toks c.in_ok-body.rest.now) (toks c.in_ok-rest-2.rest.now) (toks c.in_ok-condition.rest.now) _ _ f c.in_ok-rest.ensures c.in_ok-body.ensures c.in_ok-rest-2.ensures c.in_ok-condition.ensures e) c.in_err-rest-3.ensures)
+
+pub do_stmt-returns : goal.do_stmt-returns
+do_stmt-returns g t c =
+    done_is c.args.depth (toks c.args.tokens.now) (toks c.in_ok-rest.rest.now) (toks c.in_ok-body.rest.now) (toks c.in_ok-rest-2.rest.now) (toks c.in_ok-condition.rest.now) (toks c.in_ok-rest-3.rest.now) (stmt_of c.in_ok-body.body) (expr_of c.in_ok-condition.condition) c.in_ok-rest.ensures c.in_ok-body.ensures c.in_ok-rest-2.ensures c.in_ok-condition.ensures c.in_ok-rest-3.ensures
+    ∙ ap (λ s. Ok (s, toks c.in_ok-rest-3.rest.now)) (sym (ap (λ a. stmt_of (S.DoWhile a c.in_ok-condition.condition)) c.in_ok-body-2.ensures ∙ stmt_of_do_while c.in_ok-body.body c.in_ok-condition.condition))
+
+pub if_stmt-returns-in_err-rest : goal.if_stmt-returns-in_err-rest
+if_stmt-returns-in_err-rest g t c =
+    let p = err_from_is_err_and c.from_residual.result c.from_residual.ensures.1 in
+    rw (p.1, p.2) (fails_along c.in_err-rest.field-0.0 _ _ (λ f e. chosen_none c.args.depth (toks c.args.tokens.now) f e) c.in_err-rest.ensures)
+
+pub if_stmt-returns-in_err-condition : goal.if_stmt-returns-in_err-condition
+if_stmt-returns-in_err-condition g t c =
+    let p = err_from_is_err_and c.from_residual-in_err-condition.result c.from_residual-in_err-condition.ensures.1 in
+    rw (p.1, p.2) (fails_along c.in_err-condition.field-0.0 _ _ (λ f e. chosen_unless c.args.depth (toks c.args.tokens.now) (toks c.in_ok-rest.rest.now) f c.in_ok-rest.ensures e) c.in_err-condition.ensures)
+
+pub if_stmt-returns-in_err-then : goal.if_stmt-returns-in_err-then
+if_stmt-returns-in_err-then g t c =
+    let p = err_from_is_err_and c.from_residual-in_err-then.result c.from_residual-in_err-then.ensures.1 in
+    rw (p.1, p.2) (fails_along c.in_err-then.field-0.0 _ _ (λ f e. chosen_fails c.args.depth (toks c.args.tokens.now) (toks c.in_ok-rest.rest.now) (toks c.in_ok-condition.rest.now) _ f c.in_ok-rest.ensures c.in_ok-condition.ensures e) c.in_err-then.ensures)
+
+pub if_stmt-returns-in_err-then-2 : goal.if_stmt-returns-in_err-then-2
+if_stmt-returns-in_err-then-2 g t c =
+    let p = err_from_is_err_and c.from_residual-in_err-then-2.result c.from_residual-in_err-then-2.ensures.1 in
+    rw (p.1, p.2) tt
+
+pub if_stmt-returns-in_err-other : goal.if_stmt-returns-in_err-other
+if_stmt-returns-in_err-other g t c =
+    let p = err_from_is_err_and c.from_residual-in_err-other.result c.from_residual-in_err-other.ensures.1 in
+    rw (p.1, p.2) (fails_along c.in_err-other.field-0.0 _ _ (λ f e. chosen_other c.args.depth (toks c.args.tokens.now) (toks c.in_ok-rest.rest.now) (toks c.in_ok-condition.rest.now) (toks c.in_ok-then.rest.now) _ _ f c.in_ok-rest.ensures c.in_ok-condition.ensures c.in_ok-then.ensures e) c.in_err-other.ensures)
+
+pub else_part-returns-then-not-is_next : goal.else_part-returns-then-not-is_next
+else_part-returns-then-not-is_next g t c = no_else c.args.depth (toks c.args.tokens.now) (sym c.is_next.ensures ∙ c.if-not-is_next.true)
+
+pub else_part-returns-in_err-rest : goal.else_part-returns-in_err-rest
+else_part-returns-in_err-rest g t c =
+    let p = err_from_is_err_and c.from_residual.result c.from_residual.ensures.1 in
+    rw (p.1, p.2) (fails_along c.in_err-rest.field-0.0 _ _ (λ f e. else_none c.args.depth (toks c.args.tokens.now) f (sym c.is_next.ensures ∙ c.if-not-is_next.false) e) c.in_err-rest.ensures)
+
+pub else_part-returns-in_err-other : goal.else_part-returns-in_err-other
+else_part-returns-in_err-other g t c =
+    let p = err_from_is_err_and c.from_residual-in_err-other.result c.from_residual-in_err-other.ensures.1 in
+    rw (p.1, p.2) (fails_along c.in_err-other.field-0.0 _ _ (λ f e. else_fails c.args.depth (toks c.args.tokens.now) (toks c.in_ok-rest.rest.now) f (sym c.is_next.ensures ∙ c.if-not-is_next.false) c.in_ok-rest.ensures e) c.in_err-other.ensures)
+
+pub else_part-returns-in_err-new : goal.else_part-returns-in_err-new
+else_part-returns-in_err-new g t c =
+    let p = err_from_is_err_and c.from_residual-in_err-new.result c.from_residual-in_err-new.ensures.1 in
+    rw (p.1, p.2) tt
+
+pub else_part-returns : goal.else_part-returns
+else_part-returns g t c =
+    else_is c.args.depth (toks c.args.tokens.now) (toks c.in_ok-rest.rest.now) (toks c.in_ok-other.rest.now) (stmt_of c.in_ok-other.other) (sym c.is_next.ensures ∙ c.if-not-is_next.false) c.in_ok-rest.ensures c.in_ok-other.ensures
+    ∙ ap (λ s. Ok (Some (stmt_of s), toks c.in_ok-other.rest.now)) (sym c.in_ok-new.ensures)
+
+pub for_stmt-returns-in_err-rest : goal.for_stmt-returns-in_err-rest
+for_stmt-returns-in_err-rest g t c =
+    let p = err_from_is_err_and c.from_residual.result c.from_residual.ensures.1 in
+    rw (p.1, p.2) (fails_along c.in_err-rest.field-0.0 _ _ (λ f e. counted_none c.args.depth (toks c.args.tokens.now) f e) c.in_err-rest.ensures)
+
+pub for_stmt-returns-in_err-head : goal.for_stmt-returns-in_err-head
+for_stmt-returns-in_err-head g t c =
+    let p = err_from_is_err_and c.from_residual-in_err-head.result c.from_residual-in_err-head.ensures.1 in
+    rw (p.1, p.2) (fails_along c.in_err-head.field-0.0 _ _ (λ f e. counted_unless c.args.depth (toks c.args.tokens.now) (toks c.in_ok-rest.rest.now) f c.in_ok-rest.ensures e) c.in_err-head.ensures)
+
+pub for_stmt-returns-in_err-for_node : goal.for_stmt-returns-in_err-for_node
+for_stmt-returns-in_err-for_node g t c =
+    let p = err_from_is_err_and c.from_residual-in_err-for_node.result c.from_residual-in_err-for_node.ensures.1 in
+    rw (p.1, p.2) tt
+
+pub transaction_stmt-returns-in_err-at : goal.transaction_stmt-returns-in_err-at
+transaction_stmt-returns-in_err-at g t c =
+    let p = err_from_is_err_and c.from_residual.result c.from_residual.ensures.1 in
+    rw (p.1, p.2) (fails_along c.in_err-at.field-0.0 _ _ (λ f e. transaction_none c.args.depth (toks c.args.tokens.now) c.args.mode f (ap (λ k. spot k (toks c.args.tokens.now)) (sym c.mode_mark.ensures) ∙ e)) c.in_err-at.ensures)
+
+pub transaction_stmt-returns-in_err-body : goal.transaction_stmt-returns-in_err-body
+transaction_stmt-returns-in_err-body g t c =
+    let p = err_from_is_err_and c.from_residual-in_err-body.result c.from_residual-in_err-body.ensures.1 in
+    rw (p.1, p.2) (fails_along c.in_err-body.field-0.0 _ _ (λ f e. transaction_fails c.args.depth (toks c.args.tokens.now) c.args.mode (toks c.in_ok-at.rest.now) c.in_ok-at.at f (ap (λ k. spot k (toks c.args.tokens.now)) (sym c.mode_mark.ensures) ∙ c.in_ok-at.ensures) e) c.in_err-body.ensures)
+
+pub entry-returns-in_err-declaration : goal.entry-returns-in_err-declaration
+entry-returns-in_err-declaration g t c =
+    let p = err_from_is_err_and c.from_residual.result c.from_residual.ensures.1 in
+    rw (p.1, p.2) (fails_along c.in_err-declaration.field-0.0 _ _ (λ f e. entry_fails c.args.depth (toks c.args.tokens.now) f (sym c.starts_type.ensures ∙ c.if-starts_type.true) e) c.in_err-declaration.ensures)
+
+pub entry-returns : goal.entry-returns
+entry-returns g t c = rw (entry_stmt c.args.depth (toks c.args.tokens.now) (sym c.starts_type.ensures ∙ c.if-starts_type.false)) c.stmt.ensures
+
+pub block-returns-in_err-push : goal.block-returns-in_err-push
+block-returns-in_err-push g t c =
+    let p = err_from_is_err_and c.from_residual-in_err-push.result c.from_residual-in_err-push.ensures.1 in
+    rw (p.1, p.2) tt
