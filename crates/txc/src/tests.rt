@@ -79,7 +79,7 @@ fn reads_words(rt: HostRuntime) -> Result<(), Fail> {
 #[test]
 fn serves_sources(rt: HostRuntime) -> Result<(), Fail> {
     let request = command(rt.alloc(), ["txc", "run", "a.c"].as_slice())?;
-    let rows: [(&[u8], u8, &[u8], &[u8]); 9] = [
+    let rows: [(&[u8], u8, &[u8], &[u8]); 10] = [
         (FIRST, 0, FIRST_REPORT, b""),
         (
             b"int x = 2147483647, y = 5; void worker(int self) { __transaction_atomic { y = 1; x = x + 1; } }",
@@ -122,6 +122,12 @@ fn serves_sources(rt: HostRuntime) -> Result<(), Fail> {
             1,
             b"",
             b"txc: fault 12 at 1:24: unexpected end\n",
+        ),
+        (
+            b"int x; void worker(int self) { if (x) ; }",
+            2,
+            b"",
+            b"txc: fault 63\n",
         ),
         (b"int \xff;", 2, b"", b"txc: a.c is not UTF-8\n"),
     ];
