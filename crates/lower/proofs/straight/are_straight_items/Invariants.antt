@@ -1,4 +1,4 @@
-use Rattle.std.proofs.Common.{◌≡◌, ◌↔◌, map, drop, length}
+use Rattle.std.proofs.Common.{◌↔◌, map, drop}
 use Rattle.syntax.specs.Views.{item_of}
 use Rattle.lower.specs.StraightLine.{IsStraightLine}
 use Rattle.lower.proofs.straight.are_straight_items.Given as goal

@@ -1,4 +1,4 @@
-use Rattle.std.proofs.Common.{◌≡◌, ℕ, IsTrue, ◌↔◌, List, map, length, nat_eq, option_map, sym, ap, subst, ◌∙◌}
+use Rattle.std.proofs.Common.{IsTrue, ◌↔◌, map, length, nat_eq, option_map, sym, ap, subst, ◌∙◌}
 use Rattle.syntax.specs.Views.{stmts_of, parameter_of}
 use Rattle.lower.specs.StraightLine.{IsOneNumber, AreTransactions}
 use Rattle.lower.proofs.Recognized.{function_kind}
