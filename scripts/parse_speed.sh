@@ -1,7 +1,7 @@
 #!/bin/sh
-# Prints how long the parser takes for a token, in a built program, for sources of 10,000 and of 100,000 tokens. The two
-# numbers should be about the same: the parser goes over the tokens once. The program is made in a folder of its own and
-# removed.
+# Prints how long the parser takes for a token, in a built program, for sources of 10,000 and of 100,000 tokens, by the
+# fastest of some rounds. The two numbers should be about the same: the parser goes over the tokens once. The program is
+# made in a folder of its own and removed.
 set -e
 top=$(cd "$(dirname "$0")/.." && pwd)
 work=$(mktemp -d)
@@ -40,17 +40,18 @@ fn measure(rt: &HostRuntime, lines: usize, rounds: u32) -> io::Result<()> {
         println!(rt; "not lexed")?;
         return Ok(());
     };
-    let start = Instant::now(rt)?;
     let mut parsed = 0usize;
+    let mut least = u128::MAX;
     for _ in 0..rounds {
-        if parse(rt.alloc(), tokens.as_slice()).is_ok() {
+        let start = Instant::now(rt)?;
+        let unit = parse(rt.alloc(), tokens.as_slice());
+        least = least.min(start.elapsed(rt)?.as_nanos());
+        if unit.is_ok() {
             parsed = parsed.wrapping_add(1);
         }
     }
-    let picoseconds = start.elapsed(rt)?.as_nanos().wrapping_mul(1000);
-    let count = (tokens.len() as u128).wrapping_mul(rounds as u128);
-    if let Some(each) = picoseconds.checked_div(count) {
-        println!(rt; "{} tokens, parsed in {parsed} of {rounds} rounds: {each} ps for a token", tokens.len())?;
+    if let Some(each) = least.wrapping_mul(1000).checked_div(tokens.len() as u128) {
+        println!(rt; "{} tokens, parsed in {parsed} of {rounds} rounds: {each} ps for a token in the fastest", tokens.len())?;
     }
     Ok(())
 }
