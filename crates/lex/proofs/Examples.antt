@@ -1,10 +1,12 @@
 -- Worked examples of the definitions.
 use Rattle.std.proofs.Common.{◌≡◌, [], ◌∷◌, codes, Some, None, true, false, refl}
-use Rattle.lex.specs.declared.token.Mark.TheVariants as m
+use Rattle.lex.specs.declared.token.Fixed.TheVariants.{Punctuator}
+use Rattle.lex.specs.declared.token.Punctuator.TheVariants as punct
 use Rattle.lex.specs.declared.token.Scalar.TheVariants.{Unsigned}
 use Rattle.lex.specs.Tokens.{unescaped}
 use Rattle.lex.specs.Spelling.{spelling}
-use Rattle.lex.specs.Cutting.{value_from, type_of, character_len}
+use Rattle.lex.specs.Faults.{character_len}
+use Rattle.lex.specs.Pieces.{value_from, type_of}
 use Rattle.lex.specs.Places.{line_of, column_of}
 
 -- `0x1F` and `017`
@@ -39,5 +41,5 @@ place_line = refl
 place_column : column_of (codes "a\nb c") 4 ≡ 3
 place_column = refl
 
-longest : spelling m.ShiftRightAssign ≡ codes ">>="
+longest : spelling (Punctuator punct.ShiftRightAssign) ≡ codes ">>="
 longest = refl

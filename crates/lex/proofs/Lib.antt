@@ -1,16 +1,8 @@
-pub mod Runs
-pub mod Classes
-pub mod Pieces
-pub mod Quotes
-pub mod Numbers
-pub mod Marks
-pub mod Directives
-pub mod Steps
-pub mod Cuts
-pub mod Lies
-pub mod Spellings
-pub mod Once
-pub mod Flaws
-pub mod Ways
+-- the shapes that pieces have, by their first byte, and the longest at a place
+pub mod pieces
+-- each step of the lexer, in the text that it reads
+pub mod steps
+-- a text has one list of tokens or one first fault
+pub mod unique
+-- texts with their tokens
 pub mod Examples
-pub mod Escapes

@@ -1,7 +1,7 @@
 -- Lines and columns.
 use Rattle.std.specs.Prelude.{ℕ, ◌+◌, ◌==◌, List, count_by, take, reverse}
 use Rattle.std.specs.List.{prefix_len}
-use Rattle.lex.specs.Cutting.{in_line}
+use Rattle.lex.specs.Bytes.{in_line}
 
 -- the line, counted from 1: one more than the LFs before the place
 abbrev pub line_of : List ℕ → ℕ → ℕ

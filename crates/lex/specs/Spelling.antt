@@ -1,92 +1,94 @@
--- How tokens with one spelling are written, and which words are kept.
+-- How tokens with one spelling are written, and which words are reserved.
 use Rattle.std.specs.Prelude.{ℕ, List, ◌≡◌, codes}
-use Rattle.lex.specs.declared.token.Mark.{Mark}
-use Rattle.lex.specs.declared.token.Mark.TheVariants as m
+use Rattle.lex.specs.declared.token.Fixed.{Fixed}
+use Rattle.lex.specs.declared.token.Fixed.TheVariants.{Keyword, Punctuator}
+use Rattle.lex.specs.declared.token.Keyword.TheVariants as key
+use Rattle.lex.specs.declared.token.Punctuator.TheVariants as punct
 
--- keywords (C11 6.4.1 and the transactions of GNU C), and then signs (C11 6.4.6)
-abbrev pub spelling : Mark → List ℕ
-spelling m.Int = codes "int"
-spelling m.Unsigned = codes "unsigned"
-spelling m.Signed = codes "signed"
-spelling m.Void = codes "void"
-spelling m.If = codes "if"
-spelling m.Else = codes "else"
-spelling m.While = codes "while"
-spelling m.Do = codes "do"
-spelling m.For = codes "for"
-spelling m.Break = codes "break"
-spelling m.Continue = codes "continue"
-spelling m.Return = codes "return"
-spelling m.Printf = codes "printf"
-spelling m.Atomic = codes "__transaction_atomic"
-spelling m.Relaxed = codes "__transaction_relaxed"
-spelling m.Cancel = codes "__transaction_cancel"
-spelling m.Attribute = codes "__attribute__"
-spelling m.OpenBrace = codes "{"
-spelling m.CloseBrace = codes "}"
-spelling m.OpenParen = codes "("
-spelling m.CloseParen = codes ")"
-spelling m.OpenBracket = codes "["
-spelling m.CloseBracket = codes "]"
-spelling m.Semicolon = codes ";"
-spelling m.Comma = codes ","
-spelling m.Question = codes "?"
-spelling m.Colon = codes ":"
-spelling m.Assign = codes "="
-spelling m.AddAssign = codes "+="
-spelling m.SubtractAssign = codes "-="
-spelling m.MultiplyAssign = codes "*="
-spelling m.DivideAssign = codes "/="
-spelling m.RemainderAssign = codes "%="
-spelling m.ShiftLeftAssign = codes "<<="
-spelling m.ShiftRightAssign = codes ">>="
-spelling m.AndAssign = codes "&="
-spelling m.OrAssign = codes "|="
-spelling m.XorAssign = codes "^="
-spelling m.Increment = codes "++"
-spelling m.Decrement = codes "--"
-spelling m.LogicalOr = codes "||"
-spelling m.LogicalAnd = codes "&&"
-spelling m.Or = codes "|"
-spelling m.Xor = codes "^"
-spelling m.And = codes "&"
-spelling m.Equal = codes "=="
-spelling m.NotEqual = codes "!="
-spelling m.Less = codes "<"
-spelling m.Greater = codes ">"
-spelling m.LessEqual = codes "<="
-spelling m.GreaterEqual = codes ">="
-spelling m.ShiftLeft = codes "<<"
-spelling m.ShiftRight = codes ">>"
-spelling m.Plus = codes "+"
-spelling m.Minus = codes "-"
-spelling m.Star = codes "*"
-spelling m.Slash = codes "/"
-spelling m.Percent = codes "%"
-spelling m.Not = codes "!"
-spelling m.Complement = codes "~"
+-- keywords (C11 6.4.1 and the transactions of GNU C), and then punctuators (C11 6.4.6)
+abbrev pub spelling : Fixed → List ℕ
+spelling (Keyword key.Int) = codes "int"
+spelling (Keyword key.Unsigned) = codes "unsigned"
+spelling (Keyword key.Signed) = codes "signed"
+spelling (Keyword key.Void) = codes "void"
+spelling (Keyword key.If) = codes "if"
+spelling (Keyword key.Else) = codes "else"
+spelling (Keyword key.While) = codes "while"
+spelling (Keyword key.Do) = codes "do"
+spelling (Keyword key.For) = codes "for"
+spelling (Keyword key.Break) = codes "break"
+spelling (Keyword key.Continue) = codes "continue"
+spelling (Keyword key.Return) = codes "return"
+spelling (Keyword key.Printf) = codes "printf"
+spelling (Keyword key.Atomic) = codes "__transaction_atomic"
+spelling (Keyword key.Relaxed) = codes "__transaction_relaxed"
+spelling (Keyword key.Cancel) = codes "__transaction_cancel"
+spelling (Keyword key.Attribute) = codes "__attribute__"
+spelling (Punctuator punct.OpenBrace) = codes "{"
+spelling (Punctuator punct.CloseBrace) = codes "}"
+spelling (Punctuator punct.OpenParen) = codes "("
+spelling (Punctuator punct.CloseParen) = codes ")"
+spelling (Punctuator punct.OpenBracket) = codes "["
+spelling (Punctuator punct.CloseBracket) = codes "]"
+spelling (Punctuator punct.Semicolon) = codes ";"
+spelling (Punctuator punct.Comma) = codes ","
+spelling (Punctuator punct.Question) = codes "?"
+spelling (Punctuator punct.Colon) = codes ":"
+spelling (Punctuator punct.Assign) = codes "="
+spelling (Punctuator punct.AddAssign) = codes "+="
+spelling (Punctuator punct.SubtractAssign) = codes "-="
+spelling (Punctuator punct.MultiplyAssign) = codes "*="
+spelling (Punctuator punct.DivideAssign) = codes "/="
+spelling (Punctuator punct.RemainderAssign) = codes "%="
+spelling (Punctuator punct.ShiftLeftAssign) = codes "<<="
+spelling (Punctuator punct.ShiftRightAssign) = codes ">>="
+spelling (Punctuator punct.AndAssign) = codes "&="
+spelling (Punctuator punct.OrAssign) = codes "|="
+spelling (Punctuator punct.XorAssign) = codes "^="
+spelling (Punctuator punct.Increment) = codes "++"
+spelling (Punctuator punct.Decrement) = codes "--"
+spelling (Punctuator punct.LogicalOr) = codes "||"
+spelling (Punctuator punct.LogicalAnd) = codes "&&"
+spelling (Punctuator punct.Or) = codes "|"
+spelling (Punctuator punct.Xor) = codes "^"
+spelling (Punctuator punct.And) = codes "&"
+spelling (Punctuator punct.Equal) = codes "=="
+spelling (Punctuator punct.NotEqual) = codes "!="
+spelling (Punctuator punct.Less) = codes "<"
+spelling (Punctuator punct.Greater) = codes ">"
+spelling (Punctuator punct.LessEqual) = codes "<="
+spelling (Punctuator punct.GreaterEqual) = codes ">="
+spelling (Punctuator punct.ShiftLeft) = codes "<<"
+spelling (Punctuator punct.ShiftRight) = codes ">>"
+spelling (Punctuator punct.Plus) = codes "+"
+spelling (Punctuator punct.Minus) = codes "-"
+spelling (Punctuator punct.Star) = codes "*"
+spelling (Punctuator punct.Slash) = codes "/"
+spelling (Punctuator punct.Percent) = codes "%"
+spelling (Punctuator punct.Not) = codes "!"
+spelling (Punctuator punct.Complement) = codes "~"
 
 -- the words that C keeps for itself and that this language does not use
 pub data Reserved (w : List ℕ) : Type 0 where
-  kept_auto : w ≡ codes "auto" → Reserved w
-  kept_char : w ≡ codes "char" → Reserved w
-  kept_const : w ≡ codes "const" → Reserved w
-  kept_default : w ≡ codes "default" → Reserved w
-  kept_case : w ≡ codes "case" → Reserved w
-  kept_double : w ≡ codes "double" → Reserved w
-  kept_enum : w ≡ codes "enum" → Reserved w
-  kept_extern : w ≡ codes "extern" → Reserved w
-  kept_float : w ≡ codes "float" → Reserved w
-  kept_goto : w ≡ codes "goto" → Reserved w
-  kept_inline : w ≡ codes "inline" → Reserved w
-  kept_long : w ≡ codes "long" → Reserved w
-  kept_register : w ≡ codes "register" → Reserved w
-  kept_restrict : w ≡ codes "restrict" → Reserved w
-  kept_short : w ≡ codes "short" → Reserved w
-  kept_sizeof : w ≡ codes "sizeof" → Reserved w
-  kept_static : w ≡ codes "static" → Reserved w
-  kept_struct : w ≡ codes "struct" → Reserved w
-  kept_switch : w ≡ codes "switch" → Reserved w
-  kept_typedef : w ≡ codes "typedef" → Reserved w
-  kept_union : w ≡ codes "union" → Reserved w
-  kept_volatile : w ≡ codes "volatile" → Reserved w
+  is_auto : w ≡ codes "auto" → Reserved w
+  is_char : w ≡ codes "char" → Reserved w
+  is_const : w ≡ codes "const" → Reserved w
+  is_default : w ≡ codes "default" → Reserved w
+  is_case : w ≡ codes "case" → Reserved w
+  is_double : w ≡ codes "double" → Reserved w
+  is_enum : w ≡ codes "enum" → Reserved w
+  is_extern : w ≡ codes "extern" → Reserved w
+  is_float : w ≡ codes "float" → Reserved w
+  is_goto : w ≡ codes "goto" → Reserved w
+  is_inline : w ≡ codes "inline" → Reserved w
+  is_long : w ≡ codes "long" → Reserved w
+  is_register : w ≡ codes "register" → Reserved w
+  is_restrict : w ≡ codes "restrict" → Reserved w
+  is_short : w ≡ codes "short" → Reserved w
+  is_sizeof : w ≡ codes "sizeof" → Reserved w
+  is_static : w ≡ codes "static" → Reserved w
+  is_struct : w ≡ codes "struct" → Reserved w
+  is_switch : w ≡ codes "switch" → Reserved w
+  is_typedef : w ≡ codes "typedef" → Reserved w
+  is_union : w ≡ codes "union" → Reserved w
+  is_volatile : w ≡ codes "volatile" → Reserved w

@@ -1,8 +1,9 @@
 -- Tokens as the definitions see them: without where their text lies in the program's own memory.
 use Rattle.std.specs.Prelude.{ℕ, List, [], ◌∷◌, ◌==◌, if◌then◌else◌, map}
 use Rattle.lex.specs.declared.token.Kind.{Kind}
-use Rattle.lex.specs.declared.token.Kind.TheVariants.{Name, Constant, Text, Fixed, Reserved}
-use Rattle.lex.specs.declared.token.Mark.{Mark}
+use Rattle.lex.specs.declared.token.Kind.TheVariants as kind
+use Rattle.lex.specs.declared.token.Fixed.TheVariants.{Keyword, Punctuator}
+use Rattle.lex.specs.declared.token.Fixed.{Fixed}
 use Rattle.lex.specs.declared.token.Scalar.{Scalar}
 use Rattle.lex.specs.declared.token.Span.{Span}
 use Rattle.lex.specs.declared.token.Token.{Token}
@@ -11,16 +12,17 @@ use Rattle.lex.specs.declared.token.Token.{Token}
 pub data Terminal : Type 0 where
   name : (text : List ℕ) → Terminal
   constant : (value : ℕ) (of : Scalar) → Terminal
-  text : (written : List ℕ) → Terminal
-  mark : Mark → Terminal
+  string_literal : (written : List ℕ) → Terminal
+  fixed : Fixed → Terminal
   reserved : Terminal
 
 abbrev pub terminal : Kind → Terminal
-terminal (Name s) = name s.now
-terminal (Constant n t) = constant n t
-terminal (Text s) = text s.now
-terminal (Fixed m) = mark m
-terminal Reserved = reserved
+terminal (kind.Name s) = name s.now
+terminal (kind.Constant n t) = constant n t
+terminal (kind.StringLiteral s) = string_literal s.now
+terminal (kind.Keyword k) = fixed (Keyword k)
+terminal (kind.Punctuator p) = fixed (Punctuator p)
+terminal kind.Reserved = reserved
 
 -- a token, and where it stands
 pub record Tok : Type 0 where

@@ -2,75 +2,87 @@
 
 ghost use Rattle.std.specs.Prelude.{◌≡◌, ◌<◌, ◌≤◌, ◌^◌, length};
 ghost use Rattle.std.specs.List.{prefix_len};
-ghost use Rattle.lex.specs.Cutting as spec;
+ghost use Rattle.lex.specs.Bytes as spec;
+ghost use Rattle.lex.specs.Faults as faults;
 
+/// White space: space, tab, LF, vertical tab, form feed, CR (C11 6.4).
 pub(crate) fn is_white(b: u8) -> bool
     ensures { result ≡ spec.is_white b }
 {
-    b == 32 || (9 <= b && b <= 13)
+    b == b' ' || (b'\t' <= b && b <= b'\r')
 }
 
+/// What may stand before a directive on its line: space or tab.
 pub(crate) fn is_blank(b: u8) -> bool
     ensures { result ≡ spec.is_blank b }
 {
     b == b' ' || b == b'\t'
 }
 
+/// digit: one of `0` to `9` (C11 6.4.2.1).
 pub(crate) fn is_digit(b: u8) -> bool
     ensures { result ≡ spec.is_digit b }
 {
-    48 <= b && b <= 57
+    b'0' <= b && b <= b'9'
 }
 
+/// octal-digit: one of `0` to `7` (C11 6.4.4.1).
 pub(crate) fn is_octal(b: u8) -> bool
     ensures { result ≡ spec.is_octal b }
 {
-    48 <= b && b <= 55
+    b'0' <= b && b <= b'7'
 }
 
+/// hexadecimal-digit: a digit, `a` to `f` or `A` to `F` (C11 6.4.4.1).
 pub(crate) fn is_hexadecimal(b: u8) -> bool
     ensures { result ≡ spec.is_hexadecimal b }
 {
-    is_digit(b) || (97 <= b && b <= 102) || (65 <= b && b <= 70)
+    is_digit(b) || (b'a' <= b && b <= b'f') || (b'A' <= b && b <= b'F')
 }
 
+/// nondigit: a letter or `_` (C11 6.4.2.1).
 pub(crate) fn is_letter(b: u8) -> bool
     ensures { result ≡ spec.is_letter b }
 {
-    (97 <= b && b <= 122) || (65 <= b && b <= 90) || b == b'_'
+    (b'a' <= b && b <= b'z') || (b'A' <= b && b <= b'Z') || b == b'_'
 }
 
+/// What a word goes on with: nondigit or digit.
 pub(crate) fn is_part(b: u8) -> bool
     ensures { result ≡ spec.is_part b }
 {
     is_letter(b) || is_digit(b)
 }
 
+/// A byte that stands for itself in a string: printable, but no quote and no backslash.
 pub(crate) fn is_plain(b: u8) -> bool
     ensures { result ≡ spec.is_plain b }
 {
-    32 <= b && b <= 126 && b != b'"' && b != b'\\'
+    b' ' <= b && b <= b'~' && b != b'"' && b != b'\\'
 }
 
+/// What may follow a backslash in a string.
 pub(crate) fn is_escape(b: u8) -> bool
     ensures { result ≡ spec.is_escape b }
 {
     b == b'n' || b == b't' || b == b'\\' || b == b'"'
 }
 
-fn is_later(b: u8) -> bool
-    ensures { result ≡ spec.is_later b }
+/// A byte of a character that is not its first (UTF-8).
+fn is_continuation(b: u8) -> bool
+    ensures { result ≡ spec.is_continuation b }
 {
-    128 <= b && b < 192
+    0x80 <= b && b < 0xC0
 }
 
+/// Any byte but LF.
 fn is_in_line(b: u8) -> bool
     ensures { result ≡ spec.in_line b }
 {
     b != b'\n'
 }
 
-// Whether a constant can't end before this.
+/// Whether a constant can't end before this: a letter, a digit, `_` or `.`.
 pub(crate) fn is_glued(rest: &[u8]) -> bool
     ensures { result ≡ spec.starts spec.is_glue rest.now }
 {
@@ -80,6 +92,7 @@ pub(crate) fn is_glued(rest: &[u8]) -> bool
     }
 }
 
+/// Whether a word that ends here would go on.
 pub(crate) fn starts_part(rest: &[u8]) -> bool
     ensures { result ≡ spec.starts spec.is_part rest.now }
 {
@@ -89,6 +102,7 @@ pub(crate) fn starts_part(rest: &[u8]) -> bool
     }
 }
 
+/// How many bytes at the front go on with a word.
 pub(crate) fn word_len(rest: &[u8]) -> usize
     ensures value { result ≡ prefix_len spec.is_part rest.now }
     ensures within { result ≤ length rest.now }
@@ -96,6 +110,7 @@ pub(crate) fn word_len(rest: &[u8]) -> usize
     rest.iter().take_while(|b| is_part(**b)).count()
 }
 
+/// How many bytes at the front stand before an LF.
 pub(crate) fn line_len(rest: &[u8]) -> usize
     ensures value { result ≡ prefix_len spec.in_line rest.now }
     ensures within { result ≤ length rest.now }
@@ -103,6 +118,7 @@ pub(crate) fn line_len(rest: &[u8]) -> usize
     rest.iter().take_while(|b| is_in_line(**b)).count()
 }
 
+/// How many spaces and tabs stand at the front.
 pub(crate) fn blanks_len(rest: &[u8]) -> usize
     ensures value { result ≡ prefix_len spec.is_blank rest.now }
     ensures within { result ≤ length rest.now }
@@ -110,21 +126,22 @@ pub(crate) fn blanks_len(rest: &[u8]) -> usize
     rest.iter().take_while(|b| is_blank(**b)).count()
 }
 
-fn later_len(rest: &[u8]) -> usize
-    ensures value { result ≡ prefix_len spec.is_later rest.now }
+/// How many bytes at the front belong to a character before them.
+fn continuations_len(rest: &[u8]) -> usize
+    ensures value { result ≡ prefix_len spec.is_continuation rest.now }
     ensures within { result ≤ length rest.now }
 {
-    rest.iter().take_while(|b| is_later(**b)).count()
+    rest.iter().take_while(|b| is_continuation(**b)).count()
 }
 
-// How many bytes the character at the front has.
+/// How many bytes the character at the front has.
 pub(crate) fn character_len(rest: &[u8]) -> usize
     requires { length rest.now < 2 ^ 62 }
-    ensures value { result ≡ spec.character_len rest.now }
+    ensures value { result ≡ faults.character_len rest.now }
     ensures within { result ≤ length rest.now }
 {
     match rest {
         [] => 0,
-        [_, more @ ..] => 1 + later_len(more),
+        [_, more @ ..] => 1 + continuations_len(more),
     }
 }

@@ -2,13 +2,15 @@
 
 ghost use Rattle.std.specs.Prelude.{◌≡◌, ◌≢◌, ℕ, List, ◌++◌, codes, ◌+◌, ◌<◌, ◌≤◌, ◌^◌, true, length, slice_index, take, MatchOption};
 ghost use Rattle.std.specs.Bool.{MatchBool};
-ghost use Rattle.lex.specs.Cutting.{Answers, Closes, Opens, Only, FirstOnLine, IsInclude, in_line};
+ghost use Rattle.lex.specs.Bytes.{Only, in_line};
+ghost use Rattle.lex.specs.Pieces.{Closes, Opens, FirstOnLine, IsInclude};
+ghost use Rattle.lex.specs.inner.Answers.{Answers};
 
 use crate::bytes::{blanks_len, is_blank, line_len, starts_part};
 use crate::fault::LexFault;
 use crate::token::{Kind, Span};
 
-// Where the first `*/` from the third byte on stands.
+/// Where the first `*/` from the third byte on stands.
 fn close(rest: &[u8]) -> Option<usize>
     requires { length rest.now < 2 ^ 62 }
     ensures { MatchOption result ((k : ℕ) → 2 ≤ k → k + 2 ≤ length rest.now → Closes rest.now k → ⊥) (λ n. (2 ≤ n) × (n + 2 ≤ length rest.now) × Closes rest.now n × ((k : ℕ) → 2 ≤ k → k < n → Closes rest.now k → ⊥)) }
@@ -23,7 +25,7 @@ fn close(rest: &[u8]) -> Option<usize>
     None
 }
 
-// The comment at the place, that `/*` opens.
+/// The comment at the place, that `/*` opens: up to the first `*/` behind it (C11 6.4.9).
 pub(crate) fn comment<'a>(text: &'a str, at: usize) -> Result<(Option<Kind<'a>>, usize), LexFault>
     requires within { at + 1 < length text.now }
     requires fits { length text.now < 2 ^ 62 }
@@ -40,7 +42,7 @@ pub(crate) fn comment<'a>(text: &'a str, at: usize) -> Result<(Option<Kind<'a>>,
     }
 }
 
-// The comment at the place, that `//` opens.
+/// The comment at the place, that `//` opens: up to the end of its line (C11 6.4.9).
 pub(crate) fn line_comment<'a>(
     text: &'a str,
     at: usize,
@@ -54,7 +56,7 @@ pub(crate) fn line_comment<'a>(
     Ok((None, line_len(rest)))
 }
 
-// Whether only spaces and tabs stand behind the last LF.
+/// Whether only spaces and tabs stand behind the last LF.
 fn is_first_on_line(before: &[u8]) -> bool
     ensures { MatchBool result (FirstOnLine before.now) (FirstOnLine before.now → ⊥) }
 {
@@ -71,7 +73,7 @@ fn is_first_on_line(before: &[u8]) -> bool
     true
 }
 
-// What stands behind `include`, where the text begins with it.
+/// What stands behind `include`, where the text begins with it.
 fn after_include(word: &[u8]) -> Option<&[u8]>
     ensures { MatchOption result ((more : List ℕ) → word.now ≢ codes "include" ++ more) (λ rest. word.now ≡ codes "include" ++ rest.now) }
 {
@@ -81,7 +83,7 @@ fn after_include(word: &[u8]) -> Option<&[u8]>
     }
 }
 
-// Whether `include` stands behind the `#` and its spaces and tabs, as a word.
+/// Whether `include` stands behind the `#` and its spaces and tabs, as a word.
 fn is_include(line: &[u8]) -> bool
     requires some { 0 < length line.now }
     requires begins { slice_index line.now 0 ≡ 35 }
@@ -95,7 +97,9 @@ fn is_include(line: &[u8]) -> bool
     }
 }
 
-// The line at the place from its `#` on.
+/// The line at the place from its `#` on.
+///
+/// directive = "#" {space | tab} "include" [what no letter, digit or `_` begins], first on its line (C11 6.10.2)
 pub(crate) fn directive<'a>(text: &'a str, at: usize) -> Result<(Option<Kind<'a>>, usize), LexFault>
     requires within { at < length text.now }
     requires fits { length text.now < 2 ^ 62 }

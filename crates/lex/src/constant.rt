@@ -3,8 +3,10 @@
 ghost use Rattle.std.specs.Prelude.{◌≡◌, ◌+◌, ◌<◌, ◌≤◌, ◌^◌, true, length, slice_index};
 ghost use Rattle.std.specs.List.{prefix_len};
 ghost use Rattle.std.specs.Char.{digit_value};
-ghost use Rattle.lex.specs.Cutting as spec;
-ghost use Rattle.lex.specs.Constants.{base_at, before_len, suffix_len, GivesNumber, GivesTyped};
+ghost use Rattle.lex.specs.Pieces as spec;
+ghost use Rattle.lex.specs.Bytes as bytes;
+ghost use Rattle.lex.specs.inner.Answers as answers;
+ghost use Rattle.lex.specs.inner.Constants.{base_at, before_len, suffix_len, GivesNumber, GivesTyped};
 
 use crate::bytes::{is_digit, is_glued, is_hexadecimal, is_octal};
 use crate::fault::LexFault;
@@ -20,6 +22,7 @@ pub(crate) enum Base {
     Hexadecimal,
 }
 
+/// The base of the constant at the front.
 fn base_at(rest: &[u8]) -> Base
     ensures { result ≡ base_at rest.now }
 {
@@ -30,6 +33,7 @@ fn base_at(rest: &[u8]) -> Base
     }
 }
 
+/// How many bytes a base puts before its digits.
 fn before_len(base: Base) -> usize
     ensures { result ≡ before_len base }
 {
@@ -40,6 +44,7 @@ fn before_len(base: Base) -> usize
     }
 }
 
+/// What each digit counts for, more than the one behind it.
 fn radix(base: Base) -> u64
     ensures { result ≡ spec.radix base }
 {
@@ -50,6 +55,7 @@ fn radix(base: Base) -> u64
     }
 }
 
+/// Whether a byte is a digit of the base.
 fn is_digit_of(base: Base, b: u8) -> bool
     ensures { result ≡ spec.is_digit_of base b }
 {
@@ -60,6 +66,7 @@ fn is_digit_of(base: Base, b: u8) -> bool
     }
 }
 
+/// How many digits of the base stand at the front.
 fn digits_len(base: Base, rest: &[u8]) -> usize
     ensures value { result ≡ prefix_len (spec.is_digit_of base) rest.now }
     ensures within { result ≤ length rest.now }
@@ -67,6 +74,7 @@ fn digits_len(base: Base, rest: &[u8]) -> usize
     rest.iter().take_while(|b| is_digit_of(base, **b)).count()
 }
 
+/// unsigned-suffix: `u` or `U`, or nothing.
 fn suffix_len(rest: &[u8]) -> usize
     ensures { result ≡ suffix_len rest.now }
 {
@@ -76,24 +84,24 @@ fn suffix_len(rest: &[u8]) -> usize
     }
 }
 
-// What a digit counts for.
+/// What a digit counts for.
 fn digit_value(b: u8) -> u64
-    requires { spec.is_hexadecimal b ≡ true }
+    requires { bytes.is_hexadecimal b ≡ true }
     ensures value { result ≡ digit_value b }
     ensures small { result < 16 }
 {
     if b <= b'9' {
-        b as u64 - 48
+        b as u64 - b'0' as u64
     } else if b <= b'F' {
-        b as u64 - 55
+        b as u64 - b'A' as u64 + 10
     } else {
-        b as u64 - 87
+        b as u64 - b'a' as u64 + 10
     }
 }
 
-// The digits' number, where it is below 2^32.
+/// The digits' number, where it is below 2^32.
 fn number(base: Base, digits: &[u8]) -> Option<u32>
-    requires { spec.Only (spec.is_digit_of base) digits.now }
+    requires { bytes.Only (spec.is_digit_of base) digits.now }
     ensures { GivesNumber result (spec.value_from (spec.radix base) 0 digits.now) }
 {
     let mut n: u64 = 0;
@@ -106,6 +114,7 @@ fn number(base: Base, digits: &[u8]) -> Option<u32>
     Some(n as u32)
 }
 
+/// Whether the base is ten.
 fn is_decimal(base: Base) -> bool
     ensures { result ≡ spec.is_decimal base }
 {
@@ -115,7 +124,7 @@ fn is_decimal(base: Base) -> bool
     }
 }
 
-// The type of a constant of this value.
+/// The type of a constant of this value.
 fn type_of(is_decimal: bool, is_suffixed: bool, value: u32) -> Option<Scalar>
     ensures { result ≡ spec.type_of is_decimal is_suffixed value }
 {
@@ -128,9 +137,9 @@ fn type_of(is_decimal: bool, is_suffixed: bool, value: u32) -> Option<Scalar>
     }
 }
 
-// The value and the type of these digits, where there is a type that holds it.
+/// The value and the type of these digits, where there is a type that holds it.
 fn typed(base: Base, is_suffixed: bool, digits: &[u8]) -> Option<(u32, Scalar)>
-    requires { spec.Only (spec.is_digit_of base) digits.now }
+    requires { bytes.Only (spec.is_digit_of base) digits.now }
     ensures { GivesTyped result base is_suffixed (spec.value_from (spec.radix base) 0 digits.now) }
 {
     let value = number(base, digits)?;
@@ -138,12 +147,14 @@ fn typed(base: Base, is_suffixed: bool, digits: &[u8]) -> Option<(u32, Scalar)>
     Some((value, of))
 }
 
-// The constant at the place.
+/// The constant at the place.
+///
+/// constant = (nonzero-digit {digit} | "0" {octal-digit} | ("0x" | "0X") hexadecimal-digit {hexadecimal-digit}) ["u" | "U"] (C11 6.4.4.1)
 pub(crate) fn constant<'a>(text: &'a str, at: usize) -> Result<(Option<Kind<'a>>, usize), LexFault>
     requires within { at < length text.now }
     requires fits { length text.now < 2 ^ 62 }
-    requires begins { spec.is_digit (slice_index text.now at) ≡ true }
-    ensures { spec.Answers text.now at result }
+    requires begins { bytes.is_digit (slice_index text.now at) ≡ true }
+    ensures { answers.Answers text.now at result }
 {
     let (_, rest) = text.as_bytes().split_at(at);
     let base = base_at(rest);

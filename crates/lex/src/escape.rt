@@ -5,7 +5,7 @@ ghost use Rattle.lex.specs.Tokens as spec;
 
 use std::alloc::{AllocError, Allocator};
 
-// The character that a backslash and this one stand for.
+/// The character that a backslash and this one stand for.
 fn stands_for(c: char) -> char
     ensures { result ≡ spec.stands_for c }
 {

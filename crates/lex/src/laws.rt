@@ -3,7 +3,8 @@
 ghost use Rattle.std.specs.Prelude.{◌≡◌, ℕ, List, length};
 ghost use Rattle.lex.specs.declared.fault.LexFault.{LexFault};
 ghost use Rattle.lex.specs.Tokens.{Tok};
-ghost use Rattle.lex.specs.Cutting.{IsLexed, IsFirst};
+ghost use Rattle.lex.specs.Faults.{IsFirst};
+ghost use Rattle.lex.specs.Pieces.{IsLexed};
 ghost use Rattle.lex.specs.Laws.{Lie};
 
 /// The tokens of a text stand in it in their order, none is empty and none lies over another, and each says what the

@@ -2,22 +2,25 @@
 
 ghost use Rattle.std.specs.Prelude.{◌≡◌, ◌+◌, ◌<◌, ◌≤◌, ◌^◌, false, length, slice_index, IfOk, IfErr};
 ghost use Rattle.lex.specs.Tokens.{toks};
-ghost use Rattle.lex.specs.Cutting.{Answers, IsLexed, IsFault, is_letter, is_digit, is_white};
+ghost use Rattle.lex.specs.Bytes.{is_letter, is_digit, is_white};
+ghost use Rattle.lex.specs.Faults.{IsFault};
+ghost use Rattle.lex.specs.Pieces.{IsLexed};
+ghost use Rattle.lex.specs.inner.Answers.{Answers};
 
 use crate::bytes::{character_len, is_digit, is_letter, is_white};
 use crate::comment::{comment, directive, line_comment};
 use crate::constant::constant;
 use crate::fault::LexFault;
-use crate::sign::sign;
+use crate::punctuator::punctuator;
 use crate::string::string;
 use crate::token::{Kind, Span, Token};
 use crate::word::word;
 use std::alloc::Allocator;
 
 /// The most bytes that a text may have.
-const MOST_BYTES: usize = 1_048_576;
+pub const MOST_BYTES: usize = 1_048_576;
 
-// What begins with a slash.
+/// What begins with a slash: a comment or a punctuator.
 fn slash<'a>(text: &'a str, at: usize) -> Result<(Option<Kind<'a>>, usize), LexFault>
     requires within { at < length text.now }
     requires fits { length text.now < 2 ^ 62 }
@@ -31,10 +34,10 @@ fn slash<'a>(text: &'a str, at: usize) -> Result<(Option<Kind<'a>>, usize), LexF
     if at + 1 < bytes.len() && bytes[at + 1] == b'/' {
         return line_comment(text, at);
     }
-    sign(text, at)
+    punctuator(text, at)
 }
 
-// The piece at the place: a token's kind, or none for what stands between tokens, and its length.
+/// The piece at the place: a token's kind, or none for what stands between tokens, and its length.
 fn next<'a>(text: &'a str, at: usize) -> Result<(Option<Kind<'a>>, usize), LexFault>
     requires within { at < length text.now }
     requires fits { length text.now < 2 ^ 62 }
@@ -54,7 +57,7 @@ fn next<'a>(text: &'a str, at: usize) -> Result<(Option<Kind<'a>>, usize), LexFa
         b'"' => string(text, at),
         b'#' => directive(text, at),
         b'/' => slash(text, at),
-        _ => sign(text, at),
+        _ => punctuator(text, at),
     }
 }
 

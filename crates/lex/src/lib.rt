@@ -9,14 +9,14 @@ pub mod fault;
 pub mod laws;
 mod lexer;
 mod line;
-mod sign;
+mod punctuator;
 mod string;
 pub mod token;
 mod word;
 
 pub use escape::unescape;
 pub use fault::LexFault;
-pub use lexer::lex;
+pub use lexer::{MOST_BYTES, lex};
 pub use line::place;
 
 #[cfg(test)]

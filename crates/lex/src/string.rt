@@ -1,14 +1,14 @@
 //! Strings.
 
 ghost use Rattle.std.specs.Prelude.{◌≡◌, ◌+◌, ◌<◌, ◌^◌, length, slice_index, take};
-ghost use Rattle.lex.specs.Cutting.{Answers};
-ghost use Rattle.lex.specs.Strings.{GivesInside};
+ghost use Rattle.lex.specs.inner.Answers.{Answers};
+ghost use Rattle.lex.specs.inner.Strings.{GivesInside};
 
 use crate::bytes::{is_escape, is_plain};
 use crate::fault::LexFault;
 use crate::token::{Kind, Span};
 
-// How many bytes stand before the quote that closes a string, where one does.
+/// How many bytes stand before the quote that closes a string, where one does.
 fn inside_len(rest: &[u8]) -> Option<usize>
     requires { length rest.now < 2 ^ 62 }
     ensures { GivesInside rest.now result }
@@ -28,7 +28,9 @@ fn inside_len(rest: &[u8]) -> Option<usize>
     None
 }
 
-// The string at the place.
+/// The string literal at the place.
+///
+/// string = `"` {plain | `\` ("n" | "t" | `\` | `"`)} `"` (C11 6.4.5, without prefixes)
 pub(crate) fn string<'a>(text: &'a str, at: usize) -> Result<(Option<Kind<'a>>, usize), LexFault>
     requires within { at < length text.now }
     requires fits { length text.now < 2 ^ 62 }
@@ -37,7 +39,10 @@ pub(crate) fn string<'a>(text: &'a str, at: usize) -> Result<(Option<Kind<'a>>, 
 {
     let (_, behind) = text.as_bytes().split_at(at + 1);
     match inside_len(behind) {
-        Some(len) => Ok((Some(Kind::Text(&text[at + 1..at + 1 + len])), len + 2)),
+        Some(len) => Ok((
+            Some(Kind::StringLiteral(&text[at + 1..at + 1 + len])),
+            len + 2,
+        )),
         None => Err(LexFault::BadString(Span {
             start: at,
             end: at + 1,

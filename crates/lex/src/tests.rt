@@ -1,11 +1,12 @@
 //! Each call once with ample memory, each fault with its span, and a refused growth.
 
-use crate::token::{Kind, Mark, Scalar, Span, Token};
+use crate::token::{Keyword, Kind, Scalar, Span, Token};
 use crate::{lex, place, unescape};
 use refusing::Refusing;
+use std::alloc::{AllocError, Allocator};
 use std::test::Fail;
 
-// Whether the text is refused with this number and span.
+/// Whether the text is refused with this number and span.
 fn is_refused(rt: &HostRuntime, text: &str, number: u32, start: usize, end: usize) -> bool {
     match lex(rt.alloc(), text) {
         Ok(_) => false,
@@ -13,7 +14,7 @@ fn is_refused(rt: &HostRuntime, text: &str, number: u32, start: usize, end: usiz
     }
 }
 
-// Whether the text's tokens stand at these places.
+/// Whether the text's tokens stand at these places.
 fn stand_at(rt: &HostRuntime, text: &str, places: &[(usize, usize)]) -> bool {
     match lex(rt.alloc(), text) {
         Ok(tokens) => {
@@ -36,7 +37,7 @@ fn tokens_say_what_they_are(rt: HostRuntime) -> Result<(), Fail> {
         matches!(
             tokens.get(0),
             Some(Token {
-                kind: Kind::Fixed(Mark::Int),
+                kind: Kind::Keyword(Keyword::Int),
                 ..
             })
         )
@@ -72,7 +73,7 @@ fn tokens_say_what_they_are(rt: HostRuntime) -> Result<(), Fail> {
         matches!(
             tokens.get(6),
             Some(Token {
-                kind: Kind::Text("a\\n"),
+                kind: Kind::StringLiteral("a\\n"),
                 ..
             })
         )
@@ -81,7 +82,7 @@ fn tokens_say_what_they_are(rt: HostRuntime) -> Result<(), Fail> {
 }
 
 #[test]
-fn the_longest_sign_comes_first(rt: HostRuntime) {
+fn the_longest_punctuator_comes_first(rt: HostRuntime) {
     assert!(rt; stand_at(&rt, "a>>=b", &[(0, 1), (1, 4), (4, 5)]));
     assert!(rt; stand_at(&rt, "a>> =b", &[(0, 1), (1, 3), (4, 5), (5, 6)]));
     assert!(rt; stand_at(&rt, "a+++b", &[(0, 1), (1, 3), (3, 4), (4, 5)]));
@@ -150,6 +151,43 @@ fn a_text_has_at_most_a_mebibyte(rt: HostRuntime) -> Result<(), Fail> {
         text.push_str(" ")?;
     }
     assert!(rt; stand_at(&rt, text.as_str(), &[]));
+    Ok(())
+}
+
+/// A text of a part, another one so many times, and a last one.
+fn repeated<A: Allocator + Copy>(
+    alloc: A,
+    before: &str,
+    part: &str,
+    times: usize,
+    after: &str,
+) -> Result<String<A>, AllocError> {
+    let mut text = String::from_str(alloc, before)?;
+    for _ in 0..times {
+        text.push_str(part)?;
+    }
+    text.push_str(after)?;
+    Ok(text)
+}
+
+#[test]
+fn large_pieces_are_lexed(rt: HostRuntime) -> Result<(), Fail> {
+    let comment = repeated(rt.alloc(), "/*", "*\n", 100000, "*/;")?;
+    assert!(rt; stand_at(&rt, comment.as_str(), &[(200004, 200005)]));
+    let line = repeated(rt.alloc(), "//", "*", 100000, "\n;")?;
+    assert!(rt; stand_at(&rt, line.as_str(), &[(100003, 100004)]));
+    let string = repeated(rt.alloc(), "\"", "\\n", 100000, "\"")?;
+    assert!(rt; stand_at(&rt, string.as_str(), &[(0, 200002)]));
+    let name = repeated(rt.alloc(), "_", "a", 100000, "")?;
+    assert!(rt; stand_at(&rt, name.as_str(), &[(0, 100001)]));
+    let include = repeated(rt.alloc(), "#include <", "a", 100000, ">\n;")?;
+    assert!(rt; stand_at(&rt, include.as_str(), &[(100012, 100013)]));
+    let constant = repeated(rt.alloc(), "0", "0", 100000, "7")?;
+    assert!(rt; stand_at(&rt, constant.as_str(), &[(0, 100002)]));
+    let names = repeated(rt.alloc(), "", "a ", 100000, "")?;
+    assert_eq!(rt; lex(rt.alloc(), names.as_str())?.len(), 100000);
+    let escapes = repeated(rt.alloc(), "", "\\n", 100000, "")?;
+    assert_eq!(rt; unescape(rt.alloc(), escapes.as_str())?.len(), 100000);
     Ok(())
 }
 

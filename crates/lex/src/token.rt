@@ -1,5 +1,8 @@
 //! What a text is cut into: tokens, with the bytes that each one covers.
 
+ghost use Rattle.std.specs.Prelude.{◌≡◌};
+ghost use Rattle.lex.specs.Tokens as tokens;
+
 /// Bytes of the text, from `start` up to and without `end`, counted from 0.
 #[derive(Clone, Copy, Debug, PartialEq, Eq)]
 pub struct Span {
@@ -16,9 +19,9 @@ pub enum Scalar {
     Unsigned,
 }
 
-/// A token with one spelling only: a keyword or a sign (C11 6.4.1, 6.4.6).
+/// A keyword (C11 6.4.1, and the transactions of GNU C).
 #[derive(Clone, Copy, Debug, PartialEq, Eq)]
-pub enum Mark {
+pub enum Keyword {
     Int,
     Unsigned,
     Signed,
@@ -40,6 +43,11 @@ pub enum Mark {
     Cancel,
     /// `__attribute__`
     Attribute,
+}
+
+/// A punctuator (C11 6.4.6).
+#[derive(Clone, Copy, Debug, PartialEq, Eq)]
+pub enum Punctuator {
     OpenBrace,
     CloseBrace,
     OpenParen,
@@ -87,17 +95,35 @@ pub enum Mark {
     Complement,
 }
 
+/// A token with one spelling only.
+#[derive(Clone, Copy, Debug, PartialEq, Eq)]
+pub enum Fixed {
+    Keyword(Keyword),
+    Punctuator(Punctuator),
+}
+
 /// What a token is.
 #[derive(Clone, Copy, Debug)]
 pub enum Kind<'a> {
     Name(&'a str),
     /// A whole number, by its value and its type.
     Constant(u32, Scalar),
-    /// A string, as it is written between its quotes: an escape stands as its two characters.
-    Text(&'a str),
-    Fixed(Mark),
-    /// A word that C keeps for itself and that stands nowhere in this language's grammar.
+    /// A string literal, as it is written between its quotes: an escape stands as its two characters (C11 6.4.5).
+    StringLiteral(&'a str),
+    Keyword(Keyword),
+    Punctuator(Punctuator),
+    /// A reserved word of C that stands nowhere in this language's grammar.
     Reserved,
+}
+
+/// What a token of one spelling is.
+pub(crate) fn kind_of<'a>(fixed: Fixed) -> Kind<'a>
+    ensures { tokens.terminal result ≡ tokens.fixed fixed }
+{
+    match fixed {
+        Fixed::Keyword(keyword) => Kind::Keyword(keyword),
+        Fixed::Punctuator(punctuator) => Kind::Punctuator(punctuator),
+    }
 }
 
 /// A token, and where it stands.

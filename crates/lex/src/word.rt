@@ -2,40 +2,44 @@
 
 ghost use Rattle.std.specs.Prelude.{◌≡◌, ◌≢◌, ◌^◌, ◌<◌, true, length, slice_index, MatchOption};
 ghost use Rattle.std.specs.Bool.{MatchBool};
-ghost use Rattle.lex.specs.declared.token.Mark.{Mark};
+ghost use Rattle.lex.specs.declared.token.Fixed.{Fixed};
 ghost use Rattle.lex.specs.Spelling.{spelling, Reserved};
-ghost use Rattle.lex.specs.Cutting.{IsWord, Answers, is_letter};
+ghost use Rattle.lex.specs.Bytes.{is_letter};
+ghost use Rattle.lex.specs.Pieces.{IsWord};
+ghost use Rattle.lex.specs.inner.Answers.{Answers};
 
 use crate::bytes::word_len;
 use crate::fault::LexFault;
-use crate::token::{Kind, Mark};
+use crate::token::{Fixed, Keyword, Kind, kind_of};
 
-fn keyword(word: &str) -> Option<Mark>
+/// The keyword that a word is (C11 6.4.1, and the transactions of GNU C).
+fn keyword(word: &str) -> Option<Fixed>
     requires { IsWord word.now }
-    ensures { MatchOption result ((m : Mark) → word.now ≢ spelling m) (λ m. word.now ≡ spelling m) }
+    ensures { MatchOption result ((m : Fixed) → word.now ≢ spelling m) (λ m. word.now ≡ spelling m) }
 {
     match word {
-        "int" => Some(Mark::Int),
-        "unsigned" => Some(Mark::Unsigned),
-        "signed" => Some(Mark::Signed),
-        "void" => Some(Mark::Void),
-        "if" => Some(Mark::If),
-        "else" => Some(Mark::Else),
-        "while" => Some(Mark::While),
-        "do" => Some(Mark::Do),
-        "for" => Some(Mark::For),
-        "break" => Some(Mark::Break),
-        "continue" => Some(Mark::Continue),
-        "return" => Some(Mark::Return),
-        "printf" => Some(Mark::Printf),
-        "__transaction_atomic" => Some(Mark::Atomic),
-        "__transaction_relaxed" => Some(Mark::Relaxed),
-        "__transaction_cancel" => Some(Mark::Cancel),
-        "__attribute__" => Some(Mark::Attribute),
+        "int" => Some(Fixed::Keyword(Keyword::Int)),
+        "unsigned" => Some(Fixed::Keyword(Keyword::Unsigned)),
+        "signed" => Some(Fixed::Keyword(Keyword::Signed)),
+        "void" => Some(Fixed::Keyword(Keyword::Void)),
+        "if" => Some(Fixed::Keyword(Keyword::If)),
+        "else" => Some(Fixed::Keyword(Keyword::Else)),
+        "while" => Some(Fixed::Keyword(Keyword::While)),
+        "do" => Some(Fixed::Keyword(Keyword::Do)),
+        "for" => Some(Fixed::Keyword(Keyword::For)),
+        "break" => Some(Fixed::Keyword(Keyword::Break)),
+        "continue" => Some(Fixed::Keyword(Keyword::Continue)),
+        "return" => Some(Fixed::Keyword(Keyword::Return)),
+        "printf" => Some(Fixed::Keyword(Keyword::Printf)),
+        "__transaction_atomic" => Some(Fixed::Keyword(Keyword::Atomic)),
+        "__transaction_relaxed" => Some(Fixed::Keyword(Keyword::Relaxed)),
+        "__transaction_cancel" => Some(Fixed::Keyword(Keyword::Cancel)),
+        "__attribute__" => Some(Fixed::Keyword(Keyword::Attribute)),
         _ => None,
     }
 }
 
+/// Whether a word is a keyword of C that this language does not use (C11 6.4.1).
 fn is_reserved(word: &str) -> bool
     ensures { MatchBool result (Reserved word.now) (Reserved word.now → ⊥) }
 {
@@ -66,7 +70,9 @@ fn is_reserved(word: &str) -> bool
     )
 }
 
-// The word at the place.
+/// The word at the place: a keyword, a reserved word or a name.
+///
+/// word = nondigit {nondigit | digit} (C11 6.4.2.1)
 pub(crate) fn word<'a>(text: &'a str, at: usize) -> Result<(Option<Kind<'a>>, usize), LexFault>
     requires within { at < length text.now }
     requires fits { length text.now < 2 ^ 62 }
@@ -77,7 +83,7 @@ pub(crate) fn word<'a>(text: &'a str, at: usize) -> Result<(Option<Kind<'a>>, us
     let len = word_len(rest);
     let word = &text[at..at + len];
     let kind = match keyword(word) {
-        Some(mark) => Kind::Fixed(mark),
+        Some(keyword) => kind_of(keyword),
         None => {
             if is_reserved(word) {
                 Kind::Reserved

@@ -1,5 +1,5 @@
 use Rattle.std.proofs.Common.{length, ◌-◌, ℕ, ◌+◌, ◌<◌, ◌≤◌}
-use Rattle.lex.specs.Cutting.{Closes}
+use Rattle.lex.specs.Pieces.{Closes}
 use Rattle.lex.proofs.comment.close.Given as goal
 
 -- no `*/` stands before k

@@ -1,5 +1,5 @@
 use Rattle.std.proofs.Common.{◌≡◌, drop, ap, ◌∙◌}
-use Rattle.lex.proofs.Steps.{comment_step, open_step}
+use Rattle.lex.proofs.steps.Steps.{comment_step, open_step}
 use Rattle.lex.proofs.comment.comment.Goals as goal
 
 pub returns-in-Some : goal.returns-in-Some

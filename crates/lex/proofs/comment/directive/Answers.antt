@@ -1,5 +1,5 @@
 use Rattle.std.proofs.Common.{◌≡◌, take, drop, ap, ◌∙◌}
-use Rattle.lex.proofs.Steps.{misplaced_step, unknown_step, include_step}
+use Rattle.lex.proofs.steps.Steps.{misplaced_step, unknown_step, include_step}
 use Rattle.lex.proofs.comment.directive.Goals as goal
 
 pub returns-then-not-is_first_on_line : goal.returns-then-not-is_first_on_line

@@ -1,5 +1,5 @@
 use Rattle.std.proofs.Common.{◌≡◌, ℕ, ◌<◌, ◌≤◌, true, length, slice_index}
-use Rattle.lex.specs.Cutting.{is_blank}
+use Rattle.lex.specs.Bytes.{is_blank}
 use Rattle.lex.proofs.comment.is_first_on_line.Given as goal
 
 -- only spaces and tabs stand from k on

@@ -1,8 +1,9 @@
 use Rattle.std.proofs.Common.{◌≡◌, Bool, true, false, not, sym, ◌∙◌, drop, codes, ◌++◌}
 use Rattle.std.specs.Bool.{MatchBool}
 use Rattle.std.specs.List.{prefix_len}
-use Rattle.lex.specs.Cutting.{IsInclude, starts, is_part, is_blank}
-use Rattle.lex.proofs.Directives.{include_word, include_here, include_not}
+use Rattle.lex.specs.Bytes.{starts, is_part, is_blank}
+use Rattle.lex.specs.Pieces.{IsInclude}
+use Rattle.lex.proofs.pieces.Directives.{include_word, include_here, include_not}
 use Rattle.lex.proofs.comment.is_include.Goals as goal
 
 pub returns-in-Some : goal.returns-in-Some

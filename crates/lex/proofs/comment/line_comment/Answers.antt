@@ -1,5 +1,5 @@
 use Rattle.std.proofs.Common.{◌≡◌, drop, ap, ◌∙◌}
-use Rattle.lex.proofs.Steps.{line_step}
+use Rattle.lex.proofs.steps.Steps.{line_step}
 use Rattle.lex.proofs.comment.line_comment.Goals as goal
 
 pub returns : goal.returns

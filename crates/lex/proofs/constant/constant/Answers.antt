@@ -1,6 +1,6 @@
 use Rattle.std.proofs.Common.{◌≡◌, ℕ, drop, ap, sym, ◌∙◌}
-use Rattle.lex.proofs.Numbers.{parts_found}
-use Rattle.lex.proofs.Steps.{large_step, glued_step, constant_step}
+use Rattle.lex.proofs.pieces.Constants.{parts_found}
+use Rattle.lex.proofs.steps.Steps.{large_step, glued_step, constant_step}
 use Rattle.lex.proofs.constant.constant.Goals as goal
 
 pub typed-requires : goal.typed-requires

@@ -1,8 +1,8 @@
 use Rattle.std.proofs.Common.{◌≡◌, ◌≤◌, ◌+◌, ◌*◌, drop, slice_index, ap, arith}
 use Rattle.std.proofs.lemmas.List.{drop_more}
 use Rattle.std.specs.Char.{digit_value}
-use Rattle.lex.specs.Cutting.{value_from, radix}
-use Rattle.lex.proofs.Numbers.{grows, radix_some}
+use Rattle.lex.specs.Pieces.{value_from, radix}
+use Rattle.lex.proofs.pieces.Constants.{grows, radix_some}
 use Rattle.lex.proofs.constant.number.Goals as goal
 
 pub returns-then-n-ge4294967296 : goal.returns-then-n-ge4294967296

@@ -1,5 +1,5 @@
 use Rattle.std.proofs.Common.{◌≡◌, ◌<◌, ◌^◌, drop}
-use Rattle.lex.specs.Cutting.{value_from, radix}
+use Rattle.lex.specs.Pieces.{value_from, radix}
 use Rattle.lex.proofs.constant.number.Given as goal
 
 -- the number so far with the digits that are left is the whole number

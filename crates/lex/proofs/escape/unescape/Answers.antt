@@ -1,7 +1,7 @@
 use Rattle.std.proofs.Common.{string_bytes}
 use Rattle.std.specs.Str.Iter.{chars_rest}
 use Rattle.lex.specs.Tokens.{unescaped}
-use Rattle.lex.proofs.Escapes.{plain_turn, escaped_turn}
+use Rattle.lex.proofs.steps.Escapes.{plain_turn, escaped_turn}
 use Rattle.lex.proofs.escape.unescape.Goals as goal
 
 pub characters-preserved-then-is_escaped : goal.characters-preserved-then-is_escaped

@@ -1,7 +1,7 @@
 use Rattle.std.proofs.Common.{◌≡◌, ◌++◌, string_bytes}
 use Rattle.std.specs.Str.Iter.{chars_rest}
 use Rattle.lex.specs.Tokens.{unescaped}
-use Rattle.lex.proofs.Escapes.{pending}
+use Rattle.lex.proofs.steps.Escapes.{pending}
 use Rattle.lex.proofs.escape.unescape.Given as goal
 
 -- what was written, with what the rest stands for, is what the whole stands for

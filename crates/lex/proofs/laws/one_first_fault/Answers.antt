@@ -1,4 +1,4 @@
-use Rattle.lex.proofs.Ways.{one_fault_law}
+use Rattle.lex.proofs.unique.Ways.{one_fault_law}
 use Rattle.lex.proofs.laws.one_first_fault.Goals as goal
 
 pub returns : goal.returns

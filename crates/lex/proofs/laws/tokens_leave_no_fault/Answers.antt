@@ -1,4 +1,4 @@
-use Rattle.lex.proofs.Ways.{no_fault_law}
+use Rattle.lex.proofs.unique.Ways.{no_fault_law}
 use Rattle.lex.proofs.laws.tokens_leave_no_fault.Goals as goal
 
 pub returns : goal.returns

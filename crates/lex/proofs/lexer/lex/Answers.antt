@@ -1,8 +1,8 @@
 use Rattle.std.proofs.Common.{sym, arith, subst, List}
 use Rattle.lex.specs.declared.token.Token.{Token}
 use Rattle.lex.specs.Tokens.{toks}
-use Rattle.lex.specs.Cutting.{Cut, start}
-use Rattle.lex.proofs.Cuts.{token_cut, gap_cut}
+use Rattle.lex.specs.Pieces.{Cut, start}
+use Rattle.lex.proofs.steps.Cuts.{token_cut, gap_cut}
 use Rattle.lex.proofs.lexer.lex.Goals as goal
 
 pub pieces-init : goal.pieces-init

@@ -1,6 +1,6 @@
 use Rattle.std.proofs.Common.{length, ◌-◌, ◌≤◌}
 use Rattle.lex.specs.Tokens.{toks}
-use Rattle.lex.specs.Cutting.{Cut}
+use Rattle.lex.specs.Pieces.{Cut}
 use Rattle.lex.proofs.lexer.lex.Given as goal
 
 -- the text up to the place is cut into the tokens found so far

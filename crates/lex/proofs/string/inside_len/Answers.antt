@@ -1,5 +1,5 @@
 use Rattle.std.proofs.Common.{sym, arith}
-use Rattle.lex.proofs.Quotes.{inside_plain, open_plain, inside_escape, open_escape}
+use Rattle.lex.proofs.pieces.Strings.{inside_plain, open_plain, inside_escape, open_escape}
 use Rattle.lex.proofs.string.inside_len.Goals as goal
 
 pub inside-preserved-then-is_plain : goal.inside-preserved-then-is_plain

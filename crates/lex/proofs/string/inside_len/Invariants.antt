@@ -1,6 +1,6 @@
 use Rattle.std.proofs.Common.{length, ◌-◌, ◌≤◌, take, drop}
-use Rattle.lex.specs.Cutting.{Inside}
-use Rattle.lex.specs.Strings.{Unclosed}
+use Rattle.lex.specs.Pieces.{Inside}
+use Rattle.lex.specs.inner.Strings.{Unclosed}
 use Rattle.lex.proofs.string.inside_len.Given as goal
 
 -- what was passed may stand in a string, and where the rest is not closed the whole is not

@@ -1,5 +1,5 @@
 use Rattle.std.proofs.Common.{◌≡◌, ◌+◌, ◌-◌, ℕ, take, drop, ap, sym, ◌∙◌, arith}
-use Rattle.lex.proofs.Steps.{string_step, quote_step}
+use Rattle.lex.proofs.steps.Steps.{string_step, quote_step}
 use Rattle.lex.proofs.string.string.Goals as goal
 
 pub returns-in-Some : goal.returns-in-Some

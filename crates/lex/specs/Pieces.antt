@@ -1,0 +1,208 @@
+-- How a text is cut into tokens: at each place the longest piece that has a shape, and what it says. The shapes are
+-- those of C11 6.4, as far as this language has them.
+use Rattle.std.specs.Prelude.{◌≡◌, ◌≢◌, ℕ, ◌+◌, ◌-◌, ◌*◌, ◌^◌, ◌<◌, ◌≤◌, Bool, true, false, not, ◌&&◌, ◌||◌, ◌⊎◌, nat_lt, if◌then◌else◌, List, [], ◌∷◌, ◌++◌, length, take, drop, slice_index, codes, Option, Some, None}
+use Rattle.std.specs.Char.{digit_value}
+use Rattle.lex.specs.declared.constant.Base.{Base}
+use Rattle.lex.specs.declared.constant.Base.TheVariants.{Decimal, Octal, Hexadecimal}
+use Rattle.lex.specs.declared.lexer.TheConstants.{MOST_BYTES}
+use Rattle.lex.specs.declared.token.Fixed.{Fixed}
+use Rattle.lex.specs.declared.token.Scalar.{Scalar}
+use Rattle.lex.specs.declared.token.Scalar.TheVariants.{Int, Unsigned}
+use Rattle.lex.specs.Bytes.{is_white, is_blank, is_digit, is_octal, is_hexadecimal, is_letter, is_part, is_glue, in_line, is_plain, is_escape, Only, starts}
+use Rattle.lex.specs.Spelling.{spelling, Reserved}
+use Rattle.lex.specs.Tokens.{Terminal, Tok}
+use Rattle.lex.specs.Tokens as tokens
+
+-- ---- the shapes of pieces
+
+abbrev pub IsWhite : List ℕ → Type 0
+IsWhite w = (length w ≡ 1) × (is_white (slice_index w 0) ≡ true)
+
+-- a letter or `_`, then letters, digits and `_` (C11 6.4.2.1)
+abbrev pub IsWord : List ℕ → Type 0
+IsWord w = (0 < length w) × (is_letter (slice_index w 0) ≡ true) × Only is_part w
+
+-- `*/` stands at k
+abbrev pub Closes : List ℕ → ℕ → Type 0
+Closes w k = (slice_index w k ≡ 42) × (slice_index w (k + 1) ≡ 47)
+
+abbrev pub Opens : List ℕ → Type 0
+Opens w = (slice_index w 0 ≡ 47) × (slice_index w 1 ≡ 42)
+
+-- from `/*` to the first `*/` behind it (C11 6.4.9)
+pub record IsComment (w : List ℕ) : Type 0 where
+  pub opens : Opens w
+  pub large : 4 ≤ length w
+  pub closes : Closes w (length w - 2)
+  pub first : (k : ℕ) → 2 ≤ k → k + 2 < length w → Closes w k → ⊥
+
+-- `/*` without a `*/` behind it
+pub record IsOpen (w : List ℕ) : Type 0 where
+  pub opens : Opens w
+  pub large : 2 ≤ length w
+  pub never : (k : ℕ) → 2 ≤ k → k + 2 ≤ length w → Closes w k → ⊥
+
+-- `//` and more of its line (C11 6.4.9)
+pub record IsLine (w : List ℕ) : Type 0 where
+  pub large : 2 ≤ length w
+  pub slashes : (slice_index w 0 ≡ 47) × (slice_index w 1 ≡ 47)
+  pub within : Only in_line w
+
+-- `#` and more of its line
+pub record IsDirective (w : List ℕ) : Type 0 where
+  pub large : 1 ≤ length w
+  pub number : slice_index w 0 ≡ 35
+  pub within : Only in_line w
+
+-- `#`, spaces and tabs, and then the word `include` (C11 6.10.2)
+pub record IsInclude (w : List ℕ) : Type 0 where
+  pub blanks : List ℕ
+  pub rest : List ℕ
+  pub written : w ≡ (35 ∷ blanks) ++ (codes "include" ++ rest)
+  pub blank : Only is_blank blanks
+  pub parted : starts is_part rest ≡ false
+
+-- bytes that may stand between a string's quotes
+abbrev pub Inside : List ℕ → Type 0
+Inside [] = Unit {0}
+Inside (a ∷ []) = is_plain a ≡ true
+Inside (a ∷ b ∷ w) = ((is_plain a ≡ true) × Inside (b ∷ w)) ⊎ ((a ≡ 92) × (is_escape b ≡ true) × Inside w)
+
+-- a string, by what stands between its quotes (C11 6.4.5)
+pub record IsString (w inner : List ℕ) : Type 0 where
+  pub written : w ≡ 34 ∷ (inner ++ 34 ∷ [])
+  pub inside : Inside inner
+
+-- ---- constants (C11 6.4.4.1)
+
+abbrev pub radix : Base → ℕ
+radix Decimal = 10
+radix Octal = 8
+radix Hexadecimal = 16
+
+abbrev pub is_digit_of : Base → ℕ → Bool
+is_digit_of Decimal = is_digit
+is_digit_of Octal = is_octal
+is_digit_of Hexadecimal = is_hexadecimal
+
+-- what a base puts before its digits, and which digits make a constant of it
+abbrev pub IsWritten : Base → (before digits : List ℕ) → Type 0
+IsWritten Decimal before digits = (before ≡ []) × (0 < length digits) × (slice_index digits 0 ≢ 48)
+IsWritten Octal before digits = before ≡ codes "0"
+IsWritten Hexadecimal before digits = ((before ≡ codes "0x") ⊎ (before ≡ codes "0X")) × (0 < length digits)
+
+-- `u`, `U` or nothing
+abbrev pub IsSuffix : List ℕ → Type 0
+IsSuffix s = (s ≡ []) ⊎ (s ≡ codes "u") ⊎ (s ≡ codes "U")
+
+-- a constant, by its parts
+pub record Constant (w : List ℕ) : Type 0 where
+  pub base : Base
+  pub before : List ℕ
+  pub digits : List ℕ
+  pub suffix : List ℕ
+  pub whole : w ≡ before ++ (digits ++ suffix)
+  pub written : IsWritten base before digits
+  pub all : Only (is_digit_of base) digits
+  pub ended : IsSuffix suffix
+
+-- the number that digits stand for, behind digits that stand for n
+abbrev pub value_from : ℕ → ℕ → List ℕ → ℕ
+value_from r n [] = n
+value_from r n (d ∷ ds) = value_from r (n * r + digit_value d) ds
+
+abbrev pub value : {w : List ℕ} → Constant w → ℕ
+value c = value_from (radix c.base) 0 c.digits
+
+abbrev pub is_decimal : Base → Bool
+is_decimal Decimal = true
+is_decimal Octal = false
+is_decimal Hexadecimal = false
+
+-- a constant's type, by whether its base is decimal, whether it has a suffix, and its value: `int` if it has no suffix
+-- and fits, else `unsigned` if it fits and has a suffix or another base
+abbrev pub type_of : (is_decimal suffixed : Bool) → ℕ → Option Scalar
+type_of is_decimal suffixed n = if not suffixed && nat_lt n (2 ^ 31) then Some Int else (if (suffixed || not is_decimal) && nat_lt n (2 ^ 32) then Some Unsigned else None)
+
+-- whether there is a byte
+abbrev pub is_some_byte : List ℕ → Bool
+is_some_byte [] = false
+is_some_byte (b ∷ w) = true
+
+-- the constant's type, where it has one
+abbrev pub typed : {w : List ℕ} → Constant w → Option Scalar
+typed c = type_of (is_decimal c.base) (is_some_byte c.suffix) (value c)
+
+-- ---- the longest piece, and what it says
+
+-- bytes that have the shape of a piece; a comment without its end, a lone quote and a line that begins with `#` have one too
+pub data Shape (w : List ℕ) : Type 0 where
+  white : IsWhite w → Shape w
+  comment : IsComment w → Shape w
+  line : IsLine w → Shape w
+  open_comment : IsOpen w → Shape w
+  directive : IsDirective w → Shape w
+  word : IsWord w → Shape w
+  constant : Constant w → Shape w
+  string : (inner : List ℕ) → IsString w inner → Shape w
+  quote : w ≡ codes "\"" → Shape w
+  fixed : (m : Fixed) → w ≡ spelling m → Shape w
+
+-- the first len bytes have a shape, and no more bytes at the front have one
+pub record Longest (rest : List ℕ) (len : ℕ) : Type 0 where
+  pub within : len ≤ length rest
+  pub shaped : Shape (take len rest)
+  pub longest : (n : ℕ) → n ≤ length rest → Shape (take n rest) → n ≤ len
+
+-- no bytes at the front have a shape
+abbrev pub Strange : List ℕ → Type 0
+Strange rest = (n : ℕ) → n ≤ length rest → Shape (take n rest) → ⊥
+
+-- each byte before the place that no LF parts from it is a space or a tab
+abbrev pub FirstOnLine : List ℕ → Type 0
+FirstOnLine before = (k : ℕ) → k < length before → ((j : ℕ) → k ≤ j → j < length before → slice_index before j ≢ 10) → is_blank (slice_index before k) ≡ true
+
+-- what stands between tokens: white space, comments, and a line with `#include`
+pub data Gap (before w : List ℕ) : Type 0 where
+  white : IsWhite w → Gap before w
+  comment : IsComment w → Gap before w
+  line : IsLine w → Gap before w
+  include : IsDirective w → FirstOnLine before → IsInclude w → Gap before w
+
+-- what a piece says
+pub data Says (w : List ℕ) : Terminal → Type 0 where
+  name : IsWord w → ((m : Fixed) → w ≢ spelling m) → ¬ (Reserved w) → Says w (tokens.name w)
+  reserved : Reserved w → Says w tokens.reserved
+  fixed : (m : Fixed) → w ≡ spelling m → Says w (tokens.fixed m)
+  constant : (c : Constant w) (t : Scalar) → typed c ≡ Some t → Says w (tokens.constant (value c) t)
+  string : (inner : List ℕ) → IsString w inner → Says w (tokens.string_literal inner)
+
+-- what may stand directly behind a token
+abbrev pub Parted : Terminal → List ℕ → Type 0
+Parted (tokens.name w) after = Unit {0}
+Parted (tokens.constant n t) after = starts is_glue after ≡ false
+Parted (tokens.string_literal w) after = Unit {0}
+Parted (tokens.fixed m) after = Unit {0}
+Parted tokens.reserved after = Unit {0}
+
+-- the len bytes at the place are no part of a token
+pub record IsGap (text : List ℕ) (at len : ℕ) : Type 0 where
+  pub front : Longest (drop at text) len
+  pub gap : Gap (take at text) (take len (drop at text))
+
+-- the len bytes at the place are this token
+pub record IsToken (text : List ℕ) (at len : ℕ) (says : Terminal) : Type 0 where
+  pub front : Longest (drop at text) len
+  pub means : Says (take len (drop at text)) says
+  pub parted : Parted says (drop len (drop at text))
+
+-- the text up to the place is cut into these tokens
+pub data Cut (text : List ℕ) : ℕ → List Tok → Type 0 where
+  start : Cut text 0 []
+  gap : {at : ℕ} {ts : List Tok} (len : ℕ) → Cut text at ts → IsGap text at len → Cut text (at + len) ts
+  token : {at : ℕ} {ts : List Tok} (len : ℕ) (says : Terminal) → Cut text at ts → IsToken text at len says → Cut text (at + len) (ts ++ record { terminal = says; span = record { start = at; «end» = at + len } } ∷ [])
+
+-- the text's tokens
+pub record IsLexed (text : List ℕ) (ts : List Tok) : Type 0 where
+  pub short : length text ≤ MOST_BYTES
+  pub cut : Cut text (length text) ts

@@ -1,0 +1,8 @@
+-- what one step of the lexer answers
+pub mod Answers
+-- a constant by its parts, as it is read
+pub mod Constants
+-- punctuators by their bytes
+pub mod Punctuators
+-- where a string ends
+pub mod Strings
