@@ -1,29 +1,26 @@
 -- More ticks and more memories: what a run does with them, beside what it does without.
 use Rattle.std.specs.Prelude.{◌≡◌, ℕ, zero, suc, List, [], ◌++◌}
-use Rattle.syntax.specs.declared.numbers.Stop.TheVariants.{Trapped, Wants, Spent, Astray}
+use Rattle.syntax.specs.declared.numbers.Halt.TheVariants.{Trapped, Wants, Spent, Astray}
 use Rattle.syntax.specs.Behaviours.{Memory}
-use Rattle.syntax.specs.Actions.{Place, Outside, Inside, State, Answer, Gives, Stops, Action}
-
-abbrev pub state_of : {A : Type 0} → Answer A → State
-state_of (Gives a s) = s
-state_of (Stops why s) = s
+use Rattle.syntax.specs.Actions.{Context, Outside, Inside, State, Answer, Gives, Stops, Action}
+pub use Rattle.syntax.specs.Actions.{state_of}
 
 -- n and k
 abbrev pub added : ℕ → ℕ → ℕ
 added zero k = k
 added (suc n) k = suc (added n k)
 
-abbrev pub with_founds : List Memory → Place → Place
+abbrev pub with_founds : List Memory → Context → Context
 with_founds extra (Outside founds lefts) = Outside (founds ++ extra) lefts
 with_founds extra (Inside mode m) = Inside mode m
 
 -- the state with k further ticks and further memories to be found
 abbrev pub with_more : ℕ → List Memory → State → State
-with_more k extra s = record s { ticks = added s.ticks k; place = with_founds extra s.place }
+with_more k extra s = record s { ticks = added s.ticks k; context = with_founds extra s.context }
 
--- a later place: outside transactions the memories left begin with the earlier ones,
+-- a later context: outside transactions the memories left begin with the earlier ones,
 -- and a run that begins inside a transaction stays inside
-abbrev pub Follows : Place → Place → Type 0
+abbrev pub Follows : Context → Context → Type 0
 Follows (Outside founds lefts) (Outside founds' lefts') = (more : List Memory) × (lefts' ≡ lefts ++ more)
 Follows (Outside founds lefts) (Inside mode m) = ⊥
 Follows (Inside mode m) (Outside founds lefts) = ⊥
@@ -33,7 +30,7 @@ Follows (Inside mode m) (Inside mode' m') = Unit {0}
 pub record Grown (old new : State) : Type 0 where
   pub printed : List ℕ
   pub text : new.text ≡ old.text ++ printed
-  pub place : Follows old.place new.place
+  pub context : Follows old.context new.context
 
 -- what an answer says of the answer with more
 abbrev pub Extends : {A : Type 0} → ℕ → List Memory → Answer A → Answer A → Type 0

@@ -1,5 +1,6 @@
 -- A property of runs that the words of runs keep holds of all that a program does.
-use Rattle.std.specs.Prelude.{if◌then◌else◌, Contains}
+use Rattle.std.specs.Prelude.{if◌then◌else◌, Contains, ℤ}
+use Rattle.std.specs.Fmt.{signed_decimal}
 use Rattle.std.proofs.lemmas.List.Elements.{Contains-append_left, Contains-append_right}
 use Rattle.std.proofs.Common.{◌≡◌, refl, inl, inr, arith, length, ℕ, ◌<◌, ◌^◌, zero, suc, List, [], ◌∷◌, ◌++◌, Option, Some, None, Bool, true, false, Result, Ok, Err}
 use Rattle.lex.specs.declared.token.Scalar.{Scalar}
@@ -9,11 +10,11 @@ use Rattle.syntax.specs.declared.numbers.Trap.{Trap}
 use Rattle.syntax.specs.declared.numbers.Trap.TheVariants.{Index, Frames}
 use Rattle.syntax.specs.declared.tree.Mode.{Mode}
 use Rattle.syntax.specs.Tree as Tree
-use Rattle.syntax.specs.Tree.{Name, Expr, Exprs, Variable, Constant, Element, Call, Parenthesized, Cast, Unary, Binary, Logical, Conditional, Simple, Value as Just, Assign, Change, Declarator, Declaration, Start, Nothing, Declares, Does, Stmt, Stmts, Empty, Declare, Do, Block, Print, If, IfElse, While, DoWhile, For, Break, Continue, Return, Transaction, Cancel, Parameter, Function, Program}
+use Rattle.syntax.specs.Tree.{Name, Expr, Exprs, Variable, Constant, Element, Call, Parenthesized, Cast, Unary, Binary, Logical, Conditional, Simple, Evaluate, Assign, Adjust, Declarator, Declaration, Start, Nothing, Declares, Does, Stmt, Stmts, Empty, Declare, Do, Block, Print, If, IfElse, While, DoWhile, For, Break, Continue, Return, Transaction, Cancel, Parameter, Function, Program}
 use Rattle.syntax.specs.declared.numbers.Value.{Value}
 use Rattle.syntax.specs.Numbers.{number, number_of}
 use Rattle.syntax.specs.Names.{Local, newest, global_of, definition_of}
-use Rattle.syntax.specs.declared.numbers.Stop.TheVariants.{Astray}
+use Rattle.syntax.specs.declared.numbers.Halt.TheVariants.{Astray}
 use Rattle.syntax.specs.Actions.{Action, pure, stop, ◌>>=◌, ◌>>◌, tick, trap, or_trap, or_astray, locals, put_locals, load, store, may_print, print_piece}
 use Rattle.syntax.specs.Formats.{Piece, Literal, Figure, pieces, formats_in, formats_among, IsFormatOf}
 use Rattle.syntax.specs.Laws.{IsPieceOf}
@@ -21,8 +22,8 @@ use Rattle.syntax.specs.Meaning.{Spot, InLocal, InCell, fetch, assign, print_pie
 use Rattle.syntax.proofs.Words.{word_below}
 use Rattle.syntax.specs.Threads.{worker_run}
 
--- a property that each word of runs keeps, where only pieces of the program are printed
-pub record IsKept (p : Program) (Q : (A : Type 0) → Action A → Type 0) : Type 1 where
+-- a property that each word of runs keeps, where only such pieces are printed
+pub record IsKept (IsPiece : List ℕ → Type 0) (Q : (A : Type 0) → Action A → Type 0) : Type 1 where
   pub pure_holds : {A : Type 0} (a : A) → Q A (pure a)
   pub on_holds : {A B : Type 0} {run : Action A} {rest : A → Action B} → Q A run → ((a : A) → Q B (rest a)) → Q B (run >>= rest)
   pub astray_holds : {A : Type 0} → Q A (stop Astray)
@@ -33,7 +34,7 @@ pub record IsKept (p : Program) (Q : (A : Type 0) → Action A → Type 0) : Typ
   pub load_holds : (c : ℕ) → Q ℕ (load c)
   pub store_holds : (c w : ℕ) → w < 2 ^ 32 → Q (Unit {0}) (store c w)
   pub may_print_holds : Q (Unit {0}) may_print
-  pub print_piece_holds : (text : List ℕ) → IsPieceOf p text → Q (Unit {0}) (print_piece text)
+  pub print_piece_holds : (text : List ℕ) → IsPiece text → Q (Unit {0}) (print_piece text)
   pub loop_holds : {turn : Action (Option End)} → Q (Option End) turn → Q End (loop turn)
   pub transaction_holds : (mode : Mode) {run : Action End} → Q End run → Q End (transaction mode run)
 
@@ -43,7 +44,8 @@ contains_first x xs = (0, omega arith, refl)
 contains_later : {X : Type 0} (x : X) (xs : List X) (y : X) → Contains xs y → Contains (x ∷ xs) y
 contains_later x xs y c = (suc c.0, omega (arith, c.1), c.2)
 
-module _ (p : Program) (Q : (A : Type 0) → Action A → Type 0) (kept : IsKept p Q) where
+-- numbers are such pieces, and so is the literal text of the program's formats
+module _ (p : Program) (IsPiece : List ℕ → Type 0) (number_piece : (z : ℤ) → IsPiece (signed_decimal z)) (literal_piece : (format : List ℕ) → IsFormatOf p format → (text : List ℕ) → Contains (pieces format) (Literal text) → IsPiece text) (Q : (A : Type 0) → Action A → Type 0) (kept : IsKept IsPiece Q) where
   open kept use {pure_holds, on_holds, astray_holds, trap_holds, tick_holds, locals_holds, put_locals_holds, load_holds, store_holds, may_print_holds, print_piece_holds, loop_holds, transaction_holds}
 
   then_holds : {A B : Type 0} {run : Action A} {rest : Action B} → Q A run → Q B rest → Q B (run >> rest)
@@ -74,15 +76,15 @@ module _ (p : Program) (Q : (A : Type 0) → Action A → Type 0) (kept : IsKept
   found_holds (Some a) h = h a refl
   found_holds None h = astray_holds
 
-  print_pieces_holds : (ps : List Piece) (vs : List Value) → ((text : List ℕ) → Contains ps (Literal text) → IsPieceOf p text) → Q _ (print_pieces ps vs)
+  print_pieces_holds : (ps : List Piece) (vs : List Value) → ((text : List ℕ) → Contains ps (Literal text) → IsPiece text) → Q _ (print_pieces ps vs)
   print_pieces_holds [] vs h = pure_holds tt
   print_pieces_holds (Literal text ∷ ps) vs h = then_holds (print_piece_holds text (h text (contains_first (Literal text) ps))) (print_pieces_holds ps vs (λ t c. h t (contains_later (Literal text) ps (Literal t) c)))
   print_pieces_holds (Figure t ∷ ps) [] h = astray_holds
-  print_pieces_holds (Figure t ∷ ps) (v ∷ vs) h = then_holds (print_piece_holds _ (inr (number t v.word, refl))) (print_pieces_holds ps vs (λ text c. h text (contains_later (Figure t) ps (Literal text) c)))
+  print_pieces_holds (Figure t ∷ ps) (v ∷ vs) h = then_holds (print_piece_holds _ (number_piece (number t v.word))) (print_pieces_holds ps vs (λ text c. h text (contains_later (Figure t) ps (Literal text) c)))
 
-  -- formats of the program
-  abbrev Stand : List (List ℕ) → Type 0
-  Stand formats = (format : List ℕ) → Contains formats format → IsFormatOf p format
+  -- formats whose literal text is such pieces
+  abbrev pub Stand : List (List ℕ) → Type 0
+  Stand formats = (format : List ℕ) → Contains formats format → (text : List ℕ) → Contains (pieces format) (Literal text) → IsPiece text
 
   front_stands : (fs gs : List (List ℕ)) → Stand (fs ++ gs) → Stand fs
   front_stands fs gs h format c = h format (Contains-append_left fs gs format c)
@@ -97,7 +99,7 @@ module _ (p : Program) (Q : (A : Type 0) → Action A → Type 0) (kept : IsKept
   on_next_holds h (Returns v) = pure_holds (Returns v)
   on_next_holds h Cancels = pure_holds Cancels
 
-  scoped_holds : {run : Action End} → Q _ run → Q _ (scoped run)
+  pub scoped_holds : {run : Action End} → Q _ run → Q _ (scoped run)
   scoped_holds h = on_holds locals_holds (λ outer. on_holds h (λ end. on_holds locals_holds (λ all. then_holds (put_locals_holds _) (pure_holds end))))
 
   after_body_holds : {go : Action (Option End)} → Q _ go → (end : End) → Q _ (after_body go end)
@@ -120,7 +122,7 @@ module _ (p : Program) (Q : (A : Type 0) → Action A → Type 0) (kept : IsKept
     element_holds x k = on_holds (or_astray_holds (global_of p x)) (λ g. if_holds _ (pure_holds _) (trap_holds Index))
 
     mutual
-      expr_holds : (e : Expr) → Q _ (expr p call e)
+      pub expr_holds : (e : Expr) → Q _ (expr p call e)
       expr_holds (Variable x) = on_holds (named_holds x.text) fetch_holds
       expr_holds (Constant n t at) = pure_holds _
       expr_holds (Element x i at) = on_holds (expr_holds i) (λ k. on_holds (element_holds x.text k) fetch_holds)
@@ -133,7 +135,7 @@ module _ (p : Program) (Q : (A : Type 0) → Action A → Type 0) (kept : IsKept
       expr_holds (Logical OrElse a b at) = on_holds (expr_holds a) (λ v. on_holds (if_holds _ (expr_holds b) (pure_holds v)) (λ w. pure_holds _))
       expr_holds (Conditional c a b at) = on_holds (expr_holds c) (λ v. on_holds (if_holds _ (expr_holds b) (expr_holds a)) (λ w. on_holds locals_holds (λ mine. on_holds (or_astray_holds _) (λ t. pure_holds _))))
 
-      exprs_holds : (es : Exprs) → Q _ (exprs p call es)
+      pub exprs_holds : (es : Exprs) → Q _ (exprs p call es)
       exprs_holds Tree.[] = pure_holds []
       exprs_holds (Tree.◌∷◌ e es) = on_holds (expr_holds e) (λ v. on_holds (exprs_holds es) (λ vs. pure_holds _))
 
@@ -150,9 +152,9 @@ module _ (p : Program) (Q : (A : Type 0) → Action A → Type 0) (kept : IsKept
     assigned_holds at g (Some op) = changed_holds at g op
 
     simple_holds : (s : Simple) → Q _ (simple p call s)
-    simple_holds (Just e) = then_holds (expr_holds e) (pure_holds Next)
+    simple_holds (Evaluate e) = then_holds (expr_holds e) (pure_holds Next)
     simple_holds (Assign to op e) = on_holds (spot_holds to) (λ at. then_holds (assigned_holds at (expr_holds e) op) (pure_holds Next))
-    simple_holds (Change to by) = on_holds (spot_holds to) (λ at. then_holds (changed_holds at (pure_holds int_one) (op_of by)) (pure_holds Next))
+    simple_holds (Adjust to by) = on_holds (spot_holds to) (λ at. then_holds (changed_holds at (pure_holds int_one) (op_of by)) (pure_holds Next))
 
     first_value_holds : (at : Spot) (o : Option Expr) → Q _ (first_value p call at o)
     first_value_holds at None = pure_holds tt
@@ -180,24 +182,24 @@ module _ (p : Program) (Q : (A : Type 0) → Action A → Type 0) (kept : IsKept
     return_value_holds (Some e) = expr_holds e
 
     mutual
-      stmt_holds : (s : Stmt) → Stand (formats_in s) → Q _ (stmt p call s)
+      pub stmt_holds : (s : Stmt) → Stand (formats_in s) → Q _ (stmt p call s)
       stmt_holds Empty st = then_holds tick_holds (pure_holds Next)
       stmt_holds (Declare d) st = then_holds tick_holds (declare_holds d.of d.declarators)
       stmt_holds (Do s) st = then_holds tick_holds (simple_holds s)
       stmt_holds (Block ss) st = then_holds tick_holds (scoped_holds (stmts_holds ss st))
-      stmt_holds (Print at format format_at es) st = then_holds tick_holds (then_holds may_print_holds (on_holds (exprs_holds es) (λ vs. then_holds (print_pieces_holds (pieces format) vs (λ text c. inl (format, st format (contains_first format []), c))) (pure_holds Next))))
-      stmt_holds (If c a) st = then_holds tick_holds (on_holds (expr_holds c) (λ v. if_holds _ (pure_holds Next) (stmt_holds a st)))
-      stmt_holds (IfElse c a b) st = then_holds tick_holds (on_holds (expr_holds c) (λ v. if_holds _ (stmt_holds b (back_stands (formats_in a) (formats_in b) st)) (stmt_holds a (front_stands (formats_in a) (formats_in b) st))))
-      stmt_holds (While c a) st = then_holds tick_holds (loop_holds (on_holds (expr_holds c) (λ v. if_holds _ (pure_holds _) (on_holds (stmt_holds a st) (after_body_holds (pure_holds None))))))
-      stmt_holds (DoWhile a c) st = then_holds tick_holds (loop_holds (on_holds (stmt_holds a st) (after_body_holds (on_holds (expr_holds c) (λ v. pure_holds _)))))
-      stmt_holds (For start c step a) st = then_holds tick_holds (scoped_holds (then_holds (start_with_holds start) (loop_holds (on_holds (holds_holds c) (λ more. if_holds _ (on_holds (stmt_holds a st) (after_body_holds (stepped_holds step))) (pure_holds _))))))
+      stmt_holds (Print at format format_at es) st = then_holds tick_holds (then_holds may_print_holds (on_holds (exprs_holds es) (λ vs. then_holds (print_pieces_holds (pieces format) vs (λ text c. st format (contains_first format []) text c)) (pure_holds Next))))
+      stmt_holds (If c a) st = then_holds tick_holds (on_holds (expr_holds c) (λ v. if_holds _ (pure_holds Next) (scoped_holds (stmt_holds a st))))
+      stmt_holds (IfElse c a b) st = then_holds tick_holds (on_holds (expr_holds c) (λ v. if_holds _ (scoped_holds (stmt_holds b (back_stands (formats_in a) (formats_in b) st))) (scoped_holds (stmt_holds a (front_stands (formats_in a) (formats_in b) st)))))
+      stmt_holds (While c a) st = then_holds tick_holds (loop_holds (on_holds (expr_holds c) (λ v. if_holds _ (pure_holds _) (on_holds (scoped_holds (stmt_holds a st)) (after_body_holds (pure_holds None))))))
+      stmt_holds (DoWhile a c) st = then_holds tick_holds (loop_holds (on_holds (scoped_holds (stmt_holds a st)) (after_body_holds (on_holds (expr_holds c) (λ v. pure_holds _)))))
+      stmt_holds (For start c step a) st = then_holds tick_holds (scoped_holds (then_holds (start_with_holds start) (loop_holds (on_holds (holds_holds c) (λ more. if_holds _ (on_holds (scoped_holds (stmt_holds a st)) (after_body_holds (stepped_holds step))) (pure_holds _))))))
       stmt_holds (Break at) st = then_holds tick_holds (pure_holds Breaks)
       stmt_holds (Continue at) st = then_holds tick_holds (pure_holds Continues)
       stmt_holds (Return e at) st = then_holds tick_holds (on_holds (return_value_holds e) (λ v. pure_holds _))
       stmt_holds (Transaction mode ss at) st = then_holds tick_holds (transaction_holds mode (scoped_holds (stmts_holds ss st)))
       stmt_holds (Cancel at) st = then_holds tick_holds (pure_holds Cancels)
 
-      stmts_holds : (ss : Stmts) → Stand (formats_among ss) → Q _ (stmts p call ss)
+      pub stmts_holds : (ss : Stmts) → Stand (formats_among ss) → Q _ (stmts p call ss)
       stmts_holds Tree.[] st = pure_holds Next
       stmts_holds (Tree.◌∷◌ s ss) st = on_holds (stmt_holds s (front_stands (formats_in s) (formats_among ss) st)) (on_next_holds (stmts_holds ss (back_stands (formats_in s) (formats_among ss) st)))
 
@@ -209,11 +211,35 @@ module _ (p : Program) (Q : (A : Type 0) → Action A → Type 0) (kept : IsKept
     result_of_holds t Cancels = astray_holds
 
     invoke_holds : (x : List ℕ) (vs : List Value) → Q _ (invoke p call x vs)
-    invoke_holds x vs = found_holds (definition_of p x) (λ f e. on_holds (or_astray_holds (entered f.0.parameters vs)) (λ mine. on_holds locals_holds (λ outer. then_holds (put_locals_holds mine) (on_holds (stmts_holds f.1 (λ format c. (x, f, e, c))) (λ end. then_holds (put_locals_holds outer) (result_of_holds f.0.result end))))))
+    invoke_holds x vs = found_holds (definition_of p x) (λ f e. on_holds (or_astray_holds (entered f.0.parameters vs)) (λ mine. on_holds locals_holds (λ outer. then_holds (put_locals_holds mine) (on_holds (stmts_holds f.1 (λ format c. literal_piece format (x, f, e, c))) (λ end. then_holds (put_locals_holds outer) (result_of_holds f.0.result end))))))
 
-  calls_holds : (n : ℕ) (x : List ℕ) (vs : List Value) → Q _ (calls p n x vs)
+  pub calls_holds : (n : ℕ) (x : List ℕ) (vs : List Value) → Q _ (calls p n x vs)
   calls_holds zero x vs = trap_holds Frames
   calls_holds (suc n) x vs = invoke_holds (calls p n) (calls_holds n) x vs
 
-  pub worker_holds : (t : ℕ) → Q _ (worker_run p t)
-  worker_holds t = then_holds (invoke_holds (calls p 63) (calls_holds 63) _ _) tick_holds
+  any_worker_holds : (t : ℕ) → Q _ (worker_run p t)
+  any_worker_holds t = then_holds (invoke_holds (calls p 63) (calls_holds 63) _ _) tick_holds
+
+-- where only pieces of the program are printed
+pub worker_holds : (p : Program) (Q : (A : Type 0) → Action A → Type 0) → IsKept (IsPieceOf p) Q → (t : ℕ) → Q _ (worker_run p t)
+worker_holds p Q kept t = any_worker_holds p (IsPieceOf p) (λ z. inr (z, refl)) (λ format is text c. inl (format, is, c)) Q kept t
+
+-- whatever is printed
+abbrev pub IsAlwaysKept : ((A : Type 0) → Action A → Type 0) → Type 1
+IsAlwaysKept Q = IsKept (λ text. Unit {0}) Q
+
+module _ (p : Program) (Q : (A : Type 0) → Action A → Type 0) (kept : IsAlwaysKept Q) where
+  pub block_holds : (call : Caller) → ((x : List ℕ) (vs : List Value) → Q Value (call x vs)) → (ss : Stmts) → Q End (scoped (stmts p call ss))
+  block_holds call h ss =
+      scoped_holds p (λ text. Unit {0}) (λ z. tt) (λ format is text c. tt) Q kept
+      (stmts_holds p (λ text. Unit {0}) (λ z. tt) (λ format is text c. tt) Q kept call h ss (λ format c text d. tt))
+
+module _ (p : Program) (Q : (A : Type 0) → Action A → Type 0) (kept : IsAlwaysKept Q) (frames : ℕ) where
+  pub called_holds : (x : List ℕ) (vs : List Value) → Q Value (calls p frames x vs)
+  called_holds = calls_holds p (λ text. Unit {0}) (λ z. tt) (λ format is text c. tt) Q kept frames
+
+  pub each_expr_holds : (e : Expr) → Q Value (expr p (calls p frames) e)
+  each_expr_holds = expr_holds p (λ text. Unit {0}) (λ z. tt) (λ format is text c. tt) Q kept (calls p frames) called_holds
+
+  pub each_stmt_holds : (st : Stmt) → Q End (stmt p (calls p frames) st)
+  each_stmt_holds st = stmt_holds p (λ text. Unit {0}) (λ z. tt) (λ format is text c. tt) Q kept (calls p frames) called_holds st (λ format c text d. tt)

@@ -1,20 +1,32 @@
+mod Contexts
 mod Counted
 mod Expressions
 mod Further
-mod Kept
+mod Loops
 mod MeaningSteady
 mod Memories
-mod MoreRows
-mod OlderLocals
 mod OneTick
+mod OrderRows
+mod RefusedRows
 mod Spelled
 mod Steady
 mod ThreadLaws
+mod Ticks
+mod TotalRows
 mod TypeRows
-mod ValueTypes
-mod Words
+mod WordsStay
+pub mod Called
+pub mod Demands
 pub mod Depths
+pub mod Ends
+pub mod ExactLocals
+pub mod Fits
+pub mod Kept
+pub mod MoreRows
+pub mod OlderLocals
 pub mod Pushes
 pub mod Rows
-pub mod Sames
 pub mod Seen
+pub mod TypedParts
+pub mod ValueTypes
+pub mod Words

@@ -4,13 +4,14 @@ use Rattle.syntax.specs.declared.tree.Mode.{Mode}
 use Rattle.syntax.specs.declared.tree.Mode.TheVariants.{Atomic, Relaxed}
 use Rattle.syntax.specs.Tree.{Program}
 use Rattle.syntax.specs.Names.{Local}
-use Rattle.syntax.specs.declared.numbers.Stop.TheVariants.{Trapped, Wants, Spent, Astray}
+use Rattle.syntax.specs.declared.numbers.Halt.TheVariants.{Trapped, Wants, Spent, Astray}
 use Rattle.syntax.specs.Behaviours.{Memory}
-use Rattle.syntax.specs.Actions.{Place, Outside, Inside, State, Answer, Gives, Stops, Action, stop, go_on, ◌>>=◌, spend, tick}
+use Rattle.syntax.specs.Actions.{Context, Outside, Inside, State, Answer, Gives, Stops, Action, stop, go_on, ◌>>=◌, spend, tick}
 use Rattle.syntax.specs.Actions.{memory_in}
 use Rattle.syntax.specs.Meaning.{End, Next, Breaks, Continues, Returns, Cancels, after_turn, turns, loop, Left, left_by, leave_inner, close_inner, inner, close, outermost, enter, transaction}
 use Rattle.syntax.specs.Threads.{worker_run}
 use Rattle.syntax.proofs.Further.{state_of, added, with_founds, with_more, Follows, Grown, Extends, IsSteady}
+use Rattle.syntax.specs.Laws.{IsPieceOf}
 use Rattle.syntax.proofs.Kept.{IsKept, worker_holds}
 use Rattle.syntax.proofs.Steady.{still, grown_trans, more_grown, on_grown, on_extends, on_steady, pure_steady, astray_steady, tick_steady, locals_steady, put_locals_steady, load_steady, store_steady, may_print_steady, trap_steady, print_piece_steady}
 
@@ -39,43 +40,43 @@ turns_extend turn h k extra (suc n) s =
 loop_steady : {turn : Action (Option End)} → IsSteady turn → IsSteady (loop turn)
 loop_steady {turn = turn} h = record { grows = λ s. turns_grow turn h s.ticks s; extends = λ k extra s. turns_extend turn h k extra s.ticks s }
 
-memory_further : (extra : List Memory) (p : Place) → memory_in (with_founds extra p) ≡ memory_in p
+memory_further : (extra : List Memory) (p : Context) → memory_in (with_founds extra p) ≡ memory_in p
 memory_further extra (Outside founds lefts) = refl
 memory_further extra (Inside mode m) = refl
 
 abbrev left_with : End → List Local → Memory → Left
 left_with end ls m = record { end = end; locals = ls; memory = m }
 
-abbrev IsInside : Place → Type 0
+abbrev IsInside : Context → Type 0
 IsInside (Outside founds lefts) = ⊥
 IsInside (Inside mode m) = Unit {0}
 
-inside_follows : (p : Place) → IsInside p → (outer : Mode) (m : Memory) → Follows p (Inside outer m)
+inside_follows : (p : Context) → IsInside p → (outer : Mode) (m : Memory) → Follows p (Inside outer m)
 inside_follows (Outside founds lefts) f outer m = f
 inside_follows (Inside mode m') f outer m = tt
 
 -- a run that begins inside stays inside
-stays_inside : (mode : Mode) (m : Memory) (p : Place) → Follows (Inside mode m) p → IsInside p
+stays_inside : (mode : Mode) (m : Memory) (p : Context) → Follows (Inside mode m) p → IsInside p
 stays_inside mode m (Outside founds lefts) f = f
 stays_inside mode m (Inside mode' m') f = tt
 
 -- what a transaction leaves does not hang on what there is more
 left_further : (k : ℕ) (extra : List Memory) (mine : List Local) (found : Memory) (end : End) (now : State) → left_by mine found end (with_more k extra now) ≡ left_by mine found end now
 left_further k extra mine found Cancels now = refl
-left_further k extra mine found Next now = ap (λ m. left_with Next now.locals m) (memory_further extra now.place)
-left_further k extra mine found Breaks now = ap (λ m. left_with Breaks now.locals m) (memory_further extra now.place)
-left_further k extra mine found Continues now = ap (λ m. left_with Continues now.locals m) (memory_further extra now.place)
-left_further k extra mine found (Returns v) now = ap (λ m. left_with (Returns v) now.locals m) (memory_further extra now.place)
+left_further k extra mine found Next now = ap (λ m. left_with Next now.locals m) (memory_further extra now.context)
+left_further k extra mine found Breaks now = ap (λ m. left_with Breaks now.locals m) (memory_further extra now.context)
+left_further k extra mine found Continues now = ap (λ m. left_with Continues now.locals m) (memory_further extra now.context)
+left_further k extra mine found (Returns v) now = ap (λ m. left_with (Returns v) now.locals m) (memory_further extra now.context)
 
-abbrev state : ℕ → List Local → Place → List ℕ → State
-state n ls p t = record { ticks = n; locals = ls; place = p; text = t }
+abbrev state : ℕ → List Local → Context → List ℕ → State
+state n ls p t = record { ticks = n; locals = ls; context = p; text = t }
 
 module _ (outer : Mode) (mine : List Local) (found : Memory) where
-  close_inner_grows : (s : State) (r : Answer End) → IsInside s.place → Grown s (state_of r) → Grown s (state_of (close_inner outer mine found r))
-  close_inner_grows s (Gives end now) f g = record { printed = g.printed; text = g.text; place = inside_follows s.place f outer _ }
+  close_inner_grows : (s : State) (r : Answer End) → IsInside s.context → Grown s (state_of r) → Grown s (state_of (close_inner outer mine found r))
+  close_inner_grows s (Gives end now) f g = record { printed = g.printed; text = g.text; context = inside_follows s.context f outer _ }
   close_inner_grows s (Stops why now) f g = g
 
-  close_inner_extends : (k : ℕ) (extra : List Memory) (r more : Answer End) → IsInside (state_of r).place → Extends k extra r more → Extends k extra (close_inner outer mine found r) (close_inner outer mine found more)
+  close_inner_extends : (k : ℕ) (extra : List Memory) (r more : Answer End) → IsInside (state_of r).context → Extends k extra r more → Extends k extra (close_inner outer mine found r) (close_inner outer mine found more)
   close_inner_extends k extra (Gives end now) more f e =
       ap (close_inner outer mine found) e ∙ ap (λ l. leave_inner outer l (with_more k extra now)) (left_further k extra mine found end now)
   close_inner_extends k extra (Stops (Trapped t) s) more f e = ap (close_inner outer mine found) e
@@ -90,38 +91,38 @@ inner_steady outer mode found run h n ls old t =
     inner_grown (run (state n ls (Inside mode found) t)) g
   where
     inner_grown : (r : Answer End) → Grown (state n ls (Inside mode found) t) (state_of r) → Grown (state n ls (Inside outer old) t) (state_of (close_inner outer ls found r))
-    inner_grown (Gives end now) g = record { printed = g.printed; text = g.text; place = tt }
-    inner_grown (Stops why now) g = record { printed = g.printed; text = g.text; place = inside_too now.place (stays_inside mode found now.place g.place) }
+    inner_grown (Gives end now) g = record { printed = g.printed; text = g.text; context = tt }
+    inner_grown (Stops why now) g = record { printed = g.printed; text = g.text; context = inside_too now.context (stays_inside mode found now.context g.context) }
       where
-        inside_too : (p : Place) → IsInside p → Follows (Inside outer old) p
+        inside_too : (p : Context) → IsInside p → Follows (Inside outer old) p
         inside_too (Outside founds lefts) f = f
         inside_too (Inside mode' m') f = tt
 
 inner_extends : (k : ℕ) (extra : List Memory) (outer mode : Mode) (found : Memory) (run : Action End) → IsSteady run → (s : State) → Extends k extra (inner outer mode found run s) (inner outer mode found run (with_more k extra s))
 inner_extends k extra outer mode found run h s =
-    let start = record s { place = Inside mode found } in
-    close_inner_extends outer s.locals found k extra (run start) (run (with_more k extra start)) (stays_inside mode found (state_of (run start)).place (h.grows start).place) (h.extends k extra start)
+    let start = record s { context = Inside mode found } in
+    close_inner_extends outer s.locals found k extra (run start) (run (with_more k extra start)) (stays_inside mode found (state_of (run start)).context (h.grows start).context) (h.extends k extra start)
 
 -- an outermost transaction that is left, with its tick or without
 abbrev leave_at : ℕ → State → List Memory → List Memory → Left → Answer End
 leave_at n now founds lefts left =
-    go_on (spend n (record now { place = Outside founds lefts }))
-    (λ u then_. Gives left.end (record then_ { locals = left.locals; place = Outside founds (lefts ++ left.memory ∷ []) }))
+    go_on (spend n (record now { context = Outside founds lefts }))
+    (λ u then_. Gives left.end (record then_ { locals = left.locals; context = Outside founds (lefts ++ left.memory ∷ []) }))
 
-leave_grows : (n : ℕ) (old now : State) (founds founds' lefts : List Memory) (left : Left) → (printed : List ℕ) → now.text ≡ old.text ++ printed → Grown (record old { place = Outside founds lefts }) (state_of (leave_at n now founds' lefts left))
-leave_grows zero old now founds founds' lefts left printed e = record { printed = printed; text = e; place = ([], sym (append-nil lefts)) }
-leave_grows (suc n) old now founds founds' lefts left printed e = record { printed = printed; text = e; place = (left.memory ∷ [], refl) }
+leave_grows : (n : ℕ) (old now : State) (founds founds' lefts : List Memory) (left : Left) → (printed : List ℕ) → now.text ≡ old.text ++ printed → Grown (record old { context = Outside founds lefts }) (state_of (leave_at n now founds' lefts left))
+leave_grows zero old now founds founds' lefts left printed e = record { printed = printed; text = e; context = ([], sym (append-nil lefts)) }
+leave_grows (suc n) old now founds founds' lefts left printed e = record { printed = printed; text = e; context = (left.memory ∷ [], refl) }
 
 leave_extends : (k : ℕ) (extra : List Memory) (n : ℕ) (now : State) (founds lefts : List Memory) (left : Left) → Extends k extra (leave_at n now founds lefts left) (leave_at (added n k) (with_more k extra now) (founds ++ extra) lefts left)
 leave_extends k extra zero now founds lefts left = leave_grows k now (with_more k extra now) founds (founds ++ extra) lefts left [] (sym (append-nil now.text))
 leave_extends k extra (suc n) now founds lefts left = refl
 
-close_grows : (founds founds' lefts : List Memory) (mine : List Local) (found : Memory) (s : State) (r : Answer End) → Grown s (state_of r) → Grown (record s { place = Outside founds lefts }) (state_of (close founds' lefts mine found r))
+close_grows : (founds founds' lefts : List Memory) (mine : List Local) (found : Memory) (s : State) (r : Answer End) → Grown s (state_of r) → Grown (record s { context = Outside founds lefts }) (state_of (close founds' lefts mine found r))
 close_grows founds founds' lefts mine found s (Gives end now) g = leave_grows now.ticks s now founds founds' lefts (left_by mine found end now) g.printed g.text
-close_grows founds founds' lefts mine found s (Stops (Trapped t) now) g = record { printed = g.printed; text = g.text; place = (found ∷ [], refl) }
-close_grows founds founds' lefts mine found s (Stops Wants now) g = record { printed = g.printed; text = g.text; place = ([], sym (append-nil lefts)) }
-close_grows founds founds' lefts mine found s (Stops Spent now) g = record { printed = g.printed; text = g.text; place = ([], sym (append-nil lefts)) }
-close_grows founds founds' lefts mine found s (Stops Astray now) g = record { printed = g.printed; text = g.text; place = ([], sym (append-nil lefts)) }
+close_grows founds founds' lefts mine found s (Stops (Trapped t) now) g = record { printed = g.printed; text = g.text; context = (found ∷ [], refl) }
+close_grows founds founds' lefts mine found s (Stops Wants now) g = record { printed = g.printed; text = g.text; context = ([], sym (append-nil lefts)) }
+close_grows founds founds' lefts mine found s (Stops Spent now) g = record { printed = g.printed; text = g.text; context = ([], sym (append-nil lefts)) }
+close_grows founds founds' lefts mine found s (Stops Astray now) g = record { printed = g.printed; text = g.text; context = ([], sym (append-nil lefts)) }
 
 close_extends : (k : ℕ) (extra founds lefts : List Memory) (mine : List Local) (found : Memory) (r more : Answer End) → Extends k extra r more → Extends k extra (close founds lefts mine found r) (close (founds ++ extra) lefts mine found more)
 close_extends k extra founds lefts mine found (Gives end now) more e =
@@ -132,19 +133,19 @@ close_extends k extra founds lefts mine found (Stops (Trapped t) s) more e = ap 
 close_extends k extra founds lefts mine found (Stops Astray s) more e = ap (close (founds ++ extra) lefts mine found) e
 close_extends k extra founds lefts mine found (Stops Spent s) more e = close_grows founds (founds ++ extra) lefts mine found s more e
 close_extends k extra founds lefts mine found (Stops Wants s) more e =
-    (close_grows founds (founds ++ extra) lefts mine found s more e.0, λ n. ap (close (founds ++ extra) lefts mine found) (e.1 n) ∙ ap (λ x. Stops Wants (record s { ticks = added s.ticks k; place = Outside (founds ++ x) lefts })) n)
+    (close_grows founds (founds ++ extra) lefts mine found s more e.0, λ n. ap (close (founds ++ extra) lefts mine found) (e.1 n) ∙ ap (λ x. Stops Wants (record s { ticks = added s.ticks k; context = Outside (founds ++ x) lefts })) n)
 
 outermost_extends : (k : ℕ) (extra : List Memory) (mode : Mode) (found : Memory) (founds lefts : List Memory) (run : Action End) → IsSteady run → (s : State) → Extends k extra (outermost mode found founds lefts run s) (outermost mode found (founds ++ extra) lefts run (with_more k extra s))
 outermost_extends k extra mode found founds lefts run h s =
-    let start = record s { place = Inside mode found } in
+    let start = record s { context = Inside mode found } in
     close_extends k extra founds lefts s.locals found (run start) (run (with_more k extra start)) (h.extends k extra start)
 
-outermost_grows : (mode : Mode) (found : Memory) (founds founds' lefts : List Memory) (run : Action End) → IsSteady run → (s : State) → Grown (record s { place = Outside founds' lefts }) (state_of (outermost mode found founds lefts run s))
+outermost_grows : (mode : Mode) (found : Memory) (founds founds' lefts : List Memory) (run : Action End) → IsSteady run → (s : State) → Grown (record s { context = Outside founds' lefts }) (state_of (outermost mode found founds lefts run s))
 outermost_grows mode found founds founds' lefts run h s =
-    let start = record s { place = Inside mode found } in
+    let start = record s { context = Inside mode found } in
     close_grows founds' founds lefts s.locals found start (run start) (h.grows start)
 
-enter_grows : (mode : Mode) (run : Action End) → IsSteady run → (p : Place) (n : ℕ) (ls : List Local) (t : List ℕ) → Grown (state n ls p t) (state_of (enter p mode run (state n ls p t)))
+enter_grows : (mode : Mode) (run : Action End) → IsSteady run → (p : Context) (n : ℕ) (ls : List Local) (t : List ℕ) → Grown (state n ls p t) (state_of (enter p mode run (state n ls p t)))
 enter_grows mode run h (Outside [] lefts) n ls t = still (state n ls (Outside [] lefts) t)
 enter_grows mode run h (Outside (found ∷ founds) lefts) n ls t = outermost_grows mode found founds (found ∷ founds) lefts run h (state n ls (Outside (found ∷ founds) lefts) t)
 enter_grows mode run h (Inside Relaxed found) n ls t = inner_steady Relaxed mode found run h n ls found t
@@ -157,7 +158,7 @@ wants_extends k (m ∷ ms) lefts mode run h n ls t =
     let s = state (added n k) ls (Outside (m ∷ ms) lefts) t in
     (grown_trans (state n ls (Outside [] lefts) t) s _ (more_grown k (m ∷ ms) (state n ls (Outside [] lefts) t)) (outermost_grows mode m ms (m ∷ ms) lefts run h s), λ e. absurd (cc))
 
-enter_extends : (k : ℕ) (extra : List Memory) (mode : Mode) (run : Action End) → IsSteady run → (p : Place) (n : ℕ) (ls : List Local) (t : List ℕ) → Extends k extra (enter p mode run (state n ls p t)) (enter (with_founds extra p) mode run (with_more k extra (state n ls p t)))
+enter_extends : (k : ℕ) (extra : List Memory) (mode : Mode) (run : Action End) → IsSteady run → (p : Context) (n : ℕ) (ls : List Local) (t : List ℕ) → Extends k extra (enter p mode run (state n ls p t)) (enter (with_founds extra p) mode run (with_more k extra (state n ls p t)))
 enter_extends k extra mode run h (Outside [] lefts) n ls t = wants_extends k extra lefts mode run h n ls t
 enter_extends k extra mode run h (Outside (found ∷ founds) lefts) n ls t = outermost_extends k extra mode found founds lefts run h (state n ls (Outside (found ∷ founds) lefts) t)
 enter_extends k extra mode run h (Inside Relaxed found) n ls t = inner_extends k extra Relaxed mode found run h (state n ls (Inside Relaxed found) t)
@@ -166,11 +167,11 @@ enter_extends k extra Relaxed run h (Inside Atomic found) n ls t = refl
 
 transaction_steady : (mode : Mode) {run : Action End} → IsSteady run → IsSteady (transaction mode run)
 transaction_steady mode {run} h = record {
-  grows = λ s. enter_grows mode run h s.place s.ticks s.locals s.text;
-  extends = λ k extra s. enter_extends k extra mode run h s.place s.ticks s.locals s.text;
+  grows = λ s. enter_grows mode run h s.context s.ticks s.locals s.text;
+  extends = λ k extra s. enter_extends k extra mode run h s.context s.ticks s.locals s.text;
 }
 
-steady_kept : (p : Program) → IsKept p (λ A run. IsSteady run)
+steady_kept : (p : Program) → IsKept (IsPieceOf p) (λ A run. IsSteady run)
 steady_kept p = record {
   pure_holds = pure_steady;
   on_holds = on_steady;

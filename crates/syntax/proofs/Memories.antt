@@ -1,38 +1,37 @@
 -- A thread that finds memories of its program leaves memories of its program.
-use Rattle.std.proofs.Common.{ℕ, zero, suc, ◌<◌, ◌^◌, ◌∙◌, List, [], ◌∷◌, ◌++◌, Option, Some, None}
-use Rattle.std.specs.Prelude.{All, length, slice_set}
-use Rattle.std.proofs.lemmas.List.{length-set}
-use Rattle.std.proofs.lemmas.List.Elements.{All-nil, All-from_recursion, recursion_from_All, All-head, All-tail, All-push, All-set}
+use Rattle.std.proofs.Common.{ℕ, zero, suc, ◌<◌, ◌^◌, List, [], ◌∷◌, ◌++◌, Option, Some, None}
+use Rattle.std.specs.Prelude.{All, length, replicate, slice_set}
+use Rattle.std.proofs.lemmas.List.Elements.{All-nil, All-from_recursion, recursion_from_All, All-head, All-tail, All-push}
 use Rattle.syntax.specs.declared.tree.Mode.{Mode}
 use Rattle.syntax.specs.declared.tree.Mode.TheVariants.{Atomic, Relaxed}
-use Rattle.syntax.specs.declared.numbers.Stop.TheVariants.{Trapped, Wants, Spent, Astray}
+use Rattle.syntax.specs.declared.numbers.Halt.TheVariants.{Trapped, Wants, Spent, Astray}
 use Rattle.syntax.specs.Tree.{Program}
-use Rattle.syntax.specs.Names.{Local, initial_memory}
+use Rattle.syntax.specs.Names.{Local, initial_memory, bounds}
 use Rattle.syntax.specs.Behaviours.{Memory, IsMemory}
-use Rattle.syntax.specs.Actions.{Place, Outside, Inside, State, Answer, Gives, Stops, Action, stop, go_on, ◌>>=◌, spend, tick, load_at, store, may_print_at, write, lefts_in, memory_in}
+use Rattle.syntax.specs.Actions.{Context, Outside, Inside, State, Answer, Gives, Stops, Action, stop, go_on, ◌>>=◌, spend, tick, load_at, store, may_print_at, write, lefts_in, memory_in}
 use Rattle.syntax.specs.Meaning.{End, Next, Breaks, Continues, Returns, Cancels, after_turn, turns, Left, left_by, close_inner, close, enter}
 use Rattle.syntax.specs.Threads.{outcome_of, first_state, worker_run, thread}
-use Rattle.syntax.specs.Laws.{LeavesMemories}
+use Rattle.syntax.specs.Laws.{IsPieceOf, LeavesMemories}
 use Rattle.syntax.proofs.Further.{state_of}
 use Rattle.syntax.proofs.Kept.{IsKept, worker_holds}
 
 -- a property of memories that each write of a word keeps
 module _ (M : Memory → Type 0) (written : (m : Memory) (c w : ℕ) → w < 2 ^ 32 → M m → M (slice_set m c w)) where
-  -- where the memories at one place have it, so have those at the other
-  abbrev Keeps : Place → Place → Type 0
+  -- where the memories in one context have it, so have those in the other
+  abbrev Keeps : Context → Context → Type 0
   Keeps (Outside f l) (Outside f' l') = All M f → All M l → All M f' × All M l'
   Keeps (Outside f l) (Inside mode m) = ⊥
   Keeps (Inside mode m) (Outside f l) = ⊥
   Keeps (Inside mode m) (Inside mode' m') = M m → M m'
 
   record IsKeeping {A : Type 0} (run : Action A) : Type 0 where
-    keeps : (s : State) → Keeps s.place (state_of (run s)).place
+    keeps : (s : State) → Keeps s.context (state_of (run s)).context
 
-  keeps_refl : (p : Place) → Keeps p p
+  keeps_refl : (p : Context) → Keeps p p
   keeps_refl (Outside f l) = λ x y. (x, y)
   keeps_refl (Inside mode m) = λ x. x
 
-  keeps_trans : (p q r : Place) → Keeps p q → Keeps q r → Keeps p r
+  keeps_trans : (p q r : Context) → Keeps p q → Keeps q r → Keeps p r
   keeps_trans (Outside f l) (Outside f' l') (Outside f'' l'') a b = λ x y. b (a x y).0 (a x y).1
   keeps_trans (Outside f l) (Outside f' l') (Inside mode m) a b = b
   keeps_trans (Outside f l) (Inside mode m) r a b = absurd a
@@ -40,109 +39,110 @@ module _ (M : Memory → Type 0) (written : (m : Memory) (c w : ℕ) → w < 2 ^
   keeps_trans (Inside mode m) (Inside mode' m') (Outside f l) a b = b
   keeps_trans (Inside mode m) (Inside mode' m') (Inside mode'' m'') a b = λ x. b (a x)
 
-  on_keeps : {A B : Type 0} (p : Place) (r : Answer A) (rest : A → Action B) → Keeps p (state_of r).place → ((a : A) (t : State) → Keeps t.place (state_of (rest a t)).place) → Keeps p (state_of (go_on r rest)).place
-  on_keeps p (Gives a t) rest c h = keeps_trans p t.place (state_of (rest a t)).place c (h a t)
+  on_keeps : {A B : Type 0} (p : Context) (r : Answer A) (rest : A → Action B) → Keeps p (state_of r).context → ((a : A) (t : State) → Keeps t.context (state_of (rest a t)).context) → Keeps p (state_of (go_on r rest)).context
+  on_keeps p (Gives a t) rest c h = keeps_trans p t.context (state_of (rest a t)).context c (h a t)
   on_keeps p (Stops why t) rest c h = c
 
   on_keeping : {A B : Type 0} {run : Action A} {rest : A → Action B} → IsKeeping run → ((a : A) → IsKeeping (rest a)) → IsKeeping (run >>= rest)
-  on_keeping {run = run} {rest = rest} g h = record { keeps = λ s. on_keeps s.place (run s) rest (g.keeps s) (λ a t. (h a).keeps t) }
+  on_keeping {run = run} {rest = rest} g h = record { keeps = λ s. on_keeps s.context (run s) rest (g.keeps s) (λ a t. (h a).keeps t) }
 
-  spend_keeps : (n : ℕ) (s : State) → Keeps s.place (state_of (spend n s)).place
-  spend_keeps zero s = keeps_refl s.place
-  spend_keeps (suc n) s = keeps_refl s.place
+  spend_keeps : (n : ℕ) (s : State) → Keeps s.context (state_of (spend n s)).context
+  spend_keeps zero s = keeps_refl s.context
+  spend_keeps (suc n) s = keeps_refl s.context
 
-  load_keeps : (p : Place) (c : ℕ) (s : State) → Keeps s.place (state_of (load_at p c s)).place
-  load_keeps (Outside f l) c s = keeps_refl s.place
-  load_keeps (Inside mode m) c s = keeps_refl s.place
+  load_keeps : (p : Context) (c : ℕ) (s : State) → Keeps s.context (state_of (load_at p c s)).context
+  load_keeps (Outside f l) c s = keeps_refl s.context
+  load_keeps (Inside mode m) c s = keeps_refl s.context
 
-  store_keeps : (n : ℕ) (ls : List Local) (p : Place) (t : List ℕ) (c w : ℕ) → w < 2 ^ 32 → Keeps p (state_of (store c w (record { ticks = n; locals = ls; place = p; text = t }))).place
+  store_keeps : (n : ℕ) (ls : List Local) (p : Context) (t : List ℕ) (c w : ℕ) → w < 2 ^ 32 → Keeps p (state_of (store c w (record { ticks = n; locals = ls; context = p; text = t }))).context
   store_keeps n ls (Outside f l) t c w below = keeps_refl (Outside f l)
   store_keeps n ls (Inside mode m) t c w below = written m c w below
 
-  may_print_keeps : (p : Place) (s : State) → Keeps s.place (state_of (may_print_at p s)).place
-  may_print_keeps (Outside f l) s = keeps_refl s.place
-  may_print_keeps (Inside Relaxed m) s = keeps_refl s.place
-  may_print_keeps (Inside Atomic m) s = keeps_refl s.place
+  may_print_keeps : (p : Context) (s : State) → Keeps s.context (state_of (may_print_at p s)).context
+  may_print_keeps (Outside f l) s = keeps_refl s.context
+  may_print_keeps (Inside Relaxed m) s = keeps_refl s.context
+  may_print_keeps (Inside Atomic m) s = keeps_refl s.context
 
-  after_turn_keeps : (rest : Action End) → ((s : State) → Keeps s.place (state_of (rest s)).place) → (o : Option End) (s : State) → Keeps s.place (state_of (after_turn rest o s)).place
+  after_turn_keeps : (rest : Action End) → ((s : State) → Keeps s.context (state_of (rest s)).context) → (o : Option End) (s : State) → Keeps s.context (state_of (after_turn rest o s)).context
   after_turn_keeps rest h None s = h s
-  after_turn_keeps rest h (Some end) s = keeps_refl s.place
+  after_turn_keeps rest h (Some end) s = keeps_refl s.context
 
-  turns_keep : (turn : Action (Option End)) → IsKeeping turn → (n : ℕ) (s : State) → Keeps s.place (state_of (turns n turn s)).place
-  turns_keep turn h zero s = keeps_refl s.place
+  turns_keep : (turn : Action (Option End)) → IsKeeping turn → (n : ℕ) (s : State) → Keeps s.context (state_of (turns n turn s)).context
+  turns_keep turn h zero s = keeps_refl s.context
   turns_keep turn h (suc n) s =
-      on_keeps s.place (tick s) (λ _. turn >>= after_turn (turns n turn)) (spend_keeps s.ticks s)
-      (λ _ t. on_keeps t.place (turn t) (after_turn (turns n turn)) (h.keeps t) (after_turn_keeps (turns n turn) (turns_keep turn h n)))
+      on_keeps s.context (tick s) (λ _. turn >>= after_turn (turns n turn)) (spend_keeps s.ticks s)
+      (λ _ t. on_keeps t.context (turn t) (after_turn (turns n turn)) (h.keeps t) (after_turn_keeps (turns n turn) (turns_keep turn h n)))
 
-  memory_kept : (mode : Mode) (m : Memory) (q : Place) → Keeps (Inside mode m) q → M m → M (memory_in q)
+  memory_kept : (mode : Mode) (m : Memory) (q : Context) → Keeps (Inside mode m) q → M m → M (memory_in q)
   memory_kept mode m (Outside f l) c h = absurd c
   memory_kept mode m (Inside mode' m') c h = c h
 
-  left_kept : (mode : Mode) (m : Memory) (mine : List Local) (end : End) (now : State) → Keeps (Inside mode m) now.place → M m → M (left_by mine m end now).memory
+  left_kept : (mode : Mode) (m : Memory) (mine : List Local) (end : End) (now : State) → Keeps (Inside mode m) now.context → M m → M (left_by mine m end now).memory
   left_kept mode m mine Cancels now c h = h
-  left_kept mode m mine Next now c h = memory_kept mode m now.place c h
-  left_kept mode m mine Breaks now c h = memory_kept mode m now.place c h
-  left_kept mode m mine Continues now c h = memory_kept mode m now.place c h
-  left_kept mode m mine (Returns v) now c h = memory_kept mode m now.place c h
+  left_kept mode m mine Next now c h = memory_kept mode m now.context c h
+  left_kept mode m mine Breaks now c h = memory_kept mode m now.context c h
+  left_kept mode m mine Continues now c h = memory_kept mode m now.context c h
+  left_kept mode m mine (Returns v) now c h = memory_kept mode m now.context c h
 
-  leave_keeps : (n : ℕ) (now : State) (m : Memory) (founds lefts : List Memory) (left : Left) → (M m → M left.memory) → Keeps (Outside (m ∷ founds) lefts) (state_of (go_on (spend n (record now { place = Outside founds lefts })) (λ u then_. Gives left.end (record then_ { locals = left.locals; place = Outside founds (lefts ++ left.memory ∷ []) })))).place
+  leave_keeps : (n : ℕ) (now : State) (m : Memory) (founds lefts : List Memory) (left : Left) → (M m → M left.memory) → Keeps (Outside (m ∷ founds) lefts) (state_of (go_on (spend n (record now { context = Outside founds lefts })) (λ u then_. Gives left.end (record then_ { locals = left.locals; context = Outside founds (lefts ++ left.memory ∷ []) })))).context
   leave_keeps zero now m founds lefts left h = λ f l. (All-tail M m founds f, l)
   leave_keeps (suc n) now m founds lefts left h = λ f l. (All-tail M m founds f, All-push M lefts left.memory l (h (All-head M m founds f)))
 
-  close_keeps : (mode : Mode) (m : Memory) (founds lefts : List Memory) (mine : List Local) (r : Answer End) → Keeps (Inside mode m) (state_of r).place → Keeps (Outside (m ∷ founds) lefts) (state_of (close founds lefts mine m r)).place
+  close_keeps : (mode : Mode) (m : Memory) (founds lefts : List Memory) (mine : List Local) (r : Answer End) → Keeps (Inside mode m) (state_of r).context → Keeps (Outside (m ∷ founds) lefts) (state_of (close founds lefts mine m r)).context
   close_keeps mode m founds lefts mine (Gives end now) c = leave_keeps now.ticks now m founds lefts (left_by mine m end now) (left_kept mode m mine end now c)
   close_keeps mode m founds lefts mine (Stops (Trapped k) now) c = λ f l. (All-tail M m founds f, All-push M lefts m l (All-head M m founds f))
   close_keeps mode m founds lefts mine (Stops Wants now) c = λ f l. (All-tail M m founds f, l)
   close_keeps mode m founds lefts mine (Stops Spent now) c = λ f l. (All-tail M m founds f, l)
   close_keeps mode m founds lefts mine (Stops Astray now) c = λ f l. (All-tail M m founds f, l)
 
-  close_inner_keeps : (outer mode : Mode) (m : Memory) (mine : List Local) (r : Answer End) → Keeps (Inside mode m) (state_of r).place → Keeps (Inside outer m) (state_of (close_inner outer mine m r)).place
+  close_inner_keeps : (outer mode : Mode) (m : Memory) (mine : List Local) (r : Answer End) → Keeps (Inside mode m) (state_of r).context → Keeps (Inside outer m) (state_of (close_inner outer mine m r)).context
   close_inner_keeps outer mode m mine (Gives end now) c = λ h. left_kept mode m mine end now c h
   close_inner_keeps outer mode m mine (Stops why now) c = c
 
-  enter_keeps : (mode : Mode) (run : Action End) → IsKeeping run → (p : Place) (n : ℕ) (ls : List Local) (t : List ℕ) → Keeps p (state_of (enter p mode run (record { ticks = n; locals = ls; place = p; text = t }))).place
+  enter_keeps : (mode : Mode) (run : Action End) → IsKeeping run → (p : Context) (n : ℕ) (ls : List Local) (t : List ℕ) → Keeps p (state_of (enter p mode run (record { ticks = n; locals = ls; context = p; text = t }))).context
   enter_keeps mode run h (Outside [] lefts) n ls t = keeps_refl (Outside [] lefts)
-  enter_keeps mode run h (Outside (m ∷ founds) lefts) n ls t = close_keeps mode m founds lefts ls (run (record { ticks = n; locals = ls; place = Inside mode m; text = t })) (h.keeps (record { ticks = n; locals = ls; place = Inside mode m; text = t }))
-  enter_keeps mode run h (Inside Relaxed m) n ls t = close_inner_keeps Relaxed mode m ls (run (record { ticks = n; locals = ls; place = Inside mode m; text = t })) (h.keeps (record { ticks = n; locals = ls; place = Inside mode m; text = t }))
-  enter_keeps Atomic run h (Inside Atomic m) n ls t = close_inner_keeps Atomic Atomic m ls (run (record { ticks = n; locals = ls; place = Inside Atomic m; text = t })) (h.keeps (record { ticks = n; locals = ls; place = Inside Atomic m; text = t }))
+  enter_keeps mode run h (Outside (m ∷ founds) lefts) n ls t = close_keeps mode m founds lefts ls (run (record { ticks = n; locals = ls; context = Inside mode m; text = t })) (h.keeps (record { ticks = n; locals = ls; context = Inside mode m; text = t }))
+  enter_keeps mode run h (Inside Relaxed m) n ls t = close_inner_keeps Relaxed mode m ls (run (record { ticks = n; locals = ls; context = Inside mode m; text = t })) (h.keeps (record { ticks = n; locals = ls; context = Inside mode m; text = t }))
+  enter_keeps Atomic run h (Inside Atomic m) n ls t = close_inner_keeps Atomic Atomic m ls (run (record { ticks = n; locals = ls; context = Inside Atomic m; text = t })) (h.keeps (record { ticks = n; locals = ls; context = Inside Atomic m; text = t }))
   enter_keeps Relaxed run h (Inside Atomic m) n ls t = keeps_refl (Inside Atomic m)
 
-  keeping_kept : (p : Program) → IsKept p (λ A run. IsKeeping run)
-  keeping_kept p = record {
-    pure_holds = λ a. record { keeps = λ s. keeps_refl s.place };
+  keeping_kept : (IsPiece : List ℕ → Type 0) → IsKept IsPiece (λ A run. IsKeeping run)
+  keeping_kept IsPiece = record {
+    pure_holds = λ a. record { keeps = λ s. keeps_refl s.context };
     on_holds = on_keeping;
-    astray_holds = record { keeps = λ s. keeps_refl s.place };
-    trap_holds = λ t. record { keeps = λ s. on_keeps s.place (tick s) (λ _. stop (Trapped t)) (spend_keeps s.ticks s) (λ _ u. keeps_refl u.place) };
+    astray_holds = record { keeps = λ s. keeps_refl s.context };
+    trap_holds = λ t. record { keeps = λ s. on_keeps s.context (tick s) (λ _. stop (Trapped t)) (spend_keeps s.ticks s) (λ _ u. keeps_refl u.context) };
     tick_holds = record { keeps = λ s. spend_keeps s.ticks s };
-    locals_holds = record { keeps = λ s. keeps_refl s.place };
-    put_locals_holds = λ ls. record { keeps = λ s. keeps_refl s.place };
-    load_holds = λ c. record { keeps = λ s. load_keeps s.place c s };
-    store_holds = λ c w below. record { keeps = λ s. store_keeps s.ticks s.locals s.place s.text c w below };
-    may_print_holds = record { keeps = λ s. may_print_keeps s.place s };
-    print_piece_holds = λ text shown. record { keeps = λ s. on_keeps s.place (tick s) (λ _. write text) (spend_keeps s.ticks s) (λ _ u. keeps_refl u.place) };
+    locals_holds = record { keeps = λ s. keeps_refl s.context };
+    put_locals_holds = λ ls. record { keeps = λ s. keeps_refl s.context };
+    load_holds = λ c. record { keeps = λ s. load_keeps s.context c s };
+    store_holds = λ c w below. record { keeps = λ s. store_keeps s.ticks s.locals s.context s.text c w below };
+    may_print_holds = record { keeps = λ s. may_print_keeps s.context s };
+    print_piece_holds = λ text shown. record { keeps = λ s. on_keeps s.context (tick s) (λ _. write text) (spend_keeps s.ticks s) (λ _ u. keeps_refl u.context) };
     loop_holds = λ h. record { keeps = λ s. turns_keep _ h s.ticks s };
-    transaction_holds = λ mode h. record { keeps = λ s. enter_keeps mode _ h s.place s.ticks s.locals s.text };
+    transaction_holds = λ mode h. record { keeps = λ s. enter_keeps mode _ h s.context s.ticks s.locals s.text };
   }
 
-  lefts_kept : (founds : List Memory) (q : Place) → Keeps (Outside founds []) q → All M founds → All M (lefts_in q)
+  lefts_kept : (founds : List Memory) (q : Context) → Keeps (Outside founds []) q → All M founds → All M (lefts_in q)
   lefts_kept founds (Outside f l) c h = (c h (All-nil M)).1
   lefts_kept founds (Inside mode m) c h = absurd c
 
-  answer_kept : (founds : List Memory) (r : Answer (Unit {0})) → Keeps (Outside founds []) (state_of r).place → All M founds → All M (outcome_of r).lefts
-  answer_kept founds (Gives u s) c h = lefts_kept founds s.place c h
-  answer_kept founds (Stops why s) c h = lefts_kept founds s.place c h
+  answer_kept : (founds : List Memory) (r : Answer (Unit {0})) → Keeps (Outside founds []) (state_of r).context → All M founds → All M (outcome_of r).lefts
+  answer_kept founds (Gives u s) c h = lefts_kept founds s.context c h
+  answer_kept founds (Stops why s) c h = lefts_kept founds s.context c h
 
   threads_keep : (p : Program) (t : ℕ) (founds : List Memory) (n : ℕ) → All M founds → All M (thread p t founds n).lefts
-  threads_keep p t founds n h = answer_kept founds (worker_run p t (first_state founds n)) ((worker_holds p (λ A run. IsKeeping run) (keeping_kept p) t).keeps (first_state founds n)) h
-
-abbrev IsWord : ℕ → Type 0
-IsWord w = w < 2 ^ 32
+  threads_keep p t founds n h = answer_kept founds (worker_run p t (first_state founds n)) ((worker_holds p (λ A run. IsKeeping run) (keeping_kept (IsPieceOf p)) t).keeps (first_state founds n)) h
 
 -- a write keeps a memory
-written_memory : (cells : ℕ) (m : Memory) (c w : ℕ) → w < 2 ^ 32 → IsMemory cells m → IsMemory cells (slice_set m c w)
-written_memory cells m c w below h = (length-set m c w ∙ h.0, recursion_from_All IsWord (slice_set m c w) (All-set IsWord m c w below (All-from_recursion IsWord m h.1)))
+written_memory : (cells : ℕ) (m : Memory) (c w : ℕ) → w < 2 ^ 32 → IsMemory (replicate cells (2 ^ 32)) m → IsMemory (replicate cells (2 ^ 32)) (slice_set m c w)
+written_memory zero [] c w below h = h
+written_memory zero (v ∷ m) c w below h = absurd h
+written_memory (suc n) [] c w below h = absurd h
+written_memory (suc n) (v ∷ m) zero w below h = (below, h.1)
+written_memory (suc n) (v ∷ m) (suc c) w below h = (h.0, written_memory n m c w below h.1)
 
 pub leaves_memories : LeavesMemories
 leaves_memories p t founds n h =
-    let M = IsMemory (length (initial_memory p)) in
+    let M = IsMemory (bounds p) in
     recursion_from_All M (thread p t founds n).lefts (threads_keep M (written_memory (length (initial_memory p))) p t founds n (All-from_recursion M founds h))

@@ -5,24 +5,24 @@ use Rattle.std.specs.Fmt.{digits}
 use Rattle.lex.specs.declared.token.Scalar.TheVariants.{Int, Unsigned}
 use Rattle.syntax.specs.declared.tree.UnaryOp.TheVariants.{Negate}
 use Rattle.syntax.specs.declared.tree.BinaryOp.TheVariants.{Add, Subtract, Equal, Divide, Less, Greater}
-use Rattle.syntax.specs.declared.tree.Step.TheVariants.{Up}
+use Rattle.syntax.specs.declared.tree.IncDec.TheVariants.{Increment}
 use Rattle.syntax.specs.declared.numbers.Trap.TheVariants.{OutOfRange, Index, Frames}
 use Rattle.syntax.specs.Tree as Tree
-use Rattle.syntax.specs.Tree.{Name, Expr, Variable, Constant, Element, Call, Unary, Binary, Simple, Value as Just, Assign, Change, Declaration, Does, Declares, Stmt, Stmts, Empty, Declare, Do, Block, Print, If, IfElse, While, For, Break, Return, Transaction, Cancel, Function, Global, Item, Defines, Shares, Program}
-use Rattle.syntax.specs.declared.numbers.Stop.TheVariants.{Trapped}
+use Rattle.syntax.specs.Tree.{Name, Expr, Variable, Constant, Element, Call, Unary, Binary, Simple, Evaluate, Assign, Adjust, Declaration, Does, Declares, Stmt, Stmts, Empty, Declare, Do, Block, Print, If, IfElse, While, For, Break, Return, Transaction, Cancel, Function, Global, Item, Defines, Shares, Program}
+use Rattle.syntax.specs.declared.numbers.Halt.TheVariants.{Trapped}
 use Rattle.syntax.specs.declared.tree.First.{First}
 use Rattle.syntax.specs.Names.{initial_memory}
 use Rattle.syntax.specs.Behaviours.{Memory, Ended, Stopped, Step, founds_of, lefts_of, last_memory}
 use Rattle.syntax.specs.Threads.{thread, IsSourceRun}
 use Rattle.syntax.proofs.Rows.{here, called, var, num, set_to, atomic, just, function, worker_with, global}
 
-abbrev plus : Expr → Expr → Expr
+abbrev pub plus : Expr → Expr → Expr
 plus a b = Binary Add a b here
 
 abbrev minus : Expr → Expr → Expr
 minus a b = Binary Subtract a b here
 
-abbrev then_ : Stmt → Stmts → Stmts
+abbrev pub then_ : Stmt → Stmts → Stmts
 then_ s ss = Tree.◌∷◌ s ss
 
 abbrev declare_int : List ℕ → Expr → Stmt
@@ -45,7 +45,7 @@ counts_row = refl
 
 -- void down(int k) { if (k > 0) down(k - 1); } W{ down(62 + self); }
 abbrev call_of : List ℕ → Expr → Stmt
-call_of f e = Do (Just (Call (called f) (Tree.◌∷◌ e Tree.[]) here))
+call_of f e = Do (Evaluate (Call (called f) (Tree.◌∷◌ e Tree.[]) here))
 
 abbrev downs : Program
 downs = function (codes "down") (codes "k") (just (If (Binary Greater (var (codes "k")) (num 0) here) (call_of (codes "down") (minus (var (codes "k")) (num 1))))) ∷ worker_with (just (call_of (codes "down") (plus (num 62) (var (codes "self"))))) ∷ []
@@ -61,7 +61,7 @@ abbrev declare_only : List ℕ → Stmt
 declare_only x = Declare (record { of = Int; declarators = record { name = called x; first = None } ∷ [] })
 
 abbrev hundred : Program
-hundred = global (codes "x") ∷ worker_with (then_ (declare_only (codes "i")) (just (For (Does (Assign (var (codes "i")) None (num 0))) (Some (Binary Less (var (codes "i")) (num 100) here)) (Some (Change (var (codes "i")) Up)) (Block (just (atomic (just (set_to (codes "x") (plus (var (codes "x")) (num 1)))))))))) ∷ []
+hundred = global (codes "x") ∷ worker_with (then_ (declare_only (codes "i")) (just (For (Does (Assign (var (codes "i")) None (num 0))) (Some (Binary Less (var (codes "i")) (num 100) here)) (Some (Adjust (var (codes "i")) Increment)) (Block (just (atomic (just (set_to (codes "x") (plus (var (codes "x")) (num 1)))))))))) ∷ []
 
 abbrev memories : ℕ → ℕ → List Memory
 memories zero k = []

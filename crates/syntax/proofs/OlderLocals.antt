@@ -5,15 +5,15 @@ use Rattle.lex.specs.declared.token.Scalar.{Scalar}
 use Rattle.syntax.specs.declared.tree.BinaryOp.{BinaryOp}
 use Rattle.syntax.specs.declared.tree.Mode.{Mode}
 use Rattle.syntax.specs.declared.tree.Mode.TheVariants.{Atomic, Relaxed}
-use Rattle.syntax.specs.declared.numbers.Stop.{Stop}
-use Rattle.syntax.specs.declared.numbers.Stop.TheVariants.{Trapped, Wants, Spent, Astray}
+use Rattle.syntax.specs.declared.numbers.Halt.{Halt}
+use Rattle.syntax.specs.declared.numbers.Halt.TheVariants.{Trapped, Wants, Spent, Astray}
 use Rattle.syntax.specs.declared.numbers.Value.{Value}
 use Rattle.syntax.specs.Tree as Tree
-use Rattle.syntax.specs.Tree.{Expr, Exprs, Variable, Constant, Element, Call, Parenthesized, Cast, Unary, Binary, Logical, Conditional, Simple, Value as Just, Assign, Change, Declarator, Start, Nothing, Declares, Does, Stmt, Stmts, Empty, Declare, Do, Block, Print, If, IfElse, While, DoWhile, For, Break, Continue, Return, Transaction, Cancel, Program}
+use Rattle.syntax.specs.Tree.{Expr, Exprs, Variable, Constant, Element, Call, Parenthesized, Cast, Unary, Binary, Logical, Conditional, Simple, Evaluate, Assign, Adjust, Declarator, Start, Nothing, Declares, Does, Stmt, Stmts, Empty, Declare, Do, Block, Print, If, IfElse, While, DoWhile, For, Break, Continue, Return, Transaction, Cancel, Program}
 use Rattle.syntax.specs.Names.{Local, with_word}
 use Rattle.syntax.specs.Formats.{Piece, Literal, Figure, pieces}
 use Rattle.syntax.specs.Behaviours.{Memory}
-use Rattle.syntax.specs.Actions.{Place, Outside, Inside, State, Answer, Gives, Stops, Action, pure, stop, go_on, ◌>>=◌, ◌>>◌, spend, tick, store_at, may_print_at, may_print, write, print_piece}
+use Rattle.syntax.specs.Actions.{Context, Outside, Inside, State, Answer, Gives, Stops, Action, pure, stop, go_on, ◌>>=◌, ◌>>◌, spend, tick, store_at, may_print_at, may_print, write, print_piece}
 use Rattle.syntax.specs.Meaning.{Spot, InLocal, InCell, assign, print_pieces, End, Next, Breaks, Continues, Returns, Cancels, on_next, scoped, after_turn, turns, loop, after_body, Left, left_by, close_inner, close, enter, transaction, op_of, int_one, Caller, expr, spot, changed, assigned, simple, first_value, declare, start_with, holds, stepped, return_value, stmt, stmts, calls}
 use Rattle.syntax.specs.Laws.{WhereGiven, shape, KeepsOlderLocals, BeginsWithLocals}
 use Rattle.syntax.proofs.Expressions.{LeavesLocals, named_holds, element_holds, expr_holds, exprs_holds, fetch_holds, or_trap_holds, calls_holds}
@@ -25,8 +25,8 @@ begins_trans : (ls ms ns : List Local) → BeginsWithLocals ls ms → BeginsWith
 begins_trans ls ms ns a b = (a.0 ++ b.0, b.1 ∙ ap (λ x. x ++ b.0) a.1 ∙ append_assoc (map shape ls) a.0 b.0)
 
 -- where it gives something, the locals of its beginning stand first
-record KeepsOlder {A : Type 0} (run : Action A) : Type 0 where
-  keeps : (s : State) → WhereGiven (run s) (λ a now. BeginsWithLocals s.locals now.locals)
+pub record KeepsOlder {A : Type 0} (run : Action A) : Type 0 where
+  pub keeps : (s : State) → WhereGiven (run s) (λ a now. BeginsWithLocals s.locals now.locals)
 
 from_earlier : {A : Type 0} (ls ms : List Local) (r : Answer A) → BeginsWithLocals ls ms → WhereGiven r (λ a now. BeginsWithLocals ms now.locals) → WhereGiven r (λ a now. BeginsWithLocals ls now.locals)
 from_earlier ls ms (Gives a t) e h = begins_trans ls ms t.locals e h
@@ -36,10 +36,10 @@ on_keeps : {A B : Type 0} (ls : List Local) (r : Answer A) (rest : A → Action 
 on_keeps ls (Gives a t) rest e h = from_earlier ls t.locals (rest a t) e (h a t)
 on_keeps ls (Stops why t) rest e h = tt
 
-on_older : {A B : Type 0} {run : Action A} {rest : A → Action B} → KeepsOlder run → ((a : A) → KeepsOlder (rest a)) → KeepsOlder (run >>= rest)
+pub on_older : {A B : Type 0} {run : Action A} {rest : A → Action B} → KeepsOlder run → ((a : A) → KeepsOlder (rest a)) → KeepsOlder (run >>= rest)
 on_older {run = run} {rest = rest} g h = record { keeps = λ s. on_keeps s.locals (run s) rest (g.keeps s) (λ a t. (h a).keeps t) }
 
-then_older : {A B : Type 0} {run : Action A} {rest : Action B} → KeepsOlder run → KeepsOlder rest → KeepsOlder (run >> rest)
+pub then_older : {A B : Type 0} {run : Action A} {rest : Action B} → KeepsOlder run → KeepsOlder rest → KeepsOlder (run >> rest)
 then_older g h = on_older g (λ _. h)
 
 left_alone : {A : Type 0} (ls : List Local) (r : Answer A) → WhereGiven r (λ a now. now.locals ≡ ls) → WhereGiven r (λ a now. BeginsWithLocals ls now.locals)
@@ -49,13 +49,13 @@ left_alone ls (Stops why t) e = tt
 leaves_older : {A : Type 0} {run : Action A} → LeavesLocals run → KeepsOlder run
 leaves_older {run = run} h = record { keeps = λ s. left_alone s.locals (run s) (h.leaves s) }
 
-pure_older : {A : Type 0} (a : A) → KeepsOlder (pure a)
+pub pure_older : {A : Type 0} (a : A) → KeepsOlder (pure a)
 pure_older a = record { keeps = λ s. begins_same s.locals s.locals refl }
 
-stop_older : {A : Type 0} (why : Stop) → KeepsOlder (stop {A = A} why)
+stop_older : {A : Type 0} (why : Halt) → KeepsOlder (stop {A = A} why)
 stop_older why = record { keeps = λ s. tt }
 
-if_older : {A : Type 0} (b : Bool) {x y : Action A} → KeepsOlder x → KeepsOlder y → KeepsOlder (if b then x else y)
+pub if_older : {A : Type 0} (b : Bool) {x y : Action A} → KeepsOlder x → KeepsOlder y → KeepsOlder (if b then x else y)
 if_older true g h = g
 if_older false g h = h
 
@@ -66,17 +66,17 @@ spend_older (suc n) s = begins_same s.locals s.locals refl
 tick_older : KeepsOlder tick
 tick_older = record { keeps = λ s. spend_older s.ticks s }
 
-store_keeps : (p : Place) (c w : ℕ) (s : State) → WhereGiven (store_at p c w s) (λ a now. BeginsWithLocals s.locals now.locals)
+store_keeps : (p : Context) (c w : ℕ) (s : State) → WhereGiven (store_at p c w s) (λ a now. BeginsWithLocals s.locals now.locals)
 store_keeps (Outside f l) c w s = tt
 store_keeps (Inside mode m) c w s = begins_same s.locals s.locals refl
 
-may_print_keeps : (p : Place) (s : State) → WhereGiven (may_print_at p s) (λ a now. BeginsWithLocals s.locals now.locals)
+may_print_keeps : (p : Context) (s : State) → WhereGiven (may_print_at p s) (λ a now. BeginsWithLocals s.locals now.locals)
 may_print_keeps (Outside f l) s = begins_same s.locals s.locals refl
 may_print_keeps (Inside Relaxed m) s = begins_same s.locals s.locals refl
 may_print_keeps (Inside Atomic m) s = tt
 
 may_print_older : KeepsOlder may_print
-may_print_older = record { keeps = λ s. may_print_keeps s.place s }
+may_print_older = record { keeps = λ s. may_print_keeps s.context s }
 
 write_older : (text : List ℕ) → KeepsOlder (write text)
 write_older text = record { keeps = λ s. begins_same s.locals s.locals refl }
@@ -85,14 +85,14 @@ piece_older : (text : List ℕ) → KeepsOlder (print_piece text)
 piece_older text = then_older tick_older (write_older text)
 
 -- a written word changes no name and no type
-same_shapes : (ls : List Local) (i w : ℕ) → map shape (with_word ls i w) ≡ map shape ls
+pub same_shapes : (ls : List Local) (i w : ℕ) → map shape (with_word ls i w) ≡ map shape ls
 same_shapes [] i w = refl
 same_shapes (l ∷ ls) zero w = refl
 same_shapes (l ∷ ls) (suc i) w = ap (λ x. shape l ∷ x) (same_shapes ls i w)
 
 assign_older : (at : Spot) (v : Value) → KeepsOlder (assign at v)
 assign_older (InLocal i t) v = record { keeps = λ s. ([], same_shapes s.locals i _ ∙ sym (append-nil (map shape s.locals))) }
-assign_older (InCell c t) v = record { keeps = λ s. store_keeps s.place c _ s }
+assign_older (InCell c t) v = record { keeps = λ s. store_keeps s.context c _ s }
 
 pieces_older : (ps : List Piece) (vs : List Value) → KeepsOlder (print_pieces ps vs)
 pieces_older [] vs = pure_older tt
@@ -127,10 +127,10 @@ scope_ends : (ls : List Local) (r : Answer End) → WhereGiven r (λ a now. Begi
 scope_ends ls (Gives end t) h = taken ls t.locals h
 scope_ends ls (Stops why t) h = tt
 
-scoped_older : {run : Action End} → KeepsOlder run → KeepsOlder (scoped run)
+pub scoped_older : {run : Action End} → KeepsOlder run → KeepsOlder (scoped run)
 scoped_older {run} h = record { keeps = λ s. scope_ends s.locals (run s) (h.keeps s) }
 
-after_body_older : {go : Action (Option End)} → KeepsOlder go → (end : End) → KeepsOlder (after_body go end)
+pub after_body_older : {go : Action (Option End)} → KeepsOlder go → (end : End) → KeepsOlder (after_body go end)
 after_body_older h Next = h
 after_body_older h Breaks = pure_older (Some Next)
 after_body_older h Continues = h
@@ -145,7 +145,7 @@ turns_older : {turn : Action (Option End)} → KeepsOlder turn → (n : ℕ) →
 turns_older h zero = stop_older Spent
 turns_older h (suc n) = then_older tick_older (on_older h (after_turn_older (turns_older h n)))
 
-loop_older : {turn : Action (Option End)} → KeepsOlder turn → KeepsOlder (loop turn)
+pub loop_older : {turn : Action (Option End)} → KeepsOlder turn → KeepsOlder (loop turn)
 loop_older h = record { keeps = λ s. (turns_older h s.ticks).keeps s }
 
 -- a transaction that is cancelled puts the locals back, and another leaves its body's
@@ -156,7 +156,7 @@ left_older mine found Breaks now h = h
 left_older mine found Continues now h = h
 left_older mine found (Returns v) now h = h
 
-leave_older : (n : ℕ) (mine : List Local) (founds lefts : List Memory) (left : Left) (now : State) → BeginsWithLocals mine left.locals → WhereGiven (go_on (spend n (record now { place = Outside founds lefts })) (λ u then_. Gives left.end (record then_ { locals = left.locals; place = Outside founds (lefts ++ left.memory ∷ []) }))) (λ a last. BeginsWithLocals mine last.locals)
+leave_older : (n : ℕ) (mine : List Local) (founds lefts : List Memory) (left : Left) (now : State) → BeginsWithLocals mine left.locals → WhereGiven (go_on (spend n (record now { context = Outside founds lefts })) (λ u then_. Gives left.end (record then_ { locals = left.locals; context = Outside founds (lefts ++ left.memory ∷ []) }))) (λ a last. BeginsWithLocals mine last.locals)
 leave_older zero mine founds lefts left now h = tt
 leave_older (suc n) mine founds lefts left now h = h
 
@@ -171,18 +171,18 @@ inner_older : (outer : Mode) (mine : List Local) (found : Memory) (r : Answer En
 inner_older outer mine found (Gives end now) h = left_older mine found end now h
 inner_older outer mine found (Stops why now) h = tt
 
-enter_older : (run : Action End) → KeepsOlder run → (mode : Mode) (p : Place) (s : State) → WhereGiven (enter p mode run s) (λ a now. BeginsWithLocals s.locals now.locals)
+enter_older : (run : Action End) → KeepsOlder run → (mode : Mode) (p : Context) (s : State) → WhereGiven (enter p mode run s) (λ a now. BeginsWithLocals s.locals now.locals)
 enter_older run h mode (Outside [] lefts) s = tt
-enter_older run h mode (Outside (m ∷ founds) lefts) s = close_older founds lefts s.locals m (run (record s { place = Inside mode m })) (h.keeps (record s { place = Inside mode m }))
-enter_older run h mode (Inside Relaxed m) s = inner_older Relaxed s.locals m (run (record s { place = Inside mode m })) (h.keeps (record s { place = Inside mode m }))
-enter_older run h Atomic (Inside Atomic m) s = inner_older Atomic s.locals m (run (record s { place = Inside Atomic m })) (h.keeps (record s { place = Inside Atomic m }))
+enter_older run h mode (Outside (m ∷ founds) lefts) s = close_older founds lefts s.locals m (run (record s { context = Inside mode m })) (h.keeps (record s { context = Inside mode m }))
+enter_older run h mode (Inside Relaxed m) s = inner_older Relaxed s.locals m (run (record s { context = Inside mode m })) (h.keeps (record s { context = Inside mode m }))
+enter_older run h Atomic (Inside Atomic m) s = inner_older Atomic s.locals m (run (record s { context = Inside Atomic m })) (h.keeps (record s { context = Inside Atomic m }))
 enter_older run h Relaxed (Inside Atomic m) s = tt
 
 transaction_older : (mode : Mode) {run : Action End} → KeepsOlder run → KeepsOlder (transaction mode run)
-transaction_older mode {run} h = record { keeps = λ s. enter_older run h mode s.place s }
+transaction_older mode {run} h = record { keeps = λ s. enter_older run h mode s.context s }
 
 module _ (p : Program) (call : Caller) (h : (x : List ℕ) (vs : List Value) → LeavesLocals (call x vs)) where
-  expr_older : (e : Expr) → KeepsOlder (expr p call e)
+  pub expr_older : (e : Expr) → KeepsOlder (expr p call e)
   expr_older e = leaves_older (expr_holds p call h e)
 
   spot_older : (e : Expr) → KeepsOlder (spot p call e)
@@ -205,9 +205,9 @@ module _ (p : Program) (call : Caller) (h : (x : List ℕ) (vs : List Value) →
   assigned_older at g (Some op) = changed_older at g op
 
   simple_older : (s : Simple) → KeepsOlder (simple p call s)
-  simple_older (Just e) = then_older (expr_older e) (pure_older Next)
+  simple_older (Evaluate e) = then_older (expr_older e) (pure_older Next)
   simple_older (Assign to op e) = on_older (spot_older to) (λ at. then_older (assigned_older at (expr_older e) op) (pure_older Next))
-  simple_older (Change to by) = on_older (spot_older to) (λ at. then_older (changed_older at (pure_older int_one) (op_of by)) (pure_older Next))
+  simple_older (Adjust to by) = on_older (spot_older to) (λ at. then_older (changed_older at (pure_older int_one) (op_of by)) (pure_older Next))
 
   first_value_older : (at : Spot) (o : Option Expr) → KeepsOlder (first_value p call at o)
   first_value_older at None = pure_older tt
@@ -233,16 +233,16 @@ module _ (p : Program) (call : Caller) (h : (x : List ℕ) (vs : List Value) →
   declare_older t [] = pure_older Next
   declare_older t (d ∷ ds) = declared_older t d ds (declare_older t ds)
 
-  start_older : (s : Start) → KeepsOlder (start_with p call s)
+  pub start_older : (s : Start) → KeepsOlder (start_with p call s)
   start_older Nothing = pure_older Next
   start_older (Declares d) = declare_older d.of d.declarators
   start_older (Does s) = simple_older s
 
-  holds_older : (o : Option Expr) → KeepsOlder (holds p call o)
+  pub holds_older : (o : Option Expr) → KeepsOlder (holds p call o)
   holds_older None = pure_older true
   holds_older (Some e) = on_older (expr_older e) (λ v. pure_older _)
 
-  stepped_older : (o : Option Simple) → KeepsOlder (stepped p call o)
+  pub stepped_older : (o : Option Simple) → KeepsOlder (stepped p call o)
   stepped_older None = pure_older None
   stepped_older (Some s) = then_older (simple_older s) (pure_older None)
 
@@ -251,24 +251,24 @@ module _ (p : Program) (call : Caller) (h : (x : List ℕ) (vs : List Value) →
   return_older (Some e) = expr_older e
 
   mutual
-    stmt_older : (s : Stmt) → KeepsOlder (stmt p call s)
+    pub stmt_older : (s : Stmt) → KeepsOlder (stmt p call s)
     stmt_older Empty = then_older tick_older (pure_older Next)
     stmt_older (Declare d) = then_older tick_older (declare_older d.of d.declarators)
     stmt_older (Do s) = then_older tick_older (simple_older s)
     stmt_older (Block ss) = then_older tick_older (scoped_older (stmts_older ss))
     stmt_older (Print at format format_at es) = then_older tick_older (then_older may_print_older (on_older (leaves_older (exprs_holds p call h es)) (λ vs. then_older (pieces_older (pieces format) vs) (pure_older Next))))
-    stmt_older (If c a) = then_older tick_older (on_older (expr_older c) (λ v. if_older _ (pure_older Next) (stmt_older a)))
-    stmt_older (IfElse c a b) = then_older tick_older (on_older (expr_older c) (λ v. if_older _ (stmt_older b) (stmt_older a)))
-    stmt_older (While c a) = then_older tick_older (loop_older (on_older (expr_older c) (λ v. if_older _ (pure_older _) (on_older (stmt_older a) (after_body_older (pure_older None))))))
-    stmt_older (DoWhile a c) = then_older tick_older (loop_older (on_older (stmt_older a) (after_body_older (on_older (expr_older c) (λ v. pure_older _)))))
-    stmt_older (For start c step a) = then_older tick_older (scoped_older (then_older (start_older start) (loop_older (on_older (holds_older c) (λ more. if_older _ (on_older (stmt_older a) (after_body_older (stepped_older step))) (pure_older _))))))
+    stmt_older (If c a) = then_older tick_older (on_older (expr_older c) (λ v. if_older _ (pure_older Next) (scoped_older (stmt_older a))))
+    stmt_older (IfElse c a b) = then_older tick_older (on_older (expr_older c) (λ v. if_older _ (scoped_older (stmt_older b)) (scoped_older (stmt_older a))))
+    stmt_older (While c a) = then_older tick_older (loop_older (on_older (expr_older c) (λ v. if_older _ (pure_older _) (on_older (scoped_older (stmt_older a)) (after_body_older (pure_older None))))))
+    stmt_older (DoWhile a c) = then_older tick_older (loop_older (on_older (scoped_older (stmt_older a)) (after_body_older (on_older (expr_older c) (λ v. pure_older _)))))
+    stmt_older (For start c step a) = then_older tick_older (scoped_older (then_older (start_older start) (loop_older (on_older (holds_older c) (λ more. if_older _ (on_older (scoped_older (stmt_older a)) (after_body_older (stepped_older step))) (pure_older _))))))
     stmt_older (Break at) = then_older tick_older (pure_older Breaks)
     stmt_older (Continue at) = then_older tick_older (pure_older Continues)
     stmt_older (Return e at) = then_older tick_older (on_older (return_older e) (λ v. pure_older _))
     stmt_older (Transaction mode ss at) = then_older tick_older (transaction_older mode (scoped_older (stmts_older ss)))
     stmt_older (Cancel at) = then_older tick_older (pure_older Cancels)
 
-    stmts_older : (ss : Stmts) → KeepsOlder (stmts p call ss)
+    pub stmts_older : (ss : Stmts) → KeepsOlder (stmts p call ss)
     stmts_older Tree.[] = pure_older Next
     stmts_older (Tree.◌∷◌ s ss) = on_older (stmt_older s) (on_next_older (stmts_older ss))
 

@@ -3,34 +3,34 @@ use Rattle.std.proofs.Common.{◌≡◌, ℕ, zero, suc, ◌+◌, ◌≤◌, ◌
 use Rattle.syntax.specs.declared.tree.Mode.{Mode}
 use Rattle.syntax.specs.declared.tree.Mode.TheVariants.{Atomic, Relaxed}
 use Rattle.syntax.specs.declared.numbers.Trap.{Trap}
-use Rattle.syntax.specs.declared.numbers.Stop.TheVariants.{Trapped, Wants, Spent, Astray}
+use Rattle.syntax.specs.declared.numbers.Halt.TheVariants.{Trapped, Wants, Spent, Astray}
 use Rattle.syntax.specs.Tree.{Program}
 use Rattle.syntax.specs.Names.{Local}
 use Rattle.syntax.specs.Behaviours.{Memory, Outcome}
-use Rattle.syntax.specs.Actions.{Place, Outside, Inside, State, Answer, Gives, Stops, Action, stop, go_on, ◌>>=◌, spend, tick, trap, load_at, store, may_print_at, write, print_piece, lefts_in}
+use Rattle.syntax.specs.Actions.{Context, Outside, Inside, State, Answer, Gives, Stops, Action, stop, go_on, ◌>>=◌, spend, tick, trap, load_at, store, may_print_at, write, print_piece, lefts_in}
 use Rattle.syntax.specs.Meaning.{End, Next, Breaks, Continues, Returns, Cancels, after_turn, turns, loop, Left, left_by, leave_inner, close_inner, close, enter}
 use Rattle.syntax.specs.Threads.{outcome_of, first_state, worker_run, thread}
 use Rattle.syntax.specs.Laws.{IsPieceOf, ShowsOneMore, OneTickMore}
 use Rattle.syntax.proofs.Further.{state_of}
 use Rattle.syntax.proofs.Kept.{IsKept, worker_holds}
 
--- nothing left between two places, and one memory left
-abbrev Quiet : Place → Place → Type 0
+-- nothing left between two contexts, and one memory left
+abbrev Quiet : Context → Context → Type 0
 Quiet (Outside f l) (Outside f' l') = l' ≡ l
 Quiet (Outside f l) (Inside mode m) = ⊥
 Quiet (Inside mode m) (Outside f l) = ⊥
 Quiet (Inside mode m) (Inside mode' m') = Unit {0}
 
-abbrev LeavesOne : Place → Place → Type 0
+abbrev LeavesOne : Context → Context → Type 0
 LeavesOne (Outside f l) (Outside f' l') = (m : Memory) × (l' ≡ l ++ m ∷ [])
 LeavesOne (Outside f l) (Inside mode m) = ⊥
 LeavesOne (Inside mode m) q = ⊥
 
-quiet_refl : (p : Place) → Quiet p p
+quiet_refl : (p : Context) → Quiet p p
 quiet_refl (Outside f l) = refl
 quiet_refl (Inside mode m) = tt
 
-quiet_trans : (p q r : Place) → Quiet p q → Quiet q r → Quiet p r
+quiet_trans : (p q r : Context) → Quiet p q → Quiet q r → Quiet p r
 quiet_trans (Outside f l) (Outside f' l') (Outside f'' l'') a b = b ∙ a
 quiet_trans (Outside f l) (Outside f' l') (Inside mode m) a b = b
 quiet_trans (Outside f l) (Inside mode m) r a b = absurd a
@@ -38,42 +38,42 @@ quiet_trans (Inside mode m) (Outside f l) r a b = absurd a
 quiet_trans (Inside mode m) (Inside mode' m') (Outside f l) a b = b
 quiet_trans (Inside mode m) (Inside mode' m') (Inside mode'' m'') a b = tt
 
-leaves_then_quiet : (p q r : Place) → LeavesOne p q → Quiet q r → LeavesOne p r
+leaves_then_quiet : (p q r : Context) → LeavesOne p q → Quiet q r → LeavesOne p r
 leaves_then_quiet (Outside f l) (Outside f' l') (Outside f'' l'') a b = (a.0, b ∙ a.1)
 leaves_then_quiet (Outside f l) (Outside f' l') (Inside mode m) a b = b
 leaves_then_quiet (Outside f l) (Inside mode m) r a b = absurd a
 leaves_then_quiet (Inside mode m) q r a b = absurd a
 
 -- both outside, or both inside
-abbrev SameSide : Place → Place → Type 0
+abbrev SameSide : Context → Context → Type 0
 SameSide (Outside f l) (Outside f' l') = Unit {0}
 SameSide (Outside f l) (Inside mode m) = ⊥
 SameSide (Inside mode m) (Outside f l) = ⊥
 SameSide (Inside mode m) (Inside mode' m') = Unit {0}
 
-side_refl : (p : Place) → SameSide p p
+side_refl : (p : Context) → SameSide p p
 side_refl (Outside f l) = tt
 side_refl (Inside mode m) = tt
 
-side_trans : (p q r : Place) → SameSide p q → SameSide q r → SameSide p r
+side_trans : (p q r : Context) → SameSide p q → SameSide q r → SameSide p r
 side_trans (Outside f l) (Outside f' l') r a b = b
 side_trans (Outside f l) (Inside mode m) r a b = absurd a
 side_trans (Inside mode m) (Outside f l) r a b = absurd a
 side_trans (Inside mode m) (Inside mode' m') r a b = b
 
-abbrev IsInside : Place → Type 0
+abbrev IsInside : Context → Type 0
 IsInside (Outside f l) = ⊥
 IsInside (Inside mode m) = Unit {0}
 
-inside_side : (mode : Mode) (m : Memory) (q : Place) → SameSide (Inside mode m) q → IsInside q
+inside_side : (mode : Mode) (m : Memory) (q : Context) → SameSide (Inside mode m) q → IsInside q
 inside_side mode m (Outside f l) h = h
 inside_side mode m (Inside mode' m') h = tt
 
-inside_quiet : (p : Place) (mode : Mode) (m : Memory) → IsInside p → Quiet p (Inside mode m)
+inside_quiet : (p : Context) (mode : Mode) (m : Memory) → IsInside p → Quiet p (Inside mode m)
 inside_quiet (Outside f l) mode m h = h
 inside_quiet (Inside mode' m') mode m h = tt
 
-inside_leaves : (p q : Place) → IsInside p → LeavesOne p q → ⊥
+inside_leaves : (p q : Context) → IsInside p → LeavesOne p q → ⊥
 inside_leaves (Outside f l) q h o = h
 inside_leaves (Inside mode m) q h o = o
 
@@ -88,21 +88,21 @@ NoTrap (Stops Astray s) = Unit {0}
 record IsIdle {A : Type 0} (s : State) (r : Answer A) : Type 0 where
   ticks : (state_of r).ticks ≡ 0
   text : (state_of r).text ≡ s.text
-  place : Quiet s.place (state_of r).place
+  context : Quiet s.context (state_of r).context
   free : NoTrap r
 
-same_lefts : (p q : Place) → Quiet p q → lefts_in q ≡ lefts_in p
+same_lefts : (p q : Context) → Quiet p q → lefts_in q ≡ lefts_in p
 same_lefts (Outside f l) (Outside f' l') e = e
 same_lefts (Outside f l) (Inside mode m) e = absurd e
 same_lefts (Inside mode m) (Outside f l) e = absurd e
 same_lefts (Inside mode m) (Inside mode' m') e = refl
 
-one_left : (p q : Place) → LeavesOne p q → (m : Memory) × (lefts_in q ≡ lefts_in p ++ m ∷ [])
+one_left : (p q : Context) → LeavesOne p q → (m : Memory) × (lefts_in q ≡ lefts_in p ++ m ∷ [])
 one_left (Outside f l) (Outside f' l') e = e
 one_left (Outside f l) (Inside mode m) e = absurd e
 one_left (Inside mode m) q e = absurd e
 
-outcome_lefts : (r : Answer (Unit {0})) → (outcome_of r).lefts ≡ lefts_in (state_of r).place
+outcome_lefts : (r : Answer (Unit {0})) → (outcome_of r).lefts ≡ lefts_in (state_of r).context
 outcome_lefts (Gives u s) = refl
 outcome_lefts (Stops why s) = refl
 
@@ -114,9 +114,9 @@ module _ (program : Program) where
   -- what is reached from a spent state with one tick more
   abbrev Shown : {A : Type 0} → State → Answer A → Type 0
   Shown t r =
-      (((state_of r).text ≡ t.text) × Quiet t.place (state_of r).place)
-      ⊎ (((piece : List ℕ) × ((state_of r).text ≡ t.text ++ piece) × Quiet t.place (state_of r).place × NoTrap r × IsPieceOf program piece)
-      ⊎ (((state_of r).text ≡ t.text) × LeavesOne t.place (state_of r).place))
+      (((state_of r).text ≡ t.text) × Quiet t.context (state_of r).context)
+      ⊎ (((piece : List ℕ) × ((state_of r).text ≡ t.text ++ piece) × Quiet t.context (state_of r).context × NoTrap r × IsPieceOf program piece)
+      ⊎ (((state_of r).text ≡ t.text) × LeavesOne t.context (state_of r).context))
 
   abbrev later : State → State
   later s = record s { ticks = suc s.ticks }
@@ -131,35 +131,35 @@ module _ (program : Program) where
 
   record IsSlow {A : Type 0} (run : Action A) : Type 0 where
     falls : (s : State) → (state_of (run s)).ticks ≤ s.ticks
-    side : (s : State) → SameSide s.place (state_of (run s)).place
+    side : (s : State) → SameSide s.context (state_of (run s)).context
     idle : (s : State) → s.ticks ≡ 0 → IsIdle s (run s)
     one : (s : State) → OneMore (run s) (run (later s))
 
   still : {A : Type 0} (s : State) (a : A) → s.ticks ≡ 0 → IsIdle s (Gives a s)
-  still s a e = record { ticks = e; text = refl; place = quiet_refl s.place; free = tt }
+  still s a e = record { ticks = e; text = refl; context = quiet_refl s.context; free = tt }
 
   idle_trans : {A B : Type 0} (s t : State) (a : A) (r : Answer B) → IsIdle s (Gives a t) → IsIdle t r → IsIdle s r
-  idle_trans s t a r g h = record { ticks = h.ticks; text = h.text ∙ g.text; place = quiet_trans s.place t.place (state_of r).place g.place h.place; free = h.free }
+  idle_trans s t a r g h = record { ticks = h.ticks; text = h.text ∙ g.text; context = quiet_trans s.context t.context (state_of r).context g.context h.context; free = h.free }
 
   on_falls : {A B : Type 0} (n : ℕ) (r : Answer A) (rest : A → Action B) → (state_of r).ticks ≤ n → ((a : A) (t : State) → (state_of (rest a t)).ticks ≤ t.ticks) → (state_of (go_on r rest)).ticks ≤ n
   on_falls n (Gives a t) rest b h = let c : (state_of (rest a t)).ticks ≤ t.ticks = h a t in omega (arith, b, c)
   on_falls n (Stops why t) rest b h = b
 
-  on_side : {A B : Type 0} (p : Place) (r : Answer A) (rest : A → Action B) → SameSide p (state_of r).place → ((a : A) (t : State) → SameSide t.place (state_of (rest a t)).place) → SameSide p (state_of (go_on r rest)).place
-  on_side p (Gives a t) rest c h = side_trans p t.place (state_of (rest a t)).place c (h a t)
+  on_side : {A B : Type 0} (p : Context) (r : Answer A) (rest : A → Action B) → SameSide p (state_of r).context → ((a : A) (t : State) → SameSide t.context (state_of (rest a t)).context) → SameSide p (state_of (go_on r rest)).context
+  on_side p (Gives a t) rest c h = side_trans p t.context (state_of (rest a t)).context c (h a t)
   on_side p (Stops why t) rest c h = c
 
   on_idle : {A B : Type 0} (s : State) (r : Answer A) (rest : A → Action B) → IsIdle s r → ((a : A) (t : State) → t.ticks ≡ 0 → IsIdle t (rest a t)) → IsIdle s (go_on r rest)
   on_idle s (Gives a t) rest g h = idle_trans s t a (rest a t) g (h a t g.ticks)
   on_idle s (Stops (Trapped k) t) rest g h = absurd g.free
-  on_idle s (Stops Wants t) rest g h = record { ticks = g.ticks; text = g.text; place = g.place; free = tt }
-  on_idle s (Stops Spent t) rest g h = record { ticks = g.ticks; text = g.text; place = g.place; free = tt }
-  on_idle s (Stops Astray t) rest g h = record { ticks = g.ticks; text = g.text; place = g.place; free = tt }
+  on_idle s (Stops Wants t) rest g h = record { ticks = g.ticks; text = g.text; context = g.context; free = tt }
+  on_idle s (Stops Spent t) rest g h = record { ticks = g.ticks; text = g.text; context = g.context; free = tt }
+  on_idle s (Stops Astray t) rest g h = record { ticks = g.ticks; text = g.text; context = g.context; free = tt }
 
   shown_then_idle : {A B : Type 0} (s t : State) (a : A) (r : Answer B) → Shown s (Gives a t) → IsIdle t r → Shown s r
-  shown_then_idle s t a r (inl x) i = inl (i.text ∙ x.0, quiet_trans s.place t.place (state_of r).place x.1 i.place)
-  shown_then_idle s t a r (inr (inl x)) i = inr (inl (x.0, i.text ∙ x.1, quiet_trans s.place t.place (state_of r).place x.2 i.place, i.free, x.4))
-  shown_then_idle s t a r (inr (inr x)) i = inr (inr (i.text ∙ x.0, leaves_then_quiet s.place t.place (state_of r).place x.1 i.place))
+  shown_then_idle s t a r (inl x) i = inl (i.text ∙ x.0, quiet_trans s.context t.context (state_of r).context x.1 i.context)
+  shown_then_idle s t a r (inr (inl x)) i = inr (inl (x.0, i.text ∙ x.1, quiet_trans s.context t.context (state_of r).context x.2 i.context, i.free, x.4))
+  shown_then_idle s t a r (inr (inr x)) i = inr (inr (i.text ∙ x.0, leaves_then_quiet s.context t.context (state_of r).context x.1 i.context))
 
   on_shown : {A B : Type 0} (s : State) (r : Answer A) (rest : A → Action B) → (state_of r).ticks ≡ 0 → Shown s r → ((a : A) (t : State) → t.ticks ≡ 0 → IsIdle t (rest a t)) → ((state_of (go_on r rest)).ticks ≡ 0) × Shown s (go_on r rest)
   on_shown s (Gives a t) rest e x h = ((h a t e).ticks, shown_then_idle s t a (rest a t) x (h a t e))
@@ -178,31 +178,31 @@ module _ (program : Program) where
   on_slow : {A B : Type 0} {run : Action A} {rest : A → Action B} → IsSlow run → ((a : A) → IsSlow (rest a)) → IsSlow (run >>= rest)
   on_slow {run = run} {rest = rest} g h = record {
     falls = λ s. on_falls s.ticks (run s) rest (g.falls s) (λ a t. (h a).falls t);
-    side = λ s. on_side s.place (run s) rest (g.side s) (λ a t. (h a).side t);
+    side = λ s. on_side s.context (run s) rest (g.side s) (λ a t. (h a).side t);
     idle = λ s e. on_idle s (run s) rest (g.idle s e) (λ a t. (h a).idle t);
     one = λ s. on_one s.ticks (run s) (run (later s)) rest rest (g.falls s) (g.one s) (λ a t. (h a).idle t) (λ a t _. (h a).one t);
   }
 
   pure_slow : {A : Type 0} (a : A) → IsSlow (λ s. Gives a s)
-  pure_slow a = record { falls = λ s. omega arith; side = λ s. side_refl s.place; idle = λ s e. still s a e; one = λ s. refl }
+  pure_slow a = record { falls = λ s. omega arith; side = λ s. side_refl s.context; idle = λ s e. still s a e; one = λ s. refl }
 
   astray_slow : {A : Type 0} → IsSlow (stop {A = A} Astray)
-  astray_slow = record { falls = λ s. omega arith; side = λ s. side_refl s.place; idle = λ s e. record { ticks = e; text = refl; place = quiet_refl s.place; free = tt }; one = λ s. refl }
+  astray_slow = record { falls = λ s. omega arith; side = λ s. side_refl s.context; idle = λ s e. record { ticks = e; text = refl; context = quiet_refl s.context; free = tt }; one = λ s. refl }
 
   spend_falls : (n : ℕ) (s : State) → n ≡ s.ticks → (state_of (spend n s)).ticks ≤ s.ticks
   spend_falls zero s e = omega arith
   spend_falls (suc n) s e = omega (arith, e)
 
-  spend_side : (n : ℕ) (s : State) → SameSide s.place (state_of (spend n s)).place
-  spend_side zero s = side_refl s.place
-  spend_side (suc n) s = side_refl s.place
+  spend_side : (n : ℕ) (s : State) → SameSide s.context (state_of (spend n s)).context
+  spend_side zero s = side_refl s.context
+  spend_side (suc n) s = side_refl s.context
 
   spend_idle : (n : ℕ) (s : State) → n ≡ 0 → s.ticks ≡ 0 → IsIdle s (spend n s)
-  spend_idle zero s e f = record { ticks = f; text = refl; place = quiet_refl s.place; free = tt }
+  spend_idle zero s e f = record { ticks = f; text = refl; context = quiet_refl s.context; free = tt }
   spend_idle (suc n) s e f = absurd (cc)
 
   spend_one : (n : ℕ) (s : State) → OneMore (spend n s) (spend (suc n) (later s))
-  spend_one zero s = (refl, inl (refl, quiet_refl s.place))
+  spend_one zero s = (refl, inl (refl, quiet_refl s.context))
   spend_one (suc n) s = refl
 
   tick_slow : IsSlow tick
@@ -210,91 +210,91 @@ module _ (program : Program) where
 
   -- a trap takes the tick itself
   trap_idle : {A : Type 0} (k : Trap) (n : ℕ) (s : State) → n ≡ 0 → s.ticks ≡ 0 → IsIdle s (go_on (spend n s) (λ _. stop {A = A} (Trapped k)))
-  trap_idle k zero s e f = record { ticks = f; text = refl; place = quiet_refl s.place; free = tt }
+  trap_idle k zero s e f = record { ticks = f; text = refl; context = quiet_refl s.context; free = tt }
   trap_idle k (suc n) s e f = absurd (cc)
 
   trap_one : (A : Type 0) (k : Trap) (n : ℕ) (s : State) → OneMore (go_on (spend n s) (λ _. stop {A = A} (Trapped k))) (go_on (spend (suc n) (later s)) (λ _. stop {A = A} (Trapped k)))
-  trap_one A k zero s = (refl, inl (refl, quiet_refl s.place))
+  trap_one A k zero s = (refl, inl (refl, quiet_refl s.context))
   trap_one A k (suc n) s = refl
 
   trap_slow : {A : Type 0} (k : Trap) → IsSlow (trap {A = A} k)
   trap_slow {A} k = record {
     falls = λ s. on_falls s.ticks (tick s) (λ _. stop (Trapped k)) (spend_falls s.ticks s refl) (λ _ t. omega arith);
-    side = λ s. on_side s.place (tick s) (λ _. stop (Trapped k)) (spend_side s.ticks s) (λ _ t. side_refl t.place);
+    side = λ s. on_side s.context (tick s) (λ _. stop (Trapped k)) (spend_side s.ticks s) (λ _ t. side_refl t.context);
     idle = λ s e. trap_idle k s.ticks s e e;
     one = λ s. trap_one A k s.ticks s;
   }
 
   -- so does a piece
   piece_idle : (text : List ℕ) (n : ℕ) (s : State) → n ≡ 0 → s.ticks ≡ 0 → IsIdle s (go_on (spend n s) (λ _. write text))
-  piece_idle text zero s e f = record { ticks = f; text = refl; place = quiet_refl s.place; free = tt }
+  piece_idle text zero s e f = record { ticks = f; text = refl; context = quiet_refl s.context; free = tt }
   piece_idle text (suc n) s e f = absurd (cc)
 
   piece_one : (text : List ℕ) → IsPieceOf program text → (n : ℕ) (s : State) → OneMore (go_on (spend n s) (λ _. write text)) (go_on (spend (suc n) (later s)) (λ _. write text))
-  piece_one text shown zero s = (refl, inr (inl (text, refl, quiet_refl s.place, tt, shown)))
+  piece_one text shown zero s = (refl, inr (inl (text, refl, quiet_refl s.context, tt, shown)))
   piece_one text shown (suc n) s = refl
 
   piece_slow : (text : List ℕ) → IsPieceOf program text → IsSlow (print_piece text)
   piece_slow text shown = record {
     falls = λ s. on_falls s.ticks (tick s) (λ _. write text) (spend_falls s.ticks s refl) (λ _ t. omega arith);
-    side = λ s. on_side s.place (tick s) (λ _. write text) (spend_side s.ticks s) (λ _ t. side_refl t.place);
+    side = λ s. on_side s.context (tick s) (λ _. write text) (spend_side s.ticks s) (λ _ t. side_refl t.context);
     idle = λ s e. piece_idle text s.ticks s e e;
     one = λ s. piece_one text shown s.ticks s;
   }
 
-  load_falls : (p : Place) (c : ℕ) (s : State) → (state_of (load_at p c s)).ticks ≤ s.ticks
+  load_falls : (p : Context) (c : ℕ) (s : State) → (state_of (load_at p c s)).ticks ≤ s.ticks
   load_falls (Outside f l) c s = omega arith
   load_falls (Inside mode m) c s = omega arith
 
-  load_side : (p : Place) (c : ℕ) (s : State) → SameSide s.place (state_of (load_at p c s)).place
-  load_side (Outside f l) c s = side_refl s.place
-  load_side (Inside mode m) c s = side_refl s.place
+  load_side : (p : Context) (c : ℕ) (s : State) → SameSide s.context (state_of (load_at p c s)).context
+  load_side (Outside f l) c s = side_refl s.context
+  load_side (Inside mode m) c s = side_refl s.context
 
-  load_idle : (p : Place) (c : ℕ) (s : State) → s.ticks ≡ 0 → IsIdle s (load_at p c s)
-  load_idle (Outside f l) c s e = record { ticks = e; text = refl; place = quiet_refl s.place; free = tt }
-  load_idle (Inside mode m) c s e = record { ticks = e; text = refl; place = quiet_refl s.place; free = tt }
+  load_idle : (p : Context) (c : ℕ) (s : State) → s.ticks ≡ 0 → IsIdle s (load_at p c s)
+  load_idle (Outside f l) c s e = record { ticks = e; text = refl; context = quiet_refl s.context; free = tt }
+  load_idle (Inside mode m) c s e = record { ticks = e; text = refl; context = quiet_refl s.context; free = tt }
 
-  load_one : (p : Place) (c : ℕ) (s : State) → OneMore (load_at p c s) (load_at p c (later s))
+  load_one : (p : Context) (c : ℕ) (s : State) → OneMore (load_at p c s) (load_at p c (later s))
   load_one (Outside f l) c s = refl
   load_one (Inside mode m) c s = refl
 
-  may_print_falls : (p : Place) (s : State) → (state_of (may_print_at p s)).ticks ≤ s.ticks
+  may_print_falls : (p : Context) (s : State) → (state_of (may_print_at p s)).ticks ≤ s.ticks
   may_print_falls (Outside f l) s = omega arith
   may_print_falls (Inside Relaxed m) s = omega arith
   may_print_falls (Inside Atomic m) s = omega arith
 
-  may_print_side : (p : Place) (s : State) → SameSide s.place (state_of (may_print_at p s)).place
-  may_print_side (Outside f l) s = side_refl s.place
-  may_print_side (Inside Relaxed m) s = side_refl s.place
-  may_print_side (Inside Atomic m) s = side_refl s.place
+  may_print_side : (p : Context) (s : State) → SameSide s.context (state_of (may_print_at p s)).context
+  may_print_side (Outside f l) s = side_refl s.context
+  may_print_side (Inside Relaxed m) s = side_refl s.context
+  may_print_side (Inside Atomic m) s = side_refl s.context
 
-  may_print_idle : (p : Place) (s : State) → s.ticks ≡ 0 → IsIdle s (may_print_at p s)
+  may_print_idle : (p : Context) (s : State) → s.ticks ≡ 0 → IsIdle s (may_print_at p s)
   may_print_idle (Outside f l) s e = still s tt e
   may_print_idle (Inside Relaxed m) s e = still s tt e
-  may_print_idle (Inside Atomic m) s e = record { ticks = e; text = refl; place = quiet_refl s.place; free = tt }
+  may_print_idle (Inside Atomic m) s e = record { ticks = e; text = refl; context = quiet_refl s.context; free = tt }
 
-  may_print_one : (p : Place) (s : State) → OneMore (may_print_at p s) (may_print_at p (later s))
+  may_print_one : (p : Context) (s : State) → OneMore (may_print_at p s) (may_print_at p (later s))
   may_print_one (Outside f l) s = refl
   may_print_one (Inside Relaxed m) s = refl
   may_print_one (Inside Atomic m) s = refl
 
-  abbrev state : ℕ → List Local → Place → List ℕ → State
-  state n ls p t = record { ticks = n; locals = ls; place = p; text = t }
+  abbrev state : ℕ → List Local → Context → List ℕ → State
+  state n ls p t = record { ticks = n; locals = ls; context = p; text = t }
 
   module _ (c w : ℕ) where
-    store_falls : (n : ℕ) (ls : List Local) (p : Place) (t : List ℕ) → (state_of (store c w (state n ls p t))).ticks ≤ n
+    store_falls : (n : ℕ) (ls : List Local) (p : Context) (t : List ℕ) → (state_of (store c w (state n ls p t))).ticks ≤ n
     store_falls n ls (Outside f l) t = omega arith
     store_falls n ls (Inside mode m) t = omega arith
 
-    store_side : (n : ℕ) (ls : List Local) (p : Place) (t : List ℕ) → SameSide p (state_of (store c w (state n ls p t))).place
+    store_side : (n : ℕ) (ls : List Local) (p : Context) (t : List ℕ) → SameSide p (state_of (store c w (state n ls p t))).context
     store_side n ls (Outside f l) t = tt
     store_side n ls (Inside mode m) t = tt
 
-    store_idle : (n : ℕ) (ls : List Local) (p : Place) (t : List ℕ) → n ≡ 0 → IsIdle (state n ls p t) (store c w (state n ls p t))
-    store_idle n ls (Outside f l) t e = record { ticks = e; text = refl; place = refl; free = tt }
-    store_idle n ls (Inside mode m) t e = record { ticks = e; text = refl; place = tt; free = tt }
+    store_idle : (n : ℕ) (ls : List Local) (p : Context) (t : List ℕ) → n ≡ 0 → IsIdle (state n ls p t) (store c w (state n ls p t))
+    store_idle n ls (Outside f l) t e = record { ticks = e; text = refl; context = refl; free = tt }
+    store_idle n ls (Inside mode m) t e = record { ticks = e; text = refl; context = tt; free = tt }
 
-    store_one : (n : ℕ) (ls : List Local) (p : Place) (t : List ℕ) → OneMore (store c w (state n ls p t)) (store c w (state (suc n) ls p t))
+    store_one : (n : ℕ) (ls : List Local) (p : Context) (t : List ℕ) → OneMore (store c w (state n ls p t)) (store c w (state (suc n) ls p t))
     store_one n ls (Outside f l) t = refl
     store_one n ls (Inside mode m) t = refl
 
@@ -303,9 +303,9 @@ module _ (program : Program) where
   after_falls rest h None s = h s
   after_falls rest h (Some end) s = omega arith
 
-  after_side : (rest : Action End) → ((s : State) → SameSide s.place (state_of (rest s)).place) → (o : Option End) (s : State) → SameSide s.place (state_of (after_turn rest o s)).place
+  after_side : (rest : Action End) → ((s : State) → SameSide s.context (state_of (rest s)).context) → (o : Option End) (s : State) → SameSide s.context (state_of (after_turn rest o s)).context
   after_side rest h None s = h s
-  after_side rest h (Some end) s = side_refl s.place
+  after_side rest h (Some end) s = side_refl s.context
 
   after_idle : (rest : Action End) → ((s : State) → s.ticks ≡ 0 → IsIdle s (rest s)) → (o : Option End) (s : State) → s.ticks ≡ 0 → IsIdle s (after_turn rest o s)
   after_idle rest h None s e = h s e
@@ -322,14 +322,14 @@ module _ (program : Program) where
         on_falls s.ticks (tick s) (λ _. turn >>= after_turn (turns n turn)) (tick_slow.falls s)
         (λ _ t. on_falls t.ticks (turn t) (after_turn (turns n turn)) (h.falls t) (after_falls (turns n turn) (turns_fall n)))
 
-    turns_side : (n : ℕ) (s : State) → SameSide s.place (state_of (turns n turn s)).place
-    turns_side zero s = side_refl s.place
+    turns_side : (n : ℕ) (s : State) → SameSide s.context (state_of (turns n turn s)).context
+    turns_side zero s = side_refl s.context
     turns_side (suc n) s =
-        on_side s.place (tick s) (λ _. turn >>= after_turn (turns n turn)) (tick_slow.side s)
-        (λ _ t. on_side t.place (turn t) (after_turn (turns n turn)) (h.side t) (after_side (turns n turn) (turns_side n)))
+        on_side s.context (tick s) (λ _. turn >>= after_turn (turns n turn)) (tick_slow.side s)
+        (λ _ t. on_side t.context (turn t) (after_turn (turns n turn)) (h.side t) (after_side (turns n turn) (turns_side n)))
 
     turns_idle : (n : ℕ) (s : State) → s.ticks ≡ 0 → IsIdle s (turns n turn s)
-    turns_idle zero s e = record { ticks = e; text = refl; place = quiet_refl s.place; free = tt }
+    turns_idle zero s e = record { ticks = e; text = refl; context = quiet_refl s.context; free = tt }
     turns_idle (suc n) s e =
         on_idle s (tick s) (λ _. turn >>= after_turn (turns n turn)) (tick_slow.idle s e)
         (λ _ t f. on_idle t (turn t) (after_turn (turns n turn)) (h.idle t f) (after_idle (turns n turn) (turns_idle n)))
@@ -343,7 +343,7 @@ module _ (program : Program) where
     spend_turn (suc m) n s e b = omega (arith, b)
 
     turns_one : (n : ℕ) (s : State) → s.ticks ≤ n → OneMore (turns n turn s) (turns (suc n) turn (later s))
-    turns_one zero s b = on_shown {A = Unit {0}} s (Gives tt s) (λ _. turn >>= after_turn (turns zero turn)) (omega (arith, b)) (inl (refl, quiet_refl s.place)) (λ _ t e. turn_idle zero t e)
+    turns_one zero s b = on_shown {A = Unit {0}} s (Gives tt s) (λ _. turn >>= after_turn (turns zero turn)) (omega (arith, b)) (inl (refl, quiet_refl s.context)) (λ _ t e. turn_idle zero t e)
     turns_one (suc n) s b =
         on_one n (tick s) (tick (later s)) (λ _. turn >>= after_turn (turns n turn)) (λ _. turn >>= after_turn (turns (suc n) turn)) (spend_turn s.ticks n s refl b) (tick_slow.one s)
         (λ _ t e. turn_idle (suc n) t e)
@@ -360,8 +360,8 @@ module _ (program : Program) where
   -- a transaction that is left
   abbrev leave_at : ℕ → State → List Memory → List Memory → Left → Answer End
   leave_at n now founds lefts left =
-      go_on (spend n (record now { place = Outside founds lefts }))
-      (λ u then_. Gives left.end (record then_ { locals = left.locals; place = Outside founds (lefts ++ left.memory ∷ []) }))
+      go_on (spend n (record now { context = Outside founds lefts }))
+      (λ u then_. Gives left.end (record then_ { locals = left.locals; context = Outside founds (lefts ++ left.memory ∷ []) }))
 
   left_later : (mine : List Local) (found : Memory) (end : End) (now : State) → left_by mine found end (later now) ≡ left_by mine found end now
   left_later mine found Next now = refl
@@ -371,23 +371,23 @@ module _ (program : Program) where
   left_later mine found Cancels now = refl
 
   -- what an answer inside shows is shown outside, where nothing is left
-  carried : {A B : Type 0} (t : State) (r : Answer A) (founds lefts : List Memory) (r' : Answer B) → IsInside t.place → Shown t r → (state_of r').text ≡ (state_of r).text → Quiet (Outside founds lefts) (state_of r').place → NoTrap r' → Shown (record t { place = Outside founds lefts }) r'
+  carried : {A B : Type 0} (t : State) (r : Answer A) (founds lefts : List Memory) (r' : Answer B) → IsInside t.context → Shown t r → (state_of r').text ≡ (state_of r).text → Quiet (Outside founds lefts) (state_of r').context → NoTrap r' → Shown (record t { context = Outside founds lefts }) r'
   carried t r founds lefts r' i (inl x) e q free = inl (e ∙ x.0, q)
   carried t r founds lefts r' i (inr (inl x)) e q free = inr (inl (x.0, e ∙ x.1, q, free, x.4))
-  carried t r founds lefts r' i (inr (inr x)) e q free = absurd (inside_leaves t.place (state_of r).place i x.1)
+  carried t r founds lefts r' i (inr (inr x)) e q free = absurd (inside_leaves t.context (state_of r).context i x.1)
 
   -- a trap leaves the memory that was found
-  trap_carried : (k : Trap) (t u : State) (founds lefts : List Memory) (found : Memory) → IsInside t.place → Shown {A = End} t (Stops (Trapped k) u) → Shown {A = End} (record t { place = Outside founds lefts }) (Stops (Trapped k) (record u { place = Outside founds (lefts ++ found ∷ []) }))
+  trap_carried : (k : Trap) (t u : State) (founds lefts : List Memory) (found : Memory) → IsInside t.context → Shown {A = End} t (Stops (Trapped k) u) → Shown {A = End} (record t { context = Outside founds lefts }) (Stops (Trapped k) (record u { context = Outside founds (lefts ++ found ∷ []) }))
   trap_carried k t u founds lefts found i (inl x) = inr (inr (x.0, (found, refl)))
   trap_carried k t u founds lefts found i (inr (inl x)) = absurd x.3
-  trap_carried k t u founds lefts found i (inr (inr x)) = absurd (inside_leaves t.place u.place i x.1)
+  trap_carried k t u founds lefts found i (inr (inr x)) = absurd (inside_leaves t.context u.context i x.1)
 
   module _ (founds lefts : List Memory) where
     leave_falls : (n : ℕ) (now : State) (left : Left) → n ≡ now.ticks → (state_of (leave_at n now founds lefts left)).ticks ≤ now.ticks
     leave_falls zero now left e = omega arith
     leave_falls (suc n) now left e = omega (arith, e)
 
-    leave_side : (n : ℕ) (now : State) (left : Left) (f l : List Memory) → SameSide (Outside f l) (state_of (leave_at n now founds lefts left)).place
+    leave_side : (n : ℕ) (now : State) (left : Left) (f l : List Memory) → SameSide (Outside f l) (state_of (leave_at n now founds lefts left)).context
     leave_side zero now left f l = tt
     leave_side (suc n) now left f l = tt
 
@@ -396,11 +396,11 @@ module _ (program : Program) where
     leave_one (suc n) now left = refl
 
     leave_idle : (k : ℕ) (ls : List Local) (t : List ℕ) (found : Memory) (n : ℕ) (now : State) (left : Left) → n ≡ 0 → now.ticks ≡ 0 → now.text ≡ t → IsIdle (state k ls (Outside (found ∷ founds) lefts) t) (leave_at n now founds lefts left)
-    leave_idle k ls t found zero now left e f g = record { ticks = f; text = g; place = refl; free = tt }
+    leave_idle k ls t found zero now left e f g = record { ticks = f; text = g; context = refl; free = tt }
     leave_idle k ls t found (suc n) now left e f g = absurd (cc)
 
-    leave_shown : (t : State) (n : ℕ) (end : End) (u : State) (left : Left) → n ≡ 0 → IsInside t.place → u.ticks ≡ 0 → Shown t (Gives end u) → ((state_of (leave_at n u founds lefts left)).ticks ≡ 0) × Shown (record t { place = Outside founds lefts }) (leave_at n u founds lefts left)
-    leave_shown t zero end u left e i f x = (f, carried {A = End} {B = End} t (Gives end u) founds lefts (Stops Spent (record u { place = Outside founds lefts })) i x refl refl tt)
+    leave_shown : (t : State) (n : ℕ) (end : End) (u : State) (left : Left) → n ≡ 0 → IsInside t.context → u.ticks ≡ 0 → Shown t (Gives end u) → ((state_of (leave_at n u founds lefts left)).ticks ≡ 0) × Shown (record t { context = Outside founds lefts }) (leave_at n u founds lefts left)
+    leave_shown t zero end u left e i f x = (f, carried {A = End} {B = End} t (Gives end u) founds lefts (Stops Spent (record u { context = Outside founds lefts })) i x refl refl tt)
     leave_shown t (suc n) end u left e i f x = absurd (cc)
 
     module _ (mine : List Local) (found : Memory) where
@@ -411,7 +411,7 @@ module _ (program : Program) where
       close_falls n (Stops Spent now) b = b
       close_falls n (Stops Astray now) b = b
 
-      close_side : (f l : List Memory) (r : Answer End) → SameSide (Outside f l) (state_of (close founds lefts mine found r)).place
+      close_side : (f l : List Memory) (r : Answer End) → SameSide (Outside f l) (state_of (close founds lefts mine found r)).context
       close_side f l (Gives end now) = leave_side now.ticks now (left_by mine found end now) f l
       close_side f l (Stops (Trapped k) now) = tt
       close_side f l (Stops Wants now) = tt
@@ -421,18 +421,18 @@ module _ (program : Program) where
       close_idle : (mode : Mode) (k : ℕ) (ls : List Local) (t : List ℕ) (r : Answer End) → IsIdle (state k ls (Inside mode found) t) r → IsIdle (state k ls (Outside (found ∷ founds) lefts) t) (close founds lefts mine found r)
       close_idle mode k ls t (Gives end now) g = leave_idle k ls t found now.ticks now (left_by mine found end now) g.ticks g.ticks g.text
       close_idle mode k ls t (Stops (Trapped x) now) g = absurd g.free
-      close_idle mode k ls t (Stops Wants now) g = record { ticks = g.ticks; text = g.text; place = refl; free = tt }
-      close_idle mode k ls t (Stops Spent now) g = record { ticks = g.ticks; text = g.text; place = refl; free = tt }
-      close_idle mode k ls t (Stops Astray now) g = record { ticks = g.ticks; text = g.text; place = refl; free = tt }
+      close_idle mode k ls t (Stops Wants now) g = record { ticks = g.ticks; text = g.text; context = refl; free = tt }
+      close_idle mode k ls t (Stops Spent now) g = record { ticks = g.ticks; text = g.text; context = refl; free = tt }
+      close_idle mode k ls t (Stops Astray now) g = record { ticks = g.ticks; text = g.text; context = refl; free = tt }
 
-      close_shown : (t : State) (more : Answer End) → IsInside t.place → (state_of more).ticks ≡ 0 → Shown t more → ((state_of (close founds lefts mine found more)).ticks ≡ 0) × Shown (record t { place = Outside founds lefts }) (close founds lefts mine found more)
+      close_shown : (t : State) (more : Answer End) → IsInside t.context → (state_of more).ticks ≡ 0 → Shown t more → ((state_of (close founds lefts mine found more)).ticks ≡ 0) × Shown (record t { context = Outside founds lefts }) (close founds lefts mine found more)
       close_shown t (Gives end u) i e x = leave_shown t u.ticks end u (left_by mine found end u) e i e x
       close_shown t (Stops (Trapped k) u) i e x = (e, trap_carried k t u founds lefts found i x)
-      close_shown t (Stops Wants u) i e x = (e, carried {A = End} {B = End} t (Stops Wants u) founds lefts (Stops Wants (record u { place = Outside founds lefts })) i x refl refl tt)
-      close_shown t (Stops Spent u) i e x = (e, carried {A = End} {B = End} t (Stops Spent u) founds lefts (Stops Spent (record u { place = Outside founds lefts })) i x refl refl tt)
-      close_shown t (Stops Astray u) i e x = (e, carried {A = End} {B = End} t (Stops Astray u) founds lefts (Stops Astray (record u { place = Outside founds lefts })) i x refl refl tt)
+      close_shown t (Stops Wants u) i e x = (e, carried {A = End} {B = End} t (Stops Wants u) founds lefts (Stops Wants (record u { context = Outside founds lefts })) i x refl refl tt)
+      close_shown t (Stops Spent u) i e x = (e, carried {A = End} {B = End} t (Stops Spent u) founds lefts (Stops Spent (record u { context = Outside founds lefts })) i x refl refl tt)
+      close_shown t (Stops Astray u) i e x = (e, carried {A = End} {B = End} t (Stops Astray u) founds lefts (Stops Astray (record u { context = Outside founds lefts })) i x refl refl tt)
 
-      close_one : (r more : Answer End) → IsInside (state_of r).place → OneMore r more → OneMore (close founds lefts mine found r) (close founds lefts mine found more)
+      close_one : (r more : Answer End) → IsInside (state_of r).context → OneMore r more → OneMore (close founds lefts mine found r) (close founds lefts mine found more)
       close_one (Gives end now) more i e =
           let left = left_by mine found end now in
           let same = ap (close founds lefts mine found) e ∙ ap (λ l. leave_at (suc now.ticks) (later now) founds lefts l) (left_later mine found end now) in
@@ -448,26 +448,26 @@ module _ (program : Program) where
     inner_falls n (Gives end now) b = b
     inner_falls n (Stops why now) b = b
 
-    inner_side : (mode : Mode) (r : Answer End) → SameSide (Inside mode found) (state_of r).place → SameSide (Inside outer found) (state_of (close_inner outer mine found r)).place
+    inner_side : (mode : Mode) (r : Answer End) → SameSide (Inside mode found) (state_of r).context → SameSide (Inside outer found) (state_of (close_inner outer mine found r)).context
     inner_side mode (Gives end now) c = tt
     inner_side mode (Stops why now) c = c
 
     inner_idle : (mode : Mode) (k : ℕ) (ls : List Local) (t : List ℕ) (r : Answer End) → IsIdle (state k ls (Inside mode found) t) r → IsIdle (state k ls (Inside outer found) t) (close_inner outer mine found r)
-    inner_idle mode k ls t (Gives end now) g = record { ticks = g.ticks; text = g.text; place = tt; free = tt }
-    inner_idle mode k ls t (Stops why now) g = record { ticks = g.ticks; text = g.text; place = g.place; free = g.free }
+    inner_idle mode k ls t (Gives end now) g = record { ticks = g.ticks; text = g.text; context = tt; free = tt }
+    inner_idle mode k ls t (Stops why now) g = record { ticks = g.ticks; text = g.text; context = g.context; free = g.free }
 
-    inner_carried : (t : State) (end end' : End) (u u' : State) → IsInside t.place → u'.text ≡ u.text → IsInside u'.place → Quiet t.place u'.place → Shown t (Gives end u) → Shown t (Gives end' u')
+    inner_carried : (t : State) (end end' : End) (u u' : State) → IsInside t.context → u'.text ≡ u.text → IsInside u'.context → Quiet t.context u'.context → Shown t (Gives end u) → Shown t (Gives end' u')
     inner_carried t end end' u u' i e j q (inl x) = inl (e ∙ x.0, q)
     inner_carried t end end' u u' i e j q (inr (inl x)) = inr (inl (x.0, e ∙ x.1, q, tt, x.4))
-    inner_carried t end end' u u' i e j q (inr (inr x)) = absurd (inside_leaves t.place u.place i x.1)
+    inner_carried t end end' u u' i e j q (inr (inr x)) = absurd (inside_leaves t.context u.context i x.1)
 
-    inner_shown : (t : State) (more : Answer End) → IsInside t.place → (state_of more).ticks ≡ 0 → Shown t more → ((state_of (close_inner outer mine found more)).ticks ≡ 0) × Shown t (close_inner outer mine found more)
+    inner_shown : (t : State) (more : Answer End) → IsInside t.context → (state_of more).ticks ≡ 0 → Shown t more → ((state_of (close_inner outer mine found more)).ticks ≡ 0) × Shown t (close_inner outer mine found more)
     inner_shown t (Gives end u) i e x =
         let left = left_by mine found end u in
-        (e, inner_carried t end left.end u (record u { locals = left.locals; place = Inside outer left.memory }) i refl tt (inside_quiet t.place outer left.memory i) x)
+        (e, inner_carried t end left.end u (record u { locals = left.locals; context = Inside outer left.memory }) i refl tt (inside_quiet t.context outer left.memory i) x)
     inner_shown t (Stops why u) i e x = (e, x)
 
-    inner_one : (r more : Answer End) → IsInside (state_of r).place → OneMore r more → OneMore (close_inner outer mine found r) (close_inner outer mine found more)
+    inner_one : (r more : Answer End) → IsInside (state_of r).context → OneMore r more → OneMore (close_inner outer mine found r) (close_inner outer mine found more)
     inner_one (Gives end now) more i e = ap (close_inner outer mine found) e ∙ ap (λ l. leave_inner outer l (later now)) (left_later mine found end now)
     inner_one (Stops (Trapped k) t) more i e = ap (close_inner outer mine found) e
     inner_one (Stops Wants t) more i e = ap (close_inner outer mine found) e
@@ -478,56 +478,56 @@ module _ (program : Program) where
     abbrev from : Mode → Memory → ℕ → List Local → List ℕ → State
     from mode m n ls t = state n ls (Inside mode m) t
 
-    stays_in : (mode : Mode) (m : Memory) (n : ℕ) (ls : List Local) (t : List ℕ) → IsInside (state_of (run (from mode m n ls t))).place
-    stays_in mode m n ls t = inside_side mode m (state_of (run (from mode m n ls t))).place (h.side (from mode m n ls t))
+    stays_in : (mode : Mode) (m : Memory) (n : ℕ) (ls : List Local) (t : List ℕ) → IsInside (state_of (run (from mode m n ls t))).context
+    stays_in mode m n ls t = inside_side mode m (state_of (run (from mode m n ls t))).context (h.side (from mode m n ls t))
 
-    enter_falls : (mode : Mode) (p : Place) (n : ℕ) (ls : List Local) (t : List ℕ) → (state_of (enter p mode run (state n ls p t))).ticks ≤ n
+    enter_falls : (mode : Mode) (p : Context) (n : ℕ) (ls : List Local) (t : List ℕ) → (state_of (enter p mode run (state n ls p t))).ticks ≤ n
     enter_falls mode (Outside [] lefts) n ls t = omega arith
     enter_falls mode (Outside (m ∷ founds) lefts) n ls t = close_falls founds lefts ls m n (run (from mode m n ls t)) (h.falls (from mode m n ls t))
     enter_falls mode (Inside Relaxed m) n ls t = inner_falls Relaxed ls m n (run (from mode m n ls t)) (h.falls (from mode m n ls t))
     enter_falls Atomic (Inside Atomic m) n ls t = inner_falls Atomic ls m n (run (from Atomic m n ls t)) (h.falls (from Atomic m n ls t))
     enter_falls Relaxed (Inside Atomic m) n ls t = omega arith
 
-    enter_side : (mode : Mode) (p : Place) (n : ℕ) (ls : List Local) (t : List ℕ) → SameSide p (state_of (enter p mode run (state n ls p t))).place
+    enter_side : (mode : Mode) (p : Context) (n : ℕ) (ls : List Local) (t : List ℕ) → SameSide p (state_of (enter p mode run (state n ls p t))).context
     enter_side mode (Outside [] lefts) n ls t = tt
     enter_side mode (Outside (m ∷ founds) lefts) n ls t = close_side founds lefts ls m (m ∷ founds) lefts (run (from mode m n ls t))
     enter_side mode (Inside Relaxed m) n ls t = inner_side Relaxed ls m mode (run (from mode m n ls t)) (h.side (from mode m n ls t))
     enter_side Atomic (Inside Atomic m) n ls t = inner_side Atomic ls m Atomic (run (from Atomic m n ls t)) (h.side (from Atomic m n ls t))
     enter_side Relaxed (Inside Atomic m) n ls t = tt
 
-    enter_idle : (mode : Mode) (p : Place) (n : ℕ) (ls : List Local) (t : List ℕ) → n ≡ 0 → IsIdle (state n ls p t) (enter p mode run (state n ls p t))
-    enter_idle mode (Outside [] lefts) n ls t e = record { ticks = e; text = refl; place = refl; free = tt }
+    enter_idle : (mode : Mode) (p : Context) (n : ℕ) (ls : List Local) (t : List ℕ) → n ≡ 0 → IsIdle (state n ls p t) (enter p mode run (state n ls p t))
+    enter_idle mode (Outside [] lefts) n ls t e = record { ticks = e; text = refl; context = refl; free = tt }
     enter_idle mode (Outside (m ∷ founds) lefts) n ls t e = close_idle founds lefts ls m mode n ls t (run (from mode m n ls t)) (h.idle (from mode m n ls t) e)
     enter_idle mode (Inside Relaxed m) n ls t e = inner_idle Relaxed ls m mode n ls t (run (from mode m n ls t)) (h.idle (from mode m n ls t) e)
     enter_idle Atomic (Inside Atomic m) n ls t e = inner_idle Atomic ls m Atomic n ls t (run (from Atomic m n ls t)) (h.idle (from Atomic m n ls t) e)
-    enter_idle Relaxed (Inside Atomic m) n ls t e = record { ticks = e; text = refl; place = tt; free = tt }
+    enter_idle Relaxed (Inside Atomic m) n ls t e = record { ticks = e; text = refl; context = tt; free = tt }
 
-    enter_one : (mode : Mode) (p : Place) (n : ℕ) (ls : List Local) (t : List ℕ) → OneMore (enter p mode run (state n ls p t)) (enter p mode run (state (suc n) ls p t))
+    enter_one : (mode : Mode) (p : Context) (n : ℕ) (ls : List Local) (t : List ℕ) → OneMore (enter p mode run (state n ls p t)) (enter p mode run (state (suc n) ls p t))
     enter_one mode (Outside [] lefts) n ls t = refl
     enter_one mode (Outside (m ∷ founds) lefts) n ls t = close_one founds lefts ls m (run (from mode m n ls t)) (run (from mode m (suc n) ls t)) (stays_in mode m n ls t) (h.one (from mode m n ls t))
     enter_one mode (Inside Relaxed m) n ls t = inner_one Relaxed ls m (run (from mode m n ls t)) (run (from mode m (suc n) ls t)) (stays_in mode m n ls t) (h.one (from mode m n ls t))
     enter_one Atomic (Inside Atomic m) n ls t = inner_one Atomic ls m (run (from Atomic m n ls t)) (run (from Atomic m (suc n) ls t)) (stays_in Atomic m n ls t) (h.one (from Atomic m n ls t))
     enter_one Relaxed (Inside Atomic m) n ls t = refl
 
-  slow_kept : IsKept program (λ A run. IsSlow run)
+  slow_kept : IsKept (IsPieceOf program) (λ A run. IsSlow run)
   slow_kept = record {
     pure_holds = pure_slow;
     on_holds = on_slow;
     astray_holds = astray_slow;
     trap_holds = trap_slow;
     tick_holds = tick_slow;
-    locals_holds = record { falls = λ s. omega arith; side = λ s. side_refl s.place; idle = λ s e. still s s.locals e; one = λ s. refl };
-    put_locals_holds = λ ls. record { falls = λ s. omega arith; side = λ s. side_refl s.place; idle = λ s e. record { ticks = e; text = refl; place = quiet_refl s.place; free = tt }; one = λ s. refl };
-    load_holds = λ c. record { falls = λ s. load_falls s.place c s; side = λ s. load_side s.place c s; idle = λ s e. load_idle s.place c s e; one = λ s. load_one s.place c s };
-    store_holds = λ c w below. record { falls = λ s. store_falls c w s.ticks s.locals s.place s.text; side = λ s. store_side c w s.ticks s.locals s.place s.text; idle = λ s e. store_idle c w s.ticks s.locals s.place s.text e; one = λ s. store_one c w s.ticks s.locals s.place s.text };
-    may_print_holds = record { falls = λ s. may_print_falls s.place s; side = λ s. may_print_side s.place s; idle = λ s e. may_print_idle s.place s e; one = λ s. may_print_one s.place s };
+    locals_holds = record { falls = λ s. omega arith; side = λ s. side_refl s.context; idle = λ s e. still s s.locals e; one = λ s. refl };
+    put_locals_holds = λ ls. record { falls = λ s. omega arith; side = λ s. side_refl s.context; idle = λ s e. record { ticks = e; text = refl; context = quiet_refl s.context; free = tt }; one = λ s. refl };
+    load_holds = λ c. record { falls = λ s. load_falls s.context c s; side = λ s. load_side s.context c s; idle = λ s e. load_idle s.context c s e; one = λ s. load_one s.context c s };
+    store_holds = λ c w below. record { falls = λ s. store_falls c w s.ticks s.locals s.context s.text; side = λ s. store_side c w s.ticks s.locals s.context s.text; idle = λ s e. store_idle c w s.ticks s.locals s.context s.text e; one = λ s. store_one c w s.ticks s.locals s.context s.text };
+    may_print_holds = record { falls = λ s. may_print_falls s.context s; side = λ s. may_print_side s.context s; idle = λ s e. may_print_idle s.context s e; one = λ s. may_print_one s.context s };
     print_piece_holds = piece_slow;
     loop_holds = loop_slow;
     transaction_holds = λ mode h. record {
-      falls = λ s. enter_falls _ h mode s.place s.ticks s.locals s.text;
-      side = λ s. enter_side _ h mode s.place s.ticks s.locals s.text;
-      idle = λ s e. enter_idle _ h mode s.place s.ticks s.locals s.text e;
-      one = λ s. enter_one _ h mode s.place s.ticks s.locals s.text;
+      falls = λ s. enter_falls _ h mode s.context s.ticks s.locals s.text;
+      side = λ s. enter_side _ h mode s.context s.ticks s.locals s.text;
+      idle = λ s e. enter_idle _ h mode s.context s.ticks s.locals s.text e;
+      one = λ s. enter_one _ h mode s.context s.ticks s.locals s.text;
     };
   }
 
@@ -535,9 +535,9 @@ module _ (program : Program) where
   same_shown o after e = subst (λ x. ShowsOneMore program o x) (sym e) (inl (refl, refl))
 
   spent_shown : (t : State) (more : Answer (Unit {0})) → Shown t more → ShowsOneMore program (outcome_of (Stops Spent t)) (outcome_of more)
-  spent_shown t more (inl x) = inl (outcome_text more ∙ x.0, outcome_lefts more ∙ same_lefts t.place (state_of more).place x.1)
-  spent_shown t more (inr (inl x)) = inr (inl (x.0, x.4, outcome_text more ∙ x.1, outcome_lefts more ∙ same_lefts t.place (state_of more).place x.2))
-  spent_shown t more (inr (inr x)) = let l = one_left t.place (state_of more).place x.1 in inr (inr (l.0, outcome_text more ∙ x.0, outcome_lefts more ∙ l.1))
+  spent_shown t more (inl x) = inl (outcome_text more ∙ x.0, outcome_lefts more ∙ same_lefts t.context (state_of more).context x.1)
+  spent_shown t more (inr (inl x)) = inr (inl (x.0, x.4, outcome_text more ∙ x.1, outcome_lefts more ∙ same_lefts t.context (state_of more).context x.2))
+  spent_shown t more (inr (inr x)) = let l = one_left t.context (state_of more).context x.1 in inr (inr (l.0, outcome_text more ∙ x.0, outcome_lefts more ∙ l.1))
 
   shows : (r more : Answer (Unit {0})) → OneMore r more → ShowsOneMore program (outcome_of r) (outcome_of more)
   shows (Gives u t) more e = same_shown (outcome_of (Gives u t)) (outcome_of more) (ap outcome_of e)

@@ -1,9 +1,9 @@
 -- The laws of threads, from steadiness.
 use Rattle.std.proofs.Common.{◌≡◌, ◌≢◌, ℕ, zero, suc, ◌+◌, List, [], ◌++◌, refl, sym, ap, ◌∙◌, subst, append-nil, arith}
 use Rattle.syntax.specs.Tree.{Program}
-use Rattle.syntax.specs.declared.numbers.Stop.TheVariants.{Trapped, Wants, Spent, Astray}
+use Rattle.syntax.specs.declared.numbers.Halt.TheVariants.{Trapped, Wants, Spent, Astray}
 use Rattle.syntax.specs.Behaviours.{Memory}
-use Rattle.syntax.specs.Actions.{Place, Outside, Inside, State, Answer, Gives, Stops}
+use Rattle.syntax.specs.Actions.{Context, Outside, Inside, State, Answer, Gives, Stops}
 use Rattle.syntax.specs.Actions.{lefts_in}
 use Rattle.syntax.proofs.Further.{state_of, added, with_founds, with_more, Follows, Grown, Extends}
 use Rattle.syntax.specs.Behaviours.{ThreadEnd, Ended, Stopped, Outcome}
@@ -15,13 +15,13 @@ added_is : (n k : ℕ) → added n k ≡ n + k
 added_is zero k = omega arith
 added_is (suc n) k = let e : added n k ≡ n + k = added_is n k in omega (arith, e)
 
-lefts_follow : (p q : Place) → Follows p q → (more : List Memory) × (lefts_in q ≡ lefts_in p ++ more)
+lefts_follow : (p q : Context) → Follows p q → (more : List Memory) × (lefts_in q ≡ lefts_in p ++ more)
 lefts_follow (Outside f l) (Outside f' l') a = a
 lefts_follow (Outside f l) (Inside mode m) a = absurd a
 lefts_follow (Inside mode m) (Outside f l) a = absurd a
 lefts_follow (Inside mode m) (Inside mode' m') a = ([], refl)
 
-outcome_lefts : (r : Answer (Unit {0})) → (outcome_of r).lefts ≡ lefts_in (state_of r).place
+outcome_lefts : (r : Answer (Unit {0})) → (outcome_of r).lefts ≡ lefts_in (state_of r).context
 outcome_lefts (Gives u s) = refl
 outcome_lefts (Stops why s) = refl
 
@@ -29,13 +29,13 @@ outcome_text : (r : Answer (Unit {0})) → (outcome_of r).text ≡ (state_of r).
 outcome_text (Gives u s) = refl
 outcome_text (Stops why s) = refl
 
-further_lefts : (extra : List Memory) (p : Place) → lefts_in (with_founds extra p) ≡ lefts_in p
+further_lefts : (extra : List Memory) (p : Context) → lefts_in (with_founds extra p) ≡ lefts_in p
 further_lefts extra (Outside f l) = refl
 further_lefts extra (Inside mode m) = refl
 
-begins_grown : (s : State) (r : Answer (Unit {0})) (end : ThreadEnd) → Grown s (state_of r) → Begins (record { lefts = lefts_in s.place; text = s.text; end = end }) (outcome_of r)
+begins_grown : (s : State) (r : Answer (Unit {0})) (end : ThreadEnd) → Grown s (state_of r) → Begins (record { lefts = lefts_in s.context; text = s.text; end = end }) (outcome_of r)
 begins_grown s r end g =
-    let l = lefts_follow s.place (state_of r).place g.place in
+    let l = lefts_follow s.context (state_of r).context g.context in
     record { printed = g.printed; text = outcome_text r ∙ g.text; further = l.0; lefts = outcome_lefts r ∙ l.1 }
 
 abbrev outcome : List Memory → List ℕ → ThreadEnd → Outcome
@@ -45,8 +45,8 @@ begins_all : (o : Outcome) → Begins o o
 begins_all o = record { printed = []; text = sym (append-nil o.text); further = []; lefts = sym (append-nil o.lefts) }
 
 -- an end that stays
-same_outcome : (k : ℕ) (extra : List Memory) (s : State) (end : ThreadEnd) → outcome (lefts_in (with_more k extra s).place) s.text end ≡ outcome (lefts_in s.place) s.text end
-same_outcome k extra s end = ap (λ l. outcome l s.text end) (further_lefts extra s.place)
+same_outcome : (k : ℕ) (extra : List Memory) (s : State) (end : ThreadEnd) → outcome (lefts_in (with_more k extra s).context) s.text end ≡ outcome (lefts_in s.context) s.text end
+same_outcome k extra s end = ap (λ l. outcome l s.text end) (further_lefts extra s.context)
 
 stays : (k : ℕ) (extra : List Memory) (r more : Answer (Unit {0})) → Extends k extra r more → (outcome_of r).end ≢ Stopped Spent → ((outcome_of r).end ≢ Stopped Wants) → outcome_of more ≡ outcome_of r
 stays k extra (Gives u s) more e spent wants = ap outcome_of e ∙ same_outcome k extra s Ended

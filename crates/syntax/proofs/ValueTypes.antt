@@ -1,7 +1,8 @@
 -- In a typed program an expression's value has the expression's type.
 use Rattle.std.proofs.Common.{◌≡◌, ℕ, zero, suc, ◌+◌, ◌⊎◌, inl, inr, refl, sym, ap, subst, ◌∙◌, List, [], ◌∷◌, ◌++◌, append_assoc, Option, Some, None, Bool, true, false, not, IsTrue, Result, Ok, Err}
-use Rattle.std.specs.Prelude.{if◌then◌else◌, bytes_eq, option_map, unwrap_or, nat_lt, ◌&&◌}
+use Rattle.std.specs.Prelude.{if◌then◌else◌, bytes_eq, option_map, unwrap_or, nat_lt, ◌&&◌, ◌||◌, is_none, codes}
 use Rattle.std.proofs.lemmas.Slice.Eq.{bytes_eq-Decides}
+use Rattle.lex.specs.declared.token.Span.{Span}
 use Rattle.lex.specs.declared.token.Span.{Span}
 use Rattle.lex.specs.declared.token.Scalar.{Scalar}
 use Rattle.lex.specs.declared.token.Scalar.TheVariants.{Int, Unsigned}
@@ -12,14 +13,15 @@ use Rattle.syntax.specs.declared.tree.BinaryOp.TheVariants.{Or, Xor, And, Equal,
 use Rattle.syntax.specs.declared.tree.LogicalOp.TheVariants.{AndThen, OrElse}
 use Rattle.syntax.specs.declared.numbers.Trap.{Trap}
 use Rattle.syntax.specs.declared.numbers.Trap.TheVariants.{Index, Frames}
-use Rattle.syntax.specs.declared.numbers.Stop.TheVariants.{Trapped}
+use Rattle.syntax.specs.declared.numbers.Halt.TheVariants.{Trapped}
 use Rattle.syntax.specs.declared.numbers.Value.{Value}
 use Rattle.syntax.specs.Tree.{Expr, Variable, Constant, Element, Call, Parenthesized, Cast, Unary, Binary, Logical, Conditional, Function, Global, Item, Defines, Shares, Stmts, Program}
 use Rattle.syntax.specs.Numbers.{common, converted, result_type, operand_type, typed, unary, binary, is_zero, flag}
 use Rattle.syntax.specs.Names.{Local, GlobalCells, globals, cells, global_from, global_of, defined, definition_of, newest}
 use Rattle.syntax.specs.Types.{Known, Unknown, Number, Array, Callable, known_global, known_function, known_among, file_scope, number_type, element_type, call_type, Scope, common_of, unary_type, binary_type, type_of, running_scope}
-use Rattle.syntax.specs.Typing.{same_type, same_result, agrees, AreTypedItems, IsTypedProgram}
-use Rattle.syntax.specs.Actions.{Place, Outside, Inside, State, Answer, Gives, Stops, Action, pure, stop, go_on, ◌>>=◌, ◌>>◌, spend, tick, trap, or_trap, or_astray, locals, put_locals, load_at}
+use Rattle.syntax.specs.Typing.{same_type, same_result, agrees, may_be_function, has_name, defined_names, is_worker, demand, AreDistinct, IsTypedBody, IsTypedFunction, IsTypedItem, AreTypedItems, AreDefined, IsTypedProgram}
+use Rattle.syntax.proofs.Demands.{AreMet, met_before, met_behind, is_met}
+use Rattle.syntax.specs.Actions.{Context, Outside, Inside, State, Answer, Gives, Stops, Action, pure, stop, go_on, ◌>>=◌, ◌>>◌, spend, tick, trap, or_trap, or_astray, locals, put_locals, load_at}
 use Rattle.syntax.specs.Meaning.{Spot, InLocal, InCell, fetch, End, Next, Breaks, Continues, Returns, Cancels, spot_from, element, expr, exprs, stmts, entered, result_of, Caller, calls}
 use Rattle.syntax.specs.Laws.{WhereGiven, GivesItsType}
 use Rattle.syntax.proofs.Expressions.{expr_holds, calls_holds}
@@ -31,7 +33,7 @@ none_some : {A : Type 0} (t : Scalar) → None ≡ Some t → A
 none_some t e = absurd (cc)
 
 -- what a name shares: the type of a variable or of an array's elements
-abbrev shared_type : Known → Option Scalar
+abbrev pub shared_type : Known → Option Scalar
 shared_type (Number t) = Some t
 shared_type (Array t n) = Some t
 shared_type (Callable r ts) = None
@@ -50,7 +52,7 @@ element_shared (Callable r ts) t e = none_some t e
 element_shared Unknown t e = none_some t e
 
 -- a name that the file knows as shared is a global of that type
-abbrev Found : Option GlobalCells → Scalar → Type 0
+abbrev pub Found : Option GlobalCells → Scalar → Type 0
 Found o t = (g : GlobalCells) × (o ≡ Some g) × (g.global.of ≡ t)
 
 either : (b : Bool) (k k' : Known) (o o' : Option GlobalCells) (t : Scalar) → (shared_type k ≡ Some t → Found o t) → (shared_type k' ≡ Some t → Found o' t) → shared_type (if b then k else k') ≡ Some t → Found (if b then o else o') t
@@ -77,7 +79,7 @@ found_from [] c x t e = none_some t e
 found_from (Defines f ∷ items) c x t e = other (bytes_eq f.name.text x) f (file_scope items x) (global_from c (globals items) x) t (λ h. found_from items c x t h) e
 found_from (Shares gs ∷ items) c x t e = among (file_scope items) gs (globals items) c x t (λ d h. found_from items d x t h) e
 
-found : (p : Program) (x : List ℕ) (t : Scalar) → shared_type (file_scope p x) ≡ Some t → Found (global_of p x) t
+pub found : (p : Program) (x : List ℕ) (t : Scalar) → shared_type (file_scope p x) ≡ Some t → Found (global_of p x) t
 found p x t e = found_from p 0 x t e
 
 -- where something is given, this holds of it
@@ -143,7 +145,7 @@ binary_typed : (op : BinaryOp) (o o' : Option Scalar) (v w : Value) (s : State) 
 binary_typed op o o' v w s g h = result_typed (binary_type op o o') (result_type op (operand_type op v.of w.of)) _ s (λ x e t f. e ∙ operator_typed op o o' v w g h t f)
 
 -- where a name's value stands
-fetched : (o : Option Scalar) (c : ℕ) (t : Scalar) (p : Place) (s : State) → HasType o (record { of = t; word = 0 }) → GivesType o (go_on (load_at p c s) (λ w. pure (record { of = t; word = w })))
+fetched : (o : Option Scalar) (c : ℕ) (t : Scalar) (p : Context) (s : State) → HasType o (record { of = t; word = 0 }) → GivesType o (go_on (load_at p c s) (λ w. pure (record { of = t; word = w })))
 fetched o c t (Outside f l) s h = tt
 fetched o c t (Inside mode m) s h = h
 
@@ -173,7 +175,7 @@ module _ (p : Program) where
       known_global_typed o (global_of p x) (global_has x o (λ t f. number_shared (file_scope p x) t f))
     where
       known_global_typed : (o : Option Scalar) (g : Option GlobalCells) → ((c : GlobalCells) → g ≡ Some c → HasType o (record { of = c.global.of; word = 0 })) → GivesType o (go_on (go_on (or_astray g s) (λ c. pure (InCell c.cell c.global.of))) fetch)
-      known_global_typed o (Some c) h = fetched o c.cell c.global.of s.place s (h c refl)
+      known_global_typed o (Some c) h = fetched o c.cell c.global.of s.context s (h c refl)
       known_global_typed o None h = tt
 
   element_typed : (call : Caller) (x : List ℕ) (k : Value) (l : Option (ℕ × Scalar)) (s : State) → GivesType (element_type (in_scope p l x)) (go_on (element p call x k s) fetch)
@@ -181,13 +183,13 @@ module _ (p : Program) where
     where
       fetch_none : (at : Spot) (u : State) → GivesType None (fetch at u)
       fetch_none (InLocal i t) u = λ t f. none_some t f
-      fetch_none (InCell c t) u = fetched None c t u.place u (λ t f. none_some t f)
+      fetch_none (InCell c t) u = fetched None c t u.context u (λ t f. none_some t f)
   element_typed call x k None s =
       let o = element_type (file_scope p x) in
       known_global_typed o (global_of p x) (global_has x o (λ t f. element_shared (file_scope p x) t f))
     where
       tested : (o : Option Scalar) (b : Bool) (at : ℕ) (t : Scalar) → HasType o (record { of = t; word = 0 }) → GivesType o (go_on ((if b then pure (InCell at t) else trap Index) s) fetch)
-      tested o true at t h = fetched o at t s.place s h
+      tested o true at t h = fetched o at t s.context s h
       tested o false at t h = untrapped o s.ticks
         where
           untrapped : (o : Option Scalar) (n : ℕ) → GivesType o (go_on (go_on (spend n s) (λ _. stop {A = Spot} (Trapped Index))) fetch)
@@ -199,7 +201,7 @@ module _ (p : Program) where
       known_global_typed o None h = tt
 
 -- what the file knows after some items: what they make known, else what the others do
-abbrev or_known : Known → Known → Known
+abbrev pub or_known : Known → Known → Known
 or_known Unknown k = k
 or_known (Number t) k = Number t
 or_known (Array t n) k = Array t n
@@ -217,22 +219,22 @@ among_known : (gs : List Global) (rest whole : Scope) (x : List ℕ) (last : Kno
 among_known [] rest whole x last e = e
 among_known (g ∷ gs) rest whole x last e = if_or_known (bytes_eq g.name.text x) (known_global g) (known_among gs rest x) last (known_among gs whole x) (global_known g.of g.length last) (among_known gs rest whole x last e)
 
-scope_append : (earlier items : List Item) (x : List ℕ) → file_scope (earlier ++ items) x ≡ or_known (file_scope earlier x) (file_scope items x)
+pub scope_append : (earlier items : List Item) (x : List ℕ) → file_scope (earlier ++ items) x ≡ or_known (file_scope earlier x) (file_scope items x)
 scope_append [] items x = refl
 scope_append (Defines f ∷ earlier) items x = if_or_known (bytes_eq f.name.text x) (known_function f) (file_scope earlier x) (file_scope items x) (file_scope (earlier ++ items) x) refl (scope_append earlier items x)
 scope_append (Shares gs ∷ earlier) items x = among_known gs (file_scope earlier) (file_scope (earlier ++ items)) x (file_scope items x) (scope_append earlier items x)
 
-same_type_is : (s t : Scalar) → IsTrue (same_type s t) → s ≡ t
+pub same_type_is : (s t : Scalar) → IsTrue (same_type s t) → s ≡ t
 same_type_is Int Int h = refl
 same_type_is Int Unsigned h = absurd (cc)
 same_type_is Unsigned Int h = absurd (cc)
 same_type_is Unsigned Unsigned h = refl
 
-same_result_is : (r : Option Scalar) (t : Scalar) → IsTrue (same_result (Some t) r) → r ≡ Some t
+pub same_result_is : (r : Option Scalar) (t : Scalar) → IsTrue (same_result (Some t) r) → r ≡ Some t
 same_result_is None t h = absurd (cc)
 same_result_is (Some s) t h = ap Some (same_type_is s t h)
 
-both_true : (a b : Bool) → IsTrue (a && b) → IsTrue a
+pub both_true : (a b : Bool) → IsTrue (a && b) → IsTrue a
 both_true true b h = refl
 both_true false b h = absurd (cc)
 
@@ -255,11 +257,23 @@ defined_is g f (Some b) rest d e = by_name (bytes_eq g.name.text f) refl e
     by_name true h e = inr (h, ap (λ x. x.0) (sym (pair_same (g, b) d e)))
     by_name false h e = inl e
 
-agreed_from : (earlier items : List Item) (f : List ℕ) (t : Scalar) (d : Function × Stmts) → AreTypedItems (λ n at. Unit {0}) earlier items → call_type (file_scope (earlier ++ items) f) ≡ Some t → definition_of items f ≡ Some d → d.0.result ≡ Some t
+-- what is met of items is met of the first and of the others
+pub rest_met : (earlier : List Item) (i : Item) (items : List Item) → AreMet (AreTypedItems earlier (i ∷ items)) → AreMet (AreTypedItems (earlier ++ i ∷ []) items)
+rest_met earlier i items h = met_behind (IsTypedItem earlier i) (AreTypedItems (earlier ++ i ∷ []) items) h
+
+pub agrees_before : (earlier items : List Item) (f : Function) → AreMet (AreTypedItems earlier (Defines f ∷ items)) → IsTrue (agrees f (file_scope earlier f.name.text))
+agrees_before earlier items f h =
+    let name = demand 21 f.name.at (may_be_function (file_scope earlier f.name.text) && (is_none f.body || not (has_name (defined_names earlier) f.name.text))) in
+    let type = demand 22 f.name.at (agrees f (file_scope earlier f.name.text)) in
+    let own : AreMet (IsTypedFunction earlier f) = met_before (IsTypedFunction earlier f) (AreTypedItems (earlier ++ Defines f ∷ []) items) h in
+    let both : AreMet (name ++ type) = met_before (name ++ type) (AreDistinct [] f.parameters) (met_before (name ++ type ++ AreDistinct [] f.parameters) (IsTypedBody earlier f f.body) own) in
+    is_met 22 f.name.at (agrees f (file_scope earlier f.name.text)) (met_behind name type both)
+
+agreed_from : (earlier items : List Item) (f : List ℕ) (t : Scalar) (d : Function × Stmts) → AreMet (AreTypedItems earlier items) → call_type (file_scope (earlier ++ items) f) ≡ Some t → definition_of items f ≡ Some d → d.0.result ≡ Some t
 agreed_from earlier [] f t d h e g = absurd (cc)
-agreed_from earlier (Shares gs ∷ items) f t d h e g = agreed_from (earlier ++ Shares gs ∷ []) items f t d h.1 (ap (λ x. call_type (file_scope x f)) (append_assoc earlier (Shares gs ∷ []) items) ∙ e) g
+agreed_from earlier (Shares gs ∷ items) f t d h e g = agreed_from (earlier ++ Shares gs ∷ []) items f t d (rest_met earlier (Shares gs) items h) (ap (λ x. call_type (file_scope x f)) (append_assoc earlier (Shares gs ∷ []) items) ∙ e) g
 agreed_from earlier (Defines c ∷ items) f t d h e g =
-    split (defined_is c f c.body (definition_of items f) d g) (λ rest. agreed_from (earlier ++ Defines c ∷ []) items f t d h.1 (ap (λ x. call_type (file_scope x f)) (append_assoc earlier (Defines c ∷ []) items) ∙ e) rest)
+    split (defined_is c f c.body (definition_of items f) d g) (λ rest. agreed_from (earlier ++ Defines c ∷ []) items f t d (rest_met earlier (Defines c) items h) (ap (λ x. call_type (file_scope x f)) (append_assoc earlier (Defines c ∷ []) items) ∙ e) rest)
   where
     split : (definition_of items f ≡ Some d) ⊎ ((bytes_eq c.name.text f ≡ true) × (d.0 ≡ c)) → (definition_of items f ≡ Some d → d.0.result ≡ Some t) → d.0.result ≡ Some t
     split (inl rest) later = later rest
@@ -267,11 +281,13 @@ agreed_from earlier (Defines c ∷ items) f t d h e g =
         let name : c.name.text ≡ f = (bytes_eq-Decides c.name.text f).0 here.0 in
         let last : file_scope (Defines c ∷ items) f ≡ known_function c = ap (λ b. if b then known_function c else file_scope items f) here.0 in
         let all : call_type (or_known (file_scope earlier f) (known_function c)) ≡ Some t = ap (λ k. call_type (or_known (file_scope earlier f) k)) (sym last) ∙ ap call_type (sym (scope_append earlier (Defines c ∷ items) f)) ∙ e in
-        let agree : IsTrue (agrees c (file_scope earlier f)) = subst (λ x. IsTrue (agrees c (file_scope earlier x))) name (h.0.1 tt) in
+        let agree : IsTrue (agrees c (file_scope earlier f)) = subst (λ x. IsTrue (agrees c (file_scope earlier x))) name (agrees_before earlier items c h) in
         ap (λ x. x.result) here.1 ∙ agreeing c (file_scope earlier f) t agree all
 
 agreed : (p : Program) (f : List ℕ) (t : Scalar) (d : Function × Stmts) → IsTypedProgram p → call_type (file_scope p f) ≡ Some t → definition_of p f ≡ Some d → d.0.result ≡ Some t
-agreed p f t d h e g = agreed_from [] p f t d h.0 e g
+agreed p f t d h e g =
+    let worker = demand 28 (record { start = 0; end = 0 }) (is_worker (file_scope p (codes "worker"))) in
+    agreed_from [] p f t d (met_before (AreTypedItems [] p) (AreDefined p [] p) (met_before (AreTypedItems [] p ++ AreDefined p [] p) worker h)) e g
 
 -- a call's value has the type that the function gives
 returned_typed : (o result : Option Scalar) → ((t : Scalar) → o ≡ Some t → result ≡ Some t) → (outer : List Local) (r : Answer End) → GivesType o (go_on r (λ end. put_locals outer >> result_of result end))

@@ -1,6 +1,6 @@
 -- How deep a tree is.
 use Rattle.std.specs.Prelude.{ℕ, ◌+◌, max, List, [], ◌∷◌, Option, Some, None}
-use Rattle.syntax.specs.Tree.{Expr, Exprs, Element, Call, Parenthesized, Cast, Unary, Binary, Logical, Conditional, Simple, Value, Assign, Change, Declarator, Declaration, Start, Nothing, Declares, Does, Stmt, Stmts, Declare, Do, Block, Print, If, IfElse, While, DoWhile, For, Return, Transaction, Item, Defines, Shares, Program}
+use Rattle.syntax.specs.Tree.{Expr, Exprs, Element, Call, Parenthesized, Cast, Unary, Binary, Logical, Conditional, Simple, Evaluate, Assign, Adjust, Declarator, Declaration, Start, Nothing, Declares, Does, Stmt, Stmts, Declare, Do, Block, Print, If, IfElse, While, DoWhile, For, Return, Transaction, Item, Defines, Shares, Program}
 
 abbrev mutual
   pub expr_depth : Expr → ℕ
@@ -24,9 +24,9 @@ optional_depth (Some e) = expr_depth e
 
 -- as the statement with a semicolon behind it
 abbrev pub simple_depth : Simple → ℕ
-simple_depth (Value e) = expr_depth e + 1
+simple_depth (Evaluate e) = expr_depth e + 1
 simple_depth (Assign to op e) = max (expr_depth to) (expr_depth e) + 1
-simple_depth (Change to by) = expr_depth to + 1
+simple_depth (Adjust to by) = expr_depth to + 1
 
 abbrev pub optional_simple_depth : Option Simple → ℕ
 optional_simple_depth None = 0

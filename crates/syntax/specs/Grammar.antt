@@ -1,17 +1,19 @@
 -- Which tokens spell which tree.
 use Rattle.std.specs.Prelude.{◌≡◌, ℕ, ◌≤◌, ◌<◌, List, [], ◌∷◌, ◌++◌, Option, Some, None, IsSome, Bool, true, false, IsFalse, codes, bytes_eq, option_map, if◌then◌else◌}
-use Rattle.lex.specs.{declared.token.Mark.Mark, Tokens.Terminal, Tokens.Tok, Tokens.unescaped}
-use Rattle.lex.specs.declared.token.Mark.TheVariants as m
-use Rattle.syntax.specs.Tree.{Span, Scalar, Int, Unsigned, UnaryOp, Negate, Keep, Not, Complement, BinaryOp, Or, Xor, And, Equal, NotEqual, Less, Greater, LessEqual, GreaterEqual, ShiftLeft, ShiftRight, Add, Subtract, Multiply, Divide, Remainder, LogicalOp, AndThen, OrElse, Step, Up, Down, Mode, Atomic, Relaxed, Attribute, Safe, Unsafe, Callable, First, Name, Expr, Exprs, Variable, Constant, Element, Call, Parenthesized, Cast, Unary, Binary, Logical, Conditional, Simple, Value, Assign, Change, Declarator, Declaration, Start, Nothing, Declares, Does, Stmt, Stmts, Empty, Declare, Do, Block, Print, If, IfElse, While, DoWhile, For, Break, Continue, Return, Transaction, Cancel, Parameter, Function, Global, Item, Defines, Shares, Program}
+use Rattle.lex.specs.{declared.token.Fixed.Fixed, Tokens.Terminal, Tokens.Tok, Tokens.unescaped}
+use Rattle.lex.specs.declared.token.Fixed.TheVariants.{Keyword, Punctuator}
+use Rattle.lex.specs.declared.token.Keyword.TheVariants as key
+use Rattle.lex.specs.declared.token.Punctuator.TheVariants as punct
+use Rattle.syntax.specs.Tree.{Span, Scalar, Int, Unsigned, UnaryOp, Negate, Keep, Not, Complement, BinaryOp, Or, Xor, And, Equal, NotEqual, Less, Greater, LessEqual, GreaterEqual, ShiftLeft, ShiftRight, Add, Subtract, Multiply, Divide, Remainder, LogicalOp, AndThen, OrElse, IncDec, Increment, Decrement, Mode, Atomic, Relaxed, Attribute, Safe, Unsafe, Callable, First, Name, Expr, Exprs, Variable, Constant, Element, Call, Parenthesized, Cast, Unary, Binary, Logical, Conditional, Simple, Evaluate, Assign, Adjust, Declarator, Declaration, Start, Nothing, Declares, Does, Stmt, Stmts, Empty, Declare, Do, Block, Print, If, IfElse, While, DoWhile, For, Break, Continue, Return, Transaction, Cancel, Parameter, Function, Global, Item, Defines, Shares, Program}
 use Rattle.syntax.specs.Depth.{program_depth}
-use Rattle.syntax.specs.Phrases.{Phrase, One, Nil, never, ◌⨾◌, ◌∣◌, given, Many, Is, Keyword, Listed, spanning, end_of, Begins}
+use Rattle.syntax.specs.Phrases.{Phrase, One, Nil, never, ◌⨾◌, ◌∣◌, given, Many, Is, Sign, Word, IsAt, Listed, spanning, end_of, Begins}
 
 -- ---- what single tokens say
 
 -- what a sign or keyword says by a table
-abbrev pub by_mark : {A : Type 0} → (Mark → Option A) → Terminal → Option A
-by_mark table (Terminal.mark k) = table k
-by_mark table _ = None
+abbrev pub by_fixed : {A : Type 0} → (Fixed → Option A) → Terminal → Option A
+by_fixed table (Terminal.fixed k) = table k
+by_fixed table _ = None
 
 abbrev pub name_in : Terminal → Span → Option Name
 name_in (Terminal.name s) at = Some (record { text = s; at = at })
@@ -35,7 +37,7 @@ the_number t = number_in t.terminal t.span
 
 -- what a string stands for, and its place
 abbrev pub text_in : Terminal → Span → Option (List ℕ × Span)
-text_in (Terminal.text s) at = Some (unescaped s, at)
+text_in (Terminal.string_literal s) at = Some (unescaped s, at)
 text_in _ at = None
 
 abbrev pub the_text : Tok → Option (List ℕ × Span)
@@ -54,71 +56,71 @@ attribute_in _ = None
 abbrev pub the_attribute : Tok → Option Attribute
 the_attribute t = attribute_in t.terminal
 
-abbrev pub unary_of : Mark → Option UnaryOp
-unary_of m.Minus = Some Negate
-unary_of m.Plus = Some Keep
-unary_of m.Not = Some Not
-unary_of m.Complement = Some Complement
+abbrev pub unary_of : Fixed → Option UnaryOp
+unary_of (Punctuator punct.Minus) = Some Negate
+unary_of (Punctuator punct.Plus) = Some Keep
+unary_of (Punctuator punct.Not) = Some Not
+unary_of (Punctuator punct.Complement) = Some Complement
 unary_of _ = None
 
 abbrev pub the_unary : Tok → Option UnaryOp
-the_unary t = by_mark unary_of t.terminal
+the_unary t = by_fixed unary_of t.terminal
 
-abbrev pub binary_of : Mark → Option BinaryOp
-binary_of m.Or = Some Or
-binary_of m.Xor = Some Xor
-binary_of m.And = Some And
-binary_of m.Equal = Some Equal
-binary_of m.NotEqual = Some NotEqual
-binary_of m.Less = Some Less
-binary_of m.Greater = Some Greater
-binary_of m.LessEqual = Some LessEqual
-binary_of m.GreaterEqual = Some GreaterEqual
-binary_of m.ShiftLeft = Some ShiftLeft
-binary_of m.ShiftRight = Some ShiftRight
-binary_of m.Plus = Some Add
-binary_of m.Minus = Some Subtract
-binary_of m.Star = Some Multiply
-binary_of m.Slash = Some Divide
-binary_of m.Percent = Some Remainder
+abbrev pub binary_of : Fixed → Option BinaryOp
+binary_of (Punctuator punct.Or) = Some Or
+binary_of (Punctuator punct.Xor) = Some Xor
+binary_of (Punctuator punct.And) = Some And
+binary_of (Punctuator punct.Equal) = Some Equal
+binary_of (Punctuator punct.NotEqual) = Some NotEqual
+binary_of (Punctuator punct.Less) = Some Less
+binary_of (Punctuator punct.Greater) = Some Greater
+binary_of (Punctuator punct.LessEqual) = Some LessEqual
+binary_of (Punctuator punct.GreaterEqual) = Some GreaterEqual
+binary_of (Punctuator punct.ShiftLeft) = Some ShiftLeft
+binary_of (Punctuator punct.ShiftRight) = Some ShiftRight
+binary_of (Punctuator punct.Plus) = Some Add
+binary_of (Punctuator punct.Minus) = Some Subtract
+binary_of (Punctuator punct.Star) = Some Multiply
+binary_of (Punctuator punct.Slash) = Some Divide
+binary_of (Punctuator punct.Percent) = Some Remainder
 binary_of _ = None
 
 abbrev pub the_binary : Tok → Option BinaryOp
-the_binary t = by_mark binary_of t.terminal
+the_binary t = by_fixed binary_of t.terminal
 
-abbrev pub logical_of : Mark → Option LogicalOp
-logical_of m.LogicalAnd = Some AndThen
-logical_of m.LogicalOr = Some OrElse
+abbrev pub logical_of : Fixed → Option LogicalOp
+logical_of (Punctuator punct.LogicalAnd) = Some AndThen
+logical_of (Punctuator punct.LogicalOr) = Some OrElse
 logical_of _ = None
 
 abbrev pub the_logical : Tok → Option LogicalOp
-the_logical t = by_mark logical_of t.terminal
+the_logical t = by_fixed logical_of t.terminal
 
 -- the operator of an assignment, if it has one
-abbrev pub assigning_of : Mark → Option (Option BinaryOp)
-assigning_of m.Assign = Some None
-assigning_of m.AddAssign = Some (Some Add)
-assigning_of m.SubtractAssign = Some (Some Subtract)
-assigning_of m.MultiplyAssign = Some (Some Multiply)
-assigning_of m.DivideAssign = Some (Some Divide)
-assigning_of m.RemainderAssign = Some (Some Remainder)
-assigning_of m.ShiftLeftAssign = Some (Some ShiftLeft)
-assigning_of m.ShiftRightAssign = Some (Some ShiftRight)
-assigning_of m.AndAssign = Some (Some And)
-assigning_of m.OrAssign = Some (Some Or)
-assigning_of m.XorAssign = Some (Some Xor)
+abbrev pub assigning_of : Fixed → Option (Option BinaryOp)
+assigning_of (Punctuator punct.Assign) = Some None
+assigning_of (Punctuator punct.AddAssign) = Some (Some Add)
+assigning_of (Punctuator punct.SubtractAssign) = Some (Some Subtract)
+assigning_of (Punctuator punct.MultiplyAssign) = Some (Some Multiply)
+assigning_of (Punctuator punct.DivideAssign) = Some (Some Divide)
+assigning_of (Punctuator punct.RemainderAssign) = Some (Some Remainder)
+assigning_of (Punctuator punct.ShiftLeftAssign) = Some (Some ShiftLeft)
+assigning_of (Punctuator punct.ShiftRightAssign) = Some (Some ShiftRight)
+assigning_of (Punctuator punct.AndAssign) = Some (Some And)
+assigning_of (Punctuator punct.OrAssign) = Some (Some Or)
+assigning_of (Punctuator punct.XorAssign) = Some (Some Xor)
 assigning_of _ = None
 
 abbrev pub the_assigning : Tok → Option (Option BinaryOp)
-the_assigning t = by_mark assigning_of t.terminal
+the_assigning t = by_fixed assigning_of t.terminal
 
-abbrev pub step_of : Mark → Option Step
-step_of m.Increment = Some Up
-step_of m.Decrement = Some Down
+abbrev pub step_of : Fixed → Option IncDec
+step_of (Punctuator punct.Increment) = Some Increment
+step_of (Punctuator punct.Decrement) = Some Decrement
 step_of _ = None
 
-abbrev pub the_step : Tok → Option Step
-the_step t = by_mark step_of t.terminal
+abbrev pub the_step : Tok → Option IncDec
+the_step t = by_fixed step_of t.terminal
 
 -- ---- levels
 
@@ -160,8 +162,8 @@ Groups n a b = (n ≤ level a) × (n < level b)
 -- ---- expressions
 
 abbrev pub scalar : Scalar → Phrase
-scalar Int = Is m.Int ∣ Is m.Signed ∣ Is m.Signed ⨾ Is m.Int
-scalar Unsigned = Is m.Unsigned ∣ Is m.Unsigned ⨾ Is m.Int
+scalar Int = Word key.Int ∣ Word key.Signed ∣ Word key.Signed ⨾ Word key.Int
+scalar Unsigned = Word key.Unsigned ∣ Word key.Unsigned ⨾ Word key.Int
 
 abbrev pub named : Name → Phrase
 named = One the_name
@@ -170,14 +172,14 @@ abbrev mutual
   pub expr : Expr → Phrase
   expr (Variable x) = named x
   expr (Constant n t at) = One the_number (record { value = n; of = t; at = at })
-  expr (Element x i at) = spanning at (named x ⨾ Is m.OpenBracket ⨾ expr i ⨾ Is m.CloseBracket)
-  expr (Call f es at) = spanning at (named f ⨾ Is m.OpenParen ⨾ arguments es ⨾ Is m.CloseParen)
-  expr (Parenthesized e at) = spanning at (Is m.OpenParen ⨾ expr e ⨾ Is m.CloseParen)
-  expr (Cast t e at) = given (11 ≤ level e) (spanning at (Is m.OpenParen ⨾ scalar t ⨾ Is m.CloseParen ⨾ expr e))
+  expr (Element x i at) = spanning at (named x ⨾ Sign punct.OpenBracket ⨾ expr i ⨾ Sign punct.CloseBracket)
+  expr (Call f es at) = spanning at (named f ⨾ Sign punct.OpenParen ⨾ arguments es ⨾ Sign punct.CloseParen)
+  expr (Parenthesized e at) = spanning at (Sign punct.OpenParen ⨾ expr e ⨾ Sign punct.CloseParen)
+  expr (Cast t e at) = given (11 ≤ level e) (spanning at (Sign punct.OpenParen ⨾ scalar t ⨾ Sign punct.CloseParen ⨾ expr e))
   expr (Unary op e at) = given (11 ≤ level e) (spanning at (One the_unary op ⨾ expr e))
   expr (Binary op a b at) = given (Groups (precedence op) a b) (spanning at (expr a ⨾ One the_binary op ⨾ expr b))
   expr (Logical op a b at) = given (Groups (logical_precedence op) a b) (spanning at (expr a ⨾ One the_logical op ⨾ expr b))
-  expr (Conditional c a b at) = given (1 ≤ level c) (spanning at (expr c ⨾ Is m.Question ⨾ expr a ⨾ Is m.Colon ⨾ expr b))
+  expr (Conditional c a b at) = given (1 ≤ level c) (spanning at (expr c ⨾ Sign punct.Question ⨾ expr a ⨾ Sign punct.Colon ⨾ expr b))
 
   pub arguments : Exprs → Phrase
   arguments Exprs.[] = Nil
@@ -186,7 +188,7 @@ abbrev mutual
   -- each behind a comma
   pub further : Exprs → Phrase
   further Exprs.[] = Nil
-  further (Exprs.◌∷◌ e es) = Is m.Comma ⨾ expr e ⨾ further es
+  further (Exprs.◌∷◌ e es) = Sign punct.Comma ⨾ expr e ⨾ further es
 
 abbrev pub optional : {A : Type 0} → (A → Phrase) → Option A → Phrase
 optional L None = Nil
@@ -195,24 +197,24 @@ optional L (Some x) = L x
 -- ---- statements
 
 abbrev pub simple : Simple → Phrase
-simple (Value e) = expr e
+simple (Evaluate e) = expr e
 simple (Assign to op e) = expr to ⨾ One the_assigning op ⨾ expr e
-simple (Change to by) = expr to ⨾ One the_step by ∣ One the_step by ⨾ expr to
+simple (Adjust to by) = expr to ⨾ One the_step by ∣ One the_step by ⨾ expr to
 
 abbrev pub declarator : Declarator → Phrase
-declarator d = named d.name ⨾ optional (λ e. Is m.Assign ⨾ expr e) d.first
+declarator d = named d.name ⨾ optional (λ e. Sign punct.Assign ⨾ expr e) d.first
 
 abbrev pub declaration : Declaration → Phrase
-declaration d = scalar d.of ⨾ Listed declarator d.declarators ⨾ Is m.Semicolon
+declaration d = scalar d.of ⨾ Listed declarator d.declarators ⨾ Sign punct.Semicolon
 
 abbrev pub start : Start → Phrase
-start Nothing = Is m.Semicolon
+start Nothing = Sign punct.Semicolon
 start (Declares d) = declaration d
-start (Does s) = simple s ⨾ Is m.Semicolon
+start (Does s) = simple s ⨾ Sign punct.Semicolon
 
-abbrev pub mode_mark : Mode → Mark
-mode_mark Atomic = m.Atomic
-mode_mark Relaxed = m.Relaxed
+abbrev pub mode_keyword : Mode → Fixed
+mode_keyword Atomic = (Keyword key.Atomic)
+mode_keyword Relaxed = (Keyword key.Relaxed)
 
 -- a statement that a further else would belong to
 abbrev pub ends_open : Stmt → Bool
@@ -223,25 +225,25 @@ ends_open (For first c step a) = ends_open a
 ends_open s = false
 
 abbrev pub in_parens : Expr → Phrase
-in_parens e = Is m.OpenParen ⨾ expr e ⨾ Is m.CloseParen
+in_parens e = Sign punct.OpenParen ⨾ expr e ⨾ Sign punct.CloseParen
 
 abbrev mutual
   pub stmt : Stmt → Phrase
-  stmt Empty = Is m.Semicolon
+  stmt Empty = Sign punct.Semicolon
   stmt (Declare d) = never
-  stmt (Do s) = simple s ⨾ Is m.Semicolon
-  stmt (Block ss) = Is m.OpenBrace ⨾ stmts ss ⨾ Is m.CloseBrace
-  stmt (Print at format format_at es) = Keyword m.Printf at ⨾ Is m.OpenParen ⨾ One the_text (format, format_at) ⨾ further es ⨾ Is m.CloseParen ⨾ Is m.Semicolon
-  stmt (If c a) = Is m.If ⨾ in_parens c ⨾ stmt a
-  stmt (IfElse c a b) = given (IsFalse (ends_open a)) (Is m.If ⨾ in_parens c ⨾ stmt a ⨾ Is m.Else ⨾ stmt b)
-  stmt (While c a) = Is m.While ⨾ in_parens c ⨾ stmt a
-  stmt (DoWhile a c) = Is m.Do ⨾ stmt a ⨾ Is m.While ⨾ in_parens c ⨾ Is m.Semicolon
-  stmt (For first c step a) = Is m.For ⨾ Is m.OpenParen ⨾ start first ⨾ optional expr c ⨾ Is m.Semicolon ⨾ optional simple step ⨾ Is m.CloseParen ⨾ stmt a
-  stmt (Break at) = Keyword m.Break at ⨾ Is m.Semicolon
-  stmt (Continue at) = Keyword m.Continue at ⨾ Is m.Semicolon
-  stmt (Return e at) = Keyword m.Return at ⨾ optional expr e ⨾ Is m.Semicolon
-  stmt (Transaction mode ss at) = Keyword (mode_mark mode) at ⨾ Is m.OpenBrace ⨾ stmts ss ⨾ Is m.CloseBrace
-  stmt (Cancel at) = Keyword m.Cancel at ⨾ Is m.Semicolon
+  stmt (Do s) = simple s ⨾ Sign punct.Semicolon
+  stmt (Block ss) = Sign punct.OpenBrace ⨾ stmts ss ⨾ Sign punct.CloseBrace
+  stmt (Print at format format_at es) = IsAt (Keyword key.Printf) at ⨾ Sign punct.OpenParen ⨾ One the_text (format, format_at) ⨾ further es ⨾ Sign punct.CloseParen ⨾ Sign punct.Semicolon
+  stmt (If c a) = Word key.If ⨾ in_parens c ⨾ stmt a
+  stmt (IfElse c a b) = given (IsFalse (ends_open a)) (Word key.If ⨾ in_parens c ⨾ stmt a ⨾ Word key.Else ⨾ stmt b)
+  stmt (While c a) = Word key.While ⨾ in_parens c ⨾ stmt a
+  stmt (DoWhile a c) = Word key.Do ⨾ stmt a ⨾ Word key.While ⨾ in_parens c ⨾ Sign punct.Semicolon
+  stmt (For first c step a) = Word key.For ⨾ Sign punct.OpenParen ⨾ start first ⨾ optional expr c ⨾ Sign punct.Semicolon ⨾ optional simple step ⨾ Sign punct.CloseParen ⨾ stmt a
+  stmt (Break at) = IsAt (Keyword key.Break) at ⨾ Sign punct.Semicolon
+  stmt (Continue at) = IsAt (Keyword key.Continue) at ⨾ Sign punct.Semicolon
+  stmt (Return e at) = IsAt (Keyword key.Return) at ⨾ optional expr e ⨾ Sign punct.Semicolon
+  stmt (Transaction mode ss at) = IsAt (mode_keyword mode) at ⨾ Sign punct.OpenBrace ⨾ stmts ss ⨾ Sign punct.CloseBrace
+  stmt (Cancel at) = IsAt (Keyword key.Cancel) at ⨾ Sign punct.Semicolon
 
   -- what stands in a block: declarations too
   pub stmts : Stmts → Phrase
@@ -250,14 +252,14 @@ abbrev mutual
   stmts (Stmts.◌∷◌ s ss) = stmt s ⨾ stmts ss
 
 abbrev pub block : Stmts → Phrase
-block ss = Is m.OpenBrace ⨾ stmts ss ⨾ Is m.CloseBrace
+block ss = Sign punct.OpenBrace ⨾ stmts ss ⨾ Sign punct.CloseBrace
 
 -- ---- functions
 
 abbrev pub attribute_list : List Attribute → Phrase
 attribute_list words =
-    Is m.OpenBracket ⨾ Is m.OpenBracket ⨾ Listed (One the_attribute) words ⨾ Is m.CloseBracket ⨾ Is m.CloseBracket
-    ∣ Is m.Attribute ⨾ Is m.OpenParen ⨾ Is m.OpenParen ⨾ Listed (One the_attribute) words ⨾ Is m.CloseParen ⨾ Is m.CloseParen
+    Sign punct.OpenBracket ⨾ Sign punct.OpenBracket ⨾ Listed (One the_attribute) words ⨾ Sign punct.CloseBracket ⨾ Sign punct.CloseBracket
+    ∣ Word key.Attribute ⨾ Sign punct.OpenParen ⨾ Sign punct.OpenParen ⨾ Listed (One the_attribute) words ⨾ Sign punct.CloseParen ⨾ Sign punct.CloseParen
 
 abbrev pub joined : List (List Attribute) → List Attribute
 joined [] = []
@@ -268,15 +270,15 @@ abbrev pub attributes : List Attribute → Phrase
 attributes words ts = (lists : List (List Attribute)) × (words ≡ joined lists) × Many attribute_list lists ts
 
 abbrev pub result : Option Scalar → Phrase
-result None = Is m.Void
+result None = Word key.Void
 result (Some t) = scalar t
 
 abbrev pub parameter : Parameter → Phrase
 parameter q = scalar q.of ⨾ optional named q.name
 
 abbrev pub parameters : List Parameter → Phrase
-parameters [] = Is m.OpenParen ⨾ (Nil ∣ Is m.Void) ⨾ Is m.CloseParen
-parameters (q ∷ qs) = Is m.OpenParen ⨾ Listed parameter (q ∷ qs) ⨾ Is m.CloseParen
+parameters [] = Sign punct.OpenParen ⨾ (Nil ∣ Word key.Void) ⨾ Sign punct.CloseParen
+parameters (q ∷ qs) = Sign punct.OpenParen ⨾ Listed parameter (q ∷ qs) ⨾ Sign punct.CloseParen
 
 abbrev pub AreNamed : List Parameter → Type 0
 AreNamed [] = Unit {0}
@@ -284,7 +286,7 @@ AreNamed (q ∷ qs) = IsSome q.name × AreNamed qs
 
 -- a prototype ends here, and a definition's parameters all have names
 abbrev pub body : List Parameter → Option Stmts → Phrase
-body qs None = Is m.Semicolon
+body qs None = Sign punct.Semicolon
 body qs (Some ss) = given (AreNamed qs) (block ss)
 
 abbrev pub function : Function → Phrase
@@ -295,7 +297,7 @@ function f ts =
 -- ---- globals
 
 abbrev pub minus : Bool → Phrase
-minus true = Is m.Minus
+minus true = Sign punct.Minus
 minus false = Nil
 
 -- a constant's value and type
@@ -318,23 +320,23 @@ the_length t = length_in t.terminal t.span
 
 abbrev pub first_value : List First → Phrase
 first_value [] = Nil
-first_value (i ∷ []) = Is m.Assign ⨾ initialiser i
+first_value (i ∷ []) = Sign punct.Assign ⨾ initialiser i
 first_value (i ∷ j ∷ is) = never
 
 abbrev pub first_values : List First → Phrase
 first_values [] = Nil
-first_values (i ∷ is) = Is m.Assign ⨾ Is m.OpenBrace ⨾ Listed initialiser (i ∷ is) ⨾ (Nil ∣ Is m.Comma) ⨾ Is m.CloseBrace
+first_values (i ∷ is) = Sign punct.Assign ⨾ Sign punct.OpenBrace ⨾ Listed initialiser (i ∷ is) ⨾ (Nil ∣ Sign punct.Comma) ⨾ Sign punct.CloseBrace
 
 abbrev pub sized : Option (ℕ × Span) → List First → Phrase
 sized None is = first_value is
-sized (Some n) is = Is m.OpenBracket ⨾ One the_length n ⨾ Is m.CloseBracket ⨾ first_values is
+sized (Some n) is = Sign punct.OpenBracket ⨾ One the_length n ⨾ Sign punct.CloseBracket ⨾ first_values is
 
 abbrev pub global : Global → Phrase
 global g = named g.name ⨾ sized g.length g.first
 
 -- globals of one declaration have one type
 abbrev pub globals : Scalar → List Global → Phrase
-globals t gs = scalar t ⨾ Listed (λ g. given (g.of ≡ t) (global g)) gs ⨾ Is m.Semicolon
+globals t gs = scalar t ⨾ Listed (λ g. given (g.of ≡ t) (global g)) gs ⨾ Sign punct.Semicolon
 
 abbrev pub item : Item → Phrase
 item (Defines f) = function f

@@ -1,13 +1,13 @@
--- What expressions and statements do.
-use Rattle.std.specs.Prelude.{ℕ, zero, suc, ◌+◌, List, [], ◌∷◌, ◌++◌, length, take, Option, Some, None, if◌then◌else◌, Bool, true, false, not, nat_lt, unwrap_or, option_map}
+-- What expressions and statements do (C11 6.5, 6.8), from left to right.
+use Rattle.std.specs.Prelude.{ℕ, zero, suc, ◌+◌, pos, List, [], ◌∷◌, ◌++◌, length, take, Option, Some, None, if◌then◌else◌, Bool, true, false, not, nat_lt, unwrap_or, option_map}
 use Rattle.std.specs.Fmt.{signed_decimal}
-use Rattle.syntax.specs.Tree.{Scalar, Int, BinaryOp, Add, Subtract, AndThen, OrElse, Step, Up, Down, Mode, Atomic, Relaxed, Expr, Exprs, Variable, Constant, Element, Call, Parenthesized, Cast, Unary, Binary, Logical, Conditional, Simple, Value as Just, Assign, Change, Declarator, Start, Nothing, Declares, Does, Stmt, Stmts, Empty, Declare, Do, Block, Print, If, IfElse, While, DoWhile, For, Break, Continue, Return, Transaction, Cancel, Parameter, Program}
-use Rattle.syntax.specs.Numbers.{Value, Index, Frames, number, converted, is_zero, flag, unary, binary}
+use Rattle.syntax.specs.Tree.{Scalar, Int, BinaryOp, Add, Subtract, AndThen, OrElse, IncDec, Increment, Decrement, Mode, Atomic, Relaxed, Expr, Exprs, Variable, Constant, Element, Call, Parenthesized, Cast, Unary, Binary, Logical, Conditional, Simple, Evaluate, Assign, Adjust, Declarator, Start, Nothing, Declares, Does, Stmt, Stmts, Empty, Declare, Do, Block, Print, If, IfElse, While, DoWhile, For, Break, Continue, Return, Transaction, Cancel, Parameter, Program}
+use Rattle.syntax.specs.Numbers.{Value, Index, Frames, word_of, number, converted, is_zero, flag, unary, binary}
 use Rattle.syntax.specs.Names.{Local, newest, word_at, with_word, global_of, cells, definition_of}
 use Rattle.syntax.specs.Formats.{Piece, Literal, Figure, pieces}
 use Rattle.syntax.specs.Types.{type_of, running_scope}
 use Rattle.syntax.specs.Behaviours.{Memory, Trapped, Wants, Spent, Astray}
-use Rattle.syntax.specs.Actions.{Place, Outside, Inside, State, Answer, Gives, Stops, Action, pure, stop, go_on, ◌>>=◌, ◌>>◌, tick, trap, or_trap, or_astray, locals, put_locals, load, store, may_print, print_piece, memory_in}
+use Rattle.syntax.specs.Actions.{Context, Outside, Inside, State, Answer, Gives, Stops, Action, pure, stop, go_on, ◌>>=◌, ◌>>◌, tick, trap, or_trap, or_astray, locals, put_locals, load, store, may_print, print_piece, memory_in}
 
 -- where a value stands: in a local variable, by its place among the locals, or in a shared cell
 pub data Spot : Type 0 where
@@ -49,16 +49,17 @@ scoped run = do
   put_locals (take (length outer) all)
   pure end
 
--- a loop: each turn takes a tick, and tells how the loop ends, if it does
+-- after a turn, which tells how the loop ends, if it does
 abbrev pub after_turn : Action End → Option End → Action End
 after_turn rest None = rest
 after_turn rest (Some end) = pure end
 
+-- at most so many turns, each for a tick
 abbrev pub turns : ℕ → Action (Option End) → Action End
 turns zero turn = stop Spent
 turns (suc n) turn = tick >> (turn >>= after_turn (turns n turn))
 
--- there are never more turns than ticks
+-- a loop: since each turn takes a tick, there are never more turns than ticks
 abbrev pub loop : Action (Option End) → Action End
 loop turn s = turns s.ticks turn s
 
@@ -77,37 +78,37 @@ pub record Left : Type 0 where
 
 abbrev pub left_by : List Local → Memory → End → State → Left
 left_by mine found Cancels now = record { end = Next; locals = mine; memory = found }
-left_by mine found end now = record { end = end; locals = now.locals; memory = memory_in now.place }
+left_by mine found end now = record { end = end; locals = now.locals; memory = memory_in now.context }
 
--- a transaction inside one that runs as outer
+-- a transaction that lies in another, which runs as outer: what it leaves is seen there
 abbrev pub leave_inner : Mode → Left → State → Answer End
-leave_inner outer left now = Gives left.end (record now { locals = left.locals; place = Inside outer left.memory })
+leave_inner outer left now = Gives left.end (record now { locals = left.locals; context = Inside outer left.memory })
 
 abbrev pub close_inner : Mode → List Local → Memory → Answer End → Answer End
 close_inner outer mine found (Gives end now) = leave_inner outer (left_by mine found end now) now
 close_inner outer mine found (Stops why now) = Stops why now
 
 abbrev pub inner : (outer mode : Mode) → Memory → Action End → Action End
-inner outer mode found run s = close_inner outer s.locals found (run (record s { place = Inside mode found }))
+inner outer mode found run s = close_inner outer s.locals found (run (record s { context = Inside mode found }))
 
 -- an outermost transaction that is left: its tick is due before the memory left is added
 abbrev pub leave : List Memory → List Memory → Left → Action End
 leave founds lefts left now =
-    go_on (tick (record now { place = Outside founds lefts }))
-    (λ u then_. Gives left.end (record then_ { locals = left.locals; place = Outside founds (lefts ++ left.memory ∷ []) }))
+    go_on (tick (record now { context = Outside founds lefts }))
+    (λ u then_. Gives left.end (record then_ { locals = left.locals; context = Outside founds (lefts ++ left.memory ∷ []) }))
 
 -- a trap leaves the memory that was found, and a run that otherwise stops leaves none
 abbrev pub close : List Memory → List Memory → List Local → Memory → Answer End → Answer End
 close founds lefts mine found (Gives end now) = leave founds lefts (left_by mine found end now) now
-close founds lefts mine found (Stops (Trapped k) now) = Stops (Trapped k) (record now { place = Outside founds (lefts ++ found ∷ []) })
-close founds lefts mine found (Stops why now) = Stops why (record now { place = Outside founds lefts })
+close founds lefts mine found (Stops (Trapped k) now) = Stops (Trapped k) (record now { context = Outside founds (lefts ++ found ∷ []) })
+close founds lefts mine found (Stops why now) = Stops why (record now { context = Outside founds lefts })
 
 abbrev pub outermost : Mode → Memory → List Memory → List Memory → Action End → Action End
 outermost mode found founds lefts run s =
-    close founds lefts s.locals found (run (record s { place = Inside mode found }))
+    close founds lefts s.locals found (run (record s { context = Inside mode found }))
 
 -- a transaction that begins here: outside it takes the next memory, and inside an atomic one no relaxed one begins
-abbrev pub enter : Place → Mode → Action End → Action End
+abbrev pub enter : Context → Mode → Action End → Action End
 enter (Outside [] lefts) mode run = stop Wants
 enter (Outside (found ∷ founds) lefts) mode run = outermost mode found founds lefts run
 enter (Inside Relaxed found) mode run = inner Relaxed mode found run
@@ -115,11 +116,11 @@ enter (Inside Atomic found) Atomic run = inner Atomic Atomic found run
 enter (Inside Atomic found) Relaxed run = stop Astray
 
 abbrev pub transaction : Mode → Action End → Action End
-transaction mode run s = enter s.place mode run s
+transaction mode run s = enter s.context mode run s
 
-abbrev pub op_of : Step → BinaryOp
-op_of Up = Add
-op_of Down = Subtract
+abbrev pub op_of : IncDec → BinaryOp
+op_of Increment = Add
+op_of Decrement = Subtract
 
 abbrev pub int_one : Value
 int_one = record { of = Int; word = 1 }
@@ -144,15 +145,18 @@ module _ (p : Program) (call : Caller) where
     if nat_lt k.word (cells g.global) then pure (InCell (g.cell + k.word) g.global.of) else trap Index
 
   abbrev mutual
+    -- names and constants, elements and calls (C11 6.5.1, 6.5.2.1, 6.5.2.2)
     pub expr : Expr → Action Value
     expr (Variable x) = do at ← named x.text; fetch at
-    expr (Constant n t at) = pure (record { of = t; word = n })
+    expr (Constant n t at) = pure (record { of = t; word = word_of (pos n) })
     expr (Element x i at) = do k ← expr i; at ← element x.text k; fetch at
     expr (Call f es at) = do vs ← exprs es; tick; call f.text vs
     expr (Parenthesized e at) = expr e
+    -- conversions and operators (6.5.4, 6.5.3.3, 6.5.5 to 6.5.12)
     expr (Cast t e at) = do v ← expr e; pure (converted t v)
     expr (Unary op e at) = do v ← expr e; or_trap (unary op v)
     expr (Binary op a b at) = do v ← expr a; w ← expr b; or_trap (binary op v w)
+    -- what is computed only where it is needed (6.5.13 to 6.5.15)
     expr (Logical AndThen a b at) = do v ← expr a; w ← if is_zero v then pure v else expr b; pure (flag (not (is_zero w)))
     expr (Logical OrElse a b at) = do v ← expr a; w ← if is_zero v then expr b else pure v; pure (flag (not (is_zero w)))
     expr (Conditional c a b at) = do
@@ -180,12 +184,13 @@ module _ (p : Program) (call : Caller) where
   assigned at by None = do v ← by; assign at v
   assigned at by (Some op) = changed at by op
 
+  -- expressions as statements, assignments, ++ and -- (C11 6.8.3, 6.5.16, 6.5.2.4, 6.5.3.1)
   abbrev pub simple : Simple → Action End
-  simple (Just e) = do expr e; pure Next
+  simple (Evaluate e) = do expr e; pure Next
   simple (Assign to op e) = do at ← spot to; assigned at (expr e) op; pure Next
-  simple (Change to by) = do at ← spot to; changed at (pure int_one) (op_of by); pure Next
+  simple (Adjust to by) = do at ← spot to; changed at (pure int_one) (op_of by); pure Next
 
-  -- a declared name is 0 and then, in its own scope, its first value
+  -- a declared name is 0 and then, in its own scope, its first value (6.2.1, 6.7.9)
   abbrev pub first_value : Spot → Option Expr → Action (Unit {0})
   first_value at None = pure tt
   first_value at (Some e) = do v ← expr e; assign at v
@@ -217,26 +222,30 @@ module _ (p : Program) (call : Caller) where
   return_value (Some e) = expr e
 
   abbrev mutual
+    -- blocks and declarations (C11 6.8.2), printing (7.21.6.3)
     pub stmt : Stmt → Action End
     stmt Empty = do tick; pure Next
     stmt (Declare d) = do tick; declare d.of d.declarators
     stmt (Do s) = do tick; simple s
     stmt (Block ss) = do tick; scoped (stmts ss)
     stmt (Print at format format_at es) = do tick; may_print; vs ← exprs es; print_pieces (pieces format) vs; pure Next
-    stmt (If c a) = do tick; v ← expr c; if is_zero v then pure Next else stmt a
-    stmt (IfElse c a b) = do tick; v ← expr c; if is_zero v then stmt b else stmt a
-    stmt (While c a) = do tick; loop (do v ← expr c; if is_zero v then pure (Some Next) else (stmt a >>= after_body (pure None)))
-    stmt (DoWhile a c) = do tick; loop (stmt a >>= after_body (do v ← expr c; pure (if is_zero v then Some Next else None)))
+    -- selection and iteration: each substatement is a scope of its own (6.8.4, 6.8.5)
+    stmt (If c a) = do tick; v ← expr c; if is_zero v then pure Next else scoped (stmt a)
+    stmt (IfElse c a b) = do tick; v ← expr c; if is_zero v then scoped (stmt b) else scoped (stmt a)
+    stmt (While c a) = do tick; loop (do v ← expr c; if is_zero v then pure (Some Next) else (scoped (stmt a) >>= after_body (pure None)))
+    stmt (DoWhile a c) = do tick; loop (scoped (stmt a) >>= after_body (do v ← expr c; pure (if is_zero v then Some Next else None)))
     stmt (For start c step a) = do
       tick
       scoped (do
         start_with start
         loop (do
           more ← holds c
-          if more then (stmt a >>= after_body (stepped step)) else pure (Some Next)))
+          if more then (scoped (stmt a) >>= after_body (stepped step)) else pure (Some Next)))
+    -- jumps (6.8.6)
     stmt (Break at) = do tick; pure Breaks
     stmt (Continue at) = do tick; pure Continues
     stmt (Return e at) = do tick; v ← return_value e; pure (Returns v)
+    -- transactions run as one step, and a cancel ends the innermost one
     stmt (Transaction mode ss at) = do tick; transaction mode (scoped (stmts ss))
     stmt (Cancel at) = do tick; pure Cancels
 
@@ -244,20 +253,16 @@ module _ (p : Program) (call : Caller) where
     stmts Stmts.[] = pure Next
     stmts (Stmts.◌∷◌ s ss) = stmt s >>= on_next (stmts ss)
 
--- the parameters, with the arguments converted
-abbrev pub bound : Parameter → Value → Option Local
-bound q v = option_map (λ x. record { name = x.text; of = q.of; word = (converted q.of v).word }) q.name
-
-abbrev pub with_first : Option Local → Option (List Local) → Option (List Local)
-with_first (Some l) (Some ls) = Some (l ∷ ls)
-with_first l ls = None
+-- the parameters, with the arguments converted (C11 6.5.2.2); one without a name binds nothing
+abbrev pub bound : Parameter → Value → List Local
+bound q v = unwrap_or (option_map (λ x. record { name = x.text; of = q.of; word = (converted q.of v).word } ∷ []) q.name) []
 
 abbrev pub entered : List Parameter → List Value → Option (List Local)
 entered [] [] = Some []
-entered (q ∷ qs) (v ∷ vs) = with_first (bound q v) (entered qs vs)
+entered (q ∷ qs) (v ∷ vs) = option_map (λ ls. bound q v ++ ls) (entered qs vs)
 entered qs vs = None
 
--- the value of a call, of the function's own type: one that runs off its end gives 0, and no other end leaves it
+-- the value of a call, of the function's own type (6.8.6.4): one that runs off its end gives 0, and no other end leaves it
 abbrev pub result_of : Option Scalar → End → Action Value
 result_of t Next = pure (converted (unwrap_or t Int) (flag false))
 result_of t (Returns v) = pure (converted (unwrap_or t Int) v)

@@ -1,8 +1,13 @@
 -- Phrases: lists of tokens that stand for something, and how a grammar is put together of them.
 use Rattle.std.specs.Prelude.{◌≡◌, ◌⊎◌, ℕ, ◌<◌, List, [], ◌∷◌, ◌++◌, Option, Some, None, Bool, false, if◌then◌else◌}
 use denote.Enum.Bare.{sameb}
-use Rattle.lex.specs.{declared.token.Mark.Mark, declared.token.Span.Span, contracts.token.Mark.the_type, Tokens.Terminal, Tokens.Tok}
-use Rattle.lex.specs.declared.token.Mark.TheVariants as m
+use Rattle.lex.specs.{declared.token.Fixed.Fixed, declared.token.Span.Span, Tokens.Terminal, Tokens.Tok}
+use Rattle.lex.specs.declared.token.Keyword as keyword_type
+use Rattle.lex.specs.declared.token.Punctuator as punctuator_type
+use Rattle.lex.specs.declared.token.Fixed.TheVariants.{Keyword, Punctuator}
+use Rattle.lex.specs.contracts.token.Keyword as keyword
+use Rattle.lex.specs.contracts.token.Punctuator as punctuator
+use Rattle.lex.specs.declared.token.Punctuator.TheVariants as punct
 
 abbrev pub Phrase : Type 1
 Phrase = List Tok → Type 0
@@ -49,31 +54,39 @@ Many L (x ∷ xs) = L x ⨾ Many L xs
 
 -- ---- single tokens
 
-abbrev pub same_mark : Mark → Mark → Bool
-same_mark = sameb the_type
+abbrev pub same_fixed : Fixed → Fixed → Bool
+same_fixed (Keyword a) (Keyword b) = sameb keyword.the_type a b
+same_fixed (Punctuator a) (Punctuator b) = sameb punctuator.the_type a b
+same_fixed _ _ = false
 
-abbrev pub is_mark : Mark → Terminal → Bool
-is_mark m (Terminal.mark k) = same_mark k m
-is_mark m _ = false
+abbrev pub is_fixed : Fixed → Terminal → Bool
+is_fixed m (Terminal.fixed k) = same_fixed k m
+is_fixed m _ = false
 
 -- the sign or keyword m
-abbrev pub the_mark : Mark → Tok → Option (Unit {0})
-the_mark m t = if is_mark m t.terminal then Some tt else None
+abbrev pub the_fixed : Fixed → Tok → Option (Unit {0})
+the_fixed m t = if is_fixed m t.terminal then Some tt else None
 
-abbrev pub Is : Mark → Phrase
-Is m = One (the_mark m) tt
+abbrev pub Is : Fixed → Phrase
+Is m = One (the_fixed m) tt
+
+abbrev pub Sign : punctuator_type.Punctuator → Phrase
+Sign p = Is (Punctuator p)
+
+abbrev pub Word : keyword_type.Keyword → Phrase
+Word k = Is (Keyword k)
 
 -- the keyword m, by its place
-abbrev pub place_of : Mark → Tok → Option Span
-place_of m t = if is_mark m t.terminal then Some t.span else None
+abbrev pub place_of : Fixed → Tok → Option Span
+place_of m t = if is_fixed m t.terminal then Some t.span else None
 
-abbrev pub Keyword : Mark → Span → Phrase
-Keyword m = One (place_of m)
+abbrev pub IsAt : Fixed → Span → Phrase
+IsAt m = One (place_of m)
 
 -- one or more, with commas between
 abbrev pub Listed : {A : Type 0} → (A → Phrase) → List A → Phrase
 Listed L [] = never
-Listed L (x ∷ xs) = L x ⨾ Many (λ y. Is m.Comma ⨾ L y) xs
+Listed L (x ∷ xs) = L x ⨾ Many (λ y. Is (Punctuator punct.Comma) ⨾ L y) xs
 
 -- ---- places
 

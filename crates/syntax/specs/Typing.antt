@@ -1,10 +1,10 @@
 -- Which programs are typed, demand by demand.
 --
--- Each rule is a demand with its fault number and its place. A program is typed where every demand is met.
--- A fault breaks the rule of its number at its place where the demands of that number and place are not all met.
-use Rattle.std.specs.Prelude.{◌≡◌, ℕ, ◌+◌, List, [], ◌∷◌, ◌++◌, length, map, drop, sum_by, Option, Some, None, Bool, true, false, not, ◌&&◌, ◌||◌, IsTrue, is_some, is_none, if◌then◌else◌, codes, option_map, unwrap_or, ◌==◌, nat_le, bytes_eq}
-use Rattle.std.specs.{List.list_any, Option.IfSome}
-use Rattle.syntax.specs.Tree.{Span, Scalar, Int, Unsigned, First, Name, Expr, Exprs, Variable, Constant, Element, Call, Parenthesized, Cast, Unary, Binary, Logical, Conditional, Simple, Value as Just, Assign, Change, Declarator, Start, Nothing, Declares, Does, Stmt, Stmts, Declare, Do, Block, Print, If, IfElse, While, DoWhile, For, Break, Continue, Return, Transaction, Parameter, Function, Global, Item, Defines, Shares, Program}
+-- Each rule is a demand: a fault number, a place, and whether it is met. They stand in one list, in the order in which they
+-- are looked at: a program is typed where every demand is met, and its fault is the first that is not.
+use Rattle.std.specs.Prelude.{ℕ, ◌+◌, List, [], ◌∷◌, ◌++◌, length, map, drop, sum_by, Option, Some, None, Bool, true, false, not, ◌&&◌, ◌||◌, IsTrue, is_some, is_none, if◌then◌else◌, codes, option_map, unwrap_or, ◌==◌, nat_le, bytes_eq, All}
+use Rattle.std.specs.List.{list_any}
+use Rattle.syntax.specs.Tree.{Span, Scalar, Int, Unsigned, First, Name, Expr, Exprs, Variable, Constant, Element, Call, Parenthesized, Cast, Unary, Binary, Logical, Conditional, Simple, Evaluate, Assign, Adjust, Declarator, Start, Nothing, Declares, Does, Stmt, Stmts, Declare, Do, Block, Print, If, IfElse, While, DoWhile, For, Break, Continue, Return, Transaction, Parameter, Function, Global, Item, Defines, Shares, Program}
 use Rattle.syntax.specs.Names.{cells, definition_of}
 use Rattle.syntax.specs.Types.{Known, Unknown, Callable, Scope, file_scope, with_number, number_type, element_type, type_of}
 use Rattle.syntax.specs.Formats.{pieces, is_format, figures}
@@ -130,174 +130,187 @@ abbrev pub is_worker : Known → Bool
 is_worker (Callable result takes) = is_none result && same_types takes (Int ∷ [])
 is_worker other = false
 
--- the demands of which a fact speaks, by number and place
-module _ (asked : ℕ → Span → Type 0) where
-  abbrev pub Demand : ℕ → Span → Bool → Type 0
-  Demand n at met = asked n at → IsTrue met
+-- what a program has to meet: a fault's number, its place, and whether it is met
+pub record Demand : Type 0 where
+  pub number : ℕ
+  pub at : Span
+  pub met : Bool
 
-  module _ (known : Scope) where
-    -- a name that is known
-    abbrev pub IsKnown : Name → Type 0
-    IsKnown x = Demand 20 x.at (not (is_unknown (known x.text)))
+abbrev pub demand : ℕ → Span → Bool → List Demand
+demand n at met = record { number = n; at = at; met = met } ∷ []
 
-    -- a value that is a number
-    abbrev pub GivesNumber : Expr → Type 0
-    GivesNumber e = Demand 22 (span_of e) (not (is_void known e))
+abbrev pub demands_of : {A : Type 0} → Option A → (A → List Demand) → List Demand
+demands_of None f = []
+demands_of (Some x) f = f x
 
-    abbrev mutual
-      pub IsTyped : Expr → Type 0
-      IsTyped (Variable x) = IsKnown x × Demand 22 x.at (may_be_number (known x.text))
-      IsTyped (Constant n t at) = Unit {0}
-      IsTyped (Element x i at) = IsKnown x × Demand 22 at (may_be_array (known x.text)) × IsTyped i × GivesNumber i
-      IsTyped (Call f es at) = IsKnown f × Demand 22 at (may_be_function (known f.text)) × AreNumbers es × Demand 23 f.at (takes_so_many (known f.text) (count es))
-      IsTyped (Parenthesized e at) = IsTyped e
-      IsTyped (Cast t e at) = IsTyped e × GivesNumber e
-      IsTyped (Unary op e at) = IsTyped e × GivesNumber e
-      IsTyped (Binary op a b at) = IsTyped a × GivesNumber a × IsTyped b × GivesNumber b
-      IsTyped (Logical op a b at) = IsTyped a × GivesNumber a × IsTyped b × GivesNumber b
-      IsTyped (Conditional c a b at) = IsTyped c × GivesNumber c × IsTyped a × GivesNumber a × IsTyped b × GivesNumber b
+module _ (known : Scope) where
+  -- a name that is known (C11 6.5.1)
+  abbrev pub IsKnown : Name → List Demand
+  IsKnown x = demand 20 x.at (not (is_unknown (known x.text)))
 
-      pub AreNumbers : Exprs → Type 0
-      AreNumbers Exprs.[] = Unit {0}
-      AreNumbers (Exprs.◌∷◌ e es) = IsTyped e × GivesNumber e × AreNumbers es
+  -- no value of a void call (6.3.2.2)
+  abbrev pub GivesNumber : Expr → List Demand
+  GivesNumber e = demand 22 (span_of e) (not (is_void known e))
 
-    abbrev pub IsNumber : Expr → Type 0
-    IsNumber e = IsTyped e × GivesNumber e
+  -- names, elements and calls, then operators, whose operands are numbers (6.5.1, 6.5.2.1, 6.5.2.2; 6.5.3 to 6.5.15)
+  abbrev mutual
+    pub IsTyped : Expr → List Demand
+    IsTyped (Variable x) = IsKnown x ++ demand 22 x.at (may_be_number (known x.text))
+    IsTyped (Constant n t at) = []
+    IsTyped (Element x i at) = IsKnown x ++ (IsTyped i ++ GivesNumber i) ++ demand 22 at (may_be_array (known x.text))
+    IsTyped (Call f es at) = IsKnown f ++ AreNumbers es ++ (demand 22 at (may_be_function (known f.text)) ++ demand 23 f.at (takes_so_many (known f.text) (count es)))
+    IsTyped (Parenthesized e at) = IsTyped e
+    IsTyped (Cast t e at) = IsTyped e ++ GivesNumber e
+    IsTyped (Unary op e at) = IsTyped e ++ GivesNumber e
+    IsTyped (Binary op a b at) = (IsTyped a ++ GivesNumber a) ++ (IsTyped b ++ GivesNumber b)
+    IsTyped (Logical op a b at) = (IsTyped a ++ GivesNumber a) ++ (IsTyped b ++ GivesNumber b)
+    IsTyped (Conditional c a b at) = (IsTyped c ++ GivesNumber c) ++ (IsTyped a ++ GivesNumber a) ++ (IsTyped b ++ GivesNumber b)
 
-    -- the left side of an assignment: a variable, or an element
-    abbrev pub may_be_assigned : Expr → Bool
-    may_be_assigned (Variable x) = may_be_number (known x.text)
-    may_be_assigned (Element x i at) = true
-    may_be_assigned e = false
+    pub AreNumbers : Exprs → List Demand
+    AreNumbers Exprs.[] = []
+    AreNumbers (Exprs.◌∷◌ e es) = (IsTyped e ++ GivesNumber e) ++ AreNumbers es
 
-    abbrev pub IsTypedTarget : Expr → Type 0
-    IsTypedTarget (Variable x) = IsKnown x
-    IsTypedTarget e = IsTyped e
+  -- a value that is a number
+  abbrev pub IsNumber : Expr → List Demand
+  IsNumber e = IsTyped e ++ GivesNumber e
 
-    abbrev pub IsAssignable : Expr → Type 0
-    IsAssignable e = Demand 24 (span_of e) (may_be_assigned e)
+  -- the left side of an assignment: a variable, or an element (6.3.2.1, 6.5.16)
+  abbrev pub may_be_assigned : Expr → Bool
+  may_be_assigned (Variable x) = may_be_number (known x.text)
+  may_be_assigned (Element x i at) = true
+  may_be_assigned e = false
 
-    abbrev pub IsTypedSimple : Simple → Type 0
-    IsTypedSimple (Just e) = IsTyped e
-    IsTypedSimple (Assign to op e) = IsTypedTarget to × IsNumber e × IsAssignable to
-    IsTypedSimple (Change to by) = IsTypedTarget to × IsAssignable to
+  abbrev pub IsTypedTarget : Expr → List Demand
+  IsTypedTarget (Variable x) = IsKnown x
+  IsTypedTarget e = IsTyped e
 
-    -- each figure has an argument of its own type
-    abbrev pub HaveTypes : List Scalar → Exprs → Type 0
-    HaveTypes (t ∷ ts) (Exprs.◌∷◌ e es) = Demand 27 (span_of e) (is_none (type_of known e) || is_type t (type_of known e)) × HaveTypes ts es
-    HaveTypes ts es = Unit {0}
+  abbrev pub IsAssignable : Expr → List Demand
+  IsAssignable e = demand 24 (span_of e) (may_be_assigned e)
 
-    abbrev pub IsTypedPrint : List ℕ → Span → Exprs → Type 0
-    IsTypedPrint format at es =
-        let printed = figures (pieces format) in
-        AreNumbers es × Demand 27 at (is_format format && (length printed == count es)) × HaveTypes printed es
+  abbrev pub IsTypedSimple : Simple → List Demand
+  IsTypedSimple (Evaluate e) = IsTyped e
+  IsTypedSimple (Assign to op e) = IsTypedTarget to ++ IsNumber e ++ IsAssignable to
+  IsTypedSimple (Adjust to by) = IsTypedTarget to ++ IsAssignable to
 
-  -- each new name is new in its scope, and known from its own first value on
-  abbrev pub AreTypedDeclarators : Scope → List (List ℕ) → Scalar → List Declarator → Type 0
-  AreTypedDeclarators known declared t [] = Unit {0}
-  AreTypedDeclarators known declared t (d ∷ ds) =
-      let known' = with_number d.name.text t known in
-      Demand 21 d.name.at (not (has_name declared d.name.text))
-      × IfSome d.first (IsNumber known')
-      × AreTypedDeclarators known' (d.name.text ∷ declared) t ds
+  -- each figure has an argument of its own type (7.21.6.1)
+  abbrev pub HaveTypes : List Scalar → Exprs → List Demand
+  HaveTypes (t ∷ ts) (Exprs.◌∷◌ e es) = demand 27 (span_of e) (is_none (type_of known e) || is_type t (type_of known e)) ++ HaveTypes ts es
+  HaveTypes ts es = []
 
-  abbrev pub IsTypedStart : Scope → Start → Type 0
-  IsTypedStart known Nothing = Unit {0}
-  IsTypedStart known (Declares d) = AreTypedDeclarators known [] d.of d.declarators
-  IsTypedStart known (Does s) = IsTypedSimple known s
+  abbrev pub IsTypedPrint : List ℕ → Span → Exprs → List Demand
+  IsTypedPrint format at es =
+      let printed = figures (pieces format) in
+      AreNumbers es ++ demand 27 at (is_format format && (length printed == count es)) ++ HaveTypes printed es
 
-  -- statements of a function that gives this, in a loop or not; declared are the names of the scope that they stand in
-  module _ (gives : Option Scalar) where
-    abbrev mutual
-      pub IsTypedStmt : Stmt → (known : Scope) (declared : List (List ℕ)) (looping : Bool) → Type 0
-      IsTypedStmt (Declare d) known declared looping = AreTypedDeclarators known declared d.of d.declarators
-      IsTypedStmt (Do s) known declared looping = IsTypedSimple known s
-      IsTypedStmt (Block ss) known declared looping = AreTypedStmts ss known [] looping
-      IsTypedStmt (Print at format format_at es) known declared looping = IsTypedPrint known format format_at es
-      IsTypedStmt (If c a) known declared looping = IsNumber known c × IsTypedStmt a known declared looping
-      IsTypedStmt (IfElse c a b) known declared looping = IsNumber known c × IsTypedStmt a known declared looping × IsTypedStmt b known declared looping
-      IsTypedStmt (While c a) known declared looping = IsNumber known c × IsTypedStmt a known declared true
-      IsTypedStmt (DoWhile a c) known declared looping = IsTypedStmt a known declared true × IsNumber known c
-      IsTypedStmt (For start c step a) known declared looping =
-          let known' = scope_of_start start known in
-          IsTypedStart known start × IfSome c (IsNumber known') × IfSome step (IsTypedSimple known') × IsTypedStmt a known' [] true
-      IsTypedStmt (Break at) known declared looping = Demand 26 at looping
-      IsTypedStmt (Continue at) known declared looping = Demand 26 at looping
-      IsTypedStmt (Return e at) known declared looping = IfSome e (IsNumber known) × Demand 22 at (returns_right gives e)
-      IsTypedStmt (Transaction mode ss at) known declared looping = AreTypedStmts ss known [] looping
-      IsTypedStmt s known declared looping = Unit {0}
+-- each new name is new in its scope, and known from its own first value on (6.2.1, 6.7)
+abbrev pub AreTypedDeclarators : Scope → List (List ℕ) → Scalar → List Declarator → List Demand
+AreTypedDeclarators known declared t [] = []
+AreTypedDeclarators known declared t (d ∷ ds) =
+    let known' = with_number d.name.text t known in
+    demand 21 d.name.at (not (has_name declared d.name.text))
+    ++ demands_of d.first (IsNumber known')
+    ++ AreTypedDeclarators known' (d.name.text ∷ declared) t ds
 
-      pub AreTypedStmts : Stmts → (known : Scope) (declared : List (List ℕ)) (looping : Bool) → Type 0
-      AreTypedStmts Stmts.[] known declared looping = Unit {0}
-      AreTypedStmts (Stmts.◌∷◌ s ss) known declared looping =
-          IsTypedStmt s known declared looping × AreTypedStmts ss (scope_after s known) (names_of s ++ declared) looping
+abbrev pub IsTypedStart : Scope → Start → List Demand
+IsTypedStart known Nothing = []
+IsTypedStart known (Declares d) = AreTypedDeclarators known [] d.of d.declarators
+IsTypedStart known (Does s) = IsTypedSimple known s
 
-  abbrev pub AreDistinct : List (List ℕ) → List Parameter → Type 0
-  AreDistinct declared [] = Unit {0}
-  AreDistinct declared (q ∷ qs) =
-      IfSome q.name (λ x. Demand 21 x.at (not (has_name declared x.text)))
-      × AreDistinct (parameter_names (q ∷ []) ++ declared) qs
+-- statements of a function that gives this, in a loop or not; declared are the names of the scope that they stand in
+-- (6.8.4.1, 6.8.5, 6.8.6.2 to 6.8.6.4)
+module _ (gives : Option Scalar) where
+  abbrev mutual
+    pub IsTypedStmt : Stmt → (known : Scope) (declared : List (List ℕ)) (looping : Bool) → List Demand
+    IsTypedStmt (Declare d) known declared looping = AreTypedDeclarators known declared d.of d.declarators
+    IsTypedStmt (Do s) known declared looping = IsTypedSimple known s
+    IsTypedStmt (Block ss) known declared looping = AreTypedStmts ss known [] looping
+    IsTypedStmt (Print at format format_at es) known declared looping = IsTypedPrint known format format_at es
+    IsTypedStmt (If c a) known declared looping = IsNumber known c ++ IsTypedStmt a known declared looping
+    IsTypedStmt (IfElse c a b) known declared looping = IsNumber known c ++ IsTypedStmt a known declared looping ++ IsTypedStmt b known declared looping
+    IsTypedStmt (While c a) known declared looping = IsNumber known c ++ IsTypedStmt a known declared true
+    IsTypedStmt (DoWhile a c) known declared looping = IsTypedStmt a known declared true ++ IsNumber known c
+    IsTypedStmt (For start c step a) known declared looping =
+        let known' = scope_of_start start known in
+        IsTypedStart known start ++ demands_of c (IsNumber known') ++ demands_of step (IsTypedSimple known') ++ IsTypedStmt a known' [] true
+    IsTypedStmt (Break at) known declared looping = demand 26 at looping
+    IsTypedStmt (Continue at) known declared looping = demand 26 at looping
+    IsTypedStmt (Return e at) known declared looping = demands_of e (IsTyped known) ++ demand 22 at (returns_right gives e) ++ demands_of e (GivesNumber known)
+    IsTypedStmt (Transaction mode ss at) known declared looping = AreTypedStmts ss known [] looping
+    IsTypedStmt s known declared looping = []
 
-  abbrev pub IsTypedBody : List Item → Function → Option Stmts → Type 0
-  IsTypedBody earlier f None = Unit {0}
-  IsTypedBody earlier f (Some ss) =
-      AreTypedStmts f.result ss (with_parameters f.parameters (file_scope (earlier ++ Defines f ∷ []))) (parameter_names f.parameters) false
+    pub AreTypedStmts : Stmts → (known : Scope) (declared : List (List ℕ)) (looping : Bool) → List Demand
+    AreTypedStmts Stmts.[] known declared looping = []
+    AreTypedStmts (Stmts.◌∷◌ s ss) known declared looping =
+        IsTypedStmt s known declared looping ++ AreTypedStmts ss (scope_after s known) (names_of s ++ declared) looping
 
-  -- a function after these items: no global has its name, no second body stands, and earlier types are the same
-  abbrev pub IsTypedFunction : List Item → Function → Type 0
-  IsTypedFunction earlier f =
-      let before = file_scope earlier f.name.text in
-      Demand 21 f.name.at (may_be_function before && (is_none f.body || not (has_name (defined_names earlier) f.name.text)))
-      × Demand 22 f.name.at (agrees f before)
-      × AreDistinct [] f.parameters
-      × IsTypedBody earlier f f.body
+abbrev pub AreDistinct : List (List ℕ) → List Parameter → List Demand
+AreDistinct declared [] = []
+AreDistinct declared (q ∷ qs) =
+    demands_of q.name (λ x. demand 21 x.at (not (has_name declared x.text)))
+    ++ AreDistinct (parameter_names (q ∷ []) ++ declared) qs
 
-  abbrev pub IsLength : Option (ℕ × Span) → Type 0
-  IsLength None = Unit {0}
-  IsLength (Some n) = Demand 25 n.1 (nat_le 1 n.0 && nat_le n.0 4096)
+abbrev pub IsTypedBody : List Item → Function → Option Stmts → List Demand
+IsTypedBody earlier f None = []
+IsTypedBody earlier f (Some ss) =
+    AreTypedStmts f.result ss (with_parameters f.parameters (file_scope (earlier ++ Defines f ∷ []))) (parameter_names f.parameters) false
 
-  -- no initialiser stands where no cell is left for it
-  abbrev pub HaveCells : List First → Type 0
-  HaveCells [] = Unit {0}
-  HaveCells (i ∷ is) = Demand 25 i.span false
+-- a function after these items: no global has its name, no second body stands, and earlier types are the same (6.7, 6.9.1)
+abbrev pub IsTypedFunction : List Item → Function → List Demand
+IsTypedFunction earlier f =
+    let before = file_scope earlier f.name.text in
+    demand 21 f.name.at (may_be_function before && (is_none f.body || not (has_name (defined_names earlier) f.name.text)))
+    ++ demand 22 f.name.at (agrees f before)
+    ++ AreDistinct [] f.parameters
+    ++ IsTypedBody earlier f f.body
 
-  -- globals after these items and globals, which take up so many cells
-  abbrev pub AreTypedGlobals : List Item → List Global → ℕ → List Global → Type 0
-  AreTypedGlobals earlier before taken [] = Unit {0}
-  AreTypedGlobals earlier before taken (g ∷ gs) =
-      Demand 21 g.name.at (is_unknown (file_scope (earlier ++ Shares before ∷ []) g.name.text))
-      × IsLength g.length
-      × HaveCells (drop (cells g) g.first)
-      × Demand 25 g.name.at (nat_le (taken + cells g) 4096)
-      × AreTypedGlobals earlier (before ++ g ∷ []) (taken + cells g) gs
+-- the length of an array (6.7.6.2), and its initialisers (6.7.9)
+abbrev pub IsLength : Option (ℕ × Span) → List Demand
+IsLength None = []
+IsLength (Some n) = demand 25 n.1 (nat_le 1 n.0 && nat_le n.0 4096)
 
-  abbrev pub IsTypedItem : List Item → Item → Type 0
-  IsTypedItem earlier (Defines f) = IsTypedFunction earlier f
-  IsTypedItem earlier (Shares gs) = AreTypedGlobals earlier [] (all_cells earlier) gs
+-- no initialiser stands where no cell is left for it
+abbrev pub HaveCells : List First → List Demand
+HaveCells [] = []
+HaveCells (i ∷ is) = demand 25 i.span false
 
-  abbrev pub AreTypedItems : List Item → List Item → Type 0
-  AreTypedItems earlier [] = Unit {0}
-  AreTypedItems earlier (i ∷ items) = IsTypedItem earlier i × AreTypedItems (earlier ++ i ∷ []) items
+-- globals after these items and globals, which take up so many cells
+abbrev pub AreTypedGlobals : List Item → List Global → ℕ → List Global → List Demand
+AreTypedGlobals earlier before taken [] = []
+AreTypedGlobals earlier before taken (g ∷ gs) =
+    demand 21 g.name.at (is_unknown (file_scope (earlier ++ Shares before ∷ []) g.name.text))
+    ++ IsLength g.length
+    ++ HaveCells (drop (cells g) g.first)
+    ++ demand 25 g.name.at (nat_le (taken + cells g) 4096)
+    ++ AreTypedGlobals earlier (before ++ g ∷ []) (taken + cells g) gs
 
-  -- each function that is declared is defined; the place is its first name
-  abbrev pub AreDefined : Program → (earlier items : List Item) → Type 0
-  AreDefined p earlier [] = Unit {0}
-  AreDefined p earlier (Shares gs ∷ items) = AreDefined p (earlier ++ Shares gs ∷ []) items
-  AreDefined p earlier (Defines f ∷ items) =
-      Demand 29 f.name.at (not (is_unknown (file_scope earlier f.name.text)) || is_some (definition_of p f.name.text))
-      × AreDefined p (earlier ++ Defines f ∷ []) items
+abbrev pub IsTypedItem : List Item → Item → List Demand
+IsTypedItem earlier (Defines f) = IsTypedFunction earlier f
+IsTypedItem earlier (Shares gs) = AreTypedGlobals earlier [] (all_cells earlier) gs
 
-  -- the demands of a program whose last token ends at this place
-  abbrev pub Meets : ℕ → Program → Type 0
-  Meets end p =
-      AreTypedItems [] p
-      × AreDefined p [] p
-      × Demand 28 (record { start = end; end = end }) (is_worker (file_scope p (codes "worker")))
+abbrev pub AreTypedItems : List Item → List Item → List Demand
+AreTypedItems earlier [] = []
+AreTypedItems earlier (i ∷ items) = IsTypedItem earlier i ++ AreTypedItems (earlier ++ i ∷ []) items
+
+-- each function that is declared is defined (6.9); the place is its first name
+abbrev pub AreDefined : Program → (earlier items : List Item) → List Demand
+AreDefined p earlier [] = []
+AreDefined p earlier (Shares gs ∷ items) = AreDefined p (earlier ++ Shares gs ∷ []) items
+AreDefined p earlier (Defines f ∷ items) =
+    demand 29 f.name.at (not (is_unknown (file_scope earlier f.name.text)) || is_some (definition_of p f.name.text))
+    ++ AreDefined p (earlier ++ Defines f ∷ []) items
+
+-- the demands of a program whose last token ends at this place
+abbrev pub Meets : ℕ → Program → List Demand
+Meets end p =
+    AreTypedItems [] p
+    ++ AreDefined p [] p
+    ++ demand 28 (record { start = end; end = end }) (is_worker (file_scope p (codes "worker")))
 
 -- every demand is met
 abbrev pub IsTypedProgram : Program → Type 0
-IsTypedProgram p = Meets (λ n at. Unit {0}) 0 p
+IsTypedProgram p = All (λ d. IsTrue d.met) (Meets 0 p)
 
--- a fault of this number at this place breaks its rule
-abbrev pub BreaksRule : ℕ → Span → ℕ → Program → Type 0
-BreaksRule n at end p = Meets (λ m span. (m ≡ n) × (span ≡ at)) end p → ⊥
+-- the first demand that is not met
+abbrev pub first_unmet : List Demand → Option (ℕ × Span)
+first_unmet [] = None
+first_unmet (d ∷ ds) = if d.met then first_unmet ds else Some (d.number, d.at)

@@ -2,69 +2,31 @@
 
 ghost use Rattle.std.specs.Prelude.{◌≡◌, IfOk};
 
-use crate::copy::copy_exprs;
-use crate::tree::{Declaration, Declarator, Expr, Simple, Start, Stmt};
-use containers::{Boxed, Items, Text};
+use crate::tree::{Declaration, Declarator, ForHead, Simple, Start, Stmt};
+use containers::{Boxed, Copied, Items};
 use std::alloc::{AllocError, Allocator};
 
-fn copy_option<A: Allocator + Copy>(
-    alloc: A,
-    e: &Option<Expr<A>>,
-) -> Result<Option<Expr<A>>, AllocError>
-    ensures { IfOk result (λ o. o ≡ e.now) }
-{
-    match e {
-        Some(e) => Ok(Some(e.copy(alloc)?)),
-        None => Ok(None),
-    }
-}
-
-impl<A: Allocator + Copy> Simple<A> {
-    /// The same with all its places, in memory of its own; an `Err` only where `alloc` refuses it.
-    pub fn copy(&self, alloc: A) -> Result<Simple<A>, AllocError>
-        ensures { IfOk result (λ s. s ≡ self.now) }
-    {
+impl<A: Allocator + Copy> Copied<A> for Simple<A> {
+    fn copy(&self, alloc: A) -> Result<Simple<A>, AllocError> {
         match self {
-            Simple::Value(e) => Ok(Simple::Value(e.copy(alloc)?)),
-            Simple::Assign(to, op, e) => {
-                let to = to.copy(alloc)?;
-                Ok(Simple::Assign(to, *op, e.copy(alloc)?))
-            }
-            Simple::Step(to, by) => Ok(Simple::Step(to.copy(alloc)?, *by)),
+            Simple::Evaluate(e) => Ok(Simple::Evaluate(e.copy(alloc)?)),
+            Simple::Assign(to, op, e) => Ok(Simple::Assign(to.copy(alloc)?, *op, e.copy(alloc)?)),
+            Simple::Adjust(to, by) => Ok(Simple::Adjust(to.copy(alloc)?, *by)),
         }
     }
 }
 
-impl<A: Allocator + Copy> Declarator<A> {
-    /// The same name with the same first value, in memory of its own; an `Err` only where `alloc` refuses it.
-    pub fn copy(&self, alloc: A) -> Result<Declarator<A>, AllocError>
-        ensures { IfOk result (λ d. d ≡ self.now) }
-    {
+impl<A: Allocator + Copy> Copied<A> for Declarator<A> {
+    fn copy(&self, alloc: A) -> Result<Declarator<A>, AllocError> {
         let name = self.name.copy(alloc)?;
-        let first = copy_option(alloc, &self.first)?;
+        let first = self.first.copy(alloc)?;
         Ok(Declarator { name, first })
     }
 }
 
-fn copy_declarators<A: Allocator + Copy>(
-    alloc: A,
-    all: &[Declarator<A>],
-) -> Result<Items<Declarator<A>, A>, AllocError>
-    ensures { IfOk result (λ ds. ds ≡ all.now) }
-{
-    let mut copies = Items::new(alloc);
-    'each: for one in all {
-        copies.push(one.copy(alloc)?)?;
-    }
-    Ok(copies)
-}
-
-impl<A: Allocator + Copy> Declaration<A> {
-    /// The same declaration, in memory of its own; an `Err` only where `alloc` refuses it.
-    pub fn copy(&self, alloc: A) -> Result<Declaration<A>, AllocError>
-        ensures { IfOk result (λ d. d ≡ self.now) }
-    {
-        let declarators = copy_declarators(alloc, self.declarators.as_slice())?;
+impl<A: Allocator + Copy> Copied<A> for Declaration<A> {
+    fn copy(&self, alloc: A) -> Result<Declaration<A>, AllocError> {
+        let declarators = self.declarators.copy(alloc)?;
         Ok(Declaration {
             of: self.of,
             declarators,
@@ -72,11 +34,8 @@ impl<A: Allocator + Copy> Declaration<A> {
     }
 }
 
-impl<A: Allocator + Copy> Start<A> {
-    /// The same, in memory of its own; an `Err` only where `alloc` refuses it.
-    pub fn copy(&self, alloc: A) -> Result<Start<A>, AllocError>
-        ensures { IfOk result (λ s. s ≡ self.now) }
-    {
+impl<A: Allocator + Copy> Copied<A> for Start<A> {
+    fn copy(&self, alloc: A) -> Result<Start<A>, AllocError> {
         match self {
             Start::Nothing => Ok(Start::Nothing),
             Start::Declare(d) => Ok(Start::Declare(d.copy(alloc)?)),
@@ -85,15 +44,16 @@ impl<A: Allocator + Copy> Start<A> {
     }
 }
 
-fn copy_step<A: Allocator + Copy>(
-    alloc: A,
-    s: &Option<Simple<A>>,
-) -> Result<Option<Simple<A>>, AllocError>
-    ensures { IfOk result (λ o. o ≡ s.now) }
-{
-    match s {
-        Some(s) => Ok(Some(s.copy(alloc)?)),
-        None => Ok(None),
+impl<A: Allocator + Copy> Copied<A> for ForHead<A> {
+    fn copy(&self, alloc: A) -> Result<ForHead<A>, AllocError> {
+        let start = self.start.copy(alloc)?;
+        let condition = self.condition.copy(alloc)?;
+        let step = self.step.copy(alloc)?;
+        Ok(ForHead {
+            start,
+            condition,
+            step,
+        })
     }
 }
 
@@ -109,8 +69,8 @@ impl<A: Allocator + Copy> Stmt<A> {
             Stmt::Do(s) => Ok(Stmt::Do(s.copy(alloc)?)),
             Stmt::Block(body) => Ok(Stmt::Block(copy_stmts(alloc, body.as_slice())?)),
             Stmt::Print(at, text, text_at, args) => {
-                let text = Text::from_str(alloc, text.as_str())?;
-                let args = copy_exprs(alloc, args.as_slice())?;
+                let text = text.copy(alloc)?;
+                let args = args.copy(alloc)?;
                 Ok(Stmt::Print(*at, text, *text_at, args))
             }
             Stmt::If(c, a, b) => {
@@ -126,15 +86,13 @@ impl<A: Allocator + Copy> Stmt<A> {
                 let body = copy_boxed(alloc, body)?;
                 Ok(Stmt::DoWhile(body, c.copy(alloc)?))
             }
-            Stmt::For(start, c, step, body) => {
-                let start = start.copy(alloc)?;
-                let c = copy_option(alloc, c)?;
-                let step = copy_step(alloc, step)?;
-                Ok(Stmt::For(start, c, step, copy_boxed(alloc, body)?))
+            Stmt::For(head, body) => {
+                let head = head.copy(alloc)?;
+                Ok(Stmt::For(head, copy_boxed(alloc, body)?))
             }
             Stmt::Break(at) => Ok(Stmt::Break(*at)),
             Stmt::Continue(at) => Ok(Stmt::Continue(*at)),
-            Stmt::Return(e, at) => Ok(Stmt::Return(copy_option(alloc, e)?, *at)),
+            Stmt::Return(e, at) => Ok(Stmt::Return(e.copy(alloc)?, *at)),
             Stmt::Transaction(mode, body, at) => {
                 let body = copy_stmts(alloc, body.as_slice())?;
                 Ok(Stmt::Transaction(*mode, body, *at))
@@ -144,6 +102,7 @@ impl<A: Allocator + Copy> Stmt<A> {
     }
 }
 
+/// The same statement, in a box of its own.
 #[cycle(copy_stmt)]
 fn copy_boxed<A: Allocator + Copy>(
     alloc: A,
@@ -154,6 +113,7 @@ fn copy_boxed<A: Allocator + Copy>(
     Boxed::new(alloc, s.get().copy(alloc)?)
 }
 
+/// The same branch, where there is one.
 #[cycle(copy_stmt)]
 fn copy_else<A: Allocator + Copy>(
     alloc: A,
@@ -167,8 +127,9 @@ fn copy_else<A: Allocator + Copy>(
     }
 }
 
+/// The same statements in the same order.
 #[cycle(copy_stmt)]
-pub(crate) fn copy_stmts<A: Allocator + Copy>(
+fn copy_stmts<A: Allocator + Copy>(
     alloc: A,
     all: &[Stmt<A>],
 ) -> Result<Items<Stmt<A>, A>, AllocError>
@@ -179,4 +140,10 @@ pub(crate) fn copy_stmts<A: Allocator + Copy>(
         copies.push(one.copy(alloc)?)?;
     }
     Ok(copies)
+}
+
+impl<A: Allocator + Copy> Copied<A> for Stmt<A> {
+    fn copy(&self, alloc: A) -> Result<Stmt<A>, AllocError> {
+        Stmt::copy(self, alloc)
+    }
 }

@@ -24,9 +24,9 @@ impl<A: Allocator> Simple<A> {
         ensures { result ≡ min (simple_depth (simple_of self.now)) usize.MAX }
     {
         match self {
-            Simple::Value(e) => e.depth().saturating_add(1),
+            Simple::Evaluate(e) => e.depth().saturating_add(1),
             Simple::Assign(to, _, e) => to.depth().max(e.depth()).saturating_add(1),
-            Simple::Step(to, _) => to.depth().saturating_add(1),
+            Simple::Adjust(to, _) => to.depth().saturating_add(1),
         }
     }
 }
@@ -95,10 +95,11 @@ impl<A: Allocator> Stmt<A> {
             }
             Stmt::While(c, body) => c.depth().max(body.get().depth()).saturating_add(1),
             Stmt::DoWhile(body, c) => body.get().depth().max(c.depth()).saturating_add(1),
-            Stmt::For(start, c, step, body) => {
-                let head = start.depth().max(option_depth(c));
-                let rest = step_depth(step).max(body.get().depth());
-                head.max(rest).saturating_add(1)
+            Stmt::For(head, body) => {
+                let head = head.get();
+                let before = head.start.depth().max(option_depth(&head.condition));
+                let turn = step_depth(&head.step).max(body.get().depth());
+                before.max(turn).saturating_add(1)
             }
             Stmt::Break(_) => 1,
             Stmt::Continue(_) => 1,

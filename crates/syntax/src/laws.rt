@@ -1,6 +1,6 @@
 //! Laws of the meaning of programs. A law has no code: its contract is what it says.
 
-ghost use Rattle.syntax.specs.Laws.{BeginsWithMemory, GivesItsType, GivesWords, GoesOn, KeepsLocals, KeepsOlderLocals, LeavesMemories, LeftAsManyAsFound, MoreMemories, MoreTicks, NeverMoreLeft, OneTickMore};
+ghost use Rattle.syntax.specs.Laws.{BeginsWithMemory, GivesItsType, GivesWords, GoesOn, KeepsLocals, KeepsOlderLocals, LeavesMemories, LeftAsManyAsFound, LoopIsItsTurns, MoreMemories, MoreTicks, NeverMoreLeft, OneTickMore, StaysInContext, TicksNeverGrow, WordsStay};
 
 /// A thread that is not spent does the same with more ticks.
 pub fn more_ticks()
@@ -62,4 +62,17 @@ pub fn gives_words()
 /// The memory that a program begins with has a word below 2^32 for each of its cells.
 pub fn begins_with_memory()
     ensures { BeginsWithMemory }
+{}
+
+/// A loop is its turn, for one tick, and then the loop again where the turn did not end it.
+pub fn a_loop_is_its_turns()
+    ensures { LoopIsItsTurns }
+{}
+
+/// What expressions and statements keep: they gain no ticks, they end inside the transaction in which they begin or, outside,
+/// leave a memory for each that they find, and words stay below 2^32 and memories as long as they are.
+pub fn statements_keep()
+    ensures ticks { TicksNeverGrow }
+    ensures context { StaysInContext }
+    ensures words { WordsStay }
 {}

@@ -1,76 +1,167 @@
-//! Whether names and expressions are the same.
+//! Whether trees are the same, with all their places.
 
-ghost use Rattle.std.specs.Prelude.{◌≡◌, ◌↔◌, IsTrue};
-
-use crate::tree::{Expr, Name};
-use containers::Items;
+use crate::tree::{
+    Attribute, Declaration, Declarator, Expr, First, ForHead, Function, Global, Item, Name,
+    Parameter, Simple, Start, Stmt, Unit,
+};
+use containers::Same;
 use std::alloc::Allocator;
 
-impl<A: Allocator> Name<A> {
-    /// Whether two names are spelled alike and stand at the same place.
-    pub fn same(&self, other: &Name<A>) -> bool
-        ensures { IsTrue result ↔ (self.now ≡ other.now) }
-    {
-        self.text.as_str() == other.text.as_str() && self.span == other.span
+impl<A: Allocator> Same for Name<A> {
+    fn same(&self, other: &Name<A>) -> bool {
+        self.text.same(&other.text) && self.span == other.span
     }
 }
 
-impl<A: Allocator> Expr<A> {
-    /// Whether two expressions are the same, with all their places.
-    #[cycle(same)]
-    pub fn same(&self, other: &Expr<A>) -> bool
-        ensures { IsTrue result ↔ (self.now ≡ other.now) }
-    {
+impl<A: Allocator> Same for Expr<A> {
+    fn same(&self, other: &Expr<A>) -> bool {
         match (self, other) {
             (Expr::Variable(x), Expr::Variable(y)) => x.same(y),
             (Expr::Constant(m, s, at), Expr::Constant(n, t, to)) => {
                 *m == *n && *s == *t && *at == *to
             }
             (Expr::Element(x, i, at), Expr::Element(y, j, to)) => {
-                x.same(y) && i.get().same(j.get()) && *at == *to
+                x.same(y) && i.same(j) && *at == *to
             }
-            (Expr::Call(f, xs, at), Expr::Call(g, ys, to)) => {
-                f.same(g) && same_exprs(xs, ys) && *at == *to
-            }
-            (Expr::Parenthesized(a, at), Expr::Parenthesized(b, to)) => {
-                a.get().same(b.get()) && *at == *to
-            }
-            (Expr::Cast(s, a, at), Expr::Cast(t, b, to)) => {
-                *s == *t && a.get().same(b.get()) && *at == *to
-            }
-            (Expr::Unary(f, a, at), Expr::Unary(g, b, to)) => {
-                *f == *g && a.get().same(b.get()) && *at == *to
-            }
+            (Expr::Call(f, xs, at), Expr::Call(g, ys, to)) => f.same(g)
+                && xs.same(ys)
+                && *at == *to,
+            (Expr::Parenthesized(a, at), Expr::Parenthesized(b, to)) => a.same(b) && *at == *to,
+            (Expr::Cast(s, a, at), Expr::Cast(t, b, to)) => *s == *t && a.same(b) && *at == *to,
+            (Expr::Unary(f, a, at), Expr::Unary(g, b, to)) => *f == *g && a.same(b) && *at == *to,
             (Expr::Binary(f, a, b, at), Expr::Binary(g, c, d, to)) => {
-                *f == *g && a.get().same(c.get()) && b.get().same(d.get()) && *at == *to
+                *f == *g && a.same(c) && b.same(d) && *at == *to
             }
             (Expr::Logical(f, a, b, at), Expr::Logical(g, c, d, to)) => {
-                *f == *g && a.get().same(c.get()) && b.get().same(d.get()) && *at == *to
+                *f == *g && a.same(c) && b.same(d) && *at == *to
             }
             (Expr::Conditional(a, b, c, at), Expr::Conditional(d, e, f, to)) => {
-                a.get().same(d.get())
-                    && b.get().same(e.get())
-                    && c.get().same(f.get())
-                    && *at == *to
+                a.same(d) && b.same(e) && c.same(f) && *at == *to
             }
             _ => false,
         }
     }
 }
 
-#[cycle(same)]
-pub(crate) fn same_exprs<A: Allocator>(xs: &Items<Expr<A>, A>, ys: &Items<Expr<A>, A>) -> bool
-    ensures { IsTrue result ↔ (xs.now ≡ ys.now) }
-{
-    let xs = xs.as_slice();
-    let ys = ys.as_slice();
-    if xs.len() != ys.len() {
-        return false;
-    }
-    'each: for i in 0..xs.len() {
-        if !xs[i].same(&ys[i]) {
-            return false;
+impl<A: Allocator> Same for Simple<A> {
+    fn same(&self, other: &Simple<A>) -> bool {
+        match (self, other) {
+            (Simple::Evaluate(a), Simple::Evaluate(b)) => a.same(b),
+            (Simple::Assign(a, f, b), Simple::Assign(c, g, d)) => {
+                a.same(c) && *f == *g && b.same(d)
+            }
+            (Simple::Adjust(a, f), Simple::Adjust(b, g)) => a.same(b) && *f == *g,
+            _ => false,
         }
     }
-    true
+}
+
+impl<A: Allocator> Same for Declarator<A> {
+    fn same(&self, other: &Declarator<A>) -> bool {
+        self.name.same(&other.name) && self.first.same(&other.first)
+    }
+}
+
+impl<A: Allocator> Same for Declaration<A> {
+    fn same(&self, other: &Declaration<A>) -> bool {
+        self.of == other.of && self.declarators.same(&other.declarators)
+    }
+}
+
+impl<A: Allocator> Same for Start<A> {
+    fn same(&self, other: &Start<A>) -> bool {
+        match (self, other) {
+            (Start::Nothing, Start::Nothing) => true,
+            (Start::Declare(a), Start::Declare(b)) => a.same(b),
+            (Start::Do(a), Start::Do(b)) => a.same(b),
+            _ => false,
+        }
+    }
+}
+
+impl<A: Allocator> Same for ForHead<A> {
+    fn same(&self, other: &ForHead<A>) -> bool {
+        self.start.same(&other.start)
+            && self.condition.same(&other.condition)
+            && self.step.same(&other.step)
+    }
+}
+
+impl<A: Allocator> Same for Stmt<A> {
+    fn same(&self, other: &Stmt<A>) -> bool {
+        match (self, other) {
+            (Stmt::Empty, Stmt::Empty) => true,
+            (Stmt::Declare(a), Stmt::Declare(b)) => a.same(b),
+            (Stmt::Do(a), Stmt::Do(b)) => a.same(b),
+            (Stmt::Block(a), Stmt::Block(b)) => a.same(b),
+            (Stmt::Print(at, a, a_at, xs), Stmt::Print(to, b, b_at, ys)) => {
+                *at == *to && a.same(b) && *a_at == *b_at && xs.same(ys)
+            }
+            (Stmt::If(c, a, x), Stmt::If(d, b, y)) => c.same(d) && a.same(b) && x.same(y),
+            (Stmt::While(c, a), Stmt::While(d, b)) => c.same(d) && a.same(b),
+            (Stmt::DoWhile(a, c), Stmt::DoWhile(b, d)) => a.same(b) && c.same(d),
+            (Stmt::For(x, a), Stmt::For(y, b)) => x.same(y) && a.same(b),
+            (Stmt::Break(at), Stmt::Break(to)) => *at == *to,
+            (Stmt::Continue(at), Stmt::Continue(to)) => *at == *to,
+            (Stmt::Return(a, at), Stmt::Return(b, to)) => a.same(b) && *at == *to,
+            (Stmt::Transaction(f, a, at), Stmt::Transaction(g, b, to)) => {
+                *f == *g && a.same(b) && *at == *to
+            }
+            (Stmt::Cancel(at), Stmt::Cancel(to)) => *at == *to,
+            _ => false,
+        }
+    }
+}
+
+impl<A: Allocator> Same for Parameter<A> {
+    fn same(&self, other: &Parameter<A>) -> bool {
+        self.of == other.of && self.name.same(&other.name)
+    }
+}
+
+impl Same for Attribute {
+    fn same(&self, other: &Attribute) -> bool {
+        *self == *other
+    }
+}
+
+impl Same for First {
+    fn same(&self, other: &First) -> bool {
+        *self == *other
+    }
+}
+
+impl<A: Allocator> Same for Function<A> {
+    fn same(&self, other: &Function<A>) -> bool {
+        self.attributes.same(&other.attributes)
+            && self.result == other.result
+            && self.name.same(&other.name)
+            && self.parameters.same(&other.parameters)
+            && self.body.same(&other.body)
+    }
+}
+
+impl<A: Allocator> Same for Global<A> {
+    fn same(&self, other: &Global<A>) -> bool {
+        self.of == other.of
+            && self.name.same(&other.name)
+            && self.length == other.length
+            && self.first.same(&other.first)
+    }
+}
+
+impl<A: Allocator> Same for Item<A> {
+    fn same(&self, other: &Item<A>) -> bool {
+        match (self, other) {
+            (Item::Function(a), Item::Function(b)) => a.same(b),
+            (Item::Globals(a), Item::Globals(b)) => a.same(b),
+            _ => false,
+        }
+    }
+}
+
+impl<A: Allocator> Same for Unit<A> {
+    fn same(&self, other: &Unit<A>) -> bool {
+        self.items.same(&other.items) && self.end == other.end
+    }
 }

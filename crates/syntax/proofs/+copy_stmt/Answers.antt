@@ -4,7 +4,7 @@ use denote.Param.Weighed.{most, at_most}
 use Rattle.syntax.specs.declared.tree.Stmt.{the_lemmas}
 use Rattle.syntax.specs.declared.tree.Stmt as S
 use Rattle.syntax.proofs.tree.Stmt.TheLaws.{the_size}
-use Rattle.syntax.proofs.Pushes.{pushed, ap_3, ap_4}
+use Rattle.syntax.proofs.Pushes.{pushed, ap_2, ap_3}
 use Rattle.syntax.proofs.+copy_stmt.Goals as goal
 
 pub copy_stmt::copy_stmts-each-preserved : goal.copy_stmt::copy_stmts-each-preserved
@@ -48,7 +48,7 @@ tree::Stmt::copy-returns-in_ok-copy_else-in-If g t c =
 
 pub tree::Stmt::copy-returns-in_ok-copy_boxed-in-For : goal.tree::Stmt::copy-returns-in_ok-copy_boxed-in-For
 tree::Stmt::copy-returns-in_ok-copy_boxed-in-For g t c =
-    ap_4 S.For c.in_ok-start-in-For.ensures c.in_ok-c-in-For.ensures c.in_ok-step-in-For.ensures c.in_ok-copy_boxed-in-For.ensures ∙ sym c.in-For.is
+    ap_2 S.For c.in_ok-head-in-For.ensures c.in_ok-copy_boxed-in-For.ensures ∙ sym c.in-For.is
 
 pub tree::Stmt::copy-returns-in_ok-body-in-Transaction : goal.tree::Stmt::copy-returns-in_ok-body-in-Transaction
 tree::Stmt::copy-returns-in_ok-body-in-Transaction g t c =

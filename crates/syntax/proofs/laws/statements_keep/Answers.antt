@@ -1,0 +1,13 @@
+use Rattle.syntax.proofs.Ticks.{ticks_never_grow}
+use Rattle.syntax.proofs.Contexts.{stays_in_context}
+use Rattle.syntax.proofs.WordsStay.{words_stay}
+use Rattle.syntax.proofs.laws.statements_keep.Goals as goal
+
+pub returns-clause-ticks : goal.returns-clause-ticks
+returns-clause-ticks c = ticks_never_grow
+
+pub returns-clause-context : goal.returns-clause-context
+returns-clause-context c = stays_in_context
+
+pub returns-clause-words : goal.returns-clause-words
+returns-clause-words c = words_stay

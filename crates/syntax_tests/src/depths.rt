@@ -1,0 +1,56 @@
+//! Depths by the rule: a name, a constant, `;`, `break`, `continue`, `cancel` and `return` without a value have depth 1; any
+//! other expression or statement, also one in parentheses, a declaration and a block, has one more than its deepest part. A
+//! transaction's block is a part of it. A program is as deep as the deepest block of a function.
+
+use crate::texts::{EACH_NODE, tree};
+use std::test::Fail;
+
+#[test]
+fn depths_of_programs(rt: HostRuntime) -> Result<(), Fail> {
+    let rows = [
+        ("int g;", 0),
+        ("void f();", 0),
+        ("void f() {}", 1),
+        ("void f() { ; }", 2),
+        ("void f() { break; }", 2),
+        ("void f() { continue; }", 2),
+        ("void f() { __transaction_cancel; }", 2),
+        ("void f() { return; }", 2),
+        ("void f() { return x; }", 3),
+        ("void f() { x; }", 3),
+        ("void f() { 7; }", 3),
+        ("void f() { (x); }", 4),
+        ("void f() { g(); }", 3),
+        ("void f() { g(x, -x); }", 5),
+        ("void f() { a[x]; }", 4),
+        ("void f() { (7) + x; }", 5),
+        ("void f() { !(x) && (int) g(x) ? a[x] : 7 + x; }", 7),
+        ("void f() { x++; }", 3),
+        ("void f() { x = (1); }", 4),
+        ("void f() { int v; }", 2),
+        ("void f() { int v, w = x; }", 3),
+        ("void f() { {} }", 2),
+        ("void f() { { {} } }", 3),
+        ("void f() { __transaction_relaxed {} }", 3),
+        ("void f() { printf(\"a\"); }", 2),
+        ("void f() { printf(\"a\", x); }", 3),
+        ("void f() { for (;;) ; }", 3),
+        (
+            "void f() { for (int v = x; x; x--) { break; continue; } }",
+            4,
+        ),
+        ("void f() { if (x) ; }", 3),
+        (
+            "void f() { if (x) ; else while (x) do x += x; while (x); }",
+            6,
+        ),
+    ];
+    for (text, depth) in rows.iter() {
+        assert_eq!(rt;
+            tree(rt.alloc(), *text).map(|unit| unit.depth()),
+            Some(*depth)
+        );
+    }
+    assert!(rt; tree(rt.alloc(), EACH_NODE).is_some());
+    Ok(())
+}
