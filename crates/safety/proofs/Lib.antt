@@ -1,2 +1,4 @@
-mod Greatest
+mod NoFault
 mod Rows
+pub mod CancelsStay
+pub mod Greatest

@@ -1,3 +1,4 @@
-pub mod Marks
+pub mod Sites
 pub mod Safe
+pub mod Faults
 pub mod Laws

@@ -1,2 +1,5 @@
+mod Goes
 mod Least
+mod NeverAstray
+mod Permitted
 mod Rows

@@ -1,12 +1,19 @@
--- Laws of touching functions.
-use Rattle.std.specs.Prelude.{ℕ, codes}
+-- Laws of touching functions, and of accepted programs.
+use Rattle.std.specs.Prelude.{◌≢◌, ℕ, List, codes}
 use Rattle.syntax.specs.Tree.{Span, Program}
-use Rattle.separation.specs.Touching.{IsTouchingSet, IsTouching, BreaksSeparation}
+use Rattle.syntax.specs.declared.numbers.Halt.TheVariants.{Astray}
+use Rattle.syntax.specs.Behaviours.{Memory, Stopped}
+use Rattle.syntax.specs.Threads.{thread}
+use Rattle.separation.specs.Touching.{IsTouchingSet, IsTouching, IsAccepted, IsSeparationFault}
 
 -- the touching functions are themselves such a set, and so the least one
 abbrev pub TouchingIsTouchingSet : Type 0
 TouchingIsTouchingSet = (p : Program) → IsTouchingSet p (IsTouching p)
 
--- where a fault of separation stands, worker touches
-abbrev pub BreakingTouches : Type 0
-BreakingTouches = (p : Program) (n : ℕ) (at : Span) → BreaksSeparation n at p → IsTouching p (codes "worker")
+-- where there is a fault of separation, worker touches
+abbrev pub FaultTouches : Type 0
+FaultTouches = (p : Program) (n : ℕ) (at : Span) → IsSeparationFault n at p → IsTouching p (codes "worker")
+
+-- no thread of an accepted program goes astray, whatever its number, the memories that it finds and its ticks
+abbrev pub NeverAstray : Type 0
+NeverAstray = (p : Program) → IsAccepted p → (t : ℕ) (founds : List Memory) (n : ℕ) → (thread p t founds n).end ≢ Stopped Astray

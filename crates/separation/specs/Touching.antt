@@ -1,27 +1,32 @@
 -- Touching functions, and programs that keep shared data to transactions.
-use Rattle.std.specs.Prelude.{◌≡◌, ℕ, List, false, IsTrue, Contains, codes}
+use Rattle.std.specs.Prelude.{◌≡◌, ℕ, List, [], false, not, ◌||◌, IsTrue, Contains, Decides, Some, codes}
+use Rattle.std.specs.List.{flat_map}
 use Rattle.syntax.specs.Tree.{Span, Program}
-use Rattle.syntax.specs.Typing.{IsTypedProgram}
-use Rattle.safety.specs.Marks.{Mark, Calls, Uses, Marked, marks_of}
+use Rattle.syntax.specs.Typing.{IsTypedProgram, Demand, demand, first_unmet}
+use Rattle.safety.specs.Sites.{Construct, Calls, Uses, Site, sites_of}
 use Rattle.safety.specs.Safe.{FunctionSet, IsSafeProgram}
 
 -- an access to shared data, or a call of a function of the set
-abbrev pub IsAccess : (List ℕ → Type 0) → Mark → Type 0
+abbrev pub IsAccess : (List ℕ → Type 0) → Construct → Type 0
 IsAccess set (Calls f) = set f
 IsAccess set (Uses x) = Unit {0}
-IsAccess set m = ⊥
+IsAccess set c = ⊥
 
 -- a bare one: no transaction of its function is round it
-abbrev pub Touches : (List ℕ → Type 0) → Marked → Type 0
-Touches set m = (m.in_any ≡ false) × IsAccess set m.mark
+abbrev pub Touches : (List ℕ → Type 0) → Site → Type 0
+Touches set s = (s.in_any ≡ false) × IsAccess set s.construct
 
 -- each function with a bare access or a bare call into the set is in the set
 abbrev pub IsTouchingSet : Program → (List ℕ → Type 0) → Type 0
-IsTouchingSet p set = (f : List ℕ) (m : Marked) → Contains (marks_of p f) m → Touches set m → set f
+IsTouchingSet p set = (f : List ℕ) (s : Site) → Contains (sites_of p f) s → Touches set s → set f
 
 -- touching functions are those of the least such set: those that each such set has
 abbrev pub IsTouching : Program → List ℕ → Type 0
 IsTouching p f = (set : FunctionSet) → IsTouchingSet p (λ g. IsTrue (set g)) → IsTrue (set f)
+
+-- the test that tells which functions touch
+abbrev pub TellsTouching : Program → FunctionSet → Type 0
+TellsTouching p touching = (f : List ℕ) → Decides (touching f) (IsTouching p f)
 
 -- a program that is typed and safe, and whose worker doesn't touch
 pub record IsAccepted (p : Program) : Type 0 where
@@ -29,12 +34,17 @@ pub record IsAccepted (p : Program) : Type 0 where
   pub safe : IsSafeProgram p
   pub separate : IsTouching p (codes "worker") → ⊥
 
--- 50: an access; 51: a call of a touching function
-abbrev pub BreaksBare : Program → ℕ → Mark → Type 0
-BreaksBare p n (Uses x) = n ≡ 50
-BreaksBare p n (Calls f) = (n ≡ 51) × IsTouching p f
-BreaksBare p n m = ⊥
+-- 50: no access is bare; 51: no call of a touching function is
+abbrev pub demands_at : FunctionSet → Site → Construct → List Demand
+demands_at touching s (Uses x) = demand 50 s.at s.in_any
+demands_at touching s (Calls f) = demand 51 s.at (s.in_any || not (touching f))
+demands_at touching s c = []
 
--- a fault of this number at this place breaks its rule: it is bare in the body of worker
-abbrev pub BreaksSeparation : ℕ → Span → Program → Type 0
-BreaksSeparation n at p = (m : Marked) × Contains (marks_of p (codes "worker")) m × (m.at ≡ at) × (m.in_any ≡ false) × BreaksBare p n m.mark
+-- the demands of these sites in the body of worker, where these functions touch
+abbrev pub separation_demands : FunctionSet → List Site → List Demand
+separation_demands touching sites = flat_map (λ s. demands_at touching s s.construct) sites
+
+-- the first that is not met has this number and place
+abbrev pub IsSeparationFault : ℕ → Span → Program → Type 0
+IsSeparationFault n at p =
+    (touching : FunctionSet) × TellsTouching p touching × (first_unmet (separation_demands touching (sites_of p (codes "worker"))) ≡ Some (n, at))

@@ -1,4 +1,4 @@
-use Rattle.separation.proofs.Least.{breaking_touches as the_law}
+use Rattle.separation.proofs.Least.{fault_touches as the_law}
 use Rattle.separation.proofs.laws.a_fault_touches.Goals as goal
 
 pub returns : goal.returns

@@ -1,0 +1,286 @@
+-- Runs that do not go astray: from a place of this kind and locals of these names and types to such a place and such locals.
+use Rattle.std.proofs.Common.{◌≡◌, refl, sym, ap, subst, ◌∙◌, ℕ, zero, suc, List, [], ◌∷◌, ◌++◌, append-nil, append_assoc, length, map, take, arith, Option, Some, None, Bool, true, false, IsTrue, Result, Ok, Err}
+use Rattle.std.specs.Prelude.{if◌then◌else◌, is_some}
+use Rattle.std.specs.Fmt.{signed_decimal}
+use Rattle.lex.specs.declared.token.Scalar.{Scalar}
+use Rattle.syntax.specs.declared.tree.Mode.{Mode}
+use Rattle.syntax.specs.declared.tree.Mode.TheVariants.{Atomic, Relaxed}
+use Rattle.syntax.specs.declared.numbers.Trap.{Trap}
+use Rattle.syntax.specs.declared.numbers.Halt.{Halt}
+use Rattle.syntax.specs.declared.numbers.Halt.TheVariants.{Trapped, Wants, Spent, Astray}
+use Rattle.syntax.specs.declared.numbers.Value.{Value}
+use Rattle.syntax.specs.Numbers.{number, converted}
+use Rattle.syntax.specs.Names.{Local, word_at, with_word}
+use Rattle.syntax.specs.Formats.{Piece, Literal, Figure, figures}
+use Rattle.syntax.specs.Behaviours.{Memory}
+use Rattle.syntax.specs.Actions.{Context, Outside, Inside, State, Answer, Gives, Stops, Action, pure, go_on, ◌>>=◌, ◌>>◌, spend, tick, trap, or_trap, or_astray, locals, put_locals, load_at, load, store_at, store, may_print_at, may_print, print_piece}
+use Rattle.syntax.specs.Meaning.{Spot, InLocal, InCell, fetch, assign, print_pieces, End, Next, Breaks, Continues, Returns, Cancels, on_next, scoped, after_turn, turns, loop, after_body, Left, left_by, close_inner, close, enter, transaction}
+use Rattle.syntax.specs.Laws.{shape}
+use Rattle.syntax.proofs.OlderLocals.{same_shapes}
+use Rattle.syntax.proofs.ExactLocals.{same_taken}
+
+-- names and types of locals
+abbrev pub Shapes : Type 0
+Shapes = List (List ℕ × Scalar)
+
+-- none outside transactions, else how the innermost one runs
+abbrev pub mode_at : Context → Option Mode
+mode_at (Outside founds lefts) = None
+mode_at (Inside mode m) = Some mode
+
+abbrev pub IsInside : Option Mode → Type 0
+IsInside None = ⊥
+IsInside (Some mode) = Unit {0}
+
+abbrev pub MayPrint : Option Mode → Type 0
+MayPrint None = Unit {0}
+MayPrint (Some Relaxed) = Unit {0}
+MayPrint (Some Atomic) = ⊥
+
+-- inside an atomic transaction no relaxed one begins
+abbrev pub MayBegin : Option Mode → Mode → Type 0
+MayBegin None mode = Unit {0}
+MayBegin (Some Relaxed) mode = Unit {0}
+MayBegin (Some Atomic) Atomic = Unit {0}
+MayBegin (Some Atomic) Relaxed = ⊥
+
+abbrev pub IsNotAstray : Halt → Type 0
+IsNotAstray Astray = ⊥
+IsNotAstray Wants = Unit {0}
+IsNotAstray Spent = Unit {0}
+IsNotAstray (Trapped k) = Unit {0}
+
+-- what is given and the state then reached, or a stop that is not astray
+abbrev pub Fine : {A : Type 0} → Option Mode → Shapes → (A → Type 0) → Answer A → Type 0
+Fine w ls P (Gives a now) = (mode_at now.context ≡ w) × (map shape now.locals ≡ ls) × P a
+Fine w ls P (Stops why now) = IsNotAstray why
+
+pub record Goes {A : Type 0} (w : Option Mode) (ls ms : Shapes) (P : A → Type 0) (run : Action A) : Type 0 where
+  pub goes : (s : State) → mode_at s.context ≡ w → map shape s.locals ≡ ls → Fine w ms P (run s)
+
+-- the same, where further locals may be left
+abbrev pub FineOpen : {A : Type 0} → Option Mode → Shapes → (A → Type 0) → Answer A → Type 0
+FineOpen w ls P (Gives a now) = (mode_at now.context ≡ w) × ((more : Shapes) × (map shape now.locals ≡ ls ++ more)) × P a
+FineOpen w ls P (Stops why now) = IsNotAstray why
+
+pub record Opens {A : Type 0} (w : Option Mode) (ls : Shapes) (P : A → Type 0) (run : Action A) : Type 0 where
+  pub opens : (s : State) → mode_at s.context ≡ w → map shape s.locals ≡ ls → FineOpen w ls P (run s)
+
+abbrev pub Any : {A : Type 0} → A → Type 0
+Any a = Unit {0}
+
+on_fine : {A B : Type 0} (w : Option Mode) (ms os : Shapes) (P : A → Type 0) (Q : B → Type 0) (r : Answer A) (rest : A → Action B) → Fine w ms P r → ((a : A) → P a → Goes w ms os Q (rest a)) → Fine w os Q (go_on r rest)
+on_fine w ms os P Q (Gives a now) rest f h = (h a f.2).goes now f.0 f.1
+on_fine w ms os P Q (Stops why now) rest f h = f
+
+pub on_goes : {A B : Type 0} {w : Option Mode} {ls ms os : Shapes} {P : A → Type 0} {Q : B → Type 0} {run : Action A} {rest : A → Action B} → Goes w ls ms P run → ((a : A) → P a → Goes w ms os Q (rest a)) → Goes w ls os Q (run >>= rest)
+on_goes {w = w} {ms = ms} {os = os} {P = P} {Q = Q} {run = run} {rest = rest} g h = record { goes = λ s e f. on_fine w ms os P Q (run s) rest (g.goes s e f) h }
+
+pub then_goes : {A B : Type 0} {w : Option Mode} {ls ms os : Shapes} {P : A → Type 0} {Q : B → Type 0} {run : Action A} {rest : Action B} → Goes w ls ms P run → Goes w ms os Q rest → Goes w ls os Q (run >> rest)
+then_goes g h = on_goes g (λ _ _. h)
+
+pub pure_goes : {A : Type 0} {w : Option Mode} {ls : Shapes} {P : A → Type 0} (a : A) → P a → Goes w ls ls P (pure a)
+pure_goes a h = record { goes = λ s e f. (e, f, h) }
+
+pub if_goes : {A : Type 0} {w : Option Mode} {ls ms : Shapes} {P : A → Type 0} (b : Bool) {x y : Action A} → Goes w ls ms P x → Goes w ls ms P y → Goes w ls ms P (if b then x else y)
+if_goes true g h = g
+if_goes false g h = h
+
+spend_fine : (w : Option Mode) (ls : Shapes) (n : ℕ) (s : State) → mode_at s.context ≡ w → map shape s.locals ≡ ls → Fine w ls Any (spend n s)
+spend_fine w ls zero s e f = tt
+spend_fine w ls (suc n) s e f = (e, f, tt)
+
+pub tick_goes : {w : Option Mode} {ls : Shapes} → Goes w ls ls Any tick
+tick_goes {w = w} {ls = ls} = record { goes = λ s e f. spend_fine w ls s.ticks s e f }
+
+pub trap_goes : {A : Type 0} {w : Option Mode} {ls ms : Shapes} {P : A → Type 0} (t : Trap) → Goes w ls ms P (trap t)
+trap_goes t = then_goes tick_goes (record { goes = λ s e f. tt })
+
+pub or_trap_goes : {A : Type 0} {w : Option Mode} {ls : Shapes} (r : Result A Trap) → Goes w ls ls Any (or_trap r)
+or_trap_goes (Ok a) = pure_goes a tt
+or_trap_goes (Err t) = trap_goes t
+
+-- what is there
+pub there_goes : {A : Type 0} {w : Option Mode} {ls : Shapes} (o : Option A) → IsTrue (is_some o) → Goes w ls ls (λ a. o ≡ Some a) (or_astray o)
+there_goes (Some a) h = pure_goes a refl
+there_goes None h = absurd (cc)
+
+pub locals_goes : {w : Option Mode} {ls : Shapes} → Goes w ls ls (λ mine. map shape mine ≡ ls) locals
+locals_goes = record { goes = λ s e f. (e, f, f) }
+
+pub put_goes : {w : Option Mode} {ls ms : Shapes} (mine : List Local) → map shape mine ≡ ms → Goes w ls ms Any (put_locals mine)
+put_goes mine h = record { goes = λ s e f. (e, h, tt) }
+
+outside_absurd : {A : Type 0} (w : Option Mode) → IsInside w → None ≡ w → A
+outside_absurd None h e = absurd h
+outside_absurd (Some mode) h e = absurd (cc)
+
+load_fine : (w : Option Mode) (ls : Shapes) (c : ℕ) (pl : Context) (s : State) → IsInside w → mode_at pl ≡ w → mode_at s.context ≡ w → map shape s.locals ≡ ls → Fine w ls Any (load_at pl c s)
+load_fine w ls c (Outside founds lefts) s h g e f = outside_absurd w h g
+load_fine w ls c (Inside mode m) s h g e f = (e, f, tt)
+
+load_goes : {w : Option Mode} {ls : Shapes} (c : ℕ) → IsInside w → Goes w ls ls Any (load c)
+load_goes {w = w} {ls = ls} c h = record { goes = λ s e f. load_fine w ls c s.context s h e e f }
+
+store_fine : (w : Option Mode) (ls : Shapes) (c v : ℕ) (pl : Context) (s : State) → IsInside w → mode_at pl ≡ w → map shape s.locals ≡ ls → Fine w ls Any (store_at pl c v s)
+store_fine w ls c v (Outside founds lefts) s h g f = outside_absurd w h g
+store_fine w ls c v (Inside mode m) s h g f = (g, f, tt)
+
+store_goes : {w : Option Mode} {ls : Shapes} (c v : ℕ) → IsInside w → Goes w ls ls Any (store c v)
+store_goes {w = w} {ls = ls} c v h = record { goes = λ s e f. store_fine w ls c v s.context s h e f }
+
+atomic_absurd : {A : Type 0} (w : Option Mode) → MayPrint w → Some Atomic ≡ w → A
+atomic_absurd None h e = absurd (cc)
+atomic_absurd (Some Relaxed) h e = absurd (cc)
+atomic_absurd (Some Atomic) h e = absurd h
+
+may_print_fine : (w : Option Mode) (ls : Shapes) (pl : Context) (s : State) → MayPrint w → mode_at pl ≡ w → mode_at s.context ≡ w → map shape s.locals ≡ ls → Fine w ls Any (may_print_at pl s)
+may_print_fine w ls (Outside founds lefts) s h g e f = (e, f, tt)
+may_print_fine w ls (Inside Relaxed m) s h g e f = (e, f, tt)
+may_print_fine w ls (Inside Atomic m) s h g e f = atomic_absurd w h g
+
+pub may_print_goes : {w : Option Mode} {ls : Shapes} → MayPrint w → Goes w ls ls Any may_print
+may_print_goes {w = w} {ls = ls} h = record { goes = λ s e f. may_print_fine w ls s.context s h e e f }
+
+piece_goes : {w : Option Mode} {ls : Shapes} (text : List ℕ) → Goes w ls ls Any (print_piece text)
+piece_goes text = then_goes tick_goes (record { goes = λ s e f. (e, f, tt) })
+
+-- a value's cell is reached only inside transactions
+abbrev pub SpotFits : Option Mode → Spot → Type 0
+SpotFits w (InLocal i t) = Unit {0}
+SpotFits w (InCell c t) = IsInside w
+
+pub fetch_goes : {w : Option Mode} {ls : Shapes} (at : Spot) → SpotFits w at → Goes w ls ls Any (fetch at)
+fetch_goes (InLocal i t) h = on_goes locals_goes (λ mine e. pure_goes (record { of = t; word = word_at mine i }) tt)
+fetch_goes (InCell c t) h = on_goes (load_goes c h) (λ v e. pure_goes (record { of = t; word = v }) tt)
+
+pub assign_goes : {w : Option Mode} {ls : Shapes} (at : Spot) (v : Value) → SpotFits w at → Goes w ls ls Any (assign at v)
+assign_goes (InLocal i t) v h = on_goes locals_goes (λ mine e. put_goes (with_word mine i (converted t v).word) (same_shapes mine i (converted t v).word ∙ e))
+assign_goes (InCell c t) v h = store_goes c (converted t v).word h
+
+pub pieces_go : {w : Option Mode} {ls : Shapes} (ps : List Piece) (vs : List Value) → length (figures ps) ≡ length vs → Goes w ls ls Any (print_pieces ps vs)
+pieces_go [] vs h = pure_goes tt tt
+pieces_go (Literal text ∷ ps) vs h = then_goes (piece_goes text) (pieces_go ps vs h)
+pieces_go (Figure t ∷ ps) [] h = absurd (omega (arith, h))
+pieces_go (Figure t ∷ ps) (v ∷ vs) h = then_goes (piece_goes (signed_decimal (number t v.word))) (pieces_go ps vs (omega (arith, h)))
+
+-- scopes
+open_fine : {A : Type 0} (w : Option Mode) (ls more : Shapes) (P : A → Type 0) (r : Answer A) → Fine w (ls ++ more) P r → FineOpen w ls P r
+open_fine w ls more P (Gives a now) h = (h.0, (more, h.1), h.2)
+open_fine w ls more P (Stops why now) h = h
+
+pub opened : {A : Type 0} {w : Option Mode} {ls : Shapes} {P : A → Type 0} {run : Action A} (more : Shapes) → Goes w ls (ls ++ more) P run → Opens w ls P run
+opened {w = w} {ls = ls} {P = P} {run = run} more g = record { opens = λ s e f. open_fine w ls more P (run s) (g.goes s e f) }
+
+pub no_further : {A : Type 0} {w : Option Mode} {ls : Shapes} {P : A → Type 0} {run : Action A} → Goes w ls ls P run → Goes w ls (ls ++ []) P run
+no_further {w = w} {ls = ls} {P = P} {run = run} g = subst (λ os. Goes w ls os P run) (sym (append-nil ls)) g
+
+scope_fine : (w : Option Mode) (ls : Shapes) (P : End → Type 0) (outer : List Local) (r : Answer End) → map shape outer ≡ ls → FineOpen w ls P r → Fine w ls P (go_on r (λ end t. Gives end (record t { locals = take (length outer) t.locals })))
+scope_fine w ls P outer (Gives end now) e f = (f.0, same_taken outer now.locals f.1.0 (f.1.1 ∙ ap (λ x. x ++ f.1.0) (sym e)) ∙ e, f.2)
+scope_fine w ls P outer (Stops why now) e f = f
+
+pub scoped_goes : {w : Option Mode} {ls : Shapes} {P : End → Type 0} {run : Action End} → Opens w ls P run → Goes w ls ls P (scoped run)
+scoped_goes {w = w} {ls = ls} {P = P} {run = run} g = record { goes = λ s e f. scope_fine w ls P s.locals (run s) f (g.opens s e f) }
+
+on_open : {A B : Type 0} (w : Option Mode) (ls os : Shapes) (P : A → Type 0) (Q : B → Type 0) (r : Answer A) (rest : A → Action B) → FineOpen w ls P r → ((a : A) → P a → (ms : Shapes) → Goes w ms os Q (rest a)) → Fine w os Q (go_on r rest)
+on_open w ls os P Q (Gives a now) rest f h = (h a f.2 (map shape now.locals)).goes now f.0 refl
+on_open w ls os P Q (Stops why now) rest f h = f
+
+pub on_opens : {A B : Type 0} {w : Option Mode} {ls os : Shapes} {P : A → Type 0} {Q : B → Type 0} {run : Action A} {rest : A → Action B} → Opens w ls P run → ((a : A) → P a → (ms : Shapes) → Goes w ms os Q (rest a)) → Goes w ls os Q (run >>= rest)
+on_opens {w = w} {ls = ls} {os = os} {P = P} {Q = Q} {run = run} {rest = rest} g h = record { goes = λ s e f. on_open w ls os P Q (run s) rest (g.opens s e f) h }
+
+-- how a statement ends: a break or a continue only in a loop, a cancel only in a transaction
+abbrev pub EndFits : (looping in_atomic : Bool) → End → Type 0
+EndFits looping in_atomic Next = Unit {0}
+EndFits looping in_atomic Breaks = IsTrue looping
+EndFits looping in_atomic Continues = IsTrue looping
+EndFits looping in_atomic (Returns v) = Unit {0}
+EndFits looping in_atomic Cancels = IsTrue in_atomic
+
+abbrev pub TurnFits : (looping in_atomic : Bool) → Option End → Type 0
+TurnFits looping in_atomic None = Unit {0}
+TurnFits looping in_atomic (Some end) = EndFits looping in_atomic end
+
+-- one statement, and others behind it
+open_further : (w : Option Mode) (l b : Bool) (ls more : Shapes) (r : Answer End) → FineOpen w (ls ++ more) (EndFits l b) r → FineOpen w ls (EndFits l b) r
+open_further w l b ls more (Gives end now) f = (f.0, (more ++ f.1.0, f.1.1 ∙ append_assoc ls more f.1.0), f.2)
+open_further w l b ls more (Stops why now) f = f
+
+next_fine : (w : Option Mode) (l b : Bool) (ls more : Shapes) (rest : Action End) → Opens w (ls ++ more) (EndFits l b) rest → (r : Answer End) → Fine w (ls ++ more) (EndFits l b) r → FineOpen w ls (EndFits l b) (go_on r (on_next rest))
+next_fine w l b ls more rest h (Gives Next now) f = open_further w l b ls more (rest now) (h.opens now f.0 f.1)
+next_fine w l b ls more rest h (Gives Breaks now) f = (f.0, (more, f.1), f.2)
+next_fine w l b ls more rest h (Gives Continues now) f = (f.0, (more, f.1), f.2)
+next_fine w l b ls more rest h (Gives (Returns v) now) f = (f.0, (more, f.1), f.2)
+next_fine w l b ls more rest h (Gives Cancels now) f = (f.0, (more, f.1), f.2)
+next_fine w l b ls more rest h (Stops why now) f = f
+
+pub next_opens : {w : Option Mode} {ls : Shapes} {run rest : Action End} (l b : Bool) (more : Shapes) → Goes w ls (ls ++ more) (EndFits l b) run → Opens w (ls ++ more) (EndFits l b) rest → Opens w ls (EndFits l b) (run >>= on_next rest)
+next_opens {w = w} {ls = ls} {run = run} {rest = rest} l b more g h = record { opens = λ s e f. next_fine w l b ls more rest h (run s) (g.goes s e f) }
+
+-- loops
+pub after_body_goes : {w : Option Mode} {ls : Shapes} (l b : Bool) {go : Action (Option End)} → Goes w ls ls (TurnFits l b) go → (end : End) → EndFits true b end → Goes w ls ls (TurnFits l b) (after_body go end)
+after_body_goes l b h Next f = h
+after_body_goes l b h Breaks f = pure_goes (Some Next) tt
+after_body_goes l b h Continues f = h
+after_body_goes l b h (Returns v) f = pure_goes (Some (Returns v)) tt
+after_body_goes l b h Cancels f = pure_goes (Some Cancels) f
+
+after_turn_goes : {w : Option Mode} {ls : Shapes} (l b : Bool) {rest : Action End} → Goes w ls ls (EndFits l b) rest → (o : Option End) → TurnFits l b o → Goes w ls ls (EndFits l b) (after_turn rest o)
+after_turn_goes l b h None f = h
+after_turn_goes l b h (Some end) f = pure_goes end f
+
+turns_go : {w : Option Mode} {ls : Shapes} (l b : Bool) {turn : Action (Option End)} → Goes w ls ls (TurnFits l b) turn → (n : ℕ) → Goes w ls ls (EndFits l b) (turns n turn)
+turns_go l b h zero = record { goes = λ s e f. tt }
+turns_go l b h (suc n) = then_goes tick_goes (on_goes h (after_turn_goes l b (turns_go l b h n)))
+
+pub loop_goes : {w : Option Mode} {ls : Shapes} (l b : Bool) {turn : Action (Option End)} → Goes w ls ls (TurnFits l b) turn → Goes w ls ls (EndFits l b) (loop turn)
+loop_goes l b h = record { goes = λ s e f. (turns_go l b h s.ticks).goes s e f }
+
+-- transactions: a cancel goes no further
+left_fits : (l b b' : Bool) (mine : List Local) (found : Memory) (end : End) (now : State) → EndFits l b end → EndFits l b' (left_by mine found end now).end
+left_fits l b b' mine found Cancels now h = tt
+left_fits l b b' mine found Next now h = h
+left_fits l b b' mine found Breaks now h = h
+left_fits l b b' mine found Continues now h = h
+left_fits l b b' mine found (Returns v) now h = h
+
+left_shapes : (ls : Shapes) (mine : List Local) (found : Memory) (end : End) (now : State) → map shape mine ≡ ls → map shape now.locals ≡ ls → map shape (left_by mine found end now).locals ≡ ls
+left_shapes ls mine found Cancels now g h = g
+left_shapes ls mine found Next now g h = h
+left_shapes ls mine found Breaks now g h = h
+left_shapes ls mine found Continues now g h = h
+left_shapes ls mine found (Returns v) now g h = h
+
+leave_fine : (w : Option Mode) (ls : Shapes) (P : End → Type 0) (n : ℕ) (founds lefts : List Memory) (left : Left) (now : State) → None ≡ w → map shape left.locals ≡ ls → P left.end → Fine w ls P (go_on (spend n (record now { context = Outside founds lefts })) (λ u then_. Gives left.end (record then_ { locals = left.locals; context = Outside founds (lefts ++ left.memory ∷ []) })))
+leave_fine w ls P zero founds lefts left now e f h = tt
+leave_fine w ls P (suc n) founds lefts left now e f h = (e, f, h)
+
+module _ (l b b' : Bool) (ls : Shapes) (mode : Mode) (mine : List Local) (found : Memory) (same : map shape mine ≡ ls) where
+  close_fine : (w : Option Mode) (founds lefts : List Memory) (r : Answer End) → None ≡ w → Fine (Some mode) ls (EndFits l b) r → Fine w ls (EndFits l b') (close founds lefts mine found r)
+  close_fine w founds lefts (Gives end now) e f = leave_fine w ls (EndFits l b') now.ticks founds lefts (left_by mine found end now) now e (left_shapes ls mine found end now same f.1) (left_fits l b b' mine found end now f.2)
+  close_fine w founds lefts (Stops (Trapped k) now) e f = tt
+  close_fine w founds lefts (Stops Wants now) e f = tt
+  close_fine w founds lefts (Stops Spent now) e f = tt
+  close_fine w founds lefts (Stops Astray now) e f = f
+
+  inner_fine : (w : Option Mode) (outer : Mode) (r : Answer End) → Some outer ≡ w → Fine (Some mode) ls (EndFits l b) r → Fine w ls (EndFits l b') (close_inner outer mine found r)
+  inner_fine w outer (Gives end now) e f = (e, left_shapes ls mine found end now same f.1, left_fits l b b' mine found end now f.2)
+  inner_fine w outer (Stops why now) e f = f
+
+relaxed_absurd : {A : Type 0} (w : Option Mode) → MayBegin w Relaxed → Some Atomic ≡ w → A
+relaxed_absurd None h e = absurd (cc)
+relaxed_absurd (Some Relaxed) h e = absurd (cc)
+relaxed_absurd (Some Atomic) h e = absurd h
+
+enter_fine : (l b b' : Bool) (w : Option Mode) (ls : Shapes) (mode : Mode) (run : Action End) → Goes (Some mode) ls ls (EndFits l b) run → MayBegin w mode → (pl : Context) (s : State) → mode_at pl ≡ w → map shape s.locals ≡ ls → Fine w ls (EndFits l b') (enter pl mode run s)
+enter_fine l b b' w ls mode run h g (Outside [] lefts) s e f = tt
+enter_fine l b b' w ls mode run h g (Outside (m ∷ founds) lefts) s e f =
+    close_fine l b b' ls mode s.locals m f w founds lefts (run (record s { context = Inside mode m })) e (h.goes (record s { context = Inside mode m }) refl f)
+enter_fine l b b' w ls mode run h g (Inside Relaxed m) s e f =
+    inner_fine l b b' ls mode s.locals m f w Relaxed (run (record s { context = Inside mode m })) e (h.goes (record s { context = Inside mode m }) refl f)
+enter_fine l b b' w ls Atomic run h g (Inside Atomic m) s e f =
+    inner_fine l b b' ls Atomic s.locals m f w Atomic (run (record s { context = Inside Atomic m })) e (h.goes (record s { context = Inside Atomic m }) refl f)
+enter_fine l b b' w ls Relaxed run h g (Inside Atomic m) s e f = relaxed_absurd w g e
+
+pub transaction_goes : {w : Option Mode} {ls : Shapes} (l b b' : Bool) (mode : Mode) {run : Action End} → MayBegin w mode → Goes (Some mode) ls ls (EndFits l b) run → Goes w ls ls (EndFits l b') (transaction mode run)
+transaction_goes {w = w} {ls = ls} l b b' mode {run = run} g h = record { goes = λ s e f. enter_fine l b b' w ls mode run h g s.context s e f }
