@@ -1,0 +1,31 @@
+-- The accesses of steps: what answers them, what they cost, and where the lock has no value left.
+use Rattle.std.specs.Prelude.{◌≢◌, ◌==◌, ◌-◌, ◌^◌, ℕ, Bool, false}
+use Rattle.norec_core.specs.declared.step.Access.{Access}
+use Rattle.norec_core.specs.declared.step.Access.TheVariants.{Local, LoadLock, LoadWord, Swap, StoreWord, StoreLock}
+use Rattle.norec_core.specs.declared.step.Answer.{Answer}
+use Rattle.norec_core.specs.declared.step.Answer.TheVariants.{Done, Value, Won, Lost}
+
+-- the answer is one to this access. A lost swap finds another value than the one that it swaps from
+abbrev pub IsAnswerTo : Access → Answer → Type 0
+IsAnswerTo Local Done = Unit {0}
+IsAnswerTo LoadLock (Value n) = Unit {0}
+IsAnswerTo (LoadWord a) (Value n) = Unit {0}
+IsAnswerTo (Swap from) Won = Unit {0}
+IsAnswerTo (Swap from) (Lost n) = n ≢ from
+IsAnswerTo (StoreWord a v) Done = Unit {0}
+IsAnswerTo (StoreLock n) Done = Unit {0}
+IsAnswerTo _ _ = ⊥
+
+-- how many accesses to the lock or the words a step makes: none, or one
+abbrev pub cost : Access → ℕ
+cost Local = 0
+cost _ = 1
+
+-- the last even value of a lock of 64 bits
+abbrev pub last_snapshot : ℕ
+last_snapshot = 2 ^ 64 - 2
+
+-- a swap from it would leave the lock no value for its release, so the step stops: the sequence is used up
+abbrev pub stops : Access → Bool
+stops (Swap from) = from == last_snapshot
+stops _ = false
