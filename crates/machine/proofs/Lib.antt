@@ -1,27 +1,18 @@
-pub mod Forms
-pub mod Frame
-pub mod Meaning
-pub mod Parts
-pub mod Memories
-pub mod Local
-pub mod Loads
-pub mod Swap
-pub mod Stores
-pub mod Step
-pub mod Worlds
-pub mod Merge
-pub mod Follow
-pub mod Explained
-pub mod Insert
-pub mod Main
-pub mod Aborts
-pub mod Within
-pub mod Order
-pub mod InTime
-pub mod Extended
-pub mod Alone
-pub mod OneThread
-pub mod Rows
-pub mod Steps
-pub mod Programs
-pub mod Holders
+-- what holds of one part, and how it is carried over the steps of others
+pub mod parts
+-- each step of a thread keeps the invariant
+pub mod steps
+-- merges of the records, and what is put into them
+pub mod merges
+-- every merge is a run, in the order of time, which later ones extend; the same for programs
+pub mod runs
+-- single steps: what aborts, what never does, what events say
+pub mod single
+-- steps that do not stop, and a thread alone
+pub mod alone
+-- what threads were answered, the addresses that they use, where attempts begin
+pub mod answers
+-- the frames of a thread that keeps the one on top of each begin
+pub mod frames
+-- worked schedules, and that their codes meet the premises
+pub mod samples

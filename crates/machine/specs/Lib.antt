@@ -1,9 +1,28 @@
+-- a thread, its accesses and its steps
 pub mod Threads
+-- worlds, their steps, and which of them are reached
 pub mod Worlds
+-- merges of the records
 pub mod Merges
+-- what a merge says of a world
 pub mod Explained
+-- what holds of every list of steps
 pub mod Serializable
-pub mod Invariant
+-- a thread that steps alone
 pub mod Alone
-pub mod Samples
-pub mod Replays
+-- how many accesses an undisturbed transaction makes
+pub mod Counts
+-- what an event says of its step
+pub mod Events
+-- the addresses that threads use
+pub mod Addresses
+-- what threads were answered
+pub mod Answered
+-- answers by traces
+pub mod Traces
+-- where attempts begin
+pub mod Moments
+-- frames of a thread, and what it keeps of its begins
+pub mod Frames
+-- what the proofs need, and no contract
+pub mod inner

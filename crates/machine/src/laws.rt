@@ -1,81 +1,83 @@
-// What holds of every list of steps. A law has no code: its contract is what it says. C is what a code's next instruction
-// depends on: the place, frames and registers of one thread.
+//! What holds of every list of steps. A law has no code: its contract is what it says. C is what a code's next instruction
+//! depends on: the place, frames and registers of one thread. bounds are the bounds of the cells' words.
 
-ghost use Rattle.std.specs.Prelude.{◌≡◌, ◌≤◌, ◌^◌, ℕ, List, Some, None, length};
-ghost use Rattle.std.specs.List.{AllByRecursion};
+ghost use Rattle.std.specs.Prelude.{◌≡◌, ◌≤◌, ◌^◌, ℕ, List, [], Some, None, length, replicate};
+ghost use Rattle.std.specs.List.{AllByRecursion, slice_get};
 ghost use Rattle.syntax.specs.Behaviours.{Memory, IsMemory, Behaviour, Step, Means, founds_of};
 ghost use Rattle.bytecode.specs.Effects.{Effect, FitsCells};
 ghost use Rattle.bytecode.specs.Sequential.{meaning};
 ghost use Rattle.norec_core.specs.Attempts.{Attempt};
 ghost use Rattle.machine.specs.Threads.{Thread, access, told};
-ghost use Rattle.machine.specs.Worlds.{World, Reached, answer};
-ghost use Rattle.machine.specs.Serializable.{world_after, IsSerializable, IsOpaque, IsInTime, IsExtended, HasChanged, HoldersGoOn};
+ghost use Rattle.machine.specs.Worlds.{Part, World, Reached, answer, new_world};
+ghost use Rattle.machine.specs.Merges.{Entry};
+ghost use Rattle.machine.specs.Serializable.{world_after, IsOpaque, HasChanged, HoldersGoOn};
 ghost use Rattle.machine.specs.Alone.{ReachesEnd};
+ghost use Rattle.machine.specs.Counts.{CountsItsAccesses};
+ghost use Rattle.machine.specs.Frames.{KeepsBegins};
+ghost use Rattle.machine.specs.Addresses.{NamesCells};
+ghost use Rattle.machine.specs.Events.{EventsTell};
+ghost use Rattle.machine.specs.Answered.{Answered, AnswersOk, Heard};
+ghost use Rattle.machine.specs.Traces.{IsTraced, RunsOn, heard_run};
+ghost use Rattle.machine.specs.Moments.{BeginsPast};
 
-/// For every code, number of threads and list of steps the transactions that took effect can be put one after another.
-/// There is a merge of them, each thread's own in their order, and every merge is a run of the code in which each
-/// transaction finds the memory that the one before it left and every thread stands: it has printed what it prints in
-/// that run, and ends or traps only where it does there. While the lock is even the words are the run's last memory and
-/// half of the lock is the number of transactions that took it; while it is odd one thread has it, and the words are
-/// that memory with what the thread has stored so far. Each attempt has a moment in the run whose memory has all that
-/// it has read.
-pub fn serializable<C>()
-    ensures { (code : C → Effect C) (init : ℕ → C) (m0 : Memory) (threads : ℕ) (steps : List ℕ) → FitsCells code (length m0) → IsMemory (length m0) m0 →
-        IsSerializable code init (meaning code init) m0 threads steps }
-{}
-
-/// More than serializable: also an attempt that will be dropped has read from one memory only, that of its moment; each
-/// transaction stands after all that stood in the run when its attempt began; and the run of further steps extends the
-/// run of these.
-pub fn opaque<C>()
-    ensures { (code : C → Effect C) (init : ℕ → C) (m0 : Memory) (threads : ℕ) (steps : List ℕ) → FitsCells code (length m0) → IsMemory (length m0) m0 →
-        IsOpaque code init (meaning code init) m0 threads steps }
-{}
-
+/// For every code, number of threads and list of steps the transactions that took effect can be put one after another
+/// (`IsSerializable`). There is a merge of them, each thread's own in their order, and every merge is a run of the code in
+/// which each transaction finds the memory that the one before it left and every thread stands: it has printed what it
+/// prints in that run, and ends or traps only where it does there. While the lock is even the words are the run's last
+/// memory and half of the lock is the number of transactions that took it; while it is odd one thread has it, and the words
+/// are that memory with what the thread has stored so far. Each attempt, also one that will be dropped, has a moment in the
+/// run whose memory has all that it has read.
+///
+/// Order in time (`IsInTime`): each transaction stands after all that stood in the run when its attempt began, as often as
+/// they stood there. Later runs extend earlier ones (`IsExtended`): the run of more steps holds the steps of the run of fewer
+/// in their order, and each thread's earlier steps come first among its own.
+///
 /// The same for every program that the code means: its runs, and what its threads print and how they end.
-pub fn opaque_for_programs<C>()
-    ensures { (code : C → Effect C) (init : ℕ → C) (program : Behaviour) (m0 : Memory) (threads : ℕ) (steps : List ℕ) → FitsCells code (length m0) → IsMemory (length m0) m0 →
-        Means (length m0) (meaning code init) program → threads ≤ 2 ^ 32 → IsOpaque code init program m0 threads steps }
+pub fn opaque<C>()
+    ensures code { (code : C → Effect C) (init : ℕ → C) (bounds : List ℕ) (m0 : Memory) (threads : ℕ) (steps : List ℕ) → FitsCells code bounds → IsMemory bounds m0 →
+        IsOpaque code init (meaning code init) bounds m0 threads steps }
+    ensures programs { (code : C → Effect C) (init : ℕ → C) (program : Behaviour) (bounds : List ℕ) (m0 : Memory) (threads : ℕ) (steps : List ℕ) → FitsCells code bounds → IsMemory bounds m0 →
+        Means bounds (meaning code init) program → threads ≤ 2 ^ 32 → IsOpaque code init program bounds m0 threads steps }
 {}
 
-/// A step drops an attempt only where validation has loaded the word of an entry of its read log and found another one.
-pub fn aborts_only_on_a_changed_value<C>()
-    ensures { (code : C → Effect C) (th : Thread C) (a : Attempt C) (lock : ℕ) (words : List ℕ) → th.attempt ≡ Some a →
+/// A step drops an attempt only where validation has loaded the word of an entry of its read log and found another one. A
+/// thread that has taken the lock is never dropped, whatever other threads do.
+pub fn aborts<C>()
+    ensures changed { (code : C → Effect C) (th : Thread C) (a : Attempt C) (lock : ℕ) (words : List ℕ) → th.attempt ≡ Some a →
         (told code th (answer lock words (access code th))).thread.attempt ≡ None →
         (told code th (answer lock words (access code th))).completed ≡ None → HasChanged a words }
-{}
-
-/// A thread that has taken the lock is never dropped, whatever other threads do.
-pub fn a_holder_never_aborts<C>()
-    ensures { (code : C → Effect C) (init : ℕ → C) (m0 : Memory) (threads : ℕ) (steps : List ℕ) → FitsCells code (length m0) → IsMemory (length m0) m0 →
+    ensures holders { (code : C → Effect C) (init : ℕ → C) (bounds : List ℕ) (m0 : Memory) (threads : ℕ) (steps : List ℕ) → FitsCells code bounds → IsMemory bounds m0 →
         HoldersGoOn code (world_after code init m0 threads steps) }
 {}
 
-/// Where thread t's next step makes a transaction take effect, this stands in the run after every transaction that stood
-/// there when its attempt loaded its first snapshot, as often as it stood there.
-pub fn order_in_time<C>()
-    ensures { (code : C → Effect C) (init : ℕ → C) (m0 : Memory) (threads : ℕ) (steps : List ℕ) (t : ℕ) → FitsCells code (length m0) → IsMemory (length m0) m0 →
-        IsInTime code init m0 threads steps t }
-{}
-
-/// The run of more steps holds the steps of the run of fewer in their order, and each thread's earlier steps come first
-/// among its own.
-pub fn later_runs_extend_earlier_ones<C>()
-    ensures { (code : C → Effect C) (init : ℕ → C) (m0 : Memory) (threads : ℕ) (steps more : List ℕ) → FitsCells code (length m0) → IsMemory (length m0) m0 →
-        IsExtended code init m0 threads steps more }
-{}
-
 /// What a thread's meaning does alone, a machine of one thread does in some number of steps, and stays there: the same
-/// end, text and memory, without a step that stops.
+/// end, text and memory, without a step that stops. The same for every program that the code means.
 pub fn alone<C>()
-    ensures { (code : C → Effect C) (init : ℕ → C) (m0 : Memory) (run : List Step) (n : ℕ) → FitsCells code (length m0) → IsMemory (length m0) m0 →
+    ensures code { (code : C → Effect C) (init : ℕ → C) (bounds : List ℕ) (m0 : Memory) (run : List Step) (n : ℕ) → FitsCells code bounds → IsMemory bounds m0 →
         ReachesEnd code init (meaning code init) m0 run n }
+    ensures programs { (code : C → Effect C) (init : ℕ → C) (program : Behaviour) (bounds : List ℕ) (m0 : Memory) (run : List Step) (n : ℕ) → FitsCells code bounds → IsMemory bounds m0 →
+        Means bounds (meaning code init) program → AllByRecursion (IsMemory bounds) (founds_of 0 run) → ReachesEnd code init program m0 run n }
 {}
 
-/// The same for every program that the code means.
-pub fn alone_for_programs<C>()
-    ensures { (code : C → Effect C) (init : ℕ → C) (program : Behaviour) (m0 : Memory) (run : List Step) (n : ℕ) → FitsCells code (length m0) → IsMemory (length m0) m0 →
-        Means (length m0) (meaning code init) program → AllByRecursion (IsMemory (length m0)) (founds_of 0 run) → ReachesEnd code init program m0 run n }
+/// While no other thread steps, a transaction that begins at an even lock is never dropped, and it makes one access for its
+/// begin, two for each entry of its read log, and where it takes the lock one for the swap, one for each word that it
+/// stores, and one for the release. Of transactions without an irrevocable.
+pub fn undisturbed_transactions_are_counted<C>()
+    ensures { (code : C → Effect C) (w : World C) (t : ℕ) → CountsItsAccesses code w t }
+{}
+
+/// What an event says of the step that it is told of: an abort dropped the attempt, and nothing took effect; a commit made a
+/// transaction take effect at a commit; a cancel cancelled an inner transaction, or an outermost one without the lock kept;
+/// a trap left a running thread trapped by that cause. And the other way round: no such step goes untold.
+pub fn events_tell<C>()
+    ensures { (code : C → Effect C) (init : ℕ → C) (bounds : List ℕ) (m0 : Memory) (threads : ℕ) (steps : List ℕ) → FitsCells code bounds → IsMemory bounds m0 →
+        EventsTell code (world_after code init m0 threads steps) }
+{}
+
+/// The addresses in an attempt's logs are cells, and so is the one that a thread's next access names.
+pub fn addresses_are_cells<C>()
+    ensures { (code : C → Effect C) (init : ℕ → C) (bounds : List ℕ) (m0 : Memory) (threads : ℕ) (steps : List ℕ) → FitsCells code bounds →
+        NamesCells code (length bounds) (world_after code init m0 threads steps) }
 {}
 
 /// A world that steps which do not stop lead to is the world of some list of steps, so all that holds of lists of steps
@@ -83,4 +85,34 @@ pub fn alone_for_programs<C>()
 pub fn reached_by_steps<C>()
     ensures { (code : C → Effect C) (init : ℕ → C) (m0 : Memory) (threads : ℕ) (w : World C) → Reached code init m0 threads w →
         (steps : List ℕ) × (w ≡ world_after code init m0 threads steps) }
+{}
+
+/// In every world that steps which do not stop lead to, the lock values that a thread was answered never fall and are at
+/// most the lock, a lost swap found another value than the one it swaps from, and each word answered is, in every merge,
+/// that of a place of the run which has at least half of the last lock value's lock-taking steps before it, or that of a pair
+/// which the thread with the lock has stored so far.
+pub fn answers_are_explained<C>()
+    ensures { (code : C → Effect C) (init : ℕ → C) (bounds : List ℕ) (m0 : Memory) (threads : ℕ) (w : World C) (heard : List (List Heard)) → FitsCells code bounds → IsMemory bounds m0 → Answered code init m0 threads w heard →
+        (t : ℕ) (p : Part C) (hs : List Heard) → slice_get w.parts t ≡ Some p → slice_get heard t ≡ Some hs → AnswersOk m0 w hs }
+{}
+
+/// A world with its answers is reached by steps that do not stop exactly where it is that of a trace of such steps. So what
+/// holds of the one holds of the other.
+pub fn answered_by_traces<C>()
+    ensures { (code : C → Effect C) (init : ℕ → C) (m0 : Memory) (threads : ℕ) →
+        ((w : World C) (heard : List (List Heard)) → Answered code init m0 threads w heard → IsTraced code init m0 threads w heard)
+        × ((steps : List ℕ) → RunsOn code steps (new_world init m0 threads) → Answered code init m0 threads (world_after code init m0 threads steps) (heard_run code steps (new_world init m0 threads) (replicate threads []))) }
+{}
+
+/// The moment of an attempt whose first snapshot is n or more stands after every step of the run that was made under a lock
+/// value below n.
+pub fn attempts_begin_past_their_floor<C>()
+    ensures { (does : Behaviour) (bounds : List ℕ) (m0 : Memory) (threads : ℕ) (w : World C) (es : List Entry) → BeginsPast does bounds m0 threads w es }
+{}
+
+/// A thread may keep of each open begin the frame on top, the number of frames and the place. Where the begins lie in the
+/// frames as the code's places say (depth: how many are open at a place), that stays so over each instruction, what the
+/// thread shows of its begins stays as it was, a begin shows as all frames, and going back to a begin gives its frames.
+pub fn begins_are_restored()
+    ensures { (depth : ℕ → ℕ) → KeepsBegins depth }
 {}

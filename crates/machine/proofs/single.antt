@@ -1,0 +1,6 @@
+-- why an attempt is dropped
+pub mod Aborts
+-- a thread that has the lock is never dropped
+pub mod Holders
+-- what an event says of the step that it is told of
+pub mod Events

@@ -1,0 +1,36 @@
+-- The addresses that a thread uses are cells.
+use Rattle.std.specs.Prelude.{◌≡◌, ◌<◌, ℕ, List, Option, None, Some}
+use Rattle.std.specs.List.{slice_get, AllByRecursion}
+use Rattle.bytecode.specs.Effects.{Effect}
+use Rattle.norec_core.specs.declared.step.Access.{Access}
+use Rattle.norec_core.specs.declared.step.Access.TheVariants.{Local, LoadLock, LoadWord, Swap, StoreWord, StoreLock}
+use Rattle.norec_core.specs.Attempts.{Attempt, Checkpoint}
+use Rattle.machine.specs.Threads.{access}
+use Rattle.machine.specs.Worlds.{Part, World}
+
+-- the addresses of these pairs are cells
+abbrev pub AreCells : ℕ → List (ℕ × ℕ) → Type 0
+AreCells cells ps = AllByRecursion (λ (q : ℕ × ℕ). q.0 < cells) ps
+
+-- both logs, and the write log as it was at each inner begin
+pub record LogsFit {C : Type 0} (cells : ℕ) (a : Attempt C) : Type 0 where
+  pub reads : AreCells cells a.reads
+  pub writes : AreCells cells a.writes
+  pub marks : AllByRecursion (λ (k : Checkpoint C). AreCells cells k.writes) a.inner
+
+abbrev pub LogsFitIf : {C : Type 0} → ℕ → Option (Attempt C) → Type 0
+LogsFitIf cells None = Unit {0}
+LogsFitIf cells (Some a) = LogsFit cells a
+
+-- the access names a cell
+abbrev pub AccessFits : ℕ → Access → Type 0
+AccessFits cells Local = Unit {0}
+AccessFits cells LoadLock = Unit {0}
+AccessFits cells (LoadWord ad) = ad < cells
+AccessFits cells (Swap from) = Unit {0}
+AccessFits cells (StoreWord ad v) = ad < cells
+AccessFits cells (StoreLock n) = Unit {0}
+
+-- each attempt's logs name cells, and so does each thread's next access
+abbrev pub NamesCells : {C : Type 0} → (C → Effect C) → ℕ → World C → Type 0
+NamesCells {C} code cells w = (t : ℕ) (p : Part C) → slice_get w.parts t ≡ Some p → LogsFitIf cells p.thread.attempt × AccessFits cells (access code p.thread)

@@ -1,0 +1,133 @@
+-- What each thread of a world was answered. The worlds of real threads are these too: there each access is an atomic step
+-- on the shared words, and the answers are all that a thread learns of them.
+use Rattle.std.specs.Prelude.{◌≡◌, ◌≤◌, ◌<◌, ◌+◌, ◌*◌, ◌⊎◌, ℕ, zero, suc, Bool, true, false, List, [], ◌∷◌, ◌++◌, Option, None, Some, replicate, slice_index, slice_set, if◌then◌else◌}
+use Rattle.std.specs.List.{slice_get}
+use Rattle.syntax.specs.Behaviours.{Memory, last_memory}
+use Rattle.bytecode.specs.Effects.{Effect}
+use Rattle.norec_core.specs.declared.step.Access.{Access}
+use Rattle.norec_core.specs.declared.step.Access.TheVariants.{Local, LoadLock, LoadWord, Swap, StoreWord, StoreLock}
+use Rattle.norec_core.specs.declared.step.Answer.{Answer}
+use Rattle.norec_core.specs.declared.step.Answer.TheVariants.{Done, Value, Won, Lost}
+use Rattle.norec_core.specs.Accesses.{IsAnswerTo, stops}
+use Rattle.norec_core.specs.Attempts.{Attempt}
+use Rattle.machine.specs.Threads.{Thread, access, told}
+use Rattle.machine.specs.Worlds.{Record, Part, World, answer, step, part_after, new_world}
+use Rattle.machine.specs.Merges.{Entry, IsMerge, run_of, count_takers}
+use Rattle.machine.specs.Explained.{HasLock, stored_of}
+
+-- an access with its answer
+pub record Heard : Type 0 where
+  pub access : Access
+  pub answer : Answer
+
+abbrev pub is_local : Access → Bool
+is_local Local = true
+is_local LoadLock = false
+is_local (LoadWord a) = false
+is_local (Swap from) = false
+is_local (StoreWord a v) = false
+is_local (StoreLock n) = false
+
+-- a local step gives no answer
+abbrev pub hearing : Access → Answer → List Heard
+hearing x a = if is_local x then [] else record { access = x; answer = a } ∷ []
+
+-- The worlds that steps which do not stop lead to, with what each thread was answered.
+pub data Answered {C : Type 0} (code : C → Effect C) (init : ℕ → C) (m0 : List ℕ) (threads : ℕ) : World C → List (List Heard) → Type 0 where
+  new : Answered code init m0 threads (new_world init m0 threads) (replicate threads [])
+  moved : (w : World C) (heard : List (List Heard)) (t : ℕ) (p : Part C) (hs : List Heard) → Answered code init m0 threads w heard → slice_get w.parts t ≡ Some p → slice_get heard t ≡ Some hs → stops (access code p.thread) ≡ false
+      → Answered code init m0 threads (step code w t) (slice_set heard t (hs ++ hearing (access code p.thread) (answer w.lock w.words (access code p.thread))))
+
+-- a local step: it depends on the part alone
+abbrev pub local_step : {C : Type 0} → (C → Effect C) → Part C → Part C
+local_step code p = part_after p.base p (told code p.thread Done)
+
+-- so many local steps of a part, if they are local
+abbrev pub paused : {C : Type 0} → (C → Effect C) → ℕ → Part C → Option (Part C)
+paused code zero p = Some p
+paused code (suc k) p = if is_local (access code p.thread) then paused code k (local_step code p) else None
+
+-- So many steps bring the thread to this one, where its accesses get these answers in order, all of them, and no step stops.
+pub data Replays {C : Type 0} (code : C → Effect C) (th : Thread C) : ℕ → List Heard → Thread C → Type 0 where
+  none : Replays code th zero [] th
+  local_more : (n : ℕ) (hs : List Heard) (u : Thread C) → Replays code th n hs u → is_local (access code u) ≡ true → Replays code th (suc n) hs (told code u Done).thread
+  heard_more : (n : ℕ) (hs : List Heard) (u : Thread C) (a : Answer) → Replays code th n hs u → is_local (access code u) ≡ false → stops (access code u) ≡ false
+      → Replays code th (suc n) (hs ++ record { access = access code u; answer = a } ∷ []) (told code u a).thread
+
+-- in some world that steps which do not stop lead to, the thread with this number has this part and was answered this
+pub record IsPartOf {C : Type 0} (code : C → Effect C) (init : ℕ → C) (m0 : List ℕ) (threads number : ℕ) (p : Part C) (hs : List Heard) : Type 0 where
+  pub world : World C
+  pub heard : List (List Heard)
+  pub answered : Answered code init m0 threads world heard
+  pub part : slice_get world.parts number ≡ Some p
+  pub answers : slice_get heard number ≡ Some hs
+
+-- the lock value that an answer gives
+abbrev pub lock_value : Access → Answer → Option ℕ
+lock_value LoadLock (Value n) = Some n
+lock_value (Swap from) (Lost n) = Some n
+lock_value (Swap from) Won = Some from
+lock_value x a = None
+
+-- each lock value among these answers is at least n, or at most n
+abbrev pub LocksFrom : ℕ → List Heard → Type 0
+LocksFrom n [] = Unit {0}
+LocksFrom n (h ∷ hs) = ((l : ℕ) → lock_value h.access h.answer ≡ Some l → n ≤ l) × LocksFrom n hs
+
+abbrev pub LocksTo : ℕ → List Heard → Type 0
+LocksTo n [] = Unit {0}
+LocksTo n (h ∷ hs) = ((l : ℕ) → lock_value h.access h.answer ≡ Some l → l ≤ n) × LocksTo n hs
+
+-- no lock value among these answers is below an earlier one
+abbrev pub Ascends : List Heard → Type 0
+Ascends [] = Unit {0}
+Ascends (h ∷ hs) = ((l : ℕ) → lock_value h.access h.answer ≡ Some l → LocksFrom l hs) × Ascends hs
+
+-- each record that took the lock did so at a lock value below n
+abbrev pub NumbersBelow : ℕ → List Record → Type 0
+NumbersBelow n [] = Unit {0}
+NumbersBelow n (r ∷ rs) = (r.took_lock ≡ true → r.snapshot + 1 < n) × NumbersBelow n rs
+
+-- the last lock value answered
+abbrev pub next_lock : ℕ → Option ℕ → ℕ
+next_lock l None = l
+next_lock l (Some n) = n
+
+-- each answer is one to its access
+abbrev pub AreAnswers : List Heard → Type 0
+AreAnswers [] = Unit {0}
+AreAnswers (h ∷ hs) = IsAnswerTo h.access h.answer × AreAnswers hs
+
+-- the pair is among these
+abbrev pub IsAmong : ℕ × ℕ → List (ℕ × ℕ) → Type 0
+IsAmong p [] = ⊥
+IsAmong p (q ∷ qs) = (p ≡ q) ⊎ IsAmong p qs
+
+-- The word v of cell a, answered after the lock value l: it is that of a place of the run with at least half of l
+-- lock-taking steps before it, or that of a pair which the thread that has the lock has stored so far.
+abbrev pub HasWord : {C : Type 0} → Memory → World C → List Entry → ℕ → ℕ → ℕ → Type 0
+HasWord {C} m0 w es l a v =
+    ((before : List Entry) × (after : List Entry) × (es ≡ before ++ after) × (l ≤ 2 * count_takers before + 1) × (slice_index (last_memory m0 (run_of before)) a ≡ v))
+    ⊎ ((t : ℕ) × (p : Part C) × (b : Attempt C) × (slice_get w.parts t ≡ Some p) × HasLock p b × IsAmong (a, v) (stored_of b.writes b.phase))
+
+abbrev pub WordOf : {C : Type 0} → Memory → World C → List Entry → ℕ → Access → Answer → Type 0
+WordOf m0 w es l (LoadWord a) (Value v) = HasWord m0 w es l a v
+WordOf m0 w es l x y = Unit {0}
+
+-- each word among these answers
+abbrev pub HaveWords : {C : Type 0} → Memory → World C → List Entry → ℕ → List Heard → Type 0
+HaveWords m0 w es l [] = Unit {0}
+HaveWords m0 w es l (h ∷ hs) = WordOf m0 w es l h.access h.answer × HaveWords m0 w es (next_lock l (lock_value h.access h.answer)) hs
+
+-- What holds of the answers of a thread in every world: the lock values never fall and are at most the lock, a lost swap
+-- found another value than the one that it swaps from, and each word is one that a place of the run has, or that is stored so far.
+pub record AnswersOk {C : Type 0} (m0 : Memory) (w : World C) (hs : List Heard) : Type 0 where
+  pub ascend : Ascends hs
+  pub bounded : LocksTo w.lock hs
+  pub fit : AreAnswers hs
+  pub words : (es : List Entry) → IsMerge w.parts es → HaveWords m0 w es 0 hs
+
+-- one of these answers is this lock value, to a load
+abbrev pub HasLoad : ℕ → List Heard → Type 0
+HasLoad n [] = ⊥
+HasLoad n (h ∷ hs) = ((h.access ≡ LoadLock) × (h.answer ≡ Value n)) ⊎ HasLoad n hs

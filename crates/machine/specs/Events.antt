@@ -1,0 +1,30 @@
+-- What an event says of the step that it is told of.
+use Rattle.std.specs.Prelude.{◌≡◌, ◌≢◌, ◌↔◌, ◌⊎◌, ℕ, false, [], Option, None, Some}
+use Rattle.std.specs.List.{slice_get}
+use Rattle.syntax.specs.declared.numbers.Trap.{Trap}
+use Rattle.syntax.specs.declared.numbers.Status.TheVariants.{Running, Trapped as HasTrapped}
+use Rattle.bytecode.specs.Effects.{Effect}
+use Rattle.bytecode.specs.Effects.Effect.{Commit, Cancel}
+use Rattle.norec_core.specs.Attempts.{Attempt}
+use Rattle.machine.specs.declared.event.Event.TheVariants as event
+use Rattle.machine.specs.Threads.{Thread, Next, access, told}
+use Rattle.machine.specs.Worlds.{Part, World, answer}
+
+-- the instruction cancels a transaction: an inner one, or an outermost one without the lock kept
+abbrev pub Cancels : {C : Type 0} → Effect C → Option (Attempt C) → Type 0
+Cancels Cancel (Some a) = (a.kept ≡ false) ⊎ (a.inner ≢ [])
+Cancels _ _ = ⊥
+
+-- a step of a thread at this instruction, and the event that is told of it
+pub record EventTells {C : Type 0} (x : Effect C) (th : Thread C) (n : Next C) : Type 0 where
+  -- an abort: the attempt is gone, and nothing took effect
+  pub aborts : (n.event ≡ event.Abort) ↔ ((th.attempt ≢ None) × (n.thread.attempt ≡ None) × (n.completed ≡ None))
+  -- a commit: a transaction took effect at a commit
+  pub commits : (n.event ≡ event.Commit) ↔ ((n.completed ≢ None) × ((c : C) × (x ≡ Commit c)))
+  pub cancels : (n.event ≡ event.Cancel) ↔ Cancels x th.attempt
+  -- a trap: the thread was running, and has trapped
+  pub traps : (cause : Trap) → (n.event ≡ event.Trap cause) ↔ ((th.status ≡ Running) × (n.thread.status ≡ HasTrapped cause))
+
+-- every step that a thread of the world can make next
+abbrev pub EventsTell : {C : Type 0} → (C → Effect C) → World C → Type 0
+EventsTell {C} code w = (t : ℕ) (p : Part C) → slice_get w.parts t ≡ Some p → EventTells (code p.thread.configuration) p.thread (told code p.thread (answer w.lock w.words (access code p.thread)))

@@ -1,0 +1,2 @@
+-- what each step keeps
+pub mod Invariant
