@@ -1,36 +1,10 @@
-pub mod Exact
-pub mod Many
-pub mod Turns
-pub mod Loops
-pub mod Knot
-pub mod Climbing
-pub mod ExprSteps
-pub mod Chain
-pub mod Marks
-pub mod Ends
-pub mod Parts
-pub mod Choices
-pub mod Lists
-pub mod Braces
-pub mod Trailing
-pub mod Theorems
-pub mod Starts
-pub mod Scalars
-pub mod Headers
-pub mod Definitions
-pub mod Shares
-pub mod Programs
-pub mod Sources
-pub mod Wholes
-pub mod Operands
-pub mod Levels
-pub mod Simples
-pub mod Declarations
-pub mod Leaves
-pub mod Leads
-pub mod Entries
-pub mod Compounds
-pub mod Stmts
-pub mod Rounds
-pub mod Within
-pub mod Nodes
+-- reading exactly, for any language
+pub mod combinators
+-- names, types and expressions
+pub mod expressions
+-- statements and declarations
+pub mod statements
+-- functions, globals and programs
+pub mod items
+-- steps of the code
+pub mod code

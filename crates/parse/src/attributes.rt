@@ -2,21 +2,24 @@
 
 ghost use Rattle.std.specs.Prelude.{◌≡◌, ◌++◌, IfOk};
 ghost use Rattle.lex.specs.Tokens.{toks};
-ghost use Rattle.lex.specs.declared.token.Mark.TheVariants as m;
+ghost use Rattle.lex.specs.declared.token.Fixed.TheVariants as token;
+ghost use Rattle.lex.specs.declared.token.Keyword.TheVariants as key;
+ghost use Rattle.lex.specs.declared.token.Punctuator.TheVariants as punct;
 ghost use Rattle.syntax.specs.Grammar.{the_attribute, attribute_named};
-ghost use Rattle.parse.specs.Reading.{Gives, take, behind, head};
-ghost use Rattle.parse.specs.Items.{words, bracketed, parenthesized, attribute_list, is_plain, attributes};
+ghost use Rattle.parse.specs.inner.Reading.{Gives, take, behind, head};
+ghost use Rattle.parse.specs.inner.Items.{words, bracketed, parenthesized, attribute_list, is_plain, attributes};
 
-use crate::cursor::{expect, is_next, start};
-use crate::fault::Stop;
+use crate::cursor::{counted, expect, is_next};
+use crate::fault::Failure;
 use containers::Items;
-use lex::token::{Kind, Mark, Token};
+use lex::token::{Fixed, Keyword, Kind, Punctuator, Token};
 use std::alloc::{AllocError, Allocator};
 use syntax::tree::Attribute;
 
 /// Attributes, and the tokens after them.
 type Found<'t, 'a, A> = (Items<Attribute, A>, &'t [Token<'a>]);
 
+/// The attribute that a word names, if it names one.
 fn named(text: &str) -> Option<Attribute>
     ensures { result ≡ attribute_named text.now }
 {
@@ -28,36 +31,36 @@ fn named(text: &str) -> Option<Attribute>
     }
 }
 
-// A word that names an attribute.
-fn word<'t, 'a>(tokens: &'t [Token<'a>]) -> Result<(Attribute, &'t [Token<'a>]), Stop<'t, 'a>>
+/// A word that names an attribute: `transaction_safe`, `transaction_unsafe` or `transaction_callable`
+fn word<'t, 'a>(tokens: &'t [Token<'a>]) -> Result<(Attribute, &'t [Token<'a>]), Failure<'t, 'a>>
     ensures { Gives (λ x. (x.0, toks x.1.now)) result (take the_attribute (toks tokens.now)) }
 {
     let [first, rest @ ..] = tokens else {
-        return Err(Stop::Wrong(tokens));
+        return Err(Failure::Wrong(tokens));
     };
     let Kind::Name(text) = first.kind else {
-        return Err(Stop::Wrong(tokens));
+        return Err(Failure::Wrong(tokens));
     };
     match named(text) {
         Some(word) => Ok((word, rest)),
-        None => Err(Stop::Wrong(tokens)),
+        None => Err(Failure::Wrong(tokens)),
     }
 }
 
-// A further word, behind its comma.
-fn another<'t, 'a>(tokens: &'t [Token<'a>]) -> Result<(Attribute, &'t [Token<'a>]), Stop<'t, 'a>>
-    ensures { Gives (λ x. (x.0, toks x.1.now)) result (behind m.Comma (take the_attribute) (toks tokens.now)) }
+/// A further word, behind its comma.
+fn another<'t, 'a>(tokens: &'t [Token<'a>]) -> Result<(Attribute, &'t [Token<'a>]), Failure<'t, 'a>>
+    ensures { Gives (λ x. (x.0, toks x.1.now)) result (behind (token.Punctuator punct.Comma) (take the_attribute) (toks tokens.now)) }
 {
-    let rest = expect(tokens, Mark::Comma)?;
+    let rest = expect(tokens, Fixed::Punctuator(Punctuator::Comma))?;
     let (word, rest) = word(rest)?;
     Ok((word, rest))
 }
 
-// One word or more, with commas between.
+/// `word { , word }`
 fn words<'t, 'a, A: Allocator + Copy>(
     alloc: A,
     tokens: &'t [Token<'a>],
-) -> Result<Found<'t, 'a, A>, Stop<'t, 'a>>
+) -> Result<Found<'t, 'a, A>, Failure<'t, 'a>>
     ensures { Gives (λ x. (x.0, toks x.1.now)) result (words (toks tokens.now)) }
 {
     let (first, inner) = word(tokens)?;
@@ -65,68 +68,70 @@ fn words<'t, 'a, A: Allocator + Copy>(
     all.push(first)?;
     let mut rest = inner;
     'turns: for _turn in 0..inner.len() {
-        if !is_next(rest, Mark::Comma) {
+        if !is_next(rest, Fixed::Punctuator(Punctuator::Comma)) {
             return Ok((all, rest));
         }
         let (one, after) = another(rest)?;
         all.push(one)?;
         rest = after;
     }
-    if is_next(rest, Mark::Comma) {
-        return Err(Stop::Wrong(rest));
+    if is_next(rest, Fixed::Punctuator(Punctuator::Comma)) {
+        return Err(Failure::Wrong(rest));
     }
     Ok((all, rest))
 }
 
-// `[[ .. ]]`
+/// `[[ .. ]]`
 fn bracketed<'t, 'a, A: Allocator + Copy>(
     alloc: A,
     tokens: &'t [Token<'a>],
-) -> Result<Found<'t, 'a, A>, Stop<'t, 'a>>
+) -> Result<Found<'t, 'a, A>, Failure<'t, 'a>>
     ensures { Gives (λ x. (x.0, toks x.1.now)) result (bracketed (toks tokens.now)) }
 {
-    let rest = expect(tokens, Mark::OpenBracket)?;
-    let rest = expect(rest, Mark::OpenBracket)?;
+    let rest = expect(tokens, Fixed::Punctuator(Punctuator::OpenBracket))?;
+    let rest = expect(rest, Fixed::Punctuator(Punctuator::OpenBracket))?;
     let (words, rest) = words(alloc, rest)?;
-    let rest = expect(rest, Mark::CloseBracket)?;
-    let rest = expect(rest, Mark::CloseBracket)?;
+    let rest = expect(rest, Fixed::Punctuator(Punctuator::CloseBracket))?;
+    let rest = expect(rest, Fixed::Punctuator(Punctuator::CloseBracket))?;
     Ok((words, rest))
 }
 
-// `__attribute__((..))`
+/// `__attribute__((..))`
 fn parenthesized<'t, 'a, A: Allocator + Copy>(
     alloc: A,
     tokens: &'t [Token<'a>],
-) -> Result<Found<'t, 'a, A>, Stop<'t, 'a>>
+) -> Result<Found<'t, 'a, A>, Failure<'t, 'a>>
     ensures { Gives (λ x. (x.0, toks x.1.now)) result (parenthesized (toks tokens.now)) }
 {
-    let rest = expect(tokens, Mark::Attribute)?;
-    let rest = expect(rest, Mark::OpenParen)?;
-    let rest = expect(rest, Mark::OpenParen)?;
+    let rest = expect(tokens, Fixed::Keyword(Keyword::Attribute))?;
+    let rest = expect(rest, Fixed::Punctuator(Punctuator::OpenParen))?;
+    let rest = expect(rest, Fixed::Punctuator(Punctuator::OpenParen))?;
     let (words, rest) = words(alloc, rest)?;
-    let rest = expect(rest, Mark::CloseParen)?;
-    let rest = expect(rest, Mark::CloseParen)?;
+    let rest = expect(rest, Fixed::Punctuator(Punctuator::CloseParen))?;
+    let rest = expect(rest, Fixed::Punctuator(Punctuator::CloseParen))?;
     Ok((words, rest))
 }
 
+/// `[[ words ]]` or `__attribute__ (( words ))`
 fn attribute_list<'t, 'a, A: Allocator + Copy>(
     alloc: A,
     tokens: &'t [Token<'a>],
-) -> Result<Found<'t, 'a, A>, Stop<'t, 'a>>
+) -> Result<Found<'t, 'a, A>, Failure<'t, 'a>>
     ensures { Gives (λ x. (x.0, toks x.1.now)) result (attribute_list (toks tokens.now)) }
 {
-    if is_next(tokens, Mark::OpenBracket) {
+    if is_next(tokens, Fixed::Punctuator(Punctuator::OpenBracket)) {
         bracketed(alloc, tokens)
     } else {
         parenthesized(alloc, tokens)
     }
 }
 
-// Whether no attribute begins here.
+/// Whether no attribute begins here.
 fn is_plain(tokens: &[Token]) -> bool
     ensures { result ≡ is_plain (head (toks tokens.now)) }
 {
-    !is_next(tokens, Mark::OpenBracket) && !is_next(tokens, Mark::Attribute)
+    !is_next(tokens, Fixed::Punctuator(Punctuator::OpenBracket))
+        && !is_next(tokens, Fixed::Keyword(Keyword::Attribute))
 }
 
 /// Those of the one list, and then those of the other.
@@ -141,14 +146,14 @@ pub fn joined<A: Allocator>(
     Ok(Items::from_vec(all))
 }
 
-/// All attributes at the front, of as many lists as there are.
+/// `{ attribute_list }`: all words of all lists, in their order.
 pub fn attributes<'t, 'a, A: Allocator + Copy>(
     alloc: A,
     tokens: &'t [Token<'a>],
-) -> Result<Found<'t, 'a, A>, Stop<'t, 'a>>
+) -> Result<Found<'t, 'a, A>, Failure<'t, 'a>>
     ensures { Gives (λ x. (x.0, toks x.1.now)) result (attributes (toks tokens.now)) }
 {
-    let (mut rest, count) = start(tokens);
+    let (mut rest, count) = counted(tokens);
     let mut all = Items::new(alloc);
     'turns: for _turn in 0..count {
         if is_plain(rest) {
@@ -161,6 +166,6 @@ pub fn attributes<'t, 'a, A: Allocator + Copy>(
     if is_plain(rest) {
         Ok((all, rest))
     } else {
-        Err(Stop::Wrong(rest))
+        Err(Failure::Wrong(rest))
     }
 }

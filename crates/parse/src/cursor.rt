@@ -1,63 +1,91 @@
 //! The first token of a list.
 
-ghost use Rattle.std.specs.Prelude.{◌≡◌, length};
-ghost use Rattle.lex.specs.Tokens.{toks};
+ghost use Rattle.std.specs.Prelude.{◌≡◌, length, IfOk};
+ghost use Rattle.lex.specs.Tokens.{terminal, toks};
+ghost use Rattle.syntax.specs.Phrases.{is_fixed};
 ghost use Rattle.syntax.specs.Views.{name_of};
 ghost use Rattle.syntax.specs.Grammar.{the_name};
-ghost use Rattle.parse.specs.Reading.{Gives, expect, spot, take, is_next, head};
+ghost use Rattle.parse.specs.inner.Reading.{Gives, expect, spot, take, is_next, head};
 
-use crate::fault::Stop;
+use crate::fault::Failure;
 use containers::Text;
-use lex::token::{Kind, Mark, Span, Token};
+use lex::token::{Fixed, Kind, Span, Token};
 use std::alloc::Allocator;
 use syntax::tree::Name;
 
 /// All tokens, and how many they are.
-pub fn start<'t, 'a>(tokens: &'t [Token<'a>]) -> (&'t [Token<'a>], usize)
+pub fn counted<'t, 'a>(tokens: &'t [Token<'a>]) -> (&'t [Token<'a>], usize)
     ensures all { result.0.now ≡ tokens.now }
     ensures count { result.1 ≡ length tokens.now }
 {
     (tokens, tokens.len())
 }
 
-/// A keyword or sign at the front.
-pub fn expect<'t, 'a>(tokens: &'t [Token<'a>], mark: Mark) -> Result<&'t [Token<'a>], Stop<'t, 'a>>
-    ensures { Gives (λ x. (tt, toks x.now)) result (expect mark (toks tokens.now)) }
+/// Whether a token of this kind is this keyword or punctuator.
+fn is(kind: Kind, fixed: Fixed) -> bool
+    ensures { result ≡ is_fixed fixed (terminal kind.entry) }
 {
-    match tokens {
-        [first, rest @ ..] => match first.kind {
-            Kind::Fixed(found) if found == mark => Ok(rest),
-            _ => Err(Stop::Wrong(tokens)),
-        },
-        [] => Err(Stop::Wrong(tokens)),
+    match (kind, fixed) {
+        (Kind::Keyword(found), Fixed::Keyword(wanted)) => found == wanted,
+        (Kind::Punctuator(found), Fixed::Punctuator(wanted)) => found == wanted,
+        _ => false,
     }
 }
 
-/// A keyword or sign at the front, and where it stands.
+/// A keyword or punctuator at the front.
+pub fn expect<'t, 'a>(
+    tokens: &'t [Token<'a>],
+    fixed: Fixed,
+) -> Result<&'t [Token<'a>], Failure<'t, 'a>>
+    ensures { Gives (λ x. (tt, toks x.now)) result (expect fixed (toks tokens.now)) }
+{
+    match tokens {
+        [first, rest @ ..] => match first.kind {
+            kind if is(kind, fixed) => Ok(rest),
+            _ => Err(Failure::Wrong(tokens)),
+        },
+        [] => Err(Failure::Wrong(tokens)),
+    }
+}
+
+/// What was read, where this keyword or punctuator stands behind it. What was read is dropped here where it does not:
+/// written out at each caller, the drop of a tree is dear to prove.
+pub fn closed<'t, 'a, T: Drop>(
+    read: T,
+    tokens: &'t [Token<'a>],
+    fixed: Fixed,
+) -> Result<(T, &'t [Token<'a>]), Failure<'t, 'a>>
+    ensures value { IfOk result (λ x. x.0 ≡ read) }
+    ensures rest { Gives (λ x. (tt, toks x.1.now)) result (expect fixed (toks tokens.now)) }
+{
+    match expect(tokens, fixed) {
+        Ok(rest) => Ok((read, rest)),
+        Err(failure) => Err(failure),
+    }
+}
+
+/// A keyword or punctuator at the front, and where it stands.
 pub fn spot<'t, 'a>(
     tokens: &'t [Token<'a>],
-    mark: Mark,
-) -> Result<(Span, &'t [Token<'a>]), Stop<'t, 'a>>
-    ensures { Gives (λ x. (x.0, toks x.1.now)) result (spot mark (toks tokens.now)) }
+    fixed: Fixed,
+) -> Result<(Span, &'t [Token<'a>]), Failure<'t, 'a>>
+    ensures { Gives (λ x. (x.0, toks x.1.now)) result (spot fixed (toks tokens.now)) }
 {
     match tokens {
         [first, rest @ ..] => match first.kind {
-            Kind::Fixed(found) if found == mark => Ok((first.span, rest)),
-            _ => Err(Stop::Wrong(tokens)),
+            kind if is(kind, fixed) => Ok((first.span, rest)),
+            _ => Err(Failure::Wrong(tokens)),
         },
-        [] => Err(Stop::Wrong(tokens)),
+        [] => Err(Failure::Wrong(tokens)),
     }
 }
 
-/// Whether the first token is this mark.
-pub fn is_next(tokens: &[Token], mark: Mark) -> bool
-    ensures { result ≡ is_next mark (head (toks tokens.now)) }
+/// Whether the first token is this one.
+pub fn is_next(tokens: &[Token], fixed: Fixed) -> bool
+    ensures { result ≡ is_next fixed (head (toks tokens.now)) }
 {
     match tokens {
-        [first, ..] => match first.kind {
-            Kind::Fixed(found) => found == mark,
-            _ => false,
-        },
+        [first, ..] => is(first.kind, fixed),
         [] => false,
     }
 }
@@ -66,7 +94,7 @@ pub fn is_next(tokens: &[Token], mark: Mark) -> bool
 pub fn name<'t, 'a, A: Allocator + Copy>(
     alloc: A,
     tokens: &'t [Token<'a>],
-) -> Result<(Name<A>, &'t [Token<'a>]), Stop<'t, 'a>>
+) -> Result<(Name<A>, &'t [Token<'a>]), Failure<'t, 'a>>
     ensures { Gives (λ x. (name_of x.0, toks x.1.now)) result (take the_name (toks tokens.now)) }
 {
     match tokens {
@@ -78,8 +106,8 @@ pub fn name<'t, 'a, A: Allocator + Copy>(
                 },
                 rest,
             )),
-            _ => Err(Stop::Wrong(tokens)),
+            _ => Err(Failure::Wrong(tokens)),
         },
-        [] => Err(Stop::Wrong(tokens)),
+        [] => Err(Failure::Wrong(tokens)),
     }
 }

@@ -2,27 +2,29 @@
 
 ghost use Rattle.std.specs.Prelude.{◌≡◌, ◌^◌, ◌<◌, ◌≤◌, ◌+◌, ◌++◌, map, IfOk};
 ghost use Rattle.lex.specs.Tokens.{toks};
-ghost use Rattle.lex.specs.declared.token.Mark.TheVariants as m;
+ghost use Rattle.lex.specs.declared.token.Fixed.TheVariants as token;
+ghost use Rattle.lex.specs.declared.token.Keyword.TheVariants as key;
+ghost use Rattle.lex.specs.declared.token.Punctuator.TheVariants as punct;
 ghost use Rattle.syntax.specs.Tree as E;
 ghost use Rattle.syntax.specs.Depth.{expr_depth, deepest};
 ghost use Rattle.syntax.specs.Views.{expr_of, exprs_of};
-ghost use Rattle.parse.specs.Reading.{Fails, Gives, GivesOp, behind, head, is_other, many_until, mapped, next_op, sunk, take};
-ghost use Rattle.parse.specs.Expressions.{arguments, chosen_from, expr_at, named, opened, operand, operators, prefixed, starts_expr, the_constant, the_prefix, whole_at};
+ghost use Rattle.parse.specs.inner.Reading.{Fails, Gives, GivesOp, behind, head, is_other, many_until, mapped, next_op, sunk, take};
+ghost use Rattle.parse.specs.inner.Expressions.{arguments, conditional_at, expr_at, named, opened, operand, operators, prefixed, starts_expr, the_constant, the_prefix, whole_at};
 
-use crate::cursor::{expect, is_next, name, spot, start};
-use crate::fault::Stop;
+use crate::cursor::{counted, expect, is_next, name, spot};
+use crate::fault::Failure;
 use crate::lead::{Infix, Operand, infix_of, operand_at, precedence};
 use crate::node;
 use crate::scalar::{scalar, starts_type};
 use containers::Items;
-use lex::token::{Kind, Mark, Span, Token};
+use lex::token::{Fixed, Kind, Punctuator, Span, Token};
 use std::alloc::Allocator;
 use syntax::tree::{Expr, UnaryOp};
 
-// An expression, its depth, and the tokens after it.
+/// An expression, its depth, and the tokens after it.
 type Found<'t, 'a, A> = (Expr<A>, usize, &'t [Token<'a>]);
 
-// Expressions, the greatest of their depths, and the tokens after them.
+/// Expressions, the greatest of their depths, and the tokens after them.
 type Listed<'t, 'a, A> = (Items<Expr<A>, A>, usize, &'t [Token<'a>]);
 
 /// Whether an expression begins here.
@@ -35,36 +37,38 @@ pub fn starts_expr(tokens: &[Token]) -> bool
     }
 }
 
-// Why no expression is read where no depth is left.
-fn sunk<'t, 'a>(tokens: &'t [Token<'a>]) -> Stop<'t, 'a>
+/// Why no expression is read where no depth is left.
+fn sunk<'t, 'a>(tokens: &'t [Token<'a>]) -> Failure<'t, 'a>
     ensures { Fails result (sunk {A = E.Expr} starts_expr (toks tokens.now)) }
 {
     if starts_expr(tokens) {
-        Stop::Deep(tokens)
+        Failure::Deep(tokens)
     } else {
-        Stop::Wrong(tokens)
+        Failure::Wrong(tokens)
     }
 }
 
-// An operator at the front that binds at least as tightly as `min`, and the tokens after it.
+/// An operator at the front that binds at least as tightly as `min`, and the tokens after it.
 fn next_op<'t, 'a>(tokens: &'t [Token<'a>], min: usize) -> Option<(Infix, &'t [Token<'a>])>
     ensures { GivesOp result (next_op operators min (toks tokens.now)) }
 {
     let [first, after @ ..] = tokens else {
         return None;
     };
-    let Kind::Fixed(mark) = first.kind else {
+    let Kind::Punctuator(sign) = first.kind else {
         return None;
     };
-    let op = infix_of(mark)?;
+    let op = infix_of(Fixed::Punctuator(sign))?;
     if precedence(op) < min {
         return None;
     }
     Some((op, after))
 }
 
-// A constant.
-fn constant<'t, 'a, A: Allocator>(tokens: &'t [Token<'a>]) -> Result<Found<'t, 'a, A>, Stop<'t, 'a>>
+/// A constant.
+fn constant<'t, 'a, A: Allocator>(
+    tokens: &'t [Token<'a>],
+) -> Result<Found<'t, 'a, A>, Failure<'t, 'a>>
     ensures value { Gives (λ x. (expr_of x.0, toks x.2.now)) result (take the_constant (toks tokens.now)) }
     ensures deep { IfOk result (λ x. x.1 ≡ expr_depth (expr_of x.0)) }
     ensures flat { IfOk result (λ x. x.1 ≡ 1) }
@@ -72,37 +76,40 @@ fn constant<'t, 'a, A: Allocator>(tokens: &'t [Token<'a>]) -> Result<Found<'t, '
     match tokens {
         [first, rest @ ..] => match first.kind {
             Kind::Constant(n, of) => Ok((Expr::Constant(n, of, first.span), 1, rest)),
-            _ => Err(Stop::Wrong(tokens)),
+            _ => Err(Failure::Wrong(tokens)),
         },
-        [] => Err(Stop::Wrong(tokens)),
+        [] => Err(Failure::Wrong(tokens)),
     }
 }
 
-// An operator before its operand, and where it stands.
+/// `-`, `+`, `!` or `~`, and where it stands.
 fn prefix<'t, 'a>(
     tokens: &'t [Token<'a>],
-) -> Result<((UnaryOp, Span), &'t [Token<'a>]), Stop<'t, 'a>>
+) -> Result<((UnaryOp, Span), &'t [Token<'a>]), Failure<'t, 'a>>
     ensures { Gives (λ x. (x.0, toks x.1.now)) result (take the_prefix (toks tokens.now)) }
 {
     match tokens {
         [first, rest @ ..] => match first.kind {
-            Kind::Fixed(Mark::Minus) => Ok(((UnaryOp::Negate, first.span), rest)),
-            Kind::Fixed(Mark::Plus) => Ok(((UnaryOp::Keep, first.span), rest)),
-            Kind::Fixed(Mark::Not) => Ok(((UnaryOp::Not, first.span), rest)),
-            Kind::Fixed(Mark::Complement) => Ok(((UnaryOp::Complement, first.span), rest)),
-            _ => Err(Stop::Wrong(tokens)),
+            Kind::Punctuator(Punctuator::Minus) => Ok(((UnaryOp::Negate, first.span), rest)),
+            Kind::Punctuator(Punctuator::Plus) => Ok(((UnaryOp::Keep, first.span), rest)),
+            Kind::Punctuator(Punctuator::Not) => Ok(((UnaryOp::Not, first.span), rest)),
+            Kind::Punctuator(Punctuator::Complement) => Ok((
+                (UnaryOp::Complement, first.span),
+                rest,
+            )),
+            _ => Err(Failure::Wrong(tokens)),
         },
-        [] => Err(Stop::Wrong(tokens)),
+        [] => Err(Failure::Wrong(tokens)),
     }
 }
 
-// An operand behind an operator before it.
+/// `prefix operand`
 #[cycle(climbing)]
 fn prefixed<'t, 'a, A: Allocator + Copy>(
     alloc: A,
     tokens: &'t [Token<'a>],
     depth: usize,
-) -> Result<Found<'t, 'a, A>, Stop<'t, 'a>>
+) -> Result<Found<'t, 'a, A>, Failure<'t, 'a>>
     requires { depth < 2 ^ 32 }
     ensures value { Gives (λ x. (expr_of x.0, toks x.2.now)) result (prefixed (whole_at depth) (expr_at depth 11) (toks tokens.now)) }
     ensures deep { IfOk result (λ x. x.1 ≡ expr_depth (expr_of x.0)) }
@@ -113,31 +120,31 @@ fn prefixed<'t, 'a, A: Allocator + Copy>(
     Ok((node::unary(alloc, at, op, inner)?, deep + 1, rest))
 }
 
-// A cast, or an expression in parentheses.
+/// `( type ) operand` or `( expr )`
 #[cycle(climbing)]
 fn opened<'t, 'a, A: Allocator + Copy>(
     alloc: A,
     tokens: &'t [Token<'a>],
     depth: usize,
-) -> Result<Found<'t, 'a, A>, Stop<'t, 'a>>
+) -> Result<Found<'t, 'a, A>, Failure<'t, 'a>>
     requires { depth < 2 ^ 32 }
     ensures value { Gives (λ x. (expr_of x.0, toks x.2.now)) result (opened (whole_at depth) (expr_at depth 11) (toks tokens.now)) }
     ensures deep { IfOk result (λ x. x.1 ≡ expr_depth (expr_of x.0)) }
     ensures within { IfOk result (λ x. x.1 ≤ depth + 1) }
 {
-    let (at, rest) = spot(tokens, Mark::OpenParen)?;
+    let (at, rest) = spot(tokens, Fixed::Punctuator(Punctuator::OpenParen))?;
     if starts_type(rest) {
         let (to, rest) = scalar(rest)?;
-        let rest = expect(rest, Mark::CloseParen)?;
+        let rest = expect(rest, Fixed::Punctuator(Punctuator::CloseParen))?;
         let (inner, deep, rest) = climb(alloc, rest, depth, 11)?;
         return Ok((node::cast(alloc, at, to, inner)?, deep + 1, rest));
     }
     let (inner, deep, rest) = whole(alloc, rest, depth)?;
-    let (last, rest) = spot(rest, Mark::CloseParen)?;
+    let (last, rest) = spot(rest, Fixed::Punctuator(Punctuator::CloseParen))?;
     Ok((node::group(alloc, at, inner, last)?, deep + 1, rest))
 }
 
-// Adds further expressions, each behind a comma, to those that were read.
+/// `{ , expr }`: adds further expressions to those that were read.
 #[cycle(climbing)]
 fn extend<'t, 'a, A: Allocator + Copy>(
     alloc: A,
@@ -145,47 +152,47 @@ fn extend<'t, 'a, A: Allocator + Copy>(
     deep: usize,
     tokens: &'t [Token<'a>],
     depth: usize,
-) -> Result<Listed<'t, 'a, A>, Stop<'t, 'a>>
+) -> Result<Listed<'t, 'a, A>, Failure<'t, 'a>>
     requires fits { depth < 2 ^ 32 }
     requires measured { deep ≡ deepest (exprs_of read) }
     requires shallow { deep ≤ depth }
-    ensures value { Gives (λ x. (map expr_of x.0, toks x.2.now)) result (mapped (λ es. map expr_of read ++ es) (many_until (is_other m.Comma) (behind m.Comma (whole_at depth))) (toks tokens.now)) }
+    ensures value { Gives (λ x. (map expr_of x.0, toks x.2.now)) result (mapped (λ es. map expr_of read ++ es) (many_until (is_other (token.Punctuator punct.Comma)) (behind (token.Punctuator punct.Comma) (whole_at depth))) (toks tokens.now)) }
     ensures deep { IfOk result (λ x. x.1 ≡ deepest (exprs_of x.0)) }
     ensures within { IfOk result (λ x. x.1 ≤ depth) }
 {
-    let (mut rest, count) = start(tokens);
+    let (mut rest, count) = counted(tokens);
     let mut all = read;
     let mut most = deep;
     'turns: for _turn in 0..count {
-        if !is_next(rest, Mark::Comma) {
+        if !is_next(rest, Fixed::Punctuator(Punctuator::Comma)) {
             return Ok((all, most, rest));
         }
-        let after = expect(rest, Mark::Comma)?;
+        let after = expect(rest, Fixed::Punctuator(Punctuator::Comma))?;
         let (one, one_deep, after) = whole(alloc, after, depth)?;
         all.push(one)?;
         most = most.max(one_deep);
         rest = after;
     }
-    if is_next(rest, Mark::Comma) {
-        return Err(Stop::Wrong(rest));
+    if is_next(rest, Fixed::Punctuator(Punctuator::Comma)) {
+        return Err(Failure::Wrong(rest));
     }
     Ok((all, most, rest))
 }
 
-// A call's arguments.
+/// `[expr { , expr }]`
 #[cycle(climbing)]
 fn arguments<'t, 'a, A: Allocator + Copy>(
     alloc: A,
     tokens: &'t [Token<'a>],
     depth: usize,
-) -> Result<Listed<'t, 'a, A>, Stop<'t, 'a>>
+) -> Result<Listed<'t, 'a, A>, Failure<'t, 'a>>
     requires { depth < 2 ^ 32 }
     ensures value { Gives (λ x. (map expr_of x.0, toks x.2.now)) result (arguments (whole_at depth) (expr_at depth 11) (toks tokens.now)) }
     ensures deep { IfOk result (λ x. x.1 ≡ deepest (exprs_of x.0)) }
     ensures within { IfOk result (λ x. x.1 ≤ depth) }
 {
     let mut args = Items::new(alloc);
-    if is_next(tokens, Mark::CloseParen) {
+    if is_next(tokens, Fixed::Punctuator(Punctuator::CloseParen)) {
         return Ok((args, 0, tokens));
     }
     let (first, deep, rest) = whole(alloc, tokens, depth)?;
@@ -193,41 +200,41 @@ fn arguments<'t, 'a, A: Allocator + Copy>(
     extend(alloc, args, deep, rest, depth)
 }
 
-// A name, with an index or arguments where there are any.
+/// `name`, `name [ expr ]` or `name ( arguments )`
 #[cycle(climbing)]
 fn named<'t, 'a, A: Allocator + Copy>(
     alloc: A,
     tokens: &'t [Token<'a>],
     depth: usize,
-) -> Result<Found<'t, 'a, A>, Stop<'t, 'a>>
+) -> Result<Found<'t, 'a, A>, Failure<'t, 'a>>
     requires { depth < 2 ^ 32 }
     ensures value { Gives (λ x. (expr_of x.0, toks x.2.now)) result (named (whole_at depth) (expr_at depth 11) (toks tokens.now)) }
     ensures deep { IfOk result (λ x. x.1 ≡ expr_depth (expr_of x.0)) }
     ensures within { IfOk result (λ x. x.1 ≤ depth + 1) }
 {
     let (name, rest) = name(alloc, tokens)?;
-    if is_next(rest, Mark::OpenBracket) {
-        let rest = expect(rest, Mark::OpenBracket)?;
+    if is_next(rest, Fixed::Punctuator(Punctuator::OpenBracket)) {
+        let rest = expect(rest, Fixed::Punctuator(Punctuator::OpenBracket))?;
         let (index, deep, rest) = whole(alloc, rest, depth)?;
-        let (last, rest) = spot(rest, Mark::CloseBracket)?;
+        let (last, rest) = spot(rest, Fixed::Punctuator(Punctuator::CloseBracket))?;
         return Ok((node::element(alloc, name, index, last)?, deep + 1, rest));
     }
-    if is_next(rest, Mark::OpenParen) {
-        let rest = expect(rest, Mark::OpenParen)?;
+    if is_next(rest, Fixed::Punctuator(Punctuator::OpenParen)) {
+        let rest = expect(rest, Fixed::Punctuator(Punctuator::OpenParen))?;
         let (args, deep, rest) = arguments(alloc, rest, depth)?;
-        let (last, rest) = spot(rest, Mark::CloseParen)?;
+        let (last, rest) = spot(rest, Fixed::Punctuator(Punctuator::CloseParen))?;
         return Ok((node::call(name, args, last), deep + 1, rest));
     }
     Ok((Expr::Variable(name), 1, rest))
 }
 
-// An operand of an operator.
+/// `named | constant | opened | prefixed`
 #[cycle(climbing)]
 fn operand<'t, 'a, A: Allocator + Copy>(
     alloc: A,
     tokens: &'t [Token<'a>],
     depth: usize,
-) -> Result<Found<'t, 'a, A>, Stop<'t, 'a>>
+) -> Result<Found<'t, 'a, A>, Failure<'t, 'a>>
     requires { depth < 2 ^ 32 }
     ensures value { Gives (λ x. (expr_of x.0, toks x.2.now)) result (operand (whole_at depth) (expr_at depth 11) (toks tokens.now)) }
     ensures deep { IfOk result (λ x. x.1 ≡ expr_depth (expr_of x.0)) }
@@ -238,18 +245,19 @@ fn operand<'t, 'a, A: Allocator + Copy>(
         Operand::Constant => constant(tokens),
         Operand::Open => opened(alloc, tokens, depth),
         Operand::Prefix => prefixed(alloc, tokens, depth),
-        Operand::None => Err(Stop::Wrong(tokens)),
+        Operand::None => Err(Failure::Wrong(tokens)),
     }
 }
 
-// Operands, and operators that bind at least as tightly as `min`, which is 1 or more.
+/// `operand { infix operand }`, for operators that bind at least as tightly as `min`, which is 1 or more; those of one level
+/// group to the left.
 #[cycle(climbing)]
 fn climb<'t, 'a, A: Allocator + Copy>(
     alloc: A,
     tokens: &'t [Token<'a>],
     depth: usize,
     min: usize,
-) -> Result<Found<'t, 'a, A>, Stop<'t, 'a>>
+) -> Result<Found<'t, 'a, A>, Failure<'t, 'a>>
     requires fits { depth < 2 ^ 32 }
     requires operators { 1 ≤ min }
     ensures value { Gives (λ x. (expr_of x.0, toks x.2.now)) result (expr_at depth min (toks tokens.now)) }
@@ -266,7 +274,7 @@ fn climb<'t, 'a, A: Allocator + Copy>(
             return Ok((left, deep, rest));
         };
         if deep >= depth {
-            return Err(Stop::Deep(rest));
+            return Err(Failure::Deep(rest));
         }
         let (right, right_deep, after) = climb(alloc, after, below, precedence(op) + 1)?;
         left = node::infix(alloc, op, left, right)?;
@@ -274,36 +282,36 @@ fn climb<'t, 'a, A: Allocator + Copy>(
         rest = after;
     }
     match next_op(rest, min) {
-        Some(_) => Err(Stop::Deep(rest)),
+        Some(_) => Err(Failure::Deep(rest)),
         None => Ok((left, deep, rest)),
     }
 }
 
-// A condition and what it chooses from, or where no `?` follows the expression alone.
+/// `[? expr : expr]`, behind an expression.
 #[cycle(climbing)]
-fn chosen<'t, 'a, A: Allocator + Copy>(
+fn conditional<'t, 'a, A: Allocator + Copy>(
     alloc: A,
     condition: Expr<A>,
     deep: usize,
     tokens: &'t [Token<'a>],
     depth: usize,
-) -> Result<Found<'t, 'a, A>, Stop<'t, 'a>>
+) -> Result<Found<'t, 'a, A>, Failure<'t, 'a>>
     requires fits { depth < 2 ^ 32 }
     requires measured { deep ≡ expr_depth (expr_of condition) }
     requires shallow { deep ≤ depth + 1 }
-    ensures value { Gives (λ x. (expr_of x.0, toks x.2.now)) result (chosen_from (whole_at depth) depth (expr_of condition) (toks tokens.now)) }
+    ensures value { Gives (λ x. (expr_of x.0, toks x.2.now)) result (conditional_at (whole_at depth) depth (expr_of condition) (toks tokens.now)) }
     ensures deep { IfOk result (λ x. x.1 ≡ expr_depth (expr_of x.0)) }
     ensures within { IfOk result (λ x. x.1 ≤ depth + 1) }
 {
-    if !is_next(tokens, Mark::Question) {
+    if !is_next(tokens, Fixed::Punctuator(Punctuator::Question)) {
         return Ok((condition, deep, tokens));
     }
     if deep > depth {
-        return Err(Stop::Deep(tokens));
+        return Err(Failure::Deep(tokens));
     }
-    let rest = expect(tokens, Mark::Question)?;
+    let rest = expect(tokens, Fixed::Punctuator(Punctuator::Question))?;
     let (then, then_deep, rest) = whole(alloc, rest, depth)?;
-    let rest = expect(rest, Mark::Colon)?;
+    let rest = expect(rest, Fixed::Punctuator(Punctuator::Colon))?;
     let (other, other_deep, rest) = whole(alloc, rest, depth)?;
     let most = deep.max(then_deep.max(other_deep));
     Ok((
@@ -313,13 +321,13 @@ fn chosen<'t, 'a, A: Allocator + Copy>(
     ))
 }
 
-// Any expression within a depth.
+/// `climb [? expr : expr]`: any expression within a depth, and how deep it is.
 #[cycle(climbing)]
 fn whole<'t, 'a, A: Allocator + Copy>(
     alloc: A,
     tokens: &'t [Token<'a>],
     depth: usize,
-) -> Result<Found<'t, 'a, A>, Stop<'t, 'a>>
+) -> Result<Found<'t, 'a, A>, Failure<'t, 'a>>
     requires { depth < 2 ^ 32 }
     ensures value { Gives (λ x. (expr_of x.0, toks x.2.now)) result (whole_at depth (toks tokens.now)) }
     ensures deep { IfOk result (λ x. x.1 ≡ expr_depth (expr_of x.0)) }
@@ -329,7 +337,7 @@ fn whole<'t, 'a, A: Allocator + Copy>(
         return Err(sunk(tokens));
     }
     let (condition, deep, rest) = climb(alloc, tokens, depth, 1)?;
-    chosen(alloc, condition, deep, rest, depth - 1)
+    conditional(alloc, condition, deep, rest, depth - 1)
 }
 
 /// Any expression within a depth.
@@ -337,7 +345,7 @@ pub fn expression<'t, 'a, A: Allocator + Copy>(
     alloc: A,
     tokens: &'t [Token<'a>],
     depth: usize,
-) -> Result<(Expr<A>, &'t [Token<'a>]), Stop<'t, 'a>>
+) -> Result<(Expr<A>, &'t [Token<'a>]), Failure<'t, 'a>>
     requires { depth < 2 ^ 32 }
     ensures { Gives (λ x. (expr_of x.0, toks x.1.now)) result (whole_at depth (toks tokens.now)) }
 {
@@ -350,9 +358,9 @@ pub fn further<'t, 'a, A: Allocator + Copy>(
     alloc: A,
     tokens: &'t [Token<'a>],
     depth: usize,
-) -> Result<(Items<Expr<A>, A>, &'t [Token<'a>]), Stop<'t, 'a>>
+) -> Result<(Items<Expr<A>, A>, &'t [Token<'a>]), Failure<'t, 'a>>
     requires { depth < 2 ^ 32 }
-    ensures { Gives (λ x. (map expr_of x.0, toks x.1.now)) result (many_until (is_other m.Comma) (behind m.Comma (whole_at depth)) (toks tokens.now)) }
+    ensures { Gives (λ x. (map expr_of x.0, toks x.1.now)) result (many_until (is_other (token.Punctuator punct.Comma)) (behind (token.Punctuator punct.Comma) (whole_at depth)) (toks tokens.now)) }
 {
     let (all, _, rest) = extend(alloc, Items::new(alloc), 0, tokens, depth)?;
     Ok((all, rest))

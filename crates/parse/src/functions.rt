@@ -2,22 +2,24 @@
 
 ghost use Rattle.std.specs.Prelude.{◌≡◌, ◌<◌, ◌^◌, map, option_map};
 ghost use Rattle.lex.specs.Tokens.{toks};
-ghost use Rattle.lex.specs.declared.token.Mark.TheVariants as m;
+ghost use Rattle.lex.specs.declared.token.Fixed.TheVariants as token;
+ghost use Rattle.lex.specs.declared.token.Keyword.TheVariants as key;
+ghost use Rattle.lex.specs.declared.token.Punctuator.TheVariants as punct;
 ghost use Rattle.syntax.specs.Views.{name_of, parameter_of, stmts_of, item_of};
 ghost use Rattle.syntax.specs.Grammar.{the_name};
-ghost use Rattle.parse.specs.Reading.{Gives, behind, listed, head};
-ghost use Rattle.parse.specs.Expressions.{says};
-ghost use Rattle.parse.specs.Items.{parameter, parameter_list, parameters, are_named, body_at, function_at, header};
-ghost use Rattle.parse.specs.Items as items;
-ghost use Rattle.parse.specs.Headings.{heading_of};
+ghost use Rattle.parse.specs.inner.Reading.{Gives, behind, listed, head};
+ghost use Rattle.parse.specs.inner.Expressions.{says};
+ghost use Rattle.parse.specs.inner.Items.{parameter, parameter_list, parameters, are_named, body_at, function_at, header};
+ghost use Rattle.parse.specs.inner.Items as items;
+ghost use Rattle.parse.specs.inner.Headings.{heading_of};
 
 use crate::attributes::{attributes, joined};
 use crate::cursor::{expect, is_next, name};
-use crate::fault::Stop;
+use crate::fault::Failure;
 use crate::scalar::scalar;
 use crate::stmt::block;
 use containers::Items;
-use lex::token::{Kind, Mark, Scalar, Token};
+use lex::token::{Fixed, Keyword, Kind, Punctuator, Scalar, Token};
 use std::alloc::Allocator;
 use syntax::tree::{Attribute, Function, Item, Name, Parameter, Stmt};
 
@@ -31,25 +33,25 @@ pub struct Heading<A: Allocator> {
     pub name: Name<A>,
 }
 
-// The type of a function's value, or `void`.
+/// `void` or `type`: the type of a function's value.
 fn result<'t, 'a>(
     tokens: &'t [Token<'a>],
-) -> Result<(Option<Scalar>, &'t [Token<'a>]), Stop<'t, 'a>>
+) -> Result<(Option<Scalar>, &'t [Token<'a>]), Failure<'t, 'a>>
     ensures { Gives (λ x. (x.0, toks x.1.now)) result (items.result (toks tokens.now)) }
 {
-    if is_next(tokens, Mark::Void) {
-        let rest = expect(tokens, Mark::Void)?;
+    if is_next(tokens, Fixed::Keyword(Keyword::Void)) {
+        let rest = expect(tokens, Fixed::Keyword(Keyword::Void))?;
         return Ok((None, rest));
     }
     let (of, rest) = scalar(tokens)?;
     Ok((Some(of), rest))
 }
 
-/// What an item begins with.
+/// `attributes result name`
 pub fn header<'t, 'a, A: Allocator + Copy>(
     alloc: A,
     tokens: &'t [Token<'a>],
-) -> Result<(Heading<A>, &'t [Token<'a>]), Stop<'t, 'a>>
+) -> Result<(Heading<A>, &'t [Token<'a>]), Failure<'t, 'a>>
     ensures { Gives (λ x. (heading_of x.0, toks x.1.now)) result (header (toks tokens.now)) }
 {
     let (attributes, rest) = attributes(alloc, tokens)?;
@@ -65,6 +67,7 @@ pub fn header<'t, 'a, A: Allocator + Copy>(
     ))
 }
 
+/// Whether a name begins here.
 fn is_name(tokens: &[Token]) -> bool
     ensures { result ≡ says the_name (head (toks tokens.now)) }
 {
@@ -74,11 +77,11 @@ fn is_name(tokens: &[Token]) -> bool
     }
 }
 
-// A parameter, which may have no name.
+/// `type [name]`
 fn parameter<'t, 'a, A: Allocator + Copy>(
     alloc: A,
     tokens: &'t [Token<'a>],
-) -> Result<(Parameter<A>, &'t [Token<'a>]), Stop<'t, 'a>>
+) -> Result<(Parameter<A>, &'t [Token<'a>]), Failure<'t, 'a>>
     ensures { Gives (λ x. (parameter_of x.0, toks x.1.now)) result (parameter (toks tokens.now)) }
 {
     let (of, rest) = scalar(tokens)?;
@@ -90,23 +93,23 @@ fn parameter<'t, 'a, A: Allocator + Copy>(
     Ok((Parameter { of, name: None }, rest))
 }
 
-// A further parameter, behind its comma.
+/// A further parameter, behind its comma.
 fn another<'t, 'a, A: Allocator + Copy>(
     alloc: A,
     tokens: &'t [Token<'a>],
-) -> Result<(Parameter<A>, &'t [Token<'a>]), Stop<'t, 'a>>
-    ensures { Gives (λ x. (parameter_of x.0, toks x.1.now)) result (behind m.Comma parameter (toks tokens.now)) }
+) -> Result<(Parameter<A>, &'t [Token<'a>]), Failure<'t, 'a>>
+    ensures { Gives (λ x. (parameter_of x.0, toks x.1.now)) result (behind (token.Punctuator punct.Comma) parameter (toks tokens.now)) }
 {
-    let rest = expect(tokens, Mark::Comma)?;
+    let rest = expect(tokens, Fixed::Punctuator(Punctuator::Comma))?;
     let (one, rest) = parameter(alloc, rest)?;
     Ok((one, rest))
 }
 
-// One parameter or more, with commas between.
+/// `parameter { , parameter }`
 fn several<'t, 'a, A: Allocator + Copy>(
     alloc: A,
     tokens: &'t [Token<'a>],
-) -> Result<(Items<Parameter<A>, A>, &'t [Token<'a>]), Stop<'t, 'a>>
+) -> Result<(Items<Parameter<A>, A>, &'t [Token<'a>]), Failure<'t, 'a>>
     ensures { Gives (λ x. (map parameter_of x.0, toks x.1.now)) result (listed parameter (toks tokens.now)) }
 {
     let (first, inner) = parameter(alloc, tokens)?;
@@ -114,83 +117,84 @@ fn several<'t, 'a, A: Allocator + Copy>(
     all.push(first)?;
     let mut rest = inner;
     'turns: for _turn in 0..inner.len() {
-        if !is_next(rest, Mark::Comma) {
+        if !is_next(rest, Fixed::Punctuator(Punctuator::Comma)) {
             return Ok((all, rest));
         }
         let (one, after) = another(alloc, rest)?;
         all.push(one)?;
         rest = after;
     }
-    if is_next(rest, Mark::Comma) {
-        return Err(Stop::Wrong(rest));
+    if is_next(rest, Fixed::Punctuator(Punctuator::Comma)) {
+        return Err(Failure::Wrong(rest));
     }
     Ok((all, rest))
 }
 
-// What stands between the parentheses: nothing, `void`, or parameters.
+/// `[void | parameter { , parameter }]`
 fn parameter_list<'t, 'a, A: Allocator + Copy>(
     alloc: A,
     tokens: &'t [Token<'a>],
-) -> Result<(Items<Parameter<A>, A>, &'t [Token<'a>]), Stop<'t, 'a>>
+) -> Result<(Items<Parameter<A>, A>, &'t [Token<'a>]), Failure<'t, 'a>>
     ensures { Gives (λ x. (map parameter_of x.0, toks x.1.now)) result (parameter_list (toks tokens.now)) }
 {
-    if is_next(tokens, Mark::CloseParen) {
+    if is_next(tokens, Fixed::Punctuator(Punctuator::CloseParen)) {
         return Ok((Items::new(alloc), tokens));
     }
-    if is_next(tokens, Mark::Void) {
-        let rest = expect(tokens, Mark::Void)?;
+    if is_next(tokens, Fixed::Keyword(Keyword::Void)) {
+        let rest = expect(tokens, Fixed::Keyword(Keyword::Void))?;
         return Ok((Items::new(alloc), rest));
     }
     several(alloc, tokens)
 }
 
+/// `( parameter_list )`
 fn parameters<'t, 'a, A: Allocator + Copy>(
     alloc: A,
     tokens: &'t [Token<'a>],
-) -> Result<(Items<Parameter<A>, A>, &'t [Token<'a>]), Stop<'t, 'a>>
+) -> Result<(Items<Parameter<A>, A>, &'t [Token<'a>]), Failure<'t, 'a>>
     ensures { Gives (λ x. (map parameter_of x.0, toks x.1.now)) result (parameters (toks tokens.now)) }
 {
-    let rest = expect(tokens, Mark::OpenParen)?;
+    let rest = expect(tokens, Fixed::Punctuator(Punctuator::OpenParen))?;
     let (all, rest) = parameter_list(alloc, rest)?;
-    let rest = expect(rest, Mark::CloseParen)?;
+    let rest = expect(rest, Fixed::Punctuator(Punctuator::CloseParen))?;
     Ok((all, rest))
 }
 
-// Whether each of them has a name.
+/// Whether each of them has a name.
 fn are_named<A: Allocator>(parameters: &[Parameter<A>]) -> bool
     ensures { result ≡ are_named (map parameter_of parameters.now) }
 {
     parameters.iter().all(|parameter| parameter.name.is_some())
 }
 
-// A prototype's end, or a body where the parameters allow one.
+/// `;` or, where each parameter has a name, `block`
 fn body<'t, 'a, A: Allocator + Copy>(
     alloc: A,
     tokens: &'t [Token<'a>],
     depth: usize,
     parameters: &[Parameter<A>],
-) -> Result<(Option<Items<Stmt<A>, A>>, &'t [Token<'a>]), Stop<'t, 'a>>
+) -> Result<(Option<Items<Stmt<A>, A>>, &'t [Token<'a>]), Failure<'t, 'a>>
     requires { depth < 2 ^ 32 }
     ensures { Gives (λ x. (option_map stmts_of x.0, toks x.1.now)) result (body_at depth (map parameter_of parameters.now) (toks tokens.now)) }
 {
-    if !is_next(tokens, Mark::OpenBrace) {
-        let rest = expect(tokens, Mark::Semicolon)?;
+    if !is_next(tokens, Fixed::Punctuator(Punctuator::OpenBrace)) {
+        let rest = expect(tokens, Fixed::Punctuator(Punctuator::Semicolon))?;
         return Ok((None, rest));
     }
     if !are_named(parameters) {
-        return Err(Stop::Wrong(tokens));
+        return Err(Failure::Wrong(tokens));
     }
     let (body, rest) = block(alloc, tokens, depth)?;
     Ok((Some(body), rest))
 }
 
-/// A function, behind its header.
+/// `parameters attributes body`, behind a header.
 pub fn function<'t, 'a, A: Allocator + Copy>(
     alloc: A,
     tokens: &'t [Token<'a>],
     depth: usize,
     heading: Heading<A>,
-) -> Result<(Item<A>, &'t [Token<'a>]), Stop<'t, 'a>>
+) -> Result<(Item<A>, &'t [Token<'a>]), Failure<'t, 'a>>
     requires { depth < 2 ^ 32 }
     ensures { Gives (λ x. (item_of x.0, toks x.1.now)) result (function_at depth (heading_of heading) (toks tokens.now)) }
 {

@@ -2,16 +2,18 @@
 
 ghost use Rattle.std.specs.Prelude.{◌≡◌, map};
 ghost use Rattle.lex.specs.Tokens.{toks};
-ghost use Rattle.lex.specs.declared.token.Mark.TheVariants as m;
+ghost use Rattle.lex.specs.declared.token.Fixed.TheVariants as token;
+ghost use Rattle.lex.specs.declared.token.Keyword.TheVariants as key;
+ghost use Rattle.lex.specs.declared.token.Punctuator.TheVariants as punct;
 ghost use Rattle.syntax.specs.Views.{name_of, global_of, item_of};
 ghost use Rattle.syntax.specs.Grammar.{the_length};
-ghost use Rattle.parse.specs.Reading.{Gives, take, behind};
-ghost use Rattle.parse.specs.Items.{the_placed_value, initialiser, first_value, further_values, first_values, sized, global, value_list, several, globals_from};
+ghost use Rattle.parse.specs.inner.Reading.{Gives, take, behind};
+ghost use Rattle.parse.specs.inner.Items.{the_placed_value, initialiser, first_value, further_values, first_values, sized, global, value_list, several, globals_from};
 
 use crate::cursor::{expect, is_next, name, spot};
-use crate::fault::Stop;
+use crate::fault::Failure;
 use containers::Items;
-use lex::token::{Kind, Mark, Scalar, Span, Token};
+use lex::token::{Fixed, Kind, Punctuator, Scalar, Span, Token};
 use std::alloc::Allocator;
 use syntax::tree::{First, Global, Item, Name};
 
@@ -24,36 +26,39 @@ type Firsts<'t, 'a, A> = (Items<First, A>, &'t [Token<'a>]);
 /// An array's length or none, first values, and the tokens after them.
 type Sized<'t, 'a, A> = ((Option<(u32, Span)>, Items<First, A>), &'t [Token<'a>]);
 
-fn constant<'t, 'a>(tokens: &'t [Token<'a>]) -> Result<Placed<'t, 'a>, Stop<'t, 'a>>
+/// A constant, with its type and its place.
+fn constant<'t, 'a>(tokens: &'t [Token<'a>]) -> Result<Placed<'t, 'a>, Failure<'t, 'a>>
     ensures { Gives (λ x. (x.0, toks x.1.now)) result (take the_placed_value (toks tokens.now)) }
 {
     match tokens {
         [first, rest @ ..] => match first.kind {
             Kind::Constant(n, of) => Ok((((n, of), first.span), rest)),
-            _ => Err(Stop::Wrong(tokens)),
+            _ => Err(Failure::Wrong(tokens)),
         },
-        [] => Err(Stop::Wrong(tokens)),
+        [] => Err(Failure::Wrong(tokens)),
     }
 }
 
-// An array's length, and where it stands.
-fn length<'t, 'a>(tokens: &'t [Token<'a>]) -> Result<((u32, Span), &'t [Token<'a>]), Stop<'t, 'a>>
+/// An array's length, and where it stands.
+fn length<'t, 'a>(
+    tokens: &'t [Token<'a>],
+) -> Result<((u32, Span), &'t [Token<'a>]), Failure<'t, 'a>>
     ensures { Gives (λ x. (x.0, toks x.1.now)) result (take the_length (toks tokens.now)) }
 {
     match tokens {
         [first, rest @ ..] => match first.kind {
             Kind::Constant(n, _) => Ok(((n, first.span), rest)),
-            _ => Err(Stop::Wrong(tokens)),
+            _ => Err(Failure::Wrong(tokens)),
         },
-        [] => Err(Stop::Wrong(tokens)),
+        [] => Err(Failure::Wrong(tokens)),
     }
 }
 
-// A number that a global begins with.
-fn initialiser<'t, 'a>(tokens: &'t [Token<'a>]) -> Result<(First, &'t [Token<'a>]), Stop<'t, 'a>>
+/// `[-] constant`
+fn initialiser<'t, 'a>(tokens: &'t [Token<'a>]) -> Result<(First, &'t [Token<'a>]), Failure<'t, 'a>>
     ensures { Gives (λ x. (x.0, toks x.1.now)) result (initialiser (toks tokens.now)) }
 {
-    if !is_next(tokens, Mark::Minus) {
+    if !is_next(tokens, Fixed::Punctuator(Punctuator::Minus)) {
         let (((value, of), span), rest) = constant(tokens)?;
         let first = First {
             negative: false,
@@ -63,7 +68,7 @@ fn initialiser<'t, 'a>(tokens: &'t [Token<'a>]) -> Result<(First, &'t [Token<'a>
         };
         return Ok((first, rest));
     }
-    let (minus, rest) = spot(tokens, Mark::Minus)?;
+    let (minus, rest) = spot(tokens, Fixed::Punctuator(Punctuator::Minus))?;
     let (((value, of), at), rest) = constant(rest)?;
     let first = First {
         negative: true,
@@ -77,28 +82,28 @@ fn initialiser<'t, 'a>(tokens: &'t [Token<'a>]) -> Result<(First, &'t [Token<'a>
     Ok((first, rest))
 }
 
-// What a variable begins with.
+/// `[= initialiser]`
 fn first_value<'t, 'a, A: Allocator + Copy>(
     alloc: A,
     tokens: &'t [Token<'a>],
-) -> Result<Firsts<'t, 'a, A>, Stop<'t, 'a>>
+) -> Result<Firsts<'t, 'a, A>, Failure<'t, 'a>>
     ensures { Gives (λ x. (x.0, toks x.1.now)) result (first_value (toks tokens.now)) }
 {
     let mut first = Items::new(alloc);
-    if !is_next(tokens, Mark::Assign) {
+    if !is_next(tokens, Fixed::Punctuator(Punctuator::Assign)) {
         return Ok((first, tokens));
     }
-    let rest = expect(tokens, Mark::Assign)?;
+    let rest = expect(tokens, Fixed::Punctuator(Punctuator::Assign))?;
     let (value, rest) = initialiser(rest)?;
     first.push(value)?;
     Ok((first, rest))
 }
 
-// The values between an array's braces; a comma may stand behind the last one.
+/// `initialiser { , initialiser } [,]`
 fn value_list<'t, 'a, A: Allocator + Copy>(
     alloc: A,
     tokens: &'t [Token<'a>],
-) -> Result<Firsts<'t, 'a, A>, Stop<'t, 'a>>
+) -> Result<Firsts<'t, 'a, A>, Failure<'t, 'a>>
     ensures { Gives (λ x. (x.0, toks x.1.now)) result (value_list (toks tokens.now)) }
 {
     let (first, inner) = initialiser(tokens)?;
@@ -106,67 +111,67 @@ fn value_list<'t, 'a, A: Allocator + Copy>(
     all.push(first)?;
     let mut rest = inner;
     'turns: for _turn in 0..inner.len() {
-        if !is_next(rest, Mark::Comma) {
+        if !is_next(rest, Fixed::Punctuator(Punctuator::Comma)) {
             return Ok((all, rest));
         }
-        let next = expect(rest, Mark::Comma)?;
-        if is_next(next, Mark::CloseBrace) {
+        let next = expect(rest, Fixed::Punctuator(Punctuator::Comma))?;
+        if is_next(next, Fixed::Punctuator(Punctuator::CloseBrace)) {
             return Ok((all, next));
         }
         let (one, after) = initialiser(next)?;
         all.push(one)?;
         rest = after;
     }
-    if is_next(rest, Mark::Comma) {
-        return Err(Stop::Wrong(rest));
+    if is_next(rest, Fixed::Punctuator(Punctuator::Comma)) {
+        return Err(Failure::Wrong(rest));
     }
     Ok((all, rest))
 }
 
-// What an array begins with.
+/// `[= { value_list }]`
 fn first_values<'t, 'a, A: Allocator + Copy>(
     alloc: A,
     tokens: &'t [Token<'a>],
-) -> Result<Firsts<'t, 'a, A>, Stop<'t, 'a>>
+) -> Result<Firsts<'t, 'a, A>, Failure<'t, 'a>>
     ensures { Gives (λ x. (x.0, toks x.1.now)) result (first_values (toks tokens.now)) }
 {
-    if !is_next(tokens, Mark::Assign) {
+    if !is_next(tokens, Fixed::Punctuator(Punctuator::Assign)) {
         return Ok((Items::new(alloc), tokens));
     }
-    let rest = expect(tokens, Mark::Assign)?;
-    let rest = expect(rest, Mark::OpenBrace)?;
+    let rest = expect(tokens, Fixed::Punctuator(Punctuator::Assign))?;
+    let rest = expect(rest, Fixed::Punctuator(Punctuator::OpenBrace))?;
     let (all, rest) = value_list(alloc, rest)?;
-    let rest = expect(rest, Mark::CloseBrace)?;
+    let rest = expect(rest, Fixed::Punctuator(Punctuator::CloseBrace))?;
     Ok((all, rest))
 }
 
-// What stands behind a global's name.
+/// `[= initialiser]` or `[ length ] [= { value_list }]`, behind a global's name.
 fn sized<'t, 'a, A: Allocator + Copy>(
     alloc: A,
     tokens: &'t [Token<'a>],
-) -> Result<Sized<'t, 'a, A>, Stop<'t, 'a>>
+) -> Result<Sized<'t, 'a, A>, Failure<'t, 'a>>
     ensures { Gives (λ x. ((x.0.0, x.0.1), toks x.1.now)) result (sized (toks tokens.now)) }
 {
-    if !is_next(tokens, Mark::OpenBracket) {
+    if !is_next(tokens, Fixed::Punctuator(Punctuator::OpenBracket)) {
         let (first, rest) = first_value(alloc, tokens)?;
         return Ok(((None, first), rest));
     }
-    let rest = expect(tokens, Mark::OpenBracket)?;
+    let rest = expect(tokens, Fixed::Punctuator(Punctuator::OpenBracket))?;
     let (length, rest) = length(rest)?;
-    let rest = expect(rest, Mark::CloseBracket)?;
+    let rest = expect(rest, Fixed::Punctuator(Punctuator::CloseBracket))?;
     let (first, rest) = first_values(alloc, rest)?;
     Ok(((Some(length), first), rest))
 }
 
-// A further global, behind its comma.
+/// A further global, behind its comma.
 fn another<'t, 'a, A: Allocator + Copy>(
     alloc: A,
     tokens: &'t [Token<'a>],
     of: Scalar,
-) -> Result<(Global<A>, &'t [Token<'a>]), Stop<'t, 'a>>
-    ensures { Gives (λ x. (global_of x.0, toks x.1.now)) result (behind m.Comma (global of) (toks tokens.now)) }
+) -> Result<(Global<A>, &'t [Token<'a>]), Failure<'t, 'a>>
+    ensures { Gives (λ x. (global_of x.0, toks x.1.now)) result (behind (token.Punctuator punct.Comma) (global of) (toks tokens.now)) }
 {
-    let rest = expect(tokens, Mark::Comma)?;
+    let rest = expect(tokens, Fixed::Punctuator(Punctuator::Comma))?;
     let (name, rest) = name(alloc, rest)?;
     let ((length, first), rest) = sized(alloc, rest)?;
     Ok((
@@ -180,13 +185,13 @@ fn another<'t, 'a, A: Allocator + Copy>(
     ))
 }
 
-// The globals of one declaration, behind the first one's name.
+/// The globals of one declaration, behind the first one's name.
 fn several<'t, 'a, A: Allocator + Copy>(
     alloc: A,
     tokens: &'t [Token<'a>],
     of: Scalar,
     name: Name<A>,
-) -> Result<(Items<Global<A>, A>, &'t [Token<'a>]), Stop<'t, 'a>>
+) -> Result<(Items<Global<A>, A>, &'t [Token<'a>]), Failure<'t, 'a>>
     ensures { Gives (λ x. (map global_of x.0, toks x.1.now)) result (several of (name_of name) (toks tokens.now)) }
 {
     let ((length, first), inner) = sized(alloc, tokens)?;
@@ -199,29 +204,29 @@ fn several<'t, 'a, A: Allocator + Copy>(
     })?;
     let mut rest = inner;
     'turns: for _turn in 0..inner.len() {
-        if !is_next(rest, Mark::Comma) {
+        if !is_next(rest, Fixed::Punctuator(Punctuator::Comma)) {
             return Ok((all, rest));
         }
         let (one, after) = another(alloc, rest, of)?;
         all.push(one)?;
         rest = after;
     }
-    if is_next(rest, Mark::Comma) {
-        return Err(Stop::Wrong(rest));
+    if is_next(rest, Fixed::Punctuator(Punctuator::Comma)) {
+        return Err(Failure::Wrong(rest));
     }
     Ok((all, rest))
 }
 
-/// The globals of one declaration, behind the first one's name, and their end.
+/// `sized { , name sized } ;`, behind the first global's type and name.
 pub fn globals<'t, 'a, A: Allocator + Copy>(
     alloc: A,
     tokens: &'t [Token<'a>],
     of: Scalar,
     name: Name<A>,
-) -> Result<(Item<A>, &'t [Token<'a>]), Stop<'t, 'a>>
+) -> Result<(Item<A>, &'t [Token<'a>]), Failure<'t, 'a>>
     ensures { Gives (λ x. (item_of x.0, toks x.1.now)) result (globals_from of (name_of name) (toks tokens.now)) }
 {
     let (all, rest) = several(alloc, tokens, of, name)?;
-    let rest = expect(rest, Mark::Semicolon)?;
+    let rest = expect(rest, Fixed::Punctuator(Punctuator::Semicolon))?;
     Ok((Item::Globals(all), rest))
 }

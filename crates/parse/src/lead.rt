@@ -3,11 +3,11 @@
 ghost use Rattle.std.specs.Prelude.{◌≡◌};
 ghost use Rattle.lex.specs.Tokens.{toks};
 ghost use Rattle.syntax.specs.Grammar.{binary_of, logical_of};
-ghost use Rattle.parse.specs.Reading.{head};
-ghost use Rattle.parse.specs.Expressions.{infix_of, infix_precedence, operand_at};
-ghost use Rattle.parse.specs.Statements.{lead_mark, lead_at};
+ghost use Rattle.parse.specs.inner.Reading.{head};
+ghost use Rattle.parse.specs.inner.Expressions.{infix_of, infix_precedence, operand_at};
+ghost use Rattle.parse.specs.inner.Statements.{lead_fixed, lead_at};
 
-use lex::token::{Kind, Mark, Token};
+use lex::token::{Fixed, Keyword, Kind, Punctuator, Token};
 use syntax::tree::{BinaryOp, LogicalOp, Mode};
 
 /// An operator between two operands.
@@ -48,24 +48,24 @@ pub enum Lead {
     Simple,
 }
 
-// The kind of statement that a keyword or sign begins.
-fn lead_mark(mark: Mark) -> Lead
-    ensures { result ≡ lead_mark mark }
+/// The kind of statement that a keyword or punctuator begins.
+fn lead_fixed(fixed: Fixed) -> Lead
+    ensures { result ≡ lead_fixed fixed }
 {
-    match mark {
-        Mark::Semicolon => Lead::Empty,
-        Mark::OpenBrace => Lead::Block,
-        Mark::Printf => Lead::Print,
-        Mark::If => Lead::If,
-        Mark::While => Lead::While,
-        Mark::Do => Lead::Do,
-        Mark::For => Lead::For,
-        Mark::Break => Lead::Break,
-        Mark::Continue => Lead::Continue,
-        Mark::Return => Lead::Return,
-        Mark::Atomic => Lead::Transaction(Mode::Atomic),
-        Mark::Relaxed => Lead::Transaction(Mode::Relaxed),
-        Mark::Cancel => Lead::Cancel,
+    match fixed {
+        Fixed::Punctuator(Punctuator::Semicolon) => Lead::Empty,
+        Fixed::Punctuator(Punctuator::OpenBrace) => Lead::Block,
+        Fixed::Keyword(Keyword::Printf) => Lead::Print,
+        Fixed::Keyword(Keyword::If) => Lead::If,
+        Fixed::Keyword(Keyword::While) => Lead::While,
+        Fixed::Keyword(Keyword::Do) => Lead::Do,
+        Fixed::Keyword(Keyword::For) => Lead::For,
+        Fixed::Keyword(Keyword::Break) => Lead::Break,
+        Fixed::Keyword(Keyword::Continue) => Lead::Continue,
+        Fixed::Keyword(Keyword::Return) => Lead::Return,
+        Fixed::Keyword(Keyword::Atomic) => Lead::Transaction(Mode::Atomic),
+        Fixed::Keyword(Keyword::Relaxed) => Lead::Transaction(Mode::Relaxed),
+        Fixed::Keyword(Keyword::Cancel) => Lead::Cancel,
         _ => Lead::Simple,
     }
 }
@@ -76,7 +76,8 @@ pub fn lead_at(tokens: &[Token]) -> Lead
 {
     match tokens {
         [first, ..] => match first.kind {
-            Kind::Fixed(mark) => lead_mark(mark),
+            Kind::Keyword(keyword) => lead_fixed(Fixed::Keyword(keyword)),
+            Kind::Punctuator(sign) => lead_fixed(Fixed::Punctuator(sign)),
             _ => Lead::Simple,
         },
         [] => Lead::Simple,
@@ -91,8 +92,10 @@ pub fn operand_at(tokens: &[Token]) -> Operand
         [first, ..] => match first.kind {
             Kind::Name(_) => Operand::Name,
             Kind::Constant(_, _) => Operand::Constant,
-            Kind::Fixed(Mark::OpenParen) => Operand::Open,
-            Kind::Fixed(Mark::Minus | Mark::Plus | Mark::Not | Mark::Complement) => Operand::Prefix,
+            Kind::Punctuator(Punctuator::OpenParen) => Operand::Open,
+            Kind::Punctuator(
+                Punctuator::Minus | Punctuator::Plus | Punctuator::Not | Punctuator::Complement,
+            ) => Operand::Prefix,
             _ => Operand::None,
         },
         [] => Operand::None,
@@ -100,28 +103,30 @@ pub fn operand_at(tokens: &[Token]) -> Operand
 }
 
 /// The operator that a sign is between two operands.
-pub fn infix_of(mark: Mark) -> Option<Infix>
-    ensures { result ≡ infix_of (binary_of mark) (logical_of mark) }
+pub fn infix_of(fixed: Fixed) -> Option<Infix>
+    ensures { result ≡ infix_of (binary_of fixed) (logical_of fixed) }
 {
-    let op = match mark {
-        Mark::LogicalOr => return Some(Infix::Choosing(LogicalOp::OrElse)),
-        Mark::LogicalAnd => return Some(Infix::Choosing(LogicalOp::AndThen)),
-        Mark::Or => BinaryOp::Or,
-        Mark::Xor => BinaryOp::Xor,
-        Mark::And => BinaryOp::And,
-        Mark::Equal => BinaryOp::Equal,
-        Mark::NotEqual => BinaryOp::NotEqual,
-        Mark::Less => BinaryOp::Less,
-        Mark::Greater => BinaryOp::Greater,
-        Mark::LessEqual => BinaryOp::LessEqual,
-        Mark::GreaterEqual => BinaryOp::GreaterEqual,
-        Mark::ShiftLeft => BinaryOp::ShiftLeft,
-        Mark::ShiftRight => BinaryOp::ShiftRight,
-        Mark::Plus => BinaryOp::Add,
-        Mark::Minus => BinaryOp::Subtract,
-        Mark::Star => BinaryOp::Multiply,
-        Mark::Slash => BinaryOp::Divide,
-        Mark::Percent => BinaryOp::Remainder,
+    let op = match fixed {
+        Fixed::Punctuator(Punctuator::LogicalOr) => return Some(Infix::Choosing(LogicalOp::OrElse)),
+        Fixed::Punctuator(Punctuator::LogicalAnd) => return Some(Infix::Choosing(
+            LogicalOp::AndThen,
+        )),
+        Fixed::Punctuator(Punctuator::Or) => BinaryOp::Or,
+        Fixed::Punctuator(Punctuator::Xor) => BinaryOp::Xor,
+        Fixed::Punctuator(Punctuator::And) => BinaryOp::And,
+        Fixed::Punctuator(Punctuator::Equal) => BinaryOp::Equal,
+        Fixed::Punctuator(Punctuator::NotEqual) => BinaryOp::NotEqual,
+        Fixed::Punctuator(Punctuator::Less) => BinaryOp::Less,
+        Fixed::Punctuator(Punctuator::Greater) => BinaryOp::Greater,
+        Fixed::Punctuator(Punctuator::LessEqual) => BinaryOp::LessEqual,
+        Fixed::Punctuator(Punctuator::GreaterEqual) => BinaryOp::GreaterEqual,
+        Fixed::Punctuator(Punctuator::ShiftLeft) => BinaryOp::ShiftLeft,
+        Fixed::Punctuator(Punctuator::ShiftRight) => BinaryOp::ShiftRight,
+        Fixed::Punctuator(Punctuator::Plus) => BinaryOp::Add,
+        Fixed::Punctuator(Punctuator::Minus) => BinaryOp::Subtract,
+        Fixed::Punctuator(Punctuator::Star) => BinaryOp::Multiply,
+        Fixed::Punctuator(Punctuator::Slash) => BinaryOp::Divide,
+        Fixed::Punctuator(Punctuator::Percent) => BinaryOp::Remainder,
         _ => return None,
     };
     Some(Infix::Computing(op))

@@ -4,8 +4,8 @@ ghost use Rattle.std.specs.Prelude.{◌≡◌, IfOk};
 ghost use Rattle.syntax.specs.Tree.{Element, Call, Parenthesized, Cast, Unary, Conditional};
 ghost use Rattle.syntax.specs.Typing.{span_of};
 ghost use Rattle.syntax.specs.Views.{expr_of, exprs_of, name_of};
-ghost use Rattle.parse.specs.Reading.{across};
-ghost use Rattle.parse.specs.Expressions.{infix_node};
+ghost use Rattle.parse.specs.inner.Reading.{across};
+ghost use Rattle.parse.specs.inner.Expressions.{infix_node};
 
 use crate::lead::Infix;
 use containers::{Boxed, Items};
@@ -101,6 +101,37 @@ pub fn unary<A: Allocator + Copy>(
     Ok(Expr::Unary(op, Boxed::new(alloc, inner)?, at))
 }
 
+/// Two values in boxes. Where memory ends, what is left is dropped here, whatever its type: the drop of an expression,
+/// written out at each place, is dear to prove.
+fn two_boxed<T: Drop, A: Allocator + Copy>(
+    alloc: A,
+    first: T,
+    second: T,
+) -> Result<(Boxed<T, A>, Boxed<T, A>), AllocError>
+    ensures first { IfOk result (λ x. x.0 ≡ first) }
+    ensures second { IfOk result (λ x. x.1 ≡ second) }
+{
+    let first = Boxed::new(alloc, first)?;
+    let second = Boxed::new(alloc, second)?;
+    Ok((first, second))
+}
+
+/// Three values in boxes.
+fn three_boxed<T: Drop, A: Allocator + Copy>(
+    alloc: A,
+    first: T,
+    second: T,
+    third: T,
+) -> Result<(Boxed<T, A>, Boxed<T, A>, Boxed<T, A>), AllocError>
+    ensures first { IfOk result (λ x. x.0 ≡ first) }
+    ensures second { IfOk result (λ x. x.1 ≡ second) }
+    ensures third { IfOk result (λ x. x.2 ≡ third) }
+{
+    let first = Boxed::new(alloc, first)?;
+    let (second, third) = two_boxed(alloc, second, third)?;
+    Ok((first, second, third))
+}
+
 /// An operator between its operands.
 pub fn infix<A: Allocator + Copy>(
     alloc: A,
@@ -111,8 +142,7 @@ pub fn infix<A: Allocator + Copy>(
     ensures { IfOk result (λ e. expr_of e ≡ infix_node op (expr_of left) (expr_of right)) }
 {
     let at = across(span_of(&left), span_of(&right));
-    let left = Boxed::new(alloc, left)?;
-    let right = Boxed::new(alloc, right)?;
+    let (left, right) = two_boxed(alloc, left, right)?;
     match op {
         Infix::Computing(op) => Ok(Expr::Binary(op, left, right, at)),
         Infix::Choosing(op) => Ok(Expr::Logical(op, left, right, at)),
@@ -129,8 +159,6 @@ pub fn conditional<A: Allocator + Copy>(
     ensures { IfOk result (λ e. expr_of e ≡ Conditional (expr_of condition) (expr_of then) (expr_of other) (across (span_of (expr_of condition)) (span_of (expr_of other)))) }
 {
     let at = across(span_of(&condition), span_of(&other));
-    let condition = Boxed::new(alloc, condition)?;
-    let then = Boxed::new(alloc, then)?;
-    let other = Boxed::new(alloc, other)?;
+    let (condition, then, other) = three_boxed(alloc, condition, then, other)?;
     Ok(Expr::Conditional(condition, then, other, at))
 }

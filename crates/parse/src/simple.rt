@@ -1,67 +1,69 @@
 //! Assignments, steps and values, and declarations.
 
 ghost use Rattle.std.specs.Prelude.{◌≡◌, ◌^◌, ◌<◌, map, option_map};
-ghost use Rattle.lex.specs.declared.token.Mark.TheVariants as m;
+ghost use Rattle.lex.specs.declared.token.Fixed.TheVariants as token;
+ghost use Rattle.lex.specs.declared.token.Keyword.TheVariants as key;
+ghost use Rattle.lex.specs.declared.token.Punctuator.TheVariants as punct;
 ghost use Rattle.lex.specs.Tokens.{toks};
 ghost use Rattle.syntax.specs.Views.{expr_of, simple_of, declarator_of, declaration_of, start_of};
 ghost use Rattle.syntax.specs.Grammar.{assigning_of, the_assigning, step_of, the_step};
-ghost use Rattle.parse.specs.Reading.{Gives, head, behind, before, listed, unless};
-ghost use Rattle.parse.specs.Expressions.{whole_at};
-ghost use Rattle.parse.specs.Statements.{GivesToken, simple_from, simple, starts_simple, simple_at, declarator, declaration, declaration_at, start};
+ghost use Rattle.parse.specs.inner.Reading.{Gives, head, behind, before, listed, perhaps, unless};
+ghost use Rattle.parse.specs.inner.Expressions.{whole_at};
+ghost use Rattle.parse.specs.inner.Statements.{GivesToken, simple_from, simple, starts_simple, simple_at, declarator, declaration, declaration_at, start};
 
-use crate::cursor::{expect, is_next, name};
+use crate::cursor::{closed, expect, is_next, name};
 use crate::expr::{expression, starts_expr};
-use crate::fault::Stop;
+use crate::fault::Failure;
 use crate::scalar::{scalar, starts_type};
 use containers::Items;
-use lex::token::{Kind, Mark, Token};
+use lex::token::{Fixed, Kind, Punctuator, Token};
 use std::alloc::Allocator;
-use syntax::tree::{BinaryOp, Declaration, Declarator, Expr, Simple, Start, Step};
+use syntax::tree::{BinaryOp, Declaration, Declarator, Expr, IncDec, Simple, Start};
 
-// The operator of an assignment, if a sign assigns.
-fn assigning_of(mark: Mark) -> Option<Option<BinaryOp>>
-    ensures { result ≡ assigning_of mark }
+/// The operator of an assignment, if a sign assigns.
+fn assigning_of(fixed: Fixed) -> Option<Option<BinaryOp>>
+    ensures { result ≡ assigning_of fixed }
 {
-    match mark {
-        Mark::Assign => Some(None),
-        Mark::AddAssign => Some(Some(BinaryOp::Add)),
-        Mark::SubtractAssign => Some(Some(BinaryOp::Subtract)),
-        Mark::MultiplyAssign => Some(Some(BinaryOp::Multiply)),
-        Mark::DivideAssign => Some(Some(BinaryOp::Divide)),
-        Mark::RemainderAssign => Some(Some(BinaryOp::Remainder)),
-        Mark::ShiftLeftAssign => Some(Some(BinaryOp::ShiftLeft)),
-        Mark::ShiftRightAssign => Some(Some(BinaryOp::ShiftRight)),
-        Mark::AndAssign => Some(Some(BinaryOp::And)),
-        Mark::OrAssign => Some(Some(BinaryOp::Or)),
-        Mark::XorAssign => Some(Some(BinaryOp::Xor)),
+    match fixed {
+        Fixed::Punctuator(Punctuator::Assign) => Some(None),
+        Fixed::Punctuator(Punctuator::AddAssign) => Some(Some(BinaryOp::Add)),
+        Fixed::Punctuator(Punctuator::SubtractAssign) => Some(Some(BinaryOp::Subtract)),
+        Fixed::Punctuator(Punctuator::MultiplyAssign) => Some(Some(BinaryOp::Multiply)),
+        Fixed::Punctuator(Punctuator::DivideAssign) => Some(Some(BinaryOp::Divide)),
+        Fixed::Punctuator(Punctuator::RemainderAssign) => Some(Some(BinaryOp::Remainder)),
+        Fixed::Punctuator(Punctuator::ShiftLeftAssign) => Some(Some(BinaryOp::ShiftLeft)),
+        Fixed::Punctuator(Punctuator::ShiftRightAssign) => Some(Some(BinaryOp::ShiftRight)),
+        Fixed::Punctuator(Punctuator::AndAssign) => Some(Some(BinaryOp::And)),
+        Fixed::Punctuator(Punctuator::OrAssign) => Some(Some(BinaryOp::Or)),
+        Fixed::Punctuator(Punctuator::XorAssign) => Some(Some(BinaryOp::Xor)),
         _ => None,
     }
 }
 
-// A sign that assigns at the front, if one stands there.
+/// A sign that assigns at the front, if one stands there.
 fn assigning<'t, 'a>(tokens: &'t [Token<'a>]) -> Option<(Option<BinaryOp>, &'t [Token<'a>])>
     ensures { GivesToken the_assigning (toks tokens.now) result }
 {
     let [first, rest @ ..] = tokens else {
         return None;
     };
-    let Kind::Fixed(mark) = first.kind else {
+    let Kind::Punctuator(sign) = first.kind else {
         return None;
     };
-    let op = assigning_of(mark)?;
+    let op = assigning_of(Fixed::Punctuator(sign))?;
     Some((op, rest))
 }
 
-// A step up or down at the front, if one stands there.
-fn step<'t, 'a>(tokens: &'t [Token<'a>]) -> Option<(Step, &'t [Token<'a>])>
+/// A step up or down at the front, if one stands there.
+fn step<'t, 'a>(tokens: &'t [Token<'a>]) -> Option<(IncDec, &'t [Token<'a>])>
     ensures { GivesToken the_step (toks tokens.now) result }
 {
     let [first, rest @ ..] = tokens else {
         return None;
     };
     match first.kind {
-        Kind::Fixed(Mark::Increment) => Some((Step::Up, rest)),
-        Kind::Fixed(Mark::Decrement) => Some((Step::Down, rest)),
+        Kind::Punctuator(Punctuator::Increment) => Some((IncDec::Increment, rest)),
+        Kind::Punctuator(Punctuator::Decrement) => Some((IncDec::Decrement, rest)),
         _ => None,
     }
 }
@@ -76,38 +78,43 @@ pub fn starts_simple(tokens: &[Token]) -> bool
     }
 }
 
-// What is done to an expression that was read.
+/// `[assigning expr | ++ | --]`, behind an expression.
 fn simple_from<'t, 'a, A: Allocator + Copy>(
     alloc: A,
     to: Expr<A>,
     tokens: &'t [Token<'a>],
     depth: usize,
-) -> Result<(Simple<A>, &'t [Token<'a>]), Stop<'t, 'a>>
+) -> Result<(Simple<A>, &'t [Token<'a>]), Failure<'t, 'a>>
     requires { depth < 2 ^ 32 }
     ensures { Gives (λ x. (simple_of x.0, toks x.1.now)) result (simple_from (whole_at depth) (expr_of to) (toks tokens.now)) }
 {
     if let Some((op, rest)) = assigning(tokens) {
-        let (value, rest) = expression(alloc, rest, depth)?;
-        return Ok((Simple::Assign(to, op, value), rest));
+        return match expression(alloc, rest, depth) {
+            Ok((value, rest)) => Ok((Simple::Assign(to, op, value), rest)),
+            Err(failure) => {
+                drop(to);
+                Err(failure)
+            }
+        };
     }
     if let Some((by, rest)) = step(tokens) {
-        return Ok((Simple::Step(to, by), rest));
+        return Ok((Simple::Adjust(to, by), rest));
     }
-    Ok((Simple::Value(to), tokens))
+    Ok((Simple::Evaluate(to), tokens))
 }
 
-// An assignment, a step or a value, whose parts have at most this depth.
+/// `++ expr`, `-- expr` or `expr [assigning expr | ++ | --]`, whose parts have at most this depth.
 fn simple_over<'t, 'a, A: Allocator + Copy>(
     alloc: A,
     tokens: &'t [Token<'a>],
     depth: usize,
-) -> Result<(Simple<A>, &'t [Token<'a>]), Stop<'t, 'a>>
+) -> Result<(Simple<A>, &'t [Token<'a>]), Failure<'t, 'a>>
     requires { depth < 2 ^ 32 }
     ensures { Gives (λ x. (simple_of x.0, toks x.1.now)) result (simple (whole_at depth) (toks tokens.now)) }
 {
     if let Some((by, rest)) = step(tokens) {
         let (to, rest) = expression(alloc, rest, depth)?;
-        return Ok((Simple::Step(to, by), rest));
+        return Ok((Simple::Adjust(to, by), rest));
     }
     let (to, rest) = expression(alloc, tokens, depth)?;
     simple_from(alloc, to, rest, depth)
@@ -118,98 +125,115 @@ pub fn simple<'t, 'a, A: Allocator + Copy>(
     alloc: A,
     tokens: &'t [Token<'a>],
     depth: usize,
-) -> Result<(Simple<A>, &'t [Token<'a>]), Stop<'t, 'a>>
+) -> Result<(Simple<A>, &'t [Token<'a>]), Failure<'t, 'a>>
     requires { depth < 2 ^ 32 }
     ensures { Gives (λ x. (simple_of x.0, toks x.1.now)) result (simple_at depth (toks tokens.now)) }
 {
     if depth == 0 {
         if starts_simple(tokens) {
-            return Err(Stop::Deep(tokens));
+            return Err(Failure::Deep(tokens));
         }
-        return Err(Stop::Wrong(tokens));
+        return Err(Failure::Wrong(tokens));
     }
     simple_over(alloc, tokens, depth - 1)
 }
 
-/// An assignment, a step or a value, and then a mark.
+/// `simple`, and then this keyword or punctuator.
 pub fn simple_before<'t, 'a, A: Allocator + Copy>(
     alloc: A,
     tokens: &'t [Token<'a>],
     depth: usize,
-    mark: Mark,
-) -> Result<(Simple<A>, &'t [Token<'a>]), Stop<'t, 'a>>
+    fixed: Fixed,
+) -> Result<(Simple<A>, &'t [Token<'a>]), Failure<'t, 'a>>
     requires { depth < 2 ^ 32 }
-    ensures { Gives (λ x. (simple_of x.0, toks x.1.now)) result (before mark (simple_at depth) (toks tokens.now)) }
+    ensures { Gives (λ x. (simple_of x.0, toks x.1.now)) result (before fixed (simple_at depth) (toks tokens.now)) }
 {
     let (simple, rest) = simple(alloc, tokens, depth)?;
-    let rest = expect(rest, mark)?;
+    let (simple, rest) = closed(simple, rest, fixed)?;
     Ok((simple, rest))
 }
 
-// A name, and the value that it begins with if it has one.
+/// `[= expr]`
+fn first_value<'t, 'a, A: Allocator + Copy>(
+    alloc: A,
+    tokens: &'t [Token<'a>],
+    depth: usize,
+) -> Result<(Option<Expr<A>>, &'t [Token<'a>]), Failure<'t, 'a>>
+    requires { depth < 2 ^ 32 }
+    ensures { Gives (λ x. (option_map expr_of x.0, toks x.1.now)) result (perhaps (token.Punctuator punct.Assign) (behind (token.Punctuator punct.Assign) (whole_at depth)) (toks tokens.now)) }
+{
+    if !is_next(tokens, Fixed::Punctuator(Punctuator::Assign)) {
+        return Ok((None, tokens));
+    }
+    let rest = expect(tokens, Fixed::Punctuator(Punctuator::Assign))?;
+    let (value, rest) = expression(alloc, rest, depth)?;
+    Ok((Some(value), rest))
+}
+
+/// `name [= expr]`
 fn declarator<'t, 'a, A: Allocator + Copy>(
     alloc: A,
     tokens: &'t [Token<'a>],
     depth: usize,
-) -> Result<(Declarator<A>, &'t [Token<'a>]), Stop<'t, 'a>>
+) -> Result<(Declarator<A>, &'t [Token<'a>]), Failure<'t, 'a>>
     requires { depth < 2 ^ 32 }
     ensures { Gives (λ x. (declarator_of x.0, toks x.1.now)) result (declarator (whole_at depth) (toks tokens.now)) }
 {
     let (name, rest) = name(alloc, tokens)?;
-    if !is_next(rest, Mark::Assign) {
-        return Ok((Declarator { name, first: None }, rest));
+    match first_value(alloc, rest, depth) {
+        Ok((first, rest)) => Ok((Declarator { name, first }, rest)),
+        Err(failure) => {
+            drop(name);
+            Err(failure)
+        }
     }
-    let rest = expect(rest, Mark::Assign)?;
-    let (value, rest) = expression(alloc, rest, depth)?;
-    let first = Some(value);
-    Ok((Declarator { name, first }, rest))
 }
 
-// A further declarator, behind its comma.
+/// A further declarator, behind its comma.
 fn further_declarator<'t, 'a, A: Allocator + Copy>(
     alloc: A,
     tokens: &'t [Token<'a>],
     depth: usize,
-) -> Result<(Declarator<A>, &'t [Token<'a>]), Stop<'t, 'a>>
+) -> Result<(Declarator<A>, &'t [Token<'a>]), Failure<'t, 'a>>
     requires { depth < 2 ^ 32 }
-    ensures { Gives (λ x. (declarator_of x.0, toks x.1.now)) result (behind m.Comma (declarator (whole_at depth)) (toks tokens.now)) }
+    ensures { Gives (λ x. (declarator_of x.0, toks x.1.now)) result (behind (token.Punctuator punct.Comma) (declarator (whole_at depth)) (toks tokens.now)) }
 {
-    let rest = expect(tokens, Mark::Comma)?;
+    let rest = expect(tokens, Fixed::Punctuator(Punctuator::Comma))?;
     let (one, rest) = declarator(alloc, rest, depth)?;
     Ok((one, rest))
 }
 
-// Declarators up to their semicolon.
+/// `declarator { , declarator } ;`
 fn declarators<'t, 'a, A: Allocator + Copy>(
     alloc: A,
     tokens: &'t [Token<'a>],
     depth: usize,
-) -> Result<(Items<Declarator<A>, A>, &'t [Token<'a>]), Stop<'t, 'a>>
+) -> Result<(Items<Declarator<A>, A>, &'t [Token<'a>]), Failure<'t, 'a>>
     requires { depth < 2 ^ 32 }
-    ensures { Gives (λ x. (map declarator_of x.0, toks x.1.now)) result (before m.Semicolon (listed (declarator (whole_at depth))) (toks tokens.now)) }
+    ensures { Gives (λ x. (map declarator_of x.0, toks x.1.now)) result (before (token.Punctuator punct.Semicolon) (listed (declarator (whole_at depth))) (toks tokens.now)) }
 {
     let (first, inner) = declarator(alloc, tokens, depth)?;
     let mut all = Items::new(alloc);
     all.push(first)?;
     let mut rest = inner;
     'turns: for _turn in 0..inner.len() {
-        if !is_next(rest, Mark::Comma) {
+        if !is_next(rest, Fixed::Punctuator(Punctuator::Comma)) {
             break;
         }
         let (one, after) = further_declarator(alloc, rest, depth)?;
         all.push(one)?;
         rest = after;
     }
-    let rest = expect(rest, Mark::Semicolon)?;
+    let rest = expect(rest, Fixed::Punctuator(Punctuator::Semicolon))?;
     Ok((all, rest))
 }
 
-// A declaration whose parts have at most this depth.
+/// `type declarators`, whose parts have at most this depth.
 fn declaration_over<'t, 'a, A: Allocator + Copy>(
     alloc: A,
     tokens: &'t [Token<'a>],
     depth: usize,
-) -> Result<(Declaration<A>, &'t [Token<'a>]), Stop<'t, 'a>>
+) -> Result<(Declaration<A>, &'t [Token<'a>]), Failure<'t, 'a>>
     requires { depth < 2 ^ 32 }
     ensures { Gives (λ x. (declaration_of x.0, toks x.1.now)) result (declaration (whole_at depth) (toks tokens.now)) }
 {
@@ -223,71 +247,81 @@ pub fn declaration<'t, 'a, A: Allocator + Copy>(
     alloc: A,
     tokens: &'t [Token<'a>],
     depth: usize,
-) -> Result<(Declaration<A>, &'t [Token<'a>]), Stop<'t, 'a>>
+) -> Result<(Declaration<A>, &'t [Token<'a>]), Failure<'t, 'a>>
     requires { depth < 2 ^ 32 }
     ensures { Gives (λ x. (declaration_of x.0, toks x.1.now)) result (declaration_at depth (toks tokens.now)) }
 {
     if depth == 0 {
         if starts_type(tokens) {
-            return Err(Stop::Deep(tokens));
+            return Err(Failure::Deep(tokens));
         }
-        return Err(Stop::Wrong(tokens));
+        return Err(Failure::Wrong(tokens));
     }
     declaration_over(alloc, tokens, depth - 1)
 }
 
-/// What the head of a `for` begins with, and its semicolon.
+/// `;`, `declaration` or `simple ;`: what the head of a `for` begins with.
 pub fn start<'t, 'a, A: Allocator + Copy>(
     alloc: A,
     tokens: &'t [Token<'a>],
     depth: usize,
-) -> Result<(Start<A>, &'t [Token<'a>]), Stop<'t, 'a>>
+) -> Result<(Start<A>, &'t [Token<'a>]), Failure<'t, 'a>>
     requires { depth < 2 ^ 32 }
     ensures { Gives (λ x. (start_of x.0, toks x.1.now)) result (start depth (toks tokens.now)) }
 {
-    if is_next(tokens, Mark::Semicolon) {
-        let rest = expect(tokens, Mark::Semicolon)?;
+    if is_next(tokens, Fixed::Punctuator(Punctuator::Semicolon)) {
+        let rest = expect(tokens, Fixed::Punctuator(Punctuator::Semicolon))?;
         return Ok((Start::Nothing, rest));
     }
     if starts_type(tokens) {
         let (declaration, rest) = declaration(alloc, tokens, depth)?;
         return Ok((Start::Declare(declaration), rest));
     }
-    let (simple, rest) = simple_before(alloc, tokens, depth, Mark::Semicolon)?;
+    let (simple, rest) = simple_before(
+        alloc,
+        tokens,
+        depth,
+        Fixed::Punctuator(Punctuator::Semicolon),
+    )?;
     Ok((Start::Do(simple), rest))
 }
 
-/// An assignment, a step or a value, if there is one, and a closing parenthesis.
+/// `[simple] )`
 pub fn last_simple<'t, 'a, A: Allocator + Copy>(
     alloc: A,
     tokens: &'t [Token<'a>],
     depth: usize,
-) -> Result<(Option<Simple<A>>, &'t [Token<'a>]), Stop<'t, 'a>>
+) -> Result<(Option<Simple<A>>, &'t [Token<'a>]), Failure<'t, 'a>>
     requires { depth < 2 ^ 32 }
-    ensures { Gives (λ x. (option_map simple_of x.0, toks x.1.now)) result (before m.CloseParen (unless m.CloseParen (simple_at depth)) (toks tokens.now)) }
+    ensures { Gives (λ x. (option_map simple_of x.0, toks x.1.now)) result (before (token.Punctuator punct.CloseParen) (unless (token.Punctuator punct.CloseParen) (simple_at depth)) (toks tokens.now)) }
 {
-    if is_next(tokens, Mark::CloseParen) {
-        let rest = expect(tokens, Mark::CloseParen)?;
+    if is_next(tokens, Fixed::Punctuator(Punctuator::CloseParen)) {
+        let rest = expect(tokens, Fixed::Punctuator(Punctuator::CloseParen))?;
         return Ok((None, rest));
     }
-    let (simple, rest) = simple_before(alloc, tokens, depth, Mark::CloseParen)?;
+    let (simple, rest) = simple_before(
+        alloc,
+        tokens,
+        depth,
+        Fixed::Punctuator(Punctuator::CloseParen),
+    )?;
     Ok((Some(simple), rest))
 }
 
-/// An expression, if there is one, and a semicolon.
+/// `[expr] ;`
 pub fn last_expression<'t, 'a, A: Allocator + Copy>(
     alloc: A,
     tokens: &'t [Token<'a>],
     depth: usize,
-) -> Result<(Option<Expr<A>>, &'t [Token<'a>]), Stop<'t, 'a>>
+) -> Result<(Option<Expr<A>>, &'t [Token<'a>]), Failure<'t, 'a>>
     requires { depth < 2 ^ 32 }
-    ensures { Gives (λ x. (option_map expr_of x.0, toks x.1.now)) result (before m.Semicolon (unless m.Semicolon (whole_at depth)) (toks tokens.now)) }
+    ensures { Gives (λ x. (option_map expr_of x.0, toks x.1.now)) result (before (token.Punctuator punct.Semicolon) (unless (token.Punctuator punct.Semicolon) (whole_at depth)) (toks tokens.now)) }
 {
-    if is_next(tokens, Mark::Semicolon) {
-        let rest = expect(tokens, Mark::Semicolon)?;
+    if is_next(tokens, Fixed::Punctuator(Punctuator::Semicolon)) {
+        let rest = expect(tokens, Fixed::Punctuator(Punctuator::Semicolon))?;
         return Ok((None, rest));
     }
     let (value, rest) = expression(alloc, tokens, depth)?;
-    let rest = expect(rest, Mark::Semicolon)?;
+    let (value, rest) = closed(value, rest, Fixed::Punctuator(Punctuator::Semicolon))?;
     Ok((Some(value), rest))
 }

@@ -5,50 +5,51 @@ ghost use Rattle.lex.specs.Tokens.{Tok, toks};
 ghost use Rattle.syntax.specs.Views.{item_of};
 ghost use Rattle.syntax.specs.Phrases.{end_of};
 ghost use Rattle.syntax.specs.Grammar.{Source, Spells, source_depth, deepest_program};
-ghost use Rattle.parse.specs.Reading.{Gives};
-ghost use Rattle.parse.specs.Items.{shared_from, item_at, whole_program};
-ghost use Rattle.parse.specs.Headings.{heading_of};
+ghost use Rattle.parse.specs.inner.Reading.{Gives};
+ghost use Rattle.parse.specs.inner.Items.{shared_from, item_at, whole_program};
+ghost use Rattle.parse.specs.inner.Headings.{heading_of};
 ghost use Rattle.parse.specs.Faults.{IsFaultOf, Finds, source_of};
 
-use crate::cursor::{is_next, start};
-use crate::fault::{ParseFault, Stop};
+use crate::cursor::{counted, is_next};
+use crate::fault::{Failure, ParseFault};
 use crate::functions::{Heading, function, header};
 use crate::globals::globals;
 use containers::Items;
-use lex::token::{Mark, Span, Token};
+use lex::token::{Fixed, Punctuator, Span, Token};
 use std::alloc::Allocator;
 use syntax::tree::{Item, Unit};
 
 /// How deep a program may be.
 const DEEPEST: usize = 100;
 
-// Globals, where they have a type and no attributes.
+/// Globals, behind a header that has a type and no attributes.
 fn shared<'t, 'a, A: Allocator + Copy>(
     alloc: A,
     tokens: &'t [Token<'a>],
     heading: Heading<A>,
-) -> Result<(Item<A>, &'t [Token<'a>]), Stop<'t, 'a>>
+) -> Result<(Item<A>, &'t [Token<'a>]), Failure<'t, 'a>>
     ensures { Gives (λ x. (item_of x.0, toks x.1.now)) result (shared_from (heading_of heading) (toks tokens.now)) }
 {
     if !heading.attributes.is_empty() {
-        return Err(Stop::Wrong(tokens));
+        return Err(Failure::Wrong(tokens));
     }
     match heading.result {
         Some(of) => globals(alloc, tokens, of, heading.name),
-        None => Err(Stop::Wrong(tokens)),
+        None => Err(Failure::Wrong(tokens)),
     }
 }
 
+/// `header function` or `header globals`
 fn item<'t, 'a, A: Allocator + Copy>(
     alloc: A,
     tokens: &'t [Token<'a>],
     depth: usize,
-) -> Result<(Item<A>, &'t [Token<'a>]), Stop<'t, 'a>>
+) -> Result<(Item<A>, &'t [Token<'a>]), Failure<'t, 'a>>
     requires { depth < 2 ^ 32 }
     ensures { Gives (λ x. (item_of x.0, toks x.1.now)) result (item_at depth (toks tokens.now)) }
 {
     let (heading, rest) = header(alloc, tokens)?;
-    if is_next(rest, Mark::OpenParen) {
+    if is_next(rest, Fixed::Punctuator(Punctuator::OpenParen)) {
         let (item, rest) = function(alloc, rest, depth, heading)?;
         return Ok((item, rest));
     }
@@ -56,16 +57,16 @@ fn item<'t, 'a, A: Allocator + Copy>(
     Ok((item, rest))
 }
 
-// A program that the tokens spell to their end.
+/// `{ item }`, up to the last token.
 fn program<'t, 'a, A: Allocator + Copy>(
     alloc: A,
     tokens: &'t [Token<'a>],
     depth: usize,
-) -> Result<Items<Item<A>, A>, Stop<'t, 'a>>
+) -> Result<Items<Item<A>, A>, Failure<'t, 'a>>
     requires { depth < 2 ^ 32 }
     ensures { Gives (λ x. map item_of x) result (whole_program depth (toks tokens.now)) }
 {
-    let (mut rest, count) = start(tokens);
+    let (mut rest, count) = counted(tokens);
     let mut all = Items::new(alloc);
     'turns: for _turn in 0..count {
         if rest.is_empty() {
@@ -78,11 +79,11 @@ fn program<'t, 'a, A: Allocator + Copy>(
     if rest.is_empty() {
         Ok(all)
     } else {
-        Err(Stop::Wrong(rest))
+        Err(Failure::Wrong(rest))
     }
 }
 
-// Where the last token ends, or 0 where there is none.
+/// Where the last token ends, or 0 where there is none.
 fn end_of(tokens: &[Token]) -> usize
     ensures { result ≡ end_of (toks tokens.now) }
 {
@@ -111,14 +112,14 @@ pub fn parse<A: Allocator + Copy>(alloc: A, tokens: &[Token<'_>]) -> Result<Unit
             items,
             end: end_of(tokens),
         }),
-        Err(Stop::Memory) => Err(ParseFault::OutOfMemory),
-        Err(Stop::Wrong([])) => {
+        Err(Failure::Memory) => Err(ParseFault::OutOfMemory),
+        Err(Failure::Wrong([])) => {
             let end = end_of(tokens);
             Err(ParseFault::Unfinished(Span { start: end, end }))
         }
-        Err(Stop::Wrong([token, ..])) => Err(ParseFault::Unexpected(token.span)),
-        Err(Stop::Deep([token, ..])) => Err(ParseFault::TooDeep(token.span)),
-        Err(Stop::Deep([])) => unreachable!(),
+        Err(Failure::Wrong([token, ..])) => Err(ParseFault::Unexpected(token.span)),
+        Err(Failure::Deep([token, ..])) => Err(ParseFault::TooDeep(token.span)),
+        Err(Failure::Deep([])) => unreachable!(),
     }
 }
 

@@ -129,3 +129,42 @@ fn a_block_may_be_long(rt: HostRuntime) -> Result<(), Fail> {
     assert_eq!(rt; body.len(), 10000);
     Ok(())
 }
+
+/// One part of a program that may stand in it as often as a text has room for: what stands before and behind it, and how
+/// often it is tried. (A text has 1 MiB at most, and so no room for 100,000 attributes.)
+const LONG: [(&str, &str, usize, &str); 8] = [
+    // statements
+    ("void worker(int self) { ", ";", 100000, "}"),
+    // arguments of a call
+    ("void worker(int self) { f(1", ",1", 100000, "); }"),
+    // declarators of a declaration
+    ("void worker(int self) { int a", ",a", 100000, "; }"),
+    // first values of an array
+    ("int a[1] = {1", ",1", 100000, "};"),
+    // attributes
+    (
+        "[[transaction_safe",
+        ",transaction_safe",
+        60000,
+        "]] void f(void);",
+    ),
+    // parameters
+    ("void f(int", ",int", 100000, ");"),
+    // globals of a declaration
+    ("int a", ",a", 100000, ";"),
+    // items
+    ("", "int a;", 100000, ""),
+];
+
+#[test]
+fn no_list_is_too_long(rt: HostRuntime) -> Result<(), Fail> {
+    for (before, one, times, after) in LONG {
+        let text = repeated(rt.alloc(), before, one, times, after)?;
+        let Ok(tokens) = lex(rt.alloc(), text.as_str()) else {
+            assert!(rt; false);
+            return Ok(());
+        };
+        assert!(rt; parse(rt.alloc(), tokens.as_slice()).is_ok());
+    }
+    Ok(())
+}

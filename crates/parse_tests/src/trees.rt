@@ -79,7 +79,7 @@ fn operators_group_by_level_and_to_the_left(rt: HostRuntime) -> Result<(), Fail>
             assert!(rt; false, "{inner}");
             return Ok(());
         };
-        let [Stmt::Do(Simple::Value(Expr::Binary(op, a, b, _)))] = body.as_slice() else {
+        let [Stmt::Do(Simple::Evaluate(Expr::Binary(op, a, b, _)))] = body.as_slice() else {
             assert!(rt; false, "{inner}");
             return Ok(());
         };

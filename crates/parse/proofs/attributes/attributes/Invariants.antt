@@ -1,8 +1,8 @@
 use Rattle.std.proofs.Common.{◌≡◌, ◌-◌, length}
 use Rattle.lex.specs.Tokens.{toks}
-use Rattle.parse.specs.Reading.{many}
-use Rattle.parse.specs.Items.{attribute_list, is_plain, attributes}
-use Rattle.parse.proofs.Loops.{poured}
+use Rattle.parse.specs.inner.Reading.{many}
+use Rattle.parse.specs.inner.Items.{attribute_list, is_plain, attributes}
+use Rattle.parse.proofs.code.Loops.{poured}
 use Rattle.parse.proofs.attributes.attributes.Given as goal
 
 -- what was read, and what is still to be read

@@ -3,14 +3,16 @@ use Rattle.std.proofs.lemmas.Result.{err_from_is_err_and}
 use Rattle.lex.specs.Tokens.{toks, tok}
 use Rattle.syntax.specs.Views.{expr_of, exprs_of, name_of, exprs_from}
 use Rattle.syntax.proofs.Seen.{expr_of_variable}
-use Rattle.parse.specs.Expressions.{arguments, expr_at, whole_at, infix_node, operators}
-use Rattle.parse.proofs.Climbing.{fails_along, loop_none, loop_deep, loop_full, turn_fails, turn_goes}
-use Rattle.parse.proofs.ExprSteps.{variable_goes, call_goes, unclosed, listed_goes, behind_none, behind_fails, behind_goes, deepest_push, none_left, climb_start, infix_depth, chosen_alone, chosen_deep, question_fails, then_fails, colon_fails, other_fails, chosen_goes, whole_goes, whole_fails}
-use Rattle.parse.specs.Reading.{behind, is_other, mapped, many_until, climb_loop}
+use Rattle.parse.specs.inner.Expressions.{arguments, expr_at, whole_at, infix_node, operators}
+use Rattle.parse.proofs.code.Climbing.{fails_along, loop_none, loop_deep, loop_full, turn_fails, turn_goes}
+use Rattle.parse.proofs.code.ExprSteps.{variable_goes, call_goes, unclosed, listed_goes, behind_none, behind_fails, behind_goes, deepest_push, none_left, climb_start, infix_depth, conditional_alone, conditional_deep, question_fails, then_fails, colon_fails, other_fails, conditional_goes, whole_goes, whole_fails}
+use Rattle.parse.specs.inner.Reading.{behind, is_other, mapped, many_until, climb_loop}
 use Rattle.std.proofs.lemmas.List.{map_push, length-map}
 use Rattle.syntax.specs.Depth.{expr_depth, deepest}
-use Rattle.parse.proofs.Turns.{goes_on, fails_on, stops_at, runs_out}
-use Rattle.lex.specs.declared.token.Mark.TheVariants as m
+use Rattle.parse.proofs.code.Turns.{goes_on, fails_on, stops_at, runs_out}
+use Rattle.lex.specs.declared.token.Fixed.TheVariants.{Keyword, Punctuator}
+use Rattle.lex.specs.declared.token.Keyword.TheVariants as key
+use Rattle.lex.specs.declared.token.Punctuator.TheVariants as punct
 use Rattle.parse.proofs.expr.+climbing.Goals as goal
 
 -- ---- a name, and what may follow it
@@ -20,7 +22,7 @@ named-returns-in_err-last-2-clause-value g t c =
     let p = err_from_is_err_and c.from_residual-in_err-last-2.result c.from_residual-in_err-last-2.ensures.1 in
     rw (p.1, p.2) (fails_along c.in_err-last-2.field-0.0 _ _ (λ f e.
     call_goes (whole_at c.args.depth) (expr_at c.args.depth 11) (toks c.args.tokens.now) (toks c.in_ok-name.rest.now) (name_of c.in_ok-name.name) c.in_ok-name.ensures (sym c.is_next.ensures ∙ c.if-is_next.false) (sym c.is_next-2.ensures ∙ c.if-is_next-2.true)
-    ∙ unclosed m.OpenParen m.CloseParen (arguments (whole_at c.args.depth) (expr_at c.args.depth 11)) _ (toks c.in_ok-name.rest.now) (toks c.in_ok-rest-2.rest.now) (toks c.in_ok-args.rest.now) _ f c.in_ok-rest-2.ensures c.in_ok-args.ensures.value e) c.in_err-last-2.ensures)
+    ∙ unclosed (Punctuator punct.OpenParen) (Punctuator punct.CloseParen) (arguments (whole_at c.args.depth) (expr_at c.args.depth 11)) _ (toks c.in_ok-name.rest.now) (toks c.in_ok-rest-2.rest.now) (toks c.in_ok-args.rest.now) _ f c.in_ok-rest-2.ensures c.in_ok-args.ensures.value e) c.in_err-last-2.ensures)
 
 pub named-returns-clause-value : goal.named-returns-clause-value
 named-returns-clause-value g t c =
@@ -32,33 +34,33 @@ named-returns-clause-value g t c =
 pub arguments-returns-clause-value : goal.arguments-returns-clause-value
 arguments-returns-clause-value g t c =
     let e : map expr_of c.push.new.self ≡ expr_of c.in_ok-first.first ∷ [] = rw (c.in_ok-push.ensures.ok, c.new-args.ensures) refl in
-    let start : arguments (whole_at c.args.depth) (expr_at c.args.depth 11) (toks c.args.tokens.now) ≡ mapped (λ es. map expr_of c.push.new.self ++ es) (many_until (is_other m.Comma) (behind m.Comma (whole_at c.args.depth))) (toks c.in_ok-first.rest.now) =
-    rw (sym c.is_next.ensures ∙ c.if-is_next.false, e) (listed_goes (whole_at c.args.depth) (many_until (is_other m.Comma) (behind m.Comma (whole_at c.args.depth))) (toks c.args.tokens.now) (toks c.in_ok-first.rest.now) (expr_of c.in_ok-first.first) c.in_ok-first.ensures.value) in
+    let start : arguments (whole_at c.args.depth) (expr_at c.args.depth 11) (toks c.args.tokens.now) ≡ mapped (λ es. map expr_of c.push.new.self ++ es) (many_until (is_other (Punctuator punct.Comma)) (behind (Punctuator punct.Comma) (whole_at c.args.depth))) (toks c.in_ok-first.rest.now) =
+    rw (sym c.is_next.ensures ∙ c.if-is_next.false, e) (listed_goes (whole_at c.args.depth) (many_until (is_other (Punctuator punct.Comma)) (behind (Punctuator punct.Comma) (whole_at c.args.depth))) (toks c.args.tokens.now) (toks c.in_ok-first.rest.now) (expr_of c.in_ok-first.first) c.in_ok-first.ensures.value) in
     rw start c.extend.ensures.value
 
 -- ---- further arguments
 
 pub extend-turns-init : goal.extend-turns-init
 extend-turns-init g t c =
-    let n : c.start-count.result.1 - 0 ≡ length (toks c.args.tokens.now) = omega (arith, length-map c.args.tokens.now tok, c.start-count.ensures.count) in
-    record { long = c.start-count.ensures.count; within = c.requires.shallow; deep = c.requires.measured; value = rw (n, c.start-count.ensures.all) refl }
+    let n : c.counted-count.result.1 - 0 ≡ length (toks c.args.tokens.now) = omega (arith, length-map c.args.tokens.now tok, c.counted-count.ensures.count) in
+    record { long = c.counted-count.ensures.count; within = c.requires.shallow; deep = c.requires.measured; value = rw (n, c.counted-count.ensures.all) refl }
 
 pub extend-returns-then-not-is_next-clause-value : goal.extend-returns-then-not-is_next-clause-value
-extend-returns-then-not-is_next-clause-value g t c = stops_at (is_other m.Comma) (behind m.Comma (whole_at c.args.depth)) (map expr_of c.turns.all) (c.start-count.result.1 - c.turns._turn) (toks c.turns.rest.now) _ (ap not (sym c.is_next.ensures ∙ c.if-not-is_next.true)) c.turns.invariant.value
+extend-returns-then-not-is_next-clause-value g t c = stops_at (is_other (Punctuator punct.Comma)) (behind (Punctuator punct.Comma) (whole_at c.args.depth)) (map expr_of c.turns.all) (c.counted-count.result.1 - c.turns._turn) (toks c.turns.rest.now) _ (ap not (sym c.is_next.ensures ∙ c.if-not-is_next.true)) c.turns.invariant.value
 
 pub extend-returns-in_err-after-clause-value : goal.extend-returns-in_err-after-clause-value
 extend-returns-in_err-after-clause-value g t c =
     let p = err_from_is_err_and c.from_residual.result c.from_residual.ensures.1 in
     rw (p.1, p.2) (fails_along c.in_err-after.field-0.0 _ _ (λ f e.
-    fails_on (is_other m.Comma) (behind m.Comma (whole_at c.args.depth)) (map expr_of c.turns.all) c.start-count.result.1 c.turns._turn (toks c.turns.rest.now) f _ c.turns-test.true (ap not (sym c.is_next.ensures ∙ c.if-not-is_next.false))
-    (behind_none m.Comma (whole_at c.args.depth) (toks c.turns.rest.now) f e) c.turns.invariant.value) c.in_err-after.ensures)
+    fails_on (is_other (Punctuator punct.Comma)) (behind (Punctuator punct.Comma) (whole_at c.args.depth)) (map expr_of c.turns.all) c.counted-count.result.1 c.turns._turn (toks c.turns.rest.now) f _ c.turns-test.true (ap not (sym c.is_next.ensures ∙ c.if-not-is_next.false))
+    (behind_none (Punctuator punct.Comma) (whole_at c.args.depth) (toks c.turns.rest.now) f e) c.turns.invariant.value) c.in_err-after.ensures)
 
 pub extend-returns-in_err-one-clause-value : goal.extend-returns-in_err-one-clause-value
 extend-returns-in_err-one-clause-value g t c =
     let p = err_from_is_err_and c.from_residual-in_err-one.result c.from_residual-in_err-one.ensures.1 in
     rw (p.1, p.2) (fails_along c.in_err-one.field-0.0 _ _ (λ f e.
-    fails_on (is_other m.Comma) (behind m.Comma (whole_at c.args.depth)) (map expr_of c.turns.all) c.start-count.result.1 c.turns._turn (toks c.turns.rest.now) f _ c.turns-test.true (ap not (sym c.is_next.ensures ∙ c.if-not-is_next.false))
-    (behind_fails m.Comma (whole_at c.args.depth) (toks c.turns.rest.now) (toks c.in_ok-after.after.now) f c.in_ok-after.ensures e) c.turns.invariant.value) c.in_err-one.ensures.value)
+    fails_on (is_other (Punctuator punct.Comma)) (behind (Punctuator punct.Comma) (whole_at c.args.depth)) (map expr_of c.turns.all) c.counted-count.result.1 c.turns._turn (toks c.turns.rest.now) f _ c.turns-test.true (ap not (sym c.is_next.ensures ∙ c.if-not-is_next.false))
+    (behind_fails (Punctuator punct.Comma) (whole_at c.args.depth) (toks c.turns.rest.now) (toks c.in_ok-after.after.now) f c.in_ok-after.ensures e) c.turns.invariant.value) c.in_err-one.ensures.value)
 
 pub extend-turns-preserved : goal.extend-turns-preserved
 extend-turns-preserved g t c =
@@ -69,15 +71,15 @@ extend-turns-preserved g t c =
       long = c.turns.invariant.long;
       within = omega (arith, most, c.turns.invariant.within, c.in_ok-one.ensures.within);
       deep = omega (arith, most, pushed, c.turns.invariant.deep, c.in_ok-one.ensures.deep);
-      value = rw e (goes_on (is_other m.Comma) (behind m.Comma (whole_at c.args.depth)) (map expr_of c.turns.all) c.start-count.result.1 c.turns._turn (toks c.turns.rest.now) (toks c.in_ok-one.after.now) (expr_of c.in_ok-one.one) _ c.turns-test.true (ap not (sym c.is_next.ensures ∙ c.if-not-is_next.false))
-          (behind_goes m.Comma (whole_at c.args.depth) (toks c.turns.rest.now) (toks c.in_ok-after.after.now) (toks c.in_ok-one.after.now) (expr_of c.in_ok-one.one) c.in_ok-after.ensures c.in_ok-one.ensures.value) c.turns.invariant.value);
+      value = rw e (goes_on (is_other (Punctuator punct.Comma)) (behind (Punctuator punct.Comma) (whole_at c.args.depth)) (map expr_of c.turns.all) c.counted-count.result.1 c.turns._turn (toks c.turns.rest.now) (toks c.in_ok-one.after.now) (expr_of c.in_ok-one.one) _ c.turns-test.true (ap not (sym c.is_next.ensures ∙ c.if-not-is_next.false))
+          (behind_goes (Punctuator punct.Comma) (whole_at c.args.depth) (toks c.turns.rest.now) (toks c.in_ok-after.after.now) (toks c.in_ok-one.after.now) (expr_of c.in_ok-one.one) c.in_ok-after.ensures c.in_ok-one.ensures.value) c.turns.invariant.value);
     }
 
 pub extend-returns-then-is_next-clause-value : goal.extend-returns-then-is_next-clause-value
-extend-returns-then-is_next-clause-value g t c = runs_out (is_other m.Comma) (behind m.Comma (whole_at c.args.depth)) (map expr_of c.turns.all) (c.start-count.result.1 - c.turns._turn) (toks c.turns.rest.now) _ (omega (arith, c.turns-test.false)) (ap not (sym c.is_next-2.ensures ∙ c.if-is_next.true)) c.turns.invariant.value
+extend-returns-then-is_next-clause-value g t c = runs_out (is_other (Punctuator punct.Comma)) (behind (Punctuator punct.Comma) (whole_at c.args.depth)) (map expr_of c.turns.all) (c.counted-count.result.1 - c.turns._turn) (toks c.turns.rest.now) _ (omega (arith, c.turns-test.false)) (ap not (sym c.is_next-2.ensures ∙ c.if-is_next.true)) c.turns.invariant.value
 
 pub extend-returns-clause-value : goal.extend-returns-clause-value
-extend-returns-clause-value g t c = stops_at (is_other m.Comma) (behind m.Comma (whole_at c.args.depth)) (map expr_of c.turns.all) (c.start-count.result.1 - c.turns._turn) (toks c.turns.rest.now) _ (ap not (sym c.is_next-2.ensures ∙ c.if-is_next.false)) c.turns.invariant.value
+extend-returns-clause-value g t c = stops_at (is_other (Punctuator punct.Comma)) (behind (Punctuator punct.Comma) (whole_at c.args.depth)) (map expr_of c.turns.all) (c.counted-count.result.1 - c.turns._turn) (toks c.turns.rest.now) _ (ap not (sym c.is_next-2.ensures ∙ c.if-is_next.false)) c.turns.invariant.value
 
 -- ---- operators
 
@@ -137,39 +139,39 @@ climb-returns-in-None-clause-value g t c = sym c.turns.invariant.value ∙ loop_
 
 -- ---- what a condition chooses from
 
-pub chosen-returns-then-not-is_next-clause-value : goal.chosen-returns-then-not-is_next-clause-value
-chosen-returns-then-not-is_next-clause-value g t c = chosen_alone (whole_at c.args.depth) c.args.depth (expr_of c.args.condition) (toks c.args.tokens.now) (sym c.is_next.ensures ∙ c.if-not-is_next.true)
+pub conditional-returns-then-not-is_next-clause-value : goal.conditional-returns-then-not-is_next-clause-value
+conditional-returns-then-not-is_next-clause-value g t c = conditional_alone (whole_at c.args.depth) c.args.depth (expr_of c.args.condition) (toks c.args.tokens.now) (sym c.is_next.ensures ∙ c.if-not-is_next.true)
 
-pub chosen-returns-then-deep-depth-clause-value : goal.chosen-returns-then-deep-depth-clause-value
-chosen-returns-then-deep-depth-clause-value g t c = chosen_deep (whole_at c.args.depth) c.args.depth (expr_of c.args.condition) (toks c.args.tokens.now) (sym c.is_next.ensures ∙ c.if-not-is_next.false) (omega (arith, c.requires.measured, c.if-deep-depth.true))
+pub conditional-returns-then-deep-depth-clause-value : goal.conditional-returns-then-deep-depth-clause-value
+conditional-returns-then-deep-depth-clause-value g t c = conditional_deep (whole_at c.args.depth) c.args.depth (expr_of c.args.condition) (toks c.args.tokens.now) (sym c.is_next.ensures ∙ c.if-not-is_next.false) (omega (arith, c.requires.measured, c.if-deep-depth.true))
 
-pub chosen-returns-in_err-rest-clause-value : goal.chosen-returns-in_err-rest-clause-value
-chosen-returns-in_err-rest-clause-value g t c =
+pub conditional-returns-in_err-rest-clause-value : goal.conditional-returns-in_err-rest-clause-value
+conditional-returns-in_err-rest-clause-value g t c =
     let p = err_from_is_err_and c.from_residual.result c.from_residual.ensures.1 in
     rw (p.1, p.2) (fails_along c.in_err-rest.field-0.0 _ _ (question_fails (whole_at c.args.depth) c.args.depth (expr_of c.args.condition) (toks c.args.tokens.now) (sym c.is_next.ensures ∙ c.if-not-is_next.false) (omega (arith, c.requires.measured, c.if-deep-depth.false))) c.in_err-rest.ensures)
 
-pub chosen-returns-in_err-then-clause-value : goal.chosen-returns-in_err-then-clause-value
-chosen-returns-in_err-then-clause-value g t c =
+pub conditional-returns-in_err-then-clause-value : goal.conditional-returns-in_err-then-clause-value
+conditional-returns-in_err-then-clause-value g t c =
     let p = err_from_is_err_and c.from_residual-in_err-then.result c.from_residual-in_err-then.ensures.1 in
     rw (p.1, p.2) (fails_along c.in_err-then.field-0.0 _ _ (then_fails (whole_at c.args.depth) c.args.depth (expr_of c.args.condition) (toks c.args.tokens.now) (sym c.is_next.ensures ∙ c.if-not-is_next.false) (omega (arith, c.requires.measured, c.if-deep-depth.false)) (toks c.in_ok-rest.rest.now) c.in_ok-rest.ensures) c.in_err-then.ensures.value)
 
-pub chosen-returns-in_err-rest-2-clause-value : goal.chosen-returns-in_err-rest-2-clause-value
-chosen-returns-in_err-rest-2-clause-value g t c =
+pub conditional-returns-in_err-rest-2-clause-value : goal.conditional-returns-in_err-rest-2-clause-value
+conditional-returns-in_err-rest-2-clause-value g t c =
     let p = err_from_is_err_and c.from_residual-in_err-rest-2.result c.from_residual-in_err-rest-2.ensures.1 in
     rw (p.1, p.2) (fails_along c.in_err-rest-2.field-0.0 _ _ (λ f k. colon_fails (whole_at c.args.depth) c.args.depth (expr_of c.args.condition) (toks c.args.tokens.now) (sym c.is_next.ensures ∙ c.if-not-is_next.false) (omega (arith, c.requires.measured, c.if-deep-depth.false)) (toks c.in_ok-rest.rest.now) c.in_ok-rest.ensures (expr_of c.in_ok-then.then) (toks c.in_ok-then.rest.now) f c.in_ok-then.ensures.value k) c.in_err-rest-2.ensures)
 
-pub chosen-returns-in_err-other-clause-value : goal.chosen-returns-in_err-other-clause-value
-chosen-returns-in_err-other-clause-value g t c =
+pub conditional-returns-in_err-other-clause-value : goal.conditional-returns-in_err-other-clause-value
+conditional-returns-in_err-other-clause-value g t c =
     let p = err_from_is_err_and c.from_residual-in_err-other.result c.from_residual-in_err-other.ensures.1 in
     rw (p.1, p.2) (fails_along c.in_err-other.field-0.0 _ _ (λ f b. other_fails (whole_at c.args.depth) c.args.depth (expr_of c.args.condition) (toks c.args.tokens.now) (sym c.is_next.ensures ∙ c.if-not-is_next.false) (omega (arith, c.requires.measured, c.if-deep-depth.false)) (toks c.in_ok-rest.rest.now) c.in_ok-rest.ensures (expr_of c.in_ok-then.then) (toks c.in_ok-then.rest.now) (toks c.in_ok-rest-2.rest.now) f c.in_ok-then.ensures.value c.in_ok-rest-2.ensures b) c.in_err-other.ensures.value)
 
-pub chosen-returns-clause-value : goal.chosen-returns-clause-value
-chosen-returns-clause-value g t c =
-    chosen_goes (whole_at c.args.depth) c.args.depth (expr_of c.args.condition) (toks c.args.tokens.now) (sym c.is_next.ensures ∙ c.if-not-is_next.false) (omega (arith, c.requires.measured, c.if-deep-depth.false)) (toks c.in_ok-rest.rest.now) c.in_ok-rest.ensures (expr_of c.in_ok-then.then) (expr_of c.in_ok-other.other) (toks c.in_ok-then.rest.now) (toks c.in_ok-rest-2.rest.now) (toks c.in_ok-other.rest.now) c.in_ok-then.ensures.value c.in_ok-rest-2.ensures c.in_ok-other.ensures.value
+pub conditional-returns-clause-value : goal.conditional-returns-clause-value
+conditional-returns-clause-value g t c =
+    conditional_goes (whole_at c.args.depth) c.args.depth (expr_of c.args.condition) (toks c.args.tokens.now) (sym c.is_next.ensures ∙ c.if-not-is_next.false) (omega (arith, c.requires.measured, c.if-deep-depth.false)) (toks c.in_ok-rest.rest.now) c.in_ok-rest.ensures (expr_of c.in_ok-then.then) (expr_of c.in_ok-other.other) (toks c.in_ok-then.rest.now) (toks c.in_ok-rest-2.rest.now) (toks c.in_ok-other.rest.now) c.in_ok-then.ensures.value c.in_ok-rest-2.ensures c.in_ok-other.ensures.value
     ∙ ap (λ e. Ok (e, toks c.in_ok-other.rest.now)) (sym c.in_ok-conditional.ensures)
 
-pub chosen-returns-clause-deep : goal.chosen-returns-clause-deep
-chosen-returns-clause-deep g t c =
+pub conditional-returns-clause-deep : goal.conditional-returns-clause-deep
+conditional-returns-clause-deep g t c =
     let d : expr_depth (expr_of c.in_ok-conditional.field-0) ≡ max (expr_depth (expr_of c.args.condition)) (max (expr_depth (expr_of c.in_ok-then.then)) (expr_depth (expr_of c.in_ok-other.other))) + 1 = ap expr_depth c.in_ok-conditional.ensures in
     omega (arith, d, c.requires.measured, c.in_ok-then.ensures.deep, c.in_ok-other.ensures.deep, c.max.ensures, c.max-most.ensures)
 
@@ -184,4 +186,4 @@ whole-returns-in_err-condition-clause-value g t c =
     rw (p.1, p.2) (fails_along c.in_err-condition.field-0.0 _ _ (λ f e. whole_fails c.args.depth (c.args.depth - 1) (toks c.args.tokens.now) f (omega arith) e) c.in_err-condition.ensures.value)
 
 pub whole-returns-clause-value : goal.whole-returns-clause-value
-whole-returns-clause-value g t c = rw (whole_goes c.args.depth (c.args.depth - 1) (toks c.args.tokens.now) (toks c.in_ok-condition.rest.now) (expr_of c.in_ok-condition.condition) (omega arith) c.in_ok-condition.ensures.value) c.chosen.ensures.value
+whole-returns-clause-value g t c = rw (whole_goes c.args.depth (c.args.depth - 1) (toks c.args.tokens.now) (toks c.in_ok-condition.rest.now) (expr_of c.in_ok-condition.condition) (omega arith) c.in_ok-condition.ensures.value) c.conditional.ensures.value

@@ -1,11 +1,13 @@
 use Rattle.std.proofs.Common.{◌≡◌, ◌+◌, ◌-◌, ◌*◌, ◌≤◌, map, length}
 use Rattle.lex.specs.Tokens.{toks}
-use Rattle.lex.specs.declared.token.Mark.TheVariants as m
+use Rattle.lex.specs.declared.token.Fixed.TheVariants.{Keyword, Punctuator}
+use Rattle.lex.specs.declared.token.Keyword.TheVariants as key
+use Rattle.lex.specs.declared.token.Punctuator.TheVariants as punct
 use Rattle.syntax.specs.Depth.{expr_depth, deepest}
 use Rattle.syntax.specs.Views.{expr_of, exprs_of}
-use Rattle.parse.specs.Reading.{behind, climb_loop, is_other, many, many_until}
-use Rattle.parse.specs.Expressions.{expr_at, operators, whole_at}
-use Rattle.parse.proofs.Turns.{onward}
+use Rattle.parse.specs.inner.Reading.{behind, climb_loop, is_other, many, many_until}
+use Rattle.parse.specs.inner.Expressions.{expr_at, operators, whole_at}
+use Rattle.parse.proofs.code.Turns.{onward}
 use Rattle.parse.proofs.expr.+climbing.Given as goal
 
 abbrev pub decreases-climb : goal.decreases-climb
@@ -14,8 +16,8 @@ decreases-climb g l = 6 * l.depth
 abbrev pub decreases-whole : goal.decreases-whole
 decreases-whole g l = 6 * l.depth + 1
 
-abbrev pub decreases-chosen : goal.decreases-chosen
-decreases-chosen g l = 6 * l.depth + 2
+abbrev pub decreases-conditional : goal.decreases-conditional
+decreases-conditional g l = 6 * l.depth + 2
 
 abbrev pub decreases-extend : goal.decreases-extend
 decreases-extend g l = 6 * l.depth + 2
@@ -50,5 +52,5 @@ invariant-extend-turns g l = record {
   long : l.count ≡ length l.tokens;
   within : l.most ≤ l.depth;
   deep : l.most ≡ deepest (exprs_of l.all);
-  value : onward (map expr_of l.all) (many (is_other m.Comma) (l.count - l._turn) (behind m.Comma (whole_at l.depth)) (toks l.rest)) ≡ onward (map expr_of l.fn.read) (many_until (is_other m.Comma) (behind m.Comma (whole_at l.depth)) (toks l.tokens));
+  value : onward (map expr_of l.all) (many (is_other (Punctuator punct.Comma)) (l.count - l._turn) (behind (Punctuator punct.Comma) (whole_at l.depth)) (toks l.rest)) ≡ onward (map expr_of l.fn.read) (many_until (is_other (Punctuator punct.Comma)) (behind (Punctuator punct.Comma) (whole_at l.depth)) (toks l.tokens));
 }

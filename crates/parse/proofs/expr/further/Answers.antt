@@ -1,21 +1,23 @@
 use Rattle.std.proofs.Common.{◌≡◌, ◌++◌, map, sym, ◌∙◌}
 use Rattle.std.proofs.lemmas.Result.{err_from_is_err_and}
-use Rattle.lex.specs.declared.token.Mark.TheVariants as m
+use Rattle.lex.specs.declared.token.Fixed.TheVariants.{Keyword, Punctuator}
+use Rattle.lex.specs.declared.token.Keyword.TheVariants as key
+use Rattle.lex.specs.declared.token.Punctuator.TheVariants as punct
 use Rattle.lex.specs.Tokens.{toks}
 use Rattle.syntax.specs.Views.{expr_of}
-use Rattle.parse.specs.Reading.{behind, is_other, many_until, mapped}
-use Rattle.parse.specs.Expressions.{whole_at}
-use Rattle.parse.proofs.Climbing.{fails_along}
-use Rattle.parse.proofs.Turns.{nothing_before}
+use Rattle.parse.specs.inner.Reading.{behind, is_other, many_until, mapped}
+use Rattle.parse.specs.inner.Expressions.{whole_at}
+use Rattle.parse.proofs.code.Climbing.{fails_along}
+use Rattle.parse.proofs.code.Turns.{nothing_before}
 use Rattle.parse.proofs.expr.further.Goals as goal
 
 pub returns-in_err-all : goal.returns-in_err-all
 returns-in_err-all g c =
     let p = err_from_is_err_and c.from_residual.result c.from_residual.ensures.1 in
-    let none : mapped (λ es. map expr_of c.new.result ++ es) (many_until (is_other m.Comma) (behind m.Comma (whole_at c.args.depth))) (toks c.args.tokens.now) ≡ many_until (is_other m.Comma) (behind m.Comma (whole_at c.args.depth)) (toks c.args.tokens.now) = rw c.new.ensures (nothing_before _) in
+    let none : mapped (λ es. map expr_of c.new.result ++ es) (many_until (is_other (Punctuator punct.Comma)) (behind (Punctuator punct.Comma) (whole_at c.args.depth))) (toks c.args.tokens.now) ≡ many_until (is_other (Punctuator punct.Comma)) (behind (Punctuator punct.Comma) (whole_at c.args.depth)) (toks c.args.tokens.now) = rw c.new.ensures (nothing_before _) in
     rw (p.1, p.2) (fails_along c.in_err-all.field-0.0 _ _ (λ f e. sym none ∙ e) c.in_err-all.ensures.value)
 
 pub returns : goal.returns
 returns g c =
-    let none : mapped (λ es. map expr_of c.new.result ++ es) (many_until (is_other m.Comma) (behind m.Comma (whole_at c.args.depth))) (toks c.args.tokens.now) ≡ many_until (is_other m.Comma) (behind m.Comma (whole_at c.args.depth)) (toks c.args.tokens.now) = rw c.new.ensures (nothing_before _) in
+    let none : mapped (λ es. map expr_of c.new.result ++ es) (many_until (is_other (Punctuator punct.Comma)) (behind (Punctuator punct.Comma) (whole_at c.args.depth))) (toks c.args.tokens.now) ≡ many_until (is_other (Punctuator punct.Comma)) (behind (Punctuator punct.Comma) (whole_at c.args.depth)) (toks c.args.tokens.now) = rw c.new.ensures (nothing_before _) in
     sym none ∙ c.in_ok-all.ensures.value

@@ -6,15 +6,14 @@ use Rattle.std.proofs.lemmas.Iterator.Search.{all_from_yields_List}
 use Rattle.syntax.specs.declared.tree.Parameter.{Parameter}
 use Rattle.syntax.specs.declared.tree.Name.{Name}
 use Rattle.syntax.specs.Views.{parameter_of, name_of}
-use Rattle.parse.specs.Expressions as read
-use Rattle.parse.specs.Items.{are_named}
+use Rattle.parse.specs.inner.Items.{are_named}
 use Rattle.parse.proofs.functions.are_named.Goals as goal
 
 all_named : {A : Type 0} (qs : List (Parameter A)) → list_all (λ q. is_some q.name) qs ≡ are_named (map parameter_of qs)
 all_named [] = refl
-all_named {A} (q ∷ qs) = one q.name ∙ ap (λ b. if read.is_some (option_map name_of q.name) then b else Bool.false) (all_named qs)
+all_named {A} (q ∷ qs) = one q.name ∙ ap (λ b. if is_some (option_map name_of q.name) then b else Bool.false) (all_named qs)
   where
-    one : (x : Option (Name A)) → (is_some x && list_all (λ (p : Parameter A). is_some p.name) qs) ≡ (if read.is_some (option_map name_of x) then list_all (λ (p : Parameter A). is_some p.name) qs else Bool.false)
+    one : (x : Option (Name A)) → (is_some x && list_all (λ (p : Parameter A). is_some p.name) qs) ≡ (if is_some (option_map name_of x) then list_all (λ (p : Parameter A). is_some p.name) qs else Bool.false)
     one None = refl
     one (Some x) = refl
 

@@ -1,14 +1,16 @@
 use Rattle.std.proofs.Common.{◌≡◌, ◌++◌, ◌∷◌, [], not, map, length, refl, sym, ap, ◌∙◌, arith}
 use Rattle.std.proofs.lemmas.Result.{err_from_is_err_and}
 use Rattle.std.proofs.lemmas.List.{map_push}
-use Rattle.lex.specs.declared.token.Mark.TheVariants as m
+use Rattle.lex.specs.declared.token.Fixed.TheVariants.{Keyword, Punctuator}
+use Rattle.lex.specs.declared.token.Keyword.TheVariants as key
+use Rattle.lex.specs.declared.token.Punctuator.TheVariants as punct
 use Rattle.lex.specs.Tokens.{toks}
 use Rattle.syntax.specs.Views.{parameter_of}
-use Rattle.parse.specs.Reading.{is_other, behind}
-use Rattle.parse.specs.Items.{parameter}
-use Rattle.parse.proofs.Climbing.{fails_along}
-use Rattle.parse.proofs.Turns.{goes_on, fails_on, stops_at, runs_out}
-use Rattle.parse.proofs.Loops.{listed_begins}
+use Rattle.parse.specs.inner.Reading.{is_other, behind}
+use Rattle.parse.specs.inner.Items.{parameter}
+use Rattle.parse.proofs.code.Climbing.{fails_along}
+use Rattle.parse.proofs.code.Turns.{goes_on, fails_on, stops_at, runs_out}
+use Rattle.parse.proofs.code.Loops.{listed_begins}
 use Rattle.parse.proofs.functions.several.Goals as goal
 
 pub turns-init : goal.turns-init
@@ -18,24 +20,24 @@ turns-init g c = record {
 }
 
 pub returns-then-not-is_next : goal.returns-then-not-is_next
-returns-then-not-is_next g c = stops_at (is_other m.Comma) (behind m.Comma parameter) (map parameter_of c.turns.all) _ (toks c.turns.rest.now) _ (ap not (sym c.is_next.ensures ∙ c.if-not-is_next.true)) c.turns.invariant.value
+returns-then-not-is_next g c = stops_at (is_other (Punctuator punct.Comma)) (behind (Punctuator punct.Comma) parameter) (map parameter_of c.turns.all) _ (toks c.turns.rest.now) _ (ap not (sym c.is_next.ensures ∙ c.if-not-is_next.true)) c.turns.invariant.value
 
 pub returns-in_err-one : goal.returns-in_err-one
 returns-in_err-one g c =
     let p = err_from_is_err_and c.from_residual-in_err-one.result c.from_residual-in_err-one.ensures.1 in
     rw (p.1, p.2) (fails_along c.in_err-one.field-0.0 _ _ (λ f e.
-    fails_on (is_other m.Comma) (behind m.Comma parameter) (map parameter_of c.turns.all) (length c.in_ok-first.inner.now) c.turns._turn (toks c.turns.rest.now) f _ c.turns-test.true (ap not (sym c.is_next.ensures ∙ c.if-not-is_next.false)) e c.turns.invariant.value) c.in_err-one.ensures)
+    fails_on (is_other (Punctuator punct.Comma)) (behind (Punctuator punct.Comma) parameter) (map parameter_of c.turns.all) (length c.in_ok-first.inner.now) c.turns._turn (toks c.turns.rest.now) f _ c.turns-test.true (ap not (sym c.is_next.ensures ∙ c.if-not-is_next.false)) e c.turns.invariant.value) c.in_err-one.ensures)
 
 pub turns-preserved : goal.turns-preserved
 turns-preserved g c =
     let e : map parameter_of c.push-in-turns.new.self ≡ map parameter_of c.turns.all ++ parameter_of c.in_ok-one.one ∷ [] = rw c.in_ok-push-2.ensures.ok (map_push _ c.turns.all c.in_ok-one.one) in
     record {
       long = refl;
-      value = rw e (goes_on (is_other m.Comma) (behind m.Comma parameter) (map parameter_of c.turns.all) (length c.in_ok-first.inner.now) c.turns._turn (toks c.turns.rest.now) (toks c.in_ok-one.after.now) (parameter_of c.in_ok-one.one) _ c.turns-test.true (ap not (sym c.is_next.ensures ∙ c.if-not-is_next.false)) c.in_ok-one.ensures c.turns.invariant.value);
+      value = rw e (goes_on (is_other (Punctuator punct.Comma)) (behind (Punctuator punct.Comma) parameter) (map parameter_of c.turns.all) (length c.in_ok-first.inner.now) c.turns._turn (toks c.turns.rest.now) (toks c.in_ok-one.after.now) (parameter_of c.in_ok-one.one) _ c.turns-test.true (ap not (sym c.is_next.ensures ∙ c.if-not-is_next.false)) c.in_ok-one.ensures c.turns.invariant.value);
     }
 
 pub returns-then-is_next : goal.returns-then-is_next
-returns-then-is_next g c = runs_out (is_other m.Comma) (behind m.Comma parameter) (map parameter_of c.turns.all) _ (toks c.turns.rest.now) _ (omega (arith, c.turns-test.false)) (ap not (sym c.is_next-2.ensures ∙ c.if-is_next.true)) c.turns.invariant.value
+returns-then-is_next g c = runs_out (is_other (Punctuator punct.Comma)) (behind (Punctuator punct.Comma) parameter) (map parameter_of c.turns.all) _ (toks c.turns.rest.now) _ (omega (arith, c.turns-test.false)) (ap not (sym c.is_next-2.ensures ∙ c.if-is_next.true)) c.turns.invariant.value
 
 pub returns : goal.returns
-returns g c = stops_at (is_other m.Comma) (behind m.Comma parameter) (map parameter_of c.turns.all) _ (toks c.turns.rest.now) _ (ap not (sym c.is_next-2.ensures ∙ c.if-is_next.false)) c.turns.invariant.value
+returns g c = stops_at (is_other (Punctuator punct.Comma)) (behind (Punctuator punct.Comma) parameter) (map parameter_of c.turns.all) _ (toks c.turns.rest.now) _ (ap not (sym c.is_next-2.ensures ∙ c.if-is_next.false)) c.turns.invariant.value

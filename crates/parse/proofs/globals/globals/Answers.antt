@@ -2,8 +2,8 @@ use Rattle.std.proofs.Common.{refl, ◌∙◌}
 use Rattle.std.proofs.lemmas.Result.{err_from_is_err_and}
 use Rattle.lex.specs.Tokens.{toks}
 use Rattle.syntax.specs.Views.{name_of}
-use Rattle.parse.proofs.Climbing.{fails_along}
-use Rattle.parse.proofs.Loops.{globals_are}
+use Rattle.parse.proofs.code.Climbing.{fails_along}
+use Rattle.parse.proofs.code.Loops.{globals_are}
 use Rattle.parse.proofs.globals.globals.Goals as goal
 
 pub returns-in_err-all : goal.returns-in_err-all

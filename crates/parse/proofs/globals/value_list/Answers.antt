@@ -1,11 +1,13 @@
 use Rattle.std.proofs.Common.{◌≡◌, true, false, length, refl, sym, ◌∙◌, arith}
 use Rattle.std.proofs.lemmas.Result.{err_from_is_err_and}
-use Rattle.lex.specs.declared.token.Mark.TheVariants as m
+use Rattle.lex.specs.declared.token.Fixed.TheVariants.{Keyword, Punctuator}
+use Rattle.lex.specs.declared.token.Keyword.TheVariants as key
+use Rattle.lex.specs.declared.token.Punctuator.TheVariants as punct
 use Rattle.lex.specs.Tokens.{toks}
-use Rattle.parse.specs.Reading.{head, is_next}
-use Rattle.parse.specs.Items.{initialiser}
-use Rattle.parse.proofs.Climbing.{fails_along}
-use Rattle.parse.proofs.Loops.{trails_begin, trails_stop, trails_out, trails_lost, trails_last, trails_fail, trails_on}
+use Rattle.parse.specs.inner.Reading.{head, is_next}
+use Rattle.parse.specs.inner.Items.{initialiser}
+use Rattle.parse.proofs.code.Climbing.{fails_along}
+use Rattle.parse.proofs.code.Loops.{trails_begin, trails_stop, trails_out, trails_lost, trails_last, trails_fail, trails_on}
 use Rattle.parse.proofs.globals.value_list.Goals as goal
 
 pub turns-init : goal.turns-init
@@ -19,28 +21,28 @@ returns-then-not-is_next g c = trails_stop initialiser c.turns.all _ _ (toks c.t
 
 pub returns-in_err-next : goal.returns-in_err-next
 returns-in_err-next g c =
-    let comma : is_next m.Comma (head (toks c.turns.rest.now)) ≡ true = sym c.is_next.ensures ∙ c.if-not-is_next.false in
+    let comma : is_next (Punctuator punct.Comma) (head (toks c.turns.rest.now)) ≡ true = sym c.is_next.ensures ∙ c.if-not-is_next.false in
     let p = err_from_is_err_and c.from_residual-in_err-next.result c.from_residual-in_err-next.ensures.1 in
     rw (p.1, p.2) (fails_along c.in_err-next.field-0.0 _ _ (λ f e.
     trails_lost initialiser c.turns.all _ (length c.in_ok-first.inner.now) c.turns._turn (toks c.turns.rest.now) c.turns-test.true comma c.turns.invariant.value f e) c.in_err-next.ensures)
 
 pub returns-then-is_next : goal.returns-then-is_next
 returns-then-is_next g c =
-    let comma : is_next m.Comma (head (toks c.turns.rest.now)) ≡ true = sym c.is_next.ensures ∙ c.if-not-is_next.false in
+    let comma : is_next (Punctuator punct.Comma) (head (toks c.turns.rest.now)) ≡ true = sym c.is_next.ensures ∙ c.if-not-is_next.false in
     trails_last initialiser c.turns.all _ (length c.in_ok-first.inner.now) c.turns._turn (toks c.turns.rest.now) c.turns-test.true comma c.turns.invariant.value (toks c.in_ok-next.next.now) c.in_ok-next.ensures (sym c.is_next-in-turns.ensures ∙ c.if-is_next.true)
 
 pub returns-in_err-one : goal.returns-in_err-one
 returns-in_err-one g c =
-    let comma : is_next m.Comma (head (toks c.turns.rest.now)) ≡ true = sym c.is_next.ensures ∙ c.if-not-is_next.false in
-    let more : is_next m.CloseBrace (head (toks c.in_ok-next.next.now)) ≡ false = sym c.is_next-in-turns.ensures ∙ c.if-is_next.false in
+    let comma : is_next (Punctuator punct.Comma) (head (toks c.turns.rest.now)) ≡ true = sym c.is_next.ensures ∙ c.if-not-is_next.false in
+    let more : is_next (Punctuator punct.CloseBrace) (head (toks c.in_ok-next.next.now)) ≡ false = sym c.is_next-in-turns.ensures ∙ c.if-is_next.false in
     let p = err_from_is_err_and c.from_residual-in_err-one.result c.from_residual-in_err-one.ensures.1 in
     rw (p.1, p.2) (fails_along c.in_err-one.field-0.0 _ _ (λ f e.
     trails_fail initialiser c.turns.all _ (length c.in_ok-first.inner.now) c.turns._turn (toks c.turns.rest.now) c.turns-test.true comma c.turns.invariant.value (toks c.in_ok-next.next.now) c.in_ok-next.ensures f more e) c.in_err-one.ensures)
 
 pub turns-preserved : goal.turns-preserved
 turns-preserved g c =
-    let comma : is_next m.Comma (head (toks c.turns.rest.now)) ≡ true = sym c.is_next.ensures ∙ c.if-not-is_next.false in
-    let more : is_next m.CloseBrace (head (toks c.in_ok-next.next.now)) ≡ false = sym c.is_next-in-turns.ensures ∙ c.if-is_next.false in
+    let comma : is_next (Punctuator punct.Comma) (head (toks c.turns.rest.now)) ≡ true = sym c.is_next.ensures ∙ c.if-not-is_next.false in
+    let more : is_next (Punctuator punct.CloseBrace) (head (toks c.in_ok-next.next.now)) ≡ false = sym c.is_next-in-turns.ensures ∙ c.if-is_next.false in
     record {
       long = refl;
       value = rw c.in_ok-push-2.ensures.ok (trails_on initialiser c.turns.all _ (length c.in_ok-first.inner.now) c.turns._turn (toks c.turns.rest.now) c.turns-test.true comma c.turns.invariant.value (toks c.in_ok-next.next.now) c.in_ok-next.ensures (toks c.in_ok-one.after.now) c.in_ok-one.one more c.in_ok-one.ensures);

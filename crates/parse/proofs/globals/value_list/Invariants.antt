@@ -1,8 +1,8 @@
 use Rattle.std.proofs.Common.{◌≡◌, ◌-◌, length}
 use Rattle.lex.specs.Tokens.{toks}
-use Rattle.parse.specs.Reading.{trailing}
-use Rattle.parse.specs.Items.{initialiser, value_list}
-use Rattle.parse.proofs.Turns.{onward}
+use Rattle.parse.specs.inner.Reading.{trailing}
+use Rattle.parse.specs.inner.Items.{initialiser, value_list}
+use Rattle.parse.proofs.code.Turns.{onward}
 use Rattle.parse.proofs.globals.value_list.Given as goal
 
 -- what was read, and what is still to be read

@@ -1,6 +1,6 @@
 use Rattle.std.proofs.Common.{◌-◌, arith}
 use Rattle.lex.specs.Tokens.{toks}
-use Rattle.parse.proofs.Within.{declaration_start}
+use Rattle.parse.proofs.code.Within.{declaration_start}
 use Rattle.parse.proofs.simple.declaration.Goals as goal
 
 pub returns : goal.returns

@@ -1,6 +1,6 @@
 use Rattle.std.proofs.Common.{◌-◌, arith}
 use Rattle.lex.specs.Tokens.{toks}
-use Rattle.parse.proofs.Within.{simple_start}
+use Rattle.parse.proofs.code.Within.{simple_start}
 use Rattle.parse.proofs.simple.simple.Goals as goal
 
 pub returns : goal.returns

@@ -1,22 +1,163 @@
 use Rattle.std.proofs.Common.{◌≡◌, ◌-◌, ◌++◌, ◌∷◌, [], Ok, Some, true, length, map, option_map, refl, sym, ap, ◌∙◌, arith, ◌⊎◌, inl, inr}
 use Rattle.std.proofs.lemmas.Result.{err_from_is_err_and}
 use Rattle.std.proofs.lemmas.List.{map_push}
-use Rattle.lex.specs.declared.token.Mark.TheVariants as m
+use Rattle.lex.specs.declared.token.Fixed.TheVariants.{Keyword, Punctuator}
+use Rattle.lex.specs.declared.token.Keyword.TheVariants as key
+use Rattle.lex.specs.declared.token.Punctuator.TheVariants as punct
 use Rattle.lex.specs.Tokens.{toks}
-use Rattle.syntax.specs.declared.tree.Stmt as S
 use Rattle.syntax.specs.Views.{expr_of, declaration_of, stmt_of}
 use Rattle.syntax.proofs.Seen.{stmt_of_declare, stmt_of_block, stmt_of_while, stmt_of_do_while, stmt_of_transaction}
 use Rattle.parse.specs.declared.lead.Lead.TheVariants as lead
-use Rattle.parse.specs.Reading.{head, spot, is_next}
-use Rattle.parse.specs.Statements.{entry, stmt_at}
-use Rattle.parse.proofs.Climbing.{fails_along}
-use Rattle.parse.proofs.Within.{stmt_none, stmt_deep, stmt_start, block_none, block_deep, block_start, nested_is, nested_fails, does_is, entry_is}
-use Rattle.parse.proofs.Loops.{all_turns}
-use Rattle.parse.proofs.Braces.{expect_not, braced_is}
-use Rattle.parse.proofs.Nodes.{looped_none, looped_unless, looped_fails, looped_is, done_none, done_fails, done_alone, done_unless, done_open, done_is, chosen_none, chosen_unless, chosen_fails, chosen_other, chosen_is, stmt_of_any_if, no_else, else_none, else_fails, else_is, counted_none, counted_unless, counted_fails, counted_is, transaction_none, transaction_fails, transaction_is, entry_stmt, entry_fails}
-use Rattle.parse.proofs.Rounds.{round_starts, round_goes, round_fails, round_bad, round_good}
+use Rattle.parse.specs.inner.Reading.{head, spot, is_next}
+use Rattle.parse.specs.inner.Statements.{entry, stmt_at}
+use Rattle.parse.proofs.code.Climbing.{fails_along}
+use Rattle.parse.proofs.code.Within.{stmt_none, stmt_deep, stmt_start, block_none, block_deep, block_start, block_stmt_is, block_stmt_fails, simple_stmt_is, entry_is}
+use Rattle.parse.proofs.code.Loops.{all_turns}
+use Rattle.parse.proofs.code.Braces.{expect_not, braced_is}
+use Rattle.parse.proofs.code.Nodes.{while_stmt_none, while_stmt_unless, while_stmt_fails, while_stmt_is, do_stmt_none, do_stmt_fails, do_stmt_open, do_stmt_is, if_stmt_none, if_stmt_unless, if_stmt_fails, if_stmt_is, branches_fail, branches_other, branches_are, stmt_of_any_if, no_else, else_none, else_fails, else_is, for_stmt_none, for_stmt_unless, for_stmt_fails, for_stmt_is, transaction_stmt_none, transaction_stmt_fails, transaction_stmt_is, entry_stmt, entry_fails}
+use Rattle.parse.proofs.code.Rounds.{round_starts, round_goes, round_fails, round_bad, round_good}
 use Rattle.parse.proofs.stmt.+statements.Goals.{block-else-turns-test, block-then-turns-test+then-is_next}
 use Rattle.parse.proofs.stmt.+statements.Goals as goal
+
+pub boxed_stmt-returns-in_err-one : goal.boxed_stmt-returns-in_err-one
+boxed_stmt-returns-in_err-one g t c =
+    let p = err_from_is_err_and c.from_residual.result c.from_residual.ensures.1 in
+    rw (p.1, p.2) c.in_err-one.ensures
+
+pub boxed_stmt-returns-in_err-new : goal.boxed_stmt-returns-in_err-new
+boxed_stmt-returns-in_err-new g t c =
+    let p = err_from_is_err_and c.from_residual-in_err-new.result c.from_residual-in_err-new.ensures.1 in
+    rw (p.1, p.2) tt
+
+pub boxed_stmt-returns : goal.boxed_stmt-returns
+boxed_stmt-returns g t c = c.in_ok-one.ensures ∙ ap (λ s. Ok (stmt_of s, toks c.in_ok-one.rest.now)) (sym c.in_ok-new.ensures)
+
+pub else_part-returns-then-not-is_next : goal.else_part-returns-then-not-is_next
+else_part-returns-then-not-is_next g t c = no_else c.args.depth (toks c.args.tokens.now) (sym c.is_next.ensures ∙ c.if-not-is_next.true)
+
+pub else_part-returns-in_err-rest : goal.else_part-returns-in_err-rest
+else_part-returns-in_err-rest g t c =
+    let p = err_from_is_err_and c.from_residual.result c.from_residual.ensures.1 in
+    rw (p.1, p.2) (fails_along c.in_err-rest.field-0.0 _ _ (λ f e. else_none c.args.depth (toks c.args.tokens.now) f (sym c.is_next.ensures ∙ c.if-not-is_next.false) e) c.in_err-rest.ensures)
+
+pub else_part-returns-in_err-other : goal.else_part-returns-in_err-other
+else_part-returns-in_err-other g t c =
+    let p = err_from_is_err_and c.from_residual-in_err-other.result c.from_residual-in_err-other.ensures.1 in
+    rw (p.1, p.2) (fails_along c.in_err-other.field-0.0 _ _ (λ f e. else_fails c.args.depth (toks c.args.tokens.now) (toks c.in_ok-rest.rest.now) f (sym c.is_next.ensures ∙ c.if-not-is_next.false) c.in_ok-rest.ensures e) c.in_err-other.ensures)
+
+pub else_part-returns : goal.else_part-returns
+else_part-returns g t c = else_is c.args.depth (toks c.args.tokens.now) (toks c.in_ok-rest.rest.now) (toks c.in_ok-other.rest.now) (stmt_of c.in_ok-other.other) (sym c.is_next.ensures ∙ c.if-not-is_next.false) c.in_ok-rest.ensures c.in_ok-other.ensures
+
+pub branches-returns-in_err-then : goal.branches-returns-in_err-then
+branches-returns-in_err-then g t c =
+    let p = err_from_is_err_and c.from_residual.result c.from_residual.ensures.1 in
+    rw (p.1, p.2) (fails_along c.in_err-then.field-0.0 _ _ (λ f e. branches_fail c.args.depth (toks c.args.tokens.now) f e) c.in_err-then.ensures)
+
+pub branches-returns-in-Err : goal.branches-returns-in-Err
+branches-returns-in-Err g t c = fails_along c.in-Err.failure _ _ (λ f e. branches_other c.args.depth (toks c.args.tokens.now) (toks c.in_ok-then.rest.now) (stmt_of c.in_ok-then.then) f c.in_ok-then.ensures e) c.in-Err.ensures
+
+pub branches-returns-in-Ok : goal.branches-returns-in-Ok
+branches-returns-in-Ok g t c = branches_are c.args.depth (toks c.args.tokens.now) (toks c.in_ok-then.rest.now) (toks c.in-Ok.rest.now) (stmt_of c.in_ok-then.then) (option_map stmt_of c.in-Ok.other) c.in_ok-then.ensures c.in-Ok.ensures
+
+pub if_stmt-returns-in_err-rest : goal.if_stmt-returns-in_err-rest
+if_stmt-returns-in_err-rest g t c =
+    let p = err_from_is_err_and c.from_residual.result c.from_residual.ensures.1 in
+    rw (p.1, p.2) (fails_along c.in_err-rest.field-0.0 _ _ (λ f e. if_stmt_none c.args.depth (toks c.args.tokens.now) f e) c.in_err-rest.ensures)
+
+pub if_stmt-returns-in_err-condition : goal.if_stmt-returns-in_err-condition
+if_stmt-returns-in_err-condition g t c =
+    let p = err_from_is_err_and c.from_residual-in_err-condition.result c.from_residual-in_err-condition.ensures.1 in
+    rw (p.1, p.2) (fails_along c.in_err-condition.field-0.0 _ _ (λ f e. if_stmt_unless c.args.depth (toks c.args.tokens.now) (toks c.in_ok-rest.rest.now) f c.in_ok-rest.ensures e) c.in_err-condition.ensures)
+
+pub if_stmt-returns-in-Err : goal.if_stmt-returns-in-Err
+if_stmt-returns-in-Err g t c = fails_along c.in-Err.failure _ _ (λ f e. if_stmt_fails c.args.depth (toks c.args.tokens.now) (toks c.in_ok-rest.rest.now) (toks c.in_ok-condition.rest.now) (expr_of c.in_ok-condition.condition) f c.in_ok-rest.ensures c.in_ok-condition.ensures e) c.in-Err.ensures
+
+pub if_stmt-returns-in-Ok : goal.if_stmt-returns-in-Ok
+if_stmt-returns-in-Ok g t c =
+    if_stmt_is c.args.depth (toks c.args.tokens.now) (toks c.in_ok-rest.rest.now) (toks c.in_ok-condition.rest.now) (toks c.in-Ok.rest.now) (expr_of c.in_ok-condition.condition) (stmt_of c.in-Ok.both.then) (option_map stmt_of c.in-Ok.both.other) c.in_ok-rest.ensures c.in_ok-condition.ensures c.in-Ok.ensures
+    ∙ ap (λ s. Ok (s, toks c.in-Ok.rest.now)) (sym (stmt_of_any_if c.in_ok-condition.condition c.in-Ok.both.then c.in-Ok.both.other))
+
+pub while_stmt-returns-in_err-rest : goal.while_stmt-returns-in_err-rest
+while_stmt-returns-in_err-rest g t c =
+    let p = err_from_is_err_and c.from_residual.result c.from_residual.ensures.1 in
+    rw (p.1, p.2) (fails_along c.in_err-rest.field-0.0 _ _ (λ f e. while_stmt_none c.args.depth (toks c.args.tokens.now) f e) c.in_err-rest.ensures)
+
+pub while_stmt-returns-in_err-condition : goal.while_stmt-returns-in_err-condition
+while_stmt-returns-in_err-condition g t c =
+    let p = err_from_is_err_and c.from_residual-in_err-condition.result c.from_residual-in_err-condition.ensures.1 in
+    rw (p.1, p.2) (fails_along c.in_err-condition.field-0.0 _ _ (λ f e. while_stmt_unless c.args.depth (toks c.args.tokens.now) (toks c.in_ok-rest.rest.now) f c.in_ok-rest.ensures e) c.in_err-condition.ensures)
+
+pub while_stmt-returns-in-Err : goal.while_stmt-returns-in-Err
+while_stmt-returns-in-Err g t c = fails_along c.in-Err.failure _ _ (λ f e. while_stmt_fails c.args.depth (toks c.args.tokens.now) (toks c.in_ok-rest.rest.now) (toks c.in_ok-condition.rest.now) (expr_of c.in_ok-condition.condition) f c.in_ok-rest.ensures c.in_ok-condition.ensures e) c.in-Err.ensures
+
+pub while_stmt-returns-in-Ok : goal.while_stmt-returns-in-Ok
+while_stmt-returns-in-Ok g t c =
+    while_stmt_is c.args.depth (toks c.args.tokens.now) (toks c.in_ok-rest.rest.now) (toks c.in_ok-condition.rest.now) (toks c.in-Ok.rest.now) (expr_of c.in_ok-condition.condition) (stmt_of c.in-Ok.body) c.in_ok-rest.ensures c.in_ok-condition.ensures c.in-Ok.ensures
+    ∙ ap (λ s. Ok (s, toks c.in-Ok.rest.now)) (sym (stmt_of_while c.in_ok-condition.condition c.in-Ok.body))
+
+pub do_stmt-returns-in_err-rest : goal.do_stmt-returns-in_err-rest
+do_stmt-returns-in_err-rest g t c =
+    let p = err_from_is_err_and c.from_residual.result c.from_residual.ensures.1 in
+    rw (p.1, p.2) (fails_along c.in_err-rest.field-0.0 _ _ (λ f e. do_stmt_none c.args.depth (toks c.args.tokens.now) f e) c.in_err-rest.ensures)
+
+pub do_stmt-returns-in_err-body : goal.do_stmt-returns-in_err-body
+do_stmt-returns-in_err-body g t c =
+    let p = err_from_is_err_and c.from_residual-in_err-body.result c.from_residual-in_err-body.ensures.1 in
+    rw (p.1, p.2) (fails_along c.in_err-body.field-0.0 _ _ (λ f e. do_stmt_fails c.args.depth (toks c.args.tokens.now) (toks c.in_ok-rest.rest.now) f c.in_ok-rest.ensures e) c.in_err-body.ensures)
+
+pub do_stmt-returns-in-Err : goal.do_stmt-returns-in-Err
+do_stmt-returns-in-Err g t c = fails_along c.in-Err.failure _ _ (λ f e. do_stmt_open c.args.depth (toks c.args.tokens.now) (toks c.in_ok-rest.rest.now) (toks c.in_ok-body.rest.now) (stmt_of c.in_ok-body.body) f c.in_ok-rest.ensures c.in_ok-body.ensures e) c.in-Err.ensures
+
+pub do_stmt-returns-in-Ok : goal.do_stmt-returns-in-Ok
+do_stmt-returns-in-Ok g t c =
+    do_stmt_is c.args.depth (toks c.args.tokens.now) (toks c.in_ok-rest.rest.now) (toks c.in_ok-body.rest.now) (toks c.in-Ok.rest.now) (stmt_of c.in_ok-body.body) (expr_of c.in-Ok.condition) c.in_ok-rest.ensures c.in_ok-body.ensures c.in-Ok.ensures
+    ∙ ap (λ s. Ok (s, toks c.in-Ok.rest.now)) (sym (stmt_of_do_while c.in_ok-body.body c.in-Ok.condition))
+
+pub for_stmt-returns-in_err-rest : goal.for_stmt-returns-in_err-rest
+for_stmt-returns-in_err-rest g t c =
+    let p = err_from_is_err_and c.from_residual.result c.from_residual.ensures.1 in
+    rw (p.1, p.2) (fails_along c.in_err-rest.field-0.0 _ _ (λ f e. for_stmt_none c.args.depth (toks c.args.tokens.now) f e) c.in_err-rest.ensures)
+
+pub for_stmt-returns-in_err-head : goal.for_stmt-returns-in_err-head
+for_stmt-returns-in_err-head g t c =
+    let p = err_from_is_err_and c.from_residual-in_err-head.result c.from_residual-in_err-head.ensures.1 in
+    rw (p.1, p.2) (fails_along c.in_err-head.field-0.0 _ _ (λ f e. for_stmt_unless c.args.depth (toks c.args.tokens.now) (toks c.in_ok-rest.rest.now) f c.in_ok-rest.ensures e) c.in_err-head.ensures)
+
+pub for_stmt-returns-in-Err : goal.for_stmt-returns-in-Err
+for_stmt-returns-in-Err g t c = fails_along c.in-Err.failure _ _ (λ f e. for_stmt_fails c.args.depth (toks c.args.tokens.now) (toks c.in_ok-rest.rest.now) (toks c.in_ok-head.rest.now) _ f c.in_ok-rest.ensures c.in_ok-head.ensures e) c.in-Err.ensures
+
+pub for_stmt-returns-in-Ok : goal.for_stmt-returns-in-Ok
+for_stmt-returns-in-Ok g t c =
+    for_stmt_is c.args.depth (toks c.args.tokens.now) (toks c.in_ok-rest.rest.now) (toks c.in_ok-head.rest.now) (toks c.in-Ok.rest.now) _ _ c.in_ok-rest.ensures c.in_ok-head.ensures c.in-Ok.ensures
+    ∙ ap (λ s. Ok (s, toks c.in-Ok.rest.now)) (sym c.for_node.ensures)
+
+pub transaction_stmt-returns : goal.transaction_stmt-returns
+transaction_stmt-returns g t c =
+    transaction_stmt_is c.args.depth c.args.mode (toks c.args.tokens.now) (toks c.in_ok-at.rest.now) (toks c.in_ok-body.rest.now) c.in_ok-at.at (map stmt_of c.in_ok-body.body) (ap (λ k. spot k (toks c.args.tokens.now)) (sym c.mode_keyword.ensures) ∙ c.in_ok-at.ensures) c.in_ok-body.ensures
+    ∙ ap (λ s. Ok (s, toks c.in_ok-body.rest.now)) (sym (stmt_of_transaction c.args.mode c.in_ok-body.body c.in_ok-at.at))
+
+pub transaction_stmt-returns-in_err-at : goal.transaction_stmt-returns-in_err-at
+transaction_stmt-returns-in_err-at g t c =
+    let p = err_from_is_err_and c.from_residual.result c.from_residual.ensures.1 in
+    rw (p.1, p.2) (fails_along c.in_err-at.field-0.0 _ _ (λ f e. transaction_stmt_none c.args.depth (toks c.args.tokens.now) c.args.mode f (ap (λ k. spot k (toks c.args.tokens.now)) (sym c.mode_keyword.ensures) ∙ e)) c.in_err-at.ensures)
+
+pub transaction_stmt-returns-in_err-body : goal.transaction_stmt-returns-in_err-body
+transaction_stmt-returns-in_err-body g t c =
+    let p = err_from_is_err_and c.from_residual-in_err-body.result c.from_residual-in_err-body.ensures.1 in
+    rw (p.1, p.2) (fails_along c.in_err-body.field-0.0 _ _ (λ f e. transaction_stmt_fails c.args.depth (toks c.args.tokens.now) c.args.mode (toks c.in_ok-at.rest.now) c.in_ok-at.at f (ap (λ k. spot k (toks c.args.tokens.now)) (sym c.mode_keyword.ensures) ∙ c.in_ok-at.ensures) e) c.in_err-body.ensures)
+
+pub entry-returns-then-starts_type : goal.entry-returns-then-starts_type
+entry-returns-then-starts_type g t c =
+    entry_is c.args.depth (toks c.args.tokens.now) (toks c.in_ok-declaration.rest.now) (declaration_of c.in_ok-declaration.declaration) (sym c.starts_type.ensures ∙ c.if-starts_type.true) c.in_ok-declaration.ensures
+    ∙ ap (λ s. Ok (s, toks c.in_ok-declaration.rest.now)) (sym (stmt_of_declare c.in_ok-declaration.declaration))
+
+pub entry-returns-in_err-declaration : goal.entry-returns-in_err-declaration
+entry-returns-in_err-declaration g t c =
+    let p = err_from_is_err_and c.from_residual.result c.from_residual.ensures.1 in
+    rw (p.1, p.2) (fails_along c.in_err-declaration.field-0.0 _ _ (λ f e. entry_fails c.args.depth (toks c.args.tokens.now) f (sym c.starts_type.ensures ∙ c.if-starts_type.true) e) c.in_err-declaration.ensures)
+
+pub entry-returns : goal.entry-returns
+entry-returns g t c = rw (entry_stmt c.args.depth (toks c.args.tokens.now) (sym c.starts_type.ensures ∙ c.if-starts_type.false)) c.stmt.ensures
 
 pub block-returns-in_err-inner : goal.block-returns-in_err-inner
 block-returns-in_err-inner g t c =
@@ -31,32 +172,37 @@ block-turns-init g t c =
     let b = c.args.depth - 1 in
     record {
       long = refl;
-      value = rw c.new-all.ensures (round_starts (is_next m.CloseBrace) (entry b (stmt_at b)) m.CloseBrace _ (toks c.in_ok-inner.inner.now) _ (all_turns c.in_ok-inner.inner.now)
+      value = rw c.new-all.ensures (round_starts (is_next (Punctuator punct.CloseBrace)) (entry b (stmt_at b)) (Punctuator punct.CloseBrace) _ (toks c.in_ok-inner.inner.now) _ (all_turns c.in_ok-inner.inner.now)
           (sym (block_start c.args.depth b (toks c.args.tokens.now) (omega arith) ∙ braced_is (entry b (stmt_at b)) (toks c.args.tokens.now) (toks c.in_ok-inner.inner.now) c.in_ok-inner.ensures)));
     }
 
 pub block-returns-in_err-one : goal.block-returns-in_err-one
 block-returns-in_err-one g t c =
     let p = err_from_is_err_and c.from_residual-in_err-one.result c.from_residual-in_err-one.ensures.1 in
-    rw (p.1, p.2) (round_fails (is_next m.CloseBrace) (entry (c.args.depth - 1) (stmt_at (c.args.depth - 1))) m.CloseBrace _ c.in_err-one.field-0.0 (map stmt_of c.turns.all) (length c.in_ok-inner.inner.now) c.turns._turn (toks c.turns.rest.now) c.turns.invariant.value c.turns-test.true (sym c.is_next.ensures ∙ c.if-is_next.false) c.in_err-one.ensures)
+    rw (p.1, p.2) (round_fails (is_next (Punctuator punct.CloseBrace)) (entry (c.args.depth - 1) (stmt_at (c.args.depth - 1))) (Punctuator punct.CloseBrace) _ c.in_err-one.field-0.0 (map stmt_of c.turns.all) (length c.in_ok-inner.inner.now) c.turns._turn (toks c.turns.rest.now) c.turns.invariant.value c.turns-test.true (sym c.is_next.ensures ∙ c.if-is_next.false) c.in_err-one.ensures)
 
 pub block-turns-preserved : goal.block-turns-preserved
 block-turns-preserved g t c =
     let e : map stmt_of c.push.new.self ≡ map stmt_of c.turns.all ++ stmt_of c.in_ok-one.one ∷ [] = rw c.in_ok-push.ensures.ok (map_push _ c.turns.all c.in_ok-one.one) in
     record {
       long = refl;
-      value = rw e (round_goes (is_next m.CloseBrace) (entry (c.args.depth - 1) (stmt_at (c.args.depth - 1))) m.CloseBrace _ (map stmt_of c.turns.all) (length c.in_ok-inner.inner.now) c.turns._turn (toks c.turns.rest.now) (toks c.in_ok-one.after.now) (stmt_of c.in_ok-one.one) c.turns.invariant.value c.turns-test.true (sym c.is_next.ensures ∙ c.if-is_next.false) c.in_ok-one.ensures);
+      value = rw e (round_goes (is_next (Punctuator punct.CloseBrace)) (entry (c.args.depth - 1) (stmt_at (c.args.depth - 1))) (Punctuator punct.CloseBrace) _ (map stmt_of c.turns.all) (length c.in_ok-inner.inner.now) c.turns._turn (toks c.turns.rest.now) (toks c.in_ok-one.after.now) (stmt_of c.in_ok-one.one) c.turns.invariant.value c.turns-test.true (sym c.is_next.ensures ∙ c.if-is_next.false) c.in_ok-one.ensures);
     }
 
-pub block-returns-in_err-rest : goal.block-returns-in_err-rest
-block-returns-in_err-rest g t c =
-    let p = err_from_is_err_and c.from_residual-in_err-rest.result c.from_residual-in_err-rest.ensures.1 in
-    let way : (length c.in_ok-inner.inner.now - c.turns._turn ≡ 0) ⊎ (is_next m.CloseBrace (head (toks c.turns.rest.now)) ≡ true) =
+pub block-returns-in_err-all : goal.block-returns-in_err-all
+block-returns-in_err-all g t c =
+    let p = err_from_is_err_and c.from_residual-in_err-all.result c.from_residual-in_err-all.ensures.1 in
+    let way : (length c.in_ok-inner.inner.now - c.turns._turn ≡ 0) ⊎ (is_next (Punctuator punct.CloseBrace) (head (toks c.turns.rest.now)) ≡ true) =
     elim c.turns-test.branch [ block-else-turns-test w ↦ inl (omega (arith, w.turns-test.false)) | block-then-turns-test+then-is_next w ↦ inr (sym w.is_next.ensures ∙ w.if-is_next.true) ] in
-    rw (p.1, p.2) (round_bad (is_next m.CloseBrace) (entry (c.args.depth - 1) (stmt_at (c.args.depth - 1))) m.CloseBrace _ (map stmt_of c.turns.all) (length c.in_ok-inner.inner.now - c.turns._turn) (toks c.turns.rest.now) (λ h. expect_not m.CloseBrace (toks c.turns.rest.now) h) c.in_err-rest.field-0.0 c.turns.invariant.value way c.in_err-rest.ensures)
+    rw (p.1, p.2) (round_bad (is_next (Punctuator punct.CloseBrace)) (entry (c.args.depth - 1) (stmt_at (c.args.depth - 1))) (Punctuator punct.CloseBrace) _ (map stmt_of c.turns.all) (length c.in_ok-inner.inner.now - c.turns._turn) (toks c.turns.rest.now) (λ h. expect_not (Punctuator punct.CloseBrace) (toks c.turns.rest.now) h) c.in_err-all.field-0.0 c.turns.invariant.value way c.in_err-all.ensures.rest)
 
 pub block-returns : goal.block-returns
-block-returns g t c = round_good (is_next m.CloseBrace) (entry (c.args.depth - 1) (stmt_at (c.args.depth - 1))) m.CloseBrace _ (map stmt_of c.turns.all) (length c.in_ok-inner.inner.now - c.turns._turn) (toks c.turns.rest.now) (λ h. expect_not m.CloseBrace (toks c.turns.rest.now) h) _ c.turns.invariant.value c.in_ok-rest.ensures
+block-returns g t c = rw c.in_ok-all.ensures.value (round_good (is_next (Punctuator punct.CloseBrace)) (entry (c.args.depth - 1) (stmt_at (c.args.depth - 1))) (Punctuator punct.CloseBrace) _ (map stmt_of c.turns.all) (length c.in_ok-inner.inner.now - c.turns._turn) (toks c.turns.rest.now) (λ h. expect_not (Punctuator punct.CloseBrace) (toks c.turns.rest.now) h) _ c.turns.invariant.value c.in_ok-all.ensures.rest)
+
+pub block-returns-in_err-push : goal.block-returns-in_err-push
+block-returns-in_err-push g t c =
+    let p = err_from_is_err_and c.from_residual-in_err-push.result c.from_residual-in_err-push.ensures.1 in
+    rw (p.1, p.2) tt
 
 pub stmt-returns-then-starts_stmt : goal.stmt-returns-then-starts_stmt
 stmt-returns-then-starts_stmt g t c = stmt_deep c.args.depth _ c.if-depth-eq0.true (sym c.starts_stmt.ensures ∙ c.if-starts_stmt.true)
@@ -100,190 +246,18 @@ stmt-returns-in-Transaction g t c = rw (stmt_start c.args.depth (c.args.depth - 
 pub stmt-returns-in-Simple : goal.stmt-returns-in-Simple
 stmt-returns-in-Simple g t c =
     let b = c.args.depth - 1 in
-    rw (stmt_start c.args.depth b (toks c.args.tokens.now) lead.Simple (omega arith) (sym c.lead_at.ensures ∙ c.in-Simple.is) ∙ does_is c.args.depth b (toks c.args.tokens.now) (omega arith)) c.simple_stmt.ensures
+    rw (stmt_start c.args.depth b (toks c.args.tokens.now) lead.Simple (omega arith) (sym c.lead_at.ensures ∙ c.in-Simple.is) ∙ simple_stmt_is c.args.depth b (toks c.args.tokens.now) (omega arith)) c.simple_stmt.ensures
 
 pub stmt-returns-in_err-body-in-Block : goal.stmt-returns-in_err-body-in-Block
 stmt-returns-in_err-body-in-Block g t c =
     let b = c.args.depth - 1 in
     let p = err_from_is_err_and c.from_residual.result c.from_residual.ensures.1 in
     rw (p.1, p.2) (fails_along c.in_err-body-in-Block.field-0.0 _ _ (λ f e.
-    stmt_start c.args.depth b (toks c.args.tokens.now) lead.Block (omega arith) (sym c.lead_at.ensures ∙ c.in-Block.is) ∙ nested_fails c.args.depth b (toks c.args.tokens.now) f (omega arith) e) c.in_err-body-in-Block.ensures)
+    stmt_start c.args.depth b (toks c.args.tokens.now) lead.Block (omega arith) (sym c.lead_at.ensures ∙ c.in-Block.is) ∙ block_stmt_fails c.args.depth b (toks c.args.tokens.now) f (omega arith) e) c.in_err-body-in-Block.ensures)
 
 pub stmt-returns-in_ok-body-in-Block : goal.stmt-returns-in_ok-body-in-Block
 stmt-returns-in_ok-body-in-Block g t c =
     let b = c.args.depth - 1 in
     stmt_start c.args.depth b (toks c.args.tokens.now) lead.Block (omega arith) (sym c.lead_at.ensures ∙ c.in-Block.is)
-    ∙ nested_is c.args.depth b (toks c.args.tokens.now) (toks c.in_ok-body-in-Block.rest.now) (map stmt_of c.in_ok-body-in-Block.body) (omega arith) c.in_ok-body-in-Block.ensures
+    ∙ block_stmt_is c.args.depth b (toks c.args.tokens.now) (toks c.in_ok-body-in-Block.rest.now) (map stmt_of c.in_ok-body-in-Block.body) (omega arith) c.in_ok-body-in-Block.ensures
     ∙ ap (λ s. Ok (s, toks c.in_ok-body-in-Block.rest.now)) (sym (stmt_of_block c.in_ok-body-in-Block.body))
-
-pub entry-returns-then-starts_type : goal.entry-returns-then-starts_type
-entry-returns-then-starts_type g t c =
-    entry_is c.args.depth (toks c.args.tokens.now) (toks c.in_ok-declaration.rest.now) (declaration_of c.in_ok-declaration.declaration) (sym c.starts_type.ensures ∙ c.if-starts_type.true) c.in_ok-declaration.ensures
-    ∙ ap (λ s. Ok (s, toks c.in_ok-declaration.rest.now)) (sym (stmt_of_declare c.in_ok-declaration.declaration))
-
-pub for_stmt-returns-in_err-body : goal.for_stmt-returns-in_err-body
-for_stmt-returns-in_err-body g t c =
-    let p = err_from_is_err_and c.from_residual-in_err-body.result c.from_residual-in_err-body.ensures.1 in
-    rw (p.1, p.2) (fails_along c.in_err-body.field-0.0 _ _ (λ f e. counted_fails c.args.depth (toks c.args.tokens.now) (toks c.in_ok-rest.rest.now) (toks c.in_ok-head.rest.now) _ f c.in_ok-rest.ensures c.in_ok-head.ensures e) c.in_err-body.ensures)
-
-pub for_stmt-returns : goal.for_stmt-returns
-for_stmt-returns g t c =
-    counted_is c.args.depth (toks c.args.tokens.now) (toks c.in_ok-rest.rest.now) (toks c.in_ok-head.rest.now) (toks c.in_ok-body.rest.now) _ _ c.in_ok-rest.ensures c.in_ok-head.ensures c.in_ok-body.ensures
-    ∙ ap (λ s. Ok (s, toks c.in_ok-body.rest.now)) (sym c.in_ok-for_node.ensures)
-
-pub if_stmt-returns : goal.if_stmt-returns
-if_stmt-returns g t c =
-    chosen_is c.args.depth (toks c.args.tokens.now) (toks c.in_ok-rest.rest.now) (toks c.in_ok-condition.rest.now) (toks c.in_ok-then.rest.now) (toks c.in_ok-other.rest.now) (expr_of c.in_ok-condition.condition) (stmt_of c.in_ok-then.then) (option_map stmt_of c.in_ok-other.other)
-    c.in_ok-rest.ensures c.in_ok-condition.ensures c.in_ok-then.ensures c.in_ok-other.ensures
-    ∙ ap (λ s. Ok (s, toks c.in_ok-other.rest.now)) (sym (ap (λ a. stmt_of (S.If c.in_ok-condition.condition a c.in_ok-other.other)) c.in_ok-then-2.ensures ∙ stmt_of_any_if c.in_ok-condition.condition c.in_ok-then.then c.in_ok-other.other))
-
-pub transaction_stmt-returns : goal.transaction_stmt-returns
-transaction_stmt-returns g t c =
-    transaction_is c.args.depth c.args.mode (toks c.args.tokens.now) (toks c.in_ok-at.rest.now) (toks c.in_ok-body.rest.now) c.in_ok-at.at (map stmt_of c.in_ok-body.body) (ap (λ k. spot k (toks c.args.tokens.now)) (sym c.mode_mark.ensures) ∙ c.in_ok-at.ensures) c.in_ok-body.ensures
-    ∙ ap (λ s. Ok (s, toks c.in_ok-body.rest.now)) (sym (stmt_of_transaction c.args.mode c.in_ok-body.body c.in_ok-at.at))
-
-pub while_stmt-returns-in_err-rest : goal.while_stmt-returns-in_err-rest
-while_stmt-returns-in_err-rest g t c =
-    let p = err_from_is_err_and c.from_residual.result c.from_residual.ensures.1 in
-    rw (p.1, p.2) (fails_along c.in_err-rest.field-0.0 _ _ (λ f e. looped_none c.args.depth (toks c.args.tokens.now) f e) c.in_err-rest.ensures)
-
-pub while_stmt-returns-in_err-condition : goal.while_stmt-returns-in_err-condition
-while_stmt-returns-in_err-condition g t c =
-    let p = err_from_is_err_and c.from_residual-in_err-condition.result c.from_residual-in_err-condition.ensures.1 in
-    rw (p.1, p.2) (fails_along c.in_err-condition.field-0.0 _ _ (λ f e. looped_unless c.args.depth (toks c.args.tokens.now) (toks c.in_ok-rest.rest.now) f c.in_ok-rest.ensures e) c.in_err-condition.ensures)
-
-pub while_stmt-returns-in_err-body : goal.while_stmt-returns-in_err-body
-while_stmt-returns-in_err-body g t c =
-    let p = err_from_is_err_and c.from_residual-in_err-body.result c.from_residual-in_err-body.ensures.1 in
-    rw (p.1, p.2) (fails_along c.in_err-body.field-0.0 _ _ (λ f e. looped_fails c.args.depth (toks c.args.tokens.now) (toks c.in_ok-rest.rest.now) (toks c.in_ok-condition.rest.now) _ f c.in_ok-rest.ensures c.in_ok-condition.ensures e) c.in_err-body.ensures)
-
-pub while_stmt-returns-in_err-new : goal.while_stmt-returns-in_err-new
-while_stmt-returns-in_err-new g t c =
-    let p = err_from_is_err_and c.from_residual-in_err-new.result c.from_residual-in_err-new.ensures.1 in
-    rw (p.1, p.2) tt
-
-pub while_stmt-returns : goal.while_stmt-returns
-while_stmt-returns g t c =
-    looped_is c.args.depth (toks c.args.tokens.now) (toks c.in_ok-rest.rest.now) (toks c.in_ok-condition.rest.now) (toks c.in_ok-body.rest.now) (expr_of c.in_ok-condition.condition) (stmt_of c.in_ok-body.body) c.in_ok-rest.ensures c.in_ok-condition.ensures c.in_ok-body.ensures
-    ∙ ap (λ s. Ok (s, toks c.in_ok-body.rest.now)) (sym (ap (λ a. stmt_of (S.While c.in_ok-condition.condition a)) c.in_ok-new.ensures ∙ stmt_of_while c.in_ok-condition.condition c.in_ok-body.body))
-
-pub do_stmt-returns-in_err-rest : goal.do_stmt-returns-in_err-rest
-do_stmt-returns-in_err-rest g t c =
-    let p = err_from_is_err_and c.from_residual.result c.from_residual.ensures.1 in
-    rw (p.1, p.2) (fails_along c.in_err-rest.field-0.0 _ _ (λ f e. done_none c.args.depth (toks c.args.tokens.now) f e) c.in_err-rest.ensures)
-
-pub do_stmt-returns-in_err-body : goal.do_stmt-returns-in_err-body
-do_stmt-returns-in_err-body g t c =
-    let p = err_from_is_err_and c.from_residual-in_err-body.result c.from_residual-in_err-body.ensures.1 in
-    rw (p.1, p.2) (fails_along c.in_err-body.field-0.0 _ _ (λ f e. done_fails c.args.depth (toks c.args.tokens.now) (toks c.in_ok-rest.rest.now) f c.in_ok-rest.ensures e) c.in_err-body.ensures)
-
-pub do_stmt-returns-in_err-body-2 : goal.do_stmt-returns-in_err-body-2
-do_stmt-returns-in_err-body-2 g t c =
-    let p = err_from_is_err_and c.from_residual-in_err-body-2.result c.from_residual-in_err-body-2.ensures.1 in
-    rw (p.1, p.2) tt
-
-pub do_stmt-returns-in_err-rest-2 : goal.do_stmt-returns-in_err-rest-2
-do_stmt-returns-in_err-rest-2 g t c =
-    let p = err_from_is_err_and c.from_residual-in_err-rest-2.result c.from_residual-in_err-rest-2.ensures.1 in
-    rw (p.1, p.2) (fails_along c.in_err-rest-2.field-0.0 _ _ (λ f e. done_alone c.args.depth (toks c.args.tokens.now) (toks c.in_ok-rest.rest.now) (toks c.in_ok-body.rest.now) _ f c.in_ok-rest.ensures c.in_ok-body.ensures e) c.in_err-rest-2.ensures)
-
-pub do_stmt-returns-in_err-condition : goal.do_stmt-returns-in_err-condition
-do_stmt-returns-in_err-condition g t c =
-    let p = err_from_is_err_and c.from_residual-in_err-condition.result c.from_residual-in_err-condition.ensures.1 in
-    rw (p.1, p.2) (fails_along c.in_err-condition.field-0.0 _ _ (λ f e. done_unless c.args.depth (toks c.args.tokens.now) (toks c.in_ok-rest.rest.now) (toks c.in_ok-body.rest.now) (toks c.in_ok-rest-2.rest.now) _ f c.in_ok-rest.ensures c.in_ok-body.ensures c.in_ok-rest-2.ensures e) c.in_err-condition.ensures)
-
-pub do_stmt-returns-in_err-rest-3 : goal.do_stmt-returns-in_err-rest-3
-do_stmt-returns-in_err-rest-3 g t c =
-    let p = err_from_is_err_and c.from_residual-in_err-rest-3.result c.from_residual-in_err-rest-3.ensures.1 in
-    rw (p.1, p.2) (fails_along c.in_err-rest-3.field-0.0 _ _ (λ f e. done_open c.args.depth (toks c.args.tokens.now) (toks c.in_ok-rest.rest.now) (toks c.in_ok-body.rest.now) (toks c.in_ok-rest-2.rest.now) (toks c.in_ok-condition.rest.now) _ _ f c.in_ok-rest.ensures c.in_ok-body.ensures c.in_ok-rest-2.ensures c.in_ok-condition.ensures e) c.in_err-rest-3.ensures)
-
-pub do_stmt-returns : goal.do_stmt-returns
-do_stmt-returns g t c =
-    done_is c.args.depth (toks c.args.tokens.now) (toks c.in_ok-rest.rest.now) (toks c.in_ok-body.rest.now) (toks c.in_ok-rest-2.rest.now) (toks c.in_ok-condition.rest.now) (toks c.in_ok-rest-3.rest.now) (stmt_of c.in_ok-body.body) (expr_of c.in_ok-condition.condition) c.in_ok-rest.ensures c.in_ok-body.ensures c.in_ok-rest-2.ensures c.in_ok-condition.ensures c.in_ok-rest-3.ensures
-    ∙ ap (λ s. Ok (s, toks c.in_ok-rest-3.rest.now)) (sym (ap (λ a. stmt_of (S.DoWhile a c.in_ok-condition.condition)) c.in_ok-body-2.ensures ∙ stmt_of_do_while c.in_ok-body.body c.in_ok-condition.condition))
-
-pub if_stmt-returns-in_err-rest : goal.if_stmt-returns-in_err-rest
-if_stmt-returns-in_err-rest g t c =
-    let p = err_from_is_err_and c.from_residual.result c.from_residual.ensures.1 in
-    rw (p.1, p.2) (fails_along c.in_err-rest.field-0.0 _ _ (λ f e. chosen_none c.args.depth (toks c.args.tokens.now) f e) c.in_err-rest.ensures)
-
-pub if_stmt-returns-in_err-condition : goal.if_stmt-returns-in_err-condition
-if_stmt-returns-in_err-condition g t c =
-    let p = err_from_is_err_and c.from_residual-in_err-condition.result c.from_residual-in_err-condition.ensures.1 in
-    rw (p.1, p.2) (fails_along c.in_err-condition.field-0.0 _ _ (λ f e. chosen_unless c.args.depth (toks c.args.tokens.now) (toks c.in_ok-rest.rest.now) f c.in_ok-rest.ensures e) c.in_err-condition.ensures)
-
-pub if_stmt-returns-in_err-then : goal.if_stmt-returns-in_err-then
-if_stmt-returns-in_err-then g t c =
-    let p = err_from_is_err_and c.from_residual-in_err-then.result c.from_residual-in_err-then.ensures.1 in
-    rw (p.1, p.2) (fails_along c.in_err-then.field-0.0 _ _ (λ f e. chosen_fails c.args.depth (toks c.args.tokens.now) (toks c.in_ok-rest.rest.now) (toks c.in_ok-condition.rest.now) _ f c.in_ok-rest.ensures c.in_ok-condition.ensures e) c.in_err-then.ensures)
-
-pub if_stmt-returns-in_err-then-2 : goal.if_stmt-returns-in_err-then-2
-if_stmt-returns-in_err-then-2 g t c =
-    let p = err_from_is_err_and c.from_residual-in_err-then-2.result c.from_residual-in_err-then-2.ensures.1 in
-    rw (p.1, p.2) tt
-
-pub if_stmt-returns-in_err-other : goal.if_stmt-returns-in_err-other
-if_stmt-returns-in_err-other g t c =
-    let p = err_from_is_err_and c.from_residual-in_err-other.result c.from_residual-in_err-other.ensures.1 in
-    rw (p.1, p.2) (fails_along c.in_err-other.field-0.0 _ _ (λ f e. chosen_other c.args.depth (toks c.args.tokens.now) (toks c.in_ok-rest.rest.now) (toks c.in_ok-condition.rest.now) (toks c.in_ok-then.rest.now) _ _ f c.in_ok-rest.ensures c.in_ok-condition.ensures c.in_ok-then.ensures e) c.in_err-other.ensures)
-
-pub else_part-returns-then-not-is_next : goal.else_part-returns-then-not-is_next
-else_part-returns-then-not-is_next g t c = no_else c.args.depth (toks c.args.tokens.now) (sym c.is_next.ensures ∙ c.if-not-is_next.true)
-
-pub else_part-returns-in_err-rest : goal.else_part-returns-in_err-rest
-else_part-returns-in_err-rest g t c =
-    let p = err_from_is_err_and c.from_residual.result c.from_residual.ensures.1 in
-    rw (p.1, p.2) (fails_along c.in_err-rest.field-0.0 _ _ (λ f e. else_none c.args.depth (toks c.args.tokens.now) f (sym c.is_next.ensures ∙ c.if-not-is_next.false) e) c.in_err-rest.ensures)
-
-pub else_part-returns-in_err-other : goal.else_part-returns-in_err-other
-else_part-returns-in_err-other g t c =
-    let p = err_from_is_err_and c.from_residual-in_err-other.result c.from_residual-in_err-other.ensures.1 in
-    rw (p.1, p.2) (fails_along c.in_err-other.field-0.0 _ _ (λ f e. else_fails c.args.depth (toks c.args.tokens.now) (toks c.in_ok-rest.rest.now) f (sym c.is_next.ensures ∙ c.if-not-is_next.false) c.in_ok-rest.ensures e) c.in_err-other.ensures)
-
-pub else_part-returns-in_err-new : goal.else_part-returns-in_err-new
-else_part-returns-in_err-new g t c =
-    let p = err_from_is_err_and c.from_residual-in_err-new.result c.from_residual-in_err-new.ensures.1 in
-    rw (p.1, p.2) tt
-
-pub else_part-returns : goal.else_part-returns
-else_part-returns g t c =
-    else_is c.args.depth (toks c.args.tokens.now) (toks c.in_ok-rest.rest.now) (toks c.in_ok-other.rest.now) (stmt_of c.in_ok-other.other) (sym c.is_next.ensures ∙ c.if-not-is_next.false) c.in_ok-rest.ensures c.in_ok-other.ensures
-    ∙ ap (λ s. Ok (Some (stmt_of s), toks c.in_ok-other.rest.now)) (sym c.in_ok-new.ensures)
-
-pub for_stmt-returns-in_err-rest : goal.for_stmt-returns-in_err-rest
-for_stmt-returns-in_err-rest g t c =
-    let p = err_from_is_err_and c.from_residual.result c.from_residual.ensures.1 in
-    rw (p.1, p.2) (fails_along c.in_err-rest.field-0.0 _ _ (λ f e. counted_none c.args.depth (toks c.args.tokens.now) f e) c.in_err-rest.ensures)
-
-pub for_stmt-returns-in_err-head : goal.for_stmt-returns-in_err-head
-for_stmt-returns-in_err-head g t c =
-    let p = err_from_is_err_and c.from_residual-in_err-head.result c.from_residual-in_err-head.ensures.1 in
-    rw (p.1, p.2) (fails_along c.in_err-head.field-0.0 _ _ (λ f e. counted_unless c.args.depth (toks c.args.tokens.now) (toks c.in_ok-rest.rest.now) f c.in_ok-rest.ensures e) c.in_err-head.ensures)
-
-pub for_stmt-returns-in_err-for_node : goal.for_stmt-returns-in_err-for_node
-for_stmt-returns-in_err-for_node g t c =
-    let p = err_from_is_err_and c.from_residual-in_err-for_node.result c.from_residual-in_err-for_node.ensures.1 in
-    rw (p.1, p.2) tt
-
-pub transaction_stmt-returns-in_err-at : goal.transaction_stmt-returns-in_err-at
-transaction_stmt-returns-in_err-at g t c =
-    let p = err_from_is_err_and c.from_residual.result c.from_residual.ensures.1 in
-    rw (p.1, p.2) (fails_along c.in_err-at.field-0.0 _ _ (λ f e. transaction_none c.args.depth (toks c.args.tokens.now) c.args.mode f (ap (λ k. spot k (toks c.args.tokens.now)) (sym c.mode_mark.ensures) ∙ e)) c.in_err-at.ensures)
-
-pub transaction_stmt-returns-in_err-body : goal.transaction_stmt-returns-in_err-body
-transaction_stmt-returns-in_err-body g t c =
-    let p = err_from_is_err_and c.from_residual-in_err-body.result c.from_residual-in_err-body.ensures.1 in
-    rw (p.1, p.2) (fails_along c.in_err-body.field-0.0 _ _ (λ f e. transaction_fails c.args.depth (toks c.args.tokens.now) c.args.mode (toks c.in_ok-at.rest.now) c.in_ok-at.at f (ap (λ k. spot k (toks c.args.tokens.now)) (sym c.mode_mark.ensures) ∙ c.in_ok-at.ensures) e) c.in_err-body.ensures)
-
-pub entry-returns-in_err-declaration : goal.entry-returns-in_err-declaration
-entry-returns-in_err-declaration g t c =
-    let p = err_from_is_err_and c.from_residual.result c.from_residual.ensures.1 in
-    rw (p.1, p.2) (fails_along c.in_err-declaration.field-0.0 _ _ (λ f e. entry_fails c.args.depth (toks c.args.tokens.now) f (sym c.starts_type.ensures ∙ c.if-starts_type.true) e) c.in_err-declaration.ensures)
-
-pub entry-returns : goal.entry-returns
-entry-returns g t c = rw (entry_stmt c.args.depth (toks c.args.tokens.now) (sym c.starts_type.ensures ∙ c.if-starts_type.false)) c.stmt.ensures
-
-pub block-returns-in_err-push : goal.block-returns-in_err-push
-block-returns-in_err-push g t c =
-    let p = err_from_is_err_and c.from_residual-in_err-push.result c.from_residual-in_err-push.ensures.1 in
-    rw (p.1, p.2) tt

@@ -1,4 +1,4 @@
-use Rattle.parse.proofs.Ends.{end_is}
+use Rattle.parse.proofs.code.Ends.{end_is}
 use Rattle.parse.proofs.unit.end_of.Goals as goal
 
 pub returns-in-len1-up : goal.returns-in-len1-up

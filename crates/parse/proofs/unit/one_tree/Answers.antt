@@ -1,4 +1,4 @@
-use Rattle.parse.proofs.Sources.{one_source}
+use Rattle.parse.proofs.items.Sources.{one_source}
 use Rattle.parse.proofs.unit.one_tree.Goals as goal
 
 pub returns : goal.returns

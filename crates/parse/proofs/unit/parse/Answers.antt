@@ -1,8 +1,8 @@
 use Rattle.std.proofs.Common.{map}
 use Rattle.lex.specs.Tokens.{toks}
 use Rattle.syntax.specs.Views.{item_of}
-use Rattle.parse.specs.Reading.{wrong, deep}
-use Rattle.parse.proofs.Sources.{found, one_source, too_deep_not, none_fails, unexpected_at, too_deep_at, unfinished_at, no_deep_at}
+use Rattle.parse.specs.inner.Reading.{wrong, deep}
+use Rattle.parse.proofs.items.Sources.{found, one_source, too_deep_not, none_fails, unexpected_at, too_deep_at, unfinished_at, no_deep_at}
 use Rattle.parse.proofs.unit.parse.Goals as goal
 
 pub unreachable-requires : goal.unreachable-requires

@@ -1,9 +1,9 @@
 use Rattle.std.proofs.Common.{◌≡◌, ◌-◌, map, length}
 use Rattle.lex.specs.Tokens.{toks}
 use Rattle.syntax.specs.Views.{item_of}
-use Rattle.parse.specs.Reading.{many}
-use Rattle.parse.specs.Items.{at_end, item_at, program_at}
-use Rattle.parse.proofs.Turns.{onward}
+use Rattle.parse.specs.inner.Reading.{many}
+use Rattle.parse.specs.inner.Items.{at_end, item_at, program_at}
+use Rattle.parse.proofs.code.Turns.{onward}
 use Rattle.parse.proofs.unit.program.Given as goal
 
 -- what was read, and what is still to be read

@@ -1,0 +1,127 @@
+-- How the reading of an expression goes on, step by step.
+use Rattle.std.proofs.Common.{◌≡◌, ℕ, zero, suc, ◌+◌, ◌<◌, ◌≤◌, true, false, max, List, [], ◌∷◌, ◌++◌, Result, Ok, Err, refl, ◌∙◌, arith}
+use Rattle.std.proofs.lemmas.Bool.{le-leb, lt-leb}
+use Rattle.lex.specs.declared.token.Fixed.{Fixed}
+use Rattle.lex.specs.declared.token.Fixed.TheVariants.{Keyword, Punctuator}
+use Rattle.lex.specs.declared.token.Keyword.TheVariants as key
+use Rattle.lex.specs.declared.token.Punctuator.TheVariants as punct
+use Rattle.lex.specs.declared.token.Span.{Span}
+use Rattle.lex.specs.Tokens.{Tok}
+use Rattle.syntax.specs.Tree.{Name, Expr, Variable, Conditional}
+use Rattle.syntax.specs.Depth.{expr_depth, deepest}
+use Rattle.syntax.specs.Typing.{span_of}
+use Rattle.syntax.specs.Views.{exprs_from}
+use Rattle.syntax.specs.Grammar.{the_name}
+use Rattle.parse.specs.declared.lead.Infix.{Infix}
+use Rattle.parse.specs.declared.lead.Infix.TheVariants.{Computing, Choosing}
+use Rattle.parse.specs.inner.Reading.{Fault, deep, ◌>>=◌, Parser, across, behind, chained, climb_loop, expect, give, head, is_next, mapped, in_front, seq, spot, sunk, take}
+use Rattle.parse.specs.inner.Expressions.{call_from, conditional_at, expr_at, infix_node, named, named_from, operand, operators, starts_expr, whole_at}
+
+-- ---- levels
+
+pub none_left : (d min : ℕ) (ts : List Tok) → d ≡ 0 → expr_at d min ts ≡ sunk starts_expr ts
+unfolding expr_at
+none_left d min ts z = rw z refl
+
+climb_from : (b low : ℕ) (ts : List Tok) → expr_at (suc b) (suc low) ts ≡ (operand (whole_at b) (expr_at b 11) ts >>= λ x. climb_loop operators (expr_at b) (suc low) (suc b) (suc b) x.0 x.1)
+unfolding expr_at
+climb_from b low ts = refl
+
+pub climb_start : (d b min : ℕ) (ts : List Tok) → b + 1 ≡ d → 1 ≤ min → expr_at d min ts ≡ (operand (whole_at b) (expr_at b 11) ts >>= λ x. climb_loop operators (expr_at b) min d d x.0 x.1)
+climb_start d b zero ts e low = absurd (omega (arith, low))
+climb_start zero b (suc min) ts e low = absurd (omega (arith, e))
+climb_start (suc d) b (suc min) ts e low =
+    let s : d ≡ b = omega (arith, e) in
+    rw s (climb_from b min ts)
+
+whole_from : (b : ℕ) (ts : List Tok) → whole_at (suc b) ts ≡ mapped (λ x. x.1) (chained (expr_at (suc b) 1) (conditional_at (whole_at b) b)) ts
+unfolding expr_at
+whole_from b ts = refl
+
+alone : {A B : Type 0} (x : A) (r : Result (B × List Tok) Fault) → ((r >>= λ (y : B × List Tok). Ok ((x, y.0), y.1)) >>= λ (z : (A × B) × List Tok). Ok (z.0.1, z.1)) ≡ r
+alone x (Ok y) = refl
+alone x (Err f) = refl
+
+-- what follows a condition that was read is what follows
+pub whole_goes : (d b : ℕ) (ts rest : List Tok) (c : Expr) → b + 1 ≡ d → expr_at d 1 ts ≡ Ok (c, rest) → whole_at d ts ≡ conditional_at (whole_at b) b c rest
+whole_goes zero b ts rest c e h = absurd (omega (arith, e))
+whole_goes (suc d) b ts rest c e h =
+    let s : d ≡ b = omega (arith, e) in
+    let one : whole_at (suc d) ts ≡ conditional_at (whole_at d) d c rest = whole_from d ts ∙ rw h (alone c (conditional_at (whole_at d) d c rest)) in
+    one ∙ rw s refl
+
+pub whole_fails : (d b : ℕ) (ts : List Tok) (f : Fault) → b + 1 ≡ d → expr_at d 1 ts ≡ Err f → whole_at d ts ≡ Err f
+whole_fails zero b ts f e h = absurd (omega (arith, e))
+whole_fails (suc d) b ts f e h = whole_from d ts ∙ rw h refl
+
+pub infix_depth : (op : Infix) (a b : Expr) → expr_depth (infix_node op a b) ≡ max (expr_depth a) (expr_depth b) + 1
+infix_depth (Computing op) a b = refl
+infix_depth (Choosing op) a b = refl
+
+-- ---- what a condition chooses from
+
+module _ (W : Parser Expr) (d : ℕ) (c : Expr) (ts : List Tok) where
+  pub conditional_alone : is_next (Punctuator punct.Question) (head ts) ≡ false → conditional_at W d c ts ≡ Ok (c, ts)
+  conditional_alone h = rw h refl
+
+  pub conditional_deep : is_next (Punctuator punct.Question) (head ts) ≡ true → d < expr_depth c → conditional_at W d c ts ≡ Err (deep ts)
+  conditional_deep h lt = rw (h, lt-leb (expr_depth c) d lt) refl
+
+  module _ (here : is_next (Punctuator punct.Question) (head ts) ≡ true) (fits : expr_depth c ≤ d) where
+    pub question_fails : (f : Fault) → expect (Punctuator punct.Question) ts ≡ Err f → conditional_at W d c ts ≡ Err f
+    question_fails f e = rw (here, le-leb (expr_depth c) d fits, e) refl
+
+    module _ (r : List Tok) (e : expect (Punctuator punct.Question) ts ≡ Ok (tt, r)) where
+      pub then_fails : (f : Fault) → W r ≡ Err f → conditional_at W d c ts ≡ Err f
+      then_fails f a = rw (here, le-leb (expr_depth c) d fits, e, a) refl
+
+      pub colon_fails : (x : Expr) (s : List Tok) (f : Fault) → W r ≡ Ok (x, s) → expect (Punctuator punct.Colon) s ≡ Err f → conditional_at W d c ts ≡ Err f
+      colon_fails x s f a k = rw (here, le-leb (expr_depth c) d fits, e, a, k) refl
+
+      pub other_fails : (x : Expr) (s t : List Tok) (f : Fault) → W r ≡ Ok (x, s) → expect (Punctuator punct.Colon) s ≡ Ok (tt, t) → W t ≡ Err f → conditional_at W d c ts ≡ Err f
+      other_fails x s t f a k b = rw (here, le-leb (expr_depth c) d fits, e, a, k, b) refl
+
+      pub conditional_goes : (x y : Expr) (s t u : List Tok) → W r ≡ Ok (x, s) → expect (Punctuator punct.Colon) s ≡ Ok (tt, t) → W t ≡ Ok (y, u) → conditional_at W d c ts ≡ Ok (Conditional c x y (across (span_of c) (span_of y)), u)
+      conditional_goes x y s t u a k b = rw (here, le-leb (expr_depth c) d fits, e, a, k, b) refl
+
+-- ---- arguments
+
+listed_with : (x : Expr) (r : Result (List Expr × List Tok) Fault) → mapped in_front (seq (give x) (λ ts. r)) [] ≡ mapped (λ es. (x ∷ []) ++ es) (λ ts. r) []
+listed_with x (Ok y) = refl
+listed_with x (Err f) = refl
+
+-- one and then further ones
+pub listed_goes : (P : Parser Expr) (M : Parser (List Expr)) (ts rest : List Tok) (x : Expr) → P ts ≡ Ok (x, rest) → mapped in_front (seq P M) ts ≡ mapped (λ es. (x ∷ []) ++ es) M rest
+listed_goes P M ts rest x h = rw h (listed_with x (M rest))
+
+-- behind a sign
+module _ {A : Type 0} (k : Fixed) (P : Parser A) (ts : List Tok) where
+  pub behind_none : (f : Fault) → expect k ts ≡ Err f → behind k P ts ≡ Err f
+  behind_none f e = rw e refl
+
+  pub behind_fails : (r : List Tok) (f : Fault) → expect k ts ≡ Ok (tt, r) → P r ≡ Err f → behind k P ts ≡ Err f
+  behind_fails r f e a = rw (e, a) refl
+
+  pub behind_goes : (r s : List Tok) (x : A) → expect k ts ≡ Ok (tt, r) → P r ≡ Ok (x, s) → behind k P ts ≡ Ok (x, s)
+  behind_goes r s x e a = rw (e, a) refl
+
+-- one more expression
+pub deepest_push : (es : List Expr) (e : Expr) → deepest (exprs_from (es ++ e ∷ [])) ≡ max (deepest (exprs_from es)) (expr_depth e)
+deepest_push [] e = omega arith
+deepest_push (x ∷ es) e = let rest = deepest_push es e in omega (arith, rest)
+
+-- between two signs, the last of which is missing
+pub unclosed : {A B : Type 0} (first last : Fixed) (P : Parser A) (make : A × Span → B) (ts r s : List Tok) (x : A) (f : Fault) → expect first ts ≡ Ok (tt, r) → P r ≡ Ok (x, s) → spot last s ≡ Err f → mapped make (behind first (seq P (spot last))) ts ≡ Err f
+unclosed first last P make ts r s x f e a k = rw (e, a, k) refl
+
+-- ---- names
+
+module _ (W T : Parser Expr) (ts after : List Tok) (x : Name) (read : take the_name ts ≡ Ok (x, after)) where
+  named_goes : named W T ts ≡ named_from W T x after
+  named_goes = rw read (alone x (named_from W T x after))
+
+  pub variable_goes : is_next (Punctuator punct.OpenBracket) (head after) ≡ false → is_next (Punctuator punct.OpenParen) (head after) ≡ false → named W T ts ≡ Ok (Variable x, after)
+  variable_goes p q = named_goes ∙ rw (p, q) refl
+
+  pub call_goes : is_next (Punctuator punct.OpenBracket) (head after) ≡ false → is_next (Punctuator punct.OpenParen) (head after) ≡ true → named W T ts ≡ call_from W T x after
+  call_goes p q = named_goes ∙ rw (p, q) refl

@@ -1,0 +1,138 @@
+-- What is read of a statement whose parts were read.
+use Rattle.std.proofs.Common.{◌≡◌, ℕ, true, false, List, Option, Some, None, Ok, Err, refl, option_map}
+use Rattle.lex.specs.declared.token.Fixed.{Fixed}
+use Rattle.lex.specs.declared.token.Fixed.TheVariants.{Keyword, Punctuator}
+use Rattle.lex.specs.declared.token.Keyword.TheVariants as key
+use Rattle.lex.specs.declared.token.Punctuator.TheVariants as punct
+use Rattle.lex.specs.declared.token.Span.{Span}
+use Rattle.lex.specs.Tokens.{Tok}
+use Rattle.syntax.specs.declared.tree.Expr as E
+use Rattle.syntax.specs.declared.tree.Mode.{Mode}
+use Rattle.syntax.specs.declared.tree.Stmt as S
+use Rattle.syntax.specs.Tree.{Expr, Simple, Start, Stmt, Print, While, DoWhile, For, Transaction}
+use Rattle.syntax.specs.Views.{exprs_from, stmts_from, expr_of, stmt_of}
+use Rattle.syntax.specs.Grammar.{the_text, mode_keyword}
+use Rattle.syntax.proofs.Seen as seen
+use Rattle.parse.specs.inner.Reading.{Fault, Parser, head, is_next, take, expect, spot, perhaps, behind, before, unless}
+use Rattle.parse.specs.inner.Expressions.{whole_at, starts_type}
+use Rattle.parse.specs.inner.Statements as read
+
+pub print_stmt_is : (d : ℕ) (ts t1 t2 t3 r : List Tok) (at : Span) (x : List ℕ × Span) (es : List Expr) → spot (Keyword key.Printf) ts ≡ Ok (at, t1) → expect (Punctuator punct.OpenParen) t1 ≡ Ok (tt, t2) → take the_text t2 ≡ Ok (x, t3) → read.printed d t3 ≡ Ok (es, r)
+    → read.print_stmt d ts ≡ Ok (Print at x.0 x.1 (exprs_from es), r)
+print_stmt_is d ts t1 t2 t3 r at x es a b c e = rw (a, b, c, e) refl
+
+-- ---- what fails behind a part that was read
+
+pub before_fails : {A : Type 0} (k : Fixed) (P : Parser A) (ts t1 : List Tok) (x : A) (f : Fault) → P ts ≡ Ok (x, t1) → expect k t1 ≡ Err f → before k P ts ≡ Err f
+before_fails k P ts t1 x f a b = rw (a, b) refl
+
+pub before_is : {A : Type 0} (k : Fixed) (P : Parser A) (ts t1 r : List Tok) (x : A) → P ts ≡ Ok (x, t1) → expect k t1 ≡ Ok (tt, r) → before k P ts ≡ Ok (x, r)
+before_is k P ts t1 r x a b = rw (a, b) refl
+
+pub rest_of_head_fails : (d : ℕ) (ts t1 : List Tok) (c : Option Expr) (f : Fault) → before (Punctuator punct.Semicolon) (unless (Punctuator punct.Semicolon) (whole_at d)) ts ≡ Ok (c, t1) → before (Punctuator punct.CloseParen) (unless (Punctuator punct.CloseParen) (read.simple_at d)) t1 ≡ Err f → read.rest_of_head d ts ≡ Err f
+rest_of_head_fails d ts t1 c f a b = rw (a, b) refl
+
+pub rest_of_head_is : (d : ℕ) (ts t1 r : List Tok) (c : Option Expr) (s : Option Simple) → before (Punctuator punct.Semicolon) (unless (Punctuator punct.Semicolon) (whole_at d)) ts ≡ Ok (c, t1) → before (Punctuator punct.CloseParen) (unless (Punctuator punct.CloseParen) (read.simple_at d)) t1 ≡ Ok (s, r) → read.rest_of_head d ts ≡ Ok ((c, s), r)
+rest_of_head_is d ts t1 r c s a b = rw (a, b) refl
+
+pub head_of_for_fails : (d : ℕ) (ts t1 t2 : List Tok) (s : Start) (f : Fault) → expect (Punctuator punct.OpenParen) ts ≡ Ok (tt, t1) → read.start d t1 ≡ Ok (s, t2) → read.rest_of_head d t2 ≡ Err f → read.head_of_for d ts ≡ Err f
+head_of_for_fails d ts t1 t2 s f a b c = rw (a, b, c) refl
+
+pub for_stmt_fails : (d : ℕ) (ts t1 t2 : List Tok) (h : Start × (Option Expr × Option Simple)) (f : Fault) → expect (Keyword key.For) ts ≡ Ok (tt, t1) → read.head_of_for d t1 ≡ Ok (h, t2) → read.stmt_at d t2 ≡ Err f
+    → read.for_stmt d (read.stmt_at d) (read.block_at d) ts ≡ Err f
+for_stmt_fails d ts t1 t2 h f a b c = rw (a, b, c) refl
+
+pub for_stmt_is : (d : ℕ) (ts t1 t2 r : List Tok) (h : Start × (Option Expr × Option Simple)) (a : Stmt) → expect (Keyword key.For) ts ≡ Ok (tt, t1) → read.head_of_for d t1 ≡ Ok (h, t2) → read.stmt_at d t2 ≡ Ok (a, r)
+    → read.for_stmt d (read.stmt_at d) (read.block_at d) ts ≡ Ok (For h.0 h.1.0 h.1.1 a, r)
+for_stmt_is d ts t1 t2 r h a x y z = rw (x, y, z) refl
+
+-- ---- what fails in a part of a statement fails in the whole
+
+module _ (d : ℕ) (ts : List Tok) where
+  pub while_stmt_none : (f : Fault) → expect (Keyword key.While) ts ≡ Err f → read.while_stmt d (read.stmt_at d) (read.block_at d) ts ≡ Err f
+  while_stmt_none f e = rw e refl
+
+  pub while_stmt_unless : (t1 : List Tok) (f : Fault) → expect (Keyword key.While) ts ≡ Ok (tt, t1) → read.in_parens (whole_at d) t1 ≡ Err f → read.while_stmt d (read.stmt_at d) (read.block_at d) ts ≡ Err f
+  while_stmt_unless t1 f a e = rw (a, e) refl
+
+  pub while_stmt_fails : (t1 t2 : List Tok) (c : Expr) (f : Fault) → expect (Keyword key.While) ts ≡ Ok (tt, t1) → read.in_parens (whole_at d) t1 ≡ Ok (c, t2) → read.stmt_at d t2 ≡ Err f → read.while_stmt d (read.stmt_at d) (read.block_at d) ts ≡ Err f
+  while_stmt_fails t1 t2 c f a b e = rw (a, b, e) refl
+
+  pub while_stmt_is : (t1 t2 r : List Tok) (c : Expr) (s : Stmt) → expect (Keyword key.While) ts ≡ Ok (tt, t1) → read.in_parens (whole_at d) t1 ≡ Ok (c, t2) → read.stmt_at d t2 ≡ Ok (s, r)
+      → read.while_stmt d (read.stmt_at d) (read.block_at d) ts ≡ Ok (While c s, r)
+  while_stmt_is t1 t2 r c s x y z = rw (x, y, z) refl
+
+  pub do_stmt_none : (f : Fault) → expect (Keyword key.Do) ts ≡ Err f → read.do_stmt d (read.stmt_at d) (read.block_at d) ts ≡ Err f
+  do_stmt_none f e = rw e refl
+
+  pub do_stmt_fails : (t1 : List Tok) (f : Fault) → expect (Keyword key.Do) ts ≡ Ok (tt, t1) → read.stmt_at d t1 ≡ Err f → read.do_stmt d (read.stmt_at d) (read.block_at d) ts ≡ Err f
+  do_stmt_fails t1 f a e = rw (a, e) refl
+
+  pub do_stmt_open : (t1 t2 : List Tok) (s : Stmt) (f : Fault) → expect (Keyword key.Do) ts ≡ Ok (tt, t1) → read.stmt_at d t1 ≡ Ok (s, t2) → read.end_of_do d t2 ≡ Err f → read.do_stmt d (read.stmt_at d) (read.block_at d) ts ≡ Err f
+  do_stmt_open t1 t2 s f a b e = rw (a, b, e) refl
+
+  pub do_stmt_is : (t1 t2 r : List Tok) (s : Stmt) (x : Expr) → expect (Keyword key.Do) ts ≡ Ok (tt, t1) → read.stmt_at d t1 ≡ Ok (s, t2) → read.end_of_do d t2 ≡ Ok (x, r) → read.do_stmt d (read.stmt_at d) (read.block_at d) ts ≡ Ok (DoWhile s x, r)
+  do_stmt_is t1 t2 r s x a b e = rw (a, b, e) refl
+
+  pub if_stmt_none : (f : Fault) → expect (Keyword key.If) ts ≡ Err f → read.if_stmt d (read.stmt_at d) (read.block_at d) ts ≡ Err f
+  if_stmt_none f e = rw e refl
+
+  pub if_stmt_unless : (t1 : List Tok) (f : Fault) → expect (Keyword key.If) ts ≡ Ok (tt, t1) → read.in_parens (whole_at d) t1 ≡ Err f → read.if_stmt d (read.stmt_at d) (read.block_at d) ts ≡ Err f
+  if_stmt_unless t1 f a e = rw (a, e) refl
+
+  pub if_stmt_fails : (t1 t2 : List Tok) (c : Expr) (f : Fault) → expect (Keyword key.If) ts ≡ Ok (tt, t1) → read.in_parens (whole_at d) t1 ≡ Ok (c, t2) → read.branches (read.stmt_at d) t2 ≡ Err f → read.if_stmt d (read.stmt_at d) (read.block_at d) ts ≡ Err f
+  if_stmt_fails t1 t2 c f a b e = rw (a, b, e) refl
+
+  pub branches_fail : (f : Fault) → read.stmt_at d ts ≡ Err f → read.branches (read.stmt_at d) ts ≡ Err f
+  branches_fail f e = rw e refl
+
+  pub branches_other : (t1 : List Tok) (s : Stmt) (f : Fault) → read.stmt_at d ts ≡ Ok (s, t1) → perhaps (Keyword key.Else) (behind (Keyword key.Else) (read.stmt_at d)) t1 ≡ Err f → read.branches (read.stmt_at d) ts ≡ Err f
+  branches_other t1 s f a e = rw (a, e) refl
+
+  pub branches_are : (t1 r : List Tok) (s : Stmt) (b : Option Stmt) → read.stmt_at d ts ≡ Ok (s, t1) → perhaps (Keyword key.Else) (behind (Keyword key.Else) (read.stmt_at d)) t1 ≡ Ok (b, r) → read.branches (read.stmt_at d) ts ≡ Ok ((s, b), r)
+  branches_are t1 r s b a e = rw (a, e) refl
+
+  pub no_else : is_next (Keyword key.Else) (head ts) ≡ false → perhaps (Keyword key.Else) (behind (Keyword key.Else) (read.stmt_at d)) ts ≡ Ok (None, ts)
+  no_else h = rw h refl
+
+  pub else_none : (f : Fault) → is_next (Keyword key.Else) (head ts) ≡ true → expect (Keyword key.Else) ts ≡ Err f → perhaps (Keyword key.Else) (behind (Keyword key.Else) (read.stmt_at d)) ts ≡ Err f
+  else_none f h e = rw (h, e) refl
+
+  pub else_fails : (t1 : List Tok) (f : Fault) → is_next (Keyword key.Else) (head ts) ≡ true → expect (Keyword key.Else) ts ≡ Ok (tt, t1) → read.stmt_at d t1 ≡ Err f → perhaps (Keyword key.Else) (behind (Keyword key.Else) (read.stmt_at d)) ts ≡ Err f
+  else_fails t1 f h a e = rw (h, a, e) refl
+
+  pub else_is : (t1 r : List Tok) (s : Stmt) → is_next (Keyword key.Else) (head ts) ≡ true → expect (Keyword key.Else) ts ≡ Ok (tt, t1) → read.stmt_at d t1 ≡ Ok (s, r) → perhaps (Keyword key.Else) (behind (Keyword key.Else) (read.stmt_at d)) ts ≡ Ok (Some s, r)
+  else_is t1 r s h a b = rw (h, a, b) refl
+
+  pub for_stmt_none : (f : Fault) → expect (Keyword key.For) ts ≡ Err f → read.for_stmt d (read.stmt_at d) (read.block_at d) ts ≡ Err f
+  for_stmt_none f e = rw e refl
+
+  pub for_stmt_unless : (t1 : List Tok) (f : Fault) → expect (Keyword key.For) ts ≡ Ok (tt, t1) → read.head_of_for d t1 ≡ Err f → read.for_stmt d (read.stmt_at d) (read.block_at d) ts ≡ Err f
+  for_stmt_unless t1 f a e = rw (a, e) refl
+
+  pub transaction_stmt_none : (mode : Mode) (f : Fault) → spot (mode_keyword mode) ts ≡ Err f → read.transaction_stmt d (read.stmt_at d) (read.block_at d) mode ts ≡ Err f
+  transaction_stmt_none mode f e = rw e refl
+
+  pub transaction_stmt_fails : (mode : Mode) (t1 : List Tok) (at : Span) (f : Fault) → spot (mode_keyword mode) ts ≡ Ok (at, t1) → read.block_at d t1 ≡ Err f → read.transaction_stmt d (read.stmt_at d) (read.block_at d) mode ts ≡ Err f
+  transaction_stmt_fails mode t1 at f a e = rw (a, e) refl
+
+  pub entry_stmt : starts_type (head ts) ≡ false → read.entry d (read.stmt_at d) ts ≡ read.stmt_at d ts
+  entry_stmt h = rw h refl
+
+  pub entry_fails : (f : Fault) → starts_type (head ts) ≡ true → read.declaration_at d ts ≡ Err f → read.entry d (read.stmt_at d) ts ≡ Err f
+  entry_fails f h e = rw (h, e) refl
+
+-- ---- whole statements
+
+pub transaction_stmt_is : (d : ℕ) (mode : Mode) (ts t1 r : List Tok) (at : Span) (body : List Stmt) → spot (mode_keyword mode) ts ≡ Ok (at, t1) → read.block_at d t1 ≡ Ok (body, r)
+    → read.transaction_stmt d (read.stmt_at d) (read.block_at d) mode ts ≡ Ok (Transaction mode (stmts_from body) at, r)
+transaction_stmt_is d mode ts t1 r at body a b = rw (a, b) refl
+
+pub if_stmt_is : (d : ℕ) (ts t1 t2 r : List Tok) (c : Expr) (a : Stmt) (b : Option Stmt) → expect (Keyword key.If) ts ≡ Ok (tt, t1) → read.in_parens (whole_at d) t1 ≡ Ok (c, t2) → read.branches (read.stmt_at d) t2 ≡ Ok ((a, b), r)
+    → read.if_stmt d (read.stmt_at d) (read.block_at d) ts ≡ Ok (read.if_tree (c, (a, b)), r)
+if_stmt_is d ts t1 t2 r c a b e f g = rw (e, f, g) refl
+
+-- an if with an else or without one
+pub stmt_of_any_if : {A : Type 0} (c : E.Expr A) (a : S.Stmt A) (b : Option (S.Stmt A)) → stmt_of (S.If c a b) ≡ read.if_tree (expr_of c, (stmt_of a, option_map stmt_of b))
+stmt_of_any_if c a None = seen.stmt_of_if c a
+stmt_of_any_if c a (Some b) = seen.stmt_of_if_else c a b

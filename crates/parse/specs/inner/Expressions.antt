@@ -1,0 +1,186 @@
+-- What the parser's functions over expressions answer, as functions on lists.
+use Rattle.std.specs.Prelude.{ℕ, zero, suc, Bool, true, false, List, [], Option, Some, None, Err, if◌then◌else◌, nat_le, is_some}
+use Rattle.lex.specs.declared.token.Fixed.{Fixed}
+use Rattle.lex.specs.declared.token.Fixed.TheVariants.{Keyword, Punctuator}
+use Rattle.lex.specs.declared.token.Keyword.TheVariants as key
+use Rattle.lex.specs.declared.token.Punctuator.TheVariants as punct
+use Rattle.lex.specs.declared.token.Scalar.{Scalar}
+use Rattle.lex.specs.declared.token.Scalar.TheVariants.{Int, Unsigned}
+use Rattle.lex.specs.declared.token.Span.{Span}
+use Rattle.lex.specs.Tokens.{Terminal, name, constant, string_literal, fixed, reserved, Tok}
+use Rattle.syntax.specs.declared.tree.BinaryOp.{BinaryOp}
+use Rattle.syntax.specs.declared.tree.LogicalOp.{LogicalOp}
+use Rattle.syntax.specs.declared.tree.UnaryOp.{UnaryOp}
+use Rattle.syntax.specs.Tree.{Name, Expr, Variable, Constant, Element, Call, Parenthesized, Cast, Unary, Binary, Logical, Conditional}
+use Rattle.syntax.specs.Depth.{expr_depth}
+use Rattle.syntax.specs.Typing.{span_of}
+use Rattle.syntax.specs.Views.{exprs_from}
+use Rattle.syntax.specs.Grammar.{by_fixed, the_name, the_binary, the_logical, the_unary, unary_of, precedence, logical_precedence}
+use Rattle.parse.specs.declared.lead.Infix.{Infix}
+use Rattle.parse.specs.declared.lead.Infix.TheVariants.{Computing, Choosing}
+use Rattle.parse.specs.declared.lead.Operand.{Operand}
+use Rattle.parse.specs.declared.lead.Operand.TheVariants as kind
+use Rattle.parse.specs.inner.Reading.{deep, ◌>>=◌, Parser, none, give, chained, seq, mapped, choice, either, sunk, listed, take, expect, spot, is_next, perhaps, behind, before, Operators, climb_loop, across}
+
+-- ---- types
+
+-- a word that a type begins with, and whether `int` may stand behind it
+abbrev pub type_of_fixed : Fixed → Option (Scalar × Bool)
+type_of_fixed (Keyword key.Int) = Some (Int, false)
+type_of_fixed (Keyword key.Signed) = Some (Int, true)
+type_of_fixed (Keyword key.Unsigned) = Some (Unsigned, true)
+type_of_fixed _ = None
+
+abbrev pub the_type_word : Tok → Option (Scalar × Bool)
+the_type_word t = by_fixed type_of_fixed t.terminal
+
+-- the first token says something of this kind
+abbrev pub says : {A : Type 0} → (Tok → Option A) → Option Tok → Bool
+says f None = false
+says f (Some t) = is_some (f t)
+
+abbrev pub starts_type : Option Tok → Bool
+starts_type = says the_type_word
+
+abbrev pub longer_type : Bool → Parser (Option (Unit {0}))
+longer_type true = perhaps (Keyword key.Int) (expect (Keyword key.Int))
+longer_type false = give None
+
+abbrev pub scalar : Parser Scalar
+scalar = mapped (λ x. x.0.0) (chained (take the_type_word) (λ w. longer_type w.1))
+
+-- ---- operators
+
+abbrev pub infix_of : Option BinaryOp → Option LogicalOp → Option Infix
+infix_of (Some op) l = Some (Computing op)
+infix_of None (Some op) = Some (Choosing op)
+infix_of None None = None
+
+abbrev pub the_infix : Tok → Option Infix
+the_infix t = infix_of (the_binary t) (the_logical t)
+
+abbrev pub infix_precedence : Infix → ℕ
+infix_precedence (Computing op) = precedence op
+infix_precedence (Choosing op) = logical_precedence op
+
+abbrev pub infix_node : Infix → Expr → Expr → Expr
+infix_node (Computing op) a b = Binary op a b (across (span_of a) (span_of b))
+infix_node (Choosing op) a b = Logical op a b (across (span_of a) (span_of b))
+
+abbrev pub operators : Operators Expr Infix
+operators = record { the = the_infix; precedence = infix_precedence; node = infix_node; depth = expr_depth }
+
+-- ---- operands
+
+-- an operator before its operand, and its place
+abbrev pub placed : {A : Type 0} → Span → Option A → Option (A × Span)
+placed at None = None
+placed at (Some x) = Some (x, at)
+
+abbrev pub the_prefix : Tok → Option (UnaryOp × Span)
+the_prefix t = placed t.span (the_unary t)
+
+abbrev pub constant_in : Terminal → Span → Option Expr
+constant_in (name s) at = None
+constant_in (constant n of) at = Some (Constant n of at)
+constant_in (string_literal s) at = None
+constant_in (fixed k) at = None
+constant_in reserved at = None
+
+abbrev pub the_constant : Tok → Option Expr
+the_constant t = constant_in t.terminal t.span
+
+-- whole: any expression; tight: an operand
+module _ (whole tight : Parser Expr) where
+  abbrev pub prefixed : Parser Expr
+  prefixed = mapped (λ x. Unary x.0.0 x.1 (across x.0.1 (span_of x.1))) (seq (take the_prefix) tight)
+
+  -- behind `(`, which stands at a place
+  abbrev pub cast_from : Span → Parser Expr
+  cast_from at = mapped (λ x. Cast x.0 x.1 (across at (span_of x.1))) (seq (before (Punctuator punct.CloseParen) scalar) tight)
+
+  abbrev pub group_from : Span → Parser Expr
+  group_from at = mapped (λ x. Parenthesized x.0 (across at x.1)) (seq whole (spot (Punctuator punct.CloseParen)))
+
+  abbrev pub opened : Parser Expr
+  opened = mapped (λ x. x.1) (chained (spot (Punctuator punct.OpenParen)) (λ at. either starts_type (cast_from at) (group_from at)))
+
+  abbrev pub arguments : Parser (List Expr)
+  arguments = either (is_next (Punctuator punct.CloseParen)) (give []) (listed whole)
+
+  -- behind a name
+  abbrev pub element_from : Name → Parser Expr
+  element_from x = mapped (λ y. Element x y.0 (across x.at y.1)) (behind (Punctuator punct.OpenBracket) (seq whole (spot (Punctuator punct.CloseBracket))))
+
+  abbrev pub call_from : Name → Parser Expr
+  call_from x = mapped (λ y. Call x (exprs_from y.0) (across x.at y.1)) (behind (Punctuator punct.OpenParen) (seq arguments (spot (Punctuator punct.CloseParen))))
+
+  abbrev pub named_from : Name → Parser Expr
+  named_from x = either (is_next (Punctuator punct.OpenBracket)) (element_from x) (either (is_next (Punctuator punct.OpenParen)) (call_from x) (give (Variable x)))
+
+  abbrev pub named : Parser Expr
+  named = mapped (λ x. x.1) (chained (take the_name) named_from)
+
+  abbrev pub operand_of : Operand → Parser Expr
+  operand_of kind.Name = named
+  operand_of kind.Constant = take the_constant
+  operand_of kind.Open = opened
+  operand_of kind.Prefix = prefixed
+  operand_of kind.None = none
+
+abbrev pub operand_fixed : Fixed → Option UnaryOp → Operand
+operand_fixed (Punctuator punct.OpenParen) op = kind.Open
+operand_fixed _ (Some op) = kind.Prefix
+operand_fixed _ None = kind.None
+
+abbrev pub operand_terminal : Terminal → Operand
+operand_terminal (name s) = kind.Name
+operand_terminal (constant n of) = kind.Constant
+operand_terminal (string_literal s) = kind.None
+operand_terminal (fixed k) = operand_fixed k (unary_of k)
+operand_terminal reserved = kind.None
+
+-- the kind of operand that a token begins
+abbrev pub operand_at : Option Tok → Operand
+operand_at None = kind.None
+operand_at (Some t) = operand_terminal t.terminal
+
+abbrev pub operand : (whole tight : Parser Expr) → Parser Expr
+operand whole tight = choice (λ h. operand_of whole tight (operand_at h))
+
+abbrev pub is_operand : Operand → Bool
+is_operand kind.None = false
+is_operand kind.Name = true
+is_operand kind.Constant = true
+is_operand kind.Open = true
+is_operand kind.Prefix = true
+
+abbrev pub starts_expr : Option Tok → Bool
+starts_expr h = is_operand (operand_at h)
+
+-- ---- expressions
+
+-- operands and operators that bind at least so tightly, within depth d + 1; below: the same within depth d
+abbrev pub chain : (ℕ → Parser Expr) → ℕ → ℕ → Parser Expr
+chain below d min ts = operand (below 0) (below 11) ts >>= λ x. climb_loop operators below min (suc d) (suc d) x.0 x.1
+
+-- behind the condition c
+abbrev pub conditional_from : Parser Expr → Expr → Parser Expr
+conditional_from whole c = mapped (λ x. Conditional c x.0 x.1 (across (span_of c) (span_of x.1))) (behind (Punctuator punct.Question) (seq whole (behind (Punctuator punct.Colon) whole)))
+
+-- what is read within this depth
+abbrev pub within : {A : Type 0} → ℕ → Expr → Parser A → Parser A
+within d e P ts = if nat_le (expr_depth e) d then P ts else Err (deep ts)
+
+abbrev pub conditional_at : Parser Expr → ℕ → Expr → Parser Expr
+conditional_at whole d c = either (is_next (Punctuator punct.Question)) (within d c (conditional_from whole c)) (give c)
+
+-- within this depth: at level 0 any expression, at others operators that bind at least so tightly
+unfoldable pub expr_at : ℕ → ℕ → Parser Expr
+expr_at zero min ts = sunk starts_expr ts
+expr_at (suc d) zero ts = mapped (λ x. x.1) (chained (chain (expr_at d) d 1) (conditional_at (expr_at d 0) d)) ts
+expr_at (suc d) (suc min) ts = chain (expr_at d) d (suc min) ts
+
+-- any expression within this depth
+abbrev pub whole_at : ℕ → Parser Expr
+whole_at d = expr_at d 0
