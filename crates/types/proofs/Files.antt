@@ -1,0 +1,153 @@
+-- What is known after one item more, or one global more.
+use Rattle.std.proofs.Common.{◌≡◌, ℕ, ◌+◌, List, [], ◌∷◌, ◌++◌, length, Option, Some, None, Bool, true, false, refl, sym, ap, ◌∙◌, arith, if◌then◌else◌, ◌||◌, option_map, unwrap_or, bytes_eq, is_some, sum_by, append_assoc}
+use Rattle.std.proofs.lemmas.Slice.Eq.{bytes_eq-Decides}
+use Rattle.std.proofs.lemmas.List.Sums.{sum_by-cons, sum_by-append}
+use Rattle.syntax.specs.Tree.{Span, Scalar, Function, Global, Item, Defines, Shares, Stmts}
+use Rattle.syntax.specs.Names.{cells, globals, definition_of, defined}
+use Rattle.syntax.specs.Types.{Known, Unknown, Number, Array, Callable, Scope, file_scope, known_among, known_global, known_function}
+use Rattle.syntax.specs.Typing.{is_unknown, has_name, defined_names, all_cells}
+use Rattle.types.specs.Tables.{definitions_from, cells_from}
+
+-- what is known, and else this
+abbrev pub or_known : Known → Known → Known
+or_known Unknown k = k
+or_known (Number t) k = Number t
+or_known (Array t n) k = Array t n
+or_known (Callable r ts) k = Callable r ts
+
+or_unknown : (k : Known) → or_known k Unknown ≡ k
+or_unknown Unknown = refl
+or_unknown (Number t) = refl
+or_unknown (Array t n) = refl
+or_unknown (Callable r ts) = refl
+
+or_or_known : (a b c : Known) → or_known (or_known a b) c ≡ or_known a (or_known b c)
+or_or_known Unknown b c = refl
+or_or_known (Number t) b c = refl
+or_or_known (Array t n) b c = refl
+or_or_known (Callable r ts) b c = refl
+
+pub unknown_is : (k : Known) → is_unknown k ≡ true → k ≡ Unknown
+unknown_is Unknown h = refl
+unknown_is (Number t) h = absurd cc
+unknown_is (Array t n) h = absurd cc
+unknown_is (Callable r ts) h = absurd cc
+
+known_first : (k last : Known) → is_unknown k ≡ false → or_known k last ≡ k
+known_first Unknown last h = absurd cc
+known_first (Number t) last h = refl
+known_first (Array t n) last h = refl
+known_first (Callable r ts) last h = refl
+
+if_or_known : (b : Bool) (k k' last : Known) (whole : Known) → or_known k last ≡ k → whole ≡ or_known k' last → (if b then k else whole) ≡ or_known (if b then k else k') last
+if_or_known true k k' last whole e f = sym e
+if_or_known false k k' last whole e f = f
+
+global_known : (of : Scalar) (length : Option (ℕ × Span)) (last : Known) → or_known (unwrap_or (option_map (λ n. Array of n.0) length) (Number of)) last ≡ unwrap_or (option_map (λ n. Array of n.0) length) (Number of)
+global_known of None last = refl
+global_known of (Some n) last = refl
+
+among_known : (gs : List Global) (rest whole : Scope) (x : List ℕ) (last : Known) → whole x ≡ or_known (rest x) last → known_among gs whole x ≡ or_known (known_among gs rest x) last
+among_known [] rest whole x last e = e
+among_known (g ∷ gs) rest whole x last e = if_or_known (bytes_eq g.name.text x) (known_global g) (known_among gs rest x) last (known_among gs whole x) (global_known g.of g.length last) (among_known gs rest whole x last e)
+
+among_append : (gs hs : List Global) (rest : Scope) (x : List ℕ) → known_among (gs ++ hs) rest x ≡ known_among gs (known_among hs rest) x
+among_append [] hs rest x = refl
+among_append (g ∷ gs) hs rest x = ap (λ k. if bytes_eq g.name.text x then known_global g else k) (among_append gs hs rest x)
+
+pub scope_append : (earlier items : List Item) (x : List ℕ) → file_scope (earlier ++ items) x ≡ or_known (file_scope earlier x) (file_scope items x)
+scope_append [] items x = refl
+scope_append (Defines f ∷ earlier) items x = if_or_known (bytes_eq f.name.text x) (known_function f) (file_scope earlier x) (file_scope items x) (file_scope (earlier ++ items) x) refl (scope_append earlier items x)
+scope_append (Shares gs ∷ earlier) items x = among_known gs (file_scope earlier) (file_scope (earlier ++ items)) x (file_scope items x) (scope_append earlier items x)
+
+-- a name that was not known takes what it is declared as, and the others stay
+last_known : (b : Bool) (k new : Known) → (b ≡ true → k ≡ Unknown) → (if b then new else k) ≡ or_known k (if b then new else Unknown)
+last_known true k new h = sym (ap (λ x. or_known x new) (h refl))
+last_known false k new h = sym (or_unknown k)
+
+-- a name that was known stays as it is
+last_stays : (b : Bool) (k new : Known) → (b ≡ true → is_unknown k ≡ false) → or_known k (if b then new else Unknown) ≡ k
+last_stays true k new h = known_first k new (h refl)
+last_stays false k new h = or_unknown k
+
+module _ (earlier : List Item) (known : Scope) where
+  pub defines_more : (f : Function) (new : Scope) → known ≡ file_scope earlier → is_unknown (known f.name.text) ≡ true → new ≡ (λ y. if bytes_eq f.name.text y then known_function f else known y) → new ≡ file_scope (earlier ++ Defines f ∷ [])
+  defines_more f new h free e = e ∙ (λ i y. (last_known (bytes_eq f.name.text y) (known y) (known_function f) (λ same. ap known (sym ((bytes_eq-Decides f.name.text y).0 same)) ∙ unknown_is (known f.name.text) free) ∙ ap (λ k. or_known k (if bytes_eq f.name.text y then known_function f else Unknown)) (ap (λ s. s y) h) ∙ sym (scope_append earlier (Defines f ∷ []) y)) i)
+
+  pub defines_again : (f : Function) → known ≡ file_scope earlier → is_unknown (known f.name.text) ≡ false → known ≡ file_scope (earlier ++ Defines f ∷ [])
+  defines_again f h free = λ i y. (sym (last_stays (bytes_eq f.name.text y) (known y) (known_function f) (λ same. ap (λ x. is_unknown (known x)) (sym ((bytes_eq-Decides f.name.text y).0 same)) ∙ free)) ∙ ap (λ k. or_known k (if bytes_eq f.name.text y then known_function f else Unknown)) (ap (λ s. s y) h) ∙ sym (scope_append earlier (Defines f ∷ []) y)) i
+
+  pub shares_none : known ≡ file_scope earlier → known ≡ file_scope (earlier ++ Shares [] ∷ [])
+  shares_none h = h ∙ (λ i y. (sym (or_unknown (file_scope earlier y)) ∙ sym (scope_append earlier (Shares [] ∷ []) y)) i)
+
+  among_last : (before : List Global) (g : Global) (y : List ℕ) → known_among (before ++ g ∷ []) (file_scope []) y ≡ or_known (known_among before (file_scope []) y) (if bytes_eq g.name.text y then known_global g else Unknown)
+  among_last before g y = among_append before (g ∷ []) (file_scope []) y ∙ among_known before (file_scope []) (known_among (g ∷ []) (file_scope [])) y (if bytes_eq g.name.text y then known_global g else Unknown) refl
+
+  pub shares_more : (before : List Global) (g : Global) (new : Scope) → known ≡ file_scope (earlier ++ Shares before ∷ []) → is_unknown (known g.name.text) ≡ true → new ≡ (λ y. if bytes_eq g.name.text y then known_global g else known y) → new ≡ file_scope (earlier ++ Shares (before ++ g ∷ []) ∷ [])
+  shares_more before g new h free e = e ∙ (λ i y. (
+      let last = if bytes_eq g.name.text y then known_global g else Unknown in
+      last_known (bytes_eq g.name.text y) (known y) (known_global g) (λ same. ap known (sym ((bytes_eq-Decides g.name.text y).0 same)) ∙ unknown_is (known g.name.text) free)
+      ∙ ap (λ k. or_known k last) (ap (λ s. s y) h ∙ scope_append earlier (Shares before ∷ []) y)
+      ∙ or_or_known (file_scope earlier y) (known_among before (file_scope []) y) last
+      ∙ ap (or_known (file_scope earlier y)) (sym (among_last before g y))
+      ∙ sym (scope_append earlier (Shares (before ++ g ∷ []) ∷ []) y)) i)
+
+-- the tables
+pub cells_append : (c : ℕ) (gs hs : List Global) → cells_from c (gs ++ hs) ≡ cells_from c gs ++ cells_from (c + sum_by cells gs) hs
+cells_append c [] hs = ap (λ n. cells_from n hs) (omega arith)
+cells_append c (g ∷ gs) hs = ap (λ cs. c ∷ cs) (cells_append (c + cells g) gs hs ∙ ap (λ n. cells_from (c + cells g) gs ++ cells_from n hs) (let h = sum_by-cons cells g gs in omega (arith, h)))
+
+pub globals_append : (a b : List Item) → globals (a ++ b) ≡ globals a ++ globals b
+globals_append [] b = refl
+globals_append (Defines f ∷ a) b = globals_append a b
+globals_append (Shares gs ∷ a) b = ap (λ hs. gs ++ hs) (globals_append a b) ∙ sym (append_assoc gs (globals a) (globals b))
+
+pub cells_are : (items : List Item) → sum_by cells (globals items) ≡ all_cells items
+cells_are [] = refl
+cells_are (Defines f ∷ items) = cells_are items
+cells_are (Shares gs ∷ items) = sum_by-append cells gs (globals items) ∙ ap (λ n. sum_by cells gs + n) (cells_are items)
+
+pub all_cells_append : (a b : List Item) → all_cells (a ++ b) ≡ all_cells a + all_cells b
+all_cells_append [] b = omega arith
+all_cells_append (Defines f ∷ a) b = all_cells_append a b
+all_cells_append (Shares gs ∷ a) b = let h = all_cells_append a b in omega (arith, h)
+
+pub definitions_append : (n : ℕ) (a b : List Item) → definitions_from n (a ++ b) ≡ definitions_from n a ++ definitions_from (n + length a) b
+definitions_append n [] b = ap (λ m. definitions_from m b) (omega arith)
+definitions_append n (Shares gs ∷ a) b = definitions_append (n + 1) a b ∙ ap (λ m. definitions_from (n + 1) a ++ definitions_from m b) (omega arith)
+definitions_append n (Defines f ∷ a) b = by (is_some f.body) (definitions_from (n + 1) a) (definitions_from (n + length (Defines f ∷ a)) b) (definitions_from (n + 1) (a ++ b)) (definitions_append (n + 1) a b ∙ ap (λ m. definitions_from (n + 1) a ++ definitions_from m b) (omega arith))
+  where
+    by : (here : Bool) (xs ys zs : List ℕ) → zs ≡ xs ++ ys → (if here then n ∷ zs else zs) ≡ (if here then n ∷ xs else xs) ++ ys
+    by true xs ys zs h = ap (λ x. n ∷ x) h
+    by false xs ys zs h = h
+
+-- names of definitions
+or_assoc : (a b c : Bool) → (a || b) || c ≡ a || (b || c)
+or_assoc true b c = refl
+or_assoc false b c = refl
+
+body_name : (body : Option Stmts) (x y : List ℕ) (xs ys : List (List ℕ)) (rest : Bool) → has_name ys y ≡ (has_name xs y || rest) → has_name (unwrap_or (option_map (λ b. x ∷ ys) body) ys) y ≡ (has_name (unwrap_or (option_map (λ b. x ∷ xs) body) xs) y || rest)
+body_name None x y xs ys rest h = h
+body_name (Some b) x y xs ys rest h = ap (λ t. bytes_eq x y || t) h ∙ sym (or_assoc (bytes_eq x y) (has_name xs y) rest)
+
+pub defined_append : (a b : List Item) (x : List ℕ) → has_name (defined_names (a ++ b)) x ≡ (has_name (defined_names a) x || has_name (defined_names b) x)
+defined_append [] b x = refl
+defined_append (Shares gs ∷ a) b x = defined_append a b x
+defined_append (Defines f ∷ a) b x = body_name f.body f.name.text x (defined_names a) (defined_names (a ++ b)) (has_name (defined_names b) x) (defined_append a b x)
+
+defined_here : (f : Function) (x : List ℕ) (items : List Item) → is_some (definition_of items x) ≡ has_name (defined_names items) x → is_some (definition_of (Defines f ∷ items) x) ≡ has_name (defined_names (Defines f ∷ items)) x
+defined_here f x items h = by f f.body (definition_of items x) (defined_names items) h
+  where
+    if_some : (b : Bool) (y : Function × Stmts) (rest : Option (Function × Stmts)) (t : Bool) → is_some rest ≡ t → is_some (if b then Some y else rest) ≡ (b || t)
+    if_some true y rest t h = refl
+    if_some false y rest t h = h
+
+    by : (g : Function) (body : Option Stmts) (rest : Option (Function × Stmts)) (ns : List (List ℕ)) → is_some rest ≡ has_name ns x → is_some (defined g x body rest) ≡ has_name (unwrap_or (option_map (λ b. g.name.text ∷ ns) body) ns) x
+    by g None rest ns h = h
+    by g (Some b) rest ns h = if_some (bytes_eq g.name.text x) (g, b) rest (has_name ns x) h
+
+-- a function is defined where its name is among those of the definitions
+pub defined_is : (items : List Item) (x : List ℕ) → is_some (definition_of items x) ≡ has_name (defined_names items) x
+defined_is [] x = refl
+defined_is (Shares gs ∷ items) x = defined_is items x
+defined_is (Defines f ∷ items) x = defined_here f x items (defined_is items x)

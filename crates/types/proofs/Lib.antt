@@ -1,0 +1,16 @@
+pub mod AllMet
+pub mod BlockItems
+pub mod Bodies
+pub mod Declared
+pub mod Files
+pub mod Formats
+pub mod Found
+pub mod Grown
+pub mod Items
+pub mod Kept
+pub mod Loops
+pub mod Parameters
+pub mod Starts
+pub mod Steps
+pub mod Stmts
+pub mod Types

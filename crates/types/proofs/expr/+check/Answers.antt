@@ -1,0 +1,81 @@
+use Rattle.std.proofs.Common.{ap, sym, ◌∙◌, arith}
+use denote.Param.Weighed.{most}
+use Rattle.syntax.specs.Tree as Tree
+use Rattle.syntax.specs.Views.{name_of, expr_of, exprs_of}
+use Rattle.syntax.specs.declared.tree.Expr.{the_lemmas}
+use Rattle.syntax.proofs.tree.Expr.TheLaws.{the_size}
+use Rattle.syntax.specs.Typing.{first_unmet, IsTyped, IsNumber}
+use Rattle.types.specs.Known.{known_in}
+use Rattle.types.proofs.Loops.{numbers_more, call_parts, typed_call, typed_binary, typed_logical, typed_conditional}
+use Rattle.types.proofs.Steps.{skip, stop}
+use Rattle.types.proofs.expr.+check.Goals as goal
+
+pub check_expr-check_call-requires : goal.check_expr-check_call-requires
+check_expr-check_call-requires g t c κs within =
+    let size = simp the_lemmas at (ap (the_size g.row.A g.A.Allocator g.A.laws) c.in-Call.is) in
+    let here = ap (most (the_size g.row.A g.A.Allocator g.A.laws)) c.as_slice.ensures in
+    (omega (arith, size, here, c.decreases), within)
+
+pub check_expr-returns-in-Call : goal.check_expr-returns-in-Call
+check_expr-returns-in-Call g t c =
+    c.check_call.ensures ∙ ap (λ es. first_unmet (IsTyped (known_in c.args.names.now) (Tree.Call (name_of c.in-Call.f) (exprs_of es) c.in-Call.at))) c.as_slice.ensures ∙ sym (typed_call (known_in c.args.names.now) c.args.e.now c.in-Call.f c.in-Call.args c.in-Call.at c.in-Call.is)
+
+pub check_expr-returns-in_err-check_number-in-Binary : goal.check_expr-returns-in_err-check_number-in-Binary
+check_expr-returns-in_err-check_number-in-Binary g t c =
+    let is = typed_binary (known_in c.args.names.now) c.args.e.now c.in-Binary.field-0 c.in-Binary.a c.in-Binary.b c.in-Binary.field-3 c.in-Binary.is in
+    stop c.check_number-in-Binary.result _ c.in_err-check_number-in-Binary.field-0.0 _ _ _ is (c.check_number-in-Binary.ensures ∙ ap (λ x. first_unmet (IsNumber (known_in c.args.names.now) (expr_of x))) c.get-in-Binary.ensures) c.in_err-check_number-in-Binary.was c.from_residual-in_err-check_number-in-Binary.ensures
+
+pub check_expr-returns-in_ok-check_number-in-Binary : goal.check_expr-returns-in_ok-check_number-in-Binary
+check_expr-returns-in_ok-check_number-in-Binary g t c =
+    let is = typed_binary (known_in c.args.names.now) c.args.e.now c.in-Binary.field-0 c.in-Binary.a c.in-Binary.b c.in-Binary.field-3 c.in-Binary.is in
+    (c.check_number-in-Binary-2.ensures ∙ ap (λ x. first_unmet (IsNumber (known_in c.args.names.now) (expr_of x))) c.get-in-Binary-2.ensures) ∙ sym (skip c.check_number-in-Binary.result _ _ _ _ is (c.check_number-in-Binary.ensures ∙ ap (λ x. first_unmet (IsNumber (known_in c.args.names.now) (expr_of x))) c.get-in-Binary.ensures) c.in_ok-check_number-in-Binary.was)
+
+pub check_expr-returns-in_err-check_number-in-Logical : goal.check_expr-returns-in_err-check_number-in-Logical
+check_expr-returns-in_err-check_number-in-Logical g t c =
+    let is = typed_logical (known_in c.args.names.now) c.args.e.now c.in-Logical.field-0 c.in-Logical.a c.in-Logical.b c.in-Logical.field-3 c.in-Logical.is in
+    stop c.check_number-in-Logical.result _ c.in_err-check_number-in-Logical.field-0.0 _ _ _ is (c.check_number-in-Logical.ensures ∙ ap (λ x. first_unmet (IsNumber (known_in c.args.names.now) (expr_of x))) c.get-in-Logical.ensures) c.in_err-check_number-in-Logical.was c.from_residual-in_err-check_number-in-Logical.ensures
+
+pub check_expr-returns-in_ok-check_number-in-Logical : goal.check_expr-returns-in_ok-check_number-in-Logical
+check_expr-returns-in_ok-check_number-in-Logical g t c =
+    let is = typed_logical (known_in c.args.names.now) c.args.e.now c.in-Logical.field-0 c.in-Logical.a c.in-Logical.b c.in-Logical.field-3 c.in-Logical.is in
+    (c.check_number-in-Logical-2.ensures ∙ ap (λ x. first_unmet (IsNumber (known_in c.args.names.now) (expr_of x))) c.get-in-Logical-2.ensures) ∙ sym (skip c.check_number-in-Logical.result _ _ _ _ is (c.check_number-in-Logical.ensures ∙ ap (λ x. first_unmet (IsNumber (known_in c.args.names.now) (expr_of x))) c.get-in-Logical.ensures) c.in_ok-check_number-in-Logical.was)
+
+pub check_expr-returns-in_err-check_number-in-Conditional : goal.check_expr-returns-in_err-check_number-in-Conditional
+check_expr-returns-in_err-check_number-in-Conditional g t c =
+    let is = typed_conditional (known_in c.args.names.now) c.args.e.now c.in-Conditional.c c.in-Conditional.a c.in-Conditional.b c.in-Conditional.field-3 c.in-Conditional.is in
+    stop c.check_number-in-Conditional.result _ c.in_err-check_number-in-Conditional.field-0.0 _ _ _ is (c.check_number-in-Conditional.ensures ∙ ap (λ x. first_unmet (IsNumber (known_in c.args.names.now) (expr_of x))) c.get-in-Conditional.ensures) c.in_err-check_number-in-Conditional.was c.from_residual-in_err-check_number-in-Conditional.ensures
+
+pub check_expr-returns-in_err-check_number-in-Conditional-2 : goal.check_expr-returns-in_err-check_number-in-Conditional-2
+check_expr-returns-in_err-check_number-in-Conditional-2 g t c =
+    let is = typed_conditional (known_in c.args.names.now) c.args.e.now c.in-Conditional.c c.in-Conditional.a c.in-Conditional.b c.in-Conditional.field-3 c.in-Conditional.is in
+    stop c.check_number-in-Conditional-2.result _ c.in_err-check_number-in-Conditional-2.field-0.0 _ _ _ (skip c.check_number-in-Conditional.result _ _ _ _ is (c.check_number-in-Conditional.ensures ∙ ap (λ x. first_unmet (IsNumber (known_in c.args.names.now) (expr_of x))) c.get-in-Conditional.ensures) c.in_ok-check_number-in-Conditional.was) (c.check_number-in-Conditional-2.ensures ∙ ap (λ x. first_unmet (IsNumber (known_in c.args.names.now) (expr_of x))) c.get-in-Conditional-2.ensures) c.in_err-check_number-in-Conditional-2.was c.from_residual-in_err-check_number-in-Conditional-2.ensures
+
+pub check_expr-returns-in_ok-check_number-in-Conditional-2 : goal.check_expr-returns-in_ok-check_number-in-Conditional-2
+check_expr-returns-in_ok-check_number-in-Conditional-2 g t c =
+    let is = typed_conditional (known_in c.args.names.now) c.args.e.now c.in-Conditional.c c.in-Conditional.a c.in-Conditional.b c.in-Conditional.field-3 c.in-Conditional.is in
+    (c.check_number-in-Conditional-3.ensures ∙ ap (λ x. first_unmet (IsNumber (known_in c.args.names.now) (expr_of x))) c.get-in-Conditional-3.ensures) ∙ sym (skip c.check_number-in-Conditional-2.result _ _ _ _ (skip c.check_number-in-Conditional.result _ _ _ _ is (c.check_number-in-Conditional.ensures ∙ ap (λ x. first_unmet (IsNumber (known_in c.args.names.now) (expr_of x))) c.get-in-Conditional.ensures) c.in_ok-check_number-in-Conditional.was) (c.check_number-in-Conditional-2.ensures ∙ ap (λ x. first_unmet (IsNumber (known_in c.args.names.now) (expr_of x))) c.get-in-Conditional-2.ensures) c.in_ok-check_number-in-Conditional-2.was)
+
+pub check_numbers-returns-in_err-check_number : goal.check_numbers-returns-in_err-check_number
+check_numbers-returns-in_err-check_number g t c =
+    let here = numbers_more (known_in c.args.names.now) c.args.all.now c.each.one-index c.one-item.result c.one-item.is c.each-test.true in
+    grind (arith, here)
+
+pub check_numbers-each-preserved : goal.check_numbers-each-preserved
+check_numbers-each-preserved g t c =
+    let here = numbers_more (known_in c.args.names.now) c.args.all.now c.each.one-index c.one-item.result c.one-item.is c.each-test.true in
+    grind (arith, here)
+
+pub check_call-returns-in_err-check_numbers : goal.check_call-returns-in_err-check_numbers
+check_call-returns-in_err-check_numbers g t c =
+    let is = call_parts (known_in c.args.names.now) (name_of c.args.f.now) (exprs_of c.args.args.now) c.args.at in
+    stop c.check_numbers.result _ c.in_err-check_numbers.field-0.0 _ _ _ (skip c.check_known.result _ _ _ _ is c.check_known.ensures c.in_ok-check_known.was) c.check_numbers.ensures c.in_err-check_numbers.was c.from_residual-in_err-check_numbers.ensures
+
+pub check_call-returns : goal.check_call-returns
+check_call-returns g t c =
+    let is = call_parts (known_in c.args.names.now) (name_of c.args.f.now) (exprs_of c.args.args.now) c.args.at in
+    c.check_called.ensures ∙ sym (skip c.check_numbers.result _ _ _ _ (skip c.check_known.result _ _ _ _ is c.check_known.ensures c.in_ok-check_known.was) c.check_numbers.ensures c.in_ok-check_numbers.was)
+
+pub check_call-returns-in_err-check_known : goal.check_call-returns-in_err-check_known
+check_call-returns-in_err-check_known g t c =
+    let is = call_parts (known_in c.args.names.now) (name_of c.args.f.now) (exprs_of c.args.args.now) c.args.at in
+    stop c.check_known.result _ c.in_err-check_known.field-0.0 _ _ _ is c.check_known.ensures c.in_err-check_known.was c.from_residual.ensures

@@ -1,0 +1,30 @@
+-- The table of names, with what each local hides.
+use denote.Ref.{Bor}
+use Rattle.std.specs.Prelude.{◌≡◌, ℕ, ◌≤◌, All, is_some, true, List, [], ◌∷◌, length, drop, unwrap_or, bytes_eq, if◌then◌else◌}
+use Rattle.indexmap.specs.IndexMap.{IndexMap, get_by}
+use Rattle.types.specs.declared.table.Slot.{Slot}
+use Rattle.types.specs.declared.table.Local.{Local}
+use Rattle.types.specs.declared.symbol.Symbol.TheVariants as symbol
+
+module _ {A : Type 0} where
+  abbrev pub nothing : Slot A
+  nothing = record { symbol = symbol.Unknown; place = 0 }
+
+  abbrev pub with_slot : List ℕ → Slot A → (List ℕ → Slot A) → List ℕ → Slot A
+  with_slot x s table y = if bytes_eq x y then s else table y
+
+  -- the table once these newest locals are forgotten, each name with what it had before
+  abbrev pub under : List (Local A) → (List ℕ → Slot A) → List ℕ → Slot A
+  under [] table x = table x
+  under (l ∷ ls) table x = if bytes_eq l.name.now x then l.hidden else under ls table x
+
+  abbrev pub table_of : {S : Type 0} → IndexMap (Bor (List ℕ)) (Slot A) S → List ℕ → Slot A
+  table_of m x = unwrap_or (get_by (λ k. bytes_eq x k.now) m) nothing
+
+  -- with so many locals, no name had a later place
+  abbrev pub ArePlaced : {S : Type 0} → IndexMap (Bor (List ℕ)) (Slot A) S → List (Local A) → Type 0
+  ArePlaced m ls = (k : ℕ) → k ≤ length ls → (x : List ℕ) → (under (drop k ls) (table_of m) x).place ≤ k
+
+  -- each local's name is in the table
+  abbrev pub ArePresent : {S : Type 0} → IndexMap (Bor (List ℕ)) (Slot A) S → List (Local A) → Type 0
+  ArePresent m ls = All (λ l. is_some (get_by (λ k. bytes_eq l.name.now k.now) m) ≡ true) ls

@@ -1,0 +1,197 @@
+//! Which expressions are typed.
+
+ghost use Rattle.std.specs.Prelude.{◌≡◌, ◌++◌};
+ghost use Rattle.syntax.specs.Tree as Tree;
+ghost use Rattle.syntax.specs.Views.{name_of, expr_of, exprs_of};
+ghost use Rattle.syntax.specs.Typing.{is_void, span_of, count, may_be_function, takes_so_many};
+ghost use Rattle.syntax.specs.Types.{type_of};
+ghost use Rattle.syntax.specs.Typing.{first_unmet, demand, IsKnown, IsTyped, IsNumber, GivesNumber, AreNumbers};
+ghost use Rattle.types.specs.Answers.{unmet_in};
+ghost use Rattle.types.specs.Known.{known_in};
+ghost use Rattle.types.specs.Scopes.{known_of};
+
+use crate::fault::{Violation, demand};
+use crate::symbol::Symbol;
+use crate::table::Names;
+use lex::token::Span;
+use std::alloc::Allocator;
+use syntax::tree::{Expr, Name};
+
+/// Where an expression stands.
+pub(crate) fn place_of<A: Allocator>(e: &Expr<A>) -> Span
+    ensures { result ≡ span_of (expr_of e.now) }
+{
+    match e {
+        Expr::Variable(x) => x.span,
+        Expr::Constant(_, _, at) => *at,
+        Expr::Element(_, _, at) => *at,
+        Expr::Call(_, _, at) => *at,
+        Expr::Parenthesized(_, at) => *at,
+        Expr::Cast(_, _, at) => *at,
+        Expr::Unary(_, _, at) => *at,
+        Expr::Binary(_, _, _, at) => *at,
+        Expr::Logical(_, _, _, at) => *at,
+        Expr::Conditional(_, _, _, at) => *at,
+    }
+}
+
+/// Whether an expression calls a function that gives no value.
+pub(crate) fn is_void<A: Allocator + Copy>(names: &Names<'_, A>, e: &Expr<A>) -> bool
+    ensures { result ≡ is_void (known_in names.now) (expr_of e.now) }
+{
+    match e {
+        Expr::Call(f, _, _) => names.look(f.text.as_str()).gives_nothing(),
+        Expr::Parenthesized(e, _) => is_void(names, e.get()),
+        _ => false,
+    }
+}
+
+pub(crate) fn gives_number<A: Allocator + Copy>(
+    names: &Names<'_, A>,
+    e: &Expr<A>,
+) -> Result<(), Violation>
+    ensures { unmet_in result ≡ first_unmet (GivesNumber (known_in names.now) (expr_of e.now)) }
+{
+    let void = is_void(names, e);
+    demand(!void, Violation::WrongType(place_of(e)))
+}
+
+/// An element of an array: its name, its index, and then that it is an array.
+#[cycle(check)]
+#[tactic(auto, using(crate::proofs::Steps::first_of_two))]
+fn check_element<A: Allocator + Copy>(
+    names: &Names<'_, A>,
+    x: &Name<A>,
+    index: &Expr<A>,
+    at: Span,
+) -> Result<(), Violation>
+    ensures { unmet_in result ≡ first_unmet (IsTyped (known_in names.now) (Tree.Element (name_of x.now) (expr_of index.now) at)) }
+{
+    let symbol = names.look(x.text.as_str());
+    demand(!symbol.is_unknown(), Violation::UnknownName(x.span))?;
+    check_number(names, index)?;
+    demand(symbol.may_be_array(), Violation::WrongType(at))
+}
+
+/// The number of expressions.
+pub(crate) fn count_of<A: Allocator>(all: &[Expr<A>]) -> usize
+    ensures { result ≡ count (exprs_of all.now) }
+{
+    all.len()
+}
+
+/// A name that is known.
+pub(crate) fn check_known<A: Allocator + Copy>(
+    names: &Names<'_, A>,
+    x: &Name<A>,
+) -> Result<(), Violation>
+    ensures { unmet_in result ≡ first_unmet (IsKnown (known_in names.now) (name_of x.now)) }
+{
+    let symbol = names.look(x.text.as_str());
+    demand(!symbol.is_unknown(), Violation::UnknownName(x.span))
+}
+
+/// What is called is a function, and takes so many arguments.
+fn check_symbol<A: Allocator + Copy>(
+    symbol: &Symbol<'_, A>,
+    count: usize,
+    f: Span,
+    at: Span,
+) -> Result<(), Violation>
+    ensures { unmet_in result ≡ first_unmet (demand 22 at (may_be_function (known_of symbol.now)) ++ demand 23 f (takes_so_many (known_of symbol.now) count)) }
+{
+    demand(symbol.may_be_function(), Violation::WrongType(at))?;
+    demand(symbol.takes_so_many(count), Violation::WrongCount(f))
+}
+
+/// What is called is a function, and takes so many arguments.
+fn check_called<A: Allocator + Copy>(
+    names: &Names<'_, A>,
+    f: &Name<A>,
+    args: &[Expr<A>],
+    at: Span,
+) -> Result<(), Violation>
+    ensures { unmet_in result ≡ first_unmet (demand 22 at (may_be_function (known_in names.now f.now.text)) ++ demand 23 f.now.span (takes_so_many (known_in names.now f.now.text) (count (exprs_of args.now)))) }
+{
+    let symbol = names.look(f.text.as_str());
+    let many = count_of(args);
+    check_symbol(&symbol, many, f.span, at)
+}
+
+/// A call: its name, its arguments, that it is a function, and how many arguments it takes.
+#[cycle(check)]
+fn check_call<A: Allocator + Copy>(
+    names: &Names<'_, A>,
+    f: &Name<A>,
+    args: &[Expr<A>],
+    at: Span,
+) -> Result<(), Violation>
+    ensures { unmet_in result ≡ first_unmet (IsTyped (known_in names.now) (Tree.Call (name_of f.now) (exprs_of args.now) at)) }
+{
+    check_known(names, f)?;
+    check_numbers(names, args)?;
+    check_called(names, f, args, at)
+}
+
+/// An expression, whether it gives a value or not.
+#[cycle(check)]
+pub(crate) fn check_expr<A: Allocator + Copy>(
+    names: &Names<'_, A>,
+    e: &Expr<A>,
+) -> Result<(), Violation>
+    ensures { unmet_in result ≡ first_unmet (IsTyped (known_in names.now) (expr_of e.now)) }
+{
+    match e {
+        Expr::Variable(x) => {
+            let symbol = names.look(x.text.as_str());
+            demand(!symbol.is_unknown(), Violation::UnknownName(x.span))?;
+            demand(symbol.may_be_number(), Violation::WrongType(x.span))
+        }
+        Expr::Constant(_, _, _) => Ok(()),
+        Expr::Element(x, index, at) => check_element(names, x, index.get(), *at),
+        Expr::Call(f, args, at) => check_call(names, f, args.as_slice(), *at),
+        Expr::Parenthesized(e, _) => check_expr(names, e.get()),
+        Expr::Cast(_, e, _) => check_number(names, e.get()),
+        Expr::Unary(_, e, _) => check_number(names, e.get()),
+        Expr::Binary(_, a, b, _) => {
+            check_number(names, a.get())?;
+            check_number(names, b.get())
+        }
+        Expr::Logical(_, a, b, _) => {
+            check_number(names, a.get())?;
+            check_number(names, b.get())
+        }
+        Expr::Conditional(c, a, b, _) => {
+            check_number(names, c.get())?;
+            check_number(names, a.get())?;
+            check_number(names, b.get())
+        }
+    }
+}
+
+/// An expression that gives a number.
+#[cycle(check)]
+#[tactic(auto, using(crate::proofs::Steps::first_of_two))]
+pub(crate) fn check_number<A: Allocator + Copy>(
+    names: &Names<'_, A>,
+    e: &Expr<A>,
+) -> Result<(), Violation>
+    ensures { unmet_in result ≡ first_unmet (IsNumber (known_in names.now) (expr_of e.now)) }
+{
+    check_expr(names, e)?;
+    gives_number(names, e)
+}
+
+/// Expressions that each give a number.
+#[cycle(check)]
+pub(crate) fn check_numbers<A: Allocator + Copy>(
+    names: &Names<'_, A>,
+    all: &[Expr<A>],
+) -> Result<(), Violation>
+    ensures { unmet_in result ≡ first_unmet (AreNumbers (known_in names.now) (exprs_of all.now)) }
+{
+    'each: for one in all {
+        check_number(names, one)?;
+    }
+    Ok(())
+}

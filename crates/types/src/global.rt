@@ -1,0 +1,138 @@
+//! Which globals are typed, and where their cells stand.
+
+ghost use Rattle.std.specs.Prelude.{◌≡◌, ◌≤◌, ◌+◌, ◌++◌, ◌∷◌, [], map, drop, sum_by, nat_le, true, OnOk};
+ghost use Rattle.syntax.specs.Tree as Tree;
+ghost use Rattle.syntax.specs.Views.{global_of, item_of};
+ghost use Rattle.syntax.specs.Names.{cells};
+ghost use Rattle.syntax.specs.Types.{file_scope, known_global};
+ghost use Rattle.syntax.specs.Typing.{is_unknown};
+ghost use Rattle.syntax.specs.Typing.{demand, first_unmet, IsLength, HaveCells, AreTypedGlobals};
+ghost use Rattle.types.specs.Answers.{Answers, unmet_in};
+ghost use Rattle.types.specs.Known.{known_in, count_in};
+ghost use Rattle.types.specs.Scopes.{known_of};
+ghost use Rattle.types.specs.Tables.{cells_from};
+
+use crate::fault::{Failure, Violation, demand};
+use crate::symbol::Symbol;
+use crate::table::Names;
+use containers::Items;
+use lex::token::Span;
+use std::alloc::{AllocError, Allocator};
+use syntax::tree::{First, Global, Item};
+
+/// The most cells of all globals.
+const MOST_CELLS: u32 = 4096;
+
+/// The number of a global's cells.
+fn cells_of<A: Allocator>(g: &Global<A>) -> u32
+    ensures { result ≡ cells (global_of g.now) }
+{
+    match g.length {
+        Some((count, _)) => count,
+        None => 1,
+    }
+}
+
+fn symbol_of<'a, A: Allocator>(g: &Global<A>) -> Symbol<'a, A>
+    ensures { known_of result ≡ known_global (global_of g.now) }
+{
+    match g.length {
+        Some((count, _)) => Symbol::Array(g.of, count),
+        None => Symbol::Number(g.of),
+    }
+}
+
+/// An array's length, where there is one.
+fn check_length(length: &Option<(u32, Span)>) -> Result<(), Violation>
+    ensures { unmet_in result ≡ first_unmet (IsLength length.now) }
+{
+    match length {
+        Some((count, at)) => {
+            let right = 1 <= *count && *count <= MOST_CELLS;
+            demand(right, Violation::BadLength(*at))
+        }
+        None => Ok(()),
+    }
+}
+
+/// No initialiser stands where no cell is left for it.
+fn check_first(count: u32, first: &[First]) -> Result<(), Violation>
+    ensures { unmet_in result ≡ first_unmet (HaveCells (drop count first.now)) }
+{
+    match first.get(count as usize) {
+        Some(first) => demand(false, Violation::BadLength(first.span)),
+        None => Ok(()),
+    }
+}
+
+/// A name that stands for nothing yet.
+fn check_new<A: Allocator + Copy>(names: &Names<'_, A>, g: &Global<A>) -> Result<(), Violation>
+    ensures { unmet_in result ≡ first_unmet (demand 21 g.now.name.span (is_unknown (known_in names.now g.now.name.text))) }
+{
+    let new = names.look(g.name.text.as_str()).is_unknown();
+    demand(new, Violation::DeclaredTwice(g.name.span))
+}
+
+/// One global, where so many cells are taken by those before it.
+fn check_global<A: Allocator + Copy>(
+    names: &Names<'_, A>,
+    taken: u32,
+    g: &Global<A>,
+) -> Result<(), Violation>
+    requires { taken ≤ 4096 }
+    ensures { unmet_in result ≡ first_unmet (demand 21 g.now.name.span (is_unknown (known_in names.now g.now.name.text)) ++ IsLength g.now.length ++ HaveCells (drop (cells (global_of g.now)) g.now.first) ++ demand 25 g.now.name.span (nat_le (taken + cells (global_of g.now)) 4096)) }
+{
+    check_new(names, g)?;
+    check_length(&g.length)?;
+    let count = cells_of(g);
+    check_first(count, g.first.as_slice())?;
+    let few = taken.saturating_add(count) <= MOST_CELLS;
+    demand(few, Violation::BadLength(g.name.span))
+}
+
+/// A global's name, known from its declaration on, and its first cell.
+fn add_global<'a, A: Allocator + Copy>(
+    names: &mut Names<'a, A>,
+    first_cells: &mut Items<u32, A>,
+    earlier: &[Item<A>],
+    before: &[Global<A>],
+    taken: u32,
+    g: &'a Global<A>,
+) -> Result<(), AllocError>
+    requires none { count_in names.old ≡ 0 }
+    requires known { known_in names.old ≡ file_scope (map item_of earlier.now ++ Tree.Shares (map global_of before.now) ∷ []) }
+    requires new { is_unknown (known_in names.old g.now.name.text) ≡ true }
+    ensures known { OnOk result (known_in names.new ≡ file_scope (map item_of earlier.now ++ Tree.Shares (map global_of before.now ++ global_of g.now ∷ []) ∷ [])) }
+    ensures none { count_in names.new ≡ 0 }
+    ensures cells { OnOk result (first_cells.new ≡ first_cells.old ++ taken ∷ []) }
+{
+    names.define(g.name.text.as_str(), symbol_of(g))?;
+    first_cells.push(taken)
+}
+
+/// The globals of one declaration, behind earlier items that take so many cells.
+pub(crate) fn check_globals<'a, A: Allocator + Copy>(
+    names: &mut Names<'a, A>,
+    first_cells: &mut Items<u32, A>,
+    taken: &mut u32,
+    earlier: &[Item<A>],
+    all: &'a [Global<A>],
+) -> Result<(), Failure>
+    requires none { count_in names.old ≡ 0 }
+    requires known { known_in names.old ≡ file_scope (map item_of earlier.now) }
+    requires few { taken.old ≤ 4096 }
+    ensures answer { Answers result (AreTypedGlobals (map item_of earlier.now) [] taken.old (map global_of all.now)) }
+    ensures known { OnOk result (known_in names.new ≡ file_scope (map item_of earlier.now ++ Tree.Shares (map global_of all.now) ∷ [])) }
+    ensures none { OnOk result (count_in names.new ≡ 0) }
+    ensures cells { OnOk result (first_cells.new ≡ first_cells.old ++ cells_from taken.old (map global_of all.now)) }
+    ensures taken { OnOk result (taken.new ≡ taken.old + sum_by cells (map global_of all.now)) }
+    ensures few { OnOk result (taken.new ≤ 4096) }
+{
+    'each: for i in 0..all.len() {
+        let g = &all[i];
+        check_global(names, *taken, g)?;
+        add_global(names, first_cells, earlier, &all[..i], *taken, g)?;
+        *taken += cells_of(g);
+    }
+    Ok(())
+}

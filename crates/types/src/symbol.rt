@@ -1,0 +1,104 @@
+//! What a name is known as.
+
+ghost use Rattle.std.specs.Prelude.{◌≡◌};
+ghost use Rattle.syntax.specs.Typing.{is_unknown, may_be_number, may_be_array, may_be_function, takes_so_many, gives_nothing};
+ghost use Rattle.syntax.specs.Types.{number_type, element_type, call_type};
+ghost use Rattle.types.specs.Scopes.{known_of};
+
+use lex::token::Scalar;
+use std::alloc::Allocator;
+use syntax::tree::Function;
+
+/// What a name is known as.
+#[derive(Clone, Copy)]
+pub(crate) enum Symbol<'a, A: Allocator> {
+    Unknown,
+    Number(Scalar),
+    Array(Scalar, u32),
+
+    /// A function, as it was first declared.
+    Callable(&'a Function<A>),
+}
+
+impl<'a, A: Allocator> Symbol<'a, A> {
+    pub(crate) fn is_unknown(&self) -> bool
+        ensures { result ≡ is_unknown (known_of self.now) }
+    {
+        match self {
+            Symbol::Unknown => true,
+            _ => false,
+        }
+    }
+
+    pub(crate) fn may_be_number(&self) -> bool
+        ensures { result ≡ may_be_number (known_of self.now) }
+    {
+        match self {
+            Symbol::Unknown | Symbol::Number(_) => true,
+            _ => false,
+        }
+    }
+
+    pub(crate) fn may_be_array(&self) -> bool
+        ensures { result ≡ may_be_array (known_of self.now) }
+    {
+        match self {
+            Symbol::Unknown | Symbol::Array(_, _) => true,
+            _ => false,
+        }
+    }
+
+    pub(crate) fn may_be_function(&self) -> bool
+        ensures { result ≡ may_be_function (known_of self.now) }
+    {
+        match self {
+            Symbol::Unknown | Symbol::Callable(_) => true,
+            _ => false,
+        }
+    }
+
+    pub(crate) fn takes_so_many(&self, count: usize) -> bool
+        ensures { result ≡ takes_so_many (known_of self.now) count }
+    {
+        match self {
+            Symbol::Callable(f) => count == f.parameters.len(),
+            _ => true,
+        }
+    }
+
+    pub(crate) fn gives_nothing(&self) -> bool
+        ensures { result ≡ gives_nothing (known_of self.now) }
+    {
+        match self {
+            Symbol::Callable(f) => f.result.is_none(),
+            _ => false,
+        }
+    }
+
+    pub(crate) fn number_type(&self) -> Option<Scalar>
+        ensures { result ≡ number_type (known_of self.now) }
+    {
+        match self {
+            Symbol::Number(t) => Some(*t),
+            _ => None,
+        }
+    }
+
+    pub(crate) fn element_type(&self) -> Option<Scalar>
+        ensures { result ≡ element_type (known_of self.now) }
+    {
+        match self {
+            Symbol::Array(t, _) => Some(*t),
+            _ => None,
+        }
+    }
+
+    pub(crate) fn call_type(&self) -> Option<Scalar>
+        ensures { result ≡ call_type (known_of self.now) }
+    {
+        match self {
+            Symbol::Callable(f) => f.result,
+            _ => None,
+        }
+    }
+}

@@ -1,0 +1,179 @@
+//! Which programs are typed.
+
+ghost use Rattle.std.specs.Prelude.{◌≡◌, ◌≤◌, ◌++◌, ◌∷◌, [], map, codes, None, IfOk, OnOk};
+ghost use Rattle.syntax.specs.Tree as Tree;
+ghost use Rattle.syntax.specs.Views.{function_of, item_of, program_of};
+ghost use Rattle.syntax.specs.Names.{globals};
+ghost use Rattle.syntax.specs.Types.{file_scope};
+ghost use Rattle.syntax.specs.Typing.{all_cells, is_worker};
+ghost use Rattle.syntax.specs.Typing.{demand, first_unmet, IsTypedItem, AreTypedItems, AreDefined, Meets};
+ghost use Rattle.types.specs.Answers.{Answers, Checks, unmet_in};
+ghost use Rattle.types.specs.Known.{known_in, count_in};
+ghost use Rattle.types.specs.Scopes.{known_of};
+ghost use Rattle.types.specs.Bodies.{AreBodies};
+ghost use Rattle.types.specs.Found.{IsFound};
+ghost use Rattle.types.specs.Tables.{definitions_from, cells_from};
+
+use crate::fault::{Failure, TypeFault, Violation, demand};
+use crate::function::{Bodies, check_function, has_body, is_worker};
+use crate::global::check_globals;
+use crate::table::Names;
+use crate::typed::Typed;
+use containers::Items;
+use indexmap::IndexMap;
+use lex::token::Span;
+use std::alloc::{AllocError, Allocator};
+use std::hash::BuildHasherDefault;
+use syntax::tree::{Function, Item, Unit};
+
+/// The tables of a program.
+#[derive(Drop)]
+struct Tables<A: Allocator> {
+    functions: Items<usize, A>,
+    cells: Items<u32, A>,
+}
+
+/// What is found out item by item.
+#[derive(Drop)]
+struct Found<'a, A: Allocator> {
+    pub(crate) names: Names<'a, A>,
+    pub(crate) bodies: Bodies<'a, A>,
+    functions: Items<usize, A>,
+    cells: Items<u32, A>,
+    taken: u32,
+}
+
+/// The number of an item that defines a function is kept.
+fn add_number<A: Allocator>(
+    functions: &mut Items<usize, A>,
+    number: usize,
+    f: &Function<A>,
+) -> Result<(), AllocError>
+    ensures { OnOk result (functions.new ≡ functions.old ++ definitions_from number (Tree.Defines (function_of f.now) ∷ [])) }
+{
+    match f.body {
+        Some(_) => functions.push(number),
+        None => Ok(()),
+    }
+}
+
+/// An item behind earlier ones.
+fn check_item<'a, A: Allocator + Copy>(
+    found: &mut Found<'a, A>,
+    earlier: &[Item<A>],
+    item: &'a Item<A>,
+) -> Result<(), Failure>
+    requires { IsFound found.old (map item_of earlier.now) }
+    ensures answer { Answers result (IsTypedItem (map item_of earlier.now) (item_of item.now)) }
+    ensures found { OnOk result (IsFound found.new (map item_of earlier.now ++ item_of item.now ∷ [])) }
+{
+    match item {
+        Item::Function(f) => {
+            check_function(&mut found.names, &mut found.bodies, earlier, f)?;
+            add_number(&mut found.functions, earlier.len(), f)?;
+            Ok(())
+        }
+        Item::Globals(all) => {
+            check_globals(
+                &mut found.names,
+                &mut found.cells,
+                &mut found.taken,
+                earlier,
+                all.as_slice(),
+            )?;
+            Ok(())
+        }
+    }
+}
+
+/// The items in order.
+fn check_items<'a, A: Allocator + Copy>(
+    alloc: A,
+    items: &'a [Item<A>],
+) -> Result<Found<'a, A>, Failure>
+    ensures answer { Answers result (AreTypedItems [] (map item_of items.now)) }
+    ensures found { IfOk result (λ found. IsFound found (map item_of items.now)) }
+{
+    let mut found = Found {
+        names: Names::new(alloc),
+        bodies: IndexMap::with_hasher(alloc, BuildHasherDefault::new()),
+        functions: Items::new(alloc),
+        cells: Items::new(alloc),
+        taken: 0,
+    };
+    'each: for i in 0..items.len() {
+        check_item(&mut found, &items[..i], &items[i])?;
+    }
+    Ok(found)
+}
+
+/// Each function that is declared is defined.
+fn check_defined<A: Allocator + Copy>(
+    bodies: &Bodies<'_, A>,
+    items: &[Item<A>],
+) -> Result<(), Violation>
+    requires defined { AreBodies bodies.now (map item_of items.now) }
+    requires typed { None ≡ first_unmet (AreTypedItems [] (map item_of items.now)) }
+    ensures { unmet_in result ≡ first_unmet (AreDefined (map item_of items.now) [] (map item_of items.now)) }
+{
+    'each: for item in items {
+        match item {
+            Item::Function(f) => {
+                let defined = has_body(bodies, f.name.text.as_str());
+                demand(defined, Violation::NotDefined(f.name.span))?;
+            }
+            Item::Globals(_) => {}
+        }
+    }
+    Ok(())
+}
+
+/// A function that gives nothing and takes one `int` has the name `worker`.
+fn check_worker<A: Allocator + Copy>(
+    names: &Names<'_, A>,
+    items: &[Item<A>],
+    end: usize,
+) -> Result<(), Violation>
+    requires { known_in names.now ≡ file_scope (map item_of items.now) }
+    ensures { unmet_in result ≡ first_unmet (demand 28 (record { start = end; end = end }) (is_worker (file_scope (map item_of items.now) (codes "worker")))) }
+{
+    let symbol = names.look("worker");
+    let right = is_worker(&symbol);
+    demand(right, Violation::NoWorker(Span { start: end, end }))
+}
+
+/// The whole of a program, and its tables.
+fn check_program<A: Allocator + Copy>(
+    alloc: A,
+    items: &[Item<A>],
+    end: usize,
+) -> Result<Tables<A>, Failure>
+    ensures answer { Answers result (Meets end (map item_of items.now)) }
+    ensures functions { IfOk result (λ t. t.functions ≡ definitions_from 0 (map item_of items.now)) }
+    ensures cells { IfOk result (λ t. t.cells ≡ cells_from 0 (globals (map item_of items.now))) }
+{
+    let found = check_items(alloc, items)?;
+    check_defined(&found.bodies, items)?;
+    check_worker(&found.names, items, end)?;
+    Ok(Tables {
+        functions: found.functions,
+        cells: found.cells,
+    })
+}
+
+/// Checks names and types. The fault is the first rule that the program breaks, in the order of the text; then come functions
+/// that are declared and not defined, and last a missing `worker`. The program is kept in what is given, or comes back in the
+/// fault. Takes memory for the names and the tables.
+pub fn check<A: Allocator + Copy>(alloc: A, unit: Unit<A>) -> Result<Typed<A>, TypeFault<A>>
+    ensures { Checks unit result }
+{
+    match check_program(alloc, unit.items.as_slice(), unit.end) {
+        Ok(Tables { functions, cells }) => Ok(Typed {
+            unit,
+            functions,
+            cells,
+        }),
+        Err(Failure::OutOfMemory) => Err(TypeFault::OutOfMemory(unit)),
+        Err(Failure::Violation(violation)) => Err(TypeFault::IllTyped(unit, violation)),
+    }
+}

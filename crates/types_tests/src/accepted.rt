@@ -1,0 +1,56 @@
+//! Programs whose names and types are right, and their tables.
+
+use crate::checked::fault_of;
+use lex::lex;
+use parse::parse;
+use std::test::Fail;
+use types::check;
+
+const ROWS: [&str; 10] = [
+    "void worker(int self) { }",
+    "void worker(int); void worker(int self) { }",
+    // a local is known in its own initialiser, also where it hides a global or a function
+    "int a[2]; void worker(int self) { int v = v; int a = a + 1; int worker = worker; }",
+    // a scope inside hides what is outside
+    "void worker(int self) { { int self; } for (int self = 1; self; self++) { int self; } do { int k; } while (self); }",
+    // a `for` has a scope round its body's
+    "int same(int i) { return i; } void worker(int self) { for (int i; i;) { int i; same(i); } }",
+    // a value that is dropped may be none
+    "void f(void) { } void worker(int self) { f(); (f()); printf(\"%%\"); printf(\"\"); }",
+    // the types of figures
+    "unsigned u; void worker(int self) { printf(\"%d%u%d%u\", u < 1, self + u, -self, self ? u : 1); }",
+    "unsigned u; void worker(int self) { printf(\"%d%u%u\", self << u, u >> 1, (unsigned)self); }",
+    // loops in loops, and returns of both kinds
+    "int f(int a) { while (1) { do { break; } while (0); continue; } return a; } void worker(int self) { return; }",
+    "int a[4095] = {1, -2,}, b = 3; void worker(int self) { a[b] = a[a[0]]; b += 1; a[1]++; --b; }",
+];
+
+#[test]
+fn right_programs_are_accepted(rt: HostRuntime) -> Result<(), Fail> {
+    for text in ROWS {
+        assert_eq!(rt; fault_of(rt.alloc(), text), None, "{text}");
+    }
+    Ok(())
+}
+
+#[test]
+fn the_tables_name_functions_and_cells(rt: HostRuntime) -> Result<(), Fail> {
+    let text =
+        "int x, a[3]; void f(void); unsigned y; void worker(int self) { } void f(void) { } int z;";
+    let Ok(tokens) = lex(rt.alloc(), text) else {
+        assert!(rt; false);
+        return Ok(());
+    };
+    let Ok(unit) = parse(rt.alloc(), tokens.as_slice()) else {
+        assert!(rt; false);
+        return Ok(());
+    };
+    let Ok(typed) = check(rt.alloc(), unit) else {
+        assert!(rt; false);
+        return Ok(());
+    };
+    assert_eq!(rt; typed.functions(), [3, 4].as_slice());
+    assert_eq!(rt; typed.cells(), [0, 1, 4, 5].as_slice());
+    assert_eq!(rt; typed.unit().items.len(), 6);
+    Ok(())
+}

@@ -1,0 +1,21 @@
+//! A text's first fault of names and types.
+
+use lex::lex;
+use lex::token::Span;
+use parse::parse;
+use std::alloc::Allocator;
+use types::check;
+
+/// The number and the place of a text's fault. One that is no program has the number 1.
+pub fn fault_of<A: Allocator + Copy>(alloc: A, text: &str) -> Option<(u32, Option<Span>)> {
+    let Ok(tokens) = lex(alloc, text) else {
+        return Some((1, None));
+    };
+    let Ok(unit) = parse(alloc, tokens.as_slice()) else {
+        return Some((1, None));
+    };
+    match check(alloc, unit) {
+        Ok(_) => None,
+        Err(fault) => Some((fault.number(), fault.span())),
+    }
+}
