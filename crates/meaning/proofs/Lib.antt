@@ -1,0 +1,5 @@
+pub mod Entering
+pub mod Files
+pub mod Lookup
+pub mod Printed
+pub mod Stops

@@ -1,0 +1,7 @@
+-- the cells of globals, and what look-ups in a file give
+pub mod Cells
+pub mod File
+-- the state that a machine holds, and what answers say
+pub mod Machine
+-- what prints a format byte by byte
+pub mod Printing

@@ -1,0 +1,13 @@
+//! What a program's threads do, computed from the tree: what stands below expressions and statements.
+//!
+//! A thread's state is a machine, and each function does with it what the source's meaning says of the same thing. Where
+//! memory is refused, nothing is said of the machine.
+#![tactic(auto)]
+
+pub mod arithmetic;
+pub mod calls;
+pub mod machine;
+pub mod names;
+pub mod print;
+pub mod program;
+pub mod transactions;

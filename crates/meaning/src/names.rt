@@ -1,0 +1,323 @@
+//! What the names of a file stand for.
+
+ghost use Rattle.std.specs.Prelude.{◌≡◌, ◌+◌, ◌≤◌, ◌^◌, ◌++◌, ◌∷◌, List, map, option_map, IfErr};
+ghost use Rattle.std.specs.Option.{option_or};
+ghost use Rattle.syntax.specs.Tree as tree;
+ghost use Rattle.syntax.specs.Names as Names;
+ghost use Rattle.syntax.specs.Names.{globals};
+ghost use Rattle.syntax.specs.Types as Types;
+ghost use Rattle.syntax.specs.Types.{common_of, running_scope, file_scope, known_among};
+ghost use Rattle.syntax.specs.Views.{expr_of, global_of, item_of};
+ghost use Rattle.meaning.specs.Machine.{local_in, program_in};
+ghost use Rattle.meaning.specs.Cells.{total_cells};
+ghost use Rattle.meaning.specs.File.{shared_in, found_or, defined_in, known_of, known_or};
+
+use crate::arithmetic::common_type;
+use crate::machine::{Local, newest};
+use crate::program::Source;
+use lex::token::Scalar;
+use std::alloc::Allocator;
+use syntax::tree::{BinaryOp, Expr, Function, Global, Item, Name, Stmt, UnaryOp};
+
+/// The number of a global's cells.
+pub fn cells_of<A: Allocator>(g: &Global<A>) -> usize
+    ensures value { result ≡ Names.cells (global_of g.now) }
+    ensures small { result ≤ 2 ^ 32 }
+{
+    match g.length {
+        Some((n, _)) => n as usize,
+        None => 1,
+    }
+}
+
+/// A global, with its first cell.
+#[derive(Drop)]
+pub struct Shared<'p, A: Allocator> {
+    pub cell: usize,
+    pub global: &'p Global<A>,
+}
+
+/// A function's definition, with its body.
+#[derive(Drop)]
+pub struct Defined<'p, A: Allocator> {
+    pub function: &'p Function<A>,
+    pub body: &'p [Stmt<A>],
+}
+
+/// A global of a declaration, with its first cell; else the cell behind the declaration's.
+fn among<'p, A: Allocator>(
+    gs: &'p [Global<A>],
+    first: usize,
+    name: &str,
+) -> Result<Shared<'p, A>, usize>
+    requires { first + total_cells (map global_of gs.now) ≤ 2 ^ 32 }
+    ensures value { (rest : List tree.Global) → found_or result rest name.now ≡ Names.global_from first (map global_of gs.now ++ rest) name.now }
+    ensures next { IfErr result (λ n. n ≡ first + total_cells (map global_of gs.now)) }
+{
+    let mut cell = first;
+    'globals: for g in gs {
+        if g.name.text.as_str() == name {
+            return Ok(Shared { cell, global: g });
+        }
+        cell += cells_of(g);
+    }
+    Err(cell)
+}
+
+/// A global of an item, with its first cell; else the cell behind the item's.
+fn shared_by<'p, A: Allocator>(
+    item: &'p Item<A>,
+    first: usize,
+    name: &str,
+) -> Result<Shared<'p, A>, usize>
+    requires { first + total_cells (Names.shared_by (item_of item.now)) ≤ 2 ^ 32 }
+    ensures value { (rest : List tree.Global) → found_or result rest name.now ≡ Names.global_from first (Names.shared_by (item_of item.now) ++ rest) name.now }
+    ensures next { IfErr result (λ n. n ≡ first + total_cells (Names.shared_by (item_of item.now))) }
+{
+    match item {
+        Item::Function(_) => Err(first),
+        Item::Globals(gs) => among(gs.as_slice(), first, name),
+    }
+}
+
+/// A global of the file, with its first cell.
+pub fn global<'p, A: Allocator>(items: &'p [Item<A>], name: &str) -> Option<Shared<'p, A>>
+    requires { total_cells (globals (map item_of items.now)) ≤ 2 ^ 32 }
+    ensures { option_map shared_in result ≡ Names.global_of (map item_of items.now) name.now }
+{
+    let mut cell = 0;
+    'items: for item in items {
+        match shared_by(item, cell, name) {
+            Ok(found) => return Some(found),
+            Err(next) => cell = next,
+        }
+    }
+    None
+}
+
+/// The definition that an item is of a function, with its body.
+fn defined_by<'p, A: Allocator>(item: &'p Item<A>, name: &str) -> Option<Defined<'p, A>>
+    ensures { (rest : tree.Program) → Names.definition_of (item_of item.now ∷ rest) name.now ≡ option_or (option_map defined_in result) (Names.definition_of rest name.now) }
+{
+    let Item::Function(f) = item else {
+        return None;
+    };
+    let Some(body) = &f.body else {
+        return None;
+    };
+    if f.name.text.as_str() == name {
+        return Some(Defined {
+            function: f,
+            body: body.as_slice(),
+        });
+    }
+    None
+}
+
+/// A function's definition, with its body.
+pub fn definition<'p, A: Allocator>(items: &'p [Item<A>], name: &str) -> Option<Defined<'p, A>>
+    ensures { option_map defined_in result ≡ Names.definition_of (map item_of items.now) name.now }
+{
+    'items: for item in items {
+        if let Some(d) = defined_by(item, name) {
+            return Some(d);
+        }
+    }
+    None
+}
+
+/// What a name of the file is declared as.
+#[derive(Drop)]
+pub enum Symbol<'p, A: Allocator> {
+    Unknown,
+    Global(&'p Global<A>),
+    Function(&'p Function<A>),
+}
+
+/// A global of a declaration.
+fn symbol_among<'p, A: Allocator>(gs: &'p [Global<A>], name: &str) -> Option<Symbol<'p, A>>
+    ensures { (rest : Types.Scope) → known_or result (rest name.now) ≡ known_among (map global_of gs.now) rest name.now }
+{
+    'globals: for g in gs {
+        if g.name.text.as_str() == name {
+            return Some(Symbol::Global(g));
+        }
+    }
+    None
+}
+
+/// What an item declares a name as.
+fn declared_by<'p, A: Allocator>(item: &'p Item<A>, name: &str) -> Option<Symbol<'p, A>>
+    ensures { (rest : tree.Program) → known_or result (file_scope rest name.now) ≡ file_scope (item_of item.now ∷ rest) name.now }
+{
+    match item {
+        Item::Function(f) => {
+            if f.name.text.as_str() == name {
+                return Some(Symbol::Function(f));
+            }
+            None
+        }
+        Item::Globals(gs) => symbol_among(gs.as_slice(), name),
+    }
+}
+
+/// What a name is first declared as in the file.
+pub fn declared<'p, A: Allocator>(items: &'p [Item<A>], name: &str) -> Symbol<'p, A>
+    ensures { known_of result ≡ file_scope (map item_of items.now) name.now }
+{
+    'items: for item in items {
+        if let Some(found) = declared_by(item, name) {
+            return found;
+        }
+    }
+    Symbol::Unknown
+}
+
+/// The type of a variable.
+fn number_type<A: Allocator>(s: &Symbol<A>) -> Option<Scalar>
+    ensures { result ≡ Types.number_type (known_of s.now) }
+{
+    match s {
+        Symbol::Global(g) => match g.length {
+            None => Some(g.of),
+            Some(_) => None,
+        },
+        _ => None,
+    }
+}
+
+/// The type of an array's elements.
+fn element_type<A: Allocator>(s: &Symbol<A>) -> Option<Scalar>
+    ensures { result ≡ Types.element_type (known_of s.now) }
+{
+    match s {
+        Symbol::Global(g) => match g.length {
+            None => None,
+            Some(_) => Some(g.of),
+        },
+        _ => None,
+    }
+}
+
+/// The type of a function's value.
+fn call_type<A: Allocator>(s: &Symbol<A>) -> Option<Scalar>
+    ensures { result ≡ Types.call_type (known_of s.now) }
+{
+    match s {
+        Symbol::Function(f) => f.result,
+        _ => None,
+    }
+}
+
+/// The type to which two operands are converted, where both have one.
+pub fn common_if_both(s: Option<Scalar>, t: Option<Scalar>) -> Option<Scalar>
+    ensures { result ≡ common_of s t }
+{
+    match s {
+        None => None,
+        Some(s) => match t {
+            None => None,
+            Some(t) => Some(common_type(s, t)),
+        },
+    }
+}
+
+/// The type of a binary operator's result.
+fn binary_type(op: BinaryOp, s: Option<Scalar>, t: Option<Scalar>) -> Option<Scalar>
+    ensures { result ≡ Types.binary_type op s t }
+{
+    match op {
+        BinaryOp::ShiftLeft | BinaryOp::ShiftRight => s,
+        BinaryOp::Equal
+        | BinaryOp::NotEqual
+        | BinaryOp::Less
+        | BinaryOp::Greater
+        | BinaryOp::LessEqual
+        | BinaryOp::GreaterEqual => match common_if_both(s, t) {
+            None => None,
+            Some(_) => Some(Scalar::Int),
+        },
+        _ => common_if_both(s, t),
+    }
+}
+
+/// The type of a unary operator's result.
+fn unary_type(op: UnaryOp, t: Option<Scalar>) -> Option<Scalar>
+    ensures { result ≡ Types.unary_type op t }
+{
+    match op {
+        UnaryOp::Not => Some(Scalar::Int),
+        _ => t,
+    }
+}
+
+/// The type of a name that stands as a variable.
+fn variable_type<A: Allocator + Copy>(
+    source: &Source<A>,
+    locals: &[Local],
+    x: &Name<A>,
+) -> Option<Scalar>
+    ensures { result ≡ Types.number_type (running_scope (program_in source.now) (map local_in locals.now) x.now.text) }
+{
+    match newest(locals, x.text.as_str()) {
+        Some((_, t)) => Some(t),
+        None => number_type(&declared(source.unit.items.as_slice(), x.text.as_str())),
+    }
+}
+
+/// The type of the elements of a name that stands as an array.
+fn array_type<A: Allocator + Copy>(
+    source: &Source<A>,
+    locals: &[Local],
+    x: &Name<A>,
+) -> Option<Scalar>
+    ensures { result ≡ Types.element_type (running_scope (program_in source.now) (map local_in locals.now) x.now.text) }
+{
+    match newest(locals, x.text.as_str()) {
+        Some(_) => None,
+        None => element_type(&declared(source.unit.items.as_slice(), x.text.as_str())),
+    }
+}
+
+/// The type of the value of a name that stands as a function.
+fn value_type<A: Allocator + Copy>(
+    source: &Source<A>,
+    locals: &[Local],
+    f: &Name<A>,
+) -> Option<Scalar>
+    ensures { result ≡ Types.call_type (running_scope (program_in source.now) (map local_in locals.now) f.now.text) }
+{
+    match newest(locals, f.text.as_str()) {
+        Some(_) => None,
+        None => call_type(&declared(source.unit.items.as_slice(), f.text.as_str())),
+    }
+}
+
+/// The type of an expression while these locals live.
+pub fn type_of<A: Allocator + Copy>(
+    source: &Source<A>,
+    locals: &[Local],
+    e: &Expr<A>,
+) -> Option<Scalar>
+    ensures { result ≡ Types.type_of (running_scope (program_in source.now) (map local_in locals.now)) (expr_of e.now) }
+{
+    match e {
+        Expr::Variable(x) => variable_type(source, locals, x),
+        Expr::Constant(_, t, _) => Some(*t),
+        Expr::Element(x, _, _) => array_type(source, locals, x),
+        Expr::Call(f, _, _) => value_type(source, locals, f),
+        Expr::Parenthesized(e, _) => type_of(source, locals, e.get()),
+        Expr::Cast(t, _, _) => Some(*t),
+        Expr::Unary(op, e, _) => unary_type(*op, type_of(source, locals, e.get())),
+        Expr::Binary(op, a, b, _) => binary_type(
+            *op,
+            type_of(source, locals, a.get()),
+            type_of(source, locals, b.get()),
+        ),
+        Expr::Logical(_, _, _, _) => Some(Scalar::Int),
+        Expr::Conditional(_, a, b, _) => common_if_both(
+            type_of(source, locals, a.get()),
+            type_of(source, locals, b.get()),
+        ),
+    }
+}

@@ -1,0 +1,129 @@
+//! What a `printf` prints, piece by piece.
+
+ghost use Rattle.std.specs.Fmt.{signed_decimal};
+ghost use Rattle.std.specs.Prelude.{◌<◌, length, drop};
+ghost use Rattle.syntax.specs.Actions as act;
+ghost use Rattle.syntax.specs.Formats.{pieces};
+ghost use Rattle.syntax.specs.Meaning as meaning;
+ghost use Rattle.syntax.specs.Numbers as numbers;
+ghost use Rattle.meaning.specs.Machine.{Means, state_in};
+ghost use Rattle.meaning.specs.Printing.{pushed, figure, IsAt};
+
+use crate::arithmetic::number;
+use crate::machine::{Context, Halted, Machine, tick};
+use itoa::Buffer;
+use lex::token::Scalar;
+use std::alloc::Allocator;
+use syntax::numbers::{Halt, Value};
+use syntax::tree::Mode;
+
+/// Inside an atomic transaction nothing is printed.
+pub fn may_print<A: Allocator>(m: &Machine<A>) -> Result<(), Halted>
+    ensures { Means result (act.may_print (state_in m.now)) (state_in m.now) }
+{
+    match &m.context {
+        Context::Outside(_, _) => Ok(()),
+        Context::Inside(mode, _) => match mode {
+            Mode::Atomic => Err(Halted::By(Halt::Astray)),
+            Mode::Relaxed => Ok(()),
+        },
+    }
+}
+
+/// One byte of a literal piece: the piece's tick goes before its first byte.
+fn put_byte<A: Allocator>(m: &mut Machine<A>, begun: bool, c: u8) -> Result<(), Halted>
+    ensures { Means result (pushed begun c (state_in m.old)) (state_in m.new) }
+{
+    if !begun {
+        tick(m)?;
+    }
+    m.text.push(c)?;
+    Ok(())
+}
+
+/// The number that a figure prints, as a piece of its own.
+fn put_number<A: Allocator>(m: &mut Machine<A>, t: Scalar, v: Value) -> Result<(), Halted>
+    ensures { Means result (act.print_piece (signed_decimal (numbers.number t v.word)) (state_in m.old)) (state_in m.new) }
+{
+    tick(m)?;
+    let mut buffer = Buffer::new();
+    let text = buffer.format(number(Value {
+        of: t,
+        word: v.word,
+    }));
+    m.text.extend_from_slice(text.as_bytes())?;
+    Ok(())
+}
+
+/// The next value of a figure.
+fn put_figure<A: Allocator>(
+    m: &mut Machine<A>,
+    t: Scalar,
+    values: &[Value],
+    k: usize,
+) -> Result<(), Halted>
+    ensures { Means result (figure t (drop k values.now) (state_in m.old)) (state_in m.new) }
+{
+    match values.get(k) {
+        Some(v) => put_number(m, t, *v),
+        None => Err(Halted::By(Halt::Astray)),
+    }
+}
+
+/// What stands at a place of a format: a byte of literal text, with the place behind it, or a figure of two bytes.
+enum Unit {
+    Byte(u8, usize),
+    Number(Scalar),
+}
+
+/// What stands at a place of a format.
+fn unit_at(format: &[u8], i: usize) -> Unit
+    requires { i < length format.now }
+    ensures { IsAt result format.now i }
+{
+    let a = format[i];
+    if a != b'%' {
+        return Unit::Byte(a, i + 1);
+    }
+    if format.len() - i == 1 {
+        return Unit::Byte(a, i + 1);
+    }
+    let b = format[i + 1];
+    if b == b'd' {
+        return Unit::Number(Scalar::Int);
+    }
+    if b == b'u' {
+        return Unit::Number(Scalar::Unsigned);
+    }
+    Unit::Byte(b, i + 2)
+}
+
+/// The pieces of a format, with these values for its figures.
+pub fn print_pieces<A: Allocator>(
+    m: &mut Machine<A>,
+    format: &[u8],
+    values: &[Value],
+) -> Result<(), Halted>
+    ensures { Means result (meaning.print_pieces (pieces format.now) values.now (state_in m.old)) (state_in m.new) }
+{
+    let mut begun = false;
+    let mut k = 0;
+    let mut i = 0;
+    'bytes: while i < format.len() {
+        match unit_at(format, i) {
+            Unit::Byte(c, next) => {
+                put_byte(m, begun, c)?;
+                begun = true;
+                i = next;
+                continue;
+            }
+            Unit::Number(t) => {
+                put_figure(m, t, values, k)?;
+                begun = false;
+                k += 1;
+                i += 2;
+            }
+        }
+    }
+    Ok(())
+}
