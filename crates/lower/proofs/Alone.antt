@@ -7,7 +7,7 @@ use Rattle.lex.specs.declared.token.Scalar.{Scalar}
 use Rattle.lex.specs.declared.token.Scalar.TheVariants.{Unsigned}
 use Rattle.syntax.specs.declared.numbers.Trap.{Trap}
 use Rattle.syntax.specs.declared.numbers.Value.{Value}
-use Rattle.syntax.specs.declared.numbers.Stop.TheVariants as StopIs
+use Rattle.syntax.specs.declared.numbers.Halt.TheVariants as StopIs
 use Rattle.syntax.specs.Tree.{Stmt, Stmts, Function, Program}
 use Rattle.syntax.specs.Views.{stmts_from}
 use Rattle.syntax.specs.Names as Names

@@ -6,7 +6,7 @@ use Rattle.lex.specs.declared.token.Scalar.{Scalar}
 use Rattle.lex.specs.declared.token.Scalar.TheVariants.{Int, Unsigned}
 use Rattle.syntax.specs.Tree.{Name, Parameter}
 use Rattle.syntax.specs.Numbers.{converted}
-use Rattle.syntax.specs.Meaning.{with_first, entered}
+use Rattle.syntax.specs.Meaning.{entered}
 use Rattle.lower.specs.StraightLine.{IsOneNumber}
 use Rattle.lower.specs.Lowering.{Each, only, parameter_in}
 
@@ -32,7 +32,7 @@ each_all R f vs i ys e h = subst (λ us. Each R (map f us) ys) e h
 -- the worker's argument, as its one local
 
 one_enters : (t : Scalar) (x : Option Name) → t ≡ Int → IsSome x →
-    with_first (option_map (λ (n : Name). record { name = n.text; of = t; word = (converted t (record { of = Unsigned; word = 0 })).word }) x) (Some []) ≡ Some (only (unwrap_or (option_map (λ (n : Name). n.text) x) []) 0)
+    Some (unwrap_or (option_map (λ (n : Name). record { name = n.text; of = t; word = (converted t (record { of = Unsigned; word = 0 })).word } ∷ []) x) [] ++ []) ≡ Some (only (unwrap_or (option_map (λ (n : Name). n.text) x) []) 0)
 one_enters Int None e h = absurd cc
 one_enters Int (Some x) e h = refl
 one_enters Unsigned x e h = absurd cc

@@ -1,5 +1,5 @@
 -- The source's meaning of a transaction's parts, beside what their code computes.
-use Rattle.std.proofs.Common.{◌≡◌, ℕ, zero, suc, Bool, true, false, List, [], ◌∷◌, ◌++◌, take, Option, Some, None, refl, sym, ap, ◌∙◌}
+use Rattle.std.proofs.Common.{◌≡◌, ℕ, zero, suc, ◌<◌, ◌^◌, Bool, true, false, List, [], ◌∷◌, ◌++◌, take, Option, Some, None, refl, sym, ap, ◌∙◌}
 use Rattle.std.specs.Prelude.{Result, Ok, Err, option_map, if◌then◌else◌, bytes_eq}
 use Rattle.lex.specs.declared.token.Span.{Span}
 use Rattle.lex.specs.declared.token.Scalar.{Scalar}
@@ -9,9 +9,10 @@ use Rattle.syntax.specs.declared.tree.BinaryOp.{BinaryOp}
 use Rattle.syntax.specs.declared.tree.Mode.TheVariants.{Atomic}
 use Rattle.syntax.specs.declared.numbers.Trap.{Trap}
 use Rattle.syntax.specs.declared.numbers.Value.{Value}
-use Rattle.syntax.specs.declared.numbers.Stop.TheVariants.{Trapped}
+use Rattle.syntax.specs.declared.numbers.Halt.TheVariants.{Trapped}
 use Rattle.syntax.specs.Numbers.{binary}
 use Rattle.syntax.specs.Names.{GlobalCells, global_of}
+use Rattle.syntax.proofs.Words.{word_of_word}
 use Rattle.syntax.specs.Tree as Tree
 use Rattle.syntax.specs.Tree.{Name, Expr, Simple, Stmt, Stmts, Variable, Assign, Binary, Transaction, Do, Program}
 use Rattle.syntax.specs.Views.{stmts_from}
@@ -76,9 +77,9 @@ module _ (p : Program) (x : List ℕ) where
   pub variable_means : (y : Name) (place : Place) → place_of p x y.text ≡ Some place → ((g : GlobalCells) → global_of p y.text ≡ Some g → g.global.of ≡ Int) → AtomMeans p x (Variable y) (AtomIs.Variable place)
   variable_means y place e ints call n d = ap (λ a. go_on a fetch) (target_means y place e ints call n d) ∙ fetched place n d
 
-  pub constant_means : (m : ℕ) (t : Scalar) (at : Span) → IsAtom (Tree.Constant m t at) → AtomMeans p x (Tree.Constant m t at) (AtomIs.Constant m)
-  constant_means m Int at h = λ call n d. refl
-  constant_means m Unsigned at h = absurd h
+  pub constant_means : (m : ℕ) (t : Scalar) (at : Span) → m < 2 ^ 32 → IsAtom (Tree.Constant m t at) → AtomMeans p x (Tree.Constant m t at) (AtomIs.Constant m)
+  constant_means m Int at below h = λ call n d. ap (λ w. Gives (int w) (inside x n d)) (word_of_word m below)
+  constant_means m Unsigned at below h = absurd h
 
   -- sums
   joined : (call : Caller) (op : BinaryOp) (b : Expr) (a : Atom) → AtomMeans p x b a → (n : ℕ) (d : Data) (r : Result Value Trap) → go_on (or_trap r (inside x n d)) (λ v. expr p call b >>= λ w. or_trap (binary op v w)) ≡ or_trap (on_ok r (λ v. binary op v (int (atom_in a d)))) (inside x n d)

@@ -11,7 +11,8 @@ use Rattle.syntax.specs.Tree as Tree
 use Rattle.syntax.specs.Tree.{Name, Expr, Simple, Stmt, Stmts, Parameter, Function, Global, Item, Defines, Shares, Program}
 use Rattle.syntax.specs.Names.{GlobalCells, globals, cells, global_from, global_of, definition_of, defined}
 use Rattle.syntax.specs.Types.{Known, Unknown, Number, Array, Callable, Scope, file_scope, known_among, known_global, known_function, with_number, number_type}
-use Rattle.syntax.specs.Typing.{IsTyped, IsTypedTarget, IsAssignable, IsTypedSimple, AreTypedStmts, IsTypedBody, IsTypedFunction, AreTypedGlobals, AreTypedItems, IsTypedProgram, is_worker, is_unknown, may_be_number, all_cells, with_parameters, parameter_names}
+use Rattle.syntax.specs.Typing.{is_worker, is_unknown, may_be_number, all_cells, with_parameters, parameter_names}
+use Rattle.lower.specs.Typing.{IsTyped, IsTypedTarget, IsAssignable, IsTypedSimple, AreTypedStmts, IsTypedBody, IsTypedFunction, AreTypedGlobals, AreTypedItems, IsTypedProgram}
 use Rattle.lower.specs.StraightLine.{IsSum, IsVariable, IsAssigned, AreAssignments, AreTransactions, IsStraightBody, IsOneNumber, IsStraightFunction, AreSingle, IsStraightLine}
 use Rattle.lower.specs.declared.code.Place.TheVariants.{Cell, Local}
 use Rattle.lower.specs.Lowering.{place_of, IsPlaced, IsPlacedSimple, ArePlaced, IsPlacedFunction, parameter_in, worker_in}

@@ -3,7 +3,8 @@ use Rattle.std.specs.Prelude.{◌≡◌, ℕ, List, []}
 use Rattle.syntax.specs.Tree.{Program}
 use Rattle.syntax.specs.Names.{initial_memory}
 use Rattle.syntax.specs.Threads.{IsSourceRun, StandsInSource}
-use Rattle.syntax.specs.Behaviours.{Memory, Step, Status, last_memory}
+use Rattle.syntax.specs.declared.numbers.Status.{Status}
+use Rattle.syntax.specs.Behaviours.{Memory, Step, last_memory}
 use Rattle.lower.specs.declared.code.Code.{Code}
 use Rattle.lower.specs.Code.{last_of, status_of, AreWords}
 

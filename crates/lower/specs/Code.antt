@@ -6,7 +6,9 @@ use Rattle.syntax.specs.declared.tree.BinaryOp.TheVariants.{Add, Subtract}
 use Rattle.syntax.specs.declared.numbers.Value.{Value}
 use Rattle.syntax.specs.declared.numbers.Trap.{Trap}
 use Rattle.syntax.specs.Numbers.{converted, binary}
-use Rattle.syntax.specs.Behaviours.{Memory, Status, HasEnded, HasTrapped}
+use Rattle.syntax.specs.declared.numbers.Status.{Status}
+use Rattle.syntax.specs.declared.numbers.Status.TheVariants.{Ended as HasEnded, Trapped as HasTrapped}
+use Rattle.syntax.specs.Behaviours.{Memory}
 use Rattle.lower.specs.declared.code.Place.{Place}
 use Rattle.lower.specs.declared.code.Place.TheVariants.{Cell, Local}
 use Rattle.lower.specs.declared.code.Atom.{Atom}

@@ -1,3 +1,4 @@
+pub mod Typing
 pub mod StraightLine
 pub mod Code
 pub mod Alone

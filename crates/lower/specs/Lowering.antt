@@ -3,7 +3,7 @@ use Rattle.std.specs.Prelude.{◌≡◌, ℕ, zero, suc, unwrap_or, IsSome, List
 use Rattle.lex.specs.declared.token.Scalar.TheVariants.{Int, Unsigned}
 use Rattle.syntax.specs.declared.tree.Mode.TheVariants.{Atomic}
 use Rattle.syntax.specs.declared.numbers.Trap.{Trap}
-use Rattle.syntax.specs.declared.numbers.Stop.TheVariants.{Trapped}
+use Rattle.syntax.specs.declared.numbers.Halt.TheVariants.{Trapped}
 use Rattle.syntax.specs.Tree as Tree
 use Rattle.syntax.specs.Tree.{Expr, Simple, Stmt, Stmts, Parameter, Function, Program}
 use Rattle.syntax.specs.Views.{stmts_from}
@@ -29,10 +29,10 @@ only x w = record { name = x; of = Int; word = w } ∷ []
 
 -- inside a transaction, and outside
 abbrev pub inside : List ℕ → ℕ → Data → State
-inside x n d = record { ticks = n; locals = only x d.local; place = Inside Atomic d.memory; text = [] }
+inside x n d = record { ticks = n; locals = only x d.local; context = Inside Atomic d.memory; text = [] }
 
 abbrev pub outside : List ℕ → ℕ → ℕ → (founds lefts : List Memory) → State
-outside x n w founds lefts = record { ticks = n; locals = only x w; place = Outside founds lefts; text = [] }
+outside x n w founds lefts = record { ticks = n; locals = only x w; context = Outside founds lefts; text = [] }
 
 -- n ticks and k further ones
 abbrev pub added : ℕ → ℕ → ℕ

@@ -9,7 +9,8 @@ use Rattle.syntax.specs.Tree.{Name, Item, Global, Function, Parameter, Stmts, Pr
 use Rattle.syntax.specs.Names.{definition_of, defined}
 use Rattle.syntax.specs.Types.{Known, Unknown, Number, Array, Callable, Scope, known_global, known_function, known_among, file_scope, with_number}
 use Rattle.lower.specs.StraightLine.{AreSingle, IsOneNumber, IsStraightBody, IsStraightFunction, IsStraightLine}
-use Rattle.syntax.specs.Typing.{is_unknown, is_worker, may_be_function, defined_names, with_parameters, parameter_names, AreTypedStmts, IsTypedBody, IsTypedFunction, IsTypedItem, AreTypedItems, AreDefined}
+use Rattle.syntax.specs.Typing.{is_unknown, is_worker, may_be_function, defined_names, with_parameters, parameter_names}
+use Rattle.lower.specs.Typing.{AreTypedStmts, IsTypedBody, IsTypedFunction, IsTypedItem, AreTypedItems, AreDefined}
 use Rattle.txc.specs.declared.check.Symbol.TheVariants as symbol
 use Rattle.txc.specs.Checks.{symbol_of, scope, AreShared, IsLast}
 

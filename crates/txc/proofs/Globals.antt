@@ -11,7 +11,8 @@ use Rattle.syntax.specs.Tree.{Item, Global, Shares, Defines}
 use Rattle.syntax.specs.Names.{cells}
 use Rattle.syntax.specs.Types.{Known, Unknown, Number, Array, Callable, file_scope}
 use Rattle.lower.specs.StraightLine.{IsOneFirst, IsSingle}
-use Rattle.syntax.specs.Typing.{HaveCells, is_unknown, AreTypedGlobals, IsTypedItem, AreTypedItems, all_cells}
+use Rattle.syntax.specs.Typing.{is_unknown, all_cells}
+use Rattle.lower.specs.Typing.{HaveCells, AreTypedGlobals, IsTypedItem, AreTypedItems}
 use Rattle.txc.specs.declared.check.CheckFault.{CheckFault}
 use Rattle.txc.specs.declared.check.Symbol.TheVariants as symbol
 use Rattle.txc.specs.Checks.{every, that, Leaves, symbol_of, IsTypedGlobal, AreShared}

@@ -19,7 +19,8 @@ use Rattle.syntax.specs.Tree.{Expr, Simple, Stmt, Stmts, Assign, Do, Transaction
 use Rattle.syntax.specs.Views.{expr_of, expr_step, stmt_of, stmt_step, stmts_of}
 use Rattle.syntax.specs.Types.{Scope}
 use Rattle.lower.specs.StraightLine.{IsVariable, IsSum, IsAssigned, IsAssignment, AreAssignments, IsStraightTransaction}
-use Rattle.syntax.specs.Typing.{scope_after, names_of, IsTypedStmt, AreTypedStmts}
+use Rattle.syntax.specs.Typing.{scope_after, names_of}
+use Rattle.lower.specs.Typing.{IsTypedStmt, AreTypedStmts}
 use Rattle.txc.specs.declared.check.CheckFault.{CheckFault}
 use Rattle.txc.specs.Checks.{every, that, Leaves}
 use Rattle.txc.proofs.Steps.{drop_here}
@@ -66,7 +67,7 @@ alone_layer {A} (Stmt-F.If c a None) h other = rw (fold-roll-Stmt A Stmt stmt_st
 alone_layer {A} (Stmt-F.If c a (Some b)) h other = rw (fold-roll-Stmt A Stmt stmt_step (Stmt-F.If c a (Some b))) at h
 alone_layer {A} (Stmt-F.While c s) h other = rw (fold-roll-Stmt A Stmt stmt_step (Stmt-F.While c s)) at h
 alone_layer {A} (Stmt-F.DoWhile s c) h other = rw (fold-roll-Stmt A Stmt stmt_step (Stmt-F.DoWhile s c)) at h
-alone_layer {A} (Stmt-F.For start c step s) h other = rw (fold-roll-Stmt A Stmt stmt_step (Stmt-F.For start c step s)) at h
+alone_layer {A} (Stmt-F.For head s) h other = rw (fold-roll-Stmt A Stmt stmt_step (Stmt-F.For head s)) at h
 alone_layer {A} (Stmt-F.Break at) h other = rw (fold-roll-Stmt A Stmt stmt_step (Stmt-F.Break at)) at h
 alone_layer {A} (Stmt-F.Continue at) h other = rw (fold-roll-Stmt A Stmt stmt_step (Stmt-F.Continue at)) at h
 alone_layer {A} (Stmt-F.Return e at) h other = rw (fold-roll-Stmt A Stmt stmt_step (Stmt-F.Return e at)) at h
@@ -90,7 +91,7 @@ encloses_layer {A} (Stmt-F.If c a None) h other = rw (fold-roll-Stmt A Stmt stmt
 encloses_layer {A} (Stmt-F.If c a (Some b)) h other = rw (fold-roll-Stmt A Stmt stmt_step (Stmt-F.If c a (Some b))) at h
 encloses_layer {A} (Stmt-F.While c s) h other = rw (fold-roll-Stmt A Stmt stmt_step (Stmt-F.While c s)) at h
 encloses_layer {A} (Stmt-F.DoWhile s c) h other = rw (fold-roll-Stmt A Stmt stmt_step (Stmt-F.DoWhile s c)) at h
-encloses_layer {A} (Stmt-F.For start c step s) h other = rw (fold-roll-Stmt A Stmt stmt_step (Stmt-F.For start c step s)) at h
+encloses_layer {A} (Stmt-F.For head s) h other = rw (fold-roll-Stmt A Stmt stmt_step (Stmt-F.For head s)) at h
 encloses_layer {A} (Stmt-F.Break at) h other = rw (fold-roll-Stmt A Stmt stmt_step (Stmt-F.Break at)) at h
 encloses_layer {A} (Stmt-F.Continue at) h other = rw (fold-roll-Stmt A Stmt stmt_step (Stmt-F.Continue at)) at h
 encloses_layer {A} (Stmt-F.Return e at) h other = rw (fold-roll-Stmt A Stmt stmt_step (Stmt-F.Return e at)) at h

@@ -12,7 +12,8 @@ use Rattle.syntax.specs.Views.{expr_of, expr_step}
 use Rattle.syntax.specs.Tree.{Expr, Call, Parenthesized, Binary}
 use Rattle.syntax.specs.Types.{Scope}
 use Rattle.lower.specs.StraightLine.{IsAtom, IsSum}
-use Rattle.syntax.specs.Typing.{is_void, IsTyped, GivesNumber}
+use Rattle.syntax.specs.Typing.{is_void}
+use Rattle.lower.specs.Typing.{IsTyped, GivesNumber}
 use Rattle.txc.specs.Checks.{every}
 
 pub atom_is_sum : (e : Expr) → IsAtom e → IsSum e

@@ -5,7 +5,8 @@ use Rattle.lex.specs.declared.token.Scalar.TheVariants.{Int}
 use Rattle.syntax.specs.Tree.{Item, Defines, Shares, Global}
 use Rattle.syntax.specs.Names.{cells}
 use Rattle.lower.specs.StraightLine.{AreSingle, IsStraightFunction}
-use Rattle.syntax.specs.Typing.{Demand, IsLength, HaveCells, is_unknown}
+use Rattle.syntax.specs.Typing.{is_unknown}
+use Rattle.lower.specs.Typing.{Demand, IsLength, HaveCells}
 use Rattle.syntax.specs.Types.{Known, Unknown, Number, Callable, Scope, file_scope, with_number}
 use Rattle.syntax.specs.Types as Types
 use Rattle.txc.specs.declared.check.CheckFault.{CheckFault}

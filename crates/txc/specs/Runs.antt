@@ -4,11 +4,12 @@ use Rattle.lex.specs.declared.token.Span.{Span}
 use Rattle.lex.specs.Faults as lex
 use Rattle.parse.specs.Faults as parse
 use Rattle.lex.specs.Tokens.{Tok}
-use Rattle.lex.specs.Cutting.{IsLexed, IsFault}
+use Rattle.lex.specs.Pieces.{IsLexed}
+use Rattle.lex.specs.Faults.{IsFault}
 use Rattle.syntax.specs.Tree.{Program}
 use Rattle.syntax.specs.Behaviours.{Memory}
 use Rattle.syntax.specs.Grammar.{Source, Spells}
-use Rattle.syntax.specs.Typing.{IsTypedProgram, BreaksRule}
+use Rattle.lower.specs.Typing.{IsTypedProgram, BreaksRule}
 use Rattle.parse.specs.Faults.{IsFaultOf}
 use Rattle.lower.specs.declared.code.End.{End}
 use Rattle.lower.specs.declared.code.End.TheVariants.{Ended, Trapped}

@@ -7,7 +7,8 @@ ghost use Rattle.syntax.specs.Views.{program_of, item_of, global_of, name_of, ex
 ghost use Rattle.syntax.specs.Names.{cells};
 ghost use Rattle.syntax.specs.Types.{known_global, known_among, file_scope};
 ghost use Rattle.lower.specs.StraightLine.{IsAtom, IsSum, IsVariable, IsAssigned, IsAssignment, AreAssignments, IsStraightTransaction, AreTransactions, IsSingle, AreSingle, IsStraightFunction, IsStraightLine};
-ghost use Rattle.syntax.specs.Typing.{IsTyped, IsTypedSimple, IsTypedStmt, AreTypedStmts, IsTypedTarget, IsAssignable, AreTypedGlobals, IsTypedItem, AreTypedItems, all_cells, is_worker, IsTypedFunction, Demand, IsTypedProgram, BreaksRule};
+ghost use Rattle.syntax.specs.Typing.{all_cells, is_worker};
+ghost use Rattle.lower.specs.Typing.{IsTyped, IsTypedSimple, IsTypedStmt, AreTypedStmts, IsTypedTarget, IsAssignable, AreTypedGlobals, IsTypedItem, AreTypedItems, IsTypedFunction, Demand, IsTypedProgram, BreaksRule};
 ghost use Rattle.txc.specs.Checks.{Checked, IsTypedGlobal, AreShared, IsLast, scope, symbol_of, number_in, span_in};
 
 use lex::token::Span;
@@ -253,7 +254,7 @@ fn check_simple<A: Allocator>(
 {
     match simple {
         Simple::Assign(target, _, sum) => check_assign(items, parameter, target, sum),
-        Simple::Value(_) | Simple::Step(_, _) => Ok(()),
+        Simple::Evaluate(_) | Simple::Adjust(_, _) => Ok(()),
     }
 }
 

@@ -12,12 +12,15 @@ pub enum Request {
     Run { file: String },
 }
 
+/// The version that `txc --version` prints.
+const VERSION: &str = "0.1.0";
+
 /// Why words are not a request.
 #[derive(Debug, Drop, Error)]
 pub enum UsageFault {
     #[error("out of memory")]
     OutOfMemory(#[from(alloc)] AllocError),
-    /// Help was asked for; this is its text.
+    /// Help or the version was asked for; this is its text.
     #[error("{text}")]
     Help { text: String },
     /// The words are no command line of the program; this says why.
@@ -45,6 +48,7 @@ fn program<'a>(alloc: Global) -> Result<Command<'a>, AllocError> {
         .about("Runs a program with one thread, and prints its end and its globals")
         .arg(file)?;
     Command::new(alloc, "txc")
+        .version(VERSION)
         .about("A compiler and a machine for C programs with transactions")
         .subcommand_required(true)
         .subcommand(run)
@@ -68,6 +72,7 @@ pub fn command(alloc: Global, words: &[&str]) -> Result<Request, UsageFault> {
     }
 }
 
+/// The request of words that the program's commands have.
 fn request_of(alloc: Global, matches: &ArgMatches<'_>) -> Result<Request, UsageFault> {
     match matches.subcommand() {
         Some(("run", given)) => match given.get_str("FILE") {
@@ -80,6 +85,7 @@ fn request_of(alloc: Global, matches: &ArgMatches<'_>) -> Result<Request, UsageF
     }
 }
 
+/// Words that are no command line, and why.
 fn wrong(alloc: Global, text: &str) -> UsageFault {
     match String::from_str(alloc, text) {
         Ok(text) => UsageFault::Wrong { text },

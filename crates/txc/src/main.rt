@@ -3,11 +3,14 @@
 
 mod check;
 mod command;
+#[cfg(test)]
+mod fault_tests;
 mod report;
 mod run;
 mod serve;
 #[cfg(test)]
 mod tests;
+mod words;
 
 use command::{Request, UsageFault, command};
 use serve::{ENDED, UNUSABLE, cannot_read, cannot_write, out_of_memory, print, serve};

@@ -30,6 +30,7 @@ pub fn report<A: Allocator + Copy>(
     Ok(text)
 }
 
+/// How an end is told.
 fn end_words(end: End) -> &'static str
     ensures { result.now ≡ end_text end }
 {
@@ -43,6 +44,7 @@ fn end_words(end: End) -> &'static str
     }
 }
 
+/// Adds a line for each global of the items.
 fn push_items<A: Allocator>(
     text: &mut String<A>,
     items: &[Item<A>],
@@ -80,6 +82,7 @@ fn push_globals<'a, A: Allocator>(
     Ok(rest)
 }
 
+/// Adds the line of a global.
 fn push_global<A: Allocator>(
     text: &mut String<A>,
     global: &Global<A>,
@@ -102,6 +105,7 @@ fn split(words: &[u64], count: usize) -> (&[u64], &[u64])
     words.split_at(count.min(words.len()))
 }
 
+/// How many cells a global has.
 fn cell_count<A: Allocator>(global: &Global<A>) -> usize
     ensures { result ≡ cells (global_of global.now) }
 {
@@ -111,6 +115,7 @@ fn cell_count<A: Allocator>(global: &Global<A>) -> usize
     }
 }
 
+/// Adds the numbers that words stand for, with a space before each.
 fn push_values<A: Allocator>(
     text: &mut String<A>,
     of: Scalar,

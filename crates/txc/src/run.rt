@@ -3,7 +3,7 @@
 ghost use Rattle.std.specs.Prelude.{◌≡◌, IfOk, IfErr, string_bytes};
 ghost use Rattle.syntax.specs.Views.{program_of};
 ghost use Rattle.lower.specs.StraightLine.{IsStraightLine};
-ghost use Rattle.syntax.specs.Typing.{IsTypedProgram};
+ghost use Rattle.lower.specs.Typing.{IsTypedProgram};
 ghost use Rattle.parse.specs.Faults.{source_of};
 ghost use Rattle.lower.specs.declared.code.End.{End};
 ghost use Rattle.txc.specs.Runs.{IsSourceOf, IsReportOf, Reports, IsFaultOfText, number_of_run, span_of_run};

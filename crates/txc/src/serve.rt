@@ -6,17 +6,15 @@ ghost use Rattle.txc.specs.Runs.{exit_status, Prints};
 
 use crate::command::Request;
 use crate::run::{RunTextFault, run_source};
-use lex::place;
+use crate::words::words;
+use lex::{MOST_BYTES, place};
 use lower::End;
 use std::alloc::Allocator;
 use std::io;
 use std::io::{ErrorKind, Read, Write};
 
-/// The most bytes that a source may have.
-const MOST_BYTES: usize = 1048576;
-
 /// One byte more than a source may have.
-const BEYOND_MOST_BYTES: u64 = 1048577;
+const BEYOND_MOST_BYTES: u64 = MOST_BYTES as u64 + 1;
 
 /// The exit status of a run that ended.
 pub const ENDED: u8 = 0;
@@ -78,7 +76,7 @@ pub fn serve<A: Allocator + Copy, R: Read + Drop, S: Read + Drop, W: Write, E: W
             UNUSABLE
         }
         Ok(Source::TooLong) => {
-            let _ = writeln!(err, "txc: fault 05 at 1:1: file too long");
+            let _ = writeln!(err, "txc: fault 05 at 1:1: {}", words(5));
             REFUSED
         }
         Err(error) => match error.kind() {
@@ -115,6 +113,7 @@ pub fn print<W: Write>(text: &str, out: &mut W) -> io::Result<()>
     out.flush()
 }
 
+/// The exit status of a run by its end.
 fn status_of(end: End) -> u8
     ensures { result ≡ exit_status end }
 {
@@ -134,7 +133,11 @@ fn refuse<E: Write>(text: &str, fault: RunTextFault, err: &mut E) -> u8
     match (fault.span(), number) {
         (Some(span), _) => {
             let (line, column) = place(text, span.start.min(text.len()));
-            let _ = writeln!(err, "txc: fault {number:02} at {line}:{column}: {fault}");
+            let _ = writeln!(
+                err,
+                "txc: fault {number:02} at {line}:{column}: {}",
+                words(number)
+            );
             REFUSED
         }
         (None, 0) => out_of_memory(err),

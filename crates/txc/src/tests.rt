@@ -11,13 +11,18 @@ use std::test::Fail;
 
 /// What serving a source gives: the status, the output and the standard error.
 #[derive(Drop)]
-struct Served<A: Allocator> {
-    status: u8,
-    out: Vec<u8, A>,
-    err: Vec<u8, A>,
+pub(crate) struct Served<A: Allocator> {
+    pub(crate) status: u8,
+    pub(crate) out: Vec<u8, A>,
+    pub(crate) err: Vec<u8, A>,
 }
 
-fn serve_bytes<A: Allocator + Copy>(alloc: A, request: &Request, source: &[u8]) -> Served<A> {
+/// Serves a source out of memory.
+pub(crate) fn serve_bytes<A: Allocator + Copy>(
+    alloc: A,
+    request: &Request,
+    source: &[u8],
+) -> Served<A> {
     let mut out = Vec::new(alloc);
     let mut err = Vec::new(alloc);
     let status = serve(alloc, request, source, b"".as_slice(), &mut out, &mut err);
@@ -73,13 +78,17 @@ fn reads_words(rt: HostRuntime) -> Result<(), Fail> {
     assert!(rt; matches!(&none, Err(UsageFault::Wrong { .. })));
     let help = command(rt.alloc(), ["txc", "--help"].as_slice());
     assert!(rt; matches!(&help, Err(UsageFault::Help { .. })));
+    let version = command(rt.alloc(), ["txc", "--version"].as_slice());
+    assert!(rt;
+        matches!(&version, Err(UsageFault::Help { text }) if text.as_str() == "txc 0.1.0\n")
+    );
     Ok(())
 }
 
 #[test]
 fn serves_sources(rt: HostRuntime) -> Result<(), Fail> {
     let request = command(rt.alloc(), ["txc", "run", "a.c"].as_slice())?;
-    let rows: [(&[u8], u8, &[u8], &[u8]); 10] = [
+    let rows: [(&[u8], u8, &[u8], &[u8]); 5] = [
         (FIRST, 0, FIRST_REPORT, b""),
         (
             b"int x = 2147483647, y = 5; void worker(int self) { __transaction_atomic { y = 1; x = x + 1; } }",
@@ -94,40 +103,10 @@ fn serves_sources(rt: HostRuntime) -> Result<(), Fail> {
             b"",
         ),
         (
-            b"void worker(int self) { __transaction_atomic { z = 1; } }",
-            1,
-            b"",
-            b"txc: fault 20 at 1:48: unknown name\n",
-        ),
-        (
             b"int x;\nint y, x; void worker(int self) { }",
             1,
             b"",
             b"txc: fault 21 at 2:8: declared twice\n",
-        ),
-        (
-            b"void other(int self) { }",
-            1,
-            b"",
-            b"txc: fault 28 at 1:25: no worker\n",
-        ),
-        (
-            b"int x = 2147483648;",
-            1,
-            b"",
-            b"txc: fault 02 at 1:9: constant too large\n",
-        ),
-        (
-            b"void worker(int self) {",
-            1,
-            b"",
-            b"txc: fault 12 at 1:24: unexpected end\n",
-        ),
-        (
-            b"int x; void worker(int self) { if (x) ; }",
-            2,
-            b"",
-            b"txc: fault 63\n",
         ),
         (b"int \xff;", 2, b"", b"txc: a.c is not UTF-8\n"),
     ];
@@ -137,22 +116,6 @@ fn serves_sources(rt: HostRuntime) -> Result<(), Fail> {
         assert_eq!(rt; answer.out.as_slice(), out);
         assert_eq!(rt; answer.status, status);
     }
-    Ok(())
-}
-
-#[test]
-fn refuses_a_long_file(rt: HostRuntime) -> Result<(), Fail> {
-    let request = command(rt.alloc(), ["txc", "run", "a.c"].as_slice())?;
-    let mut source = Vec::new(rt.alloc());
-    for _ in 0..1048577u32 {
-        source.push(b' ')?;
-    }
-    let answer = serve_bytes(rt.alloc(), &request, source.as_slice());
-    assert_eq!(rt;
-        answer.err.as_slice(),
-        b"txc: fault 05 at 1:1: file too long\n".as_slice()
-    );
-    assert_eq!(rt; answer.status, 1);
     Ok(())
 }
 

@@ -1,4 +1,4 @@
-use Rattle.std.proofs.Common.{List, ℕ, map, sym, ap, ◌∙◌, subst}
+use Rattle.std.proofs.Common.{arith, List, ℕ, map, sym, ap, ◌∙◌, subst}
 use Rattle.std.specs.Prelude.{IsSome}
 use Rattle.syntax.specs.Tree.{Expr}
 use Rattle.syntax.specs.Views.{expr_of, name_of, item_of}
@@ -31,4 +31,4 @@ returns-in-Constant g c =
     let p = map item_of c.args.items.now in
     let x = c.args.parameter.now in
     let seen = ap expr_of c.in-Constant.is ∙ expr_of_constant g.row.A.Denot c.in-Constant.number c.in-Constant.field-1 c.in-Constant.field-2 in
-    subst (λ (e : Expr). AtomMeans p x e (AtomIs.Constant c.in-Constant.number)) (sym seen) (constant_means p x c.in-Constant.number c.in-Constant.field-1 c.in-Constant.field-2 (subst IsAtom seen c.requires.atom))
+    subst (λ (e : Expr). AtomMeans p x e (AtomIs.Constant c.in-Constant.number)) (sym seen) (constant_means p x c.in-Constant.number c.in-Constant.field-1 c.in-Constant.field-2 (omega arith) (subst IsAtom seen c.requires.atom))

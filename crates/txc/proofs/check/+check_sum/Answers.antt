@@ -3,7 +3,7 @@ use Rattle.std.proofs.lemmas.Result.{err_from_is_err_and}
 use Rattle.syntax.proofs.Seen.{expr_of_binary}
 use Rattle.syntax.specs.Views.{expr_of, item_of}
 use Rattle.syntax.specs.Tree.{Binary}
-use Rattle.syntax.specs.Typing.{IsTyped}
+use Rattle.lower.specs.Typing.{IsTyped}
 use Rattle.txc.specs.Checks.{scope, every}
 use Rattle.txc.proofs.Answered.{checked_by}
 use Rattle.txc.proofs.Sums.{binary_typed, sum_is_atom}

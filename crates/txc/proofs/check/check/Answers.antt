@@ -3,7 +3,8 @@ use Rattle.std.proofs.lemmas.List.{map-append}
 use Rattle.std.proofs.lemmas.Result.{err_from_is_err_and}
 use Rattle.syntax.specs.Types.{file_scope}
 use Rattle.syntax.specs.Views.{item_of, program_of}
-use Rattle.syntax.specs.Typing.{Demand, is_worker, IsTypedProgram, BreaksRule}
+use Rattle.syntax.specs.Typing.{is_worker}
+use Rattle.lower.specs.Typing.{Demand, IsTypedProgram, BreaksRule}
 use Rattle.txc.specs.Checks.{every, that, number_in, span_in}
 use Rattle.txc.proofs.Answered.{checked_ok, checked_err}
 use Rattle.txc.proofs.Functions.{straight_parts, items_join, items_front, items_last, all_defined}

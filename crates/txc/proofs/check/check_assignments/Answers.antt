@@ -2,7 +2,7 @@ use Rattle.std.proofs.Common.{map, [], false, None}
 use Rattle.std.proofs.lemmas.List.{drop_all}
 use Rattle.std.proofs.lemmas.Result.{err_from_is_err_and}
 use Rattle.syntax.specs.Views.{item_of, stmt_of, stmts_of}
-use Rattle.syntax.specs.Typing.{AreTypedStmts}
+use Rattle.lower.specs.Typing.{AreTypedStmts}
 use Rattle.txc.specs.Checks.{scope}
 use Rattle.txc.proofs.Steps.{drop_here}
 use Rattle.txc.proofs.Statements.{assignment_is_quiet, stmts_next, stmts_broken}

@@ -1,7 +1,8 @@
 use Rattle.std.proofs.Common.{map, [], ap, ◌∙◌, ◌+◌, ◌∷◌}
 use Rattle.std.proofs.lemmas.Result.{err_from_is_err_and}
 use Rattle.syntax.specs.Views.{item_of}
-use Rattle.syntax.specs.Typing.{AreTypedItems, all_cells}
+use Rattle.syntax.specs.Typing.{all_cells}
+use Rattle.lower.specs.Typing.{AreTypedItems}
 use Rattle.txc.proofs.Globals.{items_next, items_broken, cells_next, shared_here}
 use Rattle.txc.proofs.check.check_declarations.Goals as goal
 

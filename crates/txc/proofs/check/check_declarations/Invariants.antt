@@ -1,6 +1,7 @@
 use Rattle.std.proofs.Common.{◌≡◌, ◌≤◌, map, take, drop, []}
 use Rattle.syntax.specs.Views.{item_of}
-use Rattle.syntax.specs.Typing.{AreTypedItems, all_cells}
+use Rattle.syntax.specs.Typing.{all_cells}
+use Rattle.lower.specs.Typing.{AreTypedItems}
 use Rattle.txc.specs.Checks.{Leaves, AreShared}
 use Rattle.txc.proofs.check.check_declarations.Given as goal
 

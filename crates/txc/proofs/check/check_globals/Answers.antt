@@ -1,7 +1,7 @@
 use Rattle.std.proofs.Common.{map, [], arith}
 use Rattle.std.proofs.lemmas.Result.{err_from_is_err_and}
 use Rattle.syntax.specs.Views.{item_of, global_of}
-use Rattle.syntax.specs.Typing.{AreTypedGlobals}
+use Rattle.lower.specs.Typing.{AreTypedGlobals}
 use Rattle.txc.proofs.Steps.{drop_here}
 use Rattle.txc.proofs.Globals.{globals_next, globals_broken, sums_next}
 use Rattle.txc.proofs.check.check_globals.Goals as goal

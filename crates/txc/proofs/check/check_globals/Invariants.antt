@@ -2,7 +2,7 @@ use Rattle.std.proofs.Common.{◌≡◌, ◌+◌, ◌≤◌, map, take, drop, []
 use Rattle.syntax.specs.Views.{item_of, global_of}
 use Rattle.syntax.specs.Names.{cells}
 use Rattle.lower.specs.StraightLine.{AreSingle}
-use Rattle.syntax.specs.Typing.{AreTypedGlobals}
+use Rattle.lower.specs.Typing.{AreTypedGlobals}
 use Rattle.txc.specs.Checks.{Leaves}
 use Rattle.txc.proofs.check.check_globals.Given as goal
 

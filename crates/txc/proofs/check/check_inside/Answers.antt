@@ -1,7 +1,7 @@
 use Rattle.std.proofs.Common.{map, ap, [], ◌∷◌, ◌++◌, None, option_map, false}
 use Rattle.syntax.specs.Tree.{Defines}
 use Rattle.syntax.specs.Views.{item_of, function_of, parameter_of, name_of, stmts_of}
-use Rattle.syntax.specs.Typing.{AreTypedStmts, IsTypedFunction}
+use Rattle.lower.specs.Typing.{AreTypedStmts, IsTypedFunction}
 use Rattle.txc.specs.Checks.{scope, every, that}
 use Rattle.txc.proofs.Answered.{checked_by}
 use Rattle.txc.proofs.Functions.{Shape, OneParameter, only_parameter, no_name, function_typed, function_body}

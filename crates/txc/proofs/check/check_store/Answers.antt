@@ -1,7 +1,7 @@
 use Rattle.std.proofs.Common.{map, None}
 use Rattle.syntax.specs.Tree as Tree
 use Rattle.syntax.specs.Views.{item_of, expr_of, name_of}
-use Rattle.syntax.specs.Typing.{IsTypedSimple, IsAssignable}
+use Rattle.lower.specs.Typing.{IsTypedSimple, IsAssignable}
 use Rattle.txc.specs.Checks.{scope, every}
 use Rattle.txc.proofs.Answered.{checked_by}
 use Rattle.txc.proofs.Sums.{gives}

@@ -1,7 +1,7 @@
 use Rattle.std.proofs.Common.{map, drop, [], ◌∷◌, false, None}
 use Rattle.syntax.specs.Views.{item_of, stmts_of}
 use Rattle.lower.specs.StraightLine.{AreTransactions}
-use Rattle.syntax.specs.Typing.{AreTypedStmts}
+use Rattle.lower.specs.Typing.{AreTypedStmts}
 use Rattle.txc.specs.Checks.{scope, Leaves}
 use Rattle.txc.proofs.check.check_transactions.Given as goal
 

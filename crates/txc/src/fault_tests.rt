@@ -1,0 +1,221 @@
+//! The examples of docs/FAULTS.md: each is a source, its fault's number, and what standard error says behind the number.
+//! `scripts/faults.py` compares these tables with the document's.
+
+use crate::command::command;
+use crate::tests::{Served, serve_bytes};
+use crate::words::words;
+use std::alloc::{AllocError, Allocator, Global};
+use std::test::Fail;
+
+/// The faults that a program can show today.
+const TOLD: [(&str, u32, &str); 12] = [
+    ("int x$;", 1, "1:6: bad character"),
+    ("int x = 2147483648;", 2, "1:9: constant too large"),
+    ("void worker(int self) { } /* end", 3, "1:27: open comment"),
+    ("void worker(int self) { printf(\"a", 4, "1:32: bad string"),
+    ("#define A 1", 6, "1:1: directive"),
+    ("int x y;", 10, "1:7: unexpected token"),
+    ("void worker(int self) {", 12, "1:24: unexpected end"),
+    (
+        "void worker(int self) { __transaction_atomic { z = 1; } }",
+        20,
+        "1:48: unknown name",
+    ),
+    (
+        "int x, x; void worker(int self) { }",
+        21,
+        "1:8: declared twice",
+    ),
+    (
+        "int x; void worker(int self) { __transaction_atomic { x = worker; } }",
+        22,
+        "1:59: wrong type",
+    ),
+    (
+        "void worker(int self) { __transaction_atomic { worker = 1; } }",
+        24,
+        "1:48: not assignable",
+    ),
+    ("void other(int self) { }", 28, "1:25: no worker"),
+];
+
+/// The faults of sources that are not lowered yet: 63 is told in their place.
+const NOT_TOLD_YET: [(&str, u32, &str); 15] = [
+    (
+        "void f(void) { } void worker(int self) { int v = f(); }",
+        22,
+        "1:50: wrong type",
+    ),
+    (
+        "void f(void) { } void worker(int self) { f(1); }",
+        23,
+        "1:42: wrong number of arguments",
+    ),
+    (
+        "void worker(int self) { 1 = 2; }",
+        24,
+        "1:25: not assignable",
+    ),
+    (
+        "int a[0]; void worker(int self) { }",
+        25,
+        "1:7: bad array length",
+    ),
+    (
+        "void worker(int self) { break; }",
+        26,
+        "1:25: break or continue outside a loop",
+    ),
+    (
+        "void worker(int self) { printf(\"%x\", 1); }",
+        27,
+        "1:32: bad format",
+    ),
+    ("int x;", 28, "1:7: no worker"),
+    ("", 28, "1:1: no worker"),
+    (
+        "void f(void); void worker(int self) { }",
+        29,
+        "1:6: not defined",
+    ),
+    (
+        "void worker(int self) { __transaction_atomic { printf(\"a\"); } }",
+        40,
+        "1:48: unsafe in atomic",
+    ),
+    (
+        "void worker(int self) { __transaction_atomic { __transaction_relaxed { } } }",
+        41,
+        "1:48: relaxed in atomic",
+    ),
+    (
+        "void worker(int self) { __transaction_relaxed { __transaction_cancel; } }",
+        42,
+        "1:49: cancel outside atomic",
+    ),
+    (
+        "__attribute__((transaction_safe)) void f(void) { printf(\"a\"); } void worker(int self) { }",
+        43,
+        "1:40: transaction_safe on an unsafe function",
+    ),
+    (
+        "int x; void worker(int self) { x = 1; }",
+        50,
+        "1:32: shared access outside a transaction",
+    ),
+    (
+        "int x; int get(void) { return x; } void worker(int self) { get(); }",
+        51,
+        "1:60: call touches shared data outside a transaction",
+    ),
+];
+
+/// Sources in pieces, each so many times: a fault that a program can show today.
+const LONG: [([(&str, usize); 5], u32, &str); 2] = [
+    (
+        [(" ", 1048577), ("", 0), ("", 0), ("", 0), ("", 0)],
+        5,
+        "1:1: file too long",
+    ),
+    (
+        [
+            ("void worker(int self) { ", 1),
+            ("(", 98),
+            ("1", 1),
+            (")", 98),
+            ("; }", 1),
+        ],
+        11,
+        "1:123: nested too deep",
+    ),
+];
+
+/// The same, of a source that is not lowered yet.
+const LONG_NOT_TOLD_YET: [([(&str, usize); 5], u32, &str); 1] = [(
+    [
+        ("void worker(int self) { ", 1),
+        ("__transaction_atomic { ", 17),
+        ("} ", 17),
+        ("}", 1),
+        ("", 0),
+    ],
+    62,
+    "1:393: transactions nested too deep",
+)];
+
+/// The text that pieces make.
+fn joined<A: Allocator + Copy>(
+    alloc: A,
+    pieces: &[(&str, usize)],
+) -> Result<String<A>, AllocError> {
+    let mut text = String::new(alloc);
+    for (piece, times) in pieces {
+        for _ in 0..*times {
+            text.push_str(piece)?;
+        }
+    }
+    Ok(text)
+}
+
+/// What `txc run` answers to a source.
+fn answer(alloc: Global, source: &[u8]) -> Result<Served<Global>, Fail> {
+    let request = command(alloc, ["txc", "run", "a.c"].as_slice())?;
+    Ok(serve_bytes(alloc, &request, source))
+}
+
+/// The line that tells a fault.
+fn line(alloc: Global, number: u32, told: &str) -> Result<String, Fail> {
+    Ok(format!(in alloc; "txc: fault {number:02} at {told}\n")?)
+}
+
+#[test]
+fn faults_are_told_with_place_and_words(rt: HostRuntime) -> Result<(), Fail> {
+    for (source, number, told) in TOLD {
+        let answer = answer(rt.alloc(), source.as_bytes())?;
+        let line = line(rt.alloc(), number, told)?;
+        assert_eq!(rt; answer.err.as_slice(), line.as_str().as_bytes());
+        assert_eq!(rt; answer.out.len(), 0);
+        assert_eq!(rt; answer.status, 1);
+    }
+    for (pieces, number, told) in LONG {
+        let source = joined(rt.alloc(), pieces.as_slice())?;
+        let answer = answer(rt.alloc(), source.as_str().as_bytes())?;
+        let line = line(rt.alloc(), number, told)?;
+        assert_eq!(rt; answer.err.as_slice(), line.as_str().as_bytes());
+        assert_eq!(rt; answer.status, 1);
+    }
+    Ok(())
+}
+
+#[test]
+fn programs_that_are_not_lowered_yet(rt: HostRuntime) -> Result<(), Fail> {
+    for (source, number, told) in NOT_TOLD_YET {
+        let answer = answer(rt.alloc(), source.as_bytes())?;
+        assert_eq!(rt; answer.err.as_slice(), b"txc: fault 63\n".as_slice());
+        assert_eq!(rt; answer.status, 2);
+        assert!(rt; told.ends_with(words(number)));
+    }
+    for (pieces, number, told) in LONG_NOT_TOLD_YET {
+        let source = joined(rt.alloc(), pieces.as_slice())?;
+        let answer = answer(rt.alloc(), source.as_str().as_bytes())?;
+        assert_eq!(rt; answer.err.as_slice(), b"txc: fault 63\n".as_slice());
+        assert!(rt; told.ends_with(words(number)));
+    }
+    Ok(())
+}
+
+/// A text that is too long is told as such before it is told that it is not UTF-8.
+#[test]
+fn a_long_text_that_is_not_utf8_is_too_long(rt: HostRuntime) -> Result<(), Fail> {
+    let mut source = Vec::new(rt.alloc());
+    for _ in 0..1048577u32 {
+        source.push(b'\xff')?;
+    }
+    let answer = answer(rt.alloc(), source.as_slice())?;
+    assert_eq!(rt;
+        answer.err.as_slice(),
+        b"txc: fault 05 at 1:1: file too long\n".as_slice()
+    );
+    assert_eq!(rt; answer.status, 1);
+    Ok(())
+}
