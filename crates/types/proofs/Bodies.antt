@@ -1,7 +1,10 @@
 -- One body more.
 use denote.Ref.{Bor}
 use Rattle.std.proofs.Common.{◌≡◌, ℕ, List, [], ◌∷◌, ◌++◌, Option, Some, None, Bool, true, false, cond, ◌||◌, refl, sym, ap, ◌∙◌, is_some, is_none, not, ◌&&◌, option_map, unwrap_or, bytes_eq}
-use Rattle.indexmap.specs.IndexMap.{IndexMap, Updates}
+use Rattle.std.specs.Ordering.{nat_cmp}
+use Rattle.std.specs.Cmp.Lexicographic.{slice_cmp}
+use Rattle.std.specs.BTreeMap.{BTreeMap, Updates}
+use Rattle.std.proofs.lemmas.Map.Text.{btree_map_updates_str}
 use Rattle.syntax.specs.Tree.{Item, Defines, Stmts}
 use Rattle.syntax.specs.declared.tree.Function as Own
 use Rattle.syntax.specs.Views.{function_of, stmts_of}
@@ -32,15 +35,15 @@ no_body : {X : Type 0} (f : X → Stmts) (o : Option X) (n x : List ℕ) → is_
 no_body f None n x h = refl
 no_body f (Some b) n x h = absurd cc
 
-module _ {A V S : Type 0} (earlier : List Item) (f : Own.Function A) where
-  pub body_more : (old new : IndexMap (Bor (List ℕ)) V S) (key : Bor (List ℕ)) (v : V) → Updates (λ a b. bytes_eq a.now b.now) old new key (Some v) → key.now ≡ f.name.text → is_some f.body ≡ true → AreBodies old earlier → AreBodies new (earlier ++ Defines (function_of f) ∷ [])
+module _ {A V : Type 0} (earlier : List Item) (f : Own.Function A) where
+  pub body_more : (old new : BTreeMap (Bor (List ℕ)) V) (key : Bor (List ℕ)) (v : V) → Updates (λ a b. slice_cmp nat_cmp a.now b.now) old new key (Some v) → key.now ≡ f.name.text → is_some f.body ≡ true → AreBodies old earlier → AreBodies new (earlier ++ Defines (function_of f) ∷ [])
   body_more old new key v u name body h = λ x.
-      ap is_some (u.0 (record key { now = x })) ∙ some_or (bytes_eq key.now x) v _ ∙ ap (λ r. bytes_eq key.now x || r) (h x) ∙ ap (λ n. bytes_eq n x || has_name (defined_names earlier) x) name
+      ap is_some (btree_map_updates_str key.now old new (Some v) u x) ∙ some_or (bytes_eq key.now x) v _ ∙ ap (λ r. bytes_eq key.now x || r) (h x) ∙ ap (λ n. bytes_eq n x || has_name (defined_names earlier) x) name
       ∙ or_last (bytes_eq f.name.text x) (has_name (defined_names earlier) x)
       ∙ ap (λ r. has_name (defined_names earlier) x || r) (sym (with_body stmts_of f.body f.name.text x body))
       ∙ sym (defined_append earlier (Defines (function_of f) ∷ []) x)
 
-  pub body_same : (old : IndexMap (Bor (List ℕ)) V S) → is_some f.body ≡ false → AreBodies old earlier → AreBodies old (earlier ++ Defines (function_of f) ∷ [])
+  pub body_same : (old : BTreeMap (Bor (List ℕ)) V) → is_some f.body ≡ false → AreBodies old earlier → AreBodies old (earlier ++ Defines (function_of f) ∷ [])
   body_same old body h = λ x.
       h x ∙ or_none (has_name (defined_names earlier) x)
       ∙ ap (λ r. has_name (defined_names earlier) x || r) (sym (no_body stmts_of f.body f.name.text x body))

@@ -1,12 +1,12 @@
 -- What is found with one item more.
-use Rattle.std.proofs.Common.{◌≡◌, ◌+◌, ◌≤◌, List, [], ◌∷◌, ◌++◌, length, sym, ap, subst, ◌∙◌, arith, sum_by, append-nil, is_some, bytes_eq}
-use Rattle.indexmap.specs.IndexMap.{get_by}
+use Rattle.std.proofs.Common.{◌≡◌, ◌+◌, ◌≤◌, List, [], ◌∷◌, ◌++◌, length, sym, ap, subst, ◌∙◌, arith, sum_by, append-nil, is_some}
 use Rattle.syntax.specs.Tree.{Function, Global, Item, Defines, Shares}
 use Rattle.syntax.specs.Names.{cells, globals}
 use Rattle.syntax.specs.Types.{file_scope}
 use Rattle.syntax.specs.Typing.{has_name, defined_names}
 use Rattle.types.specs.declared.unit.Found.{Found}
 use Rattle.types.specs.Known.{known_in, count_in}
+use Rattle.types.specs.Slots.{value_at}
 use Rattle.types.specs.Bodies.{AreBodies}
 use Rattle.types.specs.Found.{IsFound}
 use Rattle.types.specs.Tables.{definitions_from, cells_from}
@@ -33,7 +33,7 @@ module _ {A : Type 0} (old new : Found A) (earlier : List Item) (i : Item) where
       let now : IsFound new (earlier ++ Shares gs ∷ []) = record {
         known = known;
         none = none;
-        defined = λ x. ap (λ m. is_some (get_by (λ k. bytes_eq x k.now) m)) bodies ∙ h.defined x ∙ or_none (has_name (defined_names earlier) x) ∙ sym (defined_append earlier (Shares gs ∷ []) x);
+        defined = λ x. ap (λ m. is_some (value_at m x)) bodies ∙ h.defined x ∙ or_none (has_name (defined_names earlier) x) ∙ sym (defined_append earlier (Shares gs ∷ []) x);
         functions = functions ∙ h.functions ∙ sym (definitions_append 0 earlier (Shares gs ∷ []) ∙ append-nil (definitions_from 0 earlier));
         cells = cells' ∙ ap (λ xs. xs ++ cells_from old.taken gs) h.cells ∙ ap (λ n. cells_from 0 (globals earlier) ++ cells_from n gs) (h.taken ∙ sym (cells_are earlier) ∙ omega arith) ∙ sym (cells_append 0 (globals earlier) gs) ∙ ap (cells_from 0) (ap (λ xs. globals earlier ++ xs) (sym one) ∙ sym (globals_append earlier (Shares gs ∷ [])));
         taken = taken ∙ (let e = all_cells_append earlier (Shares gs ∷ []) in let t = h.taken in omega (arith, e, t));

@@ -5,13 +5,16 @@ use Rattle.std.proofs.lemmas.List.{drop-append-le, take-append-drop, take-append
 use Rattle.std.proofs.Math.Seq.{drop-append_seam, take-append_seam, get_or-append_seam}
 use Rattle.std.specs.Map.{lookup}
 use Rattle.std.proofs.lemmas.Grind.{common_steps}
-use Rattle.indexmap.specs.IndexMap.{IndexMap, Updates, get_by}
+use Rattle.std.specs.Ordering.{nat_cmp}
+use Rattle.std.specs.Cmp.Lexicographic.{slice_cmp}
+use Rattle.std.specs.BTreeMap.{BTreeMap, Updates, is_at}
+use Rattle.std.proofs.lemmas.Map.Text.{btree_map_updates_str}
 use Rattle.std.proofs.lemmas.List.Elements.{All-cons, All-nil}
 use Rattle.std.proofs.lemmas.Slice.Eq.{bytes_eq-Decides}
 use Rattle.std.proofs.lemmas.Bool.{cases_lt}
 use Rattle.types.specs.declared.table.Slot.{Slot}
 use Rattle.types.specs.declared.table.Local.{Local}
-use Rattle.types.specs.Slots.{nothing, with_slot, table_of, under, ArePlaced, ArePresent}
+use Rattle.types.specs.Slots.{value_at, nothing, with_slot, table_of, under, ArePlaced, ArePresent}
 
 -- a result is good or bad
 pub by_either : {X Y : Type 0} (r : Result X Y) (P Q G : Type 0) → OnOk r P → OnErr r Q → (P → G) → (Q → G) → G
@@ -24,8 +27,8 @@ module _ {A : Type 0} where
   unwrap_cond false v s o = refl
 
   -- what is put into the table is what its key stands for from then on
-  pub put : {S : Type 0} (old new : IndexMap (Bor (List ℕ)) (Slot A) S) (key : Bor (List ℕ)) (v : Slot A) → Updates (λ a b. bytes_eq a.now b.now) old new key (Some v) → table_of new ≡ with_slot key.now v (table_of old)
-  put old new key v u = λ i x. (ap (λ o. unwrap_or o nothing) (u.0 (record key { now = x })) ∙ unwrap_cond (bytes_eq key.now x) v nothing _) i
+  pub put : (old new : BTreeMap (Bor (List ℕ)) (Slot A)) (key : Bor (List ℕ)) (v : Slot A) → Updates (λ a b. slice_cmp nat_cmp a.now b.now) old new key (Some v) → table_of new ≡ with_slot key.now v (table_of old)
+  put old new key v u = λ i x. (ap (λ o. unwrap_or o nothing) (btree_map_updates_str key.now old new (Some v) u x) ∙ unwrap_cond (bytes_eq key.now x) v nothing _) i
 
   pub take-take : (m k : ℕ) (xs : List (Local A)) → m + k ≤ length xs → take m (take (m + k) xs) ≡ take m xs
   take-take m k xs le = sym (take-append-le m (take (m + k) xs) (drop (m + k) xs) (let h = length-take-le (m + k) xs le in omega (arith, h))) ∙ ap (take m) (take-append-drop (m + k) xs)
@@ -74,7 +77,7 @@ module _ {A : Type 0} where
   pub one_under : (l : Local A) (s : Slot A) (table : List ℕ → Slot A) → l.hidden ≡ table l.name.now → under (l ∷ []) (with_slot l.name.now s table) ≡ table
   one_under l s table h = λ i x. hidden_under (bytes_eq l.name.now x) l.hidden s (table x) (λ same. h ∙ ap table ((bytes_eq-Decides l.name.now x).0 same)) i
 
-  module _ {S : Type 0} (old new : IndexMap (Bor (List ℕ)) (Slot A) S) where
+  module _ (old new : BTreeMap (Bor (List ℕ)) (Slot A)) where
     pub placed_more : (ls ns : List (Local A)) (l : Local A) (s : Slot A) → ns ≡ ls ++ l ∷ [] → l.hidden ≡ table_of old l.name.now → table_of new ≡ with_slot l.name.now s (table_of old) → s.place ≤ length ls + 1 → ArePlaced old ls → ArePlaced new ns
     placed_more ls ns l s e h f size placed = λ k le x. elim (cases_lt k (length ls + 1)) [
       | inl less ↦ (let few : k ≤ length ls = omega (arith, less) in
@@ -104,21 +107,21 @@ module _ {A : Type 0} where
     some_cond false v o h = h
 
     -- what was in the table still is, and so is a key that is put into it
-    pub present_more : (ls : List (Local A)) (key : Bor (List ℕ)) (v : Slot A) → Updates (λ a b. bytes_eq a.now b.now) old new key (Some v) → ArePresent old ls → ArePresent new ls
-    present_more ls key v u h = λ k d less. ap is_some (u.0 (get_or ls k d).name) ∙ some_cond (bytes_eq key.now (get_or ls k d).name.now) v _ (h k d less)
+    pub present_more : (ls : List (Local A)) (key : Bor (List ℕ)) (v : Slot A) → Updates (λ a b. slice_cmp nat_cmp a.now b.now) old new key (Some v) → ArePresent old ls → ArePresent new ls
+    present_more ls key v u h = λ k d less. ap is_some (btree_map_updates_str key.now old new (Some v) u (get_or ls k d).name.now) ∙ some_cond (bytes_eq key.now (get_or ls k d).name.now) v _ (h k d less)
 
-    pub present_one : (l : Local A) (v : Slot A) → Updates (λ a b. bytes_eq a.now b.now) old new l.name (Some v) → ArePresent new (l ∷ [])
-    present_one l v u = All-cons (λ m. is_some (get_by (λ k. bytes_eq m.name.now k.now) new) ≡ true) l [] (ap is_some u.1) (All-nil _)
+    pub present_one : (l : Local A) (v : Slot A) → Updates (λ a b. slice_cmp nat_cmp a.now b.now) old new l.name (Some v) → ArePresent new (l ∷ [])
+    present_one l v u = All-cons (λ m. is_some (value_at new m.name.now) ≡ true) l [] (ap is_some u.1) (All-nil _)
 
     -- a table that stays
     pub table_kept : new.entries ≡ old.entries → table_of new ≡ table_of old
-    table_kept e = λ i x. unwrap_or (lookup (λ k. bytes_eq x k.now) (e i)) nothing
+    table_kept e = λ i x. unwrap_or (lookup (is_at (λ k. slice_cmp nat_cmp x k.now)) (e i)) nothing
 
     pub placed_kept : (ls ns : List (Local A)) → new.entries ≡ old.entries → ns ≡ ls → ArePlaced old ls → ArePlaced new ns
     placed_kept ls ns e f placed = λ k le x. subst (λ t. (t x).place ≤ k) (sym (λ i. under (drop k (f i)) (table_kept e i))) (placed k (let h = ap length f in omega (arith, h, le)) x)
 
     pub present_kept : (ls ns : List (Local A)) → new.entries ≡ old.entries → ns ≡ ls → ArePresent old ls → ArePresent new ns
-    present_kept ls ns e f present = subst (ArePresent new) (sym f) (λ k d less. ap (λ es. is_some (lookup (λ q. bytes_eq (get_or ls k d).name.now q.now) es)) e ∙ present k d less)
+    present_kept ls ns e f present = subst (ArePresent new) (sym f) (λ k d less. ap (λ es. is_some (lookup (is_at (λ q. slice_cmp nat_cmp (get_or ls k d).name.now q.now)) es)) e ∙ present k d less)
 
   -- what is pushed and popped again
   pub popped : (ms ls ns : List (Local A)) (l : Local A) → ms ≡ ls ++ l ∷ [] → ns ≡ take (length ms - 1) ms → ns ≡ ls
@@ -127,23 +130,23 @@ module _ {A : Type 0} where
       e ∙ ap (λ n. take n ms) size ∙ ap (take (length ls)) is ∙ take-append_seam ls (l ∷ [])
 
   -- the newest local's name is in the table
-  pub present_last : {S : Type 0} (m : IndexMap (Bor (List ℕ)) (Slot A) S) (ms ls : List (Local A)) (l : Local A) → ms ≡ ls ++ l ∷ [] → ArePresent m ms → get_by (λ k. bytes_eq l.name.now k.now) m ≡ None → ⊥
+  pub present_last : (m : BTreeMap (Bor (List ℕ)) (Slot A)) (ms ls : List (Local A)) (l : Local A) → ms ≡ ls ++ l ∷ [] → ArePresent m ms → value_at m l.name.now ≡ None → ⊥
   present_last m ms ls l is present none =
       let last : get_or ms (length ls) l ≡ l = ap (λ xs. get_or xs (length ls) l) is ∙ get_or-append_seam ls l [] l in
       let less : length ls < length ms = (let h = ap length is ∙ length-append ls (l ∷ []) in omega (arith, h)) in
-      let some : is_some (get_by (λ k. bytes_eq l.name.now k.now) m) ≡ true = subst (λ q. is_some (get_by (λ k. bytes_eq q.name.now k.now) m) ≡ true) last (present (length ls) l less) in
-      not_both (get_by (λ k. bytes_eq l.name.now k.now) m) some none
+      let some : is_some (value_at m l.name.now) ≡ true = subst (λ q. is_some (value_at m q.name.now) ≡ true) last (present (length ls) l less) in
+      not_both (value_at m l.name.now) some none
     where
       not_both : (o : Option (Slot A)) → is_some o ≡ true → o ≡ None → ⊥
       not_both None h e = absurd cc
       not_both (Some x) h e = absurd cc
 
   -- those that are left are there
-  pub present_less : {S : Type 0} (m : IndexMap (Bor (List ℕ)) (Slot A) S) (ms ls : List (Local A)) (l : Local A) → ms ≡ ls ++ l ∷ [] → ArePresent m ms → ArePresent m ls
+  pub present_less : (m : BTreeMap (Bor (List ℕ)) (Slot A)) (ms ls : List (Local A)) (l : Local A) → ms ≡ ls ++ l ∷ [] → ArePresent m ms → ArePresent m ls
   present_less m ms ls l is present = λ k d less.
       let at : get_or ms k d ≡ get_or ls k d = ap (λ xs. get_or xs k d) is ∙ get_or_append_left ls (l ∷ []) d k less in
       let within : k < length ms = (let h = ap length is ∙ length-append ls (l ∷ []) in omega (arith, h, less)) in
-      subst (λ q. is_some (get_by (λ c. bytes_eq q.name.now c.now) m) ≡ true) at (present k d within)
+      subst (λ q. is_some (value_at m q.name.now) ≡ true) at (present k d within)
 
   pub none_is : (ls : List (Local A)) → length ls ≡ 0 → ls ≡ []
   none_is [] h = refl

@@ -1,10 +1,11 @@
 -- The functions that are defined so far.
 use denote.Ref.{Bor}
-use Rattle.std.specs.Prelude.{◌≡◌, ℕ, List, is_some, bytes_eq}
-use Rattle.indexmap.specs.IndexMap.{IndexMap, get_by}
+use Rattle.std.specs.Prelude.{◌≡◌, ℕ, List, is_some}
+use Rattle.std.specs.BTreeMap.{BTreeMap}
 use Rattle.syntax.specs.Tree.{Item}
 use Rattle.syntax.specs.Typing.{has_name, defined_names}
+use Rattle.types.specs.Slots.{value_at}
 
 -- these are the names of the functions that these items define
-abbrev pub AreBodies : {V S : Type 0} → IndexMap (Bor (List ℕ)) V S → List Item → Type 0
-AreBodies m items = (x : List ℕ) → is_some (get_by (λ k. bytes_eq x k.now) m) ≡ has_name (defined_names items) x
+abbrev pub AreBodies : {V : Type 0} → BTreeMap (Bor (List ℕ)) V → List Item → Type 0
+AreBodies m items = (x : List ℕ) → is_some (value_at m x) ≡ has_name (defined_names items) x

@@ -1,10 +1,16 @@
 -- The table of names, with what each local hides.
 use denote.Ref.{Bor}
-use Rattle.std.specs.Prelude.{◌≡◌, ℕ, ◌≤◌, All, is_some, true, List, [], ◌∷◌, length, drop, unwrap_or, bytes_eq, if◌then◌else◌}
-use Rattle.indexmap.specs.IndexMap.{IndexMap, get_by}
+use Rattle.std.specs.Prelude.{◌≡◌, ℕ, ◌≤◌, All, is_some, true, Option, List, [], ◌∷◌, length, drop, unwrap_or, bytes_eq, if◌then◌else◌}
+use Rattle.std.specs.Ordering.{nat_cmp}
+use Rattle.std.specs.Cmp.Lexicographic.{slice_cmp}
+use Rattle.std.specs.BTreeMap.{BTreeMap, get_by}
 use Rattle.types.specs.declared.table.Slot.{Slot}
 use Rattle.types.specs.declared.table.Local.{Local}
 use Rattle.types.specs.declared.symbol.Symbol.TheVariants as symbol
+
+-- what a text stands for in a map
+abbrev pub value_at : {V : Type 0} → BTreeMap (Bor (List ℕ)) V → List ℕ → Option V
+value_at m x = get_by (λ k. slice_cmp nat_cmp x k.now) m
 
 module _ {A : Type 0} where
   abbrev pub nothing : Slot A
@@ -18,13 +24,13 @@ module _ {A : Type 0} where
   under [] table x = table x
   under (l ∷ ls) table x = if bytes_eq l.name.now x then l.hidden else under ls table x
 
-  abbrev pub table_of : {S : Type 0} → IndexMap (Bor (List ℕ)) (Slot A) S → List ℕ → Slot A
-  table_of m x = unwrap_or (get_by (λ k. bytes_eq x k.now) m) nothing
+  abbrev pub table_of : BTreeMap (Bor (List ℕ)) (Slot A) → List ℕ → Slot A
+  table_of m x = unwrap_or (value_at m x) nothing
 
   -- with so many locals, no name had a later place
-  abbrev pub ArePlaced : {S : Type 0} → IndexMap (Bor (List ℕ)) (Slot A) S → List (Local A) → Type 0
+  abbrev pub ArePlaced : BTreeMap (Bor (List ℕ)) (Slot A) → List (Local A) → Type 0
   ArePlaced m ls = (k : ℕ) → k ≤ length ls → (x : List ℕ) → (under (drop k ls) (table_of m) x).place ≤ k
 
   -- each local's name is in the table
-  abbrev pub ArePresent : {S : Type 0} → IndexMap (Bor (List ℕ)) (Slot A) S → List (Local A) → Type 0
-  ArePresent m ls = All (λ l. is_some (get_by (λ k. bytes_eq l.name.now k.now) m) ≡ true) ls
+  abbrev pub ArePresent : BTreeMap (Bor (List ℕ)) (Slot A) → List (Local A) → Type 0
+  ArePresent m ls = All (λ l. is_some (value_at m l.name.now) ≡ true) ls

@@ -36,7 +36,7 @@ pub(crate) fn place_of<A: Allocator>(e: &Expr<A>) -> Span
 }
 
 /// Whether an expression calls a function that gives no value.
-pub(crate) fn is_void<A: Allocator + Copy>(names: &Names<'_, A>, e: &Expr<A>) -> bool
+pub(crate) fn is_void<'a, A: Allocator + Copy>(names: &Names<'a, A>, e: &'a Expr<A>) -> bool
     ensures { result ≡ is_void (known_in names.now) (expr_of e.now) }
 {
     match e {
@@ -46,9 +46,9 @@ pub(crate) fn is_void<A: Allocator + Copy>(names: &Names<'_, A>, e: &Expr<A>) ->
     }
 }
 
-pub(crate) fn gives_number<A: Allocator + Copy>(
-    names: &Names<'_, A>,
-    e: &Expr<A>,
+pub(crate) fn gives_number<'a, A: Allocator + Copy>(
+    names: &Names<'a, A>,
+    e: &'a Expr<A>,
 ) -> Result<(), Violation>
     ensures { unmet_in result ≡ first_unmet (GivesNumber (known_in names.now) (expr_of e.now)) }
 {
@@ -59,10 +59,10 @@ pub(crate) fn gives_number<A: Allocator + Copy>(
 /// An element of an array: its name, its index, and then that it is an array.
 #[cycle(check)]
 #[tactic(auto, using(crate::proofs::Steps::first_of_two))]
-fn check_element<A: Allocator + Copy>(
-    names: &Names<'_, A>,
-    x: &Name<A>,
-    index: &Expr<A>,
+fn check_element<'a, A: Allocator + Copy>(
+    names: &Names<'a, A>,
+    x: &'a Name<A>,
+    index: &'a Expr<A>,
     at: Span,
 ) -> Result<(), Violation>
     ensures { unmet_in result ≡ first_unmet (IsTyped (known_in names.now) (Tree.Element (name_of x.now) (expr_of index.now) at)) }
@@ -81,9 +81,9 @@ pub(crate) fn count_of<A: Allocator>(all: &[Expr<A>]) -> usize
 }
 
 /// A name that is known.
-pub(crate) fn check_known<A: Allocator + Copy>(
-    names: &Names<'_, A>,
-    x: &Name<A>,
+pub(crate) fn check_known<'a, A: Allocator + Copy>(
+    names: &Names<'a, A>,
+    x: &'a Name<A>,
 ) -> Result<(), Violation>
     ensures { unmet_in result ≡ first_unmet (IsKnown (known_in names.now) (name_of x.now)) }
 {
@@ -105,10 +105,10 @@ fn check_symbol<A: Allocator + Copy>(
 }
 
 /// What is called is a function, and takes so many arguments.
-fn check_called<A: Allocator + Copy>(
-    names: &Names<'_, A>,
-    f: &Name<A>,
-    args: &[Expr<A>],
+fn check_called<'a, A: Allocator + Copy>(
+    names: &Names<'a, A>,
+    f: &'a Name<A>,
+    args: &'a [Expr<A>],
     at: Span,
 ) -> Result<(), Violation>
     ensures { unmet_in result ≡ first_unmet (demand 22 at (may_be_function (known_in names.now f.now.text)) ++ demand 23 f.now.span (takes_so_many (known_in names.now f.now.text) (count (exprs_of args.now)))) }
@@ -120,10 +120,10 @@ fn check_called<A: Allocator + Copy>(
 
 /// A call: its name, its arguments, that it is a function, and how many arguments it takes.
 #[cycle(check)]
-fn check_call<A: Allocator + Copy>(
-    names: &Names<'_, A>,
-    f: &Name<A>,
-    args: &[Expr<A>],
+fn check_call<'a, A: Allocator + Copy>(
+    names: &Names<'a, A>,
+    f: &'a Name<A>,
+    args: &'a [Expr<A>],
     at: Span,
 ) -> Result<(), Violation>
     ensures { unmet_in result ≡ first_unmet (IsTyped (known_in names.now) (Tree.Call (name_of f.now) (exprs_of args.now) at)) }
@@ -135,9 +135,9 @@ fn check_call<A: Allocator + Copy>(
 
 /// An expression, whether it gives a value or not.
 #[cycle(check)]
-pub(crate) fn check_expr<A: Allocator + Copy>(
-    names: &Names<'_, A>,
-    e: &Expr<A>,
+pub(crate) fn check_expr<'a, A: Allocator + Copy>(
+    names: &Names<'a, A>,
+    e: &'a Expr<A>,
 ) -> Result<(), Violation>
     ensures { unmet_in result ≡ first_unmet (IsTyped (known_in names.now) (expr_of e.now)) }
 {
@@ -172,9 +172,9 @@ pub(crate) fn check_expr<A: Allocator + Copy>(
 /// An expression that gives a number.
 #[cycle(check)]
 #[tactic(auto, using(crate::proofs::Steps::first_of_two))]
-pub(crate) fn check_number<A: Allocator + Copy>(
-    names: &Names<'_, A>,
-    e: &Expr<A>,
+pub(crate) fn check_number<'a, A: Allocator + Copy>(
+    names: &Names<'a, A>,
+    e: &'a Expr<A>,
 ) -> Result<(), Violation>
     ensures { unmet_in result ≡ first_unmet (IsNumber (known_in names.now) (expr_of e.now)) }
 {
@@ -184,9 +184,9 @@ pub(crate) fn check_number<A: Allocator + Copy>(
 
 /// Expressions that each give a number.
 #[cycle(check)]
-pub(crate) fn check_numbers<A: Allocator + Copy>(
-    names: &Names<'_, A>,
-    all: &[Expr<A>],
+pub(crate) fn check_numbers<'a, A: Allocator + Copy>(
+    names: &Names<'a, A>,
+    all: &'a [Expr<A>],
 ) -> Result<(), Violation>
     ensures { unmet_in result ≡ first_unmet (AreNumbers (known_in names.now) (exprs_of all.now)) }
 {

@@ -75,7 +75,10 @@ fn binary_type(op: BinaryOp, a: Option<Scalar>, b: Option<Scalar>) -> Option<Sca
 }
 
 /// The type of the number that an expression gives, and none where it gives none.
-pub(crate) fn type_of<A: Allocator + Copy>(names: &Names<'_, A>, e: &Expr<A>) -> Option<Scalar>
+pub(crate) fn type_of<'a, A: Allocator + Copy>(
+    names: &Names<'a, A>,
+    e: &'a Expr<A>,
+) -> Option<Scalar>
     ensures { result ≡ type_of (known_in names.now) (expr_of e.now) }
 {
     match e {

@@ -95,10 +95,10 @@ fn is_fitting(of: Scalar, given: Option<Scalar>) -> bool
 }
 
 /// An argument is of the type that is printed.
-fn check_figure<A: Allocator + Copy>(
-    names: &Names<'_, A>,
+fn check_figure<'a, A: Allocator + Copy>(
+    names: &Names<'a, A>,
     of: Scalar,
-    arg: &Expr<A>,
+    arg: &'a Expr<A>,
 ) -> Result<(), Violation>
     ensures { unmet_in result ≡ first_unmet (demand 27 (span_of (expr_of arg.now)) (is_fitting of (type_of (known_in names.now) (expr_of arg.now)))) }
 {
@@ -108,10 +108,10 @@ fn check_figure<A: Allocator + Copy>(
 }
 
 /// Each argument is of the type that is printed in its place.
-fn check_figures<A: Allocator + Copy>(
-    names: &Names<'_, A>,
-    format: &str,
-    args: &[Expr<A>],
+fn check_figures<'a, A: Allocator + Copy>(
+    names: &Names<'a, A>,
+    format: &'a str,
+    args: &'a [Expr<A>],
 ) -> Result<(), Violation>
     ensures { unmet_in result ≡ first_unmet (HaveTypes (known_in names.now) (figures (pieces format.now)) (exprs_of args.now)) }
 {
@@ -142,11 +142,11 @@ fn is_right(format: &str, count: usize) -> bool
 }
 
 /// A print: its arguments, the format, and the arguments' types.
-pub(crate) fn check_print<A: Allocator + Copy>(
-    names: &Names<'_, A>,
-    format: &str,
+pub(crate) fn check_print<'a, A: Allocator + Copy>(
+    names: &Names<'a, A>,
+    format: &'a str,
     at: Span,
-    args: &[Expr<A>],
+    args: &'a [Expr<A>],
 ) -> Result<(), Violation>
     ensures { unmet_in result ≡ first_unmet (IsTypedPrint (known_in names.now) format.now at (exprs_of args.now)) }
 {

@@ -18,17 +18,16 @@ use crate::stmt::{Context, check_stmts};
 use crate::symbol::Symbol;
 use crate::table::Names;
 use containers::Items;
-use indexmap::IndexMap;
 use lex::token::Scalar;
 use std::alloc::{AllocError, Allocator};
-use std::hash::{BuildHasherDefault, FoldHasher};
+use std::collections::BTreeMap;
 use syntax::tree::{Function, Item, Name, Parameter, Stmt};
 
 /// The names of the functions that have a body.
-pub(crate) type Bodies<'a, A> = IndexMap<&'a str, (), BuildHasherDefault<FoldHasher>, A>;
+pub(crate) type Bodies<'a, A> = BTreeMap<&'a str, (), A>;
 
 /// Whether a function of this name has a body.
-pub(crate) fn has_body<A: Allocator>(bodies: &Bodies<'_, A>, name: &str) -> bool
+pub(crate) fn has_body<'a, A: Allocator>(bodies: &Bodies<'a, A>, name: &'a str) -> bool
     ensures { (items : List Tree.Item) → AreBodies bodies.now items → result ≡ has_name (defined_names items) name.now }
 {
     bodies.contains_key(&name)
@@ -117,11 +116,11 @@ fn is_free<A: Allocator>(symbol: &Symbol<'_, A>, body: bool, defined: bool) -> b
 }
 
 /// A function's own name and types, beside those of earlier items.
-fn check_declared<A: Allocator + Copy>(
-    names: &Names<'_, A>,
-    bodies: &Bodies<'_, A>,
+fn check_declared<'a, A: Allocator + Copy>(
+    names: &Names<'a, A>,
+    bodies: &Bodies<'a, A>,
     earlier: &[Item<A>],
-    f: &Function<A>,
+    f: &'a Function<A>,
 ) -> Result<(), Violation>
     requires known { known_in names.now ≡ file_scope (map item_of earlier.now) }
     requires defined { AreBodies bodies.now (map item_of earlier.now) }

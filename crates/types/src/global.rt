@@ -66,7 +66,10 @@ fn check_first(count: u32, first: &[First]) -> Result<(), Violation>
 }
 
 /// A name that stands for nothing yet.
-fn check_new<A: Allocator + Copy>(names: &Names<'_, A>, g: &Global<A>) -> Result<(), Violation>
+fn check_new<'a, A: Allocator + Copy>(
+    names: &Names<'a, A>,
+    g: &'a Global<A>,
+) -> Result<(), Violation>
     ensures { unmet_in result ≡ first_unmet (demand 21 g.now.name.span (is_unknown (known_in names.now g.now.name.text))) }
 {
     let new = names.look(g.name.text.as_str()).is_unknown();
@@ -74,10 +77,10 @@ fn check_new<A: Allocator + Copy>(names: &Names<'_, A>, g: &Global<A>) -> Result
 }
 
 /// One global, where so many cells are taken by those before it.
-fn check_global<A: Allocator + Copy>(
-    names: &Names<'_, A>,
+fn check_global<'a, A: Allocator + Copy>(
+    names: &Names<'a, A>,
     taken: u32,
-    g: &Global<A>,
+    g: &'a Global<A>,
 ) -> Result<(), Violation>
     requires { taken ≤ 4096 }
     ensures { unmet_in result ≡ first_unmet (demand 21 g.now.name.span (is_unknown (known_in names.now g.now.name.text)) ++ IsLength g.now.length ++ HaveCells (drop (cells (global_of g.now)) g.now.first) ++ demand 25 g.now.name.span (nat_le (taken + cells (global_of g.now)) 4096)) }

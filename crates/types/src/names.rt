@@ -10,10 +10,9 @@ ghost use Rattle.types.specs.declared.symbol.Symbol.TheVariants as symbol;
 
 use crate::symbol::Symbol;
 use crate::table::{Local, Names, Slot};
-use indexmap::IndexMap;
 use lex::token::Scalar;
 use std::alloc::{AllocError, Allocator};
-use std::hash::BuildHasherDefault;
+use std::collections::BTreeMap;
 
 impl<'a, A: Allocator + Copy> Names<'a, A> {
     /// No names. Takes no memory.
@@ -23,7 +22,7 @@ impl<'a, A: Allocator + Copy> Names<'a, A> {
         ensures locals { count_in result ≡ 0 }
     {
         Names {
-            slots: IndexMap::with_hasher(alloc, BuildHasherDefault::new()),
+            slots: BTreeMap::new(alloc),
             locals: Vec::new(alloc),
         }
     }
@@ -35,7 +34,7 @@ impl<'a, A: Allocator + Copy> Names<'a, A> {
         self.locals.len()
     }
 
-    fn slot(&self, name: &str) -> Slot<'a, A>
+    fn slot(&self, name: &'a str) -> Slot<'a, A>
         ensures { result ≡ slot_in self.now name.now }
     {
         match self.slots.get(&name) {
@@ -49,14 +48,14 @@ impl<'a, A: Allocator + Copy> Names<'a, A> {
 
     /// What a name is known as.
     #[tactic(auto, unfolding(crate::specs::Known::known_in))]
-    pub(crate) fn look(&self, name: &str) -> Symbol<'a, A>
+    pub(crate) fn look(&self, name: &'a str) -> Symbol<'a, A>
         ensures { known_of result ≡ known_in self.now name.now }
     {
         self.slot(name).symbol
     }
 
     /// Whether a local of this name was declared after so many locals.
-    pub(crate) fn is_declared(&self, start: usize, name: &str) -> bool
+    pub(crate) fn is_declared(&self, start: usize, name: &'a str) -> bool
         ensures { result ≡ nat_lt start (slot_in self.now name.now).place }
     {
         start < self.slot(name).place

@@ -17,9 +17,9 @@ use std::alloc::{AllocError, Allocator};
 use syntax::tree::{Declaration, Declarator, Expr, Name, Start};
 
 /// A first value, where there is one.
-pub(crate) fn check_first<A: Allocator + Copy>(
-    names: &Names<'_, A>,
-    first: &Option<Expr<A>>,
+pub(crate) fn check_first<'a, A: Allocator + Copy>(
+    names: &Names<'a, A>,
+    first: &'a Option<Expr<A>>,
 ) -> Result<(), Violation>
     ensures { unmet_in result ≡ first_unmet (demands_of (option_map expr_of first.now) (IsNumber (known_in names.now))) }
 {
@@ -30,10 +30,10 @@ pub(crate) fn check_first<A: Allocator + Copy>(
 }
 
 /// A name that no local has that was declared after so many locals.
-pub(crate) fn check_new<A: Allocator + Copy>(
-    names: &Names<'_, A>,
+pub(crate) fn check_new<'a, A: Allocator + Copy>(
+    names: &Names<'a, A>,
     start: usize,
-    x: &Name<A>,
+    x: &'a Name<A>,
 ) -> Result<(), Violation>
     ensures { (declared : List (List ℕ)) → AreDeclared start names.now declared → unmet_in result ≡ first_unmet (demand 21 x.now.span (not (has_name declared x.now.text))) }
 {

@@ -13,7 +13,10 @@ use crate::table::Names;
 use std::alloc::Allocator;
 use syntax::tree::{Expr, Simple};
 
-fn check_target<A: Allocator + Copy>(names: &Names<'_, A>, e: &Expr<A>) -> Result<(), Violation>
+fn check_target<'a, A: Allocator + Copy>(
+    names: &Names<'a, A>,
+    e: &'a Expr<A>,
+) -> Result<(), Violation>
     ensures { unmet_in result ≡ first_unmet (IsTypedTarget (known_in names.now) (expr_of e.now)) }
 {
     match e {
@@ -22,7 +25,7 @@ fn check_target<A: Allocator + Copy>(names: &Names<'_, A>, e: &Expr<A>) -> Resul
     }
 }
 
-fn may_be_assigned<A: Allocator + Copy>(names: &Names<'_, A>, e: &Expr<A>) -> bool
+fn may_be_assigned<'a, A: Allocator + Copy>(names: &Names<'a, A>, e: &'a Expr<A>) -> bool
     ensures { result ≡ may_be_assigned (known_in names.now) (expr_of e.now) }
 {
     match e {
@@ -32,7 +35,10 @@ fn may_be_assigned<A: Allocator + Copy>(names: &Names<'_, A>, e: &Expr<A>) -> bo
     }
 }
 
-fn check_assignable<A: Allocator + Copy>(names: &Names<'_, A>, e: &Expr<A>) -> Result<(), Violation>
+fn check_assignable<'a, A: Allocator + Copy>(
+    names: &Names<'a, A>,
+    e: &'a Expr<A>,
+) -> Result<(), Violation>
     ensures { unmet_in result ≡ first_unmet (IsAssignable (known_in names.now) (expr_of e.now)) }
 {
     let met = may_be_assigned(names, e);
@@ -41,9 +47,9 @@ fn check_assignable<A: Allocator + Copy>(names: &Names<'_, A>, e: &Expr<A>) -> R
 
 /// A simple statement.
 #[tactic(auto, using(crate::proofs::Steps::first_of_two))]
-pub(crate) fn check_simple<A: Allocator + Copy>(
-    names: &Names<'_, A>,
-    s: &Simple<A>,
+pub(crate) fn check_simple<'a, A: Allocator + Copy>(
+    names: &Names<'a, A>,
+    s: &'a Simple<A>,
 ) -> Result<(), Violation>
     ensures { unmet_in result ≡ first_unmet (IsTypedSimple (known_in names.now) (simple_of s.now)) }
 {

@@ -34,9 +34,9 @@ fn returns_right(gives: Option<Scalar>, value: bool) -> bool
 }
 
 /// An expression, where there is one.
-fn check_value<A: Allocator + Copy>(
-    names: &Names<'_, A>,
-    e: &Option<Expr<A>>,
+fn check_value<'a, A: Allocator + Copy>(
+    names: &Names<'a, A>,
+    e: &'a Option<Expr<A>>,
 ) -> Result<(), Violation>
     ensures { unmet_in result ≡ first_unmet (demands_of (option_map expr_of e.now) (IsTyped (known_in names.now))) }
 {
@@ -47,9 +47,9 @@ fn check_value<A: Allocator + Copy>(
 }
 
 /// That an expression gives a number, where there is one.
-fn gives_numbers<A: Allocator + Copy>(
-    names: &Names<'_, A>,
-    e: &Option<Expr<A>>,
+fn gives_numbers<'a, A: Allocator + Copy>(
+    names: &Names<'a, A>,
+    e: &'a Option<Expr<A>>,
 ) -> Result<(), Violation>
     ensures { unmet_in result ≡ first_unmet (demands_of (option_map expr_of e.now) (GivesNumber (known_in names.now))) }
 {
@@ -60,10 +60,10 @@ fn gives_numbers<A: Allocator + Copy>(
 }
 
 /// A `return`: its value, that there is one where the function gives one, and that it is a number.
-fn check_return<A: Allocator + Copy>(
-    names: &Names<'_, A>,
+fn check_return<'a, A: Allocator + Copy>(
+    names: &Names<'a, A>,
     gives: Option<Scalar>,
-    e: &Option<Expr<A>>,
+    e: &'a Option<Expr<A>>,
     at: Span,
 ) -> Result<(), Violation>
     ensures { unmet_in result ≡ first_unmet (demands_of (option_map expr_of e.now) (IsTyped (known_in names.now)) ++ demand 22 at (returns_right gives (option_map expr_of e.now)) ++ demands_of (option_map expr_of e.now) (GivesNumber (known_in names.now))) }
@@ -75,9 +75,9 @@ fn check_return<A: Allocator + Copy>(
 }
 
 /// What a `for` does behind each turn, where there is something.
-fn check_step<A: Allocator + Copy>(
-    names: &Names<'_, A>,
-    step: &Option<Simple<A>>,
+fn check_step<'a, A: Allocator + Copy>(
+    names: &Names<'a, A>,
+    step: &'a Option<Simple<A>>,
 ) -> Result<(), Violation>
     ensures { unmet_in result ≡ first_unmet (demands_of (option_map simple_of step.now) (IsTypedSimple (known_in names.now))) }
 {

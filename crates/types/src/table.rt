@@ -3,9 +3,8 @@
 ghost use Rattle.types.specs.Slots.{ArePlaced, ArePresent};
 
 use crate::symbol::Symbol;
-use indexmap::IndexMap;
 use std::alloc::Allocator;
-use std::hash::{BuildHasherDefault, FoldHasher};
+use std::collections::BTreeMap;
 
 /// What a name is known as, and how many locals there were with it: 0 for a name of the file.
 #[derive(Clone, Copy)]
@@ -24,7 +23,7 @@ pub(crate) struct Local<'a, A: Allocator> {
 /// The names that are known at a place: those of the file, and the locals in order of declaration.
 #[derive(Drop)]
 pub(crate) struct Names<'a, A: Allocator> {
-    pub(crate) slots: IndexMap<&'a str, Slot<'a, A>, BuildHasherDefault<FoldHasher>, A>,
+    pub(crate) slots: BTreeMap<&'a str, Slot<'a, A>, A>,
     pub(crate) locals: Vec<Local<'a, A>, A>,
     ghost placed: { ArePlaced slots locals.items },
     ghost present: { ArePresent slots locals.items },

@@ -20,10 +20,9 @@ use crate::global::check_globals;
 use crate::table::Names;
 use crate::typed::Typed;
 use containers::Items;
-use indexmap::IndexMap;
 use lex::token::Span;
 use std::alloc::{AllocError, Allocator};
-use std::hash::BuildHasherDefault;
+use std::collections::BTreeMap;
 use syntax::tree::{Function, Item, Unit};
 
 /// The tables of a program.
@@ -96,7 +95,7 @@ fn check_items<'a, A: Allocator + Copy>(
 {
     let mut found = Found {
         names: Names::new(alloc),
-        bodies: IndexMap::with_hasher(alloc, BuildHasherDefault::new()),
+        bodies: BTreeMap::new(alloc),
         functions: Items::new(alloc),
         cells: Items::new(alloc),
         taken: 0,
@@ -108,9 +107,9 @@ fn check_items<'a, A: Allocator + Copy>(
 }
 
 /// Each function that is declared is defined.
-fn check_defined<A: Allocator + Copy>(
-    bodies: &Bodies<'_, A>,
-    items: &[Item<A>],
+fn check_defined<'a, A: Allocator + Copy>(
+    bodies: &Bodies<'a, A>,
+    items: &'a [Item<A>],
 ) -> Result<(), Violation>
     requires defined { AreBodies bodies.now (map item_of items.now) }
     requires typed { None ≡ first_unmet (AreTypedItems [] (map item_of items.now)) }
@@ -129,9 +128,9 @@ fn check_defined<A: Allocator + Copy>(
 }
 
 /// A function that gives nothing and takes one `int` has the name `worker`.
-fn check_worker<A: Allocator + Copy>(
-    names: &Names<'_, A>,
-    items: &[Item<A>],
+fn check_worker<'a, A: Allocator + Copy>(
+    names: &Names<'a, A>,
+    items: &'a [Item<A>],
     end: usize,
 ) -> Result<(), Violation>
     requires { known_in names.now ≡ file_scope (map item_of items.now) }

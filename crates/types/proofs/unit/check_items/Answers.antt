@@ -1,6 +1,9 @@
-use Rattle.std.proofs.Common.{◌∙◌, map, refl, sym, ap, subst, arith, is_some, bytes_eq}
+use Rattle.std.proofs.Common.{◌∙◌, map, refl, sym, ap, subst, arith, is_some}
 use Rattle.std.proofs.lemmas.List.{take_all}
 use Rattle.std.specs.Map.{lookup}
+use Rattle.std.specs.Ordering.{nat_cmp}
+use Rattle.std.specs.Cmp.Lexicographic.{slice_cmp}
+use Rattle.std.specs.BTreeMap.{is_at}
 use Rattle.syntax.specs.Views.{item_of}
 use Rattle.types.specs.Found.{IsFound}
 use Rattle.types.proofs.Items.{items_more, items_taken}
@@ -12,7 +15,7 @@ each-init g c = (
   record {
     known = c.new.ensures.known;
     none = c.new.ensures.locals;
-    defined = λ x. ap (λ es. is_some (lookup (λ k. bytes_eq x k.now) es)) c.with_hasher.ensures.empty;
+    defined = λ x. ap (λ es. is_some (lookup (is_at (λ k. slice_cmp nat_cmp x k.now)) es)) c.new-2.ensures.empty;
     functions = c.new-3.ensures;
     cells = c.new-4.ensures;
     taken = refl;

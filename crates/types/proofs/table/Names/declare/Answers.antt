@@ -1,11 +1,10 @@
-use Rattle.std.proofs.Common.{is_some, bytes_eq, true, ap, sym, subst, take, ◌-◌, ◌∷◌, [], arith, ◌∙◌, ◌+◌, ◌≡◌, length, vec_len, rules}
+use Rattle.std.proofs.Common.{refl, is_some, true, ap, sym, subst, take, ◌-◌, ◌∷◌, [], arith, ◌∙◌, ◌+◌, ◌≡◌, length, vec_len, rules}
 use Rattle.types.specs.Slots.{with_slot}
 use Rattle.types.specs.Known.{slot_in}
 use Rattle.types.specs.declared.symbol.Symbol.TheVariants as symbol
 use Rattle.std.proofs.lemmas.List.Elements.{All-append}
-use Rattle.indexmap.specs.IndexMap.{get_by}
 use Rattle.types.specs.declared.table.Local.{Local}
-use Rattle.types.specs.Slots.{ArePresent}
+use Rattle.types.specs.Slots.{value_at, ArePresent}
 use Rattle.types.proofs.Kept.{put, placed_more, placed_kept, present_more, present_one, present_kept, popped}
 use Rattle.types.proofs.table.Names.declare.Goals as goal
 
@@ -24,7 +23,7 @@ invariant_of-self-in-Ok g c =
     let size = c.len-place.ensures ∙ sizes in
     record {
       placed = placed_more old new ls c.push.new.self.items l _ c.in_ok-push.ensures.items (c.slot-hidden.ensures) (put old new c.args.name _ c.in-Ok.ensures.updates) (omega (arith, size)) c.args.self.now.placed;
-      present = subst (ArePresent new) (sym c.in_ok-push.ensures.items) (All-append (λ m. is_some (get_by (λ k. bytes_eq m.name.now k.now) new) ≡ true) ls (l ∷ []) (present_more old new ls c.args.name _ c.in-Ok.ensures.updates c.args.self.now.present) (present_one old new l _ c.in-Ok.ensures.updates));
+      present = subst (ArePresent new) (sym c.in_ok-push.ensures.items) (All-append (λ m. is_some (value_at new m.name.now) ≡ true) ls (l ∷ []) (present_more old new ls c.args.name _ c.in-Ok.ensures.updates c.args.self.now.present) (present_one old new l _ c.in-Ok.ensures.updates));
     }
 
 pub invariant_of-self-in-Err : goal.invariant_of-self-in-Err
@@ -38,4 +37,14 @@ invariant_of-self-in-Err g c =
     record {
       placed = placed_kept old new ls c.pop.new.self.items c.in-Err.ensures.err same c.args.self.now.placed;
       present = present_kept old new ls c.pop.new.self.items c.in-Err.ensures.err same c.args.self.now.present;
+    }
+
+pub invariant_of-self : goal.invariant_of-self
+invariant_of-self g c =
+    let old = c.args.self.now.slots in
+    let ls = c.args.self.now.locals.items in
+    let same = c.in_err-push.ensures.items in
+    record {
+      placed = placed_kept old old ls c.push.new.self.items refl same c.args.self.now.placed;
+      present = present_kept old old ls c.push.new.self.items refl same c.args.self.now.present;
     }

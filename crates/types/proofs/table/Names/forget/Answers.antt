@@ -1,7 +1,9 @@
-use Rattle.std.proofs.Common.{Some, None, ◌≤◌, take, bytes_eq, ap, sym, ◌∙◌, ◌-◌, ◌≡◌, ◌∷◌, [], length, drop, arith}
+use Rattle.std.proofs.Common.{Some, None, ◌≤◌, take, ap, sym, ◌∙◌, ◌-◌, ◌≡◌, ◌∷◌, [], length, drop, arith}
 use Rattle.std.proofs.Math.Seq.{take-append_seam}
-use Rattle.indexmap.specs.IndexMap.{Updates, get_by}
-use Rattle.types.specs.Slots.{under, table_of, ArePlaced, ArePresent}
+use Rattle.std.specs.Ordering.{nat_cmp}
+use Rattle.std.specs.Cmp.Lexicographic.{slice_cmp}
+use Rattle.std.specs.BTreeMap.{Updates}
+use Rattle.types.specs.Slots.{value_at, under, table_of, ArePlaced, ArePresent}
 use Rattle.types.specs.Known.{slot_in, count_in}
 use Rattle.types.proofs.Kept.{put, newest, one_less_of, by_either, placed_less, present_more, present_less, present_last}
 use Rattle.types.proofs.table.Names.forget.Goals as goal
@@ -27,7 +29,7 @@ invariant_of-self g c =
     let taken : ls ≡ take (length ls) ms = sym (take-append_seam ls (l ∷ [])) ∙ ap (take (length ls)) (sym is) in
     let last : drop (length ls) ms ≡ l ∷ [] = newest ms ls l is in
     let few : length ls ≤ length ms = omega (arith, one_less) in
-    let both = by_either c.insert.result (Updates (λ a b. bytes_eq a.now b.now) old new l.name (Some l.hidden)) (get_by (λ k. bytes_eq l.name.now k.now) old ≡ None) (ArePlaced new ls × ArePresent new ls) c.insert.ensures.updates c.insert.ensures.absent
+    let both = by_either c.insert.result (Updates (λ a b. slice_cmp nat_cmp a.now b.now) old new l.name (Some l.hidden)) (value_at old l.name.now ≡ None) (ArePlaced new ls × ArePresent new ls) c.insert.ensures.updates c.insert.ensures.absent
     (λ u. (placed_less old new ms ls (length ls) taken (put old new l.name l.hidden u ∙ sym (ap (λ xs. under xs (table_of old)) last)) few c.args.self.now.placed, present_more old new ls l.name l.hidden u (present_less old ms ls l is c.args.self.now.present)))
     (λ none. absurd (present_last old ms ls l is c.args.self.now.present none)) in
     record { placed = both.0; present = both.1 }

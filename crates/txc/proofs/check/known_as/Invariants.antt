@@ -1,8 +1,0 @@
-use Rattle.std.proofs.Common.{◌≡◌, map, drop}
-use Rattle.syntax.specs.Views.{item_of}
-use Rattle.syntax.specs.Types.{file_scope}
-use Rattle.txc.proofs.check.known_as.Given as goal
-
--- the items that are left say what the name is known as
-abbrev pub invariant-items : goal.invariant-items
-invariant-items g l = file_scope (map item_of (drop l.item-index l.items)) l.name ≡ file_scope (map item_of l.items) l.name
