@@ -1,6 +1,6 @@
 -- What typing says of a straight-line program: its names stand somewhere, its cells are few, and its worker is its function.
 use Rattle.std.proofs.Common.{◌≡◌, ℕ, ◌+◌, ◌≤◌, Bool, true, false, List, [], ◌∷◌, ◌++◌, length, Option, Some, None, refl, sym, ap, ◌∙◌, subst, arith}
-use Rattle.std.specs.Prelude.{option_map, unwrap_or, IsSome, IsTrue, is_some, not, nat_le, sum_by, bytes_eq, codes, if◌then◌else◌}
+use Rattle.std.specs.Prelude.{option_map, unwrap_or, IsSome, IsTrue, is_some, is_none, not, ◌&&◌, ◌||◌, drop, nat_le, sum_by, bytes_eq, codes, if◌then◌else◌}
 use Rattle.std.proofs.lemmas.Bool.Decides.{nat_tests}
 use Rattle.std.proofs.lemmas.List.{append_assoc, length-append}
 use Rattle.std.proofs.lemmas.List.Sums.{sum_by-cons}
@@ -11,15 +11,13 @@ use Rattle.syntax.specs.Tree as Tree
 use Rattle.syntax.specs.Tree.{Name, Expr, Simple, Stmt, Stmts, Parameter, Function, Global, Item, Defines, Shares, Program}
 use Rattle.syntax.specs.Names.{GlobalCells, globals, cells, global_from, global_of, definition_of, defined}
 use Rattle.syntax.specs.Types.{Known, Unknown, Number, Array, Callable, Scope, file_scope, known_among, known_global, known_function, with_number, number_type}
-use Rattle.syntax.specs.Typing.{is_worker, is_unknown, may_be_number, all_cells, with_parameters, parameter_names}
-use Rattle.lower.specs.Typing.{IsTyped, IsTypedTarget, IsAssignable, IsTypedSimple, AreTypedStmts, IsTypedBody, IsTypedFunction, AreTypedGlobals, AreTypedItems, IsTypedProgram}
+use Rattle.syntax.specs.Typing.{is_worker, is_unknown, may_be_number, may_be_function, has_name, defined_names, agrees, may_be_assigned, all_cells, with_parameters, parameter_names, demand, IsLength, HaveCells, AreTypedStmts, AreDistinct, IsTypedBody, IsTypedFunction, AreTypedGlobals, IsTypedItem, AreTypedItems, AreDefined, IsTypedProgram}
+use Rattle.syntax.proofs.Demands.{AreMet, met_before, met_behind, is_met}
+use Rattle.syntax.proofs.TypedParts.{TypedExpr, TypedTarget, TypedSimple, TypedStmts, stmts_parts}
 use Rattle.lower.specs.StraightLine.{IsSum, IsVariable, IsAssigned, AreAssignments, AreTransactions, IsStraightBody, IsOneNumber, IsStraightFunction, AreSingle, IsStraightLine}
 use Rattle.lower.specs.declared.code.Place.TheVariants.{Cell, Local}
 use Rattle.lower.specs.Lowering.{place_of, IsPlaced, IsPlacedSimple, ArePlaced, IsPlacedFunction, parameter_in, worker_in}
 use Rattle.lower.proofs.Shapes.{atom_sum}
-
-abbrev every : ℕ → Span → Type 0
-every n at = Unit {0}
 
 fits_from : (n : ℕ) → IsTrue (nat_le n 4096) → n ≤ 4096
 fits_from n h = grind (arith, nat_tests)
@@ -39,12 +37,15 @@ are_single (Defines f ∷ i ∷ items) h = absurd h
 one_cell : (g : Global) → g.length ≡ None → cells g ≡ 1
 one_cell g e = ap (λ l. unwrap_or (option_map (λ (n : ℕ × Span). n.0) l) 1) e
 
-globals_fit : (earlier : List Item) (before : List Global) (taken : ℕ) (gs : List Global) → AreSingle gs → AreTypedGlobals every earlier before taken gs → taken ≤ 4096 → taken + length gs ≤ 4096
+globals_fit : (earlier : List Item) (before : List Global) (taken : ℕ) (gs : List Global) → AreSingle gs → AreMet (AreTypedGlobals earlier before taken gs) → taken ≤ 4096 → taken + length gs ≤ 4096
 globals_fit earlier before taken [] h t few = omega arith
 globals_fit earlier before taken (g ∷ gs) h t few =
     let one = one_cell g h.0.1 in
-    let fits : taken + cells g ≤ 4096 = fits_from (taken + cells g) (t.3 tt) in
-    let rest = globals_fit earlier (before ++ g ∷ []) (taken + cells g) gs h.1 t.4 fits in
+    let own = demand 21 g.name.at (is_unknown (file_scope (earlier ++ Shares before ∷ []) g.name.text)) ++ IsLength g.length ++ HaveCells (drop (cells g) g.first) in
+    let last = demand 25 g.name.at (nat_le (taken + cells g) 4096) in
+    let others = AreTypedGlobals earlier (before ++ g ∷ []) (taken + cells g) gs in
+    let fits : taken + cells g ≤ 4096 = fits_from (taken + cells g) (is_met 25 g.name.at (nat_le (taken + cells g) 4096) (met_behind own last (met_before (own ++ last) others t))) in
+    let rest = globals_fit earlier (before ++ g ∷ []) (taken + cells g) gs h.1 (met_behind (own ++ last) others t) fits in
     omega arith
 
 sum_cells : (gs : List Global) → AreSingle gs → sum_by cells gs ≡ length gs
@@ -56,14 +57,16 @@ all_cells-append [] ys = omega arith
 all_cells-append (Defines f ∷ xs) ys = all_cells-append xs ys
 all_cells-append (Shares gs ∷ xs) ys = let h = all_cells-append xs ys in omega arith
 
-few_from : (earlier items : List Item) → IsStraightLine items → AreTypedItems every earlier items → all_cells earlier ≤ 4096 → all_cells earlier + length (globals items) ≤ 4096
+few_from : (earlier items : List Item) → IsStraightLine items → AreMet (AreTypedItems earlier items) → all_cells earlier ≤ 4096 → all_cells earlier + length (globals items) ≤ 4096
 few_from earlier [] h t few = absurd h
 few_from earlier (Shares gs ∷ items) h t few =
-    let here = globals_fit earlier [] (all_cells earlier) gs h.0 t.0 few in
+    let own = IsTypedItem earlier (Shares gs) in
+    let others = AreTypedItems (earlier ++ Shares gs ∷ []) items in
+    let here = globals_fit earlier [] (all_cells earlier) gs h.0 (met_before own others t) few in
     let same = all_cells-append earlier (Shares gs ∷ []) in
     let cells_here = sum_cells gs h.0 in
     let more : all_cells (earlier ++ Shares gs ∷ []) ≤ 4096 = omega arith in
-    let rest = few_from (earlier ++ Shares gs ∷ []) items h.1 t.1 more in
+    let rest = few_from (earlier ++ Shares gs ∷ []) items h.1 (met_behind own others t) more in
     let n = length-append gs (globals items) in
     omega arith
 few_from earlier (Defines f ∷ []) h t few = omega arith
@@ -76,14 +79,14 @@ pub record Worker (earlier items : List Item) : Type 0 where
   pub straight : IsStraightFunction function
   pub before : List Item
   pub whole : earlier ++ items ≡ before ++ Defines function ∷ []
-  pub typed : IsTypedFunction every before function
+  pub typed : AreMet (IsTypedFunction before function)
 
-worker_at : (earlier items : List Item) → IsStraightLine items → AreTypedItems every earlier items → Worker earlier items
+worker_at : (earlier items : List Item) → IsStraightLine items → AreMet (AreTypedItems earlier items) → Worker earlier items
 worker_at earlier [] h t = absurd h
 worker_at earlier (Shares gs ∷ items) h t =
-    let w = worker_at (earlier ++ Shares gs ∷ []) items h.1 t.1 in
+    let w = worker_at (earlier ++ Shares gs ∷ []) items h.1 (met_behind (IsTypedItem earlier (Shares gs)) (AreTypedItems (earlier ++ Shares gs ∷ []) items) t) in
     record { function = w.function; is_worker_in = w.is_worker_in; straight = w.straight; before = w.before; whole = sym (append_assoc earlier (Shares gs ∷ []) items) ∙ w.whole; typed = w.typed }
-worker_at earlier (Defines f ∷ []) h t = record { function = f; is_worker_in = refl; straight = h; before = earlier; whole = refl; typed = t.0 }
+worker_at earlier (Defines f ∷ []) h t = record { function = f; is_worker_in = refl; straight = h; before = earlier; whole = refl; typed = met_before (IsTypedFunction earlier f) [] t }
 worker_at earlier (Defines f ∷ i ∷ items) h t = absurd h
 
 -- no global is the worker
@@ -161,31 +164,31 @@ parameter_places p (q ∷ []) h = named_places p q.of q.name h.1
 parameter_places p (q ∷ r ∷ qs) h = absurd h
 
 module _ (p : Program) (x : List ℕ) (known : Scope) (places : Places p x known) where
-  sum_placed : (e : Expr) → IsSum e → IsTyped every known e → IsPlaced p x e
-  sum_placed (Tree.Variable y) h t = places y.text (t.0 tt) (t.1 tt)
+  sum_placed : (e : Expr) → IsSum e → TypedExpr known e → IsPlaced p x e
+  sum_placed (Tree.Variable y) h t = places y.text t.0 t.1
   sum_placed (Tree.Binary op a b at) h t = (sum_placed a h.1 t.0, sum_placed b (atom_sum b h.2) t.2)
   sum_placed (Tree.Constant n u at) h t = tt
   sum_placed e h t = absurd h
 
-  target_placed : (to : Expr) → IsVariable to → IsTypedTarget every known to → IsAssignable every known to → IsPlaced p x to
-  target_placed (Tree.Variable y) h t a = places y.text (t tt) (a tt)
+  target_placed : (to : Expr) → IsVariable to → TypedTarget known to → IsTrue (may_be_assigned known to) → IsPlaced p x to
+  target_placed (Tree.Variable y) h t a = places y.text t a
   target_placed e h t a = absurd h
 
-  assigned_placed : (s : Simple) → IsAssigned s → IsTypedSimple every known s → IsPlacedSimple p x s
-  assigned_placed (Tree.Assign to None e) h t = (target_placed to h.0 t.0 t.2, sum_placed e h.1 t.1.0)
+  assigned_placed : (s : Simple) → IsAssigned s → TypedSimple known s → IsPlacedSimple p x s
+  assigned_placed (Tree.Assign to None e) h t = (target_placed to h.0 t.0 t.2, sum_placed e h.1 t.1)
   assigned_placed (Tree.Assign to (Some op) e) h t = absurd h
   assigned_placed s h t = absurd h
 
-  stores_placed : (gives : Option Scalar) (ss : Stmts) (mine : List (List ℕ)) (looping : Bool) → AreAssignments ss → AreTypedStmts every gives ss known mine looping → ArePlaced p x ss
-  stores_placed gives Tree.[] mine looping h t = tt
-  stores_placed gives (Tree.◌∷◌ (Tree.Do s) ss) mine looping h t = (assigned_placed s h.0 t.0, stores_placed gives ss mine looping h.1 t.1)
-  stores_placed gives (Tree.◌∷◌ s ss) mine looping h t = absurd h.0
+  stores_placed : (ss : Stmts) (looping : Bool) → AreAssignments ss → TypedStmts ss known looping → ArePlaced p x ss
+  stores_placed Tree.[] looping h t = tt
+  stores_placed (Tree.◌∷◌ (Tree.Do s) ss) looping h t = (assigned_placed s h.0 t.0, stores_placed ss looping h.1 t.1)
+  stores_placed (Tree.◌∷◌ s ss) looping h t = absurd h.0
 
-  body_placed : (gives : Option Scalar) (ss : Stmts) (mine : List (List ℕ)) (looping : Bool) → AreTransactions ss → AreTypedStmts every gives ss known mine looping → ArePlaced p x ss
-  body_placed gives Tree.[] mine looping h t = tt
-  body_placed gives (Tree.◌∷◌ (Tree.Transaction Atomic body at) ss) mine looping h t = (stores_placed gives body [] looping h.0 t.0, body_placed gives ss mine looping h.1 t.1)
-  body_placed gives (Tree.◌∷◌ (Tree.Transaction Relaxed body at) ss) mine looping h t = absurd h.0
-  body_placed gives (Tree.◌∷◌ s ss) mine looping h t = absurd h.0
+  body_placed : (ss : Stmts) (looping : Bool) → AreTransactions ss → TypedStmts ss known looping → ArePlaced p x ss
+  body_placed Tree.[] looping h t = tt
+  body_placed (Tree.◌∷◌ (Tree.Transaction Atomic body at) ss) looping h t = (stores_placed body looping h.0 t.0, body_placed ss looping h.1 t.1)
+  body_placed (Tree.◌∷◌ (Tree.Transaction Relaxed body at) ss) looping h t = absurd h.0
+  body_placed (Tree.◌∷◌ s ss) looping h t = absurd h.0
 
 -- what code generation needs of a program
 pub record IsReady (p : Program) : Type 0 where
@@ -203,19 +206,28 @@ has_body : (o : Option Stmts) → IsStraightBody o → (b : Stmts) × (o ≡ Som
 has_body None h = absurd h
 has_body (Some b) h = (b, refl)
 
-typed_body : (before : List Item) (f : Function) (b : Stmts) → f.body ≡ Some b → IsTypedFunction every before f →
-    AreTypedStmts every f.result b (with_parameters f.parameters (file_scope (before ++ Defines f ∷ []))) (parameter_names f.parameters) false
-typed_body before f b e t = subst (λ (o : Option Stmts). IsTypedBody every before f o) e t.3
+typed_body : (before : List Item) (f : Function) (b : Stmts) → f.body ≡ Some b → AreMet (IsTypedFunction before f) →
+    TypedStmts b (with_parameters f.parameters (file_scope (before ++ Defines f ∷ []))) false
+typed_body before f b e t =
+    let new = demand 21 f.name.at (may_be_function (file_scope before f.name.text) && (is_none f.body || not (has_name (defined_names before) f.name.text))) in
+    let same = demand 22 f.name.at (agrees f (file_scope before f.name.text)) in
+    let body = met_behind (new ++ same ++ AreDistinct [] f.parameters) (IsTypedBody before f f.body) t in
+    stmts_parts f.result b (with_parameters f.parameters (file_scope (before ++ Defines f ∷ []))) (parameter_names f.parameters) false (subst (λ (o : Option Stmts). AreMet (IsTypedBody before f o)) e body)
 
 pub ready : (p : Program) → IsStraightLine p → IsTypedProgram p → IsReady p
 ready p h t =
-    let w = worker_at [] p h t.0 in
+    let items = AreTypedItems [] p in
+    let defined = AreDefined p [] p in
+    let worker = is_worker (file_scope p (codes "worker")) in
+    let last = demand 28 (record { start = 0; end = 0 }) worker in
+    let typed_items = met_before items defined (met_before (items ++ defined) last t) in
+    let w = worker_at [] p h typed_items in
     let f = w.function in
     let b = has_body f.body w.straight.3 in
-    let few : 0 + length (globals p) ≤ 4096 = few_from [] p h t.0 (omega arith) in
-    let typed = subst (λ (q : Program). AreTypedStmts every f.result b.0 (with_parameters f.parameters (file_scope q)) (parameter_names f.parameters) false) (sym w.whole) (typed_body w.before f b.0 b.1 w.typed) in
+    let few : 0 + length (globals p) ≤ 4096 = few_from [] p h typed_items (omega arith) in
+    let typed = subst (λ (q : Program). TypedStmts b.0 (with_parameters f.parameters (file_scope q)) false) (sym w.whole) (typed_body w.before f b.0 b.1 w.typed) in
     let straight : AreTransactions b.0 = subst IsStraightBody b.1 w.straight.3 in
-    let placed = body_placed p (parameter_in f.parameters) (with_parameters f.parameters (file_scope p)) (parameter_places p f.parameters w.straight.2) f.result b.0 (parameter_names f.parameters) false straight typed in
+    let placed = body_placed p (parameter_in f.parameters) (with_parameters f.parameters (file_scope p)) (parameter_places p f.parameters w.straight.2) b.0 false straight typed in
     record {
       single = are_single p h;
       few = omega arith;
@@ -224,7 +236,7 @@ ready p h t =
       straight = w.straight;
       body = b.0;
       is_body = b.1;
-      defines = definition_is p f b.0 (codes "worker") h (t.2 tt) w.is_worker_in b.1;
+      defines = definition_is p f b.0 (codes "worker") h (is_met 28 (record { start = 0; end = 0 }) worker (met_behind (items ++ defined) last t)) w.is_worker_in b.1;
       placed = subst (λ (o : Option Stmts). ArePlaced p (parameter_in f.parameters) (unwrap_or o Tree.[])) (sym b.1) placed;
     }
 

@@ -1,4 +1,3 @@
-pub mod Typing
 pub mod StraightLine
 pub mod Code
 pub mod Alone

@@ -3,7 +3,7 @@
 ghost use Rattle.std.specs.Prelude.{◌≡◌, ◌≤◌, map, length, IfOk, Some};
 ghost use Rattle.syntax.specs.Names.{globals};
 ghost use Rattle.syntax.specs.Views.{expr_of, simple_of, stmt_of, stmts_of, function_of, item_of, program_of};
-ghost use Rattle.lower.specs.Typing.{IsTypedProgram};
+ghost use Rattle.syntax.specs.Typing.{IsTypedProgram};
 ghost use Rattle.lower.specs.StraightLine.{IsAdding, IsAtom, IsSum, IsVariable, IsAssigned, IsAssignment, AreAssignments, IsStraightTransaction, AreTransactions, IsStraightFunction, AreSingle, IsStraightLine};
 ghost use Rattle.lower.specs.Code.{op_of};
 ghost use Rattle.lower.specs.Alone.{Means, HasWords};

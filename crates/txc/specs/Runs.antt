@@ -9,7 +9,9 @@ use Rattle.lex.specs.Faults.{IsFault}
 use Rattle.syntax.specs.Tree.{Program}
 use Rattle.syntax.specs.Behaviours.{Memory}
 use Rattle.syntax.specs.Grammar.{Source, Spells}
-use Rattle.lower.specs.Typing.{IsTypedProgram, BreaksRule}
+use Rattle.syntax.specs.Typing.{IsTypedProgram, Meets, first_unmet}
+use Rattle.types.specs.declared.fault.Violation.{Violation}
+use Rattle.types.specs.Answers.{number_in, span_in}
 use Rattle.parse.specs.Faults.{IsFaultOf}
 use Rattle.lower.specs.declared.code.End.{End}
 use Rattle.lower.specs.declared.code.End.TheVariants.{Ended, Trapped}
@@ -17,10 +19,8 @@ use Rattle.std.specs.Io.KnownBytes.{Appends}
 use Rattle.lower.specs.Code.{status_of}
 use Rattle.lower.specs.Alone.{IsRunOfOne}
 use Rattle.lower.specs.StraightLine.{IsStraightLine}
-use Rattle.txc.specs.declared.check.CheckFault.{CheckFault}
 use Rattle.txc.specs.declared.run.RunTextFault.{RunTextFault}
-use Rattle.txc.specs.declared.run.RunTextFault.TheVariants.{OutOfMemory, Lex, Parse, Check, NotLowered}
-use Rattle.txc.specs.Checks.{number_in, span_in}
+use Rattle.txc.specs.declared.run.RunTextFault.TheVariants.{OutOfMemory, Lex, Parse, IllTyped, NotLowered}
 use Rattle.txc.specs.Report.{report_text}
 
 -- the tokens of a text spell this program
@@ -48,16 +48,17 @@ pub record IsMisspelled (text : List ℕ) (says : List Tok → Type 0) : Type 0 
   pub lexed : IsLexed text tokens
   pub fault : says tokens
 
--- the program that a text spells breaks the rule of this number at this place
-pub record IsMistyped (text : List ℕ) (fault : CheckFault) : Type 0 where
+-- the first demand that the program of a text does not meet is of this number and at this place
+pub record IsMistyped (text : List ℕ) (fault : Violation) : Type 0 where
   pub source : Source
   pub spelled : IsSourceOf text source
-  pub breaks : BreaksRule (number_in fault) (span_in fault) source.ends source.program
+  pub first : Some (number_in fault, span_in fault) ≡ first_unmet (Meets source.ends source.program)
 
--- the program that a text spells is not one of straight lines, the only ones that are lowered today
+-- the text spells a typed program that is not one of straight lines, the only ones that are lowered today
 pub record IsNotLowered (text : List ℕ) : Type 0 where
   pub source : Source
   pub spelled : IsSourceOf text source
+  pub typed : IsTypedProgram source.program
   pub other : IsStraightLine source.program → ⊥
 
 -- what a fault says of a text; want of memory says nothing
@@ -65,21 +66,21 @@ abbrev pub IsFaultOfText : List ℕ → RunTextFault → Type 0
 IsFaultOfText text OutOfMemory = Unit {0}
 IsFaultOfText text (Lex fault) = IsFault text fault
 IsFaultOfText text (Parse fault) = IsMisspelled text (λ tokens. IsFaultOf tokens fault)
-IsFaultOfText text (Check fault) = IsMistyped text fault
+IsFaultOfText text (IllTyped fault) = IsMistyped text fault
 IsFaultOfText text NotLowered = IsNotLowered text
 
 abbrev pub number_of_run : RunTextFault → ℕ
 number_of_run OutOfMemory = 0
 number_of_run (Lex fault) = lex.number_of fault
 number_of_run (Parse fault) = parse.number_of fault
-number_of_run (Check fault) = number_in fault
+number_of_run (IllTyped fault) = number_in fault
 number_of_run NotLowered = 63
 
 abbrev pub span_of_run : RunTextFault → Option Span
 span_of_run OutOfMemory = None
 span_of_run (Lex fault) = lex.span_of fault
 span_of_run (Parse fault) = parse.span_of fault
-span_of_run (Check fault) = Some (span_in fault)
+span_of_run (IllTyped fault) = Some (span_in fault)
 span_of_run NotLowered = None
 
 -- the exit status of a run

@@ -1,7 +1,6 @@
 //! The program: opens the file that is asked for, runs it and prints the report.
 #![tactic(auto)]
 
-mod check;
 mod command;
 #[cfg(test)]
 mod fault_tests;

@@ -3,12 +3,11 @@
 ghost use Rattle.std.specs.Prelude.{◌≡◌, IfOk, IfErr, string_bytes};
 ghost use Rattle.syntax.specs.Views.{program_of};
 ghost use Rattle.lower.specs.StraightLine.{IsStraightLine};
-ghost use Rattle.lower.specs.Typing.{IsTypedProgram};
+ghost use Rattle.syntax.specs.Typing.{IsTypedProgram};
 ghost use Rattle.parse.specs.Faults.{source_of};
 ghost use Rattle.lower.specs.declared.code.End.{End};
 ghost use Rattle.txc.specs.Runs.{IsSourceOf, IsReportOf, Reports, IsFaultOfText, number_of_run, span_of_run};
 
-use crate::check::{CheckFault, check};
 use crate::report::report;
 use lex::token::Span;
 use lex::{LexFault, lex};
@@ -17,6 +16,7 @@ use parse::{ParseFault, parse};
 use std::alloc::Allocator;
 use syntax::tree::Unit;
 use thiserror::Error;
+use types::{TypeFault, Typed, Violation, check};
 
 /// Why a source is not run.
 #[derive(Clone, Copy, Debug, Error)]
@@ -29,8 +29,8 @@ pub enum RunTextFault {
     #[error("{0}")]
     Parse(ParseFault),
     #[error("{0}")]
-    Check(CheckFault),
-    /// The program is not one of straight lines: it is well formed, and cannot be run yet.
+    IllTyped(Violation),
+    /// The program is not one of straight lines: its names and types are right, and it cannot be run yet.
     #[error("not lowered yet")]
     NotLowered,
 }
@@ -44,7 +44,7 @@ impl RunTextFault {
             RunTextFault::OutOfMemory => 0,
             RunTextFault::Lex(fault) => fault.number(),
             RunTextFault::Parse(fault) => fault.number(),
-            RunTextFault::Check(fault) => fault.number(),
+            RunTextFault::IllTyped(fault) => fault.number(),
             RunTextFault::NotLowered => 63,
         }
     }
@@ -57,7 +57,7 @@ impl RunTextFault {
             RunTextFault::OutOfMemory | RunTextFault::NotLowered => None,
             RunTextFault::Lex(fault) => fault.span(),
             RunTextFault::Parse(fault) => fault.span(),
-            RunTextFault::Check(fault) => Some(fault.span()),
+            RunTextFault::IllTyped(fault) => Some(fault.span()),
         }
     }
 }
@@ -83,13 +83,25 @@ fn read<A: Allocator + Copy>(alloc: A, text: &str) -> Result<Unit<A>, RunTextFau
     }
 }
 
-/// Runs a typed program.
-fn run_unit<A: Allocator + Copy>(alloc: A, unit: &Unit<A>) -> Result<Ran<A>, RunTextFault>
-    requires straight { IsStraightLine (program_of unit.now) }
-    requires typed { IsTypedProgram (program_of unit.now) }
-    ensures ok { IfOk result (λ r. IsReportOf (program_of unit.now) (string_bytes r.report) r.end) }
+/// The typed program that a text spells.
+fn read_typed<A: Allocator + Copy>(alloc: A, text: &str) -> Result<Typed<A>, RunTextFault>
+    ensures ok { IfOk result (λ t. IsSourceOf text.now (source_of t.unit)) }
+    ensures err { IfErr result (λ f. IsFaultOfText text.now f) }
+{
+    match check(alloc, read(alloc, text)?) {
+        Ok(typed) => Ok(typed),
+        Err(TypeFault::OutOfMemory(_)) => Err(RunTextFault::OutOfMemory),
+        Err(TypeFault::IllTyped(_, violation)) => Err(RunTextFault::IllTyped(violation)),
+    }
+}
+
+/// Runs a typed program of straight lines.
+fn run_typed<A: Allocator + Copy>(alloc: A, typed: &Typed<A>) -> Result<Ran<A>, RunTextFault>
+    requires { IsStraightLine (program_of typed.now.unit) }
+    ensures ok { IfOk result (λ r. IsReportOf (program_of typed.now.unit) (string_bytes r.report) r.end) }
     ensures err { IfErr result (λ f. f ≡ RunTextFault.OutOfMemory) }
 {
+    let unit = typed.unit();
     let Ok(code) = lower(alloc, unit) else {
         return Err(RunTextFault::OutOfMemory);
     };
@@ -110,21 +122,18 @@ pub fn run_source<A: Allocator + Copy>(alloc: A, text: &str) -> Result<Ran<A>, R
     ensures ok { IfOk result (λ r. Reports text.now (string_bytes r.report) r.end) }
     ensures err { IfErr result (λ f. IsFaultOfText text.now f) }
 {
-    let unit = read(alloc, text)?;
-    if !is_straight_line(&unit) {
-        return Err(RunTextFault::NotLowered);
-    }
-    match check(&unit) {
-        Ok(()) => run_unit(alloc, &unit),
-        Err(fault) => Err(RunTextFault::Check(fault)),
+    let typed = read_typed(alloc, text)?;
+    if is_straight_line(typed.unit()) {
+        run_typed(alloc, &typed)
+    } else {
+        Err(RunTextFault::NotLowered)
     }
 }
 
 /// Runs a source's text with one thread, and gives its report.
 ///
-/// The fault is that of the first phase that finds one: the lexer, the parser or the check. A program that the parser
-/// accepts and that is not one of straight lines is `NotLowered`; its names and types are not checked yet. `OutOfMemory`
-/// comes only where a growth was refused.
+/// The fault is that of the first phase that finds one: the lexer, the parser, or the check of names and types. A typed
+/// program that is not one of straight lines is `NotLowered`. `OutOfMemory` comes only where a growth was refused.
 pub fn run_text<A: Allocator + Copy>(alloc: A, text: &str) -> Result<String<A>, RunTextFault>
     ensures ok { IfOk result (λ t. (end : End) × Reports text.now (string_bytes t) end) }
     ensures err { IfErr result (λ f. IsFaultOfText text.now f) }
