@@ -9,3 +9,5 @@ mod checked;
 mod faults;
 #[cfg(test)]
 mod growths;
+#[cfg(test)]
+mod large;
