@@ -33,4 +33,5 @@ AccessFits cells (StoreLock n) = Unit {0}
 
 -- each attempt's logs name cells, and so does each thread's next access
 abbrev pub NamesCells : {C : Type 0} → (C → Effect C) → ℕ → World C → Type 0
-NamesCells {C} code cells w = (t : ℕ) (p : Part C) → slice_get w.parts t ≡ Some p → LogsFitIf cells p.thread.attempt × AccessFits cells (access code p.thread)
+NamesCells {C} code cells w = (t : ℕ) (p : Part C) → slice_get w.parts t ≡ Some p →
+    LogsFitIf cells p.thread.attempt × AccessFits cells (access code p.thread)

@@ -33,10 +33,14 @@ abbrev pub hearing : Access → Answer → List Heard
 hearing x a = if is_local x then [] else record { access = x; answer = a } ∷ []
 
 -- The worlds that steps which do not stop lead to, with what each thread was answered.
-pub data Answered {C : Type 0} (code : C → Effect C) (init : ℕ → C) (m0 : List ℕ) (threads : ℕ) : World C → List (List Heard) → Type 0 where
+pub data Answered {C : Type 0} (code : C → Effect C) (init : ℕ → C) (m0 : List ℕ) (threads : ℕ) : World C →
+    List (List Heard) → Type 0 where
   new : Answered code init m0 threads (new_world init m0 threads) (replicate threads [])
-  moved : (w : World C) (heard : List (List Heard)) (t : ℕ) (p : Part C) (hs : List Heard) → Answered code init m0 threads w heard → slice_get w.parts t ≡ Some p → slice_get heard t ≡ Some hs → stops (access code p.thread) ≡ false
-      → Answered code init m0 threads (step code w t) (slice_set heard t (hs ++ hearing (access code p.thread) (answer w.lock w.words (access code p.thread))))
+  moved : (w : World C) (heard : List (List Heard)) (t : ℕ) (p : Part C) (hs : List Heard) →
+      Answered code init m0 threads w heard → slice_get w.parts t ≡ Some p → slice_get heard t ≡ Some hs →
+      stops (access code p.thread) ≡ false
+      → Answered code init m0 threads (step code w t)
+      (slice_set heard t (hs ++ hearing (access code p.thread) (answer w.lock w.words (access code p.thread))))
 
 -- a local step: it depends on the part alone
 abbrev pub local_step : {C : Type 0} → (C → Effect C) → Part C → Part C
@@ -50,12 +54,15 @@ paused code (suc k) p = if is_local (access code p.thread) then paused code k (l
 -- So many steps bring the thread to this one, where its accesses get these answers in order, all of them, and no step stops.
 pub data Replays {C : Type 0} (code : C → Effect C) (th : Thread C) : ℕ → List Heard → Thread C → Type 0 where
   none : Replays code th zero [] th
-  local_more : (n : ℕ) (hs : List Heard) (u : Thread C) → Replays code th n hs u → is_local (access code u) ≡ true → Replays code th (suc n) hs (told code u Done).thread
-  heard_more : (n : ℕ) (hs : List Heard) (u : Thread C) (a : Answer) → Replays code th n hs u → is_local (access code u) ≡ false → stops (access code u) ≡ false
+  local_more : (n : ℕ) (hs : List Heard) (u : Thread C) → Replays code th n hs u → is_local (access code u) ≡ true →
+      Replays code th (suc n) hs (told code u Done).thread
+  heard_more : (n : ℕ) (hs : List Heard) (u : Thread C) (a : Answer) → Replays code th n hs u →
+      is_local (access code u) ≡ false → stops (access code u) ≡ false
       → Replays code th (suc n) (hs ++ record { access = access code u; answer = a } ∷ []) (told code u a).thread
 
 -- in some world that steps which do not stop lead to, the thread with this number has this part and was answered this
-pub record IsPartOf {C : Type 0} (code : C → Effect C) (init : ℕ → C) (m0 : List ℕ) (threads number : ℕ) (p : Part C) (hs : List Heard) : Type 0 where
+pub record IsPartOf {C : Type 0} (code : C → Effect C) (init : ℕ → C) (m0 : List ℕ) (threads number : ℕ) (p : Part C)
+    (hs : List Heard) : Type 0 where
   pub world : World C
   pub heard : List (List Heard)
   pub answered : Answered code init m0 threads world heard
@@ -107,8 +114,10 @@ IsAmong p (q ∷ qs) = (p ≡ q) ⊎ IsAmong p qs
 -- lock-taking steps before it, or that of a pair which the thread that has the lock has stored so far.
 abbrev pub HasWord : {C : Type 0} → Memory → World C → List Entry → ℕ → ℕ → ℕ → Type 0
 HasWord {C} m0 w es l a v =
-    ((before : List Entry) × (after : List Entry) × (es ≡ before ++ after) × (l ≤ 2 * count_takers before + 1) × (slice_index (last_memory m0 (run_of before)) a ≡ v))
-    ⊎ ((t : ℕ) × (p : Part C) × (b : Attempt C) × (slice_get w.parts t ≡ Some p) × HasLock p b × IsAmong (a, v) (stored_of b.writes b.phase))
+    ((before : List Entry) × (after : List Entry) × (es ≡ before ++ after) × (l ≤ 2 * count_takers before + 1)
+    × (slice_index (last_memory m0 (run_of before)) a ≡ v))
+    ⊎ ((t : ℕ) × (p : Part C) × (b : Attempt C) × (slice_get w.parts t ≡ Some p) × HasLock p b
+    × IsAmong (a, v) (stored_of b.writes b.phase))
 
 abbrev pub WordOf : {C : Type 0} → Memory → World C → List Entry → ℕ → Access → Answer → Type 0
 WordOf m0 w es l (LoadWord a) (Value v) = HasWord m0 w es l a v
@@ -117,7 +126,8 @@ WordOf m0 w es l x y = Unit {0}
 -- each word among these answers
 abbrev pub HaveWords : {C : Type 0} → Memory → World C → List Entry → ℕ → List Heard → Type 0
 HaveWords m0 w es l [] = Unit {0}
-HaveWords m0 w es l (h ∷ hs) = WordOf m0 w es l h.access h.answer × HaveWords m0 w es (next_lock l (lock_value h.access h.answer)) hs
+HaveWords m0 w es l (h ∷ hs) = WordOf m0 w es l h.access h.answer
+    × HaveWords m0 w es (next_lock l (lock_value h.access h.answer)) hs
 
 -- What holds of the answers of a thread in every world: the lock values never fall and are at most the lock, a lost swap
 -- found another value than the one that it swaps from, and each word is one that a place of the run has, or that is stored so far.

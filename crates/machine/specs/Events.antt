@@ -23,8 +23,11 @@ pub record EventTells {C : Type 0} (x : Effect C) (th : Thread C) (n : Next C) :
   pub commits : (n.event ≡ event.Commit) ↔ ((n.completed ≢ None) × ((c : C) × (x ≡ Commit c)))
   pub cancels : (n.event ≡ event.Cancel) ↔ Cancels x th.attempt
   -- a trap: the thread was running, and has trapped
-  pub traps : (cause : Trap) → (n.event ≡ event.Trap cause) ↔ ((th.status ≡ Running) × (n.thread.status ≡ HasTrapped cause))
+  pub traps : (cause : Trap) →
+      (n.event ≡ event.Trap cause) ↔ ((th.status ≡ Running) × (n.thread.status ≡ HasTrapped cause))
 
 -- every step that a thread of the world can make next
 abbrev pub EventsTell : {C : Type 0} → (C → Effect C) → World C → Type 0
-EventsTell {C} code w = (t : ℕ) (p : Part C) → slice_get w.parts t ≡ Some p → EventTells (code p.thread.configuration) p.thread (told code p.thread (answer w.lock w.words (access code p.thread)))
+EventsTell {C} code w = (t : ℕ) (p : Part C) → slice_get w.parts t ≡ Some p →
+    EventTells (code p.thread.configuration) p.thread
+    (told code p.thread (answer w.lock w.words (access code p.thread)))

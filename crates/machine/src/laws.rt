@@ -34,29 +34,37 @@ ghost use Rattle.machine.specs.Moments.{BeginsPast};
 ///
 /// The same for every program that the code means: its runs, and what its threads print and how they end.
 pub fn opaque<C>()
-    ensures code { (code : C → Effect C) (init : ℕ → C) (bounds : List ℕ) (m0 : Memory) (threads : ℕ) (steps : List ℕ) → FitsCells code bounds → IsMemory bounds m0 →
+    ensures code { (code : C → Effect C) (init : ℕ → C) (bounds : List ℕ) (m0 : Memory) (threads : ℕ) (steps : List ℕ) →
+        FitsCells code bounds → IsMemory bounds m0 →
         IsOpaque code init (meaning code init) bounds m0 threads steps }
-    ensures programs { (code : C → Effect C) (init : ℕ → C) (program : Behaviour) (bounds : List ℕ) (m0 : Memory) (threads : ℕ) (steps : List ℕ) → FitsCells code bounds → IsMemory bounds m0 →
-        Means bounds (meaning code init) program → threads ≤ 2 ^ 32 → IsOpaque code init program bounds m0 threads steps }
+    ensures programs { (code : C → Effect C) (init : ℕ → C) (program : Behaviour) (bounds : List ℕ) (m0 : Memory)
+        (threads : ℕ) (steps : List ℕ) → FitsCells code bounds → IsMemory bounds m0 →
+        Means bounds (meaning code init) program → threads ≤ 2 ^ 32 →
+        IsOpaque code init program bounds m0 threads steps }
 {}
 
 /// A step drops an attempt only where validation has loaded the word of an entry of its read log and found another one. A
 /// thread that has taken the lock is never dropped, whatever other threads do.
 pub fn aborts<C>()
-    ensures changed { (code : C → Effect C) (th : Thread C) (a : Attempt C) (lock : ℕ) (words : List ℕ) → th.attempt ≡ Some a →
+    ensures changed { (code : C → Effect C) (th : Thread C) (a : Attempt C) (lock : ℕ) (words : List ℕ) →
+        th.attempt ≡ Some a →
         (told code th (answer lock words (access code th))).thread.attempt ≡ None →
         (told code th (answer lock words (access code th))).completed ≡ None → HasChanged a words }
-    ensures holders { (code : C → Effect C) (init : ℕ → C) (bounds : List ℕ) (m0 : Memory) (threads : ℕ) (steps : List ℕ) → FitsCells code bounds → IsMemory bounds m0 →
+    ensures holders { (code : C → Effect C) (init : ℕ → C) (bounds : List ℕ) (m0 : Memory) (threads : ℕ)
+        (steps : List ℕ) → FitsCells code bounds → IsMemory bounds m0 →
         HoldersGoOn code (world_after code init m0 threads steps) }
 {}
 
 /// What a thread's meaning does alone, a machine of one thread does in some number of steps, and stays there: the same
 /// end, text and memory, without a step that stops. The same for every program that the code means.
 pub fn alone<C>()
-    ensures code { (code : C → Effect C) (init : ℕ → C) (bounds : List ℕ) (m0 : Memory) (run : List Step) (n : ℕ) → FitsCells code bounds → IsMemory bounds m0 →
+    ensures code { (code : C → Effect C) (init : ℕ → C) (bounds : List ℕ) (m0 : Memory) (run : List Step) (n : ℕ) →
+        FitsCells code bounds → IsMemory bounds m0 →
         ReachesEnd code init (meaning code init) m0 run n }
-    ensures programs { (code : C → Effect C) (init : ℕ → C) (program : Behaviour) (bounds : List ℕ) (m0 : Memory) (run : List Step) (n : ℕ) → FitsCells code bounds → IsMemory bounds m0 →
-        Means bounds (meaning code init) program → AllByRecursion (IsMemory bounds) (founds_of 0 run) → ReachesEnd code init program m0 run n }
+    ensures programs { (code : C → Effect C) (init : ℕ → C) (program : Behaviour) (bounds : List ℕ) (m0 : Memory)
+        (run : List Step) (n : ℕ) → FitsCells code bounds → IsMemory bounds m0 →
+        Means bounds (meaning code init) program → AllByRecursion (IsMemory bounds) (founds_of 0 run) →
+        ReachesEnd code init program m0 run n }
 {}
 
 /// While no other thread steps, a transaction that begins at an even lock is never dropped, and it makes one access for its
@@ -70,20 +78,23 @@ pub fn undisturbed_transactions_are_counted<C>()
 /// transaction take effect at a commit; a cancel cancelled an inner transaction, or an outermost one without the lock kept;
 /// a trap left a running thread trapped by that cause. And the other way round: no such step goes untold.
 pub fn events_tell<C>()
-    ensures { (code : C → Effect C) (init : ℕ → C) (bounds : List ℕ) (m0 : Memory) (threads : ℕ) (steps : List ℕ) → FitsCells code bounds → IsMemory bounds m0 →
+    ensures { (code : C → Effect C) (init : ℕ → C) (bounds : List ℕ) (m0 : Memory) (threads : ℕ) (steps : List ℕ) →
+        FitsCells code bounds → IsMemory bounds m0 →
         EventsTell code (world_after code init m0 threads steps) }
 {}
 
 /// The addresses in an attempt's logs are cells, and so is the one that a thread's next access names.
 pub fn addresses_are_cells<C>()
-    ensures { (code : C → Effect C) (init : ℕ → C) (bounds : List ℕ) (m0 : Memory) (threads : ℕ) (steps : List ℕ) → FitsCells code bounds →
+    ensures { (code : C → Effect C) (init : ℕ → C) (bounds : List ℕ) (m0 : Memory) (threads : ℕ) (steps : List ℕ) →
+        FitsCells code bounds →
         NamesCells code (length bounds) (world_after code init m0 threads steps) }
 {}
 
 /// A world that steps which do not stop lead to is the world of some list of steps, so all that holds of lists of steps
 /// holds of it.
 pub fn reached_by_steps<C>()
-    ensures { (code : C → Effect C) (init : ℕ → C) (m0 : Memory) (threads : ℕ) (w : World C) → Reached code init m0 threads w →
+    ensures { (code : C → Effect C) (init : ℕ → C) (m0 : Memory) (threads : ℕ) (w : World C) →
+        Reached code init m0 threads w →
         (steps : List ℕ) × (w ≡ world_after code init m0 threads steps) }
 {}
 
@@ -92,22 +103,29 @@ pub fn reached_by_steps<C>()
 /// that of a place of the run which has at least half of the last lock value's lock-taking steps before it, or that of a pair
 /// which the thread with the lock has stored so far.
 pub fn answers_are_explained<C>()
-    ensures { (code : C → Effect C) (init : ℕ → C) (bounds : List ℕ) (m0 : Memory) (threads : ℕ) (w : World C) (heard : List (List Heard)) → FitsCells code bounds → IsMemory bounds m0 → Answered code init m0 threads w heard →
-        (t : ℕ) (p : Part C) (hs : List Heard) → slice_get w.parts t ≡ Some p → slice_get heard t ≡ Some hs → AnswersOk m0 w hs }
+    ensures { (code : C → Effect C) (init : ℕ → C) (bounds : List ℕ) (m0 : Memory) (threads : ℕ) (w : World C)
+        (heard : List (List Heard)) → FitsCells code bounds → IsMemory bounds m0 →
+        Answered code init m0 threads w heard →
+        (t : ℕ) (p : Part C) (hs : List Heard) → slice_get w.parts t ≡ Some p → slice_get heard t ≡ Some hs →
+        AnswersOk m0 w hs }
 {}
 
 /// A world with its answers is reached by steps that do not stop exactly where it is that of a trace of such steps. So what
 /// holds of the one holds of the other.
 pub fn answered_by_traces<C>()
     ensures { (code : C → Effect C) (init : ℕ → C) (m0 : Memory) (threads : ℕ) →
-        ((w : World C) (heard : List (List Heard)) → Answered code init m0 threads w heard → IsTraced code init m0 threads w heard)
-        × ((steps : List ℕ) → RunsOn code steps (new_world init m0 threads) → Answered code init m0 threads (world_after code init m0 threads steps) (heard_run code steps (new_world init m0 threads) (replicate threads []))) }
+        ((w : World C) (heard : List (List Heard)) → Answered code init m0 threads w heard →
+        IsTraced code init m0 threads w heard)
+        × ((steps : List ℕ) → RunsOn code steps (new_world init m0 threads) →
+        Answered code init m0 threads (world_after code init m0 threads steps)
+        (heard_run code steps (new_world init m0 threads) (replicate threads []))) }
 {}
 
 /// The moment of an attempt whose first snapshot is n or more stands after every step of the run that was made under a lock
 /// value below n.
 pub fn attempts_begin_past_their_floor<C>()
-    ensures { (does : Behaviour) (bounds : List ℕ) (m0 : Memory) (threads : ℕ) (w : World C) (es : List Entry) → BeginsPast does bounds m0 threads w es }
+    ensures { (does : Behaviour) (bounds : List ℕ) (m0 : Memory) (threads : ℕ) (w : World C) (es : List Entry) →
+        BeginsPast does bounds m0 threads w es }
 {}
 
 /// A thread may keep of each open begin the frame on top, the number of frames and the place. Where the begins lie in the

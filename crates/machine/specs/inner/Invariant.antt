@@ -87,7 +87,15 @@ abbrev pub lefts_in : List Record → List Memory
 lefts_in xs = map (λ (x : Record). x.left) xs
 
 abbrev pub inside : {C : Type 0} → C → OpenTransaction C → List Memory → List Memory → List ℕ → Sequential C
-inside c i founds lefts text = record { configuration = c; inside = Some i; founds = founds; lefts = lefts; text = text; status = Running; wants = false }
+inside c i founds lefts text = record {
+  configuration = c;
+  inside = Some i;
+  founds = founds;
+  lefts = lefts;
+  text = text;
+  status = Running;
+  wants = false;
+}
 
 -- the memories that an attempt may have found: those that agree with its read log, and while the lock is kept its base
 pub record MayHaveFound (reads : List (ℕ × ℕ)) (kept : Bool) (base m : Memory) : Type 0 where
@@ -136,21 +144,31 @@ module _ {C : Type 0} (code : C → Effect C) where
 
   -- the code meaning's thread inside a transaction that found m
   abbrev pub inside_of : Memory → C → List (ℕ × ℕ) → List (Checkpoint C) → Bool → OpenTransaction C
-  inside_of m saved writes inner kept = record { cancelled = after_cancel (code saved) saved; found = m; mem = overlay m writes; inner = inners_of m inner; kept = kept }
+  inside_of m saved writes inner kept = record {
+    cancelled = after_cancel (code saved) saved;
+    found = m;
+    mem = overlay m writes;
+    inner = inners_of m inner;
+    kept = kept;
+  }
 
   -- after these transactions the thread's meaning is in c, outside transactions, whatever memories come next
   abbrev pub ComesTo : C → List Record → C → List ℕ → Status → Type 0
   ComesTo c0 xs c text status =
-      (n : ℕ) × ((more : List Memory) → steps code n (start c0 (founds_in xs ++ more)) ≡ outside c more (lefts_in xs) text status)
+      (n : ℕ) × ((more : List Memory) →
+      steps code n (start c0 (founds_in xs ++ more)) ≡ outside c more (lefts_in xs) text status)
 
   -- from an attempt's begin, in each memory that it may have found, the thread's meaning is where the attempt is
   abbrev pub Reaches : List ℕ → Memory → C → List ℕ → C → Attempt C → List ℕ → Type 0
   Reaches bounds base c1 text1 c a text =
-      (n : ℕ) × ((m : Memory) (founds lefts : List Memory) → length m ≡ length bounds → MayHaveFound a.reads a.kept base m →
-      steps code n (inside c1 (inside_of m a.saved [] [] false) founds lefts text1) ≡ inside c (inside_of m a.saved a.writes a.inner a.kept) founds lefts text)
+      (n : ℕ) × ((m : Memory) (founds lefts : List Memory) → length m ≡ length bounds →
+      MayHaveFound a.reads a.kept base m →
+      steps code n (inside c1 (inside_of m a.saved [] [] false) founds lefts text1)
+      ≡ inside c (inside_of m a.saved a.writes a.inner a.kept) founds lefts text)
 
   -- the attempt's begin
-  pub record Begun (bounds : List ℕ) (h : History) (c0 : C) (xs : List Record) (c : C) (a : Attempt C) (text : List ℕ) : Type 0 where
+  pub record Begun (bounds : List ℕ) (h : History) (c0 : C) (xs : List Record) (c : C) (a : Attempt C)
+      (text : List ℕ) : Type 0 where
     pub c1 : C
     pub text1 : List ℕ
     -- the meaning enters the transaction here, and a cancel goes on at the same place in both
@@ -165,13 +183,16 @@ module _ {C : Type 0} (code : C → Effect C) where
   -- what holds of the values in hand
   abbrev pub InHand : History → Attempt C → C → Phase → Type 0
   InHand h a c AtOperation = Unit {0}
-  InHand h a c (ReadsLock v) = (ad : ℕ) × (k : ℕ → C) × (code c ≡ Read ad k) × (Lacks ad a.writes) × (a.kept ≡ false) × (h.lock ≡ a.snapshot → slice_index (h.mem a.snapshot) ad ≡ v)
+  InHand h a c (ReadsLock v) = (ad : ℕ) × (k : ℕ → C) × (code c ≡ Read ad k) × (Lacks ad a.writes) × (a.kept ≡ false)
+      × (h.lock ≡ a.snapshot → slice_index (h.mem a.snapshot) ad ≡ v)
   InHand h a c ValidatesTime = (a.kept ≡ false) × Validates (code c)
-  InHand h a c (ValidatesEntry time i) = (a.kept ≡ false) × (time % 2 ≡ 0) × (a.snapshot ≤ time) × (time ≤ h.lock) × (h.lock ≡ time → AgreesBelow i (h.mem time) a.reads) × Validates (code c)
+  InHand h a c (ValidatesEntry time i) = (a.kept ≡ false) × (time % 2 ≡ 0) × (a.snapshot ≤ time) × (time ≤ h.lock)
+      × (h.lock ≡ time → AgreesBelow i (h.mem time) a.reads) × Validates (code c)
   InHand h a c (Stores i) = (a.inner ≡ []) × ((d : C) × (code c ≡ Commit d))
 
   -- what an attempt's own steps mostly leave alone: found is the memory at the snapshot, top the last commit's value
-  pub record Steady (bounds : List ℕ) (top : ℕ) (found base : Memory) (status : Status) (first snapshot : ℕ) (reads writes : List (ℕ × ℕ)) (inner : List (Checkpoint C)) : Type 0 where
+  pub record Steady (bounds : List ℕ) (top : ℕ) (found base : Memory) (status : Status) (first snapshot : ℕ)
+      (reads writes : List (ℕ × ℕ)) (inner : List (Checkpoint C)) : Type 0 where
     -- the thread's end is open
     pub running : status ≡ Running
     -- a snapshot is the value of a free lock
@@ -189,7 +210,8 @@ module _ {C : Type 0} (code : C → Effect C) where
     -- and what a cancel goes back to
     pub marks : AllByRecursion (λ (k : Checkpoint C). IsLog bounds k.writes) inner
 
-  pub record AttemptOk (bounds : List ℕ) (h : History) (t : ℕ) (c0 : C) (xs : List Record) (base : Memory) (c : C) (a : Attempt C) (text : List ℕ) (status : Status) : Type 0 where
+  pub record AttemptOk (bounds : List ℕ) (h : History) (t : ℕ) (c0 : C) (xs : List Record) (base : Memory) (c : C)
+      (a : Attempt C) (text : List ℕ) (status : Status) : Type 0 where
     pub steady : Steady bounds h.top (h.mem a.snapshot) base status a.first a.snapshot a.reads a.writes a.inner
     -- the meaning is where the attempt is
     pub begun : Begun bounds h c0 xs c a text
@@ -229,7 +251,8 @@ module _ {C : Type 0} (code : C → Effect C) where
     pub parts : (t : ℕ) (p : Part C) → slice_get w.parts t ≡ Some p → PartOk bounds h t (init t) p
 
   -- what a step of thread t leaves: a history, further than the one before, with the part and the words by it
-  pub record StepOk (bounds : List ℕ) (t : ℕ) (c0 : C) (h : History) (lock : ℕ) (words : List ℕ) (p : Part C) : Type 0 where
+  pub record StepOk (bounds : List ℕ) (t : ℕ) (c0 : C) (h : History) (lock : ℕ) (words : List ℕ)
+      (p : Part C) : Type 0 where
     pub after : History
     pub history : IsHistory bounds after words
     pub same_lock : lock ≡ after.lock
