@@ -64,6 +64,21 @@ pub fn closed<'t, 'a, T: Drop>(
     }
 }
 
+/// What was read, and where this keyword or punctuator stands behind it; as `closed`, it is dropped here where none does.
+pub fn closed_at<'t, 'a, T: Drop>(
+    read: T,
+    tokens: &'t [Token<'a>],
+    fixed: Fixed,
+) -> Result<((T, Span), &'t [Token<'a>]), Failure<'t, 'a>>
+    ensures value { IfOk result (λ x. x.0.0 ≡ read) }
+    ensures rest { Gives (λ x. (x.0.1, toks x.1.now)) result (spot fixed (toks tokens.now)) }
+{
+    match spot(tokens, fixed) {
+        Ok((at, rest)) => Ok(((read, at), rest)),
+        Err(failure) => Err(failure),
+    }
+}
+
 /// A keyword or punctuator at the front, and where it stands.
 pub fn spot<'t, 'a>(
     tokens: &'t [Token<'a>],

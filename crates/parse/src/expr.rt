@@ -1,6 +1,6 @@
 //! Expressions: operators by climbing their levels.
 
-ghost use Rattle.std.specs.Prelude.{◌≡◌, ◌^◌, ◌<◌, ◌≤◌, ◌+◌, ◌++◌, map, IfOk};
+ghost use Rattle.std.specs.Prelude.{◌≡◌, ◌^◌, ◌<◌, ◌≤◌, ◌+◌, ◌++◌, map, max, IfOk};
 ghost use Rattle.lex.specs.Tokens.{toks};
 ghost use Rattle.lex.specs.declared.token.Fixed.TheVariants as token;
 ghost use Rattle.lex.specs.declared.token.Keyword.TheVariants as key;
@@ -9,9 +9,9 @@ ghost use Rattle.syntax.specs.Tree as E;
 ghost use Rattle.syntax.specs.Depth.{expr_depth, deepest};
 ghost use Rattle.syntax.specs.Views.{expr_of, exprs_of};
 ghost use Rattle.parse.specs.inner.Reading.{Fails, Gives, GivesOp, behind, head, is_other, many_until, mapped, next_op, sunk, take};
-ghost use Rattle.parse.specs.inner.Expressions.{arguments, conditional_at, expr_at, named, opened, operand, operators, prefixed, starts_expr, the_constant, the_prefix, whole_at};
+ghost use Rattle.parse.specs.inner.Expressions.{arguments, conditional_at, expr_at, named, opened, operand, operators, outcomes, prefixed, starts_expr, the_constant, the_prefix, whole_at};
 
-use crate::cursor::{counted, expect, is_next, name, spot};
+use crate::cursor::{closed_at, counted, expect, is_next, name, spot};
 use crate::fault::Failure;
 use crate::lead::{Infix, Operand, infix_of, operand_at, precedence};
 use crate::node;
@@ -140,8 +140,25 @@ fn opened<'t, 'a, A: Allocator + Copy>(
         return Ok((node::cast(alloc, at, to, inner)?, deep + 1, rest));
     }
     let (inner, deep, rest) = whole(alloc, rest, depth)?;
-    let (last, rest) = spot(rest, Fixed::Punctuator(Punctuator::CloseParen))?;
+    let ((inner, last), rest) = closed_at(inner, rest, Fixed::Punctuator(Punctuator::CloseParen))?;
     Ok((node::group(alloc, at, inner, last)?, deep + 1, rest))
+}
+
+/// `fixed expr`
+#[cycle(climbing)]
+fn behind<'t, 'a, A: Allocator + Copy>(
+    alloc: A,
+    tokens: &'t [Token<'a>],
+    fixed: Fixed,
+    depth: usize,
+) -> Result<Found<'t, 'a, A>, Failure<'t, 'a>>
+    requires { depth < 2 ^ 32 }
+    ensures value { Gives (λ x. (expr_of x.0, toks x.2.now)) result (behind fixed (whole_at depth) (toks tokens.now)) }
+    ensures deep { IfOk result (λ x. x.1 ≡ expr_depth (expr_of x.0)) }
+    ensures within { IfOk result (λ x. x.1 ≤ depth) }
+{
+    let rest = expect(tokens, fixed)?;
+    whole(alloc, rest, depth)
 }
 
 /// `{ , expr }`: adds further expressions to those that were read.
@@ -167,8 +184,12 @@ fn extend<'t, 'a, A: Allocator + Copy>(
         if !is_next(rest, Fixed::Punctuator(Punctuator::Comma)) {
             return Ok((all, most, rest));
         }
-        let after = expect(rest, Fixed::Punctuator(Punctuator::Comma))?;
-        let (one, one_deep, after) = whole(alloc, after, depth)?;
+        let (one, one_deep, after) = behind(
+            alloc,
+            rest,
+            Fixed::Punctuator(Punctuator::Comma),
+            depth,
+        )?;
         all.push(one)?;
         most = most.max(one_deep);
         rest = after;
@@ -216,13 +237,21 @@ fn named<'t, 'a, A: Allocator + Copy>(
     if is_next(rest, Fixed::Punctuator(Punctuator::OpenBracket)) {
         let rest = expect(rest, Fixed::Punctuator(Punctuator::OpenBracket))?;
         let (index, deep, rest) = whole(alloc, rest, depth)?;
-        let (last, rest) = spot(rest, Fixed::Punctuator(Punctuator::CloseBracket))?;
+        let ((index, last), rest) = closed_at(
+            index,
+            rest,
+            Fixed::Punctuator(Punctuator::CloseBracket),
+        )?;
         return Ok((node::element(alloc, name, index, last)?, deep + 1, rest));
     }
     if is_next(rest, Fixed::Punctuator(Punctuator::OpenParen)) {
         let rest = expect(rest, Fixed::Punctuator(Punctuator::OpenParen))?;
         let (args, deep, rest) = arguments(alloc, rest, depth)?;
-        let (last, rest) = spot(rest, Fixed::Punctuator(Punctuator::CloseParen))?;
+        let ((args, last), rest) = closed_at(
+            args,
+            rest,
+            Fixed::Punctuator(Punctuator::CloseParen),
+        )?;
         return Ok((node::call(name, args, last), deep + 1, rest));
     }
     Ok((Expr::Variable(name), 1, rest))
@@ -274,16 +303,50 @@ fn climb<'t, 'a, A: Allocator + Copy>(
             return Ok((left, deep, rest));
         };
         if deep >= depth {
+            drop(left);
             return Err(Failure::Deep(rest));
         }
-        let (right, right_deep, after) = climb(alloc, after, below, precedence(op) + 1)?;
-        left = node::infix(alloc, op, left, right)?;
-        deep = deep.max(right_deep) + 1;
-        rest = after;
+        match climb(alloc, after, below, precedence(op) + 1) {
+            Ok((right, right_deep, after)) => {
+                left = node::infix(alloc, op, left, right)?;
+                deep = deep.max(right_deep) + 1;
+                rest = after;
+            }
+            Err(failure) => {
+                drop(left);
+                return Err(failure);
+            }
+        }
     }
     match next_op(rest, min) {
-        Some(_) => Err(Failure::Deep(rest)),
+        Some(_) => {
+            drop(left);
+            Err(Failure::Deep(rest))
+        }
         None => Ok((left, deep, rest)),
+    }
+}
+
+/// `? expr : expr`: what a condition chooses from, and the greater of their depths.
+#[cycle(climbing)]
+fn outcomes<'t, 'a, A: Allocator + Copy>(
+    alloc: A,
+    tokens: &'t [Token<'a>],
+    depth: usize,
+) -> Result<(Expr<A>, Expr<A>, usize, &'t [Token<'a>]), Failure<'t, 'a>>
+    requires { depth < 2 ^ 32 }
+    ensures value { Gives (λ x. ((expr_of x.0, expr_of x.1), toks x.3.now)) result (outcomes (whole_at depth) (toks tokens.now)) }
+    ensures deep { IfOk result (λ x. x.2 ≡ max (expr_depth (expr_of x.0)) (expr_depth (expr_of x.1))) }
+    ensures within { IfOk result (λ x. x.2 ≤ depth) }
+{
+    let rest = expect(tokens, Fixed::Punctuator(Punctuator::Question))?;
+    let (then, then_deep, rest) = whole(alloc, rest, depth)?;
+    match behind(alloc, rest, Fixed::Punctuator(Punctuator::Colon), depth) {
+        Ok((other, other_deep, rest)) => Ok((then, other, then_deep.max(other_deep), rest)),
+        Err(failure) => {
+            drop(then);
+            Err(failure)
+        }
     }
 }
 
@@ -307,18 +370,19 @@ fn conditional<'t, 'a, A: Allocator + Copy>(
         return Ok((condition, deep, tokens));
     }
     if deep > depth {
+        drop(condition);
         return Err(Failure::Deep(tokens));
     }
-    let rest = expect(tokens, Fixed::Punctuator(Punctuator::Question))?;
-    let (then, then_deep, rest) = whole(alloc, rest, depth)?;
-    let rest = expect(rest, Fixed::Punctuator(Punctuator::Colon))?;
-    let (other, other_deep, rest) = whole(alloc, rest, depth)?;
-    let most = deep.max(then_deep.max(other_deep));
-    Ok((
-        node::conditional(alloc, condition, then, other)?,
-        most + 1,
-        rest,
-    ))
+    match outcomes(alloc, tokens, depth) {
+        Ok((then, other, most, rest)) => {
+            let whole = node::conditional(alloc, condition, then, other)?;
+            Ok((whole, deep.max(most) + 1, rest))
+        }
+        Err(failure) => {
+            drop(condition);
+            Err(failure)
+        }
+    }
 }
 
 /// `climb [? expr : expr]`: any expression within a depth, and how deep it is.

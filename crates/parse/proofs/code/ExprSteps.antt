@@ -15,7 +15,7 @@ use Rattle.syntax.specs.Grammar.{the_name}
 use Rattle.parse.specs.declared.lead.Infix.{Infix}
 use Rattle.parse.specs.declared.lead.Infix.TheVariants.{Computing, Choosing}
 use Rattle.parse.specs.inner.Reading.{Fault, deep, ◌>>=◌, Parser, across, behind, chained, climb_loop, expect, give, head, is_next, mapped, in_front, seq, spot, sunk, take}
-use Rattle.parse.specs.inner.Expressions.{call_from, conditional_at, expr_at, infix_node, named, named_from, operand, operators, starts_expr, whole_at}
+use Rattle.parse.specs.inner.Expressions.{call_from, conditional_at, expr_at, infix_node, named, named_from, operand, operators, outcomes, starts_expr, whole_at}
 
 -- ---- levels
 
@@ -68,21 +68,11 @@ module _ (W : Parser Expr) (d : ℕ) (c : Expr) (ts : List Tok) where
   conditional_deep h lt = rw (h, lt-leb (expr_depth c) d lt) refl
 
   module _ (here : is_next (Punctuator punct.Question) (head ts) ≡ true) (fits : expr_depth c ≤ d) where
-    pub question_fails : (f : Fault) → expect (Punctuator punct.Question) ts ≡ Err f → conditional_at W d c ts ≡ Err f
-    question_fails f e = rw (here, le-leb (expr_depth c) d fits, e) refl
+    pub conditional_fails : (f : Fault) → outcomes W ts ≡ Err f → conditional_at W d c ts ≡ Err f
+    conditional_fails f e = rw (here, le-leb (expr_depth c) d fits, e) refl
 
-    module _ (r : List Tok) (e : expect (Punctuator punct.Question) ts ≡ Ok (tt, r)) where
-      pub then_fails : (f : Fault) → W r ≡ Err f → conditional_at W d c ts ≡ Err f
-      then_fails f a = rw (here, le-leb (expr_depth c) d fits, e, a) refl
-
-      pub colon_fails : (x : Expr) (s : List Tok) (f : Fault) → W r ≡ Ok (x, s) → expect (Punctuator punct.Colon) s ≡ Err f → conditional_at W d c ts ≡ Err f
-      colon_fails x s f a k = rw (here, le-leb (expr_depth c) d fits, e, a, k) refl
-
-      pub other_fails : (x : Expr) (s t : List Tok) (f : Fault) → W r ≡ Ok (x, s) → expect (Punctuator punct.Colon) s ≡ Ok (tt, t) → W t ≡ Err f → conditional_at W d c ts ≡ Err f
-      other_fails x s t f a k b = rw (here, le-leb (expr_depth c) d fits, e, a, k, b) refl
-
-      pub conditional_goes : (x y : Expr) (s t u : List Tok) → W r ≡ Ok (x, s) → expect (Punctuator punct.Colon) s ≡ Ok (tt, t) → W t ≡ Ok (y, u) → conditional_at W d c ts ≡ Ok (Conditional c x y (across (span_of c) (span_of y)), u)
-      conditional_goes x y s t u a k b = rw (here, le-leb (expr_depth c) d fits, e, a, k, b) refl
+    pub conditional_goes : (x y : Expr) (r : List Tok) → outcomes W ts ≡ Ok ((x, y), r) → conditional_at W d c ts ≡ Ok (Conditional c x y (across (span_of c) (span_of y)), r)
+    conditional_goes x y r e = rw (here, le-leb (expr_depth c) d fits, e) refl
 
 -- ---- arguments
 
@@ -104,6 +94,21 @@ module _ {A : Type 0} (k : Fixed) (P : Parser A) (ts : List Tok) where
 
   pub behind_goes : (r s : List Tok) (x : A) → expect k ts ≡ Ok (tt, r) → P r ≡ Ok (x, s) → behind k P ts ≡ Ok (x, s)
   behind_goes r s x e a = rw (e, a) refl
+
+-- two parts behind a sign
+module _ {A B : Type 0} (k : Fixed) (P : Parser A) (Q : Parser B) (ts : List Tok) where
+  pub both_none : (f : Fault) → expect k ts ≡ Err f → behind k (seq P Q) ts ≡ Err f
+  both_none f e = rw e refl
+
+  module _ (r : List Tok) (e : expect k ts ≡ Ok (tt, r)) where
+    pub first_fails : (f : Fault) → P r ≡ Err f → behind k (seq P Q) ts ≡ Err f
+    first_fails f a = rw (e, a) refl
+
+    pub second_fails : (s : List Tok) (x : A) (f : Fault) → P r ≡ Ok (x, s) → Q s ≡ Err f → behind k (seq P Q) ts ≡ Err f
+    second_fails s x f a b = rw (e, a, b) refl
+
+    pub both_go : (s t : List Tok) (x : A) (y : B) → P r ≡ Ok (x, s) → Q s ≡ Ok (y, t) → behind k (seq P Q) ts ≡ Ok ((x, y), t)
+    both_go s t x y a b = rw (e, a, b) refl
 
 -- one more expression
 pub deepest_push : (es : List Expr) (e : Expr) → deepest (exprs_from (es ++ e ∷ [])) ≡ max (deepest (exprs_from es)) (expr_depth e)

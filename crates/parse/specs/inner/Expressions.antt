@@ -164,9 +164,13 @@ starts_expr h = is_operand (operand_at h)
 abbrev pub chain : (ℕ → Parser Expr) → ℕ → ℕ → Parser Expr
 chain below d min ts = operand (below 0) (below 11) ts >>= λ x. climb_loop operators below min (suc d) (suc d) x.0 x.1
 
+-- what a condition chooses from
+abbrev pub outcomes : Parser Expr → Parser (Expr × Expr)
+outcomes whole = behind (Punctuator punct.Question) (seq whole (behind (Punctuator punct.Colon) whole))
+
 -- behind the condition c
 abbrev pub conditional_from : Parser Expr → Expr → Parser Expr
-conditional_from whole c = mapped (λ x. Conditional c x.0 x.1 (across (span_of c) (span_of x.1))) (behind (Punctuator punct.Question) (seq whole (behind (Punctuator punct.Colon) whole)))
+conditional_from whole c = mapped (λ x. Conditional c x.0 x.1 (across (span_of c) (span_of x.1))) (outcomes whole)
 
 -- what is read within this depth
 abbrev pub within : {A : Type 0} → ℕ → Expr → Parser A → Parser A

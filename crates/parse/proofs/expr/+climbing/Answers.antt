@@ -5,10 +5,13 @@ use Rattle.syntax.specs.Views.{expr_of, exprs_of, name_of, exprs_from}
 use Rattle.syntax.proofs.Seen.{expr_of_variable}
 use Rattle.parse.specs.inner.Expressions.{arguments, expr_at, whole_at, infix_node, operators}
 use Rattle.parse.proofs.code.Climbing.{fails_along, loop_none, loop_deep, loop_full, turn_fails, turn_goes}
-use Rattle.parse.proofs.code.ExprSteps.{variable_goes, call_goes, unclosed, listed_goes, behind_none, behind_fails, behind_goes, deepest_push, none_left, climb_start, infix_depth, conditional_alone, conditional_deep, question_fails, then_fails, colon_fails, other_fails, conditional_goes, whole_goes, whole_fails}
-use Rattle.parse.specs.inner.Reading.{behind, is_other, mapped, many_until, climb_loop}
+use Rattle.parse.proofs.code.ExprSteps.{variable_goes, call_goes, unclosed, listed_goes, behind_none, both_none, first_fails, second_fails, both_go, deepest_push, none_left, climb_start, infix_depth, conditional_alone, conditional_deep, conditional_fails, conditional_goes, whole_goes, whole_fails}
+use Rattle.parse.specs.inner.Reading.{across, behind, is_other, mapped, many_until, climb_loop}
 use Rattle.std.proofs.lemmas.List.{map_push, length-map}
 use Rattle.syntax.specs.Depth.{expr_depth, deepest}
+use Rattle.syntax.specs.Tree.{Conditional}
+use Rattle.syntax.specs.Typing.{span_of}
+use Rattle.parse.proofs.code.Braces.{behind_is}
 use Rattle.parse.proofs.code.Turns.{goes_on, fails_on, stops_at, runs_out}
 use Rattle.lex.specs.declared.token.Fixed.TheVariants.{Keyword, Punctuator}
 use Rattle.lex.specs.declared.token.Keyword.TheVariants as key
@@ -17,12 +20,12 @@ use Rattle.parse.proofs.expr.+climbing.Goals as goal
 
 -- ---- a name, and what may follow it
 
-pub named-returns-in_err-last-2-clause-value : goal.named-returns-in_err-last-2-clause-value
-named-returns-in_err-last-2-clause-value g t c =
-    let p = err_from_is_err_and c.from_residual-in_err-last-2.result c.from_residual-in_err-last-2.ensures.1 in
-    rw (p.1, p.2) (fails_along c.in_err-last-2.field-0.0 _ _ (λ f e.
+pub named-returns-in_err-args-2-clause-value : goal.named-returns-in_err-args-2-clause-value
+named-returns-in_err-args-2-clause-value g t c =
+    let p = err_from_is_err_and c.from_residual-in_err-args-2.result c.from_residual-in_err-args-2.ensures.1 in
+    rw (p.1, p.2) (fails_along c.in_err-args-2.field-0.0 _ _ (λ f e.
     call_goes (whole_at c.args.depth) (expr_at c.args.depth 11) (toks c.args.tokens.now) (toks c.in_ok-name.rest.now) (name_of c.in_ok-name.name) c.in_ok-name.ensures (sym c.is_next.ensures ∙ c.if-is_next.false) (sym c.is_next-2.ensures ∙ c.if-is_next-2.true)
-    ∙ unclosed (Punctuator punct.OpenParen) (Punctuator punct.CloseParen) (arguments (whole_at c.args.depth) (expr_at c.args.depth 11)) _ (toks c.in_ok-name.rest.now) (toks c.in_ok-rest-2.rest.now) (toks c.in_ok-args.rest.now) _ f c.in_ok-rest-2.ensures c.in_ok-args.ensures.value e) c.in_err-last-2.ensures)
+    ∙ unclosed (Punctuator punct.OpenParen) (Punctuator punct.CloseParen) (arguments (whole_at c.args.depth) (expr_at c.args.depth 11)) _ (toks c.in_ok-name.rest.now) (toks c.in_ok-rest-2.rest.now) (toks c.in_ok-args.rest.now) _ f c.in_ok-rest-2.ensures c.in_ok-args.ensures.value e) c.in_err-args-2.ensures.rest)
 
 pub named-returns-clause-value : goal.named-returns-clause-value
 named-returns-clause-value g t c =
@@ -38,6 +41,16 @@ arguments-returns-clause-value g t c =
     rw (sym c.is_next.ensures ∙ c.if-is_next.false, e) (listed_goes (whole_at c.args.depth) (many_until (is_other (Punctuator punct.Comma)) (behind (Punctuator punct.Comma) (whole_at c.args.depth))) (toks c.args.tokens.now) (toks c.in_ok-first.rest.now) (expr_of c.in_ok-first.first) c.in_ok-first.ensures.value) in
     rw start c.extend.ensures.value
 
+-- ---- behind a sign
+
+pub behind-returns-in_err-rest-clause-value : goal.behind-returns-in_err-rest-clause-value
+behind-returns-in_err-rest-clause-value g t c =
+    let p = err_from_is_err_and c.from_residual.result c.from_residual.ensures.1 in
+    rw (p.1, p.2) (fails_along c.in_err-rest.field-0.0 _ _ (λ f e. behind_none c.args.fixed (whole_at c.args.depth) (toks c.args.tokens.now) f e) c.in_err-rest.ensures)
+
+pub behind-returns-clause-value : goal.behind-returns-clause-value
+behind-returns-clause-value g t c = rw (behind_is c.args.fixed (whole_at c.args.depth) (toks c.args.tokens.now) (toks c.in_ok-rest.rest.now) c.in_ok-rest.ensures) c.whole.ensures.value
+
 -- ---- further arguments
 
 pub extend-turns-init : goal.extend-turns-init
@@ -48,19 +61,11 @@ extend-turns-init g t c =
 pub extend-returns-then-not-is_next-clause-value : goal.extend-returns-then-not-is_next-clause-value
 extend-returns-then-not-is_next-clause-value g t c = stops_at (is_other (Punctuator punct.Comma)) (behind (Punctuator punct.Comma) (whole_at c.args.depth)) (map expr_of c.turns.all) (c.counted-count.result.1 - c.turns._turn) (toks c.turns.rest.now) _ (ap not (sym c.is_next.ensures ∙ c.if-not-is_next.true)) c.turns.invariant.value
 
-pub extend-returns-in_err-after-clause-value : goal.extend-returns-in_err-after-clause-value
-extend-returns-in_err-after-clause-value g t c =
-    let p = err_from_is_err_and c.from_residual.result c.from_residual.ensures.1 in
-    rw (p.1, p.2) (fails_along c.in_err-after.field-0.0 _ _ (λ f e.
-    fails_on (is_other (Punctuator punct.Comma)) (behind (Punctuator punct.Comma) (whole_at c.args.depth)) (map expr_of c.turns.all) c.counted-count.result.1 c.turns._turn (toks c.turns.rest.now) f _ c.turns-test.true (ap not (sym c.is_next.ensures ∙ c.if-not-is_next.false))
-    (behind_none (Punctuator punct.Comma) (whole_at c.args.depth) (toks c.turns.rest.now) f e) c.turns.invariant.value) c.in_err-after.ensures)
-
 pub extend-returns-in_err-one-clause-value : goal.extend-returns-in_err-one-clause-value
 extend-returns-in_err-one-clause-value g t c =
-    let p = err_from_is_err_and c.from_residual-in_err-one.result c.from_residual-in_err-one.ensures.1 in
+    let p = err_from_is_err_and c.from_residual.result c.from_residual.ensures.1 in
     rw (p.1, p.2) (fails_along c.in_err-one.field-0.0 _ _ (λ f e.
-    fails_on (is_other (Punctuator punct.Comma)) (behind (Punctuator punct.Comma) (whole_at c.args.depth)) (map expr_of c.turns.all) c.counted-count.result.1 c.turns._turn (toks c.turns.rest.now) f _ c.turns-test.true (ap not (sym c.is_next.ensures ∙ c.if-not-is_next.false))
-    (behind_fails (Punctuator punct.Comma) (whole_at c.args.depth) (toks c.turns.rest.now) (toks c.in_ok-after.after.now) f c.in_ok-after.ensures e) c.turns.invariant.value) c.in_err-one.ensures.value)
+    fails_on (is_other (Punctuator punct.Comma)) (behind (Punctuator punct.Comma) (whole_at c.args.depth)) (map expr_of c.turns.all) c.counted-count.result.1 c.turns._turn (toks c.turns.rest.now) f _ c.turns-test.true (ap not (sym c.is_next.ensures ∙ c.if-not-is_next.false)) e c.turns.invariant.value) c.in_err-one.ensures.value)
 
 pub extend-turns-preserved : goal.extend-turns-preserved
 extend-turns-preserved g t c =
@@ -71,8 +76,7 @@ extend-turns-preserved g t c =
       long = c.turns.invariant.long;
       within = omega (arith, most, c.turns.invariant.within, c.in_ok-one.ensures.within);
       deep = omega (arith, most, pushed, c.turns.invariant.deep, c.in_ok-one.ensures.deep);
-      value = rw e (goes_on (is_other (Punctuator punct.Comma)) (behind (Punctuator punct.Comma) (whole_at c.args.depth)) (map expr_of c.turns.all) c.counted-count.result.1 c.turns._turn (toks c.turns.rest.now) (toks c.in_ok-one.after.now) (expr_of c.in_ok-one.one) _ c.turns-test.true (ap not (sym c.is_next.ensures ∙ c.if-not-is_next.false))
-          (behind_goes (Punctuator punct.Comma) (whole_at c.args.depth) (toks c.turns.rest.now) (toks c.in_ok-after.after.now) (toks c.in_ok-one.after.now) (expr_of c.in_ok-one.one) c.in_ok-after.ensures c.in_ok-one.ensures.value) c.turns.invariant.value);
+      value = rw e (goes_on (is_other (Punctuator punct.Comma)) (behind (Punctuator punct.Comma) (whole_at c.args.depth)) (map expr_of c.turns.all) c.counted-count.result.1 c.turns._turn (toks c.turns.rest.now) (toks c.in_ok-one.after.now) (expr_of c.in_ok-one.one) _ c.turns-test.true (ap not (sym c.is_next.ensures ∙ c.if-not-is_next.false)) c.in_ok-one.ensures.value c.turns.invariant.value);
     }
 
 pub extend-returns-then-is_next-clause-value : goal.extend-returns-then-is_next-clause-value
@@ -107,28 +111,27 @@ climb-returns-in_default-clause-value g t c = sym c.turns.invariant.value ∙ lo
 pub climb-returns-then-deep-depth-clause-value : goal.climb-returns-then-deep-depth-clause-value
 climb-returns-then-deep-depth-clause-value g t c = sym c.turns.invariant.value ∙ loop_deep operators (expr_at (c.args.depth - 1)) c.args.min c.args.depth _ _ _ _ c.in-Some.ensures (omega (arith, c.turns.invariant.deep))
 
-pub climb-returns-in_err-right-clause-value : goal.climb-returns-in_err-right-clause-value
-climb-returns-in_err-right-clause-value g t c =
-    let p = err_from_is_err_and c.from_residual-in_err-right.result c.from_residual-in_err-right.ensures.1 in
-    rw (p.1, p.2) (fails_along c.in_err-right.field-0.0 _ _ (λ f e. turn_fails operators (expr_at (c.args.depth - 1)) c.args.min c.args.depth c.turns._turn (c.precedence.result + 1) (expr_of c.turns.left) _ (c.in-Some.op, toks c.in-Some.after.now) f _ c.turns-test.true (ap (λ n. n + 1) c.precedence.ensures) c.in-Some.ensures (omega (arith, c.turns.invariant.deep)) c.turns.invariant.value e) c.in_err-right.ensures.value)
+pub climb-returns-in-Err-clause-value : goal.climb-returns-in-Err-clause-value
+climb-returns-in-Err-clause-value g t c =
+    fails_along c.in-Err.failure _ _ (λ f e. turn_fails operators (expr_at (c.args.depth - 1)) c.args.min c.args.depth c.turns._turn (c.precedence.result + 1) (expr_of c.turns.left) _ (c.in-Some.op, toks c.in-Some.after.now) f _ c.turns-test.true (ap (λ n. n + 1) c.precedence.ensures) c.in-Some.ensures (omega (arith, c.turns.invariant.deep)) c.turns.invariant.value e) c.in-Err.ensures.value
 
 pub climb-turns-preserved : goal.climb-turns-preserved
 climb-turns-preserved g t c =
     let op = c.in-Some.op in
     let left = expr_of c.turns.left in
-    let right = expr_of c.in_ok-right.right in
-    let v : expr_of c.in_ok-left-2.left ≡ infix_node op left right = c.in_ok-left-2.ensures in
-    let most : c.max-deep.result ≡ max c.turns.deep c.in_ok-right.right_deep = c.max-deep.ensures in
+    let right = expr_of c.in-Ok.right in
+    let v : expr_of c.in_ok-left-in-Ok.left ≡ infix_node op left right = c.in_ok-left-in-Ok.ensures in
+    let most : c.max-deep.result ≡ max c.turns.deep c.in-Ok.right_deep = c.max-deep.ensures in
     let left_deep : c.turns.deep ≡ expr_depth left = c.turns.invariant.deep in
-    let right_deep : c.in_ok-right.right_deep ≡ expr_depth right = c.in_ok-right.ensures.deep in
+    let right_deep : c.in-Ok.right_deep ≡ expr_depth right = c.in-Ok.ensures.deep in
     let deep : c.max-deep.result + 1 ≡ max (expr_depth left) (expr_depth right) + 1 = omega arith in
     record {
       below = omega arith;
-      within = omega (arith, c.in_ok-right.ensures.within);
+      within = omega (arith, c.in-Ok.ensures.within);
       deep = deep ∙ sym (infix_depth op left right) ∙ ap expr_depth (sym v);
       value =
-          ap (λ e. climb_loop operators (expr_at (c.args.depth - 1)) c.args.min c.args.depth (c.args.depth - (c.turns._turn + 1)) e (toks c.in_ok-right.after.now)) v
-          ∙ turn_goes operators (expr_at (c.args.depth - 1)) c.args.min c.args.depth c.turns._turn (c.precedence.result + 1) left right _ _ (op, toks c.in-Some.after.now) _ c.turns-test.true (ap (λ n. n + 1) c.precedence.ensures) c.in-Some.ensures (omega (arith, c.turns.invariant.deep)) c.turns.invariant.value c.in_ok-right.ensures.value;
+          ap (λ e. climb_loop operators (expr_at (c.args.depth - 1)) c.args.min c.args.depth (c.args.depth - (c.turns._turn + 1)) e (toks c.in-Ok.after.now)) v
+          ∙ turn_goes operators (expr_at (c.args.depth - 1)) c.args.min c.args.depth c.turns._turn (c.precedence.result + 1) left right _ _ (op, toks c.in-Some.after.now) _ c.turns-test.true (ap (λ n. n + 1) c.precedence.ensures) c.in-Some.ensures (omega (arith, c.turns.invariant.deep)) c.turns.invariant.value c.in-Ok.ensures.value;
     }
 
 pub climb-returns-in-Some-next_op-clause-value : goal.climb-returns-in-Some-next_op-clause-value
@@ -139,41 +142,45 @@ climb-returns-in-None-clause-value g t c = sym c.turns.invariant.value ∙ loop_
 
 -- ---- what a condition chooses from
 
+pub outcomes-returns-in_err-rest-clause-value : goal.outcomes-returns-in_err-rest-clause-value
+outcomes-returns-in_err-rest-clause-value g t c =
+    let p = err_from_is_err_and c.from_residual.result c.from_residual.ensures.1 in
+    rw (p.1, p.2) (fails_along c.in_err-rest.field-0.0 _ _ (both_none (Punctuator punct.Question) (whole_at c.args.depth) (behind (Punctuator punct.Colon) (whole_at c.args.depth)) (toks c.args.tokens.now)) c.in_err-rest.ensures)
+
+pub outcomes-returns-in_err-then-clause-value : goal.outcomes-returns-in_err-then-clause-value
+outcomes-returns-in_err-then-clause-value g t c =
+    let p = err_from_is_err_and c.from_residual-in_err-then.result c.from_residual-in_err-then.ensures.1 in
+    rw (p.1, p.2) (fails_along c.in_err-then.field-0.0 _ _ (first_fails (Punctuator punct.Question) (whole_at c.args.depth) (behind (Punctuator punct.Colon) (whole_at c.args.depth)) (toks c.args.tokens.now) (toks c.in_ok-rest.rest.now) c.in_ok-rest.ensures) c.in_err-then.ensures.value)
+
+pub outcomes-returns-in-Err-clause-value : goal.outcomes-returns-in-Err-clause-value
+outcomes-returns-in-Err-clause-value g t c =
+    fails_along c.in-Err.failure _ _ (λ f e. second_fails (Punctuator punct.Question) (whole_at c.args.depth) (behind (Punctuator punct.Colon) (whole_at c.args.depth)) (toks c.args.tokens.now) (toks c.in_ok-rest.rest.now) c.in_ok-rest.ensures (toks c.in_ok-then.rest.now) (expr_of c.in_ok-then.then) f c.in_ok-then.ensures.value e) c.in-Err.ensures.value
+
+pub outcomes-returns-in-Ok-clause-value : goal.outcomes-returns-in-Ok-clause-value
+outcomes-returns-in-Ok-clause-value g t c =
+    both_go (Punctuator punct.Question) (whole_at c.args.depth) (behind (Punctuator punct.Colon) (whole_at c.args.depth)) (toks c.args.tokens.now) (toks c.in_ok-rest.rest.now) c.in_ok-rest.ensures (toks c.in_ok-then.rest.now) (toks c.in-Ok.rest.now) (expr_of c.in_ok-then.then) (expr_of c.in-Ok.other) c.in_ok-then.ensures.value c.in-Ok.ensures.value
+
 pub conditional-returns-then-not-is_next-clause-value : goal.conditional-returns-then-not-is_next-clause-value
 conditional-returns-then-not-is_next-clause-value g t c = conditional_alone (whole_at c.args.depth) c.args.depth (expr_of c.args.condition) (toks c.args.tokens.now) (sym c.is_next.ensures ∙ c.if-not-is_next.true)
 
 pub conditional-returns-then-deep-depth-clause-value : goal.conditional-returns-then-deep-depth-clause-value
 conditional-returns-then-deep-depth-clause-value g t c = conditional_deep (whole_at c.args.depth) c.args.depth (expr_of c.args.condition) (toks c.args.tokens.now) (sym c.is_next.ensures ∙ c.if-not-is_next.false) (omega (arith, c.requires.measured, c.if-deep-depth.true))
 
-pub conditional-returns-in_err-rest-clause-value : goal.conditional-returns-in_err-rest-clause-value
-conditional-returns-in_err-rest-clause-value g t c =
-    let p = err_from_is_err_and c.from_residual.result c.from_residual.ensures.1 in
-    rw (p.1, p.2) (fails_along c.in_err-rest.field-0.0 _ _ (question_fails (whole_at c.args.depth) c.args.depth (expr_of c.args.condition) (toks c.args.tokens.now) (sym c.is_next.ensures ∙ c.if-not-is_next.false) (omega (arith, c.requires.measured, c.if-deep-depth.false))) c.in_err-rest.ensures)
+pub conditional-returns-in-Err-clause-value : goal.conditional-returns-in-Err-clause-value
+conditional-returns-in-Err-clause-value g t c =
+    fails_along c.in-Err.failure _ _ (conditional_fails (whole_at c.args.depth) c.args.depth (expr_of c.args.condition) (toks c.args.tokens.now) (sym c.is_next.ensures ∙ c.if-not-is_next.false) (omega (arith, c.requires.measured, c.if-deep-depth.false))) c.in-Err.ensures.value
 
-pub conditional-returns-in_err-then-clause-value : goal.conditional-returns-in_err-then-clause-value
-conditional-returns-in_err-then-clause-value g t c =
-    let p = err_from_is_err_and c.from_residual-in_err-then.result c.from_residual-in_err-then.ensures.1 in
-    rw (p.1, p.2) (fails_along c.in_err-then.field-0.0 _ _ (then_fails (whole_at c.args.depth) c.args.depth (expr_of c.args.condition) (toks c.args.tokens.now) (sym c.is_next.ensures ∙ c.if-not-is_next.false) (omega (arith, c.requires.measured, c.if-deep-depth.false)) (toks c.in_ok-rest.rest.now) c.in_ok-rest.ensures) c.in_err-then.ensures.value)
+pub conditional-returns-in_ok-whole-in-Ok-clause-value : goal.conditional-returns-in_ok-whole-in-Ok-clause-value
+conditional-returns-in_ok-whole-in-Ok-clause-value g t c =
+    let v : expr_of c.in_ok-whole-in-Ok.whole ≡ Conditional (expr_of c.args.condition) (expr_of c.in-Ok.then) (expr_of c.in-Ok.other) (across (span_of (expr_of c.args.condition)) (span_of (expr_of c.in-Ok.other))) = c.in_ok-whole-in-Ok.ensures in
+    conditional_goes (whole_at c.args.depth) c.args.depth (expr_of c.args.condition) (toks c.args.tokens.now) (sym c.is_next.ensures ∙ c.if-not-is_next.false) (omega (arith, c.requires.measured, c.if-deep-depth.false)) (expr_of c.in-Ok.then) (expr_of c.in-Ok.other) (toks c.in-Ok.rest.now) c.in-Ok.ensures.value
+    ∙ ap (λ e. Ok (e, toks c.in-Ok.rest.now)) (sym v)
 
-pub conditional-returns-in_err-rest-2-clause-value : goal.conditional-returns-in_err-rest-2-clause-value
-conditional-returns-in_err-rest-2-clause-value g t c =
-    let p = err_from_is_err_and c.from_residual-in_err-rest-2.result c.from_residual-in_err-rest-2.ensures.1 in
-    rw (p.1, p.2) (fails_along c.in_err-rest-2.field-0.0 _ _ (λ f k. colon_fails (whole_at c.args.depth) c.args.depth (expr_of c.args.condition) (toks c.args.tokens.now) (sym c.is_next.ensures ∙ c.if-not-is_next.false) (omega (arith, c.requires.measured, c.if-deep-depth.false)) (toks c.in_ok-rest.rest.now) c.in_ok-rest.ensures (expr_of c.in_ok-then.then) (toks c.in_ok-then.rest.now) f c.in_ok-then.ensures.value k) c.in_err-rest-2.ensures)
-
-pub conditional-returns-in_err-other-clause-value : goal.conditional-returns-in_err-other-clause-value
-conditional-returns-in_err-other-clause-value g t c =
-    let p = err_from_is_err_and c.from_residual-in_err-other.result c.from_residual-in_err-other.ensures.1 in
-    rw (p.1, p.2) (fails_along c.in_err-other.field-0.0 _ _ (λ f b. other_fails (whole_at c.args.depth) c.args.depth (expr_of c.args.condition) (toks c.args.tokens.now) (sym c.is_next.ensures ∙ c.if-not-is_next.false) (omega (arith, c.requires.measured, c.if-deep-depth.false)) (toks c.in_ok-rest.rest.now) c.in_ok-rest.ensures (expr_of c.in_ok-then.then) (toks c.in_ok-then.rest.now) (toks c.in_ok-rest-2.rest.now) f c.in_ok-then.ensures.value c.in_ok-rest-2.ensures b) c.in_err-other.ensures.value)
-
-pub conditional-returns-clause-value : goal.conditional-returns-clause-value
-conditional-returns-clause-value g t c =
-    conditional_goes (whole_at c.args.depth) c.args.depth (expr_of c.args.condition) (toks c.args.tokens.now) (sym c.is_next.ensures ∙ c.if-not-is_next.false) (omega (arith, c.requires.measured, c.if-deep-depth.false)) (toks c.in_ok-rest.rest.now) c.in_ok-rest.ensures (expr_of c.in_ok-then.then) (expr_of c.in_ok-other.other) (toks c.in_ok-then.rest.now) (toks c.in_ok-rest-2.rest.now) (toks c.in_ok-other.rest.now) c.in_ok-then.ensures.value c.in_ok-rest-2.ensures c.in_ok-other.ensures.value
-    ∙ ap (λ e. Ok (e, toks c.in_ok-other.rest.now)) (sym c.in_ok-conditional.ensures)
-
-pub conditional-returns-clause-deep : goal.conditional-returns-clause-deep
-conditional-returns-clause-deep g t c =
-    let d : expr_depth (expr_of c.in_ok-conditional.field-0) ≡ max (expr_depth (expr_of c.args.condition)) (max (expr_depth (expr_of c.in_ok-then.then)) (expr_depth (expr_of c.in_ok-other.other))) + 1 = ap expr_depth c.in_ok-conditional.ensures in
-    omega (arith, d, c.requires.measured, c.in_ok-then.ensures.deep, c.in_ok-other.ensures.deep, c.max.ensures, c.max-most.ensures)
+pub conditional-returns-in_ok-whole-in-Ok-clause-deep : goal.conditional-returns-in_ok-whole-in-Ok-clause-deep
+conditional-returns-in_ok-whole-in-Ok-clause-deep g t c =
+    let v : expr_of c.in_ok-whole-in-Ok.whole ≡ Conditional (expr_of c.args.condition) (expr_of c.in-Ok.then) (expr_of c.in-Ok.other) (across (span_of (expr_of c.args.condition)) (span_of (expr_of c.in-Ok.other))) = c.in_ok-whole-in-Ok.ensures in
+    let d : expr_depth (expr_of c.in_ok-whole-in-Ok.whole) ≡ max (expr_depth (expr_of c.args.condition)) (max (expr_depth (expr_of c.in-Ok.then)) (expr_depth (expr_of c.in-Ok.other))) + 1 = ap expr_depth v in
+    omega (arith, d, c.requires.measured, c.in-Ok.ensures.deep, c.max.ensures)
 
 -- ---- any expression
 

@@ -11,31 +11,37 @@ use Rattle.parse.proofs.code.Turns.{onward}
 use Rattle.parse.proofs.expr.+climbing.Given as goal
 
 abbrev pub decreases-climb : goal.decreases-climb
-decreases-climb g l = 6 * l.depth
+decreases-climb g l = 7 * l.depth
 
 abbrev pub decreases-whole : goal.decreases-whole
-decreases-whole g l = 6 * l.depth + 1
+decreases-whole g l = 7 * l.depth + 1
 
 abbrev pub decreases-conditional : goal.decreases-conditional
-decreases-conditional g l = 6 * l.depth + 2
+decreases-conditional g l = 7 * l.depth + 4
+
+abbrev pub decreases-outcomes : goal.decreases-outcomes
+decreases-outcomes g l = 7 * l.depth + 3
+
+abbrev pub decreases-behind : goal.decreases-behind
+decreases-behind g l = 7 * l.depth + 2
 
 abbrev pub decreases-extend : goal.decreases-extend
-decreases-extend g l = 6 * l.depth + 2
+decreases-extend g l = 7 * l.depth + 3
 
 abbrev pub decreases-arguments : goal.decreases-arguments
-decreases-arguments g l = 6 * l.depth + 3
+decreases-arguments g l = 7 * l.depth + 4
 
 abbrev pub decreases-named : goal.decreases-named
-decreases-named g l = 6 * l.depth + 4
+decreases-named g l = 7 * l.depth + 5
 
 abbrev pub decreases-opened : goal.decreases-opened
-decreases-opened g l = 6 * l.depth + 4
+decreases-opened g l = 7 * l.depth + 5
 
 abbrev pub decreases-prefixed : goal.decreases-prefixed
-decreases-prefixed g l = 6 * l.depth + 4
+decreases-prefixed g l = 7 * l.depth + 5
 
 abbrev pub decreases-operand : goal.decreases-operand
-decreases-operand g l = 6 * l.depth + 5
+decreases-operand g l = 7 * l.depth + 6
 
 -- what is left to do gives what the whole gives
 abbrev pub invariant-climb-turns : goal.invariant-climb-turns
