@@ -17,3 +17,5 @@ pub mod ExprSteps
 pub mod Nodes
 -- Where the last token ends.
 pub mod Ends
+-- What is made of something that was read, as what reads it gives.
+pub mod Made

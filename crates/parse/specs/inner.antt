@@ -7,5 +7,5 @@ pub mod Expressions
 pub mod Statements
 -- What the parser's functions over functions and globals answer, as functions on lists.
 pub mod Items
--- What an item begins with.
+-- What an item begins with, and what an if chooses from.
 pub mod Headings

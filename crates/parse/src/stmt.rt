@@ -1,16 +1,17 @@
 //! Statements, and the blocks that they stand in.
 
-ghost use Rattle.std.specs.Prelude.{◌≡◌, ◌^◌, ◌<◌, map, option_map};
-ghost use Rattle.syntax.specs.Tree.{For};
+ghost use Rattle.std.specs.Prelude.{◌≡◌, ◌^◌, ◌<◌, [], ◌∷◌, ◌++◌, map, option_map, IfOk};
+ghost use Rattle.syntax.specs.Tree.{While, DoWhile, For};
 ghost use Rattle.lex.specs.declared.token.Fixed.TheVariants as token;
 ghost use Rattle.lex.specs.declared.token.Keyword.TheVariants as key;
 ghost use Rattle.lex.specs.declared.token.Punctuator.TheVariants as punct;
 ghost use Rattle.lex.specs.Tokens.{toks};
 ghost use Rattle.syntax.specs.Views.{expr_of, simple_of, start_of, stmt_of};
 ghost use Rattle.syntax.specs.Grammar.{mode_keyword};
-ghost use Rattle.parse.specs.inner.Reading.{Gives, head, perhaps, behind};
+ghost use Rattle.parse.specs.inner.Reading.{Gives, GivesOn, expect, head, mapped, perhaps, behind};
 ghost use Rattle.parse.specs.inner.Expressions.{whole_at};
-ghost use Rattle.parse.specs.inner.Statements.{in_parens, entry, branches, if_stmt, while_stmt, do_stmt, end_of_do, rest_of_head, head_of_for, for_stmt, transaction_stmt, starts_stmt, stmt_at, block_at};
+ghost use Rattle.parse.specs.inner.Headings.{branches_of};
+ghost use Rattle.parse.specs.inner.Statements.{in_parens, entry, branches, if_tree, if_stmt, while_stmt, do_stmt, end_of_do, rest_of_head, head_of_for, for_stmt, transaction_stmt, starts_stmt, stmt_at, block_at};
 
 use crate::cursor::{closed, expect, is_next, spot};
 use crate::expr::expression;
@@ -107,13 +108,6 @@ fn boxed_head<'t, 'a, A: Allocator + Copy>(
     Ok((Boxed::new(alloc, head)?, rest))
 }
 
-/// A `for` of its parts.
-fn for_node<A: Allocator>(head: Boxed<ForHead<A>, A>, body: Boxed<Stmt<A>, A>) -> Stmt<A>
-    ensures { stmt_of result ≡ For (start_of head.start) (option_map expr_of head.condition) (option_map simple_of head.step) (stmt_of body) }
-{
-    Stmt::For(head, body)
-}
-
 /// `while ( expr ) ;`, behind the body of a `do`.
 fn end_of_do<'t, 'a, A: Allocator + Copy>(
     alloc: A,
@@ -129,6 +123,124 @@ fn end_of_do<'t, 'a, A: Allocator + Copy>(
     Ok((condition, rest))
 }
 
+/// What was read of a statement, in a box. In this function and the next ones, which take what the cycle of statements
+/// reads, what was read before is dropped where the rest fails: in the cycle itself that is dear to prove.
+fn boxed<'t, 'a, A: Allocator + Copy>(
+    alloc: A,
+    read: Result<(Stmt<A>, &'t [Token<'a>]), Failure<'t, 'a>>,
+) -> Result<(Boxed<Stmt<A>, A>, &'t [Token<'a>]), Failure<'t, 'a>>
+    ensures { GivesOn stmt_of stmt_of (λ s. s) read.entry result }
+{
+    match read {
+        Ok((one, rest)) => Ok((Boxed::new(alloc, one)?, rest)),
+        Err(failure) => Err(failure),
+    }
+}
+
+/// What an `if` chooses from, of the one and what was read of the other.
+fn choice_of<'t, 'a, A: Allocator + Copy>(
+    then: Boxed<Stmt<A>, A>,
+    read: Result<(Option<Boxed<Stmt<A>, A>>, &'t [Token<'a>]), Failure<'t, 'a>>,
+) -> Result<(Choice<A>, &'t [Token<'a>]), Failure<'t, 'a>>
+    ensures { GivesOn (option_map stmt_of) branches_of (λ b. (stmt_of then, b)) read.entry result }
+{
+    match read {
+        Ok((other, rest)) => Ok((Choice { then, other }, rest)),
+        Err(failure) => Err(failure),
+    }
+}
+
+/// An `if` of its condition and what was read behind it.
+fn if_of<'t, 'a, A: Allocator + Copy>(
+    condition: Expr<A>,
+    read: Result<(Choice<A>, &'t [Token<'a>]), Failure<'t, 'a>>,
+) -> Result<(Stmt<A>, &'t [Token<'a>]), Failure<'t, 'a>>
+    ensures { GivesOn branches_of stmt_of (λ b. if_tree (expr_of condition, b)) read.entry result }
+{
+    match read {
+        Ok((both, rest)) => {
+            let Choice { then, other } = both;
+            Ok((Stmt::If(condition, then, other), rest))
+        }
+        Err(failure) => {
+            drop(condition);
+            Err(failure)
+        }
+    }
+}
+
+/// A `while` of its condition and what was read behind it.
+fn while_of<'t, 'a, A: Allocator + Copy>(
+    condition: Expr<A>,
+    read: Result<(Boxed<Stmt<A>, A>, &'t [Token<'a>]), Failure<'t, 'a>>,
+) -> Result<(Stmt<A>, &'t [Token<'a>]), Failure<'t, 'a>>
+    ensures { GivesOn stmt_of stmt_of (λ s. While (expr_of condition) s) read.entry result }
+{
+    match read {
+        Ok((body, rest)) => Ok((Stmt::While(condition, body), rest)),
+        Err(failure) => {
+            drop(condition);
+            Err(failure)
+        }
+    }
+}
+
+/// A `for` of its head and what was read behind it.
+fn for_of<'t, 'a, A: Allocator + Copy>(
+    head: Boxed<ForHead<A>, A>,
+    read: Result<(Boxed<Stmt<A>, A>, &'t [Token<'a>]), Failure<'t, 'a>>,
+) -> Result<(Stmt<A>, &'t [Token<'a>]), Failure<'t, 'a>>
+    ensures { GivesOn stmt_of stmt_of (λ s. For (start_of head.start) (option_map expr_of head.condition) (option_map simple_of head.step) s) read.entry result }
+{
+    match read {
+        Ok((body, rest)) => Ok((Stmt::For(head, body), rest)),
+        Err(failure) => Err(failure),
+    }
+}
+
+/// A `do` of its body and of `while ( expr ) ;`, which is read here.
+fn do_of<'t, 'a, A: Allocator + Copy>(
+    alloc: A,
+    body: Boxed<Stmt<A>, A>,
+    tokens: &'t [Token<'a>],
+    depth: usize,
+) -> Result<(Stmt<A>, &'t [Token<'a>]), Failure<'t, 'a>>
+    requires { depth < 2 ^ 32 }
+    ensures { Gives (λ x. (stmt_of x.0, toks x.1.now)) result (mapped (DoWhile (stmt_of body)) (end_of_do depth) (toks tokens.now)) }
+{
+    match end_of_do(alloc, tokens, depth) {
+        Ok((condition, rest)) => Ok((Stmt::DoWhile(body, condition), rest)),
+        Err(failure) => Err(failure),
+    }
+}
+
+/// What was read of a statement, behind those that were read before.
+fn added<'t, 'a, A: Allocator + Copy>(
+    mut all: Items<Stmt<A>, A>,
+    read: Result<(Stmt<A>, &'t [Token<'a>]), Failure<'t, 'a>>,
+) -> Result<(Items<Stmt<A>, A>, &'t [Token<'a>]), Failure<'t, 'a>>
+    ensures { GivesOn stmt_of (λ ss. map stmt_of ss) (λ s. map stmt_of all ++ s ∷ []) read.entry result }
+{
+    match read {
+        Ok((one, rest)) => {
+            all.push(one)?;
+            Ok((all, rest))
+        }
+        Err(failure) => Err(failure),
+    }
+}
+
+/// Statements, where a brace closes them.
+fn braced<'t, 'a, A: Allocator + Copy>(
+    all: Items<Stmt<A>, A>,
+    tokens: &'t [Token<'a>],
+) -> Result<(Items<Stmt<A>, A>, &'t [Token<'a>]), Failure<'t, 'a>>
+    ensures value { IfOk result (λ x. x.0 ≡ all) }
+    ensures rest { Gives (λ x. (tt, toks x.1.now)) result (expect (token.Punctuator punct.CloseBrace) (toks tokens.now)) }
+{
+    closed(all, tokens, Fixed::Punctuator(Punctuator::CloseBrace))
+}
+
 /// A statement, in a box.
 #[cycle(statements)]
 fn boxed_stmt<'t, 'a, A: Allocator + Copy>(
@@ -139,8 +251,7 @@ fn boxed_stmt<'t, 'a, A: Allocator + Copy>(
     requires { depth < 2 ^ 32 }
     ensures { Gives (λ x. (stmt_of x.0, toks x.1.now)) result (stmt_at depth (toks tokens.now)) }
 {
-    let (one, rest) = stmt(alloc, tokens, depth)?;
-    Ok((Boxed::new(alloc, one)?, rest))
+    boxed(alloc, stmt(alloc, tokens, depth))
 }
 
 /// `[else stmt]`
@@ -169,16 +280,10 @@ fn branches<'t, 'a, A: Allocator + Copy>(
     depth: usize,
 ) -> Result<(Choice<A>, &'t [Token<'a>]), Failure<'t, 'a>>
     requires { depth < 2 ^ 32 }
-    ensures { Gives (λ x. ((stmt_of x.0.then, option_map stmt_of x.0.other), toks x.1.now)) result (branches (stmt_at depth) (toks tokens.now)) }
+    ensures { Gives (λ x. (branches_of x.0, toks x.1.now)) result (branches (stmt_at depth) (toks tokens.now)) }
 {
     let (then, rest) = boxed_stmt(alloc, tokens, depth)?;
-    match else_part(alloc, rest, depth) {
-        Ok((other, rest)) => Ok((Choice { then, other }, rest)),
-        Err(failure) => {
-            drop(then);
-            Err(failure)
-        }
-    }
+    choice_of(then, else_part(alloc, rest, depth))
 }
 
 /// `if ( expr ) branches`
@@ -193,16 +298,7 @@ fn if_stmt<'t, 'a, A: Allocator + Copy>(
 {
     let rest = expect(tokens, Fixed::Keyword(Keyword::If))?;
     let (condition, rest) = in_parens(alloc, rest, depth)?;
-    match branches(alloc, rest, depth) {
-        Ok((both, rest)) => {
-            let Choice { then, other } = both;
-            Ok((Stmt::If(condition, then, other), rest))
-        }
-        Err(failure) => {
-            drop(condition);
-            Err(failure)
-        }
-    }
+    if_of(condition, branches(alloc, rest, depth))
 }
 
 /// `while ( expr ) stmt`
@@ -217,13 +313,7 @@ fn while_stmt<'t, 'a, A: Allocator + Copy>(
 {
     let rest = expect(tokens, Fixed::Keyword(Keyword::While))?;
     let (condition, rest) = in_parens(alloc, rest, depth)?;
-    match boxed_stmt(alloc, rest, depth) {
-        Ok((body, rest)) => Ok((Stmt::While(condition, body), rest)),
-        Err(failure) => {
-            drop(condition);
-            Err(failure)
-        }
-    }
+    while_of(condition, boxed_stmt(alloc, rest, depth))
 }
 
 /// `do stmt while ( expr ) ;`
@@ -238,13 +328,7 @@ fn do_stmt<'t, 'a, A: Allocator + Copy>(
 {
     let rest = expect(tokens, Fixed::Keyword(Keyword::Do))?;
     let (body, rest) = boxed_stmt(alloc, rest, depth)?;
-    match end_of_do(alloc, rest, depth) {
-        Ok((condition, rest)) => Ok((Stmt::DoWhile(body, condition), rest)),
-        Err(failure) => {
-            drop(body);
-            Err(failure)
-        }
-    }
+    do_of(alloc, body, rest, depth)
 }
 
 /// `for head_of_for stmt`
@@ -259,13 +343,7 @@ fn for_stmt<'t, 'a, A: Allocator + Copy>(
 {
     let rest = expect(tokens, Fixed::Keyword(Keyword::For))?;
     let (head, rest) = boxed_head(alloc, rest, depth)?;
-    match boxed_stmt(alloc, rest, depth) {
-        Ok((body, rest)) => Ok((for_node(head, body), rest)),
-        Err(failure) => {
-            drop(head);
-            Err(failure)
-        }
-    }
+    for_of(head, boxed_stmt(alloc, rest, depth))
 }
 
 /// The keyword that begins a transaction.
@@ -332,11 +410,11 @@ pub fn block<'t, 'a, A: Allocator + Copy>(
         if is_next(rest, Fixed::Punctuator(Punctuator::CloseBrace)) {
             break;
         }
-        let (one, after) = entry(alloc, rest, below)?;
-        all.push(one)?;
+        let (more, after) = added(all, entry(alloc, rest, below))?;
+        all = more;
         rest = after;
     }
-    let (all, rest) = closed(all, rest, Fixed::Punctuator(Punctuator::CloseBrace))?;
+    let (all, rest) = braced(all, rest)?;
     Ok((all, rest))
 }
 

@@ -13,9 +13,10 @@ use Rattle.syntax.specs.Tree.{Expr, Simple, Start, Stmt, Print, While, DoWhile, 
 use Rattle.syntax.specs.Views.{exprs_from, stmts_from, expr_of, stmt_of}
 use Rattle.syntax.specs.Grammar.{the_text, mode_keyword}
 use Rattle.syntax.proofs.Seen as seen
-use Rattle.parse.specs.inner.Reading.{Fault, Parser, head, is_next, take, expect, spot, perhaps, behind, before, unless}
+use Rattle.parse.specs.inner.Reading.{Fault, ◌>>=◌, Parser, head, is_next, mapped, take, expect, spot, perhaps, behind, before, unless}
 use Rattle.parse.specs.inner.Expressions.{whole_at, starts_type}
 use Rattle.parse.specs.inner.Statements as read
+use Rattle.parse.proofs.code.Made.{second_is_left}
 
 pub print_stmt_is : (d : ℕ) (ts t1 t2 t3 r : List Tok) (at : Span) (x : List ℕ × Span) (es : List Expr) → spot (Keyword key.Printf) ts ≡ Ok (at, t1) → expect (Punctuator punct.OpenParen) t1 ≡ Ok (tt, t2) → take the_text t2 ≡ Ok (x, t3) → read.printed d t3 ≡ Ok (es, r)
     → read.print_stmt d ts ≡ Ok (Print at x.0 x.1 (exprs_from es), r)
@@ -38,14 +39,6 @@ rest_of_head_is d ts t1 r c s a b = rw (a, b) refl
 pub head_of_for_fails : (d : ℕ) (ts t1 t2 : List Tok) (s : Start) (f : Fault) → expect (Punctuator punct.OpenParen) ts ≡ Ok (tt, t1) → read.start d t1 ≡ Ok (s, t2) → read.rest_of_head d t2 ≡ Err f → read.head_of_for d ts ≡ Err f
 head_of_for_fails d ts t1 t2 s f a b c = rw (a, b, c) refl
 
-pub for_stmt_fails : (d : ℕ) (ts t1 t2 : List Tok) (h : Start × (Option Expr × Option Simple)) (f : Fault) → expect (Keyword key.For) ts ≡ Ok (tt, t1) → read.head_of_for d t1 ≡ Ok (h, t2) → read.stmt_at d t2 ≡ Err f
-    → read.for_stmt d (read.stmt_at d) (read.block_at d) ts ≡ Err f
-for_stmt_fails d ts t1 t2 h f a b c = rw (a, b, c) refl
-
-pub for_stmt_is : (d : ℕ) (ts t1 t2 r : List Tok) (h : Start × (Option Expr × Option Simple)) (a : Stmt) → expect (Keyword key.For) ts ≡ Ok (tt, t1) → read.head_of_for d t1 ≡ Ok (h, t2) → read.stmt_at d t2 ≡ Ok (a, r)
-    → read.for_stmt d (read.stmt_at d) (read.block_at d) ts ≡ Ok (For h.0 h.1.0 h.1.1 a, r)
-for_stmt_is d ts t1 t2 r h a x y z = rw (x, y, z) refl
-
 -- ---- what fails in a part of a statement fails in the whole
 
 module _ (d : ℕ) (ts : List Tok) where
@@ -55,24 +48,11 @@ module _ (d : ℕ) (ts : List Tok) where
   pub while_stmt_unless : (t1 : List Tok) (f : Fault) → expect (Keyword key.While) ts ≡ Ok (tt, t1) → read.in_parens (whole_at d) t1 ≡ Err f → read.while_stmt d (read.stmt_at d) (read.block_at d) ts ≡ Err f
   while_stmt_unless t1 f a e = rw (a, e) refl
 
-  pub while_stmt_fails : (t1 t2 : List Tok) (c : Expr) (f : Fault) → expect (Keyword key.While) ts ≡ Ok (tt, t1) → read.in_parens (whole_at d) t1 ≡ Ok (c, t2) → read.stmt_at d t2 ≡ Err f → read.while_stmt d (read.stmt_at d) (read.block_at d) ts ≡ Err f
-  while_stmt_fails t1 t2 c f a b e = rw (a, b, e) refl
-
-  pub while_stmt_is : (t1 t2 r : List Tok) (c : Expr) (s : Stmt) → expect (Keyword key.While) ts ≡ Ok (tt, t1) → read.in_parens (whole_at d) t1 ≡ Ok (c, t2) → read.stmt_at d t2 ≡ Ok (s, r)
-      → read.while_stmt d (read.stmt_at d) (read.block_at d) ts ≡ Ok (While c s, r)
-  while_stmt_is t1 t2 r c s x y z = rw (x, y, z) refl
-
   pub do_stmt_none : (f : Fault) → expect (Keyword key.Do) ts ≡ Err f → read.do_stmt d (read.stmt_at d) (read.block_at d) ts ≡ Err f
   do_stmt_none f e = rw e refl
 
   pub do_stmt_fails : (t1 : List Tok) (f : Fault) → expect (Keyword key.Do) ts ≡ Ok (tt, t1) → read.stmt_at d t1 ≡ Err f → read.do_stmt d (read.stmt_at d) (read.block_at d) ts ≡ Err f
   do_stmt_fails t1 f a e = rw (a, e) refl
-
-  pub do_stmt_open : (t1 t2 : List Tok) (s : Stmt) (f : Fault) → expect (Keyword key.Do) ts ≡ Ok (tt, t1) → read.stmt_at d t1 ≡ Ok (s, t2) → read.end_of_do d t2 ≡ Err f → read.do_stmt d (read.stmt_at d) (read.block_at d) ts ≡ Err f
-  do_stmt_open t1 t2 s f a b e = rw (a, b, e) refl
-
-  pub do_stmt_is : (t1 t2 r : List Tok) (s : Stmt) (x : Expr) → expect (Keyword key.Do) ts ≡ Ok (tt, t1) → read.stmt_at d t1 ≡ Ok (s, t2) → read.end_of_do d t2 ≡ Ok (x, r) → read.do_stmt d (read.stmt_at d) (read.block_at d) ts ≡ Ok (DoWhile s x, r)
-  do_stmt_is t1 t2 r s x a b e = rw (a, b, e) refl
 
   pub if_stmt_none : (f : Fault) → expect (Keyword key.If) ts ≡ Err f → read.if_stmt d (read.stmt_at d) (read.block_at d) ts ≡ Err f
   if_stmt_none f e = rw e refl
@@ -80,17 +60,8 @@ module _ (d : ℕ) (ts : List Tok) where
   pub if_stmt_unless : (t1 : List Tok) (f : Fault) → expect (Keyword key.If) ts ≡ Ok (tt, t1) → read.in_parens (whole_at d) t1 ≡ Err f → read.if_stmt d (read.stmt_at d) (read.block_at d) ts ≡ Err f
   if_stmt_unless t1 f a e = rw (a, e) refl
 
-  pub if_stmt_fails : (t1 t2 : List Tok) (c : Expr) (f : Fault) → expect (Keyword key.If) ts ≡ Ok (tt, t1) → read.in_parens (whole_at d) t1 ≡ Ok (c, t2) → read.branches (read.stmt_at d) t2 ≡ Err f → read.if_stmt d (read.stmt_at d) (read.block_at d) ts ≡ Err f
-  if_stmt_fails t1 t2 c f a b e = rw (a, b, e) refl
-
   pub branches_fail : (f : Fault) → read.stmt_at d ts ≡ Err f → read.branches (read.stmt_at d) ts ≡ Err f
   branches_fail f e = rw e refl
-
-  pub branches_other : (t1 : List Tok) (s : Stmt) (f : Fault) → read.stmt_at d ts ≡ Ok (s, t1) → perhaps (Keyword key.Else) (behind (Keyword key.Else) (read.stmt_at d)) t1 ≡ Err f → read.branches (read.stmt_at d) ts ≡ Err f
-  branches_other t1 s f a e = rw (a, e) refl
-
-  pub branches_are : (t1 r : List Tok) (s : Stmt) (b : Option Stmt) → read.stmt_at d ts ≡ Ok (s, t1) → perhaps (Keyword key.Else) (behind (Keyword key.Else) (read.stmt_at d)) t1 ≡ Ok (b, r) → read.branches (read.stmt_at d) ts ≡ Ok ((s, b), r)
-  branches_are t1 r s b a e = rw (a, e) refl
 
   pub no_else : is_next (Keyword key.Else) (head ts) ≡ false → perhaps (Keyword key.Else) (behind (Keyword key.Else) (read.stmt_at d)) ts ≡ Ok (None, ts)
   no_else h = rw h refl
@@ -122,15 +93,34 @@ module _ (d : ℕ) (ts : List Tok) where
   pub entry_fails : (f : Fault) → starts_type (head ts) ≡ true → read.declaration_at d ts ≡ Err f → read.entry d (read.stmt_at d) ts ≡ Err f
   entry_fails f h e = rw (h, e) refl
 
+-- ---- whole statements, where what is left of them is still to be read
+
+module _ (d : ℕ) (ts t1 t2 : List Tok) where
+  pub if_stmt_left : (c : Expr) → expect (Keyword key.If) ts ≡ Ok (tt, t1) → read.in_parens (whole_at d) t1 ≡ Ok (c, t2)
+      → read.if_stmt d (read.stmt_at d) (read.block_at d) ts ≡ ◌>>=◌ {B = Stmt × List Tok} (read.branches (read.stmt_at d) t2) (λ x. Ok (read.if_tree (c, x.0), x.1))
+  if_stmt_left c e a = second_is_left (Keyword key.If) (read.in_parens (whole_at d)) (read.branches (read.stmt_at d)) read.if_tree ts t1 t2 c e a
+
+  pub while_stmt_left : (c : Expr) → expect (Keyword key.While) ts ≡ Ok (tt, t1) → read.in_parens (whole_at d) t1 ≡ Ok (c, t2)
+      → read.while_stmt d (read.stmt_at d) (read.block_at d) ts ≡ ◌>>=◌ {B = Stmt × List Tok} (read.stmt_at d t2) (λ x. Ok (While c x.0, x.1))
+  while_stmt_left c e a = second_is_left (Keyword key.While) (read.in_parens (whole_at d)) (read.stmt_at d) (λ x. While x.0 x.1) ts t1 t2 c e a
+
+  pub do_stmt_left : (s : Stmt) → expect (Keyword key.Do) ts ≡ Ok (tt, t1) → read.stmt_at d t1 ≡ Ok (s, t2)
+      → read.do_stmt d (read.stmt_at d) (read.block_at d) ts ≡ mapped (DoWhile s) (read.end_of_do d) t2
+  do_stmt_left s e a = second_is_left (Keyword key.Do) (read.stmt_at d) (read.end_of_do d) (λ x. DoWhile x.0 x.1) ts t1 t2 s e a
+
+  pub for_stmt_left : (h : Start × (Option Expr × Option Simple)) → expect (Keyword key.For) ts ≡ Ok (tt, t1) → read.head_of_for d t1 ≡ Ok (h, t2)
+      → read.for_stmt d (read.stmt_at d) (read.block_at d) ts ≡ ◌>>=◌ {B = Stmt × List Tok} (read.stmt_at d t2) (λ x. Ok (For h.0 h.1.0 h.1.1 x.0, x.1))
+  for_stmt_left h e a = second_is_left (Keyword key.For) (read.head_of_for d) (read.stmt_at d) read.for_tree ts t1 t2 h e a
+
+pub branches_left : (d : ℕ) (ts t1 : List Tok) (s : Stmt) → read.stmt_at d ts ≡ Ok (s, t1)
+    → read.branches (read.stmt_at d) ts ≡ ◌>>=◌ {B = (Stmt × Option Stmt) × List Tok} (perhaps (Keyword key.Else) (behind (Keyword key.Else) (read.stmt_at d)) t1) (λ x. Ok ((s, x.0), x.1))
+branches_left d ts t1 s a = rw a refl
+
 -- ---- whole statements
 
 pub transaction_stmt_is : (d : ℕ) (mode : Mode) (ts t1 r : List Tok) (at : Span) (body : List Stmt) → spot (mode_keyword mode) ts ≡ Ok (at, t1) → read.block_at d t1 ≡ Ok (body, r)
     → read.transaction_stmt d (read.stmt_at d) (read.block_at d) mode ts ≡ Ok (Transaction mode (stmts_from body) at, r)
 transaction_stmt_is d mode ts t1 r at body a b = rw (a, b) refl
-
-pub if_stmt_is : (d : ℕ) (ts t1 t2 r : List Tok) (c : Expr) (a : Stmt) (b : Option Stmt) → expect (Keyword key.If) ts ≡ Ok (tt, t1) → read.in_parens (whole_at d) t1 ≡ Ok (c, t2) → read.branches (read.stmt_at d) t2 ≡ Ok ((a, b), r)
-    → read.if_stmt d (read.stmt_at d) (read.block_at d) ts ≡ Ok (read.if_tree (c, (a, b)), r)
-if_stmt_is d ts t1 t2 r c a b e f g = rw (e, f, g) refl
 
 -- an if with an else or without one
 pub stmt_of_any_if : {A : Type 0} (c : E.Expr A) (a : S.Stmt A) (b : Option (S.Stmt A)) → stmt_of (S.If c a b) ≡ read.if_tree (expr_of c, (stmt_of a, option_map stmt_of b))

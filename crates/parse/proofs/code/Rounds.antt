@@ -1,9 +1,9 @@
 -- Loops that read items up to a mark, which is read too: each way round them and out of them.
-use Rattle.std.proofs.Common.{◌≡◌, ℕ, ◌+◌, ◌-◌, ◌<◌, Bool, true, false, Option, List, [], ◌∷◌, ◌++◌, length, Result, Ok, Err, refl, sym, ap, ◌∙◌, ◌⊎◌}
+use Rattle.std.proofs.Common.{◌≡◌, ℕ, ◌+◌, ◌-◌, ◌<◌, Bool, true, false, Option, List, [], ◌∷◌, ◌++◌, length, Result, Ok, Err, refl, sym, ap, subst, ◌∙◌, ◌⊎◌}
 use Rattle.lex.specs.declared.token.Fixed.{Fixed}
 use Rattle.lex.specs.Tokens.{Tok}
 use Rattle.parse.specs.declared.fault.Failure.{Failure}
-use Rattle.parse.specs.inner.Reading.{Fault, wrong, Fails, Parser, head, many, many_until, expect}
+use Rattle.parse.specs.inner.Reading.{Fault, wrong, ◌>>=◌, Fails, Parser, head, many, many_until, expect}
 use Rattle.parse.proofs.code.Climbing.{fails_along}
 use Rattle.parse.proofs.code.Turns.{onward, joined, nothing_before, goes_on, fails_on, good_end, bad_end}
 use Rattle.parse.proofs.code.Braces.{ended}
@@ -18,6 +18,16 @@ module _ {A : Type 0} (stop : Option Tok → Bool) (P : Parser A) (k : Fixed) (t
 
   pub round_goes : (front : List A) (len i : ℕ) (ts after : List Tok) (x : A) → Round front (len - i) ts → i < len → stop (head ts) ≡ false → P ts ≡ Ok (x, after) → Round (front ++ x ∷ []) (len - (i + 1)) after
   round_goes front len i ts after x so_far lt h e = ap (ended k) (goes_on stop P front len i ts after x (onward front (many stop (len - i) P ts)) lt h e refl) ∙ so_far
+
+  pub round_goes_to : (front more : List A) (len i : ℕ) (ts after : List Tok) → Round front (len - i) ts → i < len → stop (head ts) ≡ false → ◌>>=◌ {B = List A × List Tok} (P ts) (λ x. Ok (front ++ x.0 ∷ [], x.1)) ≡ Ok (more, after) → Round more (len - (i + 1)) after
+  round_goes_to front more len i ts after so_far lt h made = go (P ts) refl made
+    where
+      go : (r : Result (A × List Tok) Fault) → P ts ≡ r → ◌>>=◌ {B = List A × List Tok} r (λ x. Ok (front ++ x.0 ∷ [], x.1)) ≡ Ok (more, after) → Round more (len - (i + 1)) after
+      go (Err f) e m = absurd cc
+      go (Ok x) e m =
+          let both : (front ++ x.0 ∷ [], x.1) ≡ (more, after) = cc in
+          let one : Round (front ++ x.0 ∷ []) (len - (i + 1)) x.1 = round_goes front len i ts x.1 x.0 so_far lt h e in
+          subst (λ (z : List A × List Tok). Round z.0 (len - (i + 1)) z.1) both one
 
   pub round_fails : (e : Failure) (front : List A) (len i : ℕ) (ts : List Tok) → Round front (len - i) ts → i < len → stop (head ts) ≡ false → Fails e (P ts) → Fails e total
   round_fails e front len i ts so_far lt h =

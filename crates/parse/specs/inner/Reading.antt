@@ -32,6 +32,10 @@ abbrev pub Gives : {X Y : Type 0} → (X → Y) → Result X Failure → Result 
 Gives view (Ok x) read = read ≡ Ok (view x)
 Gives view (Err e) read = Fails e read
 
+-- Whatever reading the one gives, seen by view, the other gives as make makes of it, unless memory ran out.
+abbrev pub GivesOn : {X Y U V : Type 0} → (X → U) → (Y → V) → (U → V) → Result (X × Bor (List Token)) Failure → Result (Y × Bor (List Token)) Failure → Type 0
+GivesOn {U = U} {V = V} view seen make one other = (read : Result (U × List Tok) Fault) → Gives {Y = U × List Tok} (λ x. (view x.0, toks x.1.now)) one read → Gives {Y = V × List Tok} (λ y. (seen y.0, toks y.1.now)) other (read >>= λ x. Ok (make x.0, x.1))
+
 -- reads something at the front, and answers it with the tokens after it
 abbrev pub Parser : Type 0 → Type 0
 Parser A = List Tok → Result (A × List Tok) Fault

@@ -13,24 +13,15 @@ use Rattle.parse.specs.inner.Statements.{entry, stmt_at}
 use Rattle.parse.proofs.code.Climbing.{fails_along}
 use Rattle.parse.proofs.code.Within.{stmt_none, stmt_deep, stmt_start, block_none, block_deep, block_start, block_stmt_is, block_stmt_fails, simple_stmt_is, entry_is}
 use Rattle.parse.proofs.code.Loops.{all_turns}
+use Rattle.parse.proofs.code.Made.{made_same, fails_before}
 use Rattle.parse.proofs.code.Braces.{expect_not, braced_is}
-use Rattle.parse.proofs.code.Nodes.{while_stmt_none, while_stmt_unless, while_stmt_fails, while_stmt_is, do_stmt_none, do_stmt_fails, do_stmt_open, do_stmt_is, if_stmt_none, if_stmt_unless, if_stmt_fails, if_stmt_is, branches_fail, branches_other, branches_are, stmt_of_any_if, no_else, else_none, else_fails, else_is, for_stmt_none, for_stmt_unless, for_stmt_fails, for_stmt_is, transaction_stmt_none, transaction_stmt_fails, transaction_stmt_is, entry_stmt, entry_fails}
-use Rattle.parse.proofs.code.Rounds.{round_starts, round_goes, round_fails, round_bad, round_good}
+use Rattle.parse.proofs.code.Nodes.{while_stmt_none, while_stmt_unless, while_stmt_left, do_stmt_none, do_stmt_fails, do_stmt_left, if_stmt_none, if_stmt_unless, if_stmt_left, branches_fail, branches_left, no_else, else_none, else_fails, else_is, for_stmt_none, for_stmt_unless, for_stmt_left, transaction_stmt_none, transaction_stmt_fails, transaction_stmt_is, entry_stmt, entry_fails}
+use Rattle.parse.proofs.code.Rounds.{round_starts, round_goes_to, round_fails, round_bad, round_good}
 use Rattle.parse.proofs.stmt.+statements.Goals.{block-else-turns-test, block-then-turns-test+then-is_next}
 use Rattle.parse.proofs.stmt.+statements.Goals as goal
 
-pub boxed_stmt-returns-in_err-one : goal.boxed_stmt-returns-in_err-one
-boxed_stmt-returns-in_err-one g t c =
-    let p = err_from_is_err_and c.from_residual.result c.from_residual.ensures.1 in
-    rw (p.1, p.2) c.in_err-one.ensures
-
-pub boxed_stmt-returns-in_err-new : goal.boxed_stmt-returns-in_err-new
-boxed_stmt-returns-in_err-new g t c =
-    let p = err_from_is_err_and c.from_residual-in_err-new.result c.from_residual-in_err-new.ensures.1 in
-    rw (p.1, p.2) tt
-
 pub boxed_stmt-returns : goal.boxed_stmt-returns
-boxed_stmt-returns g t c = c.in_ok-one.ensures ∙ ap (λ s. Ok (stmt_of s, toks c.in_ok-one.rest.now)) (sym c.in_ok-new.ensures)
+boxed_stmt-returns g t c = made_same stmt_of c.boxed.result (stmt_at c.args.depth (toks c.args.tokens.now)) (c.boxed.ensures _ c.stmt.ensures)
 
 pub else_part-returns-then-not-is_next : goal.else_part-returns-then-not-is_next
 else_part-returns-then-not-is_next g t c = no_else c.args.depth (toks c.args.tokens.now) (sym c.is_next.ensures ∙ c.if-not-is_next.true)
@@ -53,11 +44,8 @@ branches-returns-in_err-then g t c =
     let p = err_from_is_err_and c.from_residual.result c.from_residual.ensures.1 in
     rw (p.1, p.2) (fails_along c.in_err-then.field-0.0 _ _ (λ f e. branches_fail c.args.depth (toks c.args.tokens.now) f e) c.in_err-then.ensures)
 
-pub branches-returns-in-Err : goal.branches-returns-in-Err
-branches-returns-in-Err g t c = fails_along c.in-Err.failure _ _ (λ f e. branches_other c.args.depth (toks c.args.tokens.now) (toks c.in_ok-then.rest.now) (stmt_of c.in_ok-then.then) f c.in_ok-then.ensures e) c.in-Err.ensures
-
-pub branches-returns-in-Ok : goal.branches-returns-in-Ok
-branches-returns-in-Ok g t c = branches_are c.args.depth (toks c.args.tokens.now) (toks c.in_ok-then.rest.now) (toks c.in-Ok.rest.now) (stmt_of c.in_ok-then.then) (option_map stmt_of c.in-Ok.other) c.in_ok-then.ensures c.in-Ok.ensures
+pub branches-returns : goal.branches-returns
+branches-returns g t c = rw (branches_left c.args.depth (toks c.args.tokens.now) (toks c.in_ok-then.rest.now) (stmt_of c.in_ok-then.then) c.in_ok-then.ensures) (c.choice_of.ensures _ c.else_part.ensures)
 
 pub if_stmt-returns-in_err-rest : goal.if_stmt-returns-in_err-rest
 if_stmt-returns-in_err-rest g t c =
@@ -69,13 +57,8 @@ if_stmt-returns-in_err-condition g t c =
     let p = err_from_is_err_and c.from_residual-in_err-condition.result c.from_residual-in_err-condition.ensures.1 in
     rw (p.1, p.2) (fails_along c.in_err-condition.field-0.0 _ _ (λ f e. if_stmt_unless c.args.depth (toks c.args.tokens.now) (toks c.in_ok-rest.rest.now) f c.in_ok-rest.ensures e) c.in_err-condition.ensures)
 
-pub if_stmt-returns-in-Err : goal.if_stmt-returns-in-Err
-if_stmt-returns-in-Err g t c = fails_along c.in-Err.failure _ _ (λ f e. if_stmt_fails c.args.depth (toks c.args.tokens.now) (toks c.in_ok-rest.rest.now) (toks c.in_ok-condition.rest.now) (expr_of c.in_ok-condition.condition) f c.in_ok-rest.ensures c.in_ok-condition.ensures e) c.in-Err.ensures
-
-pub if_stmt-returns-in-Ok : goal.if_stmt-returns-in-Ok
-if_stmt-returns-in-Ok g t c =
-    if_stmt_is c.args.depth (toks c.args.tokens.now) (toks c.in_ok-rest.rest.now) (toks c.in_ok-condition.rest.now) (toks c.in-Ok.rest.now) (expr_of c.in_ok-condition.condition) (stmt_of c.in-Ok.both.then) (option_map stmt_of c.in-Ok.both.other) c.in_ok-rest.ensures c.in_ok-condition.ensures c.in-Ok.ensures
-    ∙ ap (λ s. Ok (s, toks c.in-Ok.rest.now)) (sym (stmt_of_any_if c.in_ok-condition.condition c.in-Ok.both.then c.in-Ok.both.other))
+pub if_stmt-returns : goal.if_stmt-returns
+if_stmt-returns g t c = rw (if_stmt_left c.args.depth (toks c.args.tokens.now) (toks c.in_ok-rest.rest.now) (toks c.in_ok-condition.rest.now) (expr_of c.in_ok-condition.condition) c.in_ok-rest.ensures c.in_ok-condition.ensures) (c.if_of.ensures _ c.branches.ensures)
 
 pub while_stmt-returns-in_err-rest : goal.while_stmt-returns-in_err-rest
 while_stmt-returns-in_err-rest g t c =
@@ -87,13 +70,8 @@ while_stmt-returns-in_err-condition g t c =
     let p = err_from_is_err_and c.from_residual-in_err-condition.result c.from_residual-in_err-condition.ensures.1 in
     rw (p.1, p.2) (fails_along c.in_err-condition.field-0.0 _ _ (λ f e. while_stmt_unless c.args.depth (toks c.args.tokens.now) (toks c.in_ok-rest.rest.now) f c.in_ok-rest.ensures e) c.in_err-condition.ensures)
 
-pub while_stmt-returns-in-Err : goal.while_stmt-returns-in-Err
-while_stmt-returns-in-Err g t c = fails_along c.in-Err.failure _ _ (λ f e. while_stmt_fails c.args.depth (toks c.args.tokens.now) (toks c.in_ok-rest.rest.now) (toks c.in_ok-condition.rest.now) (expr_of c.in_ok-condition.condition) f c.in_ok-rest.ensures c.in_ok-condition.ensures e) c.in-Err.ensures
-
-pub while_stmt-returns-in-Ok : goal.while_stmt-returns-in-Ok
-while_stmt-returns-in-Ok g t c =
-    while_stmt_is c.args.depth (toks c.args.tokens.now) (toks c.in_ok-rest.rest.now) (toks c.in_ok-condition.rest.now) (toks c.in-Ok.rest.now) (expr_of c.in_ok-condition.condition) (stmt_of c.in-Ok.body) c.in_ok-rest.ensures c.in_ok-condition.ensures c.in-Ok.ensures
-    ∙ ap (λ s. Ok (s, toks c.in-Ok.rest.now)) (sym (stmt_of_while c.in_ok-condition.condition c.in-Ok.body))
+pub while_stmt-returns : goal.while_stmt-returns
+while_stmt-returns g t c = rw (while_stmt_left c.args.depth (toks c.args.tokens.now) (toks c.in_ok-rest.rest.now) (toks c.in_ok-condition.rest.now) (expr_of c.in_ok-condition.condition) c.in_ok-rest.ensures c.in_ok-condition.ensures) (c.while_of.ensures _ c.boxed_stmt.ensures)
 
 pub do_stmt-returns-in_err-rest : goal.do_stmt-returns-in_err-rest
 do_stmt-returns-in_err-rest g t c =
@@ -105,13 +83,8 @@ do_stmt-returns-in_err-body g t c =
     let p = err_from_is_err_and c.from_residual-in_err-body.result c.from_residual-in_err-body.ensures.1 in
     rw (p.1, p.2) (fails_along c.in_err-body.field-0.0 _ _ (λ f e. do_stmt_fails c.args.depth (toks c.args.tokens.now) (toks c.in_ok-rest.rest.now) f c.in_ok-rest.ensures e) c.in_err-body.ensures)
 
-pub do_stmt-returns-in-Err : goal.do_stmt-returns-in-Err
-do_stmt-returns-in-Err g t c = fails_along c.in-Err.failure _ _ (λ f e. do_stmt_open c.args.depth (toks c.args.tokens.now) (toks c.in_ok-rest.rest.now) (toks c.in_ok-body.rest.now) (stmt_of c.in_ok-body.body) f c.in_ok-rest.ensures c.in_ok-body.ensures e) c.in-Err.ensures
-
-pub do_stmt-returns-in-Ok : goal.do_stmt-returns-in-Ok
-do_stmt-returns-in-Ok g t c =
-    do_stmt_is c.args.depth (toks c.args.tokens.now) (toks c.in_ok-rest.rest.now) (toks c.in_ok-body.rest.now) (toks c.in-Ok.rest.now) (stmt_of c.in_ok-body.body) (expr_of c.in-Ok.condition) c.in_ok-rest.ensures c.in_ok-body.ensures c.in-Ok.ensures
-    ∙ ap (λ s. Ok (s, toks c.in-Ok.rest.now)) (sym (stmt_of_do_while c.in_ok-body.body c.in-Ok.condition))
+pub do_stmt-returns : goal.do_stmt-returns
+do_stmt-returns g t c = rw (do_stmt_left c.args.depth (toks c.args.tokens.now) (toks c.in_ok-rest.rest.now) (toks c.in_ok-body.rest.now) (stmt_of c.in_ok-body.body) c.in_ok-rest.ensures c.in_ok-body.ensures) c.do_of.ensures
 
 pub for_stmt-returns-in_err-rest : goal.for_stmt-returns-in_err-rest
 for_stmt-returns-in_err-rest g t c =
@@ -123,13 +96,8 @@ for_stmt-returns-in_err-head g t c =
     let p = err_from_is_err_and c.from_residual-in_err-head.result c.from_residual-in_err-head.ensures.1 in
     rw (p.1, p.2) (fails_along c.in_err-head.field-0.0 _ _ (λ f e. for_stmt_unless c.args.depth (toks c.args.tokens.now) (toks c.in_ok-rest.rest.now) f c.in_ok-rest.ensures e) c.in_err-head.ensures)
 
-pub for_stmt-returns-in-Err : goal.for_stmt-returns-in-Err
-for_stmt-returns-in-Err g t c = fails_along c.in-Err.failure _ _ (λ f e. for_stmt_fails c.args.depth (toks c.args.tokens.now) (toks c.in_ok-rest.rest.now) (toks c.in_ok-head.rest.now) _ f c.in_ok-rest.ensures c.in_ok-head.ensures e) c.in-Err.ensures
-
-pub for_stmt-returns-in-Ok : goal.for_stmt-returns-in-Ok
-for_stmt-returns-in-Ok g t c =
-    for_stmt_is c.args.depth (toks c.args.tokens.now) (toks c.in_ok-rest.rest.now) (toks c.in_ok-head.rest.now) (toks c.in-Ok.rest.now) _ _ c.in_ok-rest.ensures c.in_ok-head.ensures c.in-Ok.ensures
-    ∙ ap (λ s. Ok (s, toks c.in-Ok.rest.now)) (sym c.for_node.ensures)
+pub for_stmt-returns : goal.for_stmt-returns
+for_stmt-returns g t c = rw (for_stmt_left c.args.depth (toks c.args.tokens.now) (toks c.in_ok-rest.rest.now) (toks c.in_ok-head.rest.now) _ c.in_ok-rest.ensures c.in_ok-head.ensures) (c.for_of.ensures _ c.boxed_stmt.ensures)
 
 pub transaction_stmt-returns : goal.transaction_stmt-returns
 transaction_stmt-returns g t c =
@@ -176,18 +144,17 @@ block-turns-init g t c =
           (sym (block_start c.args.depth b (toks c.args.tokens.now) (omega arith) ∙ braced_is (entry b (stmt_at b)) (toks c.args.tokens.now) (toks c.in_ok-inner.inner.now) c.in_ok-inner.ensures)));
     }
 
-pub block-returns-in_err-one : goal.block-returns-in_err-one
-block-returns-in_err-one g t c =
-    let p = err_from_is_err_and c.from_residual-in_err-one.result c.from_residual-in_err-one.ensures.1 in
-    rw (p.1, p.2) (round_fails (is_next (Punctuator punct.CloseBrace)) (entry (c.args.depth - 1) (stmt_at (c.args.depth - 1))) (Punctuator punct.CloseBrace) _ c.in_err-one.field-0.0 (map stmt_of c.turns.all) (length c.in_ok-inner.inner.now) c.turns._turn (toks c.turns.rest.now) c.turns.invariant.value c.turns-test.true (sym c.is_next.ensures ∙ c.if-is_next.false) c.in_err-one.ensures)
+pub block-returns-in_err-more : goal.block-returns-in_err-more
+block-returns-in_err-more g t c =
+    let p = err_from_is_err_and c.from_residual-in_err-more.result c.from_residual-in_err-more.ensures.1 in
+    let failed = fails_before (λ s. map stmt_of c.turns.all ++ s ∷ []) c.in_err-more.field-0.0 (entry (c.args.depth - 1) (stmt_at (c.args.depth - 1)) (toks c.turns.rest.now)) (c.in_err-more.ensures _ c.entry.ensures) in
+    rw (p.1, p.2) (round_fails (is_next (Punctuator punct.CloseBrace)) (entry (c.args.depth - 1) (stmt_at (c.args.depth - 1))) (Punctuator punct.CloseBrace) _ c.in_err-more.field-0.0 (map stmt_of c.turns.all) (length c.in_ok-inner.inner.now) c.turns._turn (toks c.turns.rest.now) c.turns.invariant.value c.turns-test.true (sym c.is_next.ensures ∙ c.if-is_next.false) failed)
 
 pub block-turns-preserved : goal.block-turns-preserved
-block-turns-preserved g t c =
-    let e : map stmt_of c.push.new.self ≡ map stmt_of c.turns.all ++ stmt_of c.in_ok-one.one ∷ [] = rw c.in_ok-push.ensures.ok (map_push _ c.turns.all c.in_ok-one.one) in
-    record {
-      long = refl;
-      value = rw e (round_goes (is_next (Punctuator punct.CloseBrace)) (entry (c.args.depth - 1) (stmt_at (c.args.depth - 1))) (Punctuator punct.CloseBrace) _ (map stmt_of c.turns.all) (length c.in_ok-inner.inner.now) c.turns._turn (toks c.turns.rest.now) (toks c.in_ok-one.after.now) (stmt_of c.in_ok-one.one) c.turns.invariant.value c.turns-test.true (sym c.is_next.ensures ∙ c.if-is_next.false) c.in_ok-one.ensures);
-    }
+block-turns-preserved g t c = record {
+  long = refl;
+  value = round_goes_to (is_next (Punctuator punct.CloseBrace)) (entry (c.args.depth - 1) (stmt_at (c.args.depth - 1))) (Punctuator punct.CloseBrace) _ (map stmt_of c.turns.all) (map stmt_of c.in_ok-more.more) (length c.in_ok-inner.inner.now) c.turns._turn (toks c.turns.rest.now) (toks c.in_ok-more.after.now) c.turns.invariant.value c.turns-test.true (sym c.is_next.ensures ∙ c.if-is_next.false) (c.in_ok-more.ensures _ c.entry.ensures);
+}
 
 pub block-returns-in_err-all : goal.block-returns-in_err-all
 block-returns-in_err-all g t c =
@@ -198,11 +165,6 @@ block-returns-in_err-all g t c =
 
 pub block-returns : goal.block-returns
 block-returns g t c = rw c.in_ok-all.ensures.value (round_good (is_next (Punctuator punct.CloseBrace)) (entry (c.args.depth - 1) (stmt_at (c.args.depth - 1))) (Punctuator punct.CloseBrace) _ (map stmt_of c.turns.all) (length c.in_ok-inner.inner.now - c.turns._turn) (toks c.turns.rest.now) (λ h. expect_not (Punctuator punct.CloseBrace) (toks c.turns.rest.now) h) _ c.turns.invariant.value c.in_ok-all.ensures.rest)
-
-pub block-returns-in_err-push : goal.block-returns-in_err-push
-block-returns-in_err-push g t c =
-    let p = err_from_is_err_and c.from_residual-in_err-push.result c.from_residual-in_err-push.ensures.1 in
-    rw (p.1, p.2) tt
 
 pub stmt-returns-then-starts_stmt : goal.stmt-returns-then-starts_stmt
 stmt-returns-then-starts_stmt g t c = stmt_deep c.args.depth _ c.if-depth-eq0.true (sym c.starts_stmt.ensures ∙ c.if-starts_stmt.true)

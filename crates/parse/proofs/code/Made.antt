@@ -1,0 +1,49 @@
+-- What is made of something that was read, as what reads it gives.
+use Rattle.std.proofs.Common.{◌≡◌, List, Result, Ok, Err, refl, subst}
+use Rattle.lex.specs.declared.token.Fixed.{Fixed}
+use Rattle.std.specs.Borrow.{Bor}
+use Rattle.lex.specs.declared.token.Token.{Token}
+use Rattle.lex.specs.Tokens.{Tok, toks}
+use Rattle.parse.specs.declared.fault.Failure.{Failure}
+use Rattle.parse.specs.declared.fault.Failure.TheVariants as failure
+use Rattle.parse.specs.inner.Reading.{Fault, ◌>>=◌, Fails, Gives, Parser, behind, expect, mapped, seq}
+use Rattle.parse.proofs.code.Climbing.{fails_along}
+
+module _ {X U V : Type 0} (view : X → U) (make : U → V) (one : Result (X × Bor (List Token)) Failure) where
+  abbrev Seen : Result (X × Bor (List Token)) Failure → Result (U × List Tok) Fault → Type 0
+  Seen r read = Gives {Y = U × List Tok} (λ (x : X × Bor (List Token)). (view x.0, toks x.1.now)) r read
+
+  pub made_is : (x : X) (y : V) (rest : Bor (List Token)) → one ≡ Ok (x, rest) → y ≡ make (view x) → (read : Result (U × List Tok) Fault) → Seen one read → ◌>>=◌ {B = V × List Tok} read (λ x. Ok (make x.0, x.1)) ≡ Ok (y, toks rest.now)
+  made_is x y rest is same read h =
+      let h' : Seen (Ok (x, rest)) read = subst (λ (r : Result (X × Bor (List Token)) Failure). Seen r read) is h in
+      rw (h', same) refl
+
+  pub made_fails : (e : Failure) → one ≡ Err e → (read : Result (U × List Tok) Fault) → Seen one read → Fails {Y = V × List Tok} e (read >>= λ x. Ok (make x.0, x.1))
+  made_fails e is read h =
+      let h' : Seen (Err e) read = subst (λ (r : Result (X × Bor (List Token)) Failure). Seen r read) is h in
+      fails_along e read (read >>= λ (x : U × List Tok). Ok (make x.0, x.1)) (λ f failed. rw failed refl) h'
+
+-- what is left as it was
+pub made_same : {X U : Type 0} (view : X → U) (other : Result (X × Bor (List Token)) Failure) (read : Result (U × List Tok) Fault)
+    → Gives {Y = U × List Tok} (λ x. (view x.0, toks x.1.now)) other (◌>>=◌ {B = U × List Tok} read (λ x. Ok (x.0, x.1))) → Gives {Y = U × List Tok} (λ x. (view x.0, toks x.1.now)) other read
+made_same view other (Ok x) h = h
+made_same view other (Err f) h = h
+
+-- what fails once it is made failed before
+pub fails_before : {U V : Type 0} (make : U → V) (e : Failure) (read : Result (U × List Tok) Fault) → Fails e (◌>>=◌ {B = V × List Tok} read (λ x. Ok (make x.0, x.1))) → Fails e read
+fails_before make failure.Memory read h = tt
+fails_before make (failure.Wrong r) (Ok x) h = absurd cc
+fails_before make (failure.Wrong r) (Err f) h = cc
+fails_before make (failure.Deep r) (Ok x) h = absurd cc
+fails_before make (failure.Deep r) (Err f) h = cc
+
+-- two parts behind a sign, where the first was read
+module _ {A B C : Type 0} (k : Fixed) (P : Parser A) (Q : Parser B) (make : A × B → C) where
+  last : (x : A) (r : Result (B × List Tok) Fault)
+      → ◌>>=◌ {B = C × List Tok} (◌>>=◌ {B = (A × B) × List Tok} (◌>>=◌ {B = (Unit {0} × (A × B)) × List Tok} (◌>>=◌ {B = (A × B) × List Tok} r (λ y. Ok ((x, y.0), y.1))) (λ y. Ok ((tt, y.0), y.1))) (λ y. Ok (y.0.1, y.1))) (λ y. Ok (make y.0, y.1))
+        ≡ ◌>>=◌ {B = C × List Tok} r (λ y. Ok (make (x, y.0), y.1))
+  last x (Ok y) = refl
+  last x (Err f) = refl
+
+  pub second_is_left : (ts r s : List Tok) (x : A) → expect k ts ≡ Ok (tt, r) → P r ≡ Ok (x, s) → mapped make (behind k (seq P Q)) ts ≡ ◌>>=◌ {B = C × List Tok} (Q s) (λ y. Ok (make (x, y.0), y.1))
+  second_is_left ts r s x e a = rw (e, a) (last x (Q s))
