@@ -1,8 +1,7 @@
 -- Lists that end at a mark, and lists with commas, as loops read them.
 use Rattle.std.proofs.Common.{◌≡◌, false, List, [], ◌∷◌, Result, Ok, Err, refl}
 use Rattle.lex.specs.declared.token.Fixed.{Fixed}
-use Rattle.lex.specs.declared.token.Fixed.TheVariants.{Keyword, Punctuator}
-use Rattle.lex.specs.declared.token.Keyword.TheVariants as key
+use Rattle.lex.specs.declared.token.Fixed.TheVariants.{Punctuator}
 use Rattle.lex.specs.declared.token.Punctuator.TheVariants as punct
 use Rattle.lex.specs.Tokens.{Tok}
 use Rattle.parse.specs.inner.Reading.{Fault, wrong, ◌>>=◌, Parser, head, expect, is_next, is_other, many_until, behind, before, listed}

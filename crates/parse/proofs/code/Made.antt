@@ -41,7 +41,7 @@ fails_before make (failure.Deep r) (Err f) h = cc
 module _ {A B C : Type 0} (k : Fixed) (P : Parser A) (Q : Parser B) (make : A × B → C) where
   last : (x : A) (r : Result (B × List Tok) Fault)
       → ◌>>=◌ {B = C × List Tok} (◌>>=◌ {B = (A × B) × List Tok} (◌>>=◌ {B = (Unit {0} × (A × B)) × List Tok} (◌>>=◌ {B = (A × B) × List Tok} r (λ y. Ok ((x, y.0), y.1))) (λ y. Ok ((tt, y.0), y.1))) (λ y. Ok (y.0.1, y.1))) (λ y. Ok (make y.0, y.1))
-        ≡ ◌>>=◌ {B = C × List Tok} r (λ y. Ok (make (x, y.0), y.1))
+      ≡ ◌>>=◌ {B = C × List Tok} r (λ y. Ok (make (x, y.0), y.1))
   last x (Ok y) = refl
   last x (Err f) = refl
 

@@ -1,7 +1,6 @@
 -- One or more phrases with commas between, and further ones behind commas, are read exactly where one phrase is.
 use Rattle.std.proofs.Common.{◌≡◌, ℕ, true, not, List, [], ◌∷◌, ◌++◌, Option, Some, refl, sym, ap, subst, ◌∙◌, append_assoc}
-use Rattle.lex.specs.declared.token.Fixed.TheVariants.{Keyword, Punctuator}
-use Rattle.lex.specs.declared.token.Keyword.TheVariants as key
+use Rattle.lex.specs.declared.token.Fixed.TheVariants.{Punctuator}
 use Rattle.lex.specs.declared.token.Punctuator.TheVariants as punct
 use Rattle.lex.specs.Tokens.{fixed, Tok}
 use Rattle.syntax.specs.Phrases.{Phrase, Seq, Is, Begins, Many, Listed}

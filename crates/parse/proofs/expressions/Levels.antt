@@ -2,8 +2,7 @@
 use Rattle.std.proofs.Common.{◌≡◌, ℕ, zero, suc, ◌+◌, ◌-◌, ◌≤◌, ◌<◌, Bool, true, false, max, List, [], ◌∷◌, ◌++◌, Option, Some, None, Ok, Err, refl, sym, ap, subst, ◌∙◌, append_assoc, arith, ◌⊎◌, inl, inr, lit≤, lit<}
 use Rattle.std.proofs.lemmas.List.{append-nil}
 use Rattle.lex.specs.declared.token.Fixed.{Fixed}
-use Rattle.lex.specs.declared.token.Fixed.TheVariants.{Keyword, Punctuator}
-use Rattle.lex.specs.declared.token.Keyword.TheVariants as key
+use Rattle.lex.specs.declared.token.Fixed.TheVariants.{Punctuator}
 use Rattle.lex.specs.declared.token.Punctuator.TheVariants as punct
 use Rattle.lex.specs.declared.token.Span.{Span}
 use Rattle.lex.specs.Tokens.{Terminal, name, constant, string_literal, fixed, reserved, Tok}

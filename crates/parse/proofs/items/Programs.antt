@@ -1,7 +1,6 @@
 -- Items and programs are read exactly.
 use Rattle.std.proofs.Common.{◌≡◌, ℕ, ◌≤◌, true, false, List, [], ◌∷◌, ◌++◌, Some, None, refl, sym, ap, subst, ◌∙◌, arith, ◌⊎◌, inl, inr}
-use Rattle.lex.specs.declared.token.Fixed.TheVariants.{Keyword, Punctuator}
-use Rattle.lex.specs.declared.token.Keyword.TheVariants as key
+use Rattle.lex.specs.declared.token.Fixed.TheVariants.{Punctuator}
 use Rattle.lex.specs.declared.token.Punctuator.TheVariants as punct
 use Rattle.lex.specs.declared.token.Scalar.{Scalar}
 use Rattle.lex.specs.Tokens.{Tok}

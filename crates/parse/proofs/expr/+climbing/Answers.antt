@@ -13,8 +13,7 @@ use Rattle.syntax.specs.Tree.{Conditional}
 use Rattle.syntax.specs.Typing.{span_of}
 use Rattle.parse.proofs.code.Braces.{behind_is}
 use Rattle.parse.proofs.code.Turns.{goes_on, fails_on, stops_at, runs_out}
-use Rattle.lex.specs.declared.token.Fixed.TheVariants.{Keyword, Punctuator}
-use Rattle.lex.specs.declared.token.Keyword.TheVariants as key
+use Rattle.lex.specs.declared.token.Fixed.TheVariants.{Punctuator}
 use Rattle.lex.specs.declared.token.Punctuator.TheVariants as punct
 use Rattle.parse.proofs.expr.+climbing.Goals as goal
 

@@ -1,12 +1,10 @@
-use Rattle.std.proofs.Common.{◌≡◌, ◌-◌, ◌++◌, ◌∷◌, [], Ok, Some, true, length, map, option_map, refl, sym, ap, ◌∙◌, arith, ◌⊎◌, inl, inr}
+use Rattle.std.proofs.Common.{◌≡◌, ◌-◌, ◌++◌, ◌∷◌, [], Ok, true, length, map, refl, sym, ap, ◌∙◌, arith, ◌⊎◌, inl, inr}
 use Rattle.std.proofs.lemmas.Result.{err_from_is_err_and}
-use Rattle.std.proofs.lemmas.List.{map_push}
-use Rattle.lex.specs.declared.token.Fixed.TheVariants.{Keyword, Punctuator}
-use Rattle.lex.specs.declared.token.Keyword.TheVariants as key
+use Rattle.lex.specs.declared.token.Fixed.TheVariants.{Punctuator}
 use Rattle.lex.specs.declared.token.Punctuator.TheVariants as punct
 use Rattle.lex.specs.Tokens.{toks}
 use Rattle.syntax.specs.Views.{expr_of, declaration_of, stmt_of}
-use Rattle.syntax.proofs.Seen.{stmt_of_declare, stmt_of_block, stmt_of_while, stmt_of_do_while, stmt_of_transaction}
+use Rattle.syntax.proofs.Seen.{stmt_of_declare, stmt_of_block, stmt_of_transaction}
 use Rattle.parse.specs.declared.lead.Lead.TheVariants as lead
 use Rattle.parse.specs.inner.Reading.{head, spot, is_next}
 use Rattle.parse.specs.inner.Statements.{entry, stmt_at}
