@@ -1,0 +1,3 @@
+-- the lines of a listing, and characters that stand for themselves in it
+mod Lines
+mod Escaping
