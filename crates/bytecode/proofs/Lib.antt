@@ -1,3 +1,22 @@
 -- the lines of a listing, and characters that stand for themselves in it
 mod Lines
 mod Escaping
+-- marks of places as a table of innermost open begins, and what a visit does to it
+mod Tables
+mod Marks
+mod Meets
+-- where instructions lead, what the walk over a function's ways keeps, and how it goes on, fails, begins and ends
+mod Leads
+mod Walks
+mod Goes
+mod Fails
+mod Ends
+mod Answering
+-- what an instruction names
+mod Callees
+-- how functions lie, and what a code is asked for
+mod LaidOut
+mod Names
+mod Each
+-- what a valid code reads and writes
+mod Fits

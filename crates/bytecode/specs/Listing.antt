@@ -1,5 +1,6 @@
 -- The listing of a code: its text, byte by byte.
-use Rattle.std.specs.Prelude.{ℕ, suc, ◌-◌, ◌==◌, List, [], ◌∷◌, ◌++◌, length, map, take, drop, codes, decimal, flat_map, Option, Some, None, slice_get, if◌then◌else◌}
+use Rattle.std.specs.Prelude.{ℕ, suc, ◌-◌, ◌==◌, List, [], ◌∷◌, ◌++◌, take, drop, codes, decimal, flat_map, Option, Some, None, slice_get, unwrap_or}
+use Rattle.std.specs.Map.{lookup}
 use Rattle.lex.specs.declared.token.Scalar.{Scalar}
 use Rattle.lex.specs.declared.token.Scalar.TheVariants.{Int, Unsigned}
 use Rattle.syntax.specs.declared.tree.BinaryOp.{BinaryOp}
@@ -76,18 +77,30 @@ abbrev pub lines_from : List FunctionCode → ℕ → List Instr → List ℕ
 lines_from fs q [] = []
 lines_from fs q (i ∷ is) = decimal q ++ 32 ∷ instr_text fs i ++ 10 ∷ lines_from fs (suc q) is
 
+-- so many instructions from a place on
+abbrev pub cut_text : Code → ℕ → ℕ → List ℕ
+cut_text code first n = lines_from code.functions first (take n (drop first code.instructions))
+
+-- functions in file order: a line that names one, and its instructions
 abbrev pub functions_text : Code → List FunctionCode → List ℕ
 functions_text code [] = []
 functions_text code (f ∷ rest) =
-    codes "function " ++ f.name ++ codes " registers " ++ decimal f.registers ++ 10 ∷ lines_from code.functions f.first (take (end_before code rest - f.first) (drop f.first code.instructions)) ++ functions_text code rest
+    codes "function " ++ f.name ++ codes " registers " ++ decimal f.registers ++ 10 ∷
+    cut_text code f.first (end_before code rest - f.first) ++
+    functions_text code rest
 
--- a byte of a text, escaped where it must be
+-- the bytes of a text that are escaped, and how
+abbrev pub escapes : List (ℕ × List ℕ)
+escapes = (10, codes "\\n") ∷ (9, codes "\\t") ∷ (92, codes "\\\\") ∷ (34, codes "\\\"") ∷ []
+
 abbrev pub escaped : ℕ → List ℕ
-escaped c = if c == 10 then codes "\\n" else (if c == 9 then codes "\\t" else (if c == 92 then codes "\\\\" else (if c == 34 then codes "\\\"" else c ∷ [])))
+escaped c = unwrap_or (lookup (λ k. c == k) escapes) (c ∷ [])
 
+-- texts by their numbers, from one on
 abbrev pub texts_text : ℕ → List (List ℕ) → List ℕ
 texts_text k [] = []
-texts_text k (t ∷ ts) = codes "text " ++ decimal k ++ codes " \"" ++ flat_map escaped t ++ codes "\"\n" ++ texts_text (suc k) ts
+texts_text k (t ∷ ts) =
+    codes "text " ++ decimal k ++ codes " \"" ++ flat_map escaped t ++ codes "\"\n" ++ texts_text (suc k) ts
 
 abbrev pub listing : Code → List ℕ
 listing code = functions_text code code.functions ++ texts_text 0 code.texts

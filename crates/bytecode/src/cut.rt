@@ -10,5 +10,9 @@ pub(crate) fn cut<T>(all: &[T], from: usize, count: usize) -> &[T]
         return &[];
     }
     let rest = &all[from..];
-    if count < rest.len() { &rest[..count] } else { rest }
+    if count < rest.len() {
+        &rest[..count]
+    } else {
+        rest
+    }
 }

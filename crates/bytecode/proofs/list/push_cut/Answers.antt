@@ -1,5 +1,5 @@
-use Rattle.std.proofs.Common.{sym, ap, ◌∙◌, ◌++◌, ◌-◌, drop, take, string_bytes, map, refl}
-use Rattle.bytecode.specs.Views.{function_of, instr_of}
+use Rattle.std.proofs.Common.{ap, ◌∙◌, ◌-◌, drop, take}
+use Rattle.bytecode.specs.Views.{instr_of}
 use Rattle.bytecode.proofs.Lines.{lines_fit, cut_map}
 use Rattle.bytecode.proofs.list.push_cut.Goals as goal
 

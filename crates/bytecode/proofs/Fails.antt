@@ -1,0 +1,191 @@
+-- Going on from a place fails only where a function's ways are not kept.
+use Rattle.std.proofs.Common.{◌≡◌, ◌≢◌, ℕ, suc, ◌+◌, List, [], ◌∷◌, length, Option, Some, None, refl, sym, ap, ◌∙◌, subst, arith, inl, inr}
+use Rattle.std.specs.Prelude.{slice_get, Contains}
+use Rattle.std.proofs.lemmas.List.Elements.{Contains-push, Contains-append_left}
+use Rattle.bytecode.specs.Code.{Code, FunctionCode, Instr}
+use Rattle.bytecode.specs.Valid.{leads_from, cancel_of, IsReached, at_first, further, AsksOpen, KeepsOpen}
+use Rattle.bytecode.specs.declared.walk.Mark.{Mark}
+use Rattle.bytecode.specs.declared.walk.Mark.TheVariants.{Unseen, Outside, Inside}
+use Rattle.bytecode.specs.declared.walk.Way.{Way}
+use Rattle.bytecode.specs.declared.walk.Way.TheVariants.{On, To, Both, Opens, Closes, Cancels, Ends}
+use Rattle.bytecode.specs.inner.Walking.{Marks, mark_at, visited, way_of, reopened, begun, cancelled, twice, went_by}
+use Rattle.bytecode.proofs.Tables.{IsChain, some_same, IsFound}
+use Rattle.bytecode.proofs.Marks.{seen_table, seen_one, innermost, id_of, table, chain_grows}
+use Rattle.bytecode.proofs.Meets.{State, visited_gives, visited_fails}
+use Rattle.bytecode.proofs.Leads.{leads_by, asks_by, leads_so, asks_of, only, either, first_of}
+use Rattle.bytecode.proofs.Walks.{found_after}
+
+-- ---- the open begins are begins
+
+abbrev IsBegin : Option Instr → Type 0
+IsBegin (Some (Instr.Begin to)) = Unit {0}
+IsBegin i = ⊥
+
+abbrev AreBegins : Code → List ℕ → Type 0
+AreBegins code [] = Unit {0}
+AreBegins code (b ∷ bs) = IsBegin (slice_get code.instructions b) × AreBegins code bs
+
+opens_begins : (i : Instr) → way_of i ≡ Opens → IsBegin (Some i)
+opens_begins (Instr.Constant d n) e = cc e
+opens_begins (Instr.Move d a) e = cc e
+opens_begins (Instr.Compute op u d a c) e = cc e
+opens_begins (Instr.Negate u d a) e = cc e
+opens_begins (Instr.Complement d a) e = cc e
+opens_begins (Instr.Jump to) e = cc e
+opens_begins (Instr.JumpZero a to) e = cc e
+opens_begins (Instr.JumpNonzero a to) e = cc e
+opens_begins (Instr.Check j n) e = cc e
+opens_begins (Instr.Read d a) e = cc e
+opens_begins (Instr.ReadAt d a n j) e = cc e
+opens_begins (Instr.Write a r) e = cc e
+opens_begins (Instr.WriteAt a n j r) e = cc e
+opens_begins (Instr.Begin to) e = tt
+opens_begins Instr.Commit e = cc e
+opens_begins Instr.Cancel e = cc e
+opens_begins Instr.Irrevocable e = cc e
+opens_begins (Instr.Call n d args) e = cc e
+opens_begins (Instr.Return a) e = cc e
+opens_begins (Instr.PrintText n) e = cc e
+opens_begins (Instr.PrintNumber u a) e = cc e
+
+in_cancel : (code : Code) (o : Option Instr) (bs : List ℕ) (q : ℕ) (bs' : List ℕ) → Contains (cancel_of o [] (λ to. (to, bs) ∷ [])) (q, bs') → bs' ≡ bs
+in_cancel code None bs q bs' c = absurd (omega (arith, c.1))
+in_cancel code (Some (Instr.Constant d n)) bs q bs' c = absurd (omega (arith, c.1))
+in_cancel code (Some (Instr.Move d a)) bs q bs' c = absurd (omega (arith, c.1))
+in_cancel code (Some (Instr.Compute op u d a k)) bs q bs' c = absurd (omega (arith, c.1))
+in_cancel code (Some (Instr.Negate u d a)) bs q bs' c = absurd (omega (arith, c.1))
+in_cancel code (Some (Instr.Complement d a)) bs q bs' c = absurd (omega (arith, c.1))
+in_cancel code (Some (Instr.Jump to)) bs q bs' c = absurd (omega (arith, c.1))
+in_cancel code (Some (Instr.JumpZero a to)) bs q bs' c = absurd (omega (arith, c.1))
+in_cancel code (Some (Instr.JumpNonzero a to)) bs q bs' c = absurd (omega (arith, c.1))
+in_cancel code (Some (Instr.Check j n)) bs q bs' c = absurd (omega (arith, c.1))
+in_cancel code (Some (Instr.Read d a)) bs q bs' c = absurd (omega (arith, c.1))
+in_cancel code (Some (Instr.ReadAt d a n j)) bs q bs' c = absurd (omega (arith, c.1))
+in_cancel code (Some (Instr.Write a r)) bs q bs' c = absurd (omega (arith, c.1))
+in_cancel code (Some (Instr.WriteAt a n j r)) bs q bs' c = absurd (omega (arith, c.1))
+in_cancel code (Some (Instr.Begin to)) bs q bs' c = sym (ap (λ p. p.1) (only (to, bs) (q, bs') c))
+in_cancel code (Some Instr.Commit) bs q bs' c = absurd (omega (arith, c.1))
+in_cancel code (Some Instr.Cancel) bs q bs' c = absurd (omega (arith, c.1))
+in_cancel code (Some Instr.Irrevocable) bs q bs' c = absurd (omega (arith, c.1))
+in_cancel code (Some (Instr.Call n d args)) bs q bs' c = absurd (omega (arith, c.1))
+in_cancel code (Some (Instr.Return a)) bs q bs' c = absurd (omega (arith, c.1))
+in_cancel code (Some (Instr.PrintText n)) bs q bs' c = absurd (omega (arith, c.1))
+in_cancel code (Some (Instr.PrintNumber u a)) bs q bs' c = absurd (omega (arith, c.1))
+
+begins_on : (code : Code) (q : ℕ) (i : Instr) (w : Way) (bs : List ℕ) (q' : ℕ) (bs' : List ℕ) → slice_get code.instructions q ≡ Some i → way_of i ≡ w → AreBegins code bs → Contains (leads_by code q bs w) (q', bs') → AreBegins code bs'
+begins_on code q i On bs q' bs' e w a c = subst (AreBegins code) (ap (λ p. p.1) (only (suc q, bs) (q', bs') c)) a
+begins_on code q i (To to) bs q' bs' e w a c = subst (AreBegins code) (ap (λ p. p.1) (only (to, bs) (q', bs') c)) a
+begins_on code q i (Both to) bs q' bs' e w a c = elim (either (suc q, bs) (to, bs) (q', bs') c) [
+  | inl h ↦ subst (AreBegins code) (ap (λ p. p.1) h) a
+  | inr h ↦ subst (AreBegins code) (ap (λ p. p.1) h) a
+]
+begins_on code q i Opens bs q' bs' e w a c = subst (AreBegins code) (ap (λ p. p.1) (only (suc q, q ∷ bs) (q', bs') c)) (subst IsBegin (sym e) (opens_begins i w), a)
+begins_on code q i Closes [] q' bs' e w a c = absurd (omega (arith, c.1))
+begins_on code q i Closes (b ∷ bs) q' bs' e w a c = subst (AreBegins code) (ap (λ p. p.1) (only (suc q, bs) (q', bs') c)) a.1
+begins_on code q i Cancels [] q' bs' e w a c = absurd (omega (arith, c.1))
+begins_on code q i Cancels (b ∷ bs) q' bs' e w a c = subst (AreBegins code) (sym (in_cancel code (slice_get code.instructions b) bs q' bs' c)) a.1
+begins_on code q i Ends bs q' bs' e w a c = absurd (omega (arith, c.1))
+
+begins_in : (code : Code) (q : ℕ) (o : Option Instr) (bs : List ℕ) (q' : ℕ) (bs' : List ℕ) → slice_get code.instructions q ≡ o → AreBegins code bs → Contains (leads_from code q bs o) (q', bs') → AreBegins code bs'
+begins_in code q None bs q' bs' e a c = absurd (omega (arith, c.1))
+begins_in code q (Some i) bs q' bs' e a c = begins_on code q i (way_of i) bs q' bs' e refl a (subst (λ l. Contains l (q', bs')) (leads_so code q bs i) c)
+
+reached_begins : (code : Code) (f : FunctionCode) (q : ℕ) (bs : List ℕ) → IsReached code f q bs → AreBegins code bs
+reached_begins code f q bs at_first = tt
+reached_begins code f q bs (further {q = r} {xs = o} w c) = begins_in code r (slice_get code.instructions r) o q bs refl (reached_begins code f r o w) c
+
+module _ (code : Code) (f : FunctionCode) (end : ℕ) (ms : Marks) (work : List ℕ) (q : ℕ) (i : Instr) (m : Mark) (long : f.first + length ms ≡ end) (found : IsFound code f (table f.first ms)) (stands : slice_get code.instructions q ≡ Some i) (begins : List ℕ) (reached : IsReached code f q begins) (chain : IsChain (table f.first ms) (id_of m) begins) (opened : table f.first ms q ≡ Some (id_of m)) (keeps : KeepsOpen code f end) where
+  leads_to : (to : ℕ) (bs : List ℕ) → Contains (leads_by code q begins (way_of i)) (to, bs) → IsReached code f to bs
+  leads_to to bs c = further reached (subst (λ o. Contains (leads_from code q begins o) (to, bs)) (sym stands) (subst (λ l. Contains l (to, bs)) (sym (leads_so code q begins i)) c))
+
+  asked : asks_by (way_of i) begins
+  asked = asks_of begins i (subst (λ o. AsksOpen o begins) stands (keeps.asks q begins reached))
+
+  no_one_way : (to : ℕ) (bs : List ℕ) (m' : Mark) → seen_one m' ≡ 1 → leads_by code q begins (way_of i) ≡ (to, bs) ∷ [] → IsChain (table f.first ms) (id_of m') bs → visited f.first ms work to m' ≡ None → ⊥
+  no_one_way to bs m' one l c h = visited_fails code f end ms work to m' bs long found (leads_to to bs (subst (λ x. Contains x (to, bs)) (sym l) (first_of (to, bs)))) c one h keeps
+
+  no_two_ways : (to : ℕ) (o : Option State) → seen_one m ≡ 1 → way_of i ≡ Both to → visited f.first ms work (suc q) m ≡ o → twice f.first to m o ≡ None → ⊥
+  no_two_ways to None one w e h =
+      let l : leads_by code q begins (way_of i) ≡ (suc q, begins) ∷ (to, begins) ∷ [] = ap (leads_by code q begins) w in
+      let r = leads_to (suc q) begins (subst (λ x. Contains x (suc q, begins)) (sym l) (Contains-append_left ((suc q, begins) ∷ []) ((to, begins) ∷ []) (suc q, begins) (first_of (suc q, begins)))) in
+      visited_fails code f end ms work (suc q) m begins long found r chain one e keeps
+  no_two_ways to (Some t) one w e h =
+      let l : leads_by code q begins (way_of i) ≡ (suc q, begins) ∷ (to, begins) ∷ [] = ap (leads_by code q begins) w in
+      let v = visited_gives f.first ms work (suc q) m t one e in
+      let r = leads_to (suc q) begins (subst (λ x. Contains x (suc q, begins)) (sym l) (Contains-append_left ((suc q, begins) ∷ []) ((to, begins) ∷ []) (suc q, begins) (first_of (suc q, begins)))) in
+      let r' = leads_to to begins (subst (λ x. Contains x (to, begins)) (sym l) (Contains-push ((suc q, begins) ∷ []) (to, begins))) in
+      visited_fails code f end t.0 t.1 to m begins (let g = v.long in omega (arith, g, long)) (found_after code f ms t.0 work t.1 (suc q) m begins found r chain v) r' (chain_grows (table f.first ms) (table f.first t.0) v.grows (id_of m) begins chain) one h keeps
+
+  no_way_back : (to : ℕ) (bs : List ℕ) (b : ℕ) (parent : Option ℕ) (o : Option Mark) → leads_by code q begins (way_of i) ≡ (to, bs) ∷ [] → table f.first ms b ≡ Some parent → IsChain (table f.first ms) parent bs → mark_at f.first ms b ≡ o → reopened f.first ms work to o ≡ None → ⊥
+  no_way_back to bs b parent None l t c e h = cc (t, ap innermost e)
+  no_way_back to bs b parent (Some Unseen) l t c e h = cc (t, ap innermost e)
+  no_way_back to bs b parent (Some Outside) l t c e h = no_one_way to bs Outside refl l (subst (λ x. IsChain (table f.first ms) x bs) (some_same parent None (sym t ∙ ap innermost e)) c) h
+  no_way_back to bs b parent (Some (Inside d)) l t c e h = no_one_way to bs (Inside d) refl l (subst (λ x. IsChain (table f.first ms) x bs) (some_same parent (Some d) (sym t ∙ ap innermost e)) c) h
+
+  no_cancel : (bs : List ℕ) (b : ℕ) (parent : Option ℕ) (o : Option Instr) → IsBegin o → slice_get code.instructions b ≡ o → begins ≡ b ∷ bs → way_of i ≡ Cancels → table f.first ms b ≡ Some parent → IsChain (table f.first ms) parent bs → cancelled f.first ms work (mark_at f.first ms b) (begun o) ≡ None → ⊥
+  no_cancel bs b parent None z e g w t c h = z
+  no_cancel bs b parent (Some (Instr.Constant d n)) z e g w t c h = z
+  no_cancel bs b parent (Some (Instr.Move d a)) z e g w t c h = z
+  no_cancel bs b parent (Some (Instr.Compute op u d a k)) z e g w t c h = z
+  no_cancel bs b parent (Some (Instr.Negate u d a)) z e g w t c h = z
+  no_cancel bs b parent (Some (Instr.Complement d a)) z e g w t c h = z
+  no_cancel bs b parent (Some (Instr.Jump to)) z e g w t c h = z
+  no_cancel bs b parent (Some (Instr.JumpZero a to)) z e g w t c h = z
+  no_cancel bs b parent (Some (Instr.JumpNonzero a to)) z e g w t c h = z
+  no_cancel bs b parent (Some (Instr.Check j n)) z e g w t c h = z
+  no_cancel bs b parent (Some (Instr.Read d a)) z e g w t c h = z
+  no_cancel bs b parent (Some (Instr.ReadAt d a n j)) z e g w t c h = z
+  no_cancel bs b parent (Some (Instr.Write a r)) z e g w t c h = z
+  no_cancel bs b parent (Some (Instr.WriteAt a n j r)) z e g w t c h = z
+  no_cancel bs b parent (Some (Instr.Begin to)) z e g w t c h =
+      no_way_back to bs b parent (mark_at f.first ms b) (ap (λ x. leads_by code q x (way_of i)) g ∙ ap (leads_by code q (b ∷ bs)) w ∙ ap (λ x. cancel_of x [] (λ to. (to, bs) ∷ [])) e) t c refl h
+  no_cancel bs b parent (Some Instr.Commit) z e g w t c h = z
+  no_cancel bs b parent (Some Instr.Cancel) z e g w t c h = z
+  no_cancel bs b parent (Some Instr.Irrevocable) z e g w t c h = z
+  no_cancel bs b parent (Some (Instr.Call n d args)) z e g w t c h = z
+  no_cancel bs b parent (Some (Instr.Return a)) z e g w t c h = z
+  no_cancel bs b parent (Some (Instr.PrintText n)) z e g w t c h = z
+  no_cancel bs b parent (Some (Instr.PrintNumber u a)) z e g w t c h = z
+
+  no_close : (b : ℕ) (bs : List ℕ) → way_of i ≡ Closes → begins ≡ bs → IsChain (table f.first ms) (Some b) bs → reopened f.first ms work (suc q) (mark_at f.first ms b) ≡ None → ⊥
+  no_close b [] w e c h = cc c
+  no_close b (d ∷ bs) w e c h =
+      let g : b ≡ d = some_same b d c.0 in
+      no_way_back (suc q) bs b c.1 (mark_at f.first ms b) (ap (λ x. leads_by code q x (way_of i)) e ∙ ap (leads_by code q (d ∷ bs)) w) (ap (table f.first ms) g ∙ c.2) c.3 refl h
+
+  no_cancels : (b : ℕ) (bs : List ℕ) → way_of i ≡ Cancels → begins ≡ bs → IsChain (table f.first ms) (Some b) bs → cancelled f.first ms work (mark_at f.first ms b) (begun (slice_get code.instructions b)) ≡ None → ⊥
+  no_cancels b [] w e c h = cc c
+  no_cancels b (d ∷ bs) w e c h =
+      let g : b ≡ d = some_same b d c.0 in
+      let z : AreBegins code (b ∷ bs) = subst (AreBegins code) (e ∙ ap (λ x. x ∷ bs) (sym g)) (reached_begins code f q begins reached) in
+      no_cancel bs b c.1 (slice_get code.instructions b) z.0 refl (e ∙ ap (λ x. x ∷ bs) (sym g)) w (ap (table f.first ms) g ∙ c.2) c.3 h
+
+  -- with no begin open none may be asked for, and with one open none may be left
+  none_open : (bs : List ℕ) → begins ≡ bs → IsChain (table f.first ms) None bs → begins ≢ [] → ⊥
+  none_open [] e c n = n e
+  none_open (d ∷ bs) e c n = cc c.0
+
+  one_open : (b : ℕ) (bs : List ℕ) → begins ≡ bs → IsChain (table f.first ms) (Some b) bs → begins ≡ [] → ⊥
+  one_open b [] e c n = cc c
+  one_open b (d ∷ bs) e c n = cc (e, n)
+
+  pub fails_by : (w : Way) (n : Mark) → seen_one m ≡ 1 → way_of i ≡ w → m ≡ n → went_by code.instructions f.first ms work q n w ≡ None → ⊥
+  fails_by On n one w e h = no_one_way (suc q) begins m one (ap (leads_by code q begins) w) chain (ap (visited f.first ms work (suc q)) e ∙ h)
+  fails_by (To to) n one w e h = no_one_way to begins m one (ap (leads_by code q begins) w) chain (ap (visited f.first ms work to) e ∙ h)
+  fails_by (Both to) n one w e h = no_two_ways to (visited f.first ms work (suc q) m) one w refl (ap (λ x. twice f.first to x (visited f.first ms work (suc q) x)) e ∙ h)
+  fails_by Opens n one w e h = no_one_way (suc q) (q ∷ begins) (Inside q) refl (ap (leads_by code q begins) w) (refl, id_of m, opened, chain) h
+  fails_by Closes Unseen one w e h = cc (one, e)
+  fails_by Closes Outside one w e h = none_open begins refl (subst (λ x. IsChain (table f.first ms) (id_of x) begins) e chain) (subst (λ x. asks_by x begins) w asked)
+  fails_by Closes (Inside b) one w e h = no_close b begins w refl (subst (λ x. IsChain (table f.first ms) (id_of x) begins) e chain) h
+  fails_by Cancels Unseen one w e h = cc (one, e)
+  fails_by Cancels Outside one w e h = none_open begins refl (subst (λ x. IsChain (table f.first ms) (id_of x) begins) e chain) (subst (λ x. asks_by x begins) w asked)
+  fails_by Cancels (Inside b) one w e h = no_cancels b begins w refl (subst (λ x. IsChain (table f.first ms) (id_of x) begins) e chain) h
+  fails_by Ends Unseen one w e h = cc (one, e)
+  fails_by Ends Outside one w e h = cc h
+  fails_by Ends (Inside b) one w e h = one_open b begins refl (subst (λ x. IsChain (table f.first ms) (id_of x) begins) e chain) (subst (λ x. asks_by x begins) w asked)
+
+pub goes_nowhere : (code : Code) (f : FunctionCode) (end : ℕ) (ms : Marks) (work : List ℕ) (q : ℕ) (i : Instr) (m : Mark) → f.first + length ms ≡ end → IsFound code f (table f.first ms) → slice_get code.instructions q ≡ Some i → mark_at f.first ms q ≡ Some m → seen_one m ≡ 1 → went_by code.instructions f.first ms work q m (way_of i) ≡ None → KeepsOpen code f end → ⊥
+goes_nowhere code f end ms work q i m long found stands marked one h k =
+    let at : table f.first ms q ≡ Some (id_of m) = ap innermost marked ∙ seen_table m one in
+    let r = found q (id_of m) at in
+    fails_by code f end ms work q i m long found stands r.0 r.1 r.2 at k (way_of i) m one refl refl h

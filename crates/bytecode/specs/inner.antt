@@ -1,0 +1,4 @@
+-- how a function's ways are followed
+pub mod Walking
+-- how the functions' codes lie
+pub mod Layout

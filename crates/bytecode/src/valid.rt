@@ -1,0 +1,212 @@
+//! Which parts are a valid code.
+
+ghost use Rattle.std.specs.Prelude.{◌≡◌, ◌<◌, ◌≤◌, ◌+◌, MatchOption, IfOk, IfErr, IsTrue, ◌↔◌, length, map};
+ghost use Rattle.syntax.specs.Names.{first_words, initial_from};
+ghost use Rattle.syntax.specs.Views.{global_of};
+ghost use Rattle.bytecode.specs.declared.valid.PartsFault.TheVariants.{OutOfMemory};
+ghost use Rattle.bytecode.specs.Valid.{cells_of, end_of, AreWritten, HasDistinctNames, HasWorker, IsValidFunction, AreValid, IsValid};
+ghost use Rattle.bytecode.specs.Views.{code_of, function_of};
+ghost use Rattle.bytecode.specs.inner.Layout.{AreLaidOut};
+
+use crate::code::{Code, FunctionCode, Parts};
+use crate::limits::{MOST_CELLS, MOST_INSTRUCTIONS, MOST_REGISTERS};
+use crate::walk::walk;
+use crate::written::is_written;
+use std::alloc::{AllocError, Allocator};
+use std::collections::HashSet;
+use syntax::tree::Global;
+
+/// Why it was not found out whether parts are valid: they come back as they were given.
+#[derive(Drop)]
+pub enum PartsFault<A: Allocator = std::alloc::Global> {
+    /// A growth was refused. It says nothing of the parts.
+    OutOfMemory(Parts<A>),
+}
+
+// The number of a global's cells, or of its initialisers where these are more.
+fn cells_of<A: Allocator>(g: &Global<A>) -> usize
+    ensures { result ≡ length (first_words (global_of g.now)) }
+{
+    let cells = match g.length {
+        Some((length, _)) => length as usize,
+        None => 1,
+    };
+    let first = g.first.len();
+    if cells < first { first } else { cells }
+}
+
+// The number of all cells, where they are not too many.
+fn count_cells<A: Allocator>(globals: &[Global<A>]) -> Option<usize>
+    ensures { MatchOption result (MOST_CELLS < length (initial_from (map global_of globals.now))) (λ n. (n ≡ length (initial_from (map global_of globals.now))) × (n ≤ MOST_CELLS)) }
+{
+    let mut count: usize = 0;
+    'each: for g in globals {
+        let more = cells_of(g);
+        if more > MOST_CELLS - count {
+            return None;
+        }
+        count += more;
+    }
+    Some(count)
+}
+
+// Where a function's code ends.
+pub(crate) fn end_of<A: Allocator>(parts: &Parts<A>, number: usize) -> usize
+    requires { number < length parts.now.functions }
+    ensures { result ≡ end_of (code_of parts.now) number }
+{
+    match parts.functions.as_slice().get(number + 1) {
+        Some(next) => next.first as usize,
+        None => parts.instructions.len(),
+    }
+}
+
+// Whether the functions' codes lie one after another from 0 on, each with an instruction.
+fn are_laid_out<A: Allocator>(parts: &Parts<A>) -> bool
+    ensures { IsTrue result ↔ AreLaidOut (code_of parts.now) }
+{
+    let functions = parts.functions.as_slice();
+    let first = match functions.first() {
+        Some(f) => f.first as usize,
+        None => parts.instructions.len(),
+    };
+    if first > 0 {
+        return false;
+    }
+    'each: for number in 0..functions.len() {
+        if functions[number].first as usize >= end_of(parts, number) {
+            return false;
+        }
+    }
+    true
+}
+
+// Whether no two functions have one name.
+fn have_distinct_names<A: Allocator + Copy>(alloc: A, parts: &Parts<A>) -> Result<bool, AllocError>
+    ensures { IfOk result (λ b. IsTrue b ↔ HasDistinctNames (code_of parts.now)) }
+{
+    let mut names = HashSet::new(alloc);
+    'each: for f in parts.functions.as_slice() {
+        match names.insert(f.name.as_str()) {
+            Ok(true) => {}
+            Ok(false) => return Ok(false),
+            Err(_) => return Err(AllocError),
+        }
+    }
+    Ok(true)
+}
+
+// Whether there is a function `worker` with one parameter.
+fn has_worker<A: Allocator>(parts: &Parts<A>) -> bool
+    ensures { IsTrue result ↔ HasWorker (code_of parts.now) }
+{
+    'each: for f in parts.functions.as_slice() {
+        if f.name.as_str() == "worker" && f.parameters == 1 {
+            return true;
+        }
+    }
+    false
+}
+
+// Whether what a function's instructions name is there.
+fn are_written<A: Allocator>(
+    parts: &Parts<A>,
+    f: &FunctionCode<A>,
+    behind: usize,
+    cells: usize,
+) -> bool
+    requires ends { behind ≤ length parts.now.instructions }
+    requires cells { cells ≡ cells_of (code_of parts.now) }
+    ensures { IsTrue result ↔ AreWritten (code_of parts.now) (function_of f.now) behind }
+{
+    let instrs = parts.instructions.as_slice();
+    'each: for at in f.first as usize..behind {
+        if !is_written(parts, f, behind, cells, &instrs[at]) {
+            return false;
+        }
+    }
+    true
+}
+
+// Whether a function that begins before its end is valid.
+fn is_valid_function<A: Allocator + Copy>(
+    alloc: A,
+    parts: &Parts<A>,
+    f: &FunctionCode<A>,
+    behind: usize,
+    cells: usize,
+) -> Result<bool, AllocError>
+    requires starts { f.now.first < behind }
+    requires ends { behind ≤ length parts.now.instructions }
+    requires cells { cells ≡ cells_of (code_of parts.now) }
+    ensures { IfOk result (λ b. IsTrue b ↔ IsValidFunction (code_of parts.now) (function_of f.now) behind) }
+{
+    if f.parameters > f.registers || f.registers > MOST_REGISTERS {
+        return Ok(false);
+    }
+    if !are_written(parts, f, behind, cells) {
+        return Ok(false);
+    }
+    walk(alloc, parts, f, behind)
+}
+
+// Whether functions whose codes lie one after another are valid.
+fn are_valid_functions<A: Allocator + Copy>(
+    alloc: A,
+    parts: &Parts<A>,
+    cells: usize,
+) -> Result<bool, AllocError>
+    requires laid_out { AreLaidOut (code_of parts.now) }
+    requires cells { cells ≡ cells_of (code_of parts.now) }
+    ensures { IfOk result (λ b. IsTrue b ↔ AreValid (code_of parts.now)) }
+{
+    let functions = parts.functions.as_slice();
+    'each: for number in 0..functions.len() {
+        let behind = end_of(parts, number);
+        if !is_valid_function(alloc, parts, &functions[number], behind, cells)? {
+            return Ok(false);
+        }
+    }
+    Ok(true)
+}
+
+// Whether parts are a valid code, in time for their size alone.
+fn is_valid<A: Allocator + Copy>(alloc: A, parts: &Parts<A>) -> Result<bool, AllocError>
+    ensures { IfOk result (λ b. IsTrue b ↔ IsValid (code_of parts.now)) }
+{
+    if parts.instructions.len() > MOST_INSTRUCTIONS {
+        return Ok(false);
+    }
+    match count_cells(parts.globals.as_slice()) {
+        None => Ok(false),
+        Some(cells) => {
+            if !are_laid_out(parts) {
+                return Ok(false);
+            }
+            if !has_worker(parts) {
+                return Ok(false);
+            }
+            if !have_distinct_names(alloc, parts)? {
+                return Ok(false);
+            }
+            are_valid_functions(alloc, parts, cells)
+        }
+    }
+}
+
+/// The code of these very parts, and `None` exactly where they are not valid. Takes time for their size alone, and memory for
+/// a mark and a place for each of the longest function's instructions and a name for each function. Where that is refused, the
+/// parts come back.
+pub fn validate<A: Allocator + Copy>(
+    alloc: A,
+    parts: Parts<A>,
+) -> Result<Option<Code<A>>, PartsFault<A>>
+    ensures valid { IfOk result (λ o. MatchOption o (¬ IsValid (code_of parts)) (λ c. (c ≡ code_of parts) × IsValid (code_of parts))) }
+    ensures refused { IfErr result (λ e. e ≡ OutOfMemory parts) }
+{
+    match is_valid(alloc, &parts) {
+        Ok(true) => Ok(Some(Code::from_valid(parts))),
+        Ok(false) => Ok(None),
+        Err(_) => Err(PartsFault::OutOfMemory(parts)),
+    }
+}

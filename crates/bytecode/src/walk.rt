@@ -1,0 +1,248 @@
+//! Ways through a function.
+
+ghost use Rattle.std.specs.Prelude.{◌≡◌, ◌+◌, ◌≤◌, ◌<◌, ◌^◌, IfOk, IfSome, IsTrue, ◌↔◌, length, slice_get, Some, None, map, option_map, replicate, ◌-◌, ℕ, List, []};
+ghost use Rattle.bytecode.specs.Valid.{KeepsOpen};
+ghost use Rattle.bytecode.specs.Views.{code_of, function_of, instr_of};
+ghost use Rattle.bytecode.specs.Code.{Code as Plain, FunctionCode as FunctionPlain, Instr as PlainInstr};
+ghost use Rattle.bytecode.specs.declared.walk.Mark.TheVariants.{Unseen};
+ghost use Rattle.bytecode.specs.inner.Walking.{way_of, visited, given, mark_at, reopened, begun_by, begun, went_by};
+
+use crate::code::{FunctionCode, Parts};
+use crate::instr::Instr;
+use std::alloc::{AllocError, Allocator};
+
+/// What is known of a place: whether a way comes to it, and the innermost begin that is open there.
+#[derive(Clone, Copy, PartialEq, Eq, Debug)]
+pub(crate) enum Mark {
+    /// No way so far.
+    Unseen,
+
+    /// A way on which no begin is open.
+    Outside,
+
+    /// A way on which the begin at this place is the innermost one that is open.
+    Inside(usize),
+}
+
+/// Where an instruction leads.
+#[derive(Clone, Copy, PartialEq, Eq, Debug)]
+pub(crate) enum Way {
+    On,
+    To(u32),
+    Both(u32),
+    Opens,
+    Closes,
+    Cancels,
+    Ends,
+}
+
+/// Where an instruction leads.
+fn way_on(instr: &Instr) -> Way
+    ensures { (arguments : List ℕ) → result ≡ way_of (instr_of arguments instr.now) }
+{
+    match instr {
+        Instr::Jump(to) => Way::To(*to),
+        Instr::JumpZero(_, to) => Way::Both(*to),
+        Instr::JumpNonzero(_, to) => Way::Both(*to),
+        Instr::Begin(_) => Way::Opens,
+        Instr::Commit => Way::Closes,
+        Instr::Cancel => Way::Cancels,
+        Instr::Return => Way::Ends,
+        Instr::ReturnValue(_) => Way::Ends,
+        _ => Way::On,
+    }
+}
+
+/// A way comes to a place: whether it may.
+fn visit<A: Allocator>(
+    marks: &mut [Mark],
+    work: &mut Vec<usize, A>,
+    first: usize,
+    to: usize,
+    mark: Mark,
+) -> Result<bool, AllocError>
+    ensures visited { IfOk result (λ b. visited first marks.old work.old.items to mark ≡ given b marks.new work.new.items) }
+    ensures len { length marks.new ≡ length marks.old }
+{
+    if to < first {
+        return Ok(false);
+    }
+    match marks.get(to - first) {
+        None => Ok(false),
+        Some(Mark::Unseen) => {
+            marks[to - first] = mark;
+            work.push(to)?;
+            Ok(true)
+        }
+        Some(Mark::Outside) => match mark {
+            Mark::Outside => Ok(true),
+            _ => Ok(false),
+        },
+        Some(Mark::Inside(b)) => match mark {
+            Mark::Inside(c) => Ok(*b == c),
+            _ => Ok(false),
+        },
+    }
+}
+
+// The mark of a place.
+fn mark_of(marks: &[Mark], first: usize, at: usize) -> Option<Mark>
+    ensures { result ≡ mark_at first marks.now at }
+{
+    if at < first {
+        return None;
+    }
+    marks.get(at - first).copied()
+}
+
+// A way comes to a place back under the begin that encloses the one at `under`.
+fn reopen<A: Allocator>(
+    marks: &mut [Mark],
+    work: &mut Vec<usize, A>,
+    first: usize,
+    to: usize,
+    under: usize,
+) -> Result<bool, AllocError>
+    ensures reopened { IfOk result (λ b. reopened first marks.old work.old.items to (mark_at first marks.old under) ≡ given b marks.new work.new.items) }
+    ensures len { length marks.new ≡ length marks.old }
+{
+    match mark_of(marks, first, under) {
+        None | Some(Mark::Unseen) => Ok(false),
+        Some(mark) => visit(marks, work, first, to, mark),
+    }
+}
+
+// Where a cancel of the begin at a place goes on, if a begin stands there.
+fn cancel_in(instr: &Instr) -> Option<u32>
+    ensures { (arguments : List ℕ) → result ≡ begun_by (instr_of arguments instr.now) }
+{
+    match instr {
+        Instr::Begin(to) => Some(*to),
+        _ => None,
+    }
+}
+
+fn cancel_at(instrs: &[Instr], at: usize) -> Option<u32>
+    ensures { (arguments : List ℕ) → result ≡ begun (slice_get (map (instr_of arguments) instrs.now) at) }
+{
+    match instrs.get(at) {
+        Some(instr) => cancel_in(instr),
+        None => None,
+    }
+}
+
+// Goes on from a place by the way of its instruction: whether each way on may go where it goes.
+fn go_by<A: Allocator>(
+    instrs: &[Instr],
+    marks: &mut [Mark],
+    work: &mut Vec<usize, A>,
+    first: usize,
+    at: usize,
+    mark: Mark,
+    way: Way,
+) -> Result<bool, AllocError>
+    requires { at < length instrs.now }
+    ensures went { (arguments : List ℕ) → IfOk result (λ b. went_by (map (instr_of arguments) instrs.now) first marks.old work.old.items at mark way ≡ given b marks.new work.new.items) }
+    ensures len { length marks.new ≡ length marks.old }
+{
+    match way {
+        Way::On => visit(marks, work, first, at + 1, mark),
+        Way::To(to) => visit(marks, work, first, to as usize, mark),
+        Way::Both(to) => {
+            if !visit(marks, work, first, at + 1, mark)? {
+                return Ok(false);
+            }
+            visit(marks, work, first, to as usize, mark)
+        }
+        Way::Opens => visit(marks, work, first, at + 1, Mark::Inside(at)),
+        Way::Closes => match mark {
+            Mark::Inside(b) => reopen(marks, work, first, at + 1, b),
+            _ => Ok(false),
+        },
+        Way::Cancels => match mark {
+            Mark::Inside(b) => match cancel_at(instrs, b) {
+                Some(to) => reopen(marks, work, first, to as usize, b),
+                None => Ok(false),
+            },
+            _ => Ok(false),
+        },
+        Way::Ends => match mark {
+            Mark::Outside => Ok(true),
+            _ => Ok(false),
+        },
+    }
+}
+
+// Goes on from a place by its instruction: whether each way on may go where it goes.
+fn go_on<A: Allocator>(
+    instrs: &[Instr],
+    marks: &mut [Mark],
+    work: &mut Vec<usize, A>,
+    first: usize,
+    at: usize,
+    mark: Mark,
+) -> Result<bool, AllocError>
+    requires { at < length instrs.now }
+    ensures went { (arguments : List ℕ) → (i : PlainInstr) → slice_get (map (instr_of arguments) instrs.now) at ≡ Some i → IfOk result (λ b. went_by (map (instr_of arguments) instrs.now) first marks.old work.old.items at mark (way_of i) ≡ given b marks.new work.new.items) }
+    ensures len { length marks.new ≡ length marks.old }
+{
+    let way = way_on(&instrs[at]);
+    go_by(instrs, marks, work, first, at, mark, way)
+}
+
+// The walk over a function's ways, by marks that are all unseen and an empty list of work.
+fn walk_over<A: Allocator>(
+    instrs: &[Instr],
+    first: usize,
+    behind: usize,
+    marks: &mut [Mark],
+    work: &mut Vec<usize, A>,
+) -> Result<bool, AllocError>
+    requires starts { first < behind }
+    requires ends { behind ≤ length instrs.now }
+    requires marks { marks.old ≡ replicate (behind - first) Unseen }
+    requires work { work.old.items ≡ [] }
+    ensures { IfOk result (λ b. (code : Plain) → (arguments : List ℕ) → (f : FunctionPlain) → code.instructions ≡ map (instr_of arguments) instrs.now → f.first ≡ first → IsTrue b ↔ KeepsOpen code f behind) }
+{
+    if !visit(marks, work, first, first, Mark::Outside)? {
+        return Ok(false);
+    }
+    'places: for made in 0..behind - first {
+        match work.pop() {
+            None => return Ok(true),
+            Some(at) => match mark_of(marks, first, at) {
+                None => return Ok(false),
+                Some(mark) => {
+                    if !go_on(instrs, marks, work, first, at, mark)? {
+                        return Ok(false);
+                    }
+                }
+            },
+        }
+    }
+    Ok(true)
+}
+
+/// Whether the ways through a function stay in it, come to each place with one list of open begins, and have the begins that
+/// its instructions ask for. Takes time for the function's length alone.
+pub(crate) fn walk<A: Allocator + Copy>(
+    alloc: A,
+    parts: &Parts<A>,
+    f: &FunctionCode<A>,
+    behind: usize,
+) -> Result<bool, AllocError>
+    requires starts { f.now.first < behind }
+    requires ends { behind ≤ length parts.now.instructions }
+    ensures { IfOk result (λ b. IsTrue b ↔ KeepsOpen (code_of parts.now) (function_of f.now) behind) }
+{
+    let first = f.first as usize;
+    let mut marks = vec![in alloc; Mark::Unseen; behind - first]?;
+    let mut work = Vec::new(alloc);
+    walk_over(
+        parts.instructions.as_slice(),
+        first,
+        behind,
+        &mut marks,
+        &mut work,
+    )
+}
