@@ -1,6 +1,6 @@
 //! Parts to look at.
 
-use bytecode::{FunctionCode, Instr, Parts, validate};
+use bytecode::{Code, FunctionCode, Instr, Parts, validate};
 use containers::{Items, Text};
 use lex::token::{Scalar, Span};
 use std::alloc::{AllocError, Allocator};
@@ -11,6 +11,14 @@ pub fn is_valid<A: Allocator + Copy>(alloc: A, parts: Parts<A>) -> Option<bool> 
     match validate(alloc, parts) {
         Ok(Some(_)) => Some(true),
         Ok(None) => Some(false),
+        Err(_) => None,
+    }
+}
+
+/// The code of parts, if they are valid and memory is there.
+pub fn code_of<A: Allocator + Copy>(alloc: A, parts: Parts<A>) -> Option<Code<A>> {
+    match validate(alloc, parts) {
+        Ok(found) => found,
         Err(_) => None,
     }
 }

@@ -1,7 +1,8 @@
 //! Listings.
 
-use crate::built::{two_functions, worker};
-use bytecode::{Instr, listing, validate};
+use crate::built::{code_of, two_functions, worker};
+use bytecode::{Instr, listing};
+use containers::Items;
 use std::test::Fail;
 
 #[test]
@@ -14,16 +15,16 @@ fn a_transaction_is_listed(rt: HostRuntime) -> Result<(), Fail> {
         Instr::Return,
     ];
     let mut parts = worker(rt.alloc(), 2, &instructions)?;
-    parts.texts = containers::Items::new(rt.alloc());
-    match validate(rt.alloc(), parts) {
-        Ok(Some(code)) => {
-            assert_eq!(rt;
-                listing(rt.alloc(), &code)?.as_str(),
-                "function worker registers 2\n0 begin >4\n1 rd r1 @0\n2 wr @0 r1\n3 commit\n4 ret\n"
-            );
-        }
-        _ => assert!(rt; false),
-    }
+    parts.texts = Items::new(rt.alloc());
+    let Some(code) = code_of(rt.alloc(), parts) else {
+        assert!(rt; false);
+        return Ok(());
+    };
+    let text = listing(rt.alloc(), &code)?;
+    assert_eq!(rt;
+        text.as_str(),
+        "function worker registers 2\n0 begin >4\n1 rd r1 @0\n2 wr @0 r1\n3 commit\n4 ret\n"
+    );
     Ok(())
 }
 
@@ -132,19 +133,18 @@ fn every_instruction_is_listed(rt: HostRuntime) -> Result<(), Fail> {
         Instr::ReturnValue(0),
     ];
     let parts = two_functions(rt.alloc(), &[1, 0], &instructions, 46)?;
-    match validate(rt.alloc(), parts) {
-        Ok(Some(code)) => {
-            assert_eq!(rt; listing(rt.alloc(), &code)?.as_str(), EVERY_INSTRUCTION);
-            assert_eq!(rt;
-                listing(rt.alloc(), &code.copy(rt.alloc())?)?.as_str(),
-                EVERY_INSTRUCTION
-            );
-            assert_eq!(rt; code.functions().len(), 2);
-            assert_eq!(rt; code.texts().len(), 2);
-            assert_eq!(rt; code.globals().len(), 1);
-            assert_eq!(rt; code.parts().instructions.len(), 47);
-        }
-        _ => assert!(rt; false),
-    }
+    let Some(code) = code_of(rt.alloc(), parts) else {
+        assert!(rt; false);
+        return Ok(());
+    };
+    let text = listing(rt.alloc(), &code)?;
+    assert_eq!(rt; text.as_str(), EVERY_INSTRUCTION);
+    let copy = code.copy(rt.alloc())?;
+    let text = listing(rt.alloc(), &copy)?;
+    assert_eq!(rt; text.as_str(), EVERY_INSTRUCTION);
+    assert_eq!(rt; copy.functions().len(), 2);
+    assert_eq!(rt; copy.texts().len(), 2);
+    assert_eq!(rt; copy.globals().len(), 1);
+    assert_eq!(rt; copy.parts().instructions.len(), 47);
     Ok(())
 }
