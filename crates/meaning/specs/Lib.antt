@@ -1,6 +1,8 @@
 -- the cells of globals, and what look-ups in a file give
 pub mod Cells
 pub mod File
+-- the value that a register stands for
+pub mod Word
 -- the state that a machine holds, and what answers say
 pub mod Machine
 -- what prints a format byte by byte

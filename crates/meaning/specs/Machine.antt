@@ -1,52 +1,33 @@
 -- The state that a machine holds, and what its answers say.
-use Rattle.std.specs.Prelude.{Vec, ◌≡◌, ℕ, List, [], ◌∷◌, ◌++◌, map, Result, Ok, Err}
+use Rattle.std.specs.Prelude.{Vec, ◌≡◌, ℕ, List, [], ◌∷◌, ◌++◌, map, Result, Ok, Err, Option, Some, None, option_map}
 use Rattle.syntax.specs.declared.numbers.Halt.{Halt}
 use Rattle.syntax.specs.declared.numbers.Halt.TheVariants.{Astray}
+use Rattle.syntax.specs.declared.numbers.Value.{Value}
 use Rattle.syntax.specs.Tree.{Program}
 use Rattle.syntax.specs.Views.{program_of}
 use Rattle.syntax.specs.Names as Names
 use Rattle.syntax.specs.Behaviours.{Memory}
 use Rattle.syntax.specs.Actions as Actions
-use Rattle.syntax.specs.Actions.{State, Answer, Gives, Stops, pure, ◌>>=◌, ◌>>◌}
+use Rattle.syntax.specs.Actions.{State, Answer, Gives, Stops}
 use Rattle.syntax.specs.Meaning as Meaning
 use Rattle.meaning.specs.declared.machine.Local.{Local}
 use Rattle.meaning.specs.declared.machine.Machine.{Machine}
 use Rattle.meaning.specs.declared.program.Source.{Source}
 use Rattle.meaning.specs.declared.machine.Context.{Context}
 use Rattle.meaning.specs.declared.machine.Halted.{Halted}
-use Rattle.meaning.specs.declared.machine.Halted.TheVariants as halted
 use Rattle.meaning.specs.declared.machine.Context.TheVariants as context
 use Rattle.meaning.specs.declared.machine.Spot.{Spot}
 use Rattle.meaning.specs.declared.machine.Spot.TheVariants as spot
 use Rattle.meaning.specs.declared.machine.End.{End}
 use Rattle.meaning.specs.declared.machine.End.TheVariants as end
-
--- memory has not run out
-abbrev pub Happened : Halted → Type 0
-Happened (halted.By why) = Unit {0}
-Happened halted.OutOfMemory = ⊥
-
-abbrev pub halt_of : Halted → Halt
-halt_of (halted.By why) = why
-halt_of halted.OutOfMemory = Astray
-
-abbrev pub IsDone : {X : Type 0} → Result X Halted → Type 0
-IsDone (Ok x) = Unit {0}
-IsDone (Err h) = Happened h
-
-abbrev pub answer : {X : Type 0} → Result X Halted → State → Answer X
-answer (Ok x) s = Gives x s
-answer (Err h) s = Stops (halt_of h) s
-
--- what was done is this, but where memory ran out
-abbrev pub Means : {X : Type 0} → Result X Halted → Answer X → State → Type 0
-Means result does now = IsDone result → does ≡ answer result now
+use Rattle.meaning.specs.declared.word.Word.{Word}
+use Rattle.meaning.specs.Word.{value_of}
 
 abbrev pub end_of : End → Meaning.End
 end_of end.Next = Meaning.Next
 end_of end.Breaks = Meaning.Breaks
 end_of end.Continues = Meaning.Continues
-end_of (end.Returns v) = Meaning.Returns v
+end_of (end.Returns w) = Meaning.Returns (value_of w)
 end_of end.Cancels = Meaning.Cancels
 
 abbrev pub spot_of : Spot → Meaning.Spot
@@ -63,6 +44,15 @@ with_left memory (Actions.Inside mode now) = Actions.Inside mode now
 
 abbrev pub left_too : Memory → State → State
 left_too memory s = record s { context = with_left memory s.context }
+
+-- memory has not run out: a reason is known
+abbrev pub Happened : Option Halt → Type 0
+Happened (Some why) = Unit {0}
+Happened None = ⊥
+
+abbrev pub halt_of : Option Halt → Halt
+halt_of (Some why) = why
+halt_of None = Astray
 
 module _ {A : Type 0} where
   abbrev pub items_in : Vec Local A → List Names.Local
@@ -81,13 +71,33 @@ module _ {A : Type 0} where
   abbrev pub program_in : Source A → Program
   program_in source = program_of source.unit.now
 
--- an answer with another thing in the place of what it gives
-abbrev pub given_as : {X Y : Type 0} → (X → Y) → Result X Halted → State → Answer Y
-given_as f (Ok x) s = Gives (f x) s
-given_as f (Err h) s = Stops (halt_of h) s
+  abbrev pub IsDone : {X : Type 0} → Result X Halted → Machine A → Type 0
+  IsDone (Ok x) m = Unit {0}
+  IsDone (Err h) m = Happened m.why
 
-abbrev pub MeansSpot : Result Spot Halted → Answer Meaning.Spot → State → Type 0
-MeansSpot result does now = IsDone result → does ≡ given_as spot_of result now
+  -- an answer, with what it gives seen by f
+  abbrev pub given_as : {X Y : Type 0} → (X → Y) → Result X Halted → Machine A → Answer Y
+  given_as f (Ok x) m = Gives (f x) (state_in m)
+  given_as f (Err h) m = Stops (halt_of m.why) (state_in m)
 
-abbrev pub MeansEnd : Result End Halted → Answer Meaning.End → State → Type 0
-MeansEnd result does now = IsDone result → does ≡ given_as end_of result now
+  -- what was done is this, but where memory ran out
+  abbrev pub MeansAs : {X Y : Type 0} → (X → Y) → Result X Halted → Answer Y → Machine A → Type 0
+  MeansAs f result does m = IsDone result m → does ≡ given_as f result m
+
+  abbrev pub Means : {X : Type 0} → Result X Halted → Answer X → Machine A → Type 0
+  Means = MeansAs (λ x. x)
+
+  abbrev pub MeansWord : Result Word Halted → Answer Value → Machine A → Type 0
+  MeansWord = MeansAs value_of
+
+  abbrev pub MeansWords : Result (Vec Value A) Halted → Answer (List Value) → Machine A → Type 0
+  MeansWords = MeansAs (λ v. v.items)
+
+  abbrev pub MeansSpot : Result Spot Halted → Answer Meaning.Spot → Machine A → Type 0
+  MeansSpot = MeansAs spot_of
+
+  abbrev pub MeansEnd : Result End Halted → Answer Meaning.End → Machine A → Type 0
+  MeansEnd = MeansAs end_of
+
+  abbrev pub MeansTurn : Result (Option End) Halted → Answer (Option Meaning.End) → Machine A → Type 0
+  MeansTurn = MeansAs (option_map end_of)

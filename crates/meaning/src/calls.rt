@@ -1,21 +1,21 @@
 //! How a call begins and ends.
 
 ghost use Rattle.std.specs.Prelude.{◌≡◌, map, option_map, unwrap_or, IfOk};
-ghost use Rattle.syntax.specs.Actions.{State};
 ghost use Rattle.syntax.specs.Meaning as meaning;
 ghost use Rattle.syntax.specs.Views.{parameter_of};
 ghost use Rattle.syntax.specs.Tree.{Int};
-ghost use Rattle.meaning.specs.Machine.{local_in, end_of, Means, items_in};
+ghost use Rattle.meaning.specs.Machine.{local_in, end_of, MeansWord, items_in, state_in};
 
 use crate::arithmetic::convert;
-use crate::machine::{End, Halted, Local};
+use crate::machine::{End, Halted, Local, Machine};
+use crate::word::{Word, convert_word, flag};
 use lex::token::Scalar;
 use std::alloc::{AllocError, Allocator};
 use syntax::numbers::{Halt, Value};
 use syntax::tree::Parameter;
 
 /// The locals that a call begins with, where each parameter has its argument.
-pub fn locals_of<'p, A: Allocator + Copy>(
+pub(crate) fn locals_of<'p, A: Allocator + Copy>(
     alloc: A,
     parameters: &'p [Parameter<A>],
     values: &[Value],
@@ -35,7 +35,7 @@ pub fn locals_of<'p, A: Allocator + Copy>(
         mine.push(Local {
             name: x.text.as_str(),
             of: q.of,
-            word: convert(q.of, v).word,
+            word: convert(q.of, v).word as u32,
         })?;
     }
     Ok(Some(mine))
@@ -52,18 +52,19 @@ fn type_or_int(of: Option<Scalar>) -> Scalar
 }
 
 /// The value of a call, of the function's own type.
-pub fn result_of(of: Option<Scalar>, end: End) -> Result<Value, Halted>
-    ensures { (s : State) → Means result (meaning.result_of of (end_of end) s) s }
+pub(crate) fn result_of<A: Allocator>(
+    m: &mut Machine<A>,
+    of: Option<Scalar>,
+    end: End,
+) -> Result<Word, Halted>
+    ensures { MeansWord result (meaning.result_of of (end_of end) (state_in m.old)) m.new }
 {
     match end {
-        End::Next => Ok(convert(
-            type_or_int(of),
-            Value {
-                of: Scalar::Int,
-                word: 0,
-            },
-        )),
-        End::Returns(v) => Ok(convert(type_or_int(of), v)),
-        _ => Err(Halted::By(Halt::Astray)),
+        End::Next => Ok(convert_word(type_or_int(of), flag(false))),
+        End::Returns(w) => Ok(convert_word(type_or_int(of), w)),
+        _ => {
+            m.why = Some(Halt::Astray);
+            Err(Halted {})
+        }
     }
 }

@@ -4,10 +4,11 @@
 //! memory is refused, nothing is said of the machine.
 #![tactic(auto)]
 
-pub mod arithmetic;
-pub mod calls;
-pub mod machine;
-pub mod names;
-pub mod print;
-pub mod program;
-pub mod transactions;
+mod arithmetic;
+mod calls;
+mod machine;
+mod names;
+mod print;
+mod program;
+mod transactions;
+mod word;

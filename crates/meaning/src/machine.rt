@@ -4,124 +4,132 @@ ghost use Rattle.std.specs.Prelude.{◌≡◌, map};
 ghost use Rattle.syntax.specs.Names.{newest as newest_local, with_word};
 ghost use Rattle.syntax.specs.Actions.{tick as tick_due, trap as trap_due, or_trap as or_trap_due};
 ghost use Rattle.syntax.specs.Meaning as meaning;
-ghost use Rattle.meaning.specs.Machine.{Means, MeansSpot, state_in, local_in, spot_of};
+ghost use Rattle.syntax.specs.Numbers.{binary, unary, converted};
+ghost use Rattle.syntax.specs.declared.numbers.Value.{Value};
+ghost use Rattle.meaning.specs.Word.{value_of};
+ghost use Rattle.meaning.specs.Machine.{Means, MeansSpot, MeansWord, state_in, local_in, spot_of};
 
-use crate::arithmetic::convert;
+use crate::arithmetic::{apply, apply_unary};
+use crate::word::{Word, convert_word, pack, packed, unpack};
 use lex::token::Scalar;
-use std::alloc::{AllocError, AllocFailed, Allocator};
-use syntax::numbers::{Halt, Trap, Value};
-use syntax::tree::Mode;
+use std::alloc::Allocator;
+use syntax::numbers::{Halt, Trap};
+use syntax::tree::{BinaryOp, Mode, UnaryOp};
 
 /// A local variable, by its name in the tree.
 #[derive(Drop)]
-pub struct Local<'p> {
+pub(crate) struct Local<'p> {
     pub name: &'p str,
     pub of: Scalar,
-    pub word: u64,
+    pub word: u32,
 }
 
 /// Outside transactions, with the memories still to be found and those left so far; or inside one: how the innermost one
 /// runs, and the memory as its transaction sees it.
 #[derive(Drop)]
-pub enum Context<'p, A: Allocator> {
-    Outside(&'p [Vec<u64, A>], Vec<Vec<u64, A>, A>),
-    Inside(Mode, Vec<u64, A>),
+pub(crate) enum Context<'p, A: Allocator> {
+    Outside(&'p [Vec<u32, A>], Vec<Vec<u32, A>, A>),
+    Inside(Mode, Vec<u32, A>),
 }
 
-/// A thread's ticks, locals, context and text.
+/// A thread's ticks, locals, context and text; and where it goes no further, why: the meaning's halt, or none where memory
+/// has run out.
 #[derive(Drop)]
-pub struct Machine<'p, A: Allocator> {
+pub(crate) struct Machine<'p, A: Allocator> {
     pub ticks: u64,
+    pub why: Option<Halt>,
     pub locals: Vec<Local<'p>, A>,
     pub context: Context<'p, A>,
     pub text: Vec<u8, A>,
 }
 
-/// Why a thread goes no further here.
+/// A thread goes no further here: why stands in its machine.
 #[derive(Clone, Copy, Debug)]
-pub enum Halted {
-    /// The meaning stops.
-    By(Halt),
-    /// Memory has run out.
-    OutOfMemory,
-}
-
-impl From<AllocError> for Halted {
-    ghost use Rattle.meaning.specs.declared.machine.Halted.TheVariants.{OutOfMemory};
-
-    ghost from_gives = { λ _ h. h ≡ OutOfMemory };
-
-    fn from(_error: AllocError) -> Halted {
-        Halted::OutOfMemory
-    }
-}
-
-impl<T: Drop> From<AllocFailed<T>> for Halted {
-    ghost use Rattle.meaning.specs.declared.machine.Halted.TheVariants.{OutOfMemory};
-
-    ghost from_gives = { λ _ h. h ≡ OutOfMemory };
-
-    fn from(_error: AllocFailed<T>) -> Halted {
-        Halted::OutOfMemory
-    }
-}
+pub(crate) struct Halted {}
 
 /// How a statement ends.
 #[derive(Clone, Copy, Debug)]
-pub enum End {
+pub(crate) enum End {
     Next,
     Breaks,
     Continues,
-    Returns(Value),
+    Returns(Word),
     Cancels,
 }
 
 /// Where a value stands.
 #[derive(Clone, Copy, Debug)]
-pub enum Spot {
+pub(crate) enum Spot {
     InLocal(usize, Scalar),
     InCell(usize, Scalar),
 }
 
 /// One tick goes, where one is left.
-pub fn tick<A: Allocator>(m: &mut Machine<A>) -> Result<(), Halted>
-    ensures { Means result (tick_due (state_in m.old)) (state_in m.new) }
+#[inline(always)]
+pub(crate) fn tick<A: Allocator>(m: &mut Machine<A>) -> Result<(), Halted>
+    ensures { Means result (tick_due (state_in m.old)) m.new }
 {
     if m.ticks == 0 {
-        return Err(Halted::By(Halt::Spent));
+        m.why = Some(Halt::Spent);
+        return Err(Halted {});
     }
     m.ticks -= 1;
     Ok(())
 }
 
 /// A trap takes a tick of its own.
-pub fn trap<A: Allocator>(m: &mut Machine<A>, why: Trap) -> Result<Value, Halted>
-    ensures { Means result (trap_due {A = Value} why (state_in m.old)) (state_in m.new) }
+#[cold]
+#[inline(never)]
+pub(crate) fn trap<A: Allocator>(m: &mut Machine<A>, why: Trap) -> Result<Word, Halted>
+    ensures { MeansWord result (trap_due {A = Value} why (state_in m.old)) m.new }
 {
     tick(m)?;
-    Err(Halted::By(Halt::Trapped(why)))
+    m.why = Some(Halt::Trapped(why));
+    Err(Halted {})
 }
 
 /// A trap where a place is due.
-pub fn spot_trap<A: Allocator>(m: &mut Machine<A>, why: Trap) -> Result<Spot, Halted>
-    ensures { MeansSpot result (trap_due {A = meaning.Spot} why (state_in m.old)) (state_in m.new) }
+#[cold]
+#[inline(never)]
+pub(crate) fn spot_trap<A: Allocator>(m: &mut Machine<A>, why: Trap) -> Result<Spot, Halted>
+    ensures { MeansSpot result (trap_due {A = meaning.Spot} why (state_in m.old)) m.new }
 {
     tick(m)?;
-    Err(Halted::By(Halt::Trapped(why)))
+    m.why = Some(Halt::Trapped(why));
+    Err(Halted {})
 }
 
-/// What an operator gives, or its trap.
-pub fn or_trap<A: Allocator>(m: &mut Machine<A>, r: Result<Value, Trap>) -> Result<Value, Halted>
-    ensures { Means result (or_trap_due r (state_in m.old)) (state_in m.new) }
+/// What an operator on two values gives, or its trap.
+pub(crate) fn operate<A: Allocator>(
+    m: &mut Machine<A>,
+    op: BinaryOp,
+    x: Word,
+    y: Word,
+) -> Result<Word, Halted>
+    ensures { MeansWord result (or_trap_due (binary op (value_of x) (value_of y)) (state_in m.old)) m.new }
 {
-    match r {
-        Ok(v) => Ok(v),
+    match apply(op, unpack(x), unpack(y)) {
+        Ok(v) => Ok(packed(v)),
+        Err(why) => trap(m, why),
+    }
+}
+
+/// What an operator on one value gives, or its trap.
+pub(crate) fn operate_unary<A: Allocator>(
+    m: &mut Machine<A>,
+    op: UnaryOp,
+    x: Word,
+) -> Result<Word, Halted>
+    ensures { MeansWord result (or_trap_due (unary op (value_of x)) (state_in m.old)) m.new }
+{
+    match apply_unary(op, unpack(x)) {
+        Ok(v) => Ok(packed(v)),
         Err(why) => trap(m, why),
     }
 }
 
 /// The place of the newest local of a name, and its type.
-pub fn newest(locals: &[Local], name: &str) -> Option<(usize, Scalar)>
+pub(crate) fn newest(locals: &[Local], name: &str) -> Option<(usize, Scalar)>
     ensures { result ≡ newest_local (map local_in locals.now) name.now }
 {
     let mut i = locals.len();
@@ -136,26 +144,37 @@ pub fn newest(locals: &[Local], name: &str) -> Option<(usize, Scalar)>
 }
 
 /// Reads what stands there.
-pub fn fetch<A: Allocator>(m: &Machine<A>, at: Spot) -> Result<Value, Halted>
-    ensures { Means result (meaning.fetch (spot_of at) (state_in m.now)) (state_in m.now) }
+pub(crate) fn fetch<A: Allocator>(m: &mut Machine<A>, at: Spot) -> Result<Word, Halted>
+    ensures { MeansWord result (meaning.fetch (spot_of at) (state_in m.old)) m.new }
 {
     match at {
         Spot::InLocal(i, of) => match m.locals.get(i) {
-            Some(l) => Ok(Value { of, word: l.word }),
-            None => Ok(Value { of, word: 0 }),
+            Some(l) => Ok(pack(of, l.word)),
+            None => Ok(pack(of, 0)),
         },
         Spot::InCell(c, of) => match &m.context {
             Context::Inside(_, memory) => match memory.get(c) {
-                Some(word) => Ok(Value { of, word: *word }),
-                None => Ok(Value { of, word: 0 }),
+                Some(word) => Ok(pack(of, *word)),
+                None => Ok(pack(of, 0)),
             },
-            Context::Outside(_, _) => Err(Halted::By(Halt::Astray)),
+            Context::Outside(_, _) => {
+                m.why = Some(Halt::Astray);
+                Err(Halted {})
+            }
         },
     }
 }
 
+/// The word of a value that is converted.
+#[inline(always)]
+fn word_as(of: Scalar, w: Word) -> u32
+    ensures { result ≡ (converted of (value_of w)).word }
+{
+    unpack(convert_word(of, w)).word as u32
+}
+
 /// Writes a word into a local.
-fn assign_local(locals: &mut [Local], i: usize, word: u64)
+fn assign_local(locals: &mut [Local], i: usize, word: u32)
     ensures { map local_in locals.new ≡ with_word (map local_in locals.old) i word }
 {
     if i < locals.len() {
@@ -165,22 +184,25 @@ fn assign_local(locals: &mut [Local], i: usize, word: u64)
 }
 
 /// Writes a value there, converted to its type.
-pub fn assign<A: Allocator>(m: &mut Machine<A>, at: Spot, v: Value) -> Result<(), Halted>
-    ensures { Means result (meaning.assign (spot_of at) v (state_in m.old)) (state_in m.new) }
+pub(crate) fn assign<A: Allocator>(m: &mut Machine<A>, at: Spot, w: Word) -> Result<(), Halted>
+    ensures { Means result (meaning.assign (spot_of at) (value_of w) (state_in m.old)) m.new }
 {
     match at {
         Spot::InLocal(i, of) => {
-            assign_local(m.locals.as_mut_slice(), i, convert(of, v).word);
+            assign_local(m.locals.as_mut_slice(), i, word_as(of, w));
             Ok(())
         }
         Spot::InCell(c, of) => match &mut m.context {
             Context::Inside(_, memory) => {
                 if c < memory.len() {
-                    memory[c] = convert(of, v).word;
+                    memory[c] = word_as(of, w);
                 }
                 Ok(())
             }
-            Context::Outside(_, _) => Err(Halted::By(Halt::Astray)),
+            Context::Outside(_, _) => {
+                m.why = Some(Halt::Astray);
+                Err(Halted {})
+            }
         },
     }
 }

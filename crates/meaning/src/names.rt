@@ -20,7 +20,7 @@ use std::alloc::Allocator;
 use syntax::tree::{BinaryOp, Expr, Function, Global, Item, Name, Stmt, UnaryOp};
 
 /// The number of a global's cells.
-pub fn cells_of<A: Allocator>(g: &Global<A>) -> usize
+pub(crate) fn cells_of<A: Allocator>(g: &Global<A>) -> usize
     ensures value { result ≡ Names.cells (global_of g.now) }
     ensures small { result ≤ 2 ^ 32 }
 {
@@ -32,14 +32,14 @@ pub fn cells_of<A: Allocator>(g: &Global<A>) -> usize
 
 /// A global, with its first cell.
 #[derive(Drop)]
-pub struct Shared<'p, A: Allocator> {
+pub(crate) struct Shared<'p, A: Allocator> {
     pub cell: usize,
     pub global: &'p Global<A>,
 }
 
 /// A function's definition, with its body.
 #[derive(Drop)]
-pub struct Defined<'p, A: Allocator> {
+pub(crate) struct Defined<'p, A: Allocator> {
     pub function: &'p Function<A>,
     pub body: &'p [Stmt<A>],
 }
@@ -81,7 +81,7 @@ fn shared_by<'p, A: Allocator>(
 }
 
 /// A global of the file, with its first cell.
-pub fn global<'p, A: Allocator>(items: &'p [Item<A>], name: &str) -> Option<Shared<'p, A>>
+pub(crate) fn global<'p, A: Allocator>(items: &'p [Item<A>], name: &str) -> Option<Shared<'p, A>>
     requires { total_cells (globals (map item_of items.now)) ≤ 2 ^ 32 }
     ensures { option_map shared_in result ≡ Names.global_of (map item_of items.now) name.now }
 {
@@ -115,7 +115,7 @@ fn defined_by<'p, A: Allocator>(item: &'p Item<A>, name: &str) -> Option<Defined
 }
 
 /// A function's definition, with its body.
-pub fn definition<'p, A: Allocator>(items: &'p [Item<A>], name: &str) -> Option<Defined<'p, A>>
+pub(crate) fn definition<'p, A: Allocator>(items: &'p [Item<A>], name: &str) -> Option<Defined<'p, A>>
     ensures { option_map defined_in result ≡ Names.definition_of (map item_of items.now) name.now }
 {
     'items: for item in items {
@@ -128,7 +128,7 @@ pub fn definition<'p, A: Allocator>(items: &'p [Item<A>], name: &str) -> Option<
 
 /// What a name of the file is declared as.
 #[derive(Drop)]
-pub enum Symbol<'p, A: Allocator> {
+pub(crate) enum Symbol<'p, A: Allocator> {
     Unknown,
     Global(&'p Global<A>),
     Function(&'p Function<A>),
@@ -162,7 +162,7 @@ fn declared_by<'p, A: Allocator>(item: &'p Item<A>, name: &str) -> Option<Symbol
 }
 
 /// What a name is first declared as in the file.
-pub fn declared<'p, A: Allocator>(items: &'p [Item<A>], name: &str) -> Symbol<'p, A>
+pub(crate) fn declared<'p, A: Allocator>(items: &'p [Item<A>], name: &str) -> Symbol<'p, A>
     ensures { known_of result ≡ file_scope (map item_of items.now) name.now }
 {
     'items: for item in items {
@@ -210,7 +210,7 @@ fn call_type<A: Allocator>(s: &Symbol<A>) -> Option<Scalar>
 }
 
 /// The type to which two operands are converted, where both have one.
-pub fn common_if_both(s: Option<Scalar>, t: Option<Scalar>) -> Option<Scalar>
+pub(crate) fn common_if_both(s: Option<Scalar>, t: Option<Scalar>) -> Option<Scalar>
     ensures { result ≡ common_of s t }
 {
     match s {
@@ -294,7 +294,7 @@ fn value_type<A: Allocator + Copy>(
 }
 
 /// The type of an expression while these locals live.
-pub fn type_of<A: Allocator + Copy>(
+pub(crate) fn type_of<A: Allocator + Copy>(
     source: &Source<A>,
     locals: &[Local],
     e: &Expr<A>,

@@ -18,13 +18,16 @@ use syntax::numbers::{Halt, Value};
 use syntax::tree::Mode;
 
 /// Inside an atomic transaction nothing is printed.
-pub fn may_print<A: Allocator>(m: &Machine<A>) -> Result<(), Halted>
-    ensures { Means result (act.may_print (state_in m.now)) (state_in m.now) }
+pub(crate) fn may_print<A: Allocator>(m: &mut Machine<A>) -> Result<(), Halted>
+    ensures { Means result (act.may_print (state_in m.old)) m.new }
 {
     match &m.context {
         Context::Outside(_, _) => Ok(()),
         Context::Inside(mode, _) => match mode {
-            Mode::Atomic => Err(Halted::By(Halt::Astray)),
+            Mode::Atomic => {
+                m.why = Some(Halt::Astray);
+                Err(Halted {})
+            }
             Mode::Relaxed => Ok(()),
         },
     }
@@ -32,18 +35,21 @@ pub fn may_print<A: Allocator>(m: &Machine<A>) -> Result<(), Halted>
 
 /// One byte of a literal piece: the piece's tick goes before its first byte.
 fn put_byte<A: Allocator>(m: &mut Machine<A>, begun: bool, c: u8) -> Result<(), Halted>
-    ensures { Means result (pushed begun c (state_in m.old)) (state_in m.new) }
+    ensures { Means result (pushed begun c (state_in m.old)) m.new }
 {
     if !begun {
         tick(m)?;
     }
-    m.text.push(c)?;
+    if m.text.push(c).is_err() {
+        m.why = None;
+        return Err(Halted {});
+    }
     Ok(())
 }
 
 /// The number that a figure prints, as a piece of its own.
 fn put_number<A: Allocator>(m: &mut Machine<A>, t: Scalar, v: Value) -> Result<(), Halted>
-    ensures { Means result (act.print_piece (signed_decimal (numbers.number t v.word)) (state_in m.old)) (state_in m.new) }
+    ensures { Means result (act.print_piece (signed_decimal (numbers.number t v.word)) (state_in m.old)) m.new }
 {
     tick(m)?;
     let mut buffer = Buffer::new();
@@ -51,7 +57,10 @@ fn put_number<A: Allocator>(m: &mut Machine<A>, t: Scalar, v: Value) -> Result<(
         of: t,
         word: v.word,
     }));
-    m.text.extend_from_slice(text.as_bytes())?;
+    if m.text.extend_from_slice(text.as_bytes()).is_err() {
+        m.why = None;
+        return Err(Halted {});
+    }
     Ok(())
 }
 
@@ -62,11 +71,14 @@ fn put_figure<A: Allocator>(
     values: &[Value],
     k: usize,
 ) -> Result<(), Halted>
-    ensures { Means result (figure t (drop k values.now) (state_in m.old)) (state_in m.new) }
+    ensures { Means result (figure t (drop k values.now) (state_in m.old)) m.new }
 {
     match values.get(k) {
         Some(v) => put_number(m, t, *v),
-        None => Err(Halted::By(Halt::Astray)),
+        None => {
+            m.why = Some(Halt::Astray);
+            Err(Halted {})
+        }
     }
 }
 
@@ -99,12 +111,12 @@ fn unit_at(format: &[u8], i: usize) -> Unit
 }
 
 /// The pieces of a format, with these values for its figures.
-pub fn print_pieces<A: Allocator>(
+pub(crate) fn print_pieces<A: Allocator>(
     m: &mut Machine<A>,
     format: &[u8],
     values: &[Value],
 ) -> Result<(), Halted>
-    ensures { Means result (meaning.print_pieces (pieces format.now) values.now (state_in m.old)) (state_in m.new) }
+    ensures { Means result (meaning.print_pieces (pieces format.now) values.now (state_in m.old)) m.new }
 {
     let mut begun = false;
     let mut k = 0;

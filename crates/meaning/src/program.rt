@@ -10,7 +10,7 @@ use syntax::tree::Unit;
 
 /// A program that runs, with at most so many cells as an accepted one has.
 #[derive(Drop)]
-pub struct Source<'p, A: Allocator> {
+pub(crate) struct Source<'p, A: Allocator> {
     pub alloc: A,
     pub unit: &'p Unit<A>,
     ghost small: { total_cells (globals (program_of unit.now)) ≤ 4096 },

@@ -2,15 +2,15 @@ use Rattle.std.proofs.Common.{◌≡◌, ◌+◌, Err, arith}
 use Rattle.syntax.specs.Formats.{pieces}
 use Rattle.syntax.specs.Meaning.{print_pieces}
 use Rattle.meaning.specs.Machine.{state_in, halt_of}
-use Rattle.meaning.proofs.Stops.{err_of, stops_answer}
+use Rattle.meaning.proofs.Stops.{err_of, stops_as}
 use Rattle.meaning.proofs.Printed.{byte_goes, byte_stops, figure_goes}
 use Rattle.meaning.proofs.print.print_pieces.Goals as goal
 
 pub returns-in_err-put_byte-in-Byte : goal.returns-in_err-put_byte-in-Byte
 returns-in_err-put_byte-in-Byte g c =
     let is : c.from_residual.result ≡ Err c.in_err-put_byte-in-Byte.field-0.0 = err_of c.from_residual.result c.in_err-put_byte-in-Byte.field-0.0 c.from_residual.ensures.1 in
-    stops_answer c.from_residual.result c.in_err-put_byte-in-Byte.field-0.0 _ (state_in c.put_byte.new.m) is
-    (λ d. byte_stops c.args.format.now c.args.values.now c.bytes.begun c.bytes.i c.bytes.k (state_in c.bytes.m) (print_pieces (pieces c.args.format.now) c.args.values.now (state_in c.args.m.now)) c.in-Byte.c c.in-Byte.next (state_in c.put_byte.new.m) (halt_of c.in_err-put_byte-in-Byte.field-0.0) c.bytes.invariant.value c.in-Byte.ensures.is (c.in_err-put_byte-in-Byte.ensures d))
+    stops_as (λ u. u) c.from_residual.result c.in_err-put_byte-in-Byte.field-0.0 _ c.put_byte.new.m is
+    (λ d. byte_stops c.args.format.now c.args.values.now c.bytes.begun c.bytes.i c.bytes.k (state_in c.bytes.m) (print_pieces (pieces c.args.format.now) c.args.values.now (state_in c.args.m.now)) c.in-Byte.c c.in-Byte.next (state_in c.put_byte.new.m) (halt_of c.put_byte.new.m.why) c.bytes.invariant.value c.in-Byte.ensures.is (c.in_err-put_byte-in-Byte.ensures d))
 
 pub bytes-preserved-in-Byte : goal.bytes-preserved-in-Byte
 bytes-preserved-in-Byte g c = record {

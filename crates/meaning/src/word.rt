@@ -1,0 +1,92 @@
+//! Values in one register.
+
+ghost use Rattle.std.specs.Prelude.{◌≡◌, ◌<◌, ◌^◌, pos};
+ghost use Rattle.syntax.specs.Numbers.{converted, flag as flag_due, is_zero as is_zero_due, word_of};
+ghost use Rattle.meaning.specs.Word.{value_of};
+
+use crate::arithmetic::convert;
+use lex::token::Scalar;
+use syntax::numbers::Value;
+
+/// A value in 64 bits without a gap: its word, and above it 1 where it is unsigned.
+#[derive(Clone, Copy, Debug)]
+pub(crate) struct Word {
+    bits: u64,
+}
+
+/// The value of this type with this word.
+#[inline(always)]
+#[tactic(auto, unfolding(crate::specs::Word::value_of))]
+pub(crate) fn pack(of: Scalar, word: u32) -> Word
+    ensures { value_of result ≡ record { of = of; word = word } }
+{
+    let low = u64::from(word);
+    match of {
+        Scalar::Int => Word { bits: low },
+        Scalar::Unsigned => Word {
+            bits: low + 4294967296,
+        },
+    }
+}
+
+/// The value, its type and its word side by side.
+#[inline(always)]
+#[tactic(auto, unfolding(crate::specs::Word::value_of))]
+pub(crate) fn unpack(w: Word) -> Value
+    ensures value { result ≡ value_of w }
+    ensures fits { result.word < 2 ^ 32 }
+{
+    let word = w.bits % 4294967296;
+    if w.bits < 4294967296 {
+        Value {
+            of: Scalar::Int,
+            word,
+        }
+    } else {
+        Value {
+            of: Scalar::Unsigned,
+            word,
+        }
+    }
+}
+
+/// A value whose word fits.
+#[inline(always)]
+pub(crate) fn packed(v: Value) -> Word
+    requires { v.word < 2 ^ 32 }
+    ensures { value_of result ≡ v }
+{
+    pack(v.of, v.word as u32)
+}
+
+/// The value of a constant.
+#[inline(always)]
+pub(crate) fn constant(n: u32, of: Scalar) -> Word
+    ensures { value_of result ≡ record { of = of; word = word_of (pos n) } }
+{
+    pack(of, n)
+}
+
+/// Whether a value is 0.
+#[inline(always)]
+pub(crate) fn is_zero(w: Word) -> bool
+    ensures { result ≡ is_zero_due (value_of w) }
+{
+    unpack(w).word == 0
+}
+
+/// An `int` that is 0 or 1.
+#[inline(always)]
+pub(crate) fn flag(b: bool) -> Word
+    ensures { value_of result ≡ flag_due b }
+{
+    pack(Scalar::Int, u32::from(b))
+}
+
+/// A value of the type, with the number modulo 2^32.
+#[inline(always)]
+pub(crate) fn convert_word(t: Scalar, w: Word) -> Word
+    ensures { value_of result ≡ converted t (value_of w) }
+{
+    packed(convert(t, unpack(w)))
+}
