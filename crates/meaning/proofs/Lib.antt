@@ -1,5 +1,11 @@
+pub mod Bodies
+pub mod Deeper
+pub mod Elements
 pub mod Entering
 pub mod Files
 pub mod Lookup
+pub mod Loops
+pub mod Parts
 pub mod Printed
+pub mod Steps
 pub mod Stops

@@ -5,5 +5,9 @@ pub mod File
 pub mod Word
 -- the state that a machine holds, and what answers say
 pub mod Machine
+-- how a call begins
+pub mod Calls
+-- what the trees do
+pub mod Does
 -- what prints a format byte by byte
 pub mod Printing

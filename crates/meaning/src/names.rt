@@ -1,6 +1,6 @@
 //! What the names of a file stand for.
 
-ghost use Rattle.std.specs.Prelude.{◌≡◌, ◌+◌, ◌≤◌, ◌^◌, ◌++◌, ◌∷◌, List, map, option_map, IfErr};
+ghost use Rattle.std.specs.Prelude.{◌≡◌, ◌+◌, ◌≤◌, ◌^◌, ◌++◌, ◌∷◌, List, map, option_map, IfErr, IfOk, IfSome};
 ghost use Rattle.std.specs.Option.{option_or};
 ghost use Rattle.syntax.specs.Tree as tree;
 ghost use Rattle.syntax.specs.Names as Names;
@@ -53,6 +53,7 @@ fn among<'p, A: Allocator>(
     requires { first + total_cells (map global_of gs.now) ≤ 2 ^ 32 }
     ensures value { (rest : List tree.Global) → found_or result rest name.now ≡ Names.global_from first (map global_of gs.now ++ rest) name.now }
     ensures next { IfErr result (λ n. n ≡ first + total_cells (map global_of gs.now)) }
+    ensures low { IfOk result (λ g. g.cell ≤ 2 ^ 32) }
 {
     let mut cell = first;
     'globals: for g in gs {
@@ -73,6 +74,7 @@ fn shared_by<'p, A: Allocator>(
     requires { first + total_cells (Names.shared_by (item_of item.now)) ≤ 2 ^ 32 }
     ensures value { (rest : List tree.Global) → found_or result rest name.now ≡ Names.global_from first (Names.shared_by (item_of item.now) ++ rest) name.now }
     ensures next { IfErr result (λ n. n ≡ first + total_cells (Names.shared_by (item_of item.now))) }
+    ensures low { IfOk result (λ g. g.cell ≤ 2 ^ 32) }
 {
     match item {
         Item::Function(_) => Err(first),
@@ -83,7 +85,8 @@ fn shared_by<'p, A: Allocator>(
 /// A global of the file, with its first cell.
 pub(crate) fn global<'p, A: Allocator>(items: &'p [Item<A>], name: &str) -> Option<Shared<'p, A>>
     requires { total_cells (globals (map item_of items.now)) ≤ 2 ^ 32 }
-    ensures { option_map shared_in result ≡ Names.global_of (map item_of items.now) name.now }
+    ensures value { option_map shared_in result ≡ Names.global_of (map item_of items.now) name.now }
+    ensures low { IfSome result (λ g. g.cell ≤ 2 ^ 32) }
 {
     let mut cell = 0;
     'items: for item in items {

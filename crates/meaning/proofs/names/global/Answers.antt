@@ -13,8 +13,8 @@ shared_by-requires g c =
     let more = items_more (λ items. total_cells (globals items)) c.args.items.now c.items.item-index c.item-item.result c.items-test.true c.item-item.is in
     omega (arith, c.items.invariant.cells, more, total_append here rest, c.requires)
 
-pub returns-in-Ok : goal.returns-in-Ok
-returns-in-Ok g c =
+pub returns-in-Ok-clause-value : goal.returns-in-Ok-clause-value
+returns-in-Ok-clause-value g c =
     let rest = globals (map item_of (drop (c.items.item-index + 1) c.args.items.now)) in
     sym (ap (λ r. found_or r rest c.args.name.now) c.in-Ok.is) ∙ c.shared_by.ensures.value rest
     ∙ sym (items_more (λ items. global_from c.items.cell (globals items) c.args.name.now) c.args.items.now c.items.item-index c.item-item.result c.items-test.true c.item-item.is) ∙ c.items.invariant.value

@@ -1,0 +1,158 @@
+-- Loops over parts of a tree, and turns of a loop, from one to the next.
+use Rattle.std.proofs.Common.{◌≡◌, ℕ, zero, suc, ◌+◌, ◌-◌, ◌<◌, ◌≤◌, List, [], ◌∷◌, ◌++◌, length, map, take, drop, get_or, Option, Some, None, option_map, refl, sym, ap, ◌∙◌, append_assoc, arith}
+use Rattle.std.proofs.lemmas.List.{at_drop_more, at_drop_all, length-map, append-nil}
+use Rattle.syntax.specs.declared.tree.Expr as E
+use Rattle.syntax.specs.declared.tree.Stmt as S
+use Rattle.syntax.specs.declared.tree.Declarator as R
+use Rattle.syntax.specs.declared.numbers.Value.{Value}
+use Rattle.syntax.specs.declared.numbers.Halt.{Halt}
+use Rattle.syntax.specs.declared.numbers.Halt.TheVariants.{Spent}
+use Rattle.syntax.specs.Tree.{Program, Scalar}
+use Rattle.syntax.specs.Views.{expr_of, exprs_of, stmt_of, stmts_of, declarator_of}
+use Rattle.syntax.specs.Names.{Local}
+use Rattle.syntax.specs.Actions.{State, Answer, Gives, Stops, Action, pure, go_on, tick, ◌>>=◌}
+use Rattle.syntax.specs.Meaning.{Caller, End, Next, expr, exprs, stmt, stmts, declare, scoped, on_next, after_turn, turns, loop}
+use Rattle.meaning.specs.declared.machine.End.{End as OwnEnd}
+use Rattle.meaning.specs.declared.machine.End.TheVariants as end
+use Rattle.meaning.specs.Machine.{end_of}
+use Rattle.meaning.specs.Does.{declared_one, joined_to}
+
+-- a part that gives something, and one that stops
+pub after : {X Y : Type 0} (r : Answer X) (rest : X → Action Y) (x : X) (s : State) → r ≡ Gives x s → go_on r rest ≡ rest x s
+after r rest x s e = ap (λ q. go_on q rest) e
+
+pub halts : {X Y : Type 0} (r : Answer X) (rest : X → Action Y) (why : Halt) (s : State) → r ≡ Stops why s → go_on r rest ≡ Stops why s
+halts r rest why s e = ap (λ q. go_on q rest) e
+
+-- an end that is not the next statement's
+pub left_at : (rest : Action End) (e : OwnEnd) (s : State) → (e ≡ end.Next → ⊥) → on_next rest (end_of e) s ≡ Gives (end_of e) s
+left_at rest end.Next s differs = absurd (differs refl)
+left_at rest end.Breaks s differs = refl
+left_at rest end.Continues s differs = refl
+left_at rest (end.Returns w) s differs = refl
+left_at rest end.Cancels s differs = refl
+
+joins : (us : List Value) (v : Value) (r : Answer (List Value)) → go_on (go_on r (λ vs. pure (v ∷ vs))) (joined_to us) ≡ go_on r (joined_to (us ++ v ∷ []))
+joins us v (Gives vs s) = ap (λ xs. Gives xs s) (sym (append_assoc us (v ∷ []) vs))
+joins us v (Stops why s) = refl
+
+joined_nothing : (r : Answer (List Value)) → go_on r (joined_to []) ≡ r
+joined_nothing (Gives vs now) = refl
+joined_nothing (Stops why now) = refl
+
+module _ {A : Type 0} (p : Program) (call : Caller) where
+  -- the statements that are left
+  pub stmts_more : (ss : List (S.Stmt A)) (i : ℕ) (x : S.Stmt A) (s : State) → i < length ss → x ≡ get_or ss i x →
+      stmts p call (stmts_of (drop i ss)) s ≡ go_on (stmt p call (stmt_of x) s) (on_next (stmts p call (stmts_of (drop (i + 1) ss))))
+  stmts_more ss i x s h is =
+      at_drop_more (λ xs. stmts p call (stmts_of xs) s) ss i x h
+      ∙ ap (λ y. go_on (stmt p call (stmt_of y) s) (on_next (stmts p call (stmts_of (drop (i + 1) ss))))) (sym is)
+
+  pub stmts_next : (ss : List (S.Stmt A)) (i : ℕ) (x : S.Stmt A) (s now : State) (e : OwnEnd) (whole : Answer End) → i < length ss → x ≡ get_or ss i x →
+      stmts p call (stmts_of (drop i ss)) s ≡ whole → stmt p call (stmt_of x) s ≡ Gives (end_of e) now → e ≡ end.Next → stmts p call (stmts_of (drop (i + 1) ss)) now ≡ whole
+  stmts_next ss i x s now e whole h is inv d next =
+      sym (stmts_more ss i x s h is ∙ after _ (on_next (stmts p call (stmts_of (drop (i + 1) ss)))) (end_of e) now d ∙ ap (λ k. on_next (stmts p call (stmts_of (drop (i + 1) ss))) (end_of k) now) next) ∙ inv
+
+  pub stmts_left : (ss : List (S.Stmt A)) (i : ℕ) (x : S.Stmt A) (s now : State) (e : OwnEnd) (whole : Answer End) → i < length ss → x ≡ get_or ss i x →
+      stmts p call (stmts_of (drop i ss)) s ≡ whole → stmt p call (stmt_of x) s ≡ Gives (end_of e) now → (e ≡ end.Next → ⊥) → whole ≡ Gives (end_of e) now
+  stmts_left ss i x s now e whole h is inv d differs =
+      sym inv ∙ stmts_more ss i x s h is ∙ after _ (on_next (stmts p call (stmts_of (drop (i + 1) ss)))) (end_of e) now d ∙ left_at (stmts p call (stmts_of (drop (i + 1) ss))) e now differs
+
+  pub stmts_halt : (ss : List (S.Stmt A)) (i : ℕ) (x : S.Stmt A) (s now : State) (why : Halt) (whole : Answer End) → i < length ss → x ≡ get_or ss i x →
+      stmts p call (stmts_of (drop i ss)) s ≡ whole → stmt p call (stmt_of x) s ≡ Stops why now → whole ≡ Stops why now
+  stmts_halt ss i x s now why whole h is inv d =
+      sym inv ∙ stmts_more ss i x s h is ∙ halts _ (on_next (stmts p call (stmts_of (drop (i + 1) ss)))) why now d
+
+  pub stmts_end : (ss : List (S.Stmt A)) (i : ℕ) (s : State) (whole : Answer End) → length ss ≤ i → stmts p call (stmts_of (drop i ss)) s ≡ whole → whole ≡ Gives Next s
+  stmts_end ss i s whole h inv = sym inv ∙ at_drop_all (λ xs. stmts p call (stmts_of xs) s) ss i h
+
+  -- the arguments that are left
+  exprs_more : (es : List (E.Expr A)) (i : ℕ) (x : E.Expr A) (s : State) → i < length es → x ≡ get_or es i x →
+      exprs p call (exprs_of (drop i es)) s ≡ go_on (expr p call (expr_of x) s) (λ v. exprs p call (exprs_of (drop (i + 1) es)) >>= (λ vs. pure (v ∷ vs)))
+  exprs_more es i x s h is =
+      at_drop_more (λ xs. exprs p call (exprs_of xs) s) es i x h
+      ∙ ap (λ y. go_on (expr p call (expr_of y) s) (λ v. exprs p call (exprs_of (drop (i + 1) es)) >>= (λ vs. pure (v ∷ vs)))) (sym is)
+
+  pub values_next : (es : List (E.Expr A)) (i : ℕ) (x : E.Expr A) (s now : State) (us vs : List Value) (v : Value) (whole : Answer (List Value)) → i < length es → x ≡ get_or es i x →
+      go_on (exprs p call (exprs_of (drop i es)) s) (joined_to us) ≡ whole → expr p call (expr_of x) s ≡ Gives v now → vs ≡ us ++ v ∷ [] →
+      go_on (exprs p call (exprs_of (drop (i + 1) es)) now) (joined_to vs) ≡ whole
+  values_next es i x s now us vs v whole h is inv d grown =
+      ap (λ xs. go_on (exprs p call (exprs_of (drop (i + 1) es)) now) (joined_to xs)) grown
+      ∙ sym (joins us v (exprs p call (exprs_of (drop (i + 1) es)) now))
+      ∙ sym (ap (λ r. go_on r (joined_to us)) (exprs_more es i x s h is ∙ after _ (λ w. exprs p call (exprs_of (drop (i + 1) es)) >>= (λ ws. pure (w ∷ ws))) v now d))
+      ∙ inv
+
+  pub values_halt : (es : List (E.Expr A)) (i : ℕ) (x : E.Expr A) (s now : State) (us : List Value) (why : Halt) (whole : Answer (List Value)) → i < length es → x ≡ get_or es i x →
+      go_on (exprs p call (exprs_of (drop i es)) s) (joined_to us) ≡ whole → expr p call (expr_of x) s ≡ Stops why now → whole ≡ Stops why now
+  values_halt es i x s now us why whole h is inv d =
+      sym inv ∙ ap (λ r. go_on r (joined_to us)) (exprs_more es i x s h is ∙ halts _ (λ w. exprs p call (exprs_of (drop (i + 1) es)) >>= (λ ws. pure (w ∷ ws))) why now d)
+
+  pub values_end : (es : List (E.Expr A)) (i : ℕ) (s : State) (us : List Value) (whole : Answer (List Value)) → length es ≤ i →
+      go_on (exprs p call (exprs_of (drop i es)) s) (joined_to us) ≡ whole → whole ≡ Gives us s
+  values_end es i s us whole h inv =
+      sym inv ∙ at_drop_all (λ xs. go_on (exprs p call (exprs_of xs) s) (joined_to us)) es i h ∙ ap (λ xs. Gives xs s) (append-nil us)
+
+  pub values_start : (es : List (E.Expr A)) (s : State) → go_on (exprs p call (exprs_of es) s) (joined_to []) ≡ exprs p call (exprs_of es) s
+  values_start es s = joined_nothing (exprs p call (exprs_of es) s)
+
+  -- the declarators that are left
+  declare_more : (t : Scalar) (ds : List (R.Declarator A)) (i : ℕ) (x : R.Declarator A) (s : State) → i < length ds → x ≡ get_or ds i x →
+      declare p call t (map declarator_of (drop i ds)) s ≡ go_on (declared_one p call t (declarator_of x) s) (λ _. declare p call t (map declarator_of (drop (i + 1) ds)))
+  declare_more t ds i x s h is =
+      at_drop_more (λ xs. declare p call t (map declarator_of xs) s) ds i x h
+      ∙ ap (λ y. go_on (declared_one p call t (declarator_of y) s) (λ _. declare p call t (map declarator_of (drop (i + 1) ds)))) (sym is)
+
+  pub declare_next : (t : Scalar) (ds : List (R.Declarator A)) (i : ℕ) (x : R.Declarator A) (s now : State) (u : Unit {0}) (whole : Answer End) → i < length ds → x ≡ get_or ds i x →
+      declare p call t (map declarator_of (drop i ds)) s ≡ whole → declared_one p call t (declarator_of x) s ≡ Gives u now →
+      declare p call t (map declarator_of (drop (i + 1) ds)) now ≡ whole
+  declare_next t ds i x s now u whole h is inv d =
+      sym (declare_more t ds i x s h is ∙ after _ (λ _. declare p call t (map declarator_of (drop (i + 1) ds))) u now d) ∙ inv
+
+  pub declare_halt : (t : Scalar) (ds : List (R.Declarator A)) (i : ℕ) (x : R.Declarator A) (s now : State) (why : Halt) (whole : Answer End) → i < length ds → x ≡ get_or ds i x →
+      declare p call t (map declarator_of (drop i ds)) s ≡ whole → declared_one p call t (declarator_of x) s ≡ Stops why now → whole ≡ Stops why now
+  declare_halt t ds i x s now why whole h is inv d =
+      sym inv ∙ declare_more t ds i x s h is ∙ halts _ (λ _. declare p call t (map declarator_of (drop (i + 1) ds))) why now d
+
+  pub declare_end : (t : Scalar) (ds : List (R.Declarator A)) (i : ℕ) (s : State) (whole : Answer End) → length ds ≤ i →
+      declare p call t (map declarator_of (drop i ds)) s ≡ whole → whole ≡ Gives Next s
+  declare_end t ds i s whole h inv = sym inv ∙ at_drop_all (λ xs. declare p call t (map declarator_of xs) s) ds i h
+
+-- a stretch that gives something drops the names behind those of before
+pub scoped_gives : (run : Action End) (s now : State) (e : End) (ls : List Local) → run s ≡ Gives e now → take (length s.locals) now.locals ≡ ls → scoped run s ≡ Gives e (record now { locals = ls })
+scoped_gives run s now e ls h k =
+    ap (λ q. go_on q (λ end now. Gives end (record now { locals = take (length s.locals) now.locals }))) h ∙ ap (λ ks. Gives e (record now { locals = ks })) k
+
+pub scoped_stops : (run : Action End) (s now : State) (why : Halt) → run s ≡ Stops why now → scoped run s ≡ Stops why now
+scoped_stops run s now why h = ap (λ q. go_on q (λ end now. Gives end (record now { locals = take (length s.locals) now.locals }))) h
+
+take_map : {X Y : Type 0} (f : X → Y) (n : ℕ) (xs : List X) → take n (map f xs) ≡ map f (take n xs)
+take_map f zero xs = refl
+take_map f (suc n) [] = refl
+take_map f (suc n) (x ∷ xs) = ap (λ ys. f x ∷ ys) (take_map f n xs)
+
+pub truncated : {X Y : Type 0} (f : X → Y) (xs ys zs : List X) (n : ℕ) → n ≡ length xs → zs ≡ take n ys → take (length (map f xs)) (map f ys) ≡ map f zs
+truncated f xs ys zs n e k = ap (λ i. take i (map f ys)) (length-map xs f ∙ sym e) ∙ take_map f n ys ∙ ap (map f) (sym k)
+
+-- turns of a loop: what is left of them, after a tick
+module _ (turn : Action (Option End)) (n k : ℕ) (s now : State) (whole : Answer End) where
+  next_turn : turns n turn s ≡ whole → n ≡ suc k → whole ≡ go_on (tick s) (λ _. turn >>= after_turn (turns k turn))
+  next_turn inv more = sym inv ∙ ap (λ i. turns i turn s) more
+
+  pub turns_spent : (why : Halt) → turns n turn s ≡ whole → n ≡ suc k → tick s ≡ Stops why now → whole ≡ Stops why now
+  turns_spent why inv more t = next_turn inv more ∙ halts _ (λ _. turn >>= after_turn (turns k turn)) why now t
+
+  pub turns_none : turns n turn s ≡ whole → n ≡ 0 → whole ≡ Stops Spent s
+  turns_none inv none = sym inv ∙ ap (λ i. turns i turn s) none
+
+  module _ (u : Unit {0}) (then_ : State) (inv : turns n turn s ≡ whole) (more : n ≡ suc k) (t : tick s ≡ Gives u then_) where
+    ticked : whole ≡ go_on (turn then_) (after_turn (turns k turn))
+    ticked = next_turn inv more ∙ after _ (λ _. turn >>= after_turn (turns k turn)) u then_ t
+
+    pub turns_next : (o : Option OwnEnd) → turn then_ ≡ Gives (option_map end_of o) now → o ≡ None → turns k turn now ≡ whole
+    turns_next o d none = sym (ticked ∙ after _ (after_turn (turns k turn)) (option_map end_of o) now d ∙ ap (λ x. after_turn (turns k turn) (option_map end_of x) now) none)
+
+    pub turns_ended : (o : Option OwnEnd) (e : OwnEnd) → turn then_ ≡ Gives (option_map end_of o) now → o ≡ Some e → whole ≡ Gives (end_of e) now
+    turns_ended o e d some = ticked ∙ after _ (after_turn (turns k turn)) (option_map end_of o) now d ∙ ap (λ x. after_turn (turns k turn) (option_map end_of x) now) some
+
+    pub turns_stopped : (why : Halt) → turn then_ ≡ Stops why now → whole ≡ Stops why now
+    turns_stopped why d = ticked ∙ halts _ (after_turn (turns k turn)) why now d

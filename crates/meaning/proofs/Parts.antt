@@ -1,0 +1,55 @@
+-- The clean tree of a node, by the parts that are read of it.
+use Rattle.std.proofs.Common.{◌≡◌, ℕ, List, Option, Some, None, Bool, true, false, map, option_map, refl, sym, ap, ◌∙◌}
+use Rattle.lex.specs.declared.token.Span.{Span}
+use Rattle.syntax.specs.declared.tree.LogicalOp.{LogicalOp}
+use Rattle.syntax.specs.declared.tree.Mode.{Mode}
+use Rattle.syntax.specs.declared.tree.Name as N
+use Rattle.syntax.specs.declared.tree.Expr as E
+use Rattle.syntax.specs.declared.tree.Declaration as D
+use Rattle.syntax.specs.declared.tree.Declarator as R
+use Rattle.syntax.specs.declared.tree.ForHead as H
+use Rattle.syntax.specs.declared.tree.Stmt as S
+use Rattle.syntax.specs.Tree as Tree
+use Rattle.syntax.specs.Views.{name_of, expr_of, exprs_of, simple_of, declarator_of, start_of, stmt_of, stmts_of}
+use Rattle.syntax.proofs.Seen.{expr_of_call, expr_of_logical, expr_of_conditional, stmt_of_declare, stmt_of_block, stmt_of_print, stmt_of_while, stmt_of_do_while, stmt_of_for, stmt_of_return, stmt_of_transaction}
+
+module _ {A : Type 0} where
+  pub call_is : (e : E.Expr A) (f : N.Name A) (es es' : List (E.Expr A)) (at : Span) → e ≡ E.Call f es at → es' ≡ es → expr_of e ≡ Tree.Call (name_of f) (exprs_of es') at
+  call_is e f es es' at is a = ap expr_of is ∙ expr_of_call f es at ∙ ap (λ y. Tree.Call (name_of f) (exprs_of y) at) (sym a)
+
+  pub logical_is : (e : E.Expr A) (op : LogicalOp) (a b a' b' : E.Expr A) (at : Span) → e ≡ E.Logical op a b at → a' ≡ a → b' ≡ b → expr_of e ≡ Tree.Logical op (expr_of a') (expr_of b') at
+  logical_is e op a b a' b' at is f g =
+      ap expr_of is ∙ expr_of_logical op a b at ∙ ap (λ y. Tree.Logical op (expr_of y) (expr_of b) at) (sym f) ∙ ap (λ y. Tree.Logical op (expr_of a') (expr_of y) at) (sym g)
+
+  pub conditional_is : (e c a b c' a' b' : E.Expr A) (at : Span) → e ≡ E.Conditional c a b at → c' ≡ c → a' ≡ a → b' ≡ b → expr_of e ≡ Tree.Conditional (expr_of c') (expr_of a') (expr_of b') at
+  conditional_is e c a b c' a' b' at is k f g =
+      ap expr_of is ∙ expr_of_conditional c a b at ∙ ap (λ y. Tree.Conditional (expr_of y) (expr_of a) (expr_of b) at) (sym k)
+      ∙ ap (λ y. Tree.Conditional (expr_of c') (expr_of y) (expr_of b) at) (sym f) ∙ ap (λ y. Tree.Conditional (expr_of c') (expr_of a') (expr_of y) at) (sym g)
+
+  pub declare_is : (s : S.Stmt A) (d : D.Declaration A) (ds : List (R.Declarator A)) → s ≡ S.Declare d → ds ≡ d.declarators → stmt_of s ≡ Tree.Declare (record { of = d.of; declarators = map declarator_of ds })
+  declare_is s d ds is a = ap stmt_of is ∙ stmt_of_declare d ∙ ap (λ y. Tree.Declare (record { of = d.of; declarators = map declarator_of y })) (sym a)
+
+  pub block_is : (s : S.Stmt A) (ss ss' : List (S.Stmt A)) → s ≡ S.Block ss → ss' ≡ ss → stmt_of s ≡ Tree.Block (stmts_of ss')
+  block_is s ss ss' is a = ap stmt_of is ∙ stmt_of_block ss ∙ ap (λ y. Tree.Block (stmts_of y)) (sym a)
+
+  pub print_is : (s : S.Stmt A) (at : Span) (text text' : List ℕ) (text_at : Span) (es es' : List (E.Expr A)) → s ≡ S.Print at text text_at es → text' ≡ text → es' ≡ es → stmt_of s ≡ Tree.Print at text' text_at (exprs_of es')
+  print_is s at text text' text_at es es' is t a =
+      ap stmt_of is ∙ stmt_of_print at text text_at es ∙ ap (λ y. Tree.Print at y text_at (exprs_of es)) (sym t) ∙ ap (λ y. Tree.Print at text' text_at (exprs_of y)) (sym a)
+
+  pub while_is : (s : S.Stmt A) (c : E.Expr A) (a a' : S.Stmt A) → s ≡ S.While c a → a' ≡ a → stmt_of s ≡ Tree.While (expr_of c) (stmt_of a')
+  while_is s c a a' is k = ap stmt_of is ∙ stmt_of_while c a ∙ ap (λ y. Tree.While (expr_of c) (stmt_of y)) (sym k)
+
+  pub do_while_is : (s : S.Stmt A) (a a' : S.Stmt A) (c : E.Expr A) → s ≡ S.DoWhile a c → a' ≡ a → stmt_of s ≡ Tree.DoWhile (stmt_of a') (expr_of c)
+  do_while_is s a a' c is k = ap stmt_of is ∙ stmt_of_do_while a c ∙ ap (λ y. Tree.DoWhile (stmt_of y) (expr_of c)) (sym k)
+
+  pub for_is : (s : S.Stmt A) (head head' : H.ForHead A) (a a' : S.Stmt A) → s ≡ S.For head a → head' ≡ head → a' ≡ a →
+      stmt_of s ≡ Tree.For (start_of head'.start) (option_map expr_of head'.condition) (option_map simple_of head'.step) (stmt_of a')
+  for_is s head head' a a' is h k =
+      ap stmt_of is ∙ stmt_of_for head a ∙ ap (λ y. Tree.For (start_of y.start) (option_map expr_of y.condition) (option_map simple_of y.step) (stmt_of a)) (sym h)
+      ∙ ap (λ y. Tree.For (start_of head'.start) (option_map expr_of head'.condition) (option_map simple_of head'.step) (stmt_of y)) (sym k)
+
+  pub return_is : (s : S.Stmt A) (e : Option (E.Expr A)) (at : Span) → s ≡ S.Return e at → stmt_of s ≡ Tree.Return (option_map expr_of e) at
+  return_is s e at is = ap stmt_of is ∙ stmt_of_return e at
+
+  pub transaction_is : (s : S.Stmt A) (mode : Mode) (ss ss' : List (S.Stmt A)) (at : Span) → s ≡ S.Transaction mode ss at → ss' ≡ ss → stmt_of s ≡ Tree.Transaction mode (stmts_of ss') at
+  transaction_is s mode ss ss' at is a = ap stmt_of is ∙ stmt_of_transaction mode ss at ∙ ap (λ y. Tree.Transaction mode (stmts_of y) at) (sym a)

@@ -1,0 +1,125 @@
+-- What is done step by step is what the meaning says.
+use Rattle.std.proofs.Common.{◌≡◌, ℕ, ◌<◌, ◌≤◌, ◌-◌, length, take, drop, get_or, Vec, arith, suc, List, [], ◌∷◌, Option, Some, None, Bool, true, false, refl, sym, ap, ◌∙◌}
+use Rattle.std.proofs.lemmas.List.{take_all}
+use Rattle.lex.specs.declared.token.Span.{Span}
+use Rattle.syntax.specs.declared.numbers.Value.{Value}
+use Rattle.syntax.specs.declared.numbers.Halt.{Halt}
+use Rattle.syntax.specs.declared.numbers.Halt.TheVariants.{Astray}
+use Rattle.syntax.specs.declared.tree.Mode.{Mode}
+use Rattle.syntax.specs.declared.tree.Mode.TheVariants.{Atomic, Relaxed}
+use Rattle.syntax.specs.Tree.{Program, Stmt, Stmts, Exprs, Print, Function}
+use Rattle.syntax.specs.Names.{Local, definition_of}
+use Rattle.syntax.specs.Behaviours.{Memory}
+use Rattle.syntax.specs.Formats.{pieces}
+use Rattle.syntax.specs.Actions.{Context, Outside, Inside, State, Answer, Gives, Stops, Action, pure, go_on, or_astray, locals, put_locals, tick, may_print, ◌>>=◌, ◌>>◌}
+use Rattle.syntax.specs.Meaning.{Caller, End, Next, stmt, stmts, exprs, print_pieces, transaction, enter, leave, left_by, leave_inner, close, close_inner, entered, invoke, calls, result_of}
+use Rattle.meaning.specs.Calls.{Begins, begun}
+use Rattle.meaning.specs.Machine.{memories_in}
+use Rattle.meaning.specs.Does.{is_forbidden}
+use Rattle.meaning.proofs.Loops.{after, halts}
+
+-- a statement's tick, and then the rest
+pub ticks_then : (p : Program) (call : Caller) (s clean : Stmt) (run : Action End) (s0 s1 : State) (r : Answer End) →
+    s ≡ clean → stmt p call clean s0 ≡ go_on (tick s0) (λ _. run) → tick s0 ≡ Gives tt s1 → run s1 ≡ r → stmt p call s s0 ≡ r
+ticks_then p call s clean run s0 s1 r is does t d = ap (λ x. stmt p call x s0) is ∙ does ∙ ap (λ q. go_on q (λ _. run)) t ∙ d
+
+-- a print, up to its pieces
+pub print_until : (p : Program) (call : Caller) (at format_at : Span) (format : List ℕ) (es : Exprs) (s0 s1 s2 s3 : State) (vs : List Value) →
+    tick s0 ≡ Gives tt s1 → may_print s1 ≡ Gives tt s2 → exprs p call es s2 ≡ Gives vs s3 → stmt p call (Print at format format_at es) s0 ≡ go_on (print_pieces (pieces format) vs s3) (λ _. pure Next)
+print_until p call at format_at format es s0 s1 s2 s3 vs t m d =
+    after (tick s0) (λ _. may_print >> (exprs p call es >>= (λ us. print_pieces (pieces format) us >> pure Next))) tt s1 t
+    ∙ after (may_print s1) (λ _. exprs p call es >>= (λ us. print_pieces (pieces format) us >> pure Next)) tt s2 m
+    ∙ after (exprs p call es s2) (λ us. print_pieces (pieces format) us >> pure Next) vs s3 d
+
+-- a call, once it has begun
+abbrev call_rest : Program → Caller → Begins → Action Value
+call_rest p call b = do
+  outer ← locals
+  put_locals b.mine
+  end ← stmts p call b.body
+  put_locals outer
+  result_of b.of end
+
+bound_then : (p : Program) (call : Caller) (f : Function × Stmts) (o : Option (List Local)) (s : State) →
+    go_on (or_astray o s) (λ mine. call_rest p call (record { of = f.0.result; body = f.1; mine = mine })) ≡ go_on (go_on (or_astray o s) (λ mine. pure (record { of = f.0.result; body = f.1; mine = mine }))) (call_rest p call)
+bound_then p call f (Some mine) s = refl
+bound_then p call f None s = refl
+
+defined_then : (p : Program) (call : Caller) (o : Option (Function × Stmts)) (vs : List Value) (s : State) →
+    go_on (or_astray o s) (λ f. or_astray (entered f.0.parameters vs) >>= (λ mine. call_rest p call (record { of = f.0.result; body = f.1; mine = mine })))
+    ≡ go_on (go_on (or_astray o s) (λ f. or_astray (entered f.0.parameters vs) >>= (λ mine. pure (record { of = f.0.result; body = f.1; mine = mine })))) (call_rest p call)
+defined_then p call (Some f) vs s = bound_then p call f (entered f.0.parameters vs) s
+defined_then p call None vs s = refl
+
+invoke_begun : (p : Program) (call : Caller) (x : List ℕ) (vs : List Value) (s : State) → invoke p call x vs s ≡ go_on (begun p x vs s) (call_rest p call)
+invoke_begun p call x vs s = defined_then p call (definition_of p x) vs s
+
+module _ (p : Program) (n k : ℕ) (x : List ℕ) (vs : List Value) (s0 s1 : State) (b : Begins) (mine outer : List Local) (more : n ≡ suc k) (d : begun p x vs s0 ≡ Gives b s1) (bound : mine ≡ b.mine) (kept : outer ≡ s1.locals) where
+  call_begun : calls p n x vs s0 ≡ go_on (stmts p (calls p k) b.body (record s1 { locals = mine })) (λ end. put_locals outer >> result_of b.of end)
+  call_begun =
+      ap (λ i. calls p i x vs s0) more ∙ invoke_begun p (calls p k) x vs s0 ∙ after (begun p x vs s0) (call_rest p (calls p k)) b s1 d
+      ∙ ap (λ ls. go_on (stmts p (calls p k) b.body (record s1 { locals = ls })) (λ end. put_locals s1.locals >> result_of b.of end)) (sym bound)
+      ∙ ap (λ ls. go_on (stmts p (calls p k) b.body (record s1 { locals = mine })) (λ end. put_locals ls >> result_of b.of end)) (sym kept)
+
+  pub call_gives : (s2 : State) (e : End) (r : Answer Value) → stmts p (calls p k) b.body (record s1 { locals = mine }) ≡ Gives e s2 → result_of b.of e (record s2 { locals = outer }) ≡ r → calls p n x vs s0 ≡ r
+  call_gives s2 e r h g = call_begun ∙ after _ (λ end. put_locals outer >> result_of b.of end) e s2 h ∙ g
+
+  pub call_stops : (s2 : State) (why : Halt) → stmts p (calls p k) b.body (record s1 { locals = mine }) ≡ Stops why s2 → calls p n x vs s0 ≡ Stops why s2
+  call_stops s2 why h = call_begun ∙ halts _ (λ end. put_locals outer >> result_of b.of end) why s2 h
+
+pub call_halts : (p : Program) (n k : ℕ) (x : List ℕ) (vs : List Value) (s0 s1 : State) (why : Halt) → n ≡ suc k → begun p x vs s0 ≡ Stops why s1 → calls p n x vs s0 ≡ Stops why s1
+call_halts p n k x vs s0 s1 why more d = ap (λ i. calls p i x vs s0) more ∙ invoke_begun p (calls p k) x vs s0 ∙ halts (begun p x vs s0) (call_rest p (calls p k)) why s1 d
+
+-- transactions
+pub transaction_at : (mode : Mode) (run : Action End) (s : State) (before : Context) (r : Answer End) → s.context ≡ before → enter before mode run (record s { context = before }) ≡ r → transaction mode run s ≡ r
+transaction_at mode run s before r is d = ap (λ k. enter k mode run (record s { context = k })) is ∙ d
+
+pub outermost_none : (mode : Mode) (founds lefts : List Memory) (run : Action End) (s : State) (r : Answer End) → founds ≡ [] → enter (Outside [] lefts) mode run s ≡ r → enter (Outside founds lefts) mode run s ≡ r
+outermost_none mode founds lefts run s r none d = ap (λ ms. enter (Outside ms lefts) mode run s) none ∙ d
+
+module _ (mode : Mode) (all founds lefts : List Memory) (found memory : Memory) (run : Action End) (s now : State) (is : all ≡ found ∷ founds) (copied : memory ≡ found) where
+  pub outermost_gives : (mine : List Local) (e : End) (r : Answer End) → mine ≡ s.locals → run (record s { context = Inside mode memory }) ≡ Gives e now → leave founds lefts (left_by mine found e now) now ≡ r → enter (Outside all lefts) mode run s ≡ r
+  outermost_gives mine e r same h d =
+      ap (λ ms. enter (Outside ms lefts) mode run s) is
+      ∙ ap (λ m. close founds lefts s.locals found (run (record s { context = Inside mode m }))) (sym copied)
+      ∙ ap (close founds lefts s.locals found) h ∙ ap (λ ls. leave founds lefts (left_by ls found e now) now) (sym same) ∙ d
+
+  pub outermost_stops : (why : Halt) (r : Answer End) → run (record s { context = Inside mode memory }) ≡ Stops why now → close founds lefts s.locals found (Stops why now) ≡ r → enter (Outside all lefts) mode run s ≡ r
+  outermost_stops why r h d =
+      ap (λ ms. enter (Outside ms lefts) mode run s) is
+      ∙ ap (λ m. close founds lefts s.locals found (run (record s { context = Inside mode m }))) (sym copied)
+      ∙ ap (close founds lefts s.locals found) h ∙ d
+
+false_is_true : false ≡ true → ⊥
+false_is_true e = cc
+
+pub nested_astray : (outer mode : Mode) (found : Memory) (run : Action End) (s : State) → is_forbidden outer mode ≡ true → enter (Inside outer found) mode run s ≡ Stops Astray s
+nested_astray Atomic Relaxed found run s h = refl
+nested_astray Atomic Atomic found run s h = absurd (false_is_true h)
+nested_astray Relaxed mode found run s h = absurd (false_is_true h)
+
+inner_is : (outer mode : Mode) (found memory : Memory) (run : Action End) (s : State) → is_forbidden outer mode ≡ false → memory ≡ found →
+    enter (Inside outer found) mode run s ≡ close_inner outer s.locals found (run (record s { context = Inside mode memory }))
+inner_is Atomic Relaxed found memory run s h c = absurd (false_is_true (sym h))
+inner_is Atomic Atomic found memory run s h c = ap (λ m. close_inner Atomic s.locals found (run (record s { context = Inside Atomic m }))) (sym c)
+inner_is Relaxed mode found memory run s h c = ap (λ m. close_inner Relaxed s.locals found (run (record s { context = Inside mode m }))) (sym c)
+
+module _ (outer mode : Mode) (found memory : Memory) (run : Action End) (s now : State) (may : is_forbidden outer mode ≡ false) (copied : memory ≡ found) where
+  pub nested_gives : (mine : List Local) (e : End) (r : Answer End) → mine ≡ s.locals → run (record s { context = Inside mode memory }) ≡ Gives e now → leave_inner outer (left_by mine found e now) now ≡ r → enter (Inside outer found) mode run s ≡ r
+  nested_gives mine e r same h d =
+      inner_is outer mode found memory run s may copied ∙ ap (close_inner outer s.locals found) h ∙ ap (λ ls. leave_inner outer (left_by ls found e now) now) (sym same) ∙ d
+
+  pub nested_stops : (why : Halt) → run (record s { context = Inside mode memory }) ≡ Stops why now → enter (Inside outer found) mode run s ≡ Stops why now
+  nested_stops why h = inner_is outer mode found memory run s may copied ∙ ap (close_inner outer s.locals found) h
+
+-- the memories to be found
+module _ {A : Type 0} where
+  pub found_none : (ms : List (Vec ℕ A)) → length ms < 1 → memories_in ms ≡ []
+  found_none [] h = refl
+  found_none (m ∷ ms) h = absurd (omega (arith, h))
+
+  pub found_first : (ms : List (Vec ℕ A)) (m : Vec ℕ A) (found : Memory) → 1 ≤ length ms → m ≡ get_or ms 0 m → found ≡ m.items → memories_in ms ≡ found ∷ memories_in (take (length ms - 1) (drop 1 ms))
+  found_first [] m found h is same = absurd (omega (arith, h))
+  found_first (x ∷ ms) m found h is same =
+      let all : length ms ≤ length (x ∷ ms) - 1 = omega arith in
+      ap (λ y. y.items ∷ memories_in ms) (sym is) ∙ ap (λ y. y ∷ memories_in ms) (sym same) ∙ ap (λ ys. found ∷ memories_in ys) (sym (take_all (length (x ∷ ms) - 1) ms all))

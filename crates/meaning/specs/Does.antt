@@ -1,0 +1,98 @@
+-- What the program's own trees do, and the turns of its loops.
+use Rattle.std.specs.Prelude.{ℕ, List, map, Option, Some, None, option_map, if◌then◌else◌}
+use Rattle.syntax.specs.declared.tree.Expr.{Expr as OwnExpr}
+use Rattle.syntax.specs.declared.tree.Stmt.{Stmt as OwnStmt}
+use Rattle.syntax.specs.declared.tree.ForHead.{ForHead}
+use Rattle.syntax.specs.declared.numbers.Value.{Value}
+use Rattle.syntax.specs.Numbers.{is_zero}
+use Rattle.syntax.specs.Tree.{Program, Expr, Stmt, Simple, If, IfElse, Scalar, Declarator, Start}
+use Rattle.syntax.specs.declared.tree.Mode.{Mode}
+use Rattle.syntax.specs.declared.tree.Mode.TheVariants.{Atomic, Relaxed}
+use Rattle.syntax.specs.Views.{expr_of, simple_of, stmt_of, stmts_of}
+use Rattle.syntax.specs.Depth.{program_depth, expr_depth, stmt_depth, start_depth, optional_depth, optional_simple_depth}
+use Rattle.syntax.specs.Views.{start_of}
+use Rattle.syntax.specs.Actions.{Action, Answer, State, Gives, pure, locals, put_locals, ◌>>=◌, ◌>>◌}
+use Rattle.syntax.specs.Meaning.{Caller, End, Next, calls, expr, stmt, stmts, scoped, after_body, holds, stepped, first_value, InLocal, start_with, loop}
+use Rattle.meaning.specs.declared.machine.End.{End as OwnEnd}
+use Rattle.meaning.specs.declared.program.Source.{Source}
+use Rattle.meaning.specs.declared.run.Loop.{Loop}
+use Rattle.meaning.specs.declared.run.Loop.TheVariants as kind
+use Rattle.meaning.specs.Machine.{program_in, end_of}
+use Rattle.std.specs.Prelude.{◌+◌, ◌*◌, max, Bool, true, false, [], ◌∷◌, ◌++◌, length}
+
+-- one of two statements, or of one and nothing
+abbrev pub if_of : Expr → Stmt → Option Stmt → Stmt
+if_of c a None = If c a
+if_of c a (Some b) = IfElse c a b
+
+-- the end of the loop that a body's end is, or else what goes on
+abbrev pub left_or : Action (Option End) → Option OwnEnd → Action (Option End)
+left_or go None s = go s
+left_or go (Some e) s = Gives (Some (end_of e)) s
+
+-- one turn of a loop
+abbrev pub while_turn : Program → Caller → Expr → Stmt → Action (Option End)
+while_turn p call c a = do v ← expr p call c; if is_zero v then pure (Some Next) else (scoped (stmt p call a) >>= after_body (pure None))
+
+abbrev pub tested : Program → Caller → Expr → Action (Option End)
+tested p call c = do v ← expr p call c; pure (if is_zero v then Some Next else None)
+
+abbrev pub do_turn : Program → Caller → Stmt → Expr → Action (Option End)
+do_turn p call a c = scoped (stmt p call a) >>= after_body (tested p call c)
+
+abbrev pub for_turn : Program → Caller → Option Expr → Option Simple → Stmt → Action (Option End)
+for_turn p call c step a = do more ← holds p call c; if more then (scoped (stmt p call a) >>= after_body (stepped p call step)) else pure (Some Next)
+
+-- what a `for` begins with, and then its turns
+abbrev pub for_all : Program → Caller → Start → Option Expr → Option Simple → Stmt → Action End
+for_all p call start c step a = start_with p call start >> loop (for_turn p call c step a)
+
+-- no relaxed transaction begins inside an atomic one
+abbrev pub is_forbidden : Mode → Mode → Bool
+is_forbidden Atomic Relaxed = true
+is_forbidden outer mode = false
+
+-- one declared name: it is 0, and then its first value
+abbrev pub declared_one : Program → Caller → Scalar → Declarator → Action (Unit {0})
+declared_one p call t d = do
+  mine ← locals
+  put_locals (mine ++ record { name = d.name.text; of = t; word = 0 } ∷ [])
+  first_value p call (InLocal (length mine) t) d.first
+
+-- values behind earlier ones
+abbrev pub joined_to : List Value → List Value → Action (List Value)
+joined_to us vs = pure (us ++ vs)
+
+abbrev pub else_depth : Option Stmt → ℕ
+else_depth None = 0
+else_depth (Some b) = stmt_depth b
+
+-- how much may be done yet where so many further frames may come to live
+unfoldable pub weight : Program → ℕ → ℕ
+weight p frames = frames * (8 * program_depth p + 16)
+
+module _ {A : Type 0} where
+  abbrev pub called : Source A → ℕ → Caller
+  called source frames = calls (program_in source) frames
+
+  abbrev pub does_expr : Source A → ℕ → OwnExpr A → Action Value
+  does_expr source frames e = expr (program_in source) (called source frames) (expr_of e)
+
+  abbrev pub does_stmt : Source A → ℕ → OwnStmt A → Action End
+  does_stmt source frames s = stmt (program_in source) (called source frames) (stmt_of s)
+
+  abbrev pub does_stmts : Source A → ℕ → List (OwnStmt A) → Action End
+  does_stmts source frames ss = stmts (program_in source) (called source frames) (stmts_of ss)
+
+  abbrev pub does_turn : Source A → ℕ → Loop A → Action (Option End)
+  does_turn source frames (kind.While c a) = while_turn (program_in source) (called source frames) (expr_of c.now) (stmt_of a.now)
+  does_turn source frames (kind.DoWhile a c) = do_turn (program_in source) (called source frames) (stmt_of a.now) (expr_of c.now)
+  does_turn source frames (kind.For head a) = for_turn (program_in source) (called source frames) (option_map expr_of head.now.condition) (option_map simple_of head.now.step) (stmt_of a.now)
+
+  abbrev pub loop_depth : Loop A → ℕ
+  loop_depth (kind.While c a) = max (expr_depth (expr_of c.now)) (stmt_depth (stmt_of a.now))
+  loop_depth (kind.DoWhile a c) = max (stmt_depth (stmt_of a.now)) (expr_depth (expr_of c.now))
+  loop_depth (kind.For head a) = max (optional_depth (option_map expr_of head.now.condition)) (max (optional_simple_depth (option_map simple_of head.now.step)) (stmt_depth (stmt_of a.now)))
+
+  abbrev pub head_depth : ForHead A → OwnStmt A → ℕ
+  head_depth head a = max (max (start_depth (start_of head.start)) (optional_depth (option_map expr_of head.condition))) (max (optional_simple_depth (option_map simple_of head.step)) (stmt_depth (stmt_of a)))

@@ -1,0 +1,96 @@
+//! Where the values of names stand.
+
+ghost use Rattle.std.specs.Prelude.{map};
+ghost use Rattle.syntax.specs.Actions as act;
+ghost use Rattle.syntax.specs.Meaning as meaning;
+ghost use Rattle.syntax.specs.Tree as tree;
+ghost use Rattle.syntax.specs.Types.{common_of, type_of as type_due, running_scope};
+ghost use Rattle.syntax.specs.Numbers.{converted};
+ghost use Rattle.syntax.specs.Views.{expr_of, name_of};
+ghost use Rattle.meaning.specs.Machine.{MeansSpot, MeansWord, local_in, program_in, state_in};
+ghost use Rattle.meaning.specs.Does.{called};
+ghost use Rattle.meaning.specs.Word.{value_of};
+
+use crate::machine::{Halted, Machine, Spot, fetch, newest, spot_trap};
+use crate::names::{cells_of, common_if_both, global, type_of};
+use crate::program::Source;
+use crate::word::{Word, convert_word, unpack};
+use std::alloc::Allocator;
+use syntax::numbers::{Halt, Trap};
+use syntax::tree::{Expr, Name};
+
+/// Where the value of a name stands.
+pub(crate) fn named<'p, A: Allocator + Copy>(
+    source: &Source<'p, A>,
+    x: &Name<A>,
+    m: &mut Machine<'p, A>,
+) -> Result<Spot, Halted>
+    ensures { MeansSpot result (meaning.named (program_in source.now) (called source.now 0) x.now.text (state_in m.old)) m.new }
+{
+    if let Some((i, of)) = newest(m.locals.as_slice(), x.text.as_str()) {
+        return Ok(Spot::InLocal(i, of));
+    }
+    match global(source.unit.items.as_slice(), x.text.as_str()) {
+        Some(g) => Ok(Spot::InCell(g.cell, g.global.of)),
+        None => {
+            m.why = Some(Halt::Astray);
+            Err(Halted {})
+        }
+    }
+}
+
+/// What a variable holds.
+pub(crate) fn variable<'p, A: Allocator + Copy>(
+    source: &Source<'p, A>,
+    x: &Name<A>,
+    m: &mut Machine<'p, A>,
+) -> Result<Word, Halted>
+    ensures { MeansWord result (meaning.expr (program_in source.now) (called source.now 0) (tree.Variable (name_of x.now)) (state_in m.old)) m.new }
+{
+    let at = named(source, x, m)?;
+    fetch(m, at)
+}
+
+/// The cell of an element by its index, which is tested.
+pub(crate) fn indexed<'p, A: Allocator + Copy>(
+    source: &Source<'p, A>,
+    x: &Name<A>,
+    index: Word,
+    m: &mut Machine<'p, A>,
+) -> Result<Spot, Halted>
+    ensures { MeansSpot result (meaning.element (program_in source.now) (called source.now 0) x.now.text (value_of index) (state_in m.old)) m.new }
+{
+    let Some(g) = global(source.unit.items.as_slice(), x.text.as_str()) else {
+        m.why = Some(Halt::Astray);
+        return Err(Halted {});
+    };
+    let k = unpack(index).word as usize;
+    if k < cells_of(g.global) {
+        Ok(Spot::InCell(g.cell + k, g.global.of))
+    } else {
+        spot_trap(m, Trap::Index)
+    }
+}
+
+/// A value of the type to which two branches are converted.
+pub(crate) fn joined<'p, A: Allocator + Copy>(
+    source: &Source<'p, A>,
+    a: &Expr<A>,
+    b: &Expr<A>,
+    w: Word,
+    m: &mut Machine<'p, A>,
+) -> Result<Word, Halted>
+    ensures { MeansWord result
+        (act.go_on (act.or_astray (common_of (type_due (running_scope (program_in source.now) (state_in m.old).locals) (expr_of a.now)) (type_due (running_scope (program_in source.now) (state_in m.old).locals) (expr_of b.now))) (state_in m.old)) (λ t. act.pure (converted t (value_of w))))
+        m.new }
+{
+    let of = type_of(source, m.locals.as_slice(), a);
+    let other = type_of(source, m.locals.as_slice(), b);
+    match common_if_both(of, other) {
+        Some(t) => Ok(convert_word(t, w)),
+        None => {
+            m.why = Some(Halt::Astray);
+            Err(Halted {})
+        }
+    }
+}
