@@ -4,7 +4,7 @@ use Rattle.std.specs.Prelude.{bytes_eq, if◌then◌else◌}
 use Rattle.syntax.specs.Tree.{Program, Function, Stmts, Defines, Shares}
 use Rattle.syntax.specs.Names.{definition_of, defined}
 use Rattle.syntax.specs.Depth.{block_depth, body_depth, program_depth}
-use Rattle.meaning.specs.Does.{weight}
+use Rattle.meaning.specs.inner.Does.{weight}
 
 tested : (t : Bool) (g : Function) (body : Stmts) (rest : Option (Function × Stmts)) (f : Function × Stmts) (n : ℕ) →
     (rest ≡ Some f → block_depth f.1 ≤ n) → (if t then Some (g, body) else rest) ≡ Some f → block_depth f.1 ≤ max (block_depth body) n

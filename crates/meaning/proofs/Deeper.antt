@@ -19,7 +19,7 @@ use Rattle.syntax.specs.Tree.{Scalar}
 use Rattle.syntax.specs.Views.{expr_of, exprs_of, simple_of, declarator_of, declaration_of, start_of, stmt_of, stmts_of}
 use Rattle.syntax.specs.Depth.{expr_depth, deepest, optional_depth, simple_depth, optional_simple_depth, deepest_value, declaration_depth, start_depth, stmt_depth, block_depth}
 use Rattle.syntax.proofs.Seen.{expr_of_element, expr_of_call, expr_of_parenthesized, expr_of_cast, expr_of_unary, expr_of_binary, expr_of_logical, expr_of_conditional, stmt_of_declare, stmt_of_do, stmt_of_block, stmt_of_print, stmt_of_if, stmt_of_if_else, stmt_of_while, stmt_of_do_while, stmt_of_for, stmt_of_return, stmt_of_transaction}
-use Rattle.meaning.specs.Does.{else_depth, head_depth}
+use Rattle.meaning.specs.inner.Does.{else_depth, head_depth}
 
 one : (d part whole : ℕ) → whole ≡ part + 1 → d ≡ part → d + 1 ≤ whole
 one d part whole a b = omega (arith, a, b)

@@ -10,7 +10,7 @@ use Rattle.syntax.specs.declared.numbers.Value.{Value}
 use Rattle.syntax.specs.Numbers.{converted}
 use Rattle.syntax.specs.Meaning.{bound, entered}
 use Rattle.meaning.specs.declared.machine.Local as L
-use Rattle.meaning.specs.Machine.{local_in}
+use Rattle.meaning.specs.inner.Machine.{local_in}
 
 pushed_local : (ls ks : List L.Local) (l : L.Local) → ks ≡ ls ++ l ∷ [] → map local_in ks ≡ map local_in ls ++ local_in l ∷ []
 pushed_local ls ks l e = ap (map local_in) e ∙ map-append local_in ls (l ∷ [])

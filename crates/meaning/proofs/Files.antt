@@ -11,7 +11,7 @@ use Rattle.std.proofs.Common.{true, Bool}
 use Rattle.std.specs.Prelude.{bytes_eq, if◌then◌else◌}
 use Rattle.syntax.specs.Names.{definition_of, defined}
 use Rattle.syntax.specs.Tree.{Global}
-use Rattle.meaning.specs.Cells.{total_cells}
+use Rattle.meaning.specs.inner.Cells.{total_cells}
 use Rattle.std.proofs.Common.{arith, []}
 
 -- a function of the items that are left, opened at the first of them

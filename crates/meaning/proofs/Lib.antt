@@ -1,10 +1,12 @@
 pub mod Bodies
+pub mod CellsFit
 pub mod Deeper
 pub mod Elements
 pub mod Entering
 pub mod Files
 pub mod Lookup
 pub mod Loops
+pub mod Outcomes
 pub mod Parts
 pub mod Printed
 pub mod Steps

@@ -14,8 +14,8 @@ use Rattle.syntax.specs.Actions.{State, Answer, Gives, Stops, Action, pure, go_o
 use Rattle.syntax.specs.Meaning.{Caller, End, Next, expr, exprs, stmt, stmts, declare, scoped, on_next, after_turn, turns, loop}
 use Rattle.meaning.specs.declared.machine.End.{End as OwnEnd}
 use Rattle.meaning.specs.declared.machine.End.TheVariants as end
-use Rattle.meaning.specs.Machine.{end_of}
-use Rattle.meaning.specs.Does.{declared_one, joined_to}
+use Rattle.meaning.specs.inner.Machine.{end_of}
+use Rattle.meaning.specs.inner.Does.{declared_one, joined_to}
 
 -- a part that gives something, and one that stops
 pub after : {X Y : Type 0} (r : Answer X) (rest : X → Action Y) (x : X) (s : State) → r ≡ Gives x s → go_on r rest ≡ rest x s

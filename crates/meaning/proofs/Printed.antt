@@ -8,7 +8,7 @@ use Rattle.syntax.specs.declared.numbers.Halt.{Halt}
 use Rattle.syntax.specs.Actions.{State, Answer, Gives, Stops, go_on, tick, write, ◌>>◌}
 use Rattle.syntax.specs.Formats.{Piece, Literal, Figure, literal, conversion, pieces}
 use Rattle.syntax.specs.Meaning.{print_pieces}
-use Rattle.meaning.specs.Printing.{pushed, figure, continued}
+use Rattle.meaning.specs.inner.Printing.{pushed, figure, continued}
 
 -- what was written joins what is written behind it
 wrote : (s : State) (c : ℕ) (cs : List ℕ) → record s { text = s.text ++ c ∷ cs } ≡ record s { text = (s.text ++ c ∷ []) ++ cs }

@@ -13,9 +13,9 @@ use Rattle.syntax.specs.Behaviours.{Memory}
 use Rattle.syntax.specs.Formats.{pieces}
 use Rattle.syntax.specs.Actions.{Context, Outside, Inside, State, Answer, Gives, Stops, Action, pure, go_on, or_astray, locals, put_locals, tick, may_print, ◌>>=◌, ◌>>◌}
 use Rattle.syntax.specs.Meaning.{Caller, End, Next, stmt, stmts, exprs, print_pieces, transaction, enter, leave, left_by, leave_inner, close, close_inner, entered, invoke, calls, result_of}
-use Rattle.meaning.specs.Calls.{Begins, begun}
-use Rattle.meaning.specs.Machine.{memories_in}
-use Rattle.meaning.specs.Does.{is_forbidden}
+use Rattle.meaning.specs.inner.Calls.{Begins, begun}
+use Rattle.meaning.specs.Outcomes.{memories_in}
+use Rattle.meaning.specs.inner.Does.{is_forbidden}
 use Rattle.meaning.proofs.Loops.{after, halts}
 
 -- a statement's tick, and then the rest

@@ -4,9 +4,9 @@ ghost use Rattle.std.specs.Prelude.{◌≡◌, ◌≤◌, map, option_map, unwra
 ghost use Rattle.syntax.specs.Meaning as meaning;
 ghost use Rattle.syntax.specs.Views.{parameter_of, stmts_of};
 ghost use Rattle.syntax.specs.Depth.{block_depth, program_depth};
-ghost use Rattle.meaning.specs.Calls.{begun, begun_in};
+ghost use Rattle.meaning.specs.inner.Calls.{begun, begun_in};
 ghost use Rattle.syntax.specs.Tree.{Int};
-ghost use Rattle.meaning.specs.Machine.{local_in, end_of, MeansAs, MeansWord, items_in, program_in, state_in};
+ghost use Rattle.meaning.specs.inner.Machine.{local_in, end_of, MeansAs, MeansWord, items_in, program_in, state_in};
 
 use crate::arithmetic::convert;
 use crate::machine::{End, Halted, Local, Machine};

@@ -1,4 +1,4 @@
-//! What a program's threads do, computed from the tree: what stands below expressions and statements.
+//! What a program's threads do, computed from the tree: the plain program beside the source's meaning.
 //!
 //! A thread's state is a machine, and each function does with it what the source's meaning says of the same thing. Where
 //! memory is refused, nothing is said of the machine.
@@ -8,9 +8,15 @@ mod arithmetic;
 mod calls;
 mod machine;
 mod names;
+mod outcome;
 mod places;
 mod print;
 mod program;
 mod run;
+mod threads;
 mod transactions;
 mod word;
+mod words;
+
+pub use outcome::{OutOfMemory, ThreadEnd, ThreadOutcome};
+pub use threads::thread;

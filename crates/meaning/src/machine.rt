@@ -6,8 +6,8 @@ ghost use Rattle.syntax.specs.Actions.{tick as tick_due, trap as trap_due, or_tr
 ghost use Rattle.syntax.specs.Meaning as meaning;
 ghost use Rattle.syntax.specs.Numbers.{binary, unary, converted};
 ghost use Rattle.syntax.specs.declared.numbers.Value.{Value};
-ghost use Rattle.meaning.specs.Word.{value_of};
-ghost use Rattle.meaning.specs.Machine.{Means, MeansSpot, MeansWord, state_in, local_in, spot_of};
+ghost use Rattle.meaning.specs.inner.Word.{value_of};
+ghost use Rattle.meaning.specs.inner.Machine.{Means, MeansSpot, MeansWord, state_in, local_in, spot_of};
 
 use crate::arithmetic::{apply, apply_unary};
 use crate::word::{Word, convert_word, pack, packed, unpack};

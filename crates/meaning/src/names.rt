@@ -8,9 +8,9 @@ ghost use Rattle.syntax.specs.Names.{globals};
 ghost use Rattle.syntax.specs.Types as Types;
 ghost use Rattle.syntax.specs.Types.{common_of, running_scope, file_scope, known_among};
 ghost use Rattle.syntax.specs.Views.{expr_of, global_of, item_of};
-ghost use Rattle.meaning.specs.Machine.{local_in, program_in};
-ghost use Rattle.meaning.specs.Cells.{total_cells};
-ghost use Rattle.meaning.specs.File.{shared_in, found_or, defined_in, known_of, known_or};
+ghost use Rattle.meaning.specs.inner.Machine.{local_in, program_in};
+ghost use Rattle.meaning.specs.inner.Cells.{total_cells};
+ghost use Rattle.meaning.specs.inner.File.{shared_in, found_or, defined_in, known_of, known_or};
 
 use crate::arithmetic::common_type;
 use crate::machine::{Local, newest};
@@ -118,7 +118,10 @@ fn defined_by<'p, A: Allocator>(item: &'p Item<A>, name: &str) -> Option<Defined
 }
 
 /// A function's definition, with its body.
-pub(crate) fn definition<'p, A: Allocator>(items: &'p [Item<A>], name: &str) -> Option<Defined<'p, A>>
+pub(crate) fn definition<'p, A: Allocator>(
+    items: &'p [Item<A>],
+    name: &str,
+) -> Option<Defined<'p, A>>
     ensures { option_map defined_in result ≡ Names.definition_of (map item_of items.now) name.now }
 {
     'items: for item in items {

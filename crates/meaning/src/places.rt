@@ -7,9 +7,9 @@ ghost use Rattle.syntax.specs.Tree as tree;
 ghost use Rattle.syntax.specs.Types.{common_of, type_of as type_due, running_scope};
 ghost use Rattle.syntax.specs.Numbers.{converted};
 ghost use Rattle.syntax.specs.Views.{expr_of, name_of};
-ghost use Rattle.meaning.specs.Machine.{MeansSpot, MeansWord, local_in, program_in, state_in};
-ghost use Rattle.meaning.specs.Does.{called};
-ghost use Rattle.meaning.specs.Word.{value_of};
+ghost use Rattle.meaning.specs.inner.Machine.{MeansSpot, MeansWord, local_in, program_in, state_in};
+ghost use Rattle.meaning.specs.inner.Does.{called};
+ghost use Rattle.meaning.specs.inner.Word.{value_of};
 
 use crate::machine::{Halted, Machine, Spot, fetch, newest, spot_trap};
 use crate::names::{cells_of, common_if_both, global, type_of};

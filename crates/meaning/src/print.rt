@@ -6,8 +6,8 @@ ghost use Rattle.syntax.specs.Actions as act;
 ghost use Rattle.syntax.specs.Formats.{pieces};
 ghost use Rattle.syntax.specs.Meaning as meaning;
 ghost use Rattle.syntax.specs.Numbers as numbers;
-ghost use Rattle.meaning.specs.Machine.{Means, state_in};
-ghost use Rattle.meaning.specs.Printing.{pushed, figure, IsAt};
+ghost use Rattle.meaning.specs.inner.Machine.{Means, state_in};
+ghost use Rattle.meaning.specs.inner.Printing.{pushed, figure, IsAt};
 
 use crate::arithmetic::number;
 use crate::machine::{Context, Halted, Machine, tick};

@@ -3,7 +3,7 @@
 ghost use Rattle.std.specs.Prelude.{◌≤◌};
 ghost use Rattle.syntax.specs.Names.{globals};
 ghost use Rattle.syntax.specs.Views.{program_of};
-ghost use Rattle.meaning.specs.Cells.{total_cells};
+ghost use Rattle.meaning.specs.inner.Cells.{total_cells};
 
 use std::alloc::Allocator;
 use syntax::tree::Unit;

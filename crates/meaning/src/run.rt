@@ -7,12 +7,15 @@ ghost use Rattle.syntax.specs.Tree as tree;
 ghost use Rattle.syntax.specs.Actions as act;
 ghost use Rattle.syntax.specs.Actions.{State};
 ghost use Rattle.syntax.specs.Meaning as meaning;
-ghost use Rattle.meaning.specs.Machine.{Means, MeansEnd, MeansSpot, MeansTurn, MeansWord, MeansWords, context_in, end_of, memories_in, program_in, spot_of, state_in};
-ghost use Rattle.meaning.specs.Does.{called, does_expr, does_stmt, does_stmts, does_turn, do_turn, for_all, for_turn, if_of, declared_one, is_forbidden as is_forbidden_due, left_or, tested as tested_due, while_turn};
-ghost use Rattle.meaning.specs.Word.{value_of};
+ghost use Rattle.meaning.specs.Outcomes.{memories_in};
+ghost use Rattle.meaning.specs.inner.Machine.{Means, MeansEnd, MeansSpot, MeansTurn, MeansWord, MeansWords, context_in, end_of, program_in, spot_of, state_in};
+ghost use Rattle.meaning.specs.inner.Does.{called, does_expr, does_stmt, does_stmts, does_turn, do_turn, for_all, for_turn, if_of, declared_one, is_forbidden as is_forbidden_due, left_or, tested as tested_due, while_turn};
+ghost use Rattle.meaning.specs.inner.Word.{value_of};
 
 use crate::calls::{Begun, begin, result_of};
-use crate::machine::{Context, End, Halted, Local, Machine, Spot, assign, fetch, operate, operate_unary, tick, trap};
+use crate::machine::{
+    Context, End, Halted, Local, Machine, Spot, assign, fetch, operate, operate_unary, tick, trap,
+};
 use crate::places::{indexed, joined, named, variable};
 use crate::print::{may_print, print_pieces};
 use crate::program::Source;
@@ -23,7 +26,9 @@ use lex::token::Scalar;
 use std::alloc::Allocator;
 use std::mem;
 use syntax::numbers::{Halt, Trap, Value};
-use syntax::tree::{BinaryOp, Declarator, Expr, ForHead, IncDec, LogicalOp, Mode, Name, Simple, Start, Stmt};
+use syntax::tree::{
+    BinaryOp, Declarator, Expr, ForHead, IncDec, LogicalOp, Mode, Name, Simple, Start, Stmt,
+};
 
 /// A loop, by its parts.
 #[derive(Drop)]
@@ -184,7 +189,7 @@ fn call<'p, A: Allocator + Copy>(
     ensures { (at : Span) → MeansWord result (meaning.expr (program_in source.now) (called source.now frames) (tree.Call (name_of f.now) (exprs_of args.now) at) (state_in m.old)) m.new }
 {
     let values = values(source, frames, args, m)?;
-    tick(m)?;
+    tick(m)?; // the call's
     entered(source, frames, f.text.as_str(), values.as_slice(), m)
 }
 
@@ -280,9 +285,9 @@ fn changed<'p, A: Allocator + Copy>(
     ensures { MeansEnd result (meaning.simple (program_in source.now) (called source.now frames) (tree.Assign (expr_of to.now) (Some op) (expr_of e.now)) (state_in m.old)) m.new }
 {
     let at = target(source, frames, to, m)?;
-    let old = fetch(m, at)?;
+    let before = fetch(m, at)?;
     let v = eval(source, frames, e, m)?;
-    let new = operate(m, op, old, v)?;
+    let new = operate(m, op, before, v)?;
     assign(m, at, new)?;
     Ok(End::Next)
 }
@@ -344,7 +349,13 @@ fn stmt<'p, A: Allocator + Copy>(
             block(source, frames, ss.as_slice(), m)
         }
         Stmt::Print(_, format, _, args) => {
-            printed(source, frames, format.as_str().as_bytes(), args.as_slice(), m)
+            printed(
+                source,
+                frames,
+                format.as_str().as_bytes(),
+                args.as_slice(),
+                m,
+            )
         }
         Stmt::If(c, a, b) => either(source, frames, c, a.get(), b, m),
         Stmt::While(c, a) => {
@@ -505,7 +516,7 @@ fn repeat<'p, A: Allocator + Copy>(
 {
     let most = m.ticks;
     'turns: for _ in 0..most {
-        tick(m)?;
+        tick(m)?; // the turn's
         if let Some(end) = turn(source, frames, which, m)? {
             return Ok(end);
         }

@@ -4,7 +4,8 @@ ghost use Rattle.std.specs.Prelude.{◌≡◌, List, map, IfOk};
 ghost use Rattle.syntax.specs.Actions as act;
 ghost use Rattle.syntax.specs.Meaning as meaning;
 ghost use Rattle.syntax.specs.Names as Names;
-ghost use Rattle.meaning.specs.Machine.{local_in, end_of, MeansEnd, context_in, state_in, memories_in, items_in, left_too, Happened, halt_of};
+ghost use Rattle.meaning.specs.Outcomes.{memories_in};
+ghost use Rattle.meaning.specs.inner.Machine.{local_in, end_of, MeansEnd, context_in, state_in, items_in, left_too, Happened, halt_of};
 
 use crate::machine::{Context, End, Halted, Local, Machine, tick};
 use std::alloc::{AllocError, Allocator};
@@ -31,7 +32,10 @@ pub(crate) fn copy_locals<'p, A: Allocator + Copy>(
 }
 
 /// Copies a memory.
-pub(crate) fn copy_memory<A: Allocator + Copy>(alloc: A, memory: &[u32]) -> Result<Vec<u32, A>, AllocError>
+pub(crate) fn copy_memory<A: Allocator + Copy>(
+    alloc: A,
+    memory: &[u32],
+) -> Result<Vec<u32, A>, AllocError>
     ensures { IfOk result (λ v. v.items ≡ memory.now) }
 {
     let copy = Vec::from_slice(alloc, memory)?;
@@ -63,16 +67,16 @@ fn memory_of<A: Allocator + Copy>(alloc: A, context: Context<A>) -> Vec<u32, A>
 pub(crate) fn leave_inner<'p, A: Allocator + Copy>(
     alloc: A,
     outer: Mode,
-    mine: Vec<Local<'p>, A>,
+    before: Vec<Local<'p>, A>,
     found: Vec<u32, A>,
     end: End,
     m: &mut Machine<'p, A>,
 ) -> End
-    ensures { meaning.leave_inner outer (meaning.left_by (items_in mine.entry) found.items (end_of end) (state_in m.old)) (state_in m.old) ≡ act.Gives (end_of result) (state_in m.new) }
+    ensures { meaning.leave_inner outer (meaning.left_by (items_in before.entry) found.items (end_of end) (state_in m.old)) (state_in m.old) ≡ act.Gives (end_of result) (state_in m.new) }
 {
     match end {
         End::Cancels => {
-            m.locals = mine;
+            m.locals = before;
             m.context = Context::Inside(outer, found);
             End::Next
         }

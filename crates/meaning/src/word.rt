@@ -2,7 +2,7 @@
 
 ghost use Rattle.std.specs.Prelude.{◌≡◌, ◌<◌, ◌^◌, pos};
 ghost use Rattle.syntax.specs.Numbers.{converted, flag as flag_due, is_zero as is_zero_due, word_of};
-ghost use Rattle.meaning.specs.Word.{value_of};
+ghost use Rattle.meaning.specs.inner.Word.{value_of};
 
 use crate::arithmetic::convert;
 use lex::token::Scalar;
@@ -16,7 +16,7 @@ pub(crate) struct Word {
 
 /// The value of this type with this word.
 #[inline(always)]
-#[tactic(auto, unfolding(crate::specs::Word::value_of))]
+#[tactic(auto, unfolding(crate::specs::inner::Word::value_of))]
 pub(crate) fn pack(of: Scalar, word: u32) -> Word
     ensures { value_of result ≡ record { of = of; word = word } }
 {
@@ -31,7 +31,7 @@ pub(crate) fn pack(of: Scalar, word: u32) -> Word
 
 /// The value, its type and its word side by side.
 #[inline(always)]
-#[tactic(auto, unfolding(crate::specs::Word::value_of))]
+#[tactic(auto, unfolding(crate::specs::inner::Word::value_of))]
 pub(crate) fn unpack(w: Word) -> Value
     ensures value { result ≡ value_of w }
     ensures fits { result.word < 2 ^ 32 }

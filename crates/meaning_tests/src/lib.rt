@@ -2,4 +2,10 @@
 #![tactic(auto)]
 
 #[cfg(test)]
-mod parts;
+mod memory;
+#[cfg(test)]
+mod run;
+#[cfg(test)]
+mod ticks;
+#[cfg(test)]
+mod traps;

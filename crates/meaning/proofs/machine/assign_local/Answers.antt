@@ -1,6 +1,6 @@
 use Rattle.std.proofs.Common.{length, map, ◌≤◌, arith}
 use Rattle.std.proofs.lemmas.List.{length-map}
-use Rattle.meaning.specs.Machine.{local_in}
+use Rattle.meaning.specs.inner.Machine.{local_in}
 use Rattle.meaning.proofs.Lookup.{with_word-map, unwritten}
 use Rattle.meaning.proofs.machine.assign_local.Goals as goal
 

@@ -1,6 +1,6 @@
 use Rattle.std.proofs.Common.{◌≡◌, ◌≤◌, take, map, length}
 use Rattle.syntax.specs.Names.{newest}
-use Rattle.meaning.specs.Machine.{local_in}
+use Rattle.meaning.specs.inner.Machine.{local_in}
 use Rattle.meaning.proofs.machine.newest.Given as goal
 
 abbrev pub decreases-locals : goal.decreases-locals

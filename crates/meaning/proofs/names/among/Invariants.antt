@@ -2,7 +2,7 @@ use Rattle.std.proofs.Common.{◌≡◌, ◌+◌, ◌++◌, List, map, drop}
 use Rattle.syntax.specs.Tree.{Global}
 use Rattle.syntax.specs.Names.{global_from}
 use Rattle.syntax.specs.Views.{global_of}
-use Rattle.meaning.specs.Cells.{total_cells}
+use Rattle.meaning.specs.inner.Cells.{total_cells}
 use Rattle.meaning.proofs.names.among.Given as goal
 
 -- what is left gives what all of them do

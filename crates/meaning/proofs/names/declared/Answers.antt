@@ -1,7 +1,7 @@
 use Rattle.std.proofs.Common.{◌∙◌, sym, ap, drop, map, ◌+◌}
 use Rattle.syntax.specs.Types.{file_scope}
 use Rattle.syntax.specs.Views.{item_of}
-use Rattle.meaning.specs.File.{known_of, known_or}
+use Rattle.meaning.specs.inner.File.{known_of, known_or}
 use Rattle.meaning.proofs.Files.{items_more}
 use Rattle.meaning.proofs.names.declared.Goals as goal
 

@@ -2,7 +2,7 @@ use Rattle.std.proofs.Common.{◌∙◌, sym, ap, drop, map, ◌+◌, option_map
 use Rattle.std.specs.Option.{option_or}
 use Rattle.syntax.specs.Names.{definition_of}
 use Rattle.syntax.specs.Views.{item_of}
-use Rattle.meaning.specs.File.{defined_in}
+use Rattle.meaning.specs.inner.File.{defined_in}
 use Rattle.meaning.proofs.Files.{items_more}
 use Rattle.meaning.proofs.names.definition.Goals as goal
 

@@ -1,8 +1,8 @@
 use Rattle.std.proofs.Common.{◌∙◌, sym, ap, drop, map, ◌+◌, arith}
 use Rattle.syntax.specs.Names.{globals, global_from, shared_by}
 use Rattle.syntax.specs.Views.{item_of}
-use Rattle.meaning.specs.Cells.{total_cells}
-use Rattle.meaning.specs.File.{found_or}
+use Rattle.meaning.specs.inner.Cells.{total_cells}
+use Rattle.meaning.specs.inner.File.{found_or}
 use Rattle.meaning.proofs.Files.{items_more, total_append}
 use Rattle.meaning.proofs.names.global.Goals as goal
 

@@ -1,7 +1,7 @@
 use Rattle.std.proofs.Common.{◌≡◌, ◌+◌, map, drop}
 use Rattle.syntax.specs.Names.{global_from, global_of, globals}
 use Rattle.syntax.specs.Views.{item_of}
-use Rattle.meaning.specs.Cells.{total_cells}
+use Rattle.meaning.specs.inner.Cells.{total_cells}
 use Rattle.meaning.proofs.names.global.Given as goal
 
 abbrev pub invariant-items : goal.invariant-items

@@ -1,8 +1,8 @@
 use Rattle.std.proofs.Common.{◌≡◌, ◌≤◌, ◌-◌, drop, length}
 use Rattle.syntax.specs.Formats.{pieces}
 use Rattle.syntax.specs.Meaning.{print_pieces}
-use Rattle.meaning.specs.Machine.{state_in}
-use Rattle.meaning.specs.Printing.{continued}
+use Rattle.meaning.specs.inner.Machine.{state_in}
+use Rattle.meaning.specs.inner.Printing.{continued}
 use Rattle.meaning.proofs.print.print_pieces.Given as goal
 
 abbrev pub decreases-bytes : goal.decreases-bytes

@@ -7,10 +7,11 @@ use Rattle.syntax.specs.Actions as act
 use Rattle.syntax.specs.Actions.{Gives, go_on}
 use Rattle.syntax.specs.Meaning as meaning
 use Rattle.syntax.specs.Meaning.{expr, exprs, stmt, simple, declare, scoped, turns}
-use Rattle.meaning.specs.Calls.{begun_in}
-use Rattle.meaning.specs.Machine.{context_in, end_of, items_in, local_in, memories_in, program_in, state_in}
-use Rattle.meaning.specs.Does.{called, does_stmt, does_stmts, does_turn, do_turn, for_all, joined_to, while_turn}
-use Rattle.meaning.specs.Word.{value_of}
+use Rattle.meaning.specs.inner.Calls.{begun_in}
+use Rattle.meaning.specs.Outcomes.{memories_in}
+use Rattle.meaning.specs.inner.Machine.{context_in, end_of, items_in, local_in, program_in, state_in}
+use Rattle.meaning.specs.inner.Does.{called, does_stmt, does_stmts, does_turn, do_turn, for_all, joined_to, while_turn}
+use Rattle.meaning.specs.inner.Word.{value_of}
 use Rattle.meaning.proofs.Stops.{err_of, stops_as}
 use Rattle.meaning.proofs.Bodies.{weight_less}
 use Rattle.meaning.proofs.Deeper.{block_deep, transaction_deep, argument_deep, statement_deep, declarator_deep}
@@ -218,7 +219,7 @@ values-arguments-init g t c =
 pub values-arguments-preserved : goal.values-arguments-preserved
 values-arguments-preserved g t c =
     let grown : c.push.new.self.items ≡ c.arguments.values.items ++ value_of c.in_ok-v.v ∷ [] =
-        c.push.ensures.items ∙ ap (λ (b : Bool). if b then c.arguments.values.items ++ c.unpack.result ∷ [] else c.arguments.values.items) c.if-is_err.ensures.negation ∙ ap (λ v. c.arguments.values.items ++ v ∷ []) c.unpack.ensures.value in
+    c.push.ensures.items ∙ ap (λ (b : Bool). if b then c.arguments.values.items ++ c.unpack.result ∷ [] else c.arguments.values.items) c.if-is_err.ensures.negation ∙ ap (λ v. c.arguments.values.items ++ v ∷ []) c.unpack.ensures.value in
     values_next (program_in c.args.source.now) (called c.args.source.now c.args.frames) c.args.args.now c.arguments.e-index c.e-item.result (state_in c.arguments.m) (state_in c.eval.new.m) c.arguments.values.items c.push.new.self.items (value_of c.in_ok-v.v) (exprs (program_in c.args.source.now) (called c.args.source.now c.args.frames) (exprs_of c.args.args.now) (state_in c.args.m.now)) c.arguments-test.true c.e-item.is c.arguments.invariant (c.in_ok-v.ensures tt) grown
 
 pub values-eval-requires : goal.values-eval-requires

@@ -3,8 +3,8 @@ use Rattle.syntax.specs.Views.{expr_of, exprs_of, simple_of, start_of, stmt_of, 
 use Rattle.syntax.specs.Depth.{expr_depth, deepest, optional_depth, simple_depth, optional_simple_depth, deepest_value, start_depth, stmt_depth, block_depth}
 use Rattle.syntax.specs.Actions.{go_on}
 use Rattle.syntax.specs.Meaning.{turns, exprs, declare}
-use Rattle.meaning.specs.Machine.{program_in, state_in}
-use Rattle.meaning.specs.Does.{weight, loop_depth, else_depth, head_depth, called, does_stmts, does_turn, joined_to}
+use Rattle.meaning.specs.inner.Machine.{program_in, state_in}
+use Rattle.meaning.specs.inner.Does.{weight, loop_depth, else_depth, head_depth, called, does_stmts, does_turn, joined_to}
 use Rattle.meaning.proofs.run.+run.Given as goal
 
 abbrev pub decreases-eval : goal.decreases-eval

@@ -9,6 +9,7 @@ use Rattle.syntax.specs.Names as Names
 use Rattle.syntax.specs.Behaviours.{Memory}
 use Rattle.syntax.specs.Actions as Actions
 use Rattle.syntax.specs.Actions.{State, Answer, Gives, Stops}
+use Rattle.meaning.specs.Outcomes.{memories_in}
 use Rattle.syntax.specs.Meaning as Meaning
 use Rattle.meaning.specs.declared.machine.Local.{Local}
 use Rattle.meaning.specs.declared.machine.Machine.{Machine}
@@ -21,7 +22,7 @@ use Rattle.meaning.specs.declared.machine.Spot.TheVariants as spot
 use Rattle.meaning.specs.declared.machine.End.{End}
 use Rattle.meaning.specs.declared.machine.End.TheVariants as end
 use Rattle.meaning.specs.declared.word.Word.{Word}
-use Rattle.meaning.specs.Word.{value_of}
+use Rattle.meaning.specs.inner.Word.{value_of}
 
 abbrev pub end_of : End → Meaning.End
 end_of end.Next = Meaning.Next
@@ -57,9 +58,6 @@ halt_of None = Astray
 module _ {A : Type 0} where
   abbrev pub items_in : Vec Local A → List Names.Local
   items_in mine = map local_in mine.items
-
-  abbrev pub memories_in : List (Vec ℕ A) → List Memory
-  memories_in ms = map (λ v. v.items) ms
 
   abbrev pub context_in : Context A → Actions.Context
   context_in (context.Outside founds lefts) = Actions.Outside (memories_in founds.now) (memories_in lefts.items)

@@ -7,7 +7,7 @@ use Rattle.syntax.specs.Views.{stmts_of}
 use Rattle.syntax.specs.Actions.{Action, pure, or_astray, ◌>>=◌}
 use Rattle.syntax.specs.Meaning.{entered}
 use Rattle.meaning.specs.declared.calls.Begun.{Begun as OwnBegun}
-use Rattle.meaning.specs.Machine.{items_in}
+use Rattle.meaning.specs.inner.Machine.{items_in}
 
 -- the type of its value, its body and its locals
 pub record Begins : Type 0 where

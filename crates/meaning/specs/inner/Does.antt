@@ -17,7 +17,7 @@ use Rattle.meaning.specs.declared.machine.End.{End as OwnEnd}
 use Rattle.meaning.specs.declared.program.Source.{Source}
 use Rattle.meaning.specs.declared.run.Loop.{Loop}
 use Rattle.meaning.specs.declared.run.Loop.TheVariants as kind
-use Rattle.meaning.specs.Machine.{program_in, end_of}
+use Rattle.meaning.specs.inner.Machine.{program_in, end_of}
 use Rattle.std.specs.Prelude.{◌+◌, ◌*◌, max, Bool, true, false, [], ◌∷◌, ◌++◌, length}
 
 -- one of two statements, or of one and nothing

@@ -1,0 +1,22 @@
+-- What is seen of a thread.
+use Rattle.std.specs.Prelude.{Vec, ℕ, ◌<◌, ◌^◌, List, map, All}
+use Rattle.syntax.specs.Behaviours as Behaviours
+use Rattle.syntax.specs.Behaviours.{Memory, Outcome}
+use Rattle.meaning.specs.declared.outcome.ThreadEnd.{ThreadEnd}
+use Rattle.meaning.specs.declared.outcome.ThreadEnd.TheVariants as end
+use Rattle.meaning.specs.declared.outcome.ThreadOutcome.{ThreadOutcome}
+
+abbrev pub thread_end_in : ThreadEnd → Behaviours.ThreadEnd
+thread_end_in end.Ended = Behaviours.Ended
+thread_end_in (end.Stopped why) = Behaviours.Stopped why
+
+module _ {A : Type 0} where
+  abbrev pub memories_in : List (Vec ℕ A) → List Memory
+  memories_in ms = map (λ v. v.items) ms
+
+  -- each word of each memory is below 2^32
+  abbrev pub AreWords : List (Vec ℕ A) → Type 0
+  AreWords ms = All (λ v. All (λ w. w < 2 ^ 32) v.items) ms
+
+  abbrev pub outcome_in : ThreadOutcome A → Outcome
+  outcome_in o = record { lefts = memories_in o.lefts.items; text = o.text.items; end = thread_end_in o.end }

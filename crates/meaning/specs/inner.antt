@@ -1,0 +1,14 @@
+-- What private functions say; no public contract cites it.
+-- the cells of globals, and what look-ups in a file give
+pub mod Cells
+pub mod File
+-- the value that a register stands for
+pub mod Word
+-- the state that a machine holds, and what answers say
+pub mod Machine
+-- how a call begins
+pub mod Calls
+-- what the trees do
+pub mod Does
+-- what prints a format byte by byte
+pub mod Printing

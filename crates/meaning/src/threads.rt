@@ -1,0 +1,101 @@
+//! A thread of the source, from its first tick to its end.
+
+ghost use Rattle.std.specs.Prelude.{◌≡◌, IfOk};
+ghost use Rattle.syntax.specs.Actions.{lefts_in};
+ghost use Rattle.syntax.specs.Threads.{thread as thread_due, worker_run};
+ghost use Rattle.syntax.specs.Views.{program_of};
+ghost use Rattle.meaning.specs.Outcomes.{AreWords, memories_in, outcome_in, thread_end_in};
+ghost use Rattle.meaning.specs.inner.Machine.{Means, context_in, program_in, state_in};
+
+use crate::machine::{Context, Halted, Machine, tick};
+use crate::outcome::{OutOfMemory, ThreadEnd, ThreadOutcome};
+use crate::program::Source;
+use crate::run::entered;
+use crate::words::{narrow_all, widen_all};
+use lex::token::Scalar;
+use std::alloc::Allocator;
+use syntax::numbers::Value;
+use types::Typed;
+
+/// `worker(t)`, in the first of 64 frames, and then the tick of the thread's end.
+fn work<'p, A: Allocator + Copy>(
+    source: &Source<'p, A>,
+    t: u32,
+    m: &mut Machine<'p, A>,
+) -> Result<(), Halted>
+    ensures { Means result (worker_run (program_in source.now) t (state_in m.old)) m.new }
+{
+    let values = [Value {
+        of: Scalar::Unsigned,
+        word: u64::from(t),
+    }];
+    entered(source, 64, "worker", &values, m)?;
+    tick(m)
+}
+
+/// The memories left.
+fn left<A: Allocator + Copy>(alloc: A, context: Context<A>) -> Vec<Vec<u32, A>, A>
+    ensures { memories_in result.items ≡ lefts_in (context_in context.entry) }
+{
+    match context {
+        Context::Outside(_, lefts) => lefts,
+        Context::Inside(_, _) => Vec::new(alloc),
+    }
+}
+
+/// What is seen of a thread that has come to this end.
+fn finish<A: Allocator + Copy>(
+    alloc: A,
+    end: ThreadEnd,
+    m: Machine<A>,
+) -> Result<ThreadOutcome<A>, OutOfMemory>
+    ensures value { IfOk result (λ o. outcome_in o ≡ record { lefts = lefts_in (state_in m.entry).context; text = (state_in m.entry).text; end = thread_end_in end }) }
+    ensures words { IfOk result (λ o. AreWords o.lefts.items) }
+{
+    let left = left(alloc, m.context);
+    let Ok(lefts) = widen_all(alloc, left.as_slice()) else {
+        return Err(OutOfMemory);
+    };
+    Ok(ThreadOutcome {
+        lefts,
+        text: m.text,
+        end,
+    })
+}
+
+/// What thread `t` of a program does within so many ticks, where the i-th of its outermost transactions finds the i-th of
+/// these memories of the program, a word below 2^32 for each cell: what it leaves and prints, and how it ends. Takes memory
+/// for the state of the program, for the memories and for the text; where that is refused, nothing else is told.
+pub fn thread<A: Allocator + Copy>(
+    alloc: A,
+    typed: &Typed<A>,
+    t: u32,
+    founds: &[Vec<u64, A>],
+    ticks: u64,
+) -> Result<ThreadOutcome<A>, OutOfMemory>
+    requires { AreWords founds.now }
+    ensures value { IfOk result (λ o. outcome_in o ≡ thread_due (program_of typed.now.unit) t (memories_in founds.now) ticks) }
+    ensures words { IfOk result (λ o. AreWords o.lefts.items) }
+{
+    let Ok(found) = narrow_all(alloc, founds) else {
+        return Err(OutOfMemory);
+    };
+    let source = Source {
+        alloc,
+        unit: typed.unit(),
+    };
+    let mut m = Machine {
+        ticks,
+        why: None,
+        locals: Vec::new(alloc),
+        context: Context::Outside(found.as_slice(), Vec::new(alloc)),
+        text: Vec::new(alloc),
+    };
+    match work(&source, t, &mut m) {
+        Ok(()) => finish(alloc, ThreadEnd::Ended, m),
+        Err(_) => match m.why {
+            Some(why) => finish(alloc, ThreadEnd::Stopped(why), m),
+            None => Err(OutOfMemory),
+        },
+    }
+}
