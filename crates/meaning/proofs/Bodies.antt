@@ -1,5 +1,5 @@
 -- A body is no deeper than its program.
-use Rattle.std.proofs.Common.{◌≡◌, ℕ, ◌+◌, ◌*◌, ◌<◌, ◌≤◌, suc, max, List, [], ◌∷◌, Option, Some, None, Bool, true, false, ap, sym, ◌∙◌, arith}
+use Rattle.std.proofs.Common.{◌≡◌, ℕ, ◌+◌, ◌*◌, ◌≤◌, suc, max, List, [], ◌∷◌, Option, Some, None, Bool, true, false, ap, arith}
 use Rattle.std.specs.Prelude.{bytes_eq, if◌then◌else◌}
 use Rattle.syntax.specs.Tree.{Program, Function, Stmts, Defines, Shares}
 use Rattle.syntax.specs.Names.{definition_of, defined}

@@ -1,11 +1,11 @@
 -- A typed program has at most so many cells.
-use Rattle.std.proofs.Common.{◌≡◌, ℕ, zero, suc, ◌+◌, ◌<◌, ◌≤◌, List, [], ◌∷◌, ◌++◌, length, drop, All, IsTrue, nat_le, codes, sym, ap, ◌∙◌, arith}
+use Rattle.std.proofs.Common.{◌≡◌, ℕ, zero, suc, ◌+◌, ◌≤◌, List, [], ◌∷◌, ◌++◌, drop, All, IsTrue, nat_le, codes, ap, ◌∙◌, arith}
 use Rattle.std.specs.List.{sum_by}
 use Rattle.std.proofs.lemmas.List.Sums.{sum_by-cons}
 use Rattle.syntax.specs.Tree.{Global, Item, Defines, Shares, Program}
 use Rattle.syntax.specs.Names.{cells, globals}
 use Rattle.syntax.specs.Types.{file_scope}
-use Rattle.syntax.specs.Typing.{Demand, demand, is_unknown, is_worker, IsLength, HaveCells, AreTypedGlobals, IsTypedItem, AreTypedItems, AreDefined, Meets, IsTypedProgram, all_cells}
+use Rattle.syntax.specs.Typing.{Demand, demand, is_unknown, is_worker, IsLength, HaveCells, AreTypedGlobals, IsTypedItem, AreTypedItems, AreDefined, IsTypedProgram, all_cells}
 use Rattle.types.proofs.AllMet.{le_true}
 use Rattle.types.proofs.Files.{all_cells_append}
 use Rattle.meaning.specs.inner.Cells.{total_cells}

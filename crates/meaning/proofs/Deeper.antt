@@ -1,11 +1,9 @@
 -- A part of a tree is less deep than the whole.
-use Rattle.std.proofs.Common.{◌≡◌, ℕ, ◌+◌, ◌*◌, ◌<◌, ◌≤◌, max, List, Option, Some, None, map, option_map, length, get_or, zero, suc, [], ◌∷◌, sym, ap, ◌∙◌, arith}
-use Rattle.std.proofs.lemmas.List.{at_drop_more}
+use Rattle.std.proofs.Common.{◌≡◌, ℕ, ◌+◌, ◌<◌, ◌≤◌, max, List, Option, Some, None, map, option_map, length, get_or, zero, suc, [], ◌∷◌, ap, ◌∙◌, arith}
 use Rattle.lex.specs.declared.token.Span.{Span}
 use Rattle.syntax.specs.declared.tree.UnaryOp.{UnaryOp}
 use Rattle.syntax.specs.declared.tree.BinaryOp.{BinaryOp}
 use Rattle.syntax.specs.declared.tree.LogicalOp.{LogicalOp}
-use Rattle.syntax.specs.declared.tree.IncDec.{IncDec}
 use Rattle.syntax.specs.declared.tree.Mode.{Mode}
 use Rattle.syntax.specs.declared.tree.Name as N
 use Rattle.syntax.specs.declared.tree.Expr as E
@@ -14,10 +12,9 @@ use Rattle.syntax.specs.declared.tree.Declaration as D
 use Rattle.syntax.specs.declared.tree.Declarator as R
 use Rattle.syntax.specs.declared.tree.ForHead as H
 use Rattle.syntax.specs.declared.tree.Stmt as S
-use Rattle.syntax.specs.Tree as Tree
 use Rattle.syntax.specs.Tree.{Scalar}
-use Rattle.syntax.specs.Views.{expr_of, exprs_of, simple_of, declarator_of, declaration_of, start_of, stmt_of, stmts_of}
-use Rattle.syntax.specs.Depth.{expr_depth, deepest, optional_depth, simple_depth, optional_simple_depth, deepest_value, declaration_depth, start_depth, stmt_depth, block_depth}
+use Rattle.syntax.specs.Views.{expr_of, exprs_of, simple_of, declarator_of, stmt_of, stmts_of}
+use Rattle.syntax.specs.Depth.{expr_depth, deepest, optional_depth, simple_depth, deepest_value, stmt_depth, block_depth}
 use Rattle.syntax.proofs.Seen.{expr_of_element, expr_of_call, expr_of_parenthesized, expr_of_cast, expr_of_unary, expr_of_binary, expr_of_logical, expr_of_conditional, stmt_of_declare, stmt_of_do, stmt_of_block, stmt_of_print, stmt_of_if, stmt_of_if_else, stmt_of_while, stmt_of_do_while, stmt_of_for, stmt_of_return, stmt_of_transaction}
 use Rattle.meaning.specs.inner.Does.{else_depth, head_depth}
 

@@ -1,12 +1,12 @@
 -- An index that is tested.
-use Rattle.std.proofs.Common.{◌≡◌, ℕ, List, Some, Bool, true, false, ap, ◌∙◌}
+use Rattle.std.proofs.Common.{◌≡◌, ℕ, List, Some, Bool, false, ap, ◌∙◌}
 use Rattle.std.specs.Prelude.{nat_lt, if◌then◌else◌, ◌+◌}
 use Rattle.syntax.specs.declared.numbers.Value.{Value}
 use Rattle.syntax.specs.Tree.{Program}
 use Rattle.syntax.specs.Names.{GlobalCells, global_of, cells}
 use Rattle.syntax.specs.declared.numbers.Trap.TheVariants.{Index}
-use Rattle.syntax.specs.Actions.{State, Answer, pure, trap, go_on, or_astray}
-use Rattle.syntax.specs.Meaning.{Caller, Spot, InCell, element}
+use Rattle.syntax.specs.Actions.{State, pure, trap, go_on, or_astray}
+use Rattle.syntax.specs.Meaning.{Caller, InCell, element}
 
 pub element_traps : (p : Program) (call : Caller) (x : List ℕ) (v : Value) (g : GlobalCells) (s : State) →
     global_of p x ≡ Some g → nat_lt v.word (cells g.global) ≡ false → element p call x v s ≡ trap Index s

@@ -3,8 +3,8 @@ use Rattle.std.proofs.Common.{◌≡◌, ℕ, List, [], Option, Some, None, Resu
 use Rattle.syntax.specs.Tree.{Program}
 use Rattle.syntax.specs.Names.{Local}
 use Rattle.syntax.specs.declared.numbers.Halt.{Halt}
-use Rattle.syntax.specs.Behaviours.{Memory, Outcome, ThreadEnd, Ended, Stopped}
-use Rattle.syntax.specs.Actions.{State, Answer, Gives, Stops, Outside, lefts_in}
+use Rattle.syntax.specs.Behaviours.{Memory, Outcome, Ended, Stopped}
+use Rattle.syntax.specs.Actions.{State, Gives, Stops, Outside, lefts_in}
 use Rattle.meaning.specs.inner.Machine.{Happened}
 use Rattle.syntax.specs.Threads.{outcome_of, first_state, worker_run, thread}
 

@@ -1,7 +1,7 @@
 -- What stops a part stops the whole.
 use Rattle.std.proofs.Common.{◌≡◌, Result, Ok, Err, sym, ap, subst}
 use Rattle.std.specs.Result.{IsErrAnd}
-use Rattle.syntax.specs.Actions.{State, Answer, Stops}
+use Rattle.syntax.specs.Actions.{Answer, Stops}
 use Rattle.meaning.specs.inner.Machine.{IsDone, Happened, given_as, halt_of, state_in}
 use Rattle.meaning.specs.declared.machine.Halted.{Halted}
 use Rattle.meaning.specs.declared.machine.Machine.{Machine}

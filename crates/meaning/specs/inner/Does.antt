@@ -1,5 +1,5 @@
 -- What the program's own trees do, and the turns of its loops.
-use Rattle.std.specs.Prelude.{ℕ, List, map, Option, Some, None, option_map, if◌then◌else◌}
+use Rattle.std.specs.Prelude.{ℕ, List, Option, Some, None, option_map, if◌then◌else◌}
 use Rattle.syntax.specs.declared.tree.Expr.{Expr as OwnExpr}
 use Rattle.syntax.specs.declared.tree.Stmt.{Stmt as OwnStmt}
 use Rattle.syntax.specs.declared.tree.ForHead.{ForHead}
@@ -11,7 +11,7 @@ use Rattle.syntax.specs.declared.tree.Mode.TheVariants.{Atomic, Relaxed}
 use Rattle.syntax.specs.Views.{expr_of, simple_of, stmt_of, stmts_of}
 use Rattle.syntax.specs.Depth.{program_depth, expr_depth, stmt_depth, start_depth, optional_depth, optional_simple_depth}
 use Rattle.syntax.specs.Views.{start_of}
-use Rattle.syntax.specs.Actions.{Action, Answer, State, Gives, pure, locals, put_locals, ◌>>=◌, ◌>>◌}
+use Rattle.syntax.specs.Actions.{Action, Gives, pure, locals, put_locals, ◌>>=◌, ◌>>◌}
 use Rattle.syntax.specs.Meaning.{Caller, End, Next, calls, expr, stmt, stmts, scoped, after_body, holds, stepped, first_value, InLocal, start_with, loop}
 use Rattle.meaning.specs.declared.machine.End.{End as OwnEnd}
 use Rattle.meaning.specs.declared.program.Source.{Source}

@@ -1,5 +1,5 @@
 -- The state that a machine holds, and what its answers say.
-use Rattle.std.specs.Prelude.{Vec, ◌≡◌, ℕ, List, [], ◌∷◌, ◌++◌, map, Result, Ok, Err, Option, Some, None, option_map}
+use Rattle.std.specs.Prelude.{Vec, ◌≡◌, List, [], ◌∷◌, ◌++◌, map, Result, Ok, Err, Option, Some, None, option_map}
 use Rattle.syntax.specs.declared.numbers.Halt.{Halt}
 use Rattle.syntax.specs.declared.numbers.Halt.TheVariants.{Astray}
 use Rattle.syntax.specs.declared.numbers.Value.{Value}

@@ -1,5 +1,5 @@
 -- The value that a register of 64 bits stands for.
-use Rattle.std.specs.Prelude.{ℕ, ◌^◌, ◌%◌, nat_lt, if◌then◌else◌}
+use Rattle.std.specs.Prelude.{◌^◌, ◌%◌, nat_lt, if◌then◌else◌}
 use Rattle.syntax.specs.Tree.{Int, Unsigned}
 use Rattle.syntax.specs.declared.numbers.Value.{Value}
 use Rattle.meaning.specs.declared.word.Word.{Word}

@@ -1,4 +1,4 @@
-use Rattle.std.proofs.Common.{◌≡◌, ◌-◌, ◌+◌, ◌*◌, ◌++◌, map, max, drop, option_map}
+use Rattle.std.proofs.Common.{◌≡◌, ◌-◌, ◌+◌, ◌*◌, map, max, drop, option_map}
 use Rattle.syntax.specs.Views.{expr_of, exprs_of, simple_of, start_of, stmt_of, stmts_of, declarator_of}
 use Rattle.syntax.specs.Depth.{expr_depth, deepest, optional_depth, simple_depth, optional_simple_depth, deepest_value, start_depth, stmt_depth, block_depth}
 use Rattle.syntax.specs.Actions.{go_on}

@@ -1,7 +1,7 @@
-use Rattle.std.proofs.Common.{◌≡◌, ◌∙◌, sym, ap, subst, map}
+use Rattle.std.proofs.Common.{◌∙◌, sym, ap, subst, map}
 use Rattle.syntax.specs.Views.{program_of}
 use Rattle.syntax.specs.Typing.{IsTypedProgram}
-use Rattle.syntax.specs.Threads.{first_state, worker_run}
+use Rattle.syntax.specs.Threads.{worker_run}
 use Rattle.meaning.specs.Outcomes.{outcome_in, memories_in}
 use Rattle.syntax.specs.Actions.{State, Outside, Stops}
 use Rattle.meaning.specs.inner.Machine.{halt_of, local_in, state_in}
