@@ -16,15 +16,6 @@ expect_not k (t ∷ ts) h = rw h refl
 abbrev pub ended : {A : Type 0} → Fixed → Result (List A × List Tok) Fault → Result (List A × List Tok) Fault
 ended k read = joined (expect k) read >>= λ x. Ok (x.0.0, x.1)
 
-pub ended_fails : {A : Type 0} (k : Fixed) (read : Result (List A × List Tok) Fault) (f : Fault) → read ≡ Err f → ended k read ≡ Err f
-ended_fails k read f e = rw e refl
-
-pub ended_bad : {A : Type 0} (k : Fixed) (read : Result (List A × List Tok) Fault) (f : Fault) → joined (expect k) read ≡ Err f → ended k read ≡ Err f
-ended_bad k read f e = rw e refl
-
-pub ended_good : {A : Type 0} (k : Fixed) (read : Result (List A × List Tok) Fault) (xs : List A) (rest r : List Tok) → read ≡ Ok (xs, rest) → expect k rest ≡ Ok (tt, r) → ended k read ≡ Ok (xs, r)
-ended_good k read xs rest r e c = rw (e, c) refl
-
 -- what stands before a mark
 pub before_is : {A : Type 0} (k : Fixed) (P : Parser (List A)) (ts : List Tok) → before k P ts ≡ ended k (P ts)
 before_is k P ts = refl
@@ -54,9 +45,3 @@ first_is x (Err f) = refl
 
 pub listed_is : {A : Type 0} (P : Parser A) (ts inner : List Tok) (x : A) → P ts ≡ Ok (x, inner) → listed P ts ≡ onward (x ∷ []) (many_until (is_other (Punctuator punct.Comma)) (behind (Punctuator punct.Comma) P) inner)
 listed_is P ts inner x e = rw e (first_is x (many_until (is_other (Punctuator punct.Comma)) (behind (Punctuator punct.Comma) P) inner))
-
-pub listed_fails : {A : Type 0} (P : Parser A) (ts : List Tok) (f : Fault) → P ts ≡ Err f → listed P ts ≡ Err f
-listed_fails P ts f e = rw e refl
-
-pub listed_ended : {A : Type 0} (k : Fixed) (P : Parser A) (ts inner : List Tok) (x : A) → P ts ≡ Ok (x, inner) → before k (listed P) ts ≡ ended k (onward (x ∷ []) (many_until (is_other (Punctuator punct.Comma)) (behind (Punctuator punct.Comma) P) inner))
-listed_ended k P ts inner x e = rw (listed_is P ts inner x e) refl

@@ -88,12 +88,6 @@ module _ {A : Type 0} (k : Fixed) (P : Parser A) (ts : List Tok) where
   pub behind_none : (f : Fault) → expect k ts ≡ Err f → behind k P ts ≡ Err f
   behind_none f e = rw e refl
 
-  pub behind_fails : (r : List Tok) (f : Fault) → expect k ts ≡ Ok (tt, r) → P r ≡ Err f → behind k P ts ≡ Err f
-  behind_fails r f e a = rw (e, a) refl
-
-  pub behind_goes : (r s : List Tok) (x : A) → expect k ts ≡ Ok (tt, r) → P r ≡ Ok (x, s) → behind k P ts ≡ Ok (x, s)
-  behind_goes r s x e a = rw (e, a) refl
-
 -- two parts behind a sign
 module _ {A B : Type 0} (k : Fixed) (P : Parser A) (Q : Parser B) (ts : List Tok) where
   pub both_none : (f : Fault) → expect k ts ≡ Err f → behind k (seq P Q) ts ≡ Err f

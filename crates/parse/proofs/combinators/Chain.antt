@@ -245,9 +245,6 @@ module _ {E Op : Type 0} (ops : Operators E Op) (L : E → Phrase) (level : E �
     some_right op [] b = some_begins (suc (ops.precedence op)) (let h = under op in omega arith)
     some_right op (t ∷ p) b = b tt
 
-    LoopWrong : ℕ → Type 0
-    LoopWrong n = (left : E) (pl ts r : List Tok) → Left n left pl ts → climb_loop ops (climb_at d) m (suc d) n left ts ≡ Err (wrong r) → Stopped d m left pl ts r
-
     other : {A : Type 0} (r : Result A Fault) (x y : List Tok) → r ≡ Err (wrong x) → r ≡ Err (deep y) → ⊥
     other r x y p q = cc
 

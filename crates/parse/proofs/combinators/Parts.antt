@@ -44,9 +44,6 @@ un_seq {L = L} s = subst L (sym (s.whole ∙ ap (λ (z : List Tok). s.front ++ z
 pub un_seq_left : {L : Phrase} {p : List Tok} → Seq (λ q. q ≡ []) L p → L p
 un_seq_left {L = L} s = subst L (sym (s.whole ∙ ap (λ (z : List Tok). z ++ s.back) s.first)) s.second
 
-pub no_seq_left : {L : Phrase} {p : List Tok} → L p → Seq (λ q. q ≡ []) L p
-no_seq_left {p = p} l = record { front = []; back = p; first = refl; second = l; whole = refl }
-
 -- ---- marks
 
 pub is_here : (k : Fixed) (p q : List Tok) → Is k p → is_next k (head (p ++ q)) ≡ true

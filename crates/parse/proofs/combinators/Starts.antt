@@ -1,5 +1,5 @@
 -- What cannot begin a phrase is refused at its first token.
-use Rattle.std.proofs.Common.{◌≡◌, ℕ, Bool, true, false, List, [], ◌∷◌, ◌++◌, Option, None, Result, Ok, Err, refl, sym, ap, subst, ◌∙◌, append_assoc}
+use Rattle.std.proofs.Common.{◌≡◌, ℕ, Bool, true, false, List, [], ◌∷◌, ◌++◌, Option, Result, Ok, Err, refl, sym, ap, subst, ◌∙◌, append_assoc}
 use Rattle.lex.specs.Tokens.{Tok}
 use Rattle.syntax.specs.Phrases.{Phrase, Seq, Begins}
 use Rattle.parse.specs.inner.Reading.{Fault, wrong, deep, Parser, head}
@@ -7,11 +7,6 @@ use Rattle.parse.proofs.combinators.Exact.{Nonempty, Exact}
 
 pub true_not_false : {b : Bool} → b ≡ true → b ≡ false → ⊥
 true_not_false p q = cc
-
--- what begins with a token is not empty
-pub solid_by : (test : Option Tok → Bool) (p : List Tok) → test None ≡ false → test (head (p ++ [])) ≡ true → Nonempty p
-solid_by test [] none h = true_not_false h none
-solid_by test (t ∷ p) none h = tt
 
 -- what is known of the first token of the first part
 pub first_of : {L M : Phrase} (Q : Option Tok → Type 0) (p q : List Tok) → Seq L M p → ((r s : List Tok) → L r → Q (head (r ++ s))) → Q (head (p ++ q))

@@ -7,9 +7,6 @@ use Rattle.syntax.specs.Phrases.{Phrase, Begins, IsUnexpected, IsTooDeep}
 use Rattle.parse.specs.inner.Reading.{Fault, wrong, deep, ◌>>=◌, Parser, head, finished}
 use Rattle.parse.proofs.combinators.Exact.{Nonempty, Exact, Always, bind_ok, bind_err}
 
-err_wrong : {A : Type 0} (a : Result A Fault) (x y : List Tok) → a ≡ Err (wrong x) → a ≡ Err (wrong y) → x ≡ y
-err_wrong a x y p q = let same : wrong x ≡ wrong y = cc in cc
-
 no_both : {A : Type 0} (r : Result A Fault) (x : A) (f : Fault) → r ≡ Ok x → r ≡ Err f → ⊥
 no_both r x f p q = cc
 

@@ -72,10 +72,6 @@ module _ {A : Type 0} (P : ℕ → Parser A) (L : A → Phrase) (W : ℕ → A �
 
   -- ---- what is spelled is read
 
-  follow_comma : (x : A) (h : Option Tok) → is_next (Punctuator punct.Comma) h ≡ true → S x h
-  follow_comma x None e = absurd cc
-  follow_comma x (Some t) e = comma x t (that_fixed (Punctuator punct.Comma) t e)
-
   follow_brace : (x : A) (h : Option Tok) → is_next (Punctuator punct.CloseBrace) h ≡ true → S x h
   follow_brace x None e = absurd cc
   follow_brace x (Some t) e = brace x t (that_fixed (Punctuator punct.CloseBrace) t e)

@@ -13,7 +13,7 @@ use Rattle.syntax.specs.Grammar.{by_fixed, name_in, the_name, optional}
 use Rattle.syntax.specs.Grammar as Grammar
 use Rattle.parse.specs.inner.Reading.{head, is_next}
 use Rattle.parse.specs.inner.Expressions.{type_of_fixed, the_type_word, starts_type, longer_type, scalar}
-use Rattle.parse.proofs.combinators.Exact.{Nonempty, Exact, Always, Shallow, Comes, Dep, Empty, take_exact, give_exact, relabel, chained_one, value_of}
+use Rattle.parse.proofs.combinators.Exact.{Exact, Always, Shallow, Comes, Dep, Empty, take_exact, give_exact, relabel, chained_one, value_of}
 use Rattle.parse.proofs.combinators.FixedTokens.{that_fixed, fixed_is, fixed_has, a_fixed, one_head, seq_head}
 use Rattle.parse.proofs.combinators.Parts.{MaybeW, MaybeS, is_here, perhaps_exact}
 
@@ -184,9 +184,6 @@ scalar_exact d =
 abbrev pub scalar_begins : Begins Grammar.scalar []
 scalar_begins = record { value = Int; more = a_fixed (Keyword key.Int) ∷ []; spelled = inl (record { token = a_fixed (Keyword key.Int); has = fixed_has (Keyword key.Int) (a_fixed (Keyword key.Int)) refl; whole = refl }) }
 
-pub scalar_solid : (t : Scalar) (p : List Tok) → Grammar.scalar t p → Nonempty p
-scalar_solid t p l = let s = (words_come 0 t p l).spelled in subst Nonempty (sym (s.whole ∙ ap (λ (z : List Tok). z ++ s.back) s.first.whole)) tt
-
 pub scalar_first : (t : Scalar) (p q : List Tok) → Grammar.scalar t p → starts_type (head (p ++ q)) ≡ true
 scalar_first t p q l =
     let c = words_come 0 t p l in
@@ -212,12 +209,3 @@ type_not_fixed k (Some t) apart e = go (is_fixed k t.terminal) refl
     go : (b : Bool) → is_fixed k t.terminal ≡ b → is_fixed k t.terminal ≡ false
     go false is = is
     go true is = absurd (let same = that_fixed k t is in let n : starts_type (Some t) ≡ false = ap (λ (z : Terminal). is_some (by_fixed type_of_fixed z)) same ∙ apart in cc)
-
--- what is no type's first word is not `int`
-pub no_type_no_int : (h : Option Tok) → starts_type h ≡ false → is_next (Keyword key.Int) h ≡ false
-no_type_no_int None e = refl
-no_type_no_int (Some t) e = go (is_fixed (Keyword key.Int) t.terminal) refl
-  where
-    go : (b : Bool) → is_fixed (Keyword key.Int) t.terminal ≡ b → is_fixed (Keyword key.Int) t.terminal ≡ false
-    go false is = is
-    go true is = absurd (let same = that_fixed (Keyword key.Int) t is in let n : starts_type (Some t) ≡ true = ap (λ (z : Terminal). is_some (by_fixed type_of_fixed z)) same in cc)

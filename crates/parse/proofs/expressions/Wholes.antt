@@ -19,7 +19,6 @@ use Rattle.parse.specs.declared.lead.Operand.{Operand}
 use Rattle.parse.specs.declared.lead.Operand.TheVariants as kind
 use Rattle.parse.specs.inner.Reading.{head, is_next, at_least, op_at}
 use Rattle.parse.specs.inner.Expressions.{says, type_of_fixed, starts_type, infix_of, operators, operand_terminal, operand_at, is_operand, starts_expr}
-use Rattle.parse.proofs.combinators.Exact.{Nonempty}
 use Rattle.parse.proofs.combinators.FixedTokens.{that_fixed, fixed_is, fixed_has, a_fixed, one_head, seq_head}
 use Rattle.parse.proofs.expressions.Scalars.{some_name, some_name_token}
 
@@ -110,10 +109,6 @@ plain_follows e t k is plain =
 
 pub closing_follows : (e : Expr) (t : Tok) (k : Fixed) → t.terminal ≡ fixed k → is_closing k ≡ true → WholeS e (Some t)
 closing_follows e t k is closing = plain_follows e t k is (closing_plain k closing)
-
--- the end of the text may follow
-pub nothing_follows : (e : Expr) → WholeS e None
-nothing_follows e = ((refl, calm_any e None refl refl), refl)
 
 assigning_closes : (k : Fixed) (op : Option BinaryOp) → assigning_of k ≡ Some op → is_closing k ≡ true
 assigning_closes (Punctuator punct.Assign) op e = refl
@@ -229,13 +224,6 @@ first_kind (Conditional c a b at) p q l = let s = l.1.1 in ap operand_at (seq_he
 
 pub whole_first : (e : Expr) (p q : List Tok) → expr e p → starts_expr (head (p ++ q)) ≡ true
 whole_first e p q l = ap is_operand (first_kind e p q l) ∙ lead_some e
-
-pub whole_solid : (e : Expr) (p : List Tok) → expr e p → Nonempty p
-whole_solid e p l = go p (whole_first e p [] l)
-  where
-    go : (p : List Tok) → starts_expr (head (p ++ [])) ≡ true → Nonempty p
-    go [] h = absurd cc
-    go (t ∷ p) h = tt
 
 -- what an expression begins with is not a mark that begins none
 pub start_not_fixed : (k : Fixed) (h : Option Tok) → is_operand (operand_terminal (fixed k)) ≡ false → starts_expr h ≡ true → is_next k h ≡ false

@@ -1,5 +1,5 @@
 -- What the whole call promises.
-use Rattle.std.proofs.Common.{◌≡◌, ℕ, ◌<◌, ◌≤◌, List, [], ◌∷◌, ◌++◌, Ok, Err, refl, sym, ap, ◌∙◌, arith, length, slice_index_or, ◌==◌, false}
+use Rattle.std.proofs.Common.{◌≡◌, ℕ, ◌<◌, ◌≤◌, List, [], ◌∷◌, ◌++◌, Ok, Err, refl, sym, ap, ◌∙◌, arith, length, slice_index_or}
 use Rattle.lex.specs.declared.token.Token.{Token}
 use Rattle.lex.specs.Tokens.{Tok, tok, toks}
 use Rattle.syntax.specs.Tree.{Program}
@@ -74,8 +74,3 @@ unfinished_at ts (t ∷ rest) e short is h = absurd (omega arith)
 pub no_deep_at : (ts : List Tok) (rest : List Token) → length rest < 1 → whole_program 100 ts ≡ Err (deep (toks rest)) → ⊥
 no_deep_at ts [] short h = theorems.no_deep_end program_at (Many item) program_depth program_exact some_program ts 100 h
 no_deep_at ts (t ∷ rest) short h = omega arith
-
--- tokens are left
-pub left_over : (d : ℕ) (ts : List Tok) (p : Program) (rest : List Token) → program_at d ts ≡ Ok (p, toks rest) → (length rest == 0) ≡ false → whole_program d ts ≡ Err (wrong (toks rest))
-left_over d ts p [] h long = absurd cc
-left_over d ts p (t ∷ rest) h long = rw h refl

@@ -1,5 +1,5 @@
 -- Declarations, and the first part of a loop's head, are read exactly.
-use Rattle.std.proofs.Common.{◌≡◌, ℕ, zero, suc, ◌+◌, ◌≤◌, true, false, List, [], ◌∷◌, ◌++◌, Option, Some, None, Err, refl, sym, ap, subst, append_assoc, arith, ◌⊎◌, inl, inr}
+use Rattle.std.proofs.Common.{◌≡◌, ℕ, zero, suc, ◌+◌, ◌≤◌, true, false, List, [], ◌∷◌, ◌++◌, Option, Some, None, Err, refl, sym, ap, append_assoc, arith, ◌⊎◌, inl, inr}
 use Rattle.lex.specs.declared.token.Fixed.TheVariants.{Keyword, Punctuator}
 use Rattle.lex.specs.declared.token.Keyword.TheVariants as key
 use Rattle.lex.specs.declared.token.Punctuator.TheVariants as punct
@@ -13,15 +13,15 @@ use Rattle.syntax.specs.Grammar as Grammar
 use Rattle.parse.specs.inner.Reading.{wrong, head, mapped, expect, is_next, is_other, before}
 use Rattle.parse.specs.inner.Expressions.{starts_type, whole_at}
 use Rattle.parse.specs.inner.Statements.{starts_simple, declarator_tree, declarator, declaration_tree, declaration, simple_at, declaration_at, start}
-use Rattle.parse.proofs.combinators.Exact.{Nonempty, Exact, Always, Comes, Two, take_exact, relabel, two, value_of}
+use Rattle.parse.proofs.combinators.Exact.{Exact, Always, Comes, Two, take_exact, relabel, two, value_of}
 use Rattle.parse.proofs.combinators.Many.{ManyFit}
 use Rattle.parse.proofs.combinators.Choices.{either_exact}
 use Rattle.parse.proofs.combinators.Lists.{listed_exact, listed_begins}
 use Rattle.parse.proofs.combinators.FixedTokens.{that_fixed, one_begins}
 use Rattle.parse.proofs.combinators.Parts.{MaybeW, MaybeS, is_here, seq_here, behind_exact, before_exact, tail_begins, perhaps_exact}
 use Rattle.parse.proofs.combinators.Knot.{knot_exact, base_exact}
-use Rattle.parse.proofs.combinators.Starts.{solid_by, first_of, stops_exact}
-use Rattle.parse.proofs.expressions.Scalars.{name_begins, name_not_fixed, mark_not_fixed, type_not_fixed, scalar_exact, scalar_begins, scalar_first, type_begins}
+use Rattle.parse.proofs.combinators.Starts.{first_of, stops_exact}
+use Rattle.parse.proofs.expressions.Scalars.{name_begins, name_not_fixed, mark_not_fixed, type_not_fixed, scalar_exact, scalar_first, type_begins}
 use Rattle.parse.proofs.expressions.Wholes.{WholeS, whole_begins, closing_follows}
 use Rattle.parse.proofs.expressions.Levels.{whole_exact}
 use Rattle.parse.proofs.statements.Simples.{semicolon_ends, simple_exact, simple_first, simple_not_fixed, simple_not_type}
@@ -116,9 +116,6 @@ declared_exact d =
 pub declaration_first : (x : Declaration) (p q : List Tok) → Grammar.declaration x p → starts_type (head (p ++ q)) ≡ true
 declaration_first x p q l = first_of (λ h. starts_type h ≡ true) p q l (scalar_first x.of)
 
-pub declaration_solid : (x : Declaration) (p : List Tok) → Grammar.declaration x p → Nonempty p
-declaration_solid x p l = solid_by starts_type p refl (declaration_first x p [] l)
-
 -- a declaration of a type
 declares : (t : Scalar) (p : List Tok) (more : List Tok) → Grammar.scalar t (p ++ more) → Begins Grammar.declaration p
 declares t p more l =
@@ -128,9 +125,6 @@ declares t p more l =
       more = more ++ b.more;
       spelled = record { front = p ++ more; back = b.more; first = l; second = b.spelled; whole = sym (append_assoc p more b.more) };
     }
-
-pub declaration_begins : Begins Grammar.declaration []
-declaration_begins = declares scalar_begins.value [] scalar_begins.more scalar_begins.spelled
 
 pub declaration_starts : (t : Tok) → starts_type (Some t) ≡ true → Begins Grammar.declaration (t ∷ [])
 declaration_starts t h = let b = type_begins t h in declares b.value (t ∷ []) b.more b.spelled
@@ -247,8 +241,3 @@ start_exact d =
 
 abbrev pub start_begins : Begins Grammar.start []
 start_begins = let b = one_begins (Punctuator punct.Semicolon) in record { value = Nothing; more = b.more; spelled = b.spelled }
-
-pub start_solid : (x : Start) (p : List Tok) → Grammar.start x p → Nonempty p
-start_solid Nothing p l = subst Nonempty (sym l.whole) tt
-start_solid (Declares x) p l = declaration_solid x p l
-start_solid (Does s) p l = solid_by starts_simple p refl (does_first s p [] l)

@@ -15,7 +15,7 @@ use Rattle.parse.specs.inner.Expressions.{starts_type}
 use Rattle.parse.specs.inner.Statements.{declaration_at, entry, braced}
 use Rattle.parse.proofs.combinators.Exact.{Exact, Always, Comes, relabel, value_of, Nonempty}
 use Rattle.parse.proofs.combinators.Many.{ManyFit, many_exact}
-use Rattle.parse.proofs.combinators.Parts.{seq_map, seq_here, head_begins, tail_begins, behind_exact, before_exact}
+use Rattle.parse.proofs.combinators.Parts.{seq_map, head_begins, tail_begins, behind_exact, before_exact}
 use Rattle.parse.proofs.combinators.Choices.{either_exact}
 use Rattle.parse.proofs.expressions.Scalars.{type_not_fixed}
 use Rattle.parse.proofs.statements.Leads.{OpenS, not_type, stmt_not_fixed, stmt_starts, stmt_solid, closing_no_else}
@@ -148,10 +148,6 @@ inner_begins = tail_begins (Punctuator punct.CloseBrace) (λ xs. stmts (stmts_fr
 -- the empty block
 pub block_begins : Begins BlockL []
 block_begins = head_begins (Punctuator punct.OpenBrace) InnerL inner_begins
-
--- a block begins with a brace
-pub block_first : (xs : List Stmt) (p q : List Tok) → BlockL xs p → is_next (Punctuator punct.OpenBrace) (head (p ++ q)) ≡ true
-block_first xs p q l = seq_here (Punctuator punct.OpenBrace) _ p q l
 
 -- statements in braces, where what stands in them is read exactly
 pub braced_exact : (P : ℕ → Parser Stmt) (d : ℕ) → Exact P EntryL Within OpenS OpenS d → Exact (λ D. braced (P D)) BlockL (λ D. BlockW (suc D)) Always Always d

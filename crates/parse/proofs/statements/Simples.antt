@@ -15,12 +15,12 @@ use Rattle.parse.specs.inner.Reading.{wrong, head, chained, mapped, is_next}
 use Rattle.parse.specs.inner.Expressions.{type_of_fixed, says, starts_type, is_operand, operand_terminal, starts_expr, whole_at}
 use Rattle.parse.specs.inner.Statements.{assigned_from, changed_from, simple_from, stepped, starts_simple, simple_at}
 use Rattle.parse.specs.inner.Statements as S
-use Rattle.parse.proofs.combinators.Exact.{Nonempty, Exact, Always, Comes, Two, Dep, Empty, take_exact, give_exact, relabel, two, chained_one, value_of}
+use Rattle.parse.proofs.combinators.Exact.{Exact, Always, Comes, Two, Dep, Empty, take_exact, give_exact, relabel, two, chained_one, value_of}
 use Rattle.parse.proofs.combinators.Choices.{either_exact}
 use Rattle.parse.proofs.combinators.FixedTokens.{that_fixed, a_fixed, one_head, seq_head}
 use Rattle.parse.proofs.combinators.Parts.{no_seq, un_seq}
 use Rattle.parse.proofs.combinators.Knot.{knot_exact, base_exact}
-use Rattle.parse.proofs.combinators.Starts.{true_not_false, solid_by, first_of, stops_exact}
+use Rattle.parse.proofs.combinators.Starts.{true_not_false, first_of, stops_exact}
 use Rattle.parse.proofs.expressions.Wholes.{WholeS, whole_begins, whole_first, start_not_step, starts_begins, closing_follows, assigning_follows, step_follows}
 use Rattle.parse.proofs.expressions.Levels.{whole_exact}
 
@@ -291,12 +291,6 @@ simple_first (Evaluate e) p q l = simple_first_at _ _ (inr (rest_first (Evaluate
 simple_first (Assign to op e) p q l = simple_first_at _ _ (inr (rest_first (Assign to op e) p q l))
 simple_first (Adjust to by) p q (inl l) = simple_first_at _ _ (inr (rest_first (Adjust to by) p q l))
 simple_first (Adjust to by) p q (inr l) = simple_first_at _ _ (inl (says_seq the_step by (expr to) p q l))
-
-pub simple_solid : (s : Simple) (p : List Tok) → simple s p → Nonempty p
-simple_solid s p l = solid_by starts_simple p refl (simple_first s p [] l)
-
-abbrev pub simple_begins : Begins simple []
-simple_begins = record { value = Evaluate whole_begins.value; more = whole_begins.more; spelled = whole_begins.spelled }
 
 pub simple_starts : (t : Tok) → starts_simple (Some t) ≡ true → Begins simple (t ∷ [])
 simple_starts t h = go (the_step t) refl

@@ -289,10 +289,6 @@ both_exact zero = (
 )
 both_exact (suc d) = let I = both_exact d in (stmt_step d I.0 I.1, block_step d I.0)
 
--- Each statement, within each depth, is read exactly.
-pub stmt_exact : (d : ℕ) → Exact stmt_at stmt Within OpenS OpenS d
-stmt_exact d = (both_exact d).0
-
 -- So are statements and declarations in braces.
 pub block_exact : (d : ℕ) → Exact block_at BlockL BlockW Always Always d
 block_exact d = (both_exact d).1
