@@ -5,7 +5,7 @@ ghost use Rattle.lex.specs.Tokens.{terminal, toks};
 ghost use Rattle.syntax.specs.Phrases.{is_fixed};
 ghost use Rattle.syntax.specs.Views.{name_of};
 ghost use Rattle.syntax.specs.Grammar.{the_name};
-ghost use Rattle.parse.specs.inner.Reading.{Gives, expect, spot, take, is_next, head};
+ghost use Rattle.parse.specs.inner.Reading.{Gives, GivesBehind, expect, spot, take, is_next, head};
 
 use crate::fault::Failure;
 use containers::Text;
@@ -45,6 +45,19 @@ pub fn expect<'t, 'a>(
             _ => Err(Failure::Wrong(tokens)),
         },
         [] => Err(Failure::Wrong(tokens)),
+    }
+}
+
+/// What stands behind this keyword or punctuator, if that is next.
+pub fn eat<'t, 'a>(tokens: &'t [Token<'a>], fixed: Fixed) -> Option<&'t [Token<'a>]>
+    ensures { GivesBehind fixed (toks tokens.now) result }
+{
+    match tokens {
+        [first, rest @ ..] => match first.kind {
+            kind if is(kind, fixed) => Some(rest),
+            _ => None,
+        },
+        [] => None,
     }
 }
 

@@ -14,7 +14,7 @@ ghost use Rattle.parse.specs.inner.Items as items;
 ghost use Rattle.parse.specs.inner.Headings.{heading_of};
 
 use crate::attributes::{attributes, joined};
-use crate::cursor::{expect, is_next, name};
+use crate::cursor::{eat, expect, is_next, name};
 use crate::fault::Failure;
 use crate::scalar::scalar;
 use crate::stmt::block;
@@ -39,8 +39,7 @@ fn result<'t, 'a>(
 ) -> Result<(Option<Scalar>, &'t [Token<'a>]), Failure<'t, 'a>>
     ensures { Gives (λ x. (x.0, toks x.1.now)) result (items.result (toks tokens.now)) }
 {
-    if is_next(tokens, Fixed::Keyword(Keyword::Void)) {
-        let rest = expect(tokens, Fixed::Keyword(Keyword::Void))?;
+    if let Some(rest) = eat(tokens, Fixed::Keyword(Keyword::Void)) {
         return Ok((None, rest));
     }
     let (of, rest) = scalar(tokens)?;
@@ -140,8 +139,7 @@ fn parameter_list<'t, 'a, A: Allocator + Copy>(
     if is_next(tokens, Fixed::Punctuator(Punctuator::CloseParen)) {
         return Ok((Items::new(alloc), tokens));
     }
-    if is_next(tokens, Fixed::Keyword(Keyword::Void)) {
-        let rest = expect(tokens, Fixed::Keyword(Keyword::Void))?;
+    if let Some(rest) = eat(tokens, Fixed::Keyword(Keyword::Void)) {
         return Ok((Items::new(alloc), rest));
     }
     several(alloc, tokens)

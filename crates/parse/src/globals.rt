@@ -10,7 +10,7 @@ ghost use Rattle.syntax.specs.Grammar.{the_length};
 ghost use Rattle.parse.specs.inner.Reading.{Gives, take, behind};
 ghost use Rattle.parse.specs.inner.Items.{the_placed_value, initialiser, first_value, further_values, first_values, sized, global, value_list, several, globals_from};
 
-use crate::cursor::{expect, is_next, name, spot};
+use crate::cursor::{eat, expect, is_next, name, spot};
 use crate::fault::Failure;
 use containers::Items;
 use lex::token::{Fixed, Kind, Punctuator, Scalar, Span, Token};
@@ -90,10 +90,9 @@ fn first_value<'t, 'a, A: Allocator + Copy>(
     ensures { Gives (λ x. (x.0, toks x.1.now)) result (first_value (toks tokens.now)) }
 {
     let mut first = Items::new(alloc);
-    if !is_next(tokens, Fixed::Punctuator(Punctuator::Assign)) {
+    let Some(rest) = eat(tokens, Fixed::Punctuator(Punctuator::Assign)) else {
         return Ok((first, tokens));
-    }
-    let rest = expect(tokens, Fixed::Punctuator(Punctuator::Assign))?;
+    };
     let (value, rest) = initialiser(rest)?;
     first.push(value)?;
     Ok((first, rest))
@@ -135,10 +134,9 @@ fn first_values<'t, 'a, A: Allocator + Copy>(
 ) -> Result<Firsts<'t, 'a, A>, Failure<'t, 'a>>
     ensures { Gives (λ x. (x.0, toks x.1.now)) result (first_values (toks tokens.now)) }
 {
-    if !is_next(tokens, Fixed::Punctuator(Punctuator::Assign)) {
+    let Some(rest) = eat(tokens, Fixed::Punctuator(Punctuator::Assign)) else {
         return Ok((Items::new(alloc), tokens));
-    }
-    let rest = expect(tokens, Fixed::Punctuator(Punctuator::Assign))?;
+    };
     let rest = expect(rest, Fixed::Punctuator(Punctuator::OpenBrace))?;
     let (all, rest) = value_list(alloc, rest)?;
     let rest = expect(rest, Fixed::Punctuator(Punctuator::CloseBrace))?;
@@ -152,11 +150,10 @@ fn sized<'t, 'a, A: Allocator + Copy>(
 ) -> Result<Sized<'t, 'a, A>, Failure<'t, 'a>>
     ensures { Gives (λ x. ((x.0.0, x.0.1), toks x.1.now)) result (sized (toks tokens.now)) }
 {
-    if !is_next(tokens, Fixed::Punctuator(Punctuator::OpenBracket)) {
+    let Some(rest) = eat(tokens, Fixed::Punctuator(Punctuator::OpenBracket)) else {
         let (first, rest) = first_value(alloc, tokens)?;
         return Ok(((None, first), rest));
-    }
-    let rest = expect(tokens, Fixed::Punctuator(Punctuator::OpenBracket))?;
+    };
     let (length, rest) = length(rest)?;
     let rest = expect(rest, Fixed::Punctuator(Punctuator::CloseBracket))?;
     let (first, rest) = first_values(alloc, rest)?;

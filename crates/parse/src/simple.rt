@@ -11,7 +11,7 @@ ghost use Rattle.parse.specs.inner.Reading.{Gives, head, behind, before, listed,
 ghost use Rattle.parse.specs.inner.Expressions.{whole_at};
 ghost use Rattle.parse.specs.inner.Statements.{GivesToken, simple_from, simple, starts_simple, simple_at, declarator, declaration, declaration_at, start};
 
-use crate::cursor::{closed, expect, is_next, name};
+use crate::cursor::{closed, eat, expect, is_next, name};
 use crate::expr::{expression, starts_expr};
 use crate::fault::Failure;
 use crate::scalar::{scalar, starts_type};
@@ -162,10 +162,9 @@ fn first_value<'t, 'a, A: Allocator + Copy>(
     requires { depth < 2 ^ 32 }
     ensures { Gives (λ x. (option_map expr_of x.0, toks x.1.now)) result (perhaps (token.Punctuator punct.Assign) (behind (token.Punctuator punct.Assign) (whole_at depth)) (toks tokens.now)) }
 {
-    if !is_next(tokens, Fixed::Punctuator(Punctuator::Assign)) {
+    let Some(rest) = eat(tokens, Fixed::Punctuator(Punctuator::Assign)) else {
         return Ok((None, tokens));
-    }
-    let rest = expect(tokens, Fixed::Punctuator(Punctuator::Assign))?;
+    };
     let (value, rest) = expression(alloc, rest, depth)?;
     Ok((Some(value), rest))
 }
@@ -269,8 +268,7 @@ pub fn start<'t, 'a, A: Allocator + Copy>(
     requires { depth < 2 ^ 32 }
     ensures { Gives (λ x. (start_of x.0, toks x.1.now)) result (start depth (toks tokens.now)) }
 {
-    if is_next(tokens, Fixed::Punctuator(Punctuator::Semicolon)) {
-        let rest = expect(tokens, Fixed::Punctuator(Punctuator::Semicolon))?;
+    if let Some(rest) = eat(tokens, Fixed::Punctuator(Punctuator::Semicolon)) {
         return Ok((Start::Nothing, rest));
     }
     if starts_type(tokens) {
@@ -295,8 +293,7 @@ pub fn last_simple<'t, 'a, A: Allocator + Copy>(
     requires { depth < 2 ^ 32 }
     ensures { Gives (λ x. (option_map simple_of x.0, toks x.1.now)) result (before (token.Punctuator punct.CloseParen) (unless (token.Punctuator punct.CloseParen) (simple_at depth)) (toks tokens.now)) }
 {
-    if is_next(tokens, Fixed::Punctuator(Punctuator::CloseParen)) {
-        let rest = expect(tokens, Fixed::Punctuator(Punctuator::CloseParen))?;
+    if let Some(rest) = eat(tokens, Fixed::Punctuator(Punctuator::CloseParen)) {
         return Ok((None, rest));
     }
     let (simple, rest) = simple_before(
@@ -317,8 +314,7 @@ pub fn last_expression<'t, 'a, A: Allocator + Copy>(
     requires { depth < 2 ^ 32 }
     ensures { Gives (λ x. (option_map expr_of x.0, toks x.1.now)) result (before (token.Punctuator punct.Semicolon) (unless (token.Punctuator punct.Semicolon) (whole_at depth)) (toks tokens.now)) }
 {
-    if is_next(tokens, Fixed::Punctuator(Punctuator::Semicolon)) {
-        let rest = expect(tokens, Fixed::Punctuator(Punctuator::Semicolon))?;
+    if let Some(rest) = eat(tokens, Fixed::Punctuator(Punctuator::Semicolon)) {
         return Ok((None, rest));
     }
     let (value, rest) = expression(alloc, tokens, depth)?;

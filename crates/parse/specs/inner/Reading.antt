@@ -106,6 +106,11 @@ is_next m (Some t) = is_fixed m t.terminal
 abbrev pub is_other : Fixed → Option Tok → Bool
 is_other m h = not (is_next m h)
 
+-- what was found behind a keyword or sign, if that is next
+abbrev pub GivesBehind : Fixed → List Tok → Option (Bor (List Token)) → Type 0
+GivesBehind k ts None = is_next k (head ts) ≡ false
+GivesBehind k ts (Some rest) = (is_next k (head ts) ≡ true) × (expect k ts ≡ Ok (tt, toks rest.now))
+
 abbrev pub if_there : {A : Type 0} → Bool → Parser A → Parser (Option A)
 if_there true P = mapped Some P
 if_there false P = give None
