@@ -47,8 +47,10 @@ fn measure(rt: &HostRuntime, piece: &str) -> io::Result<()> {
 
 fn main(rt: HostRuntime) -> io::Result<()> {
     let words: Vec<String> = env::args(&rt)?.collect(rt.alloc())?;
-    for piece in words.as_slice() {
-        measure(&rt, piece.as_str())?;
+    if let [_, pieces @ ..] = words.as_slice() {
+        for piece in pieces {
+            measure(&rt, piece.as_str())?;
+        }
     }
     Ok(())
 }
