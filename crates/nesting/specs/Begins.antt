@@ -1,0 +1,13 @@
+-- What begins save.
+use Rattle.std.specs.Prelude.{ℕ, List}
+
+-- for a thread that runs code: the registers of the frame on top, the number of frames, and the begin's place
+pub record Saved : Type 0 where
+  pub registers : List ℕ
+  pub frames : ℕ
+  pub place : ℕ
+
+-- an inner begin: what was saved there, and the write log as it was
+pub record Checkpoint (S : Type 0) : Type 0 where
+  pub saved : S
+  pub writes : List (ℕ × ℕ)

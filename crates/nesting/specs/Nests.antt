@@ -1,0 +1,30 @@
+-- An attempt's logs and begins as its contracts see them.
+use Rattle.std.specs.Prelude.{◌≡◌, ◌≤◌, ℕ, Bool, List}
+use Rattle.nesting.specs.Begins.{Saved, Checkpoint}
+
+-- the begins that are open
+pub record Begins : Type 0 where
+  pub saved : Saved  -- at the outermost one
+  pub inner : List (Checkpoint Saved)  -- the inner ones, the innermost first
+
+-- an attempt, and for how many inner begins, reads and writes there is room
+pub record Nest : Type 0 where
+  pub begins : Begins
+  pub aside : Saved  -- what the next begin saves, or what the last cancel or abort goes back to
+  pub reads : List (ℕ × ℕ)  -- the read log
+  pub writes : List (ℕ × ℕ)  -- the write log
+  pub kept : Bool  -- whether an irrevocable took the lock
+  pub begin_room : ℕ
+  pub read_room : ℕ
+  pub write_room : ℕ
+
+-- all but the room is as it was, and no room has gone
+pub record GainsRoom (old new : Nest) : Type 0 where
+  pub begins : new.begins ≡ old.begins
+  pub aside : new.aside ≡ old.aside
+  pub reads : new.reads ≡ old.reads
+  pub writes : new.writes ≡ old.writes
+  pub kept : new.kept ≡ old.kept
+  pub begin_room : old.begin_room ≤ new.begin_room
+  pub read_room : old.read_room ≤ new.read_room
+  pub write_room : old.write_room ≤ new.write_room

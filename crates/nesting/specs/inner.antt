@@ -1,0 +1,2 @@
+-- the checkpoints of lists of what was saved and of marks
+pub mod Checkpoints

@@ -1,0 +1,256 @@
+//! An attempt: its logs and its begins.
+
+ghost use Rattle.std.specs.Prelude.{◌≡◌, ◌+◌, ◌<◌, ◌≤◌, ◌^◌, List, [], ◌∷◌, ◌++◌, true, false, OnOk, OnErr, OnSome, length, drop};
+ghost use Rattle.std.specs.List.{slice_get};
+ghost use Rattle.write_log.specs.Overlay.{written, put};
+ghost use Rattle.nesting.specs.Nests.{GainsRoom};
+
+use super::Saved;
+use read_log::ReadLog;
+use std::alloc::{AllocError, Allocator, Global};
+use std::marker::Model;
+use std::mem;
+use write_log::WriteLog;
+
+/// The two logs of an attempt, what each of its begins saved, and whether the lock is kept.
+///
+/// Contracts see the begins, with the write log as it was at each inner one; the logs; and beside them what was set
+/// aside, and numbers: for how many inner begins, reads and writes there is room. Only the calls named `prepare` take
+/// memory. Room stays from one transaction to the next, that of the registers at each depth too.
+#[derive(Debug, Drop)]
+pub struct Attempt<A: Allocator = Global> {
+    reads: ReadLog<A>,
+    writes: WriteLog<A>,
+    outermost: Saved<A>,
+    // The first `depth` are what the open inner begins saved, the outermost one first. The others are room.
+    inner: Vec<Saved<A>, A>,
+    depth: usize,
+    aside: Saved<A>,
+    kept: bool,
+    alloc: A,
+}
+
+impl<A: Allocator> Model for Attempt<A> {
+    ghost use Rattle.std.specs.Prelude.{◌-◌, ◌≤◌, min, [], take, length, vec_len};
+    ghost use Rattle.nesting.specs.Nests.{Nest};
+    ghost use Rattle.nesting.specs.inner.Checkpoints.{checkpoints};
+
+    ghost Value = { Nest };
+
+    ghost view = { λ a. record { begins = record { saved = a.outermost; inner = checkpoints [] (take a.depth a.inner.items) a.writes.marks }; aside = a.aside; reads = a.reads.pairs; writes = a.writes.pairs; kept = a.kept; begin_room = min a.writes.room (vec_len a.inner - a.depth); read_room = a.reads.room; write_room = a.writes.room } };
+
+    // Each open inner begin has its list and its mark. Marks past those are of inner transactions that have committed.
+    ghost invariant = { λ a. (a.depth ≤ vec_len a.inner) × (a.depth ≤ length a.writes.marks) };
+}
+
+impl<A: Allocator + Copy> Attempt<A> {
+    /// Nothing is logged, and no begin is open. It takes no memory yet.
+    pub fn new(alloc: A) -> Attempt<A>
+        ensures inner { result.begins.inner ≡ [] }
+        ensures reads { result.reads ≡ [] }
+        ensures writes { result.writes ≡ [] }
+        ensures kept { result.kept ≡ false }
+    {
+        Attempt {
+            reads: ReadLog::new(alloc),
+            writes: WriteLog::new(alloc),
+            outermost: Saved::new(alloc),
+            inner: Vec::new(alloc),
+            depth: 0,
+            aside: Saved::new(alloc),
+            kept: false,
+            alloc,
+        }
+    }
+
+    /// Sets aside what the next begin saves, and makes room for that begin. The error comes only where there is none and
+    /// the allocator refuses it.
+    pub fn prepare_begin(
+        &mut self,
+        registers: &[u64],
+        frames: usize,
+        place: u32,
+    ) -> Result<(), AllocError>
+        ensures room { OnOk result (0 < self.new.begin_room) }
+        ensures aside { OnOk result (self.new.aside ≡ record { registers = registers.now; frames = frames; place = place }) }
+        ensures err { OnErr result (self.new.aside ≡ self.old.aside) }
+        ensures others { GainsRoom (record self.old { aside = self.new.aside }) self.new }
+    {
+        if self.inner.len() == self.depth {
+            self.inner.push(Saved::new(self.alloc))?;
+        }
+        self.writes.reserve_one()?;
+        self.aside.save(registers, frames, place)
+    }
+
+    /// Makes room for one `log_read`. The error comes only where there is none and the allocator refuses it.
+    pub fn prepare_read(&mut self) -> Result<(), AllocError>
+        ensures room { OnOk result (0 < self.new.read_room) }
+        ensures others { GainsRoom self.old self.new }
+        ensures full { OnErr result (self.old.read_room ≡ 0) }
+    {
+        self.reads.reserve_one()
+    }
+
+    /// Makes room for one `write`. The error comes only where there is none and the allocator refuses it.
+    pub fn prepare_write(&mut self) -> Result<(), AllocError>
+        ensures room { OnOk result (0 < self.new.write_room) }
+        ensures others { GainsRoom self.old self.new }
+        ensures full { OnErr result (self.old.write_room ≡ 0) }
+    {
+        self.writes.reserve_one()
+    }
+
+    /// Begins anew, at an outermost begin that saves what was set aside.
+    pub fn begin(&mut self)
+        ensures saved { self.new.begins.saved ≡ self.old.aside }
+        ensures inner { self.new.begins.inner ≡ [] }
+        ensures reads { self.new.reads ≡ [] }
+        ensures writes { self.new.writes ≡ [] }
+        ensures kept { self.new.kept ≡ false }
+        ensures read_room { self.new.read_room ≡ self.old.read_room + length self.old.reads }
+        ensures write_room { self.old.write_room ≤ self.new.write_room }
+    {
+        mem::swap(&mut self.outermost, &mut self.aside);
+        self.depth = 0;
+        self.reads.clear();
+        self.writes.clear();
+        self.kept = false;
+    }
+
+    /// Opens a begin inside the others that saves what was set aside.
+    pub fn begin_inner(&mut self)
+        requires { 0 < self.old.begin_room }
+        ensures saved { self.new.begins.saved ≡ self.old.begins.saved }
+        ensures inner { self.new.begins.inner ≡ record { saved = self.old.aside; writes = self.old.writes } ∷ self.old.begins.inner }
+        ensures reads { self.new.reads ≡ self.old.reads }
+        ensures writes { self.new.writes ≡ self.old.writes }
+        ensures kept { self.new.kept ≡ self.old.kept }
+    {
+        self.writes.mark(self.depth);
+        mem::swap(&mut self.inner[self.depth], &mut self.aside);
+        self.depth += 1;
+    }
+
+    /// Commits the innermost of the inner begins: what was written since stays.
+    pub fn commit_inner(&mut self)
+        requires { 0 < length self.old.begins.inner }
+        ensures saved { self.new.begins.saved ≡ self.old.begins.saved }
+        ensures inner { self.new.begins.inner ≡ drop 1 self.old.begins.inner }
+        ensures reads { self.new.reads ≡ self.old.reads }
+        ensures writes { self.new.writes ≡ self.old.writes }
+        ensures kept { self.new.kept ≡ self.old.kept }
+    {
+        self.depth -= 1;
+    }
+
+    /// Cancels the innermost of the inner begins: the write log is what it was there, and what was saved is set aside. The
+    /// read log stays.
+    pub fn cancel(&mut self)
+        requires { 0 < length self.old.begins.inner }
+        ensures saved { self.new.begins.saved ≡ self.old.begins.saved }
+        ensures back { self.old.begins.inner ≡ record { saved = self.new.aside; writes = self.new.writes } ∷ self.new.begins.inner }
+        ensures reads { self.new.reads ≡ self.old.reads }
+        ensures kept { self.new.kept ≡ self.old.kept }
+    {
+        let innermost = self.depth - 1;
+        self.writes.back_to(innermost);
+        mem::swap(&mut self.inner[innermost], &mut self.aside);
+        self.depth = innermost;
+    }
+
+    /// Sets aside what the outermost begin saved, to go back to. The logs stay until the next outermost begin, and are of
+    /// no use.
+    pub fn abort(&mut self)
+        ensures back { self.new.aside ≡ self.old.begins.saved }
+        ensures reads { self.new.reads ≡ self.old.reads }
+        ensures writes { self.new.writes ≡ self.old.writes }
+        ensures kept { self.new.kept ≡ self.old.kept }
+    {
+        mem::swap(&mut self.aside, &mut self.outermost);
+    }
+
+    /// Logs what was found at an address, which counts shared cells.
+    pub fn log_read(&mut self, address: u32, word: u64)
+        requires { 0 < self.old.read_room }
+        ensures begins { self.new.begins ≡ self.old.begins }
+        ensures reads { self.new.reads ≡ self.old.reads ++ (address, word) ∷ [] }
+        ensures writes { self.new.writes ≡ self.old.writes }
+        ensures kept { self.new.kept ≡ self.old.kept }
+    {
+        self.reads.push(address, word);
+    }
+
+    /// Writes a word at an address.
+    pub fn write(&mut self, address: u32, word: u64)
+        requires { 0 < self.old.write_room }
+        ensures begins { self.new.begins ≡ self.old.begins }
+        ensures reads { self.new.reads ≡ self.old.reads }
+        ensures writes { self.new.writes ≡ put address word self.old.writes }
+        ensures kept { self.new.kept ≡ self.old.kept }
+    {
+        self.writes.put(address, word);
+    }
+
+    /// Keeps the lock.
+    pub fn keep(&mut self)
+        ensures begins { self.new.begins ≡ self.old.begins }
+        ensures reads { self.new.reads ≡ self.old.reads }
+        ensures writes { self.new.writes ≡ self.old.writes }
+        ensures kept { self.new.kept ≡ true }
+    {
+        self.kept = true;
+    }
+
+    /// Whether the lock is kept.
+    pub fn is_kept(&self) -> bool
+        ensures { result ≡ self.now.kept }
+    {
+        self.kept
+    }
+
+    /// The number of inner begins that are open.
+    pub fn depth(&self) -> usize
+        ensures { result ≡ length self.now.begins.inner }
+    {
+        self.depth
+    }
+
+    /// What was set aside: by `prepare_begin`, or by a cancel or an abort.
+    pub fn aside(&self) -> &Saved<A>
+        ensures { result.now ≡ self.now.aside }
+    {
+        &self.aside
+    }
+
+    /// The word last written at an address, if any.
+    pub fn written(&self, address: u32) -> Option<u64>
+        ensures { result ≡ written address self.now.writes }
+    {
+        self.writes.get(address)
+    }
+
+    /// The pair of the read log at a place, from 0; none past the end.
+    pub fn read_at(&self, place: usize) -> Option<(u32, u64)>
+        ensures value { result ≡ slice_get self.now.reads place }
+        ensures next { OnSome result (place + 1 < 2 ^ 64) }
+    {
+        if place < self.reads.len() {
+            self.reads.get(place)
+        } else {
+            None
+        }
+    }
+
+    /// The pair of the write log at a place, from 0, in order of first write; none past the end.
+    pub fn write_at(&self, place: usize) -> Option<(u32, u64)>
+        ensures value { result ≡ slice_get self.now.writes place }
+        ensures next { OnSome result (place + 1 < 2 ^ 64) }
+    {
+        if place < self.writes.len() {
+            Some(self.writes.pair_at(place))
+        } else {
+            None
+        }
+    }
+}

@@ -1,0 +1,85 @@
+//! What a begin saves.
+
+ghost use Rattle.std.specs.Prelude.{◌≡◌, ◌≤◌, [], OnOk, OnErr, length, vec_capacity};
+
+use std::alloc::{AllocError, Allocator, Global};
+use std::marker::Model;
+
+/// What a begin saves of its thread: the registers of the frame on top, the number of frames, and the begin's place,
+/// which counts instructions.
+#[derive(Debug, Drop)]
+pub struct Saved<A: Allocator = Global> {
+    registers: Vec<u64, A>,
+    frames: usize,
+    place: u32,
+}
+
+impl<A: Allocator> Model for Saved<A> {
+    ghost use Rattle.nesting.specs.Begins.{Saved as SavedState};
+
+    ghost Value = { SavedState };
+
+    ghost view = { λ s. record { registers = s.registers.items; frames = s.frames; place = s.place } };
+}
+
+// Puts these registers in place of those that were there. It takes no memory.
+fn refill<A: Allocator>(registers: &mut Vec<u64, A>, from: &[u64])
+    requires { length from.now ≤ vec_capacity registers.old }
+    ensures { registers.new.items ≡ from.now }
+{
+    registers.clear();
+    for register in from {
+        registers.push_reserved(*register);
+    }
+}
+
+impl<A: Allocator + Copy> Saved<A> {
+    // No registers, no frames, place 0. It takes no memory yet.
+    pub(crate) fn new(alloc: A) -> Saved<A> {
+        Saved {
+            registers: Vec::new(alloc),
+            frames: 0,
+            place: 0,
+        }
+    }
+
+    // Saves these in place of what was saved. The error comes only where the registers have no room and the allocator
+    // refuses it.
+    pub(crate) fn save(
+        &mut self,
+        registers: &[u64],
+        frames: usize,
+        place: u32,
+    ) -> Result<(), AllocError>
+        ensures ok { OnOk result (self.new ≡ record { registers = registers.now; frames = frames; place = place }) }
+        ensures err { OnErr result (self.new ≡ self.old) }
+    {
+        let more = registers.len().saturating_sub(self.registers.len());
+        self.registers.reserve(more)?;
+        refill(&mut self.registers, registers);
+        self.frames = frames;
+        self.place = place;
+        Ok(())
+    }
+
+    /// The registers of the frame on top.
+    pub fn registers(&self) -> &[u64]
+        ensures { result.now ≡ self.now.registers }
+    {
+        self.registers.as_slice()
+    }
+
+    /// The number of frames.
+    pub fn frames(&self) -> usize
+        ensures { result ≡ self.now.frames }
+    {
+        self.frames
+    }
+
+    /// The place of the begin.
+    pub fn place(&self) -> u32
+        ensures { result ≡ self.now.place }
+    {
+        self.place
+    }
+}
