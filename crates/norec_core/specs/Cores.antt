@@ -1,0 +1,30 @@
+-- A core as its contracts see it.
+use Rattle.std.specs.Prelude.{Bool, false, Option, None, Some, IsSomeAnd}
+use Rattle.norec_core.specs.declared.step.Op.{Op}
+use Rattle.norec_core.specs.declared.step.Answer.{Answer}
+use Rattle.nesting.specs.Begins.{Saved}
+use Rattle.norec_core.specs.Attempts.{Attempt}
+use Rattle.norec_core.specs.Accesses.{IsAnswerTo}
+use Rattle.norec_core.specs.Phases.{CoreStep, core_access, core_step, idle}
+
+pub record CoreState : Type 0 where
+  pub attempt : Option (Attempt Saved)  -- the one under way, if any
+  pub asked : Option Op  -- what was prepared and is not told its answer yet
+  pub saved : Saved  -- what the begin that was prepared saves, or what the last cancel or abort goes back to
+
+-- an operation was prepared, and the answer is one to its access
+abbrev pub IsAnswered : CoreState → Answer → Type 0
+IsAnswered c answer = IsSomeAnd c.asked (λ op. IsAnswerTo (core_access c.attempt op) answer)
+
+-- the step that was prepared, with the answer to its access
+abbrev pub stepped_by : CoreState → Option Op → Answer → CoreStep Saved
+stepped_by c None answer = idle
+stepped_by c (Some op) answer = core_step c.saved c.attempt op answer
+
+abbrev pub stepped : CoreState → Answer → CoreStep Saved
+stepped c answer = stepped_by c c.asked answer
+
+-- whether an attempt is under way whose lock is kept
+abbrev pub is_kept : Option (Attempt Saved) → Bool
+is_kept None = false
+is_kept (Some a) = a.kept

@@ -1,0 +1,72 @@
+-- The attempt of a core as the code of its steps sees it, and what that code keeps true.
+use Rattle.std.specs.Prelude.{◌≡◌, ◌+◌, ◌^◌, ◌%◌, ◌<◌, ◌≤◌, ℕ, Bool, true, false, Option, None, Some, IfSome, if◌then◌else◌}
+use Rattle.nesting.specs.Begins.{Saved}
+use Rattle.nesting.specs.Nests.{Nest}
+use Rattle.norec_core.specs.declared.step.Op.{Op}
+use Rattle.norec_core.specs.declared.step.Op.TheVariants as op
+use Rattle.norec_core.specs.declared.step.Outcome.{Outcome}
+use Rattle.norec_core.specs.declared.step.Phase.{Phase}
+use Rattle.norec_core.specs.declared.step.Phase.TheVariants.{AtOperation, ReadsLock, ValidatesTime, ValidatesEntry, Stores}
+use Rattle.norec_core.specs.Attempts.{Attempt}
+use Rattle.norec_core.specs.Accesses.{stops}
+use Rattle.norec_core.specs.Phases.{CoreStep, core_access}
+
+-- an attempt, whether it is under way, what was set aside, and for how many inner begins, reads and writes there is room
+pub record Run : Type 0 where
+  pub begun : Bool
+  pub attempt : Attempt Saved
+  pub aside : Saved
+  pub begin_room : ℕ
+  pub read_room : ℕ
+  pub write_room : ℕ
+
+-- an attempt by its logs and begins, its first snapshot, its snapshot and its phase
+abbrev pub attempt_by : Nest → ℕ → ℕ → Phase → Attempt Saved
+attempt_by n first snapshot phase = record { saved = n.begins.saved; first = first; snapshot = snapshot; reads = n.reads; writes = n.writes; inner = n.begins.inner; kept = n.kept; phase = phase }
+
+-- the attempt under way
+abbrev pub attempt_of : Run → Option (Attempt Saved)
+attempt_of r = if r.begun then Some r.attempt else None
+
+-- the outcome and the attempt are what a step leaves, and what it goes back to, if it does, is set aside
+pub record IsStep (n : CoreStep Saved) (result : Outcome) (new : Run) : Type 0 where
+  pub attempt : attempt_of new ≡ n.attempt
+  pub outcome : result ≡ n.outcome
+  pub back : IfSome n.back (λ s. new.aside ≡ s)
+
+-- all but the room is as it was, and no room has gone
+pub record GainsRoom (old new : Run) : Type 0 where
+  pub begun : new.begun ≡ old.begun
+  pub attempt : new.attempt ≡ old.attempt
+  pub aside : new.aside ≡ old.aside
+  pub begin_room : old.begin_room ≤ new.begin_room
+  pub read_room : old.read_room ≤ new.read_room
+  pub write_room : old.write_room ≤ new.write_room
+
+-- there is room for what a step of this operation may add
+abbrev pub HasRoom : Op → Run → Type 0
+HasRoom op.Begin r = 0 < r.begin_room
+HasRoom (op.Read address) r = 0 < r.read_room
+HasRoom (op.Write address word) r = 0 < r.write_room
+HasRoom _ r = Unit {0}
+
+-- a step was prepared: it has its room, and does not stop
+abbrev pub IsPrepared : Option Op → Run → Type 0
+IsPrepared None r = Unit {0}
+IsPrepared (Some op) r = HasRoom op r × (stops (core_access (attempt_of r) op) ≡ false)
+
+-- the lock, kept or taken, has a value left for its release
+abbrev pub CanRelease : ℕ → Type 0
+CanRelease snapshot = snapshot + 4 ≤ 2 ^ 64
+
+abbrev pub CanReleaseKept : Bool → ℕ → Type 0
+CanReleaseKept true snapshot = CanRelease snapshot
+CanReleaseKept false snapshot = Unit {0}
+
+-- by phase: what has the lock can release it; what validates does not have it, and validates at an even lock
+abbrev pub IsStanding : Phase → Bool → ℕ → Type 0
+IsStanding AtOperation kept snapshot = CanReleaseKept kept snapshot
+IsStanding (ReadsLock word) kept snapshot = kept ≡ false
+IsStanding ValidatesTime kept snapshot = kept ≡ false
+IsStanding (ValidatesEntry time place) kept snapshot = (kept ≡ false) × (time % 2 ≡ 0)
+IsStanding (Stores place) kept snapshot = CanRelease snapshot

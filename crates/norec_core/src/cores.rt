@@ -1,0 +1,116 @@
+//! The core of a thread: an operation's step is prepared, then told the answer to its access.
+
+ghost use Rattle.std.specs.Prelude.{◌≡◌, ◌≢◌, ◌↔◌, true, None, Some, IsTrue, IsSome, IfOk, IfSome, OnOk, OnErr};
+ghost use Rattle.norec_core.specs.Accesses.{stops};
+ghost use Rattle.norec_core.specs.Phases.{core_access};
+ghost use Rattle.norec_core.specs.Cores.{IsAnswered, stepped, is_kept};
+
+use super::step::{Access, Answer, Op, Outcome, Stop};
+use super::steps::Steps;
+use nesting::Saved;
+use std::alloc::{Allocator, Global};
+use std::marker::Model;
+
+/// The last even value of the lock: a swap from it would leave no value for the release.
+const LAST_SNAPSHOT: u64 = u64::MAX - 1;
+
+/// The attempt of one thread, if one is under way.
+///
+/// Each step is made in two calls, with the step's one access to the lock or the words between them: `prepare` names the
+/// access and makes all room that the step needs, `told` takes the answer, and neither fails nor takes memory. An
+/// operation is prepared again until it is done or the attempt is dropped.
+#[derive(Debug, Drop)]
+pub struct Core<A: Allocator = Global> {
+    steps: Steps<A>,
+    asked: Option<Op>,
+}
+
+impl<A: Allocator> Model for Core<A> {
+    ghost use Rattle.norec_core.specs.Cores.{CoreState};
+    ghost use Rattle.norec_core.specs.inner.Runs.{attempt_of, IsPrepared};
+
+    ghost Value = { CoreState };
+
+    ghost view = { λ c. record { attempt = attempt_of c.steps; asked = c.asked; saved = c.steps.aside } };
+
+    ghost invariant = { λ c. IsPrepared c.asked c.steps };
+}
+
+impl<A: Allocator + Copy> Core<A> {
+    /// No attempt is under way, and nothing was prepared. It takes no memory yet.
+    pub fn new(alloc: A) -> Core<A>
+        ensures attempt { result.attempt ≡ None }
+        ensures asked { result.asked ≡ None }
+    {
+        Core {
+            steps: Steps::new(alloc),
+            asked: None,
+        }
+    }
+
+    /// Prepares the next step of an operation, and names its access. A begin saves these registers, this number of frames
+    /// and this place, which counts instructions; other operations do not look at them.
+    ///
+    /// An error leaves all as it was: `OutOfMemory` where room was refused, `SequenceUsedUp` where the step would swap the
+    /// lock from its last even value.
+    pub fn prepare(
+        &mut self,
+        op: Op,
+        registers: &[u64],
+        frames: usize,
+        place: u32,
+    ) -> Result<Access, Stop>
+        ensures access { IfOk result (λ access. access ≡ core_access self.old.attempt op) }
+        ensures asked { OnOk result (self.new.asked ≡ Some op) }
+        ensures saved { op ≡ Op.Begin → OnOk result (self.new.saved ≡ record { registers = registers.now; frames = frames; place = place }) }
+        ensures same { op ≢ Op.Begin → self.new.saved ≡ self.old.saved }
+        ensures attempt { self.new.attempt ≡ self.old.attempt }
+        ensures err { OnErr result (self.new ≡ self.old) }
+        ensures used_up { (result ≡ Err Stop.SequenceUsedUp) ↔ (stops (core_access self.old.attempt op) ≡ true) }
+    {
+        let access = self.steps.access(op);
+        if let Access::Swap(LAST_SNAPSHOT) = access {
+            return Err(Stop::SequenceUsedUp);
+        }
+        if self.steps.make_room(op, registers, frames, place).is_err() {
+            return Err(Stop::OutOfMemory);
+        }
+        self.asked = Some(op);
+        Ok(access)
+    }
+
+    /// Makes the step that was prepared, with the answer to its access. It takes no memory.
+    pub fn told(&mut self, answer: Answer) -> Outcome
+        requires { IsAnswered self.old answer }
+        ensures attempt { self.new.attempt ≡ (stepped self.old answer).attempt }
+        ensures outcome { result ≡ (stepped self.old answer).outcome }
+        ensures back { IfSome (stepped self.old answer).back (λ s. self.new.saved ≡ s) }
+        ensures asked { self.new.asked ≡ None }
+    {
+        match self.asked.take() {
+            Some(op) => self.steps.told(op, answer),
+            None => Outcome::Going,
+        }
+    }
+
+    /// What to go back to, after a step that cancelled or aborted: the thread's state at that begin.
+    pub fn saved(&self) -> &Saved<A>
+        ensures { result.now ≡ self.now.saved }
+    {
+        self.steps.aside()
+    }
+
+    /// Whether an attempt is under way.
+    pub fn has_attempt(&self) -> bool
+        ensures { IsTrue result ↔ IsSome self.now.attempt }
+    {
+        self.steps.has_begun()
+    }
+
+    /// Whether an attempt is under way that keeps the lock.
+    pub fn is_kept(&self) -> bool
+        ensures { result ≡ is_kept self.now.attempt }
+    {
+        self.steps.has_begun() && self.steps.is_kept()
+    }
+}

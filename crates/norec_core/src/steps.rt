@@ -1,0 +1,381 @@
+//! The steps of an attempt, phase by phase: the access of each, and what comes of its answer.
+
+ghost use Rattle.std.specs.Prelude.{◌≡◌, ◌≢◌, ◌+◌, ◌^◌, ◌<◌, ◌≤◌, true, false, None, OnOk, OnErr, slice_get};
+ghost use Rattle.write_log.specs.Overlay.{written};
+ghost use Rattle.norec_core.specs.Accesses.{stops};
+ghost use Rattle.norec_core.specs.Phases.{core_access, core_step, core_phase, core_operation, core_read, core_commit, core_cancel, core_swap, core_store, core_check, core_time, core_compare, operation_access, commit_access, entry_access, store_access};
+ghost use Rattle.norec_core.specs.inner.Runs.{attempt_of, IsStep, GainsRoom, HasRoom, CanRelease};
+
+use super::step::{Access, Answer, Op, Outcome, Phase};
+use nesting::{Attempt, Saved};
+use std::alloc::{AllocError, Allocator};
+use std::marker::Model;
+
+// The attempt of a thread, if one is under way, and where it stands.
+#[derive(Debug, Drop)]
+pub(crate) struct Steps<A: Allocator> {
+    logs: Attempt<A>,
+    begun: bool,
+    first: u64,
+    snapshot: u64,
+    phase: Phase,
+}
+
+impl<A: Allocator> Model for Steps<A> {
+    ghost use Rattle.std.specs.Prelude.{◌≡◌, ◌%◌};
+    ghost use Rattle.norec_core.specs.inner.Runs.{Run, attempt_by, IsStanding};
+
+    ghost Value = { Run };
+
+    ghost view = { λ s. record { begun = s.begun; attempt = attempt_by s.logs s.first s.snapshot s.phase; aside = s.logs.aside; begin_room = s.logs.begin_room; read_room = s.logs.read_room; write_room = s.logs.write_room } };
+
+    ghost invariant = { λ s. (s.snapshot % 2 ≡ 0) × IsStanding s.phase s.logs.kept s.snapshot };
+}
+
+impl<A: Allocator + Copy> Steps<A> {
+    // No attempt is under way. It takes no memory yet.
+    pub(crate) fn new(alloc: A) -> Steps<A>
+        ensures { result.begun ≡ false }
+    {
+        Steps {
+            logs: Attempt::new(alloc),
+            begun: false,
+            first: 0,
+            snapshot: 0,
+            phase: Phase::AtOperation,
+        }
+    }
+
+    // Makes room for what a step of this operation may add, and sets aside what a begin saves.
+    pub(crate) fn make_room(
+        &mut self,
+        op: Op,
+        registers: &[u64],
+        frames: usize,
+        place: u32,
+    ) -> Result<(), AllocError>
+        ensures room { OnOk result (HasRoom op self.new) }
+        ensures aside { op ≡ Op.Begin → OnOk result (self.new.aside ≡ record { registers = registers.now; frames = frames; place = place }) }
+        ensures same { op ≢ Op.Begin → self.new.aside ≡ self.old.aside }
+        ensures err { OnErr result (self.new.aside ≡ self.old.aside) }
+        ensures others { GainsRoom (record self.old { aside = self.new.aside }) self.new }
+    {
+        match op {
+            Op::Begin => self.logs.prepare_begin(registers, frames, place),
+            Op::Read(_) => self.logs.prepare_read(),
+            Op::Write(_, _) => self.logs.prepare_write(),
+            _ => Ok(()),
+        }
+    }
+
+    pub(crate) fn has_begun(&self) -> bool
+        ensures { result ≡ self.now.begun }
+    {
+        self.begun
+    }
+
+    pub(crate) fn is_kept(&self) -> bool
+        ensures { result ≡ self.now.attempt.kept }
+    {
+        self.logs.is_kept()
+    }
+
+    pub(crate) fn aside(&self) -> &Saved<A>
+        ensures { result.now ≡ self.now.aside }
+    {
+        self.logs.aside()
+    }
+
+    // The access of the next step.
+    pub(crate) fn access(&self, op: Op) -> Access
+        ensures { result ≡ core_access (attempt_of self.now) op }
+    {
+        if !self.begun {
+            return match op {
+                Op::Begin => Access::LoadLock,
+                _ => Access::Local,
+            };
+        }
+        match self.phase {
+            Phase::AtOperation => self.operation_access(op),
+            Phase::ReadsLock(_) => Access::LoadLock,
+            Phase::ValidatesTime => Access::LoadLock,
+            Phase::ValidatesEntry(_, place) => self.entry_access(place),
+            Phase::Stores(place) => self.store_access(place),
+        }
+    }
+
+    fn operation_access(&self, op: Op) -> Access
+        requires { self.now.attempt.phase ≡ Phase.AtOperation }
+        ensures { result ≡ operation_access self.now.attempt op }
+    {
+        match op {
+            Op::Read(address) => match self.logs.written(address) {
+                Some(_) => Access::Local,
+                None => Access::LoadWord(address),
+            },
+            Op::Commit => self.commit_access(),
+            Op::Irrevocable if !self.logs.is_kept() => Access::Swap(self.snapshot),
+            Op::Release if self.logs.is_kept() => Access::StoreLock(self.snapshot + 2),
+            _ => Access::Local,
+        }
+    }
+
+    fn commit_access(&self) -> Access
+        requires { self.now.attempt.phase ≡ Phase.AtOperation }
+        ensures { result ≡ commit_access self.now.attempt self.now.attempt.inner self.now.attempt.kept self.now.attempt.writes }
+    {
+        if self.logs.depth() > 0 {
+            return Access::Local;
+        }
+        if self.logs.is_kept() {
+            return self.store_access(0);
+        }
+        match self.logs.write_at(0) {
+            Some(_) => Access::Swap(self.snapshot),
+            None => Access::Local,
+        }
+    }
+
+    fn entry_access(&self, place: usize) -> Access
+        ensures { result ≡ entry_access (slice_get self.now.attempt.reads place) }
+    {
+        match self.logs.read_at(place) {
+            Some(entry) => Access::LoadWord(entry.0),
+            None => Access::LoadLock,
+        }
+    }
+
+    fn store_access(&self, place: usize) -> Access
+        requires { CanRelease self.now.attempt.snapshot }
+        ensures { result ≡ store_access self.now.attempt.snapshot (slice_get self.now.attempt.writes place) }
+    {
+        match self.logs.write_at(place) {
+            Some(pair) => Access::StoreWord(pair.0, pair.1),
+            None => Access::StoreLock(self.snapshot + 2),
+        }
+    }
+
+    // Makes the step with the answer to its access. It takes no memory.
+    pub(crate) fn told(&mut self, op: Op, answer: Answer) -> Outcome
+        requires room { HasRoom op self.old }
+        requires goes_on { stops (core_access (attempt_of self.old) op) ≡ false }
+        ensures { IsStep (core_step self.old.aside (attempt_of self.old) op answer) result self.new }
+    {
+        if self.begun {
+            return self.told_inside(op, answer);
+        }
+        if let Op::Begin = op {
+            return self.told_begin(answer);
+        }
+        Outcome::Going
+    }
+
+    // An outermost begin: an even lock value is the snapshot.
+    fn told_begin(&mut self, answer: Answer) -> Outcome
+        requires { self.old.begun ≡ false }
+        ensures { IsStep (core_step self.old.aside None Op.Begin answer) result self.new }
+    {
+        if let Answer::Value(lock) = answer {
+            if lock % 2 == 0 {
+                self.logs.begin();
+                self.begun = true;
+                self.first = lock;
+                self.snapshot = lock;
+                self.phase = Phase::AtOperation;
+                return Outcome::Done;
+            }
+        }
+        Outcome::Going
+    }
+
+    fn told_inside(&mut self, op: Op, answer: Answer) -> Outcome
+        requires begun { self.old.begun ≡ true }
+        requires room { HasRoom op self.old }
+        requires goes_on { stops (core_access (attempt_of self.old) op) ≡ false }
+        ensures { IsStep (core_phase self.old.aside self.old.attempt self.old.attempt.phase op answer) result self.new }
+    {
+        match (self.phase, op) {
+            (Phase::AtOperation, _) => self.told_operation(op, answer),
+            (Phase::ReadsLock(word), Op::Read(address)) => self.told_check(address, word, answer),
+            (Phase::ValidatesTime, _) => self.told_time(answer),
+            (Phase::ValidatesEntry(time, place), _) => self.told_compare(time, place, answer),
+            (Phase::Stores(place), Op::Commit) => self.told_store(place),
+            _ => Outcome::Going,
+        }
+    }
+
+    // The first step of an operation.
+    fn told_operation(&mut self, op: Op, answer: Answer) -> Outcome
+        requires begun { self.old.begun ≡ true }
+        requires phase { self.old.attempt.phase ≡ Phase.AtOperation }
+        requires room { HasRoom op self.old }
+        requires goes_on { stops (operation_access self.old.attempt op) ≡ false }
+        ensures { IsStep (core_operation self.old.aside self.old.attempt op answer) result self.new }
+    {
+        match op {
+            Op::Begin => self.logs.begin_inner(),
+            Op::Read(address) => return self.told_read(address, answer),
+            Op::Write(address, word) => self.logs.write(address, word),
+            Op::Commit => return self.told_commit(answer),
+            Op::Cancel => return self.told_cancel(),
+            Op::Irrevocable => return self.told_irrevocable(answer),
+            Op::Release => self.begun = false,
+        }
+        Outcome::Done
+    }
+
+    fn told_read(&mut self, address: u32, answer: Answer) -> Outcome
+        requires begun { self.old.begun ≡ true }
+        requires phase { self.old.attempt.phase ≡ Phase.AtOperation }
+        ensures { IsStep (core_read self.old.attempt (written address self.old.attempt.writes) answer) result self.new }
+    {
+        if let Some(word) = self.logs.written(address) {
+            return Outcome::Read(word);
+        }
+        if let Answer::Value(word) = answer {
+            let unlogged = self.logs.is_kept();
+            if unlogged {
+                return Outcome::Read(word);
+            }
+            self.phase = Phase::ReadsLock(word);
+        }
+        Outcome::Going
+    }
+
+    fn told_commit(&mut self, answer: Answer) -> Outcome
+        requires begun { self.old.begun ≡ true }
+        requires phase { self.old.attempt.phase ≡ Phase.AtOperation }
+        requires goes_on { stops (commit_access self.old.attempt self.old.attempt.inner self.old.attempt.kept self.old.attempt.writes) ≡ false }
+        ensures { IsStep (core_commit self.old.attempt self.old.attempt.inner self.old.attempt.kept self.old.attempt.writes answer) result self.new }
+    {
+        if self.logs.depth() > 0 {
+            self.logs.commit_inner();
+            return Outcome::Done;
+        }
+        if self.logs.is_kept() {
+            return self.told_store(0);
+        }
+        if self.logs.write_at(0).is_none() {
+            self.begun = false;
+            return Outcome::Done;
+        }
+        match answer {
+            Answer::Won => self.phase = Phase::Stores(0),
+            Answer::Lost(_) => self.phase = Phase::ValidatesTime,
+            _ => {}
+        }
+        Outcome::Going
+    }
+
+    // The write log goes back to the begin, the read log stays. With the lock kept the outermost one stands still.
+    fn told_cancel(&mut self) -> Outcome
+        requires { self.old.begun ≡ true }
+        ensures { IsStep (core_cancel self.old.attempt self.old.attempt.inner self.old.attempt.kept) result self.new }
+    {
+        if self.logs.depth() > 0 {
+            self.logs.cancel();
+            return Outcome::Done;
+        }
+        if self.logs.is_kept() {
+            return Outcome::Going;
+        }
+        self.logs.abort();
+        self.begun = false;
+        Outcome::Done
+    }
+
+    fn told_irrevocable(&mut self, answer: Answer) -> Outcome
+        requires begun { self.old.begun ≡ true }
+        requires phase { self.old.attempt.phase ≡ Phase.AtOperation }
+        requires goes_on { stops (operation_access self.old.attempt Op.Irrevocable) ≡ false }
+        ensures { IsStep (core_operation self.old.aside self.old.attempt Op.Irrevocable answer) result self.new }
+    {
+        if self.logs.is_kept() {
+            return Outcome::Done;
+        }
+        match answer {
+            Answer::Won => {
+                self.logs.keep();
+                Outcome::Done
+            }
+            Answer::Lost(_) => {
+                self.phase = Phase::ValidatesTime;
+                Outcome::Going
+            }
+            _ => Outcome::Going,
+        }
+    }
+
+    // The word at a place of the write log, or past the last one the lock, was stored.
+    fn told_store(&mut self, place: usize) -> Outcome
+        requires begun { self.old.begun ≡ true }
+        requires lock { CanRelease self.old.attempt.snapshot }
+        ensures { IsStep (core_store self.old.attempt place (slice_get self.old.attempt.writes place)) result self.new }
+    {
+        if self.logs.write_at(place).is_some() {
+            self.phase = Phase::Stores(place + 1);
+            return Outcome::Going;
+        }
+        self.begun = false;
+        Outcome::Done
+    }
+
+    // A read that has its word is logged where the lock is still the snapshot.
+    fn told_check(&mut self, address: u32, word: u64, answer: Answer) -> Outcome
+        requires begun { self.old.begun ≡ true }
+        requires phase { self.old.attempt.phase ≡ Phase.ReadsLock word }
+        requires room { 0 < self.old.read_room }
+        ensures { IsStep (core_check self.old.attempt (Op.Read address) word answer) result self.new }
+    {
+        if let Answer::Value(lock) = answer {
+            if lock == self.snapshot {
+                self.logs.log_read(address, word);
+                self.phase = Phase::AtOperation;
+                return Outcome::Read(word);
+            }
+            self.phase = Phase::ValidatesTime;
+        }
+        Outcome::Going
+    }
+
+    // Validation begins at an even lock.
+    fn told_time(&mut self, answer: Answer) -> Outcome
+        requires begun { self.old.begun ≡ true }
+        requires phase { self.old.attempt.phase ≡ Phase.ValidatesTime }
+        ensures { IsStep (core_time self.old.attempt answer) result self.new }
+    {
+        match answer {
+            Answer::Value(lock) if lock % 2 == 0 => self.phase = Phase::ValidatesEntry(lock, 0),
+            _ => {}
+        }
+        Outcome::Going
+    }
+
+    // An entry with another word drops the attempt. Past the last entry the lock, unchanged since the time, is the new
+    // snapshot.
+    fn told_compare(&mut self, time: u64, place: usize, answer: Answer) -> Outcome
+        requires begun { self.old.begun ≡ true }
+        requires phase { self.old.attempt.phase ≡ Phase.ValidatesEntry time place }
+        ensures { IsStep (core_compare self.old.attempt time place (slice_get self.old.attempt.reads place) answer) result self.new }
+    {
+        if let Answer::Value(found) = answer {
+            match self.logs.read_at(place) {
+                Some(entry) if found == entry.1 => {
+                    self.phase = Phase::ValidatesEntry(time, place + 1);
+                }
+                Some(_) => {
+                    self.logs.abort();
+                    self.begun = false;
+                    return Outcome::Aborted;
+                }
+                None if found == time => {
+                    self.snapshot = time;
+                    self.phase = Phase::AtOperation;
+                }
+                None => self.phase = Phase::ValidatesTime,
+            }
+        }
+        Outcome::Going
+    }
+}
