@@ -1,7 +1,7 @@
 #!/bin/sh
 # Prints how many ticks a second the source's meaning takes, in a built program, by the fastest of some rounds: a loop over a
-# local, a loop in a transaction over a global, and calls. Where `lua5.4` is installed, the same loops there, and the ratio
-# of the two times. The program is made in a folder of its own and removed.
+# local, a loop in a transaction over a global, and calls. Where `lua5.4` is installed, how long the same loops take there.
+# The program is made in a folder of its own and removed.
 set -e
 top=$(cd "$(dirname "$0")/.." && pwd)
 work=$(mktemp -d)
@@ -20,12 +20,20 @@ types: containers lex syntax thiserror
 meaning: containers itoa lex syntax types
 meaning_speed: lex meaning parse types
 END_CRATES
+# memories that hold 0, and the proof that they are words, are those of the tests
+cp "$top/crates/meaning_tests/src/memory.rt" "$work/crates/meaning_speed/src/"
+mkdir -p "$work/crates/meaning_speed/proofs"
+cp -r "$top/crates/meaning_tests/proofs/memory" "$work/crates/meaning_speed/proofs/"
+find "$work/crates/meaning_speed/proofs" -name '*.antt' -exec sed -i 's/Rattle\.meaning_tests/Rattle.meaning_speed/' {} +
 cat > "$work/crates/meaning_speed/src/main.rt" <<'END_MAIN'
 //! Prints how many ticks a second a thread takes.
 #![tactic(auto)]
 
+mod memory;
+
 use lex::lex;
 use meaning::thread;
+use memory::zeros;
 use parse::parse;
 use std::io;
 use std::time::Instant;
@@ -49,11 +57,12 @@ fn measure(rt: &HostRuntime, name: &str, text: &str) -> io::Result<()> {
         println!(rt; "not typed")?;
         return Ok(());
     };
+    let memories = zeros(rt.alloc(), 1, 1)?;
     let mut least = u128::MAX;
     let mut ended = 0u32;
     for _ in 0..3 {
         let start = Instant::now(rt)?;
-        let outcome = thread(rt.alloc(), &typed, 0, &[], 10000000);
+        let outcome = thread(rt.alloc(), &typed, 0, memories.as_slice(), 10000000);
         least = least.min(start.elapsed(rt)?.as_nanos());
         if outcome.is_ok() {
             ended = ended.wrapping_add(1);
@@ -73,4 +82,24 @@ fn main(rt: HostRuntime) -> io::Result<()> {
 }
 END_MAIN
 cd "$work/crates/meaning_speed"
-rt run
+rt run --jobs 2
+if command -v lua5.4 > /dev/null; then
+    cat > loops.lua <<'END_LUA'
+local function timed(name, run)
+    local least = math.huge
+    for _ = 1, 3 do
+        local start = os.clock()
+        run()
+        least = math.min(least, os.clock() - start)
+    end
+    print(string.format("Lua, %s: %d us for the same loop", name, math.floor(least * 1000000)))
+end
+timed("a local", function() local total = 0; for i = 0, 4999999 do total = (total + i) & 1023 end end)
+timed("in braces", function() local total = 0; for i = 0, 3299999 do do total = (total + i) & 1023 end end end)
+total = 0
+timed("a global", function() for i = 0, 4999999 do total = (total + i) & 1023 end end)
+local function f(a) return a + 1 end
+timed("calls", function() local total = 0; for i = 0, 2499999 do total = f(total) & 1023 end end)
+END_LUA
+    lua5.4 loops.lua
+fi

@@ -1,2 +1,11 @@
 //! Tests of `meaning`, in a crate of their own: a crate with tests is proved twice.
 #![tactic(auto)]
+
+#[cfg(test)]
+mod memory;
+#[cfg(test)]
+mod run;
+#[cfg(test)]
+mod ticks;
+#[cfg(test)]
+mod traps;

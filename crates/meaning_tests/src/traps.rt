@@ -1,0 +1,134 @@
+//! A program for each trap, each growth refused in turn, and programs that run long.
+
+use crate::memory::zeros;
+use crate::run::run;
+use lex::lex;
+use meaning::{ThreadEnd, thread};
+use parse::parse;
+use refusing::Refusing;
+use std::test::Fail;
+use syntax::numbers::{Halt, Trap};
+use types::check;
+
+const TRAPS: [(&str, Trap); 7] = [
+    (
+        "void worker(int self) { int a = 2147483647; a++; }",
+        Trap::OutOfRange,
+    ),
+    (
+        "void worker(int self) { -(-2147483647 - 1); }",
+        Trap::OutOfRange,
+    ),
+    (
+        "void worker(int self) { (-2147483647 - 1) % -1; }",
+        Trap::OutOfRange,
+    ),
+    ("void worker(int self) { 1 % self; }", Trap::ZeroDivisor),
+    (
+        "int a[3]; void worker(int self) { __transaction_atomic { a[-1] = 0; } }",
+        Trap::Index,
+    ),
+    (
+        "int f(int a) { return f(a + 1); } void worker(int self) { f(0); }",
+        Trap::Frames,
+    ),
+    ("void worker(int self) { 1 << 32; }", Trap::ShiftCount),
+];
+
+#[test]
+fn each_trap_has_a_program(rt: HostRuntime) -> Result<(), Fail> {
+    for (text, trap) in TRAPS {
+        let Some(outcome) = run(rt.alloc(), text, 0, 1, 1000) else {
+            return Err("a row has a typed program")?;
+        };
+        assert_eq!(rt;
+            outcome.end,
+            ThreadEnd::Stopped(Halt::Trapped(trap)),
+            "{text}"
+        );
+    }
+    Ok(())
+}
+
+const WHOLE: &str = "unsigned total; int a[3];
+unsigned sum(int n) { unsigned s = 0; for (int i = 0; i < n; ++i) s += a[i] ? 1u : -1; return s; }
+void worker(int self) {
+    int k = self;
+    while (1) {
+        if (k > self + 2) break;
+        __transaction_relaxed {
+            a[k % 3] = k + 1;
+            __transaction_atomic { total = sum(3); if (k == self + 1) __transaction_cancel; }
+            printf(\"%d:%d \", k, total && a[0] || 0);
+        }
+        k++;
+    }
+    do { int t = k; k = t - 1; } while (k != self);
+}";
+
+#[test]
+fn the_whole_language_runs(rt: HostRuntime) -> Result<(), Fail> {
+    let Some(outcome) = run(rt.alloc(), WHOLE, 3, 3, 10000) else {
+        return Err("it is a typed program")?;
+    };
+    assert_eq!(rt; outcome.end, ThreadEnd::Ended);
+    assert_eq!(rt; outcome.text.as_slice(), b"3:1 4:0 5:0 ".as_slice());
+    assert_eq!(rt; outcome.lefts.len(), 3);
+    let Some(last) = outcome.lefts.last() else {
+        return Err("three memories are left")?;
+    };
+    assert_eq!(rt; last.as_slice(), [4294967295, 0, 0, 6].as_slice());
+    Ok(())
+}
+
+#[test]
+fn each_growth_that_is_refused_is_told(rt: HostRuntime) -> Result<(), Fail> {
+    let alloc = Refusing::new(rt.alloc(), 0);
+    let Ok(tokens) = lex(&alloc, WHOLE) else {
+        return Err("it has tokens")?;
+    };
+    let Ok(unit) = parse(&alloc, tokens.as_slice()) else {
+        return Err("it is a program")?;
+    };
+    let Ok(typed) = check(&alloc, unit) else {
+        return Err("it is typed")?;
+    };
+    let memories = zeros(&alloc, 3, 4)?;
+    for n in 1..1000 {
+        alloc.refuse(n);
+        let answer = thread(&alloc, &typed, 3, memories.as_slice(), 10000);
+        let waiting = alloc.is_waiting();
+        alloc.refuse(0);
+        match answer {
+            Ok(outcome) => {
+                assert!(rt; waiting);
+                assert_eq!(rt; outcome.end, ThreadEnd::Ended);
+                assert!(rt; n > 10);
+                return Ok(());
+            }
+            Err(_) => assert!(rt; !waiting),
+        }
+    }
+    Err("with memory enough it ends")?
+}
+
+// 64 frames, each in 95 parentheses and in 95 blocks
+const DEEP: &str =
+    "int f(int a) { return (((((((((((((((((((((((((((((((((((((((((((((((((((((((((((((((((((((((((((((((((((((((((((((((f(a)))))))))))))))))))))))))))))))))))))))))))))))))))))))))))))))))))))))))))))))))))))))))))))))); } void worker(int self) { f(0); }";
+
+const NESTED: &str =
+    "int f(int a) { {{{{{{{{{{{{{{{{{{{{{{{{{{{{{{{{{{{{{{{{{{{{{{{{{{{{{{{{{{{{{{{{{{{{{{{{{{{{{{{{{{{{{{{{{{{{{{{ f(a); }}}}}}}}}}}}}}}}}}}}}}}}}}}}}}}}}}}}}}}}}}}}}}}}}}}}}}}}}}}}}}}}}}}}}}}}}}}}}}}}}}}}}}}}}}}}}}} return a; } void worker(int self) { f(0); }";
+
+#[test]
+fn deep_frames_fit_the_stack(rt: HostRuntime) -> Result<(), Fail> {
+    for text in [DEEP, NESTED] {
+        let Some(outcome) = run(rt.alloc(), text, 0, 0, 100000) else {
+            return Err("it is a typed program")?;
+        };
+        assert_eq!(rt;
+            outcome.end,
+            ThreadEnd::Stopped(Halt::Trapped(Trap::Frames))
+        );
+    }
+    Ok(())
+}
