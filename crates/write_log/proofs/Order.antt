@@ -1,0 +1,265 @@
+-- An order of pairs by address: what it tells of them, and what each change leaves.
+use Rattle.std.proofs.Common.{◌≡◌, ◌≢◌, ◌<◌, ◌≤◌, ◌+◌, ◌-◌, ◌/◌, ◌^◌, ◌==◌, ℕ, zero, suc, List, [], ◌∷◌, ◌++◌, Option, None, Some, Ok, Err, ◌⊎◌, inl, inr, refl, sym, ◌∙◌, ap, length, get_or, set, take, min, max, arith, eq-eqb}
+use Rattle.std.specs.List.{position, insert, remove}
+use Rattle.std.proofs.lemmas.Bool.{le-ltb, lt-ltb, ne_eqb, cases_eq, cases_lt, cases_order}
+use Rattle.std.proofs.lemmas.List.{get_or-set_same, get_or-set_other, get_or_append_left, get_or_push, length_push, take_at, set-set, set-get_or}
+use Rattle.std.proofs.lemmas.List.Edits.{length-insert, get_or-insert_below, get_or-insert_at, get_or-insert_above, length-remove, get_or-remove_below, get_or-remove_above}
+use Rattle.std.proofs.lemmas.List.Sums.{position_or_len_is}
+use Rattle.std.proofs.Math.Nat.{pow-suc}
+use Rattle.write_log.specs.Overlay.{Lacks, IsDistinct}
+use Rattle.write_log.specs.inner.Order.{IsPlace, IsFound, IsRising, IsOrderOf, AreBetween, IsSearched}
+use Rattle.write_log.proofs.Places.{lacks_all, lacks_at}
+
+-- ---- searching
+
+-- half of what was left has a digit fewer
+pub halve : (s t d : ℕ) → 0 < s → t ≤ s / 2 → s < 2 ^ d → (e : ℕ) × (t < 2 ^ e) × (e + 1 ≡ d)
+halve s t zero pos half lt = absurd (omega arith)
+halve s t (suc e) pos half lt = let p = pow-suc 2 e in (e, omega arith, omega arith)
+
+-- all below one that is below are below, and all above one that is above are above
+pub below_at : (order : List (ℕ × ℕ)) (m a : ℕ) → IsRising order → m < length order → (get_or order m (0, 0)).0 < a → (j : ℕ) → j < m + 1 → (get_or order j (0, 0)).0 < a
+below_at order m a up lt here j le = at (cases_eq j m)
+  where
+    at : (j ≡ m) ⊎ (j ≢ m) → (get_or order j (0, 0)).0 < a
+    at (inl e) = rw e here
+    at (inr ne) = let r = up j m (omega arith) lt in omega arith
+
+pub above_at : (order : List (ℕ × ℕ)) (m a : ℕ) → IsRising order → m < length order → a < (get_or order m (0, 0)).0 → (j : ℕ) → m ≤ j → j < length order → a < (get_or order j (0, 0)).0
+above_at order m a up lt here j le inside = at (cases_eq j m)
+  where
+    at : (j ≡ m) ⊎ (j ≢ m) → a < (get_or order j (0, 0)).0
+    at (inl e) = rw e here
+    at (inr ne) = let r = up m j (omega arith) inside in omega arith
+
+-- ---- what an order tells of its pairs
+
+pub place_at : (ps order : List (ℕ × ℕ)) (k i : ℕ) → IsOrderOf ps order → k < length order → (get_or order k (0, 0)).1 ≡ i → (get_or ps i (0, 0)).0 ≡ (get_or order k (0, 0)).0
+place_at ps order k i o lt e = rw e at (o.here k lt).1
+
+one_entry : (order : List (ℕ × ℕ)) (k m : ℕ) → IsRising order → k < length order → m < length order → (get_or order k (0, 0)).0 ≡ (get_or order m (0, 0)).0 → k ≡ m
+one_entry order k m up lk lm e = at (cases_order k m)
+  where
+    at : (k ≡ m) ⊎ ((k < m) ⊎ (m < k)) → k ≡ m
+    at (inl f) = f
+    at (inr (inl l)) = let r = up k m l lm in absurd (omega arith)
+    at (inr (inr l)) = let r = up m k l lk in absurd (omega arith)
+
+-- no two places have one address
+one_place : (ps order : List (ℕ × ℕ)) (i j : ℕ) → IsOrderOf ps order → i < length ps → j < length ps → (get_or ps i (0, 0)).0 ≡ (get_or ps j (0, 0)).0 → i ≡ j
+one_place ps order i j o li lj e =
+    let s = o.there i li in
+    let t = o.there j lj in
+    let f = one_entry order s.0 t.0 o.rising s.1 t.1 (sym (place_at ps order s.0 i o s.1 s.2) ∙ e ∙ place_at ps order t.0 j o t.1 t.2) in
+    sym s.2 ∙ ap (λ k. (get_or order k (0, 0)).1) f ∙ t.2
+
+distinct_from_apart : (ps : List (ℕ × ℕ)) → ((i j : ℕ) → i < j → j < length ps → (get_or ps i (0, 0)).0 ≢ (get_or ps j (0, 0)).0) → IsDistinct ps
+distinct_from_apart [] h = tt
+distinct_from_apart (p ∷ ps) h =
+    (lacks_all p.0 ps (λ k l e. h 0 (suc k) (omega arith) (omega arith) (sym e)), distinct_from_apart ps (λ i j l m. h (suc i) (suc j) (omega arith) (omega arith)))
+
+pub order-distinct : (ps order : List (ℕ × ℕ)) → IsOrderOf ps order → IsDistinct ps
+order-distinct ps order o = distinct_from_apart ps (λ i j l m e. let f = one_place ps order i j o (omega arith) m e in omega arith)
+
+-- an address that was found
+pub found_place : (a : ℕ) (ps order : List (ℕ × ℕ)) (k : ℕ) → IsOrderOf ps order → IsSearched a order (Ok k) → IsPlace a ps (get_or order k (0, 0)).1
+found_place a ps order k o h = let p = o.here k h.0 in (p.0, p.1 ∙ h.1)
+
+-- an address that was not found
+pub missing : (a : ℕ) (ps order : List (ℕ × ℕ)) (k : ℕ) → IsOrderOf ps order → IsSearched a order (Err k) → Lacks a ps
+missing a ps order k o h = lacks_all a ps (λ i l e.
+    let s = o.there i l in
+    let p : (get_or order s.0 (0, 0)).0 ≡ a = sym (place_at ps order s.0 i o s.1 s.2) ∙ e in
+    at s.0 s.1 p (cases_lt s.0 k))
+  where
+    at : (j : ℕ) → j < length order → (get_or order j (0, 0)).0 ≡ a → (j < k) ⊎ (k ≤ j) → ⊥
+    at j l p (inl b) = let r = h.1 j b in omega arith
+    at j l p (inr b) = let r = h.2 j b l in omega arith
+
+-- an address outside the bounds
+pub outside : (a least greatest : ℕ) (ps : List (ℕ × ℕ)) → AreBetween least greatest ps → (a < least) ⊎ (greatest < a) → Lacks a ps
+outside a least greatest ps b out = lacks_all a ps (λ i l e. at i (b i l) e out)
+  where
+    at : (i : ℕ) → (least ≤ (get_or ps i (0, 0)).0) × ((get_or ps i (0, 0)).0 ≤ greatest) → (get_or ps i (0, 0)).0 ≡ a → (a < least) ⊎ (greatest < a) → ⊥
+    at i h e (inl l) = omega arith
+    at i h e (inr l) = omega arith
+
+-- one above them would be inserted at the end
+pub above_all : (a least greatest : ℕ) (ps order : List (ℕ × ℕ)) → IsOrderOf ps order → AreBetween least greatest ps → greatest < a → IsSearched a order (Err (length order))
+above_all a least greatest ps order o b lt =
+    (omega arith, (λ j l. let p = o.here j l in let q = b (get_or order j (0, 0)).1 p.0 in omega (arith, p.1)), (λ j le l. absurd (omega arith)))
+
+-- the place that was found is the first, since no other has the address
+before_place : (a : ℕ) (ps : List (ℕ × ℕ)) (i k : ℕ) → IsDistinct ps → IsPlace a ps i → k < i → (get_or ps k (0, 0)).0 ≢ a
+before_place a [] i k d h lt = absurd (omega (arith, h.0))
+before_place a (p ∷ ps) zero k d h lt = absurd (omega arith)
+before_place a (p ∷ ps) (suc i) zero d h lt = λ e. lacks_at p.0 ps i d.0 (omega (arith, h.0)) (h.1 ∙ sym e)
+before_place a (p ∷ ps) (suc i) (suc k) d h lt = before_place a ps i k d.1 (omega (arith, h.0), h.1) (omega arith)
+
+pub position_is : (a : ℕ) (ps : List (ℕ × ℕ)) (r : Option ℕ) → IsDistinct ps → IsFound a ps r → r ≡ position (λ p. p.0 == a) ps
+position_is a ps None d h =
+    let e = position_or_len_is (λ (p : ℕ × ℕ). p.0 == a) ps (length ps) (0, 0) (omega arith) (λ k l. ne_eqb _ _ (lacks_at a ps k h l)) (λ l. absurd (omega arith)) in
+    rw (e, le-ltb (length ps) (length ps) (omega arith)) refl
+position_is a ps (Some i) d h =
+    let e = position_or_len_is (λ (p : ℕ × ℕ). p.0 == a) ps i (0, 0) (omega (arith, h.0)) (λ k l. ne_eqb _ _ (before_place a ps i k d h l)) (λ l. eq-eqb _ _ h.1) in
+    rw (e, lt-ltb i (length ps) h.0) refl
+
+-- ---- what each change leaves
+
+-- another list with the same addresses
+pub order-same : (ps qs order : List (ℕ × ℕ)) → length qs ≡ length ps → ((i : ℕ) → (get_or qs i (0, 0)).0 ≡ (get_or ps i (0, 0)).0) → IsOrderOf ps order → IsOrderOf qs order
+order-same ps qs order n same o = record {
+    rising = o.rising;
+    length_is = o.length_is ∙ sym n;
+    here = λ k l. let p = o.here k l in (omega (arith, p.0), same _ ∙ p.1);
+    there = λ i l. o.there i (omega arith);
+  }
+
+pub between-same : (least greatest : ℕ) (ps qs : List (ℕ × ℕ)) → length qs ≡ length ps → ((i : ℕ) → (get_or qs i (0, 0)).0 ≡ (get_or ps i (0, 0)).0) → AreBetween least greatest ps → AreBetween least greatest qs
+between-same least greatest ps qs n same b i l = let h = b i (omega arith) in let e = same i in (omega arith, omega arith)
+
+-- a word replaced
+pub addresses-set : (a v : ℕ) (ps : List (ℕ × ℕ)) (i : ℕ) → IsPlace a ps i → (j : ℕ) → (get_or (set ps i (a, v)) j (0, 0)).0 ≡ (get_or ps j (0, 0)).0
+addresses-set a v ps i h j = at (cases_eq j i)
+  where
+    at : (j ≡ i) ⊎ (j ≢ i) → (get_or (set ps i (a, v)) j (0, 0)).0 ≡ (get_or ps j (0, 0)).0
+    at (inl e) = rw (e, get_or-set_same ps i (a, v) (0, 0) h.0) (sym h.1)
+    at (inr ne) = rw get_or-set_other refl
+
+pub replaced_back : (a v w : ℕ) (ps : List (ℕ × ℕ)) (i : ℕ) → IsPlace a ps i → w ≡ (get_or ps i (0, 0)).1 → set (set ps i (a, v)) i ((get_or (set ps i (a, v)) i (0, 0)).0, w) ≡ ps
+replaced_back a v w ps i h e =
+    let f : (a, w) ≡ get_or ps i (0, 0) = ap (λ x. (x, w)) (sym h.1) ∙ ap (λ x. ((get_or ps i (0, 0)).0, x)) e in
+    rw (get_or-set_same ps i (a, v) (0, 0) h.0, set-set) (ap (set ps i) f ∙ set-get_or ps i (0, 0))
+
+-- a pair added
+pub added_back : (ps : List (ℕ × ℕ)) (p : ℕ × ℕ) → take (length (ps ++ p ∷ []) - 1) (ps ++ p ∷ []) ≡ ps
+added_back ps p = take_at ps (p ∷ []) (length (ps ++ p ∷ []) - 1) (omega (arith, length_push ps p))
+
+pub between-added : (a v least greatest : ℕ) (ps : List (ℕ × ℕ)) → AreBetween least greatest ps → AreBetween (min least a) (max greatest a) (ps ++ (a, v) ∷ [])
+between-added a v least greatest ps b i l = at (cases_lt i (length ps))
+  where
+    at : (i < length ps) ⊎ (length ps ≤ i) → (min least a ≤ (get_or (ps ++ (a, v) ∷ []) i (0, 0)).0) × ((get_or (ps ++ (a, v) ∷ []) i (0, 0)).0 ≤ max greatest a)
+    at (inl m) = let h = b i m in rw (get_or_append_left ps ((a, v) ∷ []) (0, 0) i m) (omega arith, omega arith)
+    at (inr m) = rw (get_or_push ps (a, v) (0, 0) i (omega (arith, length_push ps (a, v)))) (omega arith, omega arith)
+
+-- where an entry comes from, after an insertion
+data Inserted (order : List (ℕ × ℕ)) (k : ℕ) (e : ℕ × ℕ) (j : ℕ) : Type 0 where
+  below : j < k → get_or (insert order k e) j (0, 0) ≡ get_or order j (0, 0) → Inserted order k e j
+  new : j ≡ k → get_or (insert order k e) j (0, 0) ≡ e → Inserted order k e j
+  above : (m : ℕ) → j ≡ m + 1 → k ≤ m → get_or (insert order k e) j (0, 0) ≡ get_or order m (0, 0) → Inserted order k e j
+
+inserted : (order : List (ℕ × ℕ)) (k : ℕ) (e : ℕ × ℕ) (j : ℕ) → k ≤ length order → Inserted order k e j
+inserted order k e j le = at (cases_order j k)
+  where
+    at : (j ≡ k) ⊎ ((j < k) ⊎ (k < j)) → Inserted order k e j
+    at (inl f) = new f (ap (λ i. get_or (insert order k e) i (0, 0)) f ∙ get_or-insert_at order k e (0, 0) le)
+    at (inr (inl l)) = below l (get_or-insert_below order k e (0, 0) j l le)
+    at (inr (inr l)) =
+        let f : j ≡ (j - 1) + 1 = omega arith in
+        above (j - 1) f (omega arith) (ap (λ i. get_or (insert order k e) i (0, 0)) f ∙ get_or-insert_above order k e (0, 0) (j - 1) (omega arith) le)
+
+rising-added : (a n : ℕ) (order : List (ℕ × ℕ)) (k : ℕ) → IsRising order → IsSearched a order (Err k) → IsRising (insert order k (a, n))
+rising-added a n order k up h i j lt inside =
+    at (inserted order k (a, n) i h.0) (inserted order k (a, n) j h.0) (length-insert order k (a, n) h.0)
+  where
+    at : Inserted order k (a, n) i → Inserted order k (a, n) j → length (insert order k (a, n)) ≡ length order + 1 → (get_or (insert order k (a, n)) i (0, 0)).0 < (get_or (insert order k (a, n)) j (0, 0)).0
+    at (below l p) (below m q) long = rw (p, q) (up i j lt (omega (arith, h.0)))
+    at (below l p) (new f q) long = rw (p, q) (h.1 i l)
+    at (below l p) (above m f le q) long = rw (p, q) (up i m (omega arith) (omega arith))
+    at (new e p) (new f q) long = absurd (omega arith)
+    at (new e p) (below m q) long = absurd (omega arith)
+    at (new e p) (above m f le q) long = rw (p, q) (h.2 m le (omega arith))
+    at (above o e le p) (below m q) long = absurd (omega arith)
+    at (above o e le p) (new f q) long = absurd (omega arith)
+    at (above o e le p) (above m f ge q) long = rw (p, q) (up o m (omega arith) (omega arith))
+
+pub order-added : (a v : ℕ) (ps order : List (ℕ × ℕ)) (k : ℕ) → IsOrderOf ps order → IsSearched a order (Err k) → IsOrderOf (ps ++ (a, v) ∷ []) (insert order k (a, length ps))
+order-added a v ps order k o h = record {
+    rising = rising-added a (length ps) order k o.rising h;
+    length_is = length-insert order k (a, length ps) h.0 ∙ ap (λ n. n + 1) o.length_is ∙ sym (length_push ps (a, v));
+    here = λ j l. here j (omega (arith, length-insert order k (a, length ps) h.0)) (inserted order k (a, length ps) j h.0);
+    there = λ i l. there i (cases_order i (length ps)) (omega (arith, length_push ps (a, v)));
+  }
+  where
+    old : (x : ℕ × ℕ) → IsPlace x.0 ps x.1 → IsPlace x.0 (ps ++ (a, v) ∷ []) x.1
+    old x p = (omega (arith, p.0, length_push ps (a, v)), ap (λ y. y.0) (get_or_append_left ps ((a, v) ∷ []) (0, 0) x.1 p.0) ∙ p.1)
+
+    here : (j : ℕ) → j < length order + 1 → Inserted order k (a, length ps) j → IsPlace (get_or (insert order k (a, length ps)) j (0, 0)).0 (ps ++ (a, v) ∷ []) (get_or (insert order k (a, length ps)) j (0, 0)).1
+    here j l (below m e) = rw e (old (get_or order j (0, 0)) (o.here j (omega (arith, h.0))))
+    here j l (new f e) = rw e (omega (arith, length_push ps (a, v)), ap (λ y. y.0) (get_or_push ps (a, v) (0, 0) (length ps) refl))
+    here j l (above m f le e) = rw e (old (get_or order m (0, 0)) (o.here m (omega arith)))
+
+    there : (i : ℕ) → (i ≡ length ps) ⊎ ((i < length ps) ⊎ (length ps < i)) → i < length ps + 1 → (j : ℕ) × (j < length (insert order k (a, length ps))) × ((get_or (insert order k (a, length ps)) j (0, 0)).1 ≡ i)
+    there i (inl f) l = (k, omega (arith, h.0, length-insert order k (a, length ps) h.0), ap (λ y. y.1) (get_or-insert_at order k (a, length ps) (0, 0) h.0) ∙ sym f)
+    there i (inr (inl m)) l = moved (o.there i m).0 (o.there i m).1 (o.there i m).2 (cases_lt (o.there i m).0 k)
+      where
+        moved : (j : ℕ) → j < length order → (get_or order j (0, 0)).1 ≡ i → (j < k) ⊎ (k ≤ j) → (j : ℕ) × (j < length (insert order k (a, length ps))) × ((get_or (insert order k (a, length ps)) j (0, 0)).1 ≡ i)
+        moved j b e (inl c) = (j, omega (arith, length-insert order k (a, length ps) h.0), ap (λ y. y.1) (get_or-insert_below order k (a, length ps) (0, 0) j c h.0) ∙ e)
+        moved j b e (inr c) = (j + 1, omega (arith, length-insert order k (a, length ps) h.0), ap (λ y. y.1) (get_or-insert_above order k (a, length ps) (0, 0) j c h.0) ∙ e)
+    there i (inr (inr m)) l = absurd (omega arith)
+
+-- the last pair taken back
+last_place : (p : ℕ × ℕ) (ps order : List (ℕ × ℕ)) (k : ℕ) → IsOrderOf (ps ++ p ∷ []) order → IsSearched p.0 order (Ok k) → (get_or order k (0, 0)).1 ≡ length ps
+last_place p ps order k o h =
+    let f = found_place p.0 (ps ++ p ∷ []) order k o h in
+    one_place (ps ++ p ∷ []) order _ (length ps) o f.0 (omega (arith, length_push ps p)) (f.1 ∙ sym (ap (λ y. y.0) (get_or_push ps p (0, 0) (length ps) refl)))
+
+-- where an entry comes from, after a removal
+data Removed (order : List (ℕ × ℕ)) (k : ℕ) (j : ℕ) : Type 0 where
+  below : j < k → get_or (remove order k) j (0, 0) ≡ get_or order j (0, 0) → Removed order k j
+  above : k ≤ j → get_or (remove order k) j (0, 0) ≡ get_or order (j + 1) (0, 0) → Removed order k j
+
+removed : (order : List (ℕ × ℕ)) (k : ℕ) (j : ℕ) → k < length order → Removed order k j
+removed order k j lt = at (cases_lt j k)
+  where
+    at : (j < k) ⊎ (k ≤ j) → Removed order k j
+    at (inl l) = below l (get_or-remove_below order k (0, 0) j l lt)
+    at (inr l) = above l (get_or-remove_above order k (0, 0) j l lt)
+
+rising-removed : (order : List (ℕ × ℕ)) (k : ℕ) → IsRising order → k < length order → IsRising (remove order k)
+rising-removed order k up lt i j l inside = at (removed order k i lt) (removed order k j lt) (length-remove order k lt)
+  where
+    at : Removed order k i → Removed order k j → length (remove order k) + 1 ≡ length order → (get_or (remove order k) i (0, 0)).0 < (get_or (remove order k) j (0, 0)).0
+    at (below b p) (below d q) long = rw (p, q) (up i j l (omega arith))
+    at (below b p) (above d q) long = rw (p, q) (up i (j + 1) (omega arith) (omega arith))
+    at (above b p) (below d q) long = absurd (omega arith)
+    at (above b p) (above d q) long = rw (p, q) (up (i + 1) (j + 1) (omega arith) (omega arith))
+
+pub order-removed : (p : ℕ × ℕ) (ps order : List (ℕ × ℕ)) (k : ℕ) → IsOrderOf (ps ++ p ∷ []) order → IsSearched p.0 order (Ok k) → IsOrderOf ps (remove order k)
+order-removed p ps order k o h = record {
+    rising = rising-removed order k o.rising h.0;
+    length_is = omega (arith, length-remove order k h.0, o.length_is, length_push ps p);
+    here = λ j l. here j (omega (arith, length-remove order k h.0)) (removed order k j h.0);
+    there = λ i l. let s = o.there i (omega (arith, length_push ps p)) in there i l s.0 s.1 s.2 (cases_order s.0 k);
+  }
+  where
+    -- another entry has a place below the last
+    other : (m : ℕ) → m < length order → m ≢ k → IsPlace (get_or order m (0, 0)).0 ps (get_or order m (0, 0)).1
+    other m l ne =
+        let q = o.here m l in
+        let f : (get_or order m (0, 0)).1 ≢ length ps = λ e.
+            ne (one_entry order m k o.rising l h.0 (sym q.1 ∙ ap (λ i. (get_or (ps ++ p ∷ []) i (0, 0)).0) e ∙ ap (λ y. y.0) (get_or_push ps p (0, 0) (length ps) refl) ∙ sym h.1)) in
+        let lt : (get_or order m (0, 0)).1 < length ps = omega (arith, q.0, f, length_push ps p) in
+        (lt, sym (ap (λ y. y.0) (get_or_append_left ps (p ∷ []) (0, 0) (get_or order m (0, 0)).1 lt)) ∙ q.1)
+
+    here : (j : ℕ) → j + 1 < length order → Removed order k j → IsPlace (get_or (remove order k) j (0, 0)).0 ps (get_or (remove order k) j (0, 0)).1
+    here j l (below b e) = rw e (other j (omega arith) (omega arith))
+    here j l (above b e) = rw e (other (j + 1) l (omega arith))
+
+    there : (i : ℕ) → i < length ps → (m : ℕ) → m < length order → (get_or order m (0, 0)).1 ≡ i → (m ≡ k) ⊎ ((m < k) ⊎ (k < m)) → (j : ℕ) × (j < length (remove order k)) × ((get_or (remove order k) j (0, 0)).1 ≡ i)
+    there i l m b e (inl f) = let g = last_place p ps order k o h in absurd (omega (arith, sym e ∙ ap (λ x. (get_or order x (0, 0)).1) f ∙ g))
+    there i l m b e (inr (inl c)) = (m, omega (arith, h.0, length-remove order k h.0), ap (λ y. y.1) (get_or-remove_below order k (0, 0) m c h.0) ∙ e)
+    there i l m b e (inr (inr c)) =
+        let f : (m - 1) + 1 ≡ m = omega arith in
+        (m - 1, omega (arith, length-remove order k h.0), ap (λ y. y.1) (get_or-remove_above order k (0, 0) (m - 1) (omega arith) h.0) ∙ ap (λ x. (get_or order x (0, 0)).1) f ∙ e)
+
+pub between-removed : (p : ℕ × ℕ) (least greatest : ℕ) (ps : List (ℕ × ℕ)) → AreBetween least greatest (ps ++ p ∷ []) → AreBetween least greatest ps
+between-removed p least greatest ps b i l =
+    let h = b i (omega (arith, length_push ps p)) in
+    let e = ap (λ y. y.0) (get_or_append_left ps (p ∷ []) (0, 0) i l) in
+    (omega arith, omega arith)
+
+-- the last address is found, since it is there
+pub last_found : (p : ℕ × ℕ) (ps order : List (ℕ × ℕ)) (k : ℕ) → IsOrderOf (ps ++ p ∷ []) order → IsSearched p.0 order (Err k) → ⊥
+last_found p ps order k o h =
+    lacks_at p.0 (ps ++ p ∷ []) (length ps) (missing p.0 (ps ++ p ∷ []) order k o h) (omega (arith, length_push ps p)) (ap (λ y. y.0) (get_or_push ps p (0, 0) (length ps) refl))

@@ -1,0 +1,5 @@
+-- What the bodies keep; no public contract cites it.
+-- where the pairs stand, by address
+pub mod Order
+-- what going back undoes
+pub mod Journal

@@ -1,0 +1,218 @@
+// The pairs of a write log in order of first write, with their order by address.
+ghost use Rattle.std.specs.Prelude.{◌≡◌, ◌+◌, ◌<◌, ◌≤◌, ◌^◌, ℕ, [], OnOk, OnErr, length, slice_index_or, vec_len, vec_capacity};
+ghost use Rattle.std.specs.List.{slice_get, insert};
+ghost use Rattle.write_log.specs.Overlay.{put, IsDistinct};
+ghost use Rattle.write_log.specs.inner.Order.{IsRising, IsSearched, IsFound, IsWithinDigits};
+ghost use Rattle.write_log.specs.inner.Journal.{undone, CanUndo};
+
+use crate::looks::Looks;
+use std::alloc::{AllocError, Allocator};
+use std::cmp::Ordering;
+use std::marker::{Brand, Model};
+use std::sync::ledger::{Blank, Ledger};
+
+// What a put has changed: it added the last pair, or replaced the word at a place, which was this.
+#[derive(Clone, Copy, Debug)]
+pub enum Change {
+    Added,
+    Replaced(usize, u64),
+}
+
+// Each address with its word, in order of first write, and beside them (address, place) by address. All addresses lie
+// between `least` and `greatest`, which stay where pairs are taken back.
+#[derive(Debug, Drop)]
+pub struct Pairs<A: Allocator> {
+    list: Vec<(u32, u64), A>,
+    order: Vec<(u32, usize), A>,
+    least: u32,
+    greatest: u32,
+}
+
+impl<A: Allocator> Model for Pairs<A> {
+    ghost use Rattle.std.specs.Prelude.{◌-◌, min, vec_len, vec_capacity};
+    ghost use Rattle.write_log.specs.inner.Order.{Listed, IsOrderOf, AreBetween};
+
+    ghost Value = { Listed };
+
+    ghost view = { λ a. record { pairs = a.list.items; room = min (vec_capacity a.list - vec_len a.list) (vec_capacity a.order - vec_len a.order) } };
+
+    ghost invariant = { λ a. IsOrderOf a.list.items a.order.items × AreBetween a.least a.greatest a.list.items };
+}
+
+// Where the order has an address, or where it would be inserted.
+fn search<L: Ledger>(
+    order: &[(u32, usize)],
+    address: u32,
+    looks: &mut Looks<L>,
+) -> Result<usize, usize>
+    requires { IsRising order.now }
+    ensures found { IsSearched address order.now result }
+    ensures looks { IsWithinDigits (length order.now) looks.old looks.new }
+{
+    let mut from = 0;
+    let mut to = order.len();
+    while from < to {
+        let middle = from + (to - from) / 2;
+        match looks.compare(order[middle].0, address) {
+            Ordering::Less => from = middle + 1,
+            Ordering::Equal => return Ok(middle),
+            Ordering::Greater => to = middle,
+        }
+    }
+    Err(from)
+}
+
+// The same, with a ledger for the looks.
+fn search_uncounted<L: Ledger>(
+    order: &[(u32, usize)],
+    address: u32,
+    blank: Blank,
+) -> Result<usize, usize>
+    requires name { blank.name ≡ L.name }
+    requires parts { blank.parts ≡ L.parts }
+    requires some { 0 < blank.parts }
+    requires rising { IsRising order.now }
+    ensures { IsSearched address order.now result }
+{
+    search(order, address, &mut Looks::<L>::new(blank))
+}
+
+// The same where nobody counts. An address above all others needs no search.
+fn slot_of(order: &[(u32, usize)], greatest: u32, address: u32) -> Result<usize, usize>
+    requires rising { IsRising order.now }
+    requires bounded { (k : ℕ) → k < length order.now → (slice_index_or order.now k (0, 0)).0 ≤ greatest }
+    ensures { IsSearched address order.now result }
+{
+    if greatest < address {
+        return Err(order.len());
+    }
+    search_uncounted::<Brand>(order, address, Blank::new(1))
+}
+
+// Inserts an entry where there is room. One at the end moves no other.
+fn insert_reserved<A: Allocator>(order: &mut Vec<(u32, usize), A>, at: usize, entry: (u32, usize))
+    requires within { at ≤ vec_len order.old }
+    requires room { vec_len order.old < vec_capacity order.old }
+    ensures items { order.new.items ≡ insert order.old.items at entry }
+    ensures length { vec_len order.new ≡ vec_len order.old + 1 }
+    ensures capacity { vec_capacity order.new ≡ vec_capacity order.old }
+{
+    if at == order.len() {
+        order.push_reserved(entry);
+    } else {
+        let _ = order.insert(at, entry);
+    }
+}
+
+impl<A: Allocator + Copy> Pairs<A> {
+    // No pairs. It takes no memory yet.
+    pub fn new(alloc: A) -> Pairs<A>
+        ensures { result.pairs ≡ [] }
+    {
+        Pairs {
+            list: Vec::new(alloc),
+            order: Vec::new(alloc),
+            least: u32::MAX,
+            greatest: 0,
+        }
+    }
+
+    // Makes room for one more pair, where there is none.
+    pub fn reserve_one(&mut self) -> Result<(), AllocError>
+        ensures pairs { self.new.pairs ≡ self.old.pairs }
+        ensures room { self.old.room ≤ self.new.room }
+        ensures ok { OnOk result (0 < self.new.room) }
+        ensures err { OnErr result (self.new ≡ self.old) }
+        ensures full { OnErr result (self.old.room ≡ 0) }
+    {
+        self.list.reserve(1)?;
+        self.order.reserve(1)
+    }
+
+    // The place of an address, if any.
+    pub fn find<L: Ledger>(&self, address: u32, looks: &mut Looks<L>) -> Option<usize>
+        ensures found { IsFound address self.now.pairs result }
+        ensures looks { IsWithinDigits (length self.now.pairs) looks.old looks.new }
+        ensures distinct { IsDistinct self.now.pairs }
+    {
+        if address < self.least || self.greatest < address {
+            return None;
+        }
+        match search(self.order.as_slice(), address, looks) {
+            Ok(at) => Some(self.order[at].1),
+            Err(_) => None,
+        }
+    }
+
+    // Writes a word at an address, and answers what that changed.
+    pub fn put(&mut self, address: u32, word: u64) -> Change
+        requires { 0 < self.old.room }
+        ensures pairs { self.new.pairs ≡ put address word self.old.pairs }
+        ensures undone { undone result self.new.pairs ≡ self.old.pairs }
+        ensures can_undo { CanUndo result self.new.pairs }
+        ensures room { self.old.room ≤ self.new.room + 1 }
+    {
+        match slot_of(self.order.as_slice(), self.greatest, address) {
+            Ok(at) => {
+                let place = self.order[at].1;
+                let before = self.list[place].1;
+                self.list[place] = (address, word);
+                Change::Replaced(place, before)
+            }
+            Err(at) => {
+                insert_reserved(&mut self.order, at, (address, self.list.len()));
+                self.list.push_reserved((address, word));
+                self.least = self.least.min(address);
+                self.greatest = self.greatest.max(address);
+                Change::Added
+            }
+        }
+    }
+
+    // Takes a change back.
+    pub fn undo(&mut self, change: Change)
+        requires { CanUndo change self.old.pairs }
+        ensures pairs { self.new.pairs ≡ undone change self.old.pairs }
+        ensures room { self.old.room ≤ self.new.room }
+    {
+        match change {
+            Change::Added => {
+                let (address, _) = self.list.take_last();
+                if let Ok(at) = slot_of(self.order.as_slice(), self.greatest, address) {
+                    self.order.remove(at);
+                }
+            }
+            Change::Replaced(place, word) => {
+                let (address, _) = self.list[place];
+                self.list[place] = (address, word);
+            }
+        }
+    }
+
+    // The pair at a place.
+    pub fn at(&self, place: usize) -> (u32, u64)
+        requires { place < length self.now.pairs }
+        ensures pair { slice_get self.now.pairs place ≡ Some result }
+        ensures within { place + 1 < 2 ^ 64 }
+    {
+        self.list[place]
+    }
+
+    pub fn len(&self) -> usize
+        ensures value { result ≡ length self.now.pairs }
+        ensures distinct { IsDistinct self.now.pairs }
+    {
+        self.list.len()
+    }
+
+    // Takes all pairs out. The room stays.
+    pub fn clear(&mut self)
+        ensures pairs { self.new.pairs ≡ [] }
+        ensures room { self.old.room ≤ self.new.room }
+    {
+        self.list.clear();
+        self.order.clear();
+        self.least = u32::MAX;
+        self.greatest = 0;
+    }
+}
