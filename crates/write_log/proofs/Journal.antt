@@ -48,12 +48,12 @@ get_map f (m ∷ marks) (suc i) l = get_map f marks i (omega arith)
 -- a put: qs are the pairs with the change
 pub journal-put : (ps qs : List (ℕ × ℕ)) (journal : List Change) (c : Change) (marks : List ℕ) → undone c qs ≡ ps → CanUndo c qs → IsJournalOf ps journal marks → IsJournalOf qs (journal ++ c ∷ []) marks
 journal-put ps qs journal c marks e can j = record {
-    rising = j.rising;
-    within = λ i l. let h = j.within i l in omega (arith, length_push journal c);
-    undoes = λ i l.
+  rising = j.rising;
+  within = λ i l. let h = j.within i l in omega (arith, length_push journal c);
+  undoes = λ i l.
       rw (drop-append-le (get_or marks i 0) journal (c ∷ []) (j.within i l))
-        (can-append (drop (get_or marks i 0) journal) (c ∷ []) qs (subst (CanUndoAll (drop (get_or marks i 0) journal)) (sym e) (j.undoes i l)) (tt, can));
-  }
+      (can-append (drop (get_or marks i 0) journal) (c ∷ []) qs (subst (CanUndoAll (drop (get_or marks i 0) journal)) (sym e) (j.undoes i l)) (tt, can));
+}
 
 pub lists-put : (ps qs : List (ℕ × ℕ)) (journal : List Change) (c : Change) (marks : List ℕ) → undone c qs ≡ ps → IsJournalOf ps journal marks → map (list_at (journal ++ c ∷ []) qs) marks ≡ map (list_at journal ps) marks
 lists-put ps qs journal c marks e j = map_same _ _ marks (λ i l.
@@ -68,10 +68,10 @@ journal-none ps journal = record { rising = λ i j le l. absurd (omega arith); w
 -- fewer marks
 pub journal-taken : (ps : List (ℕ × ℕ)) (journal : List Change) (marks : List ℕ) (depth : ℕ) → depth ≤ length marks → IsJournalOf ps journal marks → IsJournalOf ps journal (take depth marks)
 journal-taken ps journal marks depth le j = record {
-    rising = λ i k ik l. rw (get_or-take depth marks i 0 (omega (arith, long)), get_or-take depth marks k 0 (omega (arith, long))) (j.rising i k ik (omega (arith, long)));
-    within = λ i l. rw (get_or-take depth marks i 0 (omega (arith, long))) (j.within i (omega (arith, long)));
-    undoes = λ i l. rw (get_or-take depth marks i 0 (omega (arith, long))) (j.undoes i (omega (arith, long)));
-  }
+  rising = λ i k ik l. rw (get_or-take depth marks i 0 (omega (arith, long)), get_or-take depth marks k 0 (omega (arith, long))) (j.rising i k ik (omega (arith, long)));
+  within = λ i l. rw (get_or-take depth marks i 0 (omega (arith, long))) (j.within i (omega (arith, long)));
+  undoes = λ i l. rw (get_or-take depth marks i 0 (omega (arith, long))) (j.undoes i (omega (arith, long)));
+}
   where
     long : length (take depth marks) ≡ depth
     long = length-take-le depth marks le
@@ -79,10 +79,10 @@ journal-taken ps journal marks depth le j = record {
 -- a mark more
 pub journal-marked : (ps : List (ℕ × ℕ)) (journal : List Change) (marks : List ℕ) → IsJournalOf ps journal marks → IsJournalOf ps journal (marks ++ length journal ∷ [])
 journal-marked ps journal marks j = record {
-    rising = λ i k ik l. rising i k ik (omega (arith, long)) (cases_lt k (length marks)) (cases_lt i (length marks));
-    within = λ i l. within i (cases_lt i (length marks)) (omega (arith, long));
-    undoes = λ i l. undoes i (cases_lt i (length marks)) (omega (arith, long));
-  }
+  rising = λ i k ik l. rising i k ik (omega (arith, long)) (cases_lt k (length marks)) (cases_lt i (length marks));
+  within = λ i l. within i (cases_lt i (length marks)) (omega (arith, long));
+  undoes = λ i l. undoes i (cases_lt i (length marks)) (omega (arith, long));
+}
   where
     long : length (marks ++ length journal ∷ []) ≡ length marks + 1
     long = length_push marks (length journal)
@@ -120,11 +120,11 @@ module _ (ps : List (ℕ × ℕ)) (journal : List Change) (n m : ℕ) (mn : m �
 module _ (ps : List (ℕ × ℕ)) (journal : List Change) (marks : List ℕ) (depth : ℕ) (lt : depth < length marks) (j : IsJournalOf ps journal marks) where
   pub journal-back : IsJournalOf (list_at journal ps (get_or marks depth 0)) (take (get_or marks depth 0) journal) (take depth marks)
   journal-back = record {
-      rising = (journal-taken ps journal marks depth (omega arith) j).rising;
-      within = λ i l. rw (get_or-take depth marks i 0 (omega (arith, long)), length-take-le (get_or marks depth 0) journal (j.within depth lt)) (j.rising i depth (omega (arith, long)) lt);
-      undoes = λ i l. rw (get_or-take depth marks i 0 (omega (arith, long)))
+    rising = (journal-taken ps journal marks depth (omega arith) j).rising;
+    within = λ i l. rw (get_or-take depth marks i 0 (omega (arith, long)), length-take-le (get_or marks depth 0) journal (j.within depth lt)) (j.rising i depth (omega (arith, long)) lt);
+    undoes = λ i l. rw (get_or-take depth marks i 0 (omega (arith, long)))
         (can_back ps journal (get_or marks depth 0) (get_or marks i 0) (j.rising i depth (omega (arith, long)) lt) (j.within depth lt) (j.undoes i (omega (arith, long))));
-    }
+  }
     where
       long : length (take depth marks) ≡ depth
       long = length-take-le depth marks (omega arith)
@@ -132,7 +132,7 @@ module _ (ps : List (ℕ × ℕ)) (journal : List Change) (marks : List ℕ) (de
   pub lists-back : map (list_at (take (get_or marks depth 0) journal) (list_at journal ps (get_or marks depth 0))) (take depth marks) ≡ map (list_at journal ps) (take depth marks)
   lists-back = map_same _ _ (take depth marks) (λ i l.
       rw (get_or-take depth marks i 0 (omega (arith, long)))
-        (list_back ps journal (get_or marks depth 0) (get_or marks i 0) (j.rising i depth (omega (arith, long)) lt) (j.within depth lt)))
+      (list_back ps journal (get_or marks depth 0) (get_or marks i 0) (j.rising i depth (omega (arith, long)) lt) (j.within depth lt)))
     where
       long : length (take depth marks) ≡ depth
       long = length-take-le depth marks (omega arith)

@@ -109,11 +109,11 @@ position_is a ps (Some i) d h =
 -- another list with the same addresses
 pub order-same : (ps qs order : List (ℕ × ℕ)) → length qs ≡ length ps → ((i : ℕ) → (get_or qs i (0, 0)).0 ≡ (get_or ps i (0, 0)).0) → IsOrderOf ps order → IsOrderOf qs order
 order-same ps qs order n same o = record {
-    rising = o.rising;
-    length_is = o.length_is ∙ sym n;
-    here = λ k l. let p = o.here k l in (omega (arith, p.0), same _ ∙ p.1);
-    there = λ i l. o.there i (omega arith);
-  }
+  rising = o.rising;
+  length_is = o.length_is ∙ sym n;
+  here = λ k l. let p = o.here k l in (omega (arith, p.0), same _ ∙ p.1);
+  there = λ i l. o.there i (omega arith);
+}
 
 pub between-same : (least greatest : ℕ) (ps qs : List (ℕ × ℕ)) → length qs ≡ length ps → ((i : ℕ) → (get_or qs i (0, 0)).0 ≡ (get_or ps i (0, 0)).0) → AreBetween least greatest ps → AreBetween least greatest qs
 between-same least greatest ps qs n same b i l = let h = b i (omega arith) in let e = same i in (omega arith, omega arith)
@@ -175,11 +175,11 @@ rising-added a n order k up h i j lt inside =
 
 pub order-added : (a v : ℕ) (ps order : List (ℕ × ℕ)) (k : ℕ) → IsOrderOf ps order → IsSearched a order (Err k) → IsOrderOf (ps ++ (a, v) ∷ []) (insert order k (a, length ps))
 order-added a v ps order k o h = record {
-    rising = rising-added a (length ps) order k o.rising h;
-    length_is = length-insert order k (a, length ps) h.0 ∙ ap (λ n. n + 1) o.length_is ∙ sym (length_push ps (a, v));
-    here = λ j l. here j (omega (arith, length-insert order k (a, length ps) h.0)) (inserted order k (a, length ps) j h.0);
-    there = λ i l. there i (cases_order i (length ps)) (omega (arith, length_push ps (a, v)));
-  }
+  rising = rising-added a (length ps) order k o.rising h;
+  length_is = length-insert order k (a, length ps) h.0 ∙ ap (λ n. n + 1) o.length_is ∙ sym (length_push ps (a, v));
+  here = λ j l. here j (omega (arith, length-insert order k (a, length ps) h.0)) (inserted order k (a, length ps) j h.0);
+  there = λ i l. there i (cases_order i (length ps)) (omega (arith, length_push ps (a, v)));
+}
   where
     old : (x : ℕ × ℕ) → IsPlace x.0 ps x.1 → IsPlace x.0 (ps ++ (a, v) ∷ []) x.1
     old x p = (omega (arith, p.0, length_push ps (a, v)), ap (λ y. y.0) (get_or_append_left ps ((a, v) ∷ []) (0, 0) x.1 p.0) ∙ p.1)
@@ -227,18 +227,18 @@ rising-removed order k up lt i j l inside = at (removed order k i lt) (removed o
 
 pub order-removed : (p : ℕ × ℕ) (ps order : List (ℕ × ℕ)) (k : ℕ) → IsOrderOf (ps ++ p ∷ []) order → IsSearched p.0 order (Ok k) → IsOrderOf ps (remove order k)
 order-removed p ps order k o h = record {
-    rising = rising-removed order k o.rising h.0;
-    length_is = omega (arith, length-remove order k h.0, o.length_is, length_push ps p);
-    here = λ j l. here j (omega (arith, length-remove order k h.0)) (removed order k j h.0);
-    there = λ i l. let s = o.there i (omega (arith, length_push ps p)) in there i l s.0 s.1 s.2 (cases_order s.0 k);
-  }
+  rising = rising-removed order k o.rising h.0;
+  length_is = omega (arith, length-remove order k h.0, o.length_is, length_push ps p);
+  here = λ j l. here j (omega (arith, length-remove order k h.0)) (removed order k j h.0);
+  there = λ i l. let s = o.there i (omega (arith, length_push ps p)) in there i l s.0 s.1 s.2 (cases_order s.0 k);
+}
   where
     -- another entry has a place below the last
     other : (m : ℕ) → m < length order → m ≢ k → IsPlace (get_or order m (0, 0)).0 ps (get_or order m (0, 0)).1
     other m l ne =
         let q = o.here m l in
         let f : (get_or order m (0, 0)).1 ≢ length ps = λ e.
-            ne (one_entry order m k o.rising l h.0 (sym q.1 ∙ ap (λ i. (get_or (ps ++ p ∷ []) i (0, 0)).0) e ∙ ap (λ y. y.0) (get_or_push ps p (0, 0) (length ps) refl) ∙ sym h.1)) in
+        ne (one_entry order m k o.rising l h.0 (sym q.1 ∙ ap (λ i. (get_or (ps ++ p ∷ []) i (0, 0)).0) e ∙ ap (λ y. y.0) (get_or_push ps p (0, 0) (length ps) refl) ∙ sym h.1)) in
         let lt : (get_or order m (0, 0)).1 < length ps = omega (arith, q.0, f, length_push ps p) in
         (lt, sym (ap (λ y. y.0) (get_or_append_left ps (p ∷ []) (0, 0) (get_or order m (0, 0)).1 lt)) ∙ q.1)
 

@@ -183,8 +183,7 @@ impl<A: Allocator + Copy> Pairs<A> {
                 }
             }
             Change::Replaced(place, word) => {
-                let (address, _) = self.list[place];
-                self.list[place] = (address, word);
+                self.list[place].1 = word;
             }
         }
     }

@@ -13,9 +13,9 @@ loop-from-preserved-in-Less g c =
       below = below_at c.args.order.now middle c.args.address c.requires (omega arith) c.in-Less.ensures.order;
       above = c.loop-from.invariant.above;
       looks = λ digits lt.
-        let was = c.loop-from.invariant.looks digits lt in
-        let now = halve (to - from) (to - (middle + 1)) was.0 (omega arith) (omega arith) was.1 in
-        (now.0, now.1, omega (arith, was.2, now.2, c.in-Less.ensures.count));
+          let was = c.loop-from.invariant.looks digits lt in
+          let now = halve (to - from) (to - (middle + 1)) was.0 (omega arith) (omega arith) was.1 in
+          (now.0, now.1, omega (arith, was.2, now.2, c.in-Less.ensures.count));
     }
 
 pub loop-from-preserved : goal.loop-from-preserved
@@ -29,7 +29,7 @@ loop-from-preserved g c =
       below = c.loop-from.invariant.below;
       above = above_at c.args.order.now middle c.args.address c.requires (omega arith) c.in-Greater.ensures.order;
       looks = λ digits lt.
-        let was = c.loop-from.invariant.looks digits lt in
-        let now = halve (to - from) (middle - from) was.0 (omega arith) (omega arith) was.1 in
-        (now.0, now.1, omega (arith, was.2, now.2, c.in-Greater.ensures.count));
+          let was = c.loop-from.invariant.looks digits lt in
+          let now = halve (to - from) (middle - from) was.0 (omega arith) (omega arith) was.1 in
+          (now.0, now.1, omega (arith, was.2, now.2, c.in-Greater.ensures.count));
     }

@@ -7,10 +7,10 @@ use Rattle.write_log.proofs.pairs.Pairs.find.Goals.{then-address-self-via-then-a
 pub returns-then-address-self-clause-found : goal.returns-then-address-self-clause-found
 returns-then-address-self-clause-found g c =
     let out : (c.args.address < c.self.inside.least) ⊎ (c.self.inside.greatest < c.args.address) =
-        elim c.then-address-self.branch [
-          then-address-self-via-then-address-self w ↦ inl w.if-address-self.true
-        | then-address-self-via-else-address-self+then-self-address w ↦ inr w.if-self-address.true
-        ] in
+    elim c.then-address-self.branch [
+      | then-address-self-via-then-address-self w ↦ inl w.if-address-self.true
+      | then-address-self-via-else-address-self+then-self-address w ↦ inr w.if-self-address.true
+    ] in
     rw (← c.self.view_is) (outside c.args.address c.self.inside.least c.self.inside.greatest c.self.inside.list.items c.self.invariant.1 out)
 
 pub returns-then-address-self-clause-distinct : goal.returns-then-address-self-clause-distinct

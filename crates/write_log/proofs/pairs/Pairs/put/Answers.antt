@@ -13,7 +13,7 @@ invariant_of-self-in-Err g c =
     let searched = subst (λ xs. IsSearched a xs (Err c.in-Err.at)) c.as_slice.ensures.value c.in-Err.ensures in
     let place : c.len.result ≡ length ps = omega (arith, c.self.inside.list.ok.0) in
     rw (c.push_reserved.ensures.items, c.insert_reserved.ensures.items, place, c.min-self-inside.ensures, c.max-self-inside.ensures)
-        (order-added a c.args.word ps order c.in-Err.at c.self.invariant.0 searched, between-added a c.args.word c.self.inside.least c.self.inside.greatest ps c.self.invariant.1)
+    (order-added a c.args.word ps order c.in-Err.at c.self.invariant.0 searched, between-added a c.args.word c.self.inside.least c.self.inside.greatest ps c.self.invariant.1)
 
 pub returns-in-Ok-clause-pairs : goal.returns-in-Ok-clause-pairs
 returns-in-Ok-clause-pairs g c =
