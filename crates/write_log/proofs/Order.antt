@@ -263,3 +263,7 @@ between-removed p least greatest ps b i l =
 pub last_found : (p : ℕ × ℕ) (ps order : List (ℕ × ℕ)) (k : ℕ) → IsOrderOf (ps ++ p ∷ []) order → IsSearched p.0 order (Err k) → ⊥
 last_found p ps order k o h =
     lacks_at p.0 (ps ++ p ∷ []) (length ps) (missing p.0 (ps ++ p ∷ []) order k o h) (omega (arith, length_push ps p)) (ap (λ y. y.0) (get_or_push ps p (0, 0) (length ps) refl))
+
+-- a pair added above all others
+pub between-above : (a v least greatest : ℕ) (ps : List (ℕ × ℕ)) → greatest < a → AreBetween least greatest ps → AreBetween (min least a) a (ps ++ (a, v) ∷ [])
+between-above a v least greatest ps lt b i l = let h = between-added a v least greatest ps b i l in (h.0, omega (arith, h.1))

@@ -41,6 +41,13 @@ impl<L: Ledger> Looks<L> {
         ensures count { self.new ≡ self.old + 1 }
     {
         self.book.add(&mut self.share, 1);
-        found.cmp(&sought)
+        // Written out, the search branches on the two numbers and makes no `Ordering`.
+        if found < sought {
+            Ordering::Less
+        } else if found == sought {
+            Ordering::Equal
+        } else {
+            Ordering::Greater
+        }
     }
 }

@@ -1,5 +1,5 @@
 // The pairs of a write log in order of first write, with their order by address.
-ghost use Rattle.std.specs.Prelude.{◌≡◌, ◌+◌, ◌<◌, ◌≤◌, ◌^◌, ℕ, [], OnOk, OnErr, length, slice_index_or, vec_len, vec_capacity};
+ghost use Rattle.std.specs.Prelude.{◌≡◌, ◌+◌, ◌<◌, ◌≤◌, ◌^◌, [], OnOk, OnErr, length, vec_len, vec_capacity};
 ghost use Rattle.std.specs.List.{slice_get, insert};
 ghost use Rattle.write_log.specs.Overlay.{put, IsDistinct};
 ghost use Rattle.write_log.specs.inner.Order.{IsRising, IsSearched, IsFound, IsWithinDigits};
@@ -77,19 +77,15 @@ fn search_uncounted<L: Ledger>(
     search(order, address, &mut Looks::<L>::new(blank))
 }
 
-// The same where nobody counts. An address above all others needs no search.
-fn slot_of(order: &[(u32, usize)], greatest: u32, address: u32) -> Result<usize, usize>
-    requires rising { IsRising order.now }
-    requires bounded { (k : ℕ) → k < length order.now → (slice_index_or order.now k (0, 0)).0 ≤ greatest }
+// The same where nobody counts.
+fn slot_of(order: &[(u32, usize)], address: u32) -> Result<usize, usize>
+    requires { IsRising order.now }
     ensures { IsSearched address order.now result }
 {
-    if greatest < address {
-        return Err(order.len());
-    }
     search_uncounted::<Brand>(order, address, Blank::new(1))
 }
 
-// Inserts an entry where there is room. One at the end moves no other.
+// Inserts an entry where there is room.
 fn insert_reserved<A: Allocator>(order: &mut Vec<(u32, usize), A>, at: usize, entry: (u32, usize))
     requires within { at ≤ vec_len order.old }
     requires room { vec_len order.old < vec_capacity order.old }
@@ -144,7 +140,7 @@ impl<A: Allocator + Copy> Pairs<A> {
         }
     }
 
-    // Writes a word at an address, and answers what that changed.
+    // Writes a word at an address, and answers what that changed. An address above all others needs no search.
     pub fn put(&mut self, address: u32, word: u64) -> Change
         requires { 0 < self.old.room }
         ensures pairs { self.new.pairs ≡ put address word self.old.pairs }
@@ -152,7 +148,26 @@ impl<A: Allocator + Copy> Pairs<A> {
         ensures can_undo { CanUndo result self.new.pairs }
         ensures room { self.old.room ≤ self.new.room + 1 }
     {
-        match slot_of(self.order.as_slice(), self.greatest, address) {
+        if self.greatest < address {
+            self.order.push_reserved((address, self.list.len()));
+            self.list.push_reserved((address, word));
+            self.least = self.least.min(address);
+            self.greatest = address;
+            return Change::Added;
+        }
+        self.put_among(address, word)
+    }
+
+    // The same at any address.
+    #[inline(never)]
+    fn put_among(&mut self, address: u32, word: u64) -> Change
+        requires { 0 < self.old.room }
+        ensures pairs { self.new.pairs ≡ put address word self.old.pairs }
+        ensures undone { undone result self.new.pairs ≡ self.old.pairs }
+        ensures can_undo { CanUndo result self.new.pairs }
+        ensures room { self.old.room ≤ self.new.room + 1 }
+    {
+        match slot_of(self.order.as_slice(), address) {
             Ok(at) => {
                 let place = self.order[at].1;
                 let before = self.list[place].1;
@@ -178,7 +193,7 @@ impl<A: Allocator + Copy> Pairs<A> {
         match change {
             Change::Added => {
                 let (address, _) = self.list.take_last();
-                if let Ok(at) = slot_of(self.order.as_slice(), self.greatest, address) {
+                if let Ok(at) = slot_of(self.order.as_slice(), address) {
                     self.order.remove(at);
                 }
             }
