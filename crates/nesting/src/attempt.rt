@@ -1,6 +1,6 @@
 //! An attempt: its logs and its begins.
 
-ghost use Rattle.std.specs.Prelude.{◌≡◌, ◌+◌, ◌<◌, ◌≤◌, ◌^◌, List, [], ◌∷◌, ◌++◌, true, false, OnOk, OnErr, OnSome, length, drop};
+ghost use Rattle.std.specs.Prelude.{◌≡◌, ◌+◌, ◌<◌, ◌≤◌, ◌^◌, [], ◌∷◌, ◌++◌, true, false, OnOk, OnErr, OnSome, length, drop};
 ghost use Rattle.std.specs.List.{slice_get};
 ghost use Rattle.write_log.specs.Overlay.{written, put};
 ghost use Rattle.nesting.specs.Nests.{GainsRoom};

@@ -3,7 +3,7 @@
 ghost use Rattle.std.specs.Prelude.{◌≡◌, ◌≢◌, ◌+◌, ◌^◌, ◌<◌, ◌≤◌, true, false, None, OnOk, OnErr, slice_get};
 ghost use Rattle.write_log.specs.Overlay.{written};
 ghost use Rattle.norec_core.specs.Accesses.{stops};
-ghost use Rattle.norec_core.specs.Phases.{core_access, core_step, core_phase, core_operation, core_read, core_commit, core_cancel, core_swap, core_store, core_check, core_time, core_compare, operation_access, commit_access, entry_access, store_access};
+ghost use Rattle.norec_core.specs.Phases.{core_access, core_step, core_phase, core_operation, core_read, core_commit, core_cancel, core_store, core_check, core_time, core_compare, operation_access, commit_access, entry_access, store_access};
 ghost use Rattle.norec_core.specs.inner.Runs.{attempt_of, IsStep, GainsRoom, HasRoom, CanRelease};
 
 use super::step::{Access, Answer, Op, Outcome, Phase};
