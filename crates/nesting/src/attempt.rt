@@ -235,11 +235,7 @@ impl<A: Allocator + Copy> Attempt<A> {
         ensures value { result ≡ slice_get self.now.reads place }
         ensures next { OnSome result (place + 1 < 2 ^ 64) }
     {
-        if place < self.reads.len() {
-            self.reads.get(place)
-        } else {
-            None
-        }
+        self.reads.get(place)
     }
 
     /// The pair of the write log at a place, from 0, in order of first write; none past the end.
