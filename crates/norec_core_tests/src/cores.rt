@@ -266,6 +266,7 @@ fn room_stays(rt: HostRuntime) -> Result<(), Fail> {
     'run: for nth in [0, 0, 1] {
         alloc.refuse(nth);
         assert!(rt; plays(&mut core, read_again())?);
+        assert!(rt; plays(&mut core, nested())?);
     }
     assert!(rt; alloc.is_waiting());
     Ok(())
