@@ -11,3 +11,5 @@ pub mod Parts
 pub mod Printed
 pub mod Steps
 pub mod Stops
+pub mod Memories
+pub mod Turns

@@ -12,3 +12,7 @@ pub mod Calls
 pub mod Does
 -- what prints a format byte by byte
 pub mod Printing
+-- what is seen of a thread, as it is kept
+pub mod Seen
+-- thread 0 alone, turn by turn
+pub mod Turns

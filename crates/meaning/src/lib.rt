@@ -4,9 +4,11 @@
 //! memory is refused, nothing is said of the machine.
 #![tactic(auto)]
 
+mod alone;
 mod arithmetic;
 mod calls;
 mod machine;
+mod memory;
 mod names;
 mod outcome;
 mod places;
@@ -18,5 +20,6 @@ mod transactions;
 mod word;
 mod words;
 
+pub use alone::{AloneOutcome, run_alone};
 pub use outcome::{OutOfMemory, ThreadEnd, ThreadOutcome};
 pub use threads::thread;

@@ -5,6 +5,7 @@ ghost use Rattle.syntax.specs.Actions.{lefts_in};
 ghost use Rattle.syntax.specs.Threads.{thread as thread_due, worker_run};
 ghost use Rattle.syntax.specs.Views.{program_of};
 ghost use Rattle.meaning.specs.Outcomes.{AreWords, memories_in, outcome_in, thread_end_in};
+ghost use Rattle.meaning.specs.inner.Seen.{seen_in};
 ghost use Rattle.meaning.specs.inner.Machine.{Means, context_in, program_in, state_in};
 
 use crate::machine::{Context, Halted, Machine, tick};
@@ -43,24 +44,53 @@ fn left<A: Allocator + Copy>(alloc: A, context: Context<A>) -> Vec<Vec<u32, A>, 
     }
 }
 
+/// What is seen of a thread, its memories in words of 32 bits.
+#[derive(Drop)]
+pub(crate) struct Seen<A: Allocator> {
+    pub lefts: Vec<Vec<u32, A>, A>,
+    pub text: Vec<u8, A>,
+    pub end: ThreadEnd,
+}
+
 /// What is seen of a thread that has come to this end.
-fn finish<A: Allocator + Copy>(
-    alloc: A,
-    end: ThreadEnd,
-    m: Machine<A>,
-) -> Result<ThreadOutcome<A>, OutOfMemory>
-    ensures value { IfOk result (λ o. outcome_in o ≡ record { lefts = lefts_in (state_in m.entry).context; text = (state_in m.entry).text; end = thread_end_in end }) }
-    ensures words { IfOk result (λ o. AreWords o.lefts.items) }
+fn finish<A: Allocator + Copy>(alloc: A, end: ThreadEnd, m: Machine<A>) -> Seen<A>
+    ensures { seen_in result ≡ record { lefts = lefts_in (state_in m.entry).context; text = (state_in m.entry).text; end = thread_end_in end } }
 {
-    let left = left(alloc, m.context);
-    let Ok(lefts) = widen_all(alloc, left.as_slice()) else {
-        return Err(OutOfMemory);
-    };
-    Ok(ThreadOutcome {
-        lefts,
+    Seen {
+        lefts: left(alloc, m.context),
         text: m.text,
         end,
-    })
+    }
+}
+
+/// What thread `t` of a program does, as `thread`, with memories in words of 32 bits.
+pub(crate) fn run_thread<A: Allocator + Copy>(
+    alloc: A,
+    typed: &Typed<A>,
+    t: u32,
+    founds: &[Vec<u32, A>],
+    ticks: u64,
+) -> Result<Seen<A>, OutOfMemory>
+    ensures { IfOk result (λ o. seen_in o ≡ thread_due (program_of typed.now.unit) t (memories_in founds.now) ticks) }
+{
+    let source = Source {
+        alloc,
+        unit: typed.unit(),
+    };
+    let mut m = Machine {
+        ticks,
+        why: None,
+        locals: Vec::new(alloc),
+        context: Context::Outside(founds, Vec::new(alloc)),
+        text: Vec::new(alloc),
+    };
+    match work(&source, t, &mut m) {
+        Ok(()) => Ok(finish(alloc, ThreadEnd::Ended, m)),
+        Err(_) => match m.why {
+            Some(why) => Ok(finish(alloc, ThreadEnd::Stopped(why), m)),
+            None => Err(OutOfMemory),
+        },
+    }
 }
 
 /// What thread `t` of a program does within so many ticks, where the i-th of its outermost transactions finds the i-th of
@@ -80,22 +110,13 @@ pub fn thread<A: Allocator + Copy>(
     let Ok(found) = narrow_all(alloc, founds) else {
         return Err(OutOfMemory);
     };
-    let source = Source {
-        alloc,
-        unit: typed.unit(),
+    let seen = run_thread(alloc, typed, t, found.as_slice(), ticks)?;
+    let Ok(lefts) = widen_all(alloc, seen.lefts.as_slice()) else {
+        return Err(OutOfMemory);
     };
-    let mut m = Machine {
-        ticks,
-        why: None,
-        locals: Vec::new(alloc),
-        context: Context::Outside(found.as_slice(), Vec::new(alloc)),
-        text: Vec::new(alloc),
-    };
-    match work(&source, t, &mut m) {
-        Ok(()) => finish(alloc, ThreadEnd::Ended, m),
-        Err(_) => match m.why {
-            Some(why) => finish(alloc, ThreadEnd::Stopped(why), m),
-            None => Err(OutOfMemory),
-        },
-    }
+    Ok(ThreadOutcome {
+        lefts,
+        text: seen.text,
+        end: seen.end,
+    })
 }

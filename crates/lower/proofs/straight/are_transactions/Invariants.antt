@@ -1,8 +1,0 @@
-use Rattle.std.proofs.Common.{◌↔◌, drop}
-use Rattle.syntax.specs.Views.{stmts_of}
-use Rattle.lower.specs.StraightLine.{AreTransactions}
-use Rattle.lower.proofs.straight.are_transactions.Given as goal
-
--- all are of the kind where those that are left are
-abbrev pub invariant-body : goal.invariant-body
-invariant-body g l = AreTransactions (stmts_of (drop l.s-index l.body)) ↔ AreTransactions (stmts_of l.body)

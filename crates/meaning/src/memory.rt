@@ -1,0 +1,93 @@
+//! The memory in which a program begins.
+
+ghost use Rattle.std.specs.Prelude.{◌≡◌, ◌++◌, ◌-◌, ◌∷◌, [], map, replicate, length, IfOk, OnOk};
+ghost use Rattle.syntax.specs.Views.{program_of, item_of, global_of};
+ghost use Rattle.syntax.specs.Names.{globals, cells, first_word as first_word_of, first_words, initial_from, initial_memory as initial_memory_of};
+
+use std::alloc::{AllocError, Allocator};
+use syntax::tree::{First, Global, Item, Unit};
+
+/// The word of a number that a global begins with (C11 6.7.9, 6.3.1.3).
+fn first_word(first: First) -> u32
+    ensures { result ≡ first_word_of first }
+{
+    if first.negative {
+        first.value.wrapping_neg()
+    } else {
+        first.value
+    }
+}
+
+/// How many cells a global has.
+fn cell_count<A: Allocator>(global: &Global<A>) -> usize
+    ensures { result ≡ cells (global_of global.now) }
+{
+    match global.length {
+        Some((count, _)) => count as usize,
+        None => 1,
+    }
+}
+
+/// Adds the words that are given for a global's first cells.
+fn push_firsts<A: Allocator>(memory: &mut Vec<u32, A>, firsts: &[First]) -> Result<(), AllocError>
+    ensures { OnOk result (memory.new.items ≡ memory.old.items ++ map first_word_of firsts.now) }
+{
+    'firsts: for first in firsts {
+        memory.push(first_word(*first))?;
+    }
+    Ok(())
+}
+
+/// Adds the words of a global: those that are given, and else 0.
+fn push_global<A: Allocator>(memory: &mut Vec<u32, A>, global: &Global<A>) -> Result<(), AllocError>
+    ensures { OnOk result (memory.new.items ≡ memory.old.items ++ first_words (global_of global.now)) }
+{
+    push_firsts(memory, global.first.as_slice())?;
+    let rest = cell_count(global).saturating_sub(global.first.as_slice().len());
+    push_zeros(memory, rest)
+}
+
+/// Adds cells that hold 0.
+fn push_zeros<A: Allocator>(memory: &mut Vec<u32, A>, count: usize) -> Result<(), AllocError>
+    ensures { OnOk result (memory.new.items ≡ memory.old.items ++ replicate count 0) }
+{
+    'zeros: for _ in 0..count {
+        memory.push(0)?;
+    }
+    Ok(())
+}
+
+/// Adds the words of globals.
+fn push_globals<A: Allocator>(memory: &mut Vec<u32, A>, all: &[Global<A>]) -> Result<(), AllocError>
+    ensures { OnOk result (memory.new.items ≡ memory.old.items ++ initial_from (map global_of all.now)) }
+{
+    'all: for global in all {
+        push_global(memory, global)?;
+    }
+    Ok(())
+}
+
+/// Adds the words of the globals among items.
+fn push_items<A: Allocator>(memory: &mut Vec<u32, A>, items: &[Item<A>]) -> Result<(), AllocError>
+    ensures { OnOk result (memory.new.items ≡ memory.old.items ++ initial_from (globals (map item_of items.now))) }
+{
+    'items: for item in items {
+        match item {
+            Item::Globals(all) => push_globals(memory, all.as_slice())?,
+            Item::Function(_) => {}
+        }
+    }
+    Ok(())
+}
+
+/// The memory in which a program begins: a word for each cell, the one that its initialiser gives, or else 0.
+pub(crate) fn initial_memory<A: Allocator + Copy>(
+    alloc: A,
+    unit: &Unit<A>,
+) -> Result<Vec<u32, A>, AllocError>
+    ensures { IfOk result (λ m. m.items ≡ initial_memory_of (program_of unit.now)) }
+{
+    let mut memory = Vec::new(alloc);
+    push_items(&mut memory, unit.items.as_slice())?;
+    Ok(memory)
+}
