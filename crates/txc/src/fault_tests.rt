@@ -76,7 +76,7 @@ const TOLD: [(&str, u32, &str); 21] = [
     ),
 ];
 
-/// The faults of sources that are not lowered yet: 63 is told in their place.
+/// The faults of sources that are not told yet: these programs run.
 const NOT_TOLD_YET: [(&str, u32, &str); 6] = [
     (
         "void worker(int self) { __transaction_atomic { printf(\"a\"); } }",
@@ -130,7 +130,7 @@ const LONG: [([(&str, usize); 5], u32, &str); 2] = [
     ),
 ];
 
-/// The same, of a source that is not lowered yet.
+/// The same, of a source that runs.
 const LONG_NOT_TOLD_YET: [([(&str, usize); 5], u32, &str); 1] = [(
     [
         ("void worker(int self) { ", 1),
@@ -188,17 +188,17 @@ fn faults_are_told_with_place_and_words(rt: HostRuntime) -> Result<(), Fail> {
 }
 
 #[test]
-fn programs_that_are_not_lowered_yet(rt: HostRuntime) -> Result<(), Fail> {
+fn faults_that_are_not_told_yet(rt: HostRuntime) -> Result<(), Fail> {
     for (source, number, told) in NOT_TOLD_YET {
         let answer = answer(rt.alloc(), source.as_bytes())?;
-        assert_eq!(rt; answer.err.as_slice(), b"txc: fault 63\n".as_slice());
-        assert_eq!(rt; answer.status, 2);
+        assert_eq!(rt; answer.err.len(), 0);
+        assert_ne!(rt; answer.out.len(), 0);
         assert!(rt; told.ends_with(words(number)));
     }
     for (pieces, number, told) in LONG_NOT_TOLD_YET {
         let source = joined(rt.alloc(), pieces.as_slice())?;
         let answer = answer(rt.alloc(), source.as_str().as_bytes())?;
-        assert_eq!(rt; answer.err.as_slice(), b"txc: fault 63\n".as_slice());
+        assert_eq!(rt; answer.err.len(), 0);
         assert!(rt; told.ends_with(words(number)));
     }
     Ok(())

@@ -3,6 +3,8 @@
 
 mod command;
 #[cfg(test)]
+mod example_tests;
+#[cfg(test)]
 mod fault_tests;
 mod report;
 mod run;
@@ -27,7 +29,7 @@ fn answer(rt: &HostRuntime) -> u8 {
     match request(rt) {
         Ok(request) => open(rt, &request),
         Err(UsageFault::OutOfMemory(_)) => out_of_memory(&mut rt.stderr()),
-        Err(UsageFault::Help { text }) => match print(text.as_str(), &mut rt.stdout()) {
+        Err(UsageFault::Help { text }) => match print(text.as_str().as_bytes(), &mut rt.stdout()) {
             Ok(()) => ENDED,
             Err(_) => cannot_write(&mut rt.stderr()),
         },

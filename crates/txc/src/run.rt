@@ -1,17 +1,15 @@
 //! From a source's text to its report.
 
-ghost use Rattle.std.specs.Prelude.{◌≡◌, IfOk, IfErr, string_bytes};
+ghost use Rattle.std.specs.Prelude.{◌≡◌, IfOk, IfErr};
 ghost use Rattle.syntax.specs.Views.{program_of};
-ghost use Rattle.lower.specs.StraightLine.{IsStraightLine};
-ghost use Rattle.syntax.specs.Typing.{IsTypedProgram};
 ghost use Rattle.parse.specs.Faults.{source_of};
-ghost use Rattle.lower.specs.declared.code.End.{End};
+ghost use Rattle.meaning.specs.declared.outcome.ThreadEnd.{ThreadEnd};
 ghost use Rattle.txc.specs.Runs.{IsSourceOf, IsReportOf, Reports, IsFaultOfText, number_of_run, span_of_run};
 
 use crate::report::report;
 use lex::token::Span;
 use lex::{LexFault, lex};
-use lower::{End, is_straight_line, lower, run};
+use meaning::{ThreadEnd, run_alone};
 use parse::{ParseFault, parse};
 use std::alloc::Allocator;
 use syntax::tree::Unit;
@@ -30,9 +28,6 @@ pub enum RunTextFault {
     Parse(ParseFault),
     #[error("{0}")]
     IllTyped(Violation),
-    /// The program is not one of straight lines: its names and types are right, and it cannot be run yet.
-    #[error("not lowered yet")]
-    NotLowered,
 }
 
 impl RunTextFault {
@@ -45,16 +40,15 @@ impl RunTextFault {
             RunTextFault::Lex(fault) => fault.number(),
             RunTextFault::Parse(fault) => fault.number(),
             RunTextFault::IllTyped(fault) => fault.number(),
-            RunTextFault::NotLowered => 63,
         }
     }
 
-    /// Where the fault stands in the text. Want of memory stands nowhere, and neither does a program that is not lowered.
+    /// Where the fault stands in the text. Want of memory stands nowhere.
     pub fn span(&self) -> Option<Span>
         ensures { result ≡ span_of_run self.now }
     {
         match self {
-            RunTextFault::OutOfMemory | RunTextFault::NotLowered => None,
+            RunTextFault::OutOfMemory => None,
             RunTextFault::Lex(fault) => fault.span(),
             RunTextFault::Parse(fault) => fault.span(),
             RunTextFault::IllTyped(fault) => Some(fault.span()),
@@ -65,8 +59,8 @@ impl RunTextFault {
 /// What a run gives: its report, and how the thread has ended.
 #[derive(Drop)]
 pub struct Ran<A: Allocator> {
-    pub report: String<A>,
-    pub end: End,
+    pub report: Vec<u8, A>,
+    pub end: ThreadEnd,
 }
 
 /// The program that a text spells.
@@ -95,47 +89,44 @@ fn read_typed<A: Allocator + Copy>(alloc: A, text: &str) -> Result<Typed<A>, Run
     }
 }
 
-/// Runs a typed program of straight lines.
+/// Runs a typed program.
 fn run_typed<A: Allocator + Copy>(alloc: A, typed: &Typed<A>) -> Result<Ran<A>, RunTextFault>
-    requires { IsStraightLine (program_of typed.now.unit) }
-    ensures ok { IfOk result (λ r. IsReportOf (program_of typed.now.unit) (string_bytes r.report) r.end) }
+    ensures ok { IfOk result (λ r. IsReportOf (program_of typed.now.unit) r.report.items r.end) }
     ensures err { IfErr result (λ f. f ≡ RunTextFault.OutOfMemory) }
 {
-    let unit = typed.unit();
-    let Ok(code) = lower(alloc, unit) else {
+    let Ok(ran) = run_alone(alloc, typed, u64::MAX, u64::MAX) else {
         return Err(RunTextFault::OutOfMemory);
     };
-    let Ok(outcome) = run(alloc, &code) else {
-        return Err(RunTextFault::OutOfMemory);
-    };
-    match report(alloc, unit, outcome.words.as_slice(), outcome.end) {
+    match report(
+        alloc,
+        typed.unit(),
+        ran.memory.as_slice(),
+        ran.text.as_slice(),
+        ran.end,
+    ) {
         Ok(report) => Ok(Ran {
             report,
-            end: outcome.end,
+            end: ran.end,
         }),
         Err(_) => Err(RunTextFault::OutOfMemory),
     }
 }
 
 /// Runs a source's text with one thread, and gives its report and the thread's end.
+///
+/// The fault is that of the first phase that finds one: the lexer, the parser, or the check of names and types.
+/// `OutOfMemory` comes only where a growth was refused.
 pub fn run_source<A: Allocator + Copy>(alloc: A, text: &str) -> Result<Ran<A>, RunTextFault>
-    ensures ok { IfOk result (λ r. Reports text.now (string_bytes r.report) r.end) }
+    ensures ok { IfOk result (λ r. Reports text.now r.report.items r.end) }
     ensures err { IfErr result (λ f. IsFaultOfText text.now f) }
 {
     let typed = read_typed(alloc, text)?;
-    if is_straight_line(typed.unit()) {
-        run_typed(alloc, &typed)
-    } else {
-        Err(RunTextFault::NotLowered)
-    }
+    run_typed(alloc, &typed)
 }
 
-/// Runs a source's text with one thread, and gives its report.
-///
-/// The fault is that of the first phase that finds one: the lexer, the parser, or the check of names and types. A typed
-/// program that is not one of straight lines is `NotLowered`. `OutOfMemory` comes only where a growth was refused.
-pub fn run_text<A: Allocator + Copy>(alloc: A, text: &str) -> Result<String<A>, RunTextFault>
-    ensures ok { IfOk result (λ t. (end : End) × Reports text.now (string_bytes t) end) }
+/// Runs a source's text with one thread, and gives its report, as `run_source`.
+pub fn run_text<A: Allocator + Copy>(alloc: A, text: &str) -> Result<Vec<u8, A>, RunTextFault>
+    ensures ok { IfOk result (λ t. (end : ThreadEnd) × Reports text.now t.items end) }
     ensures err { IfErr result (λ f. IsFaultOfText text.now f) }
 {
     match run_source(alloc, text) {

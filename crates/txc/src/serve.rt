@@ -8,10 +8,11 @@ use crate::command::Request;
 use crate::run::{RunTextFault, run_source};
 use crate::words::words;
 use lex::{MOST_BYTES, place};
-use lower::End;
+use meaning::ThreadEnd;
 use std::alloc::Allocator;
 use std::io;
 use std::io::{ErrorKind, Read, Write};
+use syntax::numbers::Halt;
 
 /// One byte more than a source may have.
 const BEYOND_MOST_BYTES: u64 = MOST_BYTES as u64 + 1;
@@ -55,8 +56,8 @@ fn read_source<A: Allocator + Copy, R: Read + Drop>(alloc: A, source: R) -> io::
 /// Does what is asked over two readers and two writers, and gives the exit status.
 ///
 /// The source's text is read from `source`; `run` reads no schedule. The report goes to `out`, and faults to `err`; what `err` does not take is
-/// lost. The status is 0 where the thread ended, 1 where the source is refused, 2 where it cannot be read, is not UTF-8 or
-/// is a program that cannot be run yet, 3 where the thread trapped, and 4 where memory or `out` was refused.
+/// lost. The status is 0 where the thread ended, 1 where the source is refused, 2 where it cannot be read or is not UTF-8,
+/// 3 where the thread trapped, and 4 where it did neither, or memory or `out` was refused.
 pub fn serve<A: Allocator + Copy, R: Read + Drop, S: Read + Drop, W: Write, E: Write>(
     alloc: A,
     request: &Request,
@@ -97,7 +98,7 @@ fn run<A: Allocator + Copy, W: Write, E: Write>(
     ensures report { Prints text.now result (W.contents out.old) (W.contents out.new) }
 {
     match run_source(alloc, text) {
-        Ok(ran) => match print(ran.report.as_str(), out) {
+        Ok(ran) => match print(ran.report.as_slice(), out) {
             Ok(()) => status_of(ran.end),
             Err(_) => cannot_write(err),
         },
@@ -106,20 +107,21 @@ fn run<A: Allocator + Copy, W: Write, E: Write>(
 }
 
 /// Writes a text and flushes the writer.
-pub fn print<W: Write>(text: &str, out: &mut W) -> io::Result<()>
+pub fn print<W: Write>(text: &[u8], out: &mut W) -> io::Result<()>
     ensures { OnOk result (Appends (W.contents out.old) (W.contents out.new) text.now) }
 {
-    out.write_all(text.as_bytes())?;
+    out.write_all(text)?;
     out.flush()
 }
 
 /// The exit status of a run by its end.
-fn status_of(end: End) -> u8
+fn status_of(end: ThreadEnd) -> u8
     ensures { result ≡ exit_status end }
 {
     match end {
-        End::Ended => ENDED,
-        End::Trapped(_) => TRAPPED,
+        ThreadEnd::Ended => ENDED,
+        ThreadEnd::Stopped(Halt::Trapped(_)) => TRAPPED,
+        ThreadEnd::Stopped(Halt::Wants | Halt::Spent | Halt::Astray) => STOPPED,
     }
 }
 
@@ -130,8 +132,8 @@ fn refuse<E: Write>(text: &str, fault: RunTextFault, err: &mut E) -> u8
     ensures not_trapped { result ≢ 3 }
 {
     let number = fault.number();
-    match (fault.span(), number) {
-        (Some(span), _) => {
+    match fault.span() {
+        Some(span) => {
             let (line, column) = place(text, span.start.min(text.len()));
             let _ = writeln!(
                 err,
@@ -140,11 +142,7 @@ fn refuse<E: Write>(text: &str, fault: RunTextFault, err: &mut E) -> u8
             );
             REFUSED
         }
-        (None, 0) => out_of_memory(err),
-        (None, _) => {
-            let _ = writeln!(err, "txc: fault {number:02}");
-            UNUSABLE
-        }
+        None => out_of_memory(err),
     }
 }
 

@@ -88,7 +88,7 @@ fn reads_words(rt: HostRuntime) -> Result<(), Fail> {
 #[test]
 fn serves_sources(rt: HostRuntime) -> Result<(), Fail> {
     let request = command(rt.alloc(), ["txc", "run", "a.c"].as_slice())?;
-    let rows: [(&[u8], u8, &[u8], &[u8]); 5] = [
+    let rows: [(&[u8], u8, &[u8], &[u8]); 15] = [
         (FIRST, 0, FIRST_REPORT, b""),
         (
             b"int x = 2147483647, y = 5; void worker(int self) { __transaction_atomic { y = 1; x = x + 1; } }",
@@ -100,6 +100,71 @@ fn serves_sources(rt: HostRuntime) -> Result<(), Fail> {
             b"int x; void worker(int self) { __transaction_atomic { x = 3; } __transaction_atomic { x = x - 5; } }",
             0,
             b"== thread 0: ended\n== memory\nx = -2\n",
+            b"",
+        ),
+        // what a cancel undoes: the locals and the memory
+        (
+            b"int x = 1; void worker(int self) { int a = 5; __transaction_atomic { a = 6; x = 2; __transaction_cancel; } printf(\"%d\\n\", a); }",
+            0,
+            b"== thread 0: ended\n5\n== memory\nx = 1\n",
+            b"",
+        ),
+        // an inner cancel, and an inner transaction that is left by a return
+        (
+            b"int x = 1, y; void worker(int self) { __transaction_atomic { x = 2; __transaction_atomic { x = 3; y = x; __transaction_cancel; } y = x + y; } }",
+            0,
+            b"== thread 0: ended\n== memory\nx = 2\ny = 2\n",
+            b"",
+        ),
+        (
+            b"int x; int f(void) { __transaction_atomic { __transaction_atomic { x = 5; return x + 1; } } } void worker(int self) { int v = f(); printf(\"%d\", v); }",
+            0,
+            b"== thread 0: ended\n6\n== memory\nx = 5\n",
+            b"",
+        ),
+        // each transaction finds what the one before it left
+        (
+            b"int n; void worker(int self) { while (1) { __transaction_atomic { n = n + 1; if (n == 3) break; } } printf(\"done\"); }",
+            0,
+            b"== thread 0: ended\ndone\n== memory\nn = 3\n",
+            b"",
+        ),
+        // a trap keeps what was printed, and leaves the memory that its transaction found
+        (
+            b"int x = 2147483647, y; void worker(int self) { __transaction_relaxed { y = 3; printf(\"go\\n\"); x = x + 1; } }",
+            3,
+            b"== thread 0: trap 1\ngo\n== memory\nx = 2147483647\ny = 0\n",
+            b"",
+        ),
+        (
+            b"int x; void worker(int self) { int a = -2147483647 - 1; __transaction_atomic { x = a / -1; } }",
+            3,
+            b"== thread 0: trap 1\n== memory\nx = 0\n",
+            b"",
+        ),
+        (
+            b"unsigned a[3] = {1, 2}; int b = -1; void worker(int self) { __transaction_atomic { b = 7; a[3] = 1; } }",
+            3,
+            b"== thread 0: trap 3\n== memory\na = 1 2 0\nb = -1\n",
+            b"",
+        ),
+        // 64 frames, and a 65th
+        (
+            b"void down(int k) { if (k > 0) down(k - 1); } void worker(int self) { down(62); printf(\"%d\\n\", self); down(63); }",
+            3,
+            b"== thread 0: trap 4\n0\n== memory\n",
+            b"",
+        ),
+        (
+            b"void worker(int self) { printf(\"%u\\n\", 0xFFFFFFFF + 1); }",
+            0,
+            b"== thread 0: ended\n0\n== memory\n",
+            b"",
+        ),
+        (
+            b"int x; void worker(int self) { __transaction_atomic { if (0) if (1) x = 1; else x = 2; } }",
+            0,
+            b"== thread 0: ended\n== memory\nx = 0\n",
             b"",
         ),
         (
@@ -158,7 +223,7 @@ fn each_growth_is_refused_once(rt: HostRuntime) -> Result<(), Fail> {
         match run_text(&alloc, text) {
             Ok(report) => {
                 assert!(rt; alloc.is_waiting());
-                assert_eq!(rt; report.as_str().as_bytes(), FIRST_REPORT);
+                assert_eq!(rt; report.as_slice(), FIRST_REPORT);
                 break;
             }
             Err(fault) => {

@@ -33,7 +33,6 @@ pub fn words(number: u32) -> &'static str {
         60 => "too many registers",
         61 => "too much code",
         62 => "transactions nested too deep",
-        63 => "not lowered yet",
         70 => "sequence used up",
         71 => "stranger thread",
         72 => "wrong number of threads",

@@ -8,5 +8,4 @@ abbrev pub invariant-globals : goal.invariant-globals
 invariant-globals g l = record {
   text : string_bytes l.text ++ memory_text (map global_of (drop l.global-index l.globals)) l.rest ≡ string_bytes l.initial.text ++ memory_text (map global_of l.globals) l.words;
   rest : words_after (map global_of (drop l.global-index l.globals)) l.rest ≡ words_after (map global_of l.globals) l.words;
-  fit : All (λ w. w < 2 ^ 32) l.rest;
 }
