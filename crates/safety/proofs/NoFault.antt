@@ -1,5 +1,5 @@
 -- In a safe program every demand of safety is met.
-use Rattle.std.proofs.Common.{◌≡◌, refl, arith, sym, ap, subst, ◌∙◌, ℕ, List, [], ◌∷◌, ◌++◌, append_assoc, Option, Some, None, Bool, true, false, IsTrue, All}
+use Rattle.std.proofs.Common.{◌≡◌, refl, arith, sym, ap, subst, ◌∙◌, ℕ, List, [], ◌∷◌, ◌++◌, append_assoc, Some, None, Bool, true, false, IsTrue, All}
 use Rattle.std.specs.Prelude.{not, ◌||◌, is_none, bytes_eq, Contains, if◌then◌else◌}
 use Rattle.std.specs.List.{flat_map}
 use Rattle.std.proofs.lemmas.List.Elements.{All-nil, All-cons, All-head, All-tail, All-append, Contains-append_right}
@@ -8,11 +8,11 @@ use Rattle.lex.specs.declared.token.Span.{Span}
 use Rattle.syntax.specs.declared.tree.Attribute.{Attribute}
 use Rattle.syntax.specs.declared.tree.Attribute.TheVariants.{Safe, Unsafe, Callable}
 use Rattle.syntax.specs.Tree.{Function, Item, Defines, Shares, Program}
-use Rattle.syntax.specs.Typing.{Demand, demand, first_unmet}
+use Rattle.syntax.specs.Typing.{demand}
 use Rattle.syntax.proofs.Demands.{AreMet, none_unmet}
 use Rattle.safety.specs.Sites.{Construct, Prints, Relaxes, Cancels, Calls, Uses, Site, body_sites, sites_of, attributes_of}
 use Rattle.safety.specs.Safe.{FunctionSet, TellsSafe, IsSafeConstruct, IsSafe, KeepsAtomic, IsSafeProgram}
-use Rattle.safety.specs.Faults.{demands_at, says_safe, function_demands, item_demands, safety_demands, IsSafetyFault}
+use Rattle.safety.specs.Faults.{demands_at, says_safe, function_demands, item_demands, safety_demands}
 use Rattle.safety.specs.Laws.{SafeHasNoFault}
 
 one_met : (n : ℕ) (at : Span) (b : Bool) → IsTrue b → AreMet (demand n at b)

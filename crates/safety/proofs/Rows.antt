@@ -9,7 +9,7 @@ use Rattle.syntax.specs.Tree.{Evaluate, Call, Stmt, Stmts, Do, Print, Transactio
 use Rattle.syntax.specs.Typing.{first_unmet}
 use Rattle.syntax.proofs.Rows.{here, called, sets_one, atomic, just, worker_with}
 use Rattle.syntax.proofs.MoreRows.{then_}
-use Rattle.safety.specs.Sites.{Construct, Relaxes, Cancels, Uses, Site, sites_of}
+use Rattle.safety.specs.Sites.{Construct, Uses, Site, sites_of}
 use Rattle.safety.specs.Safe.{FunctionSet}
 use Rattle.safety.specs.Faults.{safety_demands}
 

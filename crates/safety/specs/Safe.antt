@@ -1,5 +1,5 @@
 -- Safe functions, and programs whose atomic transactions hold nothing unsafe.
-use Rattle.std.specs.Prelude.{◌≡◌, ℕ, List, Bool, true, false, IsTrue, All, Contains, Decides}
+use Rattle.std.specs.Prelude.{◌≡◌, ℕ, List, Bool, true, IsTrue, All, Contains, Decides}
 use Rattle.syntax.specs.declared.tree.Attribute.TheVariants.{Safe, Unsafe}
 use Rattle.syntax.specs.Tree.{Program}
 use Rattle.safety.specs.Sites.{Construct, Prints, Relaxes, Cancels, Calls, Site, sites_of, attributes_of}

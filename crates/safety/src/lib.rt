@@ -1,4 +1,24 @@
 //! Safety: which functions are safe, and which programs keep unsafe code out of atomic transactions.
 #![tactic(auto)]
 
+pub mod checked;
+mod closure;
+mod demands;
+mod expr;
+mod fault;
+mod graph;
 pub mod laws;
+mod links;
+mod locals;
+mod program;
+mod set;
+mod site;
+mod stmt;
+mod table;
+
+pub use closure::least;
+pub use fault::{SafetyFault, Violation};
+pub use program::safe;
+pub use set::{FunctionSet, Link};
+pub use site::{Construct, Site};
+pub use stmt::body_sites;

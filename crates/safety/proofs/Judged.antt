@@ -1,0 +1,128 @@
+-- A typed program of which every demand of safety is met is safe.
+use Rattle.std.proofs.Common.{◌≡◌, refl, arith, sym, ap, subst, ◌∙◌, inl, inr, ℕ, List, [], ◌∷◌, ◌++◌, Option, Some, None, Bool, true, false, IsTrue, All}
+use Rattle.std.specs.Prelude.{not, ◌||◌, is_none, is_some, bytes_eq, Contains, codes, if◌then◌else◌}
+use Rattle.std.specs.List.{flat_map}
+use Rattle.std.proofs.lemmas.List.Elements.{All-nil, All-cons, All-append}
+use Rattle.std.proofs.lemmas.Slice.Eq.{bytes_eq-Decides}
+use Rattle.syntax.specs.declared.tree.Attribute.TheVariants.{Safe}
+use Rattle.syntax.specs.Tree.{Item, Defines, Shares, Program, Stmts}
+use Rattle.syntax.specs.Names.{defined, definition_of}
+use Rattle.syntax.specs.Types.{file_scope}
+use Rattle.syntax.specs.Typing.{demand, first_unmet, is_unknown, is_worker, IsTypedItem, IsTypedFunction, AreTypedItems, AreDefined, IsTypedProgram}
+use Rattle.syntax.proofs.Demands.{AreMet, all_met, none_unmet, met_before, met_behind, is_met}
+use Rattle.types.proofs.Items.{AllDefined, all_defined_function, all_defined_shared, first_prototype}
+use Rattle.safety.specs.Sites.{Construct, Prints, Relaxes, Cancels, Calls, Uses, Site, body_sites, sites_of, attributes_of}
+use Rattle.safety.specs.Safe.{FunctionSet, TellsSafe, IsSafeConstruct, IsSafe, KeepsAtomic, IsSafeProgram}
+use Rattle.safety.specs.Faults.{demands_at, says_safe, function_demands, item_demands, safety_demands}
+use Rattle.safety.proofs.Unsafe.{by_name, safe_contained}
+
+no : {X : Type 0} → false ≡ true → X
+no e = absurd cc
+
+no_and : (b : Bool) → IsTrue (not b) → b ≡ true → ⊥
+no_and true h e = no h
+no_and false h e = no e
+
+or_right : (a b : Bool) → IsTrue (not a || b) → a ≡ true → IsTrue b
+or_right true b h e = h
+or_right false b h e = no e
+
+module _ (p : Program) (safe : FunctionSet) (tells : TellsSafe p safe) where
+  kept_by : (s : Site) (c : Construct) → AreMet (demands_at safe s c) → (s.atomic ≡ true → IsSafeConstruct (IsSafe p) c) × (c ≡ Cancels → s.atomic ≡ true)
+  kept_by s Prints h = (no_and s.atomic (is_met 40 s.at (not s.atomic) h), λ e. absurd cc)
+  kept_by s Relaxes h = (no_and s.atomic (is_met 41 s.at (not s.atomic) h), λ e. absurd cc)
+  kept_by s Cancels h = (λ e. tt, λ e. is_met 42 s.at s.atomic h)
+  kept_by s (Calls f) h = (λ e. (tells f).0 (or_right s.atomic (safe f) (is_met 40 s.at (not s.atomic || safe f) h) e), λ e. absurd cc)
+  kept_by s (Uses x) h = (λ e. tt, λ e. absurd cc)
+
+  sites_keep : (ss : List Site) → AreMet (flat_map (λ s. demands_at safe s s.construct) ss) → All (KeepsAtomic p) ss
+  sites_keep [] h = All-nil (KeepsAtomic p)
+  sites_keep (s ∷ ss) h =
+      let own = demands_at safe s s.construct in
+      let rest = flat_map (λ s. demands_at safe s s.construct) ss in
+      All-cons (KeepsAtomic p) s ss (kept_by s s.construct (met_before own rest h)) (sites_keep ss (met_behind own rest h))
+
+  if_own : (b : Bool) (own : List Site) → All (KeepsAtomic p) own → All (KeepsAtomic p) (if b then own else [])
+  if_own true own h = h
+  if_own false own h = All-nil (KeepsAtomic p)
+
+  items_keep : (items : List Item) (f : List ℕ) → AreMet (flat_map (item_demands p safe) items) → All (KeepsAtomic p) (sites_of items f)
+  items_keep [] f h = All-nil (KeepsAtomic p)
+  items_keep (Shares gs ∷ items) f h = items_keep items f h
+  items_keep (Defines g ∷ items) f h =
+      let own = body_sites g.parameters g.body in
+      let claim = demand 43 g.name.at (is_none g.body || not (says_safe (attributes_of p g.name.text)) || safe g.name.text) in
+      let here = met_before (function_demands p safe g) (flat_map (item_demands p safe) items) h in
+      All-append (KeepsAtomic p) (if bytes_eq g.name.text f then own else []) (sites_of items f)
+      (if_own (bytes_eq g.name.text f) own (sites_keep own (met_behind claim (flat_map (λ s. demands_at safe s s.construct) own) here)))
+      (items_keep items f (met_behind (function_demands p safe g) (flat_map (item_demands p safe) items) h))
+
+  claimed : (none says is : Bool) → IsTrue (none || not says || is) → none ≡ false → says ≡ true → IsTrue is
+  claimed true says is h e g = no (sym e)
+  claimed false true is h e g = h
+  claimed false false is h e g = no g
+
+  -- a definition of a function that is declared safe is safe
+  definition_safe : (items : List Item) (f : List ℕ) → AreMet (flat_map (item_demands p safe) items) → is_some (definition_of items f) ≡ true → says_safe (attributes_of p f) ≡ true → IsTrue (safe f)
+  definition_safe [] f h d says = no d
+  definition_safe (Shares gs ∷ items) f h d says = definition_safe items f h d says
+  definition_safe (Defines g ∷ items) f h d says = here (λ d. definition_safe items f (met_behind (function_demands p safe g) (flat_map (item_demands p safe) items) h) d says) g.body refl d
+    where
+      met : IsTrue (is_none g.body || not (says_safe (attributes_of p g.name.text)) || safe g.name.text)
+      met =
+          let claim = demand 43 g.name.at (is_none g.body || not (says_safe (attributes_of p g.name.text)) || safe g.name.text) in
+          is_met 43 g.name.at (is_none g.body || not (says_safe (attributes_of p g.name.text)) || safe g.name.text)
+          (met_before claim (flat_map (λ s. demands_at safe s s.construct) (body_sites g.parameters g.body)) (met_before (function_demands p safe g) (flat_map (item_demands p safe) items) h))
+
+      own : (b : Stmts) → g.body ≡ Some b → g.name.text ≡ f → IsTrue (safe f)
+      own b e same =
+          let there : is_none g.body ≡ false = ap is_none e in
+          subst (λ x. IsTrue (safe x)) same (claimed (is_none g.body) (says_safe (attributes_of p g.name.text)) (safe g.name.text) met there (subst (λ x. says_safe (attributes_of p x) ≡ true) (sym same) says))
+
+      named : (is_some (definition_of items f) ≡ true → IsTrue (safe f)) → (b : Stmts) → g.body ≡ Some b → (t : Bool) → bytes_eq g.name.text f ≡ t → is_some (if t then Some (g, b) else definition_of items f) ≡ true → IsTrue (safe f)
+      named rest b e true t d = own b e ((bytes_eq-Decides g.name.text f).0 t)
+      named rest b e false t d = rest d
+
+      here : (is_some (definition_of items f) ≡ true → IsTrue (safe f)) → (o : Option Stmts) → g.body ≡ o → is_some (defined g f o (definition_of items f)) ≡ true → IsTrue (safe f)
+      here rest None e d = rest d
+      here rest (Some b) e d = named rest b e (bytes_eq g.name.text f) refl d
+
+-- each function that is declared is defined
+module _ (p : Program) where
+  own_defined : (a b : Bool) → ((b ≡ false) → (a || b) ≡ false) → IsTrue (a || b) → b ≡ true
+  own_defined a true h m = refl
+  own_defined a false h m = no (sym (h refl) ∙ m)
+
+  declared_defined : (earlier items : List Item) (f : List ℕ) → AllDefined p earlier → AreMet (AreTypedItems earlier items) → AreMet (AreDefined p earlier items) → Contains (attributes_of items f) Safe → is_some (definition_of p f) ≡ true
+  declared_defined earlier [] f all t d c = absurd (omega (arith, c.1))
+  declared_defined earlier (Shares gs ∷ items) f all t d c =
+      declared_defined (earlier ++ Shares gs ∷ []) items f (all_defined_shared p earlier gs all)
+      (met_behind (IsTypedItem earlier (Shares gs)) (AreTypedItems (earlier ++ Shares gs ∷ []) items) t) d c
+  declared_defined earlier (Defines g ∷ items) f all t d c =
+      let typed = met_before (IsTypedFunction earlier g) (AreTypedItems (earlier ++ Defines g ∷ []) items) t in
+      let unknown = is_unknown (file_scope earlier g.name.text) in
+      let has = is_some (definition_of p g.name.text) in
+      let own = demand 29 g.name.at (not unknown || has) in
+      let here : has ≡ true = own_defined (not unknown) has (first_prototype p earlier g (none_unmet (IsTypedFunction earlier g) typed) all)
+      (is_met 29 g.name.at (not unknown || has) (met_before own (AreDefined p (earlier ++ Defines g ∷ []) items) d)) in
+      elim (by_name g.name.text f g.attributes (attributes_of items f) Safe c) [
+        | inl e ↦ subst (λ x. is_some (definition_of p x) ≡ true) e.0 here
+        | inr e ↦ declared_defined (earlier ++ Defines g ∷ []) items f (all_defined_function p earlier g here all)
+            (met_behind (IsTypedFunction earlier g) (AreTypedItems (earlier ++ Defines g ∷ []) items) t)
+            (met_behind own (AreDefined p (earlier ++ Defines g ∷ []) items) d) e
+      ]
+
+  none_defined : AllDefined p []
+  none_defined x e = no e
+
+  pub met_is_safe : IsTypedProgram p → (safe : FunctionSet) → TellsSafe p safe → None ≡ first_unmet (safety_demands p safe) → IsSafeProgram p
+  met_is_safe typed safe tells none =
+      let met = all_met (safety_demands p safe) none in
+      let worker = demand 28 (record { start = 0; end = 0 }) (is_worker (file_scope p (codes "worker"))) in
+      let both = met_before (AreTypedItems [] p ++ AreDefined p [] p) worker typed in
+      record {
+        atomic = λ f. items_keep p safe tells p f met;
+        declared = λ f c. (tells f).0 (definition_safe p safe tells p f met
+            (declared_defined [] p f none_defined (met_before (AreTypedItems [] p) (AreDefined p [] p) both) (met_behind (AreTypedItems [] p) (AreDefined p [] p) both) c)
+            (safe_contained (attributes_of p f) c));
+      }

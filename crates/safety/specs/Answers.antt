@@ -1,0 +1,55 @@
+-- What the check of safety answers.
+use Rattle.std.specs.Prelude.{◌≡◌, ℕ, Option, Some, None, Result, Ok, Err}
+use Rattle.syntax.specs.Tree.{Span, Program}
+use Rattle.syntax.specs.Views.{program_of}
+use Rattle.syntax.specs.Typing.{first_unmet}
+use Rattle.types.specs.declared.typed.Typed.{Typed}
+use Rattle.safety.specs.declared.fault.Violation.{Violation}
+use Rattle.safety.specs.declared.fault.Violation.TheVariants.{UnsafeInAtomic, RelaxedInAtomic, CancelOutsideAtomic, NotSafe}
+use Rattle.safety.specs.declared.fault.SafetyFault.{SafetyFault}
+use Rattle.safety.specs.declared.fault.SafetyFault.TheVariants as fault
+use Rattle.safety.specs.declared.checked.Safe.{Safe}
+use Rattle.safety.specs.Safe.{FunctionSet, TellsSafe, IsSafeProgram}
+use Rattle.safety.specs.Faults.{safety_demands, IsSafetyFault}
+
+abbrev pub number_in : Violation → ℕ
+number_in (UnsafeInAtomic at) = 40
+number_in (RelaxedInAtomic at) = 41
+number_in (CancelOutsideAtomic at) = 42
+number_in (NotSafe at) = 43
+
+abbrev pub span_in : Violation → Span
+span_in (UnsafeInAtomic at) = at
+span_in (RelaxedInAtomic at) = at
+span_in (CancelOutsideAtomic at) = at
+span_in (NotSafe at) = at
+
+-- the number and place of the demand that is not met, as the check says
+abbrev pub fault_in : Option Violation → Option (ℕ × Span)
+fault_in None = None
+fault_in (Some b) = Some (number_in b, span_in b)
+
+-- this is the first demand that is not met, for a set that tells the safe functions
+abbrev pub Judges : Program → Option Violation → Type 0
+Judges p found = (safe : FunctionSet) × TellsSafe p safe × (fault_in found ≡ first_unmet (safety_demands p safe))
+
+module _ {A : Type 0} where
+  abbrev pub number_of : SafetyFault A → ℕ
+  number_of (fault.OutOfMemory t) = 0
+  number_of (fault.Unsafe t b) = number_in b
+
+  abbrev pub span_of : SafetyFault A → Option Span
+  span_of (fault.OutOfMemory t) = None
+  span_of (fault.Unsafe t b) = Some (span_in b)
+
+  -- the typed program that a fault hands back
+  abbrev pub typed_of : SafetyFault A → Typed A
+  typed_of (fault.OutOfMemory t) = t
+  typed_of (fault.Unsafe t b) = t
+
+  -- the check of a typed program: it is safe, or this is its first fault; without memory nothing is said.
+  -- The program is kept, or handed back.
+  abbrev pub Checks : Typed A → Result (Safe A) (SafetyFault A) → Type 0
+  Checks t (Ok s) = (s.typed ≡ t) × IsSafeProgram (program_of t.unit)
+  Checks t (Err (fault.OutOfMemory u)) = u ≡ t
+  Checks t (Err (fault.Unsafe u b)) = (u ≡ t) × IsSafetyFault (number_in b) (span_in b) (program_of t.unit)

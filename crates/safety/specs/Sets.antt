@@ -1,0 +1,22 @@
+-- What the program's own links and sets of functions say.
+use Rattle.std.specs.Prelude.{ℕ, List, Option, Bool, false, map, option_map, unwrap_or}
+use Rattle.std.specs.Prelude.{slice_index_or}
+use Rattle.types.specs.Slots.{value_at}
+use Rattle.safety.specs.declared.set.Link.{Link as OwnLink}
+use Rattle.safety.specs.declared.set.FunctionSet.{FunctionSet as OwnSet}
+use Rattle.safety.specs.Safe.{FunctionSet}
+use Rattle.safety.specs.Links.{Link}
+
+abbrev pub link_of : OwnLink → Link
+link_of l = record { caller = l.caller.now; callee = option_map (λ f. f.now) l.callee }
+
+abbrev pub links_of : List OwnLink → List Link
+links_of ls = map link_of ls
+
+-- a name is in a set where its number is marked
+abbrev pub marked : (List ℕ → Option ℕ) → List Bool → FunctionSet
+marked numbers marks f = unwrap_or (option_map (λ k. slice_index_or marks k false) (numbers f)) false
+
+module _ {A : Type 0} where
+  abbrev pub set_of : OwnSet A → FunctionSet
+  set_of s = marked (value_at s.numbers) s.marks.items

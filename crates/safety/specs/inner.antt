@@ -1,0 +1,13 @@
+-- What the private functions answer; no public contract cites it.
+-- how many locals have a name
+pub mod Counts
+-- the locals at a place
+pub mod Known
+-- what a walk adds
+pub mod Walks
+-- functions by number, with their callers
+pub mod Graphs
+-- the search for callers
+pub mod Closing
+-- sets of functions as the demands read them
+pub mod Rest

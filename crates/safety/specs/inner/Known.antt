@@ -1,0 +1,17 @@
+-- The locals that are known at a place.
+use Rattle.std.specs.Prelude.{ℕ, List, map}
+use Rattle.safety.specs.declared.table.Locals.{Locals}
+use Rattle.safety.specs.declared.site.Place.{Place}
+use Rattle.safety.specs.Sites.{Around}
+
+-- these locals and transactions are round a place
+abbrev pub around : List (List ℕ) → Place → Around
+around names place = record { locals = names; atomic = place.atomic; in_any = place.in_any }
+
+module _ {A : Type 0} where
+  -- their names, in order of declaration
+  abbrev pub names_in : Locals A → List (List ℕ)
+  names_in l = map (λ n. n.now) l.names.items
+
+  abbrev pub around_in : Locals A → Place → Around
+  around_in l place = around (names_in l) place

@@ -1,0 +1,130 @@
+//! The demands of safety, in the order of the text.
+
+ghost use Rattle.std.specs.Prelude.{◌≡◌, map, IfOk};
+ghost use Rattle.std.specs.List.{flat_map};
+ghost use Rattle.syntax.specs.Tree.{Program};
+ghost use Rattle.syntax.specs.Views.{function_of, item_of};
+ghost use Rattle.syntax.specs.Typing.{first_unmet};
+ghost use Rattle.safety.specs.Views.{site_of, sites_of_own};
+ghost use Rattle.safety.specs.Sets.{set_of};
+ghost use Rattle.safety.specs.Faults.{demands_at, function_demands, item_demands};
+ghost use Rattle.safety.specs.Answers.{fault_in, Judges};
+ghost use Rattle.safety.specs.inner.Rest.{rest_of, Claims};
+
+use crate::closure::least;
+use crate::fault::{Violation, unless_met};
+use crate::links::{safe_links, unsafe_links};
+use crate::set::FunctionSet;
+use crate::site::{Construct, Site};
+use crate::stmt::body_sites;
+use std::alloc::{AllocError, Allocator};
+use syntax::tree::{Function, Item};
+
+/// The rule that a site breaks, where these functions are not safe.
+fn fault_at<'a, A: Allocator + Copy>(
+    not_safe: &FunctionSet<'a, A>,
+    site: Site<'a>,
+) -> Option<Violation>
+    ensures { fault_in result ≡ first_unmet (demands_at (rest_of (set_of not_safe.now)) (site_of site.entry) (site_of site.entry).construct) }
+{
+    match site.construct {
+        Construct::Print => unless_met(!site.atomic, Violation::UnsafeInAtomic(site.span)),
+        Construct::Relaxed => unless_met(!site.atomic, Violation::RelaxedInAtomic(site.span)),
+        Construct::Cancel => unless_met(site.atomic, Violation::CancelOutsideAtomic(site.span)),
+        Construct::Call(f) => {
+            let unsafe_call = not_safe.contains(f);
+            unless_met(
+                !site.atomic || !unsafe_call,
+                Violation::UnsafeInAtomic(site.span),
+            )
+        }
+        Construct::Use(_) => None,
+    }
+}
+
+/// The first rule that a site of a body breaks.
+fn fault_among<'a, A: Allocator + Copy>(
+    not_safe: &FunctionSet<'a, A>,
+    sites: &[Site<'a>],
+) -> Option<Violation>
+    ensures { fault_in result ≡ first_unmet (flat_map (λ s. demands_at (rest_of (set_of not_safe.now)) s s.construct) (sites_of_own sites.now)) }
+{
+    'each: for site in sites {
+        let found = fault_at(not_safe, *site);
+        if found.is_some() {
+            return found;
+        }
+    }
+    None
+}
+
+/// The first rule that a declaration of a function breaks, where these functions are declared safe.
+fn fault_of_function<'a, A: Allocator + Copy>(
+    alloc: A,
+    not_safe: &FunctionSet<'a, A>,
+    claims: &FunctionSet<'a, A>,
+    f: &'a Function<A>,
+) -> Result<Option<Violation>, AllocError>
+    ensures { (p : Program) → Claims p (set_of claims.now) → IfOk result (λ found. fault_in found ≡ first_unmet (function_demands p (rest_of (set_of not_safe.now)) (function_of f.now))) }
+{
+    let name = f.name.text.as_str();
+    let claimed = claims.contains(name);
+    let not_safe_itself = not_safe.contains(name);
+    let kept = f.body.is_none() || !claimed || !not_safe_itself;
+    if !kept {
+        return Ok(Some(Violation::NotSafe(f.name.span)));
+    }
+    let sites = body_sites(alloc, f)?;
+    Ok(fault_among(not_safe, sites.as_slice()))
+}
+
+/// The first rule that an item breaks.
+fn fault_of_item<'a, A: Allocator + Copy>(
+    alloc: A,
+    not_safe: &FunctionSet<'a, A>,
+    claims: &FunctionSet<'a, A>,
+    item: &'a Item<A>,
+) -> Result<Option<Violation>, AllocError>
+    ensures { (p : Program) → Claims p (set_of claims.now) → IfOk result (λ found. fault_in found ≡ first_unmet (item_demands p (rest_of (set_of not_safe.now)) (item_of item.now))) }
+{
+    match item {
+        Item::Function(f) => {
+            let found = fault_of_function(alloc, not_safe, claims, f)?;
+            Ok(found)
+        }
+        Item::Globals(_) => Ok(None),
+    }
+}
+
+/// The first rule that one of these items breaks.
+fn fault_of_items<'a, A: Allocator + Copy>(
+    alloc: A,
+    not_safe: &FunctionSet<'a, A>,
+    claims: &FunctionSet<'a, A>,
+    items: &'a [Item<A>],
+) -> Result<Option<Violation>, AllocError>
+    ensures { (p : Program) → Claims p (set_of claims.now) → IfOk result (λ found. fault_in found ≡ first_unmet (flat_map (item_demands p (rest_of (set_of not_safe.now))) (map item_of items.now))) }
+{
+    'each: for item in items {
+        let found = fault_of_item(alloc, not_safe, claims, item)?;
+        if found.is_some() {
+            return Ok(found);
+        }
+    }
+    Ok(None)
+}
+
+/// The first rule that a program breaks.
+pub(crate) fn fault_of<'a, A: Allocator + Copy>(
+    alloc: A,
+    items: &'a [Item<A>],
+) -> Result<Option<Violation>, AllocError>
+    ensures { IfOk result (λ found. Judges (map item_of items.now) found) }
+{
+    let links = unsafe_links(alloc, items)?;
+    let not_safe = least(alloc, links.as_slice())?;
+    let declared = safe_links(alloc, items)?;
+    let claims = least(alloc, declared.as_slice())?;
+    let found = fault_of_items(alloc, &not_safe, &claims, items)?;
+    Ok(found)
+}

@@ -1,0 +1,303 @@
+//! The sites of a body.
+
+ghost use Rattle.std.specs.Prelude.{◌≡◌, ◌++◌, ◌∷◌, [], ℕ, List, map, option_map, OnOk, IfOk};
+ghost use Rattle.syntax.specs.Views.{expr_of, simple_of, declarator_of, declaration_of, start_of, stmt_of, stmts_of, parameter_of};
+ghost use Rattle.syntax.specs.Typing.{names_of, parameter_names};
+ghost use Rattle.types.specs.BlockItems.{declaration_in};
+ghost use Rattle.safety.specs.Views.{sites_of_own};
+ghost use Rattle.safety.specs.Sites.{with_names, in_transaction, sites_if_any, expr_sites, declarator_sites, start_sites, names_of_start, mode_site, stmt_sites, stmts_sites, body_sites};
+ghost use Rattle.safety.specs.inner.Known.{names_in, around, around_in};
+ghost use Rattle.safety.specs.inner.Walks.{Appends, head_sites};
+
+use crate::expr::{add, add_expr, add_expr_if_any, add_exprs, add_simple, add_simple_if_any};
+use crate::site::{Construct, Place, Site};
+use crate::table::Locals;
+use containers::Items;
+use lex::token::Span;
+use std::alloc::{AllocError, Allocator};
+use syntax::tree::{Declaration, Declarator, ForHead, Function, Mode, Parameter, Start, Stmt};
+
+/// A name that is declared, and its first value.
+fn add_declarator<'a, A: Allocator + Copy>(
+    locals: &mut Locals<'a, A>,
+    sites: &mut Items<Site<'a>, A>,
+    place: Place,
+    one: &'a Declarator<A>,
+) -> Result<(), AllocError>
+    ensures sites { OnOk result (Appends sites.old sites.new (sites_if_any expr_sites (option_map expr_of one.now.first) (with_names (one.now.name.text ∷ []) (around_in locals.old place)))) }
+    ensures names { OnOk result (names_in locals.new ≡ names_in locals.old ++ one.now.name.text ∷ []) }
+{
+    locals.declare(one.name.text.as_str())?;
+    add_expr_if_any(locals, sites, place, &one.first)?;
+    Ok(())
+}
+
+/// The names of one declaration, which are known behind it.
+fn add_declarators<'a, A: Allocator + Copy>(
+    locals: &mut Locals<'a, A>,
+    sites: &mut Items<Site<'a>, A>,
+    place: Place,
+    all: &'a [Declarator<A>],
+) -> Result<(), AllocError>
+    ensures sites { OnOk result (Appends sites.old sites.new (declarator_sites (map declarator_of all.now) (around_in locals.old place))) }
+    ensures names { OnOk result (names_in locals.new ≡ names_in locals.old ++ map (λ d. d.name.text) (map declarator_of all.now)) }
+{
+    'each: for one in all {
+        add_declarator(locals, sites, place, one)?;
+    }
+    Ok(())
+}
+
+/// What the head of a `for` begins with.
+fn add_start<'a, A: Allocator + Copy>(
+    locals: &mut Locals<'a, A>,
+    sites: &mut Items<Site<'a>, A>,
+    place: Place,
+    start: &'a Start<A>,
+) -> Result<(), AllocError>
+    ensures sites { OnOk result (Appends sites.old sites.new (start_sites (start_of start.now) (around_in locals.old place))) }
+    ensures names { OnOk result (names_in locals.new ≡ names_in locals.old ++ names_of_start (start_of start.now)) }
+{
+    match start {
+        Start::Nothing => Ok(()),
+        Start::Declare(one) => {
+            add_declarators(locals, sites, place, one.declarators.as_slice())?;
+            Ok(())
+        }
+        Start::Do(s) => {
+            add_simple(locals, sites, place, s)?;
+            Ok(())
+        }
+    }
+}
+
+/// The head of a `for`, whose names are known behind it.
+fn add_head<'a, A: Allocator + Copy>(
+    locals: &mut Locals<'a, A>,
+    sites: &mut Items<Site<'a>, A>,
+    place: Place,
+    head: &'a ForHead<A>,
+) -> Result<(), AllocError>
+    ensures sites { OnOk result (Appends sites.old sites.new (head_sites (start_of head.now.start) (option_map expr_of head.now.condition) (option_map simple_of head.now.step) (around_in locals.old place))) }
+    ensures names { OnOk result (names_in locals.new ≡ names_in locals.old ++ names_of_start (start_of head.now.start)) }
+{
+    add_start(locals, sites, place, &head.start)?;
+    add_expr_if_any(locals, sites, place, &head.condition)?;
+    add_simple_if_any(locals, sites, place, &head.step)?;
+    Ok(())
+}
+
+/// A relaxed transaction is a site itself.
+fn add_mode<'a, A: Allocator + Copy>(
+    sites: &mut Items<Site<'a>, A>,
+    place: Place,
+    mode: Mode,
+    at: Span,
+) -> Result<(), AllocError>
+    ensures { OnOk result (Appends sites.old sites.new (mode_site mode (around [] place) at)) }
+{
+    match mode {
+        Mode::Atomic => Ok(()),
+        Mode::Relaxed => {
+            add(sites, place, Construct::Relaxed, at)?;
+            Ok(())
+        }
+    }
+}
+
+/// The place inside a transaction that stands at a place.
+fn inside(mode: Mode, place: Place) -> Place
+    ensures { (names : List (List ℕ)) → around names result ≡ in_transaction mode (around names place) }
+{
+    match mode {
+        Mode::Atomic => Place {
+            atomic: true,
+            in_any: true,
+        },
+        Mode::Relaxed => Place {
+            atomic: place.atomic,
+            in_any: true,
+        },
+    }
+}
+
+/// The sites of a statement; the names that it declares are forgotten behind it.
+#[cycle(add_stmt)]
+fn add_stmt<'a, A: Allocator + Copy>(
+    locals: &mut Locals<'a, A>,
+    sites: &mut Items<Site<'a>, A>,
+    place: Place,
+    stmt: &'a Stmt<A>,
+) -> Result<(), AllocError>
+    ensures sites { OnOk result (Appends sites.old sites.new (stmt_sites (stmt_of stmt.now) (around_in locals.old place))) }
+    ensures names { OnOk result (names_in locals.new ≡ names_in locals.old) }
+{
+    match stmt {
+        Stmt::Empty | Stmt::Break(_) | Stmt::Continue(_) => Ok(()),
+        Stmt::Declare(one) => {
+            let outer = locals.len();
+            add_declarators(locals, sites, place, one.declarators.as_slice())?;
+            locals.leave(outer);
+            Ok(())
+        }
+        Stmt::Do(s) => {
+            add_simple(locals, sites, place, s)?;
+            Ok(())
+        }
+        Stmt::Block(body) => {
+            add_block(locals, sites, place, body.as_slice())?;
+            Ok(())
+        }
+        Stmt::Print(at, _, _, args) => {
+            add(sites, place, Construct::Print, *at)?;
+            add_exprs(locals, sites, place, args.as_slice())?;
+            Ok(())
+        }
+        Stmt::If(c, a, b) => {
+            add_expr(locals, sites, place, c)?;
+            add_stmt(locals, sites, place, a.get())?;
+            match b {
+                Some(b) => {
+                    add_stmt(locals, sites, place, b.get())?;
+                    Ok(())
+                }
+                None => Ok(()),
+            }
+        }
+        Stmt::While(c, body) => {
+            add_expr(locals, sites, place, c)?;
+            add_stmt(locals, sites, place, body.get())?;
+            Ok(())
+        }
+        Stmt::DoWhile(body, c) => {
+            add_stmt(locals, sites, place, body.get())?;
+            add_expr(locals, sites, place, c)?;
+            Ok(())
+        }
+        Stmt::For(head, body) => {
+            let outer = locals.len();
+            add_head(locals, sites, place, head.get())?;
+            add_stmt(locals, sites, place, body.get())?;
+            locals.leave(outer);
+            Ok(())
+        }
+        Stmt::Return(e, _) => {
+            add_expr_if_any(locals, sites, place, e)?;
+            Ok(())
+        }
+        Stmt::Transaction(mode, body, at) => {
+            add_mode(sites, place, *mode, *at)?;
+            add_block(locals, sites, inside(*mode, place), body.as_slice())?;
+            Ok(())
+        }
+        Stmt::Cancel(at) => {
+            add(sites, place, Construct::Cancel, *at)?;
+            Ok(())
+        }
+    }
+}
+
+/// The declaration that a statement is, where it is one.
+fn as_declaration<A: Allocator>(stmt: &Stmt<A>) -> Option<&Declaration<A>>
+    ensures { option_map (λ d. declaration_of d.now) result ≡ declaration_in (stmt_of stmt.now) }
+{
+    match stmt {
+        Stmt::Declare(one) => Some(one),
+        _ => None,
+    }
+}
+
+/// A declaration, whose names are known from then on, or a statement (C11 6.8.2).
+#[cycle(add_stmt)]
+fn add_block_item<'a, A: Allocator + Copy>(
+    locals: &mut Locals<'a, A>,
+    sites: &mut Items<Site<'a>, A>,
+    place: Place,
+    stmt: &'a Stmt<A>,
+) -> Result<(), AllocError>
+    ensures sites { OnOk result (Appends sites.old sites.new (stmt_sites (stmt_of stmt.now) (around_in locals.old place))) }
+    ensures names { OnOk result (names_in locals.new ≡ names_in locals.old ++ names_of (stmt_of stmt.now)) }
+{
+    match as_declaration(stmt) {
+        Some(one) => {
+            add_declarators(locals, sites, place, one.declarators.as_slice())?;
+            Ok(())
+        }
+        None => {
+            add_stmt(locals, sites, place, stmt)?;
+            Ok(())
+        }
+    }
+}
+
+/// Statements in a scope of their own, whose names are forgotten behind it.
+#[cycle(add_stmt)]
+fn add_block<'a, A: Allocator + Copy>(
+    locals: &mut Locals<'a, A>,
+    sites: &mut Items<Site<'a>, A>,
+    place: Place,
+    all: &'a [Stmt<A>],
+) -> Result<(), AllocError>
+    ensures sites { OnOk result (Appends sites.old sites.new (stmts_sites (stmts_of all.now) (around_in locals.old place))) }
+    ensures names { OnOk result (names_in locals.new ≡ names_in locals.old) }
+{
+    let outer = locals.len();
+    'each: for one in all {
+        add_block_item(locals, sites, place, one)?;
+    }
+    locals.leave(outer);
+    Ok(())
+}
+
+/// The name of a parameter, where it has one.
+fn add_parameter<'a, A: Allocator + Copy>(
+    locals: &mut Locals<'a, A>,
+    one: &'a Parameter<A>,
+) -> Result<(), AllocError>
+    ensures { OnOk result (names_in locals.new ≡ names_in locals.old ++ parameter_names (parameter_of one.now ∷ [])) }
+{
+    match &one.name {
+        Some(x) => {
+            locals.declare(x.text.as_str())?;
+            Ok(())
+        }
+        None => Ok(()),
+    }
+}
+
+/// The names of parameters.
+fn add_parameters<'a, A: Allocator + Copy>(
+    locals: &mut Locals<'a, A>,
+    all: &'a [Parameter<A>],
+) -> Result<(), AllocError>
+    ensures { OnOk result (names_in locals.new ≡ names_in locals.old ++ parameter_names (map parameter_of all.now)) }
+{
+    'each: for one in all {
+        add_parameter(locals, one)?;
+    }
+    Ok(())
+}
+
+/// The sites of a function's body, in order of the text; a prototype has none. Takes memory for them, and for the names of
+/// locals.
+pub fn body_sites<'a, A: Allocator + Copy>(
+    alloc: A,
+    f: &'a Function<A>,
+) -> Result<Items<Site<'a>, A>, AllocError>
+    ensures { IfOk result (λ sites. sites_of_own sites ≡ body_sites (map parameter_of f.now.parameters) (option_map stmts_of f.now.body)) }
+{
+    let mut sites = Items::new(alloc);
+    match &f.body {
+        Some(body) => {
+            let mut locals = Locals::new(alloc);
+            add_parameters(&mut locals, f.parameters.as_slice())?;
+            let place = Place {
+                atomic: false,
+                in_any: false,
+            };
+            add_block(&mut locals, &mut sites, place, body.as_slice())?;
+            Ok(sites)
+        }
+        None => Ok(sites),
+    }
+}
