@@ -1,2 +1,9 @@
+-- what the call says
+pub mod Answers
+-- which functions touch, and which programs are accepted
 pub mod Touching
+pub mod TouchingLinks
+-- laws
 pub mod Laws
+-- what private functions answer
+pub mod OwnSites

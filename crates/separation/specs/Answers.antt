@@ -1,0 +1,53 @@
+-- What the check of separation answers.
+use Rattle.std.specs.Prelude.{◌≡◌, ℕ, codes, Option, Some, None, Result, Ok, Err}
+use Rattle.syntax.specs.Tree.{Span, Program}
+use Rattle.syntax.specs.Views.{program_of}
+use Rattle.syntax.specs.Typing.{first_unmet}
+use Rattle.safety.specs.declared.checked.Safe.{Safe}
+use Rattle.safety.specs.Sites.{sites_of}
+use Rattle.safety.specs.Safe.{FunctionSet}
+use Rattle.separation.specs.declared.fault.Violation.{Violation}
+use Rattle.separation.specs.declared.fault.Violation.TheVariants.{BareAccess, BareCall}
+use Rattle.separation.specs.declared.fault.SeparationFault.{SeparationFault}
+use Rattle.separation.specs.declared.fault.SeparationFault.TheVariants as fault
+use Rattle.separation.specs.declared.checked.Accepted.{Accepted}
+use Rattle.separation.specs.Touching.{TellsTouching, IsAccepted, separation_demands, IsSeparationFault}
+
+abbrev pub number_in : Violation → ℕ
+number_in (BareAccess at) = 50
+number_in (BareCall at) = 51
+
+abbrev pub span_in : Violation → Span
+span_in (BareAccess at) = at
+span_in (BareCall at) = at
+
+-- the number and place of the demand that is not met, as the check says
+abbrev pub fault_in : Option Violation → Option (ℕ × Span)
+fault_in None = None
+fault_in (Some b) = Some (number_in b, span_in b)
+
+-- this is the first demand that is not met, for a set that tells the touching functions
+abbrev pub Judges : Program → Option Violation → Type 0
+Judges p found =
+    (touching : FunctionSet) × TellsTouching p touching × (fault_in found ≡ first_unmet (separation_demands touching (sites_of p (codes "worker"))))
+
+module _ {A : Type 0} where
+  abbrev pub number_of : SeparationFault A → ℕ
+  number_of (fault.OutOfMemory s) = 0
+  number_of (fault.NotSeparate s b) = number_in b
+
+  abbrev pub span_of : SeparationFault A → Option Span
+  span_of (fault.OutOfMemory s) = None
+  span_of (fault.NotSeparate s b) = Some (span_in b)
+
+  -- the safe program that a fault hands back
+  abbrev pub safe_of : SeparationFault A → Safe A
+  safe_of (fault.OutOfMemory s) = s
+  safe_of (fault.NotSeparate s b) = s
+
+  -- the check of a safe program: it is accepted, or this is its first fault; without memory nothing is said.
+  -- The program is kept, or handed back.
+  abbrev pub Checks : Safe A → Result (Accepted A) (SeparationFault A) → Type 0
+  Checks s (Ok a) = (a.safe ≡ s) × ∥ IsAccepted (program_of s.typed.unit) ∥₁
+  Checks s (Err (fault.OutOfMemory t)) = t ≡ s
+  Checks s (Err (fault.NotSeparate t b)) = (t ≡ s) × IsSeparationFault (number_in b) (span_in b) (program_of s.typed.unit)

@@ -1,0 +1,9 @@
+-- The sites of one item.
+use Rattle.std.specs.Prelude.{ℕ, List, [], bytes_eq, if◌then◌else◌}
+use Rattle.syntax.specs.Tree.{Item, Defines, Shares}
+use Rattle.safety.specs.Sites.{Site, body_sites}
+
+-- those of a function of this name
+abbrev pub own_sites : Item → List ℕ → List Site
+own_sites (Shares gs) x = []
+own_sites (Defines f) x = if bytes_eq f.name.text x then body_sites f.parameters f.body else []

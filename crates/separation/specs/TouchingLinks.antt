@@ -1,0 +1,24 @@
+-- The links to which the touching functions keep.
+use Rattle.std.specs.Prelude.{ℕ, List, [], ◌∷◌, Some, Bool, true, false}
+use Rattle.std.specs.List.{flat_map}
+use Rattle.syntax.specs.Tree.{Item, Defines, Shares}
+use Rattle.safety.specs.Sites.{Construct, Calls, Uses, Site, body_sites}
+use Rattle.safety.specs.Links.{Link}
+use Rattle.safety.specs.UnsafeLinks.{link_if}
+
+-- a function with a bare access touches, and so does one with a bare call of a touching one
+abbrev pub bare_links : List ℕ → Bool → Construct → List Link
+bare_links f true c = []
+bare_links f false (Uses x) = link_if true f
+bare_links f false (Calls g) = record { caller = f; callee = Some g } ∷ []
+bare_links f false c = []
+
+abbrev pub sites_links : List ℕ → List Site → List Link
+sites_links f sites = flat_map (λ s. bare_links f s.in_any s.construct) sites
+
+abbrev pub touching_links_of : Item → List Link
+touching_links_of (Defines f) = sites_links f.name.text (body_sites f.parameters f.body)
+touching_links_of (Shares gs) = []
+
+abbrev pub touching_links : List Item → List Link
+touching_links items = flat_map touching_links_of items

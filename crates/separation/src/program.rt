@@ -1,0 +1,25 @@
+//! Which programs are accepted.
+
+ghost use Rattle.separation.specs.Answers.{Checks};
+
+use crate::checked::Accepted;
+use crate::demands::fault_of;
+use crate::fault::SeparationFault;
+use safety::checked::Safe;
+use std::alloc::Allocator;
+
+/// Checks separation. The fault is the first rule that `worker` breaks, in the order of the text. The program is kept in what
+/// is given, or comes back in the fault. Takes memory for the sites of one body at a time, for the bare calls of the program
+/// and for a number of each function; the time is that of the text, and of finding each called name by a map.
+pub fn accept<A: Allocator + Copy>(
+    alloc: A,
+    safe: Safe<A>,
+) -> Result<Accepted<A>, SeparationFault<A>>
+    ensures { Checks safe result }
+{
+    match fault_of(alloc, safe.typed().unit().items.as_slice()) {
+        Ok(None) => Ok(Accepted { safe }),
+        Ok(Some(violation)) => Err(SeparationFault::NotSeparate(safe, violation)),
+        Err(_) => Err(SeparationFault::OutOfMemory(safe)),
+    }
+}
