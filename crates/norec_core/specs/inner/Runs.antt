@@ -22,7 +22,16 @@ pub record Run : Type 0 where
 
 -- an attempt by its logs and begins, its first snapshot, its snapshot and its phase
 abbrev pub attempt_by : Nest → ℕ → ℕ → Phase → Attempt Saved
-attempt_by n first snapshot phase = record { saved = n.begins.saved; first = first; snapshot = snapshot; reads = n.reads; writes = n.writes; inner = n.begins.inner; kept = n.kept; phase = phase }
+attempt_by n first snapshot phase = record {
+  saved = n.begins.saved;
+  first = first;
+  snapshot = snapshot;
+  reads = n.reads;
+  writes = n.writes;
+  inner = n.begins.inner;
+  kept = n.kept;
+  phase = phase;
+}
 
 -- the attempt under way
 abbrev pub attempt_of : Run → Option (Attempt Saved)

@@ -18,18 +18,21 @@ IsFound a ps (Some i) = IsPlace a ps i
 
 -- the addresses rise
 abbrev pub IsRising : List (ℕ × ℕ) → Type 0
-IsRising order = (i j : ℕ) → i < j → j < length order → (slice_index_or order i (0, 0)).0 < (slice_index_or order j (0, 0)).0
+IsRising order = (i j : ℕ) → i < j → j < length order →
+    (slice_index_or order i (0, 0)).0 < (slice_index_or order j (0, 0)).0
 
 -- the order has (address, place) of each pair, by address
 pub record IsOrderOf (pairs order : List (ℕ × ℕ)) : Type 0 where
   pub rising : IsRising order
   pub length_is : length order ≡ length pairs
-  pub here : (k : ℕ) → k < length order → IsPlace (slice_index_or order k (0, 0)).0 pairs (slice_index_or order k (0, 0)).1
+  pub here : (k : ℕ) → k < length order →
+      IsPlace (slice_index_or order k (0, 0)).0 pairs (slice_index_or order k (0, 0)).1
   pub there : (i : ℕ) → i < length pairs → (k : ℕ) × (k < length order) × ((slice_index_or order k (0, 0)).1 ≡ i)
 
 -- no address lies outside these bounds
 abbrev pub AreBetween : ℕ → ℕ → List (ℕ × ℕ) → Type 0
-AreBetween least greatest ps = (i : ℕ) → i < length ps → (least ≤ (slice_index_or ps i (0, 0)).0) × ((slice_index_or ps i (0, 0)).0 ≤ greatest)
+AreBetween least greatest ps = (i : ℕ) → i < length ps →
+    (least ≤ (slice_index_or ps i (0, 0)).0) × ((slice_index_or ps i (0, 0)).0 ≤ greatest)
 
 -- where an order has an address, or where it would be inserted
 abbrev pub IsSearched : ℕ → List (ℕ × ℕ) → Result ℕ ℕ → Type 0
