@@ -10,6 +10,8 @@ use thiserror::Error;
 pub enum Request {
     /// Runs the program in a file, with one thread.
     Run { file: String },
+    /// Says whether the program in a file is accepted.
+    Check { file: String },
 }
 
 /// The version that `txc --version` prints.
@@ -38,20 +40,29 @@ impl UsageFault {
     }
 }
 
-/// The command line of the program.
-fn program<'a>(alloc: Global) -> Result<Command<'a>, AllocError> {
+/// A command that takes a file.
+fn of_file<'a>(alloc: Global, name: &'a str, about: &'a str) -> Result<Command<'a>, AllocError> {
     let file = Arg::new(alloc, "FILE")
         .required(true)
         .action(ArgAction::Set)
         .help("A C source with transactions");
-    let run = Command::new(alloc, "run")
-        .about("Runs a program with one thread, and prints its end and its globals")
-        .arg(file)?;
+    Command::new(alloc, name).about(about).arg(file)
+}
+
+/// The command line of the program.
+fn program<'a>(alloc: Global) -> Result<Command<'a>, AllocError> {
+    let run = of_file(
+        alloc,
+        "run",
+        "Runs a program with one thread, and prints its end, its output and its globals",
+    )?;
+    let check = of_file(alloc, "check", "Says whether a program is accepted")?;
     Command::new(alloc, "txc")
         .version(VERSION)
         .about("A compiler and a machine for C programs with transactions")
         .subcommand_required(true)
-        .subcommand(run)
+        .subcommand(run)?
+        .subcommand(check)
 }
 
 /// Reads the words of a command line, the program's own name first.
@@ -75,13 +86,21 @@ pub fn command(alloc: Global, words: &[&str]) -> Result<Request, UsageFault> {
 /// The request of words that the program's commands have.
 fn request_of(alloc: Global, matches: &ArgMatches<'_>) -> Result<Request, UsageFault> {
     match matches.subcommand() {
-        Some(("run", given)) => match given.get_str("FILE") {
-            Some(file) => Ok(Request::Run {
-                file: String::from_str(alloc, file)?,
-            }),
-            None => Err(wrong(alloc, "txc: FILE is wanted\n")),
-        },
+        Some(("run", given)) => Ok(Request::Run {
+            file: file_of(alloc, given)?,
+        }),
+        Some(("check", given)) => Ok(Request::Check {
+            file: file_of(alloc, given)?,
+        }),
         _ => Err(wrong(alloc, "txc: a command is wanted\n")),
+    }
+}
+
+/// The file that a command is given.
+fn file_of(alloc: Global, given: &ArgMatches<'_>) -> Result<String, UsageFault> {
+    match given.get_str("FILE") {
+        Some(file) => Ok(String::from_str(alloc, file)?),
+        None => Err(wrong(alloc, "txc: FILE is wanted\n")),
     }
 }
 

@@ -8,7 +8,7 @@ use std::alloc::{AllocError, Allocator, Global};
 use std::test::Fail;
 
 /// The faults that a program can show today.
-const TOLD: [(&str, u32, &str); 21] = [
+const TOLD: [(&str, u32, &str); 27] = [
     ("int x$;", 1, "1:6: bad character"),
     ("int x = 2147483648;", 2, "1:9: constant too large"),
     ("void worker(int self) { } /* end", 3, "1:27: open comment"),
@@ -74,10 +74,6 @@ const TOLD: [(&str, u32, &str); 21] = [
         29,
         "1:6: not defined",
     ),
-];
-
-/// The faults of sources that are not told yet: these programs run.
-const NOT_TOLD_YET: [(&str, u32, &str); 6] = [
     (
         "void worker(int self) { __transaction_atomic { printf(\"a\"); } }",
         40,
@@ -130,7 +126,7 @@ const LONG: [([(&str, usize); 5], u32, &str); 2] = [
     ),
 ];
 
-/// The same, of a source that runs.
+/// The faults of sources that are not told yet: these programs run.
 const LONG_NOT_TOLD_YET: [([(&str, usize); 5], u32, &str); 1] = [(
     [
         ("void worker(int self) { ", 1),
@@ -189,12 +185,6 @@ fn faults_are_told_with_place_and_words(rt: HostRuntime) -> Result<(), Fail> {
 
 #[test]
 fn faults_that_are_not_told_yet(rt: HostRuntime) -> Result<(), Fail> {
-    for (source, number, told) in NOT_TOLD_YET {
-        let answer = answer(rt.alloc(), source.as_bytes())?;
-        assert_eq!(rt; answer.err.len(), 0);
-        assert_ne!(rt; answer.out.len(), 0);
-        assert!(rt; told.ends_with(words(number)));
-    }
     for (pieces, number, told) in LONG_NOT_TOLD_YET {
         let source = joined(rt.alloc(), pieces.as_slice())?;
         let answer = answer(rt.alloc(), source.as_str().as_bytes())?;

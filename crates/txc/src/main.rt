@@ -53,7 +53,7 @@ fn request(rt: &HostRuntime) -> Result<Request, UsageFault> {
 
 /// Opens the file and serves the request.
 fn open(rt: &HostRuntime, request: &Request) -> u8 {
-    let Request::Run { file } = request;
+    let (Request::Run { file } | Request::Check { file }) = request;
     match File::open(rt, file.as_str()) {
         Ok(source) => serve(
             rt.alloc(),

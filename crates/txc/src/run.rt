@@ -1,16 +1,19 @@
 //! From a source's text to its report.
 
-ghost use Rattle.std.specs.Prelude.{◌≡◌, IfOk, IfErr};
+ghost use Rattle.std.specs.Prelude.{◌≡◌, IfOk, IfErr, OnOk};
 ghost use Rattle.syntax.specs.Views.{program_of};
 ghost use Rattle.parse.specs.Faults.{source_of};
 ghost use Rattle.meaning.specs.declared.outcome.ThreadEnd.{ThreadEnd};
-ghost use Rattle.txc.specs.Runs.{IsSourceOf, IsReportOf, Reports, IsFaultOfText, number_of_run, span_of_run};
+ghost use Rattle.txc.specs.Runs.{IsSourceOf, IsReportOf, Accepts, Reports, IsFaultOfText, number_of_run, span_of_run};
 
 use crate::report::report;
 use lex::token::Span;
 use lex::{LexFault, lex};
 use meaning::{ThreadEnd, run_alone};
 use parse::{ParseFault, parse};
+use safety::checked::Safe;
+use safety::{SafetyFault, safe};
+use separation::{Accepted, SeparationFault, accept};
 use std::alloc::Allocator;
 use syntax::tree::Unit;
 use thiserror::Error;
@@ -28,6 +31,10 @@ pub enum RunTextFault {
     Parse(ParseFault),
     #[error("{0}")]
     IllTyped(Violation),
+    #[error("{0}")]
+    Unsafe(safety::Violation),
+    #[error("{0}")]
+    NotSeparate(separation::Violation),
 }
 
 impl RunTextFault {
@@ -40,6 +47,8 @@ impl RunTextFault {
             RunTextFault::Lex(fault) => fault.number(),
             RunTextFault::Parse(fault) => fault.number(),
             RunTextFault::IllTyped(fault) => fault.number(),
+            RunTextFault::Unsafe(fault) => fault.number(),
+            RunTextFault::NotSeparate(fault) => fault.number(),
         }
     }
 
@@ -52,6 +61,8 @@ impl RunTextFault {
             RunTextFault::Lex(fault) => fault.span(),
             RunTextFault::Parse(fault) => fault.span(),
             RunTextFault::IllTyped(fault) => Some(fault.span()),
+            RunTextFault::Unsafe(fault) => Some(fault.span()),
+            RunTextFault::NotSeparate(fault) => Some(fault.span()),
         }
     }
 }
@@ -89,6 +100,41 @@ fn read_typed<A: Allocator + Copy>(alloc: A, text: &str) -> Result<Typed<A>, Run
     }
 }
 
+/// The safe program that a text spells.
+fn read_safe<A: Allocator + Copy>(alloc: A, text: &str) -> Result<Safe<A>, RunTextFault>
+    ensures ok { IfOk result (λ s. IsSourceOf text.now (source_of s.typed.unit)) }
+    ensures err { IfErr result (λ f. IsFaultOfText text.now f) }
+{
+    match safe(alloc, read_typed(alloc, text)?) {
+        Ok(safe) => Ok(safe),
+        Err(SafetyFault::OutOfMemory(_)) => Err(RunTextFault::OutOfMemory),
+        Err(SafetyFault::Unsafe(_, violation)) => Err(RunTextFault::Unsafe(violation)),
+    }
+}
+
+/// The accepted program that a text spells.
+fn read_accepted<A: Allocator + Copy>(alloc: A, text: &str) -> Result<Accepted<A>, RunTextFault>
+    ensures ok { IfOk result (λ a. IsSourceOf text.now (source_of a.safe.typed.unit)) }
+    ensures err { IfErr result (λ f. IsFaultOfText text.now f) }
+{
+    match accept(alloc, read_safe(alloc, text)?) {
+        Ok(accepted) => Ok(accepted),
+        Err(SeparationFault::OutOfMemory(_)) => Err(RunTextFault::OutOfMemory),
+        Err(SeparationFault::NotSeparate(_, violation)) => {
+            Err(RunTextFault::NotSeparate(violation))
+        }
+    }
+}
+
+/// Says of a source's text whether its program is accepted.
+pub fn check_source<A: Allocator + Copy>(alloc: A, text: &str) -> Result<(), RunTextFault>
+    ensures ok { OnOk result (Accepts text.now) }
+    ensures err { IfErr result (λ f. IsFaultOfText text.now f) }
+{
+    let _accepted = read_accepted(alloc, text)?;
+    Ok(())
+}
+
 /// Runs a typed program.
 fn run_typed<A: Allocator + Copy>(alloc: A, typed: &Typed<A>) -> Result<Ran<A>, RunTextFault>
     ensures ok { IfOk result (λ r. IsReportOf (program_of typed.now.unit) r.report.items r.end) }
@@ -114,14 +160,15 @@ fn run_typed<A: Allocator + Copy>(alloc: A, typed: &Typed<A>) -> Result<Ran<A>, 
 
 /// Runs a source's text with one thread, and gives its report and the thread's end.
 ///
-/// The fault is that of the first phase that finds one: the lexer, the parser, or the check of names and types.
+/// The fault is that of the first phase that finds one: the lexer, the parser, or the checks of names and types, of safety
+/// and of separation.
 /// `OutOfMemory` comes only where a growth was refused.
 pub fn run_source<A: Allocator + Copy>(alloc: A, text: &str) -> Result<Ran<A>, RunTextFault>
     ensures ok { IfOk result (λ r. Reports text.now r.report.items r.end) }
     ensures err { IfErr result (λ f. IsFaultOfText text.now f) }
 {
-    let typed = read_typed(alloc, text)?;
-    run_typed(alloc, &typed)
+    let accepted = read_accepted(alloc, text)?;
+    run_typed(alloc, accepted.safe().typed())
 }
 
 /// Runs a source's text with one thread, and gives its report, as `run_source`.

@@ -2,10 +2,10 @@
 
 ghost use Rattle.std.specs.Prelude.{◌≡◌, ◌≢◌, ◌≤◌, OnOk};
 ghost use Rattle.std.specs.Io.KnownBytes.{Appends};
-ghost use Rattle.txc.specs.Runs.{exit_status, Prints};
+ghost use Rattle.txc.specs.Runs.{exit_status, Prints, SaysAccepted};
 
 use crate::command::Request;
-use crate::run::{RunTextFault, run_source};
+use crate::run::{RunTextFault, check_source, run_source};
 use crate::words::words;
 use lex::{MOST_BYTES, place};
 use meaning::ThreadEnd;
@@ -55,8 +55,9 @@ fn read_source<A: Allocator + Copy, R: Read + Drop>(alloc: A, source: R) -> io::
 
 /// Does what is asked over two readers and two writers, and gives the exit status.
 ///
-/// The source's text is read from `source`; `run` reads no schedule. The report goes to `out`, and faults to `err`; what `err` does not take is
-/// lost. The status is 0 where the thread ended, 1 where the source is refused, 2 where it cannot be read or is not UTF-8,
+/// The source's text is read from `source`; no request reads a schedule yet. The report, or `accepted`, goes to `out`, and faults to `err`; what `err` does not take is
+/// lost. The status is 0 where the thread ended or the
+/// source is accepted, 1 where the source is refused, 2 where it cannot be read or is not UTF-8,
 /// 3 where the thread trapped, and 4 where it did neither, or memory or `out` was refused.
 pub fn serve<A: Allocator + Copy, R: Read + Drop, S: Read + Drop, W: Write, E: Write>(
     alloc: A,
@@ -68,10 +69,13 @@ pub fn serve<A: Allocator + Copy, R: Read + Drop, S: Read + Drop, W: Write, E: W
 ) -> u8
     ensures { result ≤ 4 }
 {
-    let Request::Run { file } = request;
+    let (Request::Run { file } | Request::Check { file }) = request;
     drop(schedule);
     match read_source(alloc, source) {
-        Ok(Source::Text(text)) => run(alloc, text.as_str(), out, err),
+        Ok(Source::Text(text)) => match request {
+            Request::Run { .. } => run(alloc, text.as_str(), out, err),
+            Request::Check { .. } => check(alloc, text.as_str(), out, err),
+        },
         Ok(Source::NotText) => {
             let _ = writeln!(err, "txc: {file} is not UTF-8");
             UNUSABLE
@@ -100,6 +104,25 @@ fn run<A: Allocator + Copy, W: Write, E: Write>(
     match run_source(alloc, text) {
         Ok(ran) => match print(ran.report.as_slice(), out) {
             Ok(()) => status_of(ran.end),
+            Err(_) => cannot_write(err),
+        },
+        Err(fault) => refuse(text, fault, err),
+    }
+}
+
+/// Says whether a source is accepted.
+fn check<A: Allocator + Copy, W: Write, E: Write>(
+    alloc: A,
+    text: &str,
+    out: &mut W,
+    err: &mut E,
+) -> u8
+    ensures status { result ≤ 4 }
+    ensures accepted { SaysAccepted text.now result (W.contents out.old) (W.contents out.new) }
+{
+    match check_source(alloc, text) {
+        Ok(()) => match print(b"accepted\n", out) {
+            Ok(()) => ENDED,
             Err(_) => cannot_write(err),
         },
         Err(fault) => refuse(text, fault, err),

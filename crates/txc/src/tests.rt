@@ -61,12 +61,13 @@ const FIRST_REPORT: &[u8] = b"== thread 0: ended\n== memory\nx = 42\ny = 41\n";
 #[test]
 fn reads_words(rt: HostRuntime) -> Result<(), Fail> {
     let run = command(rt.alloc(), ["txc", "run", "a.c"].as_slice())?;
-    let Request::Run { file } = &run;
-    assert_eq!(rt; file.as_str(), "a.c");
+    assert!(rt; matches!(&run, Request::Run { file } if file.as_str() == "a.c"));
+    let check = command(rt.alloc(), ["txc", "check", "b.c"].as_slice())?;
+    assert!(rt; matches!(&check, Request::Check { file } if file.as_str() == "b.c"));
     for words in [
         ["txc", "run", "--threads=2", "a.c"],
         ["txc", "run", "a.c", "b.c"],
-        ["txc", "check", "a.c", "b.c"],
+        ["txc", "source", "a.c", "b.c"],
     ] {
         let fault = command(rt.alloc(), words.as_slice());
         assert!(rt;
@@ -174,6 +175,33 @@ fn serves_sources(rt: HostRuntime) -> Result<(), Fail> {
             b"txc: fault 21 at 2:8: declared twice\n",
         ),
         (b"int \xff;", 2, b"", b"txc: a.c is not UTF-8\n"),
+    ];
+    for (source, status, out, err) in rows {
+        let answer = serve_bytes(rt.alloc(), &request, source);
+        assert_eq!(rt; answer.err.as_slice(), err);
+        assert_eq!(rt; answer.out.as_slice(), out);
+        assert_eq!(rt; answer.status, status);
+    }
+    Ok(())
+}
+
+#[test]
+fn says_what_is_accepted(rt: HostRuntime) -> Result<(), Fail> {
+    let request = command(rt.alloc(), ["txc", "check", "a.c"].as_slice())?;
+    let rows: [(&[u8], u8, &[u8], &[u8]); 3] = [
+        (FIRST, 0, b"accepted\n", b""),
+        (
+            b"int x; void f(void) { x = 1; } void worker(int self) { }",
+            0,
+            b"accepted\n",
+            b"",
+        ),
+        (
+            b"int x;\nvoid worker(int self) { if (0) x = 1; }",
+            1,
+            b"",
+            b"txc: fault 50 at 2:32: shared access outside a transaction\n",
+        ),
     ];
     for (source, status, out, err) in rows {
         let answer = serve_bytes(rt.alloc(), &request, source);

@@ -1,4 +1,4 @@
-use Rattle.std.proofs.Common.{◌≡◌, ◌<◌, ◌^◌, ◌++◌, map, drop, All, string_bytes}
+use Rattle.std.proofs.Common.{◌≡◌, ◌++◌, map, drop, string_bytes}
 use Rattle.syntax.specs.Views.{global_of}
 use Rattle.txc.specs.Report.{memory_text, words_after}
 use Rattle.txc.proofs.report.push_globals.Given as goal
