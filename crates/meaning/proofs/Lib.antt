@@ -8,6 +8,7 @@ pub mod Lookup
 pub mod Loops
 pub mod Outcomes
 pub mod Parts
+pub mod Placing
 pub mod Printed
 pub mod Steps
 pub mod Stops

@@ -2,6 +2,8 @@
 -- the cells of globals, and what look-ups in a file give
 pub mod Cells
 pub mod File
+-- the tables of a program's names
+pub mod Tables
 -- the value that a register stands for
 pub mod Word
 -- the state that a machine holds, and what answers say

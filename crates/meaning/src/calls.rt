@@ -91,7 +91,7 @@ pub(crate) fn begin<'p, A: Allocator + Copy>(
     ensures value { MeansAs begun_in result (begun (program_in source.now) f.now values.now (state_in m.old)) m.new }
     ensures deep { IfOk result (λ b. block_depth (stmts_of b.body.now) ≤ program_depth (program_in source.now)) }
 {
-    let Some(d) = definition(source.unit.items.as_slice(), f) else {
+    let Some(d) = definition(source, f) else {
         m.why = Some(Halt::Astray);
         return Err(Halted {});
     };

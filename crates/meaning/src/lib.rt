@@ -15,6 +15,7 @@ mod places;
 mod print;
 mod program;
 mod run;
+mod tables;
 mod threads;
 mod transactions;
 mod word;

@@ -1,16 +1,14 @@
 //! What the names of a file stand for.
 
-ghost use Rattle.std.specs.Prelude.{◌≡◌, ◌+◌, ◌≤◌, ◌^◌, ◌++◌, ◌∷◌, List, map, option_map, IfErr, IfOk, IfSome};
+ghost use Rattle.std.specs.Prelude.{◌≡◌, ◌≤◌, ◌^◌, ◌∷◌, List, map, option_map, IfSome};
 ghost use Rattle.std.specs.Option.{option_or};
 ghost use Rattle.syntax.specs.Tree as tree;
 ghost use Rattle.syntax.specs.Names as Names;
-ghost use Rattle.syntax.specs.Names.{globals};
 ghost use Rattle.syntax.specs.Types as Types;
 ghost use Rattle.syntax.specs.Types.{common_of, running_scope, file_scope, known_among};
 ghost use Rattle.syntax.specs.Views.{expr_of, global_of, item_of};
 ghost use Rattle.meaning.specs.inner.Machine.{local_in, program_in};
-ghost use Rattle.meaning.specs.inner.Cells.{total_cells};
-ghost use Rattle.meaning.specs.inner.File.{shared_in, found_or, defined_in, known_of, known_or};
+ghost use Rattle.meaning.specs.inner.File.{shared_in, defined_in, known_of, known_or};
 
 use crate::arithmetic::common_type;
 use crate::machine::{Local, newest};
@@ -31,7 +29,7 @@ pub(crate) fn cells_of<A: Allocator>(g: &Global<A>) -> usize
 }
 
 /// A global, with its first cell.
-#[derive(Drop)]
+#[derive(Clone, Copy)]
 pub(crate) struct Shared<'p, A: Allocator> {
     pub cell: usize,
     pub global: &'p Global<A>,
@@ -44,58 +42,21 @@ pub(crate) struct Defined<'p, A: Allocator> {
     pub body: &'p [Stmt<A>],
 }
 
-/// A global of a declaration, with its first cell; else the cell behind the declaration's.
-fn among<'p, A: Allocator>(
-    gs: &'p [Global<A>],
-    first: usize,
-    name: &str,
-) -> Result<Shared<'p, A>, usize>
-    requires { first + total_cells (map global_of gs.now) ≤ 2 ^ 32 }
-    ensures value { (rest : List tree.Global) → found_or result rest name.now ≡ Names.global_from first (map global_of gs.now ++ rest) name.now }
-    ensures next { IfErr result (λ n. n ≡ first + total_cells (map global_of gs.now)) }
-    ensures low { IfOk result (λ g. g.cell ≤ 2 ^ 32) }
-{
-    let mut cell = first;
-    'globals: for g in gs {
-        if g.name.text.as_str() == name {
-            return Ok(Shared { cell, global: g });
-        }
-        cell += cells_of(g);
-    }
-    Err(cell)
-}
-
-/// A global of an item, with its first cell; else the cell behind the item's.
-fn shared_by<'p, A: Allocator>(
-    item: &'p Item<A>,
-    first: usize,
-    name: &str,
-) -> Result<Shared<'p, A>, usize>
-    requires { first + total_cells (Names.shared_by (item_of item.now)) ≤ 2 ^ 32 }
-    ensures value { (rest : List tree.Global) → found_or result rest name.now ≡ Names.global_from first (Names.shared_by (item_of item.now) ++ rest) name.now }
-    ensures next { IfErr result (λ n. n ≡ first + total_cells (Names.shared_by (item_of item.now))) }
-    ensures low { IfOk result (λ g. g.cell ≤ 2 ^ 32) }
-{
-    match item {
-        Item::Function(_) => Err(first),
-        Item::Globals(gs) => among(gs.as_slice(), first, name),
-    }
-}
-
 /// A global of the file, with its first cell.
-pub(crate) fn global<'p, A: Allocator>(items: &'p [Item<A>], name: &str) -> Option<Shared<'p, A>>
-    requires { total_cells (globals (map item_of items.now)) ≤ 2 ^ 32 }
-    ensures value { option_map shared_in result ≡ Names.global_of (map item_of items.now) name.now }
+pub(crate) fn global<'p, A: Allocator + Copy>(
+    source: &Source<'p, A>,
+    name: &str,
+) -> Option<Shared<'p, A>>
+    ensures value { option_map shared_in result ≡ Names.global_of (program_in source.now) name.now }
     ensures low { IfSome result (λ g. g.cell ≤ 2 ^ 32) }
 {
-    let mut cell = 0;
-    'items: for item in items {
-        match shared_by(item, cell, name) {
-            Ok(found) => return Some(found),
-            Err(next) => cell = next,
-        }
+    match source.globals.get(name) {
+        Some(g) => Some(Shared {
+            cell: g.cell,
+            global: g.global,
+        }),
+        None => None,
     }
-    None
 }
 
 /// The definition that an item is of a function, with its body.
@@ -118,18 +79,19 @@ fn defined_by<'p, A: Allocator>(item: &'p Item<A>, name: &str) -> Option<Defined
 }
 
 /// A function's definition, with its body.
-pub(crate) fn definition<'p, A: Allocator>(
-    items: &'p [Item<A>],
+pub(crate) fn definition<'p, A: Allocator + Copy>(
+    source: &Source<'p, A>,
     name: &str,
 ) -> Option<Defined<'p, A>>
-    ensures { option_map defined_in result ≡ Names.definition_of (map item_of items.now) name.now }
+    ensures { option_map defined_in result ≡ Names.definition_of (program_in source.now) name.now }
 {
-    'items: for item in items {
-        if let Some(d) = defined_by(item, name) {
-            return Some(d);
+    match source.definitions.get(name) {
+        Some(i) => {
+            let items = source.unit.items.as_slice();
+            defined_by(&items[*i], name)
         }
+        None => None,
     }
-    None
 }
 
 /// What a name of the file is declared as.

@@ -30,7 +30,7 @@ pub(crate) fn named<'p, A: Allocator + Copy>(
     if let Some((i, of)) = newest(m.locals.as_slice(), x.text.as_str()) {
         return Ok(Spot::InLocal(i, of));
     }
-    match global(source.unit.items.as_slice(), x.text.as_str()) {
+    match global(source, x.text.as_str()) {
         Some(g) => Ok(Spot::InCell(g.cell, g.global.of)),
         None => {
             m.why = Some(Halt::Astray);
@@ -60,7 +60,7 @@ pub(crate) fn indexed<'p, A: Allocator + Copy>(
 ) -> Result<Spot, Halted>
     ensures { MeansSpot result (meaning.element (program_in source.now) (called source.now 0) x.now.text (value_of index) (state_in m.old)) m.new }
 {
-    let Some(g) = global(source.unit.items.as_slice(), x.text.as_str()) else {
+    let Some(g) = global(source, x.text.as_str()) else {
         m.why = Some(Halt::Astray);
         return Err(Halted {});
     };

@@ -1,17 +1,32 @@
 //! A program that runs.
 
 ghost use Rattle.std.specs.Prelude.{◌≤◌};
-ghost use Rattle.syntax.specs.Names.{globals};
+ghost use Rattle.std.proofs.Props.{props};
+ghost use mathlib.Core.Sum.{⊎_set};
+ghost use Rattle.syntax.specs.Names as Names;
 ghost use Rattle.syntax.specs.Views.{program_of};
 ghost use Rattle.meaning.specs.inner.Cells.{total_cells};
+ghost use Rattle.meaning.specs.inner.Tables.{AreNumbers, AreGlobals};
 
+use crate::names::Shared;
 use std::alloc::Allocator;
+use std::collections::BTreeMap;
 use syntax::tree::Unit;
 
-/// A program that runs, with at most so many cells as an accepted one has.
+/// The number of the item that defines each function.
+pub(crate) type Definitions<'p, A> = BTreeMap<&'p str, usize, A>;
+
+/// Each global, with its first cell.
+pub(crate) type Globals<'p, A> = BTreeMap<&'p str, Shared<'p, A>, A>;
+
+/// A program that runs, with the tables of its names, and with at most so many cells as an accepted one has.
 #[derive(Drop)]
 pub(crate) struct Source<'p, A: Allocator> {
     pub alloc: A,
     pub unit: &'p Unit<A>,
-    ghost small: { total_cells (globals (program_of unit.now)) ≤ 4096 },
+    pub definitions: Definitions<'p, A>,
+    pub globals: Globals<'p, A>,
+    ghost small: { total_cells (Names.globals (program_of unit.now)) ≤ 4096 },
+    ghost numbered: { AreNumbers 0 (program_of unit.now) definitions } by { Prim.hlevel props },
+    ghost shared: { AreGlobals (program_of unit.now) globals } by { Prim.hlevel (props, ⊎_set) },
 }

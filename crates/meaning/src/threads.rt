@@ -12,6 +12,7 @@ use crate::machine::{Context, Halted, Machine, tick};
 use crate::outcome::{OutOfMemory, ThreadEnd, ThreadOutcome};
 use crate::program::Source;
 use crate::run::entered;
+use crate::tables::source;
 use crate::words::{narrow_all, widen_all};
 use lex::token::Scalar;
 use std::alloc::Allocator;
@@ -73,9 +74,8 @@ pub(crate) fn run_thread<A: Allocator + Copy>(
 ) -> Result<Seen<A>, OutOfMemory>
     ensures { IfOk result (λ o. seen_in o ≡ thread_due (program_of typed.now.unit) t (memories_in founds.now) ticks) }
 {
-    let source = Source {
-        alloc,
-        unit: typed.unit(),
+    let Ok(source) = source(alloc, typed) else {
+        return Err(OutOfMemory);
     };
     let mut m = Machine {
         ticks,

@@ -1,7 +1,7 @@
 -- What the look-ups in a file give.
-use Rattle.std.specs.Prelude.{ℕ, List, Option, Some, None, Result, Ok, Err}
-use Rattle.syntax.specs.Tree.{Global, Function, Stmts}
-use Rattle.syntax.specs.Names.{GlobalCells, global_from}
+use Rattle.std.specs.Prelude.{Option, Some, None}
+use Rattle.syntax.specs.Tree.{Function, Stmts}
+use Rattle.syntax.specs.Names.{GlobalCells}
 use Rattle.syntax.specs.Types.{Known, Unknown, known_global, known_function}
 use Rattle.syntax.specs.Views.{global_of, function_of, stmts_of}
 use Rattle.meaning.specs.declared.names.Shared.{Shared}
@@ -12,11 +12,6 @@ use Rattle.meaning.specs.declared.names.Symbol.TheVariants as symbol
 module _ {A : Type 0} where
   abbrev pub shared_in : Shared A → GlobalCells
   shared_in g = record { global = global_of g.global.now; cell = g.cell }
-
-  -- what was found, or else what is found among the rest from this cell on
-  abbrev pub found_or : Result (Shared A) ℕ → List Global → List ℕ → Option GlobalCells
-  found_or (Ok g) rest x = Some (shared_in g)
-  found_or (Err next) rest x = global_from next rest x
 
   abbrev pub defined_in : Defined A → Function × Stmts
   defined_in d = (function_of d.function.now, stmts_of d.body.now)

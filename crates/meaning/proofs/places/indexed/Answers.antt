@@ -1,8 +1,7 @@
-use Rattle.std.proofs.Common.{◌≡◌, ◌∙◌, sym, ap, false, map, arith}
+use Rattle.std.proofs.Common.{◌≡◌, ◌∙◌, sym, ap, false, arith}
 use Rattle.std.proofs.lemmas.Bool.{le-ltb}
 use Rattle.std.specs.Prelude.{nat_lt}
 use Rattle.syntax.specs.Names.{cells, global_of as global_of_program}
-use Rattle.syntax.specs.Views.{item_of}
 use Rattle.meaning.specs.inner.Machine.{program_in, state_in}
 use Rattle.meaning.specs.inner.File.{shared_in}
 use Rattle.meaning.specs.inner.Does.{called}
@@ -15,5 +14,5 @@ returns-else-k-cells_of g c done =
     let outside : nat_lt (value_of c.args.index).word (cells (shared_in c.in-Some.g).global) ≡ false =
     ap (λ w. nat_lt w (cells (shared_in c.in-Some.g).global)) (sym (ap (λ v. v.word) c.unpack-k.ensures.value))
     ∙ le-ltb c.unpack-k.result.word (cells (shared_in c.in-Some.g).global) (omega (arith, c.cells_of.ensures.value, c.if-k-cells_of.false)) in
-    let found = sym (c.in-Some.ensures.value ∙ ap (λ is. global_of_program (map item_of is) c.as_str.result.now) c.as_slice.ensures ∙ ap (global_of_program (program_in c.args.source.now)) c.as_str.ensures) in
+    let found = sym (c.in-Some.ensures.value ∙ ap (global_of_program (program_in c.args.source.now)) c.as_str.ensures) in
     element_traps (program_in c.args.source.now) (called c.args.source.now 0) c.args.x.now.text (value_of c.args.index) (shared_in c.in-Some.g) (state_in c.args.m.now) found outside ∙ c.spot_trap.ensures done

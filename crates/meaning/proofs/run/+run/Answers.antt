@@ -135,6 +135,10 @@ pub simple-returns-in-None : goal.simple-returns-in-None
 simple-returns-in-None g t c done =
     ap (λ x. simple (program_in c.args.source.now) (called c.args.source.now c.args.frames) (simple_of x) (state_in c.args.m.now)) c.in-Assign.is ∙ ap (λ o. simple (program_in c.args.source.now) (called c.args.source.now c.args.frames) (tree.Assign (expr_of c.in-Assign.to) o (expr_of c.in-Assign.e)) (state_in c.args.m.now)) c.in-None.is ∙ c.assigned.ensures done
 
+pub simple-returns-in-Some : goal.simple-returns-in-Some
+simple-returns-in-Some g t c done =
+    ap (λ x. simple (program_in c.args.source.now) (called c.args.source.now c.args.frames) (simple_of x) (state_in c.args.m.now)) c.in-Assign.is ∙ ap (λ o. simple (program_in c.args.source.now) (called c.args.source.now c.args.frames) (tree.Assign (expr_of c.in-Assign.to) o (expr_of c.in-Assign.e)) (state_in c.args.m.now)) c.in-Some.is ∙ c.changed.ensures done
+
 pub started-returns-in-Declare : goal.started-returns-in-Declare
 started-returns-in-Declare g t c done =
     ap (λ x. meaning.start_with (program_in c.args.source.now) (called c.args.source.now c.args.frames) (start_of x) (state_in c.args.m.now)) c.in-Declare.is ∙ ap (λ ds. declare (program_in c.args.source.now) (called c.args.source.now c.args.frames) c.in-Declare.d.of (map declarator_of ds) (state_in c.args.m.now)) (sym c.as_slice.ensures) ∙ c.declare.ensures done

@@ -1,0 +1,135 @@
+-- What the tables of names say, as they are made and as they are read.
+use denote.Ref.{Bor}
+use Rattle.std.proofs.Common.{◌≡◌, ℕ, suc, ◌+◌, ◌<◌, ◌≤◌, List, [], ◌∷◌, length, map, drop, get_or, Option, Some, None, option_map, Bool, true, false, cond, refl, sym, ap, ◌∙◌, arith, is_some, ◌&&◌, bytes_eq, if◌then◌else◌}
+use Rattle.std.specs.Option.{option_or}
+use Rattle.std.specs.Ordering.{nat_cmp}
+use Rattle.std.specs.Cmp.Lexicographic.{slice_cmp}
+use Rattle.std.specs.BTreeMap.{BTreeMap, Updates}
+use Rattle.std.proofs.lemmas.Map.Text.{btree_map_updates_str}
+use Rattle.std.proofs.lemmas.Slice.Eq.{bytes_eq-Decides}
+use Rattle.std.proofs.lemmas.Grind.{common_steps}
+use Rattle.syntax.specs.declared.tree.Item.{Item as OwnItem}
+use Rattle.syntax.specs.declared.tree.Item.TheVariants as own
+use Rattle.syntax.specs.declared.tree.Function.{Function as OwnFunction}
+use Rattle.syntax.specs.Tree.{Item, Defines, Shares, Function, Stmts, Global}
+use Rattle.syntax.specs.Views.{item_of, function_of, stmts_of}
+use Rattle.syntax.specs.Names.{GlobalCells, defined, definition_of, global_from, cells}
+use Rattle.types.specs.Slots.{value_at}
+use Rattle.meaning.specs.declared.names.Shared.{Shared}
+use Rattle.meaning.specs.inner.Cells.{total_cells}
+use Rattle.meaning.specs.inner.File.{shared_in}
+use Rattle.meaning.specs.inner.Tables.{number_from, AreNumbers, shared_at}
+
+pub or_none : {T : Type 0} (o : Option T) → option_or o None ≡ o
+or_none None = refl
+or_none (Some x) = refl
+
+pub none_left : {X : Type 0} (n : ℕ) (xs : List X) → length xs ≤ n → drop n xs ≡ []
+none_left n xs le = grind (arith, common_steps)
+
+some_map : {X Y : Type 0} (f : X → Y) (o : Option X) → is_some (option_map f o) ≡ is_some o
+some_map f None = refl
+some_map f (Some x) = refl
+
+numbered_step : (b : Bool) (n : ℕ) (has : Bool) (o r : Option ℕ) → has ≡ true → o ≡ r → cond b (Some n) o ≡ (if has && b then Some n else r)
+numbered_step true n true o r h e = refl
+numbered_step false n true o r h e = e
+numbered_step b n false o r h e = absurd cc
+
+-- one more definition
+pub number_more : {A : Type 0} (rest : List Item) (f : OwnFunction A) (i : ℕ) (old new : BTreeMap (Bor (List ℕ)) ℕ) (key : Bor (List ℕ)) →
+    Updates (λ a b. slice_cmp nat_cmp a.now b.now) old new key (Some i) → key.now ≡ f.name.text → is_some f.body ≡ true → AreNumbers (i + 1) rest old → AreNumbers i (Defines (function_of f) ∷ rest) new
+number_more rest f i old new key u name body h = λ x.
+    btree_map_updates_str key.now old new (Some i) u x ∙ ap (λ t. cond (bytes_eq t x) (Some i) (value_at old x)) name
+    ∙ numbered_step (bytes_eq f.name.text x) i (is_some (option_map stmts_of f.body)) (value_at old x) (number_from (i + 1) rest x) (some_map stmts_of f.body ∙ body) (h x)
+
+-- where there is no number, there is no definition
+none_step : (b : Bool) (f : Function) (s : Stmts) (n : ℕ) (r : Option ℕ) (d : Option (Function × Stmts)) → (if b then Some n else r) ≡ None → (r ≡ None → d ≡ None) → (if b then Some (f, s) else d) ≡ None
+none_step true f s n r d h e = absurd cc
+none_step false f s n r d h e = e h
+
+none_defined : (f : Function) (x : List ℕ) (o : Option Stmts) (n : ℕ) (r : Option ℕ) (d : Option (Function × Stmts)) → (if is_some o && bytes_eq f.name.text x then Some n else r) ≡ None → (r ≡ None → d ≡ None) → defined f x o d ≡ None
+none_defined f x None n r d h e = e h
+none_defined f x (Some s) n r d h e = none_step (bytes_eq f.name.text x) f s n r d h e
+
+pub no_number : (n : ℕ) (items : List Item) (x : List ℕ) → number_from n items x ≡ None → definition_of items x ≡ None
+no_number n [] x h = refl
+no_number n (Shares gs ∷ items) x h = no_number (n + 1) items x h
+no_number n (Defines f ∷ items) x h = none_defined f x f.body n (number_from (n + 1) items x) (definition_of items x) h (no_number (n + 1) items x)
+
+-- a global that is put where there was none
+put_last : (b : Bool) (v : GlobalCells) (o rest : Option GlobalCells) → (b ≡ true → o ≡ None) → option_or (cond b (Some v) o) rest ≡ option_or o (if b then Some v else rest)
+put_last true v o rest h = sym (ap (λ p. option_or p (Some v)) (h refl))
+put_last false v o rest h = refl
+
+-- the definition is that of the item with the number
+module _ {A : Type 0} where
+  pub record IsNumbered (n i : ℕ) (items : List (OwnItem A)) (x : List ℕ) : Type 0 where
+    pub place : ℕ
+    pub is : i ≡ n + place
+    pub less : place < length items
+    pub same : (d : OwnItem A) → definition_of (map item_of items) x ≡ definition_of (item_of (get_or items place d) ∷ []) x
+
+  later : (n i : ℕ) (item : OwnItem A) (items : List (OwnItem A)) (x : List ℕ) → definition_of (item_of item ∷ map item_of items) x ≡ definition_of (map item_of items) x → IsNumbered (n + 1) i items x → IsNumbered n i (item ∷ items) x
+  later n i item items x e h = record {
+    place = suc h.place;
+    is = (let k = h.is in omega (arith, k));
+    less = (let k = h.less in omega (arith, k));
+    same = λ d. e ∙ h.same d;
+  }
+
+  here_step : (b : Bool) (f : OwnFunction A) (s : Stmts) (items : List (OwnItem A)) (x : List ℕ) (n i : ℕ) → bytes_eq f.name.text x ≡ b → option_map stmts_of f.body ≡ Some s → (if b then Some n else number_from (n + 1) (map item_of items) x) ≡ Some i →
+      (number_from (n + 1) (map item_of items) x ≡ Some i → IsNumbered (n + 1) i items x) → IsNumbered n i (own.Function f ∷ items) x
+  here_step true f s items x n i b o h e =
+      let first = (λ (rest : Option (Function × Stmts)). ap (λ p. defined (function_of f) x p rest) o ∙ ap (λ (q : Bool). if q then Some (function_of f, s) else rest) b) in
+      let is : Some n ≡ Some i = h in
+      record { place = 0; is = (let k : n ≡ i = cc in omega (arith, k)); less = omega arith; same = λ d. first (definition_of (map item_of items) x) ∙ sym (first None) }
+  here_step false f s items x n i b o h e =
+      later n i (own.Function f) items x (ap (λ p. defined (function_of f) x p (definition_of (map item_of items) x)) o ∙ ap (λ (q : Bool). if q then Some (function_of f, s) else definition_of (map item_of items) x) b) (e h)
+
+  function_step : (f : OwnFunction A) (o : Option Stmts) (items : List (OwnItem A)) (x : List ℕ) (n i : ℕ) → option_map stmts_of f.body ≡ o → (if is_some o && bytes_eq f.name.text x then Some n else number_from (n + 1) (map item_of items) x) ≡ Some i →
+      (number_from (n + 1) (map item_of items) x ≡ Some i → IsNumbered (n + 1) i items x) → IsNumbered n i (own.Function f ∷ items) x
+  function_step f None items x n i o h e = later n i (own.Function f) items x (ap (λ p. defined (function_of f) x p (definition_of (map item_of items) x)) o) (e h)
+  function_step f (Some s) items x n i o h e = here_step (bytes_eq f.name.text x) f s items x n i refl o h e
+
+  pub numbered : (n i : ℕ) (items : List (OwnItem A)) (x : List ℕ) → number_from n (map item_of items) x ≡ Some i → IsNumbered n i items x
+  numbered n i [] x h = absurd cc
+  numbered n i (own.Globals gs ∷ items) x h = later n i (own.Globals gs) items x refl (numbered (n + 1) i items x h)
+  numbered n i (own.Function f ∷ items) x h = function_step f (option_map stmts_of f.body) items x n i refl h (numbered (n + 1) i items x)
+
+  pub number_less : (i : ℕ) (items : List (OwnItem A)) (x : List ℕ) → number_from 0 (map item_of items) x ≡ Some i → i < length items
+  number_less i items x h = let k = numbered 0 i items x h in let e = k.is in let l = k.less in omega (arith, e, l)
+
+  pub number_same : (i : ℕ) (items : List (OwnItem A)) (x : List ℕ) (d : OwnItem A) → number_from 0 (map item_of items) x ≡ Some i → definition_of (map item_of items) x ≡ definition_of (item_of (get_or items i d) ∷ []) x
+  number_same i items x d h = let k = numbered 0 i items x h in let e : k.place ≡ i = (let f = k.is in omega (arith, f)) in k.same d ∙ ap (λ j. definition_of (item_of (get_or items j d) ∷ []) x) e
+
+  -- one more global, where its name is new
+  map_cond : (b : Bool) (s : Shared A) (o : Option (Shared A)) → option_map shared_in (cond b (Some s) o) ≡ cond b (Some (shared_in s)) (option_map shared_in o)
+  map_cond true s o = refl
+  map_cond false s o = refl
+
+  none_of : (o : Option (Shared A)) → is_some o ≡ false → option_map shared_in o ≡ None
+  none_of None h = refl
+  none_of (Some s) h = absurd cc
+
+  pub global_more : (old new : BTreeMap (Bor (List ℕ)) (Shared A)) (key : Bor (List ℕ)) (s : Shared A) (y : List ℕ) →
+      Updates (λ a b. slice_cmp nat_cmp a.now b.now) old new key (Some s) → key.now ≡ y → is_some (value_at old key.now) ≡ false →
+      (x : List ℕ) (rest : Option GlobalCells) → option_or (shared_at new x) rest ≡ option_or (shared_at old x) (if bytes_eq y x then Some (shared_in s) else rest)
+  global_more old new key s y u name absent x rest =
+      ap (λ o. option_or (option_map shared_in o) rest) (btree_map_updates_str key.now old new (Some s) u x)
+      ∙ ap (λ o. option_or o rest) (map_cond (bytes_eq key.now x) s (value_at old x))
+      ∙ put_last (bytes_eq key.now x) (shared_in s) (shared_at old x) rest (λ same. ap (λ t. shared_at old t) (sym ((bytes_eq-Decides key.now x).0 same)) ∙ none_of (value_at old key.now) absent)
+      ∙ ap (λ t. option_or (shared_at old x) (if bytes_eq t x then Some (shared_in s) else rest)) name
+
+-- a global's first cell is among the cells
+cell_step : (b : Bool) (g : Global) (c : ℕ) (gs : List Global) (x : List ℕ) (v : GlobalCells) → (if b then Some (record { global = g; cell = c }) else global_from (c + cells g) gs x) ≡ Some v → (global_from (c + cells g) gs x ≡ Some v → v.cell ≤ c + cells g + total_cells gs) → v.cell ≤ c + total_cells (g ∷ gs)
+cell_step true g c gs x v h e = let k : c ≡ v.cell = ap (λ o. cell_or o) h in omega (arith, k)
+  where
+    cell_or : Option GlobalCells → ℕ
+    cell_or None = 0
+    cell_or (Some w) = w.cell
+cell_step false g c gs x v h e = let k = e h in omega (arith, k)
+
+pub cell_few : (c : ℕ) (gs : List Global) (x : List ℕ) (v : GlobalCells) → global_from c gs x ≡ Some v → v.cell ≤ c + total_cells gs
+cell_few c [] x v h = absurd cc
+cell_few c (g ∷ gs) x v h = cell_step (bytes_eq g.name.text x) g c gs x v h (cell_few (c + cells g) gs x v)

@@ -1,0 +1,125 @@
+//! The tables of a program's names, which are made once.
+
+ghost use Rattle.std.specs.Prelude.{◌≡◌, ◌+◌, ◌≤◌, ◌^◌, ◌++◌, ◌∷◌, List, ℕ, Option, Some, map, if◌then◌else◌, bytes_eq, IfOk, OnOk};
+ghost use Rattle.std.specs.Option.{option_or};
+ghost use Rattle.syntax.specs.Tree as tree;
+ghost use Rattle.syntax.specs.Names as Names;
+ghost use Rattle.syntax.specs.Names.{GlobalCells, globals};
+ghost use Rattle.syntax.specs.Views.{global_of, item_of};
+ghost use Rattle.meaning.specs.inner.Cells.{total_cells};
+ghost use Rattle.meaning.specs.inner.Tables.{AreNumbers, AreGlobals, shared_at};
+
+use crate::names::{Shared, cells_of};
+use crate::program::{Definitions, Globals, Source};
+use std::alloc::{AllocError, Allocator};
+use std::collections::BTreeMap;
+use syntax::tree::{Global, Item};
+use types::Typed;
+
+/// Adds an item, by its number, to the table of those behind it.
+fn add_definition<'p, A: Allocator + Copy>(
+    table: &mut Definitions<'p, A>,
+    i: usize,
+    item: &'p Item<A>,
+) -> Result<(), AllocError>
+    ensures { OnOk result ((rest : List tree.Item) → AreNumbers (i + 1) rest table.old → AreNumbers i (item_of item.now ∷ rest) table.new) }
+{
+    let Item::Function(f) = item else {
+        return Ok(());
+    };
+    if f.body.is_some() {
+        return match table.insert(f.name.text.as_str(), i) {
+            Ok(_) => Ok(()),
+            Err(_) => Err(AllocError),
+        };
+    }
+    Ok(())
+}
+
+/// The number of the item that defines each function: the first one of its name.
+fn number_definitions<'p, A: Allocator + Copy>(
+    alloc: A,
+    items: &'p [Item<A>],
+) -> Result<Definitions<'p, A>, AllocError>
+    ensures { IfOk result (AreNumbers 0 (map item_of items.now)) }
+{
+    let mut table = BTreeMap::new(alloc);
+    'items: for k in 0..items.len() {
+        let i = items.len() - 1 - k;
+        add_definition(&mut table, i, &items[i])?;
+    }
+    Ok(table)
+}
+
+/// Adds a global with this first cell, unless there is one of its name.
+fn add_global<'p, A: Allocator + Copy>(
+    table: &mut Globals<'p, A>,
+    cell: usize,
+    g: &'p Global<A>,
+) -> Result<(), AllocError>
+    ensures { OnOk result ((x : List ℕ) (rest : Option GlobalCells) → option_or (shared_at table.new x) rest ≡ option_or (shared_at table.old x) (if bytes_eq g.now.name.text x then Some (record { global = global_of g.now; cell = cell }) else rest)) }
+{
+    let name = g.name.text.as_str();
+    if table.contains_key(name) {
+        return Ok(());
+    }
+    match table.insert(name, Shared { cell, global: g }) {
+        Ok(_) => Ok(()),
+        Err(_) => Err(AllocError),
+    }
+}
+
+/// Adds the globals of a declaration, from this cell on; the cell behind them.
+fn add_globals<'p, A: Allocator + Copy>(
+    table: &mut Globals<'p, A>,
+    first: usize,
+    gs: &'p [Global<A>],
+) -> Result<usize, AllocError>
+    requires { first + total_cells (map global_of gs.now) ≤ 2 ^ 32 }
+    ensures value { IfOk result (λ next. (x : List ℕ) (rest : List tree.Global) → option_or (shared_at table.new x) (Names.global_from next rest x) ≡ option_or (shared_at table.old x) (Names.global_from first (map global_of gs.now ++ rest) x)) }
+    ensures next { IfOk result (λ next. next ≡ first + total_cells (map global_of gs.now)) }
+{
+    let mut cell = first;
+    'globals: for g in gs {
+        add_global(table, cell, g)?;
+        cell += cells_of(g);
+    }
+    Ok(cell)
+}
+
+/// Each global, with its first cell: the first one of its name.
+fn place_globals<'p, A: Allocator + Copy>(
+    alloc: A,
+    items: &'p [Item<A>],
+) -> Result<Globals<'p, A>, AllocError>
+    requires { total_cells (globals (map item_of items.now)) ≤ 2 ^ 32 }
+    ensures { IfOk result (AreGlobals (map item_of items.now)) }
+{
+    let mut table = BTreeMap::new(alloc);
+    let mut cell = 0;
+    'items: for item in items {
+        match item {
+            Item::Function(_) => {}
+            Item::Globals(gs) => cell = add_globals(&mut table, cell, gs.as_slice())?,
+        }
+    }
+    Ok(table)
+}
+
+/// A program that is to run, with its tables. Takes memory for these.
+pub(crate) fn source<'p, A: Allocator + Copy>(
+    alloc: A,
+    typed: &'p Typed<A>,
+) -> Result<Source<'p, A>, AllocError>
+    ensures { IfOk result (λ s. s.unit.now ≡ typed.now.unit) }
+{
+    let unit = typed.unit();
+    let definitions = number_definitions(alloc, unit.items.as_slice())?;
+    let globals = place_globals(alloc, unit.items.as_slice())?;
+    Ok(Source {
+        alloc,
+        unit,
+        definitions,
+        globals,
+    })
+}
