@@ -1,0 +1,1 @@
+-- lemmas of the laws

@@ -1,0 +1,286 @@
+-- Which instructions stand for an expression: by cases on the tree. A code may choose its registers: below `free` stand
+-- the locals and what is still needed, and what an expression writes lies at or above it, or is the value's home.
+use Rattle.std.specs.Prelude.{◌≡◌, ◌⊎◌, ℕ, suc, ◌<◌, ◌≤◌, pos, List, [], ◌∷◌, ◌++◌, length, map, Option, Some, None, is_some, unwrap_or, slice_get, if◌then◌else◌}
+use Rattle.lex.specs.declared.token.Span.{Span}
+use Rattle.lex.specs.declared.token.Scalar.{Scalar}
+use Rattle.lex.specs.declared.token.Scalar.TheVariants.{Int}
+use Rattle.syntax.specs.declared.tree.UnaryOp.TheVariants.{Negate, Keep, Not, Complement}
+use Rattle.syntax.specs.declared.tree.BinaryOp.{BinaryOp}
+use Rattle.syntax.specs.declared.tree.BinaryOp.TheVariants.{Equal, NotEqual, Less, Greater, LessEqual, GreaterEqual}
+use Rattle.syntax.specs.declared.tree.LogicalOp.TheVariants.{AndThen, OrElse}
+use Rattle.syntax.specs.Tree.{Expr, Exprs, Variable, Constant, Element, Call, Parenthesized, Cast, Unary, Binary, Logical, Conditional, Stmts, Parameter, Function, Program}
+use Rattle.syntax.specs.Numbers.{word_of, operand_type, result_type}
+use Rattle.syntax.specs.Names.{Local, newest, global_of, cells, GlobalCells, definition_of}
+use Rattle.syntax.specs.Types.{type_of, running_scope}
+use Rattle.syntax.specs.Laws.{shape}
+use Rattle.bytecode.specs.Code.{Instr, Code, FunctionCode}
+
+-- the locals known at a place, by name and type; their words say nothing
+abbrev pub LocalScope : Type 0
+LocalScope = List Local
+
+abbrev pub IsLike : LocalScope → List Local → Type 0
+IsLike scope ls = map shape ls ≡ map shape scope
+
+-- an instruction stands at a place
+abbrev pub At : Code → ℕ → Instr → Type 0
+At code q i = slice_get code.instructions q ≡ Some i
+
+-- one place is another, or jumps there
+abbrev pub LeadsTo : Code → (q to : ℕ) → Type 0
+LeadsTo code q to = (q ≡ to) ⊎ At code q (Instr.Jump to)
+
+-- code from one place to another that gives a value of a type in a register, where those below `free` are kept
+abbrev pub Coded : Type 1
+Coded = (from to free r : ℕ) → Scalar → Type 0
+
+-- code from a place that leads to one place where a condition holds, and to another where it does not
+abbrev pub Branching : Type 1
+Branching = (from met unmet free : ℕ) → Type 0
+
+-- a register that a value may come to: a free one, or its home, the register of the local that is to take it
+abbrev pub MayTake : Option ℕ → (free r : ℕ) → Type 0
+MayTake None free r = free ≤ r
+MayTake (Some home) free r = (free ≤ r) ⊎ (r ≡ home)
+
+-- the instruction of an operator: one that asks for more is the other way round
+abbrev pub computing : BinaryOp → Scalar → (d a b : ℕ) → Instr
+computing Greater t d a b = Instr.Compute Less t d b a
+computing GreaterEqual t d a b = Instr.Compute LessEqual t d b a
+computing op t d a b = Instr.Compute op t d a b
+
+-- what a call takes over: the arguments that a parameter's name binds, and then the others
+abbrev pub named_ones : List Parameter → List ℕ → List ℕ
+named_ones (q ∷ qs) (r ∷ rs) = if is_some q.name then r ∷ named_ones qs rs else named_ones qs rs
+named_ones qs rs = []
+
+abbrev pub nameless_ones : List Parameter → List ℕ → List ℕ
+nameless_ones (q ∷ qs) (r ∷ rs) = if is_some q.name then nameless_ones qs rs else r ∷ nameless_ones qs rs
+nameless_ones qs rs = []
+
+abbrev pub arranged : List Parameter → List ℕ → List ℕ
+arranged qs rs = named_ones qs rs ++ nameless_ones qs rs
+
+-- a constant 0, with which a comparison asks whether the other side holds
+abbrev pub IsNought : Expr → Type 0
+IsNought e = (t : Scalar) × (at : Span) × (e ≡ Constant 0 t at)
+
+module _ (code : Code) (registers : ℕ) where
+  -- one instruction that gives a value
+  pub record GivenBy (home : Option ℕ) (i : Instr) (u : Scalar) (from to free r : ℕ) (t : Scalar) : Type 0 where
+    pub to_is : to ≡ suc from
+    pub takes : MayTake home free r
+    pub register : r < registers
+    pub type_is : t ≡ u
+    pub instr : At code from i
+
+  -- a local's value lies in its register
+  pub record LocalIs (locals : ℕ) (l : ℕ × Scalar) (from to r : ℕ) (t : Scalar) : Type 0 where
+    pub known : l.0 < locals
+    pub to_is : to ≡ from
+    pub register : r ≡ l.0
+    pub type_is : t ≡ l.1
+
+  abbrev pub VariableCode : Option ℕ → (locals : ℕ) → Option (ℕ × Scalar) → Option GlobalCells → Coded
+  VariableCode home locals (Some l) g from to free r t = LocalIs locals l from to r t
+  VariableCode home locals None None from to free r t = ⊥
+  VariableCode home locals None (Some g) from to free r t =
+      GivenBy home (Instr.Read r g.cell) g.global.of from to free r t
+
+  pub record ElementCode (home : Option ℕ) (g : GlobalCells) (index : Coded) (from to free r : ℕ) (t : Scalar) :
+      Type 0 where
+    pub mid : ℕ
+    pub ri : ℕ
+    pub ti : Scalar
+    pub computes : index from mid free ri ti
+    pub reads : GivenBy home (Instr.ReadAt r g.cell (cells g.global) ri) g.global.of mid to free r t
+
+  abbrev pub ElementAt : Option ℕ → Option GlobalCells → Coded → Coded
+  ElementAt home None index from to free r t = ⊥
+  ElementAt home (Some g) index from to free r t = ElementCode home g index from to free r t
+
+  pub record CastCode (u : Scalar) (e : Coded) (from to free r : ℕ) (t : Scalar) : Type 0 where
+    pub te : Scalar
+    pub computes : e from to free r te
+    pub type_is : t ≡ u
+
+  -- an operator on one value, whose result has the value's type
+  pub record UnaryCode (home : Option ℕ) (instr_of : Scalar → ℕ → Instr) (e : Coded) (from to free r : ℕ) (t : Scalar) :
+      Type 0 where
+    pub mid : ℕ
+    pub ra : ℕ
+    pub ta : Scalar
+    pub computes : e from mid free ra ta
+    pub operates : GivenBy home (instr_of ta ra) ta mid to free r t
+
+  pub record NotCode (home : Option ℕ) (e : Coded) (from to free r : ℕ) (t : Scalar) : Type 0 where
+    pub mid : ℕ
+    pub ra : ℕ
+    pub ta : Scalar
+    pub rz : ℕ
+    pub computes : e from mid free ra ta
+    pub apart : ra < rz
+    pub zeroes : GivenBy None (Instr.Constant rz 0) Int mid (suc mid) free rz Int
+    pub compares : GivenBy home (Instr.Compute Equal Int r ra rz) Int (suc mid) to free r t
+
+  pub record BinaryCode (home : Option ℕ) (op : BinaryOp) (a b : Coded) (from to free r : ℕ) (t : Scalar) : Type 0 where
+    pub mid : ℕ
+    pub last : ℕ
+    pub later : ℕ
+    pub ra : ℕ
+    pub rb : ℕ
+    pub ta : Scalar
+    pub tb : Scalar
+    pub left : a from mid free ra ta
+    pub kept : free ≤ later
+    pub apart : ra < later
+    pub right : b mid last later rb tb
+    pub operates : GivenBy home (computing op (operand_type op ta tb) r ra rb)
+        (result_type op (operand_type op ta tb)) last to free r t
+
+  -- a value is computed and tested by a jump; where it does not jump, the code leads on
+  pub record ValueTested (jump : ℕ → ℕ → Instr) (value : Coded) (from there on free : ℕ) : Type 0 where
+    pub mid : ℕ
+    pub r : ℕ
+    pub t : Scalar
+    pub computes : value from mid free r t
+    pub jumps : At code mid (jump r there)
+    pub leads : LeadsTo code (suc mid) on
+
+  -- a condition: by its value, or as its operator has it
+  abbrev pub Branches : Coded → Branching → Branching
+  Branches value own from met unmet free =
+      ValueTested Instr.JumpZero value from unmet met free
+      ⊎ (ValueTested Instr.JumpNonzero value from met unmet free ⊎ own from met unmet free)
+
+  -- one condition and then another: both hold, or either does
+  pub record BothHold (a b : Branching) (from met unmet free : ℕ) : Type 0 where
+    pub mid : ℕ
+    pub first : a from mid unmet free
+    pub second : b mid met unmet free
+
+  pub record EitherHolds (a b : Branching) (from met unmet free : ℕ) : Type 0 where
+    pub mid : ℕ
+    pub first : a from met mid free
+    pub second : b mid met unmet free
+
+  -- a comparison with 0
+  abbrev pub ComparedWithZero : BinaryOp → Expr → Branching → Branching
+  ComparedWithZero op b tests from met unmet free =
+      IsNought b × (((op ≡ NotEqual) × tests from met unmet free) ⊎ ((op ≡ Equal) × tests from unmet met free))
+
+  -- the int 1 where a condition holds, and 0 where it does not
+  pub record TruthCode (home : Option ℕ) (tests : Branching) (from to free r : ℕ) (t : Scalar) : Type 0 where
+    pub met : ℕ
+    pub unmet : ℕ
+    pub decides : tests from met unmet free
+    pub gives_one : GivenBy home (Instr.Constant r 1) Int met (suc met) free r t
+    pub one_leads : LeadsTo code (suc met) to
+    pub gives_zero : GivenBy home (Instr.Constant r 0) Int unmet (suc unmet) free r t
+    pub zero_leads : LeadsTo code (suc unmet) to
+
+  -- a branch's value comes to a register straight, or is moved there
+  pub record MovedCode (home : Option ℕ) (e : Coded) (from to free r : ℕ) (t : Scalar) : Type 0 where
+    pub mid : ℕ
+    pub ra : ℕ
+    pub ta : Scalar
+    pub computes : e from mid free ra ta
+    pub moves : GivenBy home (Instr.Move r ra) t mid to free r t
+
+  abbrev pub BranchCode : Option ℕ → (Option ℕ → Coded) → Coded
+  BranchCode home e from to free r t =
+      ((u : Scalar) × e home from to free r u) ⊎ MovedCode home (e None) from to free r t
+
+  pub record ConditionalCode (home : Option ℕ) (c : Branching) (a b : Option ℕ → Coded) (from to free r : ℕ)
+      (t : Scalar) : Type 0 where
+    pub met : ℕ
+    pub unmet : ℕ
+    pub last : ℕ
+    pub end : ℕ
+    pub tests : c from met unmet free
+    pub then_code : BranchCode home a met last free r t
+    pub then_leads : LeadsTo code last to
+    pub else_code : BranchCode home b unmet end free r t
+    pub else_leads : LeadsTo code end to
+
+  -- arguments from left to right, each in a register of its own
+  pub record ArgCode (first : Coded) (rest : ℕ → ℕ → List ℕ → Type 0) (from free : ℕ) (rs : List ℕ) : Type 0 where
+    pub mid : ℕ
+    pub later : ℕ
+    pub r : ℕ
+    pub t : Scalar
+    pub others : List ℕ
+    pub computes : first from mid free r t
+    pub kept : free ≤ later
+    pub apart : r < later
+    pub goes_on : rest mid later others
+    pub are : rs ≡ r ∷ others
+
+  pub record CallCode (home : Option ℕ) (p : Program) (x : List ℕ) (args : (from to free : ℕ) → List ℕ → Type 0)
+      (from to free r : ℕ) (t : Scalar) : Type 0 where
+    pub mid : ℕ
+    pub number : ℕ
+    pub function : FunctionCode
+    pub f : Function
+    pub body : Stmts
+    pub registers_of : List ℕ
+    pub gives_args : args from mid free registers_of
+    pub calls : GivenBy home (Instr.Call number r (arranged f.parameters registers_of)) (unwrap_or f.result Int)
+        mid to free r t
+    pub known : slice_get code.functions number ≡ Some function
+    pub named : function.name ≡ x
+    pub defined : definition_of p x ≡ Some (f, body)
+
+  module _ (p : Program) where
+    abbrev mutual
+      -- an expression's value comes into the register r; its type is t
+      pub ExprCode : Option ℕ → LocalScope → Expr → Coded
+      ExprCode home scope (Variable x) = VariableCode home (length scope) (newest scope x.text) (global_of p x.text)
+      ExprCode home scope (Constant n u at) = λ from to free r t.
+          GivenBy home (Instr.Constant r (word_of (pos n))) u from to free r t
+      ExprCode home scope (Element x i at) = ElementAt home (global_of p x.text) (ExprCode None scope i)
+      ExprCode home scope (Call f es at) = CallCode home p f.text (ArgsCode scope es)
+      ExprCode home scope (Parenthesized e at) = ExprCode home scope e
+      ExprCode home scope (Cast u e at) = CastCode u (ExprCode home scope e)
+      ExprCode home scope (Unary Negate e at) = λ from to free r t.
+          UnaryCode home (λ ta ra. Instr.Negate ta r ra) (ExprCode None scope e) from to free r t
+      ExprCode home scope (Unary Keep e at) = ExprCode home scope e
+      ExprCode home scope (Unary Not e at) = NotCode home (ExprCode None scope e)
+      ExprCode home scope (Unary Complement e at) = λ from to free r t.
+          UnaryCode home (λ ta ra. Instr.Complement r ra) (ExprCode None scope e) from to free r t
+      ExprCode home scope (Binary op a b at) = BinaryCode home op (ExprCode None scope a) (ExprCode None scope b)
+      ExprCode home scope (Logical AndThen a b at) =
+          TruthCode home (BothHold (Branches (ExprCode None scope a) (OwnTests scope a))
+          (Branches (ExprCode None scope b) (OwnTests scope b)))
+      ExprCode home scope (Logical OrElse a b at) =
+          TruthCode home (EitherHolds (Branches (ExprCode None scope a) (OwnTests scope a))
+          (Branches (ExprCode None scope b) (OwnTests scope b)))
+      ExprCode home scope (Conditional c a b at) = λ from to free r t.
+          ConditionalCode home (Branches (ExprCode None scope c) (OwnTests scope c))
+          (λ h. ExprCode h scope a) (λ h. ExprCode h scope b) from to free r t
+          × ((ls : List Local) → IsLike scope ls → type_of (running_scope p ls) (Conditional c a b at) ≡ Some t)
+
+      -- a condition whose operator leads on by itself, without a value
+      pub OwnTests : LocalScope → Expr → Branching
+      OwnTests scope (Parenthesized e at) = Branches (ExprCode None scope e) (OwnTests scope e)
+      OwnTests scope (Cast u e at) = Branches (ExprCode None scope e) (OwnTests scope e)
+      OwnTests scope (Unary Keep e at) = Branches (ExprCode None scope e) (OwnTests scope e)
+      OwnTests scope (Unary Not e at) = λ from met unmet free.
+          Branches (ExprCode None scope e) (OwnTests scope e) from unmet met free
+      OwnTests scope (Binary op a b at) = ComparedWithZero op b (Branches (ExprCode None scope a) (OwnTests scope a))
+      OwnTests scope (Logical AndThen a b at) =
+          BothHold (Branches (ExprCode None scope a) (OwnTests scope a))
+          (Branches (ExprCode None scope b) (OwnTests scope b))
+      OwnTests scope (Logical OrElse a b at) =
+          EitherHolds (Branches (ExprCode None scope a) (OwnTests scope a))
+          (Branches (ExprCode None scope b) (OwnTests scope b))
+      OwnTests scope e = λ from met unmet free. ⊥
+
+      pub ArgsCode : LocalScope → Exprs → (from to free : ℕ) → List ℕ → Type 0
+      ArgsCode scope Exprs.[] from to free rs = (to ≡ from) × (rs ≡ [])
+      ArgsCode scope (Exprs.◌∷◌ e es) from to free rs =
+          ArgCode (ExprCode None scope e) (λ mid later others. ArgsCode scope es mid to later others) from free rs
+
+    -- code that leads to `met` where an expression's value is not 0, and to `unmet` where it is
+    abbrev pub CondCode : LocalScope → Expr → Branching
+    CondCode scope e = Branches (ExprCode None scope e) (OwnTests scope e)

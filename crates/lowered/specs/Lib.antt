@@ -1,0 +1,6 @@
+-- which instructions stand for expressions and conditions
+pub mod Expressions
+-- which instructions stand for statements
+pub mod Statements
+-- which code stands for a program
+pub mod Programs

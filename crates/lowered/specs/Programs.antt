@@ -1,0 +1,36 @@
+-- Which code stands for a program.
+use Rattle.std.specs.Prelude.{◌≡◌, ℕ, ◌≤◌, List, [], ◌∷◌, ◌++◌, length, Some, None, unwrap_or, option_map, slice_get}
+use Rattle.syntax.specs.Tree.{Parameter, Stmts, Function, Program}
+use Rattle.syntax.specs.Names.{globals, definition_of}
+use Rattle.bytecode.specs.Code.{Instr, FunctionCode, Code}
+use Rattle.bytecode.specs.Beginning.{worker_among}
+use Rattle.lowered.specs.Expressions.{LocalScope, At}
+use Rattle.lowered.specs.Statements.{Exits, StmtsCode}
+
+-- the locals that a function begins with: its parameters, where they have names
+abbrev pub parameter_locals : List Parameter → LocalScope
+parameter_locals [] = []
+parameter_locals (q ∷ qs) =
+    unwrap_or (option_map (λ x. record { name = x.text; of = q.of; word = 0 } ∷ []) q.name) [] ++ parameter_locals qs
+
+-- a function's own statements stand in no loop and in no transaction
+abbrev pub no_exits : Exits
+no_exits = record { break_to = 0; continue_to = 0; in_loop = 0; in_function = 0; innermost = None }
+
+-- the code of a function: its body, and a return where that runs off its end
+pub record FunctionIsLowered (p : Program) (code : Code) (g : FunctionCode) (f : Function) (body : Stmts) : Type 0 where
+  pub last : ℕ
+  pub parameters : g.parameters ≡ length f.parameters
+  pub fits : length f.parameters ≤ g.registers
+  pub runs : StmtsCode code g.registers p no_exits (parameter_locals f.parameters) body g.first last
+  pub returns : At code last (Instr.Return None)
+
+-- the code of a program: each function's code is that of the definition of its name, one is worker's, and its globals
+-- are the program's
+pub record IsLowered (p : Program) (code : Code) : Type 0 where
+  pub each : (number : ℕ) (g : FunctionCode) (f : Function) (body : Stmts) →
+      slice_get code.functions number ≡ Some g → definition_of p g.name ≡ Some (f, body) →
+      FunctionIsLowered p code g f body
+  pub worker : FunctionCode
+  pub has_worker : worker_among code.functions ≡ Some worker
+  pub globals_are : code.globals ≡ globals p
