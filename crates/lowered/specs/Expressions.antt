@@ -3,10 +3,10 @@
 use Rattle.std.specs.Prelude.{◌≡◌, ◌⊎◌, ℕ, suc, ◌<◌, ◌≤◌, pos, List, [], ◌∷◌, ◌++◌, length, map, Option, Some, None, is_some, unwrap_or, slice_get, if◌then◌else◌}
 use Rattle.lex.specs.declared.token.Span.{Span}
 use Rattle.lex.specs.declared.token.Scalar.{Scalar}
-use Rattle.lex.specs.declared.token.Scalar.TheVariants.{Int}
+use Rattle.lex.specs.declared.token.Scalar.TheVariants.{Int, Unsigned}
 use Rattle.syntax.specs.declared.tree.UnaryOp.TheVariants.{Negate, Keep, Not, Complement}
 use Rattle.syntax.specs.declared.tree.BinaryOp.{BinaryOp}
-use Rattle.syntax.specs.declared.tree.BinaryOp.TheVariants.{Equal, NotEqual, Less, Greater, LessEqual, GreaterEqual}
+use Rattle.syntax.specs.declared.tree.BinaryOp.TheVariants.{And, Or, Xor, Equal, NotEqual, Less, Greater, LessEqual, GreaterEqual}
 use Rattle.syntax.specs.declared.tree.LogicalOp.TheVariants.{AndThen, OrElse}
 use Rattle.syntax.specs.Tree.{Expr, Exprs, Variable, Constant, Element, Call, Parenthesized, Cast, Unary, Binary, Logical, Conditional, Stmts, Parameter, Function, Program}
 use Rattle.syntax.specs.Numbers.{word_of, operand_type, result_type}
@@ -43,10 +43,16 @@ abbrev pub MayTake : Option ℕ → (free r : ℕ) → Type 0
 MayTake None free r = free ≤ r
 MayTake (Some home) free r = (free ≤ r) ⊎ (r ≡ home)
 
--- the instruction of an operator: one that asks for more is the other way round
+-- the instruction of an operator: one that asks for more is the other way round, and one that looks at the words alone
+-- stands as that of unsigned operands
 abbrev pub computing : BinaryOp → Scalar → (d a b : ℕ) → Instr
 computing Greater t d a b = Instr.Compute Less t d b a
 computing GreaterEqual t d a b = Instr.Compute LessEqual t d b a
+computing And t d a b = Instr.Compute And Unsigned d a b
+computing Or t d a b = Instr.Compute Or Unsigned d a b
+computing Xor t d a b = Instr.Compute Xor Unsigned d a b
+computing Equal t d a b = Instr.Compute Equal Unsigned d a b
+computing NotEqual t d a b = Instr.Compute NotEqual Unsigned d a b
 computing op t d a b = Instr.Compute op t d a b
 
 -- what a call takes over: the arguments that a parameter's name binds, and then the others
@@ -121,7 +127,7 @@ module _ (code : Code) (registers : ℕ) where
     pub computes : e from mid free ra ta
     pub apart : ra < rz
     pub zeroes : GivenBy None (Instr.Constant rz 0) Int mid (suc mid) free rz Int
-    pub compares : GivenBy home (Instr.Compute Equal Int r ra rz) Int (suc mid) to free r t
+    pub compares : GivenBy home (Instr.Compute Equal Unsigned r ra rz) Int (suc mid) to free r t
 
   pub record BinaryCode (home : Option ℕ) (op : BinaryOp) (a b : Coded) (from to free r : ℕ) (t : Scalar) : Type 0 where
     pub mid : ℕ
