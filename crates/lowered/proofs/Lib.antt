@@ -1,1 +1,8 @@
--- lemmas of the laws
+mod Agreement
+mod Runs
+mod Locals
+mod Expressions
+mod Statements
+mod Turns
+mod Flow
+mod Calls

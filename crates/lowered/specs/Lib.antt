@@ -4,3 +4,5 @@ pub mod Expressions
 pub mod Statements
 -- which code stands for a program
 pub mod Programs
+-- what is proved of it
+pub mod Laws

@@ -151,7 +151,7 @@ module _ (p : Program) (IsPiece : List ℕ → Type 0) (number_piece : (z : ℤ)
     assigned_holds at g None = on_holds g (λ v. assign_holds at v)
     assigned_holds at g (Some op) = changed_holds at g op
 
-    simple_holds : (s : Simple) → Q _ (simple p call s)
+    pub simple_holds : (s : Simple) → Q _ (simple p call s)
     simple_holds (Evaluate e) = then_holds (expr_holds e) (pure_holds Next)
     simple_holds (Assign to op e) = on_holds (spot_holds to) (λ at. then_holds (assigned_holds at (expr_holds e) op) (pure_holds Next))
     simple_holds (Adjust to by) = on_holds (spot_holds to) (λ at. then_holds (changed_holds at (pure_holds int_one) (op_of by)) (pure_holds Next))
@@ -240,6 +240,9 @@ module _ (p : Program) (Q : (A : Type 0) → Action A → Type 0) (kept : IsAlwa
 
   pub each_expr_holds : (e : Expr) → Q Value (expr p (calls p frames) e)
   each_expr_holds = expr_holds p (λ text. Unit {0}) (λ z. tt) (λ format is text c. tt) Q kept (calls p frames) called_holds
+
+  pub each_simple_holds : (s : Simple) → Q End (simple p (calls p frames) s)
+  each_simple_holds = simple_holds p (λ text. Unit {0}) (λ z. tt) (λ format is text c. tt) Q kept (calls p frames) called_holds
 
   pub each_stmt_holds : (st : Stmt) → Q End (stmt p (calls p frames) st)
   each_stmt_holds st = stmt_holds p (λ text. Unit {0}) (λ z. tt) (λ format is text c. tt) Q kept (calls p frames) called_holds st (λ format c text d. tt)

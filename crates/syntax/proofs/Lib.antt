@@ -2,7 +2,6 @@ mod Contexts
 mod Counted
 mod Expressions
 mod Further
-mod Loops
 mod MeaningSteady
 mod Memories
 mod OneTick
@@ -11,7 +10,6 @@ mod RefusedRows
 mod Spelled
 mod Steady
 mod ThreadLaws
-mod Ticks
 mod TotalRows
 mod TypeRows
 mod WordsStay
@@ -22,11 +20,13 @@ pub mod Ends
 pub mod ExactLocals
 pub mod Fits
 pub mod Kept
+pub mod Loops
 pub mod MoreRows
 pub mod OlderLocals
 pub mod Pushes
 pub mod Rows
 pub mod Seen
+pub mod Ticks
 pub mod TypedParts
 pub mod ValueTypes
 pub mod Words

@@ -6,14 +6,15 @@ use Rattle.syntax.specs.declared.numbers.Halt.TheVariants.{Trapped, Wants, Spent
 use Rattle.syntax.specs.Names.{Local}
 use Rattle.syntax.specs.Behaviours.{Memory}
 use Rattle.syntax.specs.Actions.{Context, Outside, Inside, State, Answer, Gives, Stops, state_of, Action, stop, go_on, ◌>>=◌, spend, tick, load_at, store_at, may_print_at, write}
-use Rattle.syntax.specs.Meaning.{End, after_turn, turns, Left, left_by, close_inner, close, enter}
+use Rattle.syntax.specs.Tree.{Program, Simple}
+use Rattle.syntax.specs.Meaning.{simple, calls, End, after_turn, turns, Left, left_by, close_inner, close, enter}
 use Rattle.syntax.specs.Laws.{TicksNeverGrow}
-use Rattle.syntax.proofs.Kept.{IsAlwaysKept, each_expr_holds, each_stmt_holds}
+use Rattle.syntax.proofs.Kept.{IsAlwaysKept, each_expr_holds, each_simple_holds, each_stmt_holds}
 
 record Falls {A : Type 0} (run : Action A) : Type 0 where
   falls : (s : State) → (state_of (run s)).ticks ≤ s.ticks
 
-on_falls : {A B : Type 0} (n : ℕ) (r : Answer A) (rest : A → Action B) → (state_of r).ticks ≤ n → ((a : A) (t : State) → (state_of (rest a t)).ticks ≤ t.ticks) → (state_of (go_on r rest)).ticks ≤ n
+pub on_falls : {A B : Type 0} (n : ℕ) (r : Answer A) (rest : A → Action B) → (state_of r).ticks ≤ n → ((a : A) (t : State) → (state_of (rest a t)).ticks ≤ t.ticks) → (state_of (go_on r rest)).ticks ≤ n
 on_falls n (Gives a t) rest c h = let later = h a t in omega (arith, c, later)
 on_falls n (Stops why t) rest c h = c
 
@@ -89,3 +90,7 @@ falls_kept = record {
 pub ticks_never_grow : TicksNeverGrow
 ticks_never_grow p frames =
     (λ e s. (each_expr_holds p (λ A run. Falls run) falls_kept frames e).falls s, λ st s. (each_stmt_holds p (λ A run. Falls run) falls_kept frames st).falls s)
+
+-- nor does a simple statement
+pub simples_never_grow : (p : Program) (frames : ℕ) (st : Simple) (s : State) → (state_of (simple p (calls p frames) st s)).ticks ≤ s.ticks
+simples_never_grow p frames st s = (each_simple_holds p (λ A run. Falls run) falls_kept frames st).falls s

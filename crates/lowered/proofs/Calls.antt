@@ -1,0 +1,279 @@
+-- The instructions of functions do what calls of them do, and the code means the program.
+use Rattle.std.proofs.Common.{◌≡◌, ℕ, zero, suc, ◌+◌, ◌-◌, ◌<◌, ◌≤◌, ◌^◌, Bool, true, false, List, [], ◌∷◌, ◌++◌, length, Option, Some, None, refl, sym, ap, ◌∙◌, subst, arith}
+use Rattle.std.specs.Prelude.{bytes_eq, codes, slice_get, slice_index, slice_set, map, replicate, if◌then◌else◌, nat_lt, is_some, unwrap_or, option_map}
+use Rattle.std.proofs.lemmas.Slice.Eq.{bytes_eq-Decides}
+use Rattle.std.specs.List.{AllByRecursion}
+use Rattle.std.proofs.lemmas.List.{length-append, length-map, length-replicate, map-append}
+use Rattle.std.proofs.lemmas.Bool.{lt-ltb}
+use Rattle.lex.specs.declared.token.Scalar.{Scalar}
+use Rattle.lex.specs.declared.token.Scalar.TheVariants.{Int, Unsigned}
+use Rattle.syntax.specs.declared.numbers.Trap.TheVariants.{Frames}
+use Rattle.syntax.specs.declared.numbers.Value.{Value}
+use Rattle.syntax.specs.Tree.{Name, Parameter, Function, Stmts, Program}
+use Rattle.syntax.specs.Numbers.{number, word_of, converted, flag}
+use Rattle.syntax.specs.Names.{Local, word_at, definition_of, initial_memory, bounds}
+use Rattle.syntax.specs.Laws.{shape}
+use Rattle.syntax.specs.declared.numbers.Status.TheVariants.{Running}
+use Rattle.syntax.specs.Behaviours.{Memory, IsMemory, Outcome, Ended, Means}
+use Rattle.syntax.specs.Actions.{Outside, Answer, Gives, Action, go_on, ◌>>=◌, ◌>>◌, tick, or_astray, locals, put_locals}
+use Rattle.syntax.specs.Meaning.{End, Next, Breaks, Continues, Returns, Cancels, stmts, entered, result_of, calls}
+use Rattle.syntax.specs.Threads.{outcome_of, first_state, thread}
+use Rattle.bytecode.specs.Effects.{Effect}
+use Rattle.bytecode.specs.Sequential.{start, meaning, sequential_step, outside}
+use Rattle.bytecode.specs.Code.{Code, FunctionCode, Configuration, Frame, Instr, effect, effect_of, called}
+use Rattle.bytecode.specs.Beginning.{worker_among, beginning_in, beginning}
+use Rattle.lowered.specs.Expressions.{LocalScope, At, named_ones, nameless_ones, arranged}
+use Rattle.lowered.specs.Statements.{locals_at_end}
+use Rattle.lowered.specs.Programs.{parameter_locals, no_exits, FunctionIsLowered, IsLowered}
+use Rattle.lowered.proofs.Agreement.{Agrees, NeverAstray, astray, same, fewer, shown, over}
+use Rattle.lowered.proofs.Runs.{Around, Bare, Shared, context_of, holding, state, IsSeen, on_seen, AreWords, IsGood, Holds, configuration, effect_at, goes_by, traps, less, all}
+use Rattle.lowered.proofs.Expressions.{CallsFollow, word_same}
+use Rattle.lowered.proofs.Locals.{length_like}
+use Rattle.lowered.proofs.Flow.{word_in, ArrivedAt, HereAt, MoreAt, TurnsFall, stmts_follow}
+use Rattle.lowered.proofs.Turns.{while_falls, do_falls, for_falls}
+
+-- locals that a call begins with: its arguments, where a parameter's name binds them
+record Entered (qs : List Parameter) (vs : List Value) (ls : List Local) : Type 0 where
+  count : length vs ≡ length qs
+  shapes : map shape ls ≡ map shape (parameter_locals qs)
+  words : map (λ (l : Local). l.word) ls ≡ named_ones qs (map (λ (v : Value). v.word) vs)
+
+abbrev EnteredSo : List Parameter → List Value → Option (List Local) → Type 0
+EnteredSo qs vs None = Unit {0}
+EnteredSo qs vs (Some ls) = Entered qs vs ls
+
+first_entered : (q : Parameter) (n : Option Name) (qs : List Parameter) (v : Value) (vs : List Value) (o : Option (List Local)) → q.name ≡ n → v.word < 2 ^ 32 → EnteredSo qs vs o → EnteredSo (q ∷ qs) (v ∷ vs) (option_map (λ ls. unwrap_or (option_map (λ (x : Name). record { name = x.text; of = q.of; word = (converted q.of v).word } ∷ []) n) [] ++ ls) o)
+first_entered q n qs v vs None e b h = tt
+first_entered q None qs v vs (Some ls) e b h =
+    let ws : List ℕ = map (λ (v : Value). v.word) vs in
+    record {
+      count = ap suc h.count;
+      shapes = h.shapes ∙ ap (λ (n : Option Name). map shape (unwrap_or (option_map (λ (x : Name). record { name = x.text; of = q.of; word = 0 } ∷ []) n) [] ++ parameter_locals qs)) (sym e);
+      words = h.words ∙ ap (λ (n : Option Name). if is_some n then v.word ∷ named_ones qs ws else named_ones qs ws) (sym e);
+    }
+first_entered q (Some x) qs v vs (Some ls) e b h =
+    let ws : List ℕ = map (λ (v : Value). v.word) vs in
+    record {
+      count = ap suc h.count;
+      shapes = ap (λ (s : List (List ℕ × Scalar)). (x.text, q.of) ∷ s) h.shapes ∙ ap (λ (n : Option Name). map shape (unwrap_or (option_map (λ (x : Name). record { name = x.text; of = q.of; word = 0 } ∷ []) n) [] ++ parameter_locals qs)) (sym e);
+      words = ap (λ w. w ∷ map (λ (l : Local). l.word) ls) (word_same v.of v.word b) ∙ ap (λ us. v.word ∷ us) h.words ∙ ap (λ (n : Option Name). if is_some n then v.word ∷ named_ones qs ws else named_ones qs ws) (sym e);
+    }
+
+all_entered : (qs : List Parameter) (vs : List Value) → AllByRecursion (λ (v : Value). v.word < 2 ^ 32) vs → EnteredSo qs vs (entered qs vs)
+all_entered [] [] b = record { count = refl; shapes = refl; words = refl }
+all_entered [] (v ∷ vs) b = tt
+all_entered (q ∷ qs) [] b = tt
+all_entered (q ∷ qs) (v ∷ vs) b = first_entered q q.name qs v vs (entered qs vs) refl b.0 (all_entered qs vs b.1)
+
+-- what is arranged: each once, whatever it is taken to
+mapped_or : (b : Bool) (f : ℕ → ℕ) (r : ℕ) (xs : List ℕ) → map f (if b then r ∷ xs else xs) ≡ (if b then f r ∷ map f xs else map f xs)
+mapped_or true f r xs = refl
+mapped_or false f r xs = refl
+
+mapped_else : (b : Bool) (f : ℕ → ℕ) (r : ℕ) (xs : List ℕ) → map f (if b then xs else r ∷ xs) ≡ (if b then map f xs else f r ∷ map f xs)
+mapped_else true f r xs = refl
+mapped_else false f r xs = refl
+
+named_mapped : (f : ℕ → ℕ) (qs : List Parameter) (rs : List ℕ) → map f (named_ones qs rs) ≡ named_ones qs (map f rs)
+named_mapped f [] rs = refl
+named_mapped f (q ∷ qs) [] = refl
+named_mapped f (q ∷ qs) (r ∷ rs) = mapped_or (is_some q.name) f r (named_ones qs rs) ∙ ap (λ xs. if is_some q.name then f r ∷ xs else xs) (named_mapped f qs rs)
+
+nameless_mapped : (f : ℕ → ℕ) (qs : List Parameter) (rs : List ℕ) → map f (nameless_ones qs rs) ≡ nameless_ones qs (map f rs)
+nameless_mapped f [] rs = refl
+nameless_mapped f (q ∷ qs) [] = refl
+nameless_mapped f (q ∷ qs) (r ∷ rs) = mapped_else (is_some q.name) f r (nameless_ones qs rs) ∙ ap (λ xs. if is_some q.name then xs else f r ∷ xs) (nameless_mapped f qs rs)
+
+arranged_mapped : (f : ℕ → ℕ) (qs : List Parameter) (rs : List ℕ) → map f (arranged qs rs) ≡ arranged qs (map f rs)
+arranged_mapped f qs rs = map-append f (named_ones qs rs) (nameless_ones qs rs) ∙ ap (λ xs. xs ++ map f (nameless_ones qs rs)) (named_mapped f qs rs) ∙ ap (λ xs. named_ones qs (map f rs) ++ xs) (nameless_mapped f qs rs)
+
+length_one : (b : Bool) (r k m : ℕ) (xs ys : List ℕ) → length xs + length ys ≡ k → length (if b then r ∷ xs else xs) + length (if b then ys else r ∷ ys) ≡ suc k
+length_one true r k m xs ys e = omega (arith, e)
+length_one false r k m xs ys e = omega (arith, e)
+
+length_parts : (qs : List Parameter) (rs : List ℕ) → length rs ≡ length qs → length (named_ones qs rs) + length (nameless_ones qs rs) ≡ length qs
+length_parts [] [] e = refl
+length_parts [] (r ∷ rs) e = absurd (omega (arith, e))
+length_parts (q ∷ qs) [] e = absurd (omega (arith, e))
+length_parts (q ∷ qs) (r ∷ rs) e = length_one (is_some q.name) r (length qs) 0 (named_ones qs rs) (nameless_ones qs rs) (length_parts qs rs (omega (arith, e)))
+
+length_arranged : (qs : List Parameter) (rs : List ℕ) → length rs ≡ length qs → length (arranged qs rs) ≡ length qs
+length_arranged qs rs e = length-append (named_ones qs rs) (nameless_ones qs rs) ∙ length_parts qs rs e
+
+one_of : (b : Bool) (w : ℕ) → (if b then w ∷ [] else []) ++ (if b then [] else w ∷ []) ≡ w ∷ []
+one_of true w = refl
+one_of false w = refl
+
+one_arranged : (qs : List Parameter) (w : ℕ) → 1 ≡ length qs → arranged qs (w ∷ []) ≡ w ∷ []
+one_arranged [] w e = absurd (omega (arith, e))
+one_arranged (q ∷ []) w e = one_of (is_some q.name) w
+one_arranged (q ∷ r ∷ qs) w e = absurd (omega (arith, e))
+
+word_listed : (ls : List Local) (i : ℕ) → word_at ls i ≡ slice_index (map (λ (l : Local). l.word) ls) i
+word_listed [] i = refl
+word_listed (l ∷ ls) zero = refl
+word_listed (l ∷ ls) (suc i) = word_listed ls i
+
+front_index : (xs ys : List ℕ) (i : ℕ) → i < length xs → slice_index (xs ++ ys) i ≡ slice_index xs i
+front_index [] ys i h = absurd (omega (arith, h))
+front_index (x ∷ xs) ys zero h = refl
+front_index (x ∷ xs) ys (suc i) h = front_index xs ys i (omega (arith, h))
+
+named_below_one : (b : Bool) (r i : ℕ) (xs : List ℕ) → r < 2 ^ 32 → ((j : ℕ) → slice_index xs j < 2 ^ 32) → slice_index (if b then r ∷ xs else xs) i < 2 ^ 32
+named_below_one true r zero xs b h = b
+named_below_one true r (suc i) xs b h = h i
+named_below_one false r i xs b h = h i
+
+named_below : (qs : List Parameter) (vs : List Value) (i : ℕ) → AllByRecursion (λ (v : Value). v.word < 2 ^ 32) vs → slice_index (named_ones qs (map (λ (v : Value). v.word) vs)) i < 2 ^ 32
+named_below [] vs i b = omega arith
+named_below (q ∷ qs) [] i b = omega arith
+named_below (q ∷ qs) (v ∷ vs) i b = named_below_one (is_some q.name) v.word i (named_ones qs (map (λ (v : Value). v.word) vs)) b.0 (λ j. named_below qs vs j b.1)
+
+-- the registers that a function begins with
+abbrev first_registers : FunctionCode → List ℕ → List ℕ
+first_registers g words = words ++ replicate (g.registers - g.parameters) 0
+
+entered_holds : (g : FunctionCode) (qs : List Parameter) (vs : List Value) (ls : List Local) → Entered qs vs ls → AllByRecursion (λ (v : Value). v.word < 2 ^ 32) vs → g.parameters ≡ length qs → length qs ≤ g.registers → Holds (parameter_locals qs) ls g.registers (length (parameter_locals qs)) (first_registers g (arranged qs (map (λ (v : Value). v.word) vs)))
+entered_holds g qs vs ls h b n fits =
+    let ws : List ℕ = map (λ (v : Value). v.word) vs in
+    let zeros : List ℕ = replicate (g.registers - g.parameters) 0 in
+    let len : length ls ≡ length (parameter_locals qs) = length_like (parameter_locals qs) ls h.shapes in
+    let len2 : length ws ≡ length qs = length-map vs (λ (v : Value). v.word) ∙ h.count in
+    let len3 : length ls ≡ length (named_ones qs ws) = sym (length-map ls (λ (l : Local). l.word)) ∙ ap length h.words in
+    let parts : length (named_ones qs ws) + length (nameless_ones qs ws) ≡ length qs = length_parts qs ws len2 in
+    let whole : length (arranged qs ws) ≡ length qs = length_arranged qs ws len2 in
+    let len4 : length (arranged qs ws ++ zeros) ≡ length (arranged qs ws) + length zeros = length-append (arranged qs ws) zeros in
+    let len5 : length zeros ≡ g.registers - g.parameters = length-replicate (g.registers - g.parameters) 0 in
+    record {
+      like = h.shapes;
+      room = omega (arith, len);
+      fits = omega (arith, len3, parts, fits);
+      size_is = omega (arith, len4, len5, whole, n, fits);
+      each = λ i l. front_index (arranged qs ws) zeros i (omega (arith, l, len3, parts, whole)) ∙ front_index (named_ones qs ws) (nameless_ones qs ws) i (omega (arith, l, len3)) ∙ ap (λ us. slice_index us i) (sym h.words) ∙ sym (word_listed ls i);
+      words = λ i. subst (λ w. w < 2 ^ 32) (sym (word_listed ls i ∙ ap (λ us. slice_index us i) h.words)) (named_below qs vs i b);
+    }
+
+-- the function of worker's name
+worker_one : (b : Bool) (f : FunctionCode) (fs : List FunctionCode) (g : FunctionCode) → bytes_eq f.name (codes "worker") ≡ b → (if b then Some f else worker_among fs) ≡ Some g → ((e : worker_among fs ≡ Some g) → (i : ℕ) × (slice_get fs i ≡ Some g) × (g.name ≡ codes "worker")) → (i : ℕ) × (slice_get (f ∷ fs) i ≡ Some g) × (g.name ≡ codes "worker")
+worker_one true f fs g e h more = (0, h, ap (λ (o : Option FunctionCode). unwrap_or (option_map (λ (k : FunctionCode). k.name) o) []) (sym h) ∙ (bytes_eq-Decides f.name (codes "worker")).0 e)
+worker_one false f fs g e h more = let m = more h in (suc m.0, m.1, m.2)
+
+is_nothing : Option FunctionCode → Type 0
+is_nothing None = Unit {0}
+is_nothing (Some f) = ⊥
+
+worker_known : (fs : List FunctionCode) (g : FunctionCode) → worker_among fs ≡ Some g → (i : ℕ) × (slice_get fs i ≡ Some g) × (g.name ≡ codes "worker")
+unfolding is_nothing
+worker_known [] g e = absurd (subst is_nothing e tt)
+worker_known (f ∷ fs) g e = worker_one (bytes_eq f.name (codes "worker")) f fs g refl e (worker_known fs g)
+
+module _ (p : Program) (code : Code) where
+  -- turns gain no ticks
+  turns_fall : (k : ℕ) (size : ℕ) (frames : List Frame) (cf : CallsFollow p (calls p k) code size frames) → TurnsFall p (calls p k) code size frames cf
+  turns_fall k size frames cf = record { while_falls = while_falls p k; do_falls = do_falls p k; for_falls = for_falls p k }
+
+  -- a function's body, up to its return
+  abbrev GoesReturn : ℕ → ℕ → (a : Around) → (Answer Value → Outcome) → List Local → List Frame → Option Scalar → Type 0
+  GoesReturn N K a after ls frames u =
+      (v : Value) (sh : Shared) (text : List ℕ) (rs : List ℕ) (q : ℕ) (r : Option ℕ) → At code q (Instr.Return r) → word_in r rs ≡ v.word → v.of ≡ unwrap_or u Int → v.word < 2 ^ 32 → IsGood a sh →
+      Agrees (effect code) N K (holding a sh text (configuration code q rs frames)) (λ n. after (Gives v (state n ls (context_of a sh) text)))
+
+  -- what follows a body
+  abbrev leaving : List Local → Option Scalar → End → Action Value
+  leaving outer u end = put_locals outer >> result_of u end
+
+  body_ends : (N K : ℕ) (size : ℕ) (a : Around) (ls : List Local) (frames : List Frame) (u : Option Scalar) (after : Answer Value → Outcome) (scope later : LocalScope) (last : ℕ) → At code last (Instr.Return None) → IsSeen a after → GoesReturn N K a after ls frames u →
+      (end : End) (sh : Shared) (text : List ℕ) (ls1 : List Local) (rs : List ℕ) (q : ℕ) → IsGood a sh → ArrivedAt p code size no_exits (HereAt p code size later) (MoreAt p code size scope) last end q ls1 rs →
+      Agrees (effect code) N K (holding a sh text (configuration code q rs frames)) (λ n. after (go_on (Gives end (state n ls1 (context_of a sh) text)) (leaving ls u)))
+  body_ends N K size a ls frames u after scope later last i s go Next sh text ls1 rs q good arrived =
+      go (converted (unwrap_or u Int) (flag false)) sh text rs q None (subst (λ y. At code y (Instr.Return None)) (sym arrived.0) i) refl refl (omega arith) good
+  body_ends N K size a ls frames u after scope later last i s go Breaks sh text ls1 rs q good arrived = astray (effect code) 0 (s.astray _)
+  body_ends N K size a ls frames u after scope later last i s go Continues sh text ls1 rs q good arrived = astray (effect code) 0 (s.astray _)
+  body_ends N K size a ls frames u after scope later last i s go (Returns v) sh text ls1 rs q good arrived =
+      let same_word : word_of (number v.of v.word) ≡ v.word = word_same v.of v.word arrived.3 in
+      go (converted (unwrap_or u Int) v) sh text rs q arrived.0 arrived.1 (arrived.2 ∙ sym same_word) refl (subst (λ w. w < 2 ^ 32) (sym same_word) arrived.3) good
+  body_ends N K size a ls frames u after scope later last i s go Cancels sh text ls1 rs q good arrived = astray (effect code) 0 (s.astray _)
+
+  body_follows : (k : ℕ) (frames : List Frame) (g : FunctionCode) (f : Function) (body : Stmts) → CallsFollow p (calls p k) code g.registers frames → FunctionIsLowered p code g f body → (N K : ℕ) (vs : List Value) (rs : List ℕ) (o : Option (List Local)) → EnteredSo f.parameters vs o → (length vs ≡ length f.parameters → rs ≡ first_registers g (arranged f.parameters (map (λ (v : Value). v.word) vs))) → AllByRecursion (λ (v : Value). v.word < 2 ^ 32) vs → (a : Around) (sh : Shared) (text : List ℕ) (ls : List Local) (after : Answer Value → Outcome) → IsGood a sh → IsSeen a after → GoesReturn N K a after ls frames f.result → Agrees (effect code) N K (holding a sh text (configuration code g.first rs frames)) (λ n. after (go_on (or_astray o (state n ls (context_of a sh) text)) (λ mine. locals >>= λ outer. put_locals mine >> (stmts p (calls p k) body >>= leaving outer f.result))))
+  body_follows k frames g f body cf c N K vs rs None h e b a sh text ls after good s go = astray (effect code) 0 (s.astray _)
+  body_follows k frames g f body cf c N K vs rs (Some mine) h e b a sh text ls after good s go =
+      stmts_follow p (calls p k) code g.registers frames cf (turns_fall k g.registers frames cf) body N K no_exits (parameter_locals f.parameters) g.first c.last a sh text mine rs (λ q. after (go_on q (leaving ls f.result))) c.runs
+      (subst (λ xs. Holds (parameter_locals f.parameters) mine g.registers (length (parameter_locals f.parameters)) xs) (sym (e h.count)) (entered_holds g f.parameters vs mine h b c.parameters c.fits)) good (on_seen a after (leaving ls f.result) s)
+      (body_ends N K g.registers a ls frames f.result after (parameter_locals f.parameters) (locals_at_end body (parameter_locals f.parameters)) c.last c.returns s go)
+
+  -- calls, with so many further frames to come
+  enters_frame : (frames : List Frame) (q d : ℕ) (rs : List ℕ) (args : List ℕ) (g : FunctionCode) (i : Instr) → length frames < 63 → effect_of code (configuration code q rs frames) (Some i) ≡ called (configuration code q rs frames) d args (Some g) → At code q i → effect code (configuration code q rs frames) ≡ Effect.Pure (configuration code g.first (first_registers g (map (slice_index rs) args)) (record { place = suc q; result = d; registers = rs } ∷ frames))
+  enters_frame frames q d rs args g i b e at =
+      effect_at code q i rs frames at ∙ e
+      ∙ ap (λ x. if x then Effect.Pure (configuration code g.first (first_registers g (map (slice_index rs) args)) (record { place = suc q; result = d; registers = rs } ∷ frames)) else Effect.Traps Frames) (lt-ltb (length frames) 63 b)
+
+  returns_word : (q d : ℕ) (rs : List ℕ) (frames : List Frame) (r : Option ℕ) (rs1 : List ℕ) (q1 w : ℕ) → word_in r rs1 ≡ w → effect_of code (configuration code q1 rs1 (record { place = suc q; result = d; registers = rs } ∷ frames)) (Some (Instr.Return r)) ≡ Effect.Pure (configuration code (suc q) (slice_set rs d w) frames)
+  returns_word q d rs frames None rs1 q1 w e = ap (λ w. Effect.Pure (configuration code (suc q) (slice_set rs d w) frames)) e
+  returns_word q d rs frames (Some r) rs1 q1 w e = ap (λ w. Effect.Pure (configuration code (suc q) (slice_set rs d w) frames)) e
+
+  module _ (lowered : IsLowered p code) where
+    calls_follow : (k : ℕ) (frames : List Frame) (size : ℕ) → k + length frames ≡ 63 → CallsFollow p (calls p k) code size frames
+    calls_follow zero frames size deep N K x vs number q d args g f body a sh text ls rs after at known named defined words below good s go =
+        let full : length frames ≡ 63 = omega (arith, deep) in
+        traps code a after sh ls text (configuration code q rs frames) Frames s
+        (effect_at code q (Instr.Call number d (arranged f.parameters args)) rs frames at ∙ ap (called (configuration code q rs frames) d (arranged f.parameters args)) known
+        ∙ ap (λ n. if nat_lt n 63 then Effect.Pure (configuration code g.first (first_registers g (map (slice_index rs) (arranged f.parameters args))) (record { place = suc q; result = d; registers = rs } ∷ frames)) else Effect.Traps Frames) full)
+    calls_follow (suc k) frames size deep N K x vs number q d args g f body a sh text ls rs after at known named defined words below good s go =
+        let inner : List Frame = record { place = suc q; result = d; registers = rs } ∷ frames in
+        let here : definition_of p g.name ≡ Some (f, body) = ap (definition_of p) named ∙ defined in
+        goes_by code a sh text (configuration code q rs frames) (configuration code g.first (first_registers g (map (slice_index rs) (arranged f.parameters args))) inner)
+        (enters_frame frames q d rs (arranged f.parameters args) g (Instr.Call number d (arranged f.parameters args)) (omega (arith, deep)) (ap (called (configuration code q rs frames) d (arranged f.parameters args)) known) at)
+        (same (effect code) (λ n. after (go_on (or_astray (entered f.parameters vs) (state n ls (context_of a sh) text)) (λ mine. locals >>= λ outer. put_locals mine >> (stmts p (calls p k) body >>= leaving outer f.result))))
+        (λ n. ap (λ o. after (go_on (or_astray o (state n ls (context_of a sh) text)) (λ f. or_astray (entered f.0.parameters vs) >>= λ mine. locals >>= λ outer. put_locals mine >> (stmts p (calls p k) f.1 >>= λ end. put_locals outer >> result_of f.0.result end)))) defined)
+        (body_follows k inner g f body (calls_follow k inner g.registers (omega (arith, deep))) (lowered.each number g f body known here) N K vs (first_registers g (map (slice_index rs) (arranged f.parameters args))) (entered f.parameters vs) (all_entered f.parameters vs below) (λ count. ap (first_registers g) (arranged_mapped (slice_index rs) f.parameters args ∙ ap (arranged f.parameters) words)) below a sh text ls after good s
+        (λ v sh1 text1 rs1 q1 r at1 word of_v below_v good1.
+        goes_by code a sh1 text1 (configuration code q1 rs1 inner) (configuration code (suc q) (slice_set rs d v.word) frames)
+        (effect_at code q1 (Instr.Return r) rs1 inner at1 ∙ returns_word q d rs frames r rs1 q1 v.word word)
+        (go v sh1 text1 of_v below_v good1))))
+
+    -- the worker's return ends the thread: its tick and the instruction are one
+    ends : {N K : ℕ} (c : Configuration) (founds lefts : List Memory) (text : List ℕ) (ls : List Local) (memory : Memory) (kept : Bool) → effect code c ≡ Effect.End → Agrees (effect code) N K (holding Bare (record { founds = founds; lefts = lefts; memory = memory; kept = kept }) text c) (λ n. outcome_of (tick (state n ls (Outside founds lefts) text)))
+    ends {N = N} {K = K} c founds lefts text ls memory kept e =
+        fewer (effect code) (less code N) (less code K)
+        (shown (effect code) (λ n. record { lefts = lefts; text = text; end = Ended }) (ap (λ x. sequential_step (outside c founds lefts text Running) false Running None x) e) refl (λ n. refl)
+        (over (effect code) refl (λ n. refl)))
+
+    returns_end : (r : Option ℕ) (rs : List ℕ) (q : ℕ) → effect_of code (configuration code q rs []) (Some (Instr.Return r)) ≡ Effect.End
+    returns_end r rs q = refl
+
+    worker_started : (N K t : ℕ) (founds : List Memory) (o : Option (Function × Stmts)) → definition_of p (codes "worker") ≡ o → t < 2 ^ 32 → AllByRecursion AreWords founds → Agrees (effect code) N K (start (beginning_in (Some lowered.worker) t) founds) (λ n. outcome_of (go_on (go_on (or_astray o (first_state founds n)) (λ f. or_astray (entered f.0.parameters (record { of = Unsigned; word = t } ∷ [])) >>= λ mine. locals >>= λ outer. put_locals mine >> (stmts p (calls p 63) f.1 >>= λ end. put_locals outer >> result_of f.0.result end))) (λ v. tick)))
+    worker_started N K t founds None e below good = astray (effect code) 0 refl
+    worker_started N K t founds (Some d) e below good =
+        let g : FunctionCode = lowered.worker in
+        let w = worker_known code.functions g lowered.has_worker in
+        let vs : List Value = record { of = Unsigned; word = t } ∷ [] in
+        let after : Answer Value → Outcome = λ q. outcome_of (go_on q (λ v. tick)) in
+        let sh : Shared = record { founds = founds; lefts = []; memory = []; kept = false } in
+        let here : definition_of p g.name ≡ Some (d.0, d.1) = ap (definition_of p) w.2 ∙ e in
+        body_follows 63 [] g d.0 d.1 (calls_follow 63 [] g.registers (omega arith)) (lowered.each w.0 g d.0 d.1 w.1 here) N K vs (first_registers g (t ∷ [])) (entered d.0.parameters vs) (all_entered d.0.parameters vs (below, tt))
+        (λ count. ap (first_registers g) (sym (one_arranged d.0.parameters t count))) (below, tt) Bare sh [] [] after good
+        (record { spent = λ t. refl; wants = λ t. refl; trapped = λ k t. refl; astray = λ t. refl })
+        (λ v sh1 text1 rs1 q r at word of_v below_v good1. ends (configuration code q rs1 []) sh1.founds sh1.lefts text1 [] sh1.memory sh1.kept (effect_at code q (Instr.Return r) rs1 [] at ∙ returns_end r rs1 q))
+
+    worker_follows : (N K t : ℕ) (founds : List Memory) → t < 2 ^ 32 → AllByRecursion AreWords founds → Agrees (effect code) N K (start (beginning code t) founds) (λ n. thread p t founds n)
+    worker_follows N K t founds below good =
+        subst (λ o. Agrees (effect code) N K (start (beginning_in o t) founds) (λ n. thread p t founds n)) (sym lowered.has_worker)
+        (worker_started N K t founds (definition_of p (codes "worker")) refl below good)
+
+    words_of : (cells : ℕ) (m : Memory) → IsMemory (replicate cells (2 ^ 32)) m → AreWords m
+    words_of zero [] b i = omega arith
+    words_of zero (w ∷ m) b i = absurd b
+    words_of (suc n) [] b i = omega arith
+    words_of (suc n) (w ∷ m) b zero = b.0
+    words_of (suc n) (w ∷ m) b (suc i) = words_of n m b.1 i
+
+    all_words : (cells : ℕ) (ms : List Memory) → AllByRecursion (IsMemory (replicate cells (2 ^ 32))) ms → AllByRecursion AreWords ms
+    all_words cells [] b = tt
+    all_words cells (m ∷ ms) b = (words_of cells m b.0, all_words cells ms b.1)
+
+    -- the code means the program, in both directions
+    pub means : ((t : ℕ) (founds : List Memory) → t < 2 ^ 32 → AllByRecursion (IsMemory (bounds p)) founds → NeverAstray (λ n. thread p t founds n)) → Means (bounds p) (meaning (effect code) (beginning code)) (thread p)
+    means never = record {
+      there = λ t founds below memories n. (worker_follows n 0 t founds below (all_words (length (initial_memory p)) founds memories) (never t founds below memories)).there n (all code n);
+      back = λ t founds below memories k. (worker_follows 0 k t founds below (all_words (length (initial_memory p)) founds memories) (never t founds below memories)).back k (all code k);
+    }

@@ -1,0 +1,5 @@
+use Rattle.lowered.proofs.Calls.{means}
+use Rattle.lowered.proofs.laws.lowered_code_means.Goals as goal
+
+pub returns : goal.returns
+returns c = λ p code l never. means p code l never
