@@ -5,4 +5,5 @@ mod Expressions
 mod Statements
 mod Turns
 mod Flow
-mod Calls
+pub mod Calls
+mod Sample
