@@ -3,13 +3,15 @@ use Rattle.std.specs.Prelude.{◌≡◌, ◌≢◌, ◌<◌, ◌^◌, ℕ, List}
 use Rattle.std.specs.List.{AllByRecursion}
 use Rattle.syntax.specs.declared.numbers.Halt.TheVariants.{Astray}
 use Rattle.syntax.specs.Tree.{Program}
-use Rattle.syntax.specs.Names.{bounds}
+use Rattle.syntax.specs.Names.{initial_memory, bounds}
 use Rattle.syntax.specs.Behaviours.{Memory, IsMemory, Stopped, Means}
 use Rattle.syntax.specs.Threads.{thread}
+use Rattle.separation.specs.Touching.{IsAccepted}
 use Rattle.bytecode.specs.Sequential.{meaning}
 use Rattle.bytecode.specs.Code.{Code, effect}
 use Rattle.bytecode.specs.Beginning.{beginning}
-use Rattle.bytecode.specs.Valid.{bounds_of}
+use Rattle.bytecode.specs.Valid.{bounds_of, IsValid}
+use Rattle.bytecode.specs.Effects.{FitsCells}
 use Rattle.lowered.specs.Programs.{IsLowered}
 
 -- no thread that finds memories of the program comes where nothing is said of it
@@ -29,3 +31,16 @@ LoweredCodeMeans = (p : Program) (code : Code) → IsLowered p code → NeverGoe
 -- its cells are the program's
 abbrev pub LoweredCodeHasItsCells : Type 0
 LoweredCodeHasItsCells = (p : Program) (code : Code) → IsLowered p code → bounds_of code ≡ bounds p
+
+-- no thread of an accepted program goes astray
+abbrev pub AcceptedCodeMeans : Type 0
+AcceptedCodeMeans = (p : Program) (code : Code) → IsAccepted p → IsLowered p code → MeansItsProgram p code
+
+-- what the machine's theorems ask of a code, of the first memory and of a program
+pub record MeetsMachine (p : Program) (code : Code) : Type 0 where
+  pub fits : FitsCells (effect code) (bounds p)
+  pub starts : IsMemory (bounds p) (initial_memory p)
+  pub means : MeansItsProgram p code
+
+abbrev pub AcceptedCodeMeetsMachine : Type 0
+AcceptedCodeMeetsMachine = (p : Program) (code : Code) → IsAccepted p → IsLowered p code → IsValid code → MeetsMachine p code
