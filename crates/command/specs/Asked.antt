@@ -1,0 +1,98 @@
+-- What words ask.
+use Rattle.std.specs.Prelude.{◌≡◌, ◌≢◌, ◌⊎◌, ◌↔◌, ◌≤◌, ℕ, IsTrue, List, [], ◌∷◌, Option, Some, None, codes, option_map, unwrap_or, string_bytes}
+use Rattle.std.specs.List.{join_with_byte}
+use Rattle.std.specs.Str.Parse.{IsNumeral, digits_value, without_leading_plus}
+use Rattle.clap.specs.Words.{IsAmong, Kinds, Row, Text, fault_of, first_of, one_of, subcommand_of}
+use Rattle.clap.specs.declared.error.kind.ErrorKind.{ErrorKind}
+use Rattle.clap.specs.declared.error.kind.ErrorKind.TheVariants.{DisplayHelp, DisplayVersion}
+use Rattle.command.specs.declared.request.Request.{Request}
+use Rattle.command.specs.declared.request.Request.TheVariants.{Program, Explain}
+use Rattle.command.specs.declared.request.Task.{Task}
+use Rattle.command.specs.declared.request.Task.TheVariants.{Check, Listing, Run, Replay, Source}
+use Rattle.command.specs.declared.request.Steps.{Steps}
+use Rattle.command.specs.declared.request.Steps.TheVariants.{Schedule, Seed}
+use Rattle.command.specs.declared.request.UsageFault.{UsageFault}
+use Rattle.command.specs.declared.request.UsageFault.TheVariants.{OutOfMemory, Help, Wrong}
+use Rattle.command.specs.Line.{program_app}
+
+-- the number that a text says, where a plus may stand first
+abbrev pub number_said : Text → ℕ
+number_said text = digits_value 10 (without_leading_plus text)
+
+-- the number that is given for an argument, where there is one
+abbrev pub number_in : List Row → Text → Option ℕ
+number_in given id = option_map number_said (one_of id given)
+
+-- the number that is given for an argument, or else the default one, in its range
+pub record IsNumber (given : List Row) (id : Text) (default least most n : ℕ) : Type 0 where
+  pub said : n ≡ unwrap_or (number_in given id) default
+  pub not_below : least ≤ n
+  pub not_above : n ≤ most
+
+-- a thread's number, in decimal digits alone
+abbrev pub IsThread : Text → ℕ → Type 0
+IsThread text n = IsNumeral 10 text × (digits_value 10 text ≡ n)
+
+-- pieces that are threads' numbers
+abbrev pub AreThreads : List Text → List ℕ → Type 0
+AreThreads [] [] = Unit {0}
+AreThreads (piece ∷ pieces) (n ∷ ns) = IsThread piece n × AreThreads pieces ns
+AreThreads _ _ = ⊥
+
+-- thread numbers joined by commas, or no text
+abbrev pub IsOrder : Text → List ℕ → Type 0
+IsOrder text order = ((text ≡ []) × (order ≡ []))
+    ⊎ ((pieces : List Text) × (join_with_byte 44 pieces ≡ text) × AreThreads pieces order)
+
+-- either a schedule or a seed, and not both
+abbrev pub AreSteps : List Row → Steps → Type 0
+AreSteps given (Schedule file) =
+    (first_of (codes "schedule") given ≡ Some (string_bytes file)) × (number_in given (codes "seed") ≡ None)
+AreSteps given (Seed seed count) =
+    (first_of (codes "schedule") given ≡ None) × (number_in given (codes "seed") ≡ Some seed)
+    × IsNumber given (codes "steps") 100000 0 1048576 count
+
+-- 1 to 64 threads
+abbrev pub AreThreadsGiven : List Row → ℕ → Type 0
+AreThreadsGiven given n = IsNumber given (codes "threads") 1 1 64 n
+
+-- an order of threads
+pub record IsOrderGiven (given : List Row) (order : List ℕ) : Type 0 where
+  pub text : Text
+  pub said : first_of (codes "order") given ≡ Some text
+  pub listed : IsOrder text order
+
+-- what is done with a program
+
+abbrev pub IsTask : Text → List Row → Task → Type 0
+IsTask name given Check = name ≡ codes "check"
+IsTask name given Listing = name ≡ codes "listing"
+IsTask name given (Run threads budget) = (name ≡ codes "run") × AreThreadsGiven given threads
+    × IsNumber given (codes "budget") 4294967295 0 4294967295 budget
+IsTask name given (Replay threads steps) = (name ≡ codes "replay") × AreThreadsGiven given threads × AreSteps given steps
+IsTask name given (Source threads order ticks) = (name ≡ codes "source") × AreThreadsGiven given threads
+    × IsOrderGiven given order.items
+    × IsNumber given (codes "ticks") 100000 0 1000000 ticks
+
+-- a command and what is given for its arguments make this request
+abbrev pub IsRequest : Text → List Row → Request → Type 0
+IsRequest name given (Program file verbose task) = (first_of (codes "FILE") given ≡ Some (string_bytes file))
+    × (IsTrue verbose ↔ (first_of (codes "verbose") given ≡ Some (codes "true"))) × IsTask name given task
+IsRequest name given (Explain number) =
+    (name ≡ codes "explain") × (number_in given (codes "NN") ≡ Some number)
+
+-- the words are those of a command, and make this request
+pub record Asks (words : List Text) (request : Request) : Type 0 where
+  pub taken : fault_of program_app words ≡ []
+  pub name : Text
+  pub given : List Row
+  pub command : subcommand_of program_app words ≡ Some (name, given)
+  pub made : IsRequest name given request
+
+-- what a fault says of words: help comes where it is asked for, and words are wrong where the command line has not got
+-- them, or where it has and the program's own tests refuse them; want of memory says nothing
+abbrev pub Refuses : Kinds → UsageFault → Type 0
+Refuses kinds OutOfMemory = Unit {0}
+Refuses kinds (Help text) = IsAmong DisplayHelp kinds ⊎ IsAmong DisplayVersion kinds
+Refuses kinds (Wrong text) =
+    (kinds ≡ []) ⊎ ((kind : ErrorKind) × IsAmong kind kinds × (kind ≢ DisplayHelp) × (kind ≢ DisplayVersion))

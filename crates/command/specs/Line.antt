@@ -1,0 +1,52 @@
+-- The command line of the program: its commands, and what each takes.
+use Rattle.std.specs.Prelude.{Some, true, codes, pos}
+use Rattle.clap.specs.Words.{App, Rule, Text, new_app, new_rule, with_rule, with_subcommand}
+use Rattle.clap.specs.declared.builder.ArgAction.TheVariants.{Set, SetTrue}
+use Rattle.clap.specs.declared.builder.value_parser.ValueParser.TheVariants.{Signed}
+
+-- the file with the program
+abbrev pub file_rule : Rule
+file_rule = record (new_rule (codes "FILE")) { required = true; action = Some Set }
+
+-- `--verbose`
+abbrev pub verbose_rule : Rule
+verbose_rule = record (new_rule (codes "verbose")) { long = Some (codes "verbose"); action = Some SetTrue }
+
+-- an option of this name with a value
+abbrev pub text_rule : Text → Rule
+text_rule name = record (new_rule name) { long = Some name; action = Some Set; value_names = 1 }
+
+-- an option of this name with a number below 2 ^ 32
+abbrev pub number_rule : Text → Rule
+number_rule name = record (text_rule name) { parser = Some (Signed (pos 0) (pos 4294967295)) }
+
+-- the number of a fault
+abbrev pub fault_rule : Rule
+fault_rule = record (new_rule (codes "NN")) {
+  required = true;
+  action = Some Set;
+  parser = Some (Signed (pos 0) (pos 4294967295));
+}
+
+-- a command over a file
+abbrev pub file_app : Text → App
+file_app name = with_rule (with_rule (new_app name) file_rule) verbose_rule
+
+abbrev pub check_app : App
+check_app = file_app (codes "check")
+
+abbrev pub run_app : App
+run_app = file_app (codes "run")
+
+abbrev pub explain_app : App
+explain_app = with_rule (new_app (codes "explain")) fault_rule
+
+-- the program, which wants a command
+abbrev pub commandless_app : App
+commandless_app =
+    let program = new_app (codes "txc") in
+    record program { top = record program.top { has_version = true; subcommand_required = true } }
+
+abbrev pub program_app : App
+program_app =
+    with_subcommand (with_subcommand (with_subcommand commandless_app check_app.top) run_app.top) explain_app.top

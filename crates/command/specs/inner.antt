@@ -1,0 +1,2 @@
+-- what the program refuses by itself
+pub mod Refusals

@@ -1,0 +1,15 @@
+//! The words of a command line, and what they ask.
+#![tactic(auto)]
+
+mod given;
+mod line;
+mod order;
+mod read;
+mod request;
+mod task;
+
+pub use read::command;
+pub use request::{Request, Steps, Task, UsageFault};
+
+#[cfg(test)]
+mod tests;

@@ -1,0 +1,94 @@
+//! The commands of the program, and what each takes.
+
+ghost use Rattle.std.specs.Prelude.{◌≡◌, IfOk, false};
+ghost use Rattle.clap.specs.Words.{app_of, rule_of};
+ghost use Rattle.clap.specs.declared.builder.command.Command.TheViews.{out-Command as fields_of};
+ghost use Rattle.command.specs.Line.{file_rule, verbose_rule, fault_rule, file_app, explain_app, commandless_app, program_app};
+
+use clap::{Arg, ArgAction, Command, value_parser};
+use std::alloc::{AllocError, Global};
+
+/// The version that `txc --version` prints.
+const VERSION: &str = "0.1.0";
+
+/// The file with the program.
+fn file<'a>(alloc: Global) -> Arg<'a>
+    ensures rule { rule_of result ≡ file_rule }
+    ensures global { result.global ≡ false }
+{
+    Arg::new(alloc, "FILE")
+        .required(true)
+        .action(ArgAction::Set)
+        .help("A C source with transactions")
+}
+
+/// Whether more is told of a fault than its line.
+fn verbose<'a>(alloc: Global) -> Arg<'a>
+    ensures rule { rule_of result ≡ verbose_rule }
+    ensures global { result.global ≡ false }
+{
+    Arg::new(alloc, "verbose")
+        .long("verbose")
+        .action(ArgAction::SetTrue)
+        .help("Shows the line of a fault, and says why a file can't be read")
+}
+
+/// A command over a file.
+fn of_file<'a>(alloc: Global, name: &'a str, about: &'a str) -> Result<Command<'a>, AllocError>
+    ensures app { IfOk result (λ c. app_of c ≡ file_app name.entry.now) }
+    ensures globals { IfOk result (λ c. (fields_of c).has_globals ≡ false) }
+{
+    Command::new(alloc, name)
+        .about(about)
+        .arg(file(alloc))?
+        .arg(verbose(alloc))
+}
+
+/// The number of a fault.
+fn fault<'a>(alloc: Global) -> Arg<'a>
+    ensures rule { rule_of result ≡ fault_rule }
+    ensures global { result.global ≡ false }
+{
+    Arg::new(alloc, "NN")
+        .required(true)
+        .action(ArgAction::Set)
+        .value_parser(value_parser!(u32))
+        .help("The number of a fault, as txc tells it")
+}
+
+/// The command that tells what a fault means.
+fn explain<'a>(alloc: Global) -> Result<Command<'a>, AllocError>
+    ensures app { IfOk result (λ c. app_of c ≡ explain_app) }
+    ensures globals { IfOk result (λ c. (fields_of c).has_globals ≡ false) }
+{
+    Command::new(alloc, "explain")
+        .about("Says what a fault means, with an example")
+        .arg(fault(alloc))
+}
+
+/// The program, which wants a command.
+fn commandless<'a>(alloc: Global) -> Command<'a>
+    ensures { app_of result ≡ commandless_app }
+{
+    Command::new(alloc, "txc")
+        .version(VERSION)
+        .about("A compiler and a machine for C programs with transactions")
+        .subcommand_required(true)
+}
+
+/// The command line of the program.
+pub fn program<'a>(alloc: Global) -> Result<Command<'a>, AllocError>
+    ensures { IfOk result (λ c. app_of c ≡ program_app) }
+{
+    let check = of_file(alloc, "check", "Says whether a program is accepted")?;
+    let run = of_file(
+        alloc,
+        "run",
+        "Runs a program with one thread, and prints its end, its output and its globals",
+    )?;
+    let explain = explain(alloc)?;
+    commandless(alloc)
+        .subcommand(check)?
+        .subcommand(run)?
+        .subcommand(explain)
+}

@@ -1,0 +1,72 @@
+//! From words to a request.
+
+ghost use Rattle.std.specs.Prelude.{◌≡◌, IfOk, IfErr, map};
+ghost use Rattle.clap.specs.Words.{fault_of, found_of, rows_of, subcommand_rows_of};
+ghost use Rattle.command.specs.Line.{program_app};
+ghost use Rattle.command.specs.Asked.{Asks, IsRequest, Refuses};
+ghost use Rattle.command.specs.inner.Refusals.{IsOwn, HasGiven, SaysError};
+
+use crate::given::{flag_given, number_wanted, text_wanted, wrong};
+use crate::line::program;
+use crate::request::{Request, UsageFault};
+use crate::task::task;
+use clap::error::ErrorKind;
+use clap::{ArgMatches, Error};
+use std::alloc::Global;
+
+/// Reads the words of a command line, the program's own name first.
+///
+/// A command or an option that the program does not have is `Wrong`. Memory is taken from the global allocator, as `clap` does.
+pub fn command(alloc: Global, words: &[&str]) -> Result<Request, UsageFault>
+    ensures ok { IfOk result (Asks (map (λ w. w.now) words.now)) }
+    ensures err { IfErr result (Refuses (fault_of program_app (map (λ w. w.now) words.now))) }
+{
+    let program = program(alloc)?;
+    match program.try_get_matches_from(words) {
+        Ok(matches) => request(alloc, &matches),
+        Err(error) => Err(refusal(alloc, &error)),
+    }
+}
+
+/// What is told of words that the command line has not got, or that ask for help.
+fn refusal(alloc: Global, error: &Error) -> UsageFault
+    ensures { SaysError error.now result }
+{
+    let Ok(text) = error.to_string(alloc) else {
+        return UsageFault::OutOfMemory;
+    };
+    match error.kind() {
+        ErrorKind::OutOfMemory => UsageFault::OutOfMemory,
+        ErrorKind::DisplayHelp | ErrorKind::DisplayVersion => UsageFault::Help { text },
+        _ => UsageFault::Wrong { text },
+    }
+}
+
+/// The request of words that the command line has.
+fn request(alloc: Global, matches: &ArgMatches<'_>) -> Result<Request, UsageFault>
+    ensures ok { IfOk result (HasGiven (subcommand_rows_of matches.now)) }
+    ensures err { IfErr result IsOwn }
+{
+    match matches.subcommand() {
+        Some((name, given)) => request_of(alloc, name, given),
+        None => Err(wrong(alloc, "a command is wanted")),
+    }
+}
+
+/// The request of a command, and what is given for its arguments.
+fn request_of(alloc: Global, name: &str, given: &ArgMatches<'_>) -> Result<Request, UsageFault>
+    ensures ok { IfOk result (IsRequest name.now (rows_of (found_of given.now))) }
+    ensures err { IfErr result IsOwn }
+{
+    if name == "explain" {
+        return Ok(Request::Explain {
+            number: number_wanted(alloc, given, "NN")?,
+        });
+    }
+    let file = text_wanted(alloc, given, "FILE")?;
+    Ok(Request::Program {
+        file,
+        verbose: flag_given(given, "verbose"),
+        task: task(alloc, name, given)?,
+    })
+}

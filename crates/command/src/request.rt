@@ -1,0 +1,79 @@
+//! What words ask, and why they may ask nothing.
+
+ghost use Rattle.std.specs.Prelude.{◌≡◌};
+
+use std::alloc::AllocError;
+use thiserror::Error;
+
+/// What is asked.
+#[derive(Debug, Drop)]
+pub enum Request {
+    /// Does something with the program in a file.
+    Program {
+        file: String,
+        /// Whether more is told of a fault than its line.
+        verbose: bool,
+        task: Task,
+    },
+    /// Tells what the fault of a number means.
+    Explain {
+        number: u32,
+    },
+}
+
+/// What is done with a program.
+#[derive(Debug, Drop)]
+pub enum Task {
+    /// Says whether it is accepted.
+    Check,
+    /// Lists its code.
+    Listing,
+    /// Runs it: 1 to 64 threads, each with so many steps at most.
+    Run {
+        threads: u32,
+        budget: u32,
+    },
+    /// Replays steps of 1 to 64 threads.
+    Replay {
+        threads: u32,
+        steps: Steps,
+    },
+    /// Runs the source: 1 to 64 threads in an order, each with 0 to 1,000,000 ticks.
+    Source {
+        threads: u32,
+        order: Vec<u32>,
+        ticks: u32,
+    },
+}
+
+/// Where the steps of a replay come from.
+#[derive(Debug, Drop)]
+pub enum Steps {
+    /// A file with a schedule.
+    Schedule { file: String },
+    /// A seed, for 0 to 1,048,576 steps.
+    Seed { seed: u32, count: u32 },
+}
+
+/// Why words are not a request.
+#[derive(Debug, Drop, Error)]
+pub enum UsageFault {
+    #[error("out of memory")]
+    OutOfMemory,
+    /// Help or the version was asked for; this is its text.
+    #[error("{text}")]
+    Help { text: String },
+    /// The words are no command line of the program; this says why.
+    #[error("{text}")]
+    Wrong { text: String },
+}
+
+impl From<AllocError> for UsageFault {
+    ghost use Rattle.command.specs.declared.request.UsageFault.TheVariants.{OutOfMemory};
+
+    ghost from_gives = { λ e f. f ≡ OutOfMemory };
+
+    fn from(_: AllocError) -> UsageFault {
+        UsageFault::OutOfMemory
+    }
+}

@@ -1,0 +1,125 @@
+//! What a command does with a program.
+
+ghost use Rattle.std.specs.Prelude.{◌≡◌, ◌≤◌, IfOk, IfErr, Some, None, codes};
+ghost use Rattle.clap.specs.Words.{first_of, found_of, rows_of};
+ghost use Rattle.command.specs.Asked.{AreSteps, IsNumber, IsOrder, IsTask, AreThreadsGiven, IsOrderGiven};
+ghost use Rattle.command.specs.inner.Refusals.{IsOwn};
+
+use crate::given::{number_given, text_given, text_wanted, wrong};
+use crate::order::order;
+use crate::request::{Steps, Task, UsageFault};
+use clap::ArgMatches;
+use std::alloc::Global;
+
+/// The most threads.
+const MOST_THREADS: u32 = 64;
+
+/// The most ticks.
+const MOST_TICKS: u32 = 1000000;
+
+/// The most steps of a replay.
+const MOST_STEPS: u32 = 1048576;
+
+/// The number that is given for an argument, or else this one; in its range.
+fn number(
+    alloc: Global,
+    given: &ArgMatches<'_>,
+    id: &str,
+    default: u32,
+    least: u32,
+    most: u32,
+) -> Result<u32, UsageFault>
+    ensures ok { IfOk result (λ n. IsNumber (rows_of (found_of given.now)) id.now default least most n) }
+    ensures err { IfErr result IsOwn }
+{
+    let number = number_given(alloc, given, id)?.unwrap_or(default);
+    if least <= number && number <= most {
+        Ok(number)
+    } else {
+        Err(out_of_range(alloc, id, least, most))
+    }
+}
+
+/// Says that a number is out of its range.
+fn out_of_range(alloc: Global, id: &str, least: u32, most: u32) -> UsageFault
+    ensures { IsOwn result }
+{
+    match format!(in alloc; "--{id} is {least} to {most}") {
+        Ok(why) => wrong(alloc, why.as_str()),
+        Err(_) => UsageFault::OutOfMemory,
+    }
+}
+
+/// The number of threads that is given.
+fn threads(alloc: Global, given: &ArgMatches<'_>) -> Result<u32, UsageFault>
+    ensures ok { IfOk result (AreThreadsGiven (rows_of (found_of given.now))) }
+    ensures err { IfErr result IsOwn }
+{
+    number(alloc, given, "threads", 1, 1, MOST_THREADS)
+}
+
+/// Where the steps of a replay come from: a schedule or a seed.
+fn steps(alloc: Global, given: &ArgMatches<'_>) -> Result<Steps, UsageFault>
+    ensures ok { IfOk result (AreSteps (rows_of (found_of given.now))) }
+    ensures err { IfErr result IsOwn }
+{
+    let seed = number_given(alloc, given, "seed")?;
+    let schedule = text_given(given, "schedule");
+    match (schedule, seed) {
+        (Some(file), None) => Ok(Steps::Schedule {
+            file: String::from_str(alloc, file)?,
+        }),
+        (None, Some(seed)) => Ok(Steps::Seed {
+            seed,
+            count: number(alloc, given, "steps", 100000, 0, MOST_STEPS)?,
+        }),
+        _ => Err(wrong(alloc, "one of --schedule and --seed")),
+    }
+}
+
+/// The order of threads that is given.
+fn order_given(alloc: Global, given: &ArgMatches<'_>) -> Result<Vec<u32>, UsageFault>
+    ensures ok { IfOk result (λ v. IsOrderGiven (rows_of (found_of given.now)) v.items) }
+    ensures err { IfErr result IsOwn }
+{
+    let text = text_wanted(alloc, given, "order")?;
+    match order(alloc, text.as_str())? {
+        Some(order) => Ok(order),
+        None => Err(wrong(alloc, "bad --order")),
+    }
+}
+
+/// A run of the source in an order.
+fn source(alloc: Global, given: &ArgMatches<'_>) -> Result<Task, UsageFault>
+    ensures ok { IfOk result (IsTask (codes "source") (rows_of (found_of given.now))) }
+    ensures err { IfErr result IsOwn }
+{
+    let threads = threads(alloc, given)?;
+    let ticks = number(alloc, given, "ticks", 100000, 0, MOST_TICKS)?;
+    Ok(Task::Source {
+        threads,
+        order: order_given(alloc, given)?,
+        ticks,
+    })
+}
+
+/// What a command over a file does.
+pub(crate) fn task(alloc: Global, name: &str, given: &ArgMatches<'_>) -> Result<Task, UsageFault>
+    ensures ok { IfOk result (IsTask name.now (rows_of (found_of given.now))) }
+    ensures err { IfErr result IsOwn }
+{
+    match name {
+        "check" => Ok(Task::Check),
+        "listing" => Ok(Task::Listing),
+        "run" => Ok(Task::Run {
+            threads: threads(alloc, given)?,
+            budget: number(alloc, given, "budget", u32::MAX, 0, u32::MAX)?,
+        }),
+        "replay" => Ok(Task::Replay {
+            threads: threads(alloc, given)?,
+            steps: steps(alloc, given)?,
+        }),
+        "source" => source(alloc, given),
+        _ => Err(wrong(alloc, "no such command")),
+    }
+}

@@ -1,0 +1,2 @@
+-- one step of a loop that adds lines
+mod Lines

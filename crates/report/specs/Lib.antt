@@ -1,0 +1,6 @@
+-- what a report shows
+pub mod Printed
+-- the text of a report
+pub mod Report
+-- the Rust types as these
+pub mod Views
