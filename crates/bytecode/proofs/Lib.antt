@@ -2,7 +2,7 @@
 mod Lines
 mod Escaping
 -- marks of places as a table of innermost open begins, and what a visit does to it
-mod Tables
+pub mod Tables
 mod Marks
 mod Meets
 -- where instructions lead, what the walk over a function's ways keeps, and how it goes on, fails, begins and ends
@@ -15,7 +15,7 @@ mod Answering
 -- what an instruction names
 mod Callees
 -- how functions lie, and what a code is asked for
-mod LaidOut
+pub mod LaidOut
 mod Names
 mod Each
 -- what a valid code reads and writes

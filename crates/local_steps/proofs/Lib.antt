@@ -1,5 +1,5 @@
 -- one local step more
 mod Onward
 -- local steps keep to their function
-mod Ways
-mod Views
+pub mod Ways
+pub mod Views

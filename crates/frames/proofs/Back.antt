@@ -1,0 +1,250 @@
+-- A begin opens one more, a commit and a cancel close the innermost one, and any of them can be gone back to.
+use Rattle.std.proofs.Common.{◌≡◌, ℕ, zero, suc, ◌+◌, ◌-◌, ◌<◌, ◌≤◌, ◌^◌, List, [], ◌∷◌, ◌++◌, ◌≢◌, ◌⊎◌, inl, inr, length, map, drop, Option, Some, None, refl, sym, ap, ◌∙◌, subst, arith}
+use Rattle.std.specs.Prelude.{slice_get}
+use Rattle.nesting.specs.Begins.{Saved}
+use Rattle.bytecode.specs.Effects.{Effect, after_cancel}
+use Rattle.bytecode.specs.Code.{Code, FunctionCode, Configuration, Frame, Instr, onward, going, effect, effect_of, returned}
+use Rattle.bytecode.specs.Valid.{IsReached, AsksOpen, IsValid}
+use Rattle.local_steps.specs.Local.{standing, AreWords}
+use Rattle.frames.specs.Open.{saved_in, restored, IsSavedAt, AreSaved, IsFrame, AreCallers, MayStand, AreRestored, CanRestore}
+use Rattle.frames.proofs.Reached.{AreReached, IsBeginAt, are_reached, to_inside, to_outside, to_cancelled}
+use Rattle.frames.proofs.ByWay.{kind_of, begins_only, commits_only, cancels_only, ends_only}
+use Rattle.frames.proofs.Levels.{AreUpTo, callers_up_to, all_up_to, frames_under, restored_under}
+use Rattle.frames.proofs.Leading.{Way, way_of, asks_of, asks_by}
+
+same_level : (n k : ℕ) → k ≡ suc n → suc n - k ≡ 0
+same_level n k e = omega arith
+
+other_level : (n k : ℕ) → k ≤ suc n → suc (suc n) - k ≡ suc (suc n - k)
+other_level n k h = omega arith
+
+-- ---- the frame of a begin is there
+
+abbrev registers_in : Frame → List ℕ
+registers_in f = f.registers
+
+can_restore_top : (f : FunctionCode) (p : ℕ) (rs : List ℕ) (fs : List Frame) (b : ℕ) (s : Saved) → length rs ≡ f.registers → IsSavedAt f (suc (length fs)) b s → CanRestore (standing p rs fs) s
+can_restore_top f p rs fs b s long at = record {
+  some = (let l = at.frame in omega arith);
+  there = (let l = at.frame in omega arith);
+  registers = rs;
+  found = rw (same_level (length fs) s.frames at.frame) refl;
+  long = at.long ∙ sym long;
+}
+
+can_restore_under : (p : ℕ) (rs : List ℕ) (g : Frame) (fs : List Frame) (s : Saved) → CanRestore (standing g.place g.registers fs) s → CanRestore (standing p rs (g ∷ fs)) s
+can_restore_under p rs g fs s h = record {
+  some = h.some;
+  there = (let l = h.there in omega arith);
+  registers = h.registers;
+  found = rw (other_level (length fs) s.frames h.there) h.found;
+  long = h.long;
+}
+
+in_frame : (f : FunctionCode) (n : ℕ) (begins : List ℕ) (inner : List Saved) (s : Saved) (outer callers : List Saved) → AreSaved f n begins (inner ++ s ∷ outer) callers → ((b : ℕ) × IsSavedAt f n b s) ⊎ ((more : List Saved) × (more ++ s ∷ outer ≡ callers))
+in_frame f n [] inner s outer callers a = inr (inner, a)
+in_frame f n (b ∷ begins) [] s outer callers a = inl (b, a.0)
+in_frame f n (b ∷ begins) (x ∷ inner) s outer callers a = in_frame f n begins inner s outer callers a.1
+
+not_empty : (more : List Saved) (s : Saved) (outer : List Saved) → more ++ s ∷ outer ≡ [] → ⊥
+not_empty [] s outer e = cc e
+not_empty (x ∷ more) s outer e = cc e
+
+pub can_restore : (code : Code) (fs : List Frame) (p : ℕ) (rs : List ℕ) (inner : List Saved) (s : Saved) (outer callers : List Saved) → IsFrame code (suc (length fs)) p rs (inner ++ s ∷ outer) callers → AreCallers code fs callers → CanRestore (standing p rs fs) s
+can_restore code [] p rs inner s outer callers top below = elim (in_frame top.function 1 top.begins inner s outer callers top.saved) [
+  | inl h ↦ can_restore_top top.function p rs [] h.0 s top.long h.1
+  | inr h ↦ absurd (not_empty h.0 s outer (h.1 ∙ below))
+]
+can_restore code (g ∷ fs) p rs inner s outer callers top below = elim (in_frame top.function (suc (suc (length fs))) top.begins inner s outer callers top.saved) [
+  | inl h ↦ can_restore_top top.function p rs (g ∷ fs) h.0 s top.long h.1
+  | inr h ↦ can_restore_under p rs g fs s (can_restore code fs g.place g.registers h.0 s outer below.0 (subst (λ xs. IsFrame code (suc (length fs)) g.place g.registers xs below.0) (sym h.1) below.1) below.3)
+]
+
+-- ---- back at a begin
+
+-- back at the innermost begin
+record IsBack (code : Code) (c : Configuration) (s : Saved) (outer : List Saved) : Type 0 where
+  stands : MayStand code (restored c s) outer
+  same : AreRestored c (restored c s) outer
+  begins : IsBeginAt code s.place
+
+-- in the frame of f on top, at a place with the other begins open
+stands_on_top : (code : Code) (f : FunctionCode) (fs : List Frame) (s : Saved) (ss callers : List Saved) (number b : ℕ) (bs : List ℕ) (q : ℕ) → slice_get code.functions number ≡ Some f → IsSavedAt f (suc (length fs)) b s → AreSaved f (suc (length fs)) bs ss callers → IsReached code f q bs → AreCallers code fs callers → length fs < 64 → MayStand code (standing q s.registers (drop (suc (length fs) - s.frames) fs)) ss
+stands_on_top code f fs s ss callers number b bs q has at saved r below few =
+    subst (λ n. MayStand code (standing q s.registers (drop n fs)) ss) (sym (same_level (length fs) s.frames at.frame)) (record {
+      callers = callers;
+      top = record {
+        index = number;
+        function = f;
+        begins = bs;
+        has = has;
+        reached = r;
+        long = at.long;
+        words = at.words;
+        saved = saved;
+      };
+      below = below;
+      few = few;
+    })
+
+same_on_top : (p q : ℕ) (rs ts : List ℕ) (fs : List Frame) (s : Saved) (ss : List Saved) → s.frames ≡ suc (length fs) → AreRestored (standing p rs fs) (standing q ts (drop (suc (length fs) - s.frames) fs)) ss
+same_on_top p q rs ts fs s ss e = subst (λ n. AreRestored (standing p rs fs) (standing q ts (drop n fs)) ss) (sym (same_level (length fs) s.frames e)) refl
+
+back_on_top : (code : Code) (fs : List Frame) (p : ℕ) (rs : List ℕ) (s : Saved) (ss callers : List Saved) (top : IsFrame code (suc (length fs)) p rs (s ∷ ss) callers) (b : ℕ) (bs : List ℕ) → top.begins ≡ b ∷ bs → AreCallers code fs callers → length fs < 64 → IsBack code (standing p rs fs) s ss
+back_on_top code fs p rs s ss callers top b bs e below few =
+    let saved : AreSaved top.function (suc (length fs)) (b ∷ bs) (s ∷ ss) callers = subst (λ xs. AreSaved top.function (suc (length fs)) xs (s ∷ ss) callers) e top.saved in
+    let reached : AreReached code top.function (b ∷ bs) = are_reached code top.function p (b ∷ bs) (subst (IsReached code top.function p) e top.reached) in
+    record {
+      stands = stands_on_top code top.function fs s ss callers top.index b bs s.place top.has saved.0 saved.1 (subst (λ q. IsReached code top.function q bs) (sym saved.0.at) reached.0) below few;
+      same = same_on_top p s.place rs s.registers fs s ss saved.0.frame;
+      begins = subst (IsBeginAt code) (sym saved.0.at) reached.1;
+    }
+
+-- seen with one frame more on top
+back_under : (code : Code) (p : ℕ) (rs : List ℕ) (g : Frame) (fs : List Frame) (s : Saved) (ss : List Saved) → AreUpTo (suc (length fs)) (s ∷ ss) → IsBack code (standing g.place g.registers fs) s ss → IsBack code (standing p rs (g ∷ fs)) s ss
+back_under code p rs g fs s ss up h =
+    let e : drop (suc (suc (length fs)) - s.frames) (g ∷ fs) ≡ drop (suc (length fs) - s.frames) fs = frames_under (suc (length fs)) g fs s up.0 in
+    let at : restored (standing p rs (g ∷ fs)) s ≡ restored (standing g.place g.registers fs) s = ap (standing s.place s.registers) e in
+    record {
+      stands = subst (λ c. MayStand code c ss) (sym at) h.stands;
+      same = ap (λ c. map (restored c) ss) at ∙ h.same ∙ sym (restored_under p g.place rs g.registers g fs ss up.1);
+      begins = h.begins;
+    }
+
+back_at : (code : Code) (fs : List Frame) (p : ℕ) (rs : List ℕ) (s : Saved) (ss callers : List Saved) (top : IsFrame code (suc (length fs)) p rs (s ∷ ss) callers) (bs : List ℕ) → top.begins ≡ bs → AreCallers code fs callers → length fs < 64 → IsBack code (standing p rs fs) s ss
+back_at code fs p rs s ss callers top (b ∷ bs) e below few = back_on_top code fs p rs s ss callers top b bs e below few
+back_at code [] p rs s ss callers top [] e below few =
+    let saved : s ∷ ss ≡ callers = subst (λ xs. AreSaved top.function 1 xs (s ∷ ss) callers) e top.saved in
+    cc (saved, below)
+back_at code (g ∷ fs) p rs s ss callers top [] e below few =
+    let saved : s ∷ ss ≡ callers = subst (λ xs. AreSaved top.function (suc (suc (length fs))) xs (s ∷ ss) callers) e top.saved in
+    let frame : IsFrame code (suc (length fs)) g.place g.registers (s ∷ ss) below.0 = subst (λ xs. IsFrame code (suc (length fs)) g.place g.registers xs below.0) (sym saved) below.1 in
+    let few' : length fs < 64 = omega arith in
+    let up : AreUpTo (suc (length fs)) (s ∷ ss) = subst (AreUpTo (suc (length fs))) (sym saved) (callers_up_to code (g ∷ fs) callers below) in
+    back_under code p rs g fs s ss up (back_at code fs g.place g.registers s ss below.0 frame frame.begins refl below.3 few')
+
+back : (code : Code) (c : Configuration) (s : Saved) (ss : List Saved) → MayStand code c (s ∷ ss) → IsBack code c s ss
+back code c s ss m = back_at code c.frames c.place c.registers s ss m.callers m.top m.top.begins refl m.below m.few
+
+-- two maps that agree on a list agree at each item and on what follows it
+parted : (g h : Saved → Configuration) (inner : List Saved) (s : Saved) (outer : List Saved) → map g (inner ++ s ∷ outer) ≡ map h (inner ++ s ∷ outer) → (g s ≡ h s) × (map g outer ≡ map h outer)
+parted g h [] s outer e = (cc e, cc e)
+parted g h (x ∷ inner) s outer e = let rest : map g (inner ++ s ∷ outer) ≡ map h (inner ++ s ∷ outer) = cc e in parted g h inner s outer rest
+
+back_to : (code : Code) (c : Configuration) (inner : List Saved) (s : Saved) (outer : List Saved) → MayStand code c (inner ++ s ∷ outer) → IsBack code c s outer
+back_to code c [] s outer m = back code c s outer m
+back_to code c (x ∷ inner) s outer m =
+    let one = back code c x (inner ++ s ∷ outer) m in
+    let rest = back_to code (restored c x) inner s outer one.stands in
+    let same = parted (restored (restored c x)) (restored c) inner s outer one.same in
+    record {
+      stands = subst (λ d. MayStand code d outer) same.0 rest.stands;
+      same = subst (λ d. map (restored d) outer ≡ map (restored c) outer) same.0 (rest.same ∙ same.1);
+      begins = rest.begins;
+    }
+
+pub goes_back : (code : Code) (c : Configuration) (inner : List Saved) (s : Saved) (outer : List Saved) → MayStand code c (inner ++ s ∷ outer) → MayStand code (restored c s) outer × AreRestored c (restored c s) outer × CanRestore c s × ((d : Configuration) × (e : Configuration) × (effect code (restored c s) ≡ Effect.Begin d e))
+goes_back code c inner s outer m =
+    let b = back_to code c inner s outer m in (
+      b.stands,
+      b.same,
+      can_restore code c.frames c.place c.registers inner s outer m.callers m.top m.below,
+      (onward (restored c s), going (restored c s) b.begins.0, ap (effect_of code (restored c s)) b.begins.1),
+    )
+
+-- ---- an instruction that opens a begin or closes one
+
+module _ (code : Code) (v : IsValid code) (c : Configuration) (ss : List Saved) (m : MayStand code c ss) where
+  asked_of : (o : Option Instr) → slice_get code.instructions c.place ≡ o → AsksOpen o m.top.begins
+  asked_of o at = subst (λ x. AsksOpen x m.top.begins) at ((v.each m.top.index m.top.function m.top.has).ways.asks c.place m.top.begins m.top.reached)
+
+  module _ (i : Instr) (at : slice_get code.instructions c.place ≡ Some i) where
+    does : effect code c ≡ effect_of code c (Some i)
+    does = ap (effect_of code c) at
+
+    asked_by : (w : Way) → way_of i ≡ w → asks_by w m.top.begins
+    asked_by w e = subst (λ x. asks_by x m.top.begins) e (asks_of m.top.begins i (asked_of (Some i) at))
+
+    pub opens_by : (d e : Configuration) → effect code c ≡ Effect.Begin d e → MayStand code d (saved_in c ∷ ss) × (restored d (saved_in c) ≡ c) × AreRestored c d ss
+    opens_by d e x =
+        let k = begins_only c d e (way_of i) (effect_of code c (Some i)) (kind_of code c i) (sym does ∙ x) in
+        let same : d ≡ onward c = cc (x, does, k.1.1) in
+        let flat = same_level (length c.frames) (suc (length c.frames)) refl in
+        subst (λ y. MayStand code y (saved_in c ∷ ss) × (restored y (saved_in c) ≡ c) × AreRestored c y ss) (sym same) (
+          record {
+            callers = m.callers;
+            top = record {
+              index = m.top.index;
+              function = m.top.function;
+              begins = c.place ∷ m.top.begins;
+              has = m.top.has;
+              reached = to_inside code m.top.function c.place m.top.begins i m.top.reached at k.0;
+              long = m.top.long;
+              words = m.top.words;
+              saved = (record { at = refl; frame = refl; long = m.top.long; words = m.top.words }, m.top.saved);
+            };
+            below = m.below;
+            few = m.few;
+          },
+          ap (λ n. standing c.place c.registers (drop n c.frames)) flat,
+          refl,
+        )
+
+    -- the innermost begin of the frame on top
+    closes_at : (ss : List Saved) (top : IsFrame code (suc (length c.frames)) c.place c.registers ss m.callers) (bs : List ℕ) → top.begins ≡ bs → bs ≢ [] → way_of i ≡ Way.Closes → (s : Saved) × (rest : List Saved) × (ss ≡ s ∷ rest) × MayStand code (onward c) rest × AreRestored c (onward c) rest
+    closes_at ss top [] e some w = absurd (some refl)
+    closes_at [] top (b ∷ bs) e some w = absurd (subst (λ xs. AreSaved top.function (suc (length c.frames)) xs [] m.callers) e top.saved)
+    closes_at (s ∷ rest) top (b ∷ bs) e some w =
+        let saved : AreSaved top.function (suc (length c.frames)) (b ∷ bs) (s ∷ rest) m.callers = subst (λ xs. AreSaved top.function (suc (length c.frames)) xs (s ∷ rest) m.callers) e top.saved in (
+          s,
+          rest,
+          refl,
+          record {
+            callers = m.callers;
+            top = record {
+              index = top.index;
+              function = top.function;
+              begins = bs;
+              has = top.has;
+              reached = to_outside code top.function c.place b bs i (subst (IsReached code top.function c.place) e top.reached) at w;
+              long = top.long;
+              words = top.words;
+              saved = saved.1;
+            };
+            below = m.below;
+            few = m.few;
+          },
+          refl,
+        )
+
+    pub closes_by : (d : Configuration) → effect code c ≡ Effect.Commit d → (s : Saved) × (rest : List Saved) × (ss ≡ s ∷ rest) × MayStand code d rest × AreRestored c d rest
+    closes_by d x =
+        let k = commits_only c d (way_of i) (effect_of code c (Some i)) (kind_of code c i) (sym does ∙ x) in
+        let same : d ≡ onward c = cc (x, does, k.1) in
+        subst (λ y. (s : Saved) × (rest : List Saved) × (ss ≡ s ∷ rest) × MayStand code y rest × AreRestored c y rest) (sym same) (closes_at ss m.top m.top.begins refl (asked_by Way.Closes k.0) k.0)
+
+    cancels_at : (ss : List Saved) (top : IsFrame code (suc (length c.frames)) c.place c.registers ss m.callers) (bs : List ℕ) → top.begins ≡ bs → bs ≢ [] → way_of i ≡ Way.Cancels → (s : Saved) × (rest : List Saved) × (ss ≡ s ∷ rest) × MayStand code (after_cancel (effect code (restored c s)) (restored c s)) rest × AreRestored c (after_cancel (effect code (restored c s)) (restored c s)) rest
+    cancels_at ss top [] e some w = absurd (some refl)
+    cancels_at [] top (b ∷ bs) e some w = absurd (subst (λ xs. AreSaved top.function (suc (length c.frames)) xs [] m.callers) e top.saved)
+    cancels_at (s ∷ rest) top (b ∷ bs) e some w =
+        let saved : AreSaved top.function (suc (length c.frames)) (b ∷ bs) (s ∷ rest) m.callers = subst (λ xs. AreSaved top.function (suc (length c.frames)) xs (s ∷ rest) m.callers) e top.saved in
+        let r : IsReached code top.function c.place (b ∷ bs) = subst (IsReached code top.function c.place) e top.reached in
+        let reached : AreReached code top.function (b ∷ bs) = are_reached code top.function c.place (b ∷ bs) r in
+        let to = reached.1.0 in
+        let stands_at : slice_get code.instructions s.place ≡ Some (Instr.Begin to) = ap (slice_get code.instructions) saved.0.at ∙ reached.1.1 in
+        let after : after_cancel (effect code (restored c s)) (restored c s) ≡ standing to s.registers (drop (suc (length c.frames) - s.frames) c.frames) = ap (λ o. after_cancel (effect_of code (restored c s) o) (restored c s)) stands_at in (
+          s,
+          rest,
+          refl,
+          subst (λ y. MayStand code y rest) (sym after) (stands_on_top code top.function c.frames s rest m.callers top.index b bs to top.has saved.0 saved.1 (to_cancelled code top.function c.place b to bs i r at w reached.1.1) m.below m.few),
+          subst (λ y. AreRestored c y rest) (sym after) (same_on_top c.place to c.registers s.registers c.frames s rest saved.0.frame),
+        )
+
+    pub cancels_by : effect code c ≡ Effect.Cancel → (s : Saved) × (rest : List Saved) × (ss ≡ s ∷ rest) × MayStand code (after_cancel (effect code (restored c s)) (restored c s)) rest × AreRestored c (after_cancel (effect code (restored c s)) (restored c s)) rest
+    cancels_by x =
+        let k = cancels_only c (way_of i) (effect_of code c (Some i)) (kind_of code c i) (sym does ∙ x) in
+        cancels_at ss m.top m.top.begins refl (asked_by Way.Cancels k) k
+
+    -- the end of a thread: no caller, and no begin of its frame
+    pub ends_by : effect code c ≡ Effect.End → m.top.begins ≡ []
+    ends_by x = asked_by Way.Ends (ends_only c (way_of i) (effect_of code c (Some i)) (kind_of code c i) (sym does ∙ x))

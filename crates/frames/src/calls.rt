@@ -1,0 +1,40 @@
+//! What a call names.
+
+ghost use Rattle.std.specs.Prelude.{◌≡◌, ℕ, IfSome, IfNone, Some, None, slice_get};
+ghost use Rattle.bytecode.specs.Code.{Instr as PlainInstr};
+ghost use Rattle.bytecode.specs.Valid.{Has};
+ghost use Rattle.bytecode.specs.Views.{function_of};
+ghost use Rattle.frames.specs.Stack.{callee_of};
+
+use bytecode::{Code, FunctionCode, Instr};
+use std::alloc::Allocator;
+
+/// A call: the register that takes the value, the registers handed over, and the function.
+#[derive(Drop)]
+pub(crate) struct Call<'c, A: Allocator> {
+    pub result: u16,
+    pub args: &'c [u16],
+    pub callee: &'c FunctionCode<A>,
+}
+
+/// The call that stands at a place, if one does.
+pub(crate) fn called_at<A: Allocator>(code: &Code<A>, place: u32) -> Option<Call<'_, A>>
+    ensures some { IfSome result (λ call. (f : ℕ) × (slice_get code.now.instructions place ≡ Some (PlainInstr.Call f call.result call.args.now)) × Has code.now f (function_of call.callee.now)) }
+    ensures none { IfNone result (callee_of code.now (slice_get code.now.instructions place) ≡ None) }
+{
+    let parts = code.parts();
+    match parts.instructions.as_slice().get(place as usize) {
+        Some(instr) => match instr {
+            Instr::Call(d, count, f, from) => match code.functions().get(*f as usize) {
+                Some(callee) => Some(Call {
+                    result: *d,
+                    args: parts.handed_over(*from as usize, *count as usize),
+                    callee,
+                }),
+                None => None,
+            },
+            _ => None,
+        },
+        None => None,
+    }
+}

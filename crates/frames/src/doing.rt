@@ -1,0 +1,93 @@
+//! What stands at a thread's place to be done.
+
+ghost use Rattle.std.specs.Prelude.{◌≡◌, ◌+◌, ◌≤◌, ◌<◌, ◌^◌, ◌++◌, OnOk, OnErr, length, string_bytes, string_len, string_capacity};
+ghost use Rattle.frames.specs.Told.{piece_of};
+
+use bytecode::Code;
+use itoa::Buffer;
+use std::alloc::{AllocError, Allocator};
+use syntax::numbers::Trap;
+
+/// What stands at a thread's place to be done. Indices of arrays have been tested, and values of registers are given with it.
+#[derive(Clone, Copy, PartialEq, Eq, Debug)]
+pub enum Doing {
+    /// A local step, which does not trap.
+    Local,
+
+    /// Reads a cell into a register, as `(register, cell)`.
+    Read(u16, u32),
+
+    /// Writes a word below 2^32 into a cell, as `(cell, word)`.
+    Write(u32, u64),
+
+    /// Begins a transaction, a cancel of which goes on at this place.
+    Begin(u32),
+
+    /// Ends the innermost transaction.
+    Commit,
+
+    /// Cancels the innermost transaction.
+    Cancel,
+
+    /// Makes the transaction irrevocable.
+    Irrevocable,
+
+    /// Calls a function. There are fewer than 64 frames.
+    Call,
+
+    /// Returns this word to the innermost caller.
+    Return(u64),
+
+    /// Ends the thread: there is no caller to return to.
+    End,
+
+    /// Prints the code's text of this number.
+    PrintText(u32),
+
+    /// Prints this number.
+    PrintNumber(i64),
+
+    /// Traps: an operator's result, an index, or a 65th frame.
+    Traps(Trap),
+}
+
+/// Makes room for the piece that a print shows. The error comes only where there is none and the allocator refuses it.
+pub fn prepare_piece<A: Allocator, B: Allocator>(
+    text: &mut String<A>,
+    code: &Code<B>,
+    doing: Doing,
+) -> Result<(), AllocError>
+    ensures bytes { string_bytes text.new ≡ string_bytes text.old }
+    ensures room { OnOk result (string_len text.new + length (piece_of code.now doing) ≤ string_capacity text.new) }
+    ensures full { OnErr result (string_capacity text.old < string_len text.old + length (piece_of code.now doing)) }
+{
+    match doing {
+        Doing::PrintText(k) => match code.texts().get(k as usize) {
+            Some(piece) => text.reserve(piece.as_str().len()),
+            None => Ok(()),
+        },
+        Doing::PrintNumber(z) => text.reserve(Buffer::new().format(z).len()),
+        _ => Ok(()),
+    }
+}
+
+/// Appends the piece that a print shows. The error comes only where there is no room and the allocator refuses it; the text
+/// is then as it was.
+pub fn push_piece<A: Allocator, B: Allocator>(
+    text: &mut String<A>,
+    code: &Code<B>,
+    doing: Doing,
+) -> Result<(), AllocError>
+    ensures bytes { OnOk result (string_bytes text.new ≡ string_bytes text.old ++ piece_of code.now doing) }
+    ensures err { OnErr result (string_bytes text.new ≡ string_bytes text.old) }
+    ensures full { OnErr result (string_capacity text.old < string_len text.old + length (piece_of code.now doing)) }
+{
+    match doing {
+        Doing::PrintText(k) => match code.texts().get(k as usize) {
+            Some(piece) => text.push_str(piece.as_str()),
+            None => Ok(()),
+        },
+        Doing::PrintNumber(z) => text.push_str(Buffer::new().format(z)),
+        _ => Ok(()),
+    }
+}
