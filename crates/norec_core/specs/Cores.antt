@@ -1,7 +1,9 @@
 -- A core as its contracts see it.
-use Rattle.std.specs.Prelude.{Bool, false, Option, None, Some, IsSomeAnd}
+use Rattle.std.specs.Prelude.{Bool, true, false, Option, None, Some, IsSomeAnd}
 use Rattle.norec_core.specs.declared.step.Op.{Op}
 use Rattle.norec_core.specs.declared.step.Answer.{Answer}
+use Rattle.norec_core.specs.declared.step.Phase.{Phase}
+use Rattle.norec_core.specs.declared.step.Phase.TheVariants.{Stores}
 use Rattle.nesting.specs.Begins.{Saved}
 use Rattle.norec_core.specs.Attempts.{Attempt}
 use Rattle.norec_core.specs.Accesses.{IsAnswerTo}
@@ -28,3 +30,13 @@ stepped c answer = stepped_by c c.asked answer
 abbrev pub is_kept : Option (Attempt Saved) → Bool
 is_kept None = false
 is_kept (Some a) = a.kept
+
+-- whether the lock is had: it is kept, or a commit stores
+abbrev pub holds : (kept : Bool) → Phase → Bool
+holds kept (Stores i) = true
+holds kept _ = kept
+
+-- whether an attempt is under way that has the lock
+abbrev pub has_lock : Option (Attempt Saved) → Bool
+has_lock None = false
+has_lock (Some a) = holds a.kept a.phase

@@ -3,7 +3,7 @@
 ghost use Rattle.std.specs.Prelude.{◌≡◌, ◌≢◌, ◌↔◌, true, None, Some, IsTrue, IsSome, IfOk, IfSome, OnOk, OnErr};
 ghost use Rattle.norec_core.specs.Accesses.{stops};
 ghost use Rattle.norec_core.specs.Phases.{core_access};
-ghost use Rattle.norec_core.specs.Cores.{IsAnswered, stepped, is_kept};
+ghost use Rattle.norec_core.specs.Cores.{IsAnswered, stepped, is_kept, has_lock};
 
 use super::step::{Access, Answer, Op, Outcome, Stop};
 use super::steps::Steps;
@@ -112,5 +112,11 @@ impl<A: Allocator + Copy> Core<A> {
         ensures { result ≡ is_kept self.now.attempt }
     {
         self.steps.has_begun() && self.steps.is_kept()
+    }
+    /// Whether an attempt is under way that has the lock: it keeps it, or its commit stores.
+    pub fn has_lock(&self) -> bool
+        ensures { result ≡ has_lock self.now.attempt }
+    {
+        self.steps.has_begun() && self.steps.has_lock()
     }
 }

@@ -4,6 +4,7 @@ ghost use Rattle.std.specs.Prelude.{◌≡◌, ◌≢◌, ◌+◌, ◌^◌, ◌<
 ghost use Rattle.write_log.specs.Overlay.{written};
 ghost use Rattle.norec_core.specs.Accesses.{stops};
 ghost use Rattle.norec_core.specs.Phases.{core_access, core_step, core_phase, core_operation, core_read, core_commit, core_cancel, core_store, core_check, core_time, core_compare, operation_access, commit_access, entry_access, store_access};
+ghost use Rattle.norec_core.specs.Cores.{holds};
 ghost use Rattle.norec_core.specs.inner.Runs.{attempt_of, IsStep, GainsRoom, HasRoom, CanRelease};
 
 use super::step::{Access, Answer, Op, Outcome, Phase};
@@ -78,6 +79,15 @@ impl<A: Allocator + Copy> Steps<A> {
         ensures { result ≡ self.now.attempt.kept }
     {
         self.logs.is_kept()
+    }
+
+    pub(crate) fn has_lock(&self) -> bool
+        ensures { result ≡ holds self.now.attempt.kept self.now.attempt.phase }
+    {
+        match self.phase {
+            Phase::Stores(_) => true,
+            _ => self.logs.is_kept(),
+        }
     }
 
     pub(crate) fn aside(&self) -> &Saved<A>
