@@ -24,5 +24,9 @@ pub mod Traces
 pub mod Moments
 -- frames of a thread, and what it keeps of its begins
 pub mod Frames
+-- how a thread stands in a valid code
+pub mod Standing
+-- a thread as its contracts see it
+pub mod States
 -- what the proofs need, and no contract
 pub mod inner

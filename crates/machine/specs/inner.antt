@@ -1,2 +1,4 @@
 -- what each step keeps
 pub mod Invariant
+-- a thread as code keeps it
+pub mod Kept

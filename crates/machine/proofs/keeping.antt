@@ -1,0 +1,14 @@
+-- what a step of the core does with begins and words
+pub mod Operations
+-- what a kept thread shows
+pub mod Seen
+-- where the operations of a kept thread lead
+pub mod Steps
+-- each step of the core makes the machine's step
+pub mod Makes
+-- each step of the thread's own makes the machine's step
+pub mod Work
+-- what a kept thread asks of the core
+pub mod Asking
+-- what the calls of a thread owe
+pub mod Calls

@@ -1,0 +1,260 @@
+-- What a kept thread asks of the core, by what is to be done.
+use Rattle.std.proofs.Common.{◌≡◌, ◌<◌, ℕ, Bool, true, false, List, [], ◌∷◌, Option, None, Some, refl, sym, ◌∙◌, ap, subst, length, arith}
+use Rattle.std.specs.Prelude.{IfSome, IsSomeAnd, slice_set}
+use Rattle.syntax.specs.declared.numbers.Status.{Status}
+use Rattle.syntax.specs.declared.numbers.Status.TheVariants.{Running, Ended as HasEnded, Trapped as HasTrapped}
+use Rattle.syntax.specs.declared.numbers.Trap.{Trap}
+use Rattle.nesting.specs.Begins.{Saved}
+use Rattle.bytecode.specs.Effects.{Effect}
+use Rattle.bytecode.specs.Effects.Effect.{Pure, Print, Begin, Read, Write, Commit, Cancel, Irrevocable, Traps, End}
+use Rattle.bytecode.specs.Code.{Code, Configuration, Frame, effect, returned}
+use Rattle.frames.specs.declared.doing.Doing.{Doing}
+use Rattle.frames.specs.declared.doing.Doing.TheVariants as doing
+use Rattle.frames.specs.Open.{restored, saved_in, BeginsStayOpen}
+use Rattle.frames.specs.Told.{Tells, piece_of}
+use Rattle.norec_core.specs.declared.step.Op.{Op}
+use Rattle.norec_core.specs.declared.step.Op.TheVariants as op
+use Rattle.norec_core.specs.declared.step.Outcome.{Outcome}
+use Rattle.norec_core.specs.declared.step.Access.{Access}
+use Rattle.norec_core.specs.declared.step.Access.TheVariants.{Local}
+use Rattle.norec_core.specs.declared.step.Answer.{Answer}
+use Rattle.norec_core.specs.Accesses.{IsAnswerTo}
+use Rattle.norec_core.specs.Attempts.{Attempt}
+use Rattle.norec_core.specs.Phases.{CoreStep, core_access, core_step}
+use Rattle.norec_core.specs.Cores.{CoreState, IsAnswered, stepped, stepped_by}
+use Rattle.norec_core.proofs.SavedByMaps.{commutes}
+use Rattle.machine.specs.declared.event.Event.{Event}
+use Rattle.machine.specs.Threads.{Thread, access, access_of, outside_access, inside_access, told, op_of}
+use Rattle.machine.specs.States.{Ready, IsReady, IsWordOf, asks, asks_by, asks_outside}
+use Rattle.machine.specs.inner.Kept.{Kept, shown, shown_from, RunsKept, MayGoBack, Makes, back_by, op_by, op_outside, op_asked}
+use Rattle.machine.proofs.keeping.Operations.{WritesWord}
+use Rattle.machine.proofs.keeping.Makes.{Resumes, may_go_back, core_makes}
+
+module _ (code : Code) (c : Configuration) where
+  -- a return goes on
+  return_is : (fs : List Frame) (w : ℕ) → 0 < length fs → (d : Configuration) × (returned fs w ≡ Pure d)
+  return_is [] w h = absurd (omega arith)
+  return_is (f ∷ fs) w h = (record { place = f.place; registers = slice_set f.registers f.result w; frames = fs }, refl)
+
+  -- the effects that ask the core for nothing
+  data IsOwn : Effect Configuration → Type 0 where
+    pure : (d : Configuration) → IsOwn (Pure d)
+    print : (p : List ℕ) (d : Configuration) → IsOwn (Print p d)
+    end : IsOwn End
+
+  own_pure : (x : Effect Configuration) (d : Configuration) → x ≡ Pure d → IsOwn x
+  own_pure x d e = subst IsOwn (sym e) (pure d)
+
+  op_own : (x : Effect Configuration) (k t : Bool) → IsOwn x → op_of x k t ≡ None
+  op_own _ k t (pure d) = refl
+  op_own _ k t (print p d) = refl
+  op_own _ k t end = refl
+
+  out_own : (x : Effect Configuration) → IsOwn x → asks_outside Running x ≡ None
+  out_own _ (pure d) = refl
+  out_own _ (print p d) = refl
+  out_own _ end = refl
+
+  op_at : (x : Effect Configuration) (k t : Bool) (o : Option Op) → effect code c ≡ x → op_of x k t ≡ o → op_of (effect code c) k t ≡ o
+  op_at x k t o e h = ap (λ (z : Effect Configuration). op_of z k t) e ∙ h
+
+  out_at : (x : Effect Configuration) (o : Option Op) → effect code c ≡ x → asks_outside Running x ≡ o → asks_outside Running (effect code c) ≡ o
+  out_at x o e h = ap (asks_outside Running) e ∙ h
+
+  op_traps : (k t : Bool) (cause : Trap) → op_of {C = Configuration} (Traps cause) k t ≡ op_by (doing.Traps cause) k t
+  op_traps true true cause = refl
+  op_traps true false cause = refl
+  op_traps false t cause = refl
+
+  own_local : (x : Doing) → Tells code c x → (x ≡ doing.Local) → IsOwn (effect code c)
+  own_local x t e = let h = subst (Tells code c) e t in own_pure (effect code c) h.1 h.4
+
+  own_call : (x : Doing) → Tells code c x → (x ≡ doing.Call) → IsOwn (effect code c)
+  own_call x t e = let h = subst (Tells code c) e t in own_pure (effect code c) h.3 h.5
+
+  own_return : (w : ℕ) → Tells code c (doing.Return w) → IsOwn (effect code c)
+  own_return w t = let h = return_is c.frames w t.1 in own_pure (effect code c) h.0 (t.0 ∙ h.1)
+
+  pub op_told : (x : Doing) (k t : Bool) → Tells code c x → op_of (effect code c) k t ≡ op_by x k t
+  op_told doing.Local k t h = op_own (effect code c) k t (own_local doing.Local h refl)
+  op_told (doing.Read d a) k t h = op_at _ k t _ h.0 refl
+  op_told (doing.Write a w) k t h = op_at _ k t _ h.0 refl
+  op_told (doing.Begin to) k t h = op_at _ k t _ h refl
+  op_told doing.Commit k t h = op_at _ k t _ h refl
+  op_told doing.Cancel k t h = op_at _ k t _ h refl
+  op_told doing.Irrevocable k t h = op_at _ k t _ h refl
+  op_told doing.Call k t h = op_own (effect code c) k t (own_call doing.Call h refl)
+  op_told (doing.Return w) k t h = op_own (effect code c) k t (own_return w h)
+  op_told doing.End k t h = op_at _ k t _ h refl
+  op_told (doing.PrintText n) k t h = op_at _ k t _ h refl
+  op_told (doing.PrintNumber z) k t h = op_at _ k t _ h refl
+  op_told (doing.Traps cause) k t h = op_at _ k t _ h (op_traps k t cause)
+
+  pub out_told : (x : Doing) → Tells code c x → asks_outside Running (effect code c) ≡ op_outside x
+  out_told doing.Local h = out_own (effect code c) (own_local doing.Local h refl)
+  out_told (doing.Read d a) h = out_at _ _ h.0 refl
+  out_told (doing.Write a w) h = out_at _ _ h.0 refl
+  out_told (doing.Begin to) h = out_at _ _ h refl
+  out_told doing.Commit h = out_at _ _ h refl
+  out_told doing.Cancel h = out_at _ _ h refl
+  out_told doing.Irrevocable h = out_at _ _ h refl
+  out_told doing.Call h = out_own (effect code c) (own_call doing.Call h refl)
+  out_told (doing.Return w) h = out_own (effect code c) (own_return w h)
+  out_told doing.End h = out_at _ _ h refl
+  out_told (doing.PrintText n) h = out_at _ _ h refl
+  out_told (doing.PrintNumber z) h = out_at _ _ h refl
+  out_told (doing.Traps cause) h = out_at _ _ h refl
+
+  writes : (x : Doing) (k t : Bool) (o : Op) → Tells code c x → op_by x k t ≡ Some o → WritesWord o
+  writes doing.Local k t o h e = absurd (cc)
+  writes (doing.Read d a) k t o h e = let s : op.Read a ≡ o = cc in subst WritesWord s tt
+  writes (doing.Write a w) k t o h e = let s : op.Write a w ≡ o = cc in subst WritesWord s h.1
+  writes (doing.Begin to) k t o h e = let s : op.Begin ≡ o = cc in subst WritesWord s tt
+  writes doing.Commit k t o h e = let s : op.Commit ≡ o = cc in subst WritesWord s tt
+  writes doing.Cancel k t o h e = let s : op.Cancel ≡ o = cc in subst WritesWord s tt
+  writes doing.Irrevocable k t o h e = let s : op.Irrevocable ≡ o = cc in subst WritesWord s tt
+  writes doing.Call k t o h e = absurd (cc)
+  writes (doing.Return w) k t o h e = absurd (cc)
+  writes doing.End k t o h e = absurd (cc)
+  writes (doing.PrintText n) k t o h e = absurd (cc)
+  writes (doing.PrintNumber z) k t o h e = absurd (cc)
+  writes (doing.Traps cause) true false o h e = absurd (cc)
+  writes (doing.Traps cause) true true o h e = let s : op.Release ≡ o = cc in subst WritesWord s tt
+  writes (doing.Traps cause) false t o h e = let s : op.Release ≡ o = cc in subst WritesWord s tt
+
+  writes_out : (x : Doing) (o : Op) → op_outside x ≡ Some o → WritesWord o
+  writes_out (doing.Begin to) o e = let s : op.Begin ≡ o = cc in subst WritesWord s tt
+  writes_out doing.Local o e = absurd (cc)
+  writes_out (doing.Read d a) o e = absurd (cc)
+  writes_out (doing.Write a w) o e = absurd (cc)
+  writes_out doing.Commit o e = absurd (cc)
+  writes_out doing.Cancel o e = absurd (cc)
+  writes_out doing.Irrevocable o e = absurd (cc)
+  writes_out doing.Call o e = absurd (cc)
+  writes_out (doing.Return w) o e = absurd (cc)
+  writes_out doing.End o e = absurd (cc)
+  writes_out (doing.PrintText n) o e = absurd (cc)
+  writes_out (doing.PrintNumber z) o e = absurd (cc)
+  writes_out (doing.Traps cause) o e = absurd (cc)
+
+  -- what is written is a word
+  pub writes_word : (x : Doing) (att : Option (Attempt Saved)) (t : Bool) (o : Op) → Tells code c x → op_asked x att t ≡ Some o → WritesWord o
+  writes_word x None t o h e = writes_out x o e
+  writes_word x (Some a) t o h e = writes x a.kept t o h e
+
+  piece_at : (x : Effect Configuration) (p q : List ℕ) (d : Configuration) → effect code c ≡ x → (x ≡ Print p d → p ≡ q) → effect code c ≡ Print p d → p ≡ q
+  piece_at x p q d e h f = h (sym e ∙ f)
+
+  own_piece : (x : Effect Configuration) (p q : List ℕ) (d e : Configuration) → x ≡ Pure e → x ≡ Print p d → p ≡ q
+  own_piece x p q d e f g = absurd (cc)
+
+  -- the piece that a print shows is that of what is to be done
+  pub piece_told : (x : Doing) (p : List ℕ) (d : Configuration) → Tells code c x → effect code c ≡ Print p d → p ≡ piece_of code x
+  piece_told doing.Local p d h e = own_piece (effect code c) p _ d h.1 h.4 e
+  piece_told (doing.Read r a) p d h e = let f = h.0 in absurd (cc)
+  piece_told (doing.Write a w) p d h e = let f = h.0 in absurd (cc)
+  piece_told (doing.Begin to) p d h e = absurd (cc)
+  piece_told doing.Commit p d h e = absurd (cc)
+  piece_told doing.Cancel p d h e = absurd (cc)
+  piece_told doing.Irrevocable p d h e = absurd (cc)
+  piece_told doing.Call p d h e = own_piece (effect code c) p _ d h.3 h.5 e
+  piece_told (doing.Return w) p d h e = let r = return_is c.frames w h.1 in own_piece (effect code c) p _ d r.0 (h.0 ∙ r.1) e
+  piece_told doing.End p d h e = absurd (cc)
+  piece_told (doing.PrintText n) p d h e = cc
+  piece_told (doing.PrintNumber z) p d h e = cc
+  piece_told (doing.Traps cause) p d h e = absurd (cc)
+
+module _ (code : Code) (k : Kept) (running : k.status ≡ Running) (x : Doing) (t : Tells code k.configuration x) where
+  asks_at : (att : Option (Attempt Saved)) → asks_by (shown k) (shown_from k.configuration att) (effect code k.configuration) ≡ op_asked x att k.trapping
+  asks_at None = ap (λ (s : Status). asks_outside s (effect code k.configuration)) running ∙ out_told code k.configuration x t
+  asks_at (Some a) = op_told code k.configuration x a.kept k.trapping t
+
+  -- what the thread that is shown asks is what is to be done
+  pub asks_is : asks (effect code) (shown k) ≡ op_asked x k.core.attempt k.trapping
+  asks_is = asks_at k.core.attempt
+
+module _ {C : Type 0} (th : Thread C) where
+  outside_asked : (s : Status) (x : Effect C) (o : Op) → asks_outside s x ≡ Some o → outside_access s x ≡ core_access {S = C} None o
+  outside_asked Running (Begin c d) o e = let h : op.Begin ≡ o = cc in ap (λ (z : Op). core_access {S = C} None z) h
+  outside_asked Running (Pure c) o e = absurd (cc)
+  outside_asked Running (Print p c) o e = absurd (cc)
+  outside_asked Running (Read a k) o e = absurd (cc)
+  outside_asked Running (Write a v c) o e = absurd (cc)
+  outside_asked Running (Commit c) o e = absurd (cc)
+  outside_asked Running Cancel o e = absurd (cc)
+  outside_asked Running (Irrevocable c) o e = absurd (cc)
+  outside_asked Running (Traps k) o e = absurd (cc)
+  outside_asked Running End o e = absurd (cc)
+  outside_asked HasEnded x o e = absurd (cc)
+  outside_asked (HasTrapped k) x o e = absurd (cc)
+
+  outside_none : (s : Status) (x : Effect C) → asks_outside s x ≡ None → outside_access s x ≡ Local
+  outside_none Running (Begin c d) e = absurd (cc)
+  outside_none Running (Pure c) e = refl
+  outside_none Running (Print p c) e = refl
+  outside_none Running (Read a k) e = refl
+  outside_none Running (Write a v c) e = refl
+  outside_none Running (Commit c) e = refl
+  outside_none Running Cancel e = refl
+  outside_none Running (Irrevocable c) e = refl
+  outside_none Running (Traps k) e = refl
+  outside_none Running End e = refl
+  outside_none HasEnded x e = refl
+  outside_none (HasTrapped k) x e = refl
+
+  pub access_asked : (att : Option (Attempt C)) (x : Effect C) (o : Op) → asks_by th att x ≡ Some o → access_of th att x ≡ core_access att o
+  access_asked None x o e = outside_asked th.status x o e
+  access_asked (Some a) x o e = ap (inside_access a) e
+
+  pub access_none : (att : Option (Attempt C)) (x : Effect C) → asks_by th att x ≡ None → access_of th att x ≡ Local
+  access_none None x e = outside_none th.status x e
+  access_none (Some a) x e = ap (inside_access a) e
+
+-- the access of a kept thread
+pub access_is : (code : Code) (k : Kept) (o : Op) → asks (effect code) (shown k) ≡ Some o → access (effect code) (shown k) ≡ core_access k.core.attempt o
+access_is code k o e = access_asked (shown k) (shown k).attempt (effect code k.configuration) o e ∙ (commutes (restored k.configuration)).access k.core.attempt o
+
+pub access_local : (code : Code) (k : Kept) → asks (effect code) (shown k) ≡ None → access (effect code) (shown k) ≡ Local
+access_local code k e = access_none (shown k) (shown k).attempt (effect code k.configuration) e
+
+-- the answer is one to what the core was asked
+pub answered : (c : CoreState) (o : Op) (y : Answer) → c.asked ≡ Some o → IsAnswerTo (core_access c.attempt o) y → IsAnswered c y
+answered c o y e h = subst (λ (z : Option Op). IsSomeAnd z (λ q. IsAnswerTo (core_access c.attempt q) y)) (sym e) h
+
+pub stepped_is : (c : CoreState) (o : Op) (y : Answer) → c.asked ≡ Some o → stepped c y ≡ core_step c.saved c.attempt o y
+stepped_is c o y e = ap (λ (z : Option Op). stepped_by c z y) e
+
+-- what the core says of a step that was prepared
+pub record CoreTold (k : Kept) (y : Answer) (new : CoreState) (r : Outcome) : Type 0 where
+  pub attempt : new.attempt ≡ (stepped k.core y).attempt
+  pub outcome : r ≡ (stepped k.core y).outcome
+  pub back : IfSome (stepped k.core y).back (λ s. new.saved ≡ s)
+
+module _ (code : Code) (law : BeginsStayOpen code) (k : Kept) (o : Op) (y : Answer) (running : k.status ≡ Running) (runs : RunsKept code k) (x : Doing) (t : Tells code k.configuration x)
+    (asked : op_asked x k.core.attempt k.trapping ≡ Some o) (r : Ready) (same_asked : r.asked ≡ k.core.asked) (same_saved : r.saved ≡ k.core.saved) (ready : IsReady code (shown k) r) (word : IsWordOf (access (effect code) (shown k)) y) where
+  asks_some : asks (effect code) (shown k) ≡ Some o
+  asks_some = asks_is code k running x t ∙ asked
+
+  core_asked : k.core.asked ≡ Some o
+  core_asked = sym same_asked ∙ ready.asked o asks_some
+
+  saves : o ≡ op.Begin → k.core.saved ≡ saved_in k.configuration
+  saves e = sym same_saved ∙ ready.saved (asks_some ∙ ap Some e)
+
+  words : IsWordOf (core_access k.core.attempt o) y
+  words = subst (λ (z : Access). IsWordOf z y) (access_is code k o asks_some) word
+
+  pub operation_answered : IsAnswerTo (access (effect code) (shown k)) y → IsAnswered k.core y
+  operation_answered h = answered k.core o y core_asked (subst (λ (z : Access). IsAnswerTo z y) (access_is code k o asks_some) h)
+
+  pub operation_back : (new : CoreState) (q : Outcome) → CoreTold k y new q → MayGoBack code k.configuration new.saved (back_by (effect code k.configuration) q (restored k.configuration new.saved))
+  operation_back new q z =
+      let e = stepped_is k.core o y core_asked in
+      may_go_back code law k o y running runs asks_some saves (writes_word code k.configuration x k.core.attempt k.trapping o t asked) words q new.saved
+      (z.outcome ∙ ap (λ (n : CoreStep Saved). n.outcome) e) (subst (λ (n : CoreStep Saved). IfSome n.back (λ s. new.saved ≡ s)) e z.back)
+
+  pub operation_makes : (l : Kept) (q : Outcome) (e : Event) → CoreTold k y l.core q → Resumes code law k l q e → Makes code (told (effect code) (shown k) y) l e
+  operation_makes l q ev z w =
+      let e = stepped_is k.core o y core_asked in
+      core_makes code law k o y running runs asks_some saves (writes_word code k.configuration x k.core.attempt k.trapping o t asked) words l q ev
+      (z.outcome ∙ ap (λ (n : CoreStep Saved). n.outcome) e) (z.attempt ∙ ap (λ (n : CoreStep Saved). n.attempt) e) (subst (λ (n : CoreStep Saved). IfSome n.back (λ s. l.core.saved ≡ s)) e z.back) w

@@ -1,0 +1,250 @@
+-- The steps of a kept thread: each shows as the machine's step.
+use Rattle.std.proofs.Common.{◌≡◌, ◌<◌, ◌^◌, ℕ, Bool, true, false, List, [], ◌∷◌, ◌++◌, Option, None, Some, refl, sym, ◌∙◌, ap, subst, map}
+use Rattle.syntax.specs.declared.numbers.Status.{Status}
+use Rattle.syntax.specs.declared.numbers.Status.TheVariants.{Running, Ended as HasEnded, Trapped as HasTrapped}
+use Rattle.syntax.specs.declared.numbers.Trap.{Trap}
+use Rattle.nesting.specs.Begins.{Saved}
+use Rattle.bytecode.specs.Effects.{Effect, after_cancel}
+use Rattle.bytecode.specs.Effects.Effect.{Pure, Print, Begin, Read, Write, Commit, Cancel, Irrevocable, Traps, End}
+use Rattle.bytecode.specs.Code.{Code, Configuration, effect}
+use Rattle.frames.specs.Open.{MayStand, AreRestored, GoesOn, restored, saved_in, BeginsStayOpen}
+use Rattle.norec_core.specs.declared.step.Op.{Op}
+use Rattle.norec_core.specs.declared.step.Op.TheVariants as op
+use Rattle.norec_core.specs.declared.step.Outcome.{Outcome}
+use Rattle.norec_core.specs.declared.step.Outcome.TheVariants as outcome
+use Rattle.norec_core.specs.declared.step.Answer.{Answer}
+use Rattle.norec_core.specs.Attempts.{Attempt}
+use Rattle.norec_core.specs.Phases.{CoreStep, core_step}
+use Rattle.norec_core.specs.Saved.{if_some, core_step_as}
+use Rattle.norec_core.proofs.SavedByMaps.{commutes}
+use Rattle.machine.specs.Threads.{Thread, told_of, told_outside, told_inside, resumed, resume, status_after, op_of}
+use Rattle.machine.specs.Standing.{begins_of, GivesWordsIf}
+use Rattle.machine.specs.States.{asks_outside, asks_by}
+use Rattle.machine.specs.inner.Kept.{shown_from, AreWithin, KeptBy}
+use Rattle.machine.proofs.keeping.Operations.{Does, is_plain, is_read}
+use Rattle.machine.proofs.keeping.Operations.Does.{goes, reads, works, begins, commits, cancels, drops, releases}
+use Rattle.machine.proofs.keeping.Seen.{restored_saved, now_unused, within}
+
+-- a step of the core shows as the core's step on what is shown
+pub core_shown : (c : Configuration) (s : Saved) (att : Option (Attempt Saved)) (o : Op) (y : Answer) → (o ≡ op.Begin → s ≡ saved_in c) → core_step c (shown_from c att) o y ≡ core_step_as (restored c) (core_step s att o y)
+core_shown c s att o y h = at o h ∙ (commutes (restored c)).step s att o y
+  where
+    at : (x : Op) → (x ≡ op.Begin → s ≡ saved_in c) → core_step c (shown_from c att) x y ≡ core_step (restored c s) (shown_from c att) x y
+    at op.Begin e = ap (λ (z : Configuration). core_step z (shown_from c att) op.Begin y) (sym (ap (restored c) (e refl) ∙ restored_saved c))
+    at (op.Read a) e = now_unused c (restored c s) (shown_from c att) (op.Read a) y (λ g. cc)
+    at (op.Write a v) e = now_unused c (restored c s) (shown_from c att) (op.Write a v) y (λ g. cc)
+    at op.Commit e = now_unused c (restored c s) (shown_from c att) op.Commit y (λ g. cc)
+    at op.Cancel e = now_unused c (restored c s) (shown_from c att) op.Cancel y (λ g. cc)
+    at op.Irrevocable e = now_unused c (restored c s) (shown_from c att) op.Irrevocable y (λ g. cc)
+    at op.Release e = now_unused c (restored c s) (shown_from c att) op.Release y (λ g. cc)
+
+module _ {C : Type 0} (f : C → Effect C) (th : Thread C) (y : Answer) where
+  outside_asked : (s : Status) (x : Effect C) (o : Op) → asks_outside s x ≡ Some o → told_outside f th s x y ≡ resumed f th x (core_step th.configuration None o y)
+  outside_asked Running (Begin c d) o e = let same : op.Begin ≡ o = cc in ap (λ (z : Op). resumed f th (Begin c d) (core_step th.configuration None z y)) same
+  outside_asked Running (Pure c) o e = absurd (cc)
+  outside_asked Running (Print p c) o e = absurd (cc)
+  outside_asked Running (Read a k) o e = absurd (cc)
+  outside_asked Running (Write a v c) o e = absurd (cc)
+  outside_asked Running (Commit c) o e = absurd (cc)
+  outside_asked Running Cancel o e = absurd (cc)
+  outside_asked Running (Irrevocable c) o e = absurd (cc)
+  outside_asked Running (Traps k) o e = absurd (cc)
+  outside_asked Running End o e = absurd (cc)
+  outside_asked HasEnded x o e = absurd (cc)
+  outside_asked (HasTrapped k) x o e = absurd (cc)
+
+  -- a step that asks the core for an operation
+  pub told_asked : (att : Option (Attempt C)) (x : Effect C) (o : Op) → asks_by th att x ≡ Some o → told_of f th att x y ≡ resumed f th x (core_step th.configuration att o y)
+  told_asked None x o e = outside_asked th.status x o e
+  told_asked (Some a) x o e = ap (λ (q : Option Op). told_inside f th a x q y) e
+
+-- the operation that an instruction asks for
+abbrev pub Matches : {C : Type 0} → Effect C → Op → Type 0
+Matches (Begin c d) o = o ≡ op.Begin
+Matches (Read a k) o = o ≡ op.Read a
+Matches (Write a v c) o = o ≡ op.Write a v
+Matches (Commit c) o = o ≡ op.Commit
+Matches Cancel o = o ≡ op.Cancel
+Matches (Irrevocable c) o = o ≡ op.Irrevocable
+Matches (Traps k) o = o ≡ op.Release
+Matches (Pure c) o = ⊥
+Matches (Print p c) o = ⊥
+Matches End o = ⊥
+
+module _ {C : Type 0} where
+  op_matches : (x : Effect C) (kept trapping : Bool) (o : Op) → op_of x kept trapping ≡ Some o → Matches x o
+  op_matches (Begin c d) k t o e = cc
+  op_matches (Read a g) k t o e = cc
+  op_matches (Write a v c) k t o e = cc
+  op_matches (Commit c) k t o e = cc
+  op_matches Cancel k t o e = cc
+  op_matches (Irrevocable c) k t o e = cc
+  op_matches (Traps cause) true false o e = absurd (cc)
+  op_matches (Traps cause) true true o e = cc
+  op_matches (Traps cause) false t o e = cc
+  op_matches (Pure c) k t o e = absurd (cc)
+  op_matches (Print p c) k t o e = absurd (cc)
+  op_matches End k t o e = absurd (cc)
+
+  outside_matches : (s : Status) (x : Effect C) (o : Op) → asks_outside s x ≡ Some o → Matches x o
+  outside_matches Running (Begin c d) o e = cc
+  outside_matches Running (Pure c) o e = absurd (cc)
+  outside_matches Running (Print p c) o e = absurd (cc)
+  outside_matches Running (Read a k) o e = absurd (cc)
+  outside_matches Running (Write a v c) o e = absurd (cc)
+  outside_matches Running (Commit c) o e = absurd (cc)
+  outside_matches Running Cancel o e = absurd (cc)
+  outside_matches Running (Irrevocable c) o e = absurd (cc)
+  outside_matches Running (Traps k) o e = absurd (cc)
+  outside_matches Running End o e = absurd (cc)
+  outside_matches HasEnded x o e = absurd (cc)
+  outside_matches (HasTrapped k) x o e = absurd (cc)
+
+  pub matches : (th : Thread C) (att : Option (Attempt C)) (x : Effect C) (o : Op) → asks_by th att x ≡ Some o → Matches x o
+  matches th None x o e = outside_matches th.status x o e
+  matches th (Some a) x o e = op_matches x a.kept th.trapping o e
+
+-- where the operation of a core's step leaves the thread, and whether it runs
+pub record Leaves (code : Code) (c : Configuration) (x : Effect Configuration) (r : Outcome) (o : Option (Attempt Saved)) (d : Configuration) (s : Status) : Type 0 where
+  pub stands : KeptBy code (record { configuration = d; core = record { attempt = o; asked = None; saved = saved_in c }; trapping = false; text = []; status = s }) s
+  pub within : AreWithin d (begins_of o)
+  pub restored : AreRestored c d (begins_of o)
+
+module _ (code : Code) (law : BeginsStayOpen code) where
+  module _ (c : Configuration) (ss : List Saved) (m : MayStand code c ss) where
+    runs_at : (x : Effect Configuration) (r : Outcome) (o : Option (Attempt Saved)) (d : Configuration) → MayStand code d (begins_of o) → AreRestored c d (begins_of o) → GivesWordsIf o → Leaves code c x r o d Running
+    runs_at x r o d s a w = record { stands = record { stands = s; words = w }; within = within code law d (begins_of o) s; restored = a }
+
+    over_at : (x : Effect Configuration) (r : Outcome) (cause : Trap) → Leaves code c x r None c (HasTrapped cause)
+    over_at x r cause = record { stands = refl; within = tt; restored = refl }
+
+    here : (x : Effect Configuration) (r : Outcome) (o : Option (Attempt Saved)) → begins_of o ≡ ss → GivesWordsIf o → Leaves code c x r o c Running
+    here x r o e w = runs_at x r o c (subst (MayStand code c) (sym e) m) refl w
+
+    on_at : (x : Effect Configuration) (r : Outcome) (o : Option (Attempt Saved)) (d : Configuration) → effect code c ≡ x → GoesOn x d → begins_of o ≡ ss → GivesWordsIf o → Leaves code c x r o d Running
+    on_at x r o d ex g e w =
+        let h = law.goes_on c d ss m (subst (λ z. GoesOn z d) (sym ex) g) in
+        runs_at x r o d (subst (MayStand code d) (sym e) h.0) (subst (AreRestored c d) (sym e) h.1) w
+
+    module _ (s : Saved) (o : Op) (n : CoreStep Saved) (same : o ≡ op.Begin → s ≡ saved_in c) where
+      -- where the operation goes on: by what came of it, and by the instruction that asked for it
+      abbrev To : Effect Configuration → Configuration
+      To x = resume (effect code) x c n.outcome (if_some (restored c) n.back)
+
+      abbrev LeavesTo : Effect Configuration → Type 0
+      LeavesTo x = Leaves code c x n.outcome n.attempt (To x) (status_after n.outcome x Running)
+
+      to_at : (x : Effect Configuration) (r : Outcome) (b : Option Saved) (d : Configuration) (st : Status) → n.outcome ≡ r → n.back ≡ b → resume (effect code) x c r (if_some (restored c) b) ≡ d → status_after r x Running ≡ st →
+          Leaves code c x n.outcome n.attempt d st → LeavesTo x
+      to_at x r b d st e f g h l =
+          let place : To x ≡ d = ap (λ (z : Outcome). resume (effect code) x c z (if_some (restored c) n.back)) e ∙ ap (λ (z : Option Saved). resume (effect code) x c r (if_some (restored c) z)) f ∙ g in
+          let status : status_after n.outcome x Running ≡ st = ap (λ (z : Outcome). status_after z x Running) e ∙ h in
+          subst (λ z. Leaves code c x n.outcome n.attempt (To x) z) (sym status) (subst (λ z. Leaves code c x n.outcome n.attempt z st) (sym place) l)
+
+      going_on : (x : Effect Configuration) → n.outcome ≡ outcome.Going → n.back ≡ None → begins_of n.attempt ≡ ss → GivesWordsIf n.attempt → LeavesTo x
+      going_on x e f b w = to_at x outcome.Going None c Running e f refl refl (here x n.outcome n.attempt b w)
+
+      reading : (x : Effect Configuration) (v : ℕ) → effect code c ≡ x → Matches x o → is_read o ≡ true → v < 2 ^ 32 → n.outcome ≡ outcome.Read v → n.back ≡ None → begins_of n.attempt ≡ ss → GivesWordsIf n.attempt → LeavesTo x
+      reading (Read a k) v ex q r lt e f b w = to_at (Read a k) (outcome.Read v) None (k v) Running e f refl refl (on_at (Read a k) n.outcome n.attempt (k v) ex (v, lt, refl) b w)
+      reading (Begin d g) v ex q r lt e f b w = let z : is_read o ≡ false = ap is_read q in absurd (cc)
+      reading (Write a u d) v ex q r lt e f b w = let z : is_read o ≡ false = ap is_read q in absurd (cc)
+      reading (Commit d) v ex q r lt e f b w = let z : is_read o ≡ false = ap is_read q in absurd (cc)
+      reading Cancel v ex q r lt e f b w = let z : is_read o ≡ false = ap is_read q in absurd (cc)
+      reading (Irrevocable d) v ex q r lt e f b w = let z : is_read o ≡ false = ap is_read q in absurd (cc)
+      reading (Traps k) v ex q r lt e f b w = let z : is_read o ≡ false = ap is_read q in absurd (cc)
+      reading (Pure d) v ex q r lt e f b w = absurd q
+      reading (Print p d) v ex q r lt e f b w = absurd q
+      reading End v ex q r lt e f b w = absurd q
+
+      working : (x : Effect Configuration) → effect code c ≡ x → Matches x o → is_plain o ≡ true → n.outcome ≡ outcome.Done → n.back ≡ None → begins_of n.attempt ≡ ss → GivesWordsIf n.attempt → LeavesTo x
+      working (Write a u d) ex q r e f b w = to_at (Write a u d) outcome.Done None d Running e f refl refl (on_at (Write a u d) n.outcome n.attempt d ex refl b w)
+      working (Irrevocable d) ex q r e f b w = to_at (Irrevocable d) outcome.Done None d Running e f refl refl (on_at (Irrevocable d) n.outcome n.attempt d ex refl b w)
+      working (Begin d g) ex q r e f b w = let z : is_plain o ≡ false = ap is_plain q in absurd (cc)
+      working (Read a k) ex q r e f b w = let z : is_plain o ≡ false = ap is_plain q in absurd (cc)
+      working (Commit d) ex q r e f b w = let z : is_plain o ≡ false = ap is_plain q in absurd (cc)
+      working Cancel ex q r e f b w = let z : is_plain o ≡ false = ap is_plain q in absurd (cc)
+      working (Traps k) ex q r e f b w = let z : is_plain o ≡ false = ap is_plain q in absurd (cc)
+      working (Pure d) ex q r e f b w = absurd q
+      working (Print p d) ex q r e f b w = absurd q
+      working End ex q r e f b w = absurd q
+
+      beginning : (x : Effect Configuration) → effect code c ≡ x → Matches x o → o ≡ op.Begin → n.outcome ≡ outcome.Done → n.back ≡ None → begins_of n.attempt ≡ s ∷ ss → GivesWordsIf n.attempt → LeavesTo x
+      beginning (Begin d g) ex q r e f b w =
+          let h = law.opens c d g ss m ex in
+          let now : s ≡ saved_in c = same r in
+          let all : begins_of n.attempt ≡ saved_in c ∷ ss = b ∙ ap (λ (z : Saved). z ∷ ss) now in
+          let back : AreRestored c d (saved_in c ∷ ss) = ap (λ (z : Configuration). z ∷ map (restored d) ss) (h.1 ∙ sym (restored_saved c)) ∙ ap (λ (zs : List Configuration). restored c (saved_in c) ∷ zs) h.2 in
+          to_at (Begin d g) outcome.Done None d Running e f refl refl
+          (runs_at (Begin d g) n.outcome n.attempt d (subst (MayStand code d) (sym all) h.0) (subst (AreRestored c d) (sym all) back) w)
+      beginning (Write a u d) ex q r e f b w = absurd (cc)
+      beginning (Irrevocable d) ex q r e f b w = absurd (cc)
+      beginning (Read a k) ex q r e f b w = absurd (cc)
+      beginning (Commit d) ex q r e f b w = absurd (cc)
+      beginning Cancel ex q r e f b w = absurd (cc)
+      beginning (Traps k) ex q r e f b w = absurd (cc)
+      beginning (Pure d) ex q r e f b w = absurd q
+      beginning (Print p d) ex q r e f b w = absurd q
+      beginning End ex q r e f b w = absurd q
+
+      committing : (x : Effect Configuration) (t : Saved) → effect code c ≡ x → Matches x o → o ≡ op.Commit → n.outcome ≡ outcome.Done → n.back ≡ None → ss ≡ t ∷ begins_of n.attempt → GivesWordsIf n.attempt → LeavesTo x
+      committing (Commit d) t ex q r e f b w =
+          let h = law.closes c d ss m ex in
+          let rest : h.1 ≡ begins_of n.attempt = let g = h.2 in cc in
+          to_at (Commit d) outcome.Done None d Running e f refl refl
+          (runs_at (Commit d) n.outcome n.attempt d (subst (MayStand code d) rest h.3) (subst (AreRestored c d) rest h.4) w)
+      committing (Begin d g) t ex q r e f b w = absurd (cc)
+      committing (Write a u d) t ex q r e f b w = absurd (cc)
+      committing (Irrevocable d) t ex q r e f b w = absurd (cc)
+      committing (Read a k) t ex q r e f b w = absurd (cc)
+      committing Cancel t ex q r e f b w = absurd (cc)
+      committing (Traps k) t ex q r e f b w = absurd (cc)
+      committing (Pure d) t ex q r e f b w = absurd q
+      committing (Print p d) t ex q r e f b w = absurd q
+      committing End t ex q r e f b w = absurd q
+
+      cancelling : (x : Effect Configuration) (t : Saved) → effect code c ≡ x → Matches x o → o ≡ op.Cancel → n.outcome ≡ outcome.Done → n.back ≡ Some t → ss ≡ t ∷ begins_of n.attempt → GivesWordsIf n.attempt → LeavesTo x
+      cancelling Cancel t ex q r e f b w =
+          let h = law.cancels c ss m ex in
+          let first : h.0 ≡ t = let g = h.2 in cc in
+          let rest : h.1 ≡ begins_of n.attempt = let g = h.2 in cc in
+          let to = λ (z : Saved). after_cancel (effect code (restored c z)) (restored c z) in
+          to_at Cancel outcome.Done (Some t) (to t) Running e f refl refl
+          (runs_at Cancel n.outcome n.attempt (to t) (subst (λ (z : Saved). MayStand code (to z) (begins_of n.attempt)) first (subst (MayStand code (to h.0)) rest h.3))
+          (subst (λ (z : Saved). AreRestored c (to z) (begins_of n.attempt)) first (subst (AreRestored c (to h.0)) rest h.4)) w)
+      cancelling (Begin d g) t ex q r e f b w = absurd (cc)
+      cancelling (Write a u d) t ex q r e f b w = absurd (cc)
+      cancelling (Irrevocable d) t ex q r e f b w = absurd (cc)
+      cancelling (Read a k) t ex q r e f b w = absurd (cc)
+      cancelling (Commit d) t ex q r e f b w = absurd (cc)
+      cancelling (Traps k) t ex q r e f b w = absurd (cc)
+      cancelling (Pure d) t ex q r e f b w = absurd q
+      cancelling (Print p d) t ex q r e f b w = absurd q
+      cancelling End t ex q r e f b w = absurd q
+
+      dropping : (x : Effect Configuration) (inner : List Saved) (t : Saved) → n.outcome ≡ outcome.Aborted → n.back ≡ Some t → ss ≡ inner ++ t ∷ [] → n.attempt ≡ None → LeavesTo x
+      dropping x inner t e f b a =
+          let h = law.goes_back c inner t [] (subst (MayStand code c) b m) in
+          to_at x outcome.Aborted (Some t) (restored c t) Running e f refl refl
+          (subst (λ (z : Option (Attempt Saved)). Leaves code c x n.outcome z (restored c t) Running) (sym a) (runs_at x n.outcome None (restored c t) h.0 refl tt))
+
+      releasing : (x : Effect Configuration) → Matches x o → o ≡ op.Release → n.outcome ≡ outcome.Done → n.back ≡ None → n.attempt ≡ None → LeavesTo x
+      releasing (Traps k) q r e f a = to_at (Traps k) outcome.Done None c (HasTrapped k) e f refl refl (subst (λ (z : Option (Attempt Saved)). Leaves code c (Traps k) n.outcome z c (HasTrapped k)) (sym a) (over_at (Traps k) n.outcome k))
+      releasing (Begin d g) q r e f a = absurd (cc)
+      releasing (Write w u d) q r e f a = absurd (cc)
+      releasing (Irrevocable d) q r e f a = absurd (cc)
+      releasing (Read w k) q r e f a = absurd (cc)
+      releasing (Commit d) q r e f a = absurd (cc)
+      releasing Cancel q r e f a = absurd (cc)
+      releasing (Pure d) q r e f a = absurd q
+      releasing (Print p d) q r e f a = absurd q
+      releasing End q r e f a = absurd q
+
+      pub leaves : (x : Effect Configuration) → effect code c ≡ x → Matches x o → Does s ss o n → LeavesTo x
+      leaves x ex q (goes e f b w) = going_on x e f b w
+      leaves x ex q (reads v r lt e f b w) = reading x v ex q r lt e f b w
+      leaves x ex q (works r e f b w) = working x ex q r e f b w
+      leaves x ex q (begins r e f b w) = beginning x ex q r e f b w
+      leaves x ex q (commits t r e f b w c) = committing x t ex q r e f b w
+      leaves x ex q (cancels t r e f b w) = cancelling x t ex q r e f b w
+      leaves x ex q (drops inner t e f b a) = dropping x inner t e f b a
+      leaves x ex q (releases r e f a) = releasing x q r e f a

@@ -1,0 +1,55 @@
+-- How a thread stands in a valid code: in its frames, with its begins open there, and with words in hand. Each call of a
+-- thread asks it and gives it back, since the thread keeps no code.
+use Rattle.std.specs.Prelude.{◌≡◌, ◌<◌, ◌^◌, ℕ, List, [], ◌∷◌, ◌++◌, Option, None, Some, map}
+use Rattle.std.specs.List.{AllByRecursion}
+use Rattle.syntax.specs.declared.numbers.Status.{Status}
+use Rattle.syntax.specs.declared.numbers.Status.TheVariants.{Running, Ended as HasEnded, Trapped as HasTrapped}
+use Rattle.nesting.specs.Begins.{Saved}
+use Rattle.bytecode.specs.Code.{Code, Configuration}
+use Rattle.frames.specs.Open.{MayStand, restored}
+use Rattle.norec_core.specs.declared.step.Phase.{Phase}
+use Rattle.norec_core.specs.declared.step.Phase.TheVariants.{ReadsLock, Stores}
+use Rattle.norec_core.specs.Attempts.{Attempt, Checkpoint}
+use Rattle.machine.specs.Threads.{Thread}
+
+-- what the open begins of an attempt saved, the innermost first
+abbrev pub begins_of : {S : Type 0} → Option (Attempt S) → List S
+begins_of None = []
+begins_of {S} (Some a) = map (λ (k : Checkpoint S). k.saved) a.inner ++ a.saved ∷ []
+
+-- what each of these pairs has for its address is a word
+abbrev pub HaveWords : List (ℕ × ℕ) → Type 0
+HaveWords pairs = AllByRecursion (λ (p : ℕ × ℕ). p.1 < 2 ^ 32) pairs
+
+-- a read has a word in hand; a commit that stores is of the outermost transaction
+abbrev pub HasInHand : {S : Type 0} → List (Checkpoint S) → Phase → Type 0
+HasInHand inner (ReadsLock word) = word < 2 ^ 32
+HasInHand inner (Stores i) = inner ≡ []
+HasInHand inner _ = Unit {0}
+
+-- whatever an attempt may yet give to a register is a word
+pub record GivesWords {S : Type 0} (a : Attempt S) : Type 0 where
+  pub writes : HaveWords a.writes
+  pub marks : AllByRecursion (λ (k : Checkpoint S). HaveWords k.writes) a.inner
+  pub in_hand : HasInHand a.inner a.phase
+
+abbrev pub GivesWordsIf : {S : Type 0} → Option (Attempt S) → Type 0
+GivesWordsIf None = Unit {0}
+GivesWordsIf (Some a) = GivesWords a
+
+-- a thread that runs may stand where it does, where its open begins saved these: they had the configurations of its attempt
+pub record Runs (code : Code) (th : Thread Configuration) : Type 0 where
+  pub saved : List Saved
+  pub stands : MayStand code th.configuration saved
+  pub begins : begins_of th.attempt ≡ map (restored th.configuration) saved
+  pub words : GivesWordsIf th.attempt
+
+-- one that is over has no attempt
+abbrev pub IsStanding : Code → Thread Configuration → Status → Type 0
+IsStanding code th Running = Runs code th
+IsStanding code th HasEnded = th.attempt ≡ None
+IsStanding code th (HasTrapped cause) = th.attempt ≡ None
+
+-- the thread is one of this code
+unfoldable pub IsThreadOf : Code → Thread Configuration → Type 0
+IsThreadOf code th = IsStanding code th th.status

@@ -1,0 +1,85 @@
+-- A thread as its contracts see it.
+use Rattle.std.specs.Prelude.{◌≡◌, ◌<◌, ◌≤◌, ◌^◌, ℕ, Bool, false, List, [], Option, None, Some, length}
+use Rattle.syntax.specs.declared.numbers.Status.{Status}
+use Rattle.syntax.specs.declared.numbers.Status.TheVariants.{Running}
+use Rattle.nesting.specs.Begins.{Saved}
+use Rattle.bytecode.specs.Effects.{Effect}
+use Rattle.bytecode.specs.Effects.Effect.{Begin, Print}
+use Rattle.bytecode.specs.Beginning.{beginning}
+use Rattle.bytecode.specs.Code.{Code, Configuration, effect}
+use Rattle.frames.specs.Open.{saved_in}
+use Rattle.frames.specs.Stack.{HasRoom}
+use Rattle.frames.specs.Told.{IsCall}
+use Rattle.norec_core.specs.declared.step.Op.{Op}
+use Rattle.norec_core.specs.declared.step.Op.TheVariants as op
+use Rattle.norec_core.specs.declared.step.Access.{Access}
+use Rattle.norec_core.specs.declared.step.Access.TheVariants.{LoadWord}
+use Rattle.norec_core.specs.declared.step.Answer.{Answer}
+use Rattle.norec_core.specs.declared.step.Answer.TheVariants.{Value}
+use Rattle.norec_core.specs.Attempts.{Attempt}
+use Rattle.machine.specs.Explained.{has_lock}
+use Rattle.machine.specs.Threads.{Thread, op_of, access}
+
+-- what was made ready for a step: the operation that the core was asked for, what a begin then saves, and the room for a call
+-- and for a print
+pub record Ready : Type 0 where
+  pub asked : Option Op
+  pub saved : Saved
+  pub call_room : ℕ
+  pub text_room : ℕ
+
+-- the thread of the machine, the access for whose answer all is ready, and the number of accesses that it has made
+pub record ThreadState : Type 0 where
+  pub thread : Thread Configuration
+  pub prepared : Option Access
+  pub accesses : ℕ
+  pub ready : Ready
+
+-- what a thread asks of the core in its next step, if anything
+abbrev pub asks_outside : {C : Type 0} → Status → Effect C → Option Op
+asks_outside Running (Begin c d) = Some op.Begin
+asks_outside _ _ = None
+
+abbrev pub asks_by : {C : Type 0} → Thread C → Option (Attempt C) → Effect C → Option Op
+asks_by th None x = asks_outside th.status x
+asks_by th (Some a) x = op_of x a.kept th.trapping
+
+abbrev pub asks : {C : Type 0} → (C → Effect C) → Thread C → Option Op
+asks code th = asks_by th th.attempt (code th.configuration)
+
+-- all that the thread's next step needs is ready
+pub record IsReady (code : Code) (th : Thread Configuration) (r : Ready) : Type 0 where
+  pub asked : (o : Op) → asks (effect code) th ≡ Some o → r.asked ≡ Some o
+  pub saved : asks (effect code) th ≡ Some op.Begin → r.saved ≡ saved_in th.configuration
+  pub call : IsCall code th.configuration →
+      HasRoom code (record { configuration = th.configuration; room = r.call_room })
+  pub print : (piece : List ℕ) (next : Configuration) → effect code th.configuration ≡ Print piece next →
+      length piece ≤ r.text_room
+
+-- the access of the thread's next step is prepared, and all is ready where it runs
+pub record IsPrepared (code : Code) (s : ThreadState) : Type 0 where
+  pub access : s.prepared ≡ Some (access (effect code) s.thread)
+  pub ready : s.thread.status ≡ Running → IsReady code s.thread s.ready
+
+-- a loaded cell's word is a word
+abbrev pub IsWordOf : Access → Answer → Type 0
+IsWordOf (LoadWord address) (Value word) = word < 2 ^ 32
+IsWordOf _ _ = Unit {0}
+
+-- thread t of a code at its beginning
+abbrev pub first_thread : Code → ℕ → Thread Configuration
+first_thread code t = record {
+  configuration = beginning code t;
+  attempt = None;
+  trapping = false;
+  text = [];
+  status = Running;
+}
+
+-- the thread's attempt has the lock
+abbrev pub attempt_has_lock : {C : Type 0} → Option (Attempt C) → Bool
+attempt_has_lock None = false
+attempt_has_lock (Some a) = has_lock a.kept a.phase
+
+abbrev pub thread_has_lock : {C : Type 0} → Thread C → Bool
+thread_has_lock th = attempt_has_lock th.attempt

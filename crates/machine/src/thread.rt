@@ -1,0 +1,166 @@
+//! A thread of the machine.
+
+ghost use Rattle.std.specs.Prelude.{◌≡◌, ◌+◌, ◌<◌, ◌^◌, ◌↔◌, ℕ, None, Some, true, false, IfOk, OnOk};
+ghost use Rattle.bytecode.specs.Beginning.{beginning};
+ghost use Rattle.bytecode.specs.Code.{effect};
+ghost use Rattle.norec_core.specs.Accesses.{IsAnswerTo, cost, stops};
+ghost use Rattle.machine.specs.Threads.{access, told as told_spec};
+ghost use Rattle.machine.specs.Standing.{IsThreadOf};
+ghost use Rattle.machine.specs.States.{IsPrepared, IsWordOf, first_thread, thread_has_lock};
+ghost use Rattle.machine.specs.inner.Kept.{cost_if};
+
+use crate::event::Event;
+use crate::kept::KeptThread;
+use bytecode::Code;
+use frames::Frames;
+use norec_core::{Access, Answer, Core, Stop};
+use std::alloc::{AllocError, Allocator, Global};
+use std::marker::Model;
+use syntax::numbers::Status;
+
+/// One thread of the machine. It keeps no code: each call is given the code of `new`.
+///
+/// A step is made in two calls, with its one access to the lock or the words between them: `prepare` names the access and
+/// makes all room that the step needs, `told` takes the answer, and neither fails nor takes memory.
+#[derive(Drop)]
+pub struct Thread<A: Allocator = Global> {
+    held: KeptThread<A>,
+    accesses: u64,
+    prepared: Option<Access>,
+}
+
+impl<A: Allocator> Model for Thread<A> {
+    ghost use Rattle.machine.specs.States.{ThreadState};
+
+    ghost Value = { ThreadState };
+
+    ghost use Rattle.machine.specs.Standing.{begins_of};
+    ghost use Rattle.machine.specs.inner.Kept.{AreWithin, kept, ready, shown};
+
+    ghost view = { λ t. record { thread = shown (kept t.held); prepared = t.prepared; accesses = t.accesses; ready = ready t.held } };
+
+    // The frames of all open begins are still there.
+    ghost invariant = { λ t. AreWithin t.held.frames.configuration (begins_of t.held.core.attempt) };
+}
+
+// How many accesses to the lock or the words what was prepared makes.
+fn cost_of(prepared: Option<Access>) -> u64
+    ensures { result ≡ cost_if prepared }
+{
+    match prepared {
+        None => 0,
+        Some(Access::Local) => 0,
+        Some(_) => 1,
+    }
+}
+
+impl<A: Allocator + Copy> Thread<A> {
+    /// Thread `number` at its beginning. The error comes only where memory is refused.
+    pub fn new<B: Allocator>(alloc: A, code: &Code<B>, number: u32) -> Result<Thread<A>, AllocError>
+        ensures thread { IfOk result (λ t. t.thread ≡ first_thread code.now number) }
+        ensures of { IfOk result (λ t. IsThreadOf code.now t.thread) }
+        ensures accesses { IfOk result (λ t. t.accesses ≡ 0) }
+    {
+        // The prover learns here that the code is valid.
+        let _valid = code.parts();
+        let frames = Frames::new(alloc, code, number)?;
+        let core = Core::new(alloc);
+        let text = String::new(alloc);
+        Ok(Thread {
+            held: KeptThread {
+                frames,
+                core,
+                trapping: false,
+                text,
+                status: Status::Running,
+            },
+            accesses: 0,
+            prepared: None,
+        })
+    }
+
+    /// Names the access of the next step, and makes all ready for its answer. A thread that is over makes local steps that
+    /// change nothing.
+    ///
+    /// An error leaves the thread as it was: `OutOfMemory` where room was refused, `SequenceUsedUp` where the step would swap
+    /// the lock from its last even value.
+    pub fn prepare<B: Allocator>(&mut self, code: &Code<B>) -> Result<Access, Stop>
+        requires { IsThreadOf code.now self.old.thread }
+        ensures thread { self.new.thread ≡ self.old.thread }
+        ensures accesses { self.new.accesses ≡ self.old.accesses }
+        ensures access { IfOk result (λ x. (x ≡ access (effect code.now) self.old.thread) × (stops x ≡ false)) }
+        ensures prepared { OnOk result (IsPrepared code.now self.new) }
+        ensures used_up { (result ≡ Err Stop.SequenceUsedUp) ↔ (stops (access (effect code.now) self.old.thread) ≡ true) }
+    {
+        // The prover learns here that the code is valid.
+        let _valid = code.parts();
+        match self.held.status {
+            Status::Running => match self.held.prepare(code) {
+                Ok(access) => {
+                    self.prepared = Some(access);
+                    Ok(access)
+                }
+                Err(why) => Err(why),
+            },
+            Status::Ended => {
+                self.prepared = Some(Access::Local);
+                Ok(Access::Local)
+            }
+            Status::Trapped(_) => {
+                self.prepared = Some(Access::Local);
+                Ok(Access::Local)
+            }
+        }
+    }
+
+    /// Makes the step that was prepared, with the answer to its access, and says what happened. It takes no memory.
+    pub fn told<B: Allocator>(&mut self, code: &Code<B>, answer: Answer) -> Event
+        requires of { IsThreadOf code.now self.old.thread }
+        requires prepared { IsPrepared code.now self.old }
+        requires fits { IsAnswerTo (access (effect code.now) self.old.thread) answer }
+        requires word { IsWordOf (access (effect code.now) self.old.thread) answer }
+        requires count { self.old.accesses + cost (access (effect code.now) self.old.thread) < 2 ^ 64 }
+        ensures thread { self.new.thread ≡ (told_spec (effect code.now) self.old.thread answer).thread }
+        ensures event { result ≡ (told_spec (effect code.now) self.old.thread answer).event }
+        ensures of { IsThreadOf code.now self.new.thread }
+        ensures accesses { self.new.accesses ≡ self.old.accesses + cost (access (effect code.now) self.old.thread) }
+    {
+        // The prover learns here that the code is valid.
+        let _valid = code.parts();
+        self.accesses += cost_of(self.prepared);
+        self.prepared = None;
+        match self.held.status {
+            Status::Running => self.held.told(code, answer),
+            Status::Ended => Event::Quiet,
+            Status::Trapped(_) => Event::Quiet,
+        }
+    }
+
+    /// How it is.
+    pub fn status(&self) -> Status
+        ensures { result ≡ self.now.thread.status }
+    {
+        self.held.status
+    }
+
+    /// What it has printed.
+    pub fn output(&self) -> &str
+        ensures { result.now ≡ self.now.thread.text }
+    {
+        self.held.text.as_str()
+    }
+
+    /// How many accesses to the lock or the words it has made.
+    pub fn accesses(&self) -> u64
+        ensures { result ≡ self.now.accesses }
+    {
+        self.accesses
+    }
+
+    /// Whether it has the lock: from the won swap of a commit, or of an operation that cannot be taken back, to the release.
+    pub fn has_lock(&self) -> bool
+        ensures { result ≡ thread_has_lock self.now.thread }
+    {
+        self.held.core.has_lock()
+    }
+}
