@@ -19,4 +19,4 @@ pub mod LaidOut
 mod Names
 mod Each
 -- what a valid code reads and writes
-mod Fits
+pub mod Fits

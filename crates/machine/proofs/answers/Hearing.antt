@@ -64,7 +64,7 @@ lock_value_is (Swap from) lock words l e = at (eqb_tells lock from) e
 lock_value_is (StoreWord a v) lock words l e = absurd (cc)
 lock_value_is (StoreLock n) lock words l e = absurd (cc)
 
-answer_fits : (x : Access) (lock : ℕ) (words : List ℕ) → IsAnswerTo x (answer lock words x)
+pub answer_fits : (x : Access) (lock : ℕ) (words : List ℕ) → IsAnswerTo x (answer lock words x)
 answer_fits Local lock words = tt
 answer_fits LoadLock lock words = tt
 answer_fits (LoadWord a) lock words = tt

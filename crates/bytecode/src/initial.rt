@@ -1,0 +1,75 @@
+//! The memory in which the threads of a code begin.
+
+ghost use Rattle.std.specs.Prelude.{◌≡◌, ◌++◌, map, replicate, IfOk, OnOk};
+ghost use Rattle.syntax.specs.Views.{global_of};
+ghost use Rattle.syntax.specs.Names.{cells, first_word as first_word_of, first_words, initial_from};
+ghost use Rattle.bytecode.specs.Initial.{initial_of};
+ghost use Rattle.bytecode.specs.Valid.{IsValid};
+
+use crate::code::Code;
+use std::alloc::{AllocError, Allocator};
+use syntax::tree::{First, Global};
+
+// The word of a number that a global begins with.
+fn first_word(first: First) -> u32
+    ensures { result ≡ first_word_of first }
+{
+    if first.negative {
+        first.value.wrapping_neg()
+    } else {
+        first.value
+    }
+}
+
+fn cell_count<A: Allocator>(global: &Global<A>) -> usize
+    ensures { result ≡ cells (global_of global.now) }
+{
+    match global.length {
+        Some((count, _)) => count as usize,
+        None => 1,
+    }
+}
+
+fn push_firsts<A: Allocator>(words: &mut Vec<u64, A>, firsts: &[First]) -> Result<(), AllocError>
+    ensures { OnOk result (words.new.items ≡ words.old.items ++ map first_word_of firsts.now) }
+{
+    'firsts: for first in firsts {
+        words.push(u64::from(first_word(*first)))?;
+    }
+    Ok(())
+}
+
+fn push_zeros<A: Allocator>(words: &mut Vec<u64, A>, count: usize) -> Result<(), AllocError>
+    ensures { OnOk result (words.new.items ≡ words.old.items ++ replicate count 0) }
+{
+    'zeros: for _ in 0..count {
+        words.push(0)?;
+    }
+    Ok(())
+}
+
+fn push_global<A: Allocator, B: Allocator>(
+    words: &mut Vec<u64, B>,
+    global: &Global<A>,
+) -> Result<(), AllocError>
+    ensures { OnOk result (words.new.items ≡ words.old.items ++ first_words (global_of global.now)) }
+{
+    push_firsts(words, global.first.as_slice())?;
+    let rest = cell_count(global).saturating_sub(global.first.as_slice().len());
+    push_zeros(words, rest)
+}
+
+impl<A: Allocator> Code<A> {
+    /// Adds the first word of each cell, in order: the one that its initialiser gives, or else 0. After an `Err`, which comes
+    /// only where a growth is refused, some of them are added.
+    pub fn push_initial<B: Allocator>(&self, words: &mut Vec<u64, B>) -> Result<(), AllocError>
+        ensures words { OnOk result (words.new.items ≡ words.old.items ++ initial_of self.now) }
+        ensures valid { IsValid self.now }
+    {
+        let parts = self.parts();
+        'globals: for global in parts.globals.as_slice() {
+            push_global(words, global)?;
+        }
+        Ok(())
+    }
+}

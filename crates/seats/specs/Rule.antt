@@ -1,0 +1,126 @@
+-- The rule of the words and of all that the seats know.
+use Rattle.std.specs.Prelude.{◌≡◌, ℕ, ◌≤◌, ◌<◌, ◌%◌, ◌==◌, nat_lt, false, MatchBool, if◌then◌else◌, List, [], ◌∷◌, ◌++◌, drop, Some}
+use Rattle.std.specs.List.{slice_get}
+use mathlib.Core.Option.{some}
+use lib.ListN.{get_elem?}
+use Rattle.atomic_table.specs.Table.{Me}
+use Rattle.bytecode.specs.Code.{Configuration, effect}
+use Rattle.bytecode.specs.Valid.{IsValid}
+use Rattle.norec_core.specs.declared.step.Access.{Access}
+use Rattle.norec_core.specs.declared.step.Access.TheVariants.{Local, LoadLock, LoadWord, Swap, StoreWord, StoreLock}
+use Rattle.norec_core.specs.declared.step.Answer.{Answer}
+use Rattle.norec_core.specs.declared.step.Answer.TheVariants.{Done, Value, Won, Lost}
+use Rattle.machine.specs.Answered.{Heard, LocksFrom, LocksTo, NumbersBelow, is_local, paused}
+use Rattle.machine.specs.Threads.{Thread, access, told}
+use Rattle.machine.specs.Worlds.{Part, World, part_after}
+use Rattle.norec_core.specs.Accesses.{IsAnswerTo}
+use Rattle.machine.specs.States.{IsWordOf}
+use Rattle.seats.specs.Setup.{Setup, IsPart, IsWorldOf}
+use Rattle.seats.specs.Views.{ViewPart, Views, parts_in, Among, all_floored, floored}
+
+-- what the rule says of one part
+pub record Fits (key : Setup) (w : World Configuration) (heard : List (List Heard)) (p : ViewPart) : Type 0 where
+  pub setup : p.setup ≡ key
+  pub part : slice_get w.parts p.number ≡ Some p.part
+  pub answers : slice_get heard p.number ≡ Some p.heard
+  pub floor : p.floor ≤ w.lock
+  pub since : LocksFrom p.floor (drop p.floor_at p.heard)
+
+-- The words are the lock and the words of a world that some list of steps of the machine leads to. Each thread has one part
+-- among all views, and it is that world's.
+pub record IsRuled (key : Setup) (words : List ℕ) (views : Views) : Type 0 where
+  pub world : World Configuration
+  pub heard : List (List Heard)
+  pub words_are : words ≡ world.lock ∷ world.words
+  pub valid : IsValid key.code
+  pub answered : IsWorldOf key world heard
+  pub once : (number : ℕ) → parts_in number views ≡ (if nat_lt number key.threads then 1 else 0)
+  pub fits : (seat : ℕ) (view : List ViewPart) (p : ViewPart) → get_elem? views seat ≡ some view → Among p view →
+      Fits key world heard p
+
+-- the answer of an access that found n
+abbrev pub reply : Access → ℕ → Answer
+reply Local n = Done
+reply LoadLock n = Value n
+reply (LoadWord a) n = Value n
+reply (Swap from) n = if n == from then Won else Lost n
+reply (StoreWord a v) n = Done
+reply (StoreLock l) n = Done
+
+-- what a seat knows, and that it holds no slot
+abbrev pub SeatView : Type 0
+SeatView = Me (Unit {0}) (List ViewPart)
+
+-- the answers with one more
+abbrev pub more_heard : List Heard → Access → Answer → List Heard
+more_heard hs x a = hs ++ record { access = x; answer = a } ∷ []
+
+-- the part and its answers after an access of the thread, which by then had come to the part now
+abbrev pub part_told : ViewPart → List ℕ → Part Configuration → Access → Answer → ViewPart
+part_told p words now x a = record p {
+  part = part_after words now (told (effect p.setup.code) now.thread a);
+  heard = more_heard p.heard x a;
+}
+
+-- what an access leaves of a part and of its view
+pub record TookAs (p : ViewPart) (now : Part Configuration) (x : Access) (a : Answer) (after : List ViewPart) : Type 0 where
+  pub words : List ℕ
+  pub leaves : after ≡ part_told p words now x a ∷ []
+  pub answers : IsAnswerTo x a
+  pub word : IsWordOf x a
+  pub since : LocksFrom p.floor (drop p.floor_at (more_heard p.heard x a))
+  pub stands : IsPart p.setup p.number (part_told p words now x a).part (more_heard p.heard x a)
+
+-- an access, which found n, of a thread that had made local steps since the seat's last one
+abbrev pub Took : SeatView → ℕ → SeatView → Type 0
+Took m n w =
+    (w.1 ≡ m.1)
+    × ((p : ViewPart) (k : ℕ) (now : Part Configuration) → m.0 ≡ p ∷ [] →
+    paused (effect p.setup.code) k p.part ≡ Some now → is_local (access (effect p.setup.code) now.thread) ≡ false →
+    TookAs p now (access (effect p.setup.code) now.thread)
+    (reply (access (effect p.setup.code) now.thread) n) w.0)
+
+-- the seat speaks for one thread alone, which has made local steps since the seat's last access and now has this part
+abbrev pub SitsAt : Setup → SeatView → Part Configuration → Type 0
+SitsAt key m now =
+    (p : ViewPart) × (k : ℕ) × (m ≡ (p ∷ [], [])) × (p.setup ≡ key) × (paused (effect key.code) k p.part ≡ Some now)
+
+-- the seat speaks for this thread alone
+abbrev pub Sits : Setup → SeatView → Thread Configuration → Type 0
+Sits key m th = (now : Part Configuration) × SitsAt key m now × (now.thread ≡ th)
+
+-- the seat speaks for one thread alone, whose next access is this
+abbrev pub IsNext : Setup → SeatView → Access → Type 0
+IsNext key m x = (th : Thread Configuration) × Sits key m th × (access (effect key.code) th ≡ x)
+
+-- one step and its answer: local, or an access that the seat made
+abbrev pub Made : Access → SeatView → Answer → SeatView → Type 0
+Made x m a w = MatchBool (is_local x) ((w ≡ m) × (a ≡ Done)) ((n : ℕ) × (a ≡ reply x n) × Took m n w)
+
+-- the access names a cell, or swaps from a value that can be followed
+abbrev pub IsMakeable : ℕ → Access → Type 0
+IsMakeable cells Local = Unit {0}
+IsMakeable cells LoadLock = Unit {0}
+IsMakeable cells (LoadWord a) = a < cells
+IsMakeable cells (Swap from) = from % 2 ≡ 0
+IsMakeable cells (StoreWord a v) = a < cells
+IsMakeable cells (StoreLock n) = Unit {0}
+
+-- a lock value n is at least all that was answered so far, above the number of each record that took the lock, and not
+-- below the floor
+abbrev pub Settles : ℕ → ViewPart → Type 0
+Settles n p = LocksTo n p.heard × NumbersBelow n p.part.records × (p.floor ≤ n)
+
+-- a load of the lock, which found n, is the floor of all threads that the seat speaks for
+abbrev pub Floored : SeatView → ℕ → SeatView → Type 0
+Floored m n w = (w.1 ≡ m.1) × (w.0 ≡ all_floored n m.0) × ((p : ViewPart) → Among p m.0 → Settles n p)
+
+-- two seats that speak for one thread each, before and after they met at the lock value n
+abbrev pub MeetsBoth : ℕ → SeatView → SeatView → SeatView → SeatView → Type 0
+MeetsBoth n m o m' o' = (p q : ViewPart) → m ≡ (p ∷ [], []) → o ≡ (q ∷ [], []) →
+    ((m' ≡ (floored n p ∷ [], [])) × Settles n p) × ((o' ≡ (floored n q ∷ [], [])) × Settles n q)
+
+-- the table's cells when it is closed, by a seat that knows this
+abbrev pub Leaves : Setup → ℕ → SeatView → List ℕ → Type 0
+Leaves key id m cells =
+    (lock : ℕ) × (views : Views) × IsRuled key (lock ∷ cells) views × (get_elem? views id ≡ some m.0)

@@ -1,0 +1,55 @@
+-- What the rule says of each thread and of the words, in terms of runs.
+use Rattle.std.specs.Prelude.{ℕ, ◌≡◌, ◌≤◌, List, Some, drop}
+use Rattle.std.specs.List.{slice_get}
+use mathlib.Core.Option.{some}
+use lib.ListN.{get_elem?}
+use Rattle.bytecode.specs.Code.{Code, Configuration, effect}
+use Rattle.bytecode.specs.Initial.{initial_of}
+use Rattle.bytecode.specs.Sequential.{meaning}
+use Rattle.bytecode.specs.Valid.{bounds_of}
+use Rattle.machine.specs.Answered.{AnswersOk, LocksFrom, NumbersBelow}
+use Rattle.machine.specs.Explained.{IsExplainedBy}
+use Rattle.machine.specs.Merges.{Entry, IsMerge}
+use Rattle.machine.specs.Worlds.{Part, World}
+use Rattle.syntax.specs.Behaviours.{Behaviour}
+use Rattle.bytecode.specs.Beginning.{beginning}
+use Rattle.seats.specs.Setup.{Setup}
+use Rattle.seats.specs.Views.{ViewPart, Views, Among}
+use Rattle.seats.specs.Rule.{IsRuled}
+
+-- the world is explained by a merge, as a run of what the threads do
+abbrev pub IsExplained : Behaviour → Setup → World Configuration → List Entry → Type 0
+IsExplained does key w es = IsExplainedBy does (bounds_of key.code) (initial_of key.code) key.threads w es
+
+-- what the threads of the code do
+abbrev pub code_does : Code → Behaviour
+code_does code = meaning (effect code) (beginning code)
+
+-- There is a merge of the records, and every merge is a run of the code in which every thread stands. While the lock is even
+-- the words are its last memory; while it is odd one thread has it, and the words are that memory with what this thread
+-- has stored so far. Each attempt has a moment.
+pub record RunsSay (key : Setup) (w : World Configuration) : Type 0 where
+  pub entries : List Entry
+  pub is_merge : IsMerge w.parts entries
+  pub each : (es : List Entry) → IsMerge w.parts es → IsExplained (code_does key.code) key w es
+
+-- The answers of a thread are in order and each is explained; its records that took the lock have numbers below the lock,
+-- its floor is not above the lock, and no lock value answered since is below the floor.
+pub record PartSays (key : Setup) (w : World Configuration) (p : ViewPart) : Type 0 where
+  pub answers : AnswersOk (initial_of key.code) w p.heard
+  pub below : NumbersBelow w.lock p.part.records
+  pub floor : p.floor ≤ w.lock
+  pub since : LocksFrom p.floor (drop p.floor_at p.heard)
+
+-- Every thread's part is in some view, as the world has it; so the part of a thread that has the lock is.
+abbrev pub AllAreSeen : World Configuration → Views → Type 0
+AllAreSeen w views = (t : ℕ) (p : Part Configuration) → slice_get w.parts t ≡ Some p →
+    (seat : ℕ) × (view : List ViewPart) × (q : ViewPart) × (get_elem? views seat ≡ some view) × Among q view
+    × (q.number ≡ t) × (q.part ≡ p)
+
+abbrev pub RuleSays : (key : Setup) (words : List ℕ) (views : Views) → IsRuled key words views → Type 0
+RuleSays key words views rule =
+    RunsSay key rule.world
+    × AllAreSeen rule.world views
+    × ((seat : ℕ) (view : List ViewPart) (p : ViewPart) → get_elem? views seat ≡ some view → Among p view →
+    PartSays key rule.world p)

@@ -1,0 +1,16 @@
+//! What the rule of the table says, in terms of runs. A law has no code: its contract is what it says.
+
+ghost use Rattle.std.specs.Prelude.{ℕ, List};
+ghost use Rattle.seats.specs.Setup.{Setup};
+ghost use Rattle.seats.specs.Views.{Views};
+ghost use Rattle.seats.specs.Rule.{IsRuled};
+ghost use Rattle.seats.specs.Saying.{RuleSays};
+
+/// Whatever the words and the views of all seats are, there is a merge of the threads' transactions, and each merge is a
+/// run of the code in which each thread stands; the words are its last memory, or while a thread has the lock that memory
+/// with what this thread has stored. Each thread's answers are explained by the run, and no lock value answered after its
+/// floor was set is below the floor.
+pub fn the_rule_is_explained()
+    ensures { (key : Setup) (words : List ℕ) (views : Views) (rule : IsRuled key words views) →
+        RuleSays key words views rule }
+{}

@@ -1,0 +1,50 @@
+//! How seats share out threads among them, and how two of them meet.
+
+ghost use Rattle.std.specs.Prelude.{◌≡◌, ◌++◌, ◌<◌, []};
+ghost use Rattle.seats.specs.Views.{first_of, without_first};
+ghost use Rattle.seats.specs.Rule.{MeetsBoth};
+
+use crate::access::Words;
+use crate::rule::{First, Joined, Met, Rest, View, Whole};
+use atomic_table::Seat;
+use std::alloc::Allocator;
+
+/// A new seat takes the first of the threads that the seat speaks for.
+pub fn split_first<A: Allocator>(words: &Words<A>, seat: &mut Seat<(), View>) -> Seat<(), View>
+    requires { (seat.old.table_id ≡ words.now.table_id) × (0 < words.now.table_id.words) }
+    ensures table { (seat.new.table_id ≡ seat.old.table_id) × (result.table_id ≡ seat.old.table_id) }
+    ensures seat { seat.new.me ≡ (without_first seat.old.me.0, seat.old.me.1) }
+    ensures new { result.me ≡ (first_of seat.old.me.0, []) }
+{
+    words.split_seat::<First>(seat)
+}
+
+/// The seat takes all threads that another one speaks for.
+pub fn join<A: Allocator>(words: &Words<A>, seat: &mut Seat<(), View>, other: Seat<(), View>)
+    requires table { (seat.old.table_id ≡ words.now.table_id) × (other.table_id ≡ words.now.table_id) × (0 < words.now.table_id.words) }
+    requires none { other.me.1 ≡ [] }
+    ensures table { seat.new.table_id ≡ seat.old.table_id }
+    ensures seat { seat.new.me ≡ (seat.old.me.0 ++ other.me.0, seat.old.me.1) }
+{
+    words.join_seat::<Joined>(seat, other);
+}
+
+/// Two seats, which speak for one thread each, meet: the lock is loaded for each of the two, by a seat that speaks for both for
+/// that long. The value found last is given: it is a floor for both threads' later answers.
+pub fn meet<A: Allocator>(
+    words: &Words<A>,
+    mine: &mut Seat<(), View>,
+    theirs: &mut Seat<(), View>,
+) -> u64
+    requires table { (mine.old.table_id ≡ words.now.table_id) × (theirs.old.table_id ≡ words.now.table_id) × (0 < words.now.table_id.words) }
+    ensures table { (mine.new.table_id ≡ mine.old.table_id) × (theirs.new.table_id ≡ theirs.old.table_id) }
+    ensures both { MeetsBoth result mine.old.me theirs.old.me mine.new.me theirs.new.me }
+{
+    let whole = words.split_seat::<Whole>(theirs);
+    words.join_seat::<Joined>(mine, whole);
+    let _first = words.load::<Met>(mine, 0);
+    let found = words.load::<Met>(mine, 0);
+    let back = words.split_seat::<Rest>(mine);
+    words.join_seat::<Joined>(theirs, back);
+    found
+}
