@@ -1,0 +1,13 @@
+-- look-ups among locals, and tables of names
+mod Lookup
+mod Placing
+mod Files
+mod CellsFit
+-- arguments and values one after another
+mod Handed
+mod Rows
+mod Arms
+-- what is picked for small programs
+mod Samples
+-- that the code which is picked stands for the program
+pub mod stands

@@ -1,0 +1,144 @@
+use Rattle.std.proofs.Common.{◌≡◌, ℕ, ◌∷◌, [], ◌++◌, ◌+◌, ap, sym, subst, ◌∙◌, arith, OnOk, IfOk, Result, Ok, Err, option_map, map, length}
+use Rattle.lex.specs.declared.token.Scalar.TheVariants.{Int}
+use Rattle.syntax.specs.declared.tree.UnaryOp.TheVariants.{Negate, Not, Complement}
+use Rattle.syntax.specs.Numbers.{common, operand_type}
+use Rattle.syntax.specs.Views.{expr_of, exprs_of, parameter_of}
+use Rattle.bytecode.specs.declared.instr.Instr.TheVariants as own
+use Rattle.lowered.specs.Expressions.{arranged}
+use Rattle.lower.specs.inner.Names.{callee_of}
+use Rattle.lower.specs.inner.Expressions.{Emitted, AllEmitted, above, negating, computing, short_jump, long_answer, short_answer, called, emitted, all_emitted}
+use Rattle.lower.specs.inner.Tables.{callee_in}
+use Rattle.lower.proofs.Arms.{tail_is, tails_are, jumped_over, parts_are, chosen_code, chosen_lists, chosen_held, called_code, called_lists, called_held, call_is, unary_is, binary_is, logical_is, conditional_is}
+use denote.Param.Weighed.{most}
+use Rattle.syntax.specs.declared.tree.Expr.{the_lemmas}
+use Rattle.syntax.proofs.tree.Expr.TheLaws.{the_size}
+use Rattle.lower.specs.inner.Lists.{Lists, lists_of}
+use Rattle.lower.specs.inner.Views.{program_in, scope_in}
+use Rattle.lower.proofs.Rows.{next_code, next_registers, next_lists, next_place, last_code, last_registers}
+use Rattle.lower.proofs.expr.+lower_expr.Goals as goal
+
+holds : {X Y P : Type 0} (r : Result X Y) → P → OnOk r P
+holds (Ok x) p = p
+holds (Err e) p = tt
+
+pub lower_expr-lower_all-requires : goal.lower_expr-lower_all-requires
+lower_expr-lower_all-requires g t c κs within =
+    let size = simp the_lemmas at (ap (the_size g.row.A g.A.Allocator g.A.laws) c.in-Call.is) in
+    let here = ap (most (the_size g.row.A g.A.Allocator g.A.laws)) c.as_slice-all.ensures in
+    (omega (arith, size, here, c.decreases), within)
+
+pub lower_all-each-preserved : goal.lower_all-each-preserved
+lower_all-each-preserved g t c = record {
+  code = next_code (program_in c.args.names.now) (scope_in c.args.scope.now) c.args.all.now c.each.one-index c.each.to c.each.later (lists_of c.each.lists) c.one-item.result _ _ _ _ _ _ c.each-test.true c.one-item.is c.in_ok-held.ensures.code c.in_ok-held.ensures.lists c.in_ok-held.ensures.held c.above-later.ensures c.each.invariant.code;
+  lists = next_lists (program_in c.args.names.now) (scope_in c.args.scope.now) c.args.all.now c.each.one-index c.each.to c.each.later (lists_of c.each.lists) c.one-item.result _ _ _ _ c.each-test.true c.one-item.is c.in_ok-held.ensures.lists c.in_ok-held.ensures.held c.above-later.ensures c.each.invariant.lists;
+  registers = next_registers (program_in c.args.names.now) (scope_in c.args.scope.now) c.args.all.now c.each.one-index c.each.to c.each.later (lists_of c.each.lists) c.one-item.result _ _ _ _ _ _ c.each-test.true c.one-item.is c.in_ok-push.ensures c.in_ok-held.ensures.lists c.in_ok-held.ensures.held c.above-later.ensures c.each.invariant.registers;
+  place = next_place (program_in c.args.names.now) (scope_in c.args.scope.now) c.args.all.now c.each.one-index c.each.to c.each.later (lists_of c.each.lists) c.one-item.result _ _ _ _ c.each-test.true c.one-item.is c.in_ok-held.ensures.lists c.in_ok-held.ensures.held c.above-later.ensures c.each.invariant.place;
+}
+
+pub lower_all-returns-clause-code : goal.lower_all-returns-clause-code
+lower_all-returns-clause-code g t c = last_code (program_in c.args.names.now) (scope_in c.args.scope.now) c.args.all.now c.each.one-index c.each.to c.each.later (lists_of c.each.lists) _ _ c.each-test.false c.each.invariant.code
+
+pub lower_all-returns-clause-registers : goal.lower_all-returns-clause-registers
+lower_all-returns-clause-registers g t c = last_registers (program_in c.args.names.now) (scope_in c.args.scope.now) c.args.all.now c.each.one-index c.each.to c.each.later (lists_of c.each.lists) _ _ c.each-test.false c.each.invariant.registers
+
+pub lower_expr-returns-in_ok-b-in-Binary-clause-code : goal.lower_expr-returns-in_ok-b-in-Binary-clause-code
+lower_expr-returns-in_ok-b-in-Binary-clause-code g t c =
+    let left = emitted (program_in c.args.names.now) (scope_in c.args.scope.now) (expr_of c.get-in-Binary.result.now) c.args.from c.args.free c.args.free (lists_of c.args.lists.now) in
+    let is = binary_is c.args.e.now c.in-Binary.op c.in-Binary.left c.in-Binary.right c.get-in-Binary.result.now c.get-in-Binary-2.result.now c.in-Binary.field-3 c.in-Binary.is c.get-in-Binary.ensures c.get-in-Binary-2.ensures in
+    subst (λ z. OnOk c.put_both.result (c.put_both.new.code.items ≡ z))
+    (tails_are left (λ to later l. emitted (program_in c.args.names.now) (scope_in c.args.scope.now) (expr_of c.get-in-Binary-2.result.now) to later later l) (λ a b. computing c.in-Binary.op (operand_type c.in-Binary.op a.of b.of) c.args.into a.register b.register ∷ []) c.args.free
+    c.args.code.now.items c.lower_expr-in-Binary.new.code.items c.lower_expr-in-Binary-2.new.code.items (lists_of c.lower_expr-in-Binary.new.lists) c.in_ok-a-in-Binary.a c.in_ok-b-in-Binary.b c.above-later.result
+    c.in_ok-a-in-Binary.ensures.code c.in_ok-a-in-Binary.ensures.lists c.in_ok-a-in-Binary.ensures.held c.above-later.ensures c.in_ok-b-in-Binary.ensures.code c.in_ok-b-in-Binary.ensures.held
+    ∙ sym (ap (λ x. c.args.code.now.items ++ (emitted (program_in c.args.names.now) (scope_in c.args.scope.now) x c.args.from c.args.into c.args.free (lists_of c.args.lists.now)).code) is))
+    c.put_both.ensures.code
+
+pub lower_expr-returns-in_ok-b-in-Logical-clause-code : goal.lower_expr-returns-in_ok-b-in-Logical-clause-code
+lower_expr-returns-in_ok-b-in-Logical-clause-code g t c =
+    let op = c.in-Logical.op in
+    let left = emitted (program_in c.args.names.now) (scope_in c.args.scope.now) (expr_of c.get-in-Logical.result.now) c.args.from c.args.free c.args.free (lists_of c.args.lists.now) in
+    let is = logical_is c.args.e.now op c.in-Logical.left c.in-Logical.right c.get-in-Logical.result.now c.get-in-Logical-2.result.now c.in-Logical.field-3 c.in-Logical.is c.get-in-Logical.ensures c.get-in-Logical-2.ensures in
+    subst (λ z. OnOk c.put_tested.result (c.put_tested.new.code.items ≡ z))
+    (jumped_over left (λ to l. emitted (program_in c.args.names.now) (scope_in c.args.scope.now) (expr_of c.get-in-Logical-2.result.now) to c.args.free c.args.free l) (λ a b. short_jump op a.register (b.to + 3))
+    (λ b. short_jump op b.register (b.to + 3) ∷ own.Constant c.args.into (long_answer op) ∷ own.Jump (b.to + 4) ∷ own.Constant c.args.into (short_answer op) ∷ [])
+    c.args.code.now.items c.lower_expr-in-Logical.new.code.items c.lower_expr-in-Logical-2.new.code.items c.new-second.result.items (lists_of c.lower_expr-in-Logical.new.lists) c.in_ok-a-in-Logical.a c.in_ok-b-in-Logical.b c.in_ok-next-in-Logical.next
+    c.in_ok-a-in-Logical.ensures.code c.in_ok-a-in-Logical.ensures.lists c.in_ok-a-in-Logical.ensures.held c.in_ok-next-in-Logical.ensures c.new-second.ensures.items c.in_ok-b-in-Logical.ensures.code c.in_ok-b-in-Logical.ensures.held
+    ∙ sym (ap (λ x. c.args.code.now.items ++ (emitted (program_in c.args.names.now) (scope_in c.args.scope.now) x c.args.from c.args.into c.args.free (lists_of c.args.lists.now)).code) is))
+    c.put_tested.ensures.code
+
+pub lower_expr-returns-in_ok-b-in-Conditional-2-clause-code : goal.lower_expr-returns-in_ok-b-in-Conditional-2-clause-code
+lower_expr-returns-in_ok-b-in-Conditional-2-clause-code g t c =
+    let test = emitted (program_in c.args.names.now) (scope_in c.args.scope.now) (expr_of c.get-in-Conditional.result.now) c.args.from c.args.free c.args.free (lists_of c.args.lists.now) in
+    let first : ℕ → Lists → Emitted = (λ to l. emitted (program_in c.args.names.now) (scope_in c.args.scope.now) (expr_of c.get-in-Conditional-2.result.now) to c.args.into c.args.free l) in
+    let second : ℕ → Lists → Emitted = (λ to l. emitted (program_in c.args.names.now) (scope_in c.args.scope.now) (expr_of c.get-in-Conditional-3.result.now) to c.args.into c.args.free l) in
+    let is = conditional_is c.args.e.now c.in-Conditional.test c.in-Conditional.left c.in-Conditional.right c.get-in-Conditional.result.now c.get-in-Conditional-2.result.now c.get-in-Conditional-3.result.now c.in-Conditional.field-3 c.in-Conditional.is c.get-in-Conditional.ensures c.get-in-Conditional-2.ensures c.get-in-Conditional-3.ensures in
+    let lc = lists_of c.lower_expr-in-Conditional.new.lists in
+    let la = lists_of c.settle.new.lists in
+    let x = parts_are (first c.in_ok-next-in-Conditional.next lc) c.lower_expr-in-Conditional-2.new.code.items c.new-first.result.items (lists_of c.lower_expr-in-Conditional-2.new.lists) c.in_ok-a-in-Conditional.a c.new-first.ensures.items c.in_ok-a-in-Conditional.ensures.code c.in_ok-a-in-Conditional.ensures.lists c.in_ok-a-in-Conditional.ensures.held in
+    let y = parts_are (second c.in_ok-other-in-Conditional.other la) c.lower_expr-in-Conditional-3.new.code.items c.new-second-in-Conditional.result.items (lists_of c.lower_expr-in-Conditional-3.new.lists) c.in_ok-b-in-Conditional.b c.new-second-in-Conditional.ensures.items c.in_ok-b-in-Conditional.ensures.code c.in_ok-b-in-Conditional.ensures.lists c.in_ok-b-in-Conditional.ensures.held in
+    subst (λ z. OnOk c.put_chosen.result (c.put_chosen.new.code.items ≡ z))
+    (chosen_code test first second c.args.into lc la c.in_ok-c-in-Conditional.c c.in_ok-a-in-Conditional-2.a c.in_ok-next-in-Conditional.next c.in_ok-other-in-Conditional.other _ _ c.in_ok-c-in-Conditional.ensures.lists c.in_ok-c-in-Conditional.ensures.held c.in_ok-next-in-Conditional.ensures x c.in_ok-a-in-Conditional-2.ensures.lists c.in_ok-a-in-Conditional-2.ensures.held c.in_ok-other-in-Conditional.ensures y c.args.code.now.items c.lower_expr-in-Conditional.new.code.items c.settle.new.code.items c.settle-in-Conditional.new.code.items c.in_ok-b-in-Conditional-2.b
+    c.in_ok-c-in-Conditional.ensures.code c.in_ok-a-in-Conditional-2.ensures.code c.in_ok-b-in-Conditional-2.ensures.code c.in_ok-b-in-Conditional-2.ensures.held
+    ∙ sym (ap (λ x. c.args.code.now.items ++ (emitted (program_in c.args.names.now) (scope_in c.args.scope.now) x c.args.from c.args.into c.args.free (lists_of c.args.lists.now)).code) is))
+    c.put_chosen.ensures.code
+
+pub lower_expr-returns-in_ok-b-in-Conditional-2-clause-lists : goal.lower_expr-returns-in_ok-b-in-Conditional-2-clause-lists
+lower_expr-returns-in_ok-b-in-Conditional-2-clause-lists g t c =
+    let test = emitted (program_in c.args.names.now) (scope_in c.args.scope.now) (expr_of c.get-in-Conditional.result.now) c.args.from c.args.free c.args.free (lists_of c.args.lists.now) in
+    let first : ℕ → Lists → Emitted = (λ to l. emitted (program_in c.args.names.now) (scope_in c.args.scope.now) (expr_of c.get-in-Conditional-2.result.now) to c.args.into c.args.free l) in
+    let second : ℕ → Lists → Emitted = (λ to l. emitted (program_in c.args.names.now) (scope_in c.args.scope.now) (expr_of c.get-in-Conditional-3.result.now) to c.args.into c.args.free l) in
+    let is = conditional_is c.args.e.now c.in-Conditional.test c.in-Conditional.left c.in-Conditional.right c.get-in-Conditional.result.now c.get-in-Conditional-2.result.now c.get-in-Conditional-3.result.now c.in-Conditional.field-3 c.in-Conditional.is c.get-in-Conditional.ensures c.get-in-Conditional-2.ensures c.get-in-Conditional-3.ensures in
+    let lc = lists_of c.lower_expr-in-Conditional.new.lists in
+    let la = lists_of c.settle.new.lists in
+    let x = parts_are (first c.in_ok-next-in-Conditional.next lc) c.lower_expr-in-Conditional-2.new.code.items c.new-first.result.items (lists_of c.lower_expr-in-Conditional-2.new.lists) c.in_ok-a-in-Conditional.a c.new-first.ensures.items c.in_ok-a-in-Conditional.ensures.code c.in_ok-a-in-Conditional.ensures.lists c.in_ok-a-in-Conditional.ensures.held in
+    let y = parts_are (second c.in_ok-other-in-Conditional.other la) c.lower_expr-in-Conditional-3.new.code.items c.new-second-in-Conditional.result.items (lists_of c.lower_expr-in-Conditional-3.new.lists) c.in_ok-b-in-Conditional.b c.new-second-in-Conditional.ensures.items c.in_ok-b-in-Conditional.ensures.code c.in_ok-b-in-Conditional.ensures.lists c.in_ok-b-in-Conditional.ensures.held in
+    holds c.put_chosen.result (chosen_lists test first second c.args.into lc la c.in_ok-c-in-Conditional.c c.in_ok-a-in-Conditional-2.a c.in_ok-next-in-Conditional.next c.in_ok-other-in-Conditional.other _ _ c.in_ok-c-in-Conditional.ensures.lists c.in_ok-c-in-Conditional.ensures.held c.in_ok-next-in-Conditional.ensures x c.in_ok-a-in-Conditional-2.ensures.lists c.in_ok-a-in-Conditional-2.ensures.held c.in_ok-other-in-Conditional.ensures y (lists_of c.settle-in-Conditional.new.lists) c.in_ok-b-in-Conditional-2.ensures.lists ∙ sym (ap (λ x. (emitted (program_in c.args.names.now) (scope_in c.args.scope.now) x c.args.from c.args.into c.args.free (lists_of c.args.lists.now)).lists) is))
+
+pub lower_expr-returns-in_ok-b-in-Conditional-2-clause-held : goal.lower_expr-returns-in_ok-b-in-Conditional-2-clause-held
+lower_expr-returns-in_ok-b-in-Conditional-2-clause-held g t c =
+    let test = emitted (program_in c.args.names.now) (scope_in c.args.scope.now) (expr_of c.get-in-Conditional.result.now) c.args.from c.args.free c.args.free (lists_of c.args.lists.now) in
+    let first : ℕ → Lists → Emitted = (λ to l. emitted (program_in c.args.names.now) (scope_in c.args.scope.now) (expr_of c.get-in-Conditional-2.result.now) to c.args.into c.args.free l) in
+    let second : ℕ → Lists → Emitted = (λ to l. emitted (program_in c.args.names.now) (scope_in c.args.scope.now) (expr_of c.get-in-Conditional-3.result.now) to c.args.into c.args.free l) in
+    let is = conditional_is c.args.e.now c.in-Conditional.test c.in-Conditional.left c.in-Conditional.right c.get-in-Conditional.result.now c.get-in-Conditional-2.result.now c.get-in-Conditional-3.result.now c.in-Conditional.field-3 c.in-Conditional.is c.get-in-Conditional.ensures c.get-in-Conditional-2.ensures c.get-in-Conditional-3.ensures in
+    let lc = lists_of c.lower_expr-in-Conditional.new.lists in
+    let la = lists_of c.settle.new.lists in
+    let x = parts_are (first c.in_ok-next-in-Conditional.next lc) c.lower_expr-in-Conditional-2.new.code.items c.new-first.result.items (lists_of c.lower_expr-in-Conditional-2.new.lists) c.in_ok-a-in-Conditional.a c.new-first.ensures.items c.in_ok-a-in-Conditional.ensures.code c.in_ok-a-in-Conditional.ensures.lists c.in_ok-a-in-Conditional.ensures.held in
+    let y = parts_are (second c.in_ok-other-in-Conditional.other la) c.lower_expr-in-Conditional-3.new.code.items c.new-second-in-Conditional.result.items (lists_of c.lower_expr-in-Conditional-3.new.lists) c.in_ok-b-in-Conditional.b c.new-second-in-Conditional.ensures.items c.in_ok-b-in-Conditional.ensures.code c.in_ok-b-in-Conditional.ensures.lists c.in_ok-b-in-Conditional.ensures.held in
+    subst (λ z. IfOk c.put_chosen.result (λ held. held ≡ z))
+    (chosen_held test first second c.args.into lc la c.in_ok-c-in-Conditional.c c.in_ok-a-in-Conditional-2.a c.in_ok-next-in-Conditional.next c.in_ok-other-in-Conditional.other _ _ c.in_ok-c-in-Conditional.ensures.lists c.in_ok-c-in-Conditional.ensures.held c.in_ok-next-in-Conditional.ensures x c.in_ok-a-in-Conditional-2.ensures.lists c.in_ok-a-in-Conditional-2.ensures.held c.in_ok-other-in-Conditional.ensures y common c.in_ok-b-in-Conditional-2.b c.in_ok-b-in-Conditional-2.ensures.held c.in_ok-b-in-Conditional-2.ensures.register ∙ sym (ap (λ x. (emitted (program_in c.args.names.now) (scope_in c.args.scope.now) x c.args.from c.args.into c.args.free (lists_of c.args.lists.now)).held) is))
+    c.put_chosen.ensures.held
+
+pub lower_expr-returns-in_ok-to-in-Some-called-clause-code : goal.lower_expr-returns-in_ok-to-in-Some-called-clause-code
+lower_expr-returns-in_ok-to-in-Some-called-clause-code g t c =
+    let f = callee_in c.in-Some-called.f in
+    let args = all_emitted (program_in c.args.names.now) (scope_in c.args.scope.now) (exprs_of c.as_slice-all.result.now) c.args.from c.args.free (lists_of c.args.lists.now) in
+    let is = call_is c.args.e.now c.in-Call.f c.in-Call.args c.as_slice-all.result.now c.in-Call.field-2 c.in-Call.is c.as_slice-all.ensures in
+    let found = sym (c.in-Some-called.ensures ∙ ap (callee_of (program_in c.args.names.now)) c.as_str-in-Call.ensures) in
+    let whole = ap (λ x. emitted (program_in c.args.names.now) (scope_in c.args.scope.now) x c.args.from c.args.into c.args.free (lists_of c.args.lists.now)) is ∙ ap (λ o. called o args c.args.from c.args.into (lists_of c.args.lists.now)) found in
+    subst (λ z. OnOk c.put_call.result (c.put_call.new.code.items ≡ z))
+    (called_code f args c.args.from c.args.into (lists_of c.args.lists.now) (lists_of c.lower_all.new.lists) c.new-registers.result.items c.lower_all.new.registers.items c.as_slice.result.now c.in_ok-to-in-Some-called.ensures.lists c.new-registers.ensures.items c.in_ok-to-in-Some-called.ensures.registers c.as_slice.ensures.value c.args.code.now.items c.lower_all.new.code.items c.in_ok-to-in-Some-called.ensures.code
+    ∙ sym (ap (λ (w : Emitted). c.args.code.now.items ++ w.code) whole))
+    c.put_call.ensures.code
+
+pub lower_expr-returns-in_ok-to-in-Some-called-clause-lists : goal.lower_expr-returns-in_ok-to-in-Some-called-clause-lists
+lower_expr-returns-in_ok-to-in-Some-called-clause-lists g t c =
+    let f = callee_in c.in-Some-called.f in
+    let args = all_emitted (program_in c.args.names.now) (scope_in c.args.scope.now) (exprs_of c.as_slice-all.result.now) c.args.from c.args.free (lists_of c.args.lists.now) in
+    let is = call_is c.args.e.now c.in-Call.f c.in-Call.args c.as_slice-all.result.now c.in-Call.field-2 c.in-Call.is c.as_slice-all.ensures in
+    let found = sym (c.in-Some-called.ensures ∙ ap (callee_of (program_in c.args.names.now)) c.as_str-in-Call.ensures) in
+    let whole = ap (λ x. emitted (program_in c.args.names.now) (scope_in c.args.scope.now) x c.args.from c.args.into c.args.free (lists_of c.args.lists.now)) is ∙ ap (λ o. called o args c.args.from c.args.into (lists_of c.args.lists.now)) found in
+    subst (λ z. OnOk c.put_call.result (lists_of c.put_call.new.lists ≡ z))
+    (called_lists f args c.args.from c.args.into (lists_of c.args.lists.now) (lists_of c.lower_all.new.lists) c.new-registers.result.items c.lower_all.new.registers.items c.as_slice.result.now c.in_ok-to-in-Some-called.ensures.lists c.new-registers.ensures.items c.in_ok-to-in-Some-called.ensures.registers c.as_slice.ensures.value
+    ∙ sym (ap (λ (w : Emitted). w.lists) whole))
+    c.put_call.ensures.lists
+
+pub lower_expr-returns-in_ok-to-in-Some-called-clause-held : goal.lower_expr-returns-in_ok-to-in-Some-called-clause-held
+lower_expr-returns-in_ok-to-in-Some-called-clause-held g t c =
+    let f = callee_in c.in-Some-called.f in
+    let args = all_emitted (program_in c.args.names.now) (scope_in c.args.scope.now) (exprs_of c.as_slice-all.result.now) c.args.from c.args.free (lists_of c.args.lists.now) in
+    let is = call_is c.args.e.now c.in-Call.f c.in-Call.args c.as_slice-all.result.now c.in-Call.field-2 c.in-Call.is c.as_slice-all.ensures in
+    let found = sym (c.in-Some-called.ensures ∙ ap (callee_of (program_in c.args.names.now)) c.as_str-in-Call.ensures) in
+    let whole = ap (λ x. emitted (program_in c.args.names.now) (scope_in c.args.scope.now) x c.args.from c.args.into c.args.free (lists_of c.args.lists.now)) is ∙ ap (λ o. called o args c.args.from c.args.into (lists_of c.args.lists.now)) found in
+    subst (λ z. IfOk c.put_call.result (λ held. held ≡ z))
+    (called_held f args c.args.from c.args.into (lists_of c.args.lists.now) (lists_of c.lower_all.new.lists) c.new-registers.result.items c.lower_all.new.registers.items c.as_slice.result.now c.in_ok-to-in-Some-called.ensures.lists c.new-registers.ensures.items c.in_ok-to-in-Some-called.ensures.registers c.as_slice.ensures.value c.in_ok-to-in-Some-called.to c.in_ok-to-in-Some-called.ensures.place
+    ∙ sym (ap (λ (w : Emitted). w.held) whole))
+    c.put_call.ensures.held

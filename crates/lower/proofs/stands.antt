@@ -1,0 +1,20 @@
+-- instructions that stand in a finished code
+pub mod Standing
+-- what names stand for in a typed program
+pub mod Named
+-- the parts of an expression
+pub mod Emitting
+-- whole expressions
+pub mod Exprs
+-- conditions
+pub mod Conds
+-- targets and what goes to them
+pub mod Writing
+-- assignments and declarations
+pub mod Simply
+-- statements
+pub mod Statements
+-- cancels
+pub mod Cancelling
+-- functions and programs
+pub mod Functions

@@ -1,0 +1,352 @@
+-- What is emitted stands for an expression, part by part.
+use Rattle.std.proofs.Common.{◌≡◌, refl, sym, ap, subst, ◌∙◌, ℕ, suc, ◌+◌, ◌≤◌, ◌<◌, List, [], ◌∷◌, ◌++◌, append_assoc, length, take, drop, arith, Option, Some, None, Bool, true, false, ◌⊎◌, inl, inr, ⊎_elim, eqb-true}
+use Rattle.std.specs.Prelude.{max, if◌then◌else◌, ◌==◌, unwrap_or}
+use Rattle.std.proofs.lemmas.Bool.{eqb-false}
+use Rattle.std.proofs.lemmas.List.{length-append}
+use Rattle.lex.specs.declared.token.Scalar.{Scalar}
+use Rattle.lex.specs.declared.token.Scalar.TheVariants.{Int, Unsigned}
+use Rattle.syntax.specs.declared.tree.BinaryOp.{BinaryOp}
+use Rattle.syntax.specs.declared.tree.BinaryOp.TheVariants.{Or, Xor, And, Equal, NotEqual, Less, Greater, LessEqual, GreaterEqual, ShiftLeft, ShiftRight, Add, Subtract, Multiply, Divide, Remainder}
+use Rattle.syntax.specs.declared.tree.LogicalOp.TheVariants.{AndThen, OrElse}
+use Rattle.syntax.specs.Numbers.{common, operand_type, result_type}
+use Rattle.syntax.specs.Names.{GlobalCells, cells}
+use Rattle.bytecode.specs.declared.instr.Instr.{Instr}
+use Rattle.bytecode.specs.declared.instr.Instr.TheVariants as own
+use Rattle.bytecode.specs.Code.{Code, Instr as Plain}
+use Rattle.bytecode.specs.Views.{instr_of}
+use Rattle.lowered.specs.Expressions as Lowered
+use Rattle.lowered.specs.Expressions.{Coded, Branching, At, LeadsTo, MayTake, GivenBy, LocalIs, VariableCode, ElementCode, CastCode, UnaryCode, NotCode, BinaryCode, ValueTested, Branches, BothHold, EitherHolds, TruthCode, MovedCode, BranchCode, ConditionalCode}
+use Rattle.lower.specs.inner.Lists.{Lists, used}
+use Rattle.lower.specs.inner.Expressions.{computing, negating, Emitted, above, one, then_one, in_local, converted_to, negated, complemented, compared, both, tested, settled, chosen}
+use Rattle.lower.proofs.stands.Standing.{Stand, front, behind, Grows, grows_same, grows_further, grows_used, max_left, max_right, Fits, fits_before, is_register, given}
+
+-- operators have the instructions of the relation
+pub computing_is : (arguments : List ℕ) (op : BinaryOp) (t : Scalar) (d a b : ℕ) → instr_of arguments (computing op t d a b) ≡ Lowered.computing op t d a b
+computing_is arguments Or t d a b = refl
+computing_is arguments Xor t d a b = refl
+computing_is arguments And t d a b = refl
+computing_is arguments Equal t d a b = refl
+computing_is arguments NotEqual t d a b = refl
+computing_is arguments Less Int d a b = refl
+computing_is arguments Less Unsigned d a b = refl
+computing_is arguments Greater Int d a b = refl
+computing_is arguments Greater Unsigned d a b = refl
+computing_is arguments LessEqual Int d a b = refl
+computing_is arguments LessEqual Unsigned d a b = refl
+computing_is arguments GreaterEqual Int d a b = refl
+computing_is arguments GreaterEqual Unsigned d a b = refl
+computing_is arguments ShiftLeft Int d a b = refl
+computing_is arguments ShiftLeft Unsigned d a b = refl
+computing_is arguments ShiftRight Int d a b = refl
+computing_is arguments ShiftRight Unsigned d a b = refl
+computing_is arguments Add Int d a b = refl
+computing_is arguments Add Unsigned d a b = refl
+computing_is arguments Subtract Int d a b = refl
+computing_is arguments Subtract Unsigned d a b = refl
+computing_is arguments Multiply Int d a b = refl
+computing_is arguments Multiply Unsigned d a b = refl
+computing_is arguments Divide Int d a b = refl
+computing_is arguments Divide Unsigned d a b = refl
+computing_is arguments Remainder Int d a b = refl
+computing_is arguments Remainder Unsigned d a b = refl
+
+pub negating_is : (arguments : List ℕ) (t : Scalar) (d a : ℕ) → instr_of arguments (negating t d a) ≡ Plain.Negate t d a
+negating_is arguments Int d a = refl
+negating_is arguments Unsigned d a = refl
+
+pub above_free : (free r : ℕ) → free ≤ above free r
+above_free free r = max_left free (suc r)
+
+pub above_it : (free r : ℕ) → r < above free r
+above_it free r = let h = max_right free (suc r) in omega (arith, h)
+
+module _ (code : Code) (arguments : List ℕ) (size : ℕ) where
+  -- what is emitted from a place on, with these lists before it, stands for a part
+  pub record Emits (A : Coded) (from free : ℕ) (l : Lists) (e : Emitted) : Type 0 where
+    pub to_is : e.held.to ≡ from + length e.code
+    pub grows : Grows l e.lists
+    pub stands : Fits code arguments size e.lists → Stand code arguments from e.code → A from e.held.to free e.held.register e.held.of
+
+  pub one_emits : (home : Option ℕ) (f : ℕ → Plain) (i : Instr) (u : Scalar) (from free into : ℕ) (l : Lists) → f into ≡ instr_of arguments i → MayTake home free into →
+      Emits (λ from to free r t. GivenBy code size home (f r) u from to free r t) from free l (one i from into u l)
+  one_emits home f i u from free into l e m = record {
+    to_is = omega arith;
+    grows = grows_used l l into (grows_same l);
+    stands = λ g st. subst (λ j. GivenBy code size home j u from (from + 1) free into u) (sym e)
+        (given code arguments size home i u from (from + 1) free into (omega arith) m (is_register code arguments size l into g) st.0);
+  }
+
+  pub in_local_emits : (locals i : ℕ) (t : Scalar) (from free : ℕ) (l : Lists) → i < locals → Emits (λ from to free r t'. LocalIs code size locals (i, t) from to r t') from free l (in_local i t from l)
+  in_local_emits locals i t from free l h = record {
+    to_is = omega arith;
+    grows = grows_used l l i (grows_same l);
+    stands = λ f st. record { known = h; to_is = refl; register = refl; type_is = refl };
+  }
+
+  -- one more instruction behind a value
+  pub then_emits : (A B : Coded) (home : Option ℕ) (i : Instr) (t : Scalar) (from free into : ℕ) (l : Lists) (e : Emitted) → Emits A from free l e → MayTake home free into →
+      (A from e.held.to free e.held.register e.held.of → GivenBy code size home (instr_of arguments i) t e.held.to (e.held.to + 1) free into t → B from (e.held.to + 1) free into t) →
+      Emits B from free l (then_one e i into t)
+  then_emits A B home i t from free into l e h m make = record {
+    to_is = let a = h.to_is in let b : length (e.code ++ i ∷ []) ≡ length e.code + 1 = length-append e.code (i ∷ []) in omega (arith, a, b);
+    grows = grows_used l e.lists into h.grows;
+    stands = λ f st.
+        let at = (behind code arguments from e.held.to e.code (i ∷ []) h.to_is st).0 in
+        make (h.stands (fits_before code arguments size e.lists (used into e.lists) (grows_used e.lists e.lists into (grows_same e.lists)) f) (front code arguments from e.code (i ∷ []) st))
+        (given code arguments size home i t e.held.to (e.held.to + 1) free into (omega arith) m (is_register code arguments size e.lists into f) at);
+  }
+
+  pub element_emits : (home : Option ℕ) (g : GlobalCells) (A : Coded) (from free into : ℕ) (l : Lists) (e : Emitted) → Emits A from free l e → MayTake home free into →
+      Emits (ElementCode code size home g A) from free l (then_one e (own.ReadAt into e.held.register g.cell (cells g.global)) into g.global.of)
+  element_emits home g A from free into l e h m =
+      then_emits A (ElementCode code size home g A) home (own.ReadAt into e.held.register g.cell (cells g.global)) g.global.of from free into l e h m
+      (λ a b. record { mid = e.held.to; ri = e.held.register; ti = e.held.of; computes = a; reads = b })
+
+  pub cast_emits : (t : Scalar) (A : Coded) (from free : ℕ) (l : Lists) (e : Emitted) → Emits A from free l e → Emits (CastCode code size t A) from free l (converted_to t e)
+  cast_emits t A from free l e h = record {
+    to_is = h.to_is;
+    grows = h.grows;
+    stands = λ f st. record { te = e.held.of; computes = h.stands f st; type_is = refl };
+  }
+
+  pub negated_emits : (home : Option ℕ) (A : Coded) (from free into : ℕ) (l : Lists) (e : Emitted) → Emits A from free l e → MayTake home free into →
+      Emits (λ from to free r t. UnaryCode code size home (λ ta ra. Plain.Negate ta r ra) A from to free r t) from free l (negated e into)
+  negated_emits home A from free into l e h m =
+      then_emits A (λ from to free r t. UnaryCode code size home (λ ta ra. Plain.Negate ta r ra) A from to free r t) home (negating e.held.of into e.held.register) e.held.of from free into l e h m
+      (λ a b. record {
+        mid = e.held.to;
+        ra = e.held.register;
+        ta = e.held.of;
+        computes = a;
+        operates = subst (λ i. GivenBy code size home i e.held.of e.held.to (e.held.to + 1) free into e.held.of) (negating_is arguments e.held.of into e.held.register) b;
+      })
+
+  pub complemented_emits : (home : Option ℕ) (A : Coded) (from free into : ℕ) (l : Lists) (e : Emitted) → Emits A from free l e → MayTake home free into →
+      Emits (λ from to free r t. UnaryCode code size home (λ ta ra. Plain.Complement r ra) A from to free r t) from free l (complemented e into)
+  complemented_emits home A from free into l e h m =
+      then_emits A (λ from to free r t. UnaryCode code size home (λ ta ra. Plain.Complement r ra) A from to free r t) home (own.Complement into e.held.register) e.held.of from free into l e h m
+      (λ a b. record { mid = e.held.to; ra = e.held.register; ta = e.held.of; computes = a; operates = b })
+
+  pub compared_emits : (home : Option ℕ) (A : Coded) (from free into : ℕ) (l : Lists) (e : Emitted) → Emits A from free l e → MayTake home free into →
+      Emits (NotCode code size home A) from free l (compared e into free)
+  compared_emits home A from free into l e h m =
+      let rz : ℕ = above free e.held.register in
+      let zero : Instr = own.Constant rz 0 in
+      let equal : Instr = own.Equal into e.held.register rz in
+      let lists : Lists = used rz e.lists in
+      record {
+        to_is = let a = h.to_is in let b : length (e.code ++ zero ∷ equal ∷ []) ≡ length e.code + 2 = length-append e.code (zero ∷ equal ∷ []) in omega (arith, a, b);
+        grows = grows_used l lists into (grows_used l e.lists rz h.grows);
+        stands = λ f st.
+            let both = behind code arguments from e.held.to e.code (zero ∷ equal ∷ []) h.to_is st in
+            let inner = fits_before code arguments size lists (used into lists) (grows_used lists lists into (grows_same lists)) f in
+            record {
+              mid = e.held.to;
+              ra = e.held.register;
+              ta = e.held.of;
+              rz = rz;
+              computes = h.stands (fits_before code arguments size e.lists lists (grows_used e.lists e.lists rz (grows_same e.lists)) inner) (front code arguments from e.code (zero ∷ equal ∷ []) st);
+              apart = above_it free e.held.register;
+              zeroes = given code arguments size None zero Int e.held.to (suc e.held.to) free rz refl (above_free free e.held.register) (is_register code arguments size e.lists rz inner) both.0;
+              compares = given code arguments size home equal Int (suc e.held.to) (e.held.to + 2) free into (omega arith) m (is_register code arguments size lists into f) both.1.0;
+            };
+      }
+
+  pub both_emits : (home : Option ℕ) (op : BinaryOp) (A B : Coded) (from free into : ℕ) (l : Lists) (a b : Emitted) → Emits A from free l a → Emits B a.held.to (above free a.held.register) a.lists b → MayTake home free into →
+      Emits (BinaryCode code size home op A B) from free l (both op a b into)
+  both_emits home op A B from free into l a b h g m =
+      let t : Scalar = operand_type op a.held.of b.held.of in
+      let i : Instr = computing op t into a.held.register b.held.register in
+      let two : length (a.code ++ b.code) ≡ length a.code + length b.code = length-append a.code b.code in
+      let last_is : b.held.to ≡ from + length (a.code ++ b.code) = (let x = h.to_is in let y = g.to_is in omega (arith, x, y, two)) in
+      record {
+        to_is = let u : length (a.code ++ b.code ++ i ∷ []) ≡ length (a.code ++ b.code) + 1 = length-append (a.code ++ b.code) (i ∷ []) in omega (arith, last_is, u);
+        grows = grows_used l b.lists into (grows_further l a.lists b.lists h.grows g.grows);
+        stands = λ f st.
+            let first = front code arguments from (a.code ++ b.code) (i ∷ []) st in
+            let last = behind code arguments from b.held.to (a.code ++ b.code) (i ∷ []) last_is st in
+            let inner = fits_before code arguments size b.lists (used into b.lists) (grows_used b.lists b.lists into (grows_same b.lists)) f in
+            record {
+              mid = a.held.to;
+              last = b.held.to;
+              later = above free a.held.register;
+              ra = a.held.register;
+              rb = b.held.register;
+              ta = a.held.of;
+              tb = b.held.of;
+              left = h.stands (fits_before code arguments size a.lists b.lists g.grows inner) (front code arguments from a.code b.code first);
+              kept = above_free free a.held.register;
+              apart = above_it free a.held.register;
+              right = g.stands inner (behind code arguments from a.held.to a.code b.code h.to_is first);
+              operates = subst (λ j. GivenBy code size home j (result_type op t) b.held.to (b.held.to + 1) free into (result_type op t)) (computing_is arguments op t into a.held.register b.held.register)
+                  (given code arguments size home i (result_type op t) b.held.to (b.held.to + 1) free into (omega arith) m (is_register code arguments size b.lists into f) last.0);
+            };
+      }
+
+  -- two tests and two answers
+  module _ (home : Option ℕ) (A B : Coded) (C D : Branching) (from free into : ℕ) (l : Lists) (a b : Emitted) (h : Emits A from free l a) (g : Emits B (a.held.to + 1) free a.lists b) (m : MayTake home free into) where
+    module _ (jump back to_long skip to_short : Instr) where
+      abbrev tail : List Instr
+      tail = back ∷ to_long ∷ skip ∷ to_short ∷ []
+
+      abbrev all : List Instr
+      all = a.code ++ jump ∷ b.code ++ back ∷ to_long ∷ skip ∷ to_short ∷ []
+
+      record Apart : Type 0 where
+        left : A from a.held.to free a.held.register a.held.of
+        jumps : At code a.held.to (instr_of arguments jump)
+        right : B (a.held.to + 1) b.held.to free b.held.register b.held.of
+        again : At code b.held.to (instr_of arguments back)
+        long : At code (b.held.to + 1) (instr_of arguments to_long)
+        skips : At code (b.held.to + 2) (instr_of arguments skip)
+        short : At code (b.held.to + 3) (instr_of arguments to_short)
+        register : into < size
+
+      last_is : b.held.to ≡ from + length (a.code ++ jump ∷ b.code)
+      last_is = let x = h.to_is in let y = g.to_is in let z : length (a.code ++ jump ∷ b.code) ≡ length a.code + length (jump ∷ b.code) = length-append a.code (jump ∷ b.code) in omega (arith, x, y, z)
+
+      tested_to_is : b.held.to + 4 ≡ from + length all
+      tested_to_is = let u : length all ≡ length (a.code ++ jump ∷ b.code) + 4 = length-append (a.code ++ jump ∷ b.code) tail in omega (arith, last_is, u)
+
+      at : (n q : ℕ) (i : Instr) → n ≡ q → At code n (instr_of arguments i) → At code q (instr_of arguments i)
+      at n q i e x = subst (λ k. At code k (instr_of arguments i)) e x
+
+      take_apart : Fits code arguments size (used into b.lists) → Stand code arguments from all → Apart
+      take_apart f st =
+          let first = front code arguments from (a.code ++ jump ∷ b.code) tail st in
+          let rest = behind code arguments from b.held.to (a.code ++ jump ∷ b.code) tail last_is st in
+          let middle = behind code arguments from a.held.to a.code (jump ∷ b.code) h.to_is first in
+          let inner = fits_before code arguments size b.lists (used into b.lists) (grows_used b.lists b.lists into (grows_same b.lists)) f in
+          record {
+            left = h.stands (fits_before code arguments size a.lists b.lists g.grows inner) (front code arguments from a.code (jump ∷ b.code) first);
+            jumps = middle.0;
+            right = g.stands inner (subst (λ q. Stand code arguments q b.code) (omega arith) middle.1);
+            again = rest.0;
+            long = at (suc b.held.to) (b.held.to + 1) to_long (omega arith) rest.1.0;
+            skips = at (suc (suc b.held.to)) (b.held.to + 2) skip (omega arith) rest.1.1.0;
+            short = at (suc (suc (suc b.held.to))) (b.held.to + 3) to_short (omega arith) rest.1.1.1.0;
+            register = is_register code arguments size b.lists into f;
+          }
+
+    abbrev Tests_a : Branching
+    Tests_a = Branches code size A C
+
+    abbrev Tests_b : Branching
+    Tests_b = Branches code size B D
+
+    pub and_emits : Emits (TruthCode code size home (BothHold code size Tests_a Tests_b)) from free l (tested AndThen a b into)
+    and_emits =
+        let other : ℕ = b.held.to + 3 in
+        let jump : Instr = own.JumpZero a.held.register other in
+        let back : Instr = own.JumpZero b.held.register other in
+        let long : Instr = own.Constant into 1 in
+        let skip : Instr = own.Jump (b.held.to + 4) in
+        let short : Instr = own.Constant into 0 in
+        record {
+          to_is = tested_to_is jump back long skip short;
+          grows = grows_used l b.lists into (grows_further l a.lists b.lists h.grows g.grows);
+          stands = λ f st.
+              let s = take_apart jump back long skip short f st in
+              record {
+                met = b.held.to + 1;
+                unmet = other;
+                decides = record {
+                  mid = a.held.to + 1;
+                  first = inl (record { mid = a.held.to; r = a.held.register; t = a.held.of; computes = s.left; jumps = s.jumps; leads = inl (omega arith) });
+                  second = inl (record { mid = b.held.to; r = b.held.register; t = b.held.of; computes = s.right; jumps = s.again; leads = inl (omega arith) });
+                };
+                gives_one = given code arguments size home long Int (b.held.to + 1) (suc (b.held.to + 1)) free into refl m s.register s.long;
+                one_leads = inr (at jump back long skip short (b.held.to + 2) (suc (b.held.to + 1)) skip (omega arith) s.skips);
+                gives_zero = given code arguments size home short Int other (suc other) free into refl m s.register s.short;
+                zero_leads = inl (omega arith);
+              };
+        }
+
+    pub or_emits : Emits (TruthCode code size home (EitherHolds code size Tests_a Tests_b)) from free l (tested OrElse a b into)
+    or_emits =
+        let other : ℕ = b.held.to + 3 in
+        let jump : Instr = own.JumpNonzero a.held.register other in
+        let back : Instr = own.JumpNonzero b.held.register other in
+        let long : Instr = own.Constant into 0 in
+        let skip : Instr = own.Jump (b.held.to + 4) in
+        let short : Instr = own.Constant into 1 in
+        record {
+          to_is = tested_to_is jump back long skip short;
+          grows = grows_used l b.lists into (grows_further l a.lists b.lists h.grows g.grows);
+          stands = λ f st.
+              let s = take_apart jump back long skip short f st in
+              record {
+                met = other;
+                unmet = b.held.to + 1;
+                decides = record {
+                  mid = a.held.to + 1;
+                  first = inr (inl (record { mid = a.held.to; r = a.held.register; t = a.held.of; computes = s.left; jumps = s.jumps; leads = inl (omega arith) }));
+                  second = inr (inl (record { mid = b.held.to; r = b.held.register; t = b.held.of; computes = s.right; jumps = s.again; leads = inl (omega arith) }));
+                };
+                gives_one = given code arguments size home short Int other (suc other) free into refl m s.register s.short;
+                one_leads = inl (omega arith);
+                gives_zero = given code arguments size home long Int (b.held.to + 1) (suc (b.held.to + 1)) free into refl m s.register s.long;
+                zero_leads = inr (at jump back long skip short (b.held.to + 2) (suc (b.held.to + 1)) skip (omega arith) s.skips);
+              };
+        }
+
+  -- a value in this very register: it came there, or it is moved
+  pub settled_emits : (home : Option ℕ) (A : Option ℕ → Coded) (from into free : ℕ) (l : Lists) (e : Emitted) → Emits (A home) from free l e → (Emits (A None) from free l e ⊎ (e.held.register ≡ into)) → MayTake home free into →
+      (t : Scalar) → Emits (λ from to free r t'. BranchCode code size home A from to free into t) from free l (settled into e)
+  settled_emits home A from into free l e h o m t = by (e.held.register == into) refl
+    where
+      there : e.held.register ≡ into → Emits (λ from to free r t'. BranchCode code size home A from to free into t) from free l e
+      there same = record {
+        to_is = h.to_is;
+        grows = h.grows;
+        stands = λ f st. inl (e.held.of, subst (λ r. A home from e.held.to free r e.held.of) same (h.stands f st));
+      }
+
+      moved : Emits (A None) from free l e → Emits (λ from to free r t'. BranchCode code size home A from to free into t) from free l (then_one e (own.Move into e.held.register) into e.held.of)
+      moved g =
+          then_emits (A None) (λ from to free r t'. BranchCode code size home A from to free into t) home (own.Move into e.held.register) e.held.of from free into l e g m
+          (λ a b. inr (record { mid = e.held.to; ra = e.held.register; ta = e.held.of; computes = a; moves = record { to_is = b.to_is; takes = b.takes; register = b.register; type_is = refl; instr = b.instr } }))
+
+      by : (b : Bool) → (e.held.register == into) ≡ b → Emits (λ from to free r t'. BranchCode code size home A from to free into t) from free l (if b then e else then_one e (own.Move into e.held.register) into e.held.of)
+      by true n = there (eqb-true e.held.register into n)
+      by false n = ⊎_elim moved (λ same. absurd (eqb-false e.held.register into n same)) o
+
+  -- a value that is tested, and one of two values
+  pub chosen_emits : (home : Option ℕ) (C : Coded) (D : Branching) (A B : Option ℕ → Coded) (from into free : ℕ) (l : Lists) (c a b : Emitted) →
+      let t : Scalar = common a.held.of b.held.of in
+      Emits C from free l c → Emits (λ from to free r t'. BranchCode code size home A from to free into t) (c.held.to + 1) free c.lists a
+      → Emits (λ from to free r t'. BranchCode code size home B from to free into t) (a.held.to + 1) free a.lists b →
+      Emits (ConditionalCode code size home (Branches code size C D) A B) from free l (chosen c a b into)
+  chosen_emits home C D A B from into free l c a b h g k =
+      let test : Instr = own.JumpZero c.held.register (a.held.to + 1) in
+      let skip : Instr = own.Jump b.held.to in
+      let front_part : List Instr = c.code ++ test ∷ a.code in
+      let two : length front_part ≡ length c.code + length (test ∷ a.code) = length-append c.code (test ∷ a.code) in
+      let last_is : a.held.to ≡ from + length front_part = (let x = h.to_is in let y = g.to_is in omega (arith, x, y, two)) in
+      record {
+        to_is = let z = k.to_is in let u : length (front_part ++ skip ∷ b.code) ≡ length front_part + length (skip ∷ b.code) = length-append front_part (skip ∷ b.code) in omega (arith, last_is, z, u);
+        grows = grows_further l c.lists b.lists h.grows (grows_further c.lists a.lists b.lists g.grows k.grows);
+        stands = λ f st.
+            let first = front code arguments from front_part (skip ∷ b.code) st in
+            let rest = behind code arguments from a.held.to front_part (skip ∷ b.code) last_is st in
+            let middle = behind code arguments from c.held.to c.code (test ∷ a.code) h.to_is first in
+            let fa = fits_before code arguments size a.lists b.lists k.grows f in
+            record {
+              met = c.held.to + 1;
+              unmet = a.held.to + 1;
+              last = a.held.to;
+              end = b.held.to;
+              tests = inl (record {
+                mid = c.held.to;
+                r = c.held.register;
+                t = c.held.of;
+                computes = h.stands (fits_before code arguments size c.lists a.lists g.grows fa) (front code arguments from c.code (test ∷ a.code) first);
+                jumps = middle.0;
+                leads = inl (omega arith);
+              });
+              then_code = g.stands fa (subst (λ q. Stand code arguments q a.code) (omega arith) middle.1);
+              then_leads = inr rest.0;
+              else_code = k.stands f (subst (λ q. Stand code arguments q b.code) (omega arith) rest.1);
+              else_leads = inl refl;
+            };
+      }

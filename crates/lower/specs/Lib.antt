@@ -1,0 +1,4 @@
+-- what is proved of the code that is picked
+pub mod Laws
+-- what only private functions and proofs speak of
+pub mod inner

@@ -1,0 +1,17 @@
+-- what a function's name stands for
+pub mod Names
+-- tables of names, and what values of the program's own types hold
+pub mod Tables
+pub mod Views
+-- the lists of a code as it is made
+pub mod Lists
+-- the instructions of expressions
+pub mod Expressions
+-- of conditions
+pub mod Conditions
+-- of assignments and declarations
+pub mod Simples
+-- of statements
+pub mod Statements
+-- of functions and programs
+pub mod Programs

@@ -1,0 +1,21 @@
+-- The lists of a code as it is made, but that of its instructions.
+use Rattle.std.specs.Prelude.{Vec, ℕ, suc, List, max}
+use Rattle.lower.specs.declared.lists.Lists.{Lists as OwnLists}
+
+-- the arguments of its calls, its texts, and the number of registers that its function needs as far as it is made
+pub record Lists : Type 0 where
+  pub arguments : List ℕ
+  pub texts : List (List ℕ)
+  pub registers : ℕ
+
+-- a register is used
+abbrev pub used : ℕ → Lists → Lists
+used r l = record l { registers = max l.registers (suc r) }
+
+-- so many registers are used
+abbrev pub holding : ℕ → Lists → Lists
+holding n l = record l { registers = max l.registers n }
+
+module _ {A : Type 0} where
+  abbrev pub lists_of : OwnLists A → Lists
+  lists_of l = record { arguments = l.arguments.items; texts = l.texts.items; registers = l.registers }

@@ -1,0 +1,67 @@
+-- The instructions that are picked for functions and programs.
+use Rattle.std.specs.Prelude.{ℕ, ◌+◌, List, [], ◌∷◌, ◌++◌, length, map, Option, Some, None}
+use Rattle.syntax.specs.Tree.{Function, Stmts, Defines, Shares, Program}
+use Rattle.syntax.specs.Names.{globals}
+use Rattle.bytecode.specs.declared.instr.Instr.{Instr}
+use Rattle.bytecode.specs.declared.instr.Instr.TheVariants as own
+use Rattle.bytecode.specs.Code.{FunctionCode, Code}
+use Rattle.bytecode.specs.Views.{instr_of}
+use Rattle.lower.specs.declared.held.Exits.{Exits}
+use Rattle.lower.specs.inner.Lists.{Lists}
+use Rattle.lowered.specs.Programs.{parameter_locals}
+use Rattle.lower.specs.inner.Simples.{Written}
+use Rattle.lower.specs.inner.Statements.{all_written}
+
+abbrev pub no_exits : Exits
+no_exits = record { break_to = 0; continue_to = 0; in_loop = 0; in_function = 0 }
+
+-- a function's body, and a return where that runs off its end
+abbrev pub body_written : Program → Function → Stmts → ℕ → Lists → Written
+body_written p f body from l =
+    let n = length f.parameters in
+    let made = all_written p body no_exits (parameter_locals f.parameters) from (record l { registers = n }) in
+    record { code = made.code ++ own.Return ∷ []; lists = made.lists; to = made.to + 1 }
+
+-- the codes of functions, and the lists after them
+pub record Made : Type 0 where
+  pub functions : List FunctionCode
+  pub code : List Instr
+  pub lists : Lists
+  pub to : ℕ
+
+abbrev pub nothing_made : ℕ → Lists → Made
+nothing_made from l = record { functions = []; code = []; lists = l; to = from }
+
+abbrev pub function_code : Function → ℕ → Written → FunctionCode
+function_code f from w =
+    record { name = f.name.text; first = from; registers = w.lists.registers; parameters = length f.parameters }
+
+abbrev pub put_before : FunctionCode → Written → Made → Made
+put_before g w rest =
+    record { functions = g ∷ rest.functions; code = w.code ++ rest.code; lists = rest.lists; to = rest.to }
+
+-- a function's code, where it has a body, and then the rest
+abbrev pub made_first : Program → Function → Option Stmts → (ℕ → Lists → Made) → ℕ → Lists → Made
+made_first p f None rest from l = rest from l
+made_first p f (Some body) rest from l =
+    let w = body_written p f body from l in put_before (function_code f from w) w (rest w.to w.lists)
+
+-- the functions that these items of a program define, in order
+abbrev pub all_made : Program → Program → ℕ → Lists → Made
+all_made p [] from l = nothing_made from l
+all_made p (Shares gs ∷ items) from l = all_made p items from l
+all_made p (Defines f ∷ items) from l = made_first p f f.body (all_made p items) from l
+
+abbrev pub made_of : Program → Made
+made_of p = all_made p p 0 (record { arguments = []; texts = []; registers = 0 })
+
+-- the code that is picked for a program
+abbrev pub lowered_code : Program → Code
+lowered_code p =
+    let made = made_of p in
+    record {
+      functions = made.functions;
+      instructions = map (instr_of made.lists.arguments) made.code;
+      texts = made.lists.texts;
+      globals = globals p;
+    }

@@ -1,0 +1,13 @@
+//! Code generation: from an accepted program to register code that means it.
+#![tactic(auto)]
+
+mod expr;
+mod fault;
+mod held;
+pub mod laws;
+mod lists;
+mod names;
+mod program;
+mod put;
+mod scope;
+mod tables;
