@@ -1,0 +1,10 @@
+//! Tests of frames and of local steps, in a crate of their own: a crate with tests is proved twice.
+#![tactic(auto)]
+
+#[cfg(test)]
+mod built;
+pub mod carried;
+#[cfg(test)]
+mod growths;
+#[cfg(test)]
+mod instructions;
