@@ -1,0 +1,171 @@
+-- What the workers of a hall add up to when it is closed.
+use Rattle.std.proofs.Common.{add-one, take, drop, ◌≡◌, ◌≢◌, ◌⊎◌, inl, inr, ⊎_elim, ℕ, zero, suc, ◌+◌, ◌<◌, ◌≤◌, Bool, true, false, List, [], ◌∷◌, ◌++◌, Some, length, get_or, set, slice_get, refl, sym, ap, ◌∙◌, subst, arith}
+use Rattle.std.specs.Prelude.{Option, if◌then◌else◌, nat_lt, unwrap_or}
+use Rattle.std.proofs.lemmas.Option.{slice_get_within}
+use mathlib.Core.Option.{some, some-ne-none, some-injective}
+use lib.ListN.{get_elem?}
+use Rattle.atomic_table.proofs.Lists.{at_index}
+use Rattle.atomic_table.specs.Seated.{TableId}
+use Rattle.norec_core.specs.Attempts.{Attempt}
+use Rattle.machine.specs.Answered.{Heard}
+use Rattle.machine.specs.Explained.{HasLock}
+use Rattle.bytecode.specs.Code.{Configuration}
+use Rattle.machine.specs.Worlds.{Part, World}
+use Rattle.machine.proofs.answers.Answering.{pauses}
+use Rattle.machine.proofs.answers.Holding.{runs, unheld}
+use Rattle.machine.proofs.steps.Worlds.{get-set_other, get-set_same}
+use Rattle.bytecode.specs.Code.{effect}
+use Rattle.bytecode.specs.Beginning.{beginning}
+use Rattle.machine.specs.States.{attempt_has_lock, thread_has_lock}
+use Rattle.bytecode.specs.Initial.{initial_of}
+use Rattle.bytecode.specs.Valid.{bounds_of}
+use Rattle.bytecode.proofs.Fits.{fits_cells}
+use Rattle.seats.proofs.Codes.{initial_fits}
+use Rattle.seats.specs.Setup.{Setup, IsWorldOf}
+use Rattle.workers.specs.declared.worker.Worker.{Worker}
+use Rattle.workers.specs.declared.close.Finished.{Finished}
+use Rattle.seats.specs.Views.{Among, ViewPart, Views, parts_in, parts_of}
+use Rattle.seats.specs.Rule.{Fits, IsRuled, Leaves, SeatView}
+use Rattle.workers.specs.Workers.{AreWorkersOf, IsWorkerOf}
+use Rattle.workers.specs.Closing.{AreThere, Closes, finished_back, parts_back}
+use Rattle.seats.proofs.Keeps.{at_most_one}
+use Rattle.seats.proofs.Parts.{one_if, parts_in-at, parts_of-append}
+
+split : (k i : ℕ) → k < i + 1 → (k < i) ⊎ (k ≡ i)
+split zero zero lt = inr refl
+split zero (suc i) lt = inl (omega arith)
+split (suc k) zero lt = absurd (omega arith)
+split (suc k) (suc i) lt = ⊎_elim (λ h. inl (omega arith)) (λ h. inr (ap suc h)) (split k i (omega arith))
+
+pub below_more : (P : ℕ → Type 0) (i : ℕ) → ((n : ℕ) → n < i → P n) → P i → (n : ℕ) → n < i + 1 → P n
+below_more P i below here n lt = ⊎_elim (λ (less : n < i). below n less) (λ (same : n ≡ i). subst P (sym same) here) (split n i lt)
+
+module _ {A : Type 0} where
+  pub index_below : (l : List A) (k : ℕ) (a : A) → get_elem? l k ≡ some a → k < length l
+  index_below [] k a e = absurd (some-ne-none a (sym e))
+  index_below (x ∷ xs) zero a e = omega arith
+  index_below (x ∷ xs) (suc k) a e = let h = index_below xs k a e in omega arith
+
+  pub item_at : (l ds : List A) (i : ℕ) (x : A) → ds ≡ l → i < length ds → x ≡ get_or ds i x → get_elem? l i ≡ some x
+  item_at l ds i x e h is = sym (ap (λ (m : List A). get_elem? m i) e) ∙ at_index ds i x h is
+
+  -- what holds of each element below i, and of element i
+  pub each_more : (P : A → Type 0) (l ds : List A) (i : ℕ) (x : A) → ds ≡ l → i < length ds → x ≡ get_or ds i x → ((k : ℕ) (a : A) → k < i → get_elem? l k ≡ some a → P a) → P x → (k : ℕ) (a : A) → k < i + 1 → get_elem? l k ≡ some a → P a
+  each_more P l ds i x e h is below here k a lt at = ⊎_elim
+      (λ (less : k < i). below k a less at)
+      (λ (same : k ≡ i). subst P (some-injective x a (sym (item_at l ds i x e h is) ∙ (sym (ap (get_elem? l) same) ∙ at))) here)
+      (split k i lt)
+
+  pub each_of : (P : A → Type 0) (l ds : List A) (i : ℕ) → ds ≡ l → length ds ≤ i → ((k : ℕ) (a : A) → k < i → get_elem? l k ≡ some a → P a) → (k : ℕ) (a : A) → get_elem? l k ≡ some a → P a
+  each_of P l ds i e h below k a at = let lt = index_below l k a at in let len : length ds ≡ length l = ap length e in below k a (omega arith) at
+
+among_front : (q : ViewPart) (ps qs : List ViewPart) → Among q ps → Among q (ps ++ qs)
+among_front q [] qs a = absurd a
+among_front q (r ∷ ps) qs (inl e) = inl e
+among_front q (r ∷ ps) qs (inr a) = inr (among_front q ps qs a)
+
+among_back : (q : ViewPart) (ps qs : List ViewPart) → Among q qs → Among q (ps ++ qs)
+among_back q [] qs a = a
+among_back q (r ∷ ps) qs a = inr (among_back q ps qs a)
+
+not_both : true ≡ false → ⊥
+not_both e = cc
+
+has_it : (p : Part Configuration) (a : Attempt Configuration) → HasLock p a → thread_has_lock p.thread ≡ true
+has_it p a has = ap attempt_has_lock has.0 ∙ has.1
+
+module _ {A : Type 0} (z : TableId) (key : Setup) where
+  count_front : (x : Worker A) (is : IsWorkerOf z key x) (xs : List (Worker A)) (n : ℕ) → parts_of n (parts_back (x ∷ xs)) ≡ parts_of n (parts_back xs) + parts_of n (is.1.part ∷ [])
+  count_front x is xs n = parts_of-append n (parts_back xs) x.seat.me.0 ∙ ap (λ (k : ℕ). parts_of n (parts_back xs) + k) (ap (λ m. parts_of n m.0) is.1.sits)
+
+  -- what is there stays, where the part of another thread changes
+  there_kept : (w : World Configuration) (heard : List (List Heard)) (n : ℕ) (now : Part Configuration) (xs : List (Worker A)) (all : AreWorkersOf z key xs) → parts_of n (parts_back xs) ≡ 0 → AreThere z key w heard xs all → AreThere z key (record w { parts = set w.parts n now }) heard xs all
+  there_kept w heard n now [] all none t = tt
+  there_kept w heard n now (x ∷ xs) all none t =
+      let works = all.0.1 in
+      let c = count_front x all.0 xs n in
+      let apart : x.number ≢ n = (λ e. let o = one_if works.part.number n (works.number_is ∙ e) in omega arith) in
+      (get-set_other w.parts n x.number now apart ∙ t.0, t.1, there_kept w heard n now xs all.1 (omega arith) t.2)
+
+  module _ (w : World Configuration) (heard : List (List Heard)) (answered : IsWorldOf key w heard) where
+    -- the world once each worker's last local steps are made
+    pub record Settled (ws : List (Worker A)) (all : AreWorkersOf z key ws) : Type 0 where
+      pub parts : List (Part Configuration)
+      pub reached : IsWorldOf key (record w { parts = parts }) heard
+      pub there : AreThere z key (record w { parts = parts }) heard ws all
+      pub others : (n : ℕ) → parts_of n (parts_back ws) ≡ 0 → slice_get parts n ≡ slice_get w.parts n
+
+    settles : (ws : List (Worker A)) (all : AreWorkersOf z key ws) → ((n : ℕ) → parts_of n (parts_back ws) ≤ 1) → ((p : ViewPart) → Among p (parts_back ws) → Fits key w heard p) → Settled ws all
+    settles [] all once fits = record { parts = w.parts; reached = answered; there = tt; others = λ n none. refl }
+    settles (x ∷ xs) all once fits =
+        let works = all.0.1 in
+        let p : ViewPart = works.part in
+        let view : x.seat.me.0 ≡ p ∷ [] = ap (λ m. m.0) works.sits in
+        let rest = settles xs all.1 (λ n. let o = once n in let a = count_front x all.0 xs n in omega arith) (λ q a. fits q (among_front q (parts_back xs) x.seat.me.0 a)) in
+        let mine : Fits key w heard p = fits p (among_back p (parts_back xs) x.seat.me.0 (subst (Among p) (sym view) (inl refl))) in
+        let alone : parts_of p.number (parts_back xs) ≡ 0 = (
+        let o = once p.number in
+        let a = count_front x all.0 xs p.number in
+        let one = one_if p.number p.number refl in omega arith
+        ) in
+        let at : slice_get rest.parts p.number ≡ Some p.part = rest.others p.number alone ∙ mine.part in
+        record {
+          parts = set rest.parts p.number works.now;
+          reached = pauses (effect key.code) (beginning key.code) (initial_of key.code) key.threads works.pauses p.number p.part works.now p.heard w.lock w.words rest.parts heard rest.reached at mine.answers works.paused_to;
+          there = (
+            ap (slice_get (set rest.parts p.number works.now)) (sym works.number_is) ∙ get-set_same rest.parts p.number works.now p.part at,
+            ap (slice_get heard) (sym works.number_is) ∙ mine.answers,
+            there_kept (record w { parts = rest.parts }) heard p.number works.now xs all.1 alone rest.there,
+          );
+          others = λ n none.
+              let a = count_front x all.0 xs n in
+              let ne : n ≢ p.number = (λ e. let one = one_if p.number n (sym e) in omega arith) in
+              get-set_other rest.parts p.number n works.now ne ∙ rest.others n (omega arith);
+        }
+
+  -- a worker that is there has its thread there
+  thread_there : (w : World Configuration) (heard : List (List Heard)) (ws : List (Worker A)) (all : AreWorkersOf z key ws) → AreThere z key w heard ws all → (k : ℕ) (x : Worker A) → get_elem? ws k ≡ some x → (p : Part Configuration) × (slice_get w.parts x.number ≡ Some p) × (p.thread ≡ x.thread.thread)
+  thread_there w heard [] all t k x e = absurd (some-ne-none x (sym e))
+  thread_there w heard (y ∷ ys) all t zero x e =
+      subst (λ (v : Worker A). (p : Part Configuration) × (slice_get w.parts v.number ≡ Some p) × (p.thread ≡ v.thread.thread)) (some-injective y x e) (all.0.1.now, t.0, all.0.1.thread_is)
+  thread_there w heard (y ∷ ys) all t (suc k) x e = thread_there w heard ys all.1 t.2 k x e
+
+  pub closes : (id : ℕ) (m : SeatView) (ws : List (Worker A)) → m.0 ≡ parts_back ws → (all : AreWorkersOf z key ws) → (cells : List ℕ) → Leaves key id m cells → (threads : List (Finished A)) → threads ≡ finished_back ws
+      → Closes z key ws all cells threads
+  closes id m ws same all cells left threads finished =
+      let views = left.1 in
+      let rule = left.2 in
+      let at : get_elem? views id ≡ some (parts_back ws) = left.3 ∙ ap some same in
+      let s = settles rule.world rule.heard rule.answered ws all (λ n. let a = parts_in-at n views id (parts_back ws) at in let o = at_most_one (nat_lt n key.threads) (parts_in n views) (rule.once n) in omega arith) (λ p a. rule.fits id (parts_back ws) p at a) in
+      let r = runs (effect key.code) (beginning key.code) (bounds_of key.code) (initial_of key.code) (initial_fits key.code) (fits_cells key.code rule.valid) key.threads (record rule.world { parts = s.parts }) rule.heard s.reached in
+      record {
+        world = record rule.world { parts = s.parts };
+        heard = rule.heard;
+        answered = s.reached;
+        cells_are = (let e : (left.0 ∷ cells) ≡ rule.world.lock ∷ rule.world.words = rule.words_are in sym (ap (λ (l : List ℕ). drop 1 l) e));
+        there = s.there;
+        threads_are = finished;
+        runs = record { entries = r.0; is_merge = r.1; each = r.2 };
+        even = λ here free. unheld (effect key.code) (beginning key.code) (bounds_of key.code) (initial_of key.code) (initial_fits key.code) (fits_cells key.code rule.valid) key.threads (record rule.world { parts = s.parts }) rule.heard s.reached
+            (λ t p a e has.
+            let count = (r.2 r.0 r.1).count in
+            let below = slice_get_within s.parts t p e in
+            let h = here t (omega arith) in
+            let g = thread_there (record rule.world { parts = s.parts }) rule.heard ws all s.there h.0 h.1 h.2 in
+            let is : Some g.0 ≡ Some p = sym g.1 ∙ ap (slice_get s.parts) h.3 ∙ e in
+            let same : g.0 ≡ p = ap (λ (o : Option (Part Configuration)). unwrap_or o p) is in
+            let no : thread_has_lock p.thread ≡ false = ap (λ (q : Part Configuration). thread_has_lock q.thread) (sym same) ∙ ap thread_has_lock g.2 ∙ free h.0 h.1 h.2 in
+            let yes = has_it p a has in
+            absurd (not_both (sym yes ∙ no)));
+      }
+
+pub worker_in : {A : Type 0} (z : TableId) (key : Setup) (ws xs ys : List (Worker A)) (w : Worker A) → AreWorkersOf z key ws → ws ≡ xs ++ w ∷ ys → IsWorkerOf z key w
+worker_in {A = A} z key ws xs ys w all e = inside xs (subst (AreWorkersOf z key) e all)
+  where
+    inside : (xs : List (Worker A)) → AreWorkersOf z key (xs ++ w ∷ ys) → IsWorkerOf z key w
+    inside [] a = a.0
+    inside (x ∷ xs) a = inside xs a.1
+
+-- where one more is pushed and one fewer is left, there is room still
+pub room_left : (threads more workers left capacity : ℕ) {capacity' : ℕ} → more ≡ threads + 1 → capacity' ≡ capacity → workers ≡ left + 1 → threads + workers ≤ capacity → more + left ≤ capacity'
+room_left threads more workers left capacity a b c d = omega arith

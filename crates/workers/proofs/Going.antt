@@ -1,0 +1,39 @@
+-- What a worker does goes on from what it did.
+use Rattle.std.proofs.Common.{◌+◌, List, [], ◌++◌, refl, sym, ap, ◌∙◌, append-nil, append_assoc}
+use Rattle.atomic_table.specs.Seated.{TableId}
+use Rattle.machine.specs.Answered.{Replays}
+use Rattle.bytecode.specs.Code.{Configuration}
+use Rattle.machine.specs.Worlds.{Part}
+use Rattle.machine.proofs.answers.Answering.{replays_on}
+use Rattle.bytecode.specs.Code.{Code, effect}
+use Rattle.seats.specs.Setup.{Setup}
+use Rattle.workers.specs.declared.worker.Worker.{Worker}
+use Rattle.seats.specs.Views.{ViewPart}
+use Rattle.workers.specs.Works.{Grows, GoesOnFrom}
+use Rattle.workers.specs.Workers.{StepsOn}
+
+begins_on : {A : Type 0} (xs ys zs : List A) → Grows xs ys → Grows ys zs → Grows xs zs
+begins_on xs ys zs g h = (g.0 ++ h.0, h.1 ∙ ap (λ l. l ++ h.0) g.1 ∙ append_assoc xs g.0 h.0)
+
+goes_nowhere : (code : Code) (p : ViewPart) (now : Part Configuration) → GoesOnFrom code p now p now
+goes_nowhere code p now = record { count = 0; more = []; heard = sym (append-nil p.heard); steps = Replays.none; records = ([], sym (append-nil now.records)); floor = (refl, refl) }
+
+goes_further : (code : Code) (p q r : ViewPart) (a b c : Part Configuration) → GoesOnFrom code p a q b → GoesOnFrom code q b r c → GoesOnFrom code p a r c
+goes_further code p q r a b c f g = record {
+  count = f.count + g.count;
+  more = f.more ++ g.more;
+  heard = g.heard ∙ ap (λ l. l ++ g.more) f.heard ∙ append_assoc p.heard f.more g.more;
+  steps = replays_on (effect code) a.thread b.thread c.thread f.count g.count f.more g.more f.steps g.steps;
+  records = begins_on a.records b.records c.records f.records g.records;
+  floor = (g.floor.0 ∙ f.floor.0, g.floor.1 ∙ f.floor.1);
+}
+
+module _ {A : Type 0} (z : TableId) (key : Setup) where
+  pub stays : (a : Worker A) → StepsOn z key a a
+  stays a was = (was, goes_nowhere key.code was.1.part was.1.now)
+
+  pub further : (a b c : Worker A) → StepsOn z key a b → StepsOn z key b c → StepsOn z key a c
+  further a b c f g was =
+      let x = f was in
+      let y = g x.0 in
+      (y.0, goes_further key.code was.1.part x.0.1.part y.0.1.part was.1.now x.0.1.now y.0.1.now x.1 y.1)

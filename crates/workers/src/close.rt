@@ -1,0 +1,233 @@
+//! How a hall is closed.
+
+ghost use Rattle.std.specs.Prelude.{◌≡◌, ◌<◌, ◌≤◌, ℕ, [], IfOk, IfErr, OnOk, MatchOption, MatchBool, vec_len};
+ghost use Rattle.std.specs.Vec.{vec_capacity};
+ghost use Rattle.bytecode.specs.Valid.{cells_of};
+ghost use Rattle.workers.specs.Workers.{AreWorkersOf};
+ghost use Rattle.workers.specs.Closing.{HasWorker, NoWorker, AllHere, NoneHolds, Holds, Closes, parts_back, finished_back};
+
+use crate::hall::Hall;
+use crate::worker::Worker;
+use machine::Thread;
+use atomic_table::Seat;
+use seats::{View, Words, join};
+use std::alloc::{Allocator, Global};
+use syntax::numbers::Status;
+
+fn has<A: Allocator>(workers: &Vec<Worker<A>, A>, number: u32) -> bool
+    ensures { MatchBool result (HasWorker workers.now.items number) (NoWorker workers.now.items number) }
+{
+    'workers: for worker in workers {
+        if worker.number == number {
+            return true;
+        }
+    }
+    false
+}
+
+// A thread without a worker.
+fn missing<A: Allocator>(workers: &Vec<Worker<A>, A>, count: u32) -> bool
+    ensures { MatchBool result ((n : ℕ) × (n < count) × NoWorker workers.now.items n) (AllHere workers.now.items count) }
+{
+    'numbers: for number in 0..count {
+        if !has(workers, number) {
+            return true;
+        }
+    }
+    false
+}
+
+pub(crate) fn holder<A: Allocator + Copy>(workers: &Vec<Worker<A>, A>) -> Option<u32>
+    ensures { MatchOption result (NoneHolds workers.now.items) (λ n. Holds workers.now.items n) }
+{
+    'workers: for worker in workers {
+        if worker.thread.has_lock() {
+            return Some(worker.number);
+        }
+    }
+    None
+}
+
+/// A thread of a closed hall.
+#[derive(Drop)]
+pub struct Finished<A: Allocator = Global> {
+    pub(crate) number: u32,
+    pub(crate) thread: Thread<A>,
+    pub(crate) steps: u64,
+}
+
+impl<A: Allocator + Copy> Finished<A> {
+    /// Its number, from 0 on.
+    pub fn thread(&self) -> u32
+        ensures { result ≡ self.now.number }
+    {
+        self.number
+    }
+
+    /// Whether it runs, has ended or has trapped.
+    pub fn status(&self) -> Status
+        ensures { result ≡ self.now.thread.thread.status }
+    {
+        self.thread.status()
+    }
+
+    /// What it has printed.
+    pub fn output(&self) -> &str
+        ensures { result.now ≡ self.now.thread.thread.text }
+    {
+        self.thread.output()
+    }
+
+    /// How many steps it has made.
+    pub fn steps(&self) -> u64
+        ensures { result ≡ self.now.steps }
+    {
+        self.steps
+    }
+
+    /// How many of them were accesses to the lock or a cell.
+    pub fn accesses(&self) -> u64
+        ensures { result ≡ self.now.thread.accesses }
+    {
+        self.thread.accesses()
+    }
+}
+
+/// What a closed hall leaves: the cells' words, and the threads, the last worker's first.
+#[derive(Drop)]
+pub struct Outcome<A: Allocator = Global> {
+    pub words: Vec<u64, A>,
+    pub threads: Vec<Finished<A>, A>,
+}
+
+/// Why a hall was not closed.
+#[derive(Clone, Copy, Debug, PartialEq, Eq)]
+pub enum CloseReason {
+    /// A growth was refused.
+    OutOfMemory,
+    /// A thread of the hall has no worker here.
+    Missing,
+    /// This thread has the lock.
+    LockHeld(u32),
+}
+
+/// Why a hall was not closed, with the hall and the workers as they were.
+#[derive(Drop)]
+pub struct CloseFault<A: Allocator = Global> {
+    pub reason: CloseReason,
+    pub hall: Hall<A>,
+    pub workers: Vec<Worker<A>, A>,
+}
+
+// Takes in the seats, and gives the words.
+pub(crate) fn gather<A: Allocator>(
+    hall: Hall<A>,
+    workers: Vec<Worker<A>, A>,
+    cells: Vec<u64, A>,
+    threads: Vec<Finished<A>, A>,
+) -> Outcome<A>
+    requires workers { AreWorkersOf hall.table.shared.table_id hall.setup workers.items }
+    requires some { 0 < vec_len workers }
+    requires room { (cells.items ≡ []) × (cells_of hall.setup.code ≤ vec_capacity cells) }
+    requires places { (threads.items ≡ []) × (vec_len workers ≤ vec_capacity threads) }
+    ensures { (all : AreWorkersOf hall.table.shared.table_id hall.setup workers.items) → Closes hall.table.shared.table_id hall.setup workers.items all result.words.items result.threads.items }
+{
+    let Hall {
+        table,
+        setup: _setup,
+    } = hall;
+    let (seat, threads) = join_all(&table.shared, workers, threads);
+    let words = seats::close(table, seat, cells);
+    Outcome { words, threads }
+}
+
+// One seat for all threads, and the threads.
+fn join_all<A: Allocator>(
+    words: &Words<A>,
+    mut workers: Vec<Worker<A>, A>,
+    mut threads: Vec<Finished<A>, A>,
+) -> (Seat<(), View>, Vec<Finished<A>, A>)
+    requires table { 0 < words.now.table_id.words }
+    requires some { 0 < vec_len workers }
+    requires workers { AreWorkersOf words.now.table_id words.now.key workers.items }
+    requires places { (threads.items ≡ []) × (vec_len workers ≤ vec_capacity threads) }
+    ensures { (result.0.table_id ≡ words.now.table_id) × (result.0.me ≡ (parts_back workers.items, [])) × (result.1.items ≡ finished_back workers.items) }
+{
+    let Some(last) = workers.pop() else {
+        unreachable!()
+    };
+    let (mut all, finished) = parted(last);
+    threads.push_reserved(finished);
+    while let Some(worker) = workers.pop() {
+        let (seat, finished) = parted(worker);
+        join(words, &mut all, seat);
+        threads.push_reserved(finished);
+    }
+    (all, threads)
+}
+
+fn parted<A: Allocator>(worker: Worker<A>) -> (Seat<(), View>, Finished<A>)
+    ensures { (result.0 ≡ worker.seat) × (result.1 ≡ record { number = worker.number; thread = worker.thread; steps = worker.steps }) }
+{
+    let Worker {
+        number,
+        thread,
+        steps,
+        seat,
+    } = worker;
+    (
+        seat,
+        Finished {
+            number,
+            thread,
+            steps,
+        },
+    )
+}
+
+impl<A: Allocator + Copy> Hall<A> {
+    ghost use Rattle.workers.specs.Closing.{IsReason};
+
+    /// The cells' words and the threads, where each thread has its worker here and none has the lock. It waits for nobody,
+    /// and needs no other thread's leave: the workers are here. A fault gives hall and workers back, as they were.
+    pub fn close(
+        self,
+        alloc: A,
+        workers: Vec<Worker<A>, A>,
+    ) -> Result<Outcome<A>, CloseFault<A>>
+        requires { AreWorkersOf self.table.shared.table_id self.setup workers.items }
+        ensures all { OnOk result (AllHere workers.items self.setup.threads) }
+        ensures none { OnOk result (NoneHolds workers.items) }
+        ensures closes { IfOk result (λ o. (all : AreWorkersOf self.table.shared.table_id self.setup workers.items) → Closes self.table.shared.table_id self.setup workers.items all o.words.items o.threads.items) }
+        ensures back { IfErr result (λ e. (e.hall ≡ self) × (e.workers ≡ workers)) }
+        ensures reason { IfErr result (λ e. IsReason e.reason self.setup.threads workers.items) }
+    {
+        if missing(&workers, self.setup.threads()) {
+            return Err(fault(CloseReason::Missing, self, workers));
+        }
+        if let Some(number) = holder(&workers) {
+            return Err(fault(CloseReason::LockHeld(number), self, workers));
+        }
+        let Ok(threads) = Vec::with_capacity(alloc, workers.len()) else {
+            return Err(fault(CloseReason::OutOfMemory, self, workers));
+        };
+        match Vec::with_capacity(alloc, self.table.word_count() - 1) {
+            Ok(cells) => Ok(gather(self, workers, cells, threads)),
+            Err(_) => Err(fault(CloseReason::OutOfMemory, self, workers)),
+        }
+    }
+}
+
+fn fault<A: Allocator>(
+    reason: CloseReason,
+    hall: Hall<A>,
+    workers: Vec<Worker<A>, A>,
+) -> CloseFault<A>
+    ensures { (result.reason ≡ reason) × (result.hall ≡ hall) × (result.workers ≡ workers) }
+{
+    CloseFault {
+        reason,
+        hall,
+        workers,
+    }
+}

@@ -1,0 +1,18 @@
+//! Threads of the machine, run by threads of the program over one table of words.
+//!
+//! A worker makes the steps of one thread, each shared access by one atomic step on the table, with no lock, no queue and no
+//! waiting.
+#![tactic(auto)]
+
+mod close;
+mod hall;
+pub mod laws;
+mod open;
+mod run;
+mod worker;
+
+pub use close::{CloseFault, CloseReason, Finished, Outcome};
+pub use hall::Hall;
+pub use open::HallFault;
+pub use run::{Driven, Ending, Gate, RunFault, RunMemory, RunReport, run_all};
+pub use worker::{Status, Worker};

@@ -1,0 +1,112 @@
+//! How a hall is opened.
+
+ghost use Rattle.std.specs.Prelude.{◌≡◌, ◌<◌, ◌≤◌, [], vec_len, IfOk, IfErr};
+ghost use Rattle.bytecode.specs.Valid.{IsValid};
+ghost use Rattle.machine.specs.Standing.{IsThreadOf};
+ghost use Rattle.machine.specs.States.{first_thread};
+ghost use Rattle.seats.specs.Views.{first_view};
+ghost use Rattle.workers.specs.Workers.{AreWorkersFrom};
+ghost use Rattle.workers.specs.Opening.{IsRefused};
+
+use crate::hall::Hall;
+use crate::worker::Worker;
+use machine::Thread;
+use atomic_table::Seat;
+use bytecode::Code;
+use seats::{Setup, View, Words, split_first};
+use std::alloc::{AllocError, Allocator};
+
+/// The most threads of a hall.
+const MOST_THREADS: u32 = 64;
+
+/// Why a hall was not opened.
+#[derive(Clone, Copy, Debug, PartialEq, Eq)]
+pub enum HallFault {
+    /// A growth was refused.
+    OutOfMemory,
+    /// There are to be 1 to 64 threads.
+    Threads,
+}
+
+fn worker<A: Allocator + Copy>(
+    alloc: A,
+    number: u32,
+    code: &Code<A>,
+    seat: Seat<(), View>,
+) -> Result<Worker<A>, AllocError>
+    ensures number { IfOk result (λ w. w.number ≡ number) }
+    ensures thread { IfOk result (λ w. (w.thread.thread ≡ first_thread code.now number) × IsThreadOf code.now w.thread.thread) }
+    ensures none { IfOk result (λ w. (w.steps ≡ 0) × (w.thread.accesses ≡ 0)) }
+    ensures seat { IfOk result (λ w. w.seat ≡ seat) }
+{
+    Ok(Worker {
+        number,
+        thread: Thread::new(alloc, code, number)?,
+        steps: 0,
+        seat,
+    })
+}
+
+// One worker for each thread.
+fn workers<A: Allocator + Copy>(
+    words: &Words<A>,
+    alloc: A,
+    setup: &Setup<A>,
+    mut seat: Seat<(), View>,
+) -> Result<Vec<Worker<A>, A>, HallFault>
+    requires table { (seat.table_id ≡ words.now.table_id) × (0 < words.now.table_id.words) × (words.now.key ≡ setup.now) × (0 < setup.now.threads) }
+    requires valid { IsValid setup.now.code }
+    requires seat { seat.me ≡ (first_view setup.now, []) }
+    ensures workers { IfOk result (λ v. (vec_len v ≡ setup.now.threads) × AreWorkersFrom words.now.table_id setup.now 0 v.items) }
+    ensures fault { IfErr result (λ e. e ≡ HallFault.OutOfMemory) }
+{
+    let mut all = Vec::new(alloc);
+    let last = setup.threads() - 1;
+    'numbers: for number in 0..last {
+        let first = split_first(words, &mut seat);
+        let Ok(one) = worker(alloc, number, setup.code(), first) else {
+            return Err(HallFault::OutOfMemory);
+        };
+        let Ok(()) = all.push(one) else {
+            return Err(HallFault::OutOfMemory);
+        };
+    }
+    let Ok(one) = worker(alloc, last, setup.code(), seat) else {
+        return Err(HallFault::OutOfMemory);
+    };
+    let Ok(()) = all.push(one) else {
+        return Err(HallFault::OutOfMemory);
+    };
+    Ok(all)
+}
+
+impl<A: Allocator + Copy> Hall<A> {
+    /// A hall for these threads of the code, each at its beginning, and a worker for each thread, in the order of their
+    /// numbers. It keeps a copy of the code. A fault is `Threads` exactly where the number is not 1 to 64, and else
+    /// `OutOfMemory`, where a growth was refused.
+    pub fn open(
+        alloc: A,
+        code: &Code<A>,
+        threads: u32,
+    ) -> Result<(Hall<A>, Vec<Worker<A>, A>), HallFault>
+        ensures setup { IfOk result (λ r. (r.0.setup.code ≡ code.now) × (r.0.setup.threads ≡ threads) × (0 < threads) × (threads ≤ 64)) }
+        ensures workers { IfOk result (λ r. (vec_len r.1 ≡ threads) × AreWorkersFrom r.0.table.shared.table_id r.0.setup 0 r.1.items) }
+        ensures fault { IfErr result (λ e. IsRefused e threads) }
+    {
+        if threads == 0 || threads > MOST_THREADS {
+            return Err(HallFault::Threads);
+        }
+        let Ok(copy) = code.copy(alloc) else {
+            return Err(HallFault::OutOfMemory);
+        };
+        let setup = Setup::new(copy, threads);
+        let Ok((table, seat)) = seats::open(alloc, &setup) else {
+            return Err(HallFault::OutOfMemory);
+        };
+        let workers = match workers(&table.shared, alloc, &setup, seat) {
+            Ok(workers) => workers,
+            Err(_) => return Err(HallFault::OutOfMemory),
+        };
+        Ok((Hall { table, setup }, workers))
+    }
+}

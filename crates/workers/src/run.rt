@@ -1,0 +1,365 @@
+//! Each worker in a thread of the program of its own.
+
+ghost use Rattle.std.specs.Prelude.{◌≡◌, ◌+◌, ◌^◌, ◌<◌, ◌≤◌, ℕ, IfOk, IfErr};
+ghost use Rattle.syntax.specs.Behaviours.{Behaviour, Means};
+ghost use Rattle.bytecode.specs.Valid.{bounds_of};
+ghost use Rattle.seats.specs.Saying.{code_does};
+ghost use Rattle.workers.specs.Workers.{IsWorkerOf, AreWorkersOf, StepsOn};
+ghost use Rattle.workers.specs.Driving.{AreDrivenOf, AreFresh, AreEnded, AllPromise, EndsAt, IsNumbered, IsRunRefused, Ran, TellsMemory, worker_number, driven_number, handle_number};
+
+use crate::close::{Finished, Outcome, gather, holder};
+use crate::hall::Hall;
+use crate::open::HallFault;
+use crate::worker::Worker;
+use bytecode::Code;
+use norec_core::Stop;
+use std::alloc::{AllocError, Allocator, Global};
+use std::sync::Wait;
+use std::thread;
+use std::thread::{Promise, PromisedHandle, Scope, Threads};
+use syntax::numbers::Status;
+
+/// Holds threads of a run back, so that a test can choose an order of their steps.
+pub trait Gate {
+    /// Whether the gate ever holds a thread. Where it does not, `hold` is never asked, and a step costs nothing more.
+    const HOLDS: bool = true;
+
+    /// Asked before each step of a thread, with its accesses so far. While it answers true the thread makes no step and asks
+    /// again; after 1,000,000 such answers in a row the thread goes on without asking again.
+    fn hold(&self, thread: u32, accesses: u64) -> bool;
+
+    /// Told when a thread's loop is over.
+    fn ended(&self, thread: u32);
+}
+
+/// How often in a row a gate is asked.
+const MOST_TURNS: u64 = 1_000_000;
+
+// Whether the gate held the thread to the end.
+fn held<G: Gate>(gate: &G, thread: u32, accesses: u64) -> bool {
+    'turns: for _ in 0..MOST_TURNS {
+        if !gate.hold(thread, accesses) {
+            return false;
+        }
+    }
+    true
+}
+
+/// A worker after its loop.
+#[derive(Drop)]
+pub struct Driven<A: Allocator = Global> {
+    pub worker: Worker<A>,
+
+    /// Whether the gate held it to the end.
+    pub overheld: bool,
+
+    /// Why it made no further step, where it was a stop.
+    pub stopped: Option<Stop>,
+}
+
+fn made(worker: Worker, overheld: bool, stopped: Option<Stop>) -> Driven
+    ensures { (result.worker ≡ worker) × (result.overheld ≡ overheld) × (result.stopped ≡ stopped) }
+{
+    Driven {
+        worker,
+        overheld,
+        stopped,
+    }
+}
+
+// A worker's loop, where a gate may hold it.
+fn drive_held<G: Gate>(hall: &Hall, mut worker: Worker, budget: u64, gate: &G) -> Driven
+    requires worker { IsWorkerOf hall.now.table.shared.table_id hall.now.setup worker }
+    requires room { worker.steps + budget < 2 ^ 64 }
+    ensures goes_on { StepsOn hall.now.table.shared.table_id hall.now.setup worker result.worker }
+    ensures ends { EndsAt hall.now.setup (worker.steps + budget) result.stopped result.worker }
+    ensures number { result.worker.number ≡ worker.number }
+{
+    let mut overheld = false;
+    'steps: for turn in 0..budget {
+        if worker.thread.status() != Status::Running {
+            return made(worker, overheld, None);
+        }
+        overheld = overheld || held(gate, worker.number, worker.thread.accesses());
+        if let Err(stop) = worker.step(&hall.table.shared, hall.setup.code()) {
+            return made(worker, overheld, Some(stop));
+        }
+    }
+    made(worker, overheld, None)
+}
+
+// A worker's loop, where no gate holds it.
+fn drive_free(hall: &Hall, mut worker: Worker, budget: u64) -> Driven
+    requires worker { IsWorkerOf hall.now.table.shared.table_id hall.now.setup worker }
+    requires room { worker.steps + budget < 2 ^ 64 }
+    ensures goes_on { StepsOn hall.now.table.shared.table_id hall.now.setup worker result.worker }
+    ensures ends { EndsAt hall.now.setup (worker.steps + budget) result.stopped result.worker }
+    ensures number { result.worker.number ≡ worker.number }
+{
+    match worker.run(hall, budget) {
+        Ok(_) => made(worker, false, None),
+        Err(stop) => made(worker, false, Some(stop)),
+    }
+}
+
+// A worker's loop.
+fn drive_on<G: Gate>(hall: &Hall, worker: Worker, budget: u64, gate: &G) -> Driven
+    requires worker { IsWorkerOf hall.now.table.shared.table_id hall.now.setup worker }
+    requires room { worker.steps + budget < 2 ^ 64 }
+    ensures goes_on { StepsOn hall.now.table.shared.table_id hall.now.setup worker result.worker }
+    ensures ends { EndsAt hall.now.setup (worker.steps + budget) result.stopped result.worker }
+    ensures number { result.worker.number ≡ worker.number }
+{
+    if G::HOLDS {
+        drive_held(hall, worker, budget, gate)
+    } else {
+        drive_free(hall, worker, budget)
+    }
+}
+
+// A worker's loop, from its thread's beginning.
+fn drive<G: Gate>(hall: &Hall, worker: Worker, budget: u64, gate: &G) -> Driven
+    requires { IsWorkerOf hall.now.table.shared.table_id hall.now.setup worker × (worker.steps ≡ 0) }
+    ensures { IsWorkerOf hall.now.table.shared.table_id hall.now.setup result.worker × EndsAt hall.now.setup budget result.stopped result.worker × (result.worker.number ≡ worker.number) }
+{
+    let driven = drive_on(hall, worker, budget, gate);
+    gate.ended(driven.worker.number);
+    driven
+}
+
+/// What a thread of the program gives back: a worker of this hall, after this many steps or fewer.
+#[derive(Clone, Copy)]
+pub struct OfHall<'a, A: Allocator = Global> {
+    pub hall: &'a Hall<A>,
+    pub number: u32,
+    pub budget: u64,
+}
+
+impl<'a> Promise<Driven> for OfHall<'a> {
+    ghost kept_by = { λ p r. IsWorkerOf p.hall.now.table.shared.table_id p.hall.now.setup r.worker × EndsAt p.hall.now.setup p.budget r.stopped r.worker × (r.worker.number ≡ p.number) };
+}
+
+// Starts a thread for each worker, and joins them.
+fn drive_all<R: Threads + Wait + Sync, G: Gate + Sync>(
+    rt: &R,
+    alloc: Global,
+    hall: &Hall,
+    workers: Vec<Worker>,
+    budget: u64,
+    gate: &G,
+) -> Result<Vec<Driven>, DriveFault>
+    requires { AreWorkersOf hall.now.table.shared.table_id hall.now.setup workers.items × AreFresh workers.items }
+    ensures { IfOk result (λ v. AreDrivenOf hall.now.table.shared.table_id hall.now.setup budget v.items × ((n : ℕ) → IsNumbered worker_number workers.items n → IsNumbered driven_number v.items n)) }
+{
+    thread::scope(
+        thread::scope_env(),
+        rt,
+        |scope| -> Result<Vec<Driven>, DriveFault>
+            requires { AreWorkersOf hall.now.table.shared.table_id hall.now.setup workers.items × AreFresh workers.items }
+            ensures { IfOk result (λ v. AreDrivenOf hall.entry.now.table.shared.table_id hall.entry.now.setup budget v.items × ((n : ℕ) → IsNumbered worker_number workers.items n → IsNumbered driven_number v.items n)) }
+        {
+            let handles = start_all(scope, alloc, hall, workers, budget, gate)?;
+            join_driven(rt, alloc, hall, budget, handles)
+        },
+    )
+}
+
+fn start<'s, E, G: Gate + Sync>(
+    scope: &'s Scope<'s, E>,
+    hall: &'s Hall,
+    worker: Worker,
+    budget: u64,
+    gate: &'s G,
+) -> Result<PromisedHandle<Driven, OfHall<'s>>, DriveFault>
+    requires { IsWorkerOf hall.now.table.shared.table_id hall.now.setup worker × (worker.steps ≡ 0) }
+    ensures handle { IfOk result (λ h. (h.promise.hall.now ≡ hall.now) × (h.promise.budget ≡ budget) × (h.promise.number ≡ worker.number)) }
+    ensures fault { IfErr result (λ e. e ≡ DriveFault.NotStarted) }
+{
+    let promise = OfHall {
+        hall,
+        number: worker.number,
+        budget,
+    };
+    let Ok(handle) = scope.spawn_with(
+        promise,
+        move || -> Driven
+            requires { IsWorkerOf hall.now.table.shared.table_id hall.now.setup worker × (worker.steps ≡ 0) }
+            ensures { IsWorkerOf hall.entry.now.table.shared.table_id hall.entry.now.setup result.worker × EndsAt hall.entry.now.setup budget result.stopped result.worker × (result.worker.number ≡ worker.number) }
+        { drive(hall, worker, budget, gate) },
+    ) else {
+        return Err(DriveFault::NotStarted);
+    };
+    Ok(handle)
+}
+
+fn start_all<'s, E, G: Gate + Sync>(
+    scope: &'s Scope<'s, E>,
+    alloc: Global,
+    hall: &'s Hall,
+    mut workers: Vec<Worker>,
+    budget: u64,
+    gate: &'s G,
+) -> Result<Vec<PromisedHandle<Driven, OfHall<'s>>>, DriveFault>
+    requires { AreWorkersOf hall.now.table.shared.table_id hall.now.setup workers.items × AreFresh workers.items }
+    ensures { IfOk result (λ v. AllPromise hall.now budget v.items × ((n : ℕ) → IsNumbered worker_number workers.items n → IsNumbered handle_number v.items n)) }
+{
+    let mut handles = Vec::new(alloc);
+    while let Some(worker) = workers.pop() {
+        let Ok(handle) = start(scope, hall, worker, budget, gate) else {
+            return Err(DriveFault::NotStarted);
+        };
+        let Ok(()) = handles.push(handle) else {
+            return Err(DriveFault::OutOfMemory);
+        };
+    }
+    Ok(handles)
+}
+
+fn join_driven<'s, R: Threads>(
+    rt: &R,
+    alloc: Global,
+    hall: &'s Hall,
+    budget: u64,
+    mut handles: Vec<PromisedHandle<Driven, OfHall<'s>>>,
+) -> Result<Vec<Driven>, DriveFault>
+    requires { AllPromise hall.now budget handles.items }
+    ensures driven { IfOk result (λ v. AreDrivenOf hall.now.table.shared.table_id hall.now.setup budget v.items × ((n : ℕ) → IsNumbered handle_number handles.entry.items n → IsNumbered driven_number v.items n)) }
+    ensures fault { IfErr result (λ e. e ≡ DriveFault.OutOfMemory) }
+{
+    let mut all = Vec::new(alloc);
+    while let Some(handle) = handles.pop() {
+        let Ok(()) = all.push(handle.join(rt)) else {
+            return Err(DriveFault::OutOfMemory);
+        };
+    }
+    Ok(all)
+}
+
+/// Why nothing was reported of a run.
+#[derive(Clone, Copy, Debug, PartialEq, Eq)]
+pub enum RunFault {
+    /// A growth was refused, but for those of steps, whose threads stop.
+    OutOfMemory,
+    /// There are to be 1 to 64 threads.
+    Threads,
+    /// A thread of the program could not be started, for whatever cause.
+    NotStarted,
+}
+
+// Why the workers were not driven.
+#[derive(Clone, Copy, Debug)]
+enum DriveFault {
+    OutOfMemory,
+    NotStarted,
+}
+
+/// How a worker's loop ended: by a stop, or else with its thread over or with all steps of the budget made.
+#[derive(Clone, Copy, Debug, PartialEq, Eq)]
+pub struct Ending {
+    pub number: u32,
+    pub stopped: Option<Stop>,
+}
+
+/// What a run leaves in memory.
+#[derive(Drop)]
+pub enum RunMemory {
+    /// The cells' words, where no thread has the lock.
+    Words(Vec<u64>),
+    /// The number of the thread that has the lock.
+    LockHeld(u32),
+}
+
+/// What a run of all threads leaves. The lists are in one order, which is not that of the numbers.
+#[derive(Drop)]
+pub struct RunReport<A: Allocator = Global> {
+    pub memory: RunMemory,
+    pub threads: Vec<Finished<A>, A>,
+    pub ends: Vec<Ending, A>,
+    /// The numbers of the threads that the gate held to the end.
+    pub overheld: Vec<u32, A>,
+}
+
+// The workers, how their loops ended, and the numbers of those that were held to the end.
+fn unpack(
+    alloc: Global,
+    hall: &Hall,
+    budget: u64,
+    mut driven: Vec<Driven>,
+) -> Result<(Vec<Worker>, Vec<Ending>, Vec<u32>), AllocError>
+    requires { AreDrivenOf hall.now.table.shared.table_id hall.now.setup budget driven.items }
+    ensures { IfOk result (λ r. AreWorkersOf hall.now.table.shared.table_id hall.now.setup r.0.items × AreEnded hall.now.setup budget r.0.items r.1.items × ((n : ℕ) → IsNumbered driven_number driven.items n → IsNumbered worker_number r.0.items n)) }
+{
+    let mut workers = Vec::new(alloc);
+    let mut ends = Vec::new(alloc);
+    let mut overheld = Vec::new(alloc);
+    while let Some(one) = driven.pop() {
+        let Driven {
+            worker,
+            overheld: held,
+            stopped,
+        } = one;
+        if held {
+            overheld.push(worker.number)?;
+        }
+        ends.push(Ending {
+            number: worker.number,
+            stopped,
+        })?;
+        workers.push(worker)?;
+    }
+    Ok((workers, ends, overheld))
+}
+
+fn memory(words: Vec<u64>, held: Option<u32>) -> RunMemory
+    ensures { TellsMemory result words.items held }
+{
+    match held {
+        Some(number) => RunMemory::LockHeld(number),
+        None => RunMemory::Words(words),
+    }
+}
+
+/// Runs each thread of the code in a thread of the program's own, with so many steps each, and waits until all of them are over,
+/// have made their steps or were stopped. Nothing else here waits. The report is one run of every program that the code means.
+///
+/// A fault is `Threads` exactly where the number is not 1 to 64; `NotStarted` where a thread could not be started, in which
+/// case those that were are waited for; `OutOfMemory` where a growth was refused.
+pub fn run_all<R: Threads + Wait + Sync, G: Gate + Sync>(
+    rt: &R,
+    alloc: Global,
+    code: &Code,
+    threads: u32,
+    budget: u64,
+    gate: &G,
+) -> Result<RunReport, RunFault>
+    ensures report { IfOk result (λ r. (does : Behaviour) → Means (bounds_of code.now) (code_does code.now) does → Ran does (record { code = code.now; threads = threads }) budget r) }
+    ensures fault { IfErr result (λ e. IsRunRefused e threads) }
+{
+    let (hall, workers) = match Hall::open(alloc, code, threads) {
+        Ok(opened) => opened,
+        Err(HallFault::Threads) => return Err(RunFault::Threads),
+        Err(HallFault::OutOfMemory) => return Err(RunFault::OutOfMemory),
+    };
+    let driven = match drive_all(rt, alloc, &hall, workers, budget, gate) {
+        Ok(driven) => driven,
+        Err(DriveFault::OutOfMemory) => return Err(RunFault::OutOfMemory),
+        Err(DriveFault::NotStarted) => return Err(RunFault::NotStarted),
+    };
+    let Ok((workers, ends, overheld)) = unpack(alloc, &hall, budget, driven) else {
+        return Err(RunFault::OutOfMemory);
+    };
+    let held = holder(&workers);
+    let Ok(places) = Vec::with_capacity(alloc, workers.len()) else {
+        return Err(RunFault::OutOfMemory);
+    };
+    let Ok(cells) = Vec::with_capacity(alloc, hall.table.word_count() - 1) else {
+        return Err(RunFault::OutOfMemory);
+    };
+    let Outcome { words, threads } = gather(hall, workers, cells, places);
+    Ok(RunReport {
+        memory: memory(words, held),
+        threads,
+        ends,
+        overheld,
+    })
+}

@@ -1,0 +1,138 @@
+//! One thread of the machine, with its seat at the table.
+
+ghost use Rattle.std.specs.Prelude.{◌≡◌, ◌+◌, ◌^◌, ◌<◌, ◌≤◌, ℕ, OnOk, OnErr, IfOk, IfErr};
+ghost use Rattle.bytecode.specs.Code.{effect};
+ghost use Rattle.bytecode.specs.Valid.{cells_of};
+ghost use Rattle.machine.specs.Threads.{access as access_of};
+ghost use Rattle.workers.specs.Works.{Because};
+
+use crate::hall::Hall;
+use machine::Thread;
+use atomic_table::Seat;
+use bytecode::Code;
+use norec_core::Stop;
+use seats::{View, Words, make};
+use std::alloc::{Allocator, Global};
+use syntax::numbers::{Status as ThreadStatus, Trap};
+
+/// A thread of a hall. Contracts say of it that it is a worker of that hall; it may move to any thread of the program.
+#[derive(Drop)]
+pub struct Worker<A: Allocator = Global> {
+    pub(crate) number: u32,
+    pub(crate) thread: Thread<A>,
+    pub(crate) steps: u64,
+    pub(crate) seat: Seat<(), View>,
+}
+
+/// How a run of one worker ended.
+#[derive(Clone, Copy, Debug, PartialEq, Eq)]
+pub enum Status {
+    /// The thread has ended.
+    Ended,
+    /// The thread has trapped.
+    Trapped(Trap),
+    /// All steps of the budget were made, and the thread is neither ended nor trapped.
+    Budget,
+}
+
+impl<A: Allocator + Copy> Worker<A> {
+    ghost use Rattle.workers.specs.Workers.{IsWorkerOf, StepsOn, FloorsAt, Reports};
+
+    // One step of the thread.
+    #[inline(always)]
+    pub(crate) fn step(&mut self, words: &Words<A>, code: &Code<A>) -> Result<(), Stop>
+        requires table { words.now.table_id.words ≡ cells_of code.now + 1 }
+        requires code { words.now.key.code ≡ code.now }
+        requires worker { IsWorkerOf words.now.table_id words.now.key self.old }
+        requires room { self.old.steps + 1 < 2 ^ 64 }
+        ensures goes_on { (self.new.number ≡ self.old.number) × StepsOn words.now.table_id words.now.key self.old self.new }
+        ensures ok { OnOk result (self.new.steps ≡ self.old.steps + 1) }
+        ensures err { OnErr result (self.new.steps ≡ self.old.steps) }
+        ensures stop { IfErr result (λ e. Because e (access_of (effect code.now) self.new.thread.thread)) }
+    {
+        let access = self.thread.prepare(code)?;
+        let answer = make(words, &mut self.seat, access);
+        self.thread.told(code, answer);
+        self.steps += 1;
+        Ok(())
+    }
+
+    /// Makes `budget` steps of the machine, or fewer where the thread is over or a step stops. An access to the lock or to a
+    /// cell is one atomic step on the hall's table. It waits for no other thread.
+    ///
+    /// A stop, `OutOfMemory` where the memory that a step wants was refused and `SequenceUsedUp` where the lock has no value
+    /// left, leaves all earlier steps, and the same call may go on from there.
+    pub fn run(&mut self, hall: &Hall<A>, budget: u64) -> Result<Status, Stop>
+        requires worker { IsWorkerOf hall.now.table.shared.table_id hall.now.setup self.old }
+        requires room { self.old.steps + budget < 2 ^ 64 }
+        ensures worker { IsWorkerOf hall.now.table.shared.table_id hall.now.setup self.new }
+        ensures goes_on { (self.new.number ≡ self.old.number) × StepsOn hall.now.table.shared.table_id hall.now.setup self.old self.new }
+        ensures steps { (self.old.steps ≤ self.new.steps) × (self.new.steps ≤ self.old.steps + budget) }
+        ensures status { IfOk result (λ s. Reports s self.new.thread.thread.status (self.old.steps + budget) self.new.steps) }
+        ensures stop { IfErr result (λ e. Because e (access_of (effect hall.now.setup.code) self.new.thread.thread)) }
+    {
+        'steps: for made in 0..budget {
+            match self.thread.status() {
+                ThreadStatus::Running => {}
+                ThreadStatus::Ended => return Ok(Status::Ended),
+                ThreadStatus::Trapped(cause) => return Ok(Status::Trapped(cause)),
+            }
+            self.step(&hall.table.shared, hall.setup.code())?;
+        }
+        match self.thread.status() {
+            ThreadStatus::Running => Ok(Status::Budget),
+            ThreadStatus::Ended => Ok(Status::Ended),
+            ThreadStatus::Trapped(cause) => Ok(Status::Trapped(cause)),
+        }
+    }
+
+    /// From now on neither thread is answered a lock value below what either was answered so far, nor one that is not above
+    /// the number of a transaction of either that took the lock. So what one of them begins later stands in every run after
+    /// what both have done. It loads the lock for each of the two.
+    pub fn meet(&mut self, hall: &Hall<A>, other: &mut Worker<A>)
+        requires mine { IsWorkerOf hall.now.table.shared.table_id hall.now.setup self.old }
+        requires theirs { IsWorkerOf hall.now.table.shared.table_id hall.now.setup other.old }
+        ensures same { (self.new.number ≡ self.old.number) × (self.new.thread ≡ self.old.thread) × (self.new.steps ≡ self.old.steps) }
+        ensures other { (other.new.number ≡ other.old.number) × (other.new.thread ≡ other.old.thread) × (other.new.steps ≡ other.old.steps) }
+        ensures mine { IsWorkerOf hall.now.table.shared.table_id hall.now.setup self.new }
+        ensures theirs { IsWorkerOf hall.now.table.shared.table_id hall.now.setup other.new }
+        ensures floors { (n : ℕ) × FloorsAt hall.now.table.shared.table_id hall.now.setup n self.old self.new × FloorsAt hall.now.table.shared.table_id hall.now.setup n other.old other.new }
+    {
+        let _found = seats::meet(&hall.table.shared, &mut self.seat, &mut other.seat);
+    }
+
+    /// The number of its thread, from 0 on.
+    pub fn thread(&self) -> u32
+        ensures { result ≡ self.now.number }
+    {
+        self.number
+    }
+
+    /// Whether its thread runs, has ended or has trapped.
+    pub fn status(&self) -> ThreadStatus
+        ensures { result ≡ self.now.thread.thread.status }
+    {
+        self.thread.status()
+    }
+
+    /// What its thread has printed so far.
+    pub fn output(&self) -> &str
+        ensures { result.now ≡ self.now.thread.thread.text }
+    {
+        self.thread.output()
+    }
+
+    /// How many steps it has made.
+    pub fn steps(&self) -> u64
+        ensures { result ≡ self.now.steps }
+    {
+        self.steps
+    }
+
+    /// How many of them were accesses to the lock or a cell.
+    pub fn accesses(&self) -> u64
+        ensures { result ≡ self.now.thread.accesses }
+    {
+        self.thread.accesses()
+    }
+}
