@@ -8,8 +8,8 @@ ghost use Rattle.workers.specs.Closing.{HasWorker, NoWorker, AllHere, NoneHolds,
 
 use crate::hall::Hall;
 use crate::worker::Worker;
-use machine::Thread;
 use atomic_table::Seat;
+use machine::Thread;
 use seats::{View, Words, join};
 use std::alloc::{Allocator, Global};
 use syntax::numbers::Status;
@@ -190,11 +190,7 @@ impl<A: Allocator + Copy> Hall<A> {
 
     /// The cells' words and the threads, where each thread has its worker here and none has the lock. It waits for nobody,
     /// and needs no other thread's leave: the workers are here. A fault gives hall and workers back, as they were.
-    pub fn close(
-        self,
-        alloc: A,
-        workers: Vec<Worker<A>, A>,
-    ) -> Result<Outcome<A>, CloseFault<A>>
+    pub fn close(self, alloc: A, workers: Vec<Worker<A>, A>) -> Result<Outcome<A>, CloseFault<A>>
         requires { AreWorkersOf self.table.shared.table_id self.setup workers.items }
         ensures all { OnOk result (AllHere workers.items self.setup.threads) }
         ensures none { OnOk result (NoneHolds workers.items) }

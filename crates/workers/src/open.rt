@@ -10,9 +10,9 @@ ghost use Rattle.workers.specs.Opening.{IsRefused};
 
 use crate::hall::Hall;
 use crate::worker::Worker;
-use machine::Thread;
 use atomic_table::Seat;
 use bytecode::Code;
+use machine::Thread;
 use seats::{Setup, View, Words, split_first};
 use std::alloc::{AllocError, Allocator};
 

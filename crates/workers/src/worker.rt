@@ -7,9 +7,9 @@ ghost use Rattle.machine.specs.Threads.{access as access_of};
 ghost use Rattle.workers.specs.Works.{Because};
 
 use crate::hall::Hall;
-use machine::Thread;
 use atomic_table::Seat;
 use bytecode::Code;
+use machine::Thread;
 use norec_core::Stop;
 use seats::{View, Words, make};
 use std::alloc::{Allocator, Global};

@@ -25,8 +25,7 @@ loop-worker-init g c =
 pub loop-worker-preserved : goal.loop-worker-preserved
 loop-worker-preserved g c =
     let inv = c.loop-worker.invariant.1 in
-    let items : c.args.workers.items ≡ c.pop-in-loop-worker.new.self.items ++ c.in-Some-pop.worker ∷ inv.0 = inv.1 ∙ (ap (λ (l : List (Worker _)). l ++ inv.0) (c.in-Some-pop.ensures.items) ∙ append_assoc c.pop-in-loop-worker.new.self.items (c.in-Some-pop.worker ∷ []) inv.0) in
-    (
+    let items : c.args.workers.items ≡ c.pop-in-loop-worker.new.self.items ++ c.in-Some-pop.worker ∷ inv.0 = inv.1 ∙ (ap (λ (l : List (Worker _)). l ++ inv.0) (c.in-Some-pop.ensures.items) ∙ append_assoc c.pop-in-loop-worker.new.self.items (c.in-Some-pop.worker ∷ []) inv.0) in (
       c.join.ensures.table ∙ c.loop-worker.invariant.0,
       (
         c.in-Some-pop.worker ∷ inv.0,
