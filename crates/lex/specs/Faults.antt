@@ -17,13 +17,22 @@ character_len (b ∷ rest) = 1 + prefix_len is_continuation rest
 
 -- what is wrong at the place
 pub data FaultAt (text : List ℕ) (at : ℕ) : LexFault → Type 0 where
-  strange : at < length text → Strange (drop at text) → FaultAt text at (fault.BadCharacter (record { start = at; «end» = at + character_len (drop at text) }))
-  misplaced : (len : ℕ) → Longest (drop at text) len → IsDirective (take len (drop at text)) → ¬ (FirstOnLine (take at text)) → FaultAt text at (fault.BadCharacter (record { start = at; «end» = at + 1 }))
-  glued : (len : ℕ) (t : Scalar) → Longest (drop at text) len → (c : Constant (take len (drop at text))) → typed c ≡ Some t → starts is_glue (drop len (drop at text)) ≡ true → FaultAt text at (fault.BadCharacter (record { start = at + len; «end» = at + len + 1 }))
-  large : (len : ℕ) → Longest (drop at text) len → (c : Constant (take len (drop at text))) → typed c ≡ None → FaultAt text at (fault.ConstantTooLarge (record { start = at; «end» = at + len }))
-  unclosed : (len : ℕ) → Longest (drop at text) len → IsOpen (take len (drop at text)) → FaultAt text at (fault.OpenComment (record { start = at; «end» = at + len }))
-  quote : (len : ℕ) → Longest (drop at text) len → take len (drop at text) ≡ codes "\"" → FaultAt text at (fault.BadString (record { start = at; «end» = at + 1 }))
-  unknown : (len : ℕ) → Longest (drop at text) len → IsDirective (take len (drop at text)) → FirstOnLine (take at text) → ¬ (IsInclude (take len (drop at text))) → FaultAt text at (fault.Directive (record { start = at; «end» = at + 1 }))
+  strange : at < length text → Strange (drop at text) →
+      FaultAt text at (fault.BadCharacter (record { start = at; «end» = at + character_len (drop at text) }))
+  misplaced : (len : ℕ) → Longest (drop at text) len → IsDirective (take len (drop at text)) →
+      ¬ (FirstOnLine (take at text)) → FaultAt text at (fault.BadCharacter (record { start = at; «end» = at + 1 }))
+  glued : (len : ℕ) (t : Scalar) → Longest (drop at text) len → (c : Constant (take len (drop at text))) →
+      typed c ≡ Some t → starts is_glue (drop len (drop at text)) ≡ true →
+      FaultAt text at (fault.BadCharacter (record { start = at + len; «end» = at + len + 1 }))
+  large : (len : ℕ) → Longest (drop at text) len → (c : Constant (take len (drop at text))) → typed c ≡ None →
+      FaultAt text at (fault.ConstantTooLarge (record { start = at; «end» = at + len }))
+  unclosed : (len : ℕ) → Longest (drop at text) len → IsOpen (take len (drop at text)) →
+      FaultAt text at (fault.OpenComment (record { start = at; «end» = at + len }))
+  quote : (len : ℕ) → Longest (drop at text) len → take len (drop at text) ≡ codes "\"" →
+      FaultAt text at (fault.BadString (record { start = at; «end» = at + 1 }))
+  unknown : (len : ℕ) → Longest (drop at text) len → IsDirective (take len (drop at text)) →
+      FirstOnLine (take at text) → ¬ (IsInclude (take len (drop at text))) →
+      FaultAt text at (fault.Directive (record { start = at; «end» = at + 1 }))
 
 -- the text is cut up to a place at which this is wrong
 pub record IsFirst (text : List ℕ) (f : LexFault) : Type 0 where

@@ -12,4 +12,6 @@ slice text s = take (s.«end» - s.start) (drop s.start text)
 -- its span mean
 abbrev pub Lie : List ℕ → ℕ → ℕ → List Tok → Type 0
 Lie text from to [] = from ≤ to
-Lie text from to (t ∷ ts) = (from ≤ t.span.start) × (t.span.start < t.span.«end») × Says (slice text t.span) t.terminal × Lie text t.span.«end» to ts
+Lie text from to (t ∷ ts) =
+    (from ≤ t.span.start) × (t.span.start < t.span.«end») × Says (slice text t.span) t.terminal
+    × Lie text t.span.«end» to ts

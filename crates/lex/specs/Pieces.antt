@@ -122,7 +122,9 @@ is_decimal Hexadecimal = false
 -- a constant's type, by whether its base is decimal, whether it has a suffix, and its value: `int` if it has no suffix
 -- and fits, else `unsigned` if it fits and has a suffix or another base
 abbrev pub type_of : (is_decimal suffixed : Bool) → ℕ → Option Scalar
-type_of is_decimal suffixed n = if not suffixed && nat_lt n (2 ^ 31) then Some Int else (if (suffixed || not is_decimal) && nat_lt n (2 ^ 32) then Some Unsigned else None)
+type_of is_decimal suffixed n =
+    if not suffixed && nat_lt n (2 ^ 31) then Some Int else
+    (if (suffixed || not is_decimal) && nat_lt n (2 ^ 32) then Some Unsigned else None)
 
 -- whether there is a byte
 abbrev pub is_some_byte : List ℕ → Bool
@@ -135,7 +137,8 @@ typed c = type_of (is_decimal c.base) (is_some_byte c.suffix) (value c)
 
 -- ---- the longest piece, and what it says
 
--- bytes that have the shape of a piece; a comment without its end, a lone quote and a line that begins with `#` have one too
+-- bytes that have the shape of a piece; a comment without its end, a lone quote and a line that begins with `#` have
+-- one too
 pub data Shape (w : List ℕ) : Type 0 where
   white : IsWhite w → Shape w
   comment : IsComment w → Shape w
@@ -160,7 +163,9 @@ Strange rest = (n : ℕ) → n ≤ length rest → Shape (take n rest) → ⊥
 
 -- each byte before the place that no LF parts from it is a space or a tab
 abbrev pub FirstOnLine : List ℕ → Type 0
-FirstOnLine before = (k : ℕ) → k < length before → ((j : ℕ) → k ≤ j → j < length before → slice_index before j ≢ 10) → is_blank (slice_index before k) ≡ true
+FirstOnLine before =
+    (k : ℕ) → k < length before → ((j : ℕ) → k ≤ j → j < length before → slice_index before j ≢ 10) →
+    is_blank (slice_index before k) ≡ true
 
 -- what stands between tokens: white space, comments, and a line with `#include`
 pub data Gap (before w : List ℕ) : Type 0 where
@@ -200,7 +205,8 @@ pub record IsToken (text : List ℕ) (at len : ℕ) (says : Terminal) : Type 0 w
 pub data Cut (text : List ℕ) : ℕ → List Tok → Type 0 where
   start : Cut text 0 []
   gap : {at : ℕ} {ts : List Tok} (len : ℕ) → Cut text at ts → IsGap text at len → Cut text (at + len) ts
-  token : {at : ℕ} {ts : List Tok} (len : ℕ) (says : Terminal) → Cut text at ts → IsToken text at len says → Cut text (at + len) (ts ++ record { terminal = says; span = record { start = at; «end» = at + len } } ∷ [])
+  token : {at : ℕ} {ts : List Tok} (len : ℕ) (says : Terminal) → Cut text at ts → IsToken text at len says →
+      Cut text (at + len) (ts ++ record { terminal = says; span = record { start = at; «end» = at + len } } ∷ [])
 
 -- the text's tokens
 pub record IsLexed (text : List ℕ) (ts : List Tok) : Type 0 where

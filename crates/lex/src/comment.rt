@@ -13,7 +13,9 @@ use crate::token::{Kind, Span};
 /// Where the first `*/` from the third byte on stands.
 fn close(rest: &[u8]) -> Option<usize>
     requires { length rest.now < 2 ^ 62 }
-    ensures { MatchOption result ((k : ℕ) → 2 ≤ k → k + 2 ≤ length rest.now → Closes rest.now k → ⊥) (λ n. (2 ≤ n) × (n + 2 ≤ length rest.now) × Closes rest.now n × ((k : ℕ) → 2 ≤ k → k < n → Closes rest.now k → ⊥)) }
+    ensures { MatchOption result ((k : ℕ) → 2 ≤ k → k + 2 ≤ length rest.now → Closes rest.now k → ⊥)
+        (λ n. (2 ≤ n) × (n + 2 ≤ length rest.now) × Closes rest.now n
+        × ((k : ℕ) → 2 ≤ k → k < n → Closes rest.now k → ⊥)) }
 {
     let mut k = 2;
     'close: while k + 1 < rest.len() {
@@ -75,7 +77,8 @@ fn is_first_on_line(before: &[u8]) -> bool
 
 /// What stands behind `include`, where the text begins with it.
 fn after_include(word: &[u8]) -> Option<&[u8]>
-    ensures { MatchOption result ((more : List ℕ) → word.now ≢ codes "include" ++ more) (λ rest. word.now ≡ codes "include" ++ rest.now) }
+    ensures { MatchOption result ((more : List ℕ) → word.now ≢ codes "include" ++ more)
+        (λ rest. word.now ≡ codes "include" ++ rest.now) }
 {
     match word {
         [b'i', b'n', b'c', b'l', b'u', b'd', b'e', rest @ ..] => Some(rest),

@@ -149,7 +149,8 @@ fn typed(base: Base, is_suffixed: bool, digits: &[u8]) -> Option<(u32, Scalar)>
 
 /// The constant at the place.
 ///
-/// constant = (nonzero-digit {digit} | "0" {octal-digit} | ("0x" | "0X") hexadecimal-digit {hexadecimal-digit}) ["u" | "U"] (C11 6.4.4.1)
+/// constant = (nonzero-digit {digit} | "0" {octal-digit} | ("0x" | "0X") hexadecimal-digit {hexadecimal-digit}) ["u" |
+/// "U"] (C11 6.4.4.1)
 pub(crate) fn constant<'a>(text: &'a str, at: usize) -> Result<(Option<Kind<'a>>, usize), LexFault>
     requires within { at < length text.now }
     requires fits { length text.now < 2 ^ 62 }

@@ -8,7 +8,11 @@ use Rattle.lex.specs.Bytes.{is_hexadecimal}
 use Rattle.lex.specs.Pieces.{is_digit_of, is_decimal, type_of}
 
 abbrev pub base_at : List ℕ → Base
-base_at rest = if slice_index rest 0 == 48 then (if (slice_index rest 1 == 120 || slice_index rest 1 == 88) && is_hexadecimal (slice_index rest 2) then Hexadecimal else Octal) else Decimal
+base_at rest =
+    if slice_index rest 0 == 48 then
+    (if (slice_index rest 1 == 120 || slice_index rest 1 == 88) && is_hexadecimal (slice_index rest 2) then Hexadecimal
+    else Octal)
+    else Decimal
 
 -- how many bytes a base puts before its digits
 abbrev pub before_len : Base → ℕ
@@ -27,7 +31,8 @@ abbrev pub digits_len : List ℕ → ℕ
 digits_len rest = prefix_len (is_digit_of (base_at rest)) (drop (before_len (base_at rest)) rest)
 
 abbrev pub constant_len : List ℕ → ℕ
-constant_len rest = before_len (base_at rest) + digits_len rest + suffix_len (drop (before_len (base_at rest) + digits_len rest) rest)
+constant_len rest =
+    before_len (base_at rest) + digits_len rest + suffix_len (drop (before_len (base_at rest) + digits_len rest) rest)
 
 -- a number that a `u32` holds, or none where it is larger
 abbrev pub GivesNumber : Option ℕ → ℕ → Type 0
