@@ -1,12 +1,12 @@
 -- Every run of a program is steady.
-use Rattle.std.proofs.Common.{◌≡◌, ℕ, zero, suc, List, [], ◌++◌, Option, Some, None, Bool, true, false, Result, Ok, Err, refl, sym, ap, ◌∙◌, subst, append_assoc, append-nil}
-use Rattle.std.specs.Prelude.{if◌then◌else◌, slice_set}
+use Rattle.std.proofs.Common.{◌≡◌, ℕ, zero, suc, List, [], ◌++◌, refl, sym, ap, ◌∙◌, subst, append_assoc, append-nil}
+use Rattle.std.specs.Prelude.{slice_set}
 use Rattle.syntax.specs.declared.numbers.Trap.{Trap}
 use Rattle.syntax.specs.declared.tree.Mode.TheVariants.{Atomic, Relaxed}
 use Rattle.syntax.specs.Names.{Local}
 use Rattle.syntax.specs.declared.numbers.Halt.TheVariants.{Trapped, Wants, Spent, Astray}
 use Rattle.syntax.specs.Behaviours.{Memory}
-use Rattle.syntax.specs.Actions.{Context, Outside, Inside, State, Answer, Gives, Stops, Action, pure, stop, go_on, ◌>>=◌, ◌>>◌, spend, tick, trap, or_trap, or_astray, locals, put_locals, load_at, load, store_at, store, may_print_at, may_print, write, print_piece}
+use Rattle.syntax.specs.Actions.{Context, Outside, Inside, State, Answer, Gives, Stops, Action, pure, stop, go_on, ◌>>=◌, ◌>>◌, spend, tick, trap, locals, put_locals, load_at, load, store_at, store, may_print_at, may_print, write, print_piece}
 use Rattle.syntax.proofs.Further.{state_of, added, with_founds, with_more, Follows, Grown, Extends, IsSteady}
 
 pub follows_refl : (p : Context) → Follows p p
@@ -72,10 +72,6 @@ astray_steady = record { grows = λ s. still s; extends = λ k extra s. refl }
 pub trapped_steady : {A : Type 0} (t : Trap) → IsSteady (stop {A = A} (Trapped t))
 trapped_steady t = record { grows = λ s. still s; extends = λ k extra s. refl }
 
-pub if_steady : {A : Type 0} (b : Bool) {x y : Action A} → IsSteady x → IsSteady y → IsSteady (if b then x else y)
-if_steady true g h = g
-if_steady false g h = h
-
 spend_grows : (n : ℕ) (s : State) → Grown s (state_of (spend n s))
 spend_grows zero s = still s
 spend_grows (suc n) s = quiet s (record s { ticks = n }) refl (follows_refl s.context)
@@ -89,14 +85,6 @@ tick_steady = record { grows = λ s. spend_grows s.ticks s; extends = λ k extra
 
 pub trap_steady : {A : Type 0} (t : Trap) → IsSteady (trap {A = A} t)
 trap_steady t = then_steady tick_steady (trapped_steady t)
-
-pub or_trap_steady : {A : Type 0} (r : Result A Trap) → IsSteady (or_trap r)
-or_trap_steady (Ok a) = pure_steady a
-or_trap_steady (Err t) = trap_steady t
-
-pub or_astray_steady : {A : Type 0} (o : Option A) → IsSteady (or_astray o)
-or_astray_steady (Some a) = pure_steady a
-or_astray_steady None = astray_steady
 
 pub locals_steady : IsSteady locals
 locals_steady = record { grows = λ s. still s; extends = λ k extra s. refl }

@@ -1,6 +1,6 @@
 -- Words stay words, and memories keep their length.
 use Rattle.std.proofs.Common.{◌≡◌, refl, ◌∙◌, ℕ, zero, suc, ◌+◌, ◌<◌, ◌-◌, ◌^◌, List, [], ◌∷◌, ◌++◌, length, take, Option, Some, None, Bool, true, false, not, Result, Ok, Err, arith}
-use Rattle.std.specs.Prelude.{if◌then◌else◌, nat_lt, IfOk, pos, neg_ℤ, slice_index, slice_get, slice_set, option_map, unwrap_or}
+use Rattle.std.specs.Prelude.{if◌then◌else◌, IfOk, pos, neg_ℤ, slice_index, slice_set, option_map, unwrap_or}
 use Rattle.std.specs.List.{AllByRecursion}
 use Rattle.std.proofs.lemmas.List.{length-set}
 use Rattle.lex.specs.declared.token.Scalar.{Scalar}
@@ -41,9 +41,6 @@ AreLocals ls = AllByRecursion HasWord ls
 
 abbrev IsValue : Value → Type 0
 IsValue v = v.word < 2 ^ 32
-
-abbrev AreValues : List Value → Type 0
-AreValues vs = AllByRecursion IsValue vs
 
 abbrev IsAny : {A : Type 0} → A → Type 0
 IsAny a = Unit {0}

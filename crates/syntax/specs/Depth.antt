@@ -54,7 +54,8 @@ abbrev mutual
   stmt_depth (IfElse c a b) = max (expr_depth c) (max (stmt_depth a) (stmt_depth b)) + 1
   stmt_depth (While c a) = max (expr_depth c) (stmt_depth a) + 1
   stmt_depth (DoWhile a c) = max (stmt_depth a) (expr_depth c) + 1
-  stmt_depth (For start c step a) = max (max (start_depth start) (optional_depth c)) (max (optional_simple_depth step) (stmt_depth a)) + 1
+  stmt_depth (For start c step a) =
+      max (max (start_depth start) (optional_depth c)) (max (optional_simple_depth step) (stmt_depth a)) + 1
   stmt_depth (Return e at) = optional_depth e + 1
   -- its block is a part of it
   stmt_depth (Transaction mode ss at) = block_depth ss + 1

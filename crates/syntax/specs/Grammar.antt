@@ -6,11 +6,11 @@ use Rattle.lex.specs.declared.token.Keyword.TheVariants as key
 use Rattle.lex.specs.declared.token.Punctuator.TheVariants as punct
 use Rattle.syntax.specs.Tree.{Span, Scalar, Int, Unsigned, UnaryOp, Negate, Keep, Not, Complement, BinaryOp, Or, Xor, And, Equal, NotEqual, Less, Greater, LessEqual, GreaterEqual, ShiftLeft, ShiftRight, Add, Subtract, Multiply, Divide, Remainder, LogicalOp, AndThen, OrElse, IncDec, Increment, Decrement, Mode, Atomic, Relaxed, Attribute, Safe, Unsafe, Callable, First, Name, Expr, Exprs, Variable, Constant, Element, Call, Parenthesized, Cast, Unary, Binary, Logical, Conditional, Simple, Evaluate, Assign, Adjust, Declarator, Declaration, Start, Nothing, Declares, Does, Stmt, Stmts, Empty, Declare, Do, Block, Print, If, IfElse, While, DoWhile, For, Break, Continue, Return, Transaction, Cancel, Parameter, Function, Global, Item, Defines, Shares, Program}
 use Rattle.syntax.specs.Depth.{program_depth}
-use Rattle.syntax.specs.Phrases.{Phrase, One, Nil, never, ◌⨾◌, ◌∣◌, given, Many, Is, Sign, Word, IsAt, Listed, spanning, end_of, Begins}
+use Rattle.syntax.specs.Phrases.{Phrase, One, Nil, never, ◌⨾◌, ◌∣◌, given, Many, Sign, Word, IsAt, Listed, spanning, end_of}
 
--- ---- what single tokens say
+-- ---- what single tokens say (C11 6.4)
 
--- what a sign or keyword says by a table
+-- what a keyword or punctuator says by a table
 abbrev pub by_fixed : {A : Type 0} → (Fixed → Option A) → Terminal → Option A
 by_fixed table (Terminal.fixed k) = table k
 by_fixed table _ = None
@@ -122,7 +122,7 @@ step_of _ = None
 abbrev pub the_step : Tok → Option IncDec
 the_step t = by_fixed step_of t.terminal
 
--- ---- levels
+-- ---- levels (C11 6.5.3 to 6.5.15)
 
 -- how tightly an operator binds, from ?: at 0 up to names at 12
 abbrev pub precedence : BinaryOp → ℕ
@@ -159,7 +159,7 @@ level e = 12
 abbrev pub Groups : ℕ → Expr → Expr → Type 0
 Groups n a b = (n ≤ level a) × (n < level b)
 
--- ---- expressions
+-- ---- expressions (C11 6.5.1 to 6.5.15)
 
 abbrev pub scalar : Scalar → Phrase
 scalar Int = Word key.Int ∣ Word key.Signed ∣ Word key.Signed ⨾ Word key.Int
@@ -175,11 +175,14 @@ abbrev mutual
   expr (Element x i at) = spanning at (named x ⨾ Sign punct.OpenBracket ⨾ expr i ⨾ Sign punct.CloseBracket)
   expr (Call f es at) = spanning at (named f ⨾ Sign punct.OpenParen ⨾ arguments es ⨾ Sign punct.CloseParen)
   expr (Parenthesized e at) = spanning at (Sign punct.OpenParen ⨾ expr e ⨾ Sign punct.CloseParen)
-  expr (Cast t e at) = given (11 ≤ level e) (spanning at (Sign punct.OpenParen ⨾ scalar t ⨾ Sign punct.CloseParen ⨾ expr e))
+  expr (Cast t e at) =
+      given (11 ≤ level e) (spanning at (Sign punct.OpenParen ⨾ scalar t ⨾ Sign punct.CloseParen ⨾ expr e))
   expr (Unary op e at) = given (11 ≤ level e) (spanning at (One the_unary op ⨾ expr e))
   expr (Binary op a b at) = given (Groups (precedence op) a b) (spanning at (expr a ⨾ One the_binary op ⨾ expr b))
-  expr (Logical op a b at) = given (Groups (logical_precedence op) a b) (spanning at (expr a ⨾ One the_logical op ⨾ expr b))
-  expr (Conditional c a b at) = given (1 ≤ level c) (spanning at (expr c ⨾ Sign punct.Question ⨾ expr a ⨾ Sign punct.Colon ⨾ expr b))
+  expr (Logical op a b at) =
+      given (Groups (logical_precedence op) a b) (spanning at (expr a ⨾ One the_logical op ⨾ expr b))
+  expr (Conditional c a b at) =
+      given (1 ≤ level c) (spanning at (expr c ⨾ Sign punct.Question ⨾ expr a ⨾ Sign punct.Colon ⨾ expr b))
 
   pub arguments : Exprs → Phrase
   arguments Exprs.[] = Nil
@@ -194,7 +197,7 @@ abbrev pub optional : {A : Type 0} → (A → Phrase) → Option A → Phrase
 optional L None = Nil
 optional L (Some x) = L x
 
--- ---- statements
+-- ---- statements (C11 6.8; assignments 6.5.16, steps 6.5.2.4, 6.5.3.1, declarations 6.7)
 
 abbrev pub simple : Simple → Phrase
 simple (Evaluate e) = expr e
@@ -233,12 +236,16 @@ abbrev mutual
   stmt (Declare d) = never
   stmt (Do s) = simple s ⨾ Sign punct.Semicolon
   stmt (Block ss) = Sign punct.OpenBrace ⨾ stmts ss ⨾ Sign punct.CloseBrace
-  stmt (Print at format format_at es) = IsAt (Keyword key.Printf) at ⨾ Sign punct.OpenParen ⨾ One the_text (format, format_at) ⨾ further es ⨾ Sign punct.CloseParen ⨾ Sign punct.Semicolon
+  stmt (Print at format format_at es) =
+      IsAt (Keyword key.Printf) at ⨾ Sign punct.OpenParen ⨾ One the_text (format, format_at) ⨾ further es
+      ⨾ Sign punct.CloseParen ⨾ Sign punct.Semicolon
   stmt (If c a) = Word key.If ⨾ in_parens c ⨾ stmt a
   stmt (IfElse c a b) = given (IsFalse (ends_open a)) (Word key.If ⨾ in_parens c ⨾ stmt a ⨾ Word key.Else ⨾ stmt b)
   stmt (While c a) = Word key.While ⨾ in_parens c ⨾ stmt a
   stmt (DoWhile a c) = Word key.Do ⨾ stmt a ⨾ Word key.While ⨾ in_parens c ⨾ Sign punct.Semicolon
-  stmt (For first c step a) = Word key.For ⨾ Sign punct.OpenParen ⨾ start first ⨾ optional expr c ⨾ Sign punct.Semicolon ⨾ optional simple step ⨾ Sign punct.CloseParen ⨾ stmt a
+  stmt (For first c step a) =
+      Word key.For ⨾ Sign punct.OpenParen ⨾ start first ⨾ optional expr c ⨾ Sign punct.Semicolon ⨾ optional simple step
+      ⨾ Sign punct.CloseParen ⨾ stmt a
   stmt (Break at) = IsAt (Keyword key.Break) at ⨾ Sign punct.Semicolon
   stmt (Continue at) = IsAt (Keyword key.Continue) at ⨾ Sign punct.Semicolon
   stmt (Return e at) = IsAt (Keyword key.Return) at ⨾ optional expr e ⨾ Sign punct.Semicolon
@@ -254,12 +261,14 @@ abbrev mutual
 abbrev pub block : Stmts → Phrase
 block ss = Sign punct.OpenBrace ⨾ stmts ss ⨾ Sign punct.CloseBrace
 
--- ---- functions
+-- ---- functions (C11 6.7.6.3, 6.9.1)
 
 abbrev pub attribute_list : List Attribute → Phrase
 attribute_list words =
-    Sign punct.OpenBracket ⨾ Sign punct.OpenBracket ⨾ Listed (One the_attribute) words ⨾ Sign punct.CloseBracket ⨾ Sign punct.CloseBracket
-    ∣ Word key.Attribute ⨾ Sign punct.OpenParen ⨾ Sign punct.OpenParen ⨾ Listed (One the_attribute) words ⨾ Sign punct.CloseParen ⨾ Sign punct.CloseParen
+    Sign punct.OpenBracket ⨾ Sign punct.OpenBracket ⨾ Listed (One the_attribute) words ⨾ Sign punct.CloseBracket
+    ⨾ Sign punct.CloseBracket
+    ∣ Word key.Attribute ⨾ Sign punct.OpenParen ⨾ Sign punct.OpenParen ⨾ Listed (One the_attribute) words
+    ⨾ Sign punct.CloseParen ⨾ Sign punct.CloseParen
 
 abbrev pub joined : List (List Attribute) → List Attribute
 joined [] = []
@@ -292,9 +301,10 @@ body qs (Some ss) = given (AreNamed qs) (block ss)
 abbrev pub function : Function → Phrase
 function f ts =
     (before after : List Attribute) × (f.attributes ≡ before ++ after)
-    × (attributes before ⨾ result f.result ⨾ named f.name ⨾ parameters f.parameters ⨾ attributes after ⨾ body f.parameters f.body) ts
+    × (attributes before ⨾ result f.result ⨾ named f.name ⨾ parameters f.parameters ⨾ attributes after
+    ⨾ body f.parameters f.body) ts
 
--- ---- globals
+-- ---- globals (C11 6.7, 6.7.6.2, 6.7.9)
 
 abbrev pub minus : Bool → Phrase
 minus true = Sign punct.Minus
@@ -325,7 +335,9 @@ first_value (i ∷ j ∷ is) = never
 
 abbrev pub first_values : List First → Phrase
 first_values [] = Nil
-first_values (i ∷ is) = Sign punct.Assign ⨾ Sign punct.OpenBrace ⨾ Listed initialiser (i ∷ is) ⨾ (Nil ∣ Sign punct.Comma) ⨾ Sign punct.CloseBrace
+first_values (i ∷ is) =
+    Sign punct.Assign ⨾ Sign punct.OpenBrace ⨾ Listed initialiser (i ∷ is) ⨾ (Nil ∣ Sign punct.Comma)
+    ⨾ Sign punct.CloseBrace
 
 abbrev pub sized : Option (ℕ × Span) → List First → Phrase
 sized None is = first_value is
@@ -342,7 +354,7 @@ abbrev pub item : Item → Phrase
 item (Defines f) = function f
 item (Shares gs) = λ ts. (t : Scalar) × globals t gs ts
 
--- ---- programs
+-- ---- programs (C11 6.9)
 
 -- a program, and where its last token ends
 pub record Source : Type 0 where
@@ -351,10 +363,6 @@ pub record Source : Type 0 where
 
 abbrev pub Spells : Source → Phrase
 Spells s ts = Many item s.program ts × (s.ends ≡ end_of ts)
-
--- tokens with which some program begins
-abbrev pub BeginsProgram : Phrase
-BeginsProgram = Begins Spells
 
 -- how deep a program may be
 abbrev pub deepest_program : ℕ

@@ -11,7 +11,8 @@ pub mod Formats
 pub mod Typing
 -- what threads do and how they stand in a run, for source and code alike
 pub mod Behaviours
--- the few words that the meaning is said in, and the meaning of expressions, statements, calls, threads and orders of threads
+-- the few words that the meaning is said in, and the meaning of expressions, statements, calls, threads and orders of
+-- threads
 pub mod Actions
 pub mod Meaning
 pub mod Threads

@@ -95,12 +95,14 @@ inner outer mode found run s = close_inner outer s.locals found (run (record s {
 abbrev pub leave : List Memory → List Memory → Left → Action End
 leave founds lefts left now =
     go_on (tick (record now { context = Outside founds lefts }))
-    (λ u then_. Gives left.end (record then_ { locals = left.locals; context = Outside founds (lefts ++ left.memory ∷ []) }))
+    (λ u then_. Gives left.end
+    (record then_ { locals = left.locals; context = Outside founds (lefts ++ left.memory ∷ []) }))
 
 -- a trap leaves the memory that was found, and a run that otherwise stops leaves none
 abbrev pub close : List Memory → List Memory → List Local → Memory → Answer End → Answer End
 close founds lefts mine found (Gives end now) = leave founds lefts (left_by mine found end now) now
-close founds lefts mine found (Stops (Trapped k) now) = Stops (Trapped k) (record now { context = Outside founds (lefts ++ found ∷ []) })
+close founds lefts mine found (Stops (Trapped k) now) =
+    Stops (Trapped k) (record now { context = Outside founds (lefts ++ found ∷ []) })
 close founds lefts mine found (Stops why now) = Stops why (record now { context = Outside founds lefts })
 
 abbrev pub outermost : Mode → Memory → List Memory → List Memory → Action End → Action End
@@ -157,8 +159,10 @@ module _ (p : Program) (call : Caller) where
     expr (Unary op e at) = do v ← expr e; or_trap (unary op v)
     expr (Binary op a b at) = do v ← expr a; w ← expr b; or_trap (binary op v w)
     -- what is computed only where it is needed (6.5.13 to 6.5.15)
-    expr (Logical AndThen a b at) = do v ← expr a; w ← if is_zero v then pure v else expr b; pure (flag (not (is_zero w)))
-    expr (Logical OrElse a b at) = do v ← expr a; w ← if is_zero v then expr b else pure v; pure (flag (not (is_zero w)))
+    expr (Logical AndThen a b at) =
+        do v ← expr a; w ← if is_zero v then pure v else expr b; pure (flag (not (is_zero w)))
+    expr (Logical OrElse a b at) =
+        do v ← expr a; w ← if is_zero v then expr b else pure v; pure (flag (not (is_zero w)))
     expr (Conditional c a b at) = do
       v ← expr c
       w ← if is_zero v then expr b else expr a
@@ -232,8 +236,12 @@ module _ (p : Program) (call : Caller) where
     -- selection and iteration: each substatement is a scope of its own (6.8.4, 6.8.5)
     stmt (If c a) = do tick; v ← expr c; if is_zero v then pure Next else scoped (stmt a)
     stmt (IfElse c a b) = do tick; v ← expr c; if is_zero v then scoped (stmt b) else scoped (stmt a)
-    stmt (While c a) = do tick; loop (do v ← expr c; if is_zero v then pure (Some Next) else (scoped (stmt a) >>= after_body (pure None)))
-    stmt (DoWhile a c) = do tick; loop (scoped (stmt a) >>= after_body (do v ← expr c; pure (if is_zero v then Some Next else None)))
+    stmt (While c a) = do
+      tick
+      loop (do v ← expr c; if is_zero v then pure (Some Next) else (scoped (stmt a) >>= after_body (pure None)))
+    stmt (DoWhile a c) = do
+      tick
+      loop (scoped (stmt a) >>= after_body (do v ← expr c; pure (if is_zero v then Some Next else None)))
     stmt (For start c step a) = do
       tick
       scoped (do
@@ -255,14 +263,16 @@ module _ (p : Program) (call : Caller) where
 
 -- the parameters, with the arguments converted (C11 6.5.2.2); one without a name binds nothing
 abbrev pub bound : Parameter → Value → List Local
-bound q v = unwrap_or (option_map (λ x. record { name = x.text; of = q.of; word = (converted q.of v).word } ∷ []) q.name) []
+bound q v =
+    unwrap_or (option_map (λ x. record { name = x.text; of = q.of; word = (converted q.of v).word } ∷ []) q.name) []
 
 abbrev pub entered : List Parameter → List Value → Option (List Local)
 entered [] [] = Some []
 entered (q ∷ qs) (v ∷ vs) = option_map (λ ls. bound q v ++ ls) (entered qs vs)
 entered qs vs = None
 
--- the value of a call, of the function's own type (6.8.6.4): one that runs off its end gives 0, and no other end leaves it
+-- the value of a call, of the function's own type (6.8.6.4): one that runs off its end gives 0, and no other end leaves
+-- it
 abbrev pub result_of : Option Scalar → End → Action Value
 result_of t Next = pure (converted (unwrap_or t Int) (flag false))
 result_of t (Returns v) = pure (converted (unwrap_or t Int) v)

@@ -63,7 +63,7 @@ abbrev pub is_fixed : Fixed → Terminal → Bool
 is_fixed m (Terminal.fixed k) = same_fixed k m
 is_fixed m _ = false
 
--- the sign or keyword m
+-- the keyword or punctuator m
 abbrev pub the_fixed : Fixed → Tok → Option (Unit {0})
 the_fixed m t = if is_fixed m t.terminal then Some tt else None
 

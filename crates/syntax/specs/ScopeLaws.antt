@@ -16,7 +16,8 @@ AreAllMet ds = All (λ d. IsTrue d.met) ds
 -- a function that is known to give and take these types has a definition, with these types
 abbrev pub CalledAreDefined : Type 0
 CalledAreDefined =
-    (p : Program) → IsTypedProgram p → (x : List ℕ) (result : Option Scalar) (takes : List Scalar) → file_scope p x ≡ Callable result takes →
+    (p : Program) → IsTypedProgram p → (x : List ℕ) (result : Option Scalar) (takes : List Scalar) →
+    file_scope p x ≡ Callable result takes →
     (d : Function × Stmts) × (definition_of p x ≡ Some d) × (known_function d.0 ≡ Callable result takes)
 
 -- each name that is known in one scope is known as the same in another
@@ -34,10 +35,13 @@ pub record StandsTyped (p : Program) (d : Function × Stmts) : Type 0 where
   pub stands : p ≡ (earlier ++ Defines d.0 ∷ []) ++ later
   pub body : AreAllMet (AreTypedStmts d.0.result d.1 (body_scope earlier d.0) (parameter_names d.0.parameters) false)
   -- with the arguments as its locals, what is known as it runs agrees with what is known of its body
-  pub fits : (vs : List Value) (ls : List Local) → entered d.0.parameters vs ≡ Some ls → Agrees (body_scope earlier d.0) (running_scope p ls)
+  pub fits : (vs : List Value) (ls : List Local) → entered d.0.parameters vs ≡ Some ls →
+      Agrees (body_scope earlier d.0) (running_scope p ls)
 
 abbrev pub BodiesAreTyped : Type 0
-BodiesAreTyped = (p : Program) → IsTypedProgram p → (x : List ℕ) (d : Function × Stmts) → definition_of p x ≡ Some d → StandsTyped p d
+BodiesAreTyped =
+    (p : Program) → IsTypedProgram p → (x : List ℕ) (d : Function × Stmts) → definition_of p x ≡ Some d →
+    StandsTyped p d
 
 -- a typed expression has the same type where what is known agrees, and it has one if it is not void
 abbrev pub TypesAgree : Type 0
@@ -71,5 +75,7 @@ IsNoJump end = Unit {0}
 -- a statement that is typed outside loops ends by no break and by no continue
 abbrev pub EndsFit : Type 0
 EndsFit =
-    (p : Program) (frames : ℕ) (gives : Option Scalar) (st : Stmt) (known : Scope) (declared : List (List ℕ)) (s : State) →
-    AreAllMet (IsTypedStmt gives st known declared false) → WhereGiven (stmt p (calls p frames) st s) (λ end now. IsNoJump end)
+    (p : Program) (frames : ℕ) (gives : Option Scalar) (st : Stmt) (known : Scope) (declared : List (List ℕ))
+    (s : State) →
+    AreAllMet (IsTypedStmt gives st known declared false) →
+    WhereGiven (stmt p (calls p frames) st s) (λ end now. IsNoJump end)

@@ -1,7 +1,7 @@
 -- Which programs are typed, demand by demand.
 --
--- Each rule is a demand: a fault number, a place, and whether it is met. They stand in one list, in the order in which they
--- are looked at: a program is typed where every demand is met, and its fault is the first that is not.
+-- Each rule is a demand: a fault number, a place, and whether it is met. They stand in one list, in the order in which
+-- they are looked at: a program is typed where every demand is met, and its fault is the first that is not.
 use Rattle.std.specs.Prelude.{ℕ, ◌+◌, List, [], ◌∷◌, ◌++◌, length, map, drop, sum_by, Option, Some, None, Bool, true, false, not, ◌&&◌, ◌||◌, IsTrue, is_some, is_none, if◌then◌else◌, codes, option_map, unwrap_or, ◌==◌, nat_le, bytes_eq, All}
 use Rattle.std.specs.List.{list_any}
 use Rattle.syntax.specs.Tree.{Span, Scalar, Int, Unsigned, First, Name, Expr, Exprs, Variable, Constant, Element, Call, Parenthesized, Cast, Unary, Binary, Logical, Conditional, Simple, Evaluate, Assign, Adjust, Declarator, Start, Nothing, Declares, Does, Stmt, Stmts, Declare, Do, Block, Print, If, IfElse, While, DoWhile, For, Break, Continue, Return, Transaction, Parameter, Function, Global, Item, Defines, Shares, Program}
@@ -112,13 +112,15 @@ parameter_names (q ∷ qs) = unwrap_or (option_map (λ x. x.text ∷ parameter_n
 
 abbrev pub with_parameters : List Parameter → Scope → Scope
 with_parameters [] known = known
-with_parameters (q ∷ qs) known = with_parameters qs (unwrap_or (option_map (λ x. with_number x.text q.of known) q.name) known)
+with_parameters (q ∷ qs) known =
+    with_parameters qs (unwrap_or (option_map (λ x. with_number x.text q.of known) q.name) known)
 
 -- the names of the definitions among these items
 abbrev pub defined_names : List Item → List (List ℕ)
 defined_names [] = []
 defined_names (Shares gs ∷ items) = defined_names items
-defined_names (Defines f ∷ items) = unwrap_or (option_map (λ b. f.name.text ∷ defined_names items) f.body) (defined_names items)
+defined_names (Defines f ∷ items) =
+    unwrap_or (option_map (λ b. f.name.text ∷ defined_names items) f.body) (defined_names items)
 
 abbrev pub all_cells : List Item → ℕ
 all_cells [] = 0
@@ -158,13 +160,16 @@ module _ (known : Scope) where
     IsTyped (Variable x) = IsKnown x ++ demand 22 x.at (may_be_number (known x.text))
     IsTyped (Constant n t at) = []
     IsTyped (Element x i at) = IsKnown x ++ (IsTyped i ++ GivesNumber i) ++ demand 22 at (may_be_array (known x.text))
-    IsTyped (Call f es at) = IsKnown f ++ AreNumbers es ++ (demand 22 at (may_be_function (known f.text)) ++ demand 23 f.at (takes_so_many (known f.text) (count es)))
+    IsTyped (Call f es at) =
+        IsKnown f ++ AreNumbers es
+        ++ (demand 22 at (may_be_function (known f.text)) ++ demand 23 f.at (takes_so_many (known f.text) (count es)))
     IsTyped (Parenthesized e at) = IsTyped e
     IsTyped (Cast t e at) = IsTyped e ++ GivesNumber e
     IsTyped (Unary op e at) = IsTyped e ++ GivesNumber e
     IsTyped (Binary op a b at) = (IsTyped a ++ GivesNumber a) ++ (IsTyped b ++ GivesNumber b)
     IsTyped (Logical op a b at) = (IsTyped a ++ GivesNumber a) ++ (IsTyped b ++ GivesNumber b)
-    IsTyped (Conditional c a b at) = (IsTyped c ++ GivesNumber c) ++ (IsTyped a ++ GivesNumber a) ++ (IsTyped b ++ GivesNumber b)
+    IsTyped (Conditional c a b at) =
+        (IsTyped c ++ GivesNumber c) ++ (IsTyped a ++ GivesNumber a) ++ (IsTyped b ++ GivesNumber b)
 
     pub AreNumbers : Exprs → List Demand
     AreNumbers Exprs.[] = []
@@ -194,7 +199,8 @@ module _ (known : Scope) where
 
   -- each figure has an argument of its own type (7.21.6.1)
   abbrev pub HaveTypes : List Scalar → Exprs → List Demand
-  HaveTypes (t ∷ ts) (Exprs.◌∷◌ e es) = demand 27 (span_of e) (is_none (type_of known e) || is_type t (type_of known e)) ++ HaveTypes ts es
+  HaveTypes (t ∷ ts) (Exprs.◌∷◌ e es) =
+      demand 27 (span_of e) (is_none (type_of known e) || is_type t (type_of known e)) ++ HaveTypes ts es
   HaveTypes ts es = []
 
   abbrev pub IsTypedPrint : List ℕ → Span → Exprs → List Demand
@@ -226,15 +232,18 @@ module _ (gives : Option Scalar) where
     IsTypedStmt (Block ss) known declared looping = AreTypedStmts ss known [] looping
     IsTypedStmt (Print at format format_at es) known declared looping = IsTypedPrint known format format_at es
     IsTypedStmt (If c a) known declared looping = IsNumber known c ++ IsTypedStmt a known declared looping
-    IsTypedStmt (IfElse c a b) known declared looping = IsNumber known c ++ IsTypedStmt a known declared looping ++ IsTypedStmt b known declared looping
+    IsTypedStmt (IfElse c a b) known declared looping =
+        IsNumber known c ++ IsTypedStmt a known declared looping ++ IsTypedStmt b known declared looping
     IsTypedStmt (While c a) known declared looping = IsNumber known c ++ IsTypedStmt a known declared true
     IsTypedStmt (DoWhile a c) known declared looping = IsTypedStmt a known declared true ++ IsNumber known c
     IsTypedStmt (For start c step a) known declared looping =
         let known' = scope_of_start start known in
-        IsTypedStart known start ++ demands_of c (IsNumber known') ++ demands_of step (IsTypedSimple known') ++ IsTypedStmt a known' [] true
+        IsTypedStart known start ++ demands_of c (IsNumber known') ++ demands_of step (IsTypedSimple known')
+        ++ IsTypedStmt a known' [] true
     IsTypedStmt (Break at) known declared looping = demand 26 at looping
     IsTypedStmt (Continue at) known declared looping = demand 26 at looping
-    IsTypedStmt (Return e at) known declared looping = demands_of e (IsTyped known) ++ demand 22 at (returns_right gives e) ++ demands_of e (GivesNumber known)
+    IsTypedStmt (Return e at) known declared looping =
+        demands_of e (IsTyped known) ++ demand 22 at (returns_right gives e) ++ demands_of e (GivesNumber known)
     IsTypedStmt (Transaction mode ss at) known declared looping = AreTypedStmts ss known [] looping
     IsTypedStmt s known declared looping = []
 
@@ -252,13 +261,16 @@ AreDistinct declared (q ∷ qs) =
 abbrev pub IsTypedBody : List Item → Function → Option Stmts → List Demand
 IsTypedBody earlier f None = []
 IsTypedBody earlier f (Some ss) =
-    AreTypedStmts f.result ss (with_parameters f.parameters (file_scope (earlier ++ Defines f ∷ []))) (parameter_names f.parameters) false
+    AreTypedStmts f.result ss (with_parameters f.parameters (file_scope (earlier ++ Defines f ∷ [])))
+    (parameter_names f.parameters) false
 
--- a function after these items: no global has its name, no second body stands, and earlier types are the same (6.7, 6.9.1)
+-- a function after these items: no global has its name, no second body stands, and earlier types are the same (6.7,
+-- 6.9.1)
 abbrev pub IsTypedFunction : List Item → Function → List Demand
 IsTypedFunction earlier f =
     let before = file_scope earlier f.name.text in
-    demand 21 f.name.at (may_be_function before && (is_none f.body || not (has_name (defined_names earlier) f.name.text)))
+    demand 21 f.name.at
+    (may_be_function before && (is_none f.body || not (has_name (defined_names earlier) f.name.text)))
     ++ demand 22 f.name.at (agrees f before)
     ++ AreDistinct [] f.parameters
     ++ IsTypedBody earlier f f.body

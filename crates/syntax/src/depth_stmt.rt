@@ -75,9 +75,10 @@ fn step_depth<A: Allocator>(s: &Option<Simple<A>>) -> usize
 }
 
 impl<A: Allocator> Stmt<A> {
-    /// The number of nodes on the longest way down from the statement: `;`, `break`, `continue`, `cancel` and a `return`
-    /// without a value have depth 1, any other statement, a block or a declaration has one more than its deepest part.
-    /// The block of a transaction is a part of it. A statement deeper than a `usize` can say has depth `usize::MAX`.
+    /// The number of nodes on the longest way down from the statement: `;`, `break`, `continue`, `cancel` and a
+    /// `return` without a value have depth 1, any other statement, a block or a declaration has one more than its
+    /// deepest part. The block of a transaction is a part of it. A statement deeper than a `usize` can say has depth
+    /// `usize::MAX`.
     #[cycle(depth_stmt)]
     pub fn depth(&self) -> usize
         ensures { result ≡ min (stmt_depth (stmt_of self.now)) usize.MAX }

@@ -1,6 +1,8 @@
 use Rattle.syntax.proofs.Ticks.{ticks_never_grow}
 use Rattle.syntax.proofs.Contexts.{stays_in_context}
 use Rattle.syntax.proofs.WordsStay.{words_stay}
+use Rattle.syntax.proofs.Expressions.{keeps_locals}
+use Rattle.syntax.proofs.OlderLocals.{keeps_older_locals}
 use Rattle.syntax.proofs.laws.statements_keep.Goals as goal
 
 pub returns-clause-ticks : goal.returns-clause-ticks
@@ -11,3 +13,9 @@ returns-clause-context c = stays_in_context
 
 pub returns-clause-words : goal.returns-clause-words
 returns-clause-words c = words_stay
+
+pub returns-clause-locals : goal.returns-clause-locals
+returns-clause-locals c = keeps_locals
+
+pub returns-clause-older_locals : goal.returns-clause-older_locals
+returns-clause-older_locals c = keeps_older_locals
