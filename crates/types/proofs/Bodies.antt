@@ -10,7 +10,7 @@ use Rattle.syntax.specs.declared.tree.Function as Own
 use Rattle.syntax.specs.Views.{function_of, stmts_of}
 use Rattle.syntax.specs.Types.{Known}
 use Rattle.syntax.specs.Typing.{has_name, defined_names, may_be_function}
-use Rattle.types.specs.Bodies.{AreBodies}
+use Rattle.types.specs.inner.Bodies.{AreBodies}
 use Rattle.types.proofs.Files.{defined_append}
 
 some_or : {V : Type 0} (b : Bool) (v : V) (o : Option V) → is_some (cond b (Some v) o) ≡ (b || is_some o)

@@ -8,7 +8,7 @@ use Rattle.syntax.specs.Views.{expr_of, declarator_of}
 use Rattle.syntax.specs.Types.{Scope, with_number}
 use Rattle.syntax.specs.Typing.{has_name, knows}
 use Rattle.syntax.specs.Typing.{first_unmet, demand, demands_of, IsNumber, AreTypedDeclarators}
-use Rattle.types.specs.Known.{declared_by}
+use Rattle.types.specs.inner.Known.{declared_by}
 use Rattle.types.proofs.Steps.{first_of_two}
 
 module _ {A : Type 0} (t : Scalar) (ds : List (R.Declarator A)) (i : ℕ) (d : R.Declarator A) (is : d ≡ get_or ds i d) (h : i < length ds) where

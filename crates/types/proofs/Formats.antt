@@ -11,7 +11,7 @@ use Rattle.syntax.specs.Types.{Scope, type_of}
 use Rattle.syntax.specs.Typing.{span_of}
 use Rattle.syntax.specs.Typing.{first_unmet, demand, HaveTypes}
 use Rattle.types.proofs.Steps.{first_of_two}
-use Rattle.types.specs.Bytes.{is_conversion, is_format_from, figure_of, with_figure, figures_from, is_fitting}
+use Rattle.types.specs.inner.Bytes.{is_conversion, is_format_from, figure_of, with_figure, figures_from, is_fitting}
 
 -- literal text prints no number
 literal_figures : (c : ℕ) (ps : List Piece) → figures (literal c ps) ≡ figures ps

@@ -5,10 +5,10 @@ use Rattle.syntax.specs.Names.{cells, globals}
 use Rattle.syntax.specs.Types.{file_scope}
 use Rattle.syntax.specs.Typing.{has_name, defined_names}
 use Rattle.types.specs.declared.unit.Found.{Found}
-use Rattle.types.specs.Known.{known_in, count_in}
+use Rattle.types.specs.inner.Known.{known_in, count_in}
 use Rattle.types.specs.Slots.{value_at}
-use Rattle.types.specs.Bodies.{AreBodies}
-use Rattle.types.specs.Found.{IsFound}
+use Rattle.types.specs.inner.Bodies.{AreBodies}
+use Rattle.types.specs.inner.Found.{IsFound}
 use Rattle.types.specs.Tables.{definitions_from, cells_from}
 use Rattle.types.proofs.Files.{definitions_append, globals_append, cells_append, cells_are, all_cells_append, defined_append}
 use Rattle.types.proofs.Bodies.{or_none}

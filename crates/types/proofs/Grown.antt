@@ -6,12 +6,12 @@ use Rattle.types.specs.declared.table.Slot.{Slot}
 use Rattle.types.specs.declared.table.Local.{Local}
 use Rattle.types.specs.declared.table.Names.{Names}
 use Rattle.types.specs.Slots.{with_slot, under}
-use Rattle.types.specs.Known.{slot_in, slot_before, count_in, Grows, Agrees, known_in, AreDeclared}
+use Rattle.types.specs.inner.Known.{slot_in, slot_before, count_in, Grows, Agrees, known_in, AreDeclared}
 use Rattle.lex.specs.declared.token.Scalar.{Scalar}
 use Rattle.syntax.specs.Types.{Number, with_number}
 use Rattle.syntax.specs.Typing.{has_name}
 use Rattle.types.specs.declared.symbol.Symbol.TheVariants as symbol
-use Rattle.types.specs.Scopes.{known_of}
+use Rattle.types.specs.inner.Scopes.{known_of}
 use Rattle.std.proofs.lemmas.Bool.Decides.{nat_tests}
 use Rattle.std.proofs.lemmas.Slice.Eq.{bytes_eq-Decides}
 use Rattle.types.proofs.Kept.{less_step, take-take, under_none}

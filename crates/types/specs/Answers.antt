@@ -70,4 +70,5 @@ module _ {A : Type 0} where
   abbrev pub Checks : Own.Unit A → Result (Typed A) (TypeFault A) → Type 0
   Checks u (Ok t) = (t.unit ≡ u) × (None ≡ first_unmet (Meets u.end (program_of u)))
   Checks u (Err (fault.OutOfMemory v)) = v ≡ u
-  Checks u (Err (fault.IllTyped v b)) = (v ≡ u) × (Some (number_in b, span_in b) ≡ first_unmet (Meets u.end (program_of u)))
+  Checks u (Err (fault.IllTyped v b)) =
+      (v ≡ u) × (Some (number_in b, span_in b) ≡ first_unmet (Meets u.end (program_of u)))

@@ -7,7 +7,8 @@ use Rattle.syntax.specs.Names.{cells}
 abbrev pub definitions_from : ℕ → List Item → List ℕ
 definitions_from n [] = []
 definitions_from n (Shares gs ∷ items) = definitions_from (n + 1) items
-definitions_from n (Defines f ∷ items) = if is_some f.body then n ∷ definitions_from (n + 1) items else definitions_from (n + 1) items
+definitions_from n (Defines f ∷ items) =
+    if is_some f.body then n ∷ definitions_from (n + 1) items else definitions_from (n + 1) items
 
 -- the first cell of each global, where those of the first one begin at this cell
 abbrev pub cells_from : ℕ → List Global → List ℕ

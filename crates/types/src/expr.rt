@@ -7,8 +7,8 @@ ghost use Rattle.syntax.specs.Typing.{is_void, span_of, count, may_be_function, 
 ghost use Rattle.syntax.specs.Types.{type_of};
 ghost use Rattle.syntax.specs.Typing.{first_unmet, demand, IsKnown, IsTyped, IsNumber, GivesNumber, AreNumbers};
 ghost use Rattle.types.specs.Answers.{unmet_in};
-ghost use Rattle.types.specs.Known.{known_in};
-ghost use Rattle.types.specs.Scopes.{known_of};
+ghost use Rattle.types.specs.inner.Known.{known_in};
+ghost use Rattle.types.specs.inner.Scopes.{known_of};
 
 use crate::fault::{Violation, demand};
 use crate::symbol::Symbol;
@@ -65,7 +65,8 @@ fn check_element<'a, A: Allocator + Copy>(
     index: &'a Expr<A>,
     at: Span,
 ) -> Result<(), Violation>
-    ensures { unmet_in result ≡ first_unmet (IsTyped (known_in names.now) (Tree.Element (name_of x.now) (expr_of index.now) at)) }
+    ensures { unmet_in result
+        ≡ first_unmet (IsTyped (known_in names.now) (Tree.Element (name_of x.now) (expr_of index.now) at)) }
 {
     let symbol = names.look(x.text.as_str());
     demand(!symbol.is_unknown(), Violation::UnknownName(x.span))?;
@@ -98,7 +99,9 @@ fn check_symbol<A: Allocator + Copy>(
     f: Span,
     at: Span,
 ) -> Result<(), Violation>
-    ensures { unmet_in result ≡ first_unmet (demand 22 at (may_be_function (known_of symbol.now)) ++ demand 23 f (takes_so_many (known_of symbol.now) count)) }
+    ensures { unmet_in result
+        ≡ first_unmet (demand 22 at (may_be_function (known_of symbol.now))
+        ++ demand 23 f (takes_so_many (known_of symbol.now) count)) }
 {
     demand(symbol.may_be_function(), Violation::WrongType(at))?;
     demand(symbol.takes_so_many(count), Violation::WrongCount(f))
@@ -111,7 +114,9 @@ fn check_called<'a, A: Allocator + Copy>(
     args: &'a [Expr<A>],
     at: Span,
 ) -> Result<(), Violation>
-    ensures { unmet_in result ≡ first_unmet (demand 22 at (may_be_function (known_in names.now f.now.text)) ++ demand 23 f.now.span (takes_so_many (known_in names.now f.now.text) (count (exprs_of args.now)))) }
+    ensures { unmet_in result
+        ≡ first_unmet (demand 22 at (may_be_function (known_in names.now f.now.text))
+        ++ demand 23 f.now.span (takes_so_many (known_in names.now f.now.text) (count (exprs_of args.now)))) }
 {
     let symbol = names.look(f.text.as_str());
     let many = count_of(args);
@@ -126,7 +131,8 @@ fn check_call<'a, A: Allocator + Copy>(
     args: &'a [Expr<A>],
     at: Span,
 ) -> Result<(), Violation>
-    ensures { unmet_in result ≡ first_unmet (IsTyped (known_in names.now) (Tree.Call (name_of f.now) (exprs_of args.now) at)) }
+    ensures { unmet_in result
+        ≡ first_unmet (IsTyped (known_in names.now) (Tree.Call (name_of f.now) (exprs_of args.now) at)) }
 {
     check_known(names, f)?;
     check_numbers(names, args)?;

@@ -4,7 +4,7 @@ ghost use Rattle.std.specs.Prelude.{◌≡◌, option_map};
 ghost use Rattle.syntax.specs.Numbers.{result_type};
 ghost use Rattle.syntax.specs.Views.{expr_of};
 ghost use Rattle.syntax.specs.Types.{common_of, unary_type, binary_type, type_of};
-ghost use Rattle.types.specs.Known.{known_in};
+ghost use Rattle.types.specs.inner.Known.{known_in};
 
 use crate::table::Names;
 use lex::token::Scalar;

@@ -7,8 +7,8 @@ ghost use Rattle.syntax.specs.Typing.{span_of};
 ghost use Rattle.syntax.specs.Types.{type_of};
 ghost use Rattle.syntax.specs.Typing.{first_unmet, demand, HaveTypes, IsTypedPrint};
 ghost use Rattle.types.specs.Answers.{unmet_in};
-ghost use Rattle.types.specs.Known.{known_in};
-ghost use Rattle.types.specs.Bytes.{is_conversion, figure_of, is_fitting};
+ghost use Rattle.types.specs.inner.Known.{known_in};
+ghost use Rattle.types.specs.inner.Bytes.{is_conversion, figure_of, is_fitting};
 
 use crate::expr::{check_numbers, count_of, place_of};
 use crate::expr_type::type_of;
@@ -100,7 +100,9 @@ fn check_figure<'a, A: Allocator + Copy>(
     of: Scalar,
     arg: &'a Expr<A>,
 ) -> Result<(), Violation>
-    ensures { unmet_in result ≡ first_unmet (demand 27 (span_of (expr_of arg.now)) (is_fitting of (type_of (known_in names.now) (expr_of arg.now)))) }
+    ensures { unmet_in result
+        ≡ first_unmet
+        (demand 27 (span_of (expr_of arg.now)) (is_fitting of (type_of (known_in names.now) (expr_of arg.now)))) }
 {
     let given = type_of(names, arg);
     let fits = is_fitting(of, given);
@@ -113,7 +115,8 @@ fn check_figures<'a, A: Allocator + Copy>(
     format: &'a str,
     args: &'a [Expr<A>],
 ) -> Result<(), Violation>
-    ensures { unmet_in result ≡ first_unmet (HaveTypes (known_in names.now) (figures (pieces format.now)) (exprs_of args.now)) }
+    ensures { unmet_in result
+        ≡ first_unmet (HaveTypes (known_in names.now) (figures (pieces format.now)) (exprs_of args.now)) }
 {
     let mut percent = false;
     let mut next: usize = 0;

@@ -8,9 +8,9 @@ ghost use Rattle.syntax.specs.Types.{file_scope, known_function};
 ghost use Rattle.syntax.specs.Typing.{has_name, agrees, same_type, same_types, same_result, may_be_function, is_worker, parameter_names, with_parameters, defined_names};
 ghost use Rattle.syntax.specs.Typing.{demand, demands_of, first_unmet, AreDistinct, AreTypedStmts, IsTypedBody, IsTypedFunction};
 ghost use Rattle.types.specs.Answers.{Answers, unmet_in};
-ghost use Rattle.types.specs.Known.{known_in, count_in, AreDeclared, Grows, Agrees};
-ghost use Rattle.types.specs.Scopes.{known_of};
-ghost use Rattle.types.specs.Bodies.{AreBodies};
+ghost use Rattle.types.specs.inner.Known.{known_in, count_in, AreDeclared, Grows, Agrees};
+ghost use Rattle.types.specs.inner.Scopes.{known_of};
+ghost use Rattle.types.specs.inner.Bodies.{AreBodies};
 
 use crate::fault::{Failure, Violation, demand};
 use crate::scope::{add_local, check_new};
@@ -124,7 +124,14 @@ fn check_declared<'a, A: Allocator + Copy>(
 ) -> Result<(), Violation>
     requires known { known_in names.now ≡ file_scope (map item_of earlier.now) }
     requires defined { AreBodies bodies.now (map item_of earlier.now) }
-    ensures { unmet_in result ≡ first_unmet (demand 21 f.now.name.span (may_be_function (file_scope (map item_of earlier.now) f.now.name.text) && (is_none (function_of f.now).body || not (has_name (defined_names (map item_of earlier.now)) f.now.name.text))) ++ demand 22 f.now.name.span (agrees (function_of f.now) (file_scope (map item_of earlier.now) f.now.name.text))) }
+    ensures { unmet_in result
+        ≡ first_unmet
+        (demand 21 f.now.name.span
+        (may_be_function (file_scope (map item_of earlier.now) f.now.name.text)
+        && (is_none (function_of f.now).body
+        || not (has_name (defined_names (map item_of earlier.now)) f.now.name.text)))
+        ++ demand 22 f.now.name.span
+        (agrees (function_of f.now) (file_scope (map item_of earlier.now) f.now.name.text))) }
 {
     let name = f.name.text.as_str();
     let before = names.look(name);
@@ -142,9 +149,14 @@ fn check_parameter<'a, A: Allocator + Copy>(
     one: &'a Parameter<A>,
 ) -> Result<(), Failure>
     requires { start ≤ count_in names.old }
-    ensures answer { (declared : List (List ℕ)) → AreDeclared start names.old declared → Answers result (demands_of (option_map name_of one.now.name) (λ x. demand 21 x.at (not (has_name declared x.text)))) }
-    ensures known { OnOk result (known_in names.new ≡ with_parameters (parameter_of one.now ∷ []) (known_in names.old)) }
-    ensures declared { OnOk result ((declared : List (List ℕ)) → AreDeclared start names.old declared → AreDeclared start names.new (parameter_names (parameter_of one.now ∷ []) ++ declared)) }
+    ensures answer { (declared : List (List ℕ)) → AreDeclared start names.old declared →
+        Answers result
+        (demands_of (option_map name_of one.now.name) (λ x. demand 21 x.at (not (has_name declared x.text)))) }
+    ensures known { OnOk result
+        (known_in names.new ≡ with_parameters (parameter_of one.now ∷ []) (known_in names.old)) }
+    ensures declared { OnOk result
+        ((declared : List (List ℕ)) → AreDeclared start names.old declared →
+        AreDeclared start names.new (parameter_names (parameter_of one.now ∷ []) ++ declared)) }
     ensures grows { OnOk result (Grows names.old names.new) }
     ensures count { OnOk result (count_in names.old ≤ count_in names.new) }
 {
@@ -165,7 +177,8 @@ fn check_parameters<'a, A: Allocator + Copy>(
 ) -> Result<(), Failure>
     ensures answer { Answers result (AreDistinct [] (map parameter_of all.now)) }
     ensures known { OnOk result (known_in names.new ≡ with_parameters (map parameter_of all.now) (known_in names.old)) }
-    ensures declared { OnOk result (AreDeclared (count_in names.old) names.new (parameter_names (map parameter_of all.now))) }
+    ensures declared { OnOk result
+        (AreDeclared (count_in names.old) names.new (parameter_names (map parameter_of all.now))) }
     ensures grows { OnOk result (Grows names.old names.new) }
     ensures count { OnOk result (count_in names.old ≤ count_in names.new) }
 {
@@ -184,7 +197,10 @@ fn check_body<'a, A: Allocator + Copy>(
     body: &'a Option<Items<Stmt<A>, A>>,
 ) -> Result<(), Failure>
     requires { start ≤ count_in names.old }
-    ensures answer { (declared : List (List ℕ)) → AreDeclared start names.old declared → Answers result (demands_of (option_map stmts_of body.now) (λ ss. AreTypedStmts gives ss (known_in names.old) declared false)) }
+    ensures answer { (declared : List (List ℕ)) → AreDeclared start names.old declared →
+        Answers result
+        (demands_of (option_map stmts_of body.now)
+        (λ ss. AreTypedStmts gives ss (known_in names.old) declared false)) }
     ensures grows { OnOk result (Grows names.old names.new) }
     ensures count { OnOk result (count_in names.old ≤ count_in names.new) }
 {
@@ -206,7 +222,12 @@ fn check_inside<'a, A: Allocator + Copy>(
     names: &mut Names<'a, A>,
     f: &'a Function<A>,
 ) -> Result<(), Failure>
-    ensures answer { Answers result (AreDistinct [] (map parameter_of f.now.parameters) ++ demands_of (option_map stmts_of f.now.body) (λ ss. AreTypedStmts f.now.result ss (with_parameters (map parameter_of f.now.parameters) (known_in names.old)) (parameter_names (map parameter_of f.now.parameters)) false)) }
+    ensures answer { Answers result
+        (AreDistinct [] (map parameter_of f.now.parameters)
+        ++ demands_of (option_map stmts_of f.now.body)
+        (λ ss. AreTypedStmts f.now.result ss
+        (with_parameters (map parameter_of f.now.parameters) (known_in names.old))
+        (parameter_names (map parameter_of f.now.parameters)) false)) }
     ensures same { OnOk result (Agrees names.old names.new) }
 {
     let outer = names.len();
@@ -224,7 +245,8 @@ fn add_function<'a, A: Allocator + Copy>(
 ) -> Result<(), AllocError>
     requires none { count_in names.old ≡ 0 }
     requires known { known_in names.old ≡ file_scope (map item_of earlier.now) }
-    ensures known { OnOk result (known_in names.new ≡ file_scope (map item_of earlier.now ++ Tree.Defines (function_of f.now) ∷ [])) }
+    ensures known { OnOk result
+        (known_in names.new ≡ file_scope (map item_of earlier.now ++ Tree.Defines (function_of f.now) ∷ [])) }
     ensures none { count_in names.new ≡ 0 }
 {
     let name = f.name.text.as_str();
@@ -263,9 +285,11 @@ pub(crate) fn check_function<'a, A: Allocator + Copy>(
     requires known { known_in names.old ≡ file_scope (map item_of earlier.now) }
     requires defined { AreBodies bodies.old (map item_of earlier.now) }
     ensures answer { Answers result (IsTypedFunction (map item_of earlier.now) (function_of f.now)) }
-    ensures known { OnOk result (known_in names.new ≡ file_scope (map item_of earlier.now ++ Tree.Defines (function_of f.now) ∷ [])) }
+    ensures known { OnOk result
+        (known_in names.new ≡ file_scope (map item_of earlier.now ++ Tree.Defines (function_of f.now) ∷ [])) }
     ensures none { OnOk result (count_in names.new ≡ 0) }
-    ensures defined { OnOk result (AreBodies bodies.new (map item_of earlier.now ++ Tree.Defines (function_of f.now) ∷ [])) }
+    ensures defined { OnOk result
+        (AreBodies bodies.new (map item_of earlier.now ++ Tree.Defines (function_of f.now) ∷ [])) }
 {
     check_declared(names, bodies, earlier, f)?;
     add_function(names, earlier, f)?;

@@ -8,8 +8,8 @@ ghost use Rattle.syntax.specs.Types.{file_scope, known_global};
 ghost use Rattle.syntax.specs.Typing.{is_unknown};
 ghost use Rattle.syntax.specs.Typing.{demand, first_unmet, IsLength, HaveCells, AreTypedGlobals};
 ghost use Rattle.types.specs.Answers.{Answers, unmet_in};
-ghost use Rattle.types.specs.Known.{known_in, count_in};
-ghost use Rattle.types.specs.Scopes.{known_of};
+ghost use Rattle.types.specs.inner.Known.{known_in, count_in};
+ghost use Rattle.types.specs.inner.Scopes.{known_of};
 ghost use Rattle.types.specs.Tables.{cells_from};
 
 use crate::fault::{Failure, Violation, demand};
@@ -70,7 +70,8 @@ fn check_new<'a, A: Allocator + Copy>(
     names: &Names<'a, A>,
     g: &'a Global<A>,
 ) -> Result<(), Violation>
-    ensures { unmet_in result ≡ first_unmet (demand 21 g.now.name.span (is_unknown (known_in names.now g.now.name.text))) }
+    ensures { unmet_in result
+        ≡ first_unmet (demand 21 g.now.name.span (is_unknown (known_in names.now g.now.name.text))) }
 {
     let new = names.look(g.name.text.as_str()).is_unknown();
     demand(new, Violation::DeclaredTwice(g.name.span))
@@ -83,7 +84,11 @@ fn check_global<'a, A: Allocator + Copy>(
     g: &'a Global<A>,
 ) -> Result<(), Violation>
     requires { taken ≤ 4096 }
-    ensures { unmet_in result ≡ first_unmet (demand 21 g.now.name.span (is_unknown (known_in names.now g.now.name.text)) ++ IsLength g.now.length ++ HaveCells (drop (cells (global_of g.now)) g.now.first) ++ demand 25 g.now.name.span (nat_le (taken + cells (global_of g.now)) 4096)) }
+    ensures { unmet_in result
+        ≡ first_unmet
+        (demand 21 g.now.name.span (is_unknown (known_in names.now g.now.name.text)) ++ IsLength g.now.length
+        ++ HaveCells (drop (cells (global_of g.now)) g.now.first)
+        ++ demand 25 g.now.name.span (nat_le (taken + cells (global_of g.now)) 4096)) }
 {
     check_new(names, g)?;
     check_length(&g.length)?;
@@ -103,9 +108,13 @@ fn add_global<'a, A: Allocator + Copy>(
     g: &'a Global<A>,
 ) -> Result<(), AllocError>
     requires none { count_in names.old ≡ 0 }
-    requires known { known_in names.old ≡ file_scope (map item_of earlier.now ++ Tree.Shares (map global_of before.now) ∷ []) }
+    requires known { known_in names.old
+        ≡ file_scope (map item_of earlier.now ++ Tree.Shares (map global_of before.now) ∷ []) }
     requires new { is_unknown (known_in names.old g.now.name.text) ≡ true }
-    ensures known { OnOk result (known_in names.new ≡ file_scope (map item_of earlier.now ++ Tree.Shares (map global_of before.now ++ global_of g.now ∷ []) ∷ [])) }
+    ensures known { OnOk result
+        (known_in names.new
+        ≡ file_scope
+        (map item_of earlier.now ++ Tree.Shares (map global_of before.now ++ global_of g.now ∷ []) ∷ [])) }
     ensures none { count_in names.new ≡ 0 }
     ensures cells { OnOk result (first_cells.new ≡ first_cells.old ++ taken ∷ []) }
 {
@@ -125,7 +134,8 @@ pub(crate) fn check_globals<'a, A: Allocator + Copy>(
     requires known { known_in names.old ≡ file_scope (map item_of earlier.now) }
     requires few { taken.old ≤ 4096 }
     ensures answer { Answers result (AreTypedGlobals (map item_of earlier.now) [] taken.old (map global_of all.now)) }
-    ensures known { OnOk result (known_in names.new ≡ file_scope (map item_of earlier.now ++ Tree.Shares (map global_of all.now) ∷ [])) }
+    ensures known { OnOk result
+        (known_in names.new ≡ file_scope (map item_of earlier.now ++ Tree.Shares (map global_of all.now) ∷ [])) }
     ensures none { OnOk result (count_in names.new ≡ 0) }
     ensures cells { OnOk result (first_cells.new ≡ first_cells.old ++ cells_from taken.old (map global_of all.now)) }
     ensures taken { OnOk result (taken.new ≡ taken.old + sum_by cells (map global_of all.now)) }

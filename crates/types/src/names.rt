@@ -3,9 +3,9 @@
 ghost use Rattle.std.specs.Prelude.{◌≡◌, ◌+◌, ◌-◌, ◌<◌, ◌≤◌, ◌++◌, ◌∷◌, [], length, take, nat_lt, OnOk};
 ghost use Rattle.lex.specs.declared.token.Scalar.{Scalar};
 ghost use Rattle.syntax.specs.Types.{file_scope};
-ghost use Rattle.types.specs.Scopes.{known_of};
+ghost use Rattle.types.specs.inner.Scopes.{known_of};
 ghost use Rattle.types.specs.Slots.{nothing, with_slot};
-ghost use Rattle.types.specs.Known.{slot_in, known_in, count_in, slot_before};
+ghost use Rattle.types.specs.inner.Known.{slot_in, known_in, count_in, slot_before};
 ghost use Rattle.types.specs.declared.symbol.Symbol.TheVariants as symbol;
 
 use crate::symbol::Symbol;
@@ -16,7 +16,7 @@ use std::collections::BTreeMap;
 
 impl<'a, A: Allocator + Copy> Names<'a, A> {
     /// No names. Takes no memory.
-    #[tactic(auto, unfolding(crate::specs::Known::known_in))]
+    #[tactic(auto, unfolding(crate::specs::inner::Known::known_in))]
     pub(crate) fn new(alloc: A) -> Names<'a, A>
         ensures known { known_in result ≡ file_scope [] }
         ensures locals { count_in result ≡ 0 }
@@ -47,7 +47,7 @@ impl<'a, A: Allocator + Copy> Names<'a, A> {
     }
 
     /// What a name is known as.
-    #[tactic(auto, unfolding(crate::specs::Known::known_in))]
+    #[tactic(auto, unfolding(crate::specs::inner::Known::known_in))]
     pub(crate) fn look(&self, name: &'a str) -> Symbol<'a, A>
         ensures { known_of result ≡ known_in self.now name.now }
     {
@@ -63,8 +63,13 @@ impl<'a, A: Allocator + Copy> Names<'a, A> {
 
     /// A further local, which hides what has its name. Takes memory for it.
     pub(crate) fn declare(&mut self, name: &'a str, of: Scalar) -> Result<(), AllocError>
-        ensures locals { OnOk result (self.new.locals.items ≡ self.old.locals.items ++ record { name = name.entry; hidden = slot_in self.old name.now } ∷ []) }
-        ensures slots { OnOk result (slot_in self.new ≡ with_slot name.now (record { symbol = symbol.Number of; place = count_in self.old + 1 }) (slot_in self.old)) }
+        ensures locals { OnOk result
+            (self.new.locals.items
+            ≡ self.old.locals.items ++ record { name = name.entry; hidden = slot_in self.old name.now } ∷ []) }
+        ensures slots { OnOk result
+            (slot_in self.new
+            ≡ with_slot name.now (record { symbol = symbol.Number of; place = count_in self.old + 1 })
+            (slot_in self.old)) }
     {
         let hidden = self.slot(name);
         let place = self.locals.len() + 1;
@@ -112,7 +117,8 @@ impl<'a, A: Allocator + Copy> Names<'a, A> {
     pub(crate) fn define(&mut self, name: &'a str, symbol: Symbol<'a, A>) -> Result<(), AllocError>
         requires { count_in self.old ≡ 0 }
         ensures locals { self.new.locals.items ≡ self.old.locals.items }
-        ensures slots { OnOk result (slot_in self.new ≡ with_slot name.now (record { symbol = symbol.entry; place = 0 }) (slot_in self.old)) }
+        ensures slots { OnOk result
+            (slot_in self.new ≡ with_slot name.now (record { symbol = symbol.entry; place = 0 }) (slot_in self.old)) }
     {
         match self.slots.insert(name, Slot { symbol, place: 0 }) {
             Ok(_) => Ok(()),

@@ -6,7 +6,7 @@ ghost use Rattle.syntax.specs.Types.{with_number};
 ghost use Rattle.syntax.specs.Typing.{has_name, knows, scope_of_start};
 ghost use Rattle.syntax.specs.Typing.{demand, demands_of, first_unmet, IsNumber, AreTypedDeclarators, IsTypedStart};
 ghost use Rattle.types.specs.Answers.{Answers, unmet_in};
-ghost use Rattle.types.specs.Known.{known_in, count_in, declared_by, AreDeclared, Grows, Agrees};
+ghost use Rattle.types.specs.inner.Known.{known_in, count_in, declared_by, AreDeclared, Grows, Agrees};
 
 use crate::expr::check_number;
 use crate::fault::{Failure, Violation, demand};
@@ -21,7 +21,8 @@ pub(crate) fn check_first<'a, A: Allocator + Copy>(
     names: &Names<'a, A>,
     first: &'a Option<Expr<A>>,
 ) -> Result<(), Violation>
-    ensures { unmet_in result ≡ first_unmet (demands_of (option_map expr_of first.now) (IsNumber (known_in names.now))) }
+    ensures { unmet_in result
+        ≡ first_unmet (demands_of (option_map expr_of first.now) (IsNumber (known_in names.now))) }
 {
     match first {
         Some(e) => check_number(names, e),
@@ -35,7 +36,8 @@ pub(crate) fn check_new<'a, A: Allocator + Copy>(
     start: usize,
     x: &'a Name<A>,
 ) -> Result<(), Violation>
-    ensures { (declared : List (List ℕ)) → AreDeclared start names.now declared → unmet_in result ≡ first_unmet (demand 21 x.now.span (not (has_name declared x.now.text))) }
+    ensures { (declared : List (List ℕ)) → AreDeclared start names.now declared →
+        unmet_in result ≡ first_unmet (demand 21 x.now.span (not (has_name declared x.now.text))) }
 {
     let new = !names.is_declared(start, x.text.as_str());
     demand(new, Violation::DeclaredTwice(x.span))
@@ -50,7 +52,9 @@ pub(crate) fn add_local<'a, A: Allocator + Copy>(
 ) -> Result<(), AllocError>
     requires { start ≤ count_in names.old }
     ensures known { OnOk result (known_in names.new ≡ with_number x.now.text of (known_in names.old)) }
-    ensures declared { OnOk result ((declared : List (List ℕ)) → AreDeclared start names.old declared → AreDeclared start names.new (x.now.text ∷ declared)) }
+    ensures declared { OnOk result
+        ((declared : List (List ℕ)) → AreDeclared start names.old declared →
+        AreDeclared start names.new (x.now.text ∷ declared)) }
     ensures grows { OnOk result (Grows names.old names.new) }
     ensures count { OnOk result (count_in names.old ≤ count_in names.new) }
 {
@@ -66,9 +70,15 @@ fn check_declarator<'a, A: Allocator + Copy>(
     one: &'a Declarator<A>,
 ) -> Result<(), Failure>
     requires { start ≤ count_in names.old }
-    ensures answer { (declared : List (List ℕ)) → AreDeclared start names.old declared → Answers result (demand 21 one.now.name.span (not (has_name declared one.now.name.text)) ++ demands_of (option_map expr_of one.now.first) (IsNumber (with_number one.now.name.text of (known_in names.old)))) }
+    ensures answer { (declared : List (List ℕ)) → AreDeclared start names.old declared →
+        Answers result
+        (demand 21 one.now.name.span (not (has_name declared one.now.name.text))
+        ++ demands_of (option_map expr_of one.now.first)
+        (IsNumber (with_number one.now.name.text of (known_in names.old)))) }
     ensures known { OnOk result (known_in names.new ≡ with_number one.now.name.text of (known_in names.old)) }
-    ensures declared { OnOk result ((declared : List (List ℕ)) → AreDeclared start names.old declared → AreDeclared start names.new (one.now.name.text ∷ declared)) }
+    ensures declared { OnOk result
+        ((declared : List (List ℕ)) → AreDeclared start names.old declared →
+        AreDeclared start names.new (one.now.name.text ∷ declared)) }
     ensures grows { OnOk result (Grows names.old names.new) }
     ensures count { OnOk result (count_in names.old ≤ count_in names.new) }
 {
@@ -86,9 +96,12 @@ pub(crate) fn check_declarators<'a, A: Allocator + Copy>(
     all: &'a [Declarator<A>],
 ) -> Result<(), Failure>
     requires { start ≤ count_in names.old }
-    ensures answer { (declared : List (List ℕ)) → AreDeclared start names.old declared → Answers result (AreTypedDeclarators (known_in names.old) declared of (map declarator_of all.now)) }
+    ensures answer { (declared : List (List ℕ)) → AreDeclared start names.old declared →
+        Answers result (AreTypedDeclarators (known_in names.old) declared of (map declarator_of all.now)) }
     ensures known { OnOk result (known_in names.new ≡ knows of (map declarator_of all.now) (known_in names.old)) }
-    ensures declared { OnOk result ((declared : List (List ℕ)) → AreDeclared start names.old declared → AreDeclared start names.new (declared_by (map declarator_of all.now) declared)) }
+    ensures declared { OnOk result
+        ((declared : List (List ℕ)) → AreDeclared start names.old declared →
+        AreDeclared start names.new (declared_by (map declarator_of all.now) declared)) }
     ensures grows { OnOk result (Grows names.old names.new) }
     ensures count { OnOk result (count_in names.old ≤ count_in names.new) }
 {
@@ -105,7 +118,9 @@ pub(crate) fn check_lone<'a, A: Allocator + Copy>(
     one: &'a Declaration<A>,
 ) -> Result<(), Failure>
     requires { start ≤ count_in names.old }
-    ensures answer { (declared : List (List ℕ)) → AreDeclared start names.old declared → Answers result (AreTypedDeclarators (known_in names.old) declared one.now.of (map declarator_of one.now.declarators)) }
+    ensures answer { (declared : List (List ℕ)) → AreDeclared start names.old declared →
+        Answers result
+        (AreTypedDeclarators (known_in names.old) declared one.now.of (map declarator_of one.now.declarators)) }
     ensures same { OnOk result (Agrees names.old names.new) }
 {
     let outer = names.len();

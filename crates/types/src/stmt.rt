@@ -3,10 +3,10 @@
 ghost use Rattle.std.specs.Prelude.{◌≡◌, ◌≤◌, ◌++◌, [], List, ℕ, option_map, is_some, not, if◌then◌else◌, OnOk};
 ghost use Rattle.syntax.specs.Views.{expr_of, simple_of, declaration_of, start_of, stmt_of, stmts_of};
 ghost use Rattle.syntax.specs.Typing.{scope_after, names_of, scope_of_start, returns_right};
-ghost use Rattle.types.specs.BlockItems.{declaration_in};
+ghost use Rattle.types.specs.inner.BlockItems.{declaration_in};
 ghost use Rattle.syntax.specs.Typing.{demand, demands_of, first_unmet, GivesNumber, IsTyped, IsNumber, IsTypedSimple, IsTypedStart, IsTypedStmt, AreTypedStmts};
 ghost use Rattle.types.specs.Answers.{Answers, unmet_in};
-ghost use Rattle.types.specs.Known.{known_in, count_in, AreDeclared, Grows, Agrees};
+ghost use Rattle.types.specs.inner.Known.{known_in, count_in, AreDeclared, Grows, Agrees};
 
 use crate::expr::{check_expr, check_number, gives_number};
 use crate::fault::{Failure, Violation, demand};
@@ -66,7 +66,11 @@ fn check_return<'a, A: Allocator + Copy>(
     e: &'a Option<Expr<A>>,
     at: Span,
 ) -> Result<(), Violation>
-    ensures { unmet_in result ≡ first_unmet (demands_of (option_map expr_of e.now) (IsTyped (known_in names.now)) ++ demand 22 at (returns_right gives (option_map expr_of e.now)) ++ demands_of (option_map expr_of e.now) (GivesNumber (known_in names.now))) }
+    ensures { unmet_in result
+        ≡ first_unmet
+        (demands_of (option_map expr_of e.now) (IsTyped (known_in names.now))
+        ++ demand 22 at (returns_right gives (option_map expr_of e.now))
+        ++ demands_of (option_map expr_of e.now) (GivesNumber (known_in names.now))) }
 {
     check_value(names, e)?;
     let right = returns_right(gives, e.is_some());
@@ -79,7 +83,8 @@ fn check_step<'a, A: Allocator + Copy>(
     names: &Names<'a, A>,
     step: &'a Option<Simple<A>>,
 ) -> Result<(), Violation>
-    ensures { unmet_in result ≡ first_unmet (demands_of (option_map simple_of step.now) (IsTypedSimple (known_in names.now))) }
+    ensures { unmet_in result
+        ≡ first_unmet (demands_of (option_map simple_of step.now) (IsTypedSimple (known_in names.now))) }
 {
     match step {
         Some(step) => check_simple(names, step),
@@ -92,7 +97,12 @@ fn check_head<'a, A: Allocator + Copy>(
     names: &mut Names<'a, A>,
     head: &'a ForHead<A>,
 ) -> Result<(), Failure>
-    ensures answer { Answers result (IsTypedStart (known_in names.old) (start_of head.now.start) ++ demands_of (option_map expr_of head.now.condition) (IsNumber (scope_of_start (start_of head.now.start) (known_in names.old))) ++ demands_of (option_map simple_of head.now.step) (IsTypedSimple (scope_of_start (start_of head.now.start) (known_in names.old)))) }
+    ensures answer { Answers result
+        (IsTypedStart (known_in names.old) (start_of head.now.start)
+        ++ demands_of (option_map expr_of head.now.condition)
+        (IsNumber (scope_of_start (start_of head.now.start) (known_in names.old)))
+        ++ demands_of (option_map simple_of head.now.step)
+        (IsTypedSimple (scope_of_start (start_of head.now.start) (known_in names.old)))) }
     ensures known { OnOk result (known_in names.new ≡ scope_of_start (start_of head.now.start) (known_in names.old)) }
     ensures grows { OnOk result (Grows names.old names.new) }
     ensures count { OnOk result (count_in names.old ≤ count_in names.new) }
@@ -111,7 +121,8 @@ pub(crate) fn check_stmt<'a, A: Allocator + Copy>(
     context: Context,
 ) -> Result<(), Failure>
     requires { context.start ≤ count_in names.old }
-    ensures answer { (declared : List (List ℕ)) → AreDeclared context.start names.old declared → Answers result (IsTypedStmt context.gives (stmt_of stmt.now) (known_in names.old) declared context.looping) }
+    ensures answer { (declared : List (List ℕ)) → AreDeclared context.start names.old declared →
+        Answers result (IsTypedStmt context.gives (stmt_of stmt.now) (known_in names.old) declared context.looping) }
     ensures same { OnOk result (Agrees names.old names.new) }
 {
     let inside = Context {
@@ -195,9 +206,12 @@ fn check_block_item<'a, A: Allocator + Copy>(
     context: Context,
 ) -> Result<(), Failure>
     requires { context.start ≤ count_in names.old }
-    ensures answer { (declared : List (List ℕ)) → AreDeclared context.start names.old declared → Answers result (IsTypedStmt context.gives (stmt_of stmt.now) (known_in names.old) declared context.looping) }
+    ensures answer { (declared : List (List ℕ)) → AreDeclared context.start names.old declared →
+        Answers result (IsTypedStmt context.gives (stmt_of stmt.now) (known_in names.old) declared context.looping) }
     ensures known { OnOk result (known_in names.new ≡ scope_after (stmt_of stmt.now) (known_in names.old)) }
-    ensures declared { OnOk result ((declared : List (List ℕ)) → AreDeclared context.start names.old declared → AreDeclared context.start names.new (names_of (stmt_of stmt.now) ++ declared)) }
+    ensures declared { OnOk result
+        ((declared : List (List ℕ)) → AreDeclared context.start names.old declared →
+        AreDeclared context.start names.new (names_of (stmt_of stmt.now) ++ declared)) }
     ensures grows { OnOk result (Grows names.old names.new) }
     ensures count { OnOk result (count_in names.old ≤ count_in names.new) }
 {
@@ -215,7 +229,8 @@ pub(crate) fn check_stmts<'a, A: Allocator + Copy>(
     context: Context,
 ) -> Result<(), Failure>
     requires { context.start ≤ count_in names.old }
-    ensures answer { (declared : List (List ℕ)) → AreDeclared context.start names.old declared → Answers result (AreTypedStmts context.gives (stmts_of all.now) (known_in names.old) declared context.looping) }
+    ensures answer { (declared : List (List ℕ)) → AreDeclared context.start names.old declared →
+        Answers result (AreTypedStmts context.gives (stmts_of all.now) (known_in names.old) declared context.looping) }
     ensures grows { OnOk result (Grows names.old names.new) }
     ensures count { OnOk result (count_in names.old ≤ count_in names.new) }
 {
@@ -232,7 +247,8 @@ fn check_block<'a, A: Allocator + Copy>(
     all: &'a [Stmt<A>],
     context: Context,
 ) -> Result<(), Failure>
-    ensures answer { Answers result (AreTypedStmts context.gives (stmts_of all.now) (known_in names.old) [] context.looping) }
+    ensures answer { Answers result
+        (AreTypedStmts context.gives (stmts_of all.now) (known_in names.old) [] context.looping) }
     ensures same { OnOk result (Agrees names.old names.new) }
 {
     let outer = names.len();

@@ -10,8 +10,8 @@ use containers::Items;
 use std::alloc::Allocator;
 use syntax::tree::Unit;
 
-/// A program whose names and types are right: `check` alone makes it. It keeps the program and the tables by which functions
-/// and cells are found, so that nothing behind it searches the program for them.
+/// A program whose names and types are right: `check` alone makes it. It keeps the program and the tables by which
+/// functions and cells are found, so that nothing behind it searches the program for them.
 #[derive(Drop)]
 pub struct Typed<A: Allocator = std::alloc::Global> {
     pub(crate) unit: Unit<A>,
@@ -30,7 +30,8 @@ impl<A: Allocator> Typed<A> {
         &self.unit
     }
 
-    /// The numbers of the items that define a function, in order: an item's number is its place among the program's items.
+    /// The numbers of the items that define a function, in order: an item's number is its place among the program's
+    /// items.
     pub fn functions(&self) -> &[usize]
         ensures { result.now ≡ definitions_from 0 (program_of self.now.unit) }
     {

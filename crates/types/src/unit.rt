@@ -8,10 +8,10 @@ ghost use Rattle.syntax.specs.Types.{file_scope};
 ghost use Rattle.syntax.specs.Typing.{all_cells, is_worker};
 ghost use Rattle.syntax.specs.Typing.{demand, first_unmet, IsTypedItem, AreTypedItems, AreDefined, Meets};
 ghost use Rattle.types.specs.Answers.{Answers, Checks, unmet_in};
-ghost use Rattle.types.specs.Known.{known_in, count_in};
-ghost use Rattle.types.specs.Scopes.{known_of};
-ghost use Rattle.types.specs.Bodies.{AreBodies};
-ghost use Rattle.types.specs.Found.{IsFound};
+ghost use Rattle.types.specs.inner.Known.{known_in, count_in};
+ghost use Rattle.types.specs.inner.Scopes.{known_of};
+ghost use Rattle.types.specs.inner.Bodies.{AreBodies};
+ghost use Rattle.types.specs.inner.Found.{IsFound};
 ghost use Rattle.types.specs.Tables.{definitions_from, cells_from};
 
 use crate::fault::{Failure, TypeFault, Violation, demand};
@@ -48,7 +48,8 @@ fn add_number<A: Allocator>(
     number: usize,
     f: &Function<A>,
 ) -> Result<(), AllocError>
-    ensures { OnOk result (functions.new ≡ functions.old ++ definitions_from number (Tree.Defines (function_of f.now) ∷ [])) }
+    ensures { OnOk result
+        (functions.new ≡ functions.old ++ definitions_from number (Tree.Defines (function_of f.now) ∷ [])) }
 {
     match f.body {
         Some(_) => functions.push(number),
@@ -134,7 +135,9 @@ fn check_worker<'a, A: Allocator + Copy>(
     end: usize,
 ) -> Result<(), Violation>
     requires { known_in names.now ≡ file_scope (map item_of items.now) }
-    ensures { unmet_in result ≡ first_unmet (demand 28 (record { start = end; end = end }) (is_worker (file_scope (map item_of items.now) (codes "worker")))) }
+    ensures { unmet_in result
+        ≡ first_unmet (demand 28 (record { start = end; end = end })
+        (is_worker (file_scope (map item_of items.now) (codes "worker")))) }
 {
     let symbol = names.look("worker");
     let right = is_worker(&symbol);
@@ -160,9 +163,9 @@ fn check_program<A: Allocator + Copy>(
     })
 }
 
-/// Checks names and types. The fault is the first rule that the program breaks, in the order of the text; then come functions
-/// that are declared and not defined, and last a missing `worker`. The program is kept in what is given, or comes back in the
-/// fault. Takes memory for the names and the tables.
+/// Checks names and types. The fault is the first rule that the program breaks, in the order of the text; then come
+/// functions that are declared and not defined, and last a missing `worker`. The program is kept in what is given, or
+/// comes back in the fault. Takes memory for the names and the tables.
 pub fn check<A: Allocator + Copy>(alloc: A, unit: Unit<A>) -> Result<Typed<A>, TypeFault<A>>
     ensures { Checks unit result }
 {

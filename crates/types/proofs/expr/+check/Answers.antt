@@ -5,7 +5,7 @@ use Rattle.syntax.specs.Views.{name_of, expr_of, exprs_of}
 use Rattle.syntax.specs.declared.tree.Expr.{the_lemmas}
 use Rattle.syntax.proofs.tree.Expr.TheLaws.{the_size}
 use Rattle.syntax.specs.Typing.{first_unmet, IsTyped, IsNumber}
-use Rattle.types.specs.Known.{known_in}
+use Rattle.types.specs.inner.Known.{known_in}
 use Rattle.types.proofs.Loops.{numbers_more, call_parts, typed_call, typed_binary, typed_logical, typed_conditional}
 use Rattle.types.proofs.Steps.{skip, stop}
 use Rattle.types.proofs.expr.+check.Goals as goal

@@ -1,7 +1,7 @@
 use Rattle.std.proofs.Common.{◌≡◌, drop}
 use Rattle.syntax.specs.Views.{exprs_of}
 use Rattle.syntax.specs.Typing.{first_unmet, AreNumbers}
-use Rattle.types.specs.Known.{known_in}
+use Rattle.types.specs.inner.Known.{known_in}
 use Rattle.types.proofs.expr.+check.Given as goal
 
 abbrev pub invariant-check_numbers-each : goal.invariant-check_numbers-each

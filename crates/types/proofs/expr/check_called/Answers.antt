@@ -1,7 +1,7 @@
 use Rattle.std.proofs.Common.{◌++◌, ◌∙◌, ap}
 use Rattle.syntax.specs.Typing.{may_be_function, takes_so_many}
 use Rattle.syntax.specs.Typing.{first_unmet, demand}
-use Rattle.types.specs.Known.{known_in}
+use Rattle.types.specs.inner.Known.{known_in}
 use Rattle.types.proofs.expr.check_called.Goals as goal
 
 pub returns : goal.returns

@@ -2,8 +2,8 @@ use Rattle.std.proofs.Common.{◌≡◌, ◌<◌, ◌+◌, ◌∙◌, ◌∷◌,
 use Rattle.std.specs.Prelude.{◌==◌}
 use Rattle.syntax.specs.Views.{exprs_of}
 use Rattle.syntax.specs.Typing.{first_unmet, HaveTypes}
-use Rattle.types.specs.Known.{known_in}
-use Rattle.types.specs.Bytes.{figure_of, with_figure, figures_from}
+use Rattle.types.specs.inner.Known.{known_in}
+use Rattle.types.specs.inner.Bytes.{figure_of, with_figure, figures_from}
 use Rattle.types.proofs.Formats.{figures_are, figures_more, figure_more}
 use Rattle.types.proofs.Steps.{skip, stop}
 use Rattle.types.proofs.format.check_figures.Goals as goal

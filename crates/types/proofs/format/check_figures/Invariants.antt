@@ -2,8 +2,8 @@ use Rattle.std.proofs.Common.{◌≡◌, ◌≤◌, drop, length}
 use Rattle.syntax.specs.Views.{exprs_of}
 use Rattle.syntax.specs.Formats.{pieces, figures}
 use Rattle.syntax.specs.Typing.{first_unmet, HaveTypes}
-use Rattle.types.specs.Known.{known_in}
-use Rattle.types.specs.Bytes.{figures_from}
+use Rattle.types.specs.inner.Known.{known_in}
+use Rattle.types.specs.inner.Bytes.{figures_from}
 use Rattle.types.proofs.format.check_figures.Given as goal
 
 abbrev pub invariant-each : goal.invariant-each

@@ -3,7 +3,7 @@ use Rattle.syntax.specs.Views.{exprs_of}
 use Rattle.syntax.specs.Formats.{is_format, pieces, figures}
 use Rattle.syntax.specs.Typing.{count}
 use Rattle.syntax.specs.Typing.{first_unmet, demand, AreNumbers, HaveTypes}
-use Rattle.types.specs.Known.{known_in}
+use Rattle.types.specs.inner.Known.{known_in}
 use Rattle.types.proofs.Steps.{first_of_three, skip, stop}
 use Rattle.types.proofs.format.check_print.Goals as goal
 

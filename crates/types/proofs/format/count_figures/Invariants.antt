@@ -1,6 +1,6 @@
 use Rattle.std.proofs.Common.{◌≡◌, ◌+◌, ◌≤◌, drop, length}
 use Rattle.syntax.specs.Formats.{pieces, figures}
-use Rattle.types.specs.Bytes.{figures_from}
+use Rattle.types.specs.inner.Bytes.{figures_from}
 use Rattle.types.proofs.format.count_figures.Given as goal
 
 abbrev pub invariant-each : goal.invariant-each

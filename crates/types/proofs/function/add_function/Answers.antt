@@ -2,7 +2,7 @@ use Rattle.std.proofs.Common.{◌≡◌, ◌∙◌, ap, sym, map, true, false, b
 use Rattle.syntax.specs.Views.{function_of, item_of}
 use Rattle.syntax.specs.Types.{known_function}
 use Rattle.syntax.specs.Typing.{is_unknown}
-use Rattle.types.specs.Known.{known_in}
+use Rattle.types.specs.inner.Known.{known_in}
 use Rattle.types.proofs.Files.{defines_more, defines_again}
 use Rattle.types.proofs.Grown.{define_known}
 use Rattle.types.proofs.function.add_function.Goals as goal

@@ -1,7 +1,7 @@
 use Rattle.std.proofs.Common.{◌≡◌, ◌∙◌, ◌&&◌, map, sym, ap}
 use Rattle.syntax.specs.Views.{function_of, parameter_of}
 use Rattle.syntax.specs.Typing.{agrees, same_types}
-use Rattle.types.specs.Scopes.{known_of}
+use Rattle.types.specs.inner.Scopes.{known_of}
 use Rattle.types.proofs.Types.{takes_are}
 use Rattle.types.proofs.function.agrees.Goals as goal
 

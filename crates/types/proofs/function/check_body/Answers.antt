@@ -1,7 +1,7 @@
 use Rattle.std.proofs.Common.{◌∙◌, false, option_map, sym, ap}
 use Rattle.syntax.specs.Views.{stmts_of}
 use Rattle.syntax.specs.Typing.{first_unmet, demands_of, AreTypedStmts}
-use Rattle.types.specs.Known.{known_in}
+use Rattle.types.specs.inner.Known.{known_in}
 use Rattle.types.proofs.Steps.{tell_rest}
 use Rattle.types.proofs.function.check_body.Goals as goal
 

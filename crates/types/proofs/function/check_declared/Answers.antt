@@ -3,7 +3,7 @@ use Rattle.syntax.specs.Views.{function_of, item_of, stmts_of}
 use Rattle.syntax.specs.Types.{file_scope}
 use Rattle.syntax.specs.Typing.{has_name, agrees, may_be_function, defined_names}
 use Rattle.syntax.specs.Typing.{first_unmet, demand}
-use Rattle.types.specs.Known.{known_in}
+use Rattle.types.specs.inner.Known.{known_in}
 use Rattle.types.proofs.Steps.{first_of_two, skip, stop}
 use Rattle.types.proofs.Bodies.{free_right}
 use Rattle.types.proofs.function.check_declared.Goals as goal

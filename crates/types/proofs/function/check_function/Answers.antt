@@ -4,7 +4,7 @@ use Rattle.syntax.specs.Views.{function_of, item_of, parameter_of, stmts_of}
 use Rattle.syntax.specs.Types.{file_scope}
 use Rattle.syntax.specs.Typing.{parameter_names, with_parameters}
 use Rattle.syntax.specs.Typing.{first_unmet, demands_of, AreDistinct, AreTypedStmts}
-use Rattle.types.specs.Known.{known_in}
+use Rattle.types.specs.inner.Known.{known_in}
 use Rattle.types.proofs.Grown.{same_known, same_count}
 use Rattle.types.proofs.Stmts.{typed_function}
 use Rattle.types.proofs.Steps.{skip, stop_at, tell_same}

@@ -3,7 +3,7 @@ use Rattle.std.specs.Option.{option_or}
 use Rattle.syntax.specs.Views.{parameter_of, stmts_of}
 use Rattle.syntax.specs.Typing.{parameter_names, with_parameters}
 use Rattle.syntax.specs.Typing.{first_unmet, demands_of, AreDistinct, AreTypedStmts}
-use Rattle.types.specs.Known.{known_in, slot_before, AreDeclared}
+use Rattle.types.specs.inner.Known.{known_in, slot_before, AreDeclared}
 use Rattle.types.proofs.Steps.{first_of_two, tell_skip, tell_stop, tell_same}
 use Rattle.types.proofs.Grown.{left, grows_on}
 use Rattle.types.proofs.function.check_inside.Goals as goal

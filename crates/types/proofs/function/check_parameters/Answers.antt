@@ -3,7 +3,7 @@ use Rattle.std.proofs.lemmas.List.{at_drop_all}
 use Rattle.syntax.specs.Views.{parameter_of}
 use Rattle.syntax.specs.Typing.{has_name, parameter_names, with_parameters}
 use Rattle.syntax.specs.Typing.{first_unmet, AreDistinct}
-use Rattle.types.specs.Known.{known_in, AreDeclared}
+use Rattle.types.specs.inner.Known.{known_in, AreDeclared}
 use Rattle.types.proofs.Steps.{tell_stop, tell_skip}
 use Rattle.types.proofs.Parameters.{parameters_by, parameters_named, nothing_more, distinct_more, with_more, by_more}
 use Rattle.types.proofs.Grown.{grows_on, grows_none, none_declared}

@@ -2,7 +2,7 @@ use Rattle.std.proofs.Common.{◌≡◌, ◌≤◌, [], ℕ, List, map, drop}
 use Rattle.syntax.specs.Views.{parameter_of}
 use Rattle.syntax.specs.Typing.{with_parameters}
 use Rattle.syntax.specs.Typing.{first_unmet, AreDistinct}
-use Rattle.types.specs.Known.{known_in, count_in, AreDeclared, Grows}
+use Rattle.types.specs.inner.Known.{known_in, count_in, AreDeclared, Grows}
 use Rattle.types.proofs.Parameters.{parameters_by}
 use Rattle.types.proofs.function.check_parameters.Given as goal
 

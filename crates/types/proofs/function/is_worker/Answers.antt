@@ -2,7 +2,7 @@ use Rattle.std.proofs.Common.{◌≡◌, ◌∙◌, ◌∷◌, [], ◌&&◌, map
 use Rattle.syntax.specs.Tree.{Int}
 use Rattle.syntax.specs.Views.{parameter_of}
 use Rattle.syntax.specs.Typing.{is_worker, same_types}
-use Rattle.types.specs.Scopes.{known_of}
+use Rattle.types.specs.inner.Scopes.{known_of}
 use Rattle.types.proofs.Types.{takes_are, none_of}
 use Rattle.types.proofs.function.is_worker.Goals as goal
 

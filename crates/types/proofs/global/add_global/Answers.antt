@@ -2,7 +2,7 @@ use Rattle.std.proofs.Common.{◌≡◌, ◌∙◌, ◌∷◌, ◌++◌, [], map
 use Rattle.syntax.specs.Tree.{Shares}
 use Rattle.syntax.specs.Views.{global_of, item_of}
 use Rattle.syntax.specs.Types.{file_scope, known_global}
-use Rattle.types.specs.Known.{known_in}
+use Rattle.types.specs.inner.Known.{known_in}
 use Rattle.types.proofs.Files.{shares_more}
 use Rattle.types.proofs.Grown.{define_known}
 use Rattle.types.proofs.BlockItems.{ok_any}

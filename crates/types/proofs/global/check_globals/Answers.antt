@@ -8,7 +8,7 @@ use Rattle.syntax.specs.Types.{file_scope}
 use Rattle.syntax.specs.Typing.{is_unknown}
 use Rattle.types.specs.Answers.{unmet_in}
 use Rattle.syntax.specs.Typing.{demand, first_unmet, IsLength, HaveCells, AreTypedGlobals}
-use Rattle.types.specs.Known.{known_in}
+use Rattle.types.specs.inner.Known.{known_in}
 use Rattle.types.specs.Tables.{cells_from}
 use Rattle.types.proofs.AllMet.{first_met, last_met, le_true}
 use Rattle.types.proofs.Files.{shares_none, cells_append}

@@ -4,7 +4,7 @@ use Rattle.syntax.specs.Views.{global_of, item_of}
 use Rattle.syntax.specs.Names.{cells}
 use Rattle.syntax.specs.Types.{file_scope}
 use Rattle.syntax.specs.Typing.{first_unmet, AreTypedGlobals}
-use Rattle.types.specs.Known.{known_in, count_in}
+use Rattle.types.specs.inner.Known.{known_in, count_in}
 use Rattle.types.specs.Tables.{cells_from}
 use Rattle.types.proofs.global.check_globals.Given as goal
 

@@ -1,6 +1,6 @@
 use Rattle.std.proofs.Common.{◌∷◌, ◌+◌, ap, subst, refl, ◌∙◌, arith}
 use Rattle.syntax.specs.Types.{with_number}
-use Rattle.types.specs.Known.{known_in, slot_in, count_in, AreDeclared}
+use Rattle.types.specs.inner.Known.{known_in, slot_in, count_in, AreDeclared}
 use Rattle.types.proofs.Grown.{known_more, declared_more, grows_one}
 use Rattle.types.proofs.scope.add_local.Goals as goal
 

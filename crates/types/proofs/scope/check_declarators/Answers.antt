@@ -5,7 +5,7 @@ use Rattle.syntax.specs.Views.{declarator_of}
 use Rattle.syntax.specs.Types.{with_number}
 use Rattle.syntax.specs.Typing.{knows}
 use Rattle.syntax.specs.Typing.{first_unmet, AreTypedDeclarators}
-use Rattle.types.specs.Known.{known_in, declared_by, AreDeclared}
+use Rattle.types.specs.inner.Known.{known_in, declared_by, AreDeclared}
 use Rattle.types.proofs.Steps.{tell_stop}
 use Rattle.types.proofs.Declared.{declarators_more, knows_more, declared_by_more}
 use Rattle.types.proofs.Grown.{grows_on, grows_none}

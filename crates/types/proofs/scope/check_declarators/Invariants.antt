@@ -2,7 +2,7 @@ use Rattle.std.proofs.Common.{◌≡◌, ◌≤◌, ℕ, List, map, drop}
 use Rattle.syntax.specs.Views.{declarator_of}
 use Rattle.syntax.specs.Typing.{knows}
 use Rattle.syntax.specs.Typing.{first_unmet, AreTypedDeclarators}
-use Rattle.types.specs.Known.{known_in, count_in, declared_by, AreDeclared, Grows}
+use Rattle.types.specs.inner.Known.{known_in, count_in, declared_by, AreDeclared, Grows}
 use Rattle.types.proofs.scope.check_declarators.Given as goal
 
 abbrev pub invariant-each : goal.invariant-each

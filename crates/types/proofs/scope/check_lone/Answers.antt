@@ -1,7 +1,7 @@
 use Rattle.std.proofs.Common.{◌∙◌, ap, map, take}
 use Rattle.syntax.specs.Views.{declarator_of}
 use Rattle.syntax.specs.Typing.{first_unmet, AreTypedDeclarators}
-use Rattle.types.specs.Known.{known_in, slot_before}
+use Rattle.types.specs.inner.Known.{known_in, slot_before}
 use Rattle.types.proofs.Steps.{tell_same}
 use Rattle.types.proofs.Grown.{left}
 use Rattle.types.proofs.scope.check_lone.Goals as goal

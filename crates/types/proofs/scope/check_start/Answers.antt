@@ -1,5 +1,5 @@
 use Rattle.std.proofs.Common.{[], sym, subst}
-use Rattle.types.specs.Known.{known_in, AreDeclared}
+use Rattle.types.specs.inner.Known.{known_in, AreDeclared}
 use Rattle.types.proofs.Grown.{none_declared}
 use Rattle.types.proofs.Starts.{start_declares, start_knows}
 use Rattle.types.proofs.scope.check_start.Goals as goal

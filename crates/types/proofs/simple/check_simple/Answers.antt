@@ -1,5 +1,5 @@
 use Rattle.std.proofs.Common.{sym, ◌∙◌}
-use Rattle.types.specs.Known.{known_in}
+use Rattle.types.specs.inner.Known.{known_in}
 use Rattle.types.proofs.Loops.{typed_assign, typed_step}
 use Rattle.types.proofs.Steps.{skip, stop}
 use Rattle.types.proofs.simple.check_simple.Goals as goal

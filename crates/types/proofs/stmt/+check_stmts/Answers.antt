@@ -8,7 +8,7 @@ use Rattle.syntax.proofs.tree.Stmt.TheLaws.{the_size}
 use Rattle.syntax.specs.Typing.{has_name, knows, scope_after, scope_of_start, names_of}
 use Rattle.syntax.specs.Typing.{first_unmet, IsNumber, IsTypedPrint, IsTypedStmt, AreTypedStmts, AreTypedDeclarators}
 use Rattle.types.specs.Answers.{unmet_in}
-use Rattle.types.specs.Known.{known_in, slot_before, declared_by, AreDeclared, Grows, Agrees}
+use Rattle.types.specs.inner.Known.{known_in, slot_before, declared_by, AreDeclared, Grows, Agrees}
 use Rattle.types.proofs.Steps.{skip, stop_at, tell_skip, tell_stop, tell_rest, tell_same, tell_single}
 use Rattle.types.proofs.Grown.{left, grows_on, grows_same, none_declared, same_known, same_declared}
 use Rattle.types.proofs.Stmts.{else_first, stmts_more, typed_block, typed_transaction, typed_print, typed_if, typed_while, typed_do_while, typed_for}

@@ -1,7 +1,7 @@
 use Rattle.std.proofs.Common.{◌≡◌, ◌≤◌, ℕ, List, drop}
 use Rattle.syntax.specs.Views.{stmts_of}
 use Rattle.syntax.specs.Typing.{first_unmet, AreTypedStmts}
-use Rattle.types.specs.Known.{known_in, count_in, AreDeclared, Grows}
+use Rattle.types.specs.inner.Known.{known_in, count_in, AreDeclared, Grows}
 use Rattle.types.proofs.stmt.+check_stmts.Given as goal
 
 abbrev pub invariant-check_stmts-each : goal.invariant-check_stmts-each

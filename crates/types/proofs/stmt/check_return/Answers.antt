@@ -2,7 +2,7 @@ use Rattle.std.proofs.Common.{◌∙◌, sym, ap, option_map}
 use Rattle.syntax.specs.Views.{expr_of}
 use Rattle.syntax.specs.Typing.{returns_right}
 use Rattle.syntax.specs.Typing.{demand, demands_of, first_unmet, IsTyped, GivesNumber}
-use Rattle.types.specs.Known.{known_in}
+use Rattle.types.specs.inner.Known.{known_in}
 use Rattle.types.proofs.Steps.{first_of_three, skip, stop}
 use Rattle.types.proofs.Types.{is_right}
 use Rattle.types.proofs.stmt.check_return.Goals as goal

@@ -5,7 +5,7 @@ use Rattle.std.specs.Ordering.{nat_cmp}
 use Rattle.std.specs.Cmp.Lexicographic.{slice_cmp}
 use Rattle.std.specs.BTreeMap.{is_at}
 use Rattle.syntax.specs.Views.{item_of}
-use Rattle.types.specs.Found.{IsFound}
+use Rattle.types.specs.inner.Found.{IsFound}
 use Rattle.types.proofs.Items.{items_more, items_taken}
 use Rattle.types.proofs.Steps.{tell_skip, tell_stop}
 use Rattle.types.proofs.unit.check_items.Goals as goal

@@ -1,7 +1,7 @@
 use Rattle.std.proofs.Common.{◌≡◌, [], map, take, drop}
 use Rattle.syntax.specs.Views.{item_of}
 use Rattle.syntax.specs.Typing.{first_unmet, AreTypedItems}
-use Rattle.types.specs.Found.{IsFound}
+use Rattle.types.specs.inner.Found.{IsFound}
 use Rattle.types.proofs.unit.check_items.Given as goal
 
 abbrev pub invariant-each : goal.invariant-each

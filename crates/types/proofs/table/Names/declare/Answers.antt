@@ -1,6 +1,6 @@
 use Rattle.std.proofs.Common.{refl, is_some, true, ap, sym, subst, take, ◌-◌, ◌∷◌, [], arith, ◌∙◌, ◌+◌, ◌≡◌, length, vec_len, rules}
 use Rattle.types.specs.Slots.{with_slot}
-use Rattle.types.specs.Known.{slot_in}
+use Rattle.types.specs.inner.Known.{slot_in}
 use Rattle.types.specs.declared.symbol.Symbol.TheVariants as symbol
 use Rattle.std.proofs.lemmas.List.Elements.{All-append}
 use Rattle.types.specs.declared.table.Local.{Local}

@@ -1,5 +1,5 @@
 use Rattle.std.proofs.Common.{◌≡◌, ◌+◌, ◌-◌, take}
-use Rattle.types.specs.Known.{count_in, slot_before}
+use Rattle.types.specs.inner.Known.{count_in, slot_before}
 use Rattle.types.proofs.table.Names.leave.Given as goal
 
 abbrev pub invariant-each : goal.invariant-each

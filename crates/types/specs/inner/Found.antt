@@ -5,8 +5,8 @@ use Rattle.syntax.specs.Names.{globals}
 use Rattle.syntax.specs.Types.{file_scope}
 use Rattle.syntax.specs.Typing.{all_cells}
 use Rattle.types.specs.declared.unit.Found.{Found}
-use Rattle.types.specs.Known.{known_in, count_in}
-use Rattle.types.specs.Bodies.{AreBodies}
+use Rattle.types.specs.inner.Known.{known_in, count_in}
+use Rattle.types.specs.inner.Bodies.{AreBodies}
 use Rattle.types.specs.Tables.{definitions_from, cells_from}
 
 -- this is what these items say

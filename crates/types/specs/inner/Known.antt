@@ -5,7 +5,7 @@ use Rattle.std.specs.Prelude.{[], ◌∷◌, nat_lt, ℕ, List, ◌≡◌, lengt
 use Rattle.syntax.specs.Types.{Scope}
 use Rattle.types.specs.declared.table.Slot.{Slot}
 use Rattle.types.specs.declared.table.Names.{Names}
-use Rattle.types.specs.Scopes.{known_of}
+use Rattle.types.specs.inner.Scopes.{known_of}
 use Rattle.types.specs.Slots.{table_of, under}
 
 module _ {A : Type 0} where

@@ -1,0 +1,11 @@
+-- What the private functions answer; no public contract cites it.
+-- the table of names
+pub mod Scopes
+pub mod Known
+-- what is found out item by item
+pub mod Bodies
+pub mod Found
+-- the items of a block
+pub mod BlockItems
+-- formats
+pub mod Bytes
