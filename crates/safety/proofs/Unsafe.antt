@@ -10,7 +10,7 @@ use Rattle.safety.specs.Sites.{Construct, Prints, Relaxes, Cancels, Calls, Uses,
 use Rattle.safety.specs.Safe.{FunctionSet, TellsSafe, IsSafeConstruct}
 use Rattle.safety.specs.Faults.{says_safe}
 use Rattle.safety.specs.Links.{KeepsTo, IsLeast}
-use Rattle.safety.specs.UnsafeLinks.{says_unsafe, link_if, construct_links, sites_links, unsafe_links, safe_links}
+use Rattle.safety.specs.inner.UnsafeLinks.{says_unsafe, link_if, construct_links, sites_links, unsafe_links, safe_links}
 use Rattle.safety.proofs.Linked.{only, keeps_none, keeps_one, keeps_both, keeps_left, keeps_right, keeps_if, kept_if}
 
 pub contains_unsafe : (all : List Attribute) → says_unsafe all ≡ true → Contains all Unsafe

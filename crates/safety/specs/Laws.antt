@@ -19,5 +19,6 @@ SafeHasNoFault = (p : Program) → IsSafeProgram p → (n : ℕ) (at : Span) →
 -- in a safe program no cancel leaves the body of a definition
 abbrev pub CancelsStay : Type 0
 CancelsStay =
-    (p : Program) → IsSafeProgram p → (x : List ℕ) (d : Function × Stmts) → definition_of p x ≡ Some d → (frames : ℕ) (s : State) →
+    (p : Program) → IsSafeProgram p → (x : List ℕ) (d : Function × Stmts) → definition_of p x ≡ Some d →
+    (frames : ℕ) (s : State) →
     WhereGiven (stmts p (calls p frames) d.1 s) (λ end now. end ≢ Cancels)

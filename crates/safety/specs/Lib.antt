@@ -9,7 +9,6 @@ pub mod Faults
 -- the least set that keeps to given links
 pub mod Links
 pub mod Sets
-pub mod UnsafeLinks
 -- laws
 pub mod Laws
 -- what private functions answer

@@ -1,4 +1,4 @@
--- Safe functions, and programs whose atomic transactions hold nothing unsafe.
+-- Safe functions, and programs whose atomic transactions hold nothing unsafe (the C++ draft on transactions 1.1, 2012).
 use Rattle.std.specs.Prelude.{◌≡◌, ℕ, List, Bool, true, IsTrue, All, Contains, Decides}
 use Rattle.syntax.specs.declared.tree.Attribute.TheVariants.{Safe, Unsafe}
 use Rattle.syntax.specs.Tree.{Program}
@@ -17,7 +17,9 @@ IsSafeConstruct safe c = Unit {0}
 
 -- no function of the set is declared unsafe, holds anything unsafe or calls out of the set
 abbrev pub IsSafeSet : Program → (List ℕ → Type 0) → Type 0
-IsSafeSet p set = (f : List ℕ) → set f → (Contains (attributes_of p f) Unsafe → ⊥) × All (λ s. IsSafeConstruct set s.construct) (sites_of p f)
+IsSafeSet p set =
+    (f : List ℕ) → set f →
+    (Contains (attributes_of p f) Unsafe → ⊥) × All (λ s. IsSafeConstruct set s.construct) (sites_of p f)
 
 -- safe functions are those of the greatest such set: those that some such set has
 abbrev pub IsSafe : Program → List ℕ → Type 0

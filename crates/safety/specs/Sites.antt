@@ -1,4 +1,5 @@
--- The sites of a function's body: where the constructs stand of which the rules on transactions speak, in the order of the text.
+-- The sites of a function's body: where the constructs stand of which the rules on transactions speak, in the order of
+-- the text.
 use Rattle.std.specs.Prelude.{ℕ, List, [], ◌∷◌, ◌++◌, Option, Some, None, Bool, true, false, if◌then◌else◌, bytes_eq}
 use Rattle.syntax.specs.declared.tree.{Mode.Mode, Mode.TheVariants.Atomic, Mode.TheVariants.Relaxed, Attribute.Attribute}
 use Rattle.syntax.specs.Tree.{Span, Name, Expr, Exprs, Variable, Constant, Element, Call, Parenthesized, Cast, Unary, Binary, Logical, Conditional, Simple, Evaluate, Assign, Adjust, Declarator, Start, Nothing, Declares, Does, Stmt, Stmts, Declare, Do, Block, Print, If, IfElse, While, DoWhile, For, Return, Transaction, Cancel, Parameter, Defines, Shares, Program}
@@ -116,7 +117,8 @@ body_sites qs (Some ss) = stmts_sites ss (record { locals = parameter_names qs; 
 abbrev pub sites_of : Program → List ℕ → List Site
 sites_of [] f = []
 sites_of (Shares gs ∷ items) f = sites_of items f
-sites_of (Defines g ∷ items) f = (if bytes_eq g.name.text f then body_sites g.parameters g.body else []) ++ sites_of items f
+sites_of (Defines g ∷ items) f =
+    (if bytes_eq g.name.text f then body_sites g.parameters g.body else []) ++ sites_of items f
 
 -- the attributes of all declarations of a function
 abbrev pub attributes_of : Program → List ℕ → List Attribute

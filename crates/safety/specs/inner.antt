@@ -1,4 +1,6 @@
 -- What the private functions answer; no public contract cites it.
+-- the links of unsafe functions
+pub mod UnsafeLinks
 -- how many locals have a name
 pub mod Counts
 -- the locals at a place

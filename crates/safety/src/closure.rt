@@ -17,7 +17,9 @@ fn visit<A: Allocator + Copy>(
     queue: &mut Items<usize, A>,
     number: usize,
 ) -> Result<(), AllocError>
-    ensures { OnOk result (record { marks = marks.new; queue = queue.new } ≡ visited (record { marks = marks.old; queue = queue.old }) number) }
+    ensures { OnOk result
+        (record { marks = marks.new; queue = queue.new }
+        ≡ visited (record { marks = marks.old; queue = queue.old }) number) }
 {
     if number < marks.len() && !marks[number] {
         queue.push(number)?;
@@ -32,7 +34,9 @@ fn visit_all<A: Allocator + Copy>(
     queue: &mut Items<usize, A>,
     all: &[usize],
 ) -> Result<(), AllocError>
-    ensures { OnOk result (record { marks = marks.new; queue = queue.new } ≡ all_visited (record { marks = marks.old; queue = queue.old }) all.now) }
+    ensures { OnOk result
+        (record { marks = marks.new; queue = queue.new }
+        ≡ all_visited (record { marks = marks.old; queue = queue.old }) all.now) }
 {
     'each: for one in all {
         visit(marks, queue, *one)?;
@@ -92,8 +96,8 @@ fn reached<A: Allocator + Copy>(
     Ok(marks)
 }
 
-/// The least set that keeps to these links. Takes memory for a number of each name, its callers and a mark; the time is that
-/// of finding each name of each link once.
+/// The least set that keeps to these links. Takes memory for a number of each name, its callers and a mark; the time is
+/// that of finding each name of each link once.
 pub fn least<'a, A: Allocator + Copy>(
     alloc: A,
     links: &[Link<'a>],

@@ -25,7 +25,8 @@ fn fault_at<'a, A: Allocator + Copy>(
     not_safe: &FunctionSet<'a, A>,
     site: Site<'a>,
 ) -> Option<Violation>
-    ensures { fault_in result ≡ first_unmet (demands_at (rest_of (set_of not_safe.now)) (site_of site.entry) (site_of site.entry).construct) }
+    ensures { fault_in result
+        ≡ first_unmet (demands_at (rest_of (set_of not_safe.now)) (site_of site.entry) (site_of site.entry).construct) }
 {
     match site.construct {
         Construct::Print => unless_met(!site.atomic, Violation::UnsafeInAtomic(site.span)),
@@ -47,7 +48,9 @@ fn fault_among<'a, A: Allocator + Copy>(
     not_safe: &FunctionSet<'a, A>,
     sites: &[Site<'a>],
 ) -> Option<Violation>
-    ensures { fault_in result ≡ first_unmet (flat_map (λ s. demands_at (rest_of (set_of not_safe.now)) s s.construct) (sites_of_own sites.now)) }
+    ensures { fault_in result
+        ≡ first_unmet
+        (flat_map (λ s. demands_at (rest_of (set_of not_safe.now)) s s.construct) (sites_of_own sites.now)) }
 {
     'each: for site in sites {
         let found = fault_at(not_safe, *site);
@@ -65,7 +68,10 @@ fn fault_of_function<'a, A: Allocator + Copy>(
     claims: &FunctionSet<'a, A>,
     f: &'a Function<A>,
 ) -> Result<Option<Violation>, AllocError>
-    ensures { (p : Program) → Claims p (set_of claims.now) → IfOk result (λ found. fault_in found ≡ first_unmet (function_demands p (rest_of (set_of not_safe.now)) (function_of f.now))) }
+    ensures { (p : Program) → Claims p (set_of claims.now) →
+        IfOk result
+        (λ found. fault_in found
+        ≡ first_unmet (function_demands p (rest_of (set_of not_safe.now)) (function_of f.now))) }
 {
     let name = f.name.text.as_str();
     let claimed = claims.contains(name);
@@ -85,7 +91,9 @@ fn fault_of_item<'a, A: Allocator + Copy>(
     claims: &FunctionSet<'a, A>,
     item: &'a Item<A>,
 ) -> Result<Option<Violation>, AllocError>
-    ensures { (p : Program) → Claims p (set_of claims.now) → IfOk result (λ found. fault_in found ≡ first_unmet (item_demands p (rest_of (set_of not_safe.now)) (item_of item.now))) }
+    ensures { (p : Program) → Claims p (set_of claims.now) →
+        IfOk result
+        (λ found. fault_in found ≡ first_unmet (item_demands p (rest_of (set_of not_safe.now)) (item_of item.now))) }
 {
     match item {
         Item::Function(f) => {
@@ -103,7 +111,10 @@ fn fault_of_items<'a, A: Allocator + Copy>(
     claims: &FunctionSet<'a, A>,
     items: &'a [Item<A>],
 ) -> Result<Option<Violation>, AllocError>
-    ensures { (p : Program) → Claims p (set_of claims.now) → IfOk result (λ found. fault_in found ≡ first_unmet (flat_map (item_demands p (rest_of (set_of not_safe.now))) (map item_of items.now))) }
+    ensures { (p : Program) → Claims p (set_of claims.now) →
+        IfOk result
+        (λ found. fault_in found
+        ≡ first_unmet (flat_map (item_demands p (rest_of (set_of not_safe.now))) (map item_of items.now))) }
 {
     'each: for item in items {
         let found = fault_of_item(alloc, not_safe, claims, item)?;

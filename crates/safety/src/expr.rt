@@ -21,7 +21,10 @@ pub(crate) fn add<'a, A: Allocator + Copy>(
     construct: Construct<'a>,
     span: Span,
 ) -> Result<(), AllocError>
-    ensures { OnOk result (Appends sites.old sites.new (record { construct = construct_of construct.entry; at = span; atomic = place.atomic; in_any = place.in_any } ∷ [])) }
+    ensures { OnOk result
+        (Appends sites.old sites.new
+        (record { construct = construct_of construct.entry; at = span; atomic = place.atomic; in_any = place.in_any }
+        ∷ [])) }
 {
     sites.push(Site {
         construct,
@@ -128,7 +131,9 @@ pub(crate) fn add_expr_if_any<'a, A: Allocator + Copy>(
     place: Place,
     e: &'a Option<Expr<A>>,
 ) -> Result<(), AllocError>
-    ensures { OnOk result (Appends sites.old sites.new (sites_if_any expr_sites (option_map expr_of e.now) (around_in locals.now place))) }
+    ensures { OnOk result
+        (Appends sites.old sites.new
+        (sites_if_any expr_sites (option_map expr_of e.now) (around_in locals.now place))) }
 {
     match e {
         Some(e) => {
@@ -172,7 +177,9 @@ pub(crate) fn add_simple_if_any<'a, A: Allocator + Copy>(
     place: Place,
     s: &'a Option<Simple<A>>,
 ) -> Result<(), AllocError>
-    ensures { OnOk result (Appends sites.old sites.new (sites_if_any simple_sites (option_map simple_of s.now) (around_in locals.now place))) }
+    ensures { OnOk result
+        (Appends sites.old sites.new
+        (sites_if_any simple_sites (option_map simple_of s.now) (around_in locals.now place))) }
 {
     match s {
         Some(s) => {

@@ -11,7 +11,8 @@ use containers::Items;
 use std::alloc::{AllocError, Allocator};
 use std::collections::BTreeMap;
 
-/// The numbers of names, and the numbers of the callers of each. Number 0 is no name's: its callers are in the set anyhow.
+/// The numbers of names, and the numbers of the callers of each. Number 0 is no name's: its callers are in the set
+/// anyhow.
 #[derive(Drop)]
 pub(crate) struct Graph<'a, A: Allocator> {
     pub(crate) numbers: BTreeMap<&'a str, usize, A>,
@@ -42,7 +43,8 @@ fn number<'a, A: Allocator + Copy>(
     ensures numbered { OnOk result (IsNumbered (value_at graph.new.numbers) graph.new.callers.items) }
     ensures number { IfOk result (λ k. value_at graph.new.numbers name.now ≡ Some k) }
     ensures extends { OnOk result (Extends (value_at graph.old.numbers) (value_at graph.new.numbers)) }
-    ensures links { (links : List Links.Link) → HasLinks links (value_at graph.old.numbers) graph.old.callers.items → OnOk result (HasLinks links (value_at graph.new.numbers) graph.new.callers.items) }
+    ensures links { (links : List Links.Link) → HasLinks links (value_at graph.old.numbers) graph.old.callers.items →
+        OnOk result (HasLinks links (value_at graph.new.numbers) graph.new.callers.items) }
 {
     match graph.numbers.get(&name) {
         Some(number) => Ok(*number),
@@ -67,7 +69,8 @@ fn number_of_callee<'a, A: Allocator + Copy>(
     ensures numbered { OnOk result (IsNumbered (value_at graph.new.numbers) graph.new.callers.items) }
     ensures number { IfOk result (λ k. IsNumber (value_at graph.new.numbers) (option_map (λ f. f.now) callee.entry) k) }
     ensures extends { OnOk result (Extends (value_at graph.old.numbers) (value_at graph.new.numbers)) }
-    ensures links { (links : List Links.Link) → HasLinks links (value_at graph.old.numbers) graph.old.callers.items → OnOk result (HasLinks links (value_at graph.new.numbers) graph.new.callers.items) }
+    ensures links { (links : List Links.Link) → HasLinks links (value_at graph.old.numbers) graph.old.callers.items →
+        OnOk result (HasLinks links (value_at graph.new.numbers) graph.new.callers.items) }
 {
     match callee {
         Some(name) => {
@@ -86,7 +89,8 @@ fn add_link<'a, A: Allocator + Copy>(
 ) -> Result<(), AllocError>
     requires { IsNumbered (value_at graph.old.numbers) graph.old.callers.items }
     ensures numbered { OnOk result (IsNumbered (value_at graph.new.numbers) graph.new.callers.items) }
-    ensures links { (links : List Links.Link) → HasLinks links (value_at graph.old.numbers) graph.old.callers.items → OnOk result (HasLinks (links ++ link_of link.entry ∷ []) (value_at graph.new.numbers) graph.new.callers.items) }
+    ensures links { (links : List Links.Link) → HasLinks links (value_at graph.old.numbers) graph.old.callers.items →
+        OnOk result (HasLinks (links ++ link_of link.entry ∷ []) (value_at graph.new.numbers) graph.new.callers.items) }
 {
     let callee = number_of_callee(alloc, graph, link.callee)?;
     let caller = number(alloc, graph, link.caller)?;

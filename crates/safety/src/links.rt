@@ -5,7 +5,7 @@ ghost use Rattle.syntax.specs.Views.{function_of, item_of};
 ghost use Rattle.safety.specs.Faults.{says_safe};
 ghost use Rattle.safety.specs.Views.{construct_of, sites_of_own};
 ghost use Rattle.safety.specs.Sets.{links_of};
-ghost use Rattle.safety.specs.UnsafeLinks.{says_unsafe, link_if, construct_links, sites_links, unsafe_links_of, unsafe_links, safe_links_of, safe_links};
+ghost use Rattle.safety.specs.inner.UnsafeLinks.{says_unsafe, link_if, construct_links, sites_links, unsafe_links_of, unsafe_links, safe_links_of, safe_links};
 
 use crate::set::Link;
 use crate::site::{Construct, Site};
@@ -62,7 +62,8 @@ fn add_construct<'a, A: Allocator + Copy>(
     caller: &'a str,
     construct: Construct<'a>,
 ) -> Result<(), AllocError>
-    ensures { OnOk result (links_of links.new ≡ links_of links.old ++ construct_links caller.now (construct_of construct.entry)) }
+    ensures { OnOk result
+        (links_of links.new ≡ links_of links.old ++ construct_links caller.now (construct_of construct.entry)) }
 {
     match construct {
         Construct::Print | Construct::Relaxed => {

@@ -3,7 +3,7 @@
 ghost use Rattle.std.specs.Prelude.{◌≡◌, ◌++◌, ◌∷◌, [], ℕ, List, map, option_map, OnOk, IfOk};
 ghost use Rattle.syntax.specs.Views.{expr_of, simple_of, declarator_of, declaration_of, start_of, stmt_of, stmts_of, parameter_of};
 ghost use Rattle.syntax.specs.Typing.{names_of, parameter_names};
-ghost use Rattle.types.specs.BlockItems.{declaration_in};
+ghost use Rattle.types.specs.inner.BlockItems.{declaration_in};
 ghost use Rattle.safety.specs.Views.{sites_of_own};
 ghost use Rattle.safety.specs.Sites.{with_names, in_transaction, sites_if_any, expr_sites, declarator_sites, start_sites, names_of_start, mode_site, stmt_sites, stmts_sites, body_sites};
 ghost use Rattle.safety.specs.inner.Known.{names_in, around, around_in};
@@ -24,7 +24,10 @@ fn add_declarator<'a, A: Allocator + Copy>(
     place: Place,
     one: &'a Declarator<A>,
 ) -> Result<(), AllocError>
-    ensures sites { OnOk result (Appends sites.old sites.new (sites_if_any expr_sites (option_map expr_of one.now.first) (with_names (one.now.name.text ∷ []) (around_in locals.old place)))) }
+    ensures sites { OnOk result
+        (Appends sites.old sites.new
+        (sites_if_any expr_sites (option_map expr_of one.now.first)
+        (with_names (one.now.name.text ∷ []) (around_in locals.old place)))) }
     ensures names { OnOk result (names_in locals.new ≡ names_in locals.old ++ one.now.name.text ∷ []) }
 {
     locals.declare(one.name.text.as_str())?;
@@ -39,8 +42,10 @@ fn add_declarators<'a, A: Allocator + Copy>(
     place: Place,
     all: &'a [Declarator<A>],
 ) -> Result<(), AllocError>
-    ensures sites { OnOk result (Appends sites.old sites.new (declarator_sites (map declarator_of all.now) (around_in locals.old place))) }
-    ensures names { OnOk result (names_in locals.new ≡ names_in locals.old ++ map (λ d. d.name.text) (map declarator_of all.now)) }
+    ensures sites { OnOk result
+        (Appends sites.old sites.new (declarator_sites (map declarator_of all.now) (around_in locals.old place))) }
+    ensures names { OnOk result
+        (names_in locals.new ≡ names_in locals.old ++ map (λ d. d.name.text) (map declarator_of all.now)) }
 {
     'each: for one in all {
         add_declarator(locals, sites, place, one)?;
@@ -55,7 +60,8 @@ fn add_start<'a, A: Allocator + Copy>(
     place: Place,
     start: &'a Start<A>,
 ) -> Result<(), AllocError>
-    ensures sites { OnOk result (Appends sites.old sites.new (start_sites (start_of start.now) (around_in locals.old place))) }
+    ensures sites { OnOk result
+        (Appends sites.old sites.new (start_sites (start_of start.now) (around_in locals.old place))) }
     ensures names { OnOk result (names_in locals.new ≡ names_in locals.old ++ names_of_start (start_of start.now)) }
 {
     match start {
@@ -78,8 +84,12 @@ fn add_head<'a, A: Allocator + Copy>(
     place: Place,
     head: &'a ForHead<A>,
 ) -> Result<(), AllocError>
-    ensures sites { OnOk result (Appends sites.old sites.new (head_sites (start_of head.now.start) (option_map expr_of head.now.condition) (option_map simple_of head.now.step) (around_in locals.old place))) }
-    ensures names { OnOk result (names_in locals.new ≡ names_in locals.old ++ names_of_start (start_of head.now.start)) }
+    ensures sites { OnOk result
+        (Appends sites.old sites.new
+        (head_sites (start_of head.now.start) (option_map expr_of head.now.condition)
+        (option_map simple_of head.now.step) (around_in locals.old place))) }
+    ensures names { OnOk result
+        (names_in locals.new ≡ names_in locals.old ++ names_of_start (start_of head.now.start)) }
 {
     add_start(locals, sites, place, &head.start)?;
     add_expr_if_any(locals, sites, place, &head.condition)?;
@@ -129,7 +139,8 @@ fn add_stmt<'a, A: Allocator + Copy>(
     place: Place,
     stmt: &'a Stmt<A>,
 ) -> Result<(), AllocError>
-    ensures sites { OnOk result (Appends sites.old sites.new (stmt_sites (stmt_of stmt.now) (around_in locals.old place))) }
+    ensures sites { OnOk result
+        (Appends sites.old sites.new (stmt_sites (stmt_of stmt.now) (around_in locals.old place))) }
     ensures names { OnOk result (names_in locals.new ≡ names_in locals.old) }
 {
     match stmt {
@@ -215,7 +226,8 @@ fn add_block_item<'a, A: Allocator + Copy>(
     place: Place,
     stmt: &'a Stmt<A>,
 ) -> Result<(), AllocError>
-    ensures sites { OnOk result (Appends sites.old sites.new (stmt_sites (stmt_of stmt.now) (around_in locals.old place))) }
+    ensures sites { OnOk result
+        (Appends sites.old sites.new (stmt_sites (stmt_of stmt.now) (around_in locals.old place))) }
     ensures names { OnOk result (names_in locals.new ≡ names_in locals.old ++ names_of (stmt_of stmt.now)) }
 {
     match as_declaration(stmt) {
@@ -238,7 +250,8 @@ fn add_block<'a, A: Allocator + Copy>(
     place: Place,
     all: &'a [Stmt<A>],
 ) -> Result<(), AllocError>
-    ensures sites { OnOk result (Appends sites.old sites.new (stmts_sites (stmts_of all.now) (around_in locals.old place))) }
+    ensures sites { OnOk result
+        (Appends sites.old sites.new (stmts_sites (stmts_of all.now) (around_in locals.old place))) }
     ensures names { OnOk result (names_in locals.new ≡ names_in locals.old) }
 {
     let outer = locals.len();
@@ -278,13 +291,15 @@ fn add_parameters<'a, A: Allocator + Copy>(
     Ok(())
 }
 
-/// The sites of a function's body, in order of the text; a prototype has none. Takes memory for them, and for the names of
-/// locals.
+/// The sites of a function's body, in order of the text; a prototype has none. Takes memory for them, and for the names
+/// of locals.
 pub fn body_sites<'a, A: Allocator + Copy>(
     alloc: A,
     f: &'a Function<A>,
 ) -> Result<Items<Site<'a>, A>, AllocError>
-    ensures { IfOk result (λ sites. sites_of_own sites ≡ body_sites (map parameter_of f.now.parameters) (option_map stmts_of f.now.body)) }
+    ensures { IfOk result
+        (λ sites. sites_of_own sites
+        ≡ body_sites (map parameter_of f.now.parameters) (option_map stmts_of f.now.body)) }
 {
     let mut sites = Items::new(alloc);
     match &f.body {

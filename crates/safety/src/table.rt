@@ -5,8 +5,8 @@ ghost use Rattle.safety.specs.inner.Counts.{AreCounted};
 use std::alloc::Allocator;
 use std::collections::BTreeMap;
 
-/// The names of the locals that are known at a place, in order of declaration, and how many of them have each name: so a
-/// name is found without going through them, and each is forgotten where its scope ends.
+/// The names of the locals that are known at a place, in order of declaration, and how many of them have each name: so
+/// a name is found without going through them, and each is forgotten where its scope ends.
 #[derive(Drop)]
 pub(crate) struct Locals<'a, A: Allocator> {
     pub(crate) names: Vec<&'a str, A>,

@@ -1,4 +1,4 @@
-//! Tests of the checks of safety and separation, in a crate of their own: a crate with tests is proved twice.
+//! Tests of the check of safety, in a crate of their own: a crate with tests is proved twice.
 #![tactic(auto)]
 
 #[cfg(test)]

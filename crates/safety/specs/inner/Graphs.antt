@@ -21,7 +21,8 @@ callers_at callers j = slice_index_or callers j []
 
 -- each link is an edge, and each edge is a link's
 pub record HasLinks (links : List Link) (numbers : List ℕ → Option ℕ) (callers : List (List ℕ)) : Type 0 where
-  pub complete : (l : Link) → Contains links l → (j : ℕ) × (i : ℕ) × IsEdge numbers l j i × Contains (callers_at callers j) i
+  pub complete : (l : Link) → Contains links l →
+      (j : ℕ) × (i : ℕ) × IsEdge numbers l j i × Contains (callers_at callers j) i
   pub sound : (j i : ℕ) → Contains (callers_at callers j) i → (l : Link) × Contains links l × IsEdge numbers l j i
 
 -- further names may have numbers

@@ -1,7 +1,7 @@
 use Rattle.std.proofs.Common.{◌≡◌, ◌++◌, map, drop}
 use Rattle.syntax.specs.Views.{item_of}
 use Rattle.safety.specs.Sets.{links_of}
-use Rattle.safety.specs.UnsafeLinks.{safe_links}
+use Rattle.safety.specs.inner.UnsafeLinks.{safe_links}
 use Rattle.safety.proofs.links.safe_links.Given as goal
 
 abbrev pub invariant-each : goal.invariant-each

@@ -1,5 +1,5 @@
 use Rattle.std.proofs.Common.{◌≡◌, drop}
-use Rattle.safety.specs.UnsafeLinks.{says_unsafe}
+use Rattle.safety.specs.inner.UnsafeLinks.{says_unsafe}
 use Rattle.safety.proofs.links.says_unsafe.Given as goal
 
 abbrev pub invariant-each : goal.invariant-each

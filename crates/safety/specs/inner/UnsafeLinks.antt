@@ -28,7 +28,8 @@ abbrev pub sites_links : List ℕ → List Site → List Link
 sites_links f sites = flat_map (λ s. construct_links f s.construct) sites
 
 abbrev pub unsafe_links_of : Item → List Link
-unsafe_links_of (Defines f) = link_if (says_unsafe f.attributes) f.name.text ++ sites_links f.name.text (body_sites f.parameters f.body)
+unsafe_links_of (Defines f) =
+    link_if (says_unsafe f.attributes) f.name.text ++ sites_links f.name.text (body_sites f.parameters f.body)
 unsafe_links_of (Shares gs) = []
 
 abbrev pub unsafe_links : List Item → List Link
