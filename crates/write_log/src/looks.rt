@@ -1,4 +1,5 @@
-// Looks at addresses, counted.
+//! Looks at addresses, counted.
+
 ghost use Rattle.std.specs.Prelude.{◌≡◌, ◌+◌, ◌<◌, ℕ};
 ghost use Rattle.std.specs.Ordering.{MatchOrdering};
 
@@ -35,7 +36,7 @@ impl<L: Ledger> Looks<L> {
         Looks { book, share }
     }
 
-    // Looks at an address that a log has.
+    /// Looks at an address that a log has.
     pub(crate) fn compare(&mut self, found: u32, sought: u32) -> Ordering
         ensures order { MatchOrdering result (found < sought) (found ≡ sought) (sought < found) }
         ensures count { self.new ≡ self.old + 1 }

@@ -1,4 +1,5 @@
-// The pairs of a write log in order of first write, with their order by address.
+//! The pairs of a write log in order of first write, with their order by address.
+
 ghost use Rattle.std.specs.Prelude.{◌≡◌, ◌+◌, ◌<◌, ◌≤◌, ◌^◌, [], OnOk, OnErr, length, vec_len, vec_capacity};
 ghost use Rattle.std.specs.List.{slice_get, insert};
 ghost use Rattle.write_log.specs.Overlay.{put, IsDistinct};
@@ -11,15 +12,15 @@ use std::cmp::Ordering;
 use std::marker::{Brand, Model};
 use std::sync::ledger::{Blank, Ledger};
 
-// What a put has changed: it added the last pair, or replaced the word at a place, which was this.
+/// What a put has changed: it added the last pair, or replaced the word at a place, which was this.
 #[derive(Clone, Copy, Debug)]
 pub enum Change {
     Added,
     Replaced(usize, u64),
 }
 
-// Each address with its word, in order of first write, and beside them (address, place) by address. All addresses lie
-// between `least` and `greatest`, which stay where pairs are taken back.
+/// Each address with its word, in order of first write, and beside them (address, place) by address. All addresses lie
+/// between `least` and `greatest`, which stay where pairs are taken back.
 #[derive(Debug, Drop)]
 pub struct Pairs<A: Allocator> {
     list: Vec<(u32, u64), A>,
@@ -39,7 +40,7 @@ impl<A: Allocator> Model for Pairs<A> {
     ghost invariant = { λ a. IsOrderOf a.list.items a.order.items × AreBetween a.least a.greatest a.list.items };
 }
 
-// Where the order has an address, or where it would be inserted.
+/// Where the order has an address, or where it would be inserted.
 fn search<L: Ledger>(
     order: &[(u32, usize)],
     address: u32,
@@ -62,7 +63,7 @@ fn search<L: Ledger>(
     Err(from)
 }
 
-// The same, with a ledger for the looks.
+/// The same, with a ledger for the looks.
 fn search_uncounted<L: Ledger>(
     order: &[(u32, usize)],
     address: u32,
@@ -77,7 +78,7 @@ fn search_uncounted<L: Ledger>(
     search(order, address, &mut Looks::<L>::new(blank))
 }
 
-// The same where nobody counts.
+/// The same where nobody counts.
 fn slot_of(order: &[(u32, usize)], address: u32) -> Result<usize, usize>
     requires { IsRising order.now }
     ensures { IsSearched address order.now result }
@@ -85,7 +86,7 @@ fn slot_of(order: &[(u32, usize)], address: u32) -> Result<usize, usize>
     search_uncounted::<Brand>(order, address, Blank::new(1))
 }
 
-// Inserts an entry where there is room.
+/// Inserts an entry where there is room.
 fn insert_reserved<A: Allocator>(order: &mut Vec<(u32, usize), A>, at: usize, entry: (u32, usize))
     requires within { at ≤ vec_len order.old }
     requires room { vec_len order.old < vec_capacity order.old }
@@ -101,7 +102,7 @@ fn insert_reserved<A: Allocator>(order: &mut Vec<(u32, usize), A>, at: usize, en
 }
 
 impl<A: Allocator + Copy> Pairs<A> {
-    // No pairs. It takes no memory yet.
+    /// No pairs. It takes no memory yet.
     pub fn new(alloc: A) -> Pairs<A>
         ensures { result.pairs ≡ [] }
     {
@@ -113,7 +114,7 @@ impl<A: Allocator + Copy> Pairs<A> {
         }
     }
 
-    // Makes room for one more pair, where there is none.
+    /// Makes room for one more pair, where there is none.
     pub fn reserve_one(&mut self) -> Result<(), AllocError>
         ensures pairs { self.new.pairs ≡ self.old.pairs }
         ensures room { self.old.room ≤ self.new.room }
@@ -125,7 +126,7 @@ impl<A: Allocator + Copy> Pairs<A> {
         self.order.reserve(1)
     }
 
-    // The place of an address, if any.
+    /// The place of an address, if any.
     pub fn find<L: Ledger>(&self, address: u32, looks: &mut Looks<L>) -> Option<usize>
         ensures found { IsFound address self.now.pairs result }
         ensures looks { IsWithinDigits (length self.now.pairs) looks.old looks.new }
@@ -140,7 +141,7 @@ impl<A: Allocator + Copy> Pairs<A> {
         }
     }
 
-    // Writes a word at an address, and answers what that changed. An address above all others needs no search.
+    /// Writes a word at an address, and answers what that changed. An address above all others needs no search.
     pub fn put(&mut self, address: u32, word: u64) -> Change
         requires { 0 < self.old.room }
         ensures pairs { self.new.pairs ≡ put address word self.old.pairs }
@@ -158,7 +159,7 @@ impl<A: Allocator + Copy> Pairs<A> {
         self.put_among(address, word)
     }
 
-    // The same at any address.
+    /// The same at any address.
     #[inline(never)]
     fn put_among(&mut self, address: u32, word: u64) -> Change
         requires { 0 < self.old.room }
@@ -184,7 +185,7 @@ impl<A: Allocator + Copy> Pairs<A> {
         }
     }
 
-    // Takes a change back.
+    /// Takes a change back.
     pub fn undo(&mut self, change: Change)
         requires { CanUndo change self.old.pairs }
         ensures pairs { self.new.pairs ≡ undone change self.old.pairs }
@@ -203,7 +204,7 @@ impl<A: Allocator + Copy> Pairs<A> {
         }
     }
 
-    // The pair at a place.
+    /// The pair at a place.
     pub fn at(&self, place: usize) -> (u32, u64)
         requires { place < length self.now.pairs }
         ensures pair { slice_get self.now.pairs place ≡ Some result }
@@ -212,6 +213,7 @@ impl<A: Allocator + Copy> Pairs<A> {
         self.list[place]
     }
 
+    /// How many pairs there are.
     pub fn len(&self) -> usize
         ensures value { result ≡ length self.now.pairs }
         ensures distinct { IsDistinct self.now.pairs }
@@ -219,7 +221,7 @@ impl<A: Allocator + Copy> Pairs<A> {
         self.list.len()
     }
 
-    // Takes all pairs out. The room stays.
+    /// Takes all pairs out. The room stays.
     pub fn clear(&mut self)
         ensures pairs { self.new.pairs ≡ [] }
         ensures room { self.old.room ≤ self.new.room }

@@ -1,3 +1,5 @@
+//! Tests of the write log: its calls, and that a refused growth leaves it as it was.
+
 ghost use Rattle.std.specs.Prelude.{◌≡◌, ◌+◌, ◌<◌, ◌≤◌, OnOk, length};
 
 use super::{Looks, WriteLog};
@@ -8,7 +10,7 @@ use std::mem::size_of;
 use std::sync::ledger::{Blank, Ledger};
 use std::test::Fail;
 
-// Makes room, at the second call where the first one is refused, and says whether it was.
+/// Makes room, at the second call where the first one is refused, and says whether it was.
 fn make_room<A: Allocator + Copy>(log: &mut WriteLog<A>) -> Result<bool, AllocError>
     ensures ok { OnOk result (0 < log.new.room) }
     ensures marks { log.new.marks ≡ log.old.marks }
@@ -20,7 +22,7 @@ fn make_room<A: Allocator + Copy>(log: &mut WriteLog<A>) -> Result<bool, AllocEr
     Ok(true)
 }
 
-// Writes a word, and says whether the room for it was refused once.
+/// Writes a word, and says whether the room for it was refused once.
 fn write<A: Allocator + Copy>(
     log: &mut WriteLog<A>,
     address: u32,
@@ -45,7 +47,7 @@ fn has_pairs<A: Allocator + Copy>(log: &WriteLog<A>, wanted: &[(u32, u64)]) -> b
     true
 }
 
-// A log as a plain list, searched from its front, with a copy of it for each mark.
+/// A log as a plain list, searched from its front, with a copy of it for each mark.
 #[derive(Drop)]
 struct Plain {
     pairs: Vec<(u32, u64)>,
@@ -87,12 +89,12 @@ impl Plain {
     }
 }
 
-// Whether the log has the list's pairs, and the list's word for an address.
+/// Whether the log has the list's pairs, and the list's word for an address.
 fn agrees(log: &WriteLog, plain: &Plain, address: u32) -> bool {
     has_pairs(log, plain.pairs.as_slice()) && log.get(address) == plain.get(address)
 }
 
-// Writes a word in both, and says whether they agree.
+/// Writes a word in both, and says whether they agree.
 fn write_both(
     log: &mut WriteLog,
     plain: &mut Plain,
@@ -106,7 +108,7 @@ fn write_both(
     Ok(agrees(log, plain, address))
 }
 
-// Whether each address is found at the place of its pair, and no other is found.
+/// Whether each address is found at the place of its pair, and no other is found.
 fn finds_all<L: Ledger>(log: &WriteLog, plain: &Plain, blank: Blank) -> bool
     requires name { blank.name ≡ L.name }
     requires parts { blank.parts ≡ L.parts }
@@ -168,7 +170,7 @@ fn looks_take_no_bytes(rt: HostRuntime) {
     assert_eq!(rt; size_of::<Looks<Brand>>(), 0);
 }
 
-// 4,096 addresses in an order of their own, 256 of them under each of 16 marks, and back again.
+/// 4,096 addresses in an order of their own, 256 of them under each of 16 marks, and back again.
 #[test]
 fn answers_as_a_plain_list(rt: HostRuntime) -> Result<(), Fail> {
     let mut log = WriteLog::new(rt.alloc());
