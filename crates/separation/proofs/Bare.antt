@@ -12,7 +12,7 @@ use Rattle.safety.specs.Safe.{FunctionSet, IsSafeProgram}
 use Rattle.safety.specs.Links.{KeepsTo, IsLeast}
 use Rattle.safety.proofs.Linked.{only, keeps_none, keeps_one, keeps_both, keeps_left, keeps_right, keeps_if, kept_if}
 use Rattle.safety.proofs.Unsafe.{by_name, own_name}
-use Rattle.separation.specs.TouchingLinks.{bare_links, sites_links, touching_links}
+use Rattle.separation.specs.inner.TouchingLinks.{bare_links, sites_links, touching_links}
 use Rattle.separation.specs.Touching.{IsAccess, Touches, IsTouchingSet, IsTouching, TellsTouching, IsAccepted, demands_at, separation_demands}
 
 no : {X : Type 0} → false ≡ true → X

@@ -10,7 +10,7 @@ use Rattle.syntax.specs.Typing.{first_unmet}
 use Rattle.syntax.proofs.Demands.{first_of_two}
 use Rattle.safety.specs.Sites.{sites_of}
 use Rattle.safety.specs.Safe.{FunctionSet}
-use Rattle.separation.specs.OwnSites.{own_sites}
+use Rattle.separation.specs.inner.OwnSites.{own_sites}
 use Rattle.separation.specs.Touching.{demands_at, separation_demands}
 
 sites_first : (x : Item) (items : List Item) (w : List ℕ) → sites_of (x ∷ items) w ≡ own_sites x w ++ sites_of items w

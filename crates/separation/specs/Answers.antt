@@ -29,7 +29,8 @@ fault_in (Some b) = Some (number_in b, span_in b)
 -- this is the first demand that is not met, for a set that tells the touching functions
 abbrev pub Judges : Program → Option Violation → Type 0
 Judges p found =
-    (touching : FunctionSet) × TellsTouching p touching × (fault_in found ≡ first_unmet (separation_demands touching (sites_of p (codes "worker"))))
+    (touching : FunctionSet) × TellsTouching p touching
+    × (fault_in found ≡ first_unmet (separation_demands touching (sites_of p (codes "worker"))))
 
 module _ {A : Type 0} where
   abbrev pub number_of : SeparationFault A → ℕ
@@ -50,4 +51,5 @@ module _ {A : Type 0} where
   abbrev pub Checks : Safe A → Result (Accepted A) (SeparationFault A) → Type 0
   Checks s (Ok a) = (a.safe ≡ s) × ∥ IsAccepted (program_of s.typed.unit) ∥₁
   Checks s (Err (fault.OutOfMemory t)) = t ≡ s
-  Checks s (Err (fault.NotSeparate t b)) = (t ≡ s) × IsSeparationFault (number_in b) (span_in b) (program_of s.typed.unit)
+  Checks s (Err (fault.NotSeparate t b)) =
+      (t ≡ s) × IsSeparationFault (number_in b) (span_in b) (program_of s.typed.unit)

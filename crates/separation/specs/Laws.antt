@@ -16,4 +16,5 @@ FaultTouches = (p : Program) (n : ℕ) (at : Span) → IsSeparationFault n at p 
 
 -- no thread of an accepted program goes astray, whatever its number, the memories that it finds and its ticks
 abbrev pub NeverAstray : Type 0
-NeverAstray = (p : Program) → IsAccepted p → (t : ℕ) (founds : List Memory) (n : ℕ) → (thread p t founds n).end ≢ Stopped Astray
+NeverAstray =
+    (p : Program) → IsAccepted p → (t : ℕ) (founds : List Memory) (n : ℕ) → (thread p t founds n).end ≢ Stopped Astray

@@ -2,8 +2,7 @@
 pub mod Answers
 -- which functions touch, and which programs are accepted
 pub mod Touching
-pub mod TouchingLinks
 -- laws
 pub mod Laws
 -- what private functions answer
-pub mod OwnSites
+pub mod inner

@@ -47,4 +47,5 @@ separation_demands touching sites = flat_map (λ s. demands_at touching s s.cons
 -- the first that is not met has this number and place
 abbrev pub IsSeparationFault : ℕ → Span → Program → Type 0
 IsSeparationFault n at p =
-    (touching : FunctionSet) × TellsTouching p touching × (first_unmet (separation_demands touching (sites_of p (codes "worker"))) ≡ Some (n, at))
+    (touching : FunctionSet) × TellsTouching p touching
+    × (first_unmet (separation_demands touching (sites_of p (codes "worker"))) ≡ Some (n, at))

@@ -7,8 +7,8 @@ ghost use Rattle.separation.specs.Touching.{IsAccepted};
 use safety::checked::Safe;
 use std::alloc::Allocator;
 
-/// A program that is typed and safe, and whose `worker` doesn't touch shared data outside transactions: `accept` alone makes
-/// it. It keeps the safe program.
+/// A program that is typed and safe, and whose `worker` doesn't touch shared data outside transactions: `accept` alone
+/// makes it. It keeps the safe program.
 #[derive(Drop)]
 pub struct Accepted<A: Allocator = std::alloc::Global> {
     pub(crate) safe: Safe<A>,

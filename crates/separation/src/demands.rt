@@ -8,7 +8,7 @@ ghost use Rattle.safety.specs.Views.{site_of, sites_of_own};
 ghost use Rattle.safety.specs.Sets.{set_of};
 ghost use Rattle.separation.specs.Touching.{demands_at, separation_demands};
 ghost use Rattle.separation.specs.Answers.{fault_in, Judges};
-ghost use Rattle.separation.specs.OwnSites.{own_sites};
+ghost use Rattle.separation.specs.inner.OwnSites.{own_sites};
 
 use crate::fault::{Violation, unless_met};
 use crate::links::touching_links;
@@ -21,7 +21,8 @@ fn fault_at<'a, A: Allocator + Copy>(
     touching: &FunctionSet<'a, A>,
     site: Site<'a>,
 ) -> Option<Violation>
-    ensures { fault_in result ≡ first_unmet (demands_at (set_of touching.now) (site_of site.entry) (site_of site.entry).construct) }
+    ensures { fault_in result
+        ≡ first_unmet (demands_at (set_of touching.now) (site_of site.entry) (site_of site.entry).construct) }
 {
     match site.construct {
         Construct::Use(_) => unless_met(site.in_any, Violation::BareAccess(site.span)),
@@ -55,7 +56,9 @@ fn fault_of_item<'a, A: Allocator + Copy>(
     touching: &FunctionSet<'a, A>,
     item: &'a Item<A>,
 ) -> Result<Option<Violation>, AllocError>
-    ensures { IfOk result (λ found. fault_in found ≡ first_unmet (separation_demands (set_of touching.now) (own_sites (item_of item.now) (codes "worker")))) }
+    ensures { IfOk result
+        (λ found. fault_in found
+        ≡ first_unmet (separation_demands (set_of touching.now) (own_sites (item_of item.now) (codes "worker")))) }
 {
     match item {
         Item::Function(f) => {
@@ -75,7 +78,9 @@ fn fault_of_items<'a, A: Allocator + Copy>(
     touching: &FunctionSet<'a, A>,
     items: &'a [Item<A>],
 ) -> Result<Option<Violation>, AllocError>
-    ensures { IfOk result (λ found. fault_in found ≡ first_unmet (separation_demands (set_of touching.now) (sites_of (map item_of items.now) (codes "worker")))) }
+    ensures { IfOk result
+        (λ found. fault_in found
+        ≡ first_unmet (separation_demands (set_of touching.now) (sites_of (map item_of items.now) (codes "worker")))) }
 {
     'each: for item in items {
         let found = fault_of_item(alloc, touching, item)?;

@@ -4,7 +4,7 @@ ghost use Rattle.std.specs.Prelude.{◌≡◌, ◌++◌, map, OnOk, IfOk};
 ghost use Rattle.syntax.specs.Views.{item_of};
 ghost use Rattle.safety.specs.Views.{construct_of, sites_of_own};
 ghost use Rattle.safety.specs.Sets.{links_of};
-ghost use Rattle.separation.specs.TouchingLinks.{bare_links, sites_links, touching_links_of, touching_links};
+ghost use Rattle.separation.specs.inner.TouchingLinks.{bare_links, sites_links, touching_links_of, touching_links};
 
 use containers::Items;
 use safety::{Construct, Link, Site, body_sites};
@@ -17,7 +17,8 @@ fn add_site<'a, A: Allocator + Copy>(
     in_any: bool,
     construct: Construct<'a>,
 ) -> Result<(), AllocError>
-    ensures { OnOk result (links_of links.new ≡ links_of links.old ++ bare_links caller.now in_any (construct_of construct.entry)) }
+    ensures { OnOk result
+        (links_of links.new ≡ links_of links.old ++ bare_links caller.now in_any (construct_of construct.entry)) }
 {
     if in_any {
         return Ok(());

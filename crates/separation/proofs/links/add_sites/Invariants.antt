@@ -1,7 +1,7 @@
 use Rattle.std.proofs.Common.{◌≡◌, ◌++◌, drop}
 use Rattle.safety.specs.Views.{sites_of_own}
 use Rattle.safety.specs.Sets.{links_of}
-use Rattle.separation.specs.TouchingLinks.{sites_links}
+use Rattle.separation.specs.inner.TouchingLinks.{sites_links}
 use Rattle.separation.proofs.links.add_sites.Given as goal
 
 abbrev pub invariant-each : goal.invariant-each

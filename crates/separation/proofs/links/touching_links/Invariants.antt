@@ -1,7 +1,7 @@
 use Rattle.std.proofs.Common.{◌≡◌, ◌++◌, map, drop}
 use Rattle.syntax.specs.Views.{item_of}
 use Rattle.safety.specs.Sets.{links_of}
-use Rattle.separation.specs.TouchingLinks.{touching_links}
+use Rattle.separation.specs.inner.TouchingLinks.{touching_links}
 use Rattle.separation.proofs.links.touching_links.Given as goal
 
 abbrev pub invariant-each : goal.invariant-each

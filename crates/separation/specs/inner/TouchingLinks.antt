@@ -4,7 +4,7 @@ use Rattle.std.specs.List.{flat_map}
 use Rattle.syntax.specs.Tree.{Item, Defines, Shares}
 use Rattle.safety.specs.Sites.{Construct, Calls, Uses, Site, body_sites}
 use Rattle.safety.specs.Links.{Link}
-use Rattle.safety.specs.UnsafeLinks.{link_if}
+use Rattle.safety.specs.inner.UnsafeLinks.{link_if}
 
 -- a function with a bare access touches, and so does one with a bare call of a touching one
 abbrev pub bare_links : List ℕ → Bool → Construct → List Link
