@@ -4,7 +4,7 @@ ghost use Rattle.lowered.specs.Laws.{AcceptedCodeMeans, AcceptedCodeMeetsMachine
 
 use bytecode::laws::valid_code_fits_its_cells;
 use separation::laws::never_astray;
-use syntax::laws::begins_with_memory;
+use syntax::laws::threads_leave_memories;
 
 /// Code that stands for a program means it, in both directions, where no thread of the program goes astray. For every
 /// thread and every list of memories that its transactions find: what the source's thread shows after some number of
@@ -34,5 +34,5 @@ pub fn accepted_code_meets_the_machine()
 {
     never_astray();
     valid_code_fits_its_cells();
-    begins_with_memory();
+    threads_leave_memories();
 }

@@ -8,6 +8,6 @@ use Rattle.lowered.proofs.laws.accepted_code_meets_the_machine.Goals as goal
 pub returns : goal.returns
 returns c = λ p code a l v. record {
   fits = subst (FitsCells (effect code)) (ap (λ gs. replicate (length (initial_from gs)) (2 ^ 32)) l.globals_are) (c.valid_code_fits_its_cells.ensures code v);
-  starts = c.begins_with_memory.ensures p;
+  starts = c.threads_leave_memories.ensures.first p;
   means = means p code l (λ t founds below memories n. c.never_astray.ensures p a t founds n);
 }
