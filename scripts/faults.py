@@ -1,9 +1,12 @@
 #!/usr/bin/env python3
-"""Compares docs/FAULTS.md with the tests that run its examples and with the table of words.
+"""Compares docs/FAULTS.md with the tests that run its examples, with the table of words and with what `txc explain` prints.
+
+  scripts/faults.py           fails where they differ
+  scripts/faults.py --write   writes crates/faults/src/explanations.rt, which is what `txc explain` prints, from the page
 
 Each example of the page's first two tables has to stand in crates/txc/src/fault_tests.rt, with the same number, place and
 words, in TOLD and LONG or in NOT_TOLD_YET and LONG_NOT_TOLD_YET; each number of the page has the words of
-crates/txc/src/words.rt. Prints what differs, and ends in status 1 where something does.
+crates/faults/src/table.rt. Prints what differs, and ends in status 1 where something does.
 """
 
 import os
@@ -12,6 +15,7 @@ import sys
 
 TOP = os.path.dirname(os.path.dirname(os.path.abspath(__file__)))
 WORKER = "void worker(int self) {"
+EXPLANATIONS = "crates/faults/src/explanations.rt"
 TEXT = r'"((?:[^"\\]|\\.)*)"'
 
 
@@ -57,7 +61,56 @@ def documented(part):
     return rows
 
 
+def cells_of(page):
+    """The cells of the first row of each number, in the order of numbers."""
+    rows = {}
+    for line in page.split("\n"):
+        if re.match(r"\| \d\d \|", line):
+            cells = [cell.strip() for cell in re.split(r"(?<!\\) \| ", line.strip().strip("|"))]
+            rows.setdefault(int(cells[0]), cells)
+    return [rows[number] for number in sorted(rows)]
+
+
+def shown(cell):
+    """An example as it is told: a source alone, or else the cell's words."""
+    source = re.fullmatch(r"`([^`]*)`", cell)
+    return (source[1] if source else cell).replace("W{", WORKER)
+
+
+def explanation(cells):
+    """What `txc explain` prints of a fault."""
+    number, words, when, *rest = cells
+    if len(rest) == 3:
+        place, example, at = rest
+        more = f"Place: {place}\nExample: {shown(example)}\nIt is told at: {at}\n"
+    else:
+        more = f"Seen as: {shown(rest[0])}\n" if rest else ""
+    return f"fault {number}: {words}\nWhen: {when}\n{more}"
+
+
+def literal(text):
+    return '"' + text.replace("\\", "\\\\").replace('"', '\\"').replace("\n", "\\n") + '"'
+
+
+def explanations(page):
+    rows = [(int(cells[0]), explanation(cells)) for cells in cells_of(page)]
+    arms = "".join(f"        {number} => Some(\n            {literal(text)},\n        ),\n" for number, text in rows)
+    return f"""//! What each fault means, as docs/FAULTS.md says it: written by scripts/faults.py.
+
+/// What a fault means, when it comes, with its place and an example: lines that end with LF. `None` where no fault has the number.
+pub fn explanation(number: u32) -> Option<&'static str> {{
+    match number {{
+{arms}        _ => None,
+    }}
+}}
+"""
+
+
 def main():
+    if sys.argv[1:] == ["--write"]:
+        with open(os.path.join(TOP, EXPLANATIONS), "w", encoding="utf-8") as file:
+            file.write(explanations(read("docs/FAULTS.md")))
+        return 0
     page, code = read("docs/FAULTS.md"), read("crates/txc/src/fault_tests.rt")
     parts = re.split(r"^## ", page, flags=re.M)
     wrong = []
@@ -66,9 +119,11 @@ def main():
         here = documented(next((it for it in parts if it.startswith(part)), ""))
         wrong += [f"no test has the example of {row[1]:02} at {row[2]}: {row[0][:80]!r}" for row in here if row not in told]
         wrong += [f"{part}: the page has no example of {row[1]:02} at {row[2]}: {row[0][:80]!r}" for row in told if row not in here]
-    words = {int(number): text for number, text in re.findall(rf"(\d+) => {TEXT}", read("crates/txc/src/words.rt"))}
+    words = {int(number): text for number, text in re.findall(rf"(\d+) => {TEXT}", read("crates/faults/src/table.rt"))}
     shown = {int(number): text for number, text in re.findall(r"^\| (\d\d) \| ([^|]*?) \|", page, re.M)}
     wrong += [f"{number:02}: the page says {shown.get(number)!r}, the program {words.get(number)!r}" for number in sorted({*words, *shown}) if words.get(number) != shown.get(number)]
+    if read(EXPLANATIONS) != explanations(page):
+        wrong.append(f"{EXPLANATIONS} is not what this script writes from the page")
     print("\n".join(wrong) or f"FAULTS.md: {len(shown)} numbers, as the tests and the program have them")
     return 1 if wrong else 0
 
