@@ -3,9 +3,9 @@
 pub mod Turns
 -- Loops that begin with an item, and loops over lists of items.
 pub mod Loops
--- Lists that end at a mark, and lists with commas, as loops read them.
+-- Lists that end at a fixed token, and lists with commas, as loops read them.
 pub mod Braces
--- Loops that read items up to a mark, which is read too: each way round them and out of them.
+-- Loops that read items up to a fixed token, which is read too: each way round them and out of them.
 pub mod Rounds
 -- What is read within no depth, and within one more than the parts have.
 pub mod Within

@@ -7,7 +7,7 @@ pub mod Exact
 pub mod Starts
 -- One phrase or another, as the first token says.
 pub mod Choices
--- What stands behind or before a mark, and what may be left out.
+-- What stands behind or before a fixed token, and what may be left out.
 pub mod Parts
 -- A list of phrases, up to a token that stops it, is read exactly where one phrase is. T: what else may be said of that token.
 pub mod Many

@@ -5,12 +5,14 @@ ghost use Rattle.lex.specs.Tokens.{toks};
 ghost use Rattle.lex.specs.declared.token.Fixed.TheVariants as token;
 ghost use Rattle.lex.specs.declared.token.Keyword.TheVariants as key;
 ghost use Rattle.lex.specs.declared.token.Punctuator.TheVariants as punct;
+ghost use Rattle.syntax.specs.declared.tree.Attribute.{Attribute};
 ghost use Rattle.syntax.specs.Grammar.{the_attribute, attribute_named};
-ghost use Rattle.parse.specs.inner.Reading.{Gives, take, behind, head};
+ghost use Rattle.parse.specs.inner.Reading.{Gives, take, head};
 ghost use Rattle.parse.specs.inner.Items.{words, bracketed, parenthesized, attribute_list, is_plain, attributes};
 
 use crate::cursor::{counted, expect, is_next};
 use crate::fault::Failure;
+use crate::list::{Element, listed};
 use containers::Items;
 use lex::token::{Fixed, Keyword, Kind, Punctuator, Token};
 use std::alloc::{AllocError, Allocator};
@@ -47,13 +49,25 @@ fn word<'t, 'a>(tokens: &'t [Token<'a>]) -> Result<(Attribute, &'t [Token<'a>]),
     }
 }
 
-/// A further word, behind its comma.
-fn another<'t, 'a>(tokens: &'t [Token<'a>]) -> Result<(Attribute, &'t [Token<'a>]), Failure<'t, 'a>>
-    ensures { Gives (λ x. (x.0, toks x.1.now)) result (behind (token.Punctuator punct.Comma) (take the_attribute) (toks tokens.now)) }
-{
-    let rest = expect(tokens, Fixed::Punctuator(Punctuator::Comma))?;
-    let (word, rest) = word(rest)?;
-    Ok((word, rest))
+/// How the words of a list are read.
+#[derive(Drop)]
+struct EachWord {}
+
+impl Element<Attribute> for EachWord {
+    ghost Plain = { Attribute };
+
+    ghost plain = { λ x. x };
+
+    ghost can = { λ each. Unit {0} };
+
+    ghost reads = { λ each. take the_attribute };
+
+    fn read<'t, 'a>(
+        &self,
+        tokens: &'t [Token<'a>],
+    ) -> Result<(Attribute, &'t [Token<'a>]), Failure<'t, 'a>> {
+        word(tokens)
+    }
 }
 
 /// `word { , word }`
@@ -63,22 +77,7 @@ fn words<'t, 'a, A: Allocator + Copy>(
 ) -> Result<Found<'t, 'a, A>, Failure<'t, 'a>>
     ensures { Gives (λ x. (x.0, toks x.1.now)) result (words (toks tokens.now)) }
 {
-    let (first, inner) = word(tokens)?;
-    let mut all = Items::new(alloc);
-    all.push(first)?;
-    let mut rest = inner;
-    'turns: for _turn in 0..inner.len() {
-        if !is_next(rest, Fixed::Punctuator(Punctuator::Comma)) {
-            return Ok((all, rest));
-        }
-        let (one, after) = another(rest)?;
-        all.push(one)?;
-        rest = after;
-    }
-    if is_next(rest, Fixed::Punctuator(Punctuator::Comma)) {
-        return Err(Failure::Wrong(rest));
-    }
-    Ok((all, rest))
+    listed(alloc, &EachWord {}, tokens)
 }
 
 /// `[[ .. ]]`

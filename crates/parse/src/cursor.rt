@@ -13,7 +13,7 @@ use lex::token::{Fixed, Kind, Span, Token};
 use std::alloc::Allocator;
 use syntax::tree::Name;
 
-/// All tokens, and how many they are.
+/// All tokens, and how many they are: for the prover, which then knows the bound of a loop by a clause.
 pub fn counted<'t, 'a>(tokens: &'t [Token<'a>]) -> (&'t [Token<'a>], usize)
     ensures all { result.0.now ≡ tokens.now }
     ensures count { result.1 ≡ length tokens.now }
@@ -77,7 +77,8 @@ pub fn closed<'t, 'a, T: Drop>(
     }
 }
 
-/// What was read, and where this keyword or punctuator stands behind it; as `closed`, it is dropped here where none does.
+/// What was read, and where this keyword or punctuator stands behind it; as `closed`, it is dropped here where none
+/// does.
 pub fn closed_at<'t, 'a, T: Drop>(
     read: T,
     tokens: &'t [Token<'a>],

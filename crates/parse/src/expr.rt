@@ -11,7 +11,7 @@ ghost use Rattle.syntax.specs.Views.{expr_of, exprs_of};
 ghost use Rattle.parse.specs.inner.Reading.{Fails, Gives, GivesOp, behind, head, is_other, many_until, mapped, next_op, sunk, take};
 ghost use Rattle.parse.specs.inner.Expressions.{arguments, conditional_at, expr_at, named, opened, operand, operators, outcomes, prefixed, starts_expr, the_constant, the_prefix, whole_at};
 
-use crate::cursor::{closed_at, counted, expect, is_next, name, spot};
+use crate::cursor::{closed_at, counted, eat, expect, is_next, name, spot};
 use crate::fault::Failure;
 use crate::lead::{Infix, Operand, infix_of, operand_at, precedence};
 use crate::node;
@@ -55,10 +55,10 @@ fn next_op<'t, 'a>(tokens: &'t [Token<'a>], min: usize) -> Option<(Infix, &'t [T
     let [first, after @ ..] = tokens else {
         return None;
     };
-    let Kind::Punctuator(sign) = first.kind else {
+    let Kind::Punctuator(punctuator) = first.kind else {
         return None;
     };
-    let op = infix_of(Fixed::Punctuator(sign))?;
+    let op = infix_of(Fixed::Punctuator(punctuator))?;
     if precedence(op) < min {
         return None;
     }
@@ -111,7 +111,8 @@ fn prefixed<'t, 'a, A: Allocator + Copy>(
     depth: usize,
 ) -> Result<Found<'t, 'a, A>, Failure<'t, 'a>>
     requires { depth < 2 ^ 32 }
-    ensures value { Gives (λ x. (expr_of x.0, toks x.2.now)) result (prefixed (whole_at depth) (expr_at depth 11) (toks tokens.now)) }
+    ensures value { Gives (λ x. (expr_of x.0, toks x.2.now)) result
+        (prefixed (whole_at depth) (expr_at depth 11) (toks tokens.now)) }
     ensures deep { IfOk result (λ x. x.1 ≡ expr_depth (expr_of x.0)) }
     ensures within { IfOk result (λ x. x.1 ≤ depth + 1) }
 {
@@ -128,7 +129,8 @@ fn opened<'t, 'a, A: Allocator + Copy>(
     depth: usize,
 ) -> Result<Found<'t, 'a, A>, Failure<'t, 'a>>
     requires { depth < 2 ^ 32 }
-    ensures value { Gives (λ x. (expr_of x.0, toks x.2.now)) result (opened (whole_at depth) (expr_at depth 11) (toks tokens.now)) }
+    ensures value { Gives (λ x. (expr_of x.0, toks x.2.now)) result
+        (opened (whole_at depth) (expr_at depth 11) (toks tokens.now)) }
     ensures deep { IfOk result (λ x. x.1 ≡ expr_depth (expr_of x.0)) }
     ensures within { IfOk result (λ x. x.1 ≤ depth + 1) }
 {
@@ -173,7 +175,11 @@ fn extend<'t, 'a, A: Allocator + Copy>(
     requires fits { depth < 2 ^ 32 }
     requires measured { deep ≡ deepest (exprs_of read) }
     requires shallow { deep ≤ depth }
-    ensures value { Gives (λ x. (map expr_of x.0, toks x.2.now)) result (mapped (λ es. map expr_of read ++ es) (many_until (is_other (token.Punctuator punct.Comma)) (behind (token.Punctuator punct.Comma) (whole_at depth))) (toks tokens.now)) }
+    ensures value { Gives (λ x. (map expr_of x.0, toks x.2.now)) result
+        (mapped (λ es. map expr_of read ++ es)
+        (many_until (is_other (token.Punctuator punct.Comma))
+        (behind (token.Punctuator punct.Comma) (whole_at depth)))
+        (toks tokens.now)) }
     ensures deep { IfOk result (λ x. x.1 ≡ deepest (exprs_of x.0)) }
     ensures within { IfOk result (λ x. x.1 ≤ depth) }
 {
@@ -181,15 +187,10 @@ fn extend<'t, 'a, A: Allocator + Copy>(
     let mut all = read;
     let mut most = deep;
     'turns: for _turn in 0..count {
-        if !is_next(rest, Fixed::Punctuator(Punctuator::Comma)) {
+        let Some(inner) = eat(rest, Fixed::Punctuator(Punctuator::Comma)) else {
             return Ok((all, most, rest));
-        }
-        let (one, one_deep, after) = behind(
-            alloc,
-            rest,
-            Fixed::Punctuator(Punctuator::Comma),
-            depth,
-        )?;
+        };
+        let (one, one_deep, after) = whole(alloc, inner, depth)?;
         all.push(one)?;
         most = most.max(one_deep);
         rest = after;
@@ -208,7 +209,8 @@ fn arguments<'t, 'a, A: Allocator + Copy>(
     depth: usize,
 ) -> Result<Listed<'t, 'a, A>, Failure<'t, 'a>>
     requires { depth < 2 ^ 32 }
-    ensures value { Gives (λ x. (map expr_of x.0, toks x.2.now)) result (arguments (whole_at depth) (expr_at depth 11) (toks tokens.now)) }
+    ensures value { Gives (λ x. (map expr_of x.0, toks x.2.now)) result
+        (arguments (whole_at depth) (expr_at depth 11) (toks tokens.now)) }
     ensures deep { IfOk result (λ x. x.1 ≡ deepest (exprs_of x.0)) }
     ensures within { IfOk result (λ x. x.1 ≤ depth) }
 {
@@ -229,13 +231,13 @@ fn named<'t, 'a, A: Allocator + Copy>(
     depth: usize,
 ) -> Result<Found<'t, 'a, A>, Failure<'t, 'a>>
     requires { depth < 2 ^ 32 }
-    ensures value { Gives (λ x. (expr_of x.0, toks x.2.now)) result (named (whole_at depth) (expr_at depth 11) (toks tokens.now)) }
+    ensures value { Gives (λ x. (expr_of x.0, toks x.2.now)) result
+        (named (whole_at depth) (expr_at depth 11) (toks tokens.now)) }
     ensures deep { IfOk result (λ x. x.1 ≡ expr_depth (expr_of x.0)) }
     ensures within { IfOk result (λ x. x.1 ≤ depth + 1) }
 {
     let (name, rest) = name(alloc, tokens)?;
-    if is_next(rest, Fixed::Punctuator(Punctuator::OpenBracket)) {
-        let rest = expect(rest, Fixed::Punctuator(Punctuator::OpenBracket))?;
+    if let Some(rest) = eat(rest, Fixed::Punctuator(Punctuator::OpenBracket)) {
         let (index, deep, rest) = whole(alloc, rest, depth)?;
         let ((index, last), rest) = closed_at(
             index,
@@ -244,8 +246,7 @@ fn named<'t, 'a, A: Allocator + Copy>(
         )?;
         return Ok((node::element(alloc, name, index, last)?, deep + 1, rest));
     }
-    if is_next(rest, Fixed::Punctuator(Punctuator::OpenParen)) {
-        let rest = expect(rest, Fixed::Punctuator(Punctuator::OpenParen))?;
+    if let Some(rest) = eat(rest, Fixed::Punctuator(Punctuator::OpenParen)) {
         let (args, deep, rest) = arguments(alloc, rest, depth)?;
         let ((args, last), rest) = closed_at(
             args,
@@ -265,7 +266,8 @@ fn operand<'t, 'a, A: Allocator + Copy>(
     depth: usize,
 ) -> Result<Found<'t, 'a, A>, Failure<'t, 'a>>
     requires { depth < 2 ^ 32 }
-    ensures value { Gives (λ x. (expr_of x.0, toks x.2.now)) result (operand (whole_at depth) (expr_at depth 11) (toks tokens.now)) }
+    ensures value { Gives (λ x. (expr_of x.0, toks x.2.now)) result
+        (operand (whole_at depth) (expr_at depth 11) (toks tokens.now)) }
     ensures deep { IfOk result (λ x. x.1 ≡ expr_depth (expr_of x.0)) }
     ensures within { IfOk result (λ x. x.1 ≤ depth + 1) }
 {
@@ -278,8 +280,8 @@ fn operand<'t, 'a, A: Allocator + Copy>(
     }
 }
 
-/// `operand { infix operand }`, for operators that bind at least as tightly as `min`, which is 1 or more; those of one level
-/// group to the left.
+/// `operand { infix operand }`, for operators that bind at least as tightly as `min`, which is 1 or more; those of one
+/// level group to the left.
 #[cycle(climbing)]
 fn climb<'t, 'a, A: Allocator + Copy>(
     alloc: A,
@@ -335,7 +337,8 @@ fn outcomes<'t, 'a, A: Allocator + Copy>(
     depth: usize,
 ) -> Result<(Expr<A>, Expr<A>, usize, &'t [Token<'a>]), Failure<'t, 'a>>
     requires { depth < 2 ^ 32 }
-    ensures value { Gives (λ x. ((expr_of x.0, expr_of x.1), toks x.3.now)) result (outcomes (whole_at depth) (toks tokens.now)) }
+    ensures value { Gives (λ x. ((expr_of x.0, expr_of x.1), toks x.3.now)) result
+        (outcomes (whole_at depth) (toks tokens.now)) }
     ensures deep { IfOk result (λ x. x.2 ≡ max (expr_depth (expr_of x.0)) (expr_depth (expr_of x.1))) }
     ensures within { IfOk result (λ x. x.2 ≤ depth) }
 {
@@ -362,7 +365,8 @@ fn conditional<'t, 'a, A: Allocator + Copy>(
     requires fits { depth < 2 ^ 32 }
     requires measured { deep ≡ expr_depth (expr_of condition) }
     requires shallow { deep ≤ depth + 1 }
-    ensures value { Gives (λ x. (expr_of x.0, toks x.2.now)) result (conditional_at (whole_at depth) depth (expr_of condition) (toks tokens.now)) }
+    ensures value { Gives (λ x. (expr_of x.0, toks x.2.now)) result
+        (conditional_at (whole_at depth) depth (expr_of condition) (toks tokens.now)) }
     ensures deep { IfOk result (λ x. x.1 ≡ expr_depth (expr_of x.0)) }
     ensures within { IfOk result (λ x. x.1 ≤ depth + 1) }
 {
@@ -424,7 +428,9 @@ pub fn further<'t, 'a, A: Allocator + Copy>(
     depth: usize,
 ) -> Result<(Items<Expr<A>, A>, &'t [Token<'a>]), Failure<'t, 'a>>
     requires { depth < 2 ^ 32 }
-    ensures { Gives (λ x. (map expr_of x.0, toks x.1.now)) result (many_until (is_other (token.Punctuator punct.Comma)) (behind (token.Punctuator punct.Comma) (whole_at depth)) (toks tokens.now)) }
+    ensures { Gives (λ x. (map expr_of x.0, toks x.1.now)) result
+        (many_until (is_other (token.Punctuator punct.Comma)) (behind (token.Punctuator punct.Comma) (whole_at depth))
+        (toks tokens.now)) }
 {
     let (all, _, rest) = extend(alloc, Items::new(alloc), 0, tokens, depth)?;
     Ok((all, rest))

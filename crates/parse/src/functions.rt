@@ -5,9 +5,10 @@ ghost use Rattle.lex.specs.Tokens.{toks};
 ghost use Rattle.lex.specs.declared.token.Fixed.TheVariants as token;
 ghost use Rattle.lex.specs.declared.token.Keyword.TheVariants as key;
 ghost use Rattle.lex.specs.declared.token.Punctuator.TheVariants as punct;
+ghost use Rattle.syntax.specs.Tree as Tree;
 ghost use Rattle.syntax.specs.Views.{name_of, parameter_of, stmts_of, item_of};
 ghost use Rattle.syntax.specs.Grammar.{the_name};
-ghost use Rattle.parse.specs.inner.Reading.{Gives, behind, listed, head};
+ghost use Rattle.parse.specs.inner.Reading.{Gives, head};
 ghost use Rattle.parse.specs.inner.Expressions.{says};
 ghost use Rattle.parse.specs.inner.Items.{parameter, parameter_list, parameters, are_named, body_at, function_at, header};
 ghost use Rattle.parse.specs.inner.Items as items;
@@ -16,6 +17,7 @@ ghost use Rattle.parse.specs.inner.Headings.{heading_of};
 use crate::attributes::{attributes, joined};
 use crate::cursor::{eat, expect, is_next, name};
 use crate::fault::Failure;
+use crate::list::{Element, listed};
 use crate::scalar::scalar;
 use crate::stmt::block;
 use containers::Items;
@@ -92,41 +94,27 @@ fn parameter<'t, 'a, A: Allocator + Copy>(
     Ok((Parameter { of, name: None }, rest))
 }
 
-/// A further parameter, behind its comma.
-fn another<'t, 'a, A: Allocator + Copy>(
+/// How the parameters of a list are read.
+#[derive(Drop)]
+struct EachParameter<A: Allocator> {
     alloc: A,
-    tokens: &'t [Token<'a>],
-) -> Result<(Parameter<A>, &'t [Token<'a>]), Failure<'t, 'a>>
-    ensures { Gives (λ x. (parameter_of x.0, toks x.1.now)) result (behind (token.Punctuator punct.Comma) parameter (toks tokens.now)) }
-{
-    let rest = expect(tokens, Fixed::Punctuator(Punctuator::Comma))?;
-    let (one, rest) = parameter(alloc, rest)?;
-    Ok((one, rest))
 }
 
-/// `parameter { , parameter }`
-fn several<'t, 'a, A: Allocator + Copy>(
-    alloc: A,
-    tokens: &'t [Token<'a>],
-) -> Result<(Items<Parameter<A>, A>, &'t [Token<'a>]), Failure<'t, 'a>>
-    ensures { Gives (λ x. (map parameter_of x.0, toks x.1.now)) result (listed parameter (toks tokens.now)) }
-{
-    let (first, inner) = parameter(alloc, tokens)?;
-    let mut all = Items::new(alloc);
-    all.push(first)?;
-    let mut rest = inner;
-    'turns: for _turn in 0..inner.len() {
-        if !is_next(rest, Fixed::Punctuator(Punctuator::Comma)) {
-            return Ok((all, rest));
-        }
-        let (one, after) = another(alloc, rest)?;
-        all.push(one)?;
-        rest = after;
+impl<A: Allocator + Copy> Element<Parameter<A>> for EachParameter<A> {
+    ghost Plain = { Tree.Parameter };
+
+    ghost plain = { parameter_of };
+
+    ghost can = { λ each. Unit {0} };
+
+    ghost reads = { λ each. parameter };
+
+    fn read<'t, 'a>(
+        &self,
+        tokens: &'t [Token<'a>],
+    ) -> Result<(Parameter<A>, &'t [Token<'a>]), Failure<'t, 'a>> {
+        parameter(self.alloc, tokens)
     }
-    if is_next(rest, Fixed::Punctuator(Punctuator::Comma)) {
-        return Err(Failure::Wrong(rest));
-    }
-    Ok((all, rest))
 }
 
 /// `[void | parameter { , parameter }]`
@@ -142,7 +130,7 @@ fn parameter_list<'t, 'a, A: Allocator + Copy>(
     if let Some(rest) = eat(tokens, Fixed::Keyword(Keyword::Void)) {
         return Ok((Items::new(alloc), rest));
     }
-    several(alloc, tokens)
+    listed(alloc, &EachParameter { alloc }, tokens)
 }
 
 /// `( parameter_list )`
@@ -173,7 +161,8 @@ fn body<'t, 'a, A: Allocator + Copy>(
     parameters: &[Parameter<A>],
 ) -> Result<(Option<Items<Stmt<A>, A>>, &'t [Token<'a>]), Failure<'t, 'a>>
     requires { depth < 2 ^ 32 }
-    ensures { Gives (λ x. (option_map stmts_of x.0, toks x.1.now)) result (body_at depth (map parameter_of parameters.now) (toks tokens.now)) }
+    ensures { Gives (λ x. (option_map stmts_of x.0, toks x.1.now)) result
+        (body_at depth (map parameter_of parameters.now) (toks tokens.now)) }
 {
     if !is_next(tokens, Fixed::Punctuator(Punctuator::OpenBrace)) {
         let rest = expect(tokens, Fixed::Punctuator(Punctuator::Semicolon))?;
@@ -194,7 +183,8 @@ pub fn function<'t, 'a, A: Allocator + Copy>(
     heading: Heading<A>,
 ) -> Result<(Item<A>, &'t [Token<'a>]), Failure<'t, 'a>>
     requires { depth < 2 ^ 32 }
-    ensures { Gives (λ x. (item_of x.0, toks x.1.now)) result (function_at depth (heading_of heading) (toks tokens.now)) }
+    ensures { Gives (λ x. (item_of x.0, toks x.1.now)) result
+        (function_at depth (heading_of heading) (toks tokens.now)) }
 {
     let (parameters, rest) = parameters(alloc, tokens)?;
     let (more, rest) = attributes(alloc, rest)?;

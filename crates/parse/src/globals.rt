@@ -5,13 +5,15 @@ ghost use Rattle.lex.specs.Tokens.{toks};
 ghost use Rattle.lex.specs.declared.token.Fixed.TheVariants as token;
 ghost use Rattle.lex.specs.declared.token.Keyword.TheVariants as key;
 ghost use Rattle.lex.specs.declared.token.Punctuator.TheVariants as punct;
+ghost use Rattle.syntax.specs.Tree as Tree;
 ghost use Rattle.syntax.specs.Views.{name_of, global_of, item_of};
 ghost use Rattle.syntax.specs.Grammar.{the_length};
-ghost use Rattle.parse.specs.inner.Reading.{Gives, take, behind};
+ghost use Rattle.parse.specs.inner.Reading.{Gives, take};
 ghost use Rattle.parse.specs.inner.Items.{the_placed_value, initialiser, first_value, further_values, first_values, sized, global, value_list, several, globals_from};
 
 use crate::cursor::{eat, expect, is_next, name, spot};
 use crate::fault::Failure;
+use crate::list::{Element, further};
 use containers::Items;
 use lex::token::{Fixed, Kind, Punctuator, Scalar, Span, Token};
 use std::alloc::Allocator;
@@ -110,10 +112,9 @@ fn value_list<'t, 'a, A: Allocator + Copy>(
     all.push(first)?;
     let mut rest = inner;
     'turns: for _turn in 0..inner.len() {
-        if !is_next(rest, Fixed::Punctuator(Punctuator::Comma)) {
+        let Some(next) = eat(rest, Fixed::Punctuator(Punctuator::Comma)) else {
             return Ok((all, rest));
-        }
-        let next = expect(rest, Fixed::Punctuator(Punctuator::Comma))?;
+        };
         if is_next(next, Fixed::Punctuator(Punctuator::CloseBrace)) {
             return Ok((all, next));
         }
@@ -160,26 +161,39 @@ fn sized<'t, 'a, A: Allocator + Copy>(
     Ok(((Some(length), first), rest))
 }
 
-/// A further global, behind its comma.
-fn another<'t, 'a, A: Allocator + Copy>(
+/// How the globals of one declaration are read.
+#[derive(Drop)]
+struct EachGlobal<A: Allocator> {
     alloc: A,
-    tokens: &'t [Token<'a>],
     of: Scalar,
-) -> Result<(Global<A>, &'t [Token<'a>]), Failure<'t, 'a>>
-    ensures { Gives (λ x. (global_of x.0, toks x.1.now)) result (behind (token.Punctuator punct.Comma) (global of) (toks tokens.now)) }
-{
-    let rest = expect(tokens, Fixed::Punctuator(Punctuator::Comma))?;
-    let (name, rest) = name(alloc, rest)?;
-    let ((length, first), rest) = sized(alloc, rest)?;
-    Ok((
-        Global {
-            of,
-            name,
-            length,
-            first,
-        },
-        rest,
-    ))
+}
+
+impl<A: Allocator + Copy> Element<Global<A>> for EachGlobal<A> {
+    ghost Plain = { Tree.Global };
+
+    ghost plain = { global_of };
+
+    ghost can = { λ each. Unit {0} };
+
+    ghost reads = { λ each. global each.of };
+
+    fn read<'t, 'a>(
+        &self,
+        tokens: &'t [Token<'a>],
+    ) -> Result<(Global<A>, &'t [Token<'a>]), Failure<'t, 'a>> {
+        let (name, rest) = name(self.alloc, tokens)?;
+        let ((length, first), rest) = sized(self.alloc, rest)?;
+        let of = self.of;
+        Ok((
+            Global {
+                of,
+                name,
+                length,
+                first,
+            },
+            rest,
+        ))
+    }
 }
 
 /// The globals of one declaration, behind the first one's name.
@@ -191,7 +205,7 @@ fn several<'t, 'a, A: Allocator + Copy>(
 ) -> Result<(Items<Global<A>, A>, &'t [Token<'a>]), Failure<'t, 'a>>
     ensures { Gives (λ x. (map global_of x.0, toks x.1.now)) result (several of (name_of name) (toks tokens.now)) }
 {
-    let ((length, first), inner) = sized(alloc, tokens)?;
+    let ((length, first), rest) = sized(alloc, tokens)?;
     let mut all = Items::new(alloc);
     all.push(Global {
         of,
@@ -199,19 +213,7 @@ fn several<'t, 'a, A: Allocator + Copy>(
         length,
         first,
     })?;
-    let mut rest = inner;
-    'turns: for _turn in 0..inner.len() {
-        if !is_next(rest, Fixed::Punctuator(Punctuator::Comma)) {
-            return Ok((all, rest));
-        }
-        let (one, after) = another(alloc, rest, of)?;
-        all.push(one)?;
-        rest = after;
-    }
-    if is_next(rest, Fixed::Punctuator(Punctuator::Comma)) {
-        return Err(Failure::Wrong(rest));
-    }
-    Ok((all, rest))
+    further(&EachGlobal { alloc, of }, all, rest)
 }
 
 /// `sized { , name sized } ;`, behind the first global's type and name.

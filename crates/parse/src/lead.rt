@@ -77,7 +77,7 @@ pub fn lead_at(tokens: &[Token]) -> Lead
     match tokens {
         [first, ..] => match first.kind {
             Kind::Keyword(keyword) => lead_fixed(Fixed::Keyword(keyword)),
-            Kind::Punctuator(sign) => lead_fixed(Fixed::Punctuator(sign)),
+            Kind::Punctuator(punctuator) => lead_fixed(Fixed::Punctuator(punctuator)),
             _ => Lead::Simple,
         },
         [] => Lead::Simple,
@@ -102,7 +102,7 @@ pub fn operand_at(tokens: &[Token]) -> Operand
     }
 }
 
-/// The operator that a sign is between two operands.
+/// The operator that a punctuator is between two operands.
 pub fn infix_of(fixed: Fixed) -> Option<Infix>
     ensures { result ≡ infix_of (binary_of fixed) (logical_of fixed) }
 {

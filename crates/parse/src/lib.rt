@@ -8,6 +8,7 @@ mod fault;
 mod functions;
 mod globals;
 mod lead;
+mod list;
 mod node;
 mod plain;
 mod scalar;

@@ -156,7 +156,10 @@ pub fn conditional<A: Allocator + Copy>(
     then: Expr<A>,
     other: Expr<A>,
 ) -> Result<Expr<A>, AllocError>
-    ensures { IfOk result (λ e. expr_of e ≡ Conditional (expr_of condition) (expr_of then) (expr_of other) (across (span_of (expr_of condition)) (span_of (expr_of other)))) }
+    ensures { IfOk result
+        (λ e. expr_of e
+        ≡ Conditional (expr_of condition) (expr_of then) (expr_of other)
+        (across (span_of (expr_of condition)) (span_of (expr_of other)))) }
 {
     let at = across(span_of(&condition), span_of(&other));
     let (condition, then, other) = three_boxed(alloc, condition, then, other)?;

@@ -25,7 +25,8 @@ use syntax::tree::{Expr, Stmt};
 pub fn empty_stmt<'t, 'a, A: Allocator + Copy>(
     tokens: &'t [Token<'a>],
 ) -> Result<(Stmt<A>, &'t [Token<'a>]), Failure<'t, 'a>>
-    ensures { Gives (λ x. (stmt_of x.0, toks x.1.now)) result (mapped (λ _. Empty) (expect (token.Punctuator punct.Semicolon)) (toks tokens.now)) }
+    ensures { Gives (λ x. (stmt_of x.0, toks x.1.now)) result
+        (mapped (λ _. Empty) (expect (token.Punctuator punct.Semicolon)) (toks tokens.now)) }
 {
     let rest = expect(tokens, Fixed::Punctuator(Punctuator::Semicolon))?;
     Ok((Stmt::Empty, rest))
@@ -38,7 +39,8 @@ pub fn simple_stmt<'t, 'a, A: Allocator + Copy>(
     depth: usize,
 ) -> Result<(Stmt<A>, &'t [Token<'a>]), Failure<'t, 'a>>
     requires { depth < 2 ^ 32 }
-    ensures { Gives (λ x. (stmt_of x.0, toks x.1.now)) result (mapped Do (before (token.Punctuator punct.Semicolon) (simple_at depth)) (toks tokens.now)) }
+    ensures { Gives (λ x. (stmt_of x.0, toks x.1.now)) result
+        (mapped Do (before (token.Punctuator punct.Semicolon) (simple_at depth)) (toks tokens.now)) }
 {
     let (simple, rest) = simple_before(
         alloc,
@@ -102,7 +104,8 @@ fn alone<'t, 'a>(
     tokens: &'t [Token<'a>],
     fixed: Fixed,
 ) -> Result<(Span, &'t [Token<'a>]), Failure<'t, 'a>>
-    ensures { Gives (λ x. (x.0, toks x.1.now)) result (before (token.Punctuator punct.Semicolon) (spot fixed) (toks tokens.now)) }
+    ensures { Gives (λ x. (x.0, toks x.1.now)) result
+        (before (token.Punctuator punct.Semicolon) (spot fixed) (toks tokens.now)) }
 {
     let (at, rest) = spot(tokens, fixed)?;
     let rest = expect(rest, Fixed::Punctuator(Punctuator::Semicolon))?;
@@ -113,7 +116,8 @@ fn alone<'t, 'a>(
 pub fn break_stmt<'t, 'a, A: Allocator + Copy>(
     tokens: &'t [Token<'a>],
 ) -> Result<(Stmt<A>, &'t [Token<'a>]), Failure<'t, 'a>>
-    ensures { Gives (λ x. (stmt_of x.0, toks x.1.now)) result (mapped Break (before (token.Punctuator punct.Semicolon) (spot (token.Keyword key.Break))) (toks tokens.now)) }
+    ensures { Gives (λ x. (stmt_of x.0, toks x.1.now)) result
+        (mapped Break (before (token.Punctuator punct.Semicolon) (spot (token.Keyword key.Break))) (toks tokens.now)) }
 {
     let (at, rest) = alone(tokens, Fixed::Keyword(Keyword::Break))?;
     Ok((Stmt::Break(at), rest))
@@ -123,7 +127,9 @@ pub fn break_stmt<'t, 'a, A: Allocator + Copy>(
 pub fn continue_stmt<'t, 'a, A: Allocator + Copy>(
     tokens: &'t [Token<'a>],
 ) -> Result<(Stmt<A>, &'t [Token<'a>]), Failure<'t, 'a>>
-    ensures { Gives (λ x. (stmt_of x.0, toks x.1.now)) result (mapped Continue (before (token.Punctuator punct.Semicolon) (spot (token.Keyword key.Continue))) (toks tokens.now)) }
+    ensures { Gives (λ x. (stmt_of x.0, toks x.1.now)) result
+        (mapped Continue (before (token.Punctuator punct.Semicolon) (spot (token.Keyword key.Continue)))
+        (toks tokens.now)) }
 {
     let (at, rest) = alone(tokens, Fixed::Keyword(Keyword::Continue))?;
     Ok((Stmt::Continue(at), rest))
@@ -133,7 +139,9 @@ pub fn continue_stmt<'t, 'a, A: Allocator + Copy>(
 pub fn cancel_stmt<'t, 'a, A: Allocator + Copy>(
     tokens: &'t [Token<'a>],
 ) -> Result<(Stmt<A>, &'t [Token<'a>]), Failure<'t, 'a>>
-    ensures { Gives (λ x. (stmt_of x.0, toks x.1.now)) result (mapped Cancel (before (token.Punctuator punct.Semicolon) (spot (token.Keyword key.Cancel))) (toks tokens.now)) }
+    ensures { Gives (λ x. (stmt_of x.0, toks x.1.now)) result
+        (mapped Cancel (before (token.Punctuator punct.Semicolon) (spot (token.Keyword key.Cancel)))
+        (toks tokens.now)) }
 {
     let (at, rest) = alone(tokens, Fixed::Keyword(Keyword::Cancel))?;
     Ok((Stmt::Cancel(at), rest))

@@ -5,7 +5,7 @@ ghost use Rattle.lex.specs.Tokens.{toks};
 ghost use Rattle.parse.specs.inner.Reading.{Gives, take, head};
 ghost use Rattle.parse.specs.inner.Expressions.{the_type_word, starts_type, scalar};
 
-use crate::cursor::{expect, is_next};
+use crate::cursor::eat;
 use crate::fault::Failure;
 use lex::token::{Fixed, Keyword, Kind, Scalar, Token};
 
@@ -44,9 +44,10 @@ pub fn scalar<'t, 'a>(tokens: &'t [Token<'a>]) -> Result<(Scalar, &'t [Token<'a>
     ensures { Gives (λ x. (x.0, toks x.1.now)) result (scalar (toks tokens.now)) }
 {
     let ((of, longer), rest) = type_word(tokens)?;
-    if longer && is_next(rest, Fixed::Keyword(Keyword::Int)) {
-        let rest = expect(rest, Fixed::Keyword(Keyword::Int))?;
-        return Ok((of, rest));
+    if longer {
+        if let Some(rest) = eat(rest, Fixed::Keyword(Keyword::Int)) {
+            return Ok((of, rest));
+        }
     }
     Ok((of, rest))
 }

@@ -5,22 +5,24 @@ ghost use Rattle.lex.specs.declared.token.Fixed.TheVariants as token;
 ghost use Rattle.lex.specs.declared.token.Keyword.TheVariants as key;
 ghost use Rattle.lex.specs.declared.token.Punctuator.TheVariants as punct;
 ghost use Rattle.lex.specs.Tokens.{toks};
+ghost use Rattle.syntax.specs.Tree as Tree;
 ghost use Rattle.syntax.specs.Views.{expr_of, simple_of, declarator_of, declaration_of, start_of};
 ghost use Rattle.syntax.specs.Grammar.{assigning_of, the_assigning, step_of, the_step};
 ghost use Rattle.parse.specs.inner.Reading.{Gives, head, behind, before, listed, perhaps, unless};
 ghost use Rattle.parse.specs.inner.Expressions.{whole_at};
 ghost use Rattle.parse.specs.inner.Statements.{GivesToken, simple_from, simple, starts_simple, simple_at, declarator, declaration, declaration_at, start};
 
-use crate::cursor::{closed, eat, expect, is_next, name};
+use crate::cursor::{closed, eat, name};
 use crate::expr::{expression, starts_expr};
 use crate::fault::Failure;
+use crate::list::{Element, listed};
 use crate::scalar::{scalar, starts_type};
 use containers::Items;
 use lex::token::{Fixed, Kind, Punctuator, Token};
 use std::alloc::Allocator;
 use syntax::tree::{BinaryOp, Declaration, Declarator, Expr, IncDec, Simple, Start};
 
-/// The operator of an assignment, if a sign assigns.
+/// The operator of an assignment, if a punctuator assigns.
 fn assigning_of(fixed: Fixed) -> Option<Option<BinaryOp>>
     ensures { result ≡ assigning_of fixed }
 {
@@ -40,17 +42,17 @@ fn assigning_of(fixed: Fixed) -> Option<Option<BinaryOp>>
     }
 }
 
-/// A sign that assigns at the front, if one stands there.
+/// A punctuator that assigns at the front, if one stands there.
 fn assigning<'t, 'a>(tokens: &'t [Token<'a>]) -> Option<(Option<BinaryOp>, &'t [Token<'a>])>
     ensures { GivesToken the_assigning (toks tokens.now) result }
 {
     let [first, rest @ ..] = tokens else {
         return None;
     };
-    let Kind::Punctuator(sign) = first.kind else {
+    let Kind::Punctuator(punctuator) = first.kind else {
         return None;
     };
-    let op = assigning_of(Fixed::Punctuator(sign))?;
+    let op = assigning_of(Fixed::Punctuator(punctuator))?;
     Some((op, rest))
 }
 
@@ -86,7 +88,8 @@ fn simple_from<'t, 'a, A: Allocator + Copy>(
     depth: usize,
 ) -> Result<(Simple<A>, &'t [Token<'a>]), Failure<'t, 'a>>
     requires { depth < 2 ^ 32 }
-    ensures { Gives (λ x. (simple_of x.0, toks x.1.now)) result (simple_from (whole_at depth) (expr_of to) (toks tokens.now)) }
+    ensures { Gives (λ x. (simple_of x.0, toks x.1.now)) result
+        (simple_from (whole_at depth) (expr_of to) (toks tokens.now)) }
 {
     if let Some((op, rest)) = assigning(tokens) {
         return match expression(alloc, rest, depth) {
@@ -160,7 +163,9 @@ fn first_value<'t, 'a, A: Allocator + Copy>(
     depth: usize,
 ) -> Result<(Option<Expr<A>>, &'t [Token<'a>]), Failure<'t, 'a>>
     requires { depth < 2 ^ 32 }
-    ensures { Gives (λ x. (option_map expr_of x.0, toks x.1.now)) result (perhaps (token.Punctuator punct.Assign) (behind (token.Punctuator punct.Assign) (whole_at depth)) (toks tokens.now)) }
+    ensures { Gives (λ x. (option_map expr_of x.0, toks x.1.now)) result
+        (perhaps (token.Punctuator punct.Assign) (behind (token.Punctuator punct.Assign) (whole_at depth))
+        (toks tokens.now)) }
 {
     let Some(rest) = eat(tokens, Fixed::Punctuator(Punctuator::Assign)) else {
         return Ok((None, tokens));
@@ -188,18 +193,28 @@ fn declarator<'t, 'a, A: Allocator + Copy>(
     }
 }
 
-/// A further declarator, behind its comma.
-fn further_declarator<'t, 'a, A: Allocator + Copy>(
+/// How the declarators of a list are read.
+#[derive(Drop)]
+struct EachDeclarator<A: Allocator> {
     alloc: A,
-    tokens: &'t [Token<'a>],
     depth: usize,
-) -> Result<(Declarator<A>, &'t [Token<'a>]), Failure<'t, 'a>>
-    requires { depth < 2 ^ 32 }
-    ensures { Gives (λ x. (declarator_of x.0, toks x.1.now)) result (behind (token.Punctuator punct.Comma) (declarator (whole_at depth)) (toks tokens.now)) }
-{
-    let rest = expect(tokens, Fixed::Punctuator(Punctuator::Comma))?;
-    let (one, rest) = declarator(alloc, rest, depth)?;
-    Ok((one, rest))
+}
+
+impl<A: Allocator + Copy> Element<Declarator<A>> for EachDeclarator<A> {
+    ghost Plain = { Tree.Declarator };
+
+    ghost plain = { declarator_of };
+
+    ghost can = { λ each. each.depth < 2 ^ 32 };
+
+    ghost reads = { λ each. declarator (whole_at each.depth) };
+
+    fn read<'t, 'a>(
+        &self,
+        tokens: &'t [Token<'a>],
+    ) -> Result<(Declarator<A>, &'t [Token<'a>]), Failure<'t, 'a>> {
+        declarator(self.alloc, tokens, self.depth)
+    }
 }
 
 /// `declarator { , declarator } ;`
@@ -209,21 +224,11 @@ fn declarators<'t, 'a, A: Allocator + Copy>(
     depth: usize,
 ) -> Result<(Items<Declarator<A>, A>, &'t [Token<'a>]), Failure<'t, 'a>>
     requires { depth < 2 ^ 32 }
-    ensures { Gives (λ x. (map declarator_of x.0, toks x.1.now)) result (before (token.Punctuator punct.Semicolon) (listed (declarator (whole_at depth))) (toks tokens.now)) }
+    ensures { Gives (λ x. (map declarator_of x.0, toks x.1.now)) result
+        (before (token.Punctuator punct.Semicolon) (listed (declarator (whole_at depth))) (toks tokens.now)) }
 {
-    let (first, inner) = declarator(alloc, tokens, depth)?;
-    let mut all = Items::new(alloc);
-    all.push(first)?;
-    let mut rest = inner;
-    'turns: for _turn in 0..inner.len() {
-        if !is_next(rest, Fixed::Punctuator(Punctuator::Comma)) {
-            break;
-        }
-        let (one, after) = further_declarator(alloc, rest, depth)?;
-        all.push(one)?;
-        rest = after;
-    }
-    let rest = expect(rest, Fixed::Punctuator(Punctuator::Semicolon))?;
+    let (all, rest) = listed(alloc, &EachDeclarator { alloc, depth }, tokens)?;
+    let (all, rest) = closed(all, rest, Fixed::Punctuator(Punctuator::Semicolon))?;
     Ok((all, rest))
 }
 
@@ -291,7 +296,9 @@ pub fn last_simple<'t, 'a, A: Allocator + Copy>(
     depth: usize,
 ) -> Result<(Option<Simple<A>>, &'t [Token<'a>]), Failure<'t, 'a>>
     requires { depth < 2 ^ 32 }
-    ensures { Gives (λ x. (option_map simple_of x.0, toks x.1.now)) result (before (token.Punctuator punct.CloseParen) (unless (token.Punctuator punct.CloseParen) (simple_at depth)) (toks tokens.now)) }
+    ensures { Gives (λ x. (option_map simple_of x.0, toks x.1.now)) result
+        (before (token.Punctuator punct.CloseParen) (unless (token.Punctuator punct.CloseParen) (simple_at depth))
+        (toks tokens.now)) }
 {
     if let Some(rest) = eat(tokens, Fixed::Punctuator(Punctuator::CloseParen)) {
         return Ok((None, rest));
@@ -312,7 +319,9 @@ pub fn last_expression<'t, 'a, A: Allocator + Copy>(
     depth: usize,
 ) -> Result<(Option<Expr<A>>, &'t [Token<'a>]), Failure<'t, 'a>>
     requires { depth < 2 ^ 32 }
-    ensures { Gives (λ x. (option_map expr_of x.0, toks x.1.now)) result (before (token.Punctuator punct.Semicolon) (unless (token.Punctuator punct.Semicolon) (whole_at depth)) (toks tokens.now)) }
+    ensures { Gives (λ x. (option_map expr_of x.0, toks x.1.now)) result
+        (before (token.Punctuator punct.Semicolon) (unless (token.Punctuator punct.Semicolon) (whole_at depth))
+        (toks tokens.now)) }
 {
     if let Some(rest) = eat(tokens, Fixed::Punctuator(Punctuator::Semicolon)) {
         return Ok((None, rest));

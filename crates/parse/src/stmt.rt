@@ -13,7 +13,7 @@ ghost use Rattle.parse.specs.inner.Expressions.{whole_at};
 ghost use Rattle.parse.specs.inner.Headings.{branches_of};
 ghost use Rattle.parse.specs.inner.Statements.{in_parens, entry, branches, if_tree, if_stmt, while_stmt, do_stmt, end_of_do, rest_of_head, head_of_for, for_stmt, transaction_stmt, starts_stmt, stmt_at, block_at};
 
-use crate::cursor::{closed, expect, is_next, spot};
+use crate::cursor::{closed, eat, expect, is_next, spot};
 use crate::expr::expression;
 use crate::fault::Failure;
 use crate::lead::{Lead, lead_at};
@@ -56,7 +56,8 @@ fn rest_of_head<'t, 'a, A: Allocator + Copy>(
     depth: usize,
 ) -> Result<((Option<Expr<A>>, Option<Simple<A>>), &'t [Token<'a>]), Failure<'t, 'a>>
     requires { depth < 2 ^ 32 }
-    ensures { Gives (λ x. ((option_map expr_of x.0.0, option_map simple_of x.0.1), toks x.1.now)) result (rest_of_head depth (toks tokens.now)) }
+    ensures { Gives (λ x. ((option_map expr_of x.0.0, option_map simple_of x.0.1), toks x.1.now)) result
+        (rest_of_head depth (toks tokens.now)) }
 {
     let (condition, rest) = last_expression(alloc, tokens, depth)?;
     match last_simple(alloc, rest, depth) {
@@ -75,7 +76,9 @@ fn head_of_for<'t, 'a, A: Allocator + Copy>(
     depth: usize,
 ) -> Result<(ForHead<A>, &'t [Token<'a>]), Failure<'t, 'a>>
     requires { depth < 2 ^ 32 }
-    ensures { Gives (λ x. ((start_of x.0.start, (option_map expr_of x.0.condition, option_map simple_of x.0.step)), toks x.1.now)) result (head_of_for depth (toks tokens.now)) }
+    ensures { Gives
+        (λ x. ((start_of x.0.start, (option_map expr_of x.0.condition, option_map simple_of x.0.step)), toks x.1.now))
+        result (head_of_for depth (toks tokens.now)) }
 {
     let rest = expect(tokens, Fixed::Punctuator(Punctuator::OpenParen))?;
     let (start, rest) = start(alloc, rest, depth)?;
@@ -102,7 +105,9 @@ fn boxed_head<'t, 'a, A: Allocator + Copy>(
     depth: usize,
 ) -> Result<(Boxed<ForHead<A>, A>, &'t [Token<'a>]), Failure<'t, 'a>>
     requires { depth < 2 ^ 32 }
-    ensures { Gives (λ x. ((start_of x.0.start, (option_map expr_of x.0.condition, option_map simple_of x.0.step)), toks x.1.now)) result (head_of_for depth (toks tokens.now)) }
+    ensures { Gives
+        (λ x. ((start_of x.0.start, (option_map expr_of x.0.condition, option_map simple_of x.0.step)), toks x.1.now))
+        result (head_of_for depth (toks tokens.now)) }
 {
     let (head, rest) = head_of_for(alloc, tokens, depth)?;
     Ok((Boxed::new(alloc, head)?, rest))
@@ -190,7 +195,9 @@ fn for_of<'t, 'a, A: Allocator + Copy>(
     head: Boxed<ForHead<A>, A>,
     read: Result<(Boxed<Stmt<A>, A>, &'t [Token<'a>]), Failure<'t, 'a>>,
 ) -> Result<(Stmt<A>, &'t [Token<'a>]), Failure<'t, 'a>>
-    ensures { GivesOn stmt_of stmt_of (λ s. For (start_of head.start) (option_map expr_of head.condition) (option_map simple_of head.step) s) read.entry result }
+    ensures { GivesOn stmt_of stmt_of
+        (λ s. For (start_of head.start) (option_map expr_of head.condition) (option_map simple_of head.step) s)
+        read.entry result }
 {
     match read {
         Ok((body, rest)) => Ok((Stmt::For(head, body), rest)),
@@ -206,7 +213,8 @@ fn do_of<'t, 'a, A: Allocator + Copy>(
     depth: usize,
 ) -> Result<(Stmt<A>, &'t [Token<'a>]), Failure<'t, 'a>>
     requires { depth < 2 ^ 32 }
-    ensures { Gives (λ x. (stmt_of x.0, toks x.1.now)) result (mapped (DoWhile (stmt_of body)) (end_of_do depth) (toks tokens.now)) }
+    ensures { Gives (λ x. (stmt_of x.0, toks x.1.now)) result
+        (mapped (DoWhile (stmt_of body)) (end_of_do depth) (toks tokens.now)) }
 {
     match end_of_do(alloc, tokens, depth) {
         Ok((condition, rest)) => Ok((Stmt::DoWhile(body, condition), rest)),
@@ -236,7 +244,8 @@ fn braced<'t, 'a, A: Allocator + Copy>(
     tokens: &'t [Token<'a>],
 ) -> Result<(Items<Stmt<A>, A>, &'t [Token<'a>]), Failure<'t, 'a>>
     ensures value { IfOk result (λ x. x.0 ≡ all) }
-    ensures rest { Gives (λ x. (tt, toks x.1.now)) result (expect (token.Punctuator punct.CloseBrace) (toks tokens.now)) }
+    ensures rest { Gives (λ x. (tt, toks x.1.now)) result
+        (expect (token.Punctuator punct.CloseBrace) (toks tokens.now)) }
 {
     closed(all, tokens, Fixed::Punctuator(Punctuator::CloseBrace))
 }
@@ -262,12 +271,12 @@ fn else_part<'t, 'a, A: Allocator + Copy>(
     depth: usize,
 ) -> Result<(Option<Boxed<Stmt<A>, A>>, &'t [Token<'a>]), Failure<'t, 'a>>
     requires { depth < 2 ^ 32 }
-    ensures { Gives (λ x. (option_map stmt_of x.0, toks x.1.now)) result (perhaps (token.Keyword key.Else) (behind (token.Keyword key.Else) (stmt_at depth)) (toks tokens.now)) }
+    ensures { Gives (λ x. (option_map stmt_of x.0, toks x.1.now)) result
+        (perhaps (token.Keyword key.Else) (behind (token.Keyword key.Else) (stmt_at depth)) (toks tokens.now)) }
 {
-    if !is_next(tokens, Fixed::Keyword(Keyword::Else)) {
+    let Some(rest) = eat(tokens, Fixed::Keyword(Keyword::Else)) else {
         return Ok((None, tokens));
-    }
-    let rest = expect(tokens, Fixed::Keyword(Keyword::Else))?;
+    };
     let (other, rest) = boxed_stmt(alloc, rest, depth)?;
     Ok((Some(other), rest))
 }
@@ -294,7 +303,8 @@ fn if_stmt<'t, 'a, A: Allocator + Copy>(
     depth: usize,
 ) -> Result<(Stmt<A>, &'t [Token<'a>]), Failure<'t, 'a>>
     requires { depth < 2 ^ 32 }
-    ensures { Gives (λ x. (stmt_of x.0, toks x.1.now)) result (if_stmt depth (stmt_at depth) (block_at depth) (toks tokens.now)) }
+    ensures { Gives (λ x. (stmt_of x.0, toks x.1.now)) result
+        (if_stmt depth (stmt_at depth) (block_at depth) (toks tokens.now)) }
 {
     let rest = expect(tokens, Fixed::Keyword(Keyword::If))?;
     let (condition, rest) = in_parens(alloc, rest, depth)?;
@@ -309,7 +319,8 @@ fn while_stmt<'t, 'a, A: Allocator + Copy>(
     depth: usize,
 ) -> Result<(Stmt<A>, &'t [Token<'a>]), Failure<'t, 'a>>
     requires { depth < 2 ^ 32 }
-    ensures { Gives (λ x. (stmt_of x.0, toks x.1.now)) result (while_stmt depth (stmt_at depth) (block_at depth) (toks tokens.now)) }
+    ensures { Gives (λ x. (stmt_of x.0, toks x.1.now)) result
+        (while_stmt depth (stmt_at depth) (block_at depth) (toks tokens.now)) }
 {
     let rest = expect(tokens, Fixed::Keyword(Keyword::While))?;
     let (condition, rest) = in_parens(alloc, rest, depth)?;
@@ -324,7 +335,8 @@ fn do_stmt<'t, 'a, A: Allocator + Copy>(
     depth: usize,
 ) -> Result<(Stmt<A>, &'t [Token<'a>]), Failure<'t, 'a>>
     requires { depth < 2 ^ 32 }
-    ensures { Gives (λ x. (stmt_of x.0, toks x.1.now)) result (do_stmt depth (stmt_at depth) (block_at depth) (toks tokens.now)) }
+    ensures { Gives (λ x. (stmt_of x.0, toks x.1.now)) result
+        (do_stmt depth (stmt_at depth) (block_at depth) (toks tokens.now)) }
 {
     let rest = expect(tokens, Fixed::Keyword(Keyword::Do))?;
     let (body, rest) = boxed_stmt(alloc, rest, depth)?;
@@ -339,7 +351,8 @@ fn for_stmt<'t, 'a, A: Allocator + Copy>(
     depth: usize,
 ) -> Result<(Stmt<A>, &'t [Token<'a>]), Failure<'t, 'a>>
     requires { depth < 2 ^ 32 }
-    ensures { Gives (λ x. (stmt_of x.0, toks x.1.now)) result (for_stmt depth (stmt_at depth) (block_at depth) (toks tokens.now)) }
+    ensures { Gives (λ x. (stmt_of x.0, toks x.1.now)) result
+        (for_stmt depth (stmt_at depth) (block_at depth) (toks tokens.now)) }
 {
     let rest = expect(tokens, Fixed::Keyword(Keyword::For))?;
     let (head, rest) = boxed_head(alloc, rest, depth)?;
@@ -365,7 +378,8 @@ fn transaction_stmt<'t, 'a, A: Allocator + Copy>(
     depth: usize,
 ) -> Result<(Stmt<A>, &'t [Token<'a>]), Failure<'t, 'a>>
     requires { depth < 2 ^ 32 }
-    ensures { Gives (λ x. (stmt_of x.0, toks x.1.now)) result (transaction_stmt depth (stmt_at depth) (block_at depth) mode (toks tokens.now)) }
+    ensures { Gives (λ x. (stmt_of x.0, toks x.1.now)) result
+        (transaction_stmt depth (stmt_at depth) (block_at depth) mode (toks tokens.now)) }
 {
     let (at, rest) = spot(tokens, mode_keyword(mode))?;
     let (body, rest) = block(alloc, rest, depth)?;

@@ -99,7 +99,8 @@ fn end_of(tokens: &[Token]) -> usize
 /// spell a program within the depth of 100.
 pub fn parse<A: Allocator + Copy>(alloc: A, tokens: &[Token<'_>]) -> Result<Unit<A>, ParseFault>
     // It is spelled so, within the depth.
-    ensures found { IfOk result (λ u. Spells (source_of u) (toks tokens.now) × (source_depth (source_of u) ≤ deepest_program)) }
+    ensures found { IfOk result
+        (λ u. Spells (source_of u) (toks tokens.now) × (source_depth (source_of u) ≤ deepest_program)) }
     // Which fault comes, and at which token.
     ensures fault { IfErr result (λ f. IsFaultOf (toks tokens.now) f) }
     // What is spelled within the depth is found.

@@ -1,4 +1,4 @@
--- Lists that end at a mark, and lists with commas, as loops read them.
+-- Lists that end at a fixed token, and lists with commas, as loops read them.
 use Rattle.std.proofs.Common.{◌≡◌, false, List, [], ◌∷◌, Result, Ok, Err, refl}
 use Rattle.lex.specs.declared.token.Fixed.{Fixed}
 use Rattle.lex.specs.declared.token.Fixed.TheVariants.{Punctuator}
@@ -12,15 +12,15 @@ pub expect_not : (k : Fixed) (ts : List Tok) → is_next k (head ts) ≡ false �
 expect_not k [] h = refl
 expect_not k (t ∷ ts) h = rw h refl
 
--- up to a mark, which is read
+-- up to a fixed token, which is read
 abbrev pub ended : {A : Type 0} → Fixed → Result (List A × List Tok) Fault → Result (List A × List Tok) Fault
 ended k read = joined (expect k) read >>= λ x. Ok (x.0.0, x.1)
 
--- what stands before a mark
+-- what stands before a fixed token
 pub before_is : {A : Type 0} (k : Fixed) (P : Parser (List A)) (ts : List Tok) → before k P ts ≡ ended k (P ts)
 before_is k P ts = refl
 
--- what stands behind a mark that was read
+-- what stands behind a fixed token that was read
 pub behind_is : {A : Type 0} (k : Fixed) (P : Parser A) (ts inner : List Tok) → expect k ts ≡ Ok (tt, inner) → behind k P ts ≡ P inner
 behind_is {A} k P ts inner e = rw e (same (P inner))
   where

@@ -83,12 +83,12 @@ listed_with x (Err f) = refl
 pub listed_goes : (P : Parser Expr) (M : Parser (List Expr)) (ts rest : List Tok) (x : Expr) → P ts ≡ Ok (x, rest) → mapped in_front (seq P M) ts ≡ mapped (λ es. (x ∷ []) ++ es) M rest
 listed_goes P M ts rest x h = rw h (listed_with x (M rest))
 
--- behind a sign
+-- behind a punctuator
 module _ {A : Type 0} (k : Fixed) (P : Parser A) (ts : List Tok) where
   pub behind_none : (f : Fault) → expect k ts ≡ Err f → behind k P ts ≡ Err f
   behind_none f e = rw e refl
 
--- two parts behind a sign
+-- two parts behind a punctuator
 module _ {A B : Type 0} (k : Fixed) (P : Parser A) (Q : Parser B) (ts : List Tok) where
   pub both_none : (f : Fault) → expect k ts ≡ Err f → behind k (seq P Q) ts ≡ Err f
   both_none f e = rw e refl
@@ -108,7 +108,7 @@ pub deepest_push : (es : List Expr) (e : Expr) → deepest (exprs_from (es ++ e 
 deepest_push [] e = omega arith
 deepest_push (x ∷ es) e = let rest = deepest_push es e in omega (arith, rest)
 
--- between two signs, the last of which is missing
+-- between two punctuators, the last of which is missing
 pub unclosed : {A B : Type 0} (first last : Fixed) (P : Parser A) (make : A × Span → B) (ts r s : List Tok) (x : A) (f : Fault) → expect first ts ≡ Ok (tt, r) → P r ≡ Ok (x, s) → spot last s ≡ Err f → mapped make (behind first (seq P (spot last))) ts ≡ Err f
 unclosed first last P make ts r s x f e a k = rw (e, a, k) refl
 

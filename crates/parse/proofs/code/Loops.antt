@@ -11,7 +11,7 @@ use Rattle.lex.specs.declared.token.Scalar.{Scalar}
 use Rattle.syntax.specs.Tree.{Name, Global, Shares}
 use Rattle.syntax.specs.declared.tree.Attribute.{Attribute}
 use Rattle.syntax.specs.Grammar.{joined}
-use Rattle.parse.specs.inner.Reading.{Fault, wrong, ◌>>=◌, Parser, head, seq, expect, is_next, is_other, many, many_until, mapped, behind, before, listed, trailing, in_front, finished}
+use Rattle.parse.specs.inner.Reading.{Fault, wrong, ◌>>=◌, Parser, head, seq, expect, is_next, is_other, many, many_until, mapped, behind, before, trailing, in_front, finished}
 use Rattle.parse.specs.inner.Items.{at_end, Size, global_tree, sized, global, several, globals_from}
 use Rattle.parse.proofs.code.Turns.{onward}
 
@@ -28,25 +28,16 @@ pub ended_at : {A : Type 0} (rest : List Token) (all : A) → (length rest == 0)
 ended_at [] all h = refl
 ended_at (t ∷ rest) all h = let none : false ≡ true = sym (eqb-suc-zero (length rest)) ∙ h in absurd cc
 
--- one was read, and others follow
-pub listed_begins : {A : Type 0} (P : Parser A) (front : List A) (x : A) (ts : List Tok) (rest : List Token) → front ≡ x ∷ [] → P ts ≡ Ok (x, toks rest)
-    → onward front (many (is_other (Punctuator punct.Comma)) (length rest - 0) (behind (Punctuator punct.Comma) P) (toks rest)) ≡ listed P ts
-listed_begins {A} P front x ts rest one e = rw (one, all_turns rest, e) (same (many (is_other (Punctuator punct.Comma)) (length (toks rest)) (behind (Punctuator punct.Comma) P) (toks rest)))
-  where
-    same : (r : Result (List A × List Tok) Fault) → onward (x ∷ []) r ≡ ((r >>= λ (y : List A × List Tok). Ok ((x, y.0), y.1)) >>= λ (z : (A × List A) × List Tok). Ok (z.0.0 ∷ z.0.1, z.1))
-    same (Ok y) = refl
-    same (Err f) = refl
-
 -- a global was read whose name stood before, and others follow
-pub several_begins : (t : Scalar) (x : Name) (front : List Global) (size : Size) (ts : List Tok) (rest : List Token) → front ≡ global_tree t x size ∷ [] → sized ts ≡ Ok (size, toks rest)
-    → onward front (many (is_other (Punctuator punct.Comma)) (length rest - 0) (behind (Punctuator punct.Comma) (global t)) (toks rest)) ≡ several t x ts
-several_begins t x front size ts rest one e = rw (one, all_turns rest, e) (same (many (is_other (Punctuator punct.Comma)) (length (toks rest)) (behind (Punctuator punct.Comma) (global t)) (toks rest)))
+pub several_is : (t : Scalar) (x : Name) (size : Size) (ts rest : List Tok) → sized ts ≡ Ok (size, rest)
+    → several t x ts ≡ onward (global_tree t x size ∷ []) (many_until (is_other (Punctuator punct.Comma)) (behind (Punctuator punct.Comma) (global t)) rest)
+several_is t x size ts rest e = rw e (same (many_until (is_other (Punctuator punct.Comma)) (behind (Punctuator punct.Comma) (global t)) rest))
   where
-    same : (r : Result (List Global × List Tok) Fault) → onward (global_tree t x size ∷ []) r ≡ ((r >>= λ (y : List Global × List Tok). Ok ((size, y.0), y.1)) >>= λ (z : (Size × List Global) × List Tok). Ok (global_tree t x z.0.0 ∷ z.0.1, z.1))
+    same : (r : Result (List Global × List Tok) Fault) → ((r >>= λ (y : List Global × List Tok). Ok ((size, y.0), y.1)) >>= λ (z : (Size × List Global) × List Tok). Ok (global_tree t x z.0.0 ∷ z.0.1, z.1)) ≡ onward (global_tree t x size ∷ []) r
     same (Ok y) = refl
     same (Err f) = refl
 
--- another value, before or behind a mark
+-- another value, before or behind a fixed token
 before_mapped : {A B C : Type 0} (k : Fixed) (g : A → B) (h : B → C) (P : Parser A) (ts : List Tok) → mapped (λ x. h (g x)) (before k P) ts ≡ mapped h (before k (mapped g P)) ts
 before_mapped {A} {B} {C} k g h P ts = go (P ts)
   where
@@ -122,9 +113,6 @@ module _ {A : Type 0} (P : Parser A) (front : List A) (total : Result (List A ×
   module _ (len i : ℕ) (ts : List Tok) (lt : i < len) (comma : is_next (Punctuator punct.Comma) (head ts) ≡ true) (so_far : onward front (trailing (len - i) P ts) ≡ total) where
     turns_left : len - i ≡ suc (len - (i + 1))
     turns_left = omega arith
-
-    pub trails_lost : (f : Fault) → expect (Punctuator punct.Comma) ts ≡ Err f → total ≡ Err f
-    trails_lost f e = sym so_far ∙ rw (turns_left, comma, e) refl
 
     module _ (next : List Tok) (read : expect (Punctuator punct.Comma) ts ≡ Ok (tt, next)) where
       pub trails_last : is_next (Punctuator punct.CloseBrace) (head next) ≡ true → total ≡ Ok (front, next)

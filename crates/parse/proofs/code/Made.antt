@@ -29,6 +29,11 @@ pub made_same : {X U : Type 0} (view : X → U) (other : Result (X × Bor (List 
 made_same view other (Ok x) h = h
 made_same view other (Err f) h = h
 
+-- what is seen otherwise, and looks the same
+pub seen_as : {X Y : Type 0} (view other : X → Y) → ((x : X) → view x ≡ other x) → (r : Result X Failure) (read : Result Y Fault) → Gives view r read → Gives other r read
+seen_as view other same (Ok x) read h = rw (← same x) h
+seen_as view other same (Err f) read h = h
+
 -- what fails once it is made failed before
 pub fails_before : {U V : Type 0} (make : U → V) (e : Failure) (read : Result (U × List Tok) Fault) → Fails e (◌>>=◌ {B = V × List Tok} read (λ x. Ok (make x.0, x.1))) → Fails e read
 fails_before make failure.Memory read h = tt
@@ -37,7 +42,7 @@ fails_before make (failure.Wrong r) (Err f) h = cc
 fails_before make (failure.Deep r) (Ok x) h = absurd cc
 fails_before make (failure.Deep r) (Err f) h = cc
 
--- two parts behind a sign, where the first was read
+-- two parts behind a punctuator, where the first was read
 module _ {A B C : Type 0} (k : Fixed) (P : Parser A) (Q : Parser B) (make : A × B → C) where
   last : (x : A) (r : Result (B × List Tok) Fault)
       → ◌>>=◌ {B = C × List Tok} (◌>>=◌ {B = (A × B) × List Tok} (◌>>=◌ {B = (Unit {0} × (A × B)) × List Tok} (◌>>=◌ {B = (A × B) × List Tok} r (λ y. Ok ((x, y.0), y.1))) (λ y. Ok ((tt, y.0), y.1))) (λ y. Ok (y.0.1, y.1))) (λ y. Ok (make y.0, y.1))

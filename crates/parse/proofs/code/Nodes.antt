@@ -66,9 +66,6 @@ module _ (d : ℕ) (ts : List Tok) where
   pub no_else : is_next (Keyword key.Else) (head ts) ≡ false → perhaps (Keyword key.Else) (behind (Keyword key.Else) (read.stmt_at d)) ts ≡ Ok (None, ts)
   no_else h = rw h refl
 
-  pub else_none : (f : Fault) → is_next (Keyword key.Else) (head ts) ≡ true → expect (Keyword key.Else) ts ≡ Err f → perhaps (Keyword key.Else) (behind (Keyword key.Else) (read.stmt_at d)) ts ≡ Err f
-  else_none f h e = rw (h, e) refl
-
   pub else_fails : (t1 : List Tok) (f : Fault) → is_next (Keyword key.Else) (head ts) ≡ true → expect (Keyword key.Else) ts ≡ Ok (tt, t1) → read.stmt_at d t1 ≡ Err f → perhaps (Keyword key.Else) (behind (Keyword key.Else) (read.stmt_at d)) ts ≡ Err f
   else_fails t1 f h a e = rw (h, a, e) refl
 

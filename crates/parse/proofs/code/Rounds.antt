@@ -1,4 +1,4 @@
--- Loops that read items up to a mark, which is read too: each way round them and out of them.
+-- Loops that read items up to a fixed token, which is read too: each way round them and out of them.
 use Rattle.std.proofs.Common.{◌≡◌, ℕ, ◌+◌, ◌-◌, ◌<◌, Bool, true, false, Option, List, [], ◌∷◌, ◌++◌, length, Result, Ok, Err, refl, sym, ap, subst, ◌∙◌, ◌⊎◌}
 use Rattle.lex.specs.declared.token.Fixed.{Fixed}
 use Rattle.lex.specs.Tokens.{Tok}

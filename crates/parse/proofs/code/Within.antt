@@ -39,7 +39,7 @@ stmt_start d b ts k e h =
     let s : d ≡ suc b = omega arith in
     rw (s, h) refl
 
--- a mark that was read was next
+-- a fixed token that was read was next
 expected : (k : Fixed) (ts inner : List Tok) → expect k ts ≡ Ok (tt, inner) → is_next k (head ts) ≡ true
 expected k [] inner e = absurd cc
 expected k (t ∷ ts) inner e = go (is_fixed k t.terminal) e

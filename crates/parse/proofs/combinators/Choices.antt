@@ -236,7 +236,7 @@ pub within_exact : {A : Type 0} {P : ℕ → Parser A} {L : A → List Tok → T
     → Exact (λ D. limited test n D (P D)) L (λ D x. W D x × (n ≤ D)) S C d
 within_exact {P = P} {L = L} {W = W} {S = S} {C = C} {d = d} test n E first begins at_end = limited_is P L W S C d test n E first begins at_end
 
--- ---- nothing, where the next token is a mark
+-- ---- nothing, where the next token is a fixed token
 
 abbrev pub UnlessS : {A : Type 0} → Fixed → (A → Option Tok → Type 0) → Option A → Option Tok → Type 0
 UnlessS k S None h = is_next k h ≡ true

@@ -26,7 +26,7 @@ fixed_terminal k (fixed j) x b e = go (same_fixed j k) refl e
     go true is h = ap fixed (same_is j k is)
     go false is h = absurd cc
 
--- a token that says a mark is that
+-- a token that says what a fixed token says is that token
 pub fixed_is : (k : Fixed) (t : Tok) (b : Unit {0}) → the_fixed k t ≡ Some b → t.terminal ≡ fixed k
 fixed_is k t b e = fixed_terminal k t.terminal tt b e
 
@@ -37,7 +37,7 @@ same_self : (k : Fixed) → same_fixed k k ≡ true
 same_self (Keyword a) = true_same keyword.the_type a a refl
 same_self (Punctuator a) = true_same punctuator.the_type a a refl
 
--- a token that is a mark
+-- a token that is a fixed token
 abbrev pub a_fixed : Fixed → Tok
 a_fixed m = record { terminal = fixed m; span = record { start = 0; «end» = 0 } }
 
@@ -53,7 +53,7 @@ one_head o q = rw o.whole refl
 pub seq_head : {A : Type 0} {f : Tok → Option A} {x : A} {M : Phrase} {p : List Tok} (s : Seq (One f x) M p) (q : List Tok) → head (p ++ q) ≡ Some s.first.token
 seq_head s q = rw (s.whole, s.first.whole) refl
 
--- where one mark is next, another is refused
+-- where one fixed token is next, another is refused
 pub other_false : (k j : Fixed) (ts : List Tok) → is_fixed j (fixed k) ≡ false → is_other k (head ts) ≡ false → expect j ts ≡ Err (wrong ts)
 other_false k j [] apart h = absurd cc
 other_false k j (t ∷ ts) apart h =

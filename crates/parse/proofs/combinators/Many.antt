@@ -105,20 +105,65 @@ module _ {A : Type 0} (P : ℕ → Parser A) (L : A → Phrase) (W : ℕ → A �
 
   -- ---- faults
 
-  record Broken (ts r : List Tok) : Type 0 where
+  -- What stands before the fault, and what it shows, and that the fault stays at these depths whatever stands behind its token.
+  record Stays (fault : List Tok → Fault) (AtDepth : ℕ → Type 0) (Shows : List Tok → List Tok → Type 0) (ts r : List Tok) : Type 0 where
     front : List Tok
     whole : ts ≡ front ++ r
-    begins : Nonempty front → Begins (Many L) front
-    stable : (D N : ℕ) (s : List Tok) → d ≤ D → length (front ++ s) ≤ N → head r ≡ head s → many stop N (P D) (front ++ s) ≡ Err (wrong s)
+    shows : Shows front r
+    stable : (D N : ℕ) (s : List Tok) → AtDepth D → length (front ++ s) ≤ N → head r ≡ head s → many stop N (P D) (front ++ s) ≡ Err (fault s)
 
-  record Drowned (ts r : List Tok) : Type 0 where
-    front : List Tok
-    whole : ts ≡ front ++ r
-    at : Tok
-    after : List Tok
-    here : r ≡ at ∷ after
-    begins : Begins (Many L) (front ++ at ∷ [])
-    stable : (N : ℕ) (s : List Tok) → length (front ++ s) ≤ N → head r ≡ head s → many stop N (P d) (front ++ s) ≡ Err (deep s)
+  -- Either fault of a list: it stands in the first item, or further on, or no token is left.
+  module _ (fault : List Tok → Fault) (AtDepth : ℕ → Type 0) (Shows : List Tok → List Tok → Type 0)
+      (reaches : (D : ℕ) → AtDepth D → d ≤ D)
+      (further : (x : A) (p q r : List Tok) → L x p → Shows q r → Shows (p ++ q) r)
+      (first : (ts r : List Tok) → stop (head ts) ≡ false → P d ts ≡ Err (fault r) → Stays fault AtDepth Shows ts r)
+      (at_end : (r : List Tok) → stop None ≡ false → wrong [] ≡ fault r → Stays fault AtDepth Shows [] r) where
+    later : (ts r1 r : List Tok) (x : A) → Reads P L W C d ts x r1 → Stays fault AtDepth Shows r1 r → Stays fault AtDepth Shows ts r
+    later ts r1 r x R I =
+        let nonempty = solid x R.front R.spelled in
+        record {
+          front = R.front ++ I.front;
+          whole = R.whole ∙ ap (λ (z : List Tok). R.front ++ z) I.whole ∙ sym (append_assoc R.front I.front r);
+          shows = further x R.front I.front r R.spelled I.shows;
+          stable = λ D N s at fits same.
+              let parts = append_assoc R.front I.front s in
+              let same_length = ap length parts in
+              let lt = longer R.front (I.front ++ s) nonempty in
+              ap (many stop N (P D)) parts
+              ∙ turn D N x R.front (I.front ++ s) nonempty R.spelled (omega arith) (R.stable D (I.front ++ s) (reaches D at) (ap head I.whole ∙ head_append I.front r s same))
+              ∙ rw (I.stable D (N - 1) s at (omega arith) same) refl;
+        }
+
+    no_err : {X : Type 0} (a : Result X Fault) (x : X) (f : Fault) → a ≡ Ok x → a ≡ Err f → ⊥
+    no_err a x f p q = cc
+
+    ok_no_err : {X : Type 0} {x : X} {f : Fault} → Ok x ≡ Err f → ⊥
+    ok_no_err h = cc
+
+    many_fails : (n : ℕ) (ts r : List Tok) → length ts ≤ n → many stop n (P d) ts ≡ Err (fault r) → Stays fault AtDepth Shows ts r
+    many_fails zero (t ∷ ts) r fits e = absurd (omega arith)
+    many_fails zero [] r fits e = elim (bool_cases (stop None)) [
+      | inl h ↦ absurd (no_err (many stop zero (P d) []) ([], []) (fault r) (stopped d zero [] h) e)
+      | inr h ↦ at_end r h (let f : many stop zero (P d) [] ≡ Err (wrong []) = rw h refl in err_is (wrong []) (fault r) (many stop zero (P d) []) f e)
+    ]
+    many_fails (suc n) ts r fits e = go (many_fails n) (bool_cases (stop (head ts)))
+      where
+        go : ((ts r : List Tok) → length ts ≤ n → many stop n (P d) ts ≡ Err (fault r) → Stays fault AtDepth Shows ts r) → (stop (head ts) ≡ true) ⊎ (stop (head ts) ≡ false) → Stays fault AtDepth Shows ts r
+        go rec (inl h) = absurd (no_err (many stop (suc n) (P d) ts) ([], ts) (fault r) (stopped d (suc n) ts h) e)
+        go rec (inr h) =
+            let e' : (P d ts >>= λ (x : A × List Tok). many stop n (P d) x.1 >>= λ (y : List A × List Tok). Ok (x.0 ∷ y.0, y.1)) ≡ Err (fault r) = rw h at e in
+            elim (bind_err (P d ts) (λ (x : A × List Tok). many stop n (P d) x.1 >>= λ (y : List A × List Tok). Ok (x.0 ∷ y.0, y.1)) (fault r) e') [
+              | inl p ↦ first ts r h p
+              | inr b ↦
+                  elim (bind_err (many stop n (P d) (b.0).1) (λ (y : List A × List Tok). Ok ((b.0).0 ∷ y.0, y.1)) (fault r) b.2) [
+                    | inl p ↦
+                        let R = E.ok ts (b.0).0 (b.0).1 b.1 in
+                        let shorter = longer R.front (b.0).1 (solid (b.0).0 R.front R.spelled) in
+                        let whole_length = ap length R.whole in
+                        later ts (b.0).1 r (b.0).0 R (rec (b.0).1 r (omega arith) p)
+                    | inr p ↦ absurd (ok_no_err p.2)
+                  ]
+            ]
 
   one_begins : (p : List Tok) → Begins L p → Begins (Many L) p
   one_begins p b = record { value = b.value ∷ []; more = b.more; spelled = record { front = p ++ b.more; back = []; first = b.spelled; second = refl; whole = sym (append-nil (p ++ b.more)) } }
@@ -142,89 +187,34 @@ module _ {A : Type 0} (P : ℕ → Parser A) (L : A → Phrase) (W : ℕ → A �
       at_end (t ∷ z) is = absurd (let n = ap length is in omega arith)
   now_wrong D (suc N) front s fits h e = rw (h, e) refl
 
+  abbrev Broken : List Tok → List Tok → Type 0
+  Broken = Stays wrong (λ D. d ≤ D) (λ front r. Nonempty front → Begins (Many L) front)
+
+  first_wrong : (ts r : List Tok) → stop (head ts) ≡ false → P d ts ≡ Err (wrong r) → Broken ts r
+  first_wrong ts r h p =
+      let R = E.wrong ts r p in
+      record {
+        front = R.front;
+        whole = R.whole;
+        shows = λ n. one_begins R.front (R.begins n);
+        stable = λ D N s le fits heads. now_wrong D N R.front s fits (ap stop (sym (ap head R.whole ∙ head_append R.front r s heads)) ∙ h) (R.stable D s le heads);
+      }
+
+  -- where no token is left, an item is refused
+  empty : (a : Result (A × List Tok) Fault) → P d [] ≡ a → P d [] ≡ Err (wrong [])
+  empty (Ok x) is = absurd (let R = E.ok [] x.0 x.1 is in let none = ends R.front x.1 R.whole in subst Nonempty none (solid x.0 R.front R.spelled))
+    where
+      ends : (p q : List Tok) → [] ≡ p ++ q → p ≡ []
+      ends [] q e = refl
+      ends (t ∷ p) q e = absurd cc
+  empty (Err (wrong w)) is = let R = E.wrong [] w is in is ∙ ap (λ (z : List Tok). Err (wrong z)) (nothing_before R.front w (sym R.whole))
+  empty (Err (deep w)) is = absurd (let R = E.deep [] w is in let none = nothing_before R.front w (sym R.whole) in let bad : [] ≡ R.at ∷ R.after = sym none ∙ R.here in cc)
+
+  end_wrong : (r : List Tok) → stop None ≡ false → wrong [] ≡ wrong r → Broken [] r
+  end_wrong r h same = let nil : [] ≡ r = cc in subst (Broken []) nil (first_wrong [] [] h (empty (P d []) refl))
+
   many_wrong : (n : ℕ) (ts r : List Tok) → length ts ≤ n → many stop n (P d) ts ≡ Err (wrong r) → Broken ts r
-  many_wrong zero (t ∷ ts) r fits e = absurd (omega arith)
-  many_wrong zero [] r fits e = go (bool_cases (stop None))
-    where
-      no_err : {X : Type 0} (r : Result X Fault) (x : X) (f : Fault) → r ≡ Ok x → r ≡ Err f → ⊥
-      no_err r x f p q = cc
-
-      empty : (a : Result (A × List Tok) Fault) → P d [] ≡ a → P d [] ≡ Err (wrong [])
-      empty (Ok x) is = absurd (let R = E.ok [] x.0 x.1 is in let none = ends R.front x.1 R.whole in solid_not x.0 R.front R.spelled none)
-        where
-          ends : (p q : List Tok) → [] ≡ p ++ q → p ≡ []
-          ends [] q e = refl
-          ends (t ∷ p) q e = absurd cc
-
-          solid_not : (x : A) (p : List Tok) → L x p → p ≡ [] → ⊥
-          solid_not x p l e = subst Nonempty e (solid x p l)
-      empty (Err (wrong w)) is = let R = E.wrong [] w is in is ∙ ap (λ (z : List Tok). Err (wrong z)) (nothing_before R.front w (sym R.whole))
-      empty (Err (deep w)) is = absurd (let R = E.deep [] w is in let none = nothing_before R.front w (sym R.whole) in let bad : [] ≡ R.at ∷ R.after = sym none ∙ R.here in cc)
-
-      go : (stop None ≡ true) ⊎ (stop None ≡ false) → Broken [] r
-      go (inl h) = absurd (no_err (many stop zero (P d) []) ([], []) (wrong r) (stopped d zero [] h) e)
-      go (inr h) =
-          let f : many stop zero (P d) [] ≡ Err (wrong []) = rw h refl in
-          let same : wrong [] ≡ wrong r = err_is (wrong []) (wrong r) (many stop zero (P d) []) f e in
-          let nil : [] ≡ r = cc in
-          let R = E.wrong [] [] (empty (P d []) refl) in
-          let fr = nothing R.front R.whole in
-          record {
-            front = [];
-            whole = nil;
-            begins = λ n. absurd n;
-            stable = λ D N s le fits heads.
-                now_wrong D N [] s fits (ap stop (sym (ap head nil ∙ heads)) ∙ h)
-                (ap (λ (z : List Tok). P D (z ++ s)) (sym fr) ∙ R.stable D s le (ap head nil ∙ heads));
-          }
-        where
-          nothing : (p : List Tok) → [] ≡ p ++ [] → p ≡ []
-          nothing [] e = refl
-          nothing (t ∷ p) e = absurd cc
-  many_wrong (suc n) ts r fits e = go (many_wrong n) (bool_cases (stop (head ts)))
-    where
-      no_err : {X : Type 0} (r : Result X Fault) (x : X) (f : Fault) → r ≡ Ok x → r ≡ Err f → ⊥
-      no_err r x f p q = cc
-
-      ok_no_err : {X : Type 0} {x : X} → Ok x ≡ Err (wrong r) → ⊥
-      ok_no_err h = cc
-
-      go : ((ts r : List Tok) → length ts ≤ n → many stop n (P d) ts ≡ Err (wrong r) → Broken ts r) → (stop (head ts) ≡ true) ⊎ (stop (head ts) ≡ false) → Broken ts r
-      go rec (inl h) = absurd (no_err (many stop (suc n) (P d) ts) ([], ts) (wrong r) (stopped d (suc n) ts h) e)
-      go rec (inr h) =
-          let e' : (P d ts >>= λ (x : A × List Tok). many stop n (P d) x.1 >>= λ (y : List A × List Tok). Ok (x.0 ∷ y.0, y.1)) ≡ Err (wrong r) = rw h at e in
-          elim (bind_err (P d ts) (λ (x : A × List Tok). many stop n (P d) x.1 >>= λ (y : List A × List Tok). Ok (x.0 ∷ y.0, y.1)) (wrong r) e') [
-            | inl p ↦
-                let R = E.wrong ts r p in
-                record {
-                  front = R.front;
-                  whole = R.whole;
-                  begins = λ n. one_begins R.front (R.begins n);
-                  stable = λ D N s le fits heads. now_wrong D N R.front s fits (ap stop (sym (ap head R.whole ∙ head_append R.front r s heads)) ∙ h) (R.stable D s le heads);
-                }
-            | inr b ↦
-                elim (bind_err (many stop n (P d) (b.0).1) (λ (y : List A × List Tok). Ok ((b.0).0 ∷ y.0, y.1)) (wrong r) b.2) [
-                  | inl p ↦
-                      let R = E.ok ts (b.0).0 (b.0).1 b.1 in
-                      let nonempty = solid (b.0).0 R.front R.spelled in
-                      let shorter = longer R.front (b.0).1 nonempty in
-                      let whole_length = ap length R.whole in
-                      let I = rec (b.0).1 r (omega arith) p in
-                      record {
-                        front = R.front ++ I.front;
-                        whole = R.whole ∙ ap (λ (z : List Tok). R.front ++ z) I.whole ∙ sym (append_assoc R.front I.front r);
-                        begins = λ n. after_some (b.0).0 R.front I.front R.spelled I.begins;
-                        stable = λ D N s le fits same.
-                            let parts = append_assoc R.front I.front s in
-                            let same_length = ap length parts in
-                            let lt = longer R.front (I.front ++ s) nonempty in
-                            ap (many stop N (P D)) parts
-                            ∙ turn D N (b.0).0 R.front (I.front ++ s) nonempty R.spelled (omega arith) (R.stable D (I.front ++ s) le (ap head I.whole ∙ head_append I.front r s same))
-                            ∙ rw (I.stable D (N - 1) s le (omega arith) same) refl;
-                      }
-                  | inr p ↦ absurd (ok_no_err p.2)
-                ]
-          ]
+  many_wrong = many_fails wrong (λ D. d ≤ D) (λ front r. Nonempty front → Begins (Many L) front) (λ D le. le) (λ x p q r l b n. after_some x p q l b) first_wrong end_wrong
 
   now_deep : (N : ℕ) (xs : List Tok) (s : List Tok) → length xs ≤ N → Nonempty xs → stop (head xs) ≡ false → P d xs ≡ Err (deep s) → many stop N (P d) xs ≡ Err (deep s)
   now_deep N [] s fits n h e = absurd n
@@ -236,73 +226,31 @@ module _ {A : Type 0} (P : ℕ → Parser A) (L : A → Phrase) (W : ℕ → A �
   some_head [] (u ∷ s) r t e same = tt
   some_head [] [] r t e same = absurd (let bad : Some t ≡ None = sym e ∙ same in cc)
 
+  abbrev Drowned : List Tok → List Tok → Type 0
+  Drowned = Stays deep (λ D. D ≡ d) (λ front r. (at : Tok) × (after : List Tok) × (r ≡ at ∷ after) × Begins (Many L) (front ++ at ∷ []))
+
+  first_deep : (ts r : List Tok) → stop (head ts) ≡ false → P d ts ≡ Err (deep r) → Drowned ts r
+  first_deep ts r h p =
+      let R = E.deep ts r p in
+      record {
+        front = R.front;
+        whole = R.whole;
+        shows = (R.at, R.after, R.here, one_begins (R.front ++ R.at ∷ []) R.begins);
+        stable = λ D N s is fits heads.
+            rw is (now_deep N (R.front ++ s) s fits (some_head R.front s r R.at (ap head R.here) heads) (ap stop (sym (ap head R.whole ∙ head_append R.front r s heads)) ∙ h) (R.stable s heads));
+      }
+
   many_deep : (n : ℕ) (ts r : List Tok) → length ts ≤ n → many stop n (P d) ts ≡ Err (deep r) → Drowned ts r
-  many_deep zero ts r fits e = absurd (elim (bool_cases (stop (head ts))) [
-    | inl h ↦ no_err (many stop zero (P d) ts) ([], ts) (deep r) (stopped d zero ts h) e
-    | inr h ↦ (let f : many stop zero (P d) ts ≡ Err (wrong ts) = rw h refl in apart (many stop zero (P d) ts) ts r f e)
-  ])
+  many_deep = many_fails deep (λ D. D ≡ d) (λ front r. (at : Tok) × (after : List Tok) × (r ≡ at ∷ after) × Begins (Many L) (front ++ at ∷ [])) (λ D is. omega arith) deeper first_deep (λ r h same. absurd cc)
     where
-      no_err : {X : Type 0} (r : Result X Fault) (x : X) (f : Fault) → r ≡ Ok x → r ≡ Err f → ⊥
-      no_err r x f p q = cc
-
-      apart : {X : Type 0} (a : Result X Fault) (x y : List Tok) → a ≡ Err (wrong x) → a ≡ Err (deep y) → ⊥
-      apart a x y p q = cc
-  many_deep (suc n) ts r fits e = go (many_deep n) (bool_cases (stop (head ts)))
-    where
-      no_err : {X : Type 0} (r : Result X Fault) (x : X) (f : Fault) → r ≡ Ok x → r ≡ Err f → ⊥
-      no_err r x f p q = cc
-
-      ok_no_err : {X : Type 0} {x : X} → Ok x ≡ Err (deep r) → ⊥
-      ok_no_err h = cc
-
-      go : ((ts r : List Tok) → length ts ≤ n → many stop n (P d) ts ≡ Err (deep r) → Drowned ts r) → (stop (head ts) ≡ true) ⊎ (stop (head ts) ≡ false) → Drowned ts r
-      go rec (inl h) = absurd (no_err (many stop (suc n) (P d) ts) ([], ts) (deep r) (stopped d (suc n) ts h) e)
-      go rec (inr h) =
-          let e' : (P d ts >>= λ (x : A × List Tok). many stop n (P d) x.1 >>= λ (y : List A × List Tok). Ok (x.0 ∷ y.0, y.1)) ≡ Err (deep r) = rw h at e in
-          elim (bind_err (P d ts) (λ (x : A × List Tok). many stop n (P d) x.1 >>= λ (y : List A × List Tok). Ok (x.0 ∷ y.0, y.1)) (deep r) e') [
-            | inl p ↦
-                let R = E.deep ts r p in
-                record {
-                  front = R.front;
-                  whole = R.whole;
-                  at = R.at;
-                  after = R.after;
-                  here = R.here;
-                  begins = one_begins (R.front ++ R.at ∷ []) R.begins;
-                  stable = λ N s fits heads. now_deep N (R.front ++ s) s fits (some_head R.front s r R.at (ap head R.here) heads) (ap stop (sym (ap head R.whole ∙ head_append R.front r s heads)) ∙ h) (R.stable s heads);
-                }
-            | inr b ↦
-                elim (bind_err (many stop n (P d) (b.0).1) (λ (y : List A × List Tok). Ok ((b.0).0 ∷ y.0, y.1)) (deep r) b.2) [
-                  | inl p ↦
-                      let R = E.ok ts (b.0).0 (b.0).1 b.1 in
-                      let nonempty = solid (b.0).0 R.front R.spelled in
-                      let shorter = longer R.front (b.0).1 nonempty in
-                      let whole_length = ap length R.whole in
-                      let I = rec (b.0).1 r (omega arith) p in
-                      record {
-                        front = R.front ++ I.front;
-                        whole = R.whole ∙ ap (λ (z : List Tok). R.front ++ z) I.whole ∙ sym (append_assoc R.front I.front r);
-                        at = I.at;
-                        after = I.after;
-                        here = I.here;
-                        begins = subst (Begins (Many L)) (sym (append_assoc R.front I.front (I.at ∷ []))) (after_one (b.0).0 R.front (I.front ++ I.at ∷ []) R.spelled I.begins);
-                        stable = λ N s fits same.
-                            let parts = append_assoc R.front I.front s in
-                            let same_length = ap length parts in
-                            let lt = longer R.front (I.front ++ s) nonempty in
-                            ap (many stop N (P d)) parts
-                            ∙ turn d N (b.0).0 R.front (I.front ++ s) nonempty R.spelled (omega arith) (R.stable d (I.front ++ s) (omega arith) (ap head I.whole ∙ head_append I.front r s same))
-                            ∙ rw (I.stable (N - 1) s (omega arith) same) refl;
-                      }
-                  | inr p ↦ absurd (ok_no_err p.2)
-                ]
-          ]
+      deeper : (x : A) (p q r : List Tok) → L x p → (at : Tok) × (after : List Tok) × (r ≡ at ∷ after) × Begins (Many L) (q ++ at ∷ []) → (at : Tok) × (after : List Tok) × (r ≡ at ∷ after) × Begins (Many L) ((p ++ q) ++ at ∷ [])
+      deeper x p q r l b = (b.0, b.1, b.2, subst (Begins (Many L)) (sym (append_assoc p q (b.0 ∷ []))) (after_one x p (q ++ b.0 ∷ []) l b.3))
 
   -- A list is read exactly.
   pub many_exact : Exact (λ D. many_until stop (P D)) (Many L) (ManyFit W) (λ xs h. (stop h ≡ true) × T h) (λ xs h. stop h ≡ true) d
   many_exact = record {
     again = λ xs p q l w h. many_again xs (length (p ++ q)) p q (omega arith) l w h.0 h.1;
     ok = λ ts xs r e. let I = many_ok (length ts) ts xs r e in record { front = I.front; whole = I.whole; spelled = I.spelled; within = I.within; closed = I.closed; stable = λ D s le same. I.stable D (length (I.front ++ s)) s le (omega arith) same };
-    wrong = λ ts r e. let I = many_wrong (length ts) ts r (omega arith) e in record { front = I.front; whole = I.whole; begins = I.begins; stable = λ D s le same. I.stable D (length (I.front ++ s)) s le (omega arith) same };
-    deep = λ ts r e. let I = many_deep (length ts) ts r (omega arith) e in record { front = I.front; whole = I.whole; at = I.at; after = I.after; here = I.here; begins = I.begins; stable = λ s same. I.stable (length (I.front ++ s)) s (omega arith) same };
+    wrong = λ ts r e. let I = many_wrong (length ts) ts r (omega arith) e in record { front = I.front; whole = I.whole; begins = I.shows; stable = λ D s le same. I.stable D (length (I.front ++ s)) s le (omega arith) same };
+    deep = λ ts r e. let I = many_deep (length ts) ts r (omega arith) e in record { front = I.front; whole = I.whole; at = I.shows.0; after = I.shows.1; here = I.shows.2; begins = I.shows.3; stable = λ s same. I.stable d (length (I.front ++ s)) s refl (omega arith) same };
   }

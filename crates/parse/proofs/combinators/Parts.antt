@@ -1,4 +1,4 @@
--- What stands behind or before a mark, and what may be left out.
+-- What stands behind or before a fixed token, and what may be left out.
 use Rattle.std.proofs.Common.{◌≡◌, ℕ, Bool, true, false, List, [], ◌∷◌, ◌++◌, Option, Some, None, refl, sym, ap, subst, ◌∙◌, append_assoc}
 use Rattle.std.proofs.lemmas.List.{append-nil}
 use Rattle.lex.specs.declared.token.Fixed.{Fixed}
@@ -44,7 +44,7 @@ un_seq {L = L} s = subst L (sym (s.whole ∙ ap (λ (z : List Tok). s.front ++ z
 pub un_seq_left : {L : Phrase} {p : List Tok} → Seq (λ q. q ≡ []) L p → L p
 un_seq_left {L = L} s = subst L (sym (s.whole ∙ ap (λ (z : List Tok). z ++ s.back) s.first)) s.second
 
--- ---- marks
+-- ---- fixed tokens
 
 pub is_here : (k : Fixed) (p q : List Tok) → Is k p → is_next k (head (p ++ q)) ≡ true
 is_here k p q o = ap (is_next k) (one_head o q) ∙ is_it k o.token (fixed_is k o.token tt o.has)
@@ -56,7 +56,7 @@ is_here k p q o = ap (is_next k) (one_head o q) ∙ is_it k o.token (fixed_is k 
         go true is = is
         go false is = absurd (let h = fixed_has k t e in let n : the_fixed k t ≡ None = rw is refl in cc)
 
--- another mark is not next
+-- another fixed token is not next
 pub is_not_here : (k j : Fixed) (p q : List Tok) → is_fixed j (fixed k) ≡ false → Is k p → is_next j (head (p ++ q)) ≡ false
 is_not_here k j p q apart o = ap (is_next j) (one_head o q) ∙ ap (is_fixed j) (fixed_is k o.token tt o.has) ∙ apart
 
@@ -66,7 +66,7 @@ seq_here k M p q s = subst (λ (z : List Tok). is_next k (head z) ≡ true) (sym
 pub seq_not_here : (k j : Fixed) (M : Phrase) (p q : List Tok) → is_fixed j (fixed k) ≡ false → Seq (Is k) M p → is_next j (head (p ++ q)) ≡ false
 seq_not_here k j M p q apart s = subst (λ (z : List Tok). is_next j (head z) ≡ false) (sym (ap (λ (z : List Tok). z ++ q) s.whole ∙ append_assoc s.front s.back q)) (is_not_here k j s.front (s.back ++ q) apart s.first)
 
--- the place of a mark
+-- the place of a fixed token
 pub fixed_place : (k : Fixed) (t : Tok) → the_fixed k t ≡ Some tt → place_of k t ≡ Some t.span
 fixed_place k t e = go (is_fixed k t.terminal) refl
   where
@@ -81,7 +81,7 @@ place_fixed k t at e = go (is_fixed k t.terminal) refl
     go true is = (rw is refl, let h : place_of k t ≡ Some t.span = rw is refl in cc)
     go false is = absurd (let n : place_of k t ≡ None = rw is refl in cc)
 
--- ---- behind and before a mark
+-- ---- behind and before a fixed token
 
 pub head_begins : {A : Type 0} (k : Fixed) (L : A → Phrase) → Begins L [] → Begins (λ x. Seq (Is k) (L x)) []
 head_begins k L b = record { value = b.value; more = a_fixed k ∷ b.more; spelled = record { front = a_fixed k ∷ []; back = b.more; first = record { token = a_fixed k; has = fixed_has k (a_fixed k) refl; whole = refl }; second = b.spelled; whole = refl } }

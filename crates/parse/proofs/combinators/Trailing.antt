@@ -200,20 +200,64 @@ module _ {A : Type 0} (P : ℕ → Parser A) (L : A → Phrase) (W : ℕ → A �
 
   -- ---- faults
 
-  record Broken (ts r : List Tok) : Type 0 where
+  -- What stands before the fault, and what it shows, and that the fault stays at these depths whatever stands behind its token.
+  record Stays (fault : List Tok → Fault) (AtDepth : ℕ → Type 0) (Shows : List Tok → List Tok → Type 0) (ts r : List Tok) : Type 0 where
     front : List Tok
     whole : ts ≡ front ++ r
-    begins : Begins (Trailed L) front
-    stable : (D N : ℕ) (s : List Tok) → d ≤ D → length (front ++ s) ≤ N → head r ≡ head s → trailing N (P D) (front ++ s) ≡ Err (wrong s)
+    shows : Shows front r
+    stable : (D N : ℕ) (s : List Tok) → AtDepth D → length (front ++ s) ≤ N → head r ≡ head s → trailing N (P D) (front ++ s) ≡ Err (fault s)
 
-  record Drowned (ts r : List Tok) : Type 0 where
-    front : List Tok
-    whole : ts ≡ front ++ r
-    at : Tok
-    after : List Tok
-    here : r ≡ at ∷ after
-    begins : Begins (Trailed L) (front ++ at ∷ [])
-    stable : (N : ℕ) (s : List Tok) → length (front ++ s) ≤ N → head r ≡ head s → trailing N (P d) (front ++ s) ≡ Err (deep s)
+  ok_no_err : {X : Type 0} {x : X} {f : Fault} → Ok x ≡ Err f → ⊥
+  ok_no_err h = cc
+
+  -- Either fault: it stands in the first phrase, or further on.
+  module _ (fault : List Tok → Fault) (AtDepth : ℕ → Type 0) (Shows : List Tok → List Tok → Type 0)
+      (reaches : (D : ℕ) → AtDepth D → d ≤ D)
+      (further : (x : A) (t : Tok) (p q r : List Tok) → the_fixed (Punctuator punct.Comma) t ≡ Some tt → L x p → Shows q r → Shows (t ∷ (p ++ q)) r)
+      (first : (t : Tok) (c r : List Tok) → the_fixed (Punctuator punct.Comma) t ≡ Some tt → is_next (Punctuator punct.CloseBrace) (head c) ≡ false → P d c ≡ Err (fault r) → Stays fault AtDepth Shows (t ∷ c) r) where
+    later : (t : Tok) (c : List Tok) (x : A) (r1 r : List Tok) → the_fixed (Punctuator punct.Comma) t ≡ Some tt → is_next (Punctuator punct.CloseBrace) (head c) ≡ false → Reads P L W C d c x r1 → Stays fault AtDepth Shows r1 r → Stays fault AtDepth Shows (t ∷ c) r
+    later t c x r1 r has h R I = record {
+      front = t ∷ (R.front ++ I.front);
+      whole = ap (λ (z : List Tok). t ∷ z) (R.whole ∙ ap (λ (z : List Tok). R.front ++ z) I.whole ∙ sym (append_assoc R.front I.front r));
+      shows = further x t R.front I.front r has R.spelled I.shows;
+      stable = λ D N s at enough same.
+          let parts = append_assoc R.front I.front s in
+          let same_length = ap length parts in
+          let part = length-append R.front (I.front ++ s) in
+          let heads = ap head I.whole ∙ head_append I.front r s same in
+          ap (λ (z : List Tok). trailing N (P D) (t ∷ z)) parts
+          ∙ turn D N t (R.front ++ (I.front ++ s)) (omega arith) has (still c R.front r1 (I.front ++ s) R.whole heads h)
+          ∙ rw (R.stable D (I.front ++ s) (reaches D at) heads, I.stable D (N - 1) s at (omega arith) same) refl;
+    }
+
+    trailing_fails : (n : ℕ) (ts r : List Tok) → length ts ≤ n → trailing n (P d) ts ≡ Err (fault r) → Stays fault AtDepth Shows ts r
+    trailing_fails zero (t ∷ ts) r le e = absurd (omega arith)
+    trailing_fails zero [] r le e = absurd (no_both (trailing zero (P d) []) ([], []) (fault r) (at_other d zero [] refl) e)
+    trailing_fails (suc n) ts r le e = go (trailing_fails n) (look ts)
+      where
+        turned : ((ts r : List Tok) → length ts ≤ n → trailing n (P d) ts ≡ Err (fault r) → Stays fault AtDepth Shows ts r) → (t : Tok) (c : List Tok) → length (t ∷ c) ≤ suc n → the_fixed (Punctuator punct.Comma) t ≡ Some tt → is_next (Punctuator punct.CloseBrace) (head c) ≡ false
+            → ◌≡◌ {A = Result (List A × List Tok) Fault} (P d c >>= λ (x : A × List Tok). trailing n (P d) x.1 >>= λ (y : List A × List Tok). Ok (x.0 ∷ y.0, y.1)) (Err (fault r)) → Stays fault AtDepth Shows (t ∷ c) r
+        turned rec t c fits has h e =
+            elim (bind_err (P d c) (λ (x : A × List Tok). trailing n (P d) x.1 >>= λ (y : List A × List Tok). Ok (x.0 ∷ y.0, y.1)) (fault r) e) [
+              | inl p ↦ first t c r has h p
+              | inr b ↦
+                  elim (bind_err (trailing n (P d) (b.0).1) (λ (y : List A × List Tok). Ok ((b.0).0 ∷ y.0, y.1)) (fault r) b.2) [
+                    | inl p ↦
+                        let R = E.ok c (b.0).0 (b.0).1 b.1 in
+                        let shorter = ap length R.whole ∙ length-append R.front (b.0).1 in
+                        later t c (b.0).0 (b.0).1 r has h R (rec (b.0).1 r (omega arith) p)
+                    | inr p ↦ absurd (ok_no_err p.2)
+                  ]
+            ]
+
+        go : ((ts r : List Tok) → length ts ≤ n → trailing n (P d) ts ≡ Err (fault r) → Stays fault AtDepth Shows ts r) → Look ts → Stays fault AtDepth Shows ts r
+        go rec (other h) = absurd (no_both (trailing (suc n) (P d) ts) ([], ts) (fault r) (at_other d (suc n) ts h) e)
+        go rec (last t c is has h) =
+            let fits : length (t ∷ c) ≤ suc n = subst (λ (z : List Tok). length z ≤ suc n) is le in
+            absurd (no_both (trailing (suc n) (P d) (t ∷ c)) ([], c) (fault r) (at_last d (suc n) t c fits has h) (ap (trailing (suc n) (P d)) (sym is) ∙ e))
+        go rec (more t c is has h) =
+            let fits : length (t ∷ c) ≤ suc n = subst (λ (z : List Tok). length z ≤ suc n) is le in
+            subst (λ (z : List Tok). Stays fault AtDepth Shows z r) (sym is) (turned rec t c fits has h (sym (at_more d n t c has h) ∙ ap (trailing (suc n) (P d)) (sym is) ∙ e))
 
   begin_one : (t : Tok) (p : List Tok) → the_fixed (Punctuator punct.Comma) t ≡ Some tt → Begins L p → Begins (Trailed L) (t ∷ p)
   begin_one t p e b = record {
@@ -239,122 +283,41 @@ module _ {A : Type 0} (P : ℕ → Parser A) (L : A → Phrase) (W : ℕ → A �
     spelled = subst (Trailed L (x ∷ b.value)) (ap (λ (z : List Tok). t ∷ z) (sym (append_assoc p q b.more))) (after_one b.value x t p (q ++ b.more) e l b.spelled);
   }
 
-  ok_no_err : {X : Type 0} {x : X} {f : Fault} → Ok x ≡ Err f → ⊥
-  ok_no_err h = cc
+  abbrev Broken : List Tok → List Tok → Type 0
+  Broken = Stays wrong (λ D. d ≤ D) (λ front r. Begins (Trailed L) front)
 
-  wrong_first : (t : Tok) (c r : List Tok) → the_fixed (Punctuator punct.Comma) t ≡ Some tt → is_next (Punctuator punct.CloseBrace) (head c) ≡ false → P d c ≡ Err (wrong r) → Broken (t ∷ c) r
-  wrong_first t c r has h p =
+  first_wrong : (t : Tok) (c r : List Tok) → the_fixed (Punctuator punct.Comma) t ≡ Some tt → is_next (Punctuator punct.CloseBrace) (head c) ≡ false → P d c ≡ Err (wrong r) → Broken (t ∷ c) r
+  first_wrong t c r has h p =
       let R = E.wrong c r p in
       record {
         front = t ∷ R.front;
         whole = ap (λ (z : List Tok). t ∷ z) R.whole;
-        begins = begin_some t R.front has R.begins;
+        shows = begin_some t R.front has R.begins;
         stable = λ D N s le enough heads. turn D N t (R.front ++ s) enough has (still c R.front r s R.whole heads h) ∙ rw (R.stable D s le heads) refl;
       }
 
-  wrong_later : (t : Tok) (c : List Tok) (x : A) (r1 r : List Tok) → the_fixed (Punctuator punct.Comma) t ≡ Some tt → is_next (Punctuator punct.CloseBrace) (head c) ≡ false → Reads P L W C d c x r1 → Broken r1 r → Broken (t ∷ c) r
-  wrong_later t c x r1 r has h R I = record {
-    front = t ∷ (R.front ++ I.front);
-    whole = ap (λ (z : List Tok). t ∷ z) (R.whole ∙ ap (λ (z : List Tok). R.front ++ z) I.whole ∙ sym (append_assoc R.front I.front r));
-    begins = begin_after x t R.front I.front has R.spelled I.begins;
-    stable = λ D N s le enough same.
-        let parts = append_assoc R.front I.front s in
-        let same_length = ap length parts in
-        let part = length-append R.front (I.front ++ s) in
-        let heads = ap head I.whole ∙ head_append I.front r s same in
-        ap (λ (z : List Tok). trailing N (P D) (t ∷ z)) parts
-        ∙ turn D N t (R.front ++ (I.front ++ s)) (omega arith) has (still c R.front r1 (I.front ++ s) R.whole heads h)
-        ∙ rw (R.stable D (I.front ++ s) le heads, I.stable D (N - 1) s le (omega arith) same) refl;
-  }
-
   trailing_wrong : (n : ℕ) (ts r : List Tok) → length ts ≤ n → trailing n (P d) ts ≡ Err (wrong r) → Broken ts r
-  trailing_wrong zero (t ∷ ts) r le e = absurd (omega arith)
-  trailing_wrong zero [] r le e = absurd (no_both (trailing zero (P d) []) ([], []) (wrong r) (at_other d zero [] refl) e)
-  trailing_wrong (suc n) ts r le e = go (trailing_wrong n) (look ts)
-    where
-      turned : ((ts r : List Tok) → length ts ≤ n → trailing n (P d) ts ≡ Err (wrong r) → Broken ts r) → (t : Tok) (c : List Tok) → length (t ∷ c) ≤ suc n → the_fixed (Punctuator punct.Comma) t ≡ Some tt → is_next (Punctuator punct.CloseBrace) (head c) ≡ false
-          → ◌≡◌ {A = Result (List A × List Tok) Fault} (P d c >>= λ (x : A × List Tok). trailing n (P d) x.1 >>= λ (y : List A × List Tok). Ok (x.0 ∷ y.0, y.1)) (Err (wrong r)) → Broken (t ∷ c) r
-      turned rec t c fits has h e =
-          elim (bind_err (P d c) (λ (x : A × List Tok). trailing n (P d) x.1 >>= λ (y : List A × List Tok). Ok (x.0 ∷ y.0, y.1)) (wrong r) e) [
-            | inl p ↦ wrong_first t c r has h p
-            | inr b ↦
-                elim (bind_err (trailing n (P d) (b.0).1) (λ (y : List A × List Tok). Ok ((b.0).0 ∷ y.0, y.1)) (wrong r) b.2) [
-                  | inl p ↦
-                      let R = E.ok c (b.0).0 (b.0).1 b.1 in
-                      let shorter = ap length R.whole ∙ length-append R.front (b.0).1 in
-                      wrong_later t c (b.0).0 (b.0).1 r has h R (rec (b.0).1 r (omega arith) p)
-                  | inr p ↦ absurd (ok_no_err p.2)
-                ]
-          ]
+  trailing_wrong = trailing_fails wrong (λ D. d ≤ D) (λ front r. Begins (Trailed L) front) (λ D le. le) (λ x t p q r. begin_after x t p q) first_wrong
 
-      go : ((ts r : List Tok) → length ts ≤ n → trailing n (P d) ts ≡ Err (wrong r) → Broken ts r) → Look ts → Broken ts r
-      go rec (other h) = absurd (no_both (trailing (suc n) (P d) ts) ([], ts) (wrong r) (at_other d (suc n) ts h) e)
-      go rec (last t c is has h) =
-          let fits : length (t ∷ c) ≤ suc n = subst (λ (z : List Tok). length z ≤ suc n) is le in
-          absurd (no_both (trailing (suc n) (P d) (t ∷ c)) ([], c) (wrong r) (at_last d (suc n) t c fits has h) (ap (trailing (suc n) (P d)) (sym is) ∙ e))
-      go rec (more t c is has h) =
-          let fits : length (t ∷ c) ≤ suc n = subst (λ (z : List Tok). length z ≤ suc n) is le in
-          subst (λ (z : List Tok). Broken z r) (sym is) (turned rec t c fits has h (sym (at_more d n t c has h) ∙ ap (trailing (suc n) (P d)) (sym is) ∙ e))
+  abbrev Drowned : List Tok → List Tok → Type 0
+  Drowned = Stays deep (λ D. D ≡ d) (λ front r. (at : Tok) × (after : List Tok) × (r ≡ at ∷ after) × Begins (Trailed L) (front ++ at ∷ []))
 
-  deep_first : (t : Tok) (c r : List Tok) → the_fixed (Punctuator punct.Comma) t ≡ Some tt → is_next (Punctuator punct.CloseBrace) (head c) ≡ false → P d c ≡ Err (deep r) → Drowned (t ∷ c) r
-  deep_first t c r has h p =
+  first_deep : (t : Tok) (c r : List Tok) → the_fixed (Punctuator punct.Comma) t ≡ Some tt → is_next (Punctuator punct.CloseBrace) (head c) ≡ false → P d c ≡ Err (deep r) → Drowned (t ∷ c) r
+  first_deep t c r has h p =
       let R = E.deep c r p in
       record {
         front = t ∷ R.front;
         whole = ap (λ (z : List Tok). t ∷ z) R.whole;
-        at = R.at;
-        after = R.after;
-        here = R.here;
-        begins = begin_one t (R.front ++ R.at ∷ []) has R.begins;
-        stable = λ N s enough heads. turn d N t (R.front ++ s) enough has (still c R.front r s R.whole heads h) ∙ rw (R.stable s heads) refl;
+        shows = (R.at, R.after, R.here, begin_one t (R.front ++ R.at ∷ []) has R.begins);
+        stable = λ D N s is enough heads. rw is (turn d N t (R.front ++ s) enough has (still c R.front r s R.whole heads h) ∙ rw (R.stable s heads) refl);
       }
 
-  deep_later : (t : Tok) (c : List Tok) (x : A) (r1 r : List Tok) → the_fixed (Punctuator punct.Comma) t ≡ Some tt → is_next (Punctuator punct.CloseBrace) (head c) ≡ false → Reads P L W C d c x r1 → Drowned r1 r → Drowned (t ∷ c) r
-  deep_later t c x r1 r has h R I = record {
-    front = t ∷ (R.front ++ I.front);
-    whole = ap (λ (z : List Tok). t ∷ z) (R.whole ∙ ap (λ (z : List Tok). R.front ++ z) I.whole ∙ sym (append_assoc R.front I.front r));
-    at = I.at;
-    after = I.after;
-    here = I.here;
-    begins = subst (λ (z : List Tok). Begins (Trailed L) (t ∷ z)) (sym (append_assoc R.front I.front (I.at ∷ []))) (begin_after x t R.front (I.front ++ I.at ∷ []) has R.spelled I.begins);
-    stable = λ N s enough same.
-        let parts = append_assoc R.front I.front s in
-        let same_length = ap length parts in
-        let part = length-append R.front (I.front ++ s) in
-        let heads = ap head I.whole ∙ head_append I.front r s same in
-        ap (λ (z : List Tok). trailing N (P d) (t ∷ z)) parts
-        ∙ turn d N t (R.front ++ (I.front ++ s)) (omega arith) has (still c R.front r1 (I.front ++ s) R.whole heads h)
-        ∙ rw (R.stable d (I.front ++ s) (omega arith) heads, I.stable (N - 1) s (omega arith) same) refl;
-  }
-
   trailing_deep : (n : ℕ) (ts r : List Tok) → length ts ≤ n → trailing n (P d) ts ≡ Err (deep r) → Drowned ts r
-  trailing_deep zero (t ∷ ts) r le e = absurd (omega arith)
-  trailing_deep zero [] r le e = absurd (no_both (trailing zero (P d) []) ([], []) (deep r) (at_other d zero [] refl) e)
-  trailing_deep (suc n) ts r le e = go (trailing_deep n) (look ts)
+  trailing_deep = trailing_fails deep (λ D. D ≡ d) (λ front r. (at : Tok) × (after : List Tok) × (r ≡ at ∷ after) × Begins (Trailed L) (front ++ at ∷ [])) (λ D is. omega arith) deeper first_deep
     where
-      turned : ((ts r : List Tok) → length ts ≤ n → trailing n (P d) ts ≡ Err (deep r) → Drowned ts r) → (t : Tok) (c : List Tok) → length (t ∷ c) ≤ suc n → the_fixed (Punctuator punct.Comma) t ≡ Some tt → is_next (Punctuator punct.CloseBrace) (head c) ≡ false
-          → ◌≡◌ {A = Result (List A × List Tok) Fault} (P d c >>= λ (x : A × List Tok). trailing n (P d) x.1 >>= λ (y : List A × List Tok). Ok (x.0 ∷ y.0, y.1)) (Err (deep r)) → Drowned (t ∷ c) r
-      turned rec t c fits has h e =
-          elim (bind_err (P d c) (λ (x : A × List Tok). trailing n (P d) x.1 >>= λ (y : List A × List Tok). Ok (x.0 ∷ y.0, y.1)) (deep r) e) [
-            | inl p ↦ deep_first t c r has h p
-            | inr b ↦
-                elim (bind_err (trailing n (P d) (b.0).1) (λ (y : List A × List Tok). Ok ((b.0).0 ∷ y.0, y.1)) (deep r) b.2) [
-                  | inl p ↦
-                      let R = E.ok c (b.0).0 (b.0).1 b.1 in
-                      let shorter = ap length R.whole ∙ length-append R.front (b.0).1 in
-                      deep_later t c (b.0).0 (b.0).1 r has h R (rec (b.0).1 r (omega arith) p)
-                  | inr p ↦ absurd (ok_no_err p.2)
-                ]
-          ]
-
-      go : ((ts r : List Tok) → length ts ≤ n → trailing n (P d) ts ≡ Err (deep r) → Drowned ts r) → Look ts → Drowned ts r
-      go rec (other h) = absurd (no_both (trailing (suc n) (P d) ts) ([], ts) (deep r) (at_other d (suc n) ts h) e)
-      go rec (last t c is has h) =
-          let fits : length (t ∷ c) ≤ suc n = subst (λ (z : List Tok). length z ≤ suc n) is le in
-          absurd (no_both (trailing (suc n) (P d) (t ∷ c)) ([], c) (deep r) (at_last d (suc n) t c fits has h) (ap (trailing (suc n) (P d)) (sym is) ∙ e))
-      go rec (more t c is has h) =
-          let fits : length (t ∷ c) ≤ suc n = subst (λ (z : List Tok). length z ≤ suc n) is le in
-          subst (λ (z : List Tok). Drowned z r) (sym is) (turned rec t c fits has h (sym (at_more d n t c has h) ∙ ap (trailing (suc n) (P d)) (sym is) ∙ e))
+      deeper : (x : A) (t : Tok) (p q r : List Tok) → the_fixed (Punctuator punct.Comma) t ≡ Some tt → L x p → (at : Tok) × (after : List Tok) × (r ≡ at ∷ after) × Begins (Trailed L) (q ++ at ∷ [])
+          → (at : Tok) × (after : List Tok) × (r ≡ at ∷ after) × Begins (Trailed L) ((t ∷ (p ++ q)) ++ at ∷ [])
+      deeper x t p q r has l b = (b.0, b.1, b.2, subst (λ (z : List Tok). Begins (Trailed L) (t ∷ z)) (sym (append_assoc p q (b.0 ∷ []))) (begin_after x t p (q ++ b.0 ∷ []) has l b.3))
 
   pub trailing_is : Exact (λ D ts. trailing (length ts) (P D) ts) (Trailed L) (ManyFit W) (λ xs h. is_next (Punctuator punct.CloseBrace) h ≡ true) (λ xs h. is_next (Punctuator punct.Comma) h ≡ false) d
   trailing_is = record {
@@ -363,8 +326,8 @@ module _ {A : Type 0} (P : ℕ → Parser A) (L : A → Phrase) (W : ℕ → A �
         let same = ap length whole in
         ap (trailing (length (p ++ q)) (P d)) whole ∙ trailing_again xs (length (p ++ q)) l.front l.back q (omega arith) l.first l.second w h;
     ok = λ ts xs r e. let I = trailing_ok (length ts) ts xs r (omega arith) e in record { front = I.front; whole = I.whole; spelled = I.spelled; within = I.within; closed = I.closed; stable = λ D s le same. I.stable D (length (I.front ++ s)) s le (omega arith) same };
-    wrong = λ ts r e. let I = trailing_wrong (length ts) ts r (omega arith) e in record { front = I.front; whole = I.whole; begins = λ n. I.begins; stable = λ D s le same. I.stable D (length (I.front ++ s)) s le (omega arith) same };
-    deep = λ ts r e. let I = trailing_deep (length ts) ts r (omega arith) e in record { front = I.front; whole = I.whole; at = I.at; after = I.after; here = I.here; begins = I.begins; stable = λ s same. I.stable (length (I.front ++ s)) s (omega arith) same };
+    wrong = λ ts r e. let I = trailing_wrong (length ts) ts r (omega arith) e in record { front = I.front; whole = I.whole; begins = λ n. I.shows; stable = λ D s le same. I.stable D (length (I.front ++ s)) s le (omega arith) same };
+    deep = λ ts r e. let I = trailing_deep (length ts) ts r (omega arith) e in record { front = I.front; whole = I.whole; at = I.shows.0; after = I.shows.1; here = I.shows.2; begins = I.shows.3; stable = λ s same. I.stable d (length (I.front ++ s)) s refl (omega arith) same };
   }
 
 pub trailing_exact : {A : Type 0} {P : ℕ → Parser A} {L : A → List Tok → Type 0} {W : ℕ → A → Type 0} {S C : A → Option Tok → Type 0} {d : ℕ}

@@ -186,7 +186,7 @@ calm_right : (op : Infix) (a b : Expr) (h : Option Tok) → Calm (infix_node op 
 calm_right (Computing op) a b h c = c
 calm_right (Choosing op) a b h c = c
 
--- an operator's token is no other mark
+-- an operator's token is no other fixed token
 infix_not_fixed : (k : Fixed) (t : Tok) (op : Infix) → infix_of (binary_of k) (logical_of k) ≡ None → the_infix t ≡ Some op → is_next k (Some t) ≡ false
 infix_not_fixed k t op apart has = go (is_fixed k t.terminal) refl
   where

@@ -35,11 +35,11 @@ name_in_no k (string_literal s) at x h = refl
 name_in_no k (fixed j) at x h = absurd cc
 name_in_no k reserved at x h = refl
 
--- a name is no mark
+-- a name is no fixed token
 pub name_not_fixed : (k : Fixed) (x : Name) (p q : List Tok) → One the_name x p → is_next k (head (p ++ q)) ≡ false
 name_not_fixed k x p q o = ap (is_next k) (one_head o q) ∙ name_in_no k o.token.terminal o.token.span x o.has
 
--- a mark is no other mark
+-- a fixed token is no other fixed token
 pub mark_not_fixed : (k j : Fixed) (t : Tok) → is_fixed j (fixed k) ≡ false → t.terminal ≡ fixed k → is_next j (Some t) ≡ false
 mark_not_fixed k j t apart e = ap (is_fixed j) e ∙ apart
 
@@ -201,7 +201,7 @@ type_begins t e = go (the_type_word t) refl
     go (Some w) is = record { value = w.0; more = []; spelled = terminal_goes t.terminal t w None [] refl is (short w.1) }
     go None is = absurd (let n : starts_type (Some t) ≡ false = ap is_some is in cc)
 
--- a type's first word is a mark of its own
+-- a type's first word is a fixed token of its own
 pub type_not_fixed : (k : Fixed) (h : Option Tok) → is_some (type_of_fixed k) ≡ false → starts_type h ≡ true → is_next k h ≡ false
 type_not_fixed k None apart e = refl
 type_not_fixed k (Some t) apart e = go (is_fixed k t.terminal) refl

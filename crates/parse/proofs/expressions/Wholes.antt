@@ -53,7 +53,7 @@ calm_any (Binary op x e at) h a b = calm_any e h a b
 calm_any (Logical op x e at) h a b = calm_any e h a b
 calm_any (Conditional c x e at) h a b = calm_any e h a b
 
--- `; ) ] , :` and the signs of assignments and steps
+-- `; ) ] , :` and the punctuators of assignments and steps
 abbrev pub is_closing : Fixed → Bool
 is_closing (Punctuator punct.Semicolon) = true
 is_closing (Punctuator punct.CloseParen) = true
@@ -75,7 +75,7 @@ is_closing (Punctuator punct.Increment) = true
 is_closing (Punctuator punct.Decrement) = true
 is_closing _ = false
 
--- a mark that an expression does not go on with
+-- a fixed token that an expression does not go on with
 abbrev Plain : Fixed → Type 0
 Plain k = (op_at operators 1 (Some (a_fixed k)) ≡ None) × (is_fixed (Punctuator punct.OpenBracket) (fixed k) ≡ false) × (is_fixed (Punctuator punct.OpenParen) (fixed k) ≡ false) × (is_fixed (Punctuator punct.Question) (fixed k) ≡ false)
 
@@ -225,7 +225,7 @@ first_kind (Conditional c a b at) p q l = let s = l.1.1 in ap operand_at (seq_he
 pub whole_first : (e : Expr) (p q : List Tok) → expr e p → starts_expr (head (p ++ q)) ≡ true
 whole_first e p q l = ap is_operand (first_kind e p q l) ∙ lead_some e
 
--- what an expression begins with is not a mark that begins none
+-- what an expression begins with is not a fixed token that begins none
 pub start_not_fixed : (k : Fixed) (h : Option Tok) → is_operand (operand_terminal (fixed k)) ≡ false → starts_expr h ≡ true → is_next k h ≡ false
 start_not_fixed k None apart e = refl
 start_not_fixed k (Some t) apart e = go (is_fixed k t.terminal) refl

@@ -29,7 +29,7 @@ use Rattle.parse.proofs.items.Headers.{next_not, Next, Parted, parted_not, front
 
 -- ---- parameters
 
--- a sign or keyword is no name
+-- a fixed token is no name
 no_name : (k : Fixed) (h : Option Tok) → is_next k h ≡ true → says the_name h ≡ false
 no_name k None e = refl
 no_name k (Some t) e = ap (λ (l : Terminal). is_some (name_in l t.span)) (that_fixed k t e)

@@ -25,16 +25,16 @@ use Rattle.parse.proofs.expressions.Scalars.{name_begins, name_not_fixed, scalar
 
 -- ---- what is next
 
--- where one mark is next, another is not
+-- where one fixed token is next, another is not
 pub next_not : (k j : Fixed) → is_fixed j (fixed k) ≡ false → (h : Option Tok) → is_next k h ≡ true → is_next j h ≡ false
 next_not k j apart None e = absurd cc
 next_not k j apart (Some t) e = ap (is_fixed j) (that_fixed k t e) ∙ apart
 
--- a mark is next
+-- a fixed token is next
 abbrev pub Next : {A : Type 0} → Fixed → A → Option Tok → Type 0
 Next k x h = is_next k h ≡ true
 
--- a comma or this mark is next
+-- a comma or this fixed token is next
 abbrev pub Parted : {A : Type 0} → Fixed → A → Option Tok → Type 0
 Parted k x h = (is_next (Punctuator punct.Comma) h ≡ true) ⊎ (is_next k h ≡ true)
 
@@ -84,7 +84,7 @@ some_exact {A = A} {L = L} {S = S} S' E stops = value_of Some (SomeL L) (λ D. S
     comes None p l = absurd l
     comes (Some x) p l = record { value = x; same = refl; spelled = l; within = λ w. w; stops = stops x }
 
--- a sign or keyword that stands for something
+-- a fixed token that stands for something
 pub sign_exact : {A : Type 0} (k : Fixed) (x : A) (W : ℕ → A → Type 0) (S : A → Option Tok → Type 0) (d : ℕ) → W d x → Exact (λ D. mapped (λ u. x) (expect k)) (λ y p. (y ≡ x) × Is k p) W S Always d
 sign_exact {A = A} k x W S d w = value_of (λ u. x) (λ y p. (y ≡ x) × Is k p) W S Always (take_exact (the_fixed k) d) comes (λ u p l. (refl, l)) (λ u v. w) (λ u h c. tt)
   where
@@ -108,7 +108,7 @@ words_exact d =
     (listed_exact (λ h. Unit {0}) (take_exact the_attribute d) word_begins (λ x h o t. tt) (λ x t is. tt))
     (λ x p l. l) (λ x p l. l) (λ x p l w. tt) (λ x p l w. all_shallow d x) (λ x p h l s. (ap not s, tt)) (λ x p h l c. tt)
 
--- words that two marks close
+-- words that two fixed tokens close
 abbrev Closed : Fixed → List Attribute → Phrase
 Closed k x = Seq (Seq (Words x) (Is k)) (Is k)
 

@@ -92,7 +92,7 @@ first_comes d i p l = go i.negative refl l.1
           stops = λ h c. tt;
         }
 
--- a place says its mark
+-- a place says its fixed token
 spot_here : (k : Fixed) (at : Span) (p q : List Tok) → One (place_of k) at p → is_next k (head (p ++ q)) ≡ true
 spot_here k at p q o = let pm = place_fixed k o.token at o.has in is_here k p q (record { token = o.token; has = pm.0; whole = o.whole })
 

@@ -78,7 +78,7 @@ anywhere : (l : Lead) (k : Terminal) (a b : Span) → is_lead l (Some (made k a)
 anywhere lead.Simple k a b = refl
 anywhere _ k a b = refl
 
--- nor with a mark that begins none
+-- nor with a fixed token that begins none
 pub stmt_not_fixed : (k : Fixed) (h : Option Tok) → starts_stmt (Some (a_fixed k)) ≡ false → starts_stmt h ≡ true → is_next k h ≡ false
 stmt_not_fixed k None apart e = refl
 stmt_not_fixed k (Some t) apart e = go (is_fixed k t.terminal) refl

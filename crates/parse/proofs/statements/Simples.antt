@@ -53,14 +53,14 @@ end_says table None a b i = refl
 end_says table (Some t) a b (inl i) = ap (λ (k : Terminal). is_some (by_fixed table k)) (that_fixed (Punctuator punct.Semicolon) t i) ∙ a
 end_says table (Some t) a b (inr i) = ap (λ (k : Terminal). is_some (by_fixed table k)) (that_fixed (Punctuator punct.CloseParen) t i) ∙ b
 
--- ---- signs
+-- ---- punctuators
 
 step_fixed : (k : Fixed) (by : IncDec) → step_of k ≡ Some by → is_some (assigning_of k) ≡ false
 step_fixed (Punctuator punct.Increment) by e = refl
 step_fixed (Punctuator punct.Decrement) by e = refl
 step_fixed _ by e = absurd cc
 
--- a step's sign is no assignment's
+-- a step's punctuator is no assignment's
 step_not_assigning : (k : Terminal) (by : IncDec) → by_fixed step_of k ≡ Some by → is_some (by_fixed assigning_of k) ≡ false
 step_not_assigning (name s) by e = refl
 step_not_assigning (constant n of) by e = refl
@@ -100,7 +100,7 @@ BackW d (Evaluate e) = Unit {0}
 BackW d (Assign a op e) = expr_depth e ≤ d
 BackW d (Adjust a by) = Unit {0}
 
--- the depth allows what stands behind the sign
+-- the depth allows what stands behind the punctuator
 abbrev TailW : Expr → ℕ → Simple → Type 0
 TailW to d s = BackW d s × (front_of s ≡ to)
 
@@ -304,7 +304,7 @@ simple_starts t h = go (the_step t) refl
         let b = starts_begins t e in
         record { value = Evaluate b.value; more = b.more; spelled = b.spelled }
 
--- a mark that none of these begins with
+-- a fixed token that none of these begins with
 pub simple_not_fixed : (k : Fixed) (h : Option Tok) → starts_simple (Some (a_fixed k)) ≡ false → starts_simple h ≡ true → is_next k h ≡ false
 simple_not_fixed k None apart e = refl
 simple_not_fixed k (Some t) apart e = go (is_fixed k t.terminal) refl

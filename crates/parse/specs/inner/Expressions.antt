@@ -97,26 +97,35 @@ module _ (whole tight : Parser Expr) where
 
   -- behind `(`, which stands at a place
   abbrev pub cast_from : Span → Parser Expr
-  cast_from at = mapped (λ x. Cast x.0 x.1 (across at (span_of x.1))) (seq (before (Punctuator punct.CloseParen) scalar) tight)
+  cast_from at =
+      mapped (λ x. Cast x.0 x.1 (across at (span_of x.1))) (seq (before (Punctuator punct.CloseParen) scalar) tight)
 
   abbrev pub group_from : Span → Parser Expr
   group_from at = mapped (λ x. Parenthesized x.0 (across at x.1)) (seq whole (spot (Punctuator punct.CloseParen)))
 
   abbrev pub opened : Parser Expr
-  opened = mapped (λ x. x.1) (chained (spot (Punctuator punct.OpenParen)) (λ at. either starts_type (cast_from at) (group_from at)))
+  opened =
+      mapped (λ x. x.1)
+      (chained (spot (Punctuator punct.OpenParen)) (λ at. either starts_type (cast_from at) (group_from at)))
 
   abbrev pub arguments : Parser (List Expr)
   arguments = either (is_next (Punctuator punct.CloseParen)) (give []) (listed whole)
 
   -- behind a name
   abbrev pub element_from : Name → Parser Expr
-  element_from x = mapped (λ y. Element x y.0 (across x.at y.1)) (behind (Punctuator punct.OpenBracket) (seq whole (spot (Punctuator punct.CloseBracket))))
+  element_from x =
+      mapped (λ y. Element x y.0 (across x.at y.1))
+      (behind (Punctuator punct.OpenBracket) (seq whole (spot (Punctuator punct.CloseBracket))))
 
   abbrev pub call_from : Name → Parser Expr
-  call_from x = mapped (λ y. Call x (exprs_from y.0) (across x.at y.1)) (behind (Punctuator punct.OpenParen) (seq arguments (spot (Punctuator punct.CloseParen))))
+  call_from x =
+      mapped (λ y. Call x (exprs_from y.0) (across x.at y.1))
+      (behind (Punctuator punct.OpenParen) (seq arguments (spot (Punctuator punct.CloseParen))))
 
   abbrev pub named_from : Name → Parser Expr
-  named_from x = either (is_next (Punctuator punct.OpenBracket)) (element_from x) (either (is_next (Punctuator punct.OpenParen)) (call_from x) (give (Variable x)))
+  named_from x =
+      either (is_next (Punctuator punct.OpenBracket)) (element_from x)
+      (either (is_next (Punctuator punct.OpenParen)) (call_from x) (give (Variable x)))
 
   abbrev pub named : Parser Expr
   named = mapped (λ x. x.1) (chained (take the_name) named_from)

@@ -22,11 +22,18 @@ words = listed (take the_attribute)
 
 -- `[[ .. ]]`
 abbrev pub bracketed : Parser (List Attribute)
-bracketed = behind (Punctuator punct.OpenBracket) (behind (Punctuator punct.OpenBracket) (before (Punctuator punct.CloseBracket) (before (Punctuator punct.CloseBracket) words)))
+bracketed =
+    behind (Punctuator punct.OpenBracket)
+    (behind (Punctuator punct.OpenBracket)
+    (before (Punctuator punct.CloseBracket) (before (Punctuator punct.CloseBracket) words)))
 
 -- `__attribute__((..))`
 abbrev pub parenthesized : Parser (List Attribute)
-parenthesized = behind (Keyword key.Attribute) (behind (Punctuator punct.OpenParen) (behind (Punctuator punct.OpenParen) (before (Punctuator punct.CloseParen) (before (Punctuator punct.CloseParen) words))))
+parenthesized =
+    behind (Keyword key.Attribute)
+    (behind (Punctuator punct.OpenParen)
+    (behind (Punctuator punct.OpenParen)
+    (before (Punctuator punct.CloseParen) (before (Punctuator punct.CloseParen) words))))
 
 abbrev pub attribute_list : Parser (List Attribute)
 attribute_list = either (is_next (Punctuator punct.OpenBracket)) bracketed parenthesized
@@ -53,7 +60,9 @@ parameter = mapped parameter_tree (seq scalar maybe_name)
 
 -- nothing, `void`, or parameters
 abbrev pub parameter_list : Parser (List Parameter)
-parameter_list = either (is_next (Punctuator punct.CloseParen)) (give []) (either (is_next (Keyword key.Void)) (mapped (λ x. []) (expect (Keyword key.Void))) (listed parameter))
+parameter_list =
+    either (is_next (Punctuator punct.CloseParen)) (give [])
+    (either (is_next (Keyword key.Void)) (mapped (λ x. []) (expect (Keyword key.Void))) (listed parameter))
 
 abbrev pub parameters : Parser (List Parameter)
 parameters = behind (Punctuator punct.OpenParen) (before (Punctuator punct.CloseParen) parameter_list)
@@ -69,7 +78,9 @@ defined_at d true = mapped (λ ss. Some (stmts_from ss)) (block_at d)
 defined_at d false = none
 
 abbrev pub body_at : ℕ → List Parameter → Parser (Option Stmts)
-body_at d qs = either (is_next (Punctuator punct.OpenBrace)) (defined_at d (are_named qs)) (mapped (λ x. None) (expect (Punctuator punct.Semicolon)))
+body_at d qs =
+    either (is_next (Punctuator punct.OpenBrace)) (defined_at d (are_named qs))
+    (mapped (λ x. None) (expect (Punctuator punct.Semicolon)))
 
 -- what stands before a function's parameters or behind the first global's name
 abbrev pub Header : Type 0
@@ -79,7 +90,8 @@ abbrev pub header : Parser Header
 header = seq attributes (seq result (take the_name))
 
 abbrev pub function_tree : Header → (List Parameter × List Attribute) × Option Stmts → Item
-function_tree h x = Defines (record { attributes = h.0 ++ x.0.1; result = h.1.0; name = h.1.1; parameters = x.0.0; body = x.1 })
+function_tree h x =
+    Defines (record { attributes = h.0 ++ x.0.1; result = h.1.0; name = h.1.1; parameters = x.0.0; body = x.1 })
 
 abbrev pub function_at : ℕ → Header → Parser Item
 function_at d h = mapped (function_tree h) (chained (seq parameters attributes) (λ x. body_at d x.0))
@@ -102,14 +114,17 @@ first_tree (None, x) = record { negative = false; value = x.0.0; of = x.0.1; spa
 first_tree (Some at, x) = record { negative = true; value = x.0.0; of = x.0.1; span = across at x.1 }
 
 abbrev pub initialiser : Parser First
-initialiser = mapped first_tree (seq (perhaps (Punctuator punct.Minus) (spot (Punctuator punct.Minus))) (take the_placed_value))
+initialiser =
+    mapped first_tree (seq (perhaps (Punctuator punct.Minus) (spot (Punctuator punct.Minus))) (take the_placed_value))
 
 abbrev pub one_first : First → List First
 one_first i = i ∷ []
 
 -- the first value of a variable
 abbrev pub first_value : Parser (List First)
-first_value = either (is_next (Punctuator punct.Assign)) (mapped one_first (behind (Punctuator punct.Assign) initialiser)) (give [])
+first_value =
+    either (is_next (Punctuator punct.Assign)) (mapped one_first (behind (Punctuator punct.Assign) initialiser))
+    (give [])
 
 -- further ones up to the closing brace: as many as there are tokens suffice
 abbrev pub further_values : Parser (List First)
@@ -121,7 +136,11 @@ value_list = mapped in_front (seq initialiser further_values)
 
 -- those of an array
 abbrev pub first_values : Parser (List First)
-first_values = either (is_next (Punctuator punct.Assign)) (behind (Punctuator punct.Assign) (behind (Punctuator punct.OpenBrace) (before (Punctuator punct.CloseBrace) value_list))) (give [])
+first_values =
+    either (is_next (Punctuator punct.Assign))
+    (behind (Punctuator punct.Assign)
+    (behind (Punctuator punct.OpenBrace) (before (Punctuator punct.CloseBrace) value_list)))
+    (give [])
 
 abbrev pub Size : Type 0
 Size = Option (ℕ × Span) × List First
@@ -134,7 +153,12 @@ variable_tree is = (None, is)
 
 -- what stands behind a global's name
 abbrev pub sized : Parser Size
-sized = either (is_next (Punctuator punct.OpenBracket)) (mapped array_tree (seq (behind (Punctuator punct.OpenBracket) (before (Punctuator punct.CloseBracket) (take the_length))) first_values)) (mapped variable_tree first_value)
+sized =
+    either (is_next (Punctuator punct.OpenBracket))
+    (mapped array_tree
+    (seq (behind (Punctuator punct.OpenBracket) (before (Punctuator punct.CloseBracket) (take the_length)))
+    first_values))
+    (mapped variable_tree first_value)
 
 abbrev pub global_tree : Scalar → Name → Size → Global
 global_tree t x size = record { of = t; name = x; length = size.0; first = size.1 }
@@ -144,13 +168,18 @@ global t = mapped (λ x. global_tree t x.0 x.1) (seq (take the_name) sized)
 
 -- the globals of one declaration, behind the first one's name
 abbrev pub several : Scalar → Name → Parser (List Global)
-several t x = mapped (λ y. global_tree t x y.0 ∷ y.1) (seq sized (many_until (is_other (Punctuator punct.Comma)) (behind (Punctuator punct.Comma) (global t))))
+several t x =
+    mapped (λ y. global_tree t x y.0 ∷ y.1)
+    (seq sized (many_until (is_other (Punctuator punct.Comma)) (behind (Punctuator punct.Comma) (global t))))
 
 abbrev pub globals_tree : Scalar → Name → Size × List Global → Item
 globals_tree t x y = Shares (global_tree t x y.0 ∷ y.1)
 
 abbrev pub globals_from : Scalar → Name → Parser Item
-globals_from t x = mapped (globals_tree t x) (before (Punctuator punct.Semicolon) (seq sized (many_until (is_other (Punctuator punct.Comma)) (behind (Punctuator punct.Comma) (global t)))))
+globals_from t x =
+    mapped (globals_tree t x)
+    (before (Punctuator punct.Semicolon)
+    (seq sized (many_until (is_other (Punctuator punct.Comma)) (behind (Punctuator punct.Comma) (global t)))))
 
 -- ---- items
 

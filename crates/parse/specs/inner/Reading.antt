@@ -32,8 +32,11 @@ Gives view (Ok x) read = read ≡ Ok (view x)
 Gives view (Err e) read = Fails e read
 
 -- Whatever reading the one gives, seen by view, the other gives as make makes of it, unless memory ran out.
-abbrev pub GivesOn : {X Y U V : Type 0} → (X → U) → (Y → V) → (U → V) → Result (X × Bor (List Token)) Failure → Result (Y × Bor (List Token)) Failure → Type 0
-GivesOn {U = U} {V = V} view seen make one other = (read : Result (U × List Tok) Fault) → Gives {Y = U × List Tok} (λ x. (view x.0, toks x.1.now)) one read → Gives {Y = V × List Tok} (λ y. (seen y.0, toks y.1.now)) other (read >>= λ x. Ok (make x.0, x.1))
+abbrev pub GivesOn : {X Y U V : Type 0} → (X → U) → (Y → V) → (U → V) → Result (X × Bor (List Token)) Failure →
+    Result (Y × Bor (List Token)) Failure → Type 0
+GivesOn {U = U} {V = V} view seen make one other =
+    (read : Result (U × List Tok) Fault) → Gives {Y = U × List Tok} (λ x. (view x.0, toks x.1.now)) one read →
+    Gives {Y = V × List Tok} (λ y. (seen y.0, toks y.1.now)) other (read >>= λ x. Ok (make x.0, x.1))
 
 -- reads something at the front, and answers it with the tokens after it
 abbrev pub Parser : Type 0 → Type 0
@@ -77,7 +80,8 @@ sunk starts ts = if starts (head ts) then Err (deep ts) else Err (wrong ts)
 -- at most n, up to a token that stops
 abbrev pub many : {A : Type 0} → (Option Tok → Bool) → ℕ → Parser A → Parser (List A)
 many stop zero P ts = if stop (head ts) then Ok ([], ts) else Err (wrong ts)
-many stop (suc n) P ts = if stop (head ts) then Ok ([], ts) else (P ts >>= λ x. many stop n P x.1 >>= λ y. Ok (x.0 ∷ y.0, y.1))
+many stop (suc n) P ts =
+    if stop (head ts) then Ok ([], ts) else (P ts >>= λ x. many stop n P x.1 >>= λ y. Ok (x.0 ∷ y.0, y.1))
 
 abbrev pub many_until : {A : Type 0} → (Option Tok → Bool) → Parser A → Parser (List A)
 many_until stop P ts = many stop (length ts) P ts
@@ -94,11 +98,11 @@ take f (t ∷ ts) = taken (f t) t ts
 abbrev pub expect : Fixed → Parser (Unit {0})
 expect m = take (the_fixed m)
 
--- a keyword or sign, by its place
+-- a fixed token, by its place
 abbrev pub spot : Fixed → Parser Span
 spot m = take (place_of m)
 
--- the first token is this mark
+-- this fixed token is the first
 abbrev pub is_next : Fixed → Option Tok → Bool
 is_next m None = false
 is_next m (Some t) = is_fixed m t.terminal
@@ -106,7 +110,7 @@ is_next m (Some t) = is_fixed m t.terminal
 abbrev pub is_other : Fixed → Option Tok → Bool
 is_other m h = not (is_next m h)
 
--- what was found behind a keyword or sign, if that is next
+-- what was found behind a fixed token, if that is next
 abbrev pub GivesBehind : Fixed → List Tok → Option (Bor (List Token)) → Type 0
 GivesBehind k ts None = is_next k (head ts) ≡ false
 GivesBehind k ts (Some rest) = (is_next k (head ts) ≡ true) × (expect k ts ≡ Ok (tt, toks rest.now))
@@ -115,19 +119,19 @@ abbrev pub if_there : {A : Type 0} → Bool → Parser A → Parser (Option A)
 if_there true P = mapped Some P
 if_there false P = give None
 
--- something that begins with this mark, if the next token is that
+-- something that begins with this fixed token, if that is next
 abbrev pub perhaps : {A : Type 0} → Fixed → Parser A → Parser (Option A)
 perhaps k P = choice (λ h. if_there (is_next k h) P)
 
--- behind a mark
+-- behind a fixed token
 abbrev pub behind : {A : Type 0} → Fixed → Parser A → Parser A
 behind k P = mapped (λ x. x.1) (seq (expect k) P)
 
--- up to a mark
+-- up to a fixed token
 abbrev pub before : {A : Type 0} → Fixed → Parser A → Parser A
 before k P = mapped (λ x. x.0) (seq P (expect k))
 
--- nothing, where the next token is this mark
+-- nothing, where the next token is this fixed token
 abbrev pub unless : {A : Type 0} → Fixed → Parser A → Parser (Option A)
 unless k P = either (is_next k) (give None) (mapped Some P)
 
@@ -141,7 +145,12 @@ listed P = mapped in_front (seq P (many_until (is_other (Punctuator punct.Comma)
 -- further ones, each behind a comma, and perhaps a comma behind the last, up to a brace; at most n
 abbrev pub trailing : {A : Type 0} → ℕ → Parser A → Parser (List A)
 trailing zero P ts = if is_next (Punctuator punct.Comma) (head ts) then Err (wrong ts) else Ok ([], ts)
-trailing (suc n) P ts = if is_next (Punctuator punct.Comma) (head ts) then (expect (Punctuator punct.Comma) ts >>= λ c. if is_next (Punctuator punct.CloseBrace) (head c.1) then Ok ([], c.1) else (P c.1 >>= λ x. trailing n P x.1 >>= λ y. Ok (x.0 ∷ y.0, y.1))) else Ok ([], ts)
+trailing (suc n) P ts =
+    if is_next (Punctuator punct.Comma) (head ts) then
+    (expect (Punctuator punct.Comma) ts
+    >>= λ c. if is_next (Punctuator punct.CloseBrace) (head c.1) then Ok ([], c.1) else
+    (P c.1 >>= λ x. trailing n P x.1 >>= λ y. Ok (x.0 ∷ y.0, y.1)))
+    else Ok ([], ts)
 
 -- ---- operators that group to the left
 
@@ -171,7 +180,8 @@ module _ {E Op : Type 0} (ops : Operators E Op) where
   op_at min None = None
   op_at min (Some t) = at_least min (ops.the t)
 
-  abbrev pub turned : Option (Op × List Tok) → E → List Tok → (Op → List Tok → Result (E × List Tok) Fault) → Result (E × List Tok) Fault
+  abbrev pub turned : Option (Op × List Tok) → E → List Tok → (Op → List Tok → Result (E × List Tok) Fault) →
+      Result (E × List Tok) Fault
   turned None left ts go = Ok (left, ts)
   turned (Some x) left ts go = go x.0 x.1
 
@@ -179,7 +189,9 @@ module _ {E Op : Type 0} (ops : Operators E Op) where
   unfoldable pub climb_loop : (ℕ → Parser E) → ℕ → ℕ → ℕ → E → Parser E
   climb_loop below min d zero left ts = turned (next_op min ts) left ts (λ op after. Err (deep ts))
   climb_loop below min d (suc n) left ts = turned (next_op min ts) left ts (λ op after.
-      if nat_lt (ops.depth left) d then (below (suc (ops.precedence op)) after >>= λ b. climb_loop below min d n (ops.node op left b.0) b.1) else Err (deep ts))
+      if nat_lt (ops.depth left) d then
+      (below (suc (ops.precedence op)) after >>= λ b. climb_loop below min d n (ops.node op left b.0) b.1)
+      else Err (deep ts))
 
 abbrev pub GivesOp : {Op : Type 0} → Option (Op × Bor (List Token)) → Option (Op × List Tok) → Type 0
 GivesOp None read = read ≡ None

@@ -39,7 +39,8 @@ module _ (whole : Parser Expr) where
   changed_from to = mapped (Adjust to) (take the_step)
 
   abbrev pub simple_from : Expr → Parser Simple
-  simple_from to = either (says the_assigning) (assigned_from to) (either (says the_step) (changed_from to) (give (Evaluate to)))
+  simple_from to =
+      either (says the_assigning) (assigned_from to) (either (says the_step) (changed_from to) (give (Evaluate to)))
 
   abbrev pub simple : Parser Simple
   simple = either (says the_step) stepped (mapped (λ x. x.1) (chained whole simple_from))
@@ -62,7 +63,9 @@ declaration_tree x = record { of = x.0; declarators = x.1 }
 
 module _ (whole : Parser Expr) where
   abbrev pub declarator : Parser Declarator
-  declarator = mapped declarator_tree (seq (take the_name) (perhaps (Punctuator punct.Assign) (behind (Punctuator punct.Assign) whole)))
+  declarator =
+      mapped declarator_tree
+      (seq (take the_name) (perhaps (Punctuator punct.Assign) (behind (Punctuator punct.Assign) whole)))
 
   abbrev pub declaration : Parser Declaration
   declaration = mapped declaration_tree (seq scalar (before (Punctuator punct.Semicolon) (listed declarator)))
@@ -125,7 +128,9 @@ in_parens P = behind (Punctuator punct.OpenParen) (before (Punctuator punct.Clos
 
 -- up to the closing brace
 abbrev pub braced : {A : Type 0} → Parser A → Parser (List A)
-braced P = behind (Punctuator punct.OpenBrace) (before (Punctuator punct.CloseBrace) (many_until (is_next (Punctuator punct.CloseBrace)) P))
+braced P =
+    behind (Punctuator punct.OpenBrace)
+    (before (Punctuator punct.CloseBrace) (many_until (is_next (Punctuator punct.CloseBrace)) P))
 
 -- what an if chooses from; stmt: a statement
 abbrev pub branches : Parser Stmt → Parser (Stmt × Option Stmt)
@@ -142,17 +147,27 @@ module _ (d : ℕ) where
 
   -- what follows the format
   abbrev pub printed : Parser (List Expr)
-  printed = before (Punctuator punct.Semicolon) (before (Punctuator punct.CloseParen) (many_until (is_other (Punctuator punct.Comma)) (behind (Punctuator punct.Comma) (whole_at d))))
+  printed =
+      before (Punctuator punct.Semicolon)
+      (before (Punctuator punct.CloseParen)
+      (many_until (is_other (Punctuator punct.Comma)) (behind (Punctuator punct.Comma) (whole_at d))))
 
   abbrev pub print_stmt : Parser Stmt
-  print_stmt = mapped print_tree (seq (spot (Keyword key.Printf)) (behind (Punctuator punct.OpenParen) (seq (take the_text) printed)))
+  print_stmt =
+      mapped print_tree
+      (seq (spot (Keyword key.Printf)) (behind (Punctuator punct.OpenParen) (seq (take the_text) printed)))
 
   abbrev pub start : Parser Start
-  start = either (is_next (Punctuator punct.Semicolon)) (mapped (λ x. Nothing) (expect (Punctuator punct.Semicolon))) (either starts_type (mapped Declares (declaration_at d)) (mapped Does (before (Punctuator punct.Semicolon) (simple_at d))))
+  start =
+      either (is_next (Punctuator punct.Semicolon)) (mapped (λ x. Nothing) (expect (Punctuator punct.Semicolon)))
+      (either starts_type (mapped Declares (declaration_at d))
+      (mapped Does (before (Punctuator punct.Semicolon) (simple_at d))))
 
   -- the condition and the step of a for
   abbrev pub rest_of_head : Parser (Option Expr × Option Simple)
-  rest_of_head = seq (before (Punctuator punct.Semicolon) (unless (Punctuator punct.Semicolon) (whole_at d))) (before (Punctuator punct.CloseParen) (unless (Punctuator punct.CloseParen) (simple_at d)))
+  rest_of_head =
+      seq (before (Punctuator punct.Semicolon) (unless (Punctuator punct.Semicolon) (whole_at d)))
+      (before (Punctuator punct.CloseParen) (unless (Punctuator punct.CloseParen) (simple_at d)))
 
   abbrev pub head_of_for : Parser (Start × (Option Expr × Option Simple))
   head_of_for = behind (Punctuator punct.OpenParen) (seq start rest_of_head)
@@ -165,7 +180,10 @@ module _ (d : ℕ) where
   alone_stmt k tree = mapped tree (before (Punctuator punct.Semicolon) (spot k))
 
   abbrev pub return_stmt : Parser Stmt
-  return_stmt = mapped (λ x. Return x.1 x.0) (seq (spot (Keyword key.Return)) (before (Punctuator punct.Semicolon) (unless (Punctuator punct.Semicolon) (whole_at d))))
+  return_stmt =
+      mapped (λ x. Return x.1 x.0)
+      (seq (spot (Keyword key.Return))
+      (before (Punctuator punct.Semicolon) (unless (Punctuator punct.Semicolon) (whole_at d))))
 
   abbrev pub simple_stmt : Parser Stmt
   simple_stmt = mapped Do (before (Punctuator punct.Semicolon) (simple_at (suc d)))

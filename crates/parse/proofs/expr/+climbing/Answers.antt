@@ -23,12 +23,12 @@ pub named-returns-in_err-args-2-clause-value : goal.named-returns-in_err-args-2-
 named-returns-in_err-args-2-clause-value g t c =
     let p = err_from_is_err_and c.from_residual-in_err-args-2.result c.from_residual-in_err-args-2.ensures.1 in
     rw (p.1, p.2) (fails_along c.in_err-args-2.field-0.0 _ _ (λ f e.
-    call_goes (whole_at c.args.depth) (expr_at c.args.depth 11) (toks c.args.tokens.now) (toks c.in_ok-name.rest.now) (name_of c.in_ok-name.name) c.in_ok-name.ensures (sym c.is_next.ensures ∙ c.if-is_next.false) (sym c.is_next-2.ensures ∙ c.if-is_next-2.true)
-    ∙ unclosed (Punctuator punct.OpenParen) (Punctuator punct.CloseParen) (arguments (whole_at c.args.depth) (expr_at c.args.depth 11)) _ (toks c.in_ok-name.rest.now) (toks c.in_ok-rest-2.rest.now) (toks c.in_ok-args.rest.now) _ f c.in_ok-rest-2.ensures c.in_ok-args.ensures.value e) c.in_err-args-2.ensures.rest)
+    call_goes (whole_at c.args.depth) (expr_at c.args.depth 11) (toks c.args.tokens.now) (toks c.in_ok-name.rest.now) (name_of c.in_ok-name.name) c.in_ok-name.ensures c.in_default.ensures c.in-Some-eat.ensures.0
+    ∙ unclosed (Punctuator punct.OpenParen) (Punctuator punct.CloseParen) (arguments (whole_at c.args.depth) (expr_at c.args.depth 11)) _ (toks c.in_ok-name.rest.now) (toks c.in-Some-eat.rest.now) (toks c.in_ok-args.rest.now) _ f c.in-Some-eat.ensures.1 c.in_ok-args.ensures.value e) c.in_err-args-2.ensures.rest)
 
 pub named-returns-clause-value : goal.named-returns-clause-value
 named-returns-clause-value g t c =
-    variable_goes (whole_at c.args.depth) (expr_at c.args.depth 11) (toks c.args.tokens.now) (toks c.in_ok-name.rest.now) (name_of c.in_ok-name.name) c.in_ok-name.ensures (sym c.is_next.ensures ∙ c.if-is_next.false) (sym c.is_next-2.ensures ∙ c.if-is_next-2.false)
+    variable_goes (whole_at c.args.depth) (expr_at c.args.depth 11) (toks c.args.tokens.now) (toks c.in_ok-name.rest.now) (name_of c.in_ok-name.name) c.in_ok-name.ensures c.in_default.ensures c.in_default-eat.ensures
     ∙ ap (λ e. Ok (e, toks c.in_ok-name.rest.now)) (sym (expr_of_variable c.in_ok-name.name))
 
 -- ---- arguments
@@ -40,7 +40,7 @@ arguments-returns-clause-value g t c =
     rw (sym c.is_next.ensures ∙ c.if-is_next.false, e) (listed_goes (whole_at c.args.depth) (many_until (is_other (Punctuator punct.Comma)) (behind (Punctuator punct.Comma) (whole_at c.args.depth))) (toks c.args.tokens.now) (toks c.in_ok-first.rest.now) (expr_of c.in_ok-first.first) c.in_ok-first.ensures.value) in
     rw start c.extend.ensures.value
 
--- ---- behind a sign
+-- ---- behind a punctuator
 
 pub behind-returns-in_err-rest-clause-value : goal.behind-returns-in_err-rest-clause-value
 behind-returns-in_err-rest-clause-value g t c =
@@ -57,14 +57,14 @@ extend-turns-init g t c =
     let n : c.counted-count.result.1 - 0 ≡ length (toks c.args.tokens.now) = omega (arith, length-map c.args.tokens.now tok, c.counted-count.ensures.count) in
     record { long = c.counted-count.ensures.count; within = c.requires.shallow; deep = c.requires.measured; value = rw (n, c.counted-count.ensures.all) refl }
 
-pub extend-returns-then-not-is_next-clause-value : goal.extend-returns-then-not-is_next-clause-value
-extend-returns-then-not-is_next-clause-value g t c = stops_at (is_other (Punctuator punct.Comma)) (behind (Punctuator punct.Comma) (whole_at c.args.depth)) (map expr_of c.turns.all) (c.counted-count.result.1 - c.turns._turn) (toks c.turns.rest.now) _ (ap not (sym c.is_next.ensures ∙ c.if-not-is_next.true)) c.turns.invariant.value
+pub extend-returns-in_default-clause-value : goal.extend-returns-in_default-clause-value
+extend-returns-in_default-clause-value g t c = stops_at (is_other (Punctuator punct.Comma)) (behind (Punctuator punct.Comma) (whole_at c.args.depth)) (map expr_of c.turns.all) (c.counted-count.result.1 - c.turns._turn) (toks c.turns.rest.now) _ (ap not c.in_default.ensures) c.turns.invariant.value
 
 pub extend-returns-in_err-one-clause-value : goal.extend-returns-in_err-one-clause-value
 extend-returns-in_err-one-clause-value g t c =
     let p = err_from_is_err_and c.from_residual.result c.from_residual.ensures.1 in
     rw (p.1, p.2) (fails_along c.in_err-one.field-0.0 _ _ (λ f e.
-    fails_on (is_other (Punctuator punct.Comma)) (behind (Punctuator punct.Comma) (whole_at c.args.depth)) (map expr_of c.turns.all) c.counted-count.result.1 c.turns._turn (toks c.turns.rest.now) f _ c.turns-test.true (ap not (sym c.is_next.ensures ∙ c.if-not-is_next.false)) e c.turns.invariant.value) c.in_err-one.ensures.value)
+    fails_on (is_other (Punctuator punct.Comma)) (behind (Punctuator punct.Comma) (whole_at c.args.depth)) (map expr_of c.turns.all) c.counted-count.result.1 c.turns._turn (toks c.turns.rest.now) f _ c.turns-test.true (ap not c.in-Some.ensures.0) (behind_is (Punctuator punct.Comma) (whole_at c.args.depth) (toks c.turns.rest.now) (toks c.in-Some.inner.now) c.in-Some.ensures.1 ∙ e) c.turns.invariant.value) c.in_err-one.ensures.value)
 
 pub extend-turns-preserved : goal.extend-turns-preserved
 extend-turns-preserved g t c =
@@ -75,14 +75,14 @@ extend-turns-preserved g t c =
       long = c.turns.invariant.long;
       within = omega (arith, most, c.turns.invariant.within, c.in_ok-one.ensures.within);
       deep = omega (arith, most, pushed, c.turns.invariant.deep, c.in_ok-one.ensures.deep);
-      value = rw e (goes_on (is_other (Punctuator punct.Comma)) (behind (Punctuator punct.Comma) (whole_at c.args.depth)) (map expr_of c.turns.all) c.counted-count.result.1 c.turns._turn (toks c.turns.rest.now) (toks c.in_ok-one.after.now) (expr_of c.in_ok-one.one) _ c.turns-test.true (ap not (sym c.is_next.ensures ∙ c.if-not-is_next.false)) c.in_ok-one.ensures.value c.turns.invariant.value);
+      value = rw e (goes_on (is_other (Punctuator punct.Comma)) (behind (Punctuator punct.Comma) (whole_at c.args.depth)) (map expr_of c.turns.all) c.counted-count.result.1 c.turns._turn (toks c.turns.rest.now) (toks c.in_ok-one.after.now) (expr_of c.in_ok-one.one) _ c.turns-test.true (ap not c.in-Some.ensures.0) (behind_is (Punctuator punct.Comma) (whole_at c.args.depth) (toks c.turns.rest.now) (toks c.in-Some.inner.now) c.in-Some.ensures.1 ∙ c.in_ok-one.ensures.value) c.turns.invariant.value);
     }
 
 pub extend-returns-then-is_next-clause-value : goal.extend-returns-then-is_next-clause-value
-extend-returns-then-is_next-clause-value g t c = runs_out (is_other (Punctuator punct.Comma)) (behind (Punctuator punct.Comma) (whole_at c.args.depth)) (map expr_of c.turns.all) (c.counted-count.result.1 - c.turns._turn) (toks c.turns.rest.now) _ (omega (arith, c.turns-test.false)) (ap not (sym c.is_next-2.ensures ∙ c.if-is_next.true)) c.turns.invariant.value
+extend-returns-then-is_next-clause-value g t c = runs_out (is_other (Punctuator punct.Comma)) (behind (Punctuator punct.Comma) (whole_at c.args.depth)) (map expr_of c.turns.all) (c.counted-count.result.1 - c.turns._turn) (toks c.turns.rest.now) _ (omega (arith, c.turns-test.false)) (ap not (sym c.is_next.ensures ∙ c.if-is_next.true)) c.turns.invariant.value
 
 pub extend-returns-clause-value : goal.extend-returns-clause-value
-extend-returns-clause-value g t c = stops_at (is_other (Punctuator punct.Comma)) (behind (Punctuator punct.Comma) (whole_at c.args.depth)) (map expr_of c.turns.all) (c.counted-count.result.1 - c.turns._turn) (toks c.turns.rest.now) _ (ap not (sym c.is_next-2.ensures ∙ c.if-is_next.false)) c.turns.invariant.value
+extend-returns-clause-value g t c = stops_at (is_other (Punctuator punct.Comma)) (behind (Punctuator punct.Comma) (whole_at c.args.depth)) (map expr_of c.turns.all) (c.counted-count.result.1 - c.turns._turn) (toks c.turns.rest.now) _ (ap not (sym c.is_next.ensures ∙ c.if-is_next.false)) c.turns.invariant.value
 
 -- ---- operators
 

@@ -6,7 +6,7 @@ use Rattle.lex.specs.Tokens.{toks}
 use Rattle.parse.specs.inner.Reading.{head, is_next}
 use Rattle.parse.specs.inner.Items.{initialiser}
 use Rattle.parse.proofs.code.Climbing.{fails_along}
-use Rattle.parse.proofs.code.Loops.{trails_begin, trails_stop, trails_out, trails_lost, trails_last, trails_fail, trails_on}
+use Rattle.parse.proofs.code.Loops.{trails_begin, trails_stop, trails_out, trails_last, trails_fail, trails_on}
 use Rattle.parse.proofs.globals.value_list.Goals as goal
 
 pub turns-init : goal.turns-init
@@ -15,36 +15,26 @@ turns-init g c = record {
   value = trails_begin initialiser c.push.new.self c.in_ok-first.first (toks c.args.tokens.now) c.in_ok-first.inner.now (rw (c.in_ok-push.ensures.ok, c.new-all.ensures) refl) c.in_ok-first.ensures;
 }
 
-pub returns-then-not-is_next : goal.returns-then-not-is_next
-returns-then-not-is_next g c = trails_stop initialiser c.turns.all _ _ (toks c.turns.rest.now) (sym c.is_next.ensures ∙ c.if-not-is_next.true) c.turns.invariant.value
-
-pub returns-in_err-next : goal.returns-in_err-next
-returns-in_err-next g c =
-    let comma : is_next (Punctuator punct.Comma) (head (toks c.turns.rest.now)) ≡ true = sym c.is_next.ensures ∙ c.if-not-is_next.false in
-    let p = err_from_is_err_and c.from_residual-in_err-next.result c.from_residual-in_err-next.ensures.1 in
-    rw (p.1, p.2) (fails_along c.in_err-next.field-0.0 _ _ (λ f e.
-    trails_lost initialiser c.turns.all _ (length c.in_ok-first.inner.now) c.turns._turn (toks c.turns.rest.now) c.turns-test.true comma c.turns.invariant.value f e) c.in_err-next.ensures)
+pub returns-in_default : goal.returns-in_default
+returns-in_default g c = trails_stop initialiser c.turns.all _ _ (toks c.turns.rest.now) c.in_default.ensures c.turns.invariant.value
 
 pub returns-then-is_next : goal.returns-then-is_next
 returns-then-is_next g c =
-    let comma : is_next (Punctuator punct.Comma) (head (toks c.turns.rest.now)) ≡ true = sym c.is_next.ensures ∙ c.if-not-is_next.false in
-    trails_last initialiser c.turns.all _ (length c.in_ok-first.inner.now) c.turns._turn (toks c.turns.rest.now) c.turns-test.true comma c.turns.invariant.value (toks c.in_ok-next.next.now) c.in_ok-next.ensures (sym c.is_next-in-turns.ensures ∙ c.if-is_next.true)
+    trails_last initialiser c.turns.all _ (length c.in_ok-first.inner.now) c.turns._turn (toks c.turns.rest.now) c.turns-test.true c.in-Some.ensures.0 c.turns.invariant.value (toks c.in-Some.next.now) c.in-Some.ensures.1 (sym c.is_next.ensures ∙ c.if-is_next.true)
 
 pub returns-in_err-one : goal.returns-in_err-one
 returns-in_err-one g c =
-    let comma : is_next (Punctuator punct.Comma) (head (toks c.turns.rest.now)) ≡ true = sym c.is_next.ensures ∙ c.if-not-is_next.false in
-    let more : is_next (Punctuator punct.CloseBrace) (head (toks c.in_ok-next.next.now)) ≡ false = sym c.is_next-in-turns.ensures ∙ c.if-is_next.false in
+    let more : is_next (Punctuator punct.CloseBrace) (head (toks c.in-Some.next.now)) ≡ false = sym c.is_next.ensures ∙ c.if-is_next.false in
     let p = err_from_is_err_and c.from_residual-in_err-one.result c.from_residual-in_err-one.ensures.1 in
     rw (p.1, p.2) (fails_along c.in_err-one.field-0.0 _ _ (λ f e.
-    trails_fail initialiser c.turns.all _ (length c.in_ok-first.inner.now) c.turns._turn (toks c.turns.rest.now) c.turns-test.true comma c.turns.invariant.value (toks c.in_ok-next.next.now) c.in_ok-next.ensures f more e) c.in_err-one.ensures)
+    trails_fail initialiser c.turns.all _ (length c.in_ok-first.inner.now) c.turns._turn (toks c.turns.rest.now) c.turns-test.true c.in-Some.ensures.0 c.turns.invariant.value (toks c.in-Some.next.now) c.in-Some.ensures.1 f more e) c.in_err-one.ensures)
 
 pub turns-preserved : goal.turns-preserved
 turns-preserved g c =
-    let comma : is_next (Punctuator punct.Comma) (head (toks c.turns.rest.now)) ≡ true = sym c.is_next.ensures ∙ c.if-not-is_next.false in
-    let more : is_next (Punctuator punct.CloseBrace) (head (toks c.in_ok-next.next.now)) ≡ false = sym c.is_next-in-turns.ensures ∙ c.if-is_next.false in
+    let more : is_next (Punctuator punct.CloseBrace) (head (toks c.in-Some.next.now)) ≡ false = sym c.is_next.ensures ∙ c.if-is_next.false in
     record {
       long = refl;
-      value = rw c.in_ok-push-2.ensures.ok (trails_on initialiser c.turns.all _ (length c.in_ok-first.inner.now) c.turns._turn (toks c.turns.rest.now) c.turns-test.true comma c.turns.invariant.value (toks c.in_ok-next.next.now) c.in_ok-next.ensures (toks c.in_ok-one.after.now) c.in_ok-one.one more c.in_ok-one.ensures);
+      value = rw c.in_ok-push-2.ensures.ok (trails_on initialiser c.turns.all _ (length c.in_ok-first.inner.now) c.turns._turn (toks c.turns.rest.now) c.turns-test.true c.in-Some.ensures.0 c.turns.invariant.value (toks c.in-Some.next.now) c.in-Some.ensures.1 (toks c.in_ok-one.after.now) c.in_ok-one.one more c.in_ok-one.ensures);
     }
 
 pub returns-then-is_next-2 : goal.returns-then-is_next-2

@@ -13,7 +13,7 @@ use Rattle.parse.proofs.code.Within.{stmt_none, stmt_deep, stmt_start, block_non
 use Rattle.parse.proofs.code.Loops.{all_turns}
 use Rattle.parse.proofs.code.Made.{made_same, fails_before}
 use Rattle.parse.proofs.code.Braces.{expect_not, braced_is}
-use Rattle.parse.proofs.code.Nodes.{while_stmt_none, while_stmt_unless, while_stmt_left, do_stmt_none, do_stmt_fails, do_stmt_left, if_stmt_none, if_stmt_unless, if_stmt_left, branches_fail, branches_left, no_else, else_none, else_fails, else_is, for_stmt_none, for_stmt_unless, for_stmt_left, transaction_stmt_none, transaction_stmt_fails, transaction_stmt_is, entry_stmt, entry_fails}
+use Rattle.parse.proofs.code.Nodes.{while_stmt_none, while_stmt_unless, while_stmt_left, do_stmt_none, do_stmt_fails, do_stmt_left, if_stmt_none, if_stmt_unless, if_stmt_left, branches_fail, branches_left, no_else, else_fails, else_is, for_stmt_none, for_stmt_unless, for_stmt_left, transaction_stmt_none, transaction_stmt_fails, transaction_stmt_is, entry_stmt, entry_fails}
 use Rattle.parse.proofs.code.Rounds.{round_starts, round_goes_to, round_fails, round_bad, round_good}
 use Rattle.parse.proofs.stmt.+statements.Goals.{block-else-turns-test, block-then-turns-test+then-is_next}
 use Rattle.parse.proofs.stmt.+statements.Goals as goal
@@ -21,21 +21,16 @@ use Rattle.parse.proofs.stmt.+statements.Goals as goal
 pub boxed_stmt-returns : goal.boxed_stmt-returns
 boxed_stmt-returns g t c = made_same stmt_of c.boxed.result (stmt_at c.args.depth (toks c.args.tokens.now)) (c.boxed.ensures _ c.stmt.ensures)
 
-pub else_part-returns-then-not-is_next : goal.else_part-returns-then-not-is_next
-else_part-returns-then-not-is_next g t c = no_else c.args.depth (toks c.args.tokens.now) (sym c.is_next.ensures ∙ c.if-not-is_next.true)
-
-pub else_part-returns-in_err-rest : goal.else_part-returns-in_err-rest
-else_part-returns-in_err-rest g t c =
-    let p = err_from_is_err_and c.from_residual.result c.from_residual.ensures.1 in
-    rw (p.1, p.2) (fails_along c.in_err-rest.field-0.0 _ _ (λ f e. else_none c.args.depth (toks c.args.tokens.now) f (sym c.is_next.ensures ∙ c.if-not-is_next.false) e) c.in_err-rest.ensures)
+pub else_part-returns-in_default : goal.else_part-returns-in_default
+else_part-returns-in_default g t c = no_else c.args.depth (toks c.args.tokens.now) c.in_default.ensures
 
 pub else_part-returns-in_err-other : goal.else_part-returns-in_err-other
 else_part-returns-in_err-other g t c =
-    let p = err_from_is_err_and c.from_residual-in_err-other.result c.from_residual-in_err-other.ensures.1 in
-    rw (p.1, p.2) (fails_along c.in_err-other.field-0.0 _ _ (λ f e. else_fails c.args.depth (toks c.args.tokens.now) (toks c.in_ok-rest.rest.now) f (sym c.is_next.ensures ∙ c.if-not-is_next.false) c.in_ok-rest.ensures e) c.in_err-other.ensures)
+    let p = err_from_is_err_and c.from_residual.result c.from_residual.ensures.1 in
+    rw (p.1, p.2) (fails_along c.in_err-other.field-0.0 _ _ (λ f e. else_fails c.args.depth (toks c.args.tokens.now) (toks c.in-Some.rest.now) f c.in-Some.ensures.0 c.in-Some.ensures.1 e) c.in_err-other.ensures)
 
 pub else_part-returns : goal.else_part-returns
-else_part-returns g t c = else_is c.args.depth (toks c.args.tokens.now) (toks c.in_ok-rest.rest.now) (toks c.in_ok-other.rest.now) (stmt_of c.in_ok-other.other) (sym c.is_next.ensures ∙ c.if-not-is_next.false) c.in_ok-rest.ensures c.in_ok-other.ensures
+else_part-returns g t c = else_is c.args.depth (toks c.args.tokens.now) (toks c.in-Some.rest.now) (toks c.in_ok-other.rest.now) (stmt_of c.in_ok-other.other) c.in-Some.ensures.0 c.in-Some.ensures.1 c.in_ok-other.ensures
 
 pub branches-returns-in_err-then : goal.branches-returns-in_err-then
 branches-returns-in_err-then g t c =

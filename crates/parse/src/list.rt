@@ -1,0 +1,72 @@
+//! Lists with commas between their elements.
+
+ghost use Rattle.std.specs.Prelude.{◌≡◌, ◌++◌, map};
+ghost use Rattle.lex.specs.Tokens.{toks};
+ghost use Rattle.lex.specs.declared.token.Fixed.TheVariants as token;
+ghost use Rattle.lex.specs.declared.token.Punctuator.TheVariants as punct;
+ghost use Rattle.parse.specs.inner.Reading.{Gives, Parser, behind, is_other, listed, many_until, mapped};
+
+use crate::cursor::{counted, eat, is_next};
+use crate::fault::Failure;
+use containers::Items;
+use lex::token::{Fixed, Punctuator, Token};
+use std::alloc::Allocator;
+
+/// How one element of a list is read, with what reading it needs.
+pub trait Element<T> {
+    ghost Plain: { Type 0 };
+
+    ghost plain: { T → Plain };
+
+    ghost can: { Self → Type 0 };
+
+    ghost reads: { Self → Parser Plain };
+
+    /// The element at the front.
+    fn read<'t, 'a>(&self, tokens: &'t [Token<'a>]) -> Result<(T, &'t [Token<'a>]), Failure<'t, 'a>>
+        requires { can self.now }
+        ensures { Gives (λ x. (plain x.0, toks x.1.now)) result (reads self.now (toks tokens.now)) };
+}
+
+/// `{ , element }`: adds further elements to those that were read.
+pub fn further<'t, 'a, T: Drop, E: Element<T>, A: Allocator>(
+    element: &E,
+    read: Items<T, A>,
+    tokens: &'t [Token<'a>],
+) -> Result<(Items<T, A>, &'t [Token<'a>]), Failure<'t, 'a>>
+    requires { E.can element.now }
+    ensures { Gives (λ x. (map E.plain x.0, toks x.1.now)) result
+        (mapped (λ xs. map E.plain read ++ xs)
+        (many_until (is_other (token.Punctuator punct.Comma)) (behind (token.Punctuator punct.Comma) (E.reads element.now)))
+        (toks tokens.now)) }
+{
+    let (mut rest, count) = counted(tokens);
+    let mut all = read;
+    'turns: for _turn in 0..count {
+        let Some(inner) = eat(rest, Fixed::Punctuator(Punctuator::Comma)) else {
+            return Ok((all, rest));
+        };
+        let (one, after) = element.read(inner)?;
+        all.push(one)?;
+        rest = after;
+    }
+    if is_next(rest, Fixed::Punctuator(Punctuator::Comma)) {
+        return Err(Failure::Wrong(rest));
+    }
+    Ok((all, rest))
+}
+
+/// `element { , element }`
+pub fn listed<'t, 'a, T: Drop, E: Element<T>, A: Allocator + Copy>(
+    alloc: A,
+    element: &E,
+    tokens: &'t [Token<'a>],
+) -> Result<(Items<T, A>, &'t [Token<'a>]), Failure<'t, 'a>>
+    requires { E.can element.now }
+    ensures { Gives (λ x. (map E.plain x.0, toks x.1.now)) result (listed (E.reads element.now) (toks tokens.now)) }
+{
+    let (first, rest) = element.read(tokens)?;
+    let mut all = Items::new(alloc);
+    all.push(first)?;
+    further(element, all, rest)
+}
