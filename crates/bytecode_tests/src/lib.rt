@@ -6,6 +6,8 @@ mod built;
 #[cfg(test)]
 mod growths;
 #[cfg(test)]
+mod initial;
+#[cfg(test)]
 mod large;
 #[cfg(test)]
 mod listed;
