@@ -1,16 +1,21 @@
--- Thread 0 alone, turn by turn.
-use Rattle.std.proofs.Common.{◌≡◌, ◌≢◌, ℕ, ◌+◌, ◌-◌, ◌<◌, ◌≤◌, List, [], ◌∷◌, ◌++◌, length, get_or, drop, take, replicate, refl, sym, ap, ◌∙◌, subst, ◌⊎◌, arith, Vec}
-use Rattle.std.proofs.lemmas.List.{map-append, length-map, at_drop_more, take-append-drop, drop-append-le, length-take-le, replicate-append-replicate}
+-- Threads that take turns.
+use Rattle.std.proofs.Common.{◌≡◌, ◌≢◌, ℕ, zero, suc, ◌+◌, ◌-◌, ◌<◌, ◌≤◌, List, [], ◌∷◌, ◌++◌, map, length, get_or, set, drop, take, replicate, refl, sym, ap, ◌∙◌, subst, ◌⊎◌, inl, inr, arith, Vec, Result, Ok, Err, OnOk}
+use Rattle.std.proofs.lemmas.List.{map-append, length-append, length-map, at_drop_more, take-append-drop, drop-append-le, length-take-le, replicate-append-replicate, length-replicate, set-get_or, get_or-map, map-set}
+use Rattle.std.proofs.lemmas.Simd.{map-map}
 use Rattle.std.proofs.lemmas.Grind.{common_steps}
-use Rattle.syntax.specs.declared.numbers.Halt.TheVariants.{Wants}
+use Rattle.syntax.specs.declared.numbers.Halt.TheVariants.{Trapped, Wants, Spent, Astray}
 use Rattle.syntax.specs.Tree.{Program}
 use Rattle.syntax.specs.Names.{initial_memory}
-use Rattle.syntax.specs.Behaviours.{Memory, Outcome, Behaviour, ThreadEnd, Stopped}
-use Rattle.syntax.specs.Orders.{Progress, last_left, finds, if_wanting, entry, entries, outcomes}
+use Rattle.syntax.specs.Behaviours.{Memory, Outcome, Behaviour, ThreadEnd, Ended, Stopped}
+use Rattle.syntax.specs.Orders.{Progress, last_left, finds, if_wanting, entry, entries, outcomes, in_order}
 use Rattle.syntax.specs.Threads.{thread}
-use Rattle.meaning.specs.Outcomes.{memories_in}
+use Rattle.meaning.specs.declared.outcome.SourceOutcome.{SourceOutcome}
+use Rattle.meaning.specs.declared.orders.Standing.{Standing}
+use Rattle.meaning.specs.Outcomes.{memories_in, thread_end_in}
+use Rattle.meaning.specs.InOrder.{IsInOrder, report_in, told}
 use Rattle.meaning.specs.Alone.{IsAlone}
-use Rattle.meaning.specs.inner.Turns.{Leads, TakesTurn, does_alone, progress}
+use Rattle.meaning.specs.inner.Seen.{seen_in}
+use Rattle.meaning.specs.inner.Turns.{AreKnown, IsKnown, TakesTurn, does_in, founds_in}
 
 last_of : (m : Memory) (ys : List Memory) (y : Memory) → last_left m (ys ++ y ∷ []) ≡ y
 last_of m [] y = refl
@@ -39,52 +44,159 @@ last_beyond m ls before l h e =
 pub none_beyond : {A : Type 0} (m : Memory) (ls : List (Vec ℕ A)) (before : ℕ) → length ls ≤ before → m ≡ last_left m (drop before (memories_in ls))
 none_beyond m ls before h = ap (last_left m) (sym (all_dropped before (memories_in ls) (let a = length-map ls (λ v. v.items) in omega (arith, a, h))))
 
--- a thread that wants a memory finds the one at hand
-entered : (does : Behaviour) (ticks : ℕ) (m : Memory) (founds : List Memory) (end : ThreadEnd) → end ≡ Stopped Wants → (now : Progress) →
-    finds does ticks 0 founds now ≡ if_wanting does ticks end (finds does ticks 0 founds now) now
-entered does ticks m founds end wants now = sym (ap (λ e. if_wanting does ticks e (finds does ticks 0 founds now) now) wants)
+-- a thread that wants no memory does nothing
+rests : (does : Behaviour) (ticks : ℕ) (end : ThreadEnd) (after now : Progress) → end ≢ Stopped Wants → if_wanting does ticks end after now ≡ now
+rests does ticks Ended after now h = refl
+rests does ticks (Stopped Wants) after now h = absurd (h refl)
+rests does ticks (Stopped (Trapped k)) after now h = refl
+rests does ticks (Stopped Spent) after now h = refl
+rests does ticks (Stopped Astray) after now h = refl
 
-pub takes_turn : {A : Type 0} (p : Program) (ticks : ℕ) (m new : Memory) (fs gs : List (Vec ℕ A)) (before after : Outcome) → before.end ≡ Stopped Wants → before ≡ does_alone p ticks (memories_in fs) →
-    after ≡ does_alone p ticks (memories_in gs) → memories_in gs ≡ memories_in fs ++ m ∷ [] → new ≡ last_left m (drop (length before.lefts) after.lefts) → TakesTurn p ticks (progress m fs) (progress new gs)
-unfolding does_alone TakesTurn
-takes_turn p ticks m new fs gs before after wants known then_ more last =
-    let now : Progress = progress m fs in
-    let founds = memories_in fs in
-    ap (λ (w : Memory). record { memory = w; founds = memories_in gs ∷ [] }) (last ∙ (λ i. last_left m (drop (length (known i).lefts) (then_ i).lefts)))
-    ∙ ap (λ (ms : List Memory). record { memory = last_left m (drop (length (thread p 0 founds ticks).lefts) (thread p 0 ms ticks).lefts); founds = ms ∷ [] }) more
-    ∙ entered (thread p) ticks m founds (thread p 0 founds ticks).end (ap (λ o. o.end) (sym known) ∙ wants) now
+-- a turn is an entry of an order
+enters_by : (does : Behaviour) (ticks t : ℕ) (m n : Memory) (all : List (List Memory)) (further : List Memory) → let founds = get_or all t [] in
+    ((((does t founds ticks).end ≢ Stopped Wants) × (n ≡ m) × (further ≡ founds))
+    ⊎ (((does t founds ticks).end ≡ Stopped Wants) × (n ≡ last_left m (drop (length (does t founds ticks).lefts) (does t further ticks).lefts)) × (further ≡ founds ++ m ∷ []))) →
+    record { memory = n; founds = set all t further } ≡ entry does ticks t (record { memory = m; founds = all })
+enters_by does ticks t m n all further (inl (none, same, kept)) =
+    let now : Progress = record { memory = m; founds = all } in
+    (λ i. record { memory = same i; founds = set all t (kept i) })
+    ∙ ap (λ (fs : List (List Memory)). record { memory = m; founds = fs }) (set-get_or all t [])
+    ∙ sym (rests does ticks (does t (get_or all t []) ticks).end (finds does ticks t (get_or all t []) now) now none)
+enters_by does ticks t m n all further (inr (some, left, more)) =
+    let now : Progress = record { memory = m; founds = all } in
+    let founds = get_or all t [] in
+    (λ i. record { memory = left i; founds = set all t further })
+    ∙ ap (λ (fs : List Memory). record { memory = last_left m (drop (length (does t founds ticks).lefts) (does t fs ticks).lefts); founds = set all t fs }) more
+    ∙ sym (ap (λ e. if_wanting does ticks e (finds does ticks t founds now) now) some)
+
+module _ {A : Type 0} (p : Program) (ticks : ℕ) where
+  pub rested : (t : ℕ) (m : Memory) (s : Standing A) → IsKnown p ticks t s → thread_end_in s.seen.end ≢ Stopped Wants → TakesTurn p ticks t m (memories_in s.founds.items) m (memories_in s.founds.items)
+  unfolding TakesTurn
+  rested t m s known h = inl ((λ e. h (ap (λ o. o.end) known ∙ e)), refl, refl)
+
+  pub found : (t : ℕ) (m n : Memory) (s r : Standing A) → IsKnown p ticks t s → IsKnown p ticks t r → thread_end_in s.seen.end ≡ Stopped Wants → memories_in r.founds.items ≡ memories_in s.founds.items ++ m ∷ [] →
+      n ≡ last_left m (drop (length (memories_in s.seen.lefts.items)) (memories_in r.seen.lefts.items)) → TakesTurn p ticks t m (memories_in s.founds.items) n (memories_in r.founds.items)
+  unfolding TakesTurn
+  found t m n s r known then_ wants more left =
+      inr (sym (ap (λ o. o.end) known) ∙ wants, left ∙ (λ i. last_left m (drop (length (known i).lefts) (then_ i).lefts)), more)
+
+  -- of each thread something is known
+  known_at : (k t : ℕ) (xs : List (Standing A)) (d : Standing A) → t < length xs → AreKnown p ticks k xs → IsKnown p ticks (k + t) (get_or xs t d)
+  unfolding AreKnown
+  known_at k t [] d lt ks = absurd (omega (arith, lt))
+  known_at k zero (x ∷ xs) d lt (h, hs) = subst (λ j. IsKnown p ticks j x) (omega arith) h
+  known_at k (suc t) (x ∷ xs) d lt (h, hs) = subst (λ j. IsKnown p ticks j (get_or xs t d)) (omega arith) (known_at (k + 1) t xs d (omega (arith, lt)) hs)
+
+  known_with : (k t : ℕ) (xs : List (Standing A)) (y : Standing A) → AreKnown p ticks k xs → IsKnown p ticks (k + t) y → AreKnown p ticks k (set xs t y)
+  unfolding AreKnown
+  known_with k t [] y ks h = tt
+  known_with k zero (x ∷ xs) y (_, hs) h = (subst (λ j. IsKnown p ticks j y) (omega arith) h, hs)
+  known_with k (suc t) (x ∷ xs) y (h', hs) h = (h', known_with (k + 1) t xs y hs (subst (λ j. IsKnown p ticks j y) (omega arith) h))
+
+  -- what is known of one of all, and of all with one replaced
+  pub known_one : (t : ℕ) (xs : List (Standing A)) (s : Standing A) → t < length xs → s ≡ get_or xs t s → AreKnown p ticks 0 xs → IsKnown p ticks t s
+  known_one t xs s lt at ks = subst (λ x. IsKnown p ticks t x) (sym at) (subst (λ j. IsKnown p ticks j (get_or xs t s)) (omega arith) (known_at 0 t xs s lt ks))
+
+  pub known_set : (t : ℕ) (xs : List (Standing A)) (y : Standing A) → AreKnown p ticks 0 xs → IsKnown p ticks t y → AreKnown p ticks 0 (set xs t y)
+  known_set t xs y ks h = known_with 0 t xs y ks (subst (λ j. IsKnown p ticks j y) (omega arith) h)
+
+  pub known_more : (k : ℕ) (xs : List (Standing A)) (y : Standing A) → AreKnown p ticks k xs → IsKnown p ticks (k + length xs) y → AreKnown p ticks k (xs ++ y ∷ [])
+  unfolding AreKnown
+  known_more k [] y ks h = (subst (λ j. IsKnown p ticks j y) (omega arith) h, tt)
+  known_more k (x ∷ xs) y (h', hs) h = (h', known_more (k + 1) xs y hs (subst (λ j. IsKnown p ticks j y) (omega arith) h))
+
+  pub known_none : (xs : List (Standing A)) → xs ≡ [] → AreKnown p ticks 0 xs
+  unfolding AreKnown
+  known_none xs e = subst (λ (ys : List (Standing A)). AreKnown p ticks 0 ys) (sym e) tt
+
+  pub count_of : (n : ℕ) (xs : List (Standing A)) → founds_in xs ≡ replicate n [] → length xs ≡ n
+  count_of n xs h = sym (length-map xs (λ s. memories_in s.founds.items)) ∙ ap length h ∙ length-replicate n []
+
+  -- one more thread that has found no memory
+  pub begun_more : (t : ℕ) (xs ys : List (Standing A)) (y : Standing A) → ys ≡ xs ++ y ∷ [] → AreKnown p ticks 0 xs → founds_in xs ≡ replicate t [] → IsKnown p ticks t y → y.founds.items ≡ [] →
+      AreKnown p ticks 0 ys × (founds_in ys ≡ replicate (t + 1) [])
+  begun_more t xs ys y e ks none h mine =
+      let count = count_of t xs none in (
+        subst (λ zs. AreKnown p ticks 0 zs) (sym e) (known_more 0 xs y ks (subst (λ j. IsKnown p ticks j y) (omega (arith, count)) h)),
+        ap founds_in e ∙ map-append (λ (s : Standing A). memories_in s.founds.items) xs (y ∷ []) ∙ (λ i. none i ++ memories_in (mine i) ∷ []) ∙ replicate-append-replicate t 1 [],
+      )
+
+  outcomes_known : (k : ℕ) (xs : List (Standing A)) → AreKnown p ticks k xs → map (λ s. seen_in s.seen) xs ≡ outcomes (does_in p) ticks k (founds_in xs)
+  unfolding AreKnown
+  outcomes_known k [] ks = refl
+  outcomes_known k (x ∷ xs) (h, hs) = λ i. h i ∷ outcomes_known (k + 1) xs hs i
+
+  -- one entry of an order
+  pub enters : (t : ℕ) (m n : Memory) (xs : List (Standing A)) (s y : Standing A) → t < length xs → s ≡ get_or xs t s → TakesTurn p ticks t m (memories_in s.founds.items) n (memories_in y.founds.items) →
+      record { memory = n; founds = founds_in (set xs t y) } ≡ entry (does_in p) ticks t (record { memory = m; founds = founds_in xs })
+  unfolding TakesTurn
+  enters t m n xs s y lt at taken =
+      let found_by = λ (x : Standing A). memories_in x.founds.items in
+      let own : memories_in s.founds.items ≡ get_or (founds_in xs) t [] = ap found_by at ∙ sym (get_or-map found_by xs t s [] lt) in
+      ap (λ fs. record { memory = n; founds = fs }) (map-set found_by xs t y)
+      ∙ enters_by (does_in p) ticks t m n (founds_in xs) (found_by y) (subst (λ fs. TakesTurn p ticks t m fs n (found_by y)) own taken)
+
+-- an entry, and then those after it
+pub goes_on : (does : Behaviour) (ticks t i : ℕ) (order : List ℕ) (now new : Progress) (whole : Progress) → i < length order → t ≡ get_or order i t → new ≡ entry does ticks t now →
+    entries does ticks (drop i order) now ≡ whole → entries does ticks (drop (i + 1) order) new ≡ whole
+goes_on does ticks t i order now new whole lt at step was =
+    ap (entries does ticks (drop (i + 1) order)) (step ∙ ap (λ u. entry does ticks u now) at)
+    ∙ sym (at_drop_more (λ us. entries does ticks us now) order i t lt)
+    ∙ was
 
 entries_append : (does : Behaviour) (ticks : ℕ) (xs ys : List ℕ) (now : Progress) → entries does ticks (xs ++ ys) now ≡ entries does ticks ys (entries does ticks xs now)
 entries_append does ticks [] ys now = refl
 entries_append does ticks (x ∷ xs) ys now = entries_append does ticks xs ys (entry does ticks x now)
 
-pub leads_on : (p : Program) (ticks k : ℕ) (now new : Progress) → Leads p ticks k now → TakesTurn p ticks now new → Leads p ticks (k + 1) new
-unfolding Leads TakesTurn
-leads_on p ticks k now new was is =
-    let start : Progress = record { memory = initial_memory p; founds = [] ∷ [] } in
-    ap (λ xs. entries (thread p) ticks xs start) (sym (replicate-append-replicate k 1 0))
-    ∙ entries_append (thread p) ticks (replicate k 0) (0 ∷ []) start
-    ∙ ap (entry (thread p) ticks 0) was
-    ∙ sym is
+-- a turn more of thread 0
+pub one_more : (does : Behaviour) (ticks k : ℕ) (start now new : Progress) → entries does ticks (replicate k 0) start ≡ now → new ≡ entry does ticks 0 now → entries does ticks (replicate (k + 1) 0) start ≡ new
+one_more does ticks k start now new was step =
+    ap (λ xs. entries does ticks xs start) (sym (replicate-append-replicate k 1 0))
+    ∙ entries_append does ticks (replicate k 0) (0 ∷ []) start
+    ∙ ap (entry does ticks 0) was
+    ∙ sym step
 
--- no turn is taken
-pub leads_from : {A : Type 0} (p : Program) (ticks : ℕ) (m : Memory) (fs : List (Vec ℕ A)) → m ≡ initial_memory p → fs ≡ [] → Leads p ticks 0 (progress m fs)
-unfolding Leads
-leads_from p ticks m fs e f = λ i. record { memory = sym e i; founds = memories_in (sym f i) ∷ [] }
+-- what follows where a call is done
+pub on_ok : {T E X Y : Type 0} (r : Result T E) → (X → Y) → OnOk r X → OnOk r Y
+on_ok (Ok x) f h = f h
+on_ok (Err e) f h = tt
 
-pub does_so : (p : Program) (ticks : ℕ) (founds : List Memory) (o : Outcome) → o ≡ thread p 0 founds ticks → o ≡ does_alone p ticks founds
-unfolding does_alone
-does_so p ticks founds o h = h
+pub only_of : {X : Type 0} (xs ys : List X) (x : X) → length xs ≡ 1 → xs ≡ ys ++ x ∷ [] → xs ≡ x ∷ []
+only_of xs [] x one e = e
+only_of xs (y ∷ ys) x one e = absurd (let h = ap length e in let k = length-append ys (x ∷ []) in omega (arith, one, h, k))
 
--- where the thread stops taking turns
-pub stands_alone : {A : Type 0} (p : Program) (turns ticks k : ℕ) (m : Memory) (fs : List (Vec ℕ A)) (o : Outcome) (w : Memory) (text : List ℕ) (end : ThreadEnd) → w ≡ m → text ≡ o.text → end ≡ o.end → k ≤ turns → o ≡ does_alone p ticks (memories_in fs) →
-    Leads p ticks k (progress m fs) → ((o.end ≢ Stopped Wants) ⊎ (k ≡ turns)) → IsAlone p turns ticks w text end
-unfolding does_alone Leads
-stands_alone p turns ticks k m fs o w text end is_m is_text is_end few known gone over = record {
+-- where the entries lead, by what is known of each thread
+stands : {A : Type 0} (p : Program) (ticks : ℕ) (order : List ℕ) (start : Progress) (m : Memory) (xs : List (Standing A)) → AreKnown p ticks 0 xs → entries (does_in p) ticks order start ≡ record { memory = m; founds = founds_in xs } →
+    let last = entries (does_in p) ticks order start in (last.memory ≡ m) × (outcomes (does_in p) ticks 0 last.founds ≡ map (λ s. seen_in s.seen) xs)
+stands p ticks order start m xs known gone = (ap (λ w. w.memory) gone, ap (λ w. outcomes (does_in p) ticks 0 w.founds) gone ∙ sym (outcomes_known p ticks 0 xs known))
+
+in_order_by : {A : Type 0} (p : Program) (threads ticks : ℕ) (order : List ℕ) (m : Memory) (xs : List (Standing A)) → AreKnown p ticks 0 xs →
+    entries (does_in p) ticks order (record { memory = initial_memory p; founds = replicate threads [] }) ≡ record { memory = m; founds = founds_in xs } →
+    in_order (thread p) (initial_memory p) threads ticks order ≡ record { memory = m; threads = map (λ s. seen_in s.seen) xs }
+unfolding does_in
+in_order_by p threads ticks order m xs known gone =
+    let h = stands p ticks order (record { memory = initial_memory p; founds = replicate threads [] }) m xs known gone in
+    λ i. record { memory = h.0 i; threads = h.1 i }
+
+pub in_this_order : {A : Type 0} (p : Program) (threads ticks : ℕ) (order : List ℕ) (m : Memory) (xs : List (Standing A)) (o : SourceOutcome A) → AreKnown p ticks 0 xs →
+    entries (does_in p) ticks order (record { memory = initial_memory p; founds = replicate threads [] }) ≡ record { memory = m; founds = founds_in xs } →
+    o.memory.items ≡ m → map report_in o.threads.items ≡ map (λ s. told (seen_in s.seen)) xs → IsInOrder p threads ticks order o
+in_this_order p threads ticks order m xs o known gone memory reports =
+    let h = in_order_by p threads ticks order m xs known gone in
+    record {
+      memory = memory ∙ sym (ap (λ w. w.memory) h);
+      threads = reports ∙ sym (map-map told (λ s. seen_in s.seen) xs) ∙ sym (ap (λ w. map told w.threads) h);
+    }
+
+-- where thread 0 stops taking turns
+pub stands_alone : {A : Type 0} (p : Program) (turns ticks k : ℕ) (m w : Memory) (text : List ℕ) (end : ThreadEnd) (xs : List (Standing A)) (s : Standing A) → xs ≡ s ∷ [] → w ≡ m → text ≡ s.seen.text.items → end ≡ thread_end_in s.seen.end → k ≤ turns →
+    AreKnown p ticks 0 xs → entries (does_in p) ticks (replicate k 0) (record { memory = initial_memory p; founds = [] ∷ [] }) ≡ record { memory = m; founds = founds_in xs } →
+    ((thread_end_in s.seen.end ≢ Stopped Wants) ⊎ (k ≡ turns)) → IsAlone p turns ticks w text end
+stands_alone {A = A} p turns ticks k m w text end xs s one is_m is_text is_end few known gone over = record {
   taken = k;
   few = few;
-  lefts = o.lefts;
-  goes = ap (λ (last : Progress). record { memory = last.memory; threads = outcomes (thread p) ticks 0 last.founds }) gone ∙ ap (λ o. record { memory = m; threads = o ∷ [] }) (sym known)
-      ∙ (λ i. record { memory = sym is_m i; threads = record { lefts = o.lefts; text = sym is_text i; end = sym is_end i } ∷ [] });
+  lefts = memories_in s.seen.lefts.items;
+  goes = in_order_by p 1 ticks (replicate k 0) m xs known gone ∙ ap (λ (ys : List (Standing A)). record { memory = m; threads = map (λ s. seen_in s.seen) ys }) one
+      ∙ (λ i. record { memory = sym is_m i; threads = record { lefts = memories_in s.seen.lefts.items; text = sym is_text i; end = sym is_end i } ∷ [] });
   over = subst (λ e. (e ≢ Stopped Wants) ⊎ (k ≡ turns)) (sym is_end) over;
 }

@@ -10,6 +10,7 @@ mod calls;
 mod machine;
 mod memory;
 mod names;
+mod orders;
 mod outcome;
 mod places;
 mod print;
@@ -22,5 +23,8 @@ mod word;
 mod words;
 
 pub use alone::{AloneOutcome, run_alone};
-pub use outcome::{OutOfMemory, ThreadEnd, ThreadOutcome};
+pub use orders::run_order;
+pub use outcome::{
+    MeaningFault, OutOfMemory, SourceOutcome, ThreadEnd, ThreadOutcome, ThreadReport,
+};
 pub use threads::thread;

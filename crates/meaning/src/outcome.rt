@@ -1,7 +1,11 @@
-//! What is seen of a thread.
+//! What is seen of threads.
+
+ghost use Rattle.std.specs.Prelude.{◌≡◌};
+ghost use Rattle.meaning.specs.InOrder.{number_in};
 
 use std::alloc::Allocator;
 use syntax::numbers::Halt;
+use thiserror::Error;
 
 /// How a thread is found after its ticks.
 #[derive(Clone, Copy, PartialEq, Eq, Debug)]
@@ -22,6 +26,50 @@ pub struct ThreadOutcome<A: Allocator = std::alloc::Global> {
     pub end: ThreadEnd,
 }
 
+/// What a thread among several has printed, and how it is found.
+#[derive(Drop)]
+pub struct ThreadReport<A: Allocator = std::alloc::Global> {
+    /// The bytes printed.
+    pub text: Vec<u8, A>,
+    pub end: ThreadEnd,
+}
+
+/// What threads have done.
+#[derive(Drop)]
+pub struct SourceOutcome<A: Allocator = std::alloc::Global> {
+    /// The last memory, a word for each cell.
+    pub memory: Vec<u32, A>,
+    /// Each thread, by its number.
+    pub threads: Vec<ThreadReport<A>, A>,
+}
+
 /// Memory was refused.
 #[derive(Clone, Copy, Debug)]
 pub struct OutOfMemory;
+
+/// Why threads don't run in an order.
+#[derive(Clone, Copy, PartialEq, Eq, Debug, Error)]
+pub enum MeaningFault {
+    /// A growth was refused. It says nothing of the program or the order.
+    #[error("out of memory")]
+    OutOfMemory,
+    /// An entry of the order names none of the threads.
+    #[error("stranger thread in an order")]
+    Stranger,
+    /// There are not 1 to 64 threads.
+    #[error("wrong number of threads")]
+    WrongThreads,
+}
+
+impl MeaningFault {
+    /// The fault's number: 0 where memory was refused, or 55 and 72.
+    pub fn number(self) -> u32
+        ensures { result ≡ number_in self }
+    {
+        match self {
+            MeaningFault::OutOfMemory => 0,
+            MeaningFault::Stranger => 55,
+            MeaningFault::WrongThreads => 72,
+        }
+    }
+}

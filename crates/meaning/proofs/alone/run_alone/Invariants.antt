@@ -1,12 +1,15 @@
-use Rattle.std.proofs.Common.{◌≡◌}
+use Rattle.std.proofs.Common.{◌≡◌, [], ◌∷◌, length, replicate}
+use Rattle.syntax.specs.Names.{initial_memory}
+use Rattle.syntax.specs.Orders.{entries}
 use Rattle.syntax.specs.Views.{program_of}
-use Rattle.meaning.specs.Outcomes.{memories_in}
-use Rattle.meaning.specs.inner.Seen.{seen_in}
-use Rattle.meaning.specs.inner.Turns.{Leads, does_alone, progress}
+use Rattle.meaning.specs.inner.Turns.{AreKnown, does_in, progress}
 use Rattle.meaning.proofs.alone.run_alone.Given as goal
 
 abbrev pub invariant-turns : goal.invariant-turns
-invariant-turns g l = record {
-  known : seen_in l.way.seen ≡ does_alone (program_of l.typed.unit) l.ticks (memories_in l.founds.items);
-  gone : Leads (program_of l.typed.unit) l.ticks l.counter (progress l.way.memory.items l.founds.items);
-}
+invariant-turns g l =
+    let p = program_of l.typed.unit in
+    record {
+      known : AreKnown p l.ticks 0 l.way.threads.items;
+      count : length l.way.threads.items ≡ 1;
+      gone : entries (does_in p) l.ticks (replicate l.counter 0) (record { memory = initial_memory p; founds = [] ∷ [] }) ≡ progress l.way;
+    }
