@@ -20,6 +20,10 @@ text_rule name = record (new_rule name) { long = Some name; action = Some Set; v
 abbrev pub number_rule : Text → Rule
 number_rule name = record (text_rule name) { parser = Some (Signed (pos 0) (pos 4294967295)) }
 
+-- `--order`
+abbrev pub order_rule : Rule
+order_rule = record (text_rule (codes "order")) { required = true }
+
 -- the number of a fault
 abbrev pub fault_rule : Rule
 fault_rule = record (new_rule (codes "NN")) {
@@ -38,6 +42,11 @@ check_app = file_app (codes "check")
 abbrev pub run_app : App
 run_app = file_app (codes "run")
 
+abbrev pub source_app : App
+source_app =
+    let threads = with_rule (file_app (codes "source")) (number_rule (codes "threads")) in
+    with_rule (with_rule threads order_rule) (number_rule (codes "ticks"))
+
 abbrev pub explain_app : App
 explain_app = with_rule (new_app (codes "explain")) fault_rule
 
@@ -49,4 +58,5 @@ commandless_app =
 
 abbrev pub program_app : App
 program_app =
-    with_subcommand (with_subcommand (with_subcommand commandless_app check_app.top) run_app.top) explain_app.top
+    let files = with_subcommand (with_subcommand commandless_app check_app.top) run_app.top in
+    with_subcommand (with_subcommand files source_app.top) explain_app.top

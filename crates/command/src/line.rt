@@ -3,7 +3,7 @@
 ghost use Rattle.std.specs.Prelude.{◌≡◌, IfOk, false};
 ghost use Rattle.clap.specs.Words.{app_of, rule_of};
 ghost use Rattle.clap.specs.declared.builder.command.Command.TheViews.{out-Command as fields_of};
-ghost use Rattle.command.specs.Line.{file_rule, verbose_rule, fault_rule, file_app, explain_app, commandless_app, program_app};
+ghost use Rattle.command.specs.Line.{file_rule, verbose_rule, fault_rule, number_rule, order_rule, file_app, source_app, explain_app, commandless_app, program_app};
 
 use clap::{Arg, ArgAction, Command, value_parser};
 use std::alloc::{AllocError, Global};
@@ -33,15 +33,75 @@ fn verbose<'a>(alloc: Global) -> Arg<'a>
         .help("Shows the line of a fault, and says why a file can't be read")
 }
 
+/// An option with a number.
+fn number<'a>(alloc: Global, name: &'a str, value: &'a str, help: &'a str) -> Arg<'a>
+    ensures rule { rule_of result ≡ number_rule name.entry.now }
+    ensures global { result.global ≡ false }
+{
+    Arg::new(alloc, name)
+        .long(name)
+        .action(ArgAction::Set)
+        .value_name(value)
+        .value_parser(value_parser!(u32))
+        .help(help)
+}
+
+/// The order of threads.
+fn order<'a>(alloc: Global) -> Arg<'a>
+    ensures rule { rule_of result ≡ order_rule }
+    ensures global { result.global ≡ false }
+{
+    Arg::new(alloc, "order")
+        .long("order")
+        .action(ArgAction::Set)
+        .value_name("LIST")
+        .required(true)
+        .help("Whose turn it is, turn by turn: thread numbers joined by commas, or an empty word")
+}
+
 /// A command over a file.
-fn of_file<'a>(alloc: Global, name: &'a str, about: &'a str) -> Result<Command<'a>, AllocError>
+fn of_file<'a>(
+    alloc: Global,
+    name: &'a str,
+    about: &'a str,
+    example: &'a str,
+) -> Result<Command<'a>, AllocError>
     ensures app { IfOk result (λ c. app_of c ≡ file_app name.entry.now) }
     ensures globals { IfOk result (λ c. (fields_of c).has_globals ≡ false) }
 {
     Command::new(alloc, name)
         .about(about)
+        .after_help(example)
         .arg(file(alloc))?
         .arg(verbose(alloc))
+}
+
+/// The command that runs the source in an order of threads.
+fn source<'a>(alloc: Global) -> Result<Command<'a>, AllocError>
+    ensures app { IfOk result (λ c. app_of c ≡ source_app) }
+    ensures globals { IfOk result (λ c. (fields_of c).has_globals ≡ false) }
+{
+    let threads = number(
+        alloc,
+        "threads",
+        "T",
+        "How many threads there are: 1 to 64, and 1 if not given",
+    );
+    let ticks = number(
+        alloc,
+        "ticks",
+        "N",
+        "How many ticks each thread has: 0 to 1000000, and 100000 if not given",
+    );
+    of_file(
+        alloc,
+        "source",
+        "Runs the source itself, transaction by transaction, in the order of threads that is given",
+        "Example:\n  txc source first.c --threads 2 --order 0,1",
+    )?
+    .arg(threads)?
+    .arg(order(alloc))?
+    .arg(ticks)
 }
 
 /// The number of a fault.
@@ -63,6 +123,7 @@ fn explain<'a>(alloc: Global) -> Result<Command<'a>, AllocError>
 {
     Command::new(alloc, "explain")
         .about("Says what a fault means, with an example")
+        .after_help("Example:\n  txc explain 20")
         .arg(fault(alloc))
 }
 
@@ -73,6 +134,7 @@ fn commandless<'a>(alloc: Global) -> Command<'a>
     Command::new(alloc, "txc")
         .version(VERSION)
         .about("A compiler and a machine for C programs with transactions")
+        .after_help("Example:\n  txc run first.c")
         .subcommand_required(true)
 }
 
@@ -80,15 +142,23 @@ fn commandless<'a>(alloc: Global) -> Command<'a>
 pub fn program<'a>(alloc: Global) -> Result<Command<'a>, AllocError>
     ensures { IfOk result (λ c. app_of c ≡ program_app) }
 {
-    let check = of_file(alloc, "check", "Says whether a program is accepted")?;
+    let check = of_file(
+        alloc,
+        "check",
+        "Says whether a program is accepted",
+        "Example:\n  txc check first.c",
+    )?;
     let run = of_file(
         alloc,
         "run",
         "Runs a program with one thread, and prints its end, its output and its globals",
+        "Example:\n  txc run first.c",
     )?;
+    let source = source(alloc)?;
     let explain = explain(alloc)?;
     commandless(alloc)
         .subcommand(check)?
         .subcommand(run)?
+        .subcommand(source)?
         .subcommand(explain)
 }

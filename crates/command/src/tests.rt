@@ -18,6 +18,84 @@ fn reads_words(rt: HostRuntime) -> Result<(), Fail> {
     Ok(())
 }
 
+/// Words for an order, and what they ask.
+#[test]
+fn reads_orders(rt: HostRuntime) -> Result<(), Fail> {
+    let rows: [(&str, &[u32]); 5] = [
+        ("", [].as_slice()),
+        ("0", [0].as_slice()),
+        ("0,1,0", [0, 1, 0].as_slice()),
+        ("4294967295,007", [4294967295, 7].as_slice()),
+        // a thread that there is not is no matter of the words
+        ("2", [2].as_slice()),
+    ];
+    for (list, asked) in rows {
+        let words = ["txc", "source", "--order", list, "--threads", "2", "a.c"];
+        let request = command(rt.alloc(), words.as_slice())?;
+        assert!(rt;
+            matches!(&request, Request::Program { task: Task::Source { threads: 2, order, ticks: 100000 }, .. } if order.as_slice() == asked),
+            "{list}"
+        );
+    }
+    let words = [
+        "txc",
+        "source",
+        "--ticks=0",
+        "--threads=64",
+        "--order=1",
+        "a.c",
+        "--verbose",
+    ];
+    let request = command(rt.alloc(), words.as_slice())?;
+    assert!(rt;
+        matches!(
+            &request,
+            Request::Program {
+                verbose: true,
+                task: Task::Source {
+                    threads: 64,
+                    ticks: 0,
+                    ..
+                },
+                ..
+            }
+        )
+    );
+    Ok(())
+}
+
+/// Words for an order that the program itself refuses, and what it says.
+#[test]
+fn refuses_orders(rt: HostRuntime) -> Result<(), Fail> {
+    for list in ["0,,1", ",", "0,", "+1", "-1", "1 ", "a", "4294967296"] {
+        let option = format!(in rt.alloc(); "--order={list}")?;
+        let fault = command(
+            rt.alloc(),
+            ["txc", "source", option.as_str(), "a.c"].as_slice(),
+        );
+        assert!(rt;
+            matches!(&fault, Err(UsageFault::Wrong { text }) if text.as_str() == "txc: usage: bad --order\n"),
+            "{list}"
+        );
+    }
+    let rows = [
+        ("--threads=0", "txc: usage: --threads is 1 to 64\n"),
+        ("--threads=65", "txc: usage: --threads is 1 to 64\n"),
+        ("--ticks=1000001", "txc: usage: --ticks is 0 to 1000000\n"),
+    ];
+    for (option, told) in rows {
+        let fault = command(
+            rt.alloc(),
+            ["txc", "source", option, "--order=0", "a.c"].as_slice(),
+        );
+        assert!(rt;
+            matches!(&fault, Err(UsageFault::Wrong { text }) if text.as_str() == told),
+            "{option}"
+        );
+    }
+    Ok(())
+}
+
 #[test]
 fn refuses_words(rt: HostRuntime) -> Result<(), Fail> {
     let none = command(rt.alloc(), ["txc"].as_slice());
@@ -25,7 +103,8 @@ fn refuses_words(rt: HostRuntime) -> Result<(), Fail> {
     for words in [
         ["txc", "run", "--threads=2", "a.c"],
         ["txc", "run", "a.c", "b.c"],
-        ["txc", "source", "a.c", "b.c"],
+        ["txc", "source", "a.c", "--threads=2"],
+        ["txc", "source", "--order=0", "--verbose"],
         ["txc", "explain", "--verbose", "1"],
         ["txc", "explain", "4294967296", ""],
         ["txc", "replay", "a.c", "--seed=1"],
@@ -45,11 +124,12 @@ fn helps(rt: HostRuntime) -> Result<(), Fail> {
         ["txc", "help", "run"],
         ["txc", "run", "--help"],
         ["txc", "check", "--help"],
+        ["txc", "source", "--help"],
         ["txc", "explain", "-h"],
     ] {
         let help = command(rt.alloc(), words.as_slice());
         assert!(rt;
-            matches!(&help, Err(UsageFault::Help { text }) if text.as_str().contains("Usage: txc")),
+            matches!(&help, Err(UsageFault::Help { text }) if text.as_str().contains("Usage: txc") && text.as_str().contains("Example:\n  txc ")),
             "{words:?}"
         );
     }
