@@ -1,0 +1,58 @@
+#!/usr/bin/env python3
+"""Compares what documents quote with the files that they quote: a line that is a file's path between backticks, and under it a
+block of antt or rust. A line `..` in a block stands for lines that are left out. Fails where a quotation is not in its file.
+"""
+
+import glob
+import os
+import re
+import sys
+
+TOP = os.path.dirname(os.path.dirname(os.path.abspath(__file__)))
+QUOTATION = re.compile(r"^`(crates/[^`]+)`\n```(?:antt|rust)\n(.*?)^```$", re.M | re.S)
+
+
+def pieces(block):
+    """The stretches of a block between lines that are `..`."""
+    found = [[]]
+    for line in block.splitlines():
+        if line.strip() == "..":
+            found.append([])
+        else:
+            found[-1].append(line)
+    return [piece for piece in found if piece]
+
+
+def missing(path, block):
+    """The first piece that does not stand in the file behind the ones before it."""
+    if not os.path.exists(os.path.join(TOP, path)):
+        return "the file is not there"
+    with open(os.path.join(TOP, path), encoding="utf-8") as file:
+        lines = file.read().splitlines()
+    at = 0
+    for piece in pieces(block):
+        while at <= len(lines) - len(piece) and lines[at : at + len(piece)] != piece:
+            at += 1
+        if at > len(lines) - len(piece):
+            return f"it has not got, here, {piece[0].strip()}"
+        at += len(piece)
+    return None
+
+
+def main():
+    wrong = []
+    count = 0
+    for document in ["README.md", *sorted(glob.glob("docs/*.md", root_dir=TOP))]:
+        with open(os.path.join(TOP, document), encoding="utf-8") as file:
+            text = file.read()
+        for path, block in QUOTATION.findall(text):
+            count += 1
+            fault = missing(path, block)
+            if fault:
+                wrong.append(f"{document} quotes {path}: {fault}")
+    print("\n".join(wrong) or f"{count} quotations are as their files have them")
+    return 1 if wrong else 0
+
+
+if __name__ == "__main__":
+    sys.exit(main())
