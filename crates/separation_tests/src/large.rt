@@ -1,0 +1,69 @@
+//! Chains of 20,000 functions, in either order of the file.
+
+use crate::checked::fault_of;
+use lex::token::Span;
+use std::alloc::{AllocError, Allocator};
+use std::test::Fail;
+
+/// The functions of a chain.
+const LENGTH: u64 = 20000;
+
+/// Prototypes of the chain's functions.
+fn add_prototypes<A: Allocator + Copy>(text: &mut String<A>, alloc: A) -> Result<(), AllocError> {
+    text.push_str("int x;")?;
+    for i in 0..LENGTH {
+        text.push_str(format!(in alloc; "void f{i}(void);")?.as_str())?;
+    }
+    Ok(())
+}
+
+/// A function that calls another one; the last one accesses a global.
+fn add_link<A: Allocator + Copy>(text: &mut String<A>, alloc: A, i: u64) -> Result<(), AllocError> {
+    if i < LENGTH - 1 {
+        let next = i + 1;
+        text.push_str(format!(in alloc; "void f{i}(void) {{ f{next}(); }}")?.as_str())
+    } else {
+        text.push_str(format!(in alloc; "void f{i}(void) {{ x = 1; }}")?.as_str())
+    }
+}
+
+const BARE: &str = "void worker(int k) { f0(); }";
+
+const ENCLOSED: &str = "void worker(int k) { __transaction_atomic { f0(); } }";
+
+/// A bare call of the first function is a fault, by its place, and one in a transaction is none.
+fn meets<A: Allocator + Copy>(alloc: A, chain: &str) -> Result<bool, AllocError> {
+    let mut bare = String::from_str(alloc, chain)?;
+    bare.push_str(BARE)?;
+    let mut enclosed = String::from_str(alloc, chain)?;
+    enclosed.push_str(ENCLOSED)?;
+    let start = chain.len().saturating_add(21);
+    let end = chain.len().saturating_add(23);
+    let fault = fault_of(alloc, bare.as_str());
+    Ok(
+        fault == Some((51, Some(Span { start, end })))
+            && fault_of(alloc, enclosed.as_str()).is_none(),
+    )
+}
+
+#[test]
+fn a_chain_from_the_first_function(rt: HostRuntime) -> Result<(), Fail> {
+    let mut text = String::new(rt.alloc());
+    add_prototypes(&mut text, rt.alloc())?;
+    for i in 0..LENGTH {
+        add_link(&mut text, rt.alloc(), i)?;
+    }
+    assert!(rt; meets(rt.alloc(), text.as_str())?);
+    Ok(())
+}
+
+#[test]
+fn a_chain_from_the_last_function(rt: HostRuntime) -> Result<(), Fail> {
+    let mut text = String::new(rt.alloc());
+    add_prototypes(&mut text, rt.alloc())?;
+    for i in 0..LENGTH {
+        add_link(&mut text, rt.alloc(), LENGTH - 1 - i)?;
+    }
+    assert!(rt; meets(rt.alloc(), text.as_str())?);
+    Ok(())
+}
