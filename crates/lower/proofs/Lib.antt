@@ -7,6 +7,7 @@ mod CellsFit
 mod Handed
 mod Rows
 mod Arms
+mod Declared
 -- what is picked for small programs
 mod Samples
 -- that the code which is picked stands for the program

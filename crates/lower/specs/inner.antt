@@ -11,6 +11,8 @@ pub mod Expressions
 pub mod Conditions
 -- of assignments and declarations
 pub mod Simples
+-- what is known besides instructions
+pub mod Tests
 -- of statements
 pub mod Statements
 -- of functions and programs

@@ -1,6 +1,7 @@
 //! Code generation: from an accepted program to register code that means it.
 #![tactic(auto)]
 
+mod cond;
 mod expr;
 mod fault;
 mod held;
@@ -10,4 +11,5 @@ mod names;
 mod program;
 mod put;
 mod scope;
+mod simple;
 mod tables;

@@ -1,0 +1,38 @@
+use Rattle.std.proofs.Common.{◌≡◌, ap, subst, ◌∙◌, OnOk, IfOk}
+use Rattle.syntax.specs.Views.{declarator_of}
+use Rattle.lowered.specs.Statements.{with_local}
+use Rattle.lower.specs.inner.Lists.{used, lists_of}
+use Rattle.lower.specs.inner.Views.{program_in, scope_in}
+use Rattle.lower.proofs.Declared.{declarator_code, declarator_lists, declarator_place}
+use Rattle.lower.proofs.simple.lower_declarator.Goals as goal
+
+pub returns-clause-code : goal.returns-clause-code
+returns-clause-code g c =
+    let scope = scope_in c.args.scope.now in
+    let l = lists_of c.args.lists.now in
+    let at = c.len.ensures in
+    subst (λ z. OnOk c.lower_first.result (c.lower_first.new.code.items ≡ z))
+    (declarator_code (program_in c.args.names.now) c.args.of (declarator_of c.args.d.now) scope (scope_in c.declare.new.self) c.in_ok-register.register c.args.from c.in_ok-next.next l (lists_of c.take.new.lists)
+    (c.in_ok-register.ensures.register ∙ at) (c.in_ok-declare.ensures ∙ ap (λ x. with_local scope x c.args.of) c.as_str.ensures) c.in_ok-next.ensures (c.in_ok-register.ensures.lists ∙ ap (λ i. used i l) at)
+    c.args.code.now.items c.put.new.code.items c.in_ok-put.ensures)
+    c.lower_first.ensures.code
+
+pub returns-clause-lists : goal.returns-clause-lists
+returns-clause-lists g c =
+    let scope = scope_in c.args.scope.now in
+    let l = lists_of c.args.lists.now in
+    let at = c.len.ensures in
+    subst (λ z. OnOk c.lower_first.result (lists_of c.lower_first.new.lists ≡ z))
+    (declarator_lists (program_in c.args.names.now) c.args.of (declarator_of c.args.d.now) scope (scope_in c.declare.new.self) c.in_ok-register.register c.args.from c.in_ok-next.next l (lists_of c.take.new.lists)
+    (c.in_ok-register.ensures.register ∙ at) (c.in_ok-declare.ensures ∙ ap (λ x. with_local scope x c.args.of) c.as_str.ensures) c.in_ok-next.ensures (c.in_ok-register.ensures.lists ∙ ap (λ i. used i l) at))
+    c.lower_first.ensures.lists
+
+pub returns-clause-place : goal.returns-clause-place
+returns-clause-place g c =
+    let scope = scope_in c.args.scope.now in
+    let l = lists_of c.args.lists.now in
+    let at = c.len.ensures in
+    subst (λ z. IfOk c.lower_first.result (λ to. to ≡ z))
+    (declarator_place (program_in c.args.names.now) c.args.of (declarator_of c.args.d.now) scope (scope_in c.declare.new.self) c.in_ok-register.register c.args.from c.in_ok-next.next l (lists_of c.take.new.lists)
+    (c.in_ok-register.ensures.register ∙ at) (c.in_ok-declare.ensures ∙ ap (λ x. with_local scope x c.args.of) c.as_str.ensures) c.in_ok-next.ensures (c.in_ok-register.ensures.lists ∙ ap (λ i. used i l) at))
+    c.lower_first.ensures.place
