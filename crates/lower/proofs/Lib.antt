@@ -12,3 +12,5 @@ mod Declared
 mod Samples
 -- that the code which is picked stands for the program
 pub mod stands
+-- that it is valid
+pub mod valid

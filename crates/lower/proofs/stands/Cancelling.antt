@@ -1,6 +1,7 @@
 -- In a safe program a cancel stands directly in an atomic transaction.
 use Rattle.std.proofs.Common.{◌≡◌, refl, ℕ, List, [], ◌∷◌, ◌++◌, arith, Option, Some, None, Bool, true, false}
 use Rattle.std.specs.Prelude.{Contains}
+use Rattle.std.proofs.Math.Logic.{∥∥₁_elim, ∥∥₁_prop}
 use Rattle.std.proofs.lemmas.List.Elements.{All-contains, Contains-append_left, Contains-append_right}
 use Rattle.syntax.specs.declared.tree.Mode.{Mode}
 use Rattle.syntax.specs.declared.tree.Mode.TheVariants.{Atomic, Relaxed}
@@ -62,7 +63,51 @@ module _ (p : Program) where
         let a' = with_names (names_of s) a in
         (cancels_fit s a m n (before (stmt_sites s a) (stmts_sites ss a') h), all_cancels_fit ss a' m n (after (stmt_sites s a) (stmts_sites ss a') h))
 
-  pub body_cancels_fit : IsSafeProgram p → (x : List ℕ) (d : Function × Stmts) → definition_of p x ≡ Some d → AllCancelsFit d.1 None
-  body_cancels_fit safe x d e =
+  -- each cancel in a definition stands directly in an atomic transaction
+  abbrev pub CancelsAreFit : Type 0
+  CancelsAreFit = (x : List ℕ) (d : Function × Stmts) → definition_of p x ≡ Some d → AllCancelsFit d.1 None
+
+  pub safe_cancels_fit : IsSafeProgram p → CancelsAreFit
+  safe_cancels_fit safe x d e =
       all_cancels_fit d.1 (record { locals = parameter_names d.0.parameters; atomic = false; in_any = false }) None (λ f. absurd (cc))
       (record { each = λ m c. All-contains (KeepsAtomic p) (sites_of p x) m (safe.atomic x) (definition_sites p x d e m c) })
+
+-- that cancels fit has no more than one proof
+part : {P Q : Type 0} → (P → Q) → ∥ P ∥₁ → ∥ Q ∥₁
+part f h = ∥∥₁_elim h ∥∥₁_prop (λ x. ∣ f x ∣₁)
+
+not_atomic : (m n : Option Mode) → m ≡ None → n ≡ Some Atomic → m ≡ n → ⊥
+not_atomic m n a b e = cc
+
+not_relaxed : (m n : Option Mode) → m ≡ Some Relaxed → n ≡ Some Atomic → m ≡ n → ⊥
+not_relaxed m n a b e = cc
+
+innermost_sure : (m : Option Mode) → ∥ m ≡ Some Atomic ∥₁ → m ≡ Some Atomic
+innermost_sure None h = absurd (∥∥₁_elim h (λ x y. absurd x) (not_atomic None (Some Atomic) refl refl))
+innermost_sure (Some Relaxed) h = absurd (∥∥₁_elim h (λ x y. absurd x) (not_relaxed (Some Relaxed) (Some Atomic) refl refl))
+innermost_sure (Some Atomic) h = refl
+
+mutual
+  fit_sure : (s : Stmt) (m : Option Mode) → ∥ CancelsFit s m ∥₁ → CancelsFit s m
+  fit_sure Empty m h = tt
+  fit_sure (Declare d) m h = tt
+  fit_sure (Do s) m h = tt
+  fit_sure (Block ss) m h = all_sure ss m h
+  fit_sure (Print at format format_at es) m h = tt
+  fit_sure (If e s) m h = fit_sure s m h
+  fit_sure (IfElse e s s') m h = (fit_sure s m (part (λ x. x.0) h), fit_sure s' m (part (λ x. x.1) h))
+  fit_sure (While e s) m h = fit_sure s m h
+  fit_sure (DoWhile s e) m h = fit_sure s m h
+  fit_sure (For start e step s) m h = fit_sure s m h
+  fit_sure (Break at) m h = tt
+  fit_sure (Continue at) m h = tt
+  fit_sure (Return e at) m h = tt
+  fit_sure (Transaction mode ss at) m h = all_sure ss (Some mode) h
+  fit_sure (Cancel at) m h = innermost_sure m h
+
+  all_sure : (ss : Stmts) (m : Option Mode) → ∥ AllCancelsFit ss m ∥₁ → AllCancelsFit ss m
+  all_sure Tree.[] m h = tt
+  all_sure (Tree.◌∷◌ s ss) m h = (fit_sure s m (part (λ x. x.0) h), all_sure ss m (part (λ x. x.1) h))
+
+pub cancels_surely_fit : (p : Program) → ∥ IsSafeProgram p ∥₁ → CancelsAreFit p
+cancels_surely_fit p h x d e = all_sure d.1 None (part (λ safe. safe_cancels_fit p safe x d e) h)

@@ -41,7 +41,7 @@ abbrev pub DefinedAreCallees : Program → Type 0
 DefinedAreCallees p = (x : List ℕ) (f : Function) (body : Stmts) → definition_of p x ≡ Some (f, body) → (n : ℕ) × (callee_of p x ≡ Some (callee_at n f))
 
 -- what a call hands over stands in the code's list of arguments
-handed_over : (arguments made handed rest : List ℕ) → arguments ≡ (made ++ handed) ++ rest → args_of arguments (length made) (length handed) ≡ handed
+pub handed_over : (arguments made handed rest : List ℕ) → arguments ≡ (made ++ handed) ++ rest → args_of arguments (length made) (length handed) ≡ handed
 handed_over arguments made handed rest e =
     ap (λ xs. take (length handed) (drop (length made) xs)) (e ∙ append_assoc made handed rest)
     ∙ ap (λ xs. take (length handed) xs) (drop-append_seam made (handed ++ rest))

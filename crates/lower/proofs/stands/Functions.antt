@@ -18,7 +18,6 @@ use Rattle.syntax.proofs.TypedParts.{TypedStmts, stmts_parts}
 use Rattle.syntax.proofs.Fits.{scope_in, agrees_by_shape, shape_agrees}
 use Rattle.syntax.proofs.ValueTypes.{rest_met}
 use Rattle.syntax.proofs.Called.{called_are_defined, bodies_are_typed, worker_known, shapes_of, entered_shapes, all_enter}
-use Rattle.safety.specs.Safe.{IsSafeProgram}
 use Rattle.bytecode.specs.declared.instr.Instr.{Instr}
 use Rattle.bytecode.specs.declared.instr.Instr.TheVariants as own
 use Rattle.bytecode.specs.Code.{Code, FunctionCode}
@@ -35,7 +34,7 @@ use Rattle.lower.specs.inner.Programs.{no_exits, body_written, Made, function_co
 use Rattle.lower.proofs.stands.Standing.{Stand, front, behind, IsFront, front_same, front_front, Grows}
 use Rattle.lower.proofs.stands.Exprs.{CalleesStand, DefinedAreCallees}
 use Rattle.lower.proofs.stands.Statements.{stmts_write}
-use Rattle.lower.proofs.stands.Cancelling.{body_cancels_fit}
+use Rattle.lower.proofs.stands.Cancelling.{CancelsAreFit}
 
 -- a function that is defined is a callee
 defined_is_callee : (n : ℕ) (items : Program) (x : List ℕ) (f : Function) (body : Stmts) → definition_of items x ≡ Some (f, body) → (m : ℕ) × (callee_from n items x ≡ Some (callee_at m f))
@@ -53,15 +52,16 @@ defined_is_callee n (Defines g ∷ items) x f body e = by g.body (λ h. defined_
     by None here others h = here h
     by (Some b) here others h = by_name b (bytes_eq g.name.text x) others h
 
--- a callee's number, counted from the first one, is that of a function of its name
-record IsThere (functions : List FunctionCode) (n : ℕ) (x : List ℕ) (c : Callee) : Type 0 where
-  number : ℕ
-  function : FunctionCode
-  is : c.number ≡ n + number
-  there : slice_get functions number ≡ Some function
-  named : function.name ≡ x
+-- a callee's number, counted from the first one, is that of a function of its name and with its parameters
+pub record IsThere (functions : List FunctionCode) (n : ℕ) (x : List ℕ) (c : Callee) : Type 0 where
+  pub number : ℕ
+  pub function : FunctionCode
+  pub is : c.number ≡ n + number
+  pub there : slice_get functions number ≡ Some function
+  pub named : function.name ≡ x
+  pub takes : length c.parameters ≡ function.parameters
 
-callee_is_there : (p : Program) (n : ℕ) (items : Program) (from : ℕ) (l : Lists) (x : List ℕ) (c : Callee) → callee_from n items x ≡ Some c → IsThere (all_made p items from l).functions n x c
+pub callee_is_there : (p : Program) (n : ℕ) (items : Program) (from : ℕ) (l : Lists) (x : List ℕ) (c : Callee) → callee_from n items x ≡ Some c → IsThere (all_made p items from l).functions n x c
 callee_is_there p n [] from l x c e = absurd (cc)
 callee_is_there p n (Shares gs ∷ items) from l x c e = callee_is_there p n items from l x c e
 callee_is_there p n (Defines f ∷ items) from l x c e = by f.body (λ h. callee_is_there p n items from l x c h) (λ to m h. callee_is_there p (suc n) items to m x c h) e
@@ -75,11 +75,12 @@ callee_is_there p n (Defines f ∷ items) from l x c e = by f.body (λ h. callee
           is = let g : callee_at n f ≡ c = ap (λ o. unwrap_or o (callee_at n f)) h in let k : n ≡ c.number = ap (λ (d : Callee). d.number) g in omega (arith, k);
           there = refl;
           named = (bytes_eq-Decides f.name.text x).0 s;
+          takes = let g : callee_at n f ≡ c = ap (λ o. unwrap_or o (callee_at n f)) h in sym (ap (λ (d : Callee). length d.parameters) g);
         }
     by_name b others false s h =
         let w = body_written p f b from l in
         let r = others w.to w.lists h in
-        record { number = suc r.number; function = r.function; is = let k = r.is in omega (arith, k); there = r.there; named = r.named }
+        record { number = suc r.number; function = r.function; is = let k = r.is in omega (arith, k); there = r.there; named = r.named; takes = r.takes }
 
     by : (o : Option Stmts) → (callee_from n items x ≡ Some c → IsThere (all_made p items from l).functions n x c) → ((to : ℕ) (m : Lists) → callee_from (suc n) items x ≡ Some c → IsThere (all_made p items to m).functions (suc n) x c) → callee_first n f o (λ m. callee_from m items x) x ≡ Some c → IsThere (made_first p f o (all_made p items) from l).functions n x c
     by None here others h = here h
@@ -95,7 +96,7 @@ pub defined_are_callees : (p : Program) → DefinedAreCallees p
 defined_are_callees p x f body e = defined_is_callee 0 p x f body e
 
 -- the parameters that have names are a function's first locals
-parameters_are : (qs : List Parameter) → map shape (parameter_locals qs) ≡ shapes_of qs
+pub parameters_are : (qs : List Parameter) → map shape (parameter_locals qs) ≡ shapes_of qs
 parameters_are [] = refl
 parameters_are (q ∷ qs) = by q.name (parameters_are qs)
   where
@@ -104,17 +105,17 @@ parameters_are (q ∷ qs) = by q.name (parameters_are qs)
     by (Some x) h = ap (λ ls. (x.text, q.of) ∷ ls) h
 
 -- arguments and texts go on; each function has its own number of registers
-record GoesOn (l m : Lists) : Type 0 where
-  arguments : IsFront l.arguments m.arguments
-  texts : IsFront l.texts m.texts
+pub record GoesOn (l m : Lists) : Type 0 where
+  pub arguments : IsFront l.arguments m.arguments
+  pub texts : IsFront l.texts m.texts
 
-on_same : (l : Lists) → GoesOn l l
+pub on_same : (l : Lists) → GoesOn l l
 on_same l = record { arguments = front_same l.arguments; texts = front_same l.texts }
 
-on_further : (l m n : Lists) → GoesOn l m → GoesOn m n → GoesOn l n
+pub on_further : (l m n : Lists) → GoesOn l m → GoesOn m n → GoesOn l n
 on_further l m n h g = record { arguments = front_front l.arguments m.arguments n.arguments h.arguments g.arguments; texts = front_front l.texts m.texts n.texts h.texts g.texts }
 
-module _ (p : Program) (typed : IsTypedProgram p) (safe : IsSafeProgram p) where
+module _ (p : Program) (typed : IsTypedProgram p) (cancels : CancelsAreFit p) where
   abbrev code : Code
   code = lowered_code p
 
@@ -139,7 +140,7 @@ module _ (p : Program) (typed : IsTypedProgram p) (safe : IsSafeProgram p) where
       let made = all_written p body no_exits scope from first in
       let w = stmts_write p code final.arguments made.lists.registers typed (callees_stand p) (defined_are_callees p) body known false scope no_exits Lowered.no_exits agrees
       (record { break_to = refl; continue_to = refl; in_loop = refl; in_function = refl })
-      (stmts_parts f.result body known (parameter_names f.parameters) false t.body) (body_cancels_fit p safe f.name.text (f, body) e) from first in
+      (stmts_parts f.result body known (parameter_names f.parameters) false t.body) (cancels f.name.text (f, body) e) from first in
       record {
         to_is = let a = w.to_is in let u : length (made.code ++ own.Return ∷ []) ≡ length made.code + 1 = length-append made.code (own.Return ∷ []) in omega (arith, a, u);
         goes_on = record { arguments = w.grows.arguments; texts = w.grows.texts };
@@ -153,16 +154,16 @@ module _ (p : Program) (typed : IsTypedProgram p) (safe : IsSafeProgram p) where
       }
 
   -- each definition among these items is the first one of its name in the program
-  abbrev Firsts : Program → Type 0
+  abbrev pub Firsts : Program → Type 0
   Firsts [] = Unit {0}
   Firsts (Shares gs ∷ items) = Firsts items
   Firsts (Defines f ∷ items) = ((body : Stmts) → f.body ≡ Some body → definition_of p f.name.text ≡ Some (f, body)) × Firsts items
 
-  or_false : (a b : Bool) → (a || b) ≡ false → (a ≡ false) × (b ≡ false)
+  pub or_false : (a b : Bool) → (a || b) ≡ false → (a ≡ false) × (b ≡ false)
   or_false true b h = absurd (cc)
   or_false false b h = (refl, h)
 
-  names_apart : (a b : Program) (x : List ℕ) → has_name (defined_names (a ++ b)) x ≡ false → (has_name (defined_names a) x ≡ false) × (has_name (defined_names b) x ≡ false)
+  pub names_apart : (a b : Program) (x : List ℕ) → has_name (defined_names (a ++ b)) x ≡ false → (has_name (defined_names a) x ≡ false) × (has_name (defined_names b) x ≡ false)
   names_apart [] b x h = (refl, h)
   names_apart (Shares gs ∷ a) b x h = names_apart a b x h
   names_apart (Defines f ∷ a) b x h = by f.body (λ g. names_apart a b x g) h
@@ -183,13 +184,13 @@ module _ (p : Program) (typed : IsTypedProgram p) (safe : IsSafeProgram p) where
       by None g = refl
       by (Some b) g = ap (λ y. if y then Some (f, b) else definition_of items x) (or_false (bytes_eq f.name.text x) false g).0
 
-  own_first : (f : Function) (body : Stmts) (before named : Bool) → f.body ≡ Some body → IsTrue (before && (is_none f.body || not named)) → named ≡ false
+  pub own_first : (f : Function) (body : Stmts) (before named : Bool) → f.body ≡ Some body → IsTrue (before && (is_none f.body || not named)) → named ≡ false
   own_first f body true true e h = absurd (let g = subst (λ o. IsTrue (is_none o || false)) e h in cc)
   own_first f body true false e h = refl
   own_first f body false true e h = absurd (cc)
   own_first f body false false e h = refl
 
-  firsts_from : (earlier items : Program) → AreMet (AreTypedItems earlier items) → ((x : List ℕ) → has_name (defined_names earlier) x ≡ false → definition_of p x ≡ definition_of items x) → Firsts items
+  pub firsts_from : (earlier items : Program) → AreMet (AreTypedItems earlier items) → ((x : List ℕ) → has_name (defined_names earlier) x ≡ false → definition_of p x ≡ definition_of items x) → Firsts items
   firsts_from earlier [] h g = tt
   firsts_from earlier (Shares gs ∷ items) h g =
       firsts_from (earlier ++ Shares gs ∷ []) items (rest_met earlier (Shares gs) items h) (λ x n. g x (names_apart earlier (Shares gs ∷ []) x n).0)
@@ -208,7 +209,7 @@ module _ (p : Program) (typed : IsTypedProgram p) (safe : IsSafeProgram p) where
           let one = met_before (demand 21 f.name.at met ++ type) (AreDistinct [] f.parameters) two in
           is_met 21 f.name.at met (met_before (demand 21 f.name.at met) type one)
 
-  items_met : AreMet (AreTypedItems [] p)
+  pub items_met : AreMet (AreTypedItems [] p)
   items_met =
       let worker = demand 28 (record { start = 0; end = 0 }) (is_worker (file_scope p (codes "worker"))) in
       met_before (AreTypedItems [] p) (AreDefined p [] p) (met_before (AreTypedItems [] p ++ AreDefined p [] p) worker typed)
@@ -252,7 +253,7 @@ module _ (p : Program) (typed : IsTypedProgram p) (safe : IsSafeProgram p) where
   at_front [] i after = refl
   at_front (j ∷ before) i after = at_front before i after
 
-  all_stand : (before is : List Instr) → code.instructions ≡ map (instr_of final.arguments) (before ++ is) → Stand code final.arguments (length before) is
+  pub all_stand : (before is : List Instr) → code.instructions ≡ map (instr_of final.arguments) (before ++ is) → Stand code final.arguments (length before) is
   all_stand before [] e = tt
   all_stand before (i ∷ is) e =
       let longer : length (before ++ i ∷ []) ≡ suc (length before) = (let h : length (before ++ i ∷ []) ≡ length before + 1 = length-append before (i ∷ []) in omega (arith, h)) in
@@ -284,7 +285,7 @@ module _ (p : Program) (typed : IsTypedProgram p) (safe : IsSafeProgram p) where
       by true h = (f, refl)
       by false h = h
 
-  callable_worker : (k : Known) → IsTrue (is_worker k) → (result : Option Scalar) × (takes : List Scalar) × (k ≡ Callable result takes)
+  pub callable_worker : (k : Known) → IsTrue (is_worker k) → (result : Option Scalar) × (takes : List Scalar) × (k ≡ Callable result takes)
   callable_worker Unknown h = absurd (cc)
   callable_worker (Number t) h = absurd (cc)
   callable_worker (Array t n) h = absurd (cc)

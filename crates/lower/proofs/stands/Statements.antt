@@ -71,7 +71,7 @@ same_looping : (x : OwnExits) (y : Exits) (b c : ℕ) → SameExits x y → Same
 same_looping x y b c h = record { break_to = refl; continue_to = refl; in_loop = refl; in_function = h.in_function }
 
 -- as many registers as arguments
-registers_are : (p : Program) (scope : LocalScope) (es : Exprs) (from free : ℕ) (l : Lists) → length (all_emitted p scope es from free l).registers ≡ count es
+pub registers_are : (p : Program) (scope : LocalScope) (es : Exprs) (from free : ℕ) (l : Lists) → length (all_emitted p scope es from free l).registers ≡ count es
 registers_are p scope Exprs.[] from free l = refl
 registers_are p scope (Exprs.◌∷◌ e es) from free l =
     let first = emitted p scope e from free free l in
@@ -326,7 +326,7 @@ module _ (p : Program) (code : Code) (arguments : List ℕ) (size : ℕ) (typed 
       }
 
   -- a statement keeps what is known and its locals alike
-  after_agrees : (s : Stmt) (known : Scope) (scope : LocalScope) → Agrees known (running_scope p scope) → Agrees (Typing.scope_after s known) (running_scope p (locals_after s scope))
+  pub after_agrees : (s : Stmt) (known : Scope) (scope : LocalScope) → Agrees known (running_scope p scope) → Agrees (Typing.scope_after s known) (running_scope p (locals_after s scope))
   after_agrees Empty known scope h = h
   after_agrees (Declare d) known scope h = declared_agrees p code arguments size typed stand defined d.of d.declarators known scope h
   after_agrees (Do s) known scope h = h

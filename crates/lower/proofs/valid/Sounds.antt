@@ -1,0 +1,344 @@
+-- The parts of an expression, as they are picked, are in order.
+use Rattle.std.proofs.Common.{◌≡◌, refl, sym, ap, subst, ◌∙◌, ℕ, suc, ◌+◌, ◌≤◌, ◌<◌, ◌^◌, List, [], ◌∷◌, ◌++◌, length, arith, Some, Bool, true, false, eqb-true}
+use Rattle.std.specs.Prelude.{if◌then◌else◌, ◌==◌, is_some}
+use Rattle.std.specs.List.{AllByRecursion}
+use Rattle.std.proofs.lemmas.List.{length-append}
+use Rattle.lex.specs.declared.token.Scalar.{Scalar}
+use Rattle.lex.specs.declared.token.Scalar.TheVariants.{Int, Unsigned}
+use Rattle.syntax.specs.declared.tree.BinaryOp.{BinaryOp}
+use Rattle.syntax.specs.declared.tree.BinaryOp.TheVariants.{Or, Xor, And, Equal, NotEqual, Less, Greater, LessEqual, GreaterEqual, ShiftLeft, ShiftRight, Add, Subtract, Multiply, Divide, Remainder}
+use Rattle.syntax.specs.declared.tree.LogicalOp.{LogicalOp}
+use Rattle.syntax.specs.declared.tree.LogicalOp.TheVariants.{AndThen, OrElse}
+use Rattle.syntax.specs.Tree.{Parameter}
+use Rattle.syntax.specs.Numbers.{operand_type}
+use Rattle.bytecode.specs.declared.instr.Instr.{Instr}
+use Rattle.bytecode.specs.declared.instr.Instr.TheVariants as own
+use Rattle.bytecode.specs.Code.{Code, FunctionCode, Instr as Plain}
+use Rattle.bytecode.specs.Valid.{IsWritten, Takes}
+use Rattle.bytecode.specs.Views.{instr_of}
+use Rattle.lowered.specs.Expressions as Lowered
+use Rattle.lowered.specs.Expressions.{named_ones, nameless_ones, arranged}
+use Rattle.lower.specs.inner.Lists.{Lists, used, holding}
+use Rattle.lower.specs.inner.Names.{Callee}
+use Rattle.lower.specs.inner.Expressions.{computing, negating, short_jump, long_answer, short_answer, Emitted, AllEmitted, above, one, then_one, in_local, converted_to, negated, complemented, compared, both, tested, settled, chosen, followed, called}
+use Rattle.lower.proofs.stands.Standing.{front_same, front_more, Grows, grows_same, grows_further, grows_used, max_left, max_right, Fits, fits_before, is_register}
+use Rattle.lower.proofs.stands.Emitting.{computing_is}
+use Rattle.lower.proofs.stands.Exprs.{handed_over}
+use Rattle.lower.proofs.valid.Goods.{GoesOn, IsGood, AreGood, good_append, Meets, Runs, within, meets_in, good_on, good_jump, good_zero, good_nonzero}
+
+-- registers that are below a number
+abbrev pub AreBelow : ℕ → List ℕ → Type 0
+AreBelow n rs = AllByRecursion (λ r. r < n) rs
+
+pub below_more : (n m : ℕ) (rs : List ℕ) → n ≤ m → AreBelow n rs → AreBelow m rs
+below_more n m [] e h = tt
+below_more n m (r ∷ rs) e h = (let x = h.0 in omega (arith, e, x), below_more n m rs e h.1)
+
+below_append : (n : ℕ) (rs ss : List ℕ) → AreBelow n rs → AreBelow n ss → AreBelow n (rs ++ ss)
+below_append n [] ss h g = g
+below_append n (r ∷ rs) ss h g = (h.0, below_append n rs ss h.1 g)
+
+-- arguments in the order that a callee takes them
+named_below : (n : ℕ) (qs : List Parameter) (rs : List ℕ) → AreBelow n rs → AreBelow n (named_ones qs rs)
+named_below n [] rs h = tt
+named_below n (q ∷ qs) [] h = tt
+named_below n (q ∷ qs) (r ∷ rs) h = by (is_some q.name) (named_below n qs rs h.1)
+  where
+    by : (b : Bool) → AreBelow n (named_ones qs rs) → AreBelow n (if b then r ∷ named_ones qs rs else named_ones qs rs)
+    by true g = (h.0, g)
+    by false g = g
+
+nameless_below : (n : ℕ) (qs : List Parameter) (rs : List ℕ) → AreBelow n rs → AreBelow n (nameless_ones qs rs)
+nameless_below n [] rs h = tt
+nameless_below n (q ∷ qs) [] h = tt
+nameless_below n (q ∷ qs) (r ∷ rs) h = by (is_some q.name) (nameless_below n qs rs h.1)
+  where
+    by : (b : Bool) → AreBelow n (nameless_ones qs rs) → AreBelow n (if b then nameless_ones qs rs else r ∷ nameless_ones qs rs)
+    by true g = g
+    by false g = (h.0, g)
+
+arranged_below : (n : ℕ) (qs : List Parameter) (rs : List ℕ) → AreBelow n rs → AreBelow n (arranged qs rs)
+arranged_below n qs rs h = below_append n (named_ones qs rs) (nameless_ones qs rs) (named_below n qs rs h) (nameless_below n qs rs h)
+
+split_length : (qs : List Parameter) (rs : List ℕ) → length rs ≡ length qs → length (named_ones qs rs) + length (nameless_ones qs rs) ≡ length qs
+split_length [] rs e = refl
+split_length (q ∷ qs) [] e = absurd (omega (arith, e))
+split_length (q ∷ qs) (r ∷ rs) e = by (is_some q.name) (split_length qs rs (omega (arith, e)))
+  where
+    by : (b : Bool) → length (named_ones qs rs) + length (nameless_ones qs rs) ≡ length qs → length (if b then r ∷ named_ones qs rs else named_ones qs rs) + length (if b then nameless_ones qs rs else r ∷ nameless_ones qs rs) ≡ length (q ∷ qs)
+    by true h = omega (arith, h)
+    by false h = omega (arith, h)
+
+arranged_length : (qs : List Parameter) (rs : List ℕ) → length rs ≡ length qs → length (arranged qs rs) ≡ length qs
+arranged_length qs rs e = length-append (named_ones qs rs) (nameless_ones qs rs) ∙ split_length qs rs e
+
+pub settled_into : (r : ℕ) (e : Emitted) → (settled r e).held.register ≡ r
+settled_into r e = by (e.held.register == r) refl
+  where
+    by : (b : Bool) → (e.held.register == r) ≡ b → (if b then e else then_one e (own.Move r e.held.register) r e.held.of).held.register ≡ r
+    by true n = eqb-true e.held.register r n
+    by false n = refl
+
+module _ (code : Code) (arguments : List ℕ) (f : FunctionCode) (end : ℕ) where
+  computing_goes : (op : BinaryOp) (t : Scalar) (d a b : ℕ) → d < f.registers → a < f.registers → b < f.registers → GoesOn code arguments f end (Lowered.computing op t d a b) × IsWritten code f end (Lowered.computing op t d a b)
+  computing_goes Or t d a b x y z = (λ q bs. (refl, tt), (x, y, z))
+  computing_goes Xor t d a b x y z = (λ q bs. (refl, tt), (x, y, z))
+  computing_goes And t d a b x y z = (λ q bs. (refl, tt), (x, y, z))
+  computing_goes Equal t d a b x y z = (λ q bs. (refl, tt), (x, y, z))
+  computing_goes NotEqual t d a b x y z = (λ q bs. (refl, tt), (x, y, z))
+  computing_goes Less t d a b x y z = (λ q bs. (refl, tt), (x, y, z))
+  computing_goes Greater t d a b x y z = (λ q bs. (refl, tt), (x, z, y))
+  computing_goes LessEqual t d a b x y z = (λ q bs. (refl, tt), (x, y, z))
+  computing_goes GreaterEqual t d a b x y z = (λ q bs. (refl, tt), (x, z, y))
+  computing_goes ShiftLeft t d a b x y z = (λ q bs. (refl, tt), (x, y, z))
+  computing_goes ShiftRight t d a b x y z = (λ q bs. (refl, tt), (x, y, z))
+  computing_goes Add t d a b x y z = (λ q bs. (refl, tt), (x, y, z))
+  computing_goes Subtract t d a b x y z = (λ q bs. (refl, tt), (x, y, z))
+  computing_goes Multiply t d a b x y z = (λ q bs. (refl, tt), (x, y, z))
+  computing_goes Divide t d a b x y z = (λ q bs. (refl, tt), (x, y, z))
+  computing_goes Remainder t d a b x y z = (λ q bs. (refl, tt), (x, y, z))
+
+  pub size_of : (l : Lists) → Fits code arguments f.registers l → l.registers ≤ f.registers
+  size_of l k = k.registers
+
+  pub in_size : (r : ℕ) (l : Lists) → r < l.registers → Fits code arguments f.registers l → r < f.registers
+  in_size r l h k = let a = k.registers in omega (arith, a, h)
+
+  -- what is emitted from a place on, with these lists before it, is in order
+  pub record Sound (from : ℕ) (l : Lists) (e : Emitted) : Type 0 where
+    pub to_is : e.held.to ≡ from + length e.code
+    pub grows : Grows l e.lists
+    pub held : e.held.register < e.lists.registers
+    pub goods : (open_at : ℕ → List ℕ) (bs : List ℕ) → Fits code arguments f.registers e.lists → Runs code arguments f end open_at from e.held.to bs → AreGood code arguments f end open_at from e.code
+
+  pub one_sound : (i : Instr) (from r : ℕ) (t : Scalar) (l : Lists) → GoesOn code arguments f end (instr_of arguments i) → (r < f.registers → l.registers ≤ f.registers → IsWritten code f end (instr_of arguments i)) → Sound from l (one i from r t l)
+  one_sound i from r t l way w = record {
+    to_is = omega arith;
+    grows = grows_used l l r (grows_same l);
+    held = let h = max_right l.registers (suc r) in omega (arith, h);
+    goods = λ o bs k run. (good_on code arguments f end o from (from + 1) bs run (instr_of arguments i) way (w (is_register code arguments f.registers l r k) (let a = k.registers in let b = max_left l.registers (suc r) in omega (arith, a, b))) from (omega arith) (omega arith), tt);
+  }
+
+  pub in_local_sound : (i : ℕ) (t : Scalar) (from : ℕ) (l : Lists) → Sound from l (in_local i t from l)
+  in_local_sound i t from l = record {
+    to_is = omega arith;
+    grows = grows_used l l i (grows_same l);
+    held = let h = max_right l.registers (suc i) in omega (arith, h);
+    goods = λ o bs k run. tt;
+  }
+
+  pub then_sound : (i : Instr) (r : ℕ) (t : Scalar) (from : ℕ) (l : Lists) (e : Emitted) → Sound from l e → GoesOn code arguments f end (instr_of arguments i) → (r < f.registers → e.held.register < f.registers → IsWritten code f end (instr_of arguments i)) → Sound from l (then_one e i r t)
+  then_sound i r t from l e h way w = record {
+    to_is = let a = h.to_is in let b : length (e.code ++ i ∷ []) ≡ length e.code + 1 = length-append e.code (i ∷ []) in omega (arith, a, b);
+    grows = grows_used l e.lists r h.grows;
+    held = let x = max_right e.lists.registers (suc r) in omega (arith, x);
+    goods = λ o bs k run.
+        let inner = fits_before code arguments f.registers e.lists (used r e.lists) (grows_used e.lists e.lists r (grows_same e.lists)) k in
+        let to_is = h.to_is in
+        good_append code arguments f end o from e.held.to e.code (i ∷ []) h.to_is
+        (h.goods o bs inner (within code arguments f end o from (e.held.to + 1) from e.held.to bs run (omega arith) (omega arith))) (
+          good_on code arguments f end o from (e.held.to + 1) bs run (instr_of arguments i) way
+              (w (is_register code arguments f.registers e.lists r k) (in_size e.held.register e.lists h.held inner)) e.held.to (omega (arith, to_is)) (omega arith),
+          tt,
+        );
+  }
+
+  pub cast_sound : (t : Scalar) (from : ℕ) (l : Lists) (e : Emitted) → Sound from l e → Sound from l (converted_to t e)
+  cast_sound t from l e h = record { to_is = h.to_is; grows = h.grows; held = h.held; goods = h.goods }
+
+  pub negated_sound : (into from : ℕ) (l : Lists) (e : Emitted) → Sound from l e → Sound from l (negated e into)
+  negated_sound into from l e h = by e.held.of
+    where
+      by : (t : Scalar) → Sound from l (then_one e (negating t into e.held.register) into e.held.of)
+      by Int = then_sound (own.NegateSigned into e.held.register) into e.held.of from l e h (λ q bs. (refl, tt)) (λ x y. (x, y))
+      by Unsigned = then_sound (own.NegateUnsigned into e.held.register) into e.held.of from l e h (λ q bs. (refl, tt)) (λ x y. (x, y))
+
+  pub complemented_sound : (into from : ℕ) (l : Lists) (e : Emitted) → Sound from l e → Sound from l (complemented e into)
+  complemented_sound into from l e h = then_sound (own.Complement into e.held.register) into e.held.of from l e h (λ q bs. (refl, tt)) (λ x y. (x, y))
+
+  pub compared_sound : (into free from : ℕ) (l : Lists) (e : Emitted) → Sound from l e → Sound from l (compared e into free)
+  compared_sound into free from l e h =
+      let rz : ℕ = above free e.held.register in
+      let zero : Instr = own.Constant rz 0 in
+      let equal : Instr = own.Equal into e.held.register rz in
+      let lists : Lists = used rz e.lists in
+      let to_is = h.to_is in
+      record {
+        to_is = let b : length (e.code ++ zero ∷ equal ∷ []) ≡ length e.code + 2 = length-append e.code (zero ∷ equal ∷ []) in omega (arith, to_is, b);
+        grows = grows_used l lists into (grows_used l e.lists rz h.grows);
+        held = let x = max_right lists.registers (suc into) in omega (arith, x);
+        goods = λ o bs k run.
+            let inner = fits_before code arguments f.registers lists (used into lists) (grows_used lists lists into (grows_same lists)) k in
+            let first = fits_before code arguments f.registers e.lists lists (grows_used e.lists e.lists rz (grows_same e.lists)) inner in
+            let z = is_register code arguments f.registers e.lists rz inner in
+            good_append code arguments f end o from e.held.to e.code (zero ∷ equal ∷ []) h.to_is
+            (h.goods o bs first (within code arguments f end o from (e.held.to + 2) from e.held.to bs run (omega arith) (omega arith))) (
+              good_on code arguments f end o from (e.held.to + 2) bs run (instr_of arguments zero) (λ q bs. (refl, tt)) (z, omega arith) e.held.to (omega (arith, to_is)) (omega arith),
+              (good_on code arguments f end o from (e.held.to + 2) bs run (instr_of arguments equal) (λ q bs. (refl, tt)) (is_register code arguments f.registers lists into k, in_size e.held.register e.lists h.held first, z) (suc e.held.to) (omega (arith, to_is)) (omega arith), tt),
+            );
+      }
+
+  pub both_sound : (op : BinaryOp) (into from : ℕ) (l : Lists) (a b : Emitted) → Sound from l a → Sound a.held.to a.lists b → Sound from l (both op a b into)
+  both_sound op into from l a b h g =
+      let t : Scalar = operand_type op a.held.of b.held.of in
+      let i : Instr = computing op t into a.held.register b.held.register in
+      let two : length (a.code ++ b.code) ≡ length a.code + length b.code = length-append a.code b.code in
+      let x = h.to_is in
+      let y = g.to_is in
+      let last_is : b.held.to ≡ from + length (a.code ++ b.code) = omega (arith, x, y, two) in
+      record {
+        to_is = let u : length (a.code ++ b.code ++ i ∷ []) ≡ length (a.code ++ b.code) + 1 = length-append (a.code ++ b.code) (i ∷ []) in omega (arith, last_is, u);
+        grows = grows_used l b.lists into (grows_further l a.lists b.lists h.grows g.grows);
+        held = let z = max_right b.lists.registers (suc into) in omega (arith, z);
+        goods = λ o bs k run.
+            let inner = fits_before code arguments f.registers b.lists (used into b.lists) (grows_used b.lists b.lists into (grows_same b.lists)) k in
+            let first = fits_before code arguments f.registers a.lists b.lists g.grows inner in
+            let goes = computing_goes op t into a.held.register b.held.register (is_register code arguments f.registers b.lists into k) (in_size a.held.register a.lists h.held first) (in_size b.held.register b.lists g.held inner) in
+            good_append code arguments f end o from b.held.to (a.code ++ b.code) (i ∷ []) last_is
+            (good_append code arguments f end o from a.held.to a.code b.code h.to_is
+            (h.goods o bs first (within code arguments f end o from (b.held.to + 1) from a.held.to bs run (omega arith) (omega (arith, y))))
+            (g.goods o bs inner (within code arguments f end o from (b.held.to + 1) a.held.to b.held.to bs run (omega (arith, x)) (omega arith)))) (
+              subst (IsGood code arguments f end o b.held.to) (sym (computing_is arguments op t into a.held.register b.held.register))
+                  (good_on code arguments f end o from (b.held.to + 1) bs run (Lowered.computing op t into a.held.register b.held.register) goes.0 goes.1 b.held.to (omega (arith, last_is)) (omega arith)),
+              tt,
+            );
+      }
+
+  good_short : (open_at : ℕ → List ℕ) (op : LogicalOp) (from to : ℕ) (bs : List ℕ) → Runs code arguments f end open_at from to bs → (a there : ℕ) → a < f.registers → Meets code arguments f end open_at (there, bs) → (q : ℕ) → from ≤ q → suc q ≤ to →
+      IsGood code arguments f end open_at q (instr_of arguments (short_jump op a there))
+  good_short o AndThen from to bs r a there h m q low high = good_zero code arguments f end o from to bs r a there h m q low high
+  good_short o OrElse from to bs r a there h m q low high = good_nonzero code arguments f end o from to bs r a there h m q low high
+
+  long_small : (op : LogicalOp) → long_answer op < 2 ^ 32
+  long_small AndThen = omega arith
+  long_small OrElse = omega arith
+
+  short_small : (op : LogicalOp) → short_answer op < 2 ^ 32
+  short_small AndThen = omega arith
+  short_small OrElse = omega arith
+
+  pub tested_sound : (op : LogicalOp) (into from : ℕ) (l : Lists) (a b : Emitted) → Sound from l a → Sound (a.held.to + 1) a.lists b → Sound from l (tested op a b into)
+  tested_sound op into from l a b h g =
+      let last : ℕ = b.held.to in
+      let jump : Instr = short_jump op a.held.register (last + 3) in
+      let back : Instr = short_jump op b.held.register (last + 3) in
+      let long : Instr = own.Constant into (long_answer op) in
+      let skip : Instr = own.Jump (last + 4) in
+      let short : Instr = own.Constant into (short_answer op) in
+      let tail : List Instr = back ∷ long ∷ skip ∷ short ∷ [] in
+      let head : List Instr = a.code ++ jump ∷ b.code in
+      let x = h.to_is in
+      let y = g.to_is in
+      let last_is : last ≡ from + length head = (let z : length head ≡ length a.code + length (jump ∷ b.code) = length-append a.code (jump ∷ b.code) in omega (arith, x, y, z)) in
+      record {
+        to_is = let u : length (head ++ tail) ≡ length head + 4 = length-append head tail in omega (arith, last_is, u);
+        grows = grows_used l b.lists into (grows_further l a.lists b.lists h.grows g.grows);
+        held = let z = max_right b.lists.registers (suc into) in omega (arith, z);
+        goods = λ o bs k run.
+            let inner = fits_before code arguments f.registers b.lists (used into b.lists) (grows_used b.lists b.lists into (grows_same b.lists)) k in
+            let first = fits_before code arguments f.registers a.lists b.lists g.grows inner in
+            let here = is_register code arguments f.registers b.lists into k in
+            let there = meets_in code arguments f end o from (last + 4) (last + 3) bs run (omega (arith, last_is)) (omega arith) in
+            let out = meets_in code arguments f end o from (last + 4) (last + 4) bs run (omega (arith, last_is)) (omega arith) in
+            good_append code arguments f end o from last head tail last_is
+            (good_append code arguments f end o from a.held.to a.code (jump ∷ b.code) h.to_is
+            (h.goods o bs first (within code arguments f end o from (last + 4) from a.held.to bs run (omega arith) (omega (arith, y)))) (
+              good_short o op from (last + 4) bs run a.held.register (last + 3) (in_size a.held.register a.lists h.held first) there a.held.to (omega (arith, x)) (omega (arith, y)),
+              subst (λ q. AreGood code arguments f end o q b.code) (omega arith) (g.goods o bs inner (within code arguments f end o from (last + 4) (a.held.to + 1) last bs run (omega (arith, x)) (omega arith))),
+            )) (
+              good_short o op from (last + 4) bs run b.held.register (last + 3) (in_size b.held.register b.lists g.held inner) there last (omega (arith, last_is)) (omega arith),
+              (
+                good_on code arguments f end o from (last + 4) bs run (instr_of arguments long) (λ q bs. (refl, tt)) (here, long_small op) (suc last) (omega (arith, last_is)) (omega arith),
+                (
+                  good_jump code arguments f end o from (last + 4) bs run (last + 4) out (suc (suc last)) (omega (arith, last_is)) (omega arith),
+                  (good_on code arguments f end o from (last + 4) bs run (instr_of arguments short) (λ q bs. (refl, tt)) (here, short_small op) (suc (suc (suc last))) (omega (arith, last_is)) (omega arith), tt),
+                ),
+              ),
+            );
+      }
+
+  pub settled_sound : (r from : ℕ) (l : Lists) (e : Emitted) → Sound from l e → Sound from l (settled r e)
+  settled_sound r from l e h = by (e.held.register == r)
+    where
+      by : (b : Bool) → Sound from l (if b then e else then_one e (own.Move r e.held.register) r e.held.of)
+      by true = h
+      by false = then_sound (own.Move r e.held.register) r e.held.of from l e h (λ q bs. (refl, tt)) (λ x y. (x, y))
+
+  pub chosen_sound : (into from : ℕ) (l : Lists) (c a b : Emitted) → Sound from l c → Sound (c.held.to + 1) c.lists a → Sound (a.held.to + 1) a.lists b → b.held.register ≡ into → Sound from l (chosen c a b into)
+  chosen_sound into from l c a b h g w same =
+      let test : Instr = own.JumpZero c.held.register (a.held.to + 1) in
+      let skip : Instr = own.Jump b.held.to in
+      let head : List Instr = c.code ++ test ∷ a.code in
+      let two : length head ≡ length c.code + length (test ∷ a.code) = length-append c.code (test ∷ a.code) in
+      let x = h.to_is in
+      let y = g.to_is in
+      let z = w.to_is in
+      let last_is : a.held.to ≡ from + length head = omega (arith, x, y, two) in
+      record {
+        to_is = let u : length (head ++ skip ∷ b.code) ≡ length head + length (skip ∷ b.code) = length-append head (skip ∷ b.code) in omega (arith, last_is, z, u);
+        grows = grows_further l c.lists b.lists h.grows (grows_further c.lists a.lists b.lists g.grows w.grows);
+        held = let e = w.held in omega (arith, e, same);
+        goods = λ o bs k run.
+            let fa = fits_before code arguments f.registers a.lists b.lists w.grows k in
+            let fc = fits_before code arguments f.registers c.lists a.lists g.grows fa in
+            let other = meets_in code arguments f end o from b.held.to (a.held.to + 1) bs run (omega (arith, last_is)) (omega (arith, z)) in
+            let out = meets_in code arguments f end o from b.held.to b.held.to bs run (omega (arith, last_is, z)) (omega arith) in
+            good_append code arguments f end o from a.held.to head (skip ∷ b.code) last_is
+            (good_append code arguments f end o from c.held.to c.code (test ∷ a.code) h.to_is
+            (h.goods o bs fc (within code arguments f end o from b.held.to from c.held.to bs run (omega arith) (omega (arith, y, z)))) (
+              good_zero code arguments f end o from b.held.to bs run c.held.register (a.held.to + 1) (in_size c.held.register c.lists h.held fc) other c.held.to (omega (arith, x)) (omega (arith, y, z)),
+              subst (λ q. AreGood code arguments f end o q a.code) (omega arith) (g.goods o bs fa (within code arguments f end o from b.held.to (c.held.to + 1) a.held.to bs run (omega (arith, x)) (omega (arith, z)))),
+            )) (
+              good_jump code arguments f end o from b.held.to bs run b.held.to out a.held.to (omega (arith, last_is)) (omega (arith, z)),
+              subst (λ q. AreGood code arguments f end o q b.code) (omega arith) (w.goods o bs k (within code arguments f end o from b.held.to (a.held.to + 1) b.held.to bs run (omega (arith, last_is)) (omega arith))),
+            );
+      }
+
+  -- the values of a call's arguments
+  pub record AllSound (from : ℕ) (l : Lists) (e : AllEmitted) : Type 0 where
+    pub to_is : e.to ≡ from + length e.code
+    pub grows : Grows l e.lists
+    pub held : AreBelow e.lists.registers e.registers
+    pub goods : (open_at : ℕ → List ℕ) (bs : List ℕ) → Fits code arguments f.registers e.lists → Runs code arguments f end open_at from e.to bs → AreGood code arguments f end open_at from e.code
+
+  pub followed_sound : (from : ℕ) (l : Lists) (e : Emitted) (es : AllEmitted) → Sound from l e → AllSound e.held.to e.lists es → AllSound from l (followed e es)
+  followed_sound from l e es h g =
+      let x = h.to_is in
+      let y = g.to_is in
+      record {
+        to_is = let u : length (e.code ++ es.code) ≡ length e.code + length es.code = length-append e.code es.code in omega (arith, x, y, u);
+        grows = grows_further l e.lists es.lists h.grows g.grows;
+        held = (let a = h.held in let b = g.grows.registers in omega (arith, a, b), g.held);
+        goods = λ o bs k run.
+            good_append code arguments f end o from e.held.to e.code es.code h.to_is
+            (h.goods o bs (fits_before code arguments f.registers e.lists es.lists g.grows k) (within code arguments f end o from es.to from e.held.to bs run (omega arith) (omega (arith, y))))
+            (g.goods o bs k (within code arguments f end o from es.to e.held.to es.to bs run (omega (arith, x)) (omega arith)));
+      }
+
+  pub called_sound : (c : Callee) (into from : ℕ) (l : Lists) (args : AllEmitted) → AllSound from l args → length args.registers ≡ length c.parameters → Takes code c.number (length c.parameters) → Sound from l (called (Some c) args from into l)
+  called_sound c into from l args h many takes =
+      let made : List ℕ = args.lists.arguments in
+      let handed : List ℕ = arranged c.parameters args.registers in
+      let i : Instr = own.Call into (length handed) c.number (length made) in
+      let more : Lists = record args.lists { arguments = made ++ handed } in
+      let lists : Lists = holding (length handed) more in
+      let grows_more : Grows args.lists more = record { arguments = front_more made handed; texts = front_same args.lists.texts; registers = omega arith } in
+      let grows_lists : Grows more lists = record { arguments = front_same (made ++ handed); texts = front_same args.lists.texts; registers = max_left args.lists.registers (length handed) } in
+      let all : Grows args.lists (used into lists) = grows_used args.lists lists into (grows_further args.lists more lists grows_more grows_lists) in
+      let to_is = h.to_is in
+      record {
+        to_is = let b : length (args.code ++ i ∷ []) ≡ length args.code + 1 = length-append args.code (i ∷ []) in omega (arith, to_is, b);
+        grows = grows_further l args.lists (used into lists) h.grows all;
+        held = let x = max_right lists.registers (suc into) in omega (arith, x);
+        goods = λ o bs k run.
+            let first = fits_before code arguments f.registers args.lists (used into lists) all k in
+            let same : instr_of arguments i ≡ Plain.Call c.number into handed = ap (λ xs. Plain.Call c.number into xs) (handed_over arguments made handed k.arguments.0 k.arguments.1) in
+            let below : AreBelow f.registers handed = arranged_below f.registers c.parameters args.registers (below_more args.lists.registers f.registers args.registers (size_of args.lists first) h.held) in
+            let takes_them : Takes code c.number (length handed) = subst (Takes code c.number) (sym (arranged_length c.parameters args.registers many)) takes in
+            good_append code arguments f end o from args.to args.code (i ∷ []) h.to_is
+            (h.goods o bs first (within code arguments f end o from (args.to + 1) from args.to bs run (omega arith) (omega arith))) (
+              subst (IsGood code arguments f end o args.to) (sym same)
+                  (good_on code arguments f end o from (args.to + 1) bs run (Plain.Call c.number into handed) (λ q bs. (refl, tt)) (is_register code arguments f.registers lists into k, below, takes_them) args.to (omega (arith, to_is)) (omega arith)),
+              tt,
+            );
+      }
