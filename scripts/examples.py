@@ -1,16 +1,18 @@
 #!/usr/bin/env python3
 """Writes crates/txc/src/example_tests.rt, which runs each program of examples/ and compares what it prints with the file of
 the same name that ends in .out; with --check it writes nothing, and fails where that file is not what it would write, or
-where README.md does not show an example's output as it is.
+where a document shows another output of an example: a block whose first line is `$ txc run examples/NAME.c` has NAME.out under
+it, and README.md shows the output of first.c in a block of its own.
 """
 
 import glob
 import os
+import re
 import sys
 
 TOP = os.path.dirname(os.path.dirname(os.path.abspath(__file__)))
 TESTS = os.path.join(TOP, "crates/txc/src/example_tests.rt")
-SHOWN = ["first", "queue"]
+SESSION = re.compile(r"^```\n\$ txc run examples/(\w+)\.c\n(.*?)^```$", re.M | re.S)
 
 
 def read(path):
@@ -56,9 +58,15 @@ def main():
             file.write(tests())
         return 0
     wrong = [] if read(TESTS) == tests() else ["crates/txc/src/example_tests.rt is not what this script writes"]
-    readme = read(os.path.join(TOP, "README.md"))
-    wrong += [f"README.md does not show what {name} prints" for name in SHOWN if f"```\n{read(os.path.join(TOP, 'examples', name + '.out'))}```" not in readme]
-    print("\n".join(wrong) or "the examples are those of the test, and README.md shows what they print")
+    shown = 0
+    for document in ["README.md", *sorted(glob.glob("docs/*.md", root_dir=TOP))]:
+        for name, out in SESSION.findall(read(os.path.join(TOP, document))):
+            shown += 1
+            if out != read(os.path.join(TOP, "examples", name + ".out")):
+                wrong.append(f"{document} does not show what {name} prints")
+    if f"```\n{read(os.path.join(TOP, 'examples', 'first.out'))}```" not in read(os.path.join(TOP, "README.md")):
+        wrong.append("README.md does not show what first prints")
+    print("\n".join(wrong) or f"the examples are those of the test, and documents show what they print, {shown + 1} times")
     return 1 if wrong else 0
 
 
