@@ -8,6 +8,11 @@ mod Handed
 mod Rows
 mod Arms
 mod Declared
+-- formats, and statements by their parts
+mod Formatted
+mod Leaving
+mod Made
+mod Written
 -- what is picked for small programs
 mod Samples
 -- that the code which is picked stands for the program

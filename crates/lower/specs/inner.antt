@@ -15,5 +15,7 @@ pub mod Simples
 pub mod Tests
 -- of statements
 pub mod Statements
+-- of formats, unit by unit
+pub mod Formats
 -- of functions and programs
 pub mod Programs

@@ -1,0 +1,143 @@
+-- The code of a format, unit by unit.
+use Rattle.std.proofs.Common.{◌≡◌, ℕ, ◌+◌, ◌<◌, ◌≤◌, List, [], ◌∷◌, ◌++◌, length, drop, get_or, Bool, true, false, refl, sym, ap, ◌∙◌, append_assoc, append-nil, arith}
+use Rattle.std.specs.Prelude.{if◌then◌else◌, ◌==◌}
+use Rattle.std.proofs.lemmas.List.{drop_more, drop_all}
+use Rattle.lex.specs.declared.token.Scalar.{Scalar}
+use Rattle.lex.specs.declared.token.Scalar.TheVariants.{Int, Unsigned}
+use Rattle.syntax.specs.Formats.{Piece, Literal, Figure, literal, conversion, pieces}
+use Rattle.bytecode.specs.declared.instr.Instr.{Instr}
+use Rattle.lower.specs.inner.Lists.{Lists}
+use Rattle.lower.specs.inner.Simples.{Written, and_then}
+use Rattle.lower.specs.inner.Statements.{pieces_written}
+use Rattle.lower.specs.inner.Formats.{joined, text_written, figure_written, IsByteAt, IsNumberAt}
+
+-- the unit at a place
+plain_is : (a : ℕ) (rest : List ℕ) → (a == 37) ≡ false → pieces (a ∷ rest) ≡ literal a (pieces rest)
+plain_is a [] h = refl
+plain_is a (b ∷ rest) h = ap (λ t. if t then conversion b (pieces rest) else literal a (pieces (b ∷ rest))) h
+
+percent_is : (a b : ℕ) (rest : List ℕ) → (a == 37) ≡ true → pieces (a ∷ b ∷ rest) ≡ conversion b (pieces rest)
+percent_is a b rest h = ap (λ t. if t then conversion b (pieces rest) else literal a (pieces (b ∷ rest))) h
+
+module _ (format : List ℕ) (i : ℕ) where
+  pub byte_at : i < length format → (get_or format i 0 == 37) ≡ false → IsByteAt (get_or format i 0) (i + 1) format i
+  byte_at h plain = record {
+    is = ap pieces (drop_more format i 0 h) ∙ plain_is (get_or format i 0) (drop (i + 1) format) plain;
+    after = omega arith;
+    within = omega arith;
+  }
+
+  pub last_at : length format ≡ i + 1 → IsByteAt (get_or format i 0) (i + 1) format i
+  last_at e =
+      let h : i < length format = omega (arith, e) in
+      let none : drop (i + 1) format ≡ [] = drop_all (i + 1) format (omega (arith, e)) in
+      record {
+        is = ap pieces (drop_more format i 0 h) ∙ ap (λ rest. pieces (get_or format i 0 ∷ rest)) none ∙ ap (λ rest. literal (get_or format i 0) (pieces rest)) (sym none);
+        after = omega arith;
+        within = omega (arith, e);
+      }
+
+  percent_at : i + 1 < length format → (get_or format i 0 == 37) ≡ true → pieces (drop i format) ≡ conversion (get_or format (i + 1) 0) (pieces (drop (i + 2) format))
+  percent_at h percent =
+      let k : i < length format = omega (arith, h) in
+      let e : i + 1 + 1 ≡ i + 2 = omega arith in
+      ap pieces (drop_more format i 0 k) ∙ ap (λ rest. pieces (get_or format i 0 ∷ rest)) (drop_more format (i + 1) 0 h)
+      ∙ percent_is (get_or format i 0) (get_or format (i + 1) 0) (drop (i + 1 + 1) format) percent
+      ∙ ap (λ j. conversion (get_or format (i + 1) 0) (pieces (drop j format))) e
+
+  pub signed_at : i + 1 < length format → (get_or format i 0 == 37) ≡ true → (get_or format (i + 1) 0 == 100) ≡ true → IsNumberAt Int format i
+  signed_at h percent d =
+      let ps = pieces (drop (i + 2) format) in
+      let b = get_or format (i + 1) 0 in
+      record {
+        is = percent_at h percent ∙ ap (λ t. if t then Figure Int ∷ ps else (if b == 117 then Figure Unsigned ∷ ps else literal b ps)) d;
+        within = omega (arith, h);
+      }
+
+  pub unsigned_at : i + 1 < length format → (get_or format i 0 == 37) ≡ true → (get_or format (i + 1) 0 == 100) ≡ false → (get_or format (i + 1) 0 == 117) ≡ true → IsNumberAt Unsigned format i
+  unsigned_at h percent d u =
+      let ps = pieces (drop (i + 2) format) in
+      let b = get_or format (i + 1) 0 in
+      record {
+        is = percent_at h percent ∙ ap (λ t. if t then Figure Int ∷ ps else (if b == 117 then Figure Unsigned ∷ ps else literal b ps)) d
+            ∙ ap (λ t. if t then Figure Unsigned ∷ ps else literal b ps) u;
+        within = omega (arith, h);
+      }
+
+  pub other_at : i + 1 < length format → (get_or format i 0 == 37) ≡ true → (get_or format (i + 1) 0 == 100) ≡ false → (get_or format (i + 1) 0 == 117) ≡ false → IsByteAt (get_or format (i + 1) 0) (i + 2) format i
+  other_at h percent d u =
+      let ps = pieces (drop (i + 2) format) in
+      let b = get_or format (i + 1) 0 in
+      record {
+        is = percent_at h percent ∙ ap (λ t. if t then Figure Int ∷ ps else (if b == 117 then Figure Unsigned ∷ ps else literal b ps)) d
+            ∙ ap (λ t. if t then Figure Unsigned ∷ ps else literal b ps) u;
+        after = omega arith;
+        within = omega (arith, h);
+      }
+
+-- bytes of text before pieces
+joined_more : (cs : List ℕ) (c : ℕ) (ps : List Piece) → joined (cs ++ c ∷ []) ps ≡ joined cs (literal c ps)
+joined_more [] c ps = refl
+joined_more (d ∷ cs) c ps = ap (literal d) (joined_more cs c ps)
+
+joined_end : (c : ℕ) (cs : List ℕ) → joined (c ∷ cs) [] ≡ Literal (c ∷ cs) ∷ []
+joined_end c [] = refl
+joined_end c (d ∷ cs) = ap (literal c) (joined_end d cs)
+
+joined_figure : (c : ℕ) (cs : List ℕ) (t : Scalar) (ps : List Piece) → joined (c ∷ cs) (Figure t ∷ ps) ≡ Literal (c ∷ cs) ∷ Figure t ∷ ps
+joined_figure c [] t ps = refl
+joined_figure c (d ∷ cs) t ps = ap (literal c) (joined_figure d cs t ps)
+
+end_is : (cs rs : List ℕ) (from : ℕ) (l : Lists) → pieces_written (joined cs []) rs from l ≡ text_written cs from l
+end_is [] rs from l = refl
+end_is (c ∷ cs) rs from l = ap (λ ps. pieces_written ps rs from l) (joined_end c cs)
+
+stop_is : (cs : List ℕ) (t : Scalar) (ps : List Piece) (from : ℕ) (l : Lists) → pieces_written (joined cs (Figure t ∷ ps)) [] from l ≡ text_written cs from l
+stop_is [] t ps from l = refl
+stop_is (c ∷ cs) t ps from l = ap (λ qs. pieces_written qs [] from l) (joined_figure c cs t ps)
+
+figure_is : (cs : List ℕ) (t : Scalar) (ps : List Piece) (r : ℕ) (rs : List ℕ) (from : ℕ) (l : Lists) →
+    pieces_written (joined cs (Figure t ∷ ps)) (r ∷ rs) from l ≡ and_then (figure_written cs t r from l) (pieces_written ps rs (figure_written cs t r from l).to (figure_written cs t r from l).lists)
+figure_is [] t ps r rs from l = refl
+figure_is (c ∷ cs) t ps r rs from l = ap (λ qs. pieces_written qs (r ∷ rs) from l) (joined_figure c cs t ps)
+
+-- what is left of a format, with the bytes that are read and not put
+module _ (format registers bytes : List ℕ) (i k to : ℕ) (l : Lists) where
+  pub byte_goes : (c next : ℕ) (bytes' : List ℕ) → pieces (drop i format) ≡ literal c (pieces (drop next format)) → bytes' ≡ bytes ++ c ∷ [] →
+      pieces_written (joined bytes' (pieces (drop next format))) (drop k registers) to l ≡ pieces_written (joined bytes (pieces (drop i format))) (drop k registers) to l
+  byte_goes c next bytes' is n =
+      ap (λ ps. pieces_written ps (drop k registers) to l) (ap (λ b. joined b (pieces (drop next format))) n ∙ joined_more bytes c (pieces (drop next format)) ∙ ap (joined bytes) (sym is))
+
+  figure_here : (t : Scalar) (r : ℕ) → pieces (drop i format) ≡ Figure t ∷ pieces (drop (i + 2) format) → k < length registers → r ≡ get_or registers k 0 →
+      pieces_written (joined bytes (pieces (drop i format))) (drop k registers) to l
+      ≡ and_then (figure_written bytes t r to l) (pieces_written (pieces (drop (i + 2) format)) (drop (k + 1) registers) (figure_written bytes t r to l).to (figure_written bytes t r to l).lists)
+  figure_here t r is h er =
+      (λ j. pieces_written (joined bytes (is j)) ((drop_more registers k 0 h ∙ ap (λ x. x ∷ drop (k + 1) registers) (sym er)) j) to l)
+      ∙ figure_is bytes t (pieces (drop (i + 2) format)) r (drop (k + 1) registers) to l
+
+  module _ (t : Scalar) (r to' : ℕ) (l' : Lists) (empty : List ℕ)
+      (is : pieces (drop i format) ≡ Figure t ∷ pieces (drop (i + 2) format)) (h : k < length registers) (er : r ≡ get_or registers k 0) (e0 : empty ≡ [])
+      (et : to' ≡ (figure_written bytes t r to l).to) (el : l' ≡ (figure_written bytes t r to l).lists) where
+    rest_is : pieces_written (joined empty (pieces (drop (i + 2) format))) (drop (k + 1) registers) to' l'
+        ≡ pieces_written (pieces (drop (i + 2) format)) (drop (k + 1) registers) (figure_written bytes t r to l).to (figure_written bytes t r to l).lists
+    rest_is = λ j. pieces_written (joined (e0 j) (pieces (drop (i + 2) format))) (drop (k + 1) registers) (et j) (el j)
+
+    pub figure_code : (code code' whole : List Instr) → code' ≡ code ++ (figure_written bytes t r to l).code → code ++ (pieces_written (joined bytes (pieces (drop i format))) (drop k registers) to l).code ≡ whole →
+        code' ++ (pieces_written (joined empty (pieces (drop (i + 2) format))) (drop (k + 1) registers) to' l').code ≡ whole
+    figure_code code code' whole n inv =
+        (λ j. n j ++ (rest_is j).code) ∙ append_assoc code (figure_written bytes t r to l).code _ ∙ sym (ap (λ (w : Written). code ++ w.code) (figure_here t r is h er)) ∙ inv
+
+    pub figure_lists : (whole : Lists) → (pieces_written (joined bytes (pieces (drop i format))) (drop k registers) to l).lists ≡ whole →
+        (pieces_written (joined empty (pieces (drop (i + 2) format))) (drop (k + 1) registers) to' l').lists ≡ whole
+    figure_lists whole inv = ap (λ (w : Written). w.lists) rest_is ∙ sym (ap (λ (w : Written). w.lists) (figure_here t r is h er)) ∙ inv
+
+    pub figure_place : (whole : ℕ) → (pieces_written (joined bytes (pieces (drop i format))) (drop k registers) to l).to ≡ whole →
+        (pieces_written (joined empty (pieces (drop (i + 2) format))) (drop (k + 1) registers) to' l').to ≡ whole
+    figure_place whole inv = ap (λ (w : Written). w.to) rest_is ∙ sym (ap (λ (w : Written). w.to) (figure_here t r is h er)) ∙ inv
+
+  -- no register is left for a figure, and nothing is left of the format
+  pub no_register : (t : Scalar) → pieces (drop i format) ≡ Figure t ∷ pieces (drop (i + 2) format) → length registers ≤ k → pieces_written (joined bytes (pieces (drop i format))) (drop k registers) to l ≡ text_written bytes to l
+  no_register t is h = (λ j. pieces_written (joined bytes (is j)) (drop_all k registers h j) to l) ∙ stop_is bytes t (pieces (drop (i + 2) format)) to l
+
+  pub no_piece : length format ≤ i → pieces_written (joined bytes (pieces (drop i format))) (drop k registers) to l ≡ text_written bytes to l
+  no_piece h = ap (λ xs. pieces_written (joined bytes (pieces xs)) (drop k registers) to l) (drop_all i format h) ∙ end_is bytes (drop k registers) to l

@@ -1,0 +1,22 @@
+use Rattle.std.proofs.Common.{◌≡◌, ◌++◌, ◌≤◌, ◌-◌, drop, length}
+use Rattle.syntax.specs.Formats.{pieces}
+use Rattle.lower.specs.inner.Lists.{lists_of}
+use Rattle.lower.specs.inner.Statements.{pieces_written}
+use Rattle.lower.specs.inner.Formats.{joined}
+use Rattle.lower.proofs.print.put_pieces.Given as goal
+
+abbrev pub decreases-units : goal.decreases-units
+decreases-units g l = length l.format - l.i
+
+-- what is put and what is to come are the whole
+abbrev pub invariant-units : goal.invariant-units
+invariant-units g l =
+    let rest = pieces_written (joined l.bytes.items (pieces (drop l.i l.format))) (drop l.k l.registers) l.to (lists_of l.lists) in
+    let whole = pieces_written (pieces l.format) l.registers l.from (lists_of l.fn.lists) in
+    record {
+      within : l.i ≤ length l.format;
+      taken : l.k ≤ l.i;
+      code : l.code.items ++ rest.code ≡ l.fn.code.items ++ whole.code;
+      lists : rest.lists ≡ whole.lists;
+      place : rest.to ≡ whole.to;
+    }

@@ -1,0 +1,166 @@
+//! The instructions of a print's pieces.
+
+ghost use Rattle.std.specs.Prelude.{◌≡◌, ◌++◌, ◌∷◌, [], ◌+◌, ◌<◌, length, OnOk, IfOk};
+ghost use Rattle.syntax.specs.Formats.{pieces};
+ghost use Rattle.bytecode.specs.declared.instr.Instr.TheVariants as instr;
+ghost use Rattle.lower.specs.inner.Lists.{lists_of};
+ghost use Rattle.lower.specs.inner.Statements as statements;
+ghost use Rattle.lower.specs.inner.Statements.{pieces_written};
+ghost use Rattle.lower.specs.inner.Formats.{IsAt, text_written, figure_written};
+
+use crate::fault::Failure;
+use crate::lists::Lists;
+use crate::put::{after, put};
+use bytecode::Instr;
+use containers::Text;
+use lex::token::Scalar;
+use std::alloc::Allocator;
+
+/// The instruction that prints a number.
+fn printing(of: Scalar, r: u16) -> Instr
+    ensures { result ≡ statements.printing of r }
+{
+    match of {
+        Scalar::Int => Instr::PrintSigned(r),
+        Scalar::Unsigned => Instr::PrintUnsigned(r),
+    }
+}
+
+/// One more text, and its number.
+fn add_text<A: Allocator>(lists: &mut Lists<A>, text: Text<A>) -> Result<u32, Failure>
+    ensures lists { OnOk result (lists_of lists.new ≡ record (lists_of lists.old) { texts = lists.old.texts.items ++ text ∷ [] }) }
+    ensures number { IfOk result (λ n. n ≡ length lists.old.texts.items) }
+{
+    let number = lists.texts.len();
+    if number > 4_294_967_295 {
+        return Err(Failure::OutOfMemory);
+    }
+    match lists.texts.push(text) {
+        Ok(()) => Ok(number as u32),
+        Err(_) => Err(Failure::OutOfMemory),
+    }
+}
+
+/// A text of these bytes. Bytes that are no text are refused as memory is: none between two figures of a format are.
+fn text_from<A: Allocator>(bytes: Vec<u8, A>) -> Result<Text<A>, Failure>
+    ensures { IfOk result (λ text. text ≡ bytes.items) }
+{
+    match String::from_utf8(bytes) {
+        Ok(text) => Ok(Text::from_string(text)),
+        Err(_) => Err(Failure::OutOfMemory),
+    }
+}
+
+/// A literal text, where there is any; the place behind.
+fn put_text<A: Allocator>(
+    lists: &mut Lists<A>,
+    code: &mut Vec<Instr, A>,
+    bytes: Vec<u8, A>,
+    from: u32,
+) -> Result<u32, Failure>
+    ensures code { OnOk result (code.new.items ≡ code.old.items ++ (text_written bytes.items from (lists_of lists.old)).code) }
+    ensures lists { OnOk result (lists_of lists.new ≡ (text_written bytes.items from (lists_of lists.old)).lists) }
+    ensures place { IfOk result (λ to. to ≡ (text_written bytes.items from (lists_of lists.old)).to) }
+{
+    if bytes.len() == 0 {
+        return Ok(from);
+    }
+    let text = text_from(bytes)?;
+    let number = add_text(lists, text)?;
+    put(code, Instr::PrintText(number))?;
+    after(from, 1)
+}
+
+/// A literal text, where there is any, and a number behind it; the place behind.
+fn put_figure<A: Allocator>(
+    lists: &mut Lists<A>,
+    code: &mut Vec<Instr, A>,
+    bytes: Vec<u8, A>,
+    of: Scalar,
+    r: u16,
+    from: u32,
+) -> Result<u32, Failure>
+    ensures code { OnOk result (code.new.items ≡ code.old.items ++ (figure_written bytes.items of r from (lists_of lists.old)).code) }
+    ensures lists { OnOk result (lists_of lists.new ≡ (figure_written bytes.items of r from (lists_of lists.old)).lists) }
+    ensures place { IfOk result (λ to. to ≡ (figure_written bytes.items of r from (lists_of lists.old)).to) }
+{
+    let to = put_text(lists, code, bytes, from)?;
+    put(code, printing(of, r))?;
+    after(to, 1)
+}
+
+/// What stands at a place of a format: a byte of literal text, with the place behind it, or a figure of two bytes.
+enum Unit {
+    Byte(u8, usize),
+    Number(Scalar),
+}
+
+/// What stands at a place of a format.
+fn unit_at(format: &[u8], i: usize) -> Unit
+    requires { i < length format.now }
+    ensures { IsAt result format.now i }
+{
+    let a = format[i];
+    if a != b'%' {
+        return Unit::Byte(a, i + 1);
+    }
+    if format.len() - i == 1 {
+        return Unit::Byte(a, i + 1);
+    }
+    let b = format[i + 1];
+    if b == b'd' {
+        return Unit::Number(Scalar::Int);
+    }
+    if b == b'u' {
+        return Unit::Number(Scalar::Unsigned);
+    }
+    Unit::Byte(b, i + 2)
+}
+
+/// One more byte.
+fn add_byte<A: Allocator>(bytes: &mut Vec<u8, A>, byte: u8) -> Result<(), Failure>
+    ensures { OnOk result (bytes.new.items ≡ bytes.old.items ++ byte ∷ []) }
+{
+    match bytes.push(byte) {
+        Ok(()) => Ok(()),
+        Err(_) => Err(Failure::OutOfMemory),
+    }
+}
+
+/// The pieces of a format, with these registers for its figures; the place behind.
+pub(crate) fn put_pieces<A: Allocator + Copy>(
+    alloc: A,
+    lists: &mut Lists<A>,
+    code: &mut Vec<Instr, A>,
+    format: &[u8],
+    registers: &[u16],
+    from: u32,
+) -> Result<u32, Failure>
+    ensures code { OnOk result (code.new.items ≡ code.old.items ++ (pieces_written (pieces format.now) registers.now from (lists_of lists.old)).code) }
+    ensures lists { OnOk result (lists_of lists.new ≡ (pieces_written (pieces format.now) registers.now from (lists_of lists.old)).lists) }
+    ensures place { IfOk result (λ p. p ≡ (pieces_written (pieces format.now) registers.now from (lists_of lists.old)).to) }
+{
+    let mut bytes = Vec::new(alloc);
+    let mut to = from;
+    let mut k = 0;
+    let mut i = 0;
+    'units: while i < format.len() {
+        match unit_at(format, i) {
+            Unit::Byte(c, next) => {
+                add_byte(&mut bytes, c)?;
+                i = next;
+                continue;
+            }
+            Unit::Number(of) => {
+                if k >= registers.len() {
+                    return put_text(lists, code, bytes, to);
+                }
+                to = put_figure(lists, code, bytes, of, registers[k], to)?;
+                bytes = Vec::new(alloc);
+                k += 1;
+                i += 2;
+            }
+        }
+    }
+    put_text(lists, code, bytes, to)
+}

@@ -1,0 +1,534 @@
+//! The instructions of statements. A loop is tested at its bottom; in front of it stand a jump and pads: places that are known
+//! before the body is made, from which a break and a continue go on.
+
+ghost use Rattle.std.specs.Prelude.{◌≡◌, ◌++◌, ◌∷◌, [], ◌+◌, ◌≤◌, map, option_map, length, replicate, take, OnOk, IfOk};
+ghost use Rattle.syntax.specs.Tree as Tree;
+ghost use Rattle.syntax.specs.Views.{expr_of, exprs_of, simple_of, start_of, stmt_of, stmts_of};
+ghost use Rattle.syntax.specs.Formats.{pieces};
+ghost use Rattle.bytecode.specs.declared.instr.Instr.TheVariants as instr;
+ghost use Rattle.lowered.specs.Statements.{locals_after, locals_at_end};
+ghost use Rattle.lower.specs.inner.Lists.{lists_of};
+ghost use Rattle.lower.specs.inner.Expressions.{all_emitted};
+ghost use Rattle.lower.specs.inner.Conditions as conditions;
+ghost use Rattle.lower.specs.inner.Conditions.{condition};
+ghost use Rattle.lower.specs.inner.Statements as statements;
+ghost use Rattle.lower.specs.inner.Simples.{simple_written};
+ghost use Rattle.lower.specs.inner.Statements.{print_written, tested_back, for_test, for_step, return_written, written, all_written};
+ghost use Rattle.lower.specs.inner.Tests.{test_in};
+ghost use Rattle.lower.specs.inner.Views.{program_in, scope_in};
+
+use crate::cond::{jump_if, jump_if_not, lower_condition};
+use crate::expr::{lower_all, lower_expr};
+use crate::fault::Failure;
+use crate::held::{Exits, Tested};
+use crate::lists::Lists;
+use crate::print::put_pieces;
+use crate::program::Names;
+use crate::put::{after, append, put};
+use crate::scope::Scope;
+use crate::simple::{lower_declarators, lower_simple, lower_start};
+use bytecode::Instr;
+use std::alloc::Allocator;
+use syntax::tree::{Expr, ForHead, Simple, Stmt};
+
+/// So many commits, and then an instruction; the place behind.
+fn leave<A: Allocator>(
+    code: &mut Vec<Instr, A>,
+    commits: u32,
+    last: Instr,
+    from: u32,
+) -> Result<u32, Failure>
+    ensures code { OnOk result (code.new.items ≡ code.old.items ++ (replicate commits (instr.Commit) ++ last ∷ [])) }
+    ensures place { IfOk result (λ p. p ≡ from + commits + 1) }
+{
+    let mut to = from;
+    'each: for made in 0..commits {
+        put(code, Instr::Commit)?;
+        to = after(to, 1)?;
+    }
+    put(code, last)?;
+    after(to, 1)
+}
+
+/// One transaction more. No count is as large as the number of instructions, which memory bounds.
+fn entered(exits: Exits) -> Result<Exits, Failure>
+    ensures { IfOk result (λ x. x ≡ statements.in_transaction exits) }
+{
+    if exits.in_function >= 4_294_967_295 || exits.in_loop >= 4_294_967_295 {
+        return Err(Failure::OutOfMemory);
+    }
+    Ok(Exits {
+        break_to: exits.break_to,
+        continue_to: exits.continue_to,
+        in_loop: exits.in_loop + 1,
+        in_function: exits.in_function + 1,
+    })
+}
+
+fn looping(exits: Exits, break_to: u32, continue_to: u32) -> Exits
+    ensures { result ≡ statements.looping exits break_to continue_to }
+{
+    Exits {
+        break_to,
+        continue_to,
+        in_loop: 0,
+        in_function: exits.in_function,
+    }
+}
+
+/// A condition behind the locals.
+fn lower_head<A: Allocator + Copy>(
+    names: &Names<'_, A>,
+    scope: &Scope<'_, A>,
+    lists: &mut Lists<A>,
+    code: &mut Vec<Instr, A>,
+    c: &Expr<A>,
+    from: u32,
+) -> Result<Tested, Failure>
+    ensures code { OnOk result (code.new.items ≡ code.old.items ++ (condition (program_in names.now) (scope_in scope.now) (expr_of c.now) from (length (scope_in scope.now)) (lists_of lists.old)).code) }
+    ensures lists { OnOk result (lists_of lists.new ≡ (condition (program_in names.now) (scope_in scope.now) (expr_of c.now) from (length (scope_in scope.now)) (lists_of lists.old)).lists) }
+    ensures tested { IfOk result (λ t. t ≡ test_in (condition (program_in names.now) (scope_in scope.now) (expr_of c.now) from (length (scope_in scope.now)) (lists_of lists.old))) }
+{
+    let free = scope.len();
+    lower_condition(names, scope, lists, code, c, from, free)
+}
+
+/// A jump back where a condition holds; the place behind.
+fn put_back<A: Allocator>(code: &mut Vec<Instr, A>, t: Tested, back: u32) -> Result<u32, Failure>
+    ensures code { OnOk result (code.new.items ≡ code.old.items ++ conditions.jump_if t.at_zero t.register back ∷ []) }
+    ensures place { IfOk result (λ p. p ≡ t.to + 1) }
+{
+    put(code, jump_if(t.at_zero, t.register, back))?;
+    after(t.to, 1)
+}
+
+/// A condition, and a jump back where it holds.
+fn lower_back<A: Allocator + Copy>(
+    names: &Names<'_, A>,
+    scope: &Scope<'_, A>,
+    lists: &mut Lists<A>,
+    code: &mut Vec<Instr, A>,
+    c: &Expr<A>,
+    from: u32,
+    back: u32,
+) -> Result<u32, Failure>
+    ensures code { OnOk result (code.new.items ≡ code.old.items ++ (tested_back (condition (program_in names.now) (scope_in scope.now) (expr_of c.now) from (length (scope_in scope.now)) (lists_of lists.old)) back).code) }
+    ensures lists { OnOk result (lists_of lists.new ≡ (tested_back (condition (program_in names.now) (scope_in scope.now) (expr_of c.now) from (length (scope_in scope.now)) (lists_of lists.old)) back).lists) }
+    ensures place { IfOk result (λ p. p ≡ (tested_back (condition (program_in names.now) (scope_in scope.now) (expr_of c.now) from (length (scope_in scope.now)) (lists_of lists.old)) back).to) }
+{
+    let t = lower_head(names, scope, lists, code, c, from)?;
+    put_back(code, t, back)
+}
+
+/// An assignment or an expression behind the locals.
+fn lower_do<A: Allocator + Copy>(
+    names: &Names<'_, A>,
+    scope: &Scope<'_, A>,
+    lists: &mut Lists<A>,
+    code: &mut Vec<Instr, A>,
+    s: &Simple<A>,
+    from: u32,
+) -> Result<u32, Failure>
+    ensures code { OnOk result (code.new.items ≡ code.old.items ++ (simple_written (program_in names.now) (scope_in scope.now) (simple_of s.now) from (length (scope_in scope.now)) (lists_of lists.old)).code) }
+    ensures lists { OnOk result (lists_of lists.new ≡ (simple_written (program_in names.now) (scope_in scope.now) (simple_of s.now) from (length (scope_in scope.now)) (lists_of lists.old)).lists) }
+    ensures place { IfOk result (λ p. p ≡ (simple_written (program_in names.now) (scope_in scope.now) (simple_of s.now) from (length (scope_in scope.now)) (lists_of lists.old)).to) }
+{
+    let free = scope.len();
+    lower_simple(names, scope, lists, code, s, from, free)
+}
+
+/// The test of a `for`; a missing condition always holds.
+fn lower_test<A: Allocator + Copy>(
+    names: &Names<'_, A>,
+    scope: &Scope<'_, A>,
+    lists: &mut Lists<A>,
+    code: &mut Vec<Instr, A>,
+    c: &Option<Expr<A>>,
+    back: u32,
+    from: u32,
+) -> Result<u32, Failure>
+    ensures code { OnOk result (code.new.items ≡ code.old.items ++ (for_test (program_in names.now) (scope_in scope.now) (option_map expr_of c.now) back from (lists_of lists.old)).code) }
+    ensures lists { OnOk result (lists_of lists.new ≡ (for_test (program_in names.now) (scope_in scope.now) (option_map expr_of c.now) back from (lists_of lists.old)).lists) }
+    ensures place { IfOk result (λ p. p ≡ (for_test (program_in names.now) (scope_in scope.now) (option_map expr_of c.now) back from (lists_of lists.old)).to) }
+{
+    match c {
+        Some(c) => lower_back(names, scope, lists, code, c, from, back),
+        None => {
+            put(code, Instr::Jump(back))?;
+            after(from, 1)
+        }
+    }
+}
+
+/// The step of a `for`.
+fn lower_step<A: Allocator + Copy>(
+    names: &Names<'_, A>,
+    scope: &Scope<'_, A>,
+    lists: &mut Lists<A>,
+    code: &mut Vec<Instr, A>,
+    step: &Option<Simple<A>>,
+    from: u32,
+) -> Result<u32, Failure>
+    ensures code { OnOk result (code.new.items ≡ code.old.items ++ (for_step (program_in names.now) (scope_in scope.now) (option_map simple_of step.now) from (lists_of lists.old)).code) }
+    ensures lists { OnOk result (lists_of lists.new ≡ (for_step (program_in names.now) (scope_in scope.now) (option_map simple_of step.now) from (lists_of lists.old)).lists) }
+    ensures place { IfOk result (λ p. p ≡ (for_step (program_in names.now) (scope_in scope.now) (option_map simple_of step.now) from (lists_of lists.old)).to) }
+{
+    match step {
+        Some(s) => lower_do(names, scope, lists, code, s, from),
+        None => Ok(from),
+    }
+}
+
+/// A jump over a branch where its condition does not hold, and the branch.
+fn put_branch<A: Allocator>(
+    code: &mut Vec<Instr, A>,
+    t: Tested,
+    branch: Vec<Instr, A>,
+    to: u32,
+) -> Result<(), Failure>
+    ensures { OnOk result (code.new.items ≡ code.old.items ++ conditions.jump_if_not t.at_zero t.register to ∷ branch.items) }
+{
+    put(code, jump_if_not(t.at_zero, t.register, to))?;
+    append(code, branch)
+}
+
+/// A branch, and a jump over the other one, which begins at `other_at`.
+fn put_branches<A: Allocator>(
+    code: &mut Vec<Instr, A>,
+    t: Tested,
+    first: Vec<Instr, A>,
+    other_at: u32,
+    second: Vec<Instr, A>,
+    to: u32,
+) -> Result<(), Failure>
+    ensures { OnOk result (code.new.items ≡ code.old.items ++ conditions.jump_if_not t.at_zero t.register other_at ∷ first.items ++ instr.Jump to ∷ second.items) }
+{
+    put_branch(code, t, first, other_at)?;
+    put(code, Instr::Jump(to))?;
+    append(code, second)
+}
+
+/// A loop that is tested first: a jump to its test, a pad for breaks, and the rest.
+fn put_while<A: Allocator>(
+    code: &mut Vec<Instr, A>,
+    test_at: u32,
+    to: u32,
+    rest: Vec<Instr, A>,
+) -> Result<(), Failure>
+    ensures { OnOk result (code.new.items ≡ code.old.items ++ instr.Jump test_at ∷ instr.Jump to ∷ rest.items) }
+{
+    put(code, Instr::Jump(test_at))?;
+    put(code, Instr::Jump(to))?;
+    append(code, rest)
+}
+
+/// A loop with a pad for continues: a jump to where it begins, pads for breaks and continues, and the rest.
+fn put_loop<A: Allocator>(
+    code: &mut Vec<Instr, A>,
+    begin: u32,
+    to: u32,
+    next: u32,
+    rest: Vec<Instr, A>,
+) -> Result<(), Failure>
+    ensures { OnOk result (code.new.items ≡ code.old.items ++ instr.Jump begin ∷ instr.Jump to ∷ instr.Jump next ∷ rest.items) }
+{
+    put(code, Instr::Jump(begin))?;
+    put_while(code, to, next, rest)
+}
+
+/// A transaction; a cancel goes on behind it.
+fn put_transaction<A: Allocator>(
+    code: &mut Vec<Instr, A>,
+    to: u32,
+    inner: Vec<Instr, A>,
+) -> Result<(), Failure>
+    ensures { OnOk result (code.new.items ≡ code.old.items ++ instr.Begin to ∷ inner.items ++ instr.Commit ∷ []) }
+{
+    put(code, Instr::Begin(to))?;
+    append(code, inner)?;
+    put(code, Instr::Commit)
+}
+
+/// A print.
+fn lower_print<A: Allocator + Copy>(
+    names: &Names<'_, A>,
+    scope: &Scope<'_, A>,
+    lists: &mut Lists<A>,
+    code: &mut Vec<Instr, A>,
+    format: &str,
+    args: &[Expr<A>],
+    from: u32,
+) -> Result<u32, Failure>
+    ensures code { OnOk result (code.new.items ≡ code.old.items ++ (print_written (all_emitted (program_in names.now) (scope_in scope.now) (exprs_of args.now) (from + 1) (length (scope_in scope.now)) (lists_of lists.old)) (pieces format.now)).code) }
+    ensures lists { OnOk result (lists_of lists.new ≡ (print_written (all_emitted (program_in names.now) (scope_in scope.now) (exprs_of args.now) (from + 1) (length (scope_in scope.now)) (lists_of lists.old)) (pieces format.now)).lists) }
+    ensures place { IfOk result (λ p. p ≡ (print_written (all_emitted (program_in names.now) (scope_in scope.now) (exprs_of args.now) (from + 1) (length (scope_in scope.now)) (lists_of lists.old)) (pieces format.now)).to) }
+{
+    put(code, Instr::Irrevocable)?;
+    let next = after(from, 1)?;
+    let mut registers = Vec::new(names.alloc);
+    let free = scope.len();
+    let to = lower_all(names, scope, lists, code, &mut registers, args, next, free)?;
+    put_pieces(
+        names.alloc,
+        lists,
+        code,
+        format.as_bytes(),
+        registers.as_slice(),
+        to,
+    )
+}
+
+/// A return.
+fn lower_return<A: Allocator + Copy>(
+    names: &Names<'_, A>,
+    scope: &Scope<'_, A>,
+    lists: &mut Lists<A>,
+    code: &mut Vec<Instr, A>,
+    e: &Option<Expr<A>>,
+    commits: u32,
+    from: u32,
+) -> Result<u32, Failure>
+    ensures code { OnOk result (code.new.items ≡ code.old.items ++ (return_written (program_in names.now) (scope_in scope.now) (option_map expr_of e.now) commits from (lists_of lists.old)).code) }
+    ensures lists { OnOk result (lists_of lists.new ≡ (return_written (program_in names.now) (scope_in scope.now) (option_map expr_of e.now) commits from (lists_of lists.old)).lists) }
+    ensures place { IfOk result (λ p. p ≡ (return_written (program_in names.now) (scope_in scope.now) (option_map expr_of e.now) commits from (lists_of lists.old)).to) }
+{
+    match e {
+        Some(e) => {
+            let free = scope.len();
+            let held = lower_expr(names, scope, lists, code, e, from, free, free)?;
+            leave(code, commits, Instr::ReturnValue(held.register), held.to)
+        }
+        None => leave(code, commits, Instr::Return, from),
+    }
+}
+
+/// A statement's instructions; the place behind them.
+#[cycle(lower_stmt)]
+pub(crate) fn lower_stmt<'p, A: Allocator + Copy>(
+    names: &Names<'p, A>,
+    scope: &mut Scope<'p, A>,
+    lists: &mut Lists<A>,
+    code: &mut Vec<Instr, A>,
+    s: &'p Stmt<A>,
+    exits: Exits,
+    from: u32,
+) -> Result<u32, Failure>
+    ensures scope { OnOk result (scope_in scope.new ≡ locals_after (stmt_of s.now) (scope_in scope.old)) }
+    ensures code { OnOk result (code.new.items ≡ code.old.items ++ (written (program_in names.now) (stmt_of s.now) exits (scope_in scope.old) from (lists_of lists.old)).code) }
+    ensures lists { OnOk result (lists_of lists.new ≡ (written (program_in names.now) (stmt_of s.now) exits (scope_in scope.old) from (lists_of lists.old)).lists) }
+    ensures place { IfOk result (λ p. p ≡ (written (program_in names.now) (stmt_of s.now) exits (scope_in scope.old) from (lists_of lists.old)).to) }
+{
+    match s {
+        Stmt::Empty => Ok(from),
+        Stmt::Declare(d) => {
+            lower_declarators(
+                names,
+                scope,
+                lists,
+                code,
+                d.of,
+                d.declarators.as_slice(),
+                from,
+            )
+        }
+        Stmt::Do(s) => lower_do(names, scope, lists, code, s, from),
+        Stmt::Block(body) => lower_block(names, scope, lists, code, body.as_slice(), exits, from),
+        Stmt::Print(_, format, _, args) => {
+            lower_print(
+                names,
+                scope,
+                lists,
+                code,
+                format.as_str(),
+                args.as_slice(),
+                from,
+            )
+        }
+        Stmt::If(c, then, other) => {
+            let t = lower_head(names, scope, lists, code, c, from)?;
+            let next = after(t.to, 1)?;
+            let mut first = Vec::new(names.alloc);
+            let last = lower_scoped(names, scope, lists, &mut first, then.get(), exits, next)?;
+            match other {
+                None => {
+                    put_branch(code, t, first, last)?;
+                    Ok(last)
+                }
+                Some(other) => {
+                    let other_at = after(last, 1)?;
+                    let mut second = Vec::new(names.alloc);
+                    let to = lower_scoped(
+                        names,
+                        scope,
+                        lists,
+                        &mut second,
+                        other.get(),
+                        exits,
+                        other_at,
+                    )?;
+                    put_branches(code, t, first, other_at, second, to)?;
+                    Ok(to)
+                }
+            }
+        }
+        Stmt::While(c, body) => {
+            let pad = after(from, 1)?;
+            let start = after(from, 2)?;
+            let mut inner = Vec::new(names.alloc);
+            let exits = looping(exits, pad, from);
+            let test_at = lower_scoped(names, scope, lists, &mut inner, body.get(), exits, start)?;
+            let to = lower_back(names, scope, lists, &mut inner, c, test_at, start)?;
+            put_while(code, test_at, to, inner)?;
+            Ok(to)
+        }
+        Stmt::DoWhile(body, c) => {
+            let pad = after(from, 1)?;
+            let other = after(from, 2)?;
+            let start = after(from, 3)?;
+            let mut inner = Vec::new(names.alloc);
+            let exits = looping(exits, pad, other);
+            let test_at = lower_scoped(names, scope, lists, &mut inner, body.get(), exits, start)?;
+            let to = lower_back(names, scope, lists, &mut inner, c, test_at, start)?;
+            put_loop(code, start, to, test_at, inner)?;
+            Ok(to)
+        }
+        Stmt::For(head, body) => {
+            lower_for(
+                names,
+                scope,
+                lists,
+                code,
+                head.get(),
+                body.get(),
+                exits,
+                from,
+            )
+        }
+        Stmt::Break(_) => leave(code, exits.in_loop, Instr::Jump(exits.break_to), from),
+        Stmt::Continue(_) => leave(code, exits.in_loop, Instr::Jump(exits.continue_to), from),
+        Stmt::Return(e, _) => {
+            lower_return(names, scope, lists, code, e, exits.in_function, from)
+        }
+        Stmt::Transaction(_, body, _) => {
+            let exits = entered(exits)?;
+            let start = after(from, 1)?;
+            let mut inner = Vec::new(names.alloc);
+            let all = body.as_slice();
+            let last = lower_block(names, scope, lists, &mut inner, all, exits, start)?;
+            let to = after(last, 1)?;
+            put_transaction(code, to, inner)?;
+            Ok(to)
+        }
+        Stmt::Cancel(_) => {
+            put(code, Instr::Cancel)?;
+            after(from, 1)
+        }
+    }
+}
+
+/// A `for`: its start, pads, its body, its step and its test.
+#[cycle(lower_stmt)]
+fn lower_for<'p, A: Allocator + Copy>(
+    names: &Names<'p, A>,
+    scope: &mut Scope<'p, A>,
+    lists: &mut Lists<A>,
+    code: &mut Vec<Instr, A>,
+    head: &'p ForHead<A>,
+    body: &'p Stmt<A>,
+    exits: Exits,
+    from: u32,
+) -> Result<u32, Failure>
+    ensures scope { OnOk result (scope_in scope.new ≡ scope_in scope.old) }
+    ensures code { OnOk result (code.new.items ≡ code.old.items ++ (written (program_in names.now) (Tree.For (start_of head.now.start) (option_map expr_of head.now.condition) (option_map simple_of head.now.step) (stmt_of body.now)) exits (scope_in scope.old) from (lists_of lists.old)).code) }
+    ensures lists { OnOk result (lists_of lists.new ≡ (written (program_in names.now) (Tree.For (start_of head.now.start) (option_map expr_of head.now.condition) (option_map simple_of head.now.step) (stmt_of body.now)) exits (scope_in scope.old) from (lists_of lists.old)).lists) }
+    ensures place { IfOk result (λ p. p ≡ (written (program_in names.now) (Tree.For (start_of head.now.start) (option_map expr_of head.now.condition) (option_map simple_of head.now.step) (stmt_of body.now)) exits (scope_in scope.old) from (lists_of lists.old)).to) }
+{
+    let outer = scope.len();
+    let pads = lower_start(names, scope, lists, code, &head.start, from)?;
+    let pad = after(pads, 1)?;
+    let other = after(pads, 2)?;
+    let start = after(pads, 3)?;
+    let mut inner = Vec::new(names.alloc);
+    let exits = looping(exits, pad, other);
+    let step_at = lower_scoped(names, scope, lists, &mut inner, body, exits, start)?;
+    let test_at = lower_step(names, scope, lists, &mut inner, &head.step, step_at)?;
+    let to = lower_test(
+        names,
+        scope,
+        lists,
+        &mut inner,
+        &head.condition,
+        start,
+        test_at,
+    )?;
+    scope.leave(outer);
+    put_loop(code, test_at, to, step_at, inner)?;
+    Ok(to)
+}
+
+/// A statement whose locals are forgotten behind it.
+#[cycle(lower_stmt)]
+fn lower_scoped<'p, A: Allocator + Copy>(
+    names: &Names<'p, A>,
+    scope: &mut Scope<'p, A>,
+    lists: &mut Lists<A>,
+    code: &mut Vec<Instr, A>,
+    s: &'p Stmt<A>,
+    exits: Exits,
+    from: u32,
+) -> Result<u32, Failure>
+    ensures scope { OnOk result (scope_in scope.new ≡ scope_in scope.old) }
+    ensures code { OnOk result (code.new.items ≡ code.old.items ++ (written (program_in names.now) (stmt_of s.now) exits (scope_in scope.old) from (lists_of lists.old)).code) }
+    ensures lists { OnOk result (lists_of lists.new ≡ (written (program_in names.now) (stmt_of s.now) exits (scope_in scope.old) from (lists_of lists.old)).lists) }
+    ensures place { IfOk result (λ p. p ≡ (written (program_in names.now) (stmt_of s.now) exits (scope_in scope.old) from (lists_of lists.old)).to) }
+{
+    let outer = scope.len();
+    let to = lower_stmt(names, scope, lists, code, s, exits, from)?;
+    scope.leave(outer);
+    Ok(to)
+}
+
+/// Statements whose locals are forgotten behind them.
+#[cycle(lower_stmt)]
+fn lower_block<'p, A: Allocator + Copy>(
+    names: &Names<'p, A>,
+    scope: &mut Scope<'p, A>,
+    lists: &mut Lists<A>,
+    code: &mut Vec<Instr, A>,
+    body: &'p [Stmt<A>],
+    exits: Exits,
+    from: u32,
+) -> Result<u32, Failure>
+    ensures scope { OnOk result (scope_in scope.new ≡ scope_in scope.old) }
+    ensures code { OnOk result (code.new.items ≡ code.old.items ++ (all_written (program_in names.now) (stmts_of body.now) exits (scope_in scope.old) from (lists_of lists.old)).code) }
+    ensures lists { OnOk result (lists_of lists.new ≡ (all_written (program_in names.now) (stmts_of body.now) exits (scope_in scope.old) from (lists_of lists.old)).lists) }
+    ensures place { IfOk result (λ p. p ≡ (all_written (program_in names.now) (stmts_of body.now) exits (scope_in scope.old) from (lists_of lists.old)).to) }
+{
+    let outer = scope.len();
+    let to = lower_stmts(names, scope, lists, code, body, exits, from)?;
+    scope.leave(outer);
+    Ok(to)
+}
+
+/// Statements one after another.
+#[cycle(lower_stmt)]
+pub(crate) fn lower_stmts<'p, A: Allocator + Copy>(
+    names: &Names<'p, A>,
+    scope: &mut Scope<'p, A>,
+    lists: &mut Lists<A>,
+    code: &mut Vec<Instr, A>,
+    body: &'p [Stmt<A>],
+    exits: Exits,
+    from: u32,
+) -> Result<u32, Failure>
+    ensures scope { OnOk result (scope_in scope.new ≡ locals_at_end (stmts_of body.now) (scope_in scope.old)) }
+    ensures code { OnOk result (code.new.items ≡ code.old.items ++ (all_written (program_in names.now) (stmts_of body.now) exits (scope_in scope.old) from (lists_of lists.old)).code) }
+    ensures lists { OnOk result (lists_of lists.new ≡ (all_written (program_in names.now) (stmts_of body.now) exits (scope_in scope.old) from (lists_of lists.old)).lists) }
+    ensures place { IfOk result (λ p. p ≡ (all_written (program_in names.now) (stmts_of body.now) exits (scope_in scope.old) from (lists_of lists.old)).to) }
+{
+    let mut to = from;
+    'body: for s in body {
+        to = lower_stmt(names, scope, lists, code, s, exits, to)?;
+    }
+    Ok(to)
+}
