@@ -1,0 +1,108 @@
+-- A world of the machine as its contracts see it: what runs, and the steps that were made. All else follows from these.
+use Rattle.std.specs.Prelude.{◌≡◌, ◌+◌, ◌%◌, ℕ, Bool, true, false, List, [], ◌∷◌, ◌++◌, Option, None, Some, option_map}
+use Rattle.std.specs.List.{slice_get, AllByRecursion}
+use Rattle.syntax.specs.Behaviours.{Behaviour, IsMemory, Means, Step, founds_of}
+use Rattle.syntax.specs.declared.numbers.Status.{Status}
+use Rattle.bytecode.specs.Beginning.{beginning}
+use Rattle.bytecode.specs.Code.{Code, Configuration, effect}
+use Rattle.bytecode.specs.Initial.{initial_of}
+use Rattle.bytecode.specs.Sequential.{meaning}
+use Rattle.bytecode.specs.Valid.{bounds_of}
+use Rattle.norec_core.specs.Accesses.{cost, stops}
+use Rattle.machine.specs.declared.event.Event.{Event}
+use Rattle.machine.specs.declared.event.Event.TheVariants as event
+use Rattle.machine.specs.Alone.{ReachesEnd}
+use Rattle.machine.specs.Merges.{run_of}
+use Rattle.machine.specs.Serializable.{IsOpaque, merge_after, world_after}
+use Rattle.machine.specs.States.{thread_has_lock}
+use Rattle.machine.specs.Threads.{access, told}
+use Rattle.machine.specs.Worlds.{Part, Reached, World, answer, new_world, step}
+
+-- a code, how many threads run it, and the thread of each step that was made
+pub record Simulation : Type 0 where
+  pub code : Code
+  pub threads : ℕ
+  pub trace : List ℕ
+
+-- the world that the steps lead to
+abbrev pub world_of : Simulation → World Configuration
+world_of s = world_after (effect s.code) (beginning s.code) (initial_of s.code) s.threads s.trace
+
+-- thread t in it
+abbrev pub part_of : Simulation → ℕ → Option (Part Configuration)
+part_of s t = slice_get (world_of s).parts t
+
+-- further steps
+abbrev pub further : Simulation → List ℕ → Simulation
+further s ts = record s { trace = s.trace ++ ts }
+
+-- the next step of a thread would swap the lock from its last even value
+abbrev pub stops_next : Code → Option (Part Configuration) → Bool
+stops_next code None = false
+stops_next code (Some p) = stops (access (effect code) p.thread)
+
+abbrev pub stops_at : Simulation → ℕ → Bool
+stops_at s t = stops_next s.code (part_of s t)
+
+-- what happens in a thread's next step
+abbrev pub event_next : Code → World Configuration → Option (Part Configuration) → Event
+event_next code w None = event.Quiet
+event_next code w (Some p) = (told (effect code) p.thread (answer w.lock w.words (access (effect code) p.thread))).event
+
+abbrev pub event_at : Simulation → ℕ → Event
+event_at s t = event_next s.code (world_of s) (part_of s t)
+
+-- how a thread is, and what it has printed
+abbrev pub status_at : Simulation → ℕ → Option Status
+status_at s t = option_map (λ (p : Part Configuration). p.thread.status) (part_of s t)
+
+abbrev pub output_at : Simulation → ℕ → Option (List ℕ)
+output_at s t = option_map (λ (p : Part Configuration). p.thread.text) (part_of s t)
+
+-- The thread that has the lock. While none has it the lock is even.
+abbrev pub IsHolder : World Configuration → Option ℕ → Type 0
+IsHolder w None =
+    (w.lock % 2 ≡ 0)
+    × ((t : ℕ) (p : Part Configuration) → slice_get w.parts t ≡ Some p → thread_has_lock p.thread ≡ false)
+IsHolder w (Some t) =
+    (w.lock % 2 ≡ 1)
+    × ((p : Part Configuration) × (slice_get w.parts t ≡ Some p) × (thread_has_lock p.thread ≡ true))
+
+-- how many accesses to the lock or the words a thread's next step makes
+abbrev pub cost_next : Code → Option (Part Configuration) → ℕ
+cost_next code None = 0
+cost_next code (Some p) = cost (access (effect code) p.thread)
+
+abbrev pub cost_at : Simulation → ℕ → ℕ
+cost_at s t = cost_next s.code (part_of s t)
+
+-- how many these steps of all threads make from a world on
+abbrev pub accesses_in : Code → List ℕ → World Configuration → ℕ
+accesses_in code [] w = 0
+accesses_in code (t ∷ ts) w = cost_next code (slice_get w.parts t) + accesses_in code ts (step (effect code) w t)
+
+abbrev pub accesses_of : Simulation → ℕ
+accesses_of s = accesses_in s.code s.trace (new_world (beginning s.code) (initial_of s.code) s.threads)
+
+-- the transactions that have taken effect, in their order, each with the memories that it found and left
+abbrev pub transactions_of : Simulation → List Step
+transactions_of s =
+    run_of (merge_after (effect s.code) (beginning s.code) (initial_of s.code) s.threads s.trace)
+
+-- What holds of every world: none of its steps was one that stops; its transactions are one after another, in the order of
+-- time, each attempt has a moment, and later runs extend earlier ones. So it is for the code, and for every program that
+-- the code means.
+pub record IsExplained (s : Simulation) : Type 0 where
+  pub reached : Reached (effect s.code) (beginning s.code) (initial_of s.code) s.threads (world_of s)
+  pub code : IsOpaque (effect s.code) (beginning s.code) (meaning (effect s.code) (beginning s.code)) (bounds_of s.code)
+      (initial_of s.code) s.threads s.trace
+  pub programs : (program : Behaviour) →
+      Means (bounds_of s.code) (meaning (effect s.code) (beginning s.code)) program →
+      IsOpaque (effect s.code) (beginning s.code) program (bounds_of s.code) (initial_of s.code) s.threads s.trace
+
+-- What a program that the code means does alone, a world of one thread does in some number of steps, and stays there.
+abbrev pub EndsAlone : Code → Type 0
+EndsAlone code = (program : Behaviour) (run : List Step) (n : ℕ) →
+    Means (bounds_of code) (meaning (effect code) (beginning code)) program →
+    AllByRecursion (IsMemory (bounds_of code)) (founds_of 0 run) →
+    ReachesEnd (effect code) (beginning code) program (initial_of code) run n

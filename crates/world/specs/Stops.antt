@@ -1,0 +1,11 @@
+-- Why a list of steps was not made to its end.
+use Rattle.std.specs.Prelude.{◌≡◌, ◌<◌, ◌≤◌, ℕ, true, false}
+use Rattle.world.specs.Simulations.{Simulation, stops_at}
+use Rattle.world.specs.declared.stop.StopReason.{StopReason}
+use Rattle.world.specs.declared.stop.StopReason.TheVariants.{OutOfMemory, SequenceUsedUp, Stranger}
+
+-- why the next step of thread t is not made
+abbrev pub StopsFor : Simulation → ℕ → StopReason → Type 0
+StopsFor s t OutOfMemory = (t < s.threads) × (stops_at s t ≡ false)
+StopsFor s t SequenceUsedUp = (t < s.threads) × (stops_at s t ≡ true)
+StopsFor s t Stranger = s.threads ≤ t
