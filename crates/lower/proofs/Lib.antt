@@ -13,6 +13,10 @@ mod Formatted
 mod Leaving
 mod Made
 mod Written
+-- functions and items one after another
+mod Bodies
+mod Picked
+mod Deeper
 -- what is picked for small programs
 mod Samples
 -- that the code which is picked stands for the program

@@ -1,3 +1,7 @@
+-- transactions that lie in too many others
+pub mod Nested
+-- why no code is given
+pub mod Faults
 -- what is proved of the code that is picked
 pub mod Laws
 -- what only private functions and proofs speak of

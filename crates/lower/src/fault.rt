@@ -1,5 +1,8 @@
 //! Why no code is made.
 
+ghost use Rattle.std.specs.Prelude.{◌≡◌};
+ghost use Rattle.lower.specs.Faults.{IsOfCode};
+
 use lex::token::Span;
 use std::alloc::AllocError;
 
@@ -14,13 +17,67 @@ pub(crate) enum Failure {
 
     /// A place is behind the most instructions of a code.
     Instructions,
-
-    /// More transactions lie in one another than may be open: the place of the innermost one's keyword.
-    Nested(Span),
 }
 
 impl From<AllocError> for Failure {
     fn from(_error: AllocError) -> Failure {
         Failure::OutOfMemory
+    }
+}
+
+/// Why no code is given.
+#[derive(Clone, Copy, PartialEq, Eq, Debug)]
+pub enum LowerFault {
+    /// A growth was refused. It says nothing of the program.
+    OutOfMemory,
+
+    /// A function needs more than 65,535 registers: its name.
+    TooManyRegisters(Span),
+
+    /// The code has more than 1,048,576 instructions: the name of the function in which that number is passed.
+    TooMuchCode(Span),
+
+    /// Transactions lie in one another more than 16 deep in a function's text: the keyword of the 17th.
+    NestedTooDeep(Span),
+}
+
+impl LowerFault {
+    /// The fault's number: 0, or 60 to 62.
+    pub fn number(&self) -> u32 {
+        match self {
+            LowerFault::OutOfMemory => 0,
+            LowerFault::TooManyRegisters(_) => 60,
+            LowerFault::TooMuchCode(_) => 61,
+            LowerFault::NestedTooDeep(_) => 62,
+        }
+    }
+
+    /// Where the fault stands in the text. Want of memory stands nowhere.
+    pub fn span(&self) -> Option<Span> {
+        match self {
+            LowerFault::OutOfMemory => None,
+            LowerFault::TooManyRegisters(at) => Some(*at),
+            LowerFault::TooMuchCode(at) => Some(*at),
+            LowerFault::NestedTooDeep(at) => Some(*at),
+        }
+    }
+}
+
+impl From<AllocError> for LowerFault {
+    fn from(_error: AllocError) -> LowerFault {
+        LowerFault::OutOfMemory
+    }
+}
+
+impl Failure {
+    /// The fault of a program, by the name of the function whose code is not made.
+    pub(crate) fn of_function(self, name: Span) -> LowerFault
+        ensures { IsOfCode result }
+    {
+        match self {
+            Failure::OutOfMemory => LowerFault::OutOfMemory,
+            Failure::Registers => LowerFault::TooManyRegisters(name),
+            Failure::Instructions => LowerFault::TooMuchCode(name),
+        }
     }
 }

@@ -2,8 +2,11 @@
 #![tactic(auto)]
 
 mod cond;
+mod deep;
 mod expr;
 mod fault;
+mod function;
+mod generate;
 mod held;
 pub mod laws;
 mod lists;
@@ -15,3 +18,6 @@ mod scope;
 mod simple;
 mod stmt;
 mod tables;
+
+pub use fault::LowerFault;
+pub use generate::lower;

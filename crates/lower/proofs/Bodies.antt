@@ -1,0 +1,116 @@
+-- What is made of a body, of an item and of items one after another.
+use Rattle.std.proofs.Common.{◌≡◌, ℕ, ◌+◌, ◌<◌, ◌≤◌, List, [], ◌∷◌, ◌++◌, length, map, drop, get_or, refl, sym, ap, ◌∙◌, append_assoc, append-nil, Option, Some, None, option_map, subst}
+use Rattle.std.specs.Prelude.{slice_get, unwrap_or, zero, suc}
+use Rattle.std.specs.List.{AllByRecursion}
+use Rattle.std.proofs.lemmas.List.{drop_all}
+use Rattle.syntax.specs.declared.tree.Item.{Item as OwnItem}
+use Rattle.syntax.specs.declared.tree.Item.TheVariants as own
+use Rattle.syntax.specs.declared.tree.Function.{Function as OwnFunction}
+use Rattle.syntax.specs.declared.tree.Stmt.{Stmt as OwnStmt}
+use Rattle.syntax.specs.Tree.{Function, Stmts, Item, Defines, Shares, Program}
+use Rattle.syntax.specs.Views.{item_of, function_of, stmts_of}
+use Rattle.bytecode.specs.declared.instr.Instr.{Instr}
+use Rattle.bytecode.specs.Code.{FunctionCode}
+use Rattle.lowered.specs.Expressions.{LocalScope}
+use Rattle.lower.specs.inner.Lists.{Lists}
+use Rattle.lower.specs.inner.Statements.{all_written}
+use Rattle.lower.specs.inner.Programs.{no_exits, body_written, Made, nothing_made, function_code, put_before, made_first, all_made}
+use Rattle.lower.proofs.Files.{items_more}
+
+-- a body in equal scopes, with equal numbers of registers
+pub same_body : (p : Program) (body : Stmts) (from : ℕ) (l : Lists) (scope scope' : LocalScope) (n n' : ℕ) → scope ≡ scope' → n ≡ n' →
+    all_written p body no_exits scope from (record l { registers = n }) ≡ all_written p body no_exits scope' from (record l { registers = n' })
+same_body p body from l scope scope' n n' s e = λ j. all_written p body no_exits (s j) from (record l { registers = e j })
+
+-- an item alone
+pub definition_made : {A : Type 0} (p : Program) (item : OwnItem A) (f : OwnFunction A) (body : List (OwnStmt A)) (from : ℕ) (l : Lists) → item ≡ own.Function f → f.body ≡ Some body →
+    all_made p (item_of item ∷ []) from l ≡ put_before (function_code (function_of f) from (body_written p (function_of f) (stmts_of body) from l)) (body_written p (function_of f) (stmts_of body) from l) (nothing_made (body_written p (function_of f) (stmts_of body) from l).to (body_written p (function_of f) (stmts_of body) from l).lists)
+definition_made p item f body from l is e =
+    ap (λ i. all_made p (item_of i ∷ []) from l) is ∙ ap (λ o. made_first p (function_of f) (option_map stmts_of o) (all_made p []) from l) e
+
+pub prototype_made : {A : Type 0} (p : Program) (item : OwnItem A) (f : OwnFunction A) (from : ℕ) (l : Lists) → item ≡ own.Function f → f.body ≡ None →
+    all_made p (item_of item ∷ []) from l ≡ nothing_made from l
+prototype_made p item f from l is e =
+    ap (λ i. all_made p (item_of i ∷ []) from l) is ∙ ap (λ o. made_first p (function_of f) (option_map stmts_of o) (all_made p []) from l) e
+
+pub globals_made : {A : Type 0} (p : Program) (item : OwnItem A) (gs : List _) (from : ℕ) (l : Lists) → item ≡ own.Globals gs → all_made p (item_of item ∷ []) from l ≡ nothing_made from l
+globals_made p item gs from l is = ap (λ i. all_made p (item_of i ∷ []) from l) is
+
+-- an item, and then the others
+joined : Made → Made → Made
+joined m rest = record { functions = m.functions ++ rest.functions; code = m.code ++ rest.code; lists = rest.lists; to = rest.to }
+
+definition_and_rest : (p : Program) (f : Function) (items : Program) (o : Option Stmts) (from : ℕ) (l : Lists) →
+    made_first p f o (all_made p items) from l ≡ joined (made_first p f o (all_made p []) from l) (all_made p items (made_first p f o (all_made p []) from l).to (made_first p f o (all_made p []) from l).lists)
+unfolding joined
+definition_and_rest p f items None from l = refl
+definition_and_rest p f items (Some body) from l =
+    let w = body_written p f body from l in
+    let rest = all_made p items w.to w.lists in
+    ap (λ c. record { functions = function_code f from w ∷ rest.functions; code = c ++ rest.code; lists = rest.lists; to = rest.to }) (sym (append-nil w.code))
+
+first_and_rest : (p : Program) (item : Item) (items : Program) (from : ℕ) (l : Lists) →
+    all_made p (item ∷ items) from l ≡ joined (all_made p (item ∷ []) from l) (all_made p items (all_made p (item ∷ []) from l).to (all_made p (item ∷ []) from l).lists)
+unfolding joined
+first_and_rest p (Shares gs) items from l = refl
+first_and_rest p (Defines f) items from l = definition_and_rest p f items f.body from l
+
+module _ (p : Program) {A : Type 0} (items : List (OwnItem A)) (i : ℕ) (to : ℕ) (l : Lists) where
+  row : ℕ → ℕ → Lists → Made
+  row j t m = all_made p (map item_of (drop j items)) t m
+
+  one : OwnItem A → Made
+  one x = all_made p (item_of x ∷ []) to l
+
+  here : (x : OwnItem A) → i < length items → x ≡ get_or items i x → row i to l ≡ joined (one x) (row (i + 1) (one x).to (one x).lists)
+  unfolding row one
+  here x h is = items_more (λ its. all_made p its to l) items i x h is ∙ first_and_rest p (item_of x) (map item_of (drop (i + 1) items)) to l
+
+  same : (x : OwnItem A) (to' : ℕ) (l' : Lists) → to' ≡ (one x).to → l' ≡ (one x).lists → row (i + 1) to' l' ≡ row (i + 1) (one x).to (one x).lists
+  same x to' l' et el = λ j. row (i + 1) (et j) (el j)
+
+  pub next_functions : (x : OwnItem A) (done done' whole : List FunctionCode) (to' : ℕ) (l' : Lists) → i < length items → x ≡ get_or items i x → done' ≡ done ++ (all_made p (item_of x ∷ []) to l).functions → to' ≡ (all_made p (item_of x ∷ []) to l).to → l' ≡ (all_made p (item_of x ∷ []) to l).lists →
+      done ++ (all_made p (map item_of (drop i items)) to l).functions ≡ whole → done' ++ (all_made p (map item_of (drop (i + 1) items)) to' l').functions ≡ whole
+  unfolding row one joined
+  next_functions x done done' whole to' l' h is n et el inv =
+      (λ j. n j ++ (same x to' l' et el j).functions)
+      ∙ append_assoc done (one x).functions _
+      ∙ sym (ap (λ (m : Made). done ++ m.functions) (here x h is))
+      ∙ inv
+
+  pub next_code : (x : OwnItem A) (done done' whole : List Instr) (to' : ℕ) (l' : Lists) → i < length items → x ≡ get_or items i x → done' ≡ done ++ (all_made p (item_of x ∷ []) to l).code → to' ≡ (all_made p (item_of x ∷ []) to l).to → l' ≡ (all_made p (item_of x ∷ []) to l).lists →
+      done ++ (all_made p (map item_of (drop i items)) to l).code ≡ whole → done' ++ (all_made p (map item_of (drop (i + 1) items)) to' l').code ≡ whole
+  unfolding row one joined
+  next_code x done done' whole to' l' h is n et el inv =
+      (λ j. n j ++ (same x to' l' et el j).code)
+      ∙ append_assoc done (one x).code _
+      ∙ sym (ap (λ (m : Made). done ++ m.code) (here x h is))
+      ∙ inv
+
+  pub next_lists : (x : OwnItem A) (whole : Lists) (to' : ℕ) (l' : Lists) → i < length items → x ≡ get_or items i x → to' ≡ (all_made p (item_of x ∷ []) to l).to → l' ≡ (all_made p (item_of x ∷ []) to l).lists →
+      (all_made p (map item_of (drop i items)) to l).lists ≡ whole → (all_made p (map item_of (drop (i + 1) items)) to' l').lists ≡ whole
+  unfolding row one joined
+  next_lists x whole to' l' h is et el inv =
+      ap (λ (m : Made). m.lists) (same x to' l' et el) ∙ sym (ap (λ (m : Made). m.lists) (here x h is)) ∙ inv
+
+  none_left : length items ≤ i → all_made p (map item_of (drop i items)) to l ≡ nothing_made to l
+  none_left h = ap (λ xs. all_made p (map item_of xs) to l) (drop_all i items h)
+
+  pub last_functions : (done whole : List FunctionCode) → length items ≤ i → done ++ (all_made p (map item_of (drop i items)) to l).functions ≡ whole → done ≡ whole
+  last_functions done whole h inv = sym (append-nil done) ∙ sym (ap (λ (m : Made). done ++ m.functions) (none_left h)) ∙ inv
+
+  pub last_code : (done whole : List Instr) → length items ≤ i → done ++ (all_made p (map item_of (drop i items)) to l).code ≡ whole → done ≡ whole
+  last_code done whole h inv = sym (append-nil done) ∙ sym (ap (λ (m : Made). done ++ m.code) (none_left h)) ∙ inv
+
+  pub last_lists : (whole : Lists) → length items ≤ i → (all_made p (map item_of (drop i items)) to l).lists ≡ whole → l ≡ whole
+  last_lists whole h inv = sym (ap (λ (m : Made). m.lists) (none_left h)) ∙ inv
+
+-- functions of few registers
+pub few_more : (fs : List FunctionCode) (f : FunctionCode) → AllByRecursion (λ (g : FunctionCode). g.registers ≤ 65535) fs → f.registers ≤ 65535 → AllByRecursion (λ (g : FunctionCode). g.registers ≤ 65535) (fs ++ f ∷ [])
+few_more [] f h k = (k, tt)
+few_more (g ∷ fs) f h k = (h.0, few_more fs f h.1 k)
+
+pub few_at : (fs : List FunctionCode) (n : ℕ) (f : FunctionCode) → AllByRecursion (λ (g : FunctionCode). g.registers ≤ 65535) fs → slice_get fs n ≡ Some f → f.registers ≤ 65535
+few_at [] n f h e = absurd (cc)
+few_at (g ∷ fs) zero f h e = subst (λ (x : FunctionCode). x.registers ≤ 65535) (ap (λ o. unwrap_or o g) e) h.0
+few_at (g ∷ fs) (suc n) f h e = few_at fs n f h.1 e
