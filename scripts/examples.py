@@ -32,8 +32,8 @@ def tests():
         rows.append(f"    (\n        {literal(source)},\n        {literal(out)},\n    ),\n")
     return f"""//! The programs of examples/, with what each prints: written by scripts/examples.py.
 
-use crate::command::command;
 use crate::tests::serve_bytes;
+use command::command;
 use std::test::Fail;
 
 const EXAMPLES: [(&str, &str); {len(rows)}] = [

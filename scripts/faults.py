@@ -122,6 +122,12 @@ def main():
     words = {int(number): text for number, text in re.findall(rf"(\d+) => {TEXT}", read("crates/faults/src/table.rt"))}
     shown = {int(number): text for number, text in re.findall(r"^\| (\d\d) \| ([^|]*?) \|", page, re.M)}
     wrong += [f"{number:02}: the page says {shown.get(number)!r}, the program {words.get(number)!r}" for number in sorted({*words, *shown}) if words.get(number) != shown.get(number)]
+    underlined = re.search(rf"const UNDERLINED: .*?= \(\s*{TEXT},\s*{TEXT},\s*\);", code, re.S)
+    if not underlined or f"```\n{plain(underlined[2])}```" not in page:
+        wrong.append("the page does not show what the test has of a source's line and its carets")
+    explained = explanation(next(cells for cells in cells_of(page) if cells[0] == "20"))
+    if f"```\n$ txc explain 20\n{explained}```" not in read("README.md"):
+        wrong.append("README.md does not show what `txc explain 20` prints")
     if read(EXPLANATIONS) != explanations(page):
         wrong.append(f"{EXPLANATIONS} is not what this script writes from the page")
     print("\n".join(wrong) or f"FAULTS.md: {len(shown)} numbers, as the tests and the program have them")

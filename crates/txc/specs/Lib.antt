@@ -1,2 +1,10 @@
-pub mod Report
+-- words that are no request
+pub mod Usage
+-- what the report of a run shows
+pub mod Shows
+-- sources that are accepted, run or refused
 pub mod Runs
+-- what is answered to a request
+pub mod Answers
+-- what only private functions speak of
+pub mod inner

@@ -1,5 +1,6 @@
 -- Running a source's text.
-use Rattle.std.specs.Prelude.{◌≡◌, ◌⊎◌, ◌-◌, ◌^◌, ℕ, List, Option, Some, None, codes}
+use Rattle.std.specs.Prelude.{◌≡◌, ◌⊎◌, ◌-◌, ◌^◌, ℕ, Bool, true, false, List, Option, Some, None, codes, is_some, if◌then◌else◌}
+use Rattle.std.specs.List.{list_any}
 use Rattle.lex.specs.declared.token.Span.{Span}
 use Rattle.lex.specs.Faults as lex
 use Rattle.parse.specs.Faults as parse
@@ -7,7 +8,10 @@ use Rattle.lex.specs.Tokens.{Tok}
 use Rattle.lex.specs.Pieces.{IsLexed}
 use Rattle.lex.specs.Faults.{IsFault}
 use Rattle.syntax.specs.Tree.{Program}
-use Rattle.syntax.specs.Behaviours.{Memory}
+use Rattle.syntax.specs.Behaviours.{Memory, ThreadEnd}
+use Rattle.syntax.specs.Names.{initial_memory}
+use Rattle.syntax.specs.Orders.{in_order}
+use Rattle.syntax.specs.Threads.{thread}
 use Rattle.syntax.specs.Grammar.{Source, Spells}
 use Rattle.syntax.specs.Typing.{Meets, first_unmet}
 use Rattle.types.specs.declared.fault.Violation.{Violation}
@@ -19,15 +23,18 @@ use Rattle.separation.specs.declared.fault.Violation.{Violation as SeparationVio
 use Rattle.separation.specs.Touching.{IsAccepted, IsSeparationFault}
 use Rattle.separation.specs.Answers as separation
 use Rattle.parse.specs.Faults.{IsFaultOf}
-use Rattle.syntax.specs.declared.numbers.Halt.TheVariants.{Trapped}
-use Rattle.meaning.specs.declared.outcome.ThreadEnd.{ThreadEnd}
-use Rattle.meaning.specs.declared.outcome.ThreadEnd.TheVariants.{Ended, Stopped}
-use Rattle.meaning.specs.Outcomes.{thread_end_in}
 use Rattle.meaning.specs.Alone.{IsAlone}
+use Rattle.meaning.specs.InOrder.{NamesThreads, IsFaultOfOrder}
 use Rattle.std.specs.Io.KnownBytes.{Appends}
-use Rattle.txc.specs.declared.run.RunTextFault.{RunTextFault}
-use Rattle.txc.specs.declared.run.RunTextFault.TheVariants.{OutOfMemory, Lex, Parse, IllTyped, Unsafe, NotSeparate}
-use Rattle.txc.specs.Report.{report_text}
+use Rattle.txc.specs.declared.run.SourceFault.{SourceFault}
+use Rattle.txc.specs.declared.run.SourceFault.TheVariants.{OutOfMemory, Lex, Parse, IllTyped, Unsafe, NotSeparate}
+use Rattle.report.specs.Printed.{ThreadShown, Printed}
+use Rattle.report.specs.declared.printed.End.{End}
+use Rattle.report.specs.declared.printed.End.TheVariants as end
+use Rattle.report.specs.Report.{report_text}
+use Rattle.txc.specs.declared.order.OrderFault.{OrderFault}
+use Rattle.txc.specs.declared.order.OrderFault.TheVariants.{Source as OfSource, Order as OfOrder}
+use Rattle.txc.specs.Shows.{run_shown, order_shown}
 
 -- the tokens of a text spell this program
 pub record IsSourceOf (text : List ℕ) (source : Source) : Type 0 where
@@ -39,12 +46,18 @@ pub record IsSourceOf (text : List ℕ) (source : Source) : Type 0 where
 abbrev pub most : ℕ
 most = 2 ^ 64 - 1
 
--- the report of thread 0 alone, in which each transaction finds the memory that was left before it
-pub record IsReportOf (p : Program) (printed : List ℕ) (end : ThreadEnd) : Type 0 where
+-- what a report shows of thread 0 alone, in which each transaction finds the memory that was left before it
+pub record IsRunOf (p : Program) (shown : Printed) : Type 0 where
   pub memory : Memory
   pub text : List ℕ
-  pub alone : IsAlone p most most memory text (thread_end_in end)
-  pub report : printed ≡ report_text p memory text end
+  pub end : ThreadEnd
+  pub alone : IsAlone p most most memory text end
+  pub shows : shown ≡ run_shown p memory text end
+
+-- what a report shows of so many threads in an order, each with so many ticks
+pub record IsOrderOf (p : Program) (count ticks : ℕ) (order : List ℕ) (shown : Printed) : Type 0 where
+  pub named : NamesThreads count order
+  pub shows : shown ≡ order_shown p (in_order (thread p) (initial_memory p) count ticks order)
 
 -- the text spells an accepted program
 pub record Accepts (text : List ℕ) : Type 0 where
@@ -52,12 +65,19 @@ pub record Accepts (text : List ℕ) : Type 0 where
   pub spelled : IsSourceOf text source
   pub accepted : ∥ IsAccepted source.program ∥₁
 
--- the text spells an accepted program, and this is the report of its run
-pub record Reports (text printed : List ℕ) (end : ThreadEnd) : Type 0 where
+-- the text spells an accepted program, and this is what the report of its run shows
+pub record Runs (text : List ℕ) (shown : Printed) : Type 0 where
   pub source : Source
   pub spelled : IsSourceOf text source
   pub accepted : ∥ IsAccepted source.program ∥₁
-  pub report : IsReportOf source.program printed end
+  pub run : IsRunOf source.program shown
+
+-- the text spells an accepted program, and this is what the report of its threads in this order shows
+pub record RunsInOrder (count ticks : ℕ) (order text : List ℕ) (shown : Printed) : Type 0 where
+  pub source : Source
+  pub spelled : IsSourceOf text source
+  pub accepted : ∥ IsAccepted source.program ∥₁
+  pub run : IsOrderOf source.program count ticks order shown
 
 -- the tokens of a text are wrong in this way
 pub record IsMisspelled (text : List ℕ) (says : List Tok → Type 0) : Type 0 where
@@ -84,7 +104,7 @@ pub record IsNotSeparate (text : List ℕ) (fault : SeparationViolation) : Type 
   pub first : IsSeparationFault (separation.number_in fault) (separation.span_in fault) source.program
 
 -- what a fault says of a text; want of memory says nothing
-abbrev pub IsFaultOfText : List ℕ → RunTextFault → Type 0
+abbrev pub IsFaultOfText : List ℕ → SourceFault → Type 0
 IsFaultOfText text OutOfMemory = Unit {0}
 IsFaultOfText text (Lex fault) = IsFault text fault
 IsFaultOfText text (Parse fault) = IsMisspelled text (λ tokens. IsFaultOf tokens fault)
@@ -92,31 +112,52 @@ IsFaultOfText text (IllTyped fault) = IsMistyped text fault
 IsFaultOfText text (Unsafe fault) = IsUnsafe text fault
 IsFaultOfText text (NotSeparate fault) = IsNotSeparate text fault
 
-abbrev pub number_of_run : RunTextFault → ℕ
-number_of_run OutOfMemory = 0
-number_of_run (Lex fault) = lex.number_of fault
-number_of_run (Parse fault) = parse.number_of fault
-number_of_run (IllTyped fault) = number_in fault
-number_of_run (Unsafe fault) = safety.number_in fault
-number_of_run (NotSeparate fault) = separation.number_in fault
+-- what a fault says of a text and of an order: the order is looked at last
+abbrev pub IsFaultInOrder : (text : List ℕ) (threads : ℕ) (order : List ℕ) → OrderFault → Type 0
+IsFaultInOrder text threads order (OfSource fault) = IsFaultOfText text fault
+IsFaultInOrder text threads order (OfOrder fault) = Accepts text × IsFaultOfOrder threads order fault
 
-abbrev pub span_of_run : RunTextFault → Option Span
-span_of_run OutOfMemory = None
-span_of_run (Lex fault) = lex.span_of fault
-span_of_run (Parse fault) = parse.span_of fault
-span_of_run (IllTyped fault) = Some (span_in fault)
-span_of_run (Unsafe fault) = Some (safety.span_in fault)
-span_of_run (NotSeparate fault) = Some (separation.span_in fault)
+abbrev pub number_of_source : SourceFault → ℕ
+number_of_source OutOfMemory = 0
+number_of_source (Lex fault) = lex.number_of fault
+number_of_source (Parse fault) = parse.number_of fault
+number_of_source (IllTyped fault) = number_in fault
+number_of_source (Unsafe fault) = safety.number_in fault
+number_of_source (NotSeparate fault) = separation.number_in fault
 
--- the exit status of a run
-abbrev pub exit_status : ThreadEnd → ℕ
-exit_status Ended = 0
-exit_status (Stopped (Trapped k)) = 3
-exit_status (Stopped why) = 4
+abbrev pub span_of_source : SourceFault → Option Span
+span_of_source OutOfMemory = None
+span_of_source (Lex fault) = lex.span_of fault
+span_of_source (Parse fault) = parse.span_of fault
+span_of_source (IllTyped fault) = Some (span_in fault)
+span_of_source (Unsafe fault) = Some (safety.span_in fault)
+span_of_source (NotSeparate fault) = Some (separation.span_in fault)
 
--- the status tells of a run whose report was written: the bytes that the writer had, if they are known, and then the report
-abbrev pub Prints : List ℕ → ℕ → Option (List ℕ) → Option (List ℕ) → Type 0
-Prints text status old new = (status ≡ 0) ⊎ (status ≡ 3) → (end : ThreadEnd) × (printed : List ℕ) × Reports text printed end × (status ≡ exit_status end) × Appends old new printed
+-- a text has a fault that stands somewhere in it
+abbrev pub IsRefused : List ℕ → Type 0
+IsRefused text = (fault : SourceFault) × IsFaultOfText text fault × (is_some (span_of_source fault) ≡ true)
+
+-- whether a thread has trapped, and whether it has neither ended nor trapped
+abbrev pub is_trapped : End → Bool
+is_trapped (end.Trapped k) = true
+is_trapped _ = false
+
+abbrev pub is_stopped : End → Bool
+is_stopped end.Ended = false
+is_stopped (end.Trapped k) = false
+is_stopped _ = true
+
+-- the exit status where a report was printed: by the ends of its threads
+abbrev pub exit_status : Printed → ℕ
+exit_status shown = if list_any (λ (t : ThreadShown). is_stopped t.end) shown.threads then 4 else if list_any (λ (t : ThreadShown). is_trapped t.end) shown.threads then 3 else 0
+
+-- the status tells of a report that was written: the bytes that the writer had, if they are known, and then the report
+abbrev pub PrintsShown : Printed → ℕ → Option (List ℕ) → Option (List ℕ) → Type 0
+PrintsShown shown status old new = (status ≡ 0) ⊎ (status ≡ 3) → (status ≡ exit_status shown) × Appends old new (report_text shown)
+
+-- the report of something that is so
+abbrev pub Prints : (Printed → Type 0) → ℕ → Option (List ℕ) → Option (List ℕ) → Type 0
+Prints IsSo status old new = (status ≡ 0) ⊎ (status ≡ 3) → (shown : Printed) × IsSo shown × (status ≡ exit_status shown) × Appends old new (report_text shown)
 
 -- the status 0 tells of a source that is accepted, and that this was written
 abbrev pub SaysAccepted : List ℕ → ℕ → Option (List ℕ) → Option (List ℕ) → Type 0

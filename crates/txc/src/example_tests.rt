@@ -1,7 +1,7 @@
 //! The programs of examples/, with what each prints: written by scripts/examples.py.
 
-use crate::command::command;
 use crate::tests::serve_bytes;
+use command::command;
 use std::test::Fail;
 
 const EXAMPLES: [(&str, &str); 5] = [

@@ -1,9 +1,9 @@
 //! The examples of docs/FAULTS.md: each is a source, its fault's number, and what standard error says behind the number.
 //! `scripts/faults.py` compares these tables with the document's.
 
-use crate::command::command;
-use crate::tests::{Served, serve_bytes};
-use crate::words::words;
+use crate::tests::{Served, serve_bytes, serve_told};
+use command::command;
+use faults::words;
 use std::alloc::{AllocError, Allocator, Global};
 use std::test::Fail;
 
@@ -191,6 +191,43 @@ fn faults_that_are_not_told_yet(rt: HostRuntime) -> Result<(), Fail> {
         assert_eq!(rt; answer.err.len(), 0);
         assert!(rt; told.ends_with(words(number)));
     }
+    Ok(())
+}
+
+/// What is told on a terminal of a source.
+const UNDERLINED: (&str, &str) = (
+    "void worker(int self) { __transaction_atomic { zoo = 1; } }",
+    "txc: fault 20 at 1:48: unknown name\nvoid worker(int self) { __transaction_atomic { zoo = 1; } }\n                                               ^^^\n",
+);
+
+#[test]
+fn the_line_follows_on_a_terminal(rt: HostRuntime) -> Result<(), Fail> {
+    let (source, told) = UNDERLINED;
+    for (words, is_terminal) in [
+        (["txc", "check", "a.c"].as_slice(), true),
+        (["txc", "run", "--verbose", "a.c"].as_slice(), false),
+    ] {
+        let request = command(rt.alloc(), words)?;
+        let answer = serve_told(rt.alloc(), &request, source.as_bytes(), is_terminal);
+        assert_eq!(rt; answer.err.as_slice(), told.as_bytes());
+        assert_eq!(rt; answer.status, 1);
+    }
+    Ok(())
+}
+
+#[test]
+fn explains_faults(rt: HostRuntime) -> Result<(), Fail> {
+    let request = command(rt.alloc(), ["txc", "explain", "20"].as_slice())?;
+    let answer = serve_bytes(rt.alloc(), &request, b"");
+    assert!(rt; answer.out.starts_with(b"fault 20: unknown name\nWhen: "));
+    assert_eq!(rt; answer.status, 0);
+    let request = command(rt.alloc(), ["txc", "explain", "07"].as_slice())?;
+    let answer = serve_bytes(rt.alloc(), &request, b"");
+    assert_eq!(rt;
+        answer.err.as_slice(),
+        b"txc: usage: no fault has this number\n".as_slice()
+    );
+    assert_eq!(rt; answer.status, 2);
     Ok(())
 }
 

@@ -1,24 +1,28 @@
 //! The program: opens the file that is asked for, runs it and prints the report.
 #![tactic(auto)]
 
-mod command;
 #[cfg(test)]
 mod example_tests;
 #[cfg(test)]
 mod fault_tests;
-mod report;
+mod order;
 mod run;
 mod serve;
+mod shown;
+mod source;
+mod status;
+mod tell;
 #[cfg(test)]
 mod tests;
-mod words;
 
 use command::{Request, UsageFault, command};
-use serve::{ENDED, UNUSABLE, cannot_read, cannot_write, out_of_memory, print, serve};
+use serve::serve;
+use std::alloc::Global;
 use std::env;
 use std::fs::File;
-use std::io::Write;
+use std::io::{ErrorKind, IsTerminal, Read};
 use std::process::ExitCode;
+use tell::{Detail, cannot_read, tell_usage};
 
 fn main(rt: HostRuntime) -> ExitCode {
     ExitCode::from(answer(&rt))
@@ -28,15 +32,7 @@ fn main(rt: HostRuntime) -> ExitCode {
 fn answer(rt: &HostRuntime) -> u8 {
     match request(rt) {
         Ok(request) => open(rt, &request),
-        Err(UsageFault::OutOfMemory(_)) => out_of_memory(&mut rt.stderr()),
-        Err(UsageFault::Help { text }) => match print(text.as_str().as_bytes(), &mut rt.stdout()) {
-            Ok(()) => ENDED,
-            Err(_) => cannot_write(&mut rt.stderr()),
-        },
-        Err(UsageFault::Wrong { text }) => {
-            let _ = write!(rt.stderr(), "{text}");
-            UNUSABLE
-        }
+        Err(fault) => tell_usage(&fault, &mut rt.stdout(), &mut rt.stderr()),
     }
 }
 
@@ -45,24 +41,50 @@ fn request(rt: &HostRuntime) -> Result<Request, UsageFault> {
     let alloc = rt.alloc();
     let words: Vec<String> = match env::args(rt) {
         Ok(words) => words.collect(alloc)?,
-        Err(error) => return Err(UsageFault::from_words(alloc, error.kind())),
+        Err(error) => return Err(no_words(alloc, error.kind())),
     };
     let words: Vec<&str> = words.iter().map(|word| word.as_str()).collect(alloc)?;
     command(alloc, words.as_slice())
 }
 
-/// Opens the file and serves the request.
-fn open(rt: &HostRuntime, request: &Request) -> u8 {
-    let (Request::Run { file } | Request::Check { file }) = request;
-    match File::open(rt, file.as_str()) {
-        Ok(source) => serve(
-            rt.alloc(),
-            request,
-            source,
-            b"".as_slice(),
-            &mut rt.stdout(),
-            &mut rt.stderr(),
-        ),
-        Err(_) => cannot_read(file.as_str(), &mut rt.stderr()),
+/// Why the words of the command line could not be had: memory was refused, or one is not UTF-8.
+fn no_words(alloc: Global, kind: ErrorKind) -> UsageFault {
+    if kind == ErrorKind::OutOfMemory {
+        return UsageFault::OutOfMemory;
     }
+    match String::from_str(alloc, "txc: a word is not UTF-8\n") {
+        Ok(text) => UsageFault::Wrong { text },
+        Err(_) => UsageFault::OutOfMemory,
+    }
+}
+
+/// Opens the file that is asked for, if there is one, and serves the request.
+fn open(rt: &HostRuntime, request: &Request) -> u8 {
+    match request {
+        Request::Program { file, verbose, .. } => match File::open(rt, file.as_str()) {
+            Ok(source) => answer_from(rt, request, source),
+            Err(error) => {
+                let detail = Detail {
+                    lines: false,
+                    reasons: *verbose,
+                };
+                cannot_read(file.as_str(), &error, detail, &mut rt.stderr())
+            }
+        },
+        Request::Explain { .. } => answer_from(rt, request, b"".as_slice()),
+    }
+}
+
+/// Serves a request over the program's own streams.
+fn answer_from<R: Read + Drop>(rt: &HostRuntime, request: &Request, source: R) -> u8 {
+    let is_terminal = rt.stderr().is_terminal();
+    serve(
+        rt.alloc(),
+        request,
+        source,
+        b"".as_slice(),
+        &mut rt.stdout(),
+        &mut rt.stderr(),
+        is_terminal,
+    )
 }

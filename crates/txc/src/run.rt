@@ -1,16 +1,17 @@
-//! From a source's text to its report.
+//! From a source's text to what its report shows.
 
 ghost use Rattle.std.specs.Prelude.{◌≡◌, IfOk, IfErr, OnOk};
 ghost use Rattle.syntax.specs.Views.{program_of};
 ghost use Rattle.parse.specs.Faults.{source_of};
-ghost use Rattle.meaning.specs.declared.outcome.ThreadEnd.{ThreadEnd};
-ghost use Rattle.txc.specs.Runs.{IsSourceOf, IsReportOf, Accepts, Reports, IsFaultOfText, number_of_run, span_of_run};
+ghost use Rattle.report.specs.Views.{printed_of};
+ghost use Rattle.txc.specs.Runs.{IsSourceOf, IsRunOf, Accepts, Runs, IsFaultOfText, number_of_source, span_of_source};
 
-use crate::report::report;
+use crate::shown::shown_alone;
 use lex::token::Span;
 use lex::{LexFault, lex};
-use meaning::{ThreadEnd, run_alone};
+use meaning::{OutOfMemory, run_alone};
 use parse::{ParseFault, parse};
+use report::Printed;
 use safety::checked::Safe;
 use safety::{SafetyFault, safe};
 use separation::{Accepted, SeparationFault, accept};
@@ -19,9 +20,9 @@ use syntax::tree::Unit;
 use thiserror::Error;
 use types::{TypeFault, Typed, Violation, check};
 
-/// Why a source is not run.
+/// Why a source is refused.
 #[derive(Clone, Copy, Debug, Error)]
-pub enum RunTextFault {
+pub enum SourceFault {
     /// A growth was refused. It says nothing of the source.
     #[error("out of memory")]
     OutOfMemory,
@@ -37,97 +38,93 @@ pub enum RunTextFault {
     NotSeparate(separation::Violation),
 }
 
-impl RunTextFault {
+impl SourceFault {
     /// The fault's number: 0 where memory was refused, and else that of the phase that found it.
     pub fn number(&self) -> u32
-        ensures { result ≡ number_of_run self.now }
+        ensures { result ≡ number_of_source self.now }
     {
         match self {
-            RunTextFault::OutOfMemory => 0,
-            RunTextFault::Lex(fault) => fault.number(),
-            RunTextFault::Parse(fault) => fault.number(),
-            RunTextFault::IllTyped(fault) => fault.number(),
-            RunTextFault::Unsafe(fault) => fault.number(),
-            RunTextFault::NotSeparate(fault) => fault.number(),
+            SourceFault::OutOfMemory => 0,
+            SourceFault::Lex(fault) => fault.number(),
+            SourceFault::Parse(fault) => fault.number(),
+            SourceFault::IllTyped(fault) => fault.number(),
+            SourceFault::Unsafe(fault) => fault.number(),
+            SourceFault::NotSeparate(fault) => fault.number(),
         }
     }
 
     /// Where the fault stands in the text. Want of memory stands nowhere.
     pub fn span(&self) -> Option<Span>
-        ensures { result ≡ span_of_run self.now }
+        ensures { result ≡ span_of_source self.now }
     {
         match self {
-            RunTextFault::OutOfMemory => None,
-            RunTextFault::Lex(fault) => fault.span(),
-            RunTextFault::Parse(fault) => fault.span(),
-            RunTextFault::IllTyped(fault) => Some(fault.span()),
-            RunTextFault::Unsafe(fault) => Some(fault.span()),
-            RunTextFault::NotSeparate(fault) => Some(fault.span()),
+            SourceFault::OutOfMemory => None,
+            SourceFault::Lex(fault) => fault.span(),
+            SourceFault::Parse(fault) => fault.span(),
+            SourceFault::IllTyped(fault) => Some(fault.span()),
+            SourceFault::Unsafe(fault) => Some(fault.span()),
+            SourceFault::NotSeparate(fault) => Some(fault.span()),
         }
     }
 }
 
-/// What a run gives: its report, and how the thread has ended.
-#[derive(Drop)]
-pub struct Ran<A: Allocator> {
-    pub report: Vec<u8, A>,
-    pub end: ThreadEnd,
-}
-
 /// The program that a text spells.
-fn read<A: Allocator + Copy>(alloc: A, text: &str) -> Result<Unit<A>, RunTextFault>
+fn read<A: Allocator + Copy>(alloc: A, text: &str) -> Result<Unit<A>, SourceFault>
     ensures ok { IfOk result (λ u. IsSourceOf text.now (source_of u)) }
     ensures err { IfErr result (λ f. IsFaultOfText text.now f) }
 {
     match lex(alloc, text) {
         Ok(tokens) => match parse(alloc, tokens.as_slice()) {
             Ok(unit) => Ok(unit),
-            Err(fault) => Err(RunTextFault::Parse(fault)),
+            Err(fault) => Err(SourceFault::Parse(fault)),
         },
-        Err(fault) => Err(RunTextFault::Lex(fault)),
+        Err(fault) => Err(SourceFault::Lex(fault)),
     }
 }
 
 /// The typed program that a text spells.
-fn read_typed<A: Allocator + Copy>(alloc: A, text: &str) -> Result<Typed<A>, RunTextFault>
+fn read_typed<A: Allocator + Copy>(alloc: A, text: &str) -> Result<Typed<A>, SourceFault>
     ensures ok { IfOk result (λ t. IsSourceOf text.now (source_of t.unit)) }
     ensures err { IfErr result (λ f. IsFaultOfText text.now f) }
 {
     match check(alloc, read(alloc, text)?) {
         Ok(typed) => Ok(typed),
-        Err(TypeFault::OutOfMemory(_)) => Err(RunTextFault::OutOfMemory),
-        Err(TypeFault::IllTyped(_, violation)) => Err(RunTextFault::IllTyped(violation)),
+        Err(TypeFault::OutOfMemory(_)) => Err(SourceFault::OutOfMemory),
+        Err(TypeFault::IllTyped(_, violation)) => Err(SourceFault::IllTyped(violation)),
     }
 }
 
 /// The safe program that a text spells.
-fn read_safe<A: Allocator + Copy>(alloc: A, text: &str) -> Result<Safe<A>, RunTextFault>
+fn read_safe<A: Allocator + Copy>(alloc: A, text: &str) -> Result<Safe<A>, SourceFault>
     ensures ok { IfOk result (λ s. IsSourceOf text.now (source_of s.typed.unit)) }
     ensures err { IfErr result (λ f. IsFaultOfText text.now f) }
 {
     match safe(alloc, read_typed(alloc, text)?) {
         Ok(safe) => Ok(safe),
-        Err(SafetyFault::OutOfMemory(_)) => Err(RunTextFault::OutOfMemory),
-        Err(SafetyFault::Unsafe(_, violation)) => Err(RunTextFault::Unsafe(violation)),
+        Err(SafetyFault::OutOfMemory(_)) => Err(SourceFault::OutOfMemory),
+        Err(SafetyFault::Unsafe(_, violation)) => Err(SourceFault::Unsafe(violation)),
     }
 }
 
 /// The accepted program that a text spells.
-fn read_accepted<A: Allocator + Copy>(alloc: A, text: &str) -> Result<Accepted<A>, RunTextFault>
+pub(crate) fn read_accepted<A: Allocator + Copy>(
+    alloc: A,
+    text: &str,
+) -> Result<Accepted<A>, SourceFault>
     ensures ok { IfOk result (λ a. IsSourceOf text.now (source_of a.safe.typed.unit)) }
     ensures err { IfErr result (λ f. IsFaultOfText text.now f) }
 {
     match accept(alloc, read_safe(alloc, text)?) {
         Ok(accepted) => Ok(accepted),
-        Err(SeparationFault::OutOfMemory(_)) => Err(RunTextFault::OutOfMemory),
+        Err(SeparationFault::OutOfMemory(_)) => Err(SourceFault::OutOfMemory),
         Err(SeparationFault::NotSeparate(_, violation)) => {
-            Err(RunTextFault::NotSeparate(violation))
+            Err(SourceFault::NotSeparate(violation))
         }
     }
 }
 
 /// Says of a source's text whether its program is accepted.
-pub fn check_source<A: Allocator + Copy>(alloc: A, text: &str) -> Result<(), RunTextFault>
+pub fn check_source<A: Allocator + Copy>(alloc: A, text: &str) -> Result<(), SourceFault>
     ensures ok { OnOk result (Accepts text.now) }
     ensures err { IfErr result (λ f. IsFaultOfText text.now f) }
 {
@@ -135,49 +132,32 @@ pub fn check_source<A: Allocator + Copy>(alloc: A, text: &str) -> Result<(), Run
     Ok(())
 }
 
-/// Runs a typed program.
-fn run_typed<A: Allocator + Copy>(alloc: A, typed: &Typed<A>) -> Result<Ran<A>, RunTextFault>
-    ensures ok { IfOk result (λ r. IsReportOf (program_of typed.now.unit) r.report.items r.end) }
-    ensures err { IfErr result (λ f. f ≡ RunTextFault.OutOfMemory) }
-{
-    let Ok(ran) = run_alone(alloc, typed, u64::MAX, u64::MAX) else {
-        return Err(RunTextFault::OutOfMemory);
-    };
-    match report(
-        alloc,
-        typed.unit(),
-        ran.memory.as_slice(),
-        ran.text.as_slice(),
-        ran.end,
-    ) {
-        Ok(report) => Ok(Ran {
-            report,
-            end: ran.end,
-        }),
-        Err(_) => Err(RunTextFault::OutOfMemory),
-    }
-}
-
-/// Runs a source's text with one thread, and gives its report and the thread's end.
+/// Runs a source's text with one thread, and gives what its report shows.
 ///
 /// The fault is that of the first phase that finds one: the lexer, the parser, or the checks of names and types, of safety
 /// and of separation.
 /// `OutOfMemory` comes only where a growth was refused.
-pub fn run_source<A: Allocator + Copy>(alloc: A, text: &str) -> Result<Ran<A>, RunTextFault>
-    ensures ok { IfOk result (λ r. Reports text.now r.report.items r.end) }
+pub fn run_source<A: Allocator + Copy>(alloc: A, text: &str) -> Result<Printed<A>, SourceFault>
+    ensures ok { IfOk result (λ r. Runs text.now (printed_of r)) }
     ensures err { IfErr result (λ f. IsFaultOfText text.now f) }
 {
     let accepted = read_accepted(alloc, text)?;
-    run_typed(alloc, accepted.safe().typed())
+    match run_accepted(alloc, &accepted) {
+        Ok(printed) => Ok(printed),
+        Err(_) => Err(SourceFault::OutOfMemory),
+    }
 }
 
-/// Runs a source's text with one thread, and gives its report, as `run_source`.
-pub fn run_text<A: Allocator + Copy>(alloc: A, text: &str) -> Result<Vec<u8, A>, RunTextFault>
-    ensures ok { IfOk result (λ t. (end : ThreadEnd) × Reports text.now t.items end) }
-    ensures err { IfErr result (λ f. IsFaultOfText text.now f) }
+/// Runs an accepted program with one thread.
+fn run_accepted<A: Allocator + Copy>(
+    alloc: A,
+    accepted: &Accepted<A>,
+) -> Result<Printed<A>, OutOfMemory>
+    ensures { IfOk result (λ r. IsRunOf (program_of accepted.now.safe.typed.unit) (printed_of r)) }
 {
-    match run_source(alloc, text) {
-        Ok(ran) => Ok(ran.report),
-        Err(fault) => Err(fault),
+    let ran = run_alone(alloc, accepted.safe().typed(), u64::MAX, u64::MAX)?;
+    match shown_alone(alloc, accepted.safe().typed().unit(), ran) {
+        Ok(printed) => Ok(printed),
+        Err(_) => Err(OutOfMemory),
     }
 }

@@ -1,64 +1,31 @@
 //! Answers a request over readers and writers.
 
-ghost use Rattle.std.specs.Prelude.{◌≡◌, ◌≢◌, ◌≤◌, OnOk};
-ghost use Rattle.std.specs.Io.KnownBytes.{Appends};
-ghost use Rattle.txc.specs.Runs.{exit_status, Prints, SaysAccepted};
+ghost use Rattle.std.specs.Prelude.{◌≡◌, ◌≢◌, ◌≤◌, IfSome};
+ghost use Rattle.txc.specs.Answers.{Answers, AnswersRequest};
+ghost use Rattle.report.specs.Views.{printed_of};
+ghost use Rattle.txc.specs.Runs.{IsRefused, Prints, PrintsShown, Runs, RunsInOrder, SaysAccepted};
 
-use crate::command::Request;
-use crate::run::{RunTextFault, check_source, run_source};
-use crate::words::words;
-use lex::{MOST_BYTES, place};
-use meaning::ThreadEnd;
+use crate::order::{OrderFault, run_in_order};
+use crate::run::{check_source, run_source};
+use crate::source::{Source, read_source};
+use crate::status::{ENDED, status_of};
+use crate::tell::{
+    Detail, cannot_write, not_read, not_text, out_of_memory, print, refuse, refuse_order, too_long,
+    unusable,
+};
+use command::{Request, Task};
+use faults::explanation;
+use report::{Printed, report_text};
 use std::alloc::Allocator;
-use std::io;
-use std::io::{ErrorKind, Read, Write};
-use syntax::numbers::Halt;
-
-/// One byte more than a source may have.
-const BEYOND_MOST_BYTES: u64 = MOST_BYTES as u64 + 1;
-
-/// The exit status of a run that ended.
-pub const ENDED: u8 = 0;
-
-/// The exit status where the source is refused.
-const REFUSED: u8 = 1;
-
-/// The exit status where the words or the file are of no use.
-pub const UNUSABLE: u8 = 2;
-
-/// The exit status where the thread trapped.
-const TRAPPED: u8 = 3;
-
-/// The exit status where the program could not do its work: memory or output was refused.
-pub const STOPPED: u8 = 4;
-
-/// What a file holds.
-#[derive(Debug, Drop)]
-enum Source<A: Allocator> {
-    Text(String<A>),
-    NotText,
-    TooLong,
-}
-
-/// Reads a source to its end, or to one byte past the most that it may have.
-fn read_source<A: Allocator + Copy, R: Read + Drop>(alloc: A, source: R) -> io::Result<Source<A>> {
-    let mut bytes = Vec::new(alloc);
-    source.take(BEYOND_MOST_BYTES).read_to_end(&mut bytes)?;
-    if bytes.len() > MOST_BYTES {
-        return Ok(Source::TooLong);
-    }
-    match String::from_utf8(bytes) {
-        Ok(text) => Ok(Source::Text(text)),
-        Err(_) => Ok(Source::NotText),
-    }
-}
+use std::io::{Read, Write};
 
 /// Does what is asked over two readers and two writers, and gives the exit status.
 ///
-/// The source's text is read from `source`; no request reads a schedule yet. The report, or `accepted`, goes to `out`, and faults to `err`; what `err` does not take is
-/// lost. The status is 0 where the thread ended or the
-/// source is accepted, 1 where the source is refused, 2 where it cannot be read or is not UTF-8,
-/// 3 where the thread trapped, and 4 where it did neither, or memory or `out` was refused.
+/// The source's text is read from `source`; no request reads a schedule yet. The report, `accepted` or what a fault means goes
+/// to `out`, and faults to `err`; what `err` does not take is lost. Where `err` is a terminal, or the words ask for it, the line
+/// of the source follows its fault. The status is 0 where all threads ended, the source is accepted or a fault is explained,
+/// 1 where the source is refused, 2 where it cannot be read or is not UTF-8, or the words are of no use, 3 where a thread
+/// trapped, and 4 where one did neither, or memory or `out` was refused.
 pub fn serve<A: Allocator + Copy, R: Read + Drop, S: Read + Drop, W: Write, E: Write>(
     alloc: A,
     request: &Request,
@@ -66,28 +33,83 @@ pub fn serve<A: Allocator + Copy, R: Read + Drop, S: Read + Drop, W: Write, E: W
     schedule: S,
     out: &mut W,
     err: &mut E,
+    is_terminal: bool,
 ) -> u8
-    ensures { result ≤ 4 }
+    ensures status { result ≤ 4 }
+    ensures answer { IfSome (R.remaining source) (λ bytes. AnswersRequest request.now bytes result (W.contents out.old) (W.contents out.new)) }
 {
-    let (Request::Run { file } | Request::Check { file }) = request;
     drop(schedule);
+    match request {
+        Request::Program {
+            file,
+            verbose,
+            task,
+        } => {
+            let detail = Detail {
+                lines: *verbose || is_terminal,
+                reasons: *verbose,
+            };
+            serve_program(alloc, file.as_str(), task, source, detail, out, err)
+        }
+        Request::Explain { number } => {
+            drop(source);
+            explain(*number, out, err)
+        }
+    }
+}
+
+/// Does what is asked with the program in a file.
+fn serve_program<A: Allocator + Copy, R: Read + Drop, W: Write, E: Write>(
+    alloc: A,
+    file: &str,
+    task: &Task,
+    source: R,
+    detail: Detail,
+    out: &mut W,
+    err: &mut E,
+) -> u8
+    ensures status { result ≤ 4 }
+    ensures answer { IfSome (R.remaining source) (λ bytes. Answers task.now bytes result (W.contents out.old) (W.contents out.new)) }
+{
     match read_source(alloc, source) {
-        Ok(Source::Text(text)) => match request {
-            Request::Run { .. } => run(alloc, text.as_str(), out, err),
-            Request::Check { .. } => check(alloc, text.as_str(), out, err),
-        },
-        Ok(Source::NotText) => {
-            let _ = writeln!(err, "txc: {file} is not UTF-8");
-            UNUSABLE
-        }
-        Ok(Source::TooLong) => {
-            let _ = writeln!(err, "txc: fault 05 at 1:1: {}", words(5));
-            REFUSED
-        }
-        Err(error) => match error.kind() {
-            ErrorKind::OutOfMemory => out_of_memory(err),
-            _ => cannot_read(file.as_str(), err),
-        },
+        Ok(Source::Text(text)) => work(alloc, task, text.as_str(), detail, out, err),
+        Ok(Source::NotText) => not_text(file, err),
+        Ok(Source::TooLong) => too_long(err),
+        Err(error) => not_read(file, &error, detail, err),
+    }
+}
+
+/// Does what is asked with the text of a program.
+fn work<A: Allocator + Copy, W: Write, E: Write>(
+    alloc: A,
+    task: &Task,
+    text: &str,
+    detail: Detail,
+    out: &mut W,
+    err: &mut E,
+) -> u8
+    ensures status { result ≤ 4 }
+    ensures answer { Answers task.now text.now result (W.contents out.old) (W.contents out.new) }
+{
+    match task {
+        Task::Check => check(alloc, text, detail, out, err),
+        Task::Run { .. } => run(alloc, text, detail, out, err),
+        Task::Source {
+            threads,
+            order,
+            ticks,
+        } => in_order(
+            alloc,
+            text,
+            *threads,
+            order.as_slice(),
+            u64::from(*ticks),
+            detail,
+            out,
+            err,
+        ),
+        // the command line offers none of these
+        Task::Listing | Task::Replay { .. } => unusable("no such command", err),
     }
 }
 
@@ -95,18 +117,39 @@ pub fn serve<A: Allocator + Copy, R: Read + Drop, S: Read + Drop, W: Write, E: W
 fn run<A: Allocator + Copy, W: Write, E: Write>(
     alloc: A,
     text: &str,
+    detail: Detail,
     out: &mut W,
     err: &mut E,
 ) -> u8
     ensures status { result ≤ 4 }
-    ensures report { Prints text.now result (W.contents out.old) (W.contents out.new) }
+    ensures report { Prints (Runs text.now) result (W.contents out.old) (W.contents out.new) }
+    ensures refused { result ≡ 1 → IsRefused text.now }
 {
     match run_source(alloc, text) {
-        Ok(ran) => match print(ran.report.as_slice(), out) {
-            Ok(()) => status_of(ran.end),
-            Err(_) => cannot_write(err),
-        },
-        Err(fault) => refuse(text, fault, err),
+        Ok(printed) => print_report(alloc, &printed, out, err),
+        Err(fault) => refuse(alloc, text, fault, detail, err),
+    }
+}
+
+/// Runs threads of a source in an order and prints their report.
+fn in_order<A: Allocator + Copy, W: Write, E: Write>(
+    alloc: A,
+    text: &str,
+    threads: u32,
+    order: &[u32],
+    ticks: u64,
+    detail: Detail,
+    out: &mut W,
+    err: &mut E,
+) -> u8
+    ensures status { result ≤ 4 }
+    ensures report { Prints (RunsInOrder threads ticks order.now text.now) result (W.contents out.old) (W.contents out.new) }
+    ensures refused { result ≡ 1 → IsRefused text.now }
+{
+    match run_in_order(alloc, text, threads, order, ticks) {
+        Ok(printed) => print_report(alloc, &printed, out, err),
+        Err(OrderFault::Source(fault)) => refuse(alloc, text, fault, detail, err),
+        Err(OrderFault::Order(fault)) => refuse_order(fault, err),
     }
 }
 
@@ -114,81 +157,52 @@ fn run<A: Allocator + Copy, W: Write, E: Write>(
 fn check<A: Allocator + Copy, W: Write, E: Write>(
     alloc: A,
     text: &str,
+    detail: Detail,
     out: &mut W,
     err: &mut E,
 ) -> u8
     ensures status { result ≤ 4 }
     ensures accepted { SaysAccepted text.now result (W.contents out.old) (W.contents out.new) }
+    ensures refused { result ≡ 1 → IsRefused text.now }
 {
     match check_source(alloc, text) {
         Ok(()) => match print(b"accepted\n", out) {
             Ok(()) => ENDED,
             Err(_) => cannot_write(err),
         },
-        Err(fault) => refuse(text, fault, err),
+        Err(fault) => refuse(alloc, text, fault, detail, err),
     }
 }
 
-/// Writes a text and flushes the writer.
-pub fn print<W: Write>(text: &[u8], out: &mut W) -> io::Result<()>
-    ensures { OnOk result (Appends (W.contents out.old) (W.contents out.new) text.now) }
+/// Prints a report, and gives the exit status by the ends of its threads.
+fn print_report<A: Allocator + Copy, W: Write, E: Write>(
+    alloc: A,
+    printed: &Printed<A>,
+    out: &mut W,
+    err: &mut E,
+) -> u8
+    ensures status { result ≤ 4 }
+    ensures report { PrintsShown (printed_of printed.now) result (W.contents out.old) (W.contents out.new) }
+    ensures not_refused { result ≢ 1 }
 {
-    out.write_all(text)?;
-    out.flush()
-}
-
-/// The exit status of a run by its end.
-fn status_of(end: ThreadEnd) -> u8
-    ensures { result ≡ exit_status end }
-{
-    match end {
-        ThreadEnd::Ended => ENDED,
-        ThreadEnd::Stopped(Halt::Trapped(_)) => TRAPPED,
-        ThreadEnd::Stopped(Halt::Wants | Halt::Spent | Halt::Astray) => STOPPED,
+    match report_text(alloc, printed) {
+        Ok(report) => match print(report.as_slice(), out) {
+            Ok(()) => status_of(printed),
+            Err(_) => cannot_write(err),
+        },
+        Err(_) => out_of_memory(err),
     }
 }
 
-/// Says why a source is refused.
-fn refuse<E: Write>(text: &str, fault: RunTextFault, err: &mut E) -> u8
-    ensures within { result ≤ 4 }
-    ensures not_ended { result ≢ 0 }
-    ensures not_trapped { result ≢ 3 }
+/// Says what a fault means.
+fn explain<W: Write, E: Write>(number: u32, out: &mut W, err: &mut E) -> u8
+    ensures { result ≤ 4 }
 {
-    let number = fault.number();
-    match fault.span() {
-        Some(span) => {
-            let (line, column) = place(text, span.start.min(text.len()));
-            let _ = writeln!(
-                err,
-                "txc: fault {number:02} at {line}:{column}: {}",
-                words(number)
-            );
-            REFUSED
-        }
-        None => out_of_memory(err),
+    match explanation(number) {
+        Some(text) => match print(text.as_bytes(), out) {
+            Ok(()) => ENDED,
+            Err(_) => cannot_write(err),
+        },
+        None => unusable("no fault has this number", err),
     }
-}
-
-/// Says that memory was refused.
-pub fn out_of_memory<E: Write>(err: &mut E) -> u8
-    ensures { result ≡ 4 }
-{
-    let _ = writeln!(err, "txc: out of memory");
-    STOPPED
-}
-
-/// Says that the output was refused.
-pub fn cannot_write<E: Write>(err: &mut E) -> u8
-    ensures { result ≡ 4 }
-{
-    let _ = writeln!(err, "txc: cannot write");
-    STOPPED
-}
-
-/// Says that a file cannot be read.
-pub fn cannot_read<E: Write>(file: &str, err: &mut E) -> u8
-    ensures { result ≡ 2 }
-{
-    let _ = writeln!(err, "txc: cannot read {file}");
-    UNUSABLE
 }

@@ -1,8 +1,10 @@
 //! Runs over readers and writers in memory.
 
-use crate::command::{Request, UsageFault, command};
-use crate::run::{RunTextFault, run_text};
+use crate::open;
+use crate::run::run_source;
 use crate::serve::serve;
+use crate::tell::tell_usage;
+use command::{Request, command};
 use refusing::Refusing;
 use std::alloc::Allocator;
 use std::io;
@@ -23,9 +25,27 @@ pub(crate) fn serve_bytes<A: Allocator + Copy>(
     request: &Request,
     source: &[u8],
 ) -> Served<A> {
+    serve_told(alloc, request, source, false)
+}
+
+/// Serves a source out of memory, to a terminal or not.
+pub(crate) fn serve_told<A: Allocator + Copy>(
+    alloc: A,
+    request: &Request,
+    source: &[u8],
+    is_terminal: bool,
+) -> Served<A> {
     let mut out = Vec::new(alloc);
     let mut err = Vec::new(alloc);
-    let status = serve(alloc, request, source, b"".as_slice(), &mut out, &mut err);
+    let status = serve(
+        alloc,
+        request,
+        source,
+        b"".as_slice(),
+        &mut out,
+        &mut err,
+        is_terminal,
+    );
     Served { status, out, err }
 }
 
@@ -57,34 +77,6 @@ const FIRST: &[u8] =
     b"int x = 40, y; void worker(int self) { __transaction_atomic { x = x + 2; y = x - 1; } }";
 
 const FIRST_REPORT: &[u8] = b"== thread 0: ended\n== memory\nx = 42\ny = 41\n";
-
-#[test]
-fn reads_words(rt: HostRuntime) -> Result<(), Fail> {
-    let run = command(rt.alloc(), ["txc", "run", "a.c"].as_slice())?;
-    assert!(rt; matches!(&run, Request::Run { file } if file.as_str() == "a.c"));
-    let check = command(rt.alloc(), ["txc", "check", "b.c"].as_slice())?;
-    assert!(rt; matches!(&check, Request::Check { file } if file.as_str() == "b.c"));
-    for words in [
-        ["txc", "run", "--threads=2", "a.c"],
-        ["txc", "run", "a.c", "b.c"],
-        ["txc", "source", "a.c", "b.c"],
-    ] {
-        let fault = command(rt.alloc(), words.as_slice());
-        assert!(rt;
-            matches!(&fault, Err(UsageFault::Wrong { .. })),
-            "{words:?}"
-        );
-    }
-    let none = command(rt.alloc(), ["txc"].as_slice());
-    assert!(rt; matches!(&none, Err(UsageFault::Wrong { .. })));
-    let help = command(rt.alloc(), ["txc", "--help"].as_slice());
-    assert!(rt; matches!(&help, Err(UsageFault::Help { .. })));
-    let version = command(rt.alloc(), ["txc", "--version"].as_slice());
-    assert!(rt;
-        matches!(&version, Err(UsageFault::Help { text }) if text.as_str() == "txc 0.1.0\n")
-    );
-    Ok(())
-}
 
 #[test]
 fn serves_sources(rt: HostRuntime) -> Result<(), Fail> {
@@ -212,6 +204,154 @@ fn says_what_is_accepted(rt: HostRuntime) -> Result<(), Fail> {
     Ok(())
 }
 
+/// Two threads that each add one.
+const ADDS: &[u8] = b"int x; void worker(int self) { __transaction_atomic { x = x + 1; } }";
+
+/// A transaction that never ends.
+const TURNS: &[u8] = b"int x; void worker(int self) { __transaction_atomic { while (1) { } } }";
+
+/// Two threads, of which each transaction shows which of them was first.
+const SHOWS: &[u8] =
+    b"int x; void worker(int self) { int i; for (i = 0; i < 2; i++) { int v; __transaction_atomic { x = x * 10 + self + 1; v = x; } printf(\"%d\\n\", v); } }";
+
+#[test]
+fn serves_threads_in_an_order(rt: HostRuntime) -> Result<(), Fail> {
+    let rows: [(&str, &str, &str, &[u8], u8, &[u8], &[u8]); 10] = [
+        (
+            "2",
+            "0,1",
+            "100000",
+            ADDS,
+            0,
+            b"== thread 0: ended\n== thread 1: ended\n== memory\nx = 2\n",
+            b"",
+        ),
+        (
+            "2",
+            "0",
+            "100000",
+            ADDS,
+            4,
+            b"== thread 0: ended\n== thread 1: waits\n== memory\nx = 1\n",
+            b"",
+        ),
+        (
+            "1",
+            "",
+            "100000",
+            ADDS,
+            4,
+            b"== thread 0: waits\n== memory\nx = 0\n",
+            b"",
+        ),
+        (
+            "1",
+            "0",
+            "1000",
+            TURNS,
+            4,
+            b"== thread 0: spent\n== memory\nx = 0\n",
+            b"",
+        ),
+        // the memory is the order's; an entry of a thread that has ended does nothing
+        (
+            "2",
+            "0,1,1,0",
+            "1000",
+            SHOWS,
+            0,
+            b"== thread 0: ended\n1\n1221\n== thread 1: ended\n12\n122\n== memory\nx = 1221\n",
+            b"",
+        ),
+        (
+            "2",
+            "1,1,1,0,1,0",
+            "1000",
+            SHOWS,
+            0,
+            b"== thread 0: ended\n221\n2211\n== thread 1: ended\n2\n22\n== memory\nx = 2211\n",
+            b"",
+        ),
+        // a thread that has trapped, beside one that waits
+        (
+            "1",
+            "0",
+            "1000",
+            b"int x = 2147483647; void worker(int self) { __transaction_atomic { x = x + 1; } }",
+            3,
+            b"== thread 0: trap 1\n== memory\nx = 2147483647\n",
+            b"",
+        ),
+        (
+            "2",
+            "0",
+            "1000",
+            b"int x = 2147483647; void worker(int self) { __transaction_atomic { x = x + 1; } }",
+            4,
+            b"== thread 0: trap 1\n== thread 1: waits\n== memory\nx = 2147483647\n",
+            b"",
+        ),
+        // a stranger, and the source's own faults before it
+        ("2", "0,2", "1000", ADDS, 2, b"", b"txc: fault 55\n"),
+        (
+            "2",
+            "0,2",
+            "1000",
+            b"int x;\nvoid worker(int self) { x = 1; }",
+            1,
+            b"",
+            b"txc: fault 50 at 2:25: shared access outside a transaction\n",
+        ),
+    ];
+    for (threads, order, ticks, source, status, out, err) in rows {
+        let words = [
+            "txc",
+            "source",
+            "--threads",
+            threads,
+            "a.c",
+            "--order",
+            order,
+            "--ticks",
+            ticks,
+        ];
+        let request = command(rt.alloc(), words.as_slice())?;
+        let answer = serve_bytes(rt.alloc(), &request, source);
+        assert_eq!(rt; answer.err.as_slice(), err);
+        assert_eq!(rt; answer.out.as_slice(), out, "{order}");
+        assert_eq!(rt; answer.status, status);
+    }
+    Ok(())
+}
+
+/// A file that is not there, and words that are wrong before any file is opened.
+#[test]
+fn says_what_is_not_there(rt: HostRuntime) -> Result<(), Fail> {
+    let request = command(rt.alloc(), ["txc", "check", "no/such/file.c"].as_slice())?;
+    assert_eq!(rt; open(&rt, &request), 2);
+    let wrong = command(
+        rt.alloc(),
+        ["txc", "source", "no/such/file.c", "--order=0,,1"].as_slice(),
+    );
+    let Err(fault) = wrong else {
+        return Err(Fail::new("the words are wrong"));
+    };
+    let mut out = Vec::new(rt.alloc());
+    let mut err = Vec::new(rt.alloc());
+    assert_eq!(rt; tell_usage(&fault, &mut out, &mut err), 2);
+    assert_eq!(rt; err.as_slice(), b"txc: usage: bad --order\n".as_slice());
+    assert_eq!(rt; out.len(), 0);
+    let help = command(rt.alloc(), ["txc", "source", "--help"].as_slice());
+    let Err(fault) = help else {
+        return Err(Fail::new("help is told"));
+    };
+    let mut err = Vec::new(rt.alloc());
+    assert_eq!(rt; tell_usage(&fault, &mut out, &mut err), 0);
+    assert_eq!(rt; err.len(), 0);
+    assert!(rt; out.starts_with(b"Runs the source itself"));
+    Ok(())
+}
+
 #[test]
 fn says_what_cannot_be_read_or_written(rt: HostRuntime) -> Result<(), Fail> {
     let request = command(rt.alloc(), ["txc", "run", "a.c"].as_slice())?;
@@ -224,8 +364,25 @@ fn says_what_cannot_be_read_or_written(rt: HostRuntime) -> Result<(), Fail> {
         b"".as_slice(),
         &mut out,
         &mut err,
+        false,
     );
     assert_eq!(rt; err.as_slice(), b"txc: cannot read a.c\n".as_slice());
+    assert_eq!(rt; status, 2);
+    let verbose = command(rt.alloc(), ["txc", "run", "--verbose", "a.c"].as_slice())?;
+    let mut err = Vec::new(rt.alloc());
+    let status = serve(
+        rt.alloc(),
+        &verbose,
+        Broken,
+        b"".as_slice(),
+        &mut out,
+        &mut err,
+        false,
+    );
+    assert_eq!(rt;
+        err.as_slice(),
+        b"txc: cannot read a.c (permission denied)\n".as_slice()
+    );
     assert_eq!(rt; status, 2);
     let mut err = Vec::new(rt.alloc());
     let status = serve(
@@ -235,6 +392,7 @@ fn says_what_cannot_be_read_or_written(rt: HostRuntime) -> Result<(), Fail> {
         b"".as_slice(),
         &mut Closed,
         &mut err,
+        false,
     );
     assert_eq!(rt; err.as_slice(), b"txc: cannot write\n".as_slice());
     assert_eq!(rt; status, 4);
@@ -248,16 +406,16 @@ fn each_growth_is_refused_once(rt: HostRuntime) -> Result<(), Fail> {
     let mut met = 0;
     for nth in 1..200u64 {
         let alloc = Refusing::new(rt.alloc(), nth);
-        match run_text(&alloc, text) {
-            Ok(report) => {
+        match run_source(&alloc, text) {
+            Ok(printed) => {
                 assert!(rt; alloc.is_waiting());
-                assert_eq!(rt; report.as_slice(), FIRST_REPORT);
+                assert_eq!(rt; printed.globals.len(), 2);
                 break;
             }
             Err(fault) => {
                 met = nth;
                 assert_eq!(rt; fault.number(), 0);
-                let again = run_text(&alloc, text);
+                let again = run_source(&alloc, text);
                 assert!(rt; again.is_ok());
             }
         }
@@ -273,7 +431,15 @@ fn each_growth_of_serve_is_refused_once(rt: HostRuntime) -> Result<(), Fail> {
         let alloc = Refusing::new(rt.alloc(), nth);
         let mut out = Vec::new(rt.alloc());
         let mut err = Vec::new(rt.alloc());
-        let status = serve(&alloc, &request, FIRST, b"".as_slice(), &mut out, &mut err);
+        let status = serve(
+            &alloc,
+            &request,
+            FIRST,
+            b"".as_slice(),
+            &mut out,
+            &mut err,
+            false,
+        );
         if alloc.is_waiting() {
             assert_eq!(rt; out.as_slice(), FIRST_REPORT);
             assert_eq!(rt; status, 0);

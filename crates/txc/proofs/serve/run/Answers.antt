@@ -1,5 +1,5 @@
-use Rattle.std.proofs.Common.{inl, inr}
+use Rattle.report.specs.Views.{printed_of}
 use Rattle.txc.proofs.serve.run.Goals as goal
 
-pub returns-clause-report : goal.returns-clause-report
-returns-clause-report g c = λ status. elim status [ inl e ↦ absurd (c.refuse.ensures.not_ended e) | inr e ↦ absurd (c.refuse.ensures.not_trapped e) ]
+pub returns-in-Ok-clause-report : goal.returns-in-Ok-clause-report
+returns-in-Ok-clause-report g c = λ status. (printed_of c.in-Ok.printed, c.in-Ok.ensures.ok, (c.print_report.ensures.report status).0, (c.print_report.ensures.report status).1)

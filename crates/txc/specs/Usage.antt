@@ -1,0 +1,13 @@
+-- What is told of words that are no request.
+use Rattle.command.specs.declared.request.UsageFault.{UsageFault}
+use Rattle.command.specs.declared.request.UsageFault.TheVariants.{Help, Wrong}
+
+-- help is told
+abbrev pub IsHelp : UsageFault → Type 0
+IsHelp (Help text) = Unit {0}
+IsHelp _ = ⊥
+
+-- words are refused
+abbrev pub IsWrong : UsageFault → Type 0
+IsWrong (Wrong text) = Unit {0}
+IsWrong _ = ⊥

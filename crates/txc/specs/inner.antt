@@ -1,0 +1,4 @@
+-- what is shown of a thread that was told of
+pub mod Told
+-- what was read
+pub mod Read
