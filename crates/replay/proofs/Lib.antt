@@ -1,0 +1,6 @@
+-- where rows are cut
+pub mod Rows
+-- the lines of rows, one more at the end
+pub mod Lines
+-- the words of a seed
+pub mod Words

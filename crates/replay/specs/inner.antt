@@ -1,0 +1,2 @@
+-- how a row is cut
+pub mod Rows

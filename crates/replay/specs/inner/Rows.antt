@@ -1,0 +1,46 @@
+-- How a row is cut.
+use Rattle.std.specs.Prelude.{◌≡◌, ℕ, Bool, false, ◌&&◌, ◌==◌, if◌then◌else◌, nat_le, nat_lt, List, [], ◌∷◌, length, take, drop}
+use Rattle.std.specs.List.{prefix_len}
+use Rattle.replay.specs.Schedules.{AreSpaces, Asks, IsBad}
+use Rattle.replay.specs.declared.row.Row.{Row}
+use Rattle.replay.specs.declared.row.Row.TheVariants.{Blank, Steps, Bad}
+
+abbrev pub is_space : ℕ → Bool
+is_space b = b == 32
+
+abbrev pub is_digit : ℕ → Bool
+is_digit b = nat_le 48 b && nat_le b 57
+
+-- what stands behind the spaces at the front
+abbrev pub past : List ℕ → List ℕ
+past row = drop (prefix_len is_space row) row
+
+-- the digits at the front
+abbrev pub digits_of : List ℕ → List ℕ
+digits_of row = take (prefix_len is_digit row) row
+
+-- what stands behind them
+abbrev pub behind : List ℕ → List ℕ
+behind row = drop (prefix_len is_digit row) row
+
+-- whether an `a` stands at the front
+abbrev pub is_marked : List ℕ → Bool
+is_marked [] = false
+is_marked (b ∷ row) = b == 97
+
+abbrev pub unmarked : List ℕ → List ℕ
+unmarked row = if is_marked row then drop 1 row else row
+
+-- a row as it is cut
+pub record IsCut (row thread : List ℕ) (apart accesses : Bool) (count over : List ℕ) : Type 0 where
+  pub thread_is : thread ≡ digits_of (past row)
+  pub apart_is : apart ≡ nat_lt (length (past (behind (past row)))) (length (behind (past row)))
+  pub accesses_is : accesses ≡ is_marked (past (behind (past row)))
+  pub count_is : count ≡ digits_of (unmarked (past (behind (past row))))
+  pub over_is : over ≡ past (behind (unmarked (past (behind (past row)))))
+
+-- what a row says
+abbrev pub IsRow : List ℕ → Row → Type 0
+IsRow row Blank = AreSpaces row
+IsRow row (Steps line) = Asks row line
+IsRow row Bad = IsBad row
