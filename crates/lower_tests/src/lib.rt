@@ -1,0 +1,14 @@
+//! Tests of `lower`, in a crate of their own: a crate with tests is proved twice.
+#![tactic(auto)]
+
+pub mod accepted;
+#[cfg(test)]
+mod examples;
+#[cfg(test)]
+mod growths;
+#[cfg(test)]
+mod large;
+#[cfg(test)]
+mod listed;
+#[cfg(test)]
+mod nested;
