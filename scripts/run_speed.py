@@ -1,0 +1,109 @@
+#!/usr/bin/env python3
+"""Measures `txc run` against Lua, on work of one thread, and against GCC's transactional memory, with one and four threads.
+
+    scripts/run_speed.py [ROUNDS]
+
+All sides run in turn in each of the rounds (9, where nothing is said). With one thread it prints the least processor time of
+each, with four the median time on the clock, and how often the peer's time txc took. The workloads and the peers' sources are
+in scripts/workloads. The program is crates/txc/out/txc, which `cd crates/txc && rt run -- --version` builds. What is not
+installed is named and left out. What a run leaves in memory is compared with what it must be.
+"""
+import os, re, shutil, statistics, subprocess, sys, tempfile, time
+
+TOP = os.path.dirname(os.path.dirname(os.path.abspath(__file__)))
+WORK = os.path.join(TOP, 'scripts', 'workloads')
+TXC = os.path.join(TOP, 'crates', 'txc', 'out', 'txc')
+LUA = ['primes', 'fib']
+SHARED = ['counter', 'bank', 'hashset', 'longread', 'disjoint']
+
+
+def values(report):
+    """The globals of a report, each with its values."""
+    found = {}
+    for line in report.split('== memory\n')[-1].splitlines():
+        name, _, rest = line.partition(' =')
+        found[name] = [int(v) for v in rest.split()]
+    return found
+
+
+def is_right(name, report, threads):
+    """Whether a report of txc says what the workload must leave."""
+    if any(f'== thread {t}: ended' not in report for t in range(threads)):
+        return False
+    if name in LUA:
+        return {'primes': '17984', 'fib': '196418'}[name] in report
+    left = values(report)
+    if name == 'counter':
+        return left['x'] == [500000 * threads]
+    if name == 'bank':
+        return left['wrong'] == [0] and sum(left['account']) == 6400
+    if name == 'hashset':
+        return left['count'] == [sum(1 for s in left['slot'] if s)]
+    if name == 'longread':
+        return left['bad'] == [0] and left['a'][5] == 5000
+    return left['a'] == [10000] * (64 * threads) + [0] * (512 - 64 * threads)
+
+
+def run(words, more):
+    """Runs a command: its processor time, its time on the clock, and what it wrote."""
+    start = time.perf_counter()
+    child = subprocess.Popen(words, stdout=subprocess.PIPE, text=True, env={**os.environ, **more})
+    wrote = child.stdout.read()
+    _, _, used = os.wait4(child.pid, 0)
+    child.returncode = 0
+    return used.ru_utime + used.ru_stime, time.perf_counter() - start, wrote
+
+
+def measured(rounds, sides, threads):
+    """For each side the figure of its rounds: least processor time with one thread, median time on the clock with more."""
+    times = {side: [] for side in sides}
+    for _ in range(rounds):
+        for side, (name, words, more) in sides.items():
+            cpu, clock, wrote = run(words, more)
+            if words[0] == TXC and not is_right(name, wrote, threads):
+                sys.exit(f'txc run of {name} with {threads} threads left something else than it must:\n{wrote[:500]}')
+            times[side].append(cpu if threads == 1 else clock)
+    return {side: (min if threads == 1 else statistics.median)(all_times) for side, all_times in times.items()}
+
+
+def txc(name, threads):
+    return name, [TXC, 'run', os.path.join(WORK, name + '.c'), '--threads', str(threads)], {}
+
+
+def table(title, names, peer, rounds, threads, peer_side):
+    """Prints how long txc and a peer take for each workload, and for all together."""
+    sides = {}
+    for name in names:
+        sides[name, 'txc'] = txc(name, threads)
+        sides[name, peer] = peer_side(name)
+    figures = measured(rounds, sides, threads)
+    print(f'\n{title}\n')
+    print(f'| Workload | txc, ms | {peer}, ms | txc / {peer} |\n|---|---|---|---|')
+    sums = {side: sum(figures[name, side] for name in names) for side in ('txc', peer)}
+    for name, of in [(n, {s: figures[n, s] for s in ('txc', peer)}) for n in names] + [('together', sums)]:
+        print(f'| {name} | {1000 * of["txc"]:.1f} | {1000 * of[peer]:.1f} | {of["txc"] / of[peer]:.2f} |')
+
+
+def main():
+    rounds = int(sys.argv[1]) if len(sys.argv) > 1 else 9
+    if not os.path.exists(TXC):
+        sys.exit('crates/txc/out/txc is not there: build it by `cd crates/txc && rt run -- --version`')
+    if shutil.which('lua5.4'):
+        table('One thread, processor time', LUA, 'lua5.4', rounds, 1, lambda name: (name, ['lua5.4', os.path.join(WORK, name + '.lua')], {}))
+    else:
+        print('lua5.4 is not installed: primes and fib are left out')
+    with tempfile.TemporaryDirectory() as place:
+        for name in SHARED:
+            built = shutil.which('gcc') and subprocess.run(
+                ['gcc', '-O2', '-fgnu-tm', '-pthread', os.path.join(WORK, name + '.c'), os.path.join(WORK, 'threads.c'), '-litm', '-o', os.path.join(place, name)],
+                capture_output=True).returncode == 0
+            if not built:
+                print('gcc with libitm is not installed: counter, bank, hashset, longread and disjoint are left out')
+                return
+        peer = lambda threads, more: lambda name: (name, [os.path.join(place, name), str(threads)], more)
+        table('One thread, processor time; libitm by its method ml_wt', SHARED, 'libitm', rounds, 1, peer(1, {'ITM_DEFAULT_METHOD': 'ml_wt'}))
+        table('Four threads, time on the clock; libitm by its default method', SHARED, 'libitm', rounds, 4, peer(4, {}))
+
+
+if __name__ == '__main__':
+    main()
