@@ -1,8 +1,12 @@
 #!/usr/bin/env python3
-"""Writes crates/txc/src/example_tests.rt, which runs each program of examples/ and compares what it prints with the file of
-the same name that ends in .out; with --check it writes nothing, and fails where that file is not what it would write, or
-where a document shows another output of an example: a block whose first line is `$ txc run examples/NAME.c` has NAME.out under
-it, and README.md shows the output of first.c in a block of its own.
+"""Writes crates/txc/src/example_tests.rt. It runs each program of examples/ and compares what it prints with the file of the same
+name that ends in .out; and it runs each transcript of examples/transcripts/, a file whose first line is a command line, `$ txc ..`,
+and which has under it what a terminal then shows.
+
+With --check it writes nothing, and fails where that file is not what it would write, or where a document shows what the program
+does not print: a block that begins with `$ txc run examples/NAME.c` has NAME.out under it, any other one that begins with
+`$ txc` is a transcript, README.md shows the output of first.c in a block of its own, and the C that it and GUIDE.md show is that
+of files of examples/.
 """
 
 import glob
@@ -12,32 +16,48 @@ import sys
 
 TOP = os.path.dirname(os.path.dirname(os.path.abspath(__file__)))
 TESTS = os.path.join(TOP, "crates/txc/src/example_tests.rt")
-SESSION = re.compile(r"^```\n\$ txc run examples/(\w+)\.c\n(.*?)^```$", re.M | re.S)
+SHOWN = re.compile(r"^```\n(\$ txc [^\n]*\n)(.*?)^```$", re.M | re.S)
+PROGRAM = re.compile(r"^```c\n(.*?)^```$", re.M | re.S)
+RUN = re.compile(r"\$ txc run examples/(\w+)\.c\n")
 
 
 def read(path):
-    with open(path, encoding="utf-8") as file:
+    with open(os.path.join(TOP, path), encoding="utf-8") as file:
         return file.read()
+
+
+def names(pattern):
+    return sorted(glob.glob(pattern, root_dir=TOP, recursive=True))
 
 
 def literal(text):
     return '"' + text.replace("\\", "\\\\").replace('"', '\\"').replace("\n", "\\n") + '"'
 
 
-def tests():
-    names = sorted(os.path.basename(path)[:-2] for path in glob.glob(os.path.join(TOP, "examples/*.c")))
-    rows = []
-    for name in names:
-        source, out = (read(os.path.join(TOP, "examples", name + end)) for end in (".c", ".out"))
-        rows.append(f"    (\n        {literal(source)},\n        {literal(out)},\n    ),\n")
-    return f"""//! The programs of examples/, with what each prints: written by scripts/examples.py.
+def row(texts):
+    return "    (\n" + "".join(f"        {literal(text)},\n" for text in texts) + "    ),\n"
 
-use crate::tests::serve_bytes;
+
+def transcript(path):
+    """The words behind `$`, the source, the schedule, and what is shown."""
+    first, shown = read(path).split("\n", 1)
+    words = first.removeprefix("$ ")
+    sources = re.findall(r"examples/\S+\.c", words)
+    schedules = re.findall(r"--schedule (\S+)", words)
+    return words, *(read(found[0]) if found else "" for found in (sources, schedules)), shown
+
+
+def tests():
+    examples = [row((read(name), read(name[:-2] + ".out"))) for name in names("examples/*.c")]
+    transcripts = [row(transcript(name)) for name in names("examples/transcripts/*.txt")]
+    return f"""//! The programs of examples/, with what each prints, and the transcripts of examples/transcripts/: written by scripts/examples.py.
+
+use crate::tests::{{serve_bytes, serve_told}};
 use command::command;
 use std::test::Fail;
 
-const EXAMPLES: [(&str, &str); {len(rows)}] = [
-{"".join(rows)}];
+const EXAMPLES: [(&str, &str); {len(examples)}] = [
+{"".join(examples)}];
 
 #[test]
 fn examples_print_what_they_should(rt: HostRuntime) -> Result<(), Fail> {{
@@ -46,6 +66,25 @@ fn examples_print_what_they_should(rt: HostRuntime) -> Result<(), Fail> {{
         let answer = serve_bytes(rt.alloc(), &request, source.as_bytes());
         assert_eq!(rt; answer.out.as_slice(), out.as_bytes());
         assert_eq!(rt; answer.err.len(), 0);
+    }}
+    Ok(())
+}}
+
+/// The words, the source, the schedule, and what a terminal shows.
+const TRANSCRIPTS: [(&str, &str, &str, &str); {len(transcripts)}] = [
+{"".join(transcripts)}];
+
+#[test]
+fn transcripts_show_what_they_should(rt: HostRuntime) -> Result<(), Fail> {{
+    for (line, source, _schedule, shown) in TRANSCRIPTS {{
+        let mut words = Vec::new(rt.alloc());
+        for word in line.split(' ') {{
+            words.push(word)?;
+        }}
+        let request = command(rt.alloc(), words.as_slice())?;
+        let mut answer = serve_told(rt.alloc(), &request, source.as_bytes(), true);
+        answer.out.extend_from_slice(answer.err.as_slice())?;
+        assert_eq!(rt; answer.out.as_slice(), shown.as_bytes());
     }}
     Ok(())
 }}
@@ -58,15 +97,20 @@ def main():
             file.write(tests())
         return 0
     wrong = [] if read(TESTS) == tests() else ["crates/txc/src/example_tests.rt is not what this script writes"]
-    shown = 0
-    for document in ["README.md", *sorted(glob.glob("docs/*.md", root_dir=TOP))]:
-        for name, out in SESSION.findall(read(os.path.join(TOP, document))):
-            shown += 1
-            if out != read(os.path.join(TOP, "examples", name + ".out")):
-                wrong.append(f"{document} does not show what {name} prints")
-    if f"```\n{read(os.path.join(TOP, 'examples', 'first.out'))}```" not in read(os.path.join(TOP, "README.md")):
-        wrong.append("README.md does not show what first prints")
-    print("\n".join(wrong) or f"the examples are those of the test, and documents show what they print, {shown + 1} times")
+    transcripts = {read(name) for name in names("examples/transcripts/*.txt")}
+    count = 0
+    for document in ["README.md", *names("docs/*.md")]:
+        for line, shown in SHOWN.findall(read(document)):
+            count += 1
+            run = RUN.fullmatch(line)
+            if shown != read(f"examples/{run[1]}.out") if run else line + shown not in transcripts:
+                wrong.append(f"{document} does not show what this prints: {line.strip()}")
+    programs = {read(name) for name in names("examples/**/*.c")}
+    for document in ("README.md", "docs/GUIDE.md"):
+        wrong += [f"{document} shows a program that is no example: {text[:60]!r}" for text in PROGRAM.findall(read(document)) if text not in programs]
+    if f"```\n{read('examples/first.out')}```" not in read("README.md"):
+        wrong.append("README.md does not show what first.c prints")
+    print("\n".join(wrong) or f"the examples are those of the test, and {count} transcripts in documents are as they run")
     return 1 if wrong else 0
 
 

@@ -1,0 +1,2 @@
+int x;
+void worker(int self) { x = 1; }
