@@ -12,5 +12,6 @@ pub mod Placing
 pub mod Printed
 pub mod Steps
 pub mod Stops
+pub mod Symbols
 pub mod Memories
 pub mod Turns

@@ -7,12 +7,15 @@ use Rattle.syntax.specs.declared.numbers.Halt.{Halt}
 use Rattle.syntax.specs.declared.numbers.Halt.TheVariants.{Astray}
 use Rattle.syntax.specs.declared.tree.Mode.{Mode}
 use Rattle.syntax.specs.declared.tree.Mode.TheVariants.{Atomic, Relaxed}
-use Rattle.syntax.specs.Tree.{Program, Stmt, Stmts, Exprs, Print, Function}
+use Rattle.std.specs.Prelude.{Bool, if◌then◌else◌}
+use Rattle.syntax.specs.Numbers.{converted, is_zero}
+use Rattle.syntax.specs.Types.{common_of, type_of, running_scope}
+use Rattle.syntax.specs.Tree.{Program, Expr, Conditional, Stmt, Stmts, Exprs, Print, Function}
 use Rattle.syntax.specs.Names.{Local, definition_of}
 use Rattle.syntax.specs.Behaviours.{Memory}
 use Rattle.syntax.specs.Formats.{pieces}
 use Rattle.syntax.specs.Actions.{Context, Outside, Inside, State, Answer, Gives, Stops, Action, pure, go_on, or_astray, locals, put_locals, tick, may_print, ◌>>=◌, ◌>>◌}
-use Rattle.syntax.specs.Meaning.{Caller, End, Next, stmt, stmts, exprs, print_pieces, transaction, enter, leave, left_by, leave_inner, close, close_inner, entered, invoke, calls, result_of}
+use Rattle.syntax.specs.Meaning.{Caller, End, Next, expr, stmt, stmts, exprs, print_pieces, transaction, enter, leave, left_by, leave_inner, close, close_inner, entered, invoke, calls, result_of}
 use Rattle.meaning.specs.inner.Calls.{Begins, begun}
 use Rattle.meaning.specs.Outcomes.{memories_in}
 use Rattle.meaning.specs.inner.Does.{is_forbidden}
@@ -30,6 +33,20 @@ print_until p call at format_at format es s0 s1 s2 s3 vs t m d =
     after (tick s0) (λ _. may_print >> (exprs p call es >>= (λ us. print_pieces (pieces format) us >> pure Next))) tt s1 t
     ∙ after (may_print s1) (λ _. exprs p call es >>= (λ us. print_pieces (pieces format) us >> pure Next)) tt s2 m
     ∙ after (exprs p call es s2) (λ us. print_pieces (pieces format) us >> pure Next) vs s3 d
+
+-- a conditional, once one of its branches is computed
+pub conditional_gives : (p : Program) (call : Caller) (c a b : Expr) (at : Span) (s0 s1 s2 : State) (v w : Value) (r : Answer Value) →
+    expr p call c s0 ≡ Gives v s1 → (if is_zero v then expr p call b else expr p call a) s1 ≡ Gives w s2 →
+    go_on (or_astray (common_of (type_of (running_scope p s2.locals) a) (type_of (running_scope p s2.locals) b)) s2) (λ t. pure (converted t w)) ≡ r →
+    expr p call (Conditional c a b at) s0 ≡ r
+conditional_gives p call c a b at s0 s1 s2 v w r test branch last =
+    after (expr p call c s0) (λ x. (if is_zero x then expr p call b else expr p call a) >>= (λ y. locals >>= (λ mine. or_astray (common_of (type_of (running_scope p mine) a) (type_of (running_scope p mine) b)) >>= (λ t. pure (converted t y))))) v s1 test
+    ∙ after ((if is_zero v then expr p call b else expr p call a) s1) (λ y. locals >>= (λ mine. or_astray (common_of (type_of (running_scope p mine) a) (type_of (running_scope p mine) b)) >>= (λ t. pure (converted t y)))) w s2 branch
+    ∙ last
+
+-- a branch that is picked
+pub branch_gives : (run other : Action Value) (tested zero : Bool) (s : State) (r : Answer Value) → tested ≡ zero → (if zero then run else other) s ≡ r → (if tested then run else other) s ≡ r
+branch_gives run other tested zero s r e d = ap (λ z. (if z then run else other) s) e ∙ d
 
 -- a call, once it has begun
 abbrev call_rest : Program → Caller → Begins → Action Value

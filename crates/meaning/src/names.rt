@@ -5,10 +5,10 @@ ghost use Rattle.std.specs.Option.{option_or};
 ghost use Rattle.syntax.specs.Tree as tree;
 ghost use Rattle.syntax.specs.Names as Names;
 ghost use Rattle.syntax.specs.Types as Types;
-ghost use Rattle.syntax.specs.Types.{common_of, running_scope, file_scope, known_among};
+ghost use Rattle.syntax.specs.Types.{common_of, running_scope, file_scope};
 ghost use Rattle.syntax.specs.Views.{expr_of, global_of, item_of};
 ghost use Rattle.meaning.specs.inner.Machine.{local_in, program_in};
-ghost use Rattle.meaning.specs.inner.File.{shared_in, defined_in, known_of, known_or};
+ghost use Rattle.meaning.specs.inner.File.{shared_in, defined_in, known_of};
 
 use crate::arithmetic::common_type;
 use crate::machine::{Local, newest};
@@ -95,50 +95,21 @@ pub(crate) fn definition<'p, A: Allocator + Copy>(
 }
 
 /// What a name of the file is declared as.
-#[derive(Drop)]
+#[derive(Clone, Copy)]
 pub(crate) enum Symbol<'p, A: Allocator> {
     Unknown,
     Global(&'p Global<A>),
     Function(&'p Function<A>),
 }
 
-/// A global of a declaration.
-fn symbol_among<'p, A: Allocator>(gs: &'p [Global<A>], name: &str) -> Option<Symbol<'p, A>>
-    ensures { (rest : Types.Scope) → known_or result (rest name.now) ≡ known_among (map global_of gs.now) rest name.now }
-{
-    'globals: for g in gs {
-        if g.name.text.as_str() == name {
-            return Some(Symbol::Global(g));
-        }
-    }
-    None
-}
-
-/// What an item declares a name as.
-fn declared_by<'p, A: Allocator>(item: &'p Item<A>, name: &str) -> Option<Symbol<'p, A>>
-    ensures { (rest : tree.Program) → known_or result (file_scope rest name.now) ≡ file_scope (item_of item.now ∷ rest) name.now }
-{
-    match item {
-        Item::Function(f) => {
-            if f.name.text.as_str() == name {
-                return Some(Symbol::Function(f));
-            }
-            None
-        }
-        Item::Globals(gs) => symbol_among(gs.as_slice(), name),
-    }
-}
-
 /// What a name is first declared as in the file.
-pub(crate) fn declared<'p, A: Allocator>(items: &'p [Item<A>], name: &str) -> Symbol<'p, A>
-    ensures { known_of result ≡ file_scope (map item_of items.now) name.now }
+fn declared<'p, A: Allocator + Copy>(source: &Source<'p, A>, name: &str) -> Symbol<'p, A>
+    ensures { known_of result ≡ file_scope (program_in source.now) name.now }
 {
-    'items: for item in items {
-        if let Some(found) = declared_by(item, name) {
-            return found;
-        }
+    match source.symbols.get(name) {
+        Some(s) => *s,
+        None => Symbol::Unknown,
     }
-    Symbol::Unknown
 }
 
 /// The type of a variable.
@@ -229,7 +200,7 @@ fn variable_type<A: Allocator + Copy>(
 {
     match newest(locals, x.text.as_str()) {
         Some((_, t)) => Some(t),
-        None => number_type(&declared(source.unit.items.as_slice(), x.text.as_str())),
+        None => number_type(&declared(source, x.text.as_str())),
     }
 }
 
@@ -243,7 +214,7 @@ fn array_type<A: Allocator + Copy>(
 {
     match newest(locals, x.text.as_str()) {
         Some(_) => None,
-        None => element_type(&declared(source.unit.items.as_slice(), x.text.as_str())),
+        None => element_type(&declared(source, x.text.as_str())),
     }
 }
 
@@ -257,7 +228,7 @@ fn value_type<A: Allocator + Copy>(
 {
     match newest(locals, f.text.as_str()) {
         Some(_) => None,
-        None => call_type(&declared(source.unit.items.as_slice(), f.text.as_str())),
+        None => call_type(&declared(source, f.text.as_str())),
     }
 }
 

@@ -6,9 +6,9 @@ ghost use mathlib.Core.Sum.{⊎_set};
 ghost use Rattle.syntax.specs.Names as Names;
 ghost use Rattle.syntax.specs.Views.{program_of};
 ghost use Rattle.meaning.specs.inner.Cells.{total_cells};
-ghost use Rattle.meaning.specs.inner.Tables.{AreNumbers, AreGlobals};
+ghost use Rattle.meaning.specs.inner.Tables.{AreNumbers, AreGlobals, AreSymbols};
 
-use crate::names::Shared;
+use crate::names::{Shared, Symbol};
 use std::alloc::Allocator;
 use std::collections::BTreeMap;
 use syntax::tree::Unit;
@@ -19,6 +19,9 @@ pub(crate) type Definitions<'p, A> = BTreeMap<&'p str, usize, A>;
 /// Each global, with its first cell.
 pub(crate) type Globals<'p, A> = BTreeMap<&'p str, Shared<'p, A>, A>;
 
+/// What each name of the file is first declared as.
+pub(crate) type Symbols<'p, A> = BTreeMap<&'p str, Symbol<'p, A>, A>;
+
 /// A program that runs, with the tables of its names, and with at most so many cells as an accepted one has.
 #[derive(Drop)]
 pub(crate) struct Source<'p, A: Allocator> {
@@ -26,7 +29,9 @@ pub(crate) struct Source<'p, A: Allocator> {
     pub unit: &'p Unit<A>,
     pub definitions: Definitions<'p, A>,
     pub globals: Globals<'p, A>,
+    pub symbols: Symbols<'p, A>,
     ghost small: { total_cells (Names.globals (program_of unit.now)) ≤ 4096 },
     ghost numbered: { AreNumbers 0 (program_of unit.now) definitions } by { Prim.hlevel props },
     ghost shared: { AreGlobals (program_of unit.now) globals } by { Prim.hlevel (props, ⊎_set) },
+    ghost declared: { AreSymbols (program_of unit.now) symbols } by { Prim.hlevel (props, ⊎_set) },
 }

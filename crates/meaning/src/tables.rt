@@ -5,12 +5,15 @@ ghost use Rattle.std.specs.Option.{option_or};
 ghost use Rattle.syntax.specs.Tree as tree;
 ghost use Rattle.syntax.specs.Names as Names;
 ghost use Rattle.syntax.specs.Names.{GlobalCells, globals};
+ghost use Rattle.syntax.specs.Types.{Known, Scope, known_among, file_scope};
 ghost use Rattle.syntax.specs.Views.{global_of, item_of};
 ghost use Rattle.meaning.specs.inner.Cells.{total_cells};
-ghost use Rattle.meaning.specs.inner.Tables.{AreNumbers, AreGlobals, shared_at};
+ghost use Rattle.meaning.specs.inner.File.{known_of, known_or};
+ghost use Rattle.meaning.specs.inner.Tables.{AreNumbers, AreGlobals, AreSymbols, shared_at};
+ghost use Rattle.types.specs.Slots.{value_at};
 
-use crate::names::{Shared, cells_of};
-use crate::program::{Definitions, Globals, Source};
+use crate::names::{Shared, Symbol, cells_of};
+use crate::program::{Definitions, Globals, Source, Symbols};
 use std::alloc::{AllocError, Allocator};
 use std::collections::BTreeMap;
 use syntax::tree::{Global, Item};
@@ -106,6 +109,63 @@ fn place_globals<'p, A: Allocator + Copy>(
     Ok(table)
 }
 
+/// Adds what a name is declared as, unless it is declared already.
+fn add_symbol<'p, A: Allocator + Copy>(
+    symbols: &mut Symbols<'p, A>,
+    name: &'p str,
+    symbol: Symbol<'p, A>,
+) -> Result<(), AllocError>
+    ensures { OnOk result ((x : List ℕ) (rest : Known) → known_or (value_at symbols.new x) rest ≡ known_or (value_at symbols.old x) (if bytes_eq name.now x then known_of symbol.entry else rest)) }
+{
+    if symbols.contains_key(name) {
+        return Ok(());
+    }
+    match symbols.insert(name, symbol) {
+        Ok(_) => Ok(()),
+        Err(_) => Err(AllocError),
+    }
+}
+
+/// Adds the globals of a declaration.
+fn add_shared_symbols<'p, A: Allocator + Copy>(
+    table: &mut Symbols<'p, A>,
+    gs: &'p [Global<A>],
+) -> Result<(), AllocError>
+    ensures { OnOk result ((x : List ℕ) (rest : Scope) → known_or (value_at table.new x) (rest x) ≡ known_or (value_at table.old x) (known_among (map global_of gs.now) rest x)) }
+{
+    'globals: for g in gs {
+        add_symbol(table, g.name.text.as_str(), Symbol::Global(g))?;
+    }
+    Ok(())
+}
+
+/// Adds what an item declares.
+fn add_declared<'p, A: Allocator + Copy>(
+    table: &mut Symbols<'p, A>,
+    item: &'p Item<A>,
+) -> Result<(), AllocError>
+    ensures { OnOk result ((x : List ℕ) (rest : List tree.Item) → known_or (value_at table.new x) (file_scope rest x) ≡ known_or (value_at table.old x) (file_scope (item_of item.now ∷ rest) x)) }
+{
+    match item {
+        Item::Function(f) => add_symbol(table, f.name.text.as_str(), Symbol::Function(f)),
+        Item::Globals(gs) => add_shared_symbols(table, gs.as_slice()),
+    }
+}
+
+/// What each name of the file is first declared as.
+fn place_symbols<'p, A: Allocator + Copy>(
+    alloc: A,
+    items: &'p [Item<A>],
+) -> Result<Symbols<'p, A>, AllocError>
+    ensures { IfOk result (AreSymbols (map item_of items.now)) }
+{
+    let mut table = BTreeMap::new(alloc);
+    'items: for item in items {
+        add_declared(&mut table, item)?;
+    }
+    Ok(table)
+}
+
 /// A program that is to run, with its tables. Takes memory for these.
 pub(crate) fn source<'p, A: Allocator + Copy>(
     alloc: A,
@@ -116,10 +176,12 @@ pub(crate) fn source<'p, A: Allocator + Copy>(
     let unit = typed.unit();
     let definitions = number_definitions(alloc, unit.items.as_slice())?;
     let globals = place_globals(alloc, unit.items.as_slice())?;
+    let symbols = place_symbols(alloc, unit.items.as_slice())?;
     Ok(Source {
         alloc,
         unit,
         definitions,
         globals,
+        symbols,
     })
 }

@@ -4,9 +4,11 @@ use Rattle.std.specs.Prelude.{◌≡◌, ℕ, ◌+◌, ◌&&◌, List, [], ◌�
 use Rattle.std.specs.BTreeMap.{BTreeMap}
 use Rattle.syntax.specs.Tree.{Item, Defines, Shares, Program}
 use Rattle.syntax.specs.Names.{GlobalCells, global_of}
+use Rattle.syntax.specs.Types.{Unknown, file_scope}
 use Rattle.types.specs.Slots.{value_at}
 use Rattle.meaning.specs.declared.names.Shared.{Shared}
-use Rattle.meaning.specs.inner.File.{shared_in}
+use Rattle.meaning.specs.declared.names.Symbol.{Symbol}
+use Rattle.meaning.specs.inner.File.{shared_in, known_or}
 
 -- the number of the item that defines a function, where the first of these items has this number
 abbrev pub number_from : ℕ → List Item → List ℕ → Option ℕ
@@ -26,3 +28,7 @@ module _ {A : Type 0} where
   -- these are the globals of a program
   abbrev pub AreGlobals : Program → BTreeMap (Bor (List ℕ)) (Shared A) → Type 0
   AreGlobals p m = (x : List ℕ) → shared_at m x ≡ global_of p x
+
+  -- each name of a program is first declared as this
+  abbrev pub AreSymbols : Program → BTreeMap (Bor (List ℕ)) (Symbol A) → Type 0
+  AreSymbols p m = (x : List ℕ) → known_or (value_at m x) Unknown ≡ file_scope p x

@@ -1,5 +1,6 @@
 use Rattle.std.proofs.Common.{◌≡◌, ◌∙◌, ◌+◌, ◌-◌, ◌++◌, ◌∷◌, [], Err, suc, refl, sym, ap, map, option_map, take, drop, length, Bool, arith}
-use Rattle.std.specs.Prelude.{if◌then◌else◌}
+use Rattle.std.specs.Prelude.{if◌then◌else◌, true, false}
+use Rattle.syntax.specs.Numbers.{is_zero}
 use Rattle.syntax.specs.Tree as tree
 use Rattle.syntax.specs.Views.{declarator_of, expr_of, exprs_of, simple_of, start_of, stmt_of, stmts_of}
 use Rattle.syntax.specs.Depth.{block_depth}
@@ -17,8 +18,9 @@ use Rattle.meaning.proofs.Bodies.{weight_less}
 use Rattle.meaning.proofs.Deeper.{block_deep, transaction_deep, argument_deep, statement_deep, declarator_deep}
 use Rattle.meaning.proofs.Parts.{call_is, logical_is, conditional_is, declare_is, block_is, print_is, while_is, do_while_is, for_is, return_is, transaction_is}
 use Rattle.meaning.proofs.Loops.{after, halts, stmts_next, stmts_left, stmts_halt, stmts_end, values_next, values_halt, values_end, values_start, declare_next, declare_halt, scoped_gives, scoped_stops, truncated, turns_spent, turns_next, turns_ended}
-use Rattle.meaning.proofs.Steps.{ticks_then, print_until, call_gives, call_stops, transaction_at, outermost_none, outermost_gives, outermost_stops, nested_astray, nested_gives, nested_stops, found_none, found_first}
+use Rattle.meaning.proofs.Steps.{ticks_then, print_until, call_gives, call_stops, transaction_at, outermost_none, outermost_gives, outermost_stops, nested_astray, nested_gives, nested_stops, found_none, found_first, conditional_gives, branch_gives}
 use Rattle.meaning.proofs.run.+run.Goals as goal
+use Rattle.meaning.proofs.run.+run.Goals.{conditional-then-is_zero+in_ok-w, conditional-else-is_zero+in_ok-w-2}
 
 pub block-returns : goal.block-returns
 block-returns g t c done =
@@ -30,6 +32,27 @@ pub block-returns-in_err-end : goal.block-returns-in_err-end
 block-returns-in_err-end g t c =
     let is : c.from_residual.result ≡ Err c.in_err-end.field-0.0 = err_of c.from_residual.result c.in_err-end.field-0.0 c.from_residual.ensures.1 in
     stops_as end_of c.from_residual.result c.in_err-end.field-0.0 _ c.stmts.new.m is (λ d. scoped_stops (does_stmts c.args.source.now c.args.frames c.args.ss.now) (state_in c.args.m.now) (state_in c.stmts.new.m) _ (c.in_err-end.ensures d))
+
+pub conditional-returns : goal.conditional-returns
+conditional-returns g t c at done =
+    let p = program_in c.args.source.now in
+    let call = called c.args.source.now c.args.frames in
+    let e1 = expr_of c.args.c.now in
+    let e2 = expr_of c.args.a.now in
+    let e3 = expr_of c.args.b.now in
+    let s1 = state_in c.eval.new.m in
+    let s2 = state_in c.if-is_zero.m in
+    let w2 = value_of c.if-is_zero.w in
+    elim c.if-is_zero.branch [
+      | conditional-then-is_zero+in_ok-w w ↦ conditional_gives p call e1 e2 e3 at (state_in c.args.m.now) s1 s2 (value_of c.in_ok-v.v) w2 _ (c.in_ok-v.ensures tt)
+          (branch_gives (expr p call e3) (expr p call e2) (is_zero (value_of c.in_ok-v.v)) true s1 (Gives w2 s2) (sym c.is_zero.ensures ∙ w.if-is_zero.true)
+          (w.in_ok-w.ensures tt ∙ ap (λ x. Gives (value_of x) (state_in w.eval-then-is_zero.new.m)) (sym w.w-is) ∙ ap (λ m. Gives w2 (state_in m)) (sym w.m-is)))
+          (c.joined.ensures done)
+      | conditional-else-is_zero+in_ok-w-2 w ↦ conditional_gives p call e1 e2 e3 at (state_in c.args.m.now) s1 s2 (value_of c.in_ok-v.v) w2 _ (c.in_ok-v.ensures tt)
+          (branch_gives (expr p call e3) (expr p call e2) (is_zero (value_of c.in_ok-v.v)) false s1 (Gives w2 s2) (sym c.is_zero.ensures ∙ w.if-is_zero.false)
+          (w.in_ok-w-2.ensures tt ∙ ap (λ x. Gives (value_of x) (state_in w.eval-else-is_zero.new.m)) (sym w.w-is) ∙ ap (λ m. Gives w2 (state_in m)) (sym w.m-is)))
+          (c.joined.ensures done)
+    ]
 
 pub declare-declarators-preserved : goal.declare-declarators-preserved
 declare-declarators-preserved g t c =

@@ -1,5 +1,6 @@
 use Rattle.std.proofs.Common.{◌∙◌, map, sym, ap, subst, arith}
 use Rattle.syntax.specs.Names.{globals, global_of}
+use Rattle.syntax.specs.Types.{file_scope}
 use Rattle.syntax.specs.Typing.{IsTypedProgram}
 use Rattle.syntax.specs.Views.{item_of, program_of}
 use Rattle.meaning.specs.inner.Cells.{total_cells}
@@ -18,4 +19,5 @@ invariant_of-result g c = record {
   small = cells_few (program_of c.unit-unit.result.now) (subst (λ u. IsTypedProgram (program_of u)) (sym c.unit-unit.ensures) c.args.typed.now.typed);
   numbered = λ x. c.in_ok-definitions.ensures x ∙ ap (λ xs. number_from 0 (map item_of xs) x) c.as_slice.ensures;
   shared = λ x. c.in_ok-globals.ensures x ∙ ap (λ xs. global_of (map item_of xs) x) c.as_slice-2.ensures;
+  declared = λ x. c.in_ok-symbols.ensures x ∙ ap (λ xs. file_scope (map item_of xs) x) c.as_slice-3.ensures;
 }
