@@ -1,13 +1,14 @@
 #!/bin/sh
 # Prints how many ticks a second the source's meaning takes, in a built program, by the fastest of some rounds: a loop over a
-# local, a loop in a transaction over a global, and calls. Where `lua5.4` is installed, how long the same loops take there.
+# local, a loop in a transaction over a global, and calls. Where `lua5.4` is installed, how long the same loops take there, and
+# how many times that the source's meaning takes.
 # The program is made in a folder of its own and removed.
 set -e
 top=$(cd "$(dirname "$0")/.." && pwd)
 work=$(mktemp -d)
 trap 'rm -rf "$work"' EXIT
 mkdir -p "$work/crates/meaning_speed/src"
-for crate in containers lex meaning parse refusing syntax types; do
+for crate in containers lex meaning parse refusing safety separation syntax types; do
     cp -r "$top/crates/$crate" "$work/crates/"
 done
 cat > "$work/crates.txt" <<'END_CRATES'
@@ -17,8 +18,10 @@ lex: refusing thiserror
 syntax: containers lex
 parse: containers lex syntax thiserror
 types: containers lex syntax thiserror
-meaning: containers itoa lex syntax types
-meaning_speed: lex meaning parse types
+safety: containers lex syntax types thiserror
+separation: containers lex safety syntax types thiserror
+meaning: containers itoa lex safety separation syntax thiserror types
+meaning_speed: lex meaning parse safety separation types
 END_CRATES
 # memories that hold 0, and the proof that they are words, are those of the tests
 cp "$top/crates/meaning_tests/src/memory.rt" "$work/crates/meaning_speed/src/"
@@ -35,6 +38,8 @@ use lex::lex;
 use meaning::thread;
 use memory::zeros;
 use parse::parse;
+use safety::safe;
+use separation::accept;
 use std::io;
 use std::time::Instant;
 use types::check;
@@ -57,12 +62,20 @@ fn measure(rt: &HostRuntime, name: &str, text: &str) -> io::Result<()> {
         println!(rt; "not typed")?;
         return Ok(());
     };
+    let Ok(safe) = safe(rt.alloc(), typed) else {
+        println!(rt; "not safe")?;
+        return Ok(());
+    };
+    let Ok(accepted) = accept(rt.alloc(), safe) else {
+        println!(rt; "not accepted")?;
+        return Ok(());
+    };
     let memories = zeros(rt.alloc(), 1, 1)?;
     let mut least = u128::MAX;
     let mut ended = 0u32;
     for _ in 0..3 {
         let start = Instant::now(rt)?;
-        let outcome = thread(rt.alloc(), &typed, 0, memories.as_slice(), 10000000);
+        let outcome = thread(rt.alloc(), &accepted, 0, memories.as_slice(), 10000000);
         least = least.min(start.elapsed(rt)?.as_nanos());
         if outcome.is_ok() {
             ended = ended.wrapping_add(1);
@@ -82,7 +95,7 @@ fn main(rt: HostRuntime) -> io::Result<()> {
 }
 END_MAIN
 cd "$work/crates/meaning_speed"
-rt run --jobs 2
+rt run --jobs 2 | tee meaning.txt
 if command -v lua5.4 > /dev/null; then
     cat > loops.lua <<'END_LUA'
 local function timed(name, run)
@@ -101,5 +114,10 @@ timed("a global", function() for i = 0, 4999999 do total = (total + i) & 1023 en
 local function f(a) return a + 1 end
 timed("calls", function() local total = 0; for i = 0, 2499999 do total = f(total) & 1023 end end)
 END_LUA
-    lua5.4 loops.lua
+    lua5.4 loops.lua | tee lua.txt
+    # a loop's name, its time in the meaning, its time in Lua
+    sed -n 's/^Lua, \(.*\): \([0-9]*\) us .*/\1:\2/p' lua.txt | while IFS=: read -r name lua; do
+        own=$(sed -n "s/^$name: .* rounds, \([0-9]*\) us .*/\1/p" meaning.txt)
+        echo "$name: $((own * 10 / lua / 10)).$((own * 10 / lua % 10)) times Lua's time"
+    done
 fi

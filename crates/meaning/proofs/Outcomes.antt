@@ -1,26 +1,33 @@
 -- A thread from its start to its end.
-use Rattle.std.proofs.Common.{◌≡◌, ℕ, List, [], Option, Some, None, Result, Ok, Err, IfOk, sym, ap, ◌∙◌}
+use Rattle.std.proofs.Common.{◌≡◌, ◌≢◌, ℕ, List, [], Option, Some, None, Result, Ok, Err, IfOk, sym, ap, ◌∙◌}
+use Rattle.std.proofs.Math.Logic.{∥∥₁_elim}
 use Rattle.syntax.specs.Tree.{Program}
 use Rattle.syntax.specs.Names.{Local}
 use Rattle.syntax.specs.declared.numbers.Halt.{Halt}
+use Rattle.syntax.specs.declared.numbers.Halt.TheVariants.{Astray}
 use Rattle.syntax.specs.Behaviours.{Memory, Outcome, Ended, Stopped}
 use Rattle.syntax.specs.Actions.{State, Gives, Stops, Outside, lefts_in}
+use Rattle.separation.specs.Touching.{IsAccepted}
+use Rattle.separation.specs.Laws.{NeverAstray}
 use Rattle.meaning.specs.inner.Machine.{Happened}
 use Rattle.syntax.specs.Threads.{outcome_of, first_state, worker_run, thread}
 
-pub starts : (n : ℕ) (ls : List Local) (fs founds os : List Memory) (text : List ℕ) → ls ≡ [] → fs ≡ founds → os ≡ [] → text ≡ [] → first_state founds n ≡ record { ticks = n; locals = ls; context = Outside fs os; text = text }
-starts n ls fs founds os text a b c d =
-    sym (ap (λ x. record { ticks = n; locals = x; context = Outside fs os; text = text }) a
-    ∙ ap (λ x. record { ticks = n; locals = []; context = Outside x os; text = text }) b
-    ∙ ap (λ x. record { ticks = n; locals = []; context = Outside founds x; text = text }) c
-    ∙ ap (λ x. record { ticks = n; locals = []; context = Outside founds []; text = x }) d)
+pub starts : (n : ℕ) (ls : List Local) (founds os : List Memory) (text : List ℕ) → ls ≡ [] → os ≡ [] → text ≡ [] → record { ticks = n; locals = ls; context = Outside founds os; text = text } ≡ first_state founds n
+starts n ls founds os text a b c =
+    ap (λ x. record { ticks = n; locals = x; context = Outside founds os; text = text }) a
+    ∙ ap (λ x. record { ticks = n; locals = []; context = Outside founds x; text = text }) b
+    ∙ ap (λ x. record { ticks = n; locals = []; context = Outside founds []; text = x }) c
 
-module _ (p : Program) (t n : ℕ) (founds : List Memory) (s0 s1 : State) (start : first_state founds n ≡ s0) where
+module _ (p : Program) (t n : ℕ) (founds : List Memory) (s0 s1 : State) (start : s0 ≡ first_state founds n) where
   pub thread_ends : worker_run p t s0 ≡ Gives tt s1 → thread p t founds n ≡ record { lefts = lefts_in s1.context; text = s1.text; end = Ended }
-  thread_ends d = ap (λ s. outcome_of (worker_run p t s)) start ∙ ap outcome_of d
+  thread_ends d = sym (ap (λ s. outcome_of (worker_run p t s)) start) ∙ ap outcome_of d
 
   pub thread_stops : (why : Halt) → worker_run p t s0 ≡ Stops why s1 → thread p t founds n ≡ record { lefts = lefts_in s1.context; text = s1.text; end = Stopped why }
-  thread_stops why d = ap (λ s. outcome_of (worker_run p t s)) start ∙ ap outcome_of d
+  thread_stops why d = sym (ap (λ s. outcome_of (worker_run p t s)) start) ∙ ap outcome_of d
+
+  -- it stops for no reason that an accepted program has not
+  pub stops_within : NeverAstray → ∥ IsAccepted p ∥₁ → (why : Halt) → worker_run p t s0 ≡ Stops why s1 → why ≢ Astray
+  stops_within law ok why d astray = ∥∥₁_elim ok (hlevel) (λ a. law p a t founds n (ap (λ o. o.end) (thread_stops why d) ∙ ap Stopped astray))
 
 pub happened : (o : Option Halt) (why : Halt) → o ≡ Some why → Happened o
 happened (Some k) why e = tt

@@ -1,5 +1,6 @@
 -- What is seen of a thread.
 use Rattle.std.specs.Prelude.{Vec, ℕ, ◌<◌, ◌^◌, List, map, All}
+use Rattle.syntax.specs.declared.numbers.Halt.TheVariants as halt
 use Rattle.syntax.specs.Behaviours as Behaviours
 use Rattle.syntax.specs.Behaviours.{Memory, Outcome}
 use Rattle.meaning.specs.declared.outcome.ThreadEnd.{ThreadEnd}
@@ -8,7 +9,9 @@ use Rattle.meaning.specs.declared.outcome.ThreadOutcome.{ThreadOutcome}
 
 abbrev pub thread_end_in : ThreadEnd → Behaviours.ThreadEnd
 thread_end_in end.Ended = Behaviours.Ended
-thread_end_in (end.Stopped why) = Behaviours.Stopped why
+thread_end_in (end.Trapped k) = Behaviours.Stopped (halt.Trapped k)
+thread_end_in end.Wants = Behaviours.Stopped halt.Wants
+thread_end_in end.Spent = Behaviours.Stopped halt.Spent
 
 module _ {A : Type 0} where
   abbrev pub memories_in : List (Vec ℕ A) → List Memory

@@ -4,16 +4,19 @@ ghost use Rattle.std.specs.Prelude.{◌≡◌};
 ghost use Rattle.meaning.specs.InOrder.{number_in};
 
 use std::alloc::Allocator;
-use syntax::numbers::Halt;
+use syntax::numbers::Trap;
 use thiserror::Error;
 
-/// How a thread is found after its ticks.
+/// How a thread of an accepted program is found after its ticks.
 #[derive(Clone, Copy, PartialEq, Eq, Debug)]
 pub enum ThreadEnd {
     /// It has come to its end.
     Ended,
-    /// It goes no further.
-    Stopped(Halt),
+    Trapped(Trap),
+    /// Its next outermost transaction finds no memory.
+    Wants,
+    /// A tick is due, and none is left.
+    Spent,
 }
 
 /// What a thread leaves and prints.

@@ -1,8 +1,10 @@
 //! A thread of the source, from its first tick to its end.
 
-ghost use Rattle.std.specs.Prelude.{◌≡◌, IfOk};
+ghost use Rattle.std.specs.Prelude.{◌≡◌, ◌≢◌, IfOk};
+ghost use Rattle.syntax.specs.declared.numbers.Halt.TheVariants.{Astray};
+ghost use Rattle.syntax.specs.Behaviours.{Stopped};
 ghost use Rattle.syntax.specs.Actions.{lefts_in};
-ghost use Rattle.syntax.specs.Threads.{thread as thread_due, worker_run};
+ghost use Rattle.syntax.specs.Threads.{first_state, thread as thread_due, worker_run};
 ghost use Rattle.syntax.specs.Views.{program_of};
 ghost use Rattle.meaning.specs.Outcomes.{AreWords, memories_in, outcome_in, thread_end_in};
 ghost use Rattle.meaning.specs.inner.Seen.{seen_in};
@@ -15,9 +17,10 @@ use crate::run::entered;
 use crate::tables::source;
 use crate::words::{narrow_all, widen_all};
 use lex::token::Scalar;
+use separation::Accepted;
+use separation::laws::never_astray;
 use std::alloc::Allocator;
-use syntax::numbers::Value;
-use types::Typed;
+use syntax::numbers::{Halt, Value};
 
 /// `worker(t)`, in the first of 64 frames, and then the tick of the thread's end.
 fn work<'p, A: Allocator + Copy>(
@@ -64,53 +67,74 @@ fn finish<A: Allocator + Copy>(alloc: A, end: ThreadEnd, m: Machine<A>) -> Seen<
     }
 }
 
-/// What thread `t` of a program does, as `thread`, with memories in words of 32 bits.
-pub(crate) fn run_thread<A: Allocator + Copy>(
-    alloc: A,
-    typed: &Typed<A>,
-    t: u32,
-    founds: &[Vec<u32, A>],
-    ticks: u64,
-) -> Result<Seen<A>, OutOfMemory>
-    ensures { IfOk result (λ o. seen_in o ≡ thread_due (program_of typed.now.unit) t (memories_in founds.now) ticks) }
+/// A thread before its first tick.
+fn start<'p, A: Allocator + Copy>(alloc: A, founds: &'p [Vec<u32, A>], ticks: u64) -> Machine<'p, A>
+    ensures { state_in result ≡ first_state (memories_in founds.now) ticks }
 {
-    let Ok(source) = source(alloc, typed) else {
-        return Err(OutOfMemory);
-    };
-    let mut m = Machine {
+    Machine {
         ticks,
         why: None,
         locals: Vec::new(alloc),
         context: Context::Outside(founds, Vec::new(alloc)),
         text: Vec::new(alloc),
+    }
+}
+
+/// The end that is told of a thread that has stopped.
+fn end_of(why: Halt) -> ThreadEnd
+    requires { why ≢ Astray }
+    ensures { thread_end_in result ≡ Stopped why }
+{
+    match why {
+        Halt::Trapped(trap) => ThreadEnd::Trapped(trap),
+        Halt::Wants => ThreadEnd::Wants,
+        Halt::Spent => ThreadEnd::Spent,
+        Halt::Astray => unreachable!(),
+    }
+}
+
+/// What thread `t` of a program does, as `thread`, with memories in words of 32 bits.
+pub(crate) fn run_thread<A: Allocator + Copy>(
+    alloc: A,
+    accepted: &Accepted<A>,
+    t: u32,
+    founds: &[Vec<u32, A>],
+    ticks: u64,
+) -> Result<Seen<A>, OutOfMemory>
+    ensures { IfOk result (λ o. seen_in o ≡ thread_due (program_of accepted.now.safe.typed.unit) t (memories_in founds.now) ticks) }
+{
+    never_astray(); // the law by which an end is told below
+    let Ok(source) = source(alloc, accepted.safe().typed()) else {
+        return Err(OutOfMemory);
     };
+    let mut m = start(alloc, founds, ticks);
     match work(&source, t, &mut m) {
         Ok(()) => Ok(finish(alloc, ThreadEnd::Ended, m)),
         Err(_) => match m.why {
-            Some(why) => Ok(finish(alloc, ThreadEnd::Stopped(why), m)),
+            Some(why) => Ok(finish(alloc, end_of(why), m)),
             None => Err(OutOfMemory),
         },
     }
 }
 
-/// What thread `t` of a program does within so many ticks, where the i-th of its outermost transactions finds the i-th of
+/// What thread `t` of an accepted program does within so many ticks, where the i-th of its outermost transactions finds the i-th of
 /// these memories of the program, a word below 2^32 for each cell: what it leaves and prints, and how it ends. Takes memory
 /// for the state of the program, for the memories and for the text; where that is refused, nothing else is told.
 pub fn thread<A: Allocator + Copy>(
     alloc: A,
-    typed: &Typed<A>,
+    accepted: &Accepted<A>,
     t: u32,
     founds: &[Vec<u64, A>],
     ticks: u64,
 ) -> Result<ThreadOutcome<A>, OutOfMemory>
     requires { AreWords founds.now }
-    ensures value { IfOk result (λ o. outcome_in o ≡ thread_due (program_of typed.now.unit) t (memories_in founds.now) ticks) }
+    ensures value { IfOk result (λ o. outcome_in o ≡ thread_due (program_of accepted.now.safe.typed.unit) t (memories_in founds.now) ticks) }
     ensures words { IfOk result (λ o. AreWords o.lefts.items) }
 {
     let Ok(found) = narrow_all(alloc, founds) else {
         return Err(OutOfMemory);
     };
-    let seen = run_thread(alloc, typed, t, found.as_slice(), ticks)?;
+    let seen = run_thread(alloc, accepted, t, found.as_slice(), ticks)?;
     let Ok(lefts) = widen_all(alloc, seen.lefts.as_slice()) else {
         return Err(OutOfMemory);
     };

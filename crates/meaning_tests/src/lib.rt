@@ -2,7 +2,11 @@
 #![tactic(auto)]
 
 #[cfg(test)]
+mod deep;
+#[cfg(test)]
 mod memory;
+#[cfg(test)]
+mod orders;
 #[cfg(test)]
 mod run;
 #[cfg(test)]

@@ -3,7 +3,7 @@
 use crate::run::run;
 use meaning::ThreadEnd;
 use std::test::Fail;
-use syntax::numbers::{Halt, Trap};
+use syntax::numbers::Trap;
 
 /// A text, the memories to be found, the ticks; how many memories are left, what the last one begins with, what is printed,
 /// and the end.
@@ -17,9 +17,9 @@ type Row = (
     ThreadEnd,
 );
 
-const SPENT: ThreadEnd = ThreadEnd::Stopped(Halt::Spent);
+const SPENT: ThreadEnd = ThreadEnd::Spent;
 
-const WANTS: ThreadEnd = ThreadEnd::Stopped(Halt::Wants);
+const WANTS: ThreadEnd = ThreadEnd::Wants;
 
 const ENDED: ThreadEnd = ThreadEnd::Ended;
 
@@ -64,25 +64,9 @@ const ROWS: [Row; 27] = [
     (PIECES, 0, 4, 0, 0, "a7%b", SPENT),
     (PIECES, 0, 5, 0, 0, "a7%b", ENDED),
     (TRAPS, 1, 3, 0, 0, "", SPENT),
-    (
-        TRAPS,
-        1,
-        4,
-        1,
-        0,
-        "",
-        ThreadEnd::Stopped(Halt::Trapped(Trap::ZeroDivisor)),
-    ),
+    (TRAPS, 1, 4, 1, 0, "", ThreadEnd::Trapped(Trap::ZeroDivisor)),
     (FRAMES, 0, 128, 0, 0, "", SPENT),
-    (
-        FRAMES,
-        0,
-        129,
-        0,
-        0,
-        "",
-        ThreadEnd::Stopped(Halt::Trapped(Trap::Frames)),
-    ),
+    (FRAMES, 0, 129, 0, 0, "", ThreadEnd::Trapped(Trap::Frames)),
     (CANCELS, 1, 5, 0, 0, "", SPENT),
     (CANCELS, 1, 8, 1, 0, "5", SPENT),
     (CANCELS, 1, 9, 1, 0, "5", ENDED),
@@ -94,7 +78,7 @@ const ROWS: [Row; 27] = [
 fn each_thing_takes_its_ticks(rt: HostRuntime) -> Result<(), Fail> {
     for (text, founds, ticks, lefts, first, printed, end) in ROWS {
         let Some(outcome) = run(rt.alloc(), text, 0, founds, ticks) else {
-            return Err("a row has a typed program")?;
+            return Err("a row has an accepted program")?;
         };
         assert_eq!(rt; outcome.end, end, "{text} with {ticks}");
         assert_eq!(rt;

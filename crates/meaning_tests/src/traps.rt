@@ -1,14 +1,11 @@
 //! A program for each trap, each growth refused in turn, and programs that run long.
 
 use crate::memory::zeros;
-use crate::run::run;
-use lex::lex;
+use crate::run::{accepted_of, run};
 use meaning::{ThreadEnd, thread};
-use parse::parse;
 use refusing::Refusing;
 use std::test::Fail;
-use syntax::numbers::{Halt, Trap};
-use types::check;
+use syntax::numbers::Trap;
 
 const TRAPS: [(&str, Trap); 7] = [
     (
@@ -39,13 +36,9 @@ const TRAPS: [(&str, Trap); 7] = [
 fn each_trap_has_a_program(rt: HostRuntime) -> Result<(), Fail> {
     for (text, trap) in TRAPS {
         let Some(outcome) = run(rt.alloc(), text, 0, 1, 1000) else {
-            return Err("a row has a typed program")?;
+            return Err("a row has an accepted program")?;
         };
-        assert_eq!(rt;
-            outcome.end,
-            ThreadEnd::Stopped(Halt::Trapped(trap)),
-            "{text}"
-        );
+        assert_eq!(rt; outcome.end, ThreadEnd::Trapped(trap), "{text}");
     }
     Ok(())
 }
@@ -69,7 +62,7 @@ void worker(int self) {
 #[test]
 fn the_whole_language_runs(rt: HostRuntime) -> Result<(), Fail> {
     let Some(outcome) = run(rt.alloc(), WHOLE, 3, 3, 10000) else {
-        return Err("it is a typed program")?;
+        return Err("it is an accepted program")?;
     };
     assert_eq!(rt; outcome.end, ThreadEnd::Ended);
     assert_eq!(rt; outcome.text.as_slice(), b"3:1 4:0 5:0 ".as_slice());
@@ -84,19 +77,13 @@ fn the_whole_language_runs(rt: HostRuntime) -> Result<(), Fail> {
 #[test]
 fn each_growth_that_is_refused_is_told(rt: HostRuntime) -> Result<(), Fail> {
     let alloc = Refusing::new(rt.alloc(), 0);
-    let Ok(tokens) = lex(&alloc, WHOLE) else {
-        return Err("it has tokens")?;
-    };
-    let Ok(unit) = parse(&alloc, tokens.as_slice()) else {
-        return Err("it is a program")?;
-    };
-    let Ok(typed) = check(&alloc, unit) else {
-        return Err("it is typed")?;
+    let Some(accepted) = accepted_of(&alloc, WHOLE) else {
+        return Err("it is an accepted program")?;
     };
     let memories = zeros(&alloc, 3, 4)?;
     for n in 1..1000 {
         alloc.refuse(n);
-        let answer = thread(&alloc, &typed, 3, memories.as_slice(), 10000);
+        let answer = thread(&alloc, &accepted, 3, memories.as_slice(), 10000);
         let waiting = alloc.is_waiting();
         alloc.refuse(0);
         match answer {
@@ -110,25 +97,4 @@ fn each_growth_that_is_refused_is_told(rt: HostRuntime) -> Result<(), Fail> {
         }
     }
     Err("with memory enough it ends")?
-}
-
-// 64 frames, each in 95 parentheses and in 95 blocks
-const DEEP: &str =
-    "int f(int a) { return (((((((((((((((((((((((((((((((((((((((((((((((((((((((((((((((((((((((((((((((((((((((((((((((f(a)))))))))))))))))))))))))))))))))))))))))))))))))))))))))))))))))))))))))))))))))))))))))))))))); } void worker(int self) { f(0); }";
-
-const NESTED: &str =
-    "int f(int a) { {{{{{{{{{{{{{{{{{{{{{{{{{{{{{{{{{{{{{{{{{{{{{{{{{{{{{{{{{{{{{{{{{{{{{{{{{{{{{{{{{{{{{{{{{{{{{{{ f(a); }}}}}}}}}}}}}}}}}}}}}}}}}}}}}}}}}}}}}}}}}}}}}}}}}}}}}}}}}}}}}}}}}}}}}}}}}}}}}}}}}}}}}}}}}}}}}}} return a; } void worker(int self) { f(0); }";
-
-#[test]
-fn deep_frames_fit_the_stack(rt: HostRuntime) -> Result<(), Fail> {
-    for text in [DEEP, NESTED] {
-        let Some(outcome) = run(rt.alloc(), text, 0, 0, 100000) else {
-            return Err("it is a typed program")?;
-        };
-        assert_eq!(rt;
-            outcome.end,
-            ThreadEnd::Stopped(Halt::Trapped(Trap::Frames))
-        );
-    }
-    Ok(())
 }

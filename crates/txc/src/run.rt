@@ -155,7 +155,7 @@ fn run_accepted<A: Allocator + Copy>(
 ) -> Result<Printed<A>, OutOfMemory>
     ensures { IfOk result (λ r. IsRunOf (program_of accepted.now.safe.typed.unit) (printed_of r)) }
 {
-    let ran = run_alone(alloc, accepted.safe().typed(), u64::MAX, u64::MAX)?;
+    let ran = run_alone(alloc, accepted, u64::MAX, u64::MAX)?;
     match shown_alone(alloc, accepted.safe().typed().unit(), ran) {
         Ok(printed) => Ok(printed),
         Err(_) => Err(OutOfMemory),

@@ -12,7 +12,6 @@ use containers::{Copied, Items};
 use meaning::{AloneOutcome, SourceOutcome, ThreadEnd, ThreadReport};
 use report::{End, Printed, Shown, ThreadShown};
 use std::alloc::{AllocError, Allocator};
-use syntax::numbers::Halt;
 use syntax::tree::{Global, Item, Unit};
 
 /// What the report of a run with thread 0 alone shows.
@@ -85,8 +84,8 @@ fn end_of_run(end: ThreadEnd) -> End
 {
     match end {
         ThreadEnd::Ended => End::Ended,
-        ThreadEnd::Stopped(Halt::Trapped(trap)) => End::Trapped(trap),
-        ThreadEnd::Stopped(Halt::Wants | Halt::Spent | Halt::Astray) => End::Budget,
+        ThreadEnd::Trapped(trap) => End::Trapped(trap),
+        ThreadEnd::Wants | ThreadEnd::Spent => End::Budget,
     }
 }
 
@@ -96,9 +95,9 @@ fn end_in_order(end: ThreadEnd) -> End
 {
     match end {
         ThreadEnd::Ended => End::Ended,
-        ThreadEnd::Stopped(Halt::Trapped(trap)) => End::Trapped(trap),
-        ThreadEnd::Stopped(Halt::Wants) => End::Waits,
-        ThreadEnd::Stopped(Halt::Spent | Halt::Astray) => End::Spent,
+        ThreadEnd::Trapped(trap) => End::Trapped(trap),
+        ThreadEnd::Wants => End::Waits,
+        ThreadEnd::Spent => End::Spent,
     }
 }
 

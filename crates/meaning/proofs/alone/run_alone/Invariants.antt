@@ -7,7 +7,7 @@ use Rattle.meaning.proofs.alone.run_alone.Given as goal
 
 abbrev pub invariant-turns : goal.invariant-turns
 invariant-turns g l =
-    let p = program_of l.typed.unit in
+    let p = program_of l.accepted.safe.typed.unit in
     record {
       known : AreKnown p l.ticks 0 l.way.threads.items;
       count : length l.way.threads.items ≡ 1;

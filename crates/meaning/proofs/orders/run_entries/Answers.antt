@@ -8,7 +8,7 @@ use Rattle.meaning.proofs.orders.run_entries.Goals as goal
 
 pub returns : goal.returns
 returns g c =
-    let p = program_of c.args.typed.now.unit in
+    let p = program_of c.args.accepted.now.safe.typed.unit in
     let order = c.args.order.now in
     let over = drop_all c.entries.t-index order (let h = c.entries-test.false in omega (arith, h)) in
     in_this_order p c.args.threads c.args.ticks order c.entries.way.memory.items c.entries.way.threads.items (record { memory = c.entries.way.memory; threads = c.in_ok-threads.threads }) c.entries.invariant.known

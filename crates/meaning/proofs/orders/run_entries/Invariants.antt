@@ -8,7 +8,7 @@ use Rattle.meaning.proofs.orders.run_entries.Given as goal
 -- what is left of the order leads from here to where all of it leads from the beginning
 abbrev pub invariant-entries : goal.invariant-entries
 invariant-entries g l =
-    let p = program_of l.typed.unit in
+    let p = program_of l.accepted.safe.typed.unit in
     record {
       known : AreKnown p l.ticks 0 l.way.threads.items;
       count : length l.way.threads.items ≡ l.threads;
