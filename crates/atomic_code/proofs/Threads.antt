@@ -1,0 +1,75 @@
+-- Threads of a code, at their beginning and later.
+use Rattle.std.proofs.Common.{◌≡◌, ◌+◌, ◌<◌, ◌≤◌, ◌^◌, ℕ, List, [], Option, None, Some, refl, sym, ap, subst, arith}
+use Rattle.std.specs.Prelude.{Vec}
+use Rattle.syntax.specs.declared.numbers.Status.{Status}
+use Rattle.syntax.specs.declared.numbers.Status.TheVariants.{Running, Ended as HasEnded, Trapped as HasTrapped}
+use Rattle.syntax.specs.Behaviours.{Memory}
+use Rattle.bytecode.specs.Code.{Code, Configuration}
+use Rattle.bytecode.specs.Beginning.{beginning}
+use Rattle.bytecode.specs.Valid.{IsValid}
+use Rattle.frames.specs.Open.{MayStand}
+use Rattle.frames.proofs.Keeping.{begins_stay_open}
+use Rattle.atomic_code.specs.declared.kept.Step.{Step}
+use Rattle.atomic_code.specs.declared.kept.Step.TheVariants.{Goes, Leaves, Wants}
+use Rattle.atomic_code.specs.Kept.{Kept, ThreadState, Runs, IsStanding, IsThreadOf}
+use Rattle.atomic_code.specs.declared.ran.Ran.{Ran}
+use Rattle.atomic_code.specs.Carried.{CarriesOn, BreaksOff, end_by, memory_of}
+use Rattle.atomic_code.specs.inner.Carrying.{ComesTo, Refused}
+use Rattle.atomic_code.proofs.Carrying.{goes_until}
+
+pub runs_at_first : (code : Code) → IsValid code → (c : Configuration) (text : List ℕ) (t : ℕ) → t < 2 ^ 32 → c ≡ beginning code t →
+    Runs code (record { configuration = c; open_in = None; text = text; status = Running })
+runs_at_first code v c text t h e = record { stands = subst (λ d. MayStand code d []) (sym e) ((begins_stay_open code v).none_yet t h); memories = tt }
+
+pub thread_at_first : (code : Code) → IsValid code → (c : Configuration) (text : List ℕ) (t : ℕ) → t < 2 ^ 32 → c ≡ beginning code t →
+    IsThreadOf code (record { configuration = c; open_in = None; text = text; status = Running })
+unfolding IsThreadOf
+thread_at_first code v c text t h e = runs_at_first code v c text t h e
+
+-- a thread that runs
+pub runs_of : (code : Code) (k : Kept) → k.status ≡ Running → IsThreadOf code k → Runs code k
+unfolding IsThreadOf
+runs_of code k running h = subst (IsStanding code k) running h
+
+pub thread_of : (code : Code) (k : Kept) → IsStanding code k k.status → IsThreadOf code k
+unfolding IsThreadOf
+thread_of code k h = h
+
+-- a thread without an end runs
+pub runs_by : (s : Status) → None ≡ end_by s → s ≡ Running
+runs_by Running e = refl
+runs_by HasEnded e = absurd (cc)
+runs_by (HasTrapped cause) e = absurd (cc)
+
+module _ {A : Type 0} (code : Code) (f : Memory) (most : ℕ) (k before : Kept) (same : k ≡ before) (made : ℕ) (l : Kept) where
+  pub carries_on : ComesTo {A = A} code (Some f) most k made Goes l → CarriesOn code f most before made None l
+  carries_on h = subst (λ z. CarriesOn code f most z made None l) same (record { few = h.few; does = h.does; goes = h.goes; pauses = h.pauses })
+
+  pub carries_on_to : (left : Vec ℕ A) → ComesTo {A = A} code (Some f) most k made (Leaves left) l → CarriesOn code f most before made (Some left.items) l
+  carries_on_to left h = subst (λ z. CarriesOn code f most z made (Some left.items) l) same (record { few = h.few; does = h.does; goes = h.goes; pauses = h.pauses })
+
+  pub never_wants : ComesTo {A = A} code (Some f) most k made Wants l → ⊥
+  never_wants h = (let e = h.left in cc)
+
+  -- what is told of it
+  pub told_by : (r : Ran A) (left : Option (Vec ℕ A)) → r.steps ≡ made → r.left ≡ left → CarriesOn code f most before made (memory_of left) l → CarriesOn code f most before r.steps (memory_of r.left) l
+  told_by r left e h x = subst (λ n. CarriesOn code f most before n (memory_of r.left) l) (sym e) (subst (λ o. CarriesOn code f most before made (memory_of o) l) (sym h) x)
+
+-- one that breaks off
+module _ (code : Code) (v : IsValid code) (f : Memory) (most : ℕ) (k : Kept) (made : ℕ) (l : Kept) (h : Refused code (Some f) most k made l) where
+  pub breaks_off : (before after : ThreadState) → k ≡ before.kept → after.kept ≡ l → after.steps ≡ before.steps + made → BreaksOff code f most before after
+  breaks_off before after same there e = (
+    made,
+    h.fewer,
+    e,
+    subst (λ z. CarriesOn code f made before.kept made None z) (sym there) (subst (λ z. CarriesOn code f made z made None l) same (record {
+      few = omega arith;
+      does = h.carried.does;
+      goes = λ n below. goes_until code v (Some f) k l made n h.carried (omega arith);
+      pauses = λ lt g. absurd (omega arith);
+    })),
+  )
+
+  pub breaks_of : IsThreadOf code l
+  unfolding IsThreadOf
+  breaks_of = subst (IsStanding code l) (sym h.carried.running) h.carried.runs

@@ -1,0 +1,141 @@
+-- A whole thread, from transaction to transaction.
+use Rattle.std.proofs.Common.{◌≡◌, ◌+◌, ◌-◌, ◌<◌, ◌≤◌, ◌^◌, ℕ, zero, suc, Bool, true, false, List, [], ◌∷◌, ◌++◌, Option, None, Some, refl, sym, ◌∙◌, ap, subst, length, map, drop, arith, append_assoc}
+use Rattle.std.specs.Prelude.{Vec, slice_get}
+use Rattle.std.specs.List.{AllByRecursion}
+use Rattle.std.proofs.lemmas.List.{append-nil, length-append}
+use Rattle.syntax.specs.declared.numbers.Status.{Status}
+use Rattle.syntax.specs.declared.numbers.Status.TheVariants.{Running, Ended as HasEnded, Trapped as HasTrapped}
+use Rattle.syntax.specs.Behaviours.{Memory, IsMemory, Outcome}
+use Rattle.nesting.specs.Begins.{Saved}
+use Rattle.bytecode.specs.Code.{Code, Configuration, effect}
+use Rattle.bytecode.specs.Beginning.{beginning}
+use Rattle.bytecode.specs.Sequential.{Sequential, OpenTransaction, next, steps, start, outcome_of, end_of}
+use Rattle.bytecode.specs.Valid.{IsValid, bounds_of}
+use Rattle.frames.specs.Open.{MayStand}
+use Rattle.frames.proofs.Keeping.{begins_stay_open}
+use Rattle.atomic_code.specs.declared.kept.Step.{Step}
+use Rattle.atomic_code.specs.declared.kept.Step.TheVariants.{Goes, Leaves, Wants}
+use Rattle.atomic_code.specs.Kept.{Kept, Runs, IsStanding, meant}
+use Rattle.atomic_code.specs.Carried.{IsGoing, finding, to_find}
+use Rattle.atomic_code.specs.inner.Making.{HasMemoryAtHand, after_step}
+use Rattle.atomic_code.specs.inner.Carrying.{ComesTo}
+use Rattle.atomic_code.specs.inner.Standing.{HasComeTo}
+use Rattle.atomic_code.proofs.Counting.{steps_add}
+use Rattle.atomic_code.proofs.Growing.{after_lefts, with_founds, steps_after, steps_with, steps_stay, over_stays, want_stays}
+
+-- the one at hand comes first of those still to be found
+next_found : (fs : List Memory) (n : ℕ) → to_find {S = Saved} None (slice_get fs n) ++ drop (suc n) fs ≡ drop n fs
+next_found [] zero = refl
+next_found [] (suc n) = refl
+next_found (f ∷ fs) zero = refl
+next_found (f ∷ fs) (suc n) = next_found fs n
+
+none_found : (fs : List Memory) (n : ℕ) → slice_get fs n ≡ None → drop n fs ≡ []
+none_found [] zero e = refl
+none_found [] (suc n) e = refl
+none_found (f ∷ fs) zero e = absurd (cc)
+none_found (f ∷ fs) (suc n) e = none_found fs n e
+
+pub memory_found : (bounds : List ℕ) (fs : List Memory) (n : ℕ) → AllByRecursion (IsMemory bounds) fs → HasMemoryAtHand bounds (slice_get fs n)
+memory_found bounds [] n h = tt
+memory_found bounds (f ∷ fs) zero h = h.0
+memory_found bounds (f ∷ fs) (suc n) h = memory_found bounds fs n h.1
+
+nothing_is_left : (m : Memory) (ms : List Memory) → [] ≡ m ∷ ms → ⊥
+nothing_is_left m ms e = cc e
+
+-- the outcome after all, where the thread goes no further
+finishes : (code : Code) (s t : Sequential Configuration) (most made : ℕ) → steps (effect code) made s ≡ t → made ≤ most → (made < most → next (effect code) t ≡ t) → outcome_of (steps (effect code) most s) ≡ outcome_of t
+finishes code s t most made e few stays = ap outcome_of (by (most - made) (let h : made + (most - made) ≡ most = omega arith in h))
+  where
+    by : (n : ℕ) → made + n ≡ most → steps (effect code) most s ≡ t
+    by zero h = ap (λ k. steps (effect code) k s) (let q : most ≡ made = omega arith in q) ∙ e
+    by (suc n) h = ap (λ k. steps (effect code) k s) (sym h) ∙ steps_add (effect code) made (suc n) s t e ∙ steps_stay (effect code) (suc n) t (stays (omega arith))
+
+module _ (code : Code) (t : ℕ) (fs : List Memory) (most : ℕ) where
+  abbrev first : Sequential Configuration
+  first = start (beginning code t) fs
+
+  pub comes_to_first : (k : Kept) → k.configuration ≡ beginning code t → k.open_in ≡ None → k.text ≡ [] → k.status ≡ Running → Runs code k → HasComeTo code t fs most 0 [] k
+  comes_to_first k c o x s runs = record {
+    few = omega arith;
+    does = sym (same k c o x s);
+    outside = o;
+    running = s;
+    runs = runs;
+  }
+    where
+      same : (k : Kept) → k.configuration ≡ beginning code t → k.open_in ≡ None → k.text ≡ [] → k.status ≡ Running → meant code fs [] false k ≡ first
+      same k c o x s = ap (meant code fs [] false) (all k (record { configuration = beginning code t; open_in = None; text = []; status = Running }) c o x s)
+        where
+          all : (a b : Kept) → a.configuration ≡ b.configuration → a.open_in ≡ b.open_in → a.text ≡ b.text → a.status ≡ b.status → a ≡ b
+          all a b c d e f =
+              ap (λ z. record { configuration = z; open_in = a.open_in; text = a.text; status = a.status }) c
+              ∙ ap (λ z. record { configuration = b.configuration; open_in = z; text = a.text; status = a.status }) d
+              ∙ ap (λ z. record { configuration = b.configuration; open_in = b.open_in; text = z; status = a.status }) e
+              ∙ ap (λ z. record { configuration = b.configuration; open_in = b.open_in; text = b.text; status = z }) f
+
+  -- all instructions are made
+  pub spent : (made : ℕ) (ls : List Memory) (k : Kept) → HasComeTo code t fs most made ls k → made ≡ most → outcome_of (steps (effect code) most first) ≡ record { lefts = ls; text = k.text; end = end_of false Running }
+  spent made ls k h e = finishes code first _ most made h.does h.few (λ lt. absurd (omega arith)) ∙ ap (λ s. record { lefts = ls; text = k.text; end = end_of false s }) h.running
+
+  module _ {A : Type 0} (made : ℕ) (ls : List Memory) (k : Kept) (h : HasComeTo code t fs most made ls k) (more : ℕ) (s : Step A) (l : Kept) (x : ComesTo code (slice_get fs (length ls)) (most - made) k more s l) where
+    abbrev rest : List Memory
+    rest = drop (suc (length ls)) fs
+
+    abbrev hand : Option Memory
+    hand = slice_get fs (length ls)
+
+    -- where it stood, said by the memory at hand
+    from : meant code (drop (length ls) fs) ls false k ≡ after_lefts (effect code) ls (with_founds (effect code) rest (finding code hand k))
+    from = ap (λ f. meant code f ls false k) (sym (next_found fs (length ls)) ∙ ap (λ o. to_find o hand ++ rest) (sym h.outside))
+        ∙ ap (λ z. meant code (to_find k.open_in hand ++ rest) z false k) (sym (append-nil ls))
+
+    few_more : made + more ≤ most
+    few_more = let a = x.few in let b = h.few in omega arith
+
+    -- where it stands, if it wants nothing
+    to : (after_step code hand s l).wants ≡ false → steps (effect code) (made + more) first ≡ after_lefts (effect code) ls (with_founds (effect code) rest (after_step code hand s l))
+    to e = steps_add (effect code) made more first _ h.does ∙ ap (steps (effect code) more) from ∙ steps_after (effect code) more ls (with_founds (effect code) rest (finding code hand k))
+        ∙ ap (after_lefts (effect code) ls) (steps_with (effect code) more rest (finding code hand k) (ap (λ (z : Sequential Configuration). z.wants) x.does ∙ e) ∙ ap (with_founds (effect code) rest) x.does)
+
+  module _ {A : Type 0} (made : ℕ) (ls : List Memory) (k : Kept) (h : HasComeTo code t fs most made ls k) (more : ℕ) (l : Kept) where
+    pub goes_outcome : ComesTo {A = A} code (slice_get fs (length ls)) (most - made) k more Goes l → outcome_of (steps (effect code) most first) ≡ record { lefts = ls; text = l.text; end = end_of false l.status }
+    goes_outcome x =
+        finishes code first _ most (made + more) (to made ls k h more Goes l x refl) (few_more made ls k h more Goes l x)
+        (λ lt. over_stays (effect code) _ (λ e. x.pauses (let a = h.few in omega arith) (record { running = e; nothing_left = refl; wants_none = refl })))
+        ∙ ap (λ z. record { lefts = z; text = l.text; end = end_of false l.status }) (append-nil ls)
+
+    pub wants_outcome : ComesTo {A = A} code (slice_get fs (length ls)) (most - made) k more Wants l → outcome_of (steps (effect code) most first) ≡ record { lefts = ls; text = l.text; end = end_of true l.status }
+    wants_outcome x =
+        finishes code first (after_lefts (effect code) ls (meant code [] [] true l)) most (made + more)
+        (steps_add (effect code) made more first _ h.does ∙ ap (steps (effect code) more) none_from ∙ steps_after (effect code) more ls (finding code (slice_get fs (length ls)) k) ∙ ap (after_lefts (effect code) ls) x.does)
+        (few_more made ls k h more Wants l x)
+        (λ lt. want_stays (effect code) _ refl)
+        ∙ ap (λ z. record { lefts = z; text = l.text; end = end_of true l.status }) (append-nil ls)
+      where
+        none_from : meant code (drop (length ls) fs) ls false k ≡ after_lefts (effect code) ls (finding code (slice_get fs (length ls)) k)
+        none_from =
+            ap (λ f. meant code f ls false k) (none_found fs (length ls) x.left ∙ ap (λ m. to_find {S = Saved} None m) (sym x.left) ∙ ap (λ o. to_find o (slice_get fs (length ls))) (sym h.outside))
+            ∙ ap (λ z. meant code (to_find k.open_in (slice_get fs (length ls))) z false k) (sym (append-nil ls))
+
+    module _ (left : Vec ℕ A) (x : ComesTo code (slice_get fs (length ls)) (most - made) k more (Leaves left) l) where
+      pub over_outcome : (l.status ≡ Running → ⊥) → outcome_of (steps (effect code) most first) ≡ record { lefts = ls ++ left.items ∷ []; text = l.text; end = end_of false l.status }
+      over_outcome not_running = finishes code first _ most (made + more) (to made ls k h more (Leaves left) l x refl) (few_more made ls k h more (Leaves left) l x) (λ lt. over_stays (effect code) _ not_running)
+
+      pub goes_on : l.status ≡ Running → HasComeTo code t fs most (made + more) (ls ++ left.items ∷ []) l
+      goes_on running = record {
+        few = few_more made ls k h more (Leaves left) l x;
+        does = to made ls k h more (Leaves left) l x refl ∙ ap (λ n. meant code (drop n fs) (ls ++ left.items ∷ []) false l) (let e : suc (length ls) ≡ length (ls ++ left.items ∷ []) = omega (arith, length-append ls (left.items ∷ [])) in e);
+        outside = x.left.1;
+        running = running;
+        runs = subst (IsStanding code l) running x.of;
+      }
+
+      -- an instruction was made
+      pub some_made : 0 < more
+      some_made = by more x.does
+        where
+          by : (n : ℕ) → steps (effect code) n (finding code (slice_get fs (length ls)) k) ≡ meant code [] (left.items ∷ []) false l → 0 < n
+          by zero e = absurd (nothing_is_left _ _ (ap (λ (z : Sequential Configuration). z.lefts) e))
+          by (suc n) e = omega arith

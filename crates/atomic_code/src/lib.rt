@@ -1,0 +1,18 @@
+//! Threads of register code, with transactions as single steps.
+//!
+//! An `AtomicThread` carries a thread on in pieces. Nothing interrupts a transaction: it finds a memory as it begins and leaves
+//! one as it ends, as the code's meaning has it.
+#![tactic(auto)]
+
+mod atomic;
+mod carry;
+mod kept;
+mod memory;
+mod open;
+mod ran;
+mod whole;
+
+pub use atomic::AtomicThread;
+pub use memory::is_memory;
+pub use ran::{End, Ran};
+pub use whole::{ThreadEnd, ThreadOutcome, thread};

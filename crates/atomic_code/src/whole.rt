@@ -1,0 +1,123 @@
+//! Whole threads.
+
+ghost use Rattle.std.specs.Prelude.{◌≡◌, IfOk, false, slice_get};
+ghost use Rattle.std.specs.List.{AllByRecursion};
+ghost use Rattle.syntax.specs.Behaviours.{IsMemory};
+ghost use Rattle.bytecode.specs.Beginning.{beginning};
+ghost use Rattle.bytecode.specs.Code.{effect};
+ghost use Rattle.bytecode.specs.Sequential.{end_of as end_due, meaning};
+ghost use Rattle.bytecode.specs.Valid.{bounds_of};
+ghost use Rattle.atomic_code.specs.Whole.{memories_in, outcome_in, thread_end_in};
+ghost use Rattle.atomic_code.specs.inner.Making.{at_hand};
+
+use crate::carry::runs;
+use crate::kept::{KeptThread, Step};
+use bytecode::Code;
+use frames::Frames;
+use std::alloc::{AllocError, Allocator, Global};
+use syntax::numbers::{Halt, Status};
+
+/// How a thread is found after its instructions.
+#[derive(Clone, Copy, PartialEq, Eq, Debug)]
+pub enum ThreadEnd {
+    /// It has come to its end.
+    Ended,
+
+    /// It goes no further.
+    Stopped(Halt),
+}
+
+/// What a thread leaves and prints.
+#[derive(Drop)]
+pub struct ThreadOutcome<A: Allocator = Global> {
+    /// The memory that each outermost transaction left, a word for each cell, in the order in which they ended.
+    pub lefts: Vec<Vec<u64, A>, A>,
+    /// What is printed.
+    pub text: String<A>,
+    pub end: ThreadEnd,
+}
+
+// The end of a thread that wants no memory: spent, where it would go on.
+fn end_without_want(status: Status) -> ThreadEnd
+    ensures { thread_end_in result ≡ end_due false status }
+{
+    match status {
+        Status::Running => ThreadEnd::Stopped(Halt::Spent),
+        Status::Ended => ThreadEnd::Ended,
+        Status::Trapped(cause) => ThreadEnd::Stopped(Halt::Trapped(cause)),
+    }
+}
+
+// The memory under this number.
+fn memory_at<A: Allocator>(founds: &[Vec<u64, A>], number: usize) -> Option<&[u64]>
+    ensures { at_hand (λ m. m.now) result ≡ slice_get (memories_in founds.now) number }
+{
+    match founds.get(number) {
+        None => None,
+        Some(memory) => Some(memory.as_slice()),
+    }
+}
+
+/// What thread `number` of a code does within so many instructions, where the i-th of its outermost transactions finds the i-th
+/// of these memories of the code. The error comes only where memory is refused.
+pub fn thread<A: Allocator + Copy, B: Allocator>(
+    alloc: A,
+    code: &Code<B>,
+    number: u32,
+    founds: &[Vec<u64, A>],
+    steps: u64,
+) -> Result<ThreadOutcome<A>, AllocError>
+    requires { AllByRecursion (IsMemory (bounds_of code.now)) (memories_in founds.now) }
+    ensures { IfOk result (λ o. outcome_in o ≡ meaning (effect code.now) (beginning code.now) number (memories_in founds.now) steps) }
+{
+    // The prover learns here that the code is valid.
+    let _valid = code.parts();
+    let frames = Frames::new(alloc, code, number)?;
+    let mut held = KeptThread {
+        frames,
+        open_in: None,
+        text: String::new(alloc),
+        status: Status::Running,
+    };
+    let mut lefts = Vec::new(alloc);
+    let mut made: u64 = 0;
+    'turns: while made < steps {
+        let found = memory_at(founds, lefts.len());
+        let (more, outcome) = held.carry_on(alloc, code, found, steps - made);
+        made += more;
+        match outcome {
+            Err(refused) => return Err(refused),
+            Ok(Step::Goes) => {
+                let end = end_without_want(held.status);
+                return Ok(ThreadOutcome {
+                    lefts,
+                    text: held.text,
+                    end,
+                });
+            }
+            Ok(Step::Wants) => {
+                return Ok(ThreadOutcome {
+                    lefts,
+                    text: held.text,
+                    end: ThreadEnd::Stopped(Halt::Wants),
+                });
+            }
+            Ok(Step::Leaves(memory)) => {
+                lefts.push(memory)?;
+                if !runs(held.status) {
+                    let end = end_without_want(held.status);
+                    return Ok(ThreadOutcome {
+                        lefts,
+                        text: held.text,
+                        end,
+                    });
+                }
+            }
+        }
+    }
+    Ok(ThreadOutcome {
+        lefts,
+        text: held.text,
+        end: ThreadEnd::Stopped(Halt::Spent),
+    })
+}
