@@ -4,3 +4,5 @@ pub mod Rows
 pub mod Lines
 -- the words of a seed
 pub mod Words
+-- the steps that lines name
+pub mod Playing

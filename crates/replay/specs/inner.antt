@@ -1,2 +1,4 @@
 -- how a row is cut
 pub mod Rows
+-- how lines are played
+pub mod Playing

@@ -1,0 +1,50 @@
+-- How a line of a schedule is played.
+use Rattle.std.specs.Prelude.{◌≡◌, ℕ, List, ◌∷◌, ◌++◌}
+use Rattle.bytecode.specs.Code.{Code}
+use Rattle.machine.specs.declared.event.Event.{Event}
+use Rattle.world.specs.Simulations.{Simulation, further, world_of}
+use Rattle.world.specs.Stops.{StopsFor}
+use Rattle.replay.specs.declared.line.Line.{Line}
+use Rattle.replay.specs.declared.play.Halt.{Halt}
+use Rattle.replay.specs.declared.play.Halt.TheVariants.{Stopped, Refused}
+use Rattle.replay.specs.declared.line.TheConstants.{MOST_STEPS}
+use Rattle.replay.specs.Replays.{events_of, first_world, played, steps_of}
+
+-- With room for so many steps before it and after it, these are the steps of the line, whatever lines follow it.
+pub record Plays (line : Line) (room left : ℕ) (before after : Simulation) : Type 0 where
+  pub made : List ℕ
+  pub are : after ≡ further before made
+  pub named : (lines : List Line) →
+      steps_of before.code room (line ∷ lines) (world_of before) ≡ made ++ steps_of before.code left lines (world_of after)
+
+-- the same up to a step that is not made
+pub record IsCut (line : Line) (room : ℕ) (before after : Simulation) : Type 0 where
+  pub made : List ℕ
+  pub are : after ≡ further before made
+  pub named : (lines : List Line) → (later : List ℕ) ×
+      (steps_of before.code room (line ∷ lines) (world_of before) ≡ made ++ line.thread ∷ later)
+
+-- where a step of a thread was not made, the world is as it was
+abbrev pub HaltsAt : ℕ → Halt → Simulation → Simulation → List (ℕ × ℕ × Event) → Type 0
+HaltsAt t (Stopped reason) before after events = (after ≡ before) × StopsFor before t reason × (events ≡ events_of before)
+HaltsAt t Refused before after events = Unit {0}
+
+-- and where a line was not made to its end, all its steps before that were made
+abbrev pub HaltsIn : Line → ℕ → Halt → Simulation → Simulation → List (ℕ × ℕ × Event) → Type 0
+HaltsIn line room (Stopped reason) before after events =
+    IsCut line room before after × StopsFor after line.thread reason × (events ≡ events_of after)
+HaltsIn line room Refused before after events = Unit {0}
+
+-- a line whose steps are being made: so much of its count is left, and room for so many steps
+pub record Going (line : Line) (room count left : ℕ) (before now : Simulation) : Type 0 where
+  pub made : List ℕ
+  pub are : now ≡ further before made
+  pub named : (lines : List Line) → steps_of before.code room (line ∷ lines) (world_of before)
+      ≡ made ++ steps_of before.code left (record line { count = count } ∷ lines) (world_of now)
+
+-- a schedule that is being played: these lines are left, and room for so many steps
+pub record HasPlayed (code : Code) (threads : ℕ) (lines : List Line) (room : ℕ) (rest : List Line) (now : Simulation) :
+    Type 0 where
+  pub made : List ℕ
+  pub are : now ≡ played code threads made
+  pub named : steps_of code MOST_STEPS lines (first_world code threads) ≡ made ++ steps_of code room rest (world_of now)
