@@ -9,7 +9,7 @@ use Rattle.syntax.specs.declared.tree.Name as N
 use Rattle.syntax.specs.declared.tree.Expr as E
 use Rattle.syntax.specs.Tree as Tree
 use Rattle.syntax.specs.Views.{name_of, expr_of, exprs_of}
-use Rattle.syntax.proofs.Seen.{expr_of_call, expr_of_unary, expr_of_binary, expr_of_logical, expr_of_conditional}
+use Rattle.syntax.proofs.Seen.{expr_of_call, expr_of_element, expr_of_unary, expr_of_binary, expr_of_logical, expr_of_conditional}
 use Rattle.bytecode.specs.declared.instr.Instr.{Instr}
 use Rattle.bytecode.specs.declared.instr.Instr.TheVariants as own
 use Rattle.lower.specs.declared.held.Held.{Held}
@@ -120,6 +120,9 @@ module _ (f : Callee) (R : AllEmitted) (from into : ℕ) (L : Lists) (la : Lists
 module _ {A : Type 0} where
   pub call_is : (e : E.Expr A) (f : N.Name A) (es es' : List (E.Expr A)) (at : Span) → e ≡ E.Call f es at → es' ≡ es → expr_of e ≡ Tree.Call (name_of f) (exprs_of es') at
   call_is e f es es' at is a = ap expr_of is ∙ expr_of_call f es at ∙ ap (λ y. Tree.Call (name_of f) (exprs_of y) at) (sym a)
+
+  pub element_is : (e : E.Expr A) (x : N.Name A) (i i' : E.Expr A) (at : Span) → e ≡ E.Element x i at → i' ≡ i → expr_of e ≡ Tree.Element (name_of x) (expr_of i') at
+  element_is e x i i' at is f = ap expr_of is ∙ expr_of_element x i at ∙ ap (λ y. Tree.Element (name_of x) (expr_of y) at) (sym f)
 
   pub unary_is : (e : E.Expr A) (op op' : UnaryOp) (a a' : E.Expr A) (at : Span) → e ≡ E.Unary op a at → op ≡ op' → a' ≡ a → expr_of e ≡ Tree.Unary op' (expr_of a') at
   unary_is e op op' a a' at is o f = ap expr_of is ∙ expr_of_unary op a at ∙ ap (λ y. Tree.Unary y (expr_of a) at) o ∙ ap (λ y. Tree.Unary op' (expr_of y) at) (sym f)

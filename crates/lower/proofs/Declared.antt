@@ -1,5 +1,5 @@
 -- The instructions of declared locals one after another.
-use Rattle.std.proofs.Common.{◌≡◌, ℕ, ◌+◌, ◌<◌, ◌≤◌, List, [], ◌∷◌, ◌++◌, length, map, drop, get_or, sym, ap, ◌∙◌, append_assoc, append-nil}
+use Rattle.std.proofs.Common.{◌≡◌, ℕ, ◌+◌, ◌<◌, ◌≤◌, List, [], ◌∷◌, ◌++◌, length, map, drop, get_or, sym, ap, arith, ◌∙◌, append_assoc, append-nil}
 use Rattle.std.proofs.lemmas.List.{at_drop_more, drop_all}
 use Rattle.lex.specs.declared.token.Scalar.{Scalar}
 use Rattle.syntax.specs.declared.tree.Declarator.{Declarator as OwnDeclarator}
@@ -11,6 +11,7 @@ use Rattle.lowered.specs.Expressions.{LocalScope}
 use Rattle.lowered.specs.Statements.{with_local, with_declared}
 use Rattle.lower.specs.inner.Lists.{Lists, used}
 use Rattle.lower.specs.inner.Simples.{Written, nothing_written, and_then, first_written, declarator_written, declared_written}
+use Rattle.lower.proofs.GrowingStmts.{declared_more}
 
 -- a local that is 0, and its first value behind that
 module _ (p : Program) (t : Scalar) (d : Declarator) (scope scope' : LocalScope) (i from next : ℕ) (l l' : Lists)
@@ -80,6 +81,15 @@ module _ (p : Program) (t : Scalar) {A : Type 0} (ys : List (OwnDeclarator A)) (
   pub next_scope : (y : OwnDeclarator A) (whole scope' : LocalScope) → i < length ys → y ≡ get_or ys i y → scope' ≡ with_local scope y.name.text t → with_declared t (map declarator_of (drop i ys)) scope ≡ whole → with_declared t (map declarator_of (drop (i + 1) ys)) scope' ≡ whole
   unfolding scope_row behind
   next_scope y whole scope' h is es inv = ap (λ s. scope_row (i + 1) s) es ∙ sym (scope_here y h is) ∙ inv
+
+  -- the first one needs no more registers than all
+  pub first_within : (y : OwnDeclarator A) (whole : Lists) → i < length ys → y ≡ get_or ys i y → (declared_written p t (map declarator_of (drop i ys)) scope to l).lists ≡ whole → (declarator_written p t (declarator_of y) scope to l).lists.registers ≤ whole.registers
+  unfolding row first behind
+  first_within y whole h is inv =
+      let a = declared_more p t (map declarator_of (drop (i + 1) ys)) (behind y) (first y).to (first y).lists in
+      let b = ap (λ (w : Written). w.lists.registers) (here y h is) in
+      let d = ap (λ (m : Lists). m.registers) inv in
+      omega (arith, a, b, d)
 
   none_left : length ys ≤ i → declared_written p t (map declarator_of (drop i ys)) scope to l ≡ nothing_written to l
   none_left h = ap (λ xs. declared_written p t (map declarator_of xs) scope to l) (drop_all i ys h)

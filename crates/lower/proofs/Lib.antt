@@ -13,6 +13,10 @@ mod Formatted
 mod Leaving
 mod Made
 mod Written
+-- failures, and that what follows needs no fewer registers
+mod Growing
+mod GrowingStmts
+mod Failing
 -- functions and items one after another
 mod Bodies
 mod Picked

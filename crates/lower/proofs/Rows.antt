@@ -1,5 +1,5 @@
 -- The instructions of values one after another.
-use Rattle.std.proofs.Common.{◌≡◌, ℕ, ◌+◌, ◌<◌, ◌≤◌, List, [], ◌∷◌, ◌++◌, length, drop, get_or, sym, ap, ◌∙◌, append_assoc, append-nil}
+use Rattle.std.proofs.Common.{◌≡◌, ℕ, ◌+◌, ◌<◌, ◌≤◌, List, [], ◌∷◌, ◌++◌, length, drop, get_or, sym, ap, arith, ◌∙◌, append_assoc, append-nil}
 use Rattle.std.proofs.lemmas.List.{at_drop_more, drop_all}
 use Rattle.syntax.specs.declared.tree.Expr.{Expr as OwnExpr}
 use Rattle.syntax.specs.Tree.{Program}
@@ -8,6 +8,7 @@ use Rattle.bytecode.specs.declared.instr.Instr.{Instr}
 use Rattle.lowered.specs.Expressions.{LocalScope}
 use Rattle.lower.specs.declared.held.Held.{Held}
 use Rattle.lower.specs.inner.Lists.{Lists}
+use Rattle.lower.proofs.Growing.{all_more}
 use Rattle.lower.specs.inner.Expressions.{Emitted, AllEmitted, above, followed, none_emitted, emitted, all_emitted}
 
 module _ (p : Program) (scope : LocalScope) {A : Type 0} (es : List (OwnExpr A)) (i to later : ℕ) (l : Lists) where
@@ -56,6 +57,15 @@ module _ (p : Program) (scope : LocalScope) {A : Type 0} (es : List (OwnExpr A))
   unfolding row first
   next_place e whole l' held later' h is el eh ek inv =
       ap (λ (w : AllEmitted). w.to) (same e l' held later' el eh ek) ∙ sym (ap (λ (w : AllEmitted). w.to) (here e h is)) ∙ inv
+
+  -- the first value needs no more registers than all
+  pub first_within : (e : OwnExpr A) (whole : Lists) → i < length es → e ≡ get_or es i e → (all_emitted p scope (exprs_of (drop i es)) to later l).lists ≡ whole → (emitted p scope (expr_of e) to later later l).lists.registers ≤ whole.registers
+  unfolding row first
+  first_within e whole h is inv =
+      let a = all_more p scope (exprs_of (drop (i + 1) es)) (first e).held.to (above later (first e).held.register) (first e).lists in
+      let b = ap (λ (w : AllEmitted). w.lists.registers) (here e h is) in
+      let d = ap (λ (m : Lists). m.registers) inv in
+      omega (arith, a, b, d)
 
   none_left : length es ≤ i → all_emitted p scope (exprs_of (drop i es)) to later l ≡ none_emitted to l
   none_left h = ap (λ xs. all_emitted p scope (exprs_of xs) to later l) (drop_all i es h)

@@ -1,5 +1,5 @@
 -- The instructions of statements one after another.
-use Rattle.std.proofs.Common.{◌≡◌, ℕ, ◌+◌, ◌<◌, ◌≤◌, List, [], ◌∷◌, ◌++◌, length, map, drop, get_or, sym, ap, ◌∙◌, append_assoc, append-nil}
+use Rattle.std.proofs.Common.{◌≡◌, ℕ, ◌+◌, ◌<◌, ◌≤◌, List, [], ◌∷◌, ◌++◌, length, map, drop, get_or, sym, ap, arith, ◌∙◌, append_assoc, append-nil}
 use Rattle.std.proofs.lemmas.List.{at_drop_more, drop_all}
 use Rattle.syntax.specs.declared.tree.Stmt.{Stmt as OwnStmt}
 use Rattle.syntax.specs.Tree.{Program}
@@ -11,6 +11,7 @@ use Rattle.lower.specs.declared.held.Exits.{Exits}
 use Rattle.lower.specs.inner.Lists.{Lists}
 use Rattle.lower.specs.inner.Simples.{Written, nothing_written, and_then}
 use Rattle.lower.specs.inner.Statements.{written, all_written}
+use Rattle.lower.proofs.GrowingStmts.{stmts_more}
 
 module _ (p : Program) (exits : Exits) {A : Type 0} (ys : List (OwnStmt A)) (i to : ℕ) (scope : LocalScope) (l : Lists) where
   row : ℕ → LocalScope → ℕ → Lists → Written
@@ -64,6 +65,15 @@ module _ (p : Program) (exits : Exits) {A : Type 0} (ys : List (OwnStmt A)) (i t
   pub next_scope : (y : OwnStmt A) (whole scope' : LocalScope) → i < length ys → y ≡ get_or ys i y → scope' ≡ locals_after (stmt_of y) scope → locals_at_end (stmts_of (drop i ys)) scope ≡ whole → locals_at_end (stmts_of (drop (i + 1) ys)) scope' ≡ whole
   unfolding scope_row behind
   next_scope y whole scope' h is es inv = ap (λ s. scope_row (i + 1) s) es ∙ sym (scope_here y h is) ∙ inv
+
+  -- the first one needs no more registers than all
+  pub first_within : (y : OwnStmt A) (whole : Lists) → i < length ys → y ≡ get_or ys i y → (all_written p (stmts_of (drop i ys)) exits scope to l).lists ≡ whole → (written p (stmt_of y) exits scope to l).lists.registers ≤ whole.registers
+  unfolding row first behind
+  first_within y whole h is inv =
+      let a = stmts_more p (stmts_of (drop (i + 1) ys)) exits (behind y) (first y).to (first y).lists in
+      let b = ap (λ (w : Written). w.lists.registers) (here y h is) in
+      let d = ap (λ (m : Lists). m.registers) inv in
+      omega (arith, a, b, d)
 
   none_left : length ys ≤ i → all_written p (stmts_of (drop i ys)) exits scope to l ≡ nothing_written to l
   none_left h = ap (λ xs. all_written p (stmts_of xs) exits scope to l) (drop_all i ys h)

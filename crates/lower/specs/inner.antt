@@ -5,6 +5,8 @@ pub mod Tables
 pub mod Views
 -- the lists of a code as it is made
 pub mod Lists
+-- what a failure says of them
+pub mod Limits
 -- the instructions of expressions
 pub mod Expressions
 -- of conditions

@@ -1,7 +1,8 @@
 //! The instructions of conditions.
 
-ghost use Rattle.std.specs.Prelude.{◌≡◌, ◌++◌, not, OnOk, IfOk};
+ghost use Rattle.std.specs.Prelude.{◌≡◌, ◌++◌, not, OnOk, IfOk, IfErr};
 ghost use Rattle.syntax.specs.Views.{expr_of};
+ghost use Rattle.lower.specs.inner.Limits.{NeedsMore};
 ghost use Rattle.lower.specs.inner.Lists.{lists_of};
 ghost use Rattle.lower.specs.inner.Expressions.{emitted};
 ghost use Rattle.lower.specs.inner.Conditions as conditions;
@@ -85,6 +86,7 @@ fn lower_value<A: Allocator + Copy>(
     ensures code { OnOk result (code.new.items ≡ code.old.items ++ (by_value (emitted (program_in names.now) (scope_in scope.now) (expr_of e.now) from free free (lists_of lists.old))).code) }
     ensures lists { OnOk result (lists_of lists.new ≡ (by_value (emitted (program_in names.now) (scope_in scope.now) (expr_of e.now) from free free (lists_of lists.old))).lists) }
     ensures tested { IfOk result (λ t. t ≡ test_in (by_value (emitted (program_in names.now) (scope_in scope.now) (expr_of e.now) from free free (lists_of lists.old)))) }
+    ensures fails { IfErr result (λ why. NeedsMore why ((by_value (emitted (program_in names.now) (scope_in scope.now) (expr_of e.now) from free free (lists_of lists.old))).lists).registers) }
 {
     let held = lower_expr(names, scope, lists, code, e, from, free, free)?;
     Ok(Tested {
@@ -107,6 +109,7 @@ pub(crate) fn lower_condition<A: Allocator + Copy>(
     ensures code { OnOk result (code.new.items ≡ code.old.items ++ (condition (program_in names.now) (scope_in scope.now) (expr_of e.now) from free (lists_of lists.old)).code) }
     ensures lists { OnOk result (lists_of lists.new ≡ (condition (program_in names.now) (scope_in scope.now) (expr_of e.now) from free (lists_of lists.old)).lists) }
     ensures tested { IfOk result (λ t. t ≡ test_in (condition (program_in names.now) (scope_in scope.now) (expr_of e.now) from free (lists_of lists.old))) }
+    ensures fails { IfErr result (λ why. NeedsMore why ((condition (program_in names.now) (scope_in scope.now) (expr_of e.now) from free (lists_of lists.old)).lists).registers) }
 {
     match e {
         Expr::Parenthesized(e, _) => {

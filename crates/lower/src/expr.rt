@@ -1,11 +1,12 @@
 //! The instructions of expressions.
 
-ghost use Rattle.std.specs.Prelude.{◌≡◌, [], ◌∷◌, ◌++◌, ◌+◌, ◌≤◌, length, map, pos, OnOk, IfOk};
+ghost use Rattle.std.specs.Prelude.{◌≡◌, [], ◌∷◌, ◌++◌, ◌+◌, ◌≤◌, length, map, pos, OnOk, IfOk, IfErr};
 ghost use Rattle.syntax.specs.Names as Source;
 ghost use Rattle.syntax.specs.Numbers.{word_of};
 ghost use Rattle.syntax.specs.Views.{expr_of, exprs_of, parameter_of};
 ghost use Rattle.bytecode.specs.declared.instr.Instr.TheVariants as instr;
 ghost use Rattle.lowered.specs.Expressions.{arranged, named_ones, nameless_ones};
+ghost use Rattle.lower.specs.inner.Limits.{NeedsMore};
 ghost use Rattle.lower.specs.inner.Lists.{lists_of, used, holding};
 ghost use Rattle.lower.specs.inner.Expressions.{constant, variable, emitted, all_emitted};
 ghost use Rattle.lower.specs.inner.Tables.{shared_in};
@@ -23,7 +24,7 @@ use crate::put::{
 use crate::scope::Scope;
 use bytecode::Instr;
 use lex::token::Scalar;
-use std::alloc::Allocator;
+use std::alloc::{AllocError, Allocator};
 use syntax::tree::{Expr, Parameter, UnaryOp};
 
 /// A constant of the program.
@@ -38,6 +39,7 @@ fn put_number<A: Allocator>(
     ensures code { OnOk result (code.new.items ≡ code.old.items ++ (constant (word_of (pos value)) of from into (lists_of lists.old)).code) }
     ensures lists { OnOk result (lists_of lists.new ≡ (constant (word_of (pos value)) of from into (lists_of lists.old)).lists) }
     ensures held { IfOk result (λ held. held ≡ (constant (word_of (pos value)) of from into (lists_of lists.old)).held) }
+    ensures fails { IfErr result (λ why. NeedsMore why ((constant (word_of (pos value)) of from into (lists_of lists.old)).lists).registers) }
 {
     put_constant(lists, code, value, of, from, into)
 }
@@ -54,6 +56,7 @@ fn put_read<A: Allocator + Copy>(
     ensures code { OnOk result (code.new.items ≡ code.old.items ++ instr.Read into g.entry.cell ∷ []) }
     ensures lists { OnOk result (lists_of lists.new ≡ used into (lists_of lists.old)) }
     ensures held { IfOk result (λ held. held ≡ record { register = into; of = g.entry.global.now.of; to = from + 1 }) }
+    ensures fails { IfErr result (λ why. NeedsMore why (used into (lists_of lists.old)).registers) }
 {
     let register = take(lists, into)?;
     put(code, Instr::Read(register, g.cell as u32))?;
@@ -78,6 +81,7 @@ fn lower_variable<A: Allocator + Copy>(
     ensures code { OnOk result (code.new.items ≡ code.old.items ++ (variable (Source.newest (scope_in scope.now) x.now) (Source.global_of (program_in names.now) x.now) from into (lists_of lists.old)).code) }
     ensures lists { OnOk result (lists_of lists.new ≡ (variable (Source.newest (scope_in scope.now) x.now) (Source.global_of (program_in names.now) x.now) from into (lists_of lists.old)).lists) }
     ensures held { IfOk result (λ held. held ≡ (variable (Source.newest (scope_in scope.now) x.now) (Source.global_of (program_in names.now) x.now) from into (lists_of lists.old)).held) }
+    ensures fails { IfErr result (λ why. NeedsMore why ((variable (Source.newest (scope_in scope.now) x.now) (Source.global_of (program_in names.now) x.now) from into (lists_of lists.old)).lists).registers) }
 {
     match scope.newest(x) {
         Some((i, of)) => {
@@ -107,6 +111,7 @@ pub(crate) fn put_read_at<A: Allocator + Copy>(
     ensures code { OnOk result (code.new.items ≡ code.old.items ++ instr.ReadAt into index.register g.entry.cell (Source.cells (shared_in g.entry).global) ∷ []) }
     ensures lists { OnOk result (lists_of lists.new ≡ used into (lists_of lists.old)) }
     ensures held { IfOk result (λ held. held ≡ record { register = into; of = g.entry.global.now.of; to = index.to + 1 }) }
+    ensures fails { IfErr result (λ why. NeedsMore why (used into (lists_of lists.old)).registers) }
 {
     let register = take(lists, into)?;
     let length = cells_of(g.global);
@@ -122,12 +127,12 @@ pub(crate) fn put_read_at<A: Allocator + Copy>(
     })
 }
 
-fn push<A: Allocator>(all: &mut Vec<u16, A>, r: u16) -> Result<(), Failure>
+fn push<A: Allocator>(all: &mut Vec<u16, A>, r: u16) -> Result<(), AllocError>
     ensures { OnOk result (all.new.items ≡ all.old.items ++ r ∷ []) }
 {
     match all.push(r) {
         Ok(()) => Ok(()),
-        Err(_) => Err(Failure::OutOfMemory),
+        Err(_) => Err(AllocError),
     }
 }
 
@@ -136,7 +141,7 @@ fn push_named<A: Allocator>(
     all: &mut Vec<u16, A>,
     parameters: &[Parameter<A>],
     registers: &[u16],
-) -> Result<(), Failure>
+) -> Result<(), AllocError>
     ensures { OnOk result (all.new.items ≡ all.old.items ++ named_ones (map parameter_of parameters.now) registers.now) }
 {
     'each: for i in 0..parameters.len() {
@@ -155,7 +160,7 @@ fn push_nameless<A: Allocator>(
     all: &mut Vec<u16, A>,
     parameters: &[Parameter<A>],
     registers: &[u16],
-) -> Result<(), Failure>
+) -> Result<(), AllocError>
     ensures { OnOk result (all.new.items ≡ all.old.items ++ nameless_ones (map parameter_of parameters.now) registers.now) }
 {
     'each: for i in 0..parameters.len() {
@@ -173,6 +178,7 @@ fn push_nameless<A: Allocator>(
 fn hold<A: Allocator>(lists: &mut Lists<A>, count: usize) -> Result<u16, Failure>
     ensures lists { OnOk result (lists_of lists.new ≡ holding count (lists_of lists.old)) }
     ensures count { IfOk result (λ n. n ≡ count) }
+    ensures fails { IfErr result (λ why. NeedsMore why (holding count (lists_of lists.old)).registers) }
 {
     if count > 65_535 {
         return Err(Failure::Registers);
@@ -192,6 +198,7 @@ fn hand_over<A: Allocator>(
     ensures lists { OnOk result (lists_of lists.new ≡ holding (length (arranged (map parameter_of parameters.now) registers.now)) (record (lists_of lists.old) { arguments = lists.old.arguments.items ++ arranged (map parameter_of parameters.now) registers.now })) }
     ensures first { IfOk result (λ r. r.0 ≡ length lists.old.arguments.items) }
     ensures count { IfOk result (λ r. r.1 ≡ length (arranged (map parameter_of parameters.now) registers.now)) }
+    ensures fails { IfErr result (λ why. NeedsMore why (holding (length (arranged (map parameter_of parameters.now) registers.now)) (record (lists_of lists.old) { arguments = lists.old.arguments.items ++ arranged (map parameter_of parameters.now) registers.now })).registers) }
 {
     let first = lists.arguments.len();
     if first > 4_294_967_295 {
@@ -216,6 +223,7 @@ fn put_call<A: Allocator + Copy>(
     ensures code { OnOk result (code.new.items ≡ code.old.items ++ instr.Call into (length (arranged (map parameter_of f.entry.parameters.now) registers.now)) f.entry.number (length lists.old.arguments.items) ∷ []) }
     ensures lists { OnOk result (lists_of lists.new ≡ used into (holding (length (arranged (map parameter_of f.entry.parameters.now) registers.now)) (record (lists_of lists.old) { arguments = lists.old.arguments.items ++ arranged (map parameter_of f.entry.parameters.now) registers.now }))) }
     ensures held { IfOk result (λ held. held ≡ record { register = into; of = f.entry.of; to = from + 1 }) }
+    ensures fails { IfErr result (λ why. NeedsMore why (used into (holding (length (arranged (map parameter_of f.entry.parameters.now) registers.now)) (record (lists_of lists.old) { arguments = lists.old.arguments.items ++ arranged (map parameter_of f.entry.parameters.now) registers.now }))).registers) }
 {
     if f.number > 4_294_967_295 {
         return Err(Failure::OutOfMemory);
@@ -246,6 +254,7 @@ pub(crate) fn lower_expr<A: Allocator + Copy>(
     ensures code { OnOk result (code.new.items ≡ code.old.items ++ (emitted (program_in names.now) (scope_in scope.now) (expr_of e.now) from into free (lists_of lists.old)).code) }
     ensures lists { OnOk result (lists_of lists.new ≡ (emitted (program_in names.now) (scope_in scope.now) (expr_of e.now) from into free (lists_of lists.old)).lists) }
     ensures held { IfOk result (λ held. held ≡ (emitted (program_in names.now) (scope_in scope.now) (expr_of e.now) from into free (lists_of lists.old)).held) }
+    ensures fails { IfErr result (λ why. NeedsMore why ((emitted (program_in names.now) (scope_in scope.now) (expr_of e.now) from into free (lists_of lists.old)).lists).registers) }
 {
     match e {
         Expr::Variable(x) => lower_variable(names, scope, lists, code, x.text.as_str(), from, into),
@@ -363,6 +372,7 @@ pub(crate) fn lower_all<A: Allocator + Copy>(
     ensures lists { OnOk result (lists_of lists.new ≡ (all_emitted (program_in names.now) (scope_in scope.now) (exprs_of all.now) from free (lists_of lists.old)).lists) }
     ensures registers { OnOk result (registers.new.items ≡ registers.old.items ++ (all_emitted (program_in names.now) (scope_in scope.now) (exprs_of all.now) from free (lists_of lists.old)).registers) }
     ensures place { IfOk result (λ to. to ≡ (all_emitted (program_in names.now) (scope_in scope.now) (exprs_of all.now) from free (lists_of lists.old)).to) }
+    ensures fails { IfErr result (λ why. NeedsMore why ((all_emitted (program_in names.now) (scope_in scope.now) (exprs_of all.now) from free (lists_of lists.old)).lists).registers) }
 {
     let mut to = from;
     let mut later = free;

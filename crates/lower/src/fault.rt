@@ -1,6 +1,7 @@
 //! Why no code is made.
 
 ghost use Rattle.std.specs.Prelude.{◌≡◌};
+ghost use Rattle.lower.specs.declared.fault.Failure.TheVariants.{OutOfMemory};
 ghost use Rattle.lower.specs.Faults.{IsOfCode};
 
 use lex::token::Span;
@@ -14,12 +15,11 @@ pub(crate) enum Failure {
 
     /// A register's number is not below the most registers of a function.
     Registers,
-
-    /// A place is behind the most instructions of a code.
-    Instructions,
 }
 
 impl From<AllocError> for Failure {
+    ghost from_gives = { λ _ e. e ≡ OutOfMemory };
+
     fn from(_error: AllocError) -> Failure {
         Failure::OutOfMemory
     }
@@ -77,7 +77,6 @@ impl Failure {
         match self {
             Failure::OutOfMemory => LowerFault::OutOfMemory,
             Failure::Registers => LowerFault::TooManyRegisters(name),
-            Failure::Instructions => LowerFault::TooMuchCode(name),
         }
     }
 }

@@ -1,8 +1,9 @@
 //! The code of functions.
 
-ghost use Rattle.std.specs.Prelude.{◌≡◌, ◌++◌, ◌∷◌, [], ◌+◌, ◌≤◌, map, length, OnOk, IfOk};
+ghost use Rattle.std.specs.Prelude.{◌≡◌, ◌++◌, ◌∷◌, [], ◌+◌, ◌≤◌, map, length, OnOk, IfOk, IfErr};
 ghost use Rattle.syntax.specs.Views.{function_of, stmts_of, parameter_of};
 ghost use Rattle.lowered.specs.Programs.{parameter_locals};
+ghost use Rattle.lower.specs.inner.Limits.{NeedsMore};
 ghost use Rattle.lower.specs.inner.Lists.{lists_of};
 ghost use Rattle.lower.specs.inner.Programs.{body_written};
 ghost use Rattle.lower.specs.inner.Views.{program_in, scope_in};
@@ -15,14 +16,14 @@ use crate::put::{after, put};
 use crate::scope::Scope;
 use crate::stmt::lower_stmts;
 use bytecode::Instr;
-use std::alloc::Allocator;
+use std::alloc::{AllocError, Allocator};
 use syntax::tree::{Function, Parameter, Stmt};
 
 /// The locals that a function begins with: its parameters, where they have names.
 fn parameter_locals<'p, A: Allocator + Copy>(
     names: &Names<'p, A>,
     parameters: &'p [Parameter<A>],
-) -> Result<Scope<'p, A>, Failure>
+) -> Result<Scope<'p, A>, AllocError>
     ensures { IfOk result (λ s. scope_in s ≡ parameter_locals (map parameter_of parameters.now)) }
 {
     let mut scope = Scope {
@@ -50,6 +51,7 @@ pub(crate) fn lower_function<'p, A: Allocator + Copy>(
     ensures code { OnOk result (code.new.items ≡ code.old.items ++ (body_written (program_in names.now) (function_of f.now) (stmts_of body.now) from (lists_of lists.old)).code) }
     ensures lists { OnOk result (lists_of lists.new ≡ (body_written (program_in names.now) (function_of f.now) (stmts_of body.now) from (lists_of lists.old)).lists) }
     ensures place { IfOk result (λ p. p ≡ (body_written (program_in names.now) (function_of f.now) (stmts_of body.now) from (lists_of lists.old)).to) }
+    ensures fails { IfErr result (λ why. NeedsMore why (body_written (program_in names.now) (function_of f.now) (stmts_of body.now) from (lists_of lists.old)).lists.registers) }
 {
     let parameters = f.parameters.as_slice();
     lists.registers = parameters.len() as u32;

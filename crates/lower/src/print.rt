@@ -8,13 +8,12 @@ ghost use Rattle.lower.specs.inner.Statements as statements;
 ghost use Rattle.lower.specs.inner.Statements.{pieces_written};
 ghost use Rattle.lower.specs.inner.Formats.{IsAt, text_written, figure_written};
 
-use crate::fault::Failure;
 use crate::lists::Lists;
 use crate::put::{after, put};
 use bytecode::Instr;
 use containers::Text;
 use lex::token::Scalar;
-use std::alloc::Allocator;
+use std::alloc::{AllocError, Allocator};
 
 /// The instruction that prints a number.
 fn printing(of: Scalar, r: u16) -> Instr
@@ -27,27 +26,27 @@ fn printing(of: Scalar, r: u16) -> Instr
 }
 
 /// One more text, and its number.
-fn add_text<A: Allocator>(lists: &mut Lists<A>, text: Text<A>) -> Result<u32, Failure>
+fn add_text<A: Allocator>(lists: &mut Lists<A>, text: Text<A>) -> Result<u32, AllocError>
     ensures lists { OnOk result (lists_of lists.new ≡ record (lists_of lists.old) { texts = lists.old.texts.items ++ text ∷ [] }) }
     ensures number { IfOk result (λ n. n ≡ length lists.old.texts.items) }
 {
     let number = lists.texts.len();
     if number > 4_294_967_295 {
-        return Err(Failure::OutOfMemory);
+        return Err(AllocError);
     }
     match lists.texts.push(text) {
         Ok(()) => Ok(number as u32),
-        Err(_) => Err(Failure::OutOfMemory),
+        Err(_) => Err(AllocError),
     }
 }
 
 /// A text of these bytes. Bytes that are no text are refused as memory is: none between two figures of a format are.
-fn text_from<A: Allocator>(bytes: Vec<u8, A>) -> Result<Text<A>, Failure>
+fn text_from<A: Allocator>(bytes: Vec<u8, A>) -> Result<Text<A>, AllocError>
     ensures { IfOk result (λ text. text ≡ bytes.items) }
 {
     match String::from_utf8(bytes) {
         Ok(text) => Ok(Text::from_string(text)),
-        Err(_) => Err(Failure::OutOfMemory),
+        Err(_) => Err(AllocError),
     }
 }
 
@@ -57,7 +56,7 @@ fn put_text<A: Allocator>(
     code: &mut Vec<Instr, A>,
     bytes: Vec<u8, A>,
     from: u32,
-) -> Result<u32, Failure>
+) -> Result<u32, AllocError>
     ensures code { OnOk result (code.new.items ≡ code.old.items ++ (text_written bytes.items from (lists_of lists.old)).code) }
     ensures lists { OnOk result (lists_of lists.new ≡ (text_written bytes.items from (lists_of lists.old)).lists) }
     ensures place { IfOk result (λ to. to ≡ (text_written bytes.items from (lists_of lists.old)).to) }
@@ -79,7 +78,7 @@ fn put_figure<A: Allocator>(
     of: Scalar,
     r: u16,
     from: u32,
-) -> Result<u32, Failure>
+) -> Result<u32, AllocError>
     ensures code { OnOk result (code.new.items ≡ code.old.items ++ (figure_written bytes.items of r from (lists_of lists.old)).code) }
     ensures lists { OnOk result (lists_of lists.new ≡ (figure_written bytes.items of r from (lists_of lists.old)).lists) }
     ensures place { IfOk result (λ to. to ≡ (figure_written bytes.items of r from (lists_of lists.old)).to) }
@@ -118,12 +117,12 @@ fn unit_at(format: &[u8], i: usize) -> Unit
 }
 
 /// One more byte.
-fn add_byte<A: Allocator>(bytes: &mut Vec<u8, A>, byte: u8) -> Result<(), Failure>
+fn add_byte<A: Allocator>(bytes: &mut Vec<u8, A>, byte: u8) -> Result<(), AllocError>
     ensures { OnOk result (bytes.new.items ≡ bytes.old.items ++ byte ∷ []) }
 {
     match bytes.push(byte) {
         Ok(()) => Ok(()),
-        Err(_) => Err(Failure::OutOfMemory),
+        Err(_) => Err(AllocError),
     }
 }
 
@@ -135,7 +134,7 @@ pub(crate) fn put_pieces<A: Allocator + Copy>(
     format: &[u8],
     registers: &[u16],
     from: u32,
-) -> Result<u32, Failure>
+) -> Result<u32, AllocError>
     ensures code { OnOk result (code.new.items ≡ code.old.items ++ (pieces_written (pieces format.now) registers.now from (lists_of lists.old)).code) }
     ensures lists { OnOk result (lists_of lists.new ≡ (pieces_written (pieces format.now) registers.now from (lists_of lists.old)).lists) }
     ensures place { IfOk result (λ p. p ≡ (pieces_written (pieces format.now) registers.now from (lists_of lists.old)).to) }

@@ -1,6 +1,7 @@
 //! Single instructions: which one an operator is, and how one is put behind the others.
 
-ghost use Rattle.std.specs.Prelude.{◌≡◌, [], ◌∷◌, ◌++◌, ◌<◌, ◌≤◌, ◌+◌, max, suc, length, OnOk, IfOk};
+ghost use Rattle.std.specs.Prelude.{◌≡◌, [], ◌∷◌, ◌++◌, ◌<◌, ◌≤◌, ◌+◌, max, suc, length, OnOk, IfOk, IfErr};
+ghost use Rattle.lower.specs.inner.Limits.{NeedsMore};
 ghost use Rattle.syntax.specs.Numbers as numbers;
 ghost use Rattle.bytecode.specs.declared.instr.Instr.TheVariants as instr;
 ghost use Rattle.lower.specs.declared.lists.Lists as declared_lists;
@@ -12,22 +13,19 @@ use crate::held::Held;
 use crate::lists::Lists;
 use bytecode::Instr;
 use lex::token::Scalar;
-use std::alloc::Allocator;
+use std::alloc::{AllocError, Allocator};
 use syntax::tree::{BinaryOp, LogicalOp};
 
 /// The registers of a function have numbers below this one.
 const MOST_REGISTERS: usize = 65_535;
 
-/// The places of a code are at most this one, which is the one behind the last.
-const MOST_INSTRUCTIONS: u32 = 1_048_576;
-
 /// One more instruction.
-pub(crate) fn put<A: Allocator>(code: &mut Vec<Instr, A>, instr: Instr) -> Result<(), Failure>
+pub(crate) fn put<A: Allocator>(code: &mut Vec<Instr, A>, instr: Instr) -> Result<(), AllocError>
     ensures { OnOk result (code.new.items ≡ code.old.items ++ instr ∷ []) }
 {
     match code.push(instr) {
         Ok(()) => Ok(()),
-        Err(_) => Err(Failure::OutOfMemory),
+        Err(_) => Err(AllocError),
     }
 }
 
@@ -35,23 +33,23 @@ pub(crate) fn put<A: Allocator>(code: &mut Vec<Instr, A>, instr: Instr) -> Resul
 pub(crate) fn append<A: Allocator>(
     code: &mut Vec<Instr, A>,
     more: Vec<Instr, A>,
-) -> Result<(), Failure>
+) -> Result<(), AllocError>
     ensures { OnOk result (code.new.items ≡ code.old.items ++ more.items) }
 {
     let mut more = more;
     match code.append(&mut more) {
         Ok(()) => Ok(()),
-        Err(_) => Err(Failure::OutOfMemory),
+        Err(_) => Err(AllocError),
     }
 }
 
-/// The place so many places further.
-pub(crate) fn after(place: u32, count: u32) -> Result<u32, Failure>
+/// The place so many places further. No memory holds a code with a place that is no `u32`.
+pub(crate) fn after(place: u32, count: u32) -> Result<u32, AllocError>
     requires { count ≤ 4 }
     ensures { IfOk result (λ n. n ≡ place + count) }
 {
-    if place > MOST_INSTRUCTIONS - count {
-        return Err(Failure::Instructions);
+    if place > 4_294_967_295 - count {
+        return Err(AllocError);
     }
     Ok(place + count)
 }
@@ -60,6 +58,7 @@ pub(crate) fn after(place: u32, count: u32) -> Result<u32, Failure>
 pub(crate) fn take<A: Allocator>(lists: &mut Lists<A>, r: usize) -> Result<u16, Failure>
     ensures lists { OnOk result (lists_of lists.new ≡ used r (lists_of lists.old)) }
     ensures register { IfOk result (λ n. n ≡ r) }
+    ensures fails { IfErr result (λ why. NeedsMore why (used r (lists_of lists.old)).registers) }
 {
     if r >= MOST_REGISTERS {
         return Err(Failure::Registers);
@@ -90,6 +89,7 @@ pub(crate) fn put_constant<A: Allocator>(
     ensures code { OnOk result (code.new.items ≡ code.old.items ++ (expressions.constant value of from into (lists_of lists.old)).code) }
     ensures lists { OnOk result (lists_of lists.new ≡ (expressions.constant value of from into (lists_of lists.old)).lists) }
     ensures held { IfOk result (λ held. held ≡ (expressions.constant value of from into (lists_of lists.old)).held) }
+    ensures fails { IfErr result (λ why. NeedsMore why (expressions.constant value of from into (lists_of lists.old)).lists.registers) }
 {
     let register = take(lists, into)?;
     put(code, Instr::Constant(register, value))?;
@@ -108,6 +108,7 @@ pub(crate) fn settle<A: Allocator>(
     ensures lists { OnOk result (lists_of lists.new ≡ (expressions.settled r (record { code = code.old.items; lists = lists_of lists.old; held = held })).lists) }
     ensures held { IfOk result (λ now. now ≡ (expressions.settled r (record { code = code.old.items; lists = lists_of lists.old; held = held })).held) }
     ensures register { IfOk result (λ now. now.register ≡ r) }
+    ensures fails { IfErr result (λ why. NeedsMore why (expressions.settled r (record { code = code.old.items; lists = lists_of lists.old; held = held })).lists.registers) }
 {
     if held.register as usize == r {
         return Ok(held);
@@ -223,6 +224,7 @@ pub(crate) fn put_both<A: Allocator>(
     ensures code { OnOk result (code.new.items ≡ code.old.items ++ expressions.computing op (numbers.operand_type op a.of b.of) into a.register b.register ∷ []) }
     ensures lists { OnOk result (lists_of lists.new ≡ used into (lists_of lists.old)) }
     ensures held { IfOk result (λ held. held ≡ record { register = into; of = numbers.result_type op (numbers.operand_type op a.of b.of); to = b.to + 1 }) }
+    ensures fails { IfErr result (λ why. NeedsMore why (used into (lists_of lists.old)).registers) }
 {
     let register = take(lists, into)?;
     let of = operand_type(op, a.of, b.of);
@@ -254,6 +256,7 @@ pub(crate) fn put_negated<A: Allocator>(
     ensures code { OnOk result (code.new.items ≡ code.old.items ++ expressions.negating a.of into a.register ∷ []) }
     ensures lists { OnOk result (lists_of lists.new ≡ used into (lists_of lists.old)) }
     ensures held { IfOk result (λ held. held ≡ record { register = into; of = a.of; to = a.to + 1 }) }
+    ensures fails { IfErr result (λ why. NeedsMore why (used into (lists_of lists.old)).registers) }
 {
     let register = take(lists, into)?;
     put(code, negating(a.of, register, a.register))?;
@@ -275,6 +278,7 @@ pub(crate) fn put_complemented<A: Allocator>(
     ensures code { OnOk result (code.new.items ≡ code.old.items ++ instr.Complement into a.register ∷ []) }
     ensures lists { OnOk result (lists_of lists.new ≡ used into (lists_of lists.old)) }
     ensures held { IfOk result (λ held. held ≡ record { register = into; of = a.of; to = a.to + 1 }) }
+    ensures fails { IfErr result (λ why. NeedsMore why (used into (lists_of lists.old)).registers) }
 {
     let register = take(lists, into)?;
     put(code, Instr::Complement(register, a.register))?;
@@ -297,6 +301,7 @@ pub(crate) fn put_compared<A: Allocator>(
     ensures code { OnOk result (code.new.items ≡ code.old.items ++ instr.Constant (expressions.above free a.register) 0 ∷ instr.Equal into a.register (expressions.above free a.register) ∷ []) }
     ensures lists { OnOk result (lists_of lists.new ≡ used into (used (expressions.above free a.register) (lists_of lists.old))) }
     ensures held { IfOk result (λ held. held ≡ record { register = into; of = Scalar.Int; to = a.to + 2 }) }
+    ensures fails { IfErr result (λ why. NeedsMore why (used into (used (expressions.above free a.register) (lists_of lists.old))).registers) }
 {
     let zero_in = take(lists, above(free, a.register))?;
     put(code, Instr::Constant(zero_in, 0))?;
@@ -350,6 +355,7 @@ pub(crate) fn put_tested<A: Allocator>(
     ensures code { OnOk result (code.new.items ≡ code.old.items ++ expressions.short_jump op a.register (b.to + 3) ∷ second.items ++ expressions.short_jump op b.register (b.to + 3) ∷ instr.Constant into (expressions.long_answer op) ∷ instr.Jump (b.to + 4) ∷ instr.Constant into (expressions.short_answer op) ∷ []) }
     ensures lists { OnOk result (lists_of lists.new ≡ used into (lists_of lists.old)) }
     ensures held { IfOk result (λ held. held ≡ record { register = into; of = Scalar.Int; to = b.to + 4 }) }
+    ensures fails { IfErr result (λ why. NeedsMore why (used into (lists_of lists.old)).registers) }
 {
     let other = after(b.to, 3)?;
     let to = after(b.to, 4)?;
@@ -378,6 +384,7 @@ pub(crate) fn put_chosen<A: Allocator>(
 ) -> Result<Held, Failure>
     ensures code { OnOk result (code.new.items ≡ code.old.items ++ instr.JumpZero test.register (a.to + 1) ∷ first.items ++ instr.Jump b.to ∷ second.items) }
     ensures held { IfOk result (λ held. held ≡ record { register = b.register; of = numbers.common a.of b.of; to = b.to }) }
+    ensures fails { IfErr result (λ why. NeedsMore why 0) }
 {
     let other = after(a.to, 1)?;
     put(code, Instr::JumpZero(test.register, other))?;

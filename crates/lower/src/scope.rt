@@ -5,9 +5,8 @@ ghost use Rattle.syntax.specs.Names as Source;
 ghost use Rattle.lowered.specs.Statements.{with_local};
 ghost use Rattle.lower.specs.inner.Views.{local_in, scope_in};
 
-use crate::fault::Failure;
 use lex::token::Scalar;
-use std::alloc::Allocator;
+use std::alloc::{AllocError, Allocator};
 
 /// A local, by its name in the tree.
 #[derive(Clone, Copy)]
@@ -53,12 +52,12 @@ impl<'p, A: Allocator> Scope<'p, A> {
     }
 
     /// One local more.
-    pub(crate) fn declare(&mut self, name: &'p str, of: Scalar) -> Result<(), Failure>
+    pub(crate) fn declare(&mut self, name: &'p str, of: Scalar) -> Result<(), AllocError>
         ensures { OnOk result (scope_in self.new ≡ with_local (scope_in self.old) name.now of) }
     {
         match self.locals.push(Local { name, of }) {
             Ok(()) => Ok(()),
-            Err(_) => Err(Failure::OutOfMemory),
+            Err(_) => Err(AllocError),
         }
     }
 

@@ -1,12 +1,13 @@
 //! The instructions of assignments and declarations.
 
-ghost use Rattle.std.specs.Prelude.{◌≡◌, ◌++◌, ◌∷◌, [], ◌+◌, ◌≤◌, map, option_map, length, OnOk, IfOk};
+ghost use Rattle.std.specs.Prelude.{◌≡◌, ◌++◌, ◌∷◌, [], ◌+◌, ◌≤◌, map, option_map, length, OnOk, IfOk, IfErr};
 ghost use Rattle.syntax.specs.Names as Source;
 ghost use Rattle.syntax.specs.Views.{expr_of, simple_of, declarator_of, start_of};
 ghost use Rattle.syntax.specs.Meaning.{op_of};
 ghost use Rattle.bytecode.specs.declared.instr.Instr.TheVariants as instr;
 ghost use Rattle.lowered.specs.Statements.{with_local, with_declared, locals_of_start};
 ghost use Rattle.lower.specs.declared.held.Target.TheVariants as target;
+ghost use Rattle.lower.specs.inner.Limits.{NeedsMore};
 ghost use Rattle.lower.specs.inner.Lists.{lists_of, Lists as Plain};
 ghost use Rattle.lower.specs.inner.Simples as simples;
 ghost use Rattle.lower.specs.inner.Simples.{aimed, variable_target, fetched, stored, assigned, adjusted, simple_written, first_written, declarator_written, declared_written, start_written};
@@ -24,7 +25,7 @@ use crate::put::{above, after, put, put_both, put_constant, take};
 use crate::scope::Scope;
 use bytecode::Instr;
 use lex::token::Scalar;
-use std::alloc::Allocator;
+use std::alloc::{AllocError, Allocator};
 use syntax::tree::{BinaryOp, Declarator, Expr, IncDec, Simple, Start};
 
 fn aim_at(target: Target, to: u32) -> Aim
@@ -43,6 +44,7 @@ fn aim_variable<A: Allocator + Copy>(
 ) -> Result<Aim, Failure>
     ensures lists { OnOk result (lists_of lists.new ≡ (variable_target (Source.newest (scope_in scope.now) x.now) (Source.global_of (program_in names.now) x.now) from (lists_of lists.old)).lists) }
     ensures aim { IfOk result (λ a. a ≡ aim_in (variable_target (Source.newest (scope_in scope.now) x.now) (Source.global_of (program_in names.now) x.now) from (lists_of lists.old))) }
+    ensures fails { IfErr result (λ why. NeedsMore why ((variable_target (Source.newest (scope_in scope.now) x.now) (Source.global_of (program_in names.now) x.now) from (lists_of lists.old)).lists).registers) }
 {
     match scope.newest(x) {
         Some((i, of)) => {
@@ -62,7 +64,7 @@ fn put_check<A: Allocator + Copy>(
     check: bool,
     g: Shared<'_, A>,
     index: Held,
-) -> Result<Aim, Failure>
+) -> Result<Aim, AllocError>
     requires { g.cell ≤ 4096 }
     ensures code { OnOk result (code.new.items ≡ code.old.items ++ simples.checked_by check index.register (Source.cells (shared_in g.entry).global)) }
     ensures aim { IfOk result (λ a. a ≡ record { target = target.Element index.register g.entry.cell (Source.cells (shared_in g.entry).global) g.entry.global.now.of; to = index.to + simples.checks check }) }
@@ -91,13 +93,14 @@ fn aim<A: Allocator + Copy>(
     ensures code { OnOk result (code.new.items ≡ code.old.items ++ (aimed (program_in names.now) (scope_in scope.now) check (expr_of e.now) from free (lists_of lists.old)).code) }
     ensures lists { OnOk result (lists_of lists.new ≡ (aimed (program_in names.now) (scope_in scope.now) check (expr_of e.now) from free (lists_of lists.old)).lists) }
     ensures aim { IfOk result (λ a. a ≡ aim_in (aimed (program_in names.now) (scope_in scope.now) check (expr_of e.now) from free (lists_of lists.old))) }
+    ensures fails { IfErr result (λ why. NeedsMore why ((aimed (program_in names.now) (scope_in scope.now) check (expr_of e.now) from free (lists_of lists.old)).lists).registers) }
 {
     match e {
         Expr::Variable(x) => aim_variable(names, scope, lists, x.text.as_str(), from),
         Expr::Element(x, index, _) => match global(names, x.text.as_str()) {
             Some(g) => {
                 let i = lower_expr(names, scope, lists, code, index.get(), from, free, free)?;
-                put_check(code, check, g, i)
+                Ok(put_check(code, check, g, i)?)
             }
             None => Ok(aim_at(Target::Nowhere, from)),
         },
@@ -136,6 +139,7 @@ fn fetch<A: Allocator>(
     ensures code { OnOk result (code.new.items ≡ code.old.items ++ (fetched target from free (lists_of lists.old)).code) }
     ensures lists { OnOk result (lists_of lists.new ≡ (fetched target from free (lists_of lists.old)).lists) }
     ensures held { IfOk result (λ h. h ≡ (fetched target from free (lists_of lists.old)).held) }
+    ensures fails { IfErr result (λ why. NeedsMore why ((fetched target from free (lists_of lists.old)).lists).registers) }
 {
     match target {
         Target::Local(i, of) => {
@@ -168,7 +172,7 @@ fn store<A: Allocator>(
     target: Target,
     a: u16,
     from: u32,
-) -> Result<u32, Failure>
+) -> Result<u32, AllocError>
     ensures code { OnOk result ((l : Plain) → code.new.items ≡ code.old.items ++ (stored target a from l).code) }
     ensures place { IfOk result (λ to. (l : Plain) → to ≡ (stored target a from l).to) }
 {
@@ -201,12 +205,13 @@ fn lower_assign<A: Allocator + Copy>(
     ensures code { OnOk result (code.new.items ≡ code.old.items ++ (assigned (program_in names.now) (scope_in scope.now) (expr_of to.now) (expr_of value.now) from free (lists_of lists.old)).code) }
     ensures lists { OnOk result (lists_of lists.new ≡ (assigned (program_in names.now) (scope_in scope.now) (expr_of to.now) (expr_of value.now) from free (lists_of lists.old)).lists) }
     ensures place { IfOk result (λ p. p ≡ (assigned (program_in names.now) (scope_in scope.now) (expr_of to.now) (expr_of value.now) from free (lists_of lists.old)).to) }
+    ensures fails { IfErr result (λ why. NeedsMore why ((assigned (program_in names.now) (scope_in scope.now) (expr_of to.now) (expr_of value.now) from free (lists_of lists.old)).lists).registers) }
 {
     let aim = aim(names, scope, lists, code, true, to, from, free)?;
     let later = above_target(aim.target, free);
     let home = home_or(aim.target, later);
     let held = lower_expr(names, scope, lists, code, value, aim.to, home, later)?;
-    store(code, aim.target, held.register, held.to)
+    Ok(store(code, aim.target, held.register, held.to)?)
 }
 
 /// `to op= value`
@@ -224,6 +229,7 @@ fn lower_change<A: Allocator + Copy>(
     ensures code { OnOk result (code.new.items ≡ code.old.items ++ (adjusted (program_in names.now) (scope_in scope.now) op (expr_of to.now) (Some (expr_of value.now)) from free (lists_of lists.old)).code) }
     ensures lists { OnOk result (lists_of lists.new ≡ (adjusted (program_in names.now) (scope_in scope.now) op (expr_of to.now) (Some (expr_of value.now)) from free (lists_of lists.old)).lists) }
     ensures place { IfOk result (λ p. p ≡ (adjusted (program_in names.now) (scope_in scope.now) op (expr_of to.now) (Some (expr_of value.now)) from free (lists_of lists.old)).to) }
+    ensures fails { IfErr result (λ why. NeedsMore why ((adjusted (program_in names.now) (scope_in scope.now) op (expr_of to.now) (Some (expr_of value.now)) from free (lists_of lists.old)).lists).registers) }
 {
     let aim = aim(names, scope, lists, code, false, to, from, free)?;
     let later = above_target(aim.target, free);
@@ -231,7 +237,7 @@ fn lower_change<A: Allocator + Copy>(
     let behind = above(later, old.register);
     let other = lower_expr(names, scope, lists, code, value, old.to, behind, behind)?;
     let held = put_both(lists, code, op, old, other, home_or(aim.target, later))?;
-    store(code, aim.target, held.register, held.to)
+    Ok(store(code, aim.target, held.register, held.to)?)
 }
 
 /// `to++` and `to--`
@@ -248,6 +254,7 @@ fn lower_adjust<A: Allocator + Copy>(
     ensures code { OnOk result (code.new.items ≡ code.old.items ++ (adjusted (program_in names.now) (scope_in scope.now) op (expr_of to.now) None from free (lists_of lists.old)).code) }
     ensures lists { OnOk result (lists_of lists.new ≡ (adjusted (program_in names.now) (scope_in scope.now) op (expr_of to.now) None from free (lists_of lists.old)).lists) }
     ensures place { IfOk result (λ p. p ≡ (adjusted (program_in names.now) (scope_in scope.now) op (expr_of to.now) None from free (lists_of lists.old)).to) }
+    ensures fails { IfErr result (λ why. NeedsMore why ((adjusted (program_in names.now) (scope_in scope.now) op (expr_of to.now) None from free (lists_of lists.old)).lists).registers) }
 {
     let aim = aim(names, scope, lists, code, false, to, from, free)?;
     let later = above_target(aim.target, free);
@@ -255,7 +262,7 @@ fn lower_adjust<A: Allocator + Copy>(
     let behind = above(later, old.register);
     let other = put_constant(lists, code, 1, Scalar::Int, old.to, behind)?;
     let held = put_both(lists, code, op, old, other, home_or(aim.target, later))?;
-    store(code, aim.target, held.register, held.to)
+    Ok(store(code, aim.target, held.register, held.to)?)
 }
 
 fn op_of(by: IncDec) -> BinaryOp
@@ -280,6 +287,7 @@ pub(crate) fn lower_simple<A: Allocator + Copy>(
     ensures code { OnOk result (code.new.items ≡ code.old.items ++ (simple_written (program_in names.now) (scope_in scope.now) (simple_of s.now) from free (lists_of lists.old)).code) }
     ensures lists { OnOk result (lists_of lists.new ≡ (simple_written (program_in names.now) (scope_in scope.now) (simple_of s.now) from free (lists_of lists.old)).lists) }
     ensures place { IfOk result (λ p. p ≡ (simple_written (program_in names.now) (scope_in scope.now) (simple_of s.now) from free (lists_of lists.old)).to) }
+    ensures fails { IfErr result (λ why. NeedsMore why ((simple_written (program_in names.now) (scope_in scope.now) (simple_of s.now) from free (lists_of lists.old)).lists).registers) }
 {
     match s {
         Simple::Evaluate(e) => {
@@ -310,12 +318,13 @@ fn lower_first<A: Allocator + Copy>(
     ensures code { OnOk result (code.new.items ≡ code.old.items ++ (first_written (program_in names.now) (scope_in scope.now) register of (option_map expr_of first.now) from (lists_of lists.old)).code) }
     ensures lists { OnOk result (lists_of lists.new ≡ (first_written (program_in names.now) (scope_in scope.now) register of (option_map expr_of first.now) from (lists_of lists.old)).lists) }
     ensures place { IfOk result (λ p. p ≡ (first_written (program_in names.now) (scope_in scope.now) register of (option_map expr_of first.now) from (lists_of lists.old)).to) }
+    ensures fails { IfErr result (λ why. NeedsMore why ((first_written (program_in names.now) (scope_in scope.now) register of (option_map expr_of first.now) from (lists_of lists.old)).lists).registers) }
 {
     match first {
         Some(e) => {
             let i = register as usize;
             let held = lower_expr(names, scope, lists, code, e, from, i, i + 1)?;
-            store(code, Target::Local(register, of), held.register, held.to)
+            Ok(store(code, Target::Local(register, of), held.register, held.to)?)
         }
         None => Ok(from),
     }
@@ -335,6 +344,7 @@ fn lower_declarator<'p, A: Allocator + Copy>(
     ensures code { OnOk result (code.new.items ≡ code.old.items ++ (declarator_written (program_in names.now) of (declarator_of d.now) (scope_in scope.old) from (lists_of lists.old)).code) }
     ensures lists { OnOk result (lists_of lists.new ≡ (declarator_written (program_in names.now) of (declarator_of d.now) (scope_in scope.old) from (lists_of lists.old)).lists) }
     ensures place { IfOk result (λ p. p ≡ (declarator_written (program_in names.now) of (declarator_of d.now) (scope_in scope.old) from (lists_of lists.old)).to) }
+    ensures fails { IfErr result (λ why. NeedsMore why ((declarator_written (program_in names.now) of (declarator_of d.now) (scope_in scope.old) from (lists_of lists.old)).lists).registers) }
 {
     let register = take(lists, scope.len())?;
     put(code, Instr::Constant(register, 0))?;
@@ -357,6 +367,7 @@ pub(crate) fn lower_declarators<'p, A: Allocator + Copy>(
     ensures code { OnOk result (code.new.items ≡ code.old.items ++ (declared_written (program_in names.now) of (map declarator_of all.now) (scope_in scope.old) from (lists_of lists.old)).code) }
     ensures lists { OnOk result (lists_of lists.new ≡ (declared_written (program_in names.now) of (map declarator_of all.now) (scope_in scope.old) from (lists_of lists.old)).lists) }
     ensures place { IfOk result (λ p. p ≡ (declared_written (program_in names.now) of (map declarator_of all.now) (scope_in scope.old) from (lists_of lists.old)).to) }
+    ensures fails { IfErr result (λ why. NeedsMore why ((declared_written (program_in names.now) of (map declarator_of all.now) (scope_in scope.old) from (lists_of lists.old)).lists).registers) }
 {
     let mut to = from;
     'each: for one in all {
@@ -378,6 +389,7 @@ pub(crate) fn lower_start<'p, A: Allocator + Copy>(
     ensures code { OnOk result (code.new.items ≡ code.old.items ++ (start_written (program_in names.now) (start_of start.now) (scope_in scope.old) from (lists_of lists.old)).code) }
     ensures lists { OnOk result (lists_of lists.new ≡ (start_written (program_in names.now) (start_of start.now) (scope_in scope.old) from (lists_of lists.old)).lists) }
     ensures place { IfOk result (λ p. p ≡ (start_written (program_in names.now) (start_of start.now) (scope_in scope.old) from (lists_of lists.old)).to) }
+    ensures fails { IfErr result (λ why. NeedsMore why ((start_written (program_in names.now) (start_of start.now) (scope_in scope.old) from (lists_of lists.old)).lists).registers) }
 {
     match start {
         Start::Nothing => Ok(from),

@@ -1,12 +1,13 @@
 //! The instructions of statements. A loop is tested at its bottom; in front of it stand a jump and pads: places that are known
 //! before the body is made, from which a break and a continue go on.
 
-ghost use Rattle.std.specs.Prelude.{◌≡◌, ◌++◌, ◌∷◌, [], ◌+◌, ◌≤◌, map, option_map, length, replicate, take, OnOk, IfOk};
+ghost use Rattle.std.specs.Prelude.{◌≡◌, ◌++◌, ◌∷◌, [], ◌+◌, ◌≤◌, map, option_map, length, replicate, take, OnOk, IfOk, IfErr};
 ghost use Rattle.syntax.specs.Tree as Tree;
 ghost use Rattle.syntax.specs.Views.{expr_of, exprs_of, simple_of, start_of, stmt_of, stmts_of};
 ghost use Rattle.syntax.specs.Formats.{pieces};
 ghost use Rattle.bytecode.specs.declared.instr.Instr.TheVariants as instr;
 ghost use Rattle.lowered.specs.Statements.{locals_after, locals_at_end};
+ghost use Rattle.lower.specs.inner.Limits.{NeedsMore};
 ghost use Rattle.lower.specs.inner.Lists.{lists_of};
 ghost use Rattle.lower.specs.inner.Expressions.{all_emitted};
 ghost use Rattle.lower.specs.inner.Conditions as conditions;
@@ -28,7 +29,7 @@ use crate::put::{after, append, put};
 use crate::scope::Scope;
 use crate::simple::{lower_declarators, lower_simple, lower_start};
 use bytecode::Instr;
-use std::alloc::Allocator;
+use std::alloc::{AllocError, Allocator};
 use syntax::tree::{Expr, ForHead, Simple, Stmt};
 
 /// So many commits, and then an instruction; the place behind.
@@ -37,7 +38,7 @@ fn leave<A: Allocator>(
     commits: u32,
     last: Instr,
     from: u32,
-) -> Result<u32, Failure>
+) -> Result<u32, AllocError>
     ensures code { OnOk result (code.new.items ≡ code.old.items ++ (replicate commits (instr.Commit) ++ last ∷ [])) }
     ensures place { IfOk result (λ p. p ≡ from + commits + 1) }
 {
@@ -51,11 +52,11 @@ fn leave<A: Allocator>(
 }
 
 /// One transaction more. No count is as large as the number of instructions, which memory bounds.
-fn entered(exits: Exits) -> Result<Exits, Failure>
+fn entered(exits: Exits) -> Result<Exits, AllocError>
     ensures { IfOk result (λ x. x ≡ statements.in_transaction exits) }
 {
     if exits.in_function >= 4_294_967_295 || exits.in_loop >= 4_294_967_295 {
-        return Err(Failure::OutOfMemory);
+        return Err(AllocError);
     }
     Ok(Exits {
         break_to: exits.break_to,
@@ -88,13 +89,14 @@ fn lower_head<A: Allocator + Copy>(
     ensures code { OnOk result (code.new.items ≡ code.old.items ++ (condition (program_in names.now) (scope_in scope.now) (expr_of c.now) from (length (scope_in scope.now)) (lists_of lists.old)).code) }
     ensures lists { OnOk result (lists_of lists.new ≡ (condition (program_in names.now) (scope_in scope.now) (expr_of c.now) from (length (scope_in scope.now)) (lists_of lists.old)).lists) }
     ensures tested { IfOk result (λ t. t ≡ test_in (condition (program_in names.now) (scope_in scope.now) (expr_of c.now) from (length (scope_in scope.now)) (lists_of lists.old))) }
+    ensures fails { IfErr result (λ why. NeedsMore why ((condition (program_in names.now) (scope_in scope.now) (expr_of c.now) from (length (scope_in scope.now)) (lists_of lists.old)).lists).registers) }
 {
     let free = scope.len();
     lower_condition(names, scope, lists, code, c, from, free)
 }
 
 /// A jump back where a condition holds; the place behind.
-fn put_back<A: Allocator>(code: &mut Vec<Instr, A>, t: Tested, back: u32) -> Result<u32, Failure>
+fn put_back<A: Allocator>(code: &mut Vec<Instr, A>, t: Tested, back: u32) -> Result<u32, AllocError>
     ensures code { OnOk result (code.new.items ≡ code.old.items ++ conditions.jump_if t.at_zero t.register back ∷ []) }
     ensures place { IfOk result (λ p. p ≡ t.to + 1) }
 {
@@ -115,9 +117,10 @@ fn lower_back<A: Allocator + Copy>(
     ensures code { OnOk result (code.new.items ≡ code.old.items ++ (tested_back (condition (program_in names.now) (scope_in scope.now) (expr_of c.now) from (length (scope_in scope.now)) (lists_of lists.old)) back).code) }
     ensures lists { OnOk result (lists_of lists.new ≡ (tested_back (condition (program_in names.now) (scope_in scope.now) (expr_of c.now) from (length (scope_in scope.now)) (lists_of lists.old)) back).lists) }
     ensures place { IfOk result (λ p. p ≡ (tested_back (condition (program_in names.now) (scope_in scope.now) (expr_of c.now) from (length (scope_in scope.now)) (lists_of lists.old)) back).to) }
+    ensures fails { IfErr result (λ why. NeedsMore why ((tested_back (condition (program_in names.now) (scope_in scope.now) (expr_of c.now) from (length (scope_in scope.now)) (lists_of lists.old)) back).lists).registers) }
 {
     let t = lower_head(names, scope, lists, code, c, from)?;
-    put_back(code, t, back)
+    Ok(put_back(code, t, back)?)
 }
 
 /// An assignment or an expression behind the locals.
@@ -132,6 +135,7 @@ fn lower_do<A: Allocator + Copy>(
     ensures code { OnOk result (code.new.items ≡ code.old.items ++ (simple_written (program_in names.now) (scope_in scope.now) (simple_of s.now) from (length (scope_in scope.now)) (lists_of lists.old)).code) }
     ensures lists { OnOk result (lists_of lists.new ≡ (simple_written (program_in names.now) (scope_in scope.now) (simple_of s.now) from (length (scope_in scope.now)) (lists_of lists.old)).lists) }
     ensures place { IfOk result (λ p. p ≡ (simple_written (program_in names.now) (scope_in scope.now) (simple_of s.now) from (length (scope_in scope.now)) (lists_of lists.old)).to) }
+    ensures fails { IfErr result (λ why. NeedsMore why ((simple_written (program_in names.now) (scope_in scope.now) (simple_of s.now) from (length (scope_in scope.now)) (lists_of lists.old)).lists).registers) }
 {
     let free = scope.len();
     lower_simple(names, scope, lists, code, s, from, free)
@@ -150,12 +154,13 @@ fn lower_test<A: Allocator + Copy>(
     ensures code { OnOk result (code.new.items ≡ code.old.items ++ (for_test (program_in names.now) (scope_in scope.now) (option_map expr_of c.now) back from (lists_of lists.old)).code) }
     ensures lists { OnOk result (lists_of lists.new ≡ (for_test (program_in names.now) (scope_in scope.now) (option_map expr_of c.now) back from (lists_of lists.old)).lists) }
     ensures place { IfOk result (λ p. p ≡ (for_test (program_in names.now) (scope_in scope.now) (option_map expr_of c.now) back from (lists_of lists.old)).to) }
+    ensures fails { IfErr result (λ why. NeedsMore why ((for_test (program_in names.now) (scope_in scope.now) (option_map expr_of c.now) back from (lists_of lists.old)).lists).registers) }
 {
     match c {
         Some(c) => lower_back(names, scope, lists, code, c, from, back),
         None => {
             put(code, Instr::Jump(back))?;
-            after(from, 1)
+            Ok(after(from, 1)?)
         }
     }
 }
@@ -172,6 +177,7 @@ fn lower_step<A: Allocator + Copy>(
     ensures code { OnOk result (code.new.items ≡ code.old.items ++ (for_step (program_in names.now) (scope_in scope.now) (option_map simple_of step.now) from (lists_of lists.old)).code) }
     ensures lists { OnOk result (lists_of lists.new ≡ (for_step (program_in names.now) (scope_in scope.now) (option_map simple_of step.now) from (lists_of lists.old)).lists) }
     ensures place { IfOk result (λ p. p ≡ (for_step (program_in names.now) (scope_in scope.now) (option_map simple_of step.now) from (lists_of lists.old)).to) }
+    ensures fails { IfErr result (λ why. NeedsMore why ((for_step (program_in names.now) (scope_in scope.now) (option_map simple_of step.now) from (lists_of lists.old)).lists).registers) }
 {
     match step {
         Some(s) => lower_do(names, scope, lists, code, s, from),
@@ -185,7 +191,7 @@ fn put_branch<A: Allocator>(
     t: Tested,
     branch: Vec<Instr, A>,
     to: u32,
-) -> Result<(), Failure>
+) -> Result<(), AllocError>
     ensures { OnOk result (code.new.items ≡ code.old.items ++ conditions.jump_if_not t.at_zero t.register to ∷ branch.items) }
 {
     put(code, jump_if_not(t.at_zero, t.register, to))?;
@@ -200,7 +206,7 @@ fn put_branches<A: Allocator>(
     other_at: u32,
     second: Vec<Instr, A>,
     to: u32,
-) -> Result<(), Failure>
+) -> Result<(), AllocError>
     ensures { OnOk result (code.new.items ≡ code.old.items ++ conditions.jump_if_not t.at_zero t.register other_at ∷ first.items ++ instr.Jump to ∷ second.items) }
 {
     put_branch(code, t, first, other_at)?;
@@ -214,7 +220,7 @@ fn put_while<A: Allocator>(
     test_at: u32,
     to: u32,
     rest: Vec<Instr, A>,
-) -> Result<(), Failure>
+) -> Result<(), AllocError>
     ensures { OnOk result (code.new.items ≡ code.old.items ++ instr.Jump test_at ∷ instr.Jump to ∷ rest.items) }
 {
     put(code, Instr::Jump(test_at))?;
@@ -229,7 +235,7 @@ fn put_loop<A: Allocator>(
     to: u32,
     next: u32,
     rest: Vec<Instr, A>,
-) -> Result<(), Failure>
+) -> Result<(), AllocError>
     ensures { OnOk result (code.new.items ≡ code.old.items ++ instr.Jump begin ∷ instr.Jump to ∷ instr.Jump next ∷ rest.items) }
 {
     put(code, Instr::Jump(begin))?;
@@ -241,7 +247,7 @@ fn put_transaction<A: Allocator>(
     code: &mut Vec<Instr, A>,
     to: u32,
     inner: Vec<Instr, A>,
-) -> Result<(), Failure>
+) -> Result<(), AllocError>
     ensures { OnOk result (code.new.items ≡ code.old.items ++ instr.Begin to ∷ inner.items ++ instr.Commit ∷ []) }
 {
     put(code, Instr::Begin(to))?;
@@ -262,20 +268,21 @@ fn lower_print<A: Allocator + Copy>(
     ensures code { OnOk result (code.new.items ≡ code.old.items ++ (print_written (all_emitted (program_in names.now) (scope_in scope.now) (exprs_of args.now) (from + 1) (length (scope_in scope.now)) (lists_of lists.old)) (pieces format.now)).code) }
     ensures lists { OnOk result (lists_of lists.new ≡ (print_written (all_emitted (program_in names.now) (scope_in scope.now) (exprs_of args.now) (from + 1) (length (scope_in scope.now)) (lists_of lists.old)) (pieces format.now)).lists) }
     ensures place { IfOk result (λ p. p ≡ (print_written (all_emitted (program_in names.now) (scope_in scope.now) (exprs_of args.now) (from + 1) (length (scope_in scope.now)) (lists_of lists.old)) (pieces format.now)).to) }
+    ensures fails { IfErr result (λ why. NeedsMore why ((print_written (all_emitted (program_in names.now) (scope_in scope.now) (exprs_of args.now) (from + 1) (length (scope_in scope.now)) (lists_of lists.old)) (pieces format.now)).lists).registers) }
 {
     put(code, Instr::Irrevocable)?;
     let next = after(from, 1)?;
     let mut registers = Vec::new(names.alloc);
     let free = scope.len();
     let to = lower_all(names, scope, lists, code, &mut registers, args, next, free)?;
-    put_pieces(
+    Ok(put_pieces(
         names.alloc,
         lists,
         code,
         format.as_bytes(),
         registers.as_slice(),
         to,
-    )
+    )?)
 }
 
 /// A return.
@@ -291,14 +298,15 @@ fn lower_return<A: Allocator + Copy>(
     ensures code { OnOk result (code.new.items ≡ code.old.items ++ (return_written (program_in names.now) (scope_in scope.now) (option_map expr_of e.now) commits from (lists_of lists.old)).code) }
     ensures lists { OnOk result (lists_of lists.new ≡ (return_written (program_in names.now) (scope_in scope.now) (option_map expr_of e.now) commits from (lists_of lists.old)).lists) }
     ensures place { IfOk result (λ p. p ≡ (return_written (program_in names.now) (scope_in scope.now) (option_map expr_of e.now) commits from (lists_of lists.old)).to) }
+    ensures fails { IfErr result (λ why. NeedsMore why ((return_written (program_in names.now) (scope_in scope.now) (option_map expr_of e.now) commits from (lists_of lists.old)).lists).registers) }
 {
     match e {
         Some(e) => {
             let free = scope.len();
             let held = lower_expr(names, scope, lists, code, e, from, free, free)?;
-            leave(code, commits, Instr::ReturnValue(held.register), held.to)
+            Ok(leave(code, commits, Instr::ReturnValue(held.register), held.to)?)
         }
-        None => leave(code, commits, Instr::Return, from),
+        None => Ok(leave(code, commits, Instr::Return, from)?),
     }
 }
 
@@ -317,6 +325,7 @@ pub(crate) fn lower_stmt<'p, A: Allocator + Copy>(
     ensures code { OnOk result (code.new.items ≡ code.old.items ++ (written (program_in names.now) (stmt_of s.now) exits (scope_in scope.old) from (lists_of lists.old)).code) }
     ensures lists { OnOk result (lists_of lists.new ≡ (written (program_in names.now) (stmt_of s.now) exits (scope_in scope.old) from (lists_of lists.old)).lists) }
     ensures place { IfOk result (λ p. p ≡ (written (program_in names.now) (stmt_of s.now) exits (scope_in scope.old) from (lists_of lists.old)).to) }
+    ensures fails { IfErr result (λ why. NeedsMore why ((written (program_in names.now) (stmt_of s.now) exits (scope_in scope.old) from (lists_of lists.old)).lists).registers) }
 {
     match s {
         Stmt::Empty => Ok(from),
@@ -404,8 +413,8 @@ pub(crate) fn lower_stmt<'p, A: Allocator + Copy>(
                 from,
             )
         }
-        Stmt::Break(_) => leave(code, exits.in_loop, Instr::Jump(exits.break_to), from),
-        Stmt::Continue(_) => leave(code, exits.in_loop, Instr::Jump(exits.continue_to), from),
+        Stmt::Break(_) => Ok(leave(code, exits.in_loop, Instr::Jump(exits.break_to), from)?),
+        Stmt::Continue(_) => Ok(leave(code, exits.in_loop, Instr::Jump(exits.continue_to), from)?),
         Stmt::Return(e, _) => {
             lower_return(names, scope, lists, code, e, exits.in_function, from)
         }
@@ -421,7 +430,7 @@ pub(crate) fn lower_stmt<'p, A: Allocator + Copy>(
         }
         Stmt::Cancel(_) => {
             put(code, Instr::Cancel)?;
-            after(from, 1)
+            Ok(after(from, 1)?)
         }
     }
 }
@@ -442,6 +451,7 @@ fn lower_for<'p, A: Allocator + Copy>(
     ensures code { OnOk result (code.new.items ≡ code.old.items ++ (written (program_in names.now) (Tree.For (start_of head.now.start) (option_map expr_of head.now.condition) (option_map simple_of head.now.step) (stmt_of body.now)) exits (scope_in scope.old) from (lists_of lists.old)).code) }
     ensures lists { OnOk result (lists_of lists.new ≡ (written (program_in names.now) (Tree.For (start_of head.now.start) (option_map expr_of head.now.condition) (option_map simple_of head.now.step) (stmt_of body.now)) exits (scope_in scope.old) from (lists_of lists.old)).lists) }
     ensures place { IfOk result (λ p. p ≡ (written (program_in names.now) (Tree.For (start_of head.now.start) (option_map expr_of head.now.condition) (option_map simple_of head.now.step) (stmt_of body.now)) exits (scope_in scope.old) from (lists_of lists.old)).to) }
+    ensures fails { IfErr result (λ why. NeedsMore why ((written (program_in names.now) (Tree.For (start_of head.now.start) (option_map expr_of head.now.condition) (option_map simple_of head.now.step) (stmt_of body.now)) exits (scope_in scope.old) from (lists_of lists.old)).lists).registers) }
 {
     let outer = scope.len();
     let pads = lower_start(names, scope, lists, code, &head.start, from)?;
@@ -481,6 +491,7 @@ fn lower_scoped<'p, A: Allocator + Copy>(
     ensures code { OnOk result (code.new.items ≡ code.old.items ++ (written (program_in names.now) (stmt_of s.now) exits (scope_in scope.old) from (lists_of lists.old)).code) }
     ensures lists { OnOk result (lists_of lists.new ≡ (written (program_in names.now) (stmt_of s.now) exits (scope_in scope.old) from (lists_of lists.old)).lists) }
     ensures place { IfOk result (λ p. p ≡ (written (program_in names.now) (stmt_of s.now) exits (scope_in scope.old) from (lists_of lists.old)).to) }
+    ensures fails { IfErr result (λ why. NeedsMore why ((written (program_in names.now) (stmt_of s.now) exits (scope_in scope.old) from (lists_of lists.old)).lists).registers) }
 {
     let outer = scope.len();
     let to = lower_stmt(names, scope, lists, code, s, exits, from)?;
@@ -503,6 +514,7 @@ fn lower_block<'p, A: Allocator + Copy>(
     ensures code { OnOk result (code.new.items ≡ code.old.items ++ (all_written (program_in names.now) (stmts_of body.now) exits (scope_in scope.old) from (lists_of lists.old)).code) }
     ensures lists { OnOk result (lists_of lists.new ≡ (all_written (program_in names.now) (stmts_of body.now) exits (scope_in scope.old) from (lists_of lists.old)).lists) }
     ensures place { IfOk result (λ p. p ≡ (all_written (program_in names.now) (stmts_of body.now) exits (scope_in scope.old) from (lists_of lists.old)).to) }
+    ensures fails { IfErr result (λ why. NeedsMore why ((all_written (program_in names.now) (stmts_of body.now) exits (scope_in scope.old) from (lists_of lists.old)).lists).registers) }
 {
     let outer = scope.len();
     let to = lower_stmts(names, scope, lists, code, body, exits, from)?;
@@ -525,6 +537,7 @@ pub(crate) fn lower_stmts<'p, A: Allocator + Copy>(
     ensures code { OnOk result (code.new.items ≡ code.old.items ++ (all_written (program_in names.now) (stmts_of body.now) exits (scope_in scope.old) from (lists_of lists.old)).code) }
     ensures lists { OnOk result (lists_of lists.new ≡ (all_written (program_in names.now) (stmts_of body.now) exits (scope_in scope.old) from (lists_of lists.old)).lists) }
     ensures place { IfOk result (λ p. p ≡ (all_written (program_in names.now) (stmts_of body.now) exits (scope_in scope.old) from (lists_of lists.old)).to) }
+    ensures fails { IfErr result (λ why. NeedsMore why ((all_written (program_in names.now) (stmts_of body.now) exits (scope_in scope.old) from (lists_of lists.old)).lists).registers) }
 {
     let mut to = from;
     'body: for s in body {

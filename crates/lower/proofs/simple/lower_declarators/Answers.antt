@@ -1,6 +1,7 @@
 use Rattle.lower.specs.inner.Lists.{lists_of}
 use Rattle.lower.specs.inner.Views.{program_in, scope_in}
-use Rattle.lower.proofs.Declared.{next_code, next_lists, next_place, next_scope, last_code, last_lists, last_place, last_scope}
+use Rattle.lower.proofs.Failing.{passed_on}
+use Rattle.lower.proofs.Declared.{first_within, next_code, next_lists, next_place, next_scope, last_code, last_lists, last_place, last_scope}
 use Rattle.lower.proofs.simple.lower_declarators.Goals as goal
 
 pub each-preserved : goal.each-preserved
@@ -24,3 +25,8 @@ returns-clause-lists g c = last_lists (program_in c.args.names.now) c.args.of c.
 
 pub returns-clause-place : goal.returns-clause-place
 returns-clause-place g c = last_place (program_in c.args.names.now) c.args.of c.args.all.now c.each.one-index c.each.to (scope_in c.each.scope) (lists_of c.each.lists) _ c.each-test.false c.each.invariant.place
+
+pub returns-in_err-to-clause-fails : goal.returns-in_err-to-clause-fails
+returns-in_err-to-clause-fails g c =
+    passed_on c.lower_declarator.result c.from_residual.result c.in_err-to.field-0.0 _ _ c.lower_declarator.ensures.fails c.in_err-to.was c.from_residual.ensures
+    (first_within (program_in c.args.names.now) c.args.of c.args.all.now c.each.one-index c.each.to (scope_in c.each.scope) (lists_of c.each.lists) c.one-item.result _ c.each-test.true c.one-item.is c.each.invariant.lists)

@@ -1,6 +1,7 @@
-use Rattle.std.proofs.Common.{◌≡◌, ◌++◌, ap, sym, subst, ◌∙◌, OnOk, IfOk}
+use Rattle.std.proofs.Common.{◌≡◌, ◌++◌, ap, sym, subst, ◌∙◌, OnOk, IfOk, IfErr}
 use Rattle.syntax.specs.declared.tree.Simple.TheVariants as simple
 use Rattle.syntax.specs.Views.{simple_of}
+use Rattle.lower.specs.inner.Limits.{NeedsMore}
 use Rattle.lower.specs.inner.Lists.{lists_of}
 use Rattle.lower.specs.inner.Simples.{simple_written}
 use Rattle.lower.specs.inner.Views.{program_in, scope_in}
@@ -35,3 +36,13 @@ pub returns-in-Some-clause-place : goal.returns-in-Some-clause-place
 returns-in-Some-clause-place g c =
     let is = ap simple_of (c.in-Assign.is ∙ ap (λ o. simple.Assign c.in-Assign.to o c.in-Assign.value) c.in-Some.is) in
     subst (λ s. IfOk c.lower_change.result (λ to. to ≡ (simple_written (program_in c.args.names.now) (scope_in c.args.scope.now) s c.args.from c.args.free (lists_of c.args.lists.now)).to)) (sym is) c.lower_change.ensures.place
+
+pub returns-in-None-clause-fails : goal.returns-in-None-clause-fails
+returns-in-None-clause-fails g c =
+    let is = ap simple_of (c.in-Assign.is ∙ ap (λ o. simple.Assign c.in-Assign.to o c.in-Assign.value) c.in-None.is) in
+    subst (λ s. IfErr c.lower_assign.result (λ why. NeedsMore why (simple_written (program_in c.args.names.now) (scope_in c.args.scope.now) s c.args.from c.args.free (lists_of c.args.lists.now)).lists.registers)) (sym is) c.lower_assign.ensures.fails
+
+pub returns-in-Some-clause-fails : goal.returns-in-Some-clause-fails
+returns-in-Some-clause-fails g c =
+    let is = ap simple_of (c.in-Assign.is ∙ ap (λ o. simple.Assign c.in-Assign.to o c.in-Assign.value) c.in-Some.is) in
+    subst (λ s. IfErr c.lower_change.result (λ why. NeedsMore why (simple_written (program_in c.args.names.now) (scope_in c.args.scope.now) s c.args.from c.args.free (lists_of c.args.lists.now)).lists.registers)) (sym is) c.lower_change.ensures.fails

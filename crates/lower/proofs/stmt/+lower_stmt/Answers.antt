@@ -1,4 +1,4 @@
-use Rattle.std.proofs.Common.{◌≡◌, ◌++◌, ap, sym, subst, refl, ◌∙◌, arith, OnOk, IfOk, Result, Ok, Err, None, Some, option_map, map}
+use Rattle.std.proofs.Common.{◌≡◌, ◌++◌, ap, sym, subst, refl, ◌∙◌, arith, OnOk, IfOk, IfErr, Result, Ok, Err, None, Some, option_map, map}
 use denote.Param.Weighed.{most, at_most}
 use Rattle.syntax.specs.declared.tree.Stmt.{the_lemmas}
 use Rattle.syntax.specs.declared.tree.Stmt.TheVariants as own_stmt
@@ -8,9 +8,11 @@ use Rattle.lowered.specs.Statements.{locals_after}
 use Rattle.lower.specs.inner.Lists.{lists_of}
 use Rattle.lower.specs.inner.Statements.{written}
 use Rattle.lower.specs.inner.Views.{program_in, scope_in}
-use Rattle.lower.proofs.Written.{next_code, next_lists, next_place, next_scope, last_code, last_lists, last_place, last_scope}
+use Rattle.lower.specs.inner.Limits.{NeedsMore}
+use Rattle.lower.proofs.Failing.{passed_on, if_test, if_branch, while_body, do_body, do_test, transaction_body, for_first, for_body, for_next, for_last}
+use Rattle.lower.proofs.Written.{first_within, next_code, next_lists, next_place, next_scope, last_code, last_lists, last_place, last_scope}
 use Rattle.lower.proofs.Leaving.{start_longer, start_left, stmt_longer, stmt_left, stmts_longer, stmts_left}
-use Rattle.lower.proofs.Made.{if_made, if_else_made, do_made, for_made, transaction_made, declare_is, print_is, block_is, if_is, if_else_is, do_is, transaction_is}
+use Rattle.lower.proofs.Made.{if_made, if_else_made, do_made, for_made, transaction_made, declare_is, print_is, block_is, if_is, if_else_is, while_is, do_is, transaction_is}
 use Rattle.lower.proofs.stmt.+lower_stmt.Goals as goal
 
 holds : {X Y P : Type 0} (r : Result X Y) → P → OnOk r P
@@ -223,3 +225,91 @@ lower_stmts-returns-clause-lists g t c = last_lists (program_in c.args.names.now
 
 pub lower_stmts-returns-clause-place : goal.lower_stmts-returns-clause-place
 lower_stmts-returns-clause-place g t c = last_place (program_in c.args.names.now) c.args.exits c.args.body.now c.body.s-index c.body.to (scope_in c.body.scope) (lists_of c.body.lists) _ c.body-test.false c.body.invariant.place
+
+pub lower_stmt-returns-in-Declare-clause-fails : goal.lower_stmt-returns-in-Declare-clause-fails
+lower_stmt-returns-in-Declare-clause-fails g t c =
+    let is = declare_is c.args.s.now c.in-Declare.d c.as_slice.result.now c.in-Declare.is c.as_slice.ensures in
+    subst (λ s. IfErr c.lower_declarators.result (λ why. NeedsMore why (written (program_in c.args.names.now) s c.args.exits (scope_in c.args.scope.now) c.args.from (lists_of c.args.lists.now)).lists.registers)) (sym is) c.lower_declarators.ensures.fails
+
+pub lower_stmt-returns-in-Block-clause-fails : goal.lower_stmt-returns-in-Block-clause-fails
+lower_stmt-returns-in-Block-clause-fails g t c =
+    let is = block_is c.args.s.now c.in-Block.body c.as_slice-in-Block.result.now c.in-Block.is c.as_slice-in-Block.ensures in
+    subst (λ s. IfErr c.lower_block.result (λ why. NeedsMore why (written (program_in c.args.names.now) s c.args.exits (scope_in c.args.scope.now) c.args.from (lists_of c.args.lists.now)).lists.registers)) (sym is) c.lower_block.ensures.fails
+
+pub lower_stmt-returns-in-Print-clause-fails : goal.lower_stmt-returns-in-Print-clause-fails
+lower_stmt-returns-in-Print-clause-fails g t c =
+    let is = print_is c.args.s.now c.in-Print.field-0 c.in-Print.format c.as_str.result.now c.in-Print.field-2 c.in-Print.args c.as_slice-in-Print.result.now c.in-Print.is c.as_str.ensures c.as_slice-in-Print.ensures in
+    subst (λ s. IfErr c.lower_print.result (λ why. NeedsMore why (written (program_in c.args.names.now) s c.args.exits (scope_in c.args.scope.now) c.args.from (lists_of c.args.lists.now)).lists.registers)) (sym is) c.lower_print.ensures.fails
+
+pub lower_stmt-returns-in_err-t-in-If-clause-fails : goal.lower_stmt-returns-in_err-t-in-If-clause-fails
+lower_stmt-returns-in_err-t-in-If-clause-fails g t c =
+    passed_on c.lower_head.result c.from_residual.result c.in_err-t-in-If.field-0.0 _ _ c.lower_head.ensures.fails c.in_err-t-in-If.was c.from_residual.ensures
+    (if_test (program_in c.args.names.now) c.args.exits (scope_in c.args.scope.now) c.args.from (lists_of c.args.lists.now) c.in-If.c c.in-If.then c.args.s.now c.in-If.other c.in-If.is)
+
+pub lower_stmt-returns-in_err-last-in-If-clause-fails : goal.lower_stmt-returns-in_err-last-in-If-clause-fails
+lower_stmt-returns-in_err-last-in-If-clause-fails g t c =
+    passed_on c.lower_scoped.result c.from_residual-in_err-last-in-If.result c.in_err-last-in-If.field-0.0 _ _ c.lower_scoped.ensures.fails c.in_err-last-in-If.was c.from_residual-in_err-last-in-If.ensures
+    (if_branch (program_in c.args.names.now) c.args.exits (scope_in c.args.scope.now) c.args.from (lists_of c.args.lists.now) c.in-If.c c.in-If.then c.args.s.now c.get.result.now c.in-If.other c.in_ok-t-in-If.t c.in_ok-next-in-If.next (lists_of c.lower_head.new.lists) c.in-If.is c.get.ensures c.in_ok-t-in-If.ensures.tested c.in_ok-next-in-If.ensures c.in_ok-t-in-If.ensures.lists)
+
+pub lower_stmt-returns-in_err-test_at-in-While-clause-fails : goal.lower_stmt-returns-in_err-test_at-in-While-clause-fails
+lower_stmt-returns-in_err-test_at-in-While-clause-fails g t c =
+    passed_on c.lower_scoped-in-While.result c.from_residual-in_err-test_at-in-While.result c.in_err-test_at-in-While.field-0.0 _ _ c.lower_scoped-in-While.ensures.fails c.in_err-test_at-in-While.was c.from_residual-in_err-test_at-in-While.ensures
+    (while_body (program_in c.args.names.now) c.args.exits (scope_in c.args.scope.now) c.args.from (lists_of c.args.lists.now) (stmt_of c.args.s.now) (expr_of c.in-While.c) (stmt_of c.get-in-While.result.now) c.looping-exits.result c.in_ok-pad-in-While.pad c.in_ok-start-in-While.start (while_is c.args.s.now c.in-While.c c.in-While.body c.get-in-While.result.now c.in-While.is c.get-in-While.ensures) c.in_ok-pad-in-While.ensures c.in_ok-start-in-While.ensures c.looping-exits.ensures)
+
+pub lower_stmt-returns-in_err-test_at-in-DoWhile-clause-fails : goal.lower_stmt-returns-in_err-test_at-in-DoWhile-clause-fails
+lower_stmt-returns-in_err-test_at-in-DoWhile-clause-fails g t c =
+    passed_on c.lower_scoped-in-DoWhile.result c.from_residual-in_err-test_at-in-DoWhile.result c.in_err-test_at-in-DoWhile.field-0.0 _ _ c.lower_scoped-in-DoWhile.ensures.fails c.in_err-test_at-in-DoWhile.was c.from_residual-in_err-test_at-in-DoWhile.ensures
+    (do_body (program_in c.args.names.now) c.args.exits (scope_in c.args.scope.now) c.args.from (lists_of c.args.lists.now) (stmt_of c.args.s.now) (expr_of c.in-DoWhile.c) (stmt_of c.get-in-DoWhile.result.now) c.looping-exits-in-DoWhile.result c.in_ok-pad-in-DoWhile.pad c.in_ok-other-in-DoWhile.other c.in_ok-start-in-DoWhile.start (do_is c.args.s.now c.in-DoWhile.c c.in-DoWhile.body c.get-in-DoWhile.result.now c.in-DoWhile.is c.get-in-DoWhile.ensures) c.in_ok-pad-in-DoWhile.ensures c.in_ok-other-in-DoWhile.ensures c.in_ok-start-in-DoWhile.ensures c.looping-exits-in-DoWhile.ensures)
+
+pub lower_stmt-returns-in_err-to-in-DoWhile-clause-fails : goal.lower_stmt-returns-in_err-to-in-DoWhile-clause-fails
+lower_stmt-returns-in_err-to-in-DoWhile-clause-fails g t c =
+    passed_on c.lower_back-in-DoWhile.result c.from_residual-in_err-to-in-DoWhile.result c.in_err-to-in-DoWhile.field-0.0 _ _ c.lower_back-in-DoWhile.ensures.fails c.in_err-to-in-DoWhile.was c.from_residual-in_err-to-in-DoWhile.ensures
+    (do_test (program_in c.args.names.now) c.args.exits (scope_in c.args.scope.now) c.args.from (lists_of c.args.lists.now) (stmt_of c.args.s.now) (expr_of c.in-DoWhile.c) (stmt_of c.get-in-DoWhile.result.now) c.looping-exits-in-DoWhile.result c.in_ok-pad-in-DoWhile.pad c.in_ok-other-in-DoWhile.other c.in_ok-start-in-DoWhile.start (do_is c.args.s.now c.in-DoWhile.c c.in-DoWhile.body c.get-in-DoWhile.result.now c.in-DoWhile.is c.get-in-DoWhile.ensures) c.in_ok-pad-in-DoWhile.ensures c.in_ok-other-in-DoWhile.ensures c.in_ok-start-in-DoWhile.ensures c.looping-exits-in-DoWhile.ensures (scope_in c.lower_scoped-in-DoWhile.new.scope) (lists_of c.lower_scoped-in-DoWhile.new.lists) c.in_ok-test_at-in-DoWhile.test_at c.in_ok-test_at-in-DoWhile.ensures.scope c.in_ok-test_at-in-DoWhile.ensures.lists c.in_ok-test_at-in-DoWhile.ensures.place)
+
+pub lower_stmt-returns-in_ok-put_loop-in-DoWhile-clause-code : goal.lower_stmt-returns-in_ok-put_loop-in-DoWhile-clause-code
+lower_stmt-returns-in_ok-put_loop-in-DoWhile-clause-code g t c =
+    let is = do_is c.args.s.now c.in-DoWhile.c c.in-DoWhile.body c.get-in-DoWhile.result.now c.in-DoWhile.is c.get-in-DoWhile.ensures in
+    (do_made (program_in c.args.names.now) c.args.exits (scope_in c.args.scope.now) c.args.from (lists_of c.args.lists.now) c.args.code.now.items c.put_loop.new.code.items (expr_of c.in-DoWhile.c) (stmt_of c.get-in-DoWhile.result.now)
+    c.new-inner-in-DoWhile.result.items c.lower_scoped-in-DoWhile.new.code.items c.lower_back-in-DoWhile.new.code.items (lists_of c.lower_scoped-in-DoWhile.new.lists) (lists_of c.lower_back-in-DoWhile.new.lists) c.looping-exits-in-DoWhile.result (scope_in c.lower_scoped-in-DoWhile.new.scope) c.in_ok-test_at-in-DoWhile.test_at c.in_ok-to-in-DoWhile.to
+    c.in_ok-pad-in-DoWhile.pad c.in_ok-other-in-DoWhile.other c.in_ok-start-in-DoWhile.start c.in_ok-pad-in-DoWhile.ensures c.in_ok-other-in-DoWhile.ensures c.in_ok-start-in-DoWhile.ensures c.looping-exits-in-DoWhile.ensures c.new-inner-in-DoWhile.ensures.items c.in_ok-test_at-in-DoWhile.ensures.scope
+    (record { code = c.in_ok-test_at-in-DoWhile.ensures.code; lists = c.in_ok-test_at-in-DoWhile.ensures.lists; place = c.in_ok-test_at-in-DoWhile.ensures.place }) (record { code = c.in_ok-to-in-DoWhile.ensures.code; lists = c.in_ok-to-in-DoWhile.ensures.lists; place = c.in_ok-to-in-DoWhile.ensures.place }) c.in_ok-put_loop-in-DoWhile.ensures).code
+    ∙ sym (ap (λ s. c.args.code.now.items ++ (written (program_in c.args.names.now) s c.args.exits (scope_in c.args.scope.now) c.args.from (lists_of c.args.lists.now)).code) is)
+
+pub lower_stmt-returns-in_ok-put_loop-in-DoWhile-clause-lists : goal.lower_stmt-returns-in_ok-put_loop-in-DoWhile-clause-lists
+lower_stmt-returns-in_ok-put_loop-in-DoWhile-clause-lists g t c =
+    let is = do_is c.args.s.now c.in-DoWhile.c c.in-DoWhile.body c.get-in-DoWhile.result.now c.in-DoWhile.is c.get-in-DoWhile.ensures in
+    (do_made (program_in c.args.names.now) c.args.exits (scope_in c.args.scope.now) c.args.from (lists_of c.args.lists.now) c.args.code.now.items c.put_loop.new.code.items (expr_of c.in-DoWhile.c) (stmt_of c.get-in-DoWhile.result.now)
+    c.new-inner-in-DoWhile.result.items c.lower_scoped-in-DoWhile.new.code.items c.lower_back-in-DoWhile.new.code.items (lists_of c.lower_scoped-in-DoWhile.new.lists) (lists_of c.lower_back-in-DoWhile.new.lists) c.looping-exits-in-DoWhile.result (scope_in c.lower_scoped-in-DoWhile.new.scope) c.in_ok-test_at-in-DoWhile.test_at c.in_ok-to-in-DoWhile.to
+    c.in_ok-pad-in-DoWhile.pad c.in_ok-other-in-DoWhile.other c.in_ok-start-in-DoWhile.start c.in_ok-pad-in-DoWhile.ensures c.in_ok-other-in-DoWhile.ensures c.in_ok-start-in-DoWhile.ensures c.looping-exits-in-DoWhile.ensures c.new-inner-in-DoWhile.ensures.items c.in_ok-test_at-in-DoWhile.ensures.scope
+    (record { code = c.in_ok-test_at-in-DoWhile.ensures.code; lists = c.in_ok-test_at-in-DoWhile.ensures.lists; place = c.in_ok-test_at-in-DoWhile.ensures.place }) (record { code = c.in_ok-to-in-DoWhile.ensures.code; lists = c.in_ok-to-in-DoWhile.ensures.lists; place = c.in_ok-to-in-DoWhile.ensures.place }) c.in_ok-put_loop-in-DoWhile.ensures).lists
+    ∙ sym (ap (λ s. (written (program_in c.args.names.now) s c.args.exits (scope_in c.args.scope.now) c.args.from (lists_of c.args.lists.now)).lists) is)
+
+pub lower_stmt-returns-in_err-last-in-Transaction-clause-fails : goal.lower_stmt-returns-in_err-last-in-Transaction-clause-fails
+lower_stmt-returns-in_err-last-in-Transaction-clause-fails g t c =
+    passed_on c.lower_block-in-Transaction.result c.from_residual-in_err-last-in-Transaction.result c.in_err-last-in-Transaction.field-0.0 _ _ c.lower_block-in-Transaction.ensures.fails c.in_err-last-in-Transaction.was c.from_residual-in_err-last-in-Transaction.ensures
+    (transaction_body (program_in c.args.names.now) c.args.exits (scope_in c.args.scope.now) c.args.from (lists_of c.args.lists.now) (stmt_of c.args.s.now) c.in-Transaction.field-0 (stmts_of c.as_slice-all.result.now) c.in-Transaction.field-2 c.in_ok-exits-in-Transaction.exits c.in_ok-start-in-Transaction.start (transaction_is c.args.s.now c.in-Transaction.field-0 c.in-Transaction.body c.as_slice-all.result.now c.in-Transaction.field-2 c.in-Transaction.is c.as_slice-all.ensures) c.in_ok-exits-in-Transaction.ensures c.in_ok-start-in-Transaction.ensures)
+
+pub lower_for-returns-in_err-pads-clause-fails : goal.lower_for-returns-in_err-pads-clause-fails
+lower_for-returns-in_err-pads-clause-fails g t c =
+    passed_on c.lower_start.result c.from_residual.result c.in_err-pads.field-0.0 _ _ c.lower_start.ensures.fails c.in_err-pads.was c.from_residual.ensures
+    (for_first (program_in c.args.names.now) c.args.exits (scope_in c.args.scope.now) c.args.from (lists_of c.args.lists.now) (start_of c.args.head.now.start) (option_map expr_of c.args.head.now.condition) (option_map simple_of c.args.head.now.step) (stmt_of c.args.body.now))
+
+pub lower_for-returns-in_err-step_at-clause-fails : goal.lower_for-returns-in_err-step_at-clause-fails
+lower_for-returns-in_err-step_at-clause-fails g t c =
+    passed_on c.lower_scoped.result c.from_residual-in_err-step_at.result c.in_err-step_at.field-0.0 _ _ c.lower_scoped.ensures.fails c.in_err-step_at.was c.from_residual-in_err-step_at.ensures
+    (for_body (program_in c.args.names.now) c.args.exits (scope_in c.args.scope.now) c.args.from (lists_of c.args.lists.now) (start_of c.args.head.now.start) (option_map expr_of c.args.head.now.condition) (option_map simple_of c.args.head.now.step) (stmt_of c.args.body.now) (lists_of c.lower_start.new.lists) (scope_in c.lower_start.new.scope) c.in_ok-pads.pads c.in_ok-pad.pad c.in_ok-other.other c.in_ok-start.start c.looping-exits.result c.in_ok-pads.ensures.lists c.in_ok-pads.ensures.scope c.in_ok-pads.ensures.place c.in_ok-pad.ensures c.in_ok-other.ensures c.in_ok-start.ensures c.looping-exits.ensures)
+
+pub lower_for-returns-in_err-test_at-clause-fails : goal.lower_for-returns-in_err-test_at-clause-fails
+lower_for-returns-in_err-test_at-clause-fails g t c =
+    passed_on c.lower_step.result c.from_residual-in_err-test_at.result c.in_err-test_at.field-0.0 _ _ c.lower_step.ensures.fails c.in_err-test_at.was c.from_residual-in_err-test_at.ensures
+    (for_next (program_in c.args.names.now) c.args.exits (scope_in c.args.scope.now) c.args.from (lists_of c.args.lists.now) (start_of c.args.head.now.start) (option_map expr_of c.args.head.now.condition) (option_map simple_of c.args.head.now.step) (stmt_of c.args.body.now) (lists_of c.lower_start.new.lists) (scope_in c.lower_start.new.scope) c.in_ok-pads.pads c.in_ok-pad.pad c.in_ok-other.other c.in_ok-start.start c.looping-exits.result c.in_ok-pads.ensures.lists c.in_ok-pads.ensures.scope c.in_ok-pads.ensures.place c.in_ok-pad.ensures c.in_ok-other.ensures c.in_ok-start.ensures c.looping-exits.ensures (lists_of c.lower_scoped.new.lists) (scope_in c.lower_scoped.new.scope) c.in_ok-step_at.step_at c.in_ok-step_at.ensures.lists c.in_ok-step_at.ensures.scope c.in_ok-step_at.ensures.place)
+
+pub lower_for-returns-in_err-to-clause-fails : goal.lower_for-returns-in_err-to-clause-fails
+lower_for-returns-in_err-to-clause-fails g t c =
+    passed_on c.lower_test.result c.from_residual-in_err-to.result c.in_err-to.field-0.0 _ _ c.lower_test.ensures.fails c.in_err-to.was c.from_residual-in_err-to.ensures
+    (for_last (program_in c.args.names.now) c.args.exits (scope_in c.args.scope.now) c.args.from (lists_of c.args.lists.now) (start_of c.args.head.now.start) (option_map expr_of c.args.head.now.condition) (option_map simple_of c.args.head.now.step) (stmt_of c.args.body.now) (lists_of c.lower_start.new.lists) (scope_in c.lower_start.new.scope) c.in_ok-pads.pads c.in_ok-pad.pad c.in_ok-other.other c.in_ok-start.start c.looping-exits.result c.in_ok-pads.ensures.lists c.in_ok-pads.ensures.scope c.in_ok-pads.ensures.place c.in_ok-pad.ensures c.in_ok-other.ensures c.in_ok-start.ensures c.looping-exits.ensures (lists_of c.lower_scoped.new.lists) (scope_in c.lower_scoped.new.scope) c.in_ok-step_at.step_at c.in_ok-step_at.ensures.lists c.in_ok-step_at.ensures.scope c.in_ok-step_at.ensures.place (lists_of c.lower_step.new.lists) c.in_ok-test_at.test_at c.in_ok-test_at.ensures.lists c.in_ok-test_at.ensures.place)
+
+pub lower_stmts-returns-in_err-to-clause-fails : goal.lower_stmts-returns-in_err-to-clause-fails
+lower_stmts-returns-in_err-to-clause-fails g t c =
+    passed_on c.lower_stmt.result c.from_residual.result c.in_err-to.field-0.0 _ _ c.lower_stmt.ensures.fails c.in_err-to.was c.from_residual.ensures
+    (first_within (program_in c.args.names.now) c.args.exits c.args.body.now c.body.s-index c.body.to (scope_in c.body.scope) (lists_of c.body.lists) c.s-item.result _ c.body-test.true c.s-item.is c.body.invariant.lists)

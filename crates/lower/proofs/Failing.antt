@@ -1,0 +1,367 @@
+-- A failure of a part is one of the whole.
+use Rattle.std.proofs.Common.{◌≡◌, ℕ, suc, ◌+◌, ◌≤◌, List, [], ◌∷◌, ◌++◌, length, Bool, true, false, if◌then◌else◌, ◌==◌, Option, Some, None, Result, Ok, Err, IfErr, IsErr, IsErrAnd, refl, sym, ap, subst, ◌∙◌, append_assoc, arith}
+use Rattle.lex.specs.declared.token.Span.{Span}
+use Rattle.lex.specs.declared.token.Scalar.{Scalar}
+use Rattle.syntax.specs.declared.tree.Mode.{Mode}
+use Rattle.syntax.specs.declared.tree.BinaryOp.{BinaryOp}
+use Rattle.syntax.specs.declared.tree.LogicalOp.{LogicalOp}
+use Rattle.syntax.specs.declared.tree.Expr as E
+use Rattle.syntax.specs.declared.tree.Stmt as S
+use Rattle.syntax.specs.Tree as Tree
+use Rattle.syntax.specs.Tree.{Program}
+use Rattle.syntax.specs.Views.{expr_of, stmt_of}
+use Rattle.syntax.proofs.Seen.{stmt_of_if, stmt_of_if_else}
+use Rattle.syntax.specs.Formats.{Piece, pieces}
+use Rattle.bytecode.specs.declared.instr.Instr.{Instr}
+use Rattle.lowered.specs.Expressions.{LocalScope, arranged}
+use Rattle.lowered.specs.Statements.{with_local, locals_of_start}
+use Rattle.lower.specs.declared.fault.Failure.{Failure}
+use Rattle.bytecode.specs.declared.instr.Instr.TheVariants as own
+use Rattle.syntax.specs.Numbers.{operand_type, result_type}
+use Rattle.lower.specs.declared.held.Target.{Target}
+use Rattle.lower.specs.declared.held.Target.TheVariants as target
+use Rattle.lower.specs.declared.held.Held.{Held}
+use Rattle.lower.specs.declared.held.Aim.{Aim}
+use Rattle.lower.specs.declared.held.Tested.{Tested}
+use Rattle.lower.specs.declared.held.Exits.{Exits}
+use Rattle.lower.specs.inner.Limits.{NeedsMore}
+use Rattle.lower.specs.inner.Lists.{Lists, used, holding}
+use Rattle.lower.specs.inner.Names.{Callee}
+use Rattle.lower.specs.inner.Expressions.{Emitted, AllEmitted, above, both, computing, settled, called, emitted, all_emitted}
+use Rattle.lower.specs.inner.Conditions.{Condition, condition}
+use Rattle.lower.specs.inner.Tests.{test_in, aim_in}
+use Rattle.lower.specs.inner.Simples.{Written, Aimed, nothing_written, one_written, aimed, above_target, fetched, home_or, stored, value_or_one, assigned, adjusted, first_written, declarator_written, start_written}
+use Rattle.lower.specs.inner.Statements.{in_transaction, looping, print_written, tested_back, for_test, for_step, written, all_written}
+use Rattle.lower.proofs.Growing.{needs_more, used_more, holding_more, settled_more, emitted_more, all_more}
+use Rattle.lower.proofs.GrowingStmts.{condition_more, fetched_more, stored_same, one_more, pieces_same, first_more, start_more, test_more, step_more, written_more}
+
+-- what a question mark hands on
+pub passed_on : {X Y : Type 0} (r : Result X Failure) (s : Result Y Failure) (f : Failure) (m n : ℕ) → IfErr r (λ why. NeedsMore why m) → r ≡ Err f → IsErr s × IsErrAnd s (λ y. y ≡ f) → m ≤ n → IfErr s (λ why. NeedsMore why n)
+passed_on r (Ok y) f m n h e g le = tt
+passed_on r (Err y) f m n h e g le = needs_more y m n le (subst (λ z. NeedsMore z m) (sym g.1) (subst (λ q. IfErr q (λ why. NeedsMore why m)) e h))
+
+module _ (p : Program) (scope : LocalScope) (from into free : ℕ) (l : Lists) (e : Tree.Expr) where
+  pub binary_first : (op : BinaryOp) (a b : Tree.Expr) (at : Span) → e ≡ Tree.Binary op a b at → (emitted p scope a from free free l).lists.registers ≤ (emitted p scope e from into free l).lists.registers
+  binary_first op a b at is =
+      let left = emitted p scope a from free free l in
+      let later = above free left.held.register in
+      let y = emitted_more p scope b left.held.to later later left.lists in
+      let z = used_more into (emitted p scope b left.held.to later later left.lists).lists in
+      let w = ap (λ x. (emitted p scope x from into free l).lists.registers) is in
+      omega (arith, y, z, w)
+
+  pub logical_first : (op : LogicalOp) (a b : Tree.Expr) (at : Span) → e ≡ Tree.Logical op a b at → (emitted p scope a from free free l).lists.registers ≤ (emitted p scope e from into free l).lists.registers
+  logical_first op a b at is =
+      let left = emitted p scope a from free free l in
+      let y = emitted_more p scope b (left.held.to + 1) free free left.lists in
+      let z = used_more into (emitted p scope b (left.held.to + 1) free free left.lists).lists in
+      let w = ap (λ x. (emitted p scope x from into free l).lists.registers) is in
+      omega (arith, y, z, w)
+
+  pub call_args : (f : Callee) (args : AllEmitted) → emitted p scope e from into free l ≡ called (Some f) args from into l → args.lists.registers ≤ (emitted p scope e from into free l).lists.registers
+  call_args f args is =
+      let n = length (arranged f.parameters args.registers) in
+      let a = holding_more n (record args.lists { arguments = args.lists.arguments ++ arranged f.parameters args.registers }) in
+      let b = used_more into (holding n (record args.lists { arguments = args.lists.arguments ++ arranged f.parameters args.registers })) in
+      let w = ap (λ (x : Emitted). x.lists.registers) is in
+      omega (arith, a, b, w)
+
+  module _ (c a b : Tree.Expr) (at : Span) (is : e ≡ Tree.Conditional c a b at) where
+    abbrev C : Emitted
+    C = emitted p scope c from free free l
+
+    abbrev G : ℕ → Lists → Emitted
+    G to m = emitted p scope a to into free m
+
+    abbrev H : ℕ → Lists → Emitted
+    H to m = emitted p scope b to into free m
+
+    abbrev S1 : Emitted
+    S1 = settled into (G (C.held.to + 1) C.lists)
+
+    abbrev S2 : Emitted
+    S2 = settled into (H (S1.held.to + 1) S1.lists)
+
+    whole_is : (emitted p scope e from into free l).lists.registers ≡ S2.lists.registers
+    whole_is = ap (λ x. (emitted p scope x from into free l).lists.registers) is
+
+    second_more : S1.lists.registers ≤ S2.lists.registers
+    second_more = let x = emitted_more p scope b (S1.held.to + 1) into free S1.lists in let y = settled_more into (H (S1.held.to + 1) S1.lists) in omega (arith, x, y)
+
+    pub conditional_first : C.lists.registers ≤ (emitted p scope e from into free l).lists.registers
+    conditional_first =
+        let v = emitted_more p scope a (C.held.to + 1) into free C.lists in
+        let w = settled_more into (G (C.held.to + 1) C.lists) in
+        let x = second_more in
+        let z = whole_is in
+        omega (arith, v, w, x, z)
+
+    module _ (lc : Lists) (h : Held) (next : ℕ) (el : lc ≡ C.lists) (eh : h ≡ C.held) (en : next ≡ h.to + 1) where
+      first_is : G next lc ≡ G (C.held.to + 1) C.lists
+      first_is = λ j. G ((en ∙ ap (λ (k : Held). k.to + 1) eh) j) (el j)
+
+      pub conditional_second : (emitted p scope a next into free lc).lists.registers ≤ (emitted p scope e from into free l).lists.registers
+      conditional_second =
+          let w = settled_more into (G (C.held.to + 1) C.lists) in
+          let x = second_more in
+          let y = ap (λ (u : Emitted). u.lists.registers) first_is in
+          let z = whole_is in
+          omega (arith, w, x, y, z)
+
+      module _ (X : Emitted) (ex : X ≡ emitted p scope a next into free lc) where
+        settled_is : settled into X ≡ S1
+        settled_is = ap (λ u. settled into u) (ex ∙ first_is)
+
+        pub conditional_settled : (settled into X).lists.registers ≤ (emitted p scope e from into free l).lists.registers
+        conditional_settled =
+            let x = second_more in
+            let y = ap (λ (u : Emitted). u.lists.registers) settled_is in
+            let z = whole_is in
+            omega (arith, x, y, z)
+
+        module _ (la : Lists) (k : Held) (other : ℕ) (ela : la ≡ (settled into X).lists) (ek : k ≡ (settled into X).held) (eo : other ≡ k.to + 1) where
+          third_is : H other la ≡ H (S1.held.to + 1) S1.lists
+          third_is = λ j. H ((eo ∙ ap (λ (u : Held). u.to + 1) (ek ∙ ap (λ (u : Emitted). u.held) settled_is)) j) ((ela ∙ ap (λ (u : Emitted). u.lists) settled_is) j)
+
+          pub conditional_third : (emitted p scope b other into free la).lists.registers ≤ (emitted p scope e from into free l).lists.registers
+          conditional_third =
+              let x = settled_more into (H (S1.held.to + 1) S1.lists) in
+              let y = ap (λ (u : Emitted). u.lists.registers) third_is in
+              let z = whole_is in
+              omega (arith, x, y, z)
+
+          pub conditional_last : (Y : Emitted) → Y ≡ emitted p scope b other into free la → (settled into Y).lists.registers ≤ (emitted p scope e from into free l).lists.registers
+          conditional_last Y ey =
+              let y = ap (λ (u : Emitted). (settled into u).lists.registers) (ey ∙ third_is) in
+              let z = whole_is in
+              omega (arith, y, z)
+
+-- which lists stand there does not matter for what is stored
+stored_code : (t : Target) (a from : ℕ) (l m : Lists) → (stored t a from l).code ≡ (stored t a from m).code
+stored_code (target.Local i t) a from l m = by (a == i)
+  where
+    by : (b : Bool) → (if b then nothing_written from l else one_written (own.Move i a) from l).code ≡ (if b then nothing_written from m else one_written (own.Move i a) from m).code
+    by true = refl
+    by false = refl
+stored_code (target.Cell c t) a from l m = refl
+stored_code (target.Element i c n t) a from l m = refl
+stored_code target.Nowhere a from l m = refl
+
+module _ (p : Program) (scope : LocalScope) (lhs : Tree.Expr) (from free : ℕ) (l : Lists) where
+  pub assigned_first : (e : Tree.Expr) → (aimed p scope true lhs from free l).lists.registers ≤ (assigned p scope lhs e from free l).lists.registers
+  assigned_first e =
+      let t = aimed p scope true lhs from free l in
+      let later = above_target t.target free in
+      let made = emitted p scope e t.to (home_or t.target later) later t.lists in
+      let b = emitted_more p scope e t.to (home_or t.target later) later t.lists in
+      let c = stored_same t.target made.held.register made.held.to made.lists in
+      omega (arith, b, c)
+
+  module _ (op : BinaryOp) (by : Option Tree.Expr) where
+    abbrev T : Aimed
+    T = aimed p scope false lhs from free l
+
+    abbrev after_old : Emitted → ℕ
+    after_old old = above (above_target T.target free) old.held.register
+
+    old_more : (fetched T.target T.to (above_target T.target free) T.lists).lists.registers ≤ (adjusted p scope op lhs by from free l).lists.registers
+    old_more =
+        let later = above_target T.target free in
+        let old = fetched T.target T.to later T.lists in
+        let other = value_or_one p scope by old.held.to (above later old.held.register) old.lists in
+        let made = both op old other (home_or T.target later) in
+        let c = one_more p scope by old.held.to (above later old.held.register) old.lists in
+        let d = used_more (home_or T.target later) other.lists in
+        let e = stored_same T.target made.held.register made.held.to made.lists in
+        omega (arith, c, d, e)
+
+    pub adjusted_first : (aimed p scope false lhs from free l).lists.registers ≤ (adjusted p scope op lhs by from free l).lists.registers
+    adjusted_first =
+        let b = fetched_more T.target T.to (above_target T.target free) T.lists in
+        let c = old_more in
+        omega (arith, b, c)
+
+    pub adjusted_second : (a : Aim) (later : ℕ) (m : Lists) → a ≡ aim_in T → later ≡ above_target a.target free → m ≡ T.lists → (fetched a.target a.to later m).lists.registers ≤ (adjusted p scope op lhs by from free l).lists.registers
+    adjusted_second a later m ea ek em =
+        let same : fetched a.target a.to later m ≡ fetched T.target T.to (above_target T.target free) T.lists = (λ j. fetched (ea j).target (ea j).to ((ek ∙ ap (λ (u : Aim). above_target u.target free) ea) j) (em j)) in
+        let c = old_more in
+        let d = ap (λ (u : Emitted). u.lists.registers) same in
+        omega (arith, c, d)
+
+    -- and the code of the whole, by its parts
+    module _ (a : Aim) (later : ℕ) (m : Lists) (ea : a ≡ aim_in T) (ek : later ≡ above_target a.target free) (em : m ≡ T.lists) where
+      abbrev K : ℕ
+      K = above_target T.target free
+
+      abbrev O : Emitted
+      O = fetched T.target T.to K T.lists
+
+      abbrev V : Emitted
+      V = value_or_one p scope by O.held.to (above K O.held.register) O.lists
+
+      abbrev M : Emitted
+      M = both op O V (home_or T.target K)
+
+      later_is : later ≡ K
+      later_is = ek ∙ ap (λ (u : Aim). above_target u.target free) ea
+
+      old_is : fetched a.target a.to later m ≡ O
+      old_is = λ j. fetched (ea j).target (ea j).to (later_is j) (em j)
+
+      pub adjusted_code : (first c1 c2 c3 c4 c5 : List Instr) (n n' : Lists) (old : Held) (behind : ℕ) (other : Held) (home : ℕ) (held : Held) → c1 ≡ first ++ T.code → c2 ≡ c1 ++ (fetched a.target a.to later m).code → n ≡ (fetched a.target a.to later m).lists → old ≡ (fetched a.target a.to later m).held → behind ≡ above later old.register →
+          c3 ≡ c2 ++ (value_or_one p scope by old.to behind n).code → other ≡ (value_or_one p scope by old.to behind n).held → home ≡ home_or a.target later →
+          c4 ≡ c3 ++ computing op (operand_type op old.of other.of) home old.register other.register ∷ [] → held ≡ record { register = home; of = result_type op (operand_type op old.of other.of); to = other.to + 1 } → c5 ≡ c4 ++ (stored a.target held.register held.to n').code →
+          c5 ≡ first ++ (adjusted p scope op lhs by from free l).code
+      adjusted_code first c1 c2 c3 c4 c5 n n' old behind other home held e1 e2 en eo eb e3 ev eh e4 ed e5 =
+          let held_is : old ≡ O.held = eo ∙ ap (λ (u : Emitted). u.held) old_is in
+          let lists_is : n ≡ O.lists = en ∙ ap (λ (u : Emitted). u.lists) old_is in
+          let behind_is : behind ≡ above K O.held.register = eb ∙ (λ j. above (later_is j) (held_is j).register) in
+          let value_is : value_or_one p scope by old.to behind n ≡ V = (λ j. value_or_one p scope by (held_is j).to (behind_is j) (lists_is j)) in
+          let other_is : other ≡ V.held = ev ∙ ap (λ (u : Emitted). u.held) value_is in
+          let home_is : home ≡ home_or T.target K = eh ∙ (λ j. home_or (ea j).target (later_is j)) in
+          let made_is : held ≡ M.held = ed ∙ (λ j. record { register = home_is j; of = result_type op (operand_type op (held_is j).of (other_is j).of); to = (other_is j).to + 1 }) in
+          let R = stored T.target M.held.register M.held.to M.lists in
+          let tail_is : (stored a.target held.register held.to n').code ≡ R.code = stored_code a.target held.register held.to n' M.lists ∙ (λ j. (stored (ea j).target (made_is j).register (made_is j).to M.lists).code) in
+          let i = computing op (operand_type op O.held.of V.held.of) (home_or T.target K) O.held.register V.held.register in
+          let two : c2 ≡ (first ++ T.code) ++ O.code = e2 ∙ (λ j. e1 j ++ (old_is j).code) in
+          let three : c3 ≡ ((first ++ T.code) ++ O.code) ++ V.code = e3 ∙ (λ j. two j ++ (value_is j).code) in
+          let four : c4 ≡ (((first ++ T.code) ++ O.code) ++ V.code) ++ i ∷ [] = e4 ∙ (λ j. three j ++ computing op (operand_type op (held_is j).of (other_is j).of) (home_is j) (held_is j).register (other_is j).register ∷ []) in
+          e5 ∙ (λ j. four j ++ tail_is j) ∙ simp append_assoc
+
+module _ (p : Program) where
+  pub declarator_first : (t : Scalar) (d : Tree.Declarator) (scope : LocalScope) (from i : ℕ) (l : Lists) → i ≡ length scope → (used i l).registers ≤ (declarator_written p t d scope from l).lists.registers
+  declarator_first t d scope from i l e =
+      let b = first_more p (with_local scope d.name.text t) (length scope) t d.first (from + 1) (used (length scope) l) in
+      let c = ap (λ k. (used k l).registers) e in
+      omega (arith, b, c)
+
+  pub print_args : (scope : LocalScope) (es : Tree.Exprs) (ps : List Piece) (from next free : ℕ) (l : Lists) → next ≡ from + 1 → free ≡ length scope → (all_emitted p scope es next free l).lists.registers ≤ (print_written (all_emitted p scope es (from + 1) (length scope) l) ps).lists.registers
+  print_args scope es ps from next free l en ef =
+      let args = all_emitted p scope es (from + 1) (length scope) l in
+      let a = pieces_same ps args.registers args.to args.lists in
+      let same : all_emitted p scope es next free l ≡ args = (λ j. all_emitted p scope es (en j) (ef j) l) in
+      let b = ap (λ (u : AllEmitted). u.lists.registers) same in
+      omega (arith, a, b)
+
+-- parts of statements
+module _ (p : Program) (x : Exits) (s : LocalScope) (from : ℕ) (l : Lists) where
+  module _ {A : Type 0} (c : E.Expr A) (a : S.Stmt A) where
+    abbrev Q : Condition
+    Q = condition p s (expr_of c) from (length s) l
+
+    if_first : (o : Option (S.Stmt A)) → Q.lists.registers ≤ (written p (stmt_of (S.If c a o)) x s from l).lists.registers
+    if_first None =
+        let e = ap (λ y. (written p y x s from l).lists.registers) (stmt_of_if c a) in
+        let g = written_more p (stmt_of a) x s (Q.to + 1) Q.lists in
+        omega (arith, e, g)
+    if_first (Some b) =
+        let first = written p (stmt_of a) x s (Q.to + 1) Q.lists in
+        let e = ap (λ y. (written p y x s from l).lists.registers) (stmt_of_if_else c a b) in
+        let g = written_more p (stmt_of a) x s (Q.to + 1) Q.lists in
+        let h = written_more p (stmt_of b) x s (first.to + 1) first.lists in
+        omega (arith, e, g, h)
+
+    if_second : (o : Option (S.Stmt A)) → (written p (stmt_of a) x s (Q.to + 1) Q.lists).lists.registers ≤ (written p (stmt_of (S.If c a o)) x s from l).lists.registers
+    if_second None =
+        let e = ap (λ y. (written p y x s from l).lists.registers) (stmt_of_if c a) in
+        omega (arith, e)
+    if_second (Some b) =
+        let first = written p (stmt_of a) x s (Q.to + 1) Q.lists in
+        let e = ap (λ y. (written p y x s from l).lists.registers) (stmt_of_if_else c a b) in
+        let h = written_more p (stmt_of b) x s (first.to + 1) first.lists in
+        omega (arith, e, h)
+
+    pub if_test : (st : S.Stmt A) (o : Option (S.Stmt A)) → st ≡ S.If c a o → (condition p s (expr_of c) from (length s) l).lists.registers ≤ (written p (stmt_of st) x s from l).lists.registers
+    if_test st o is = let g = if_first o in let e = ap (λ y. (written p (stmt_of y) x s from l).lists.registers) is in omega (arith, g, e)
+
+    pub if_branch : (st a' : S.Stmt A) (o : Option (S.Stmt A)) (t : Tested) (next : ℕ) (m : Lists) → st ≡ S.If c a o → a' ≡ a → t ≡ test_in (condition p s (expr_of c) from (length s) l) → next ≡ t.to + 1 → m ≡ (condition p s (expr_of c) from (length s) l).lists →
+        (written p (stmt_of a') x s next m).lists.registers ≤ (written p (stmt_of st) x s from l).lists.registers
+    if_branch st a' o t next m is ea et en em =
+        let same : written p (stmt_of a') x s next m ≡ written p (stmt_of a) x s (Q.to + 1) Q.lists = (λ j. written p (stmt_of (ea j)) x s ((en ∙ ap (λ (u : Tested). u.to + 1) et) j) (em j)) in
+        let d = ap (λ (u : Written). u.lists.registers) same in
+        let g = if_second o in
+        let e = ap (λ y. (written p (stmt_of y) x s from l).lists.registers) is in
+        omega (arith, g, e, d)
+
+  pub while_body : (st : Tree.Stmt) (c : Tree.Expr) (a : Tree.Stmt) (exits : Exits) (pad start : ℕ) → st ≡ Tree.While c a → pad ≡ from + 1 → start ≡ from + 2 → exits ≡ looping x pad from → (written p a exits s start l).lists.registers ≤ (written p st x s from l).lists.registers
+  while_body st c a exits pad start is ep et ex =
+      let B = written p a (looping x (from + 1) from) s (from + 2) l in
+      let same : written p a exits s start l ≡ B = (λ j. written p a ((ex ∙ ap (λ k. looping x k from) ep) j) s (et j) l) in
+      let d = ap (λ (u : Written). u.lists.registers) same in
+      let g = condition_more p s c B.to (length s) B.lists in
+      let e = ap (λ y. (written p y x s from l).lists.registers) is in
+      omega (arith, g, e, d)
+
+  module _ (st : Tree.Stmt) (c : Tree.Expr) (a : Tree.Stmt) (exits : Exits) (pad other start : ℕ) (is : st ≡ Tree.DoWhile a c) (ep : pad ≡ from + 1) (eo : other ≡ from + 2) (et : start ≡ from + 3) (ex : exits ≡ looping x pad other) where
+    abbrev B : Written
+    B = written p a (looping x (from + 1) (from + 2)) s (from + 3) l
+
+    do_same : written p a exits s start l ≡ B
+    do_same = λ j. written p a ((ex ∙ (λ i. looping x (ep i) (eo i))) j) s (et j) l
+
+    pub do_body : (written p a exits s start l).lists.registers ≤ (written p st x s from l).lists.registers
+    do_body =
+        let d = ap (λ (u : Written). u.lists.registers) do_same in
+        let g = condition_more p s c B.to (length s) B.lists in
+        let e = ap (λ y. (written p y x s from l).lists.registers) is in
+        omega (arith, g, e, d)
+
+    pub do_test : (s1 : LocalScope) (m : Lists) (test_at : ℕ) → s1 ≡ s → m ≡ (written p a exits s start l).lists → test_at ≡ (written p a exits s start l).to →
+        (tested_back (condition p s1 c test_at (length s1) m) start).lists.registers ≤ (written p st x s from l).lists.registers
+    do_test s1 m test_at es em ea =
+        let same : condition p s1 c test_at (length s1) m ≡ condition p s c B.to (length s) B.lists = (λ j. condition p (es j) c ((ea ∙ ap (λ (u : Written). u.to) do_same) j) (length (es j)) ((em ∙ ap (λ (u : Written). u.lists) do_same) j)) in
+        let d = ap (λ (u : Condition). u.lists.registers) same in
+        let e = ap (λ y. (written p y x s from l).lists.registers) is in
+        omega (arith, e, d)
+
+  pub transaction_body : (st : Tree.Stmt) (mode : Mode) (ss : Tree.Stmts) (at : Span) (exits : Exits) (start : ℕ) → st ≡ Tree.Transaction mode ss at → exits ≡ in_transaction x → start ≡ from + 1 → (all_written p ss exits s start l).lists.registers ≤ (written p st x s from l).lists.registers
+  transaction_body st mode ss at exits start is ex et =
+      let same : all_written p ss exits s start l ≡ all_written p ss (in_transaction x) s (from + 1) l = (λ j. all_written p ss (ex j) s (et j) l) in
+      let d = ap (λ (u : Written). u.lists.registers) same in
+      let e = ap (λ y. (written p y x s from l).lists.registers) is in
+      omega (arith, e, d)
+
+  module _ (start : Tree.Start) (c : Option Tree.Expr) (step : Option Tree.Simple) (a : Tree.Stmt) where
+    abbrev inner : LocalScope
+    inner = locals_of_start start s
+
+    abbrev F : Written
+    F = start_written p start s from l
+
+    abbrev D : Written
+    D = written p a (looping x (F.to + 1) (F.to + 2)) inner (F.to + 3) F.lists
+
+    abbrev N : Written
+    N = for_step p inner step D.to D.lists
+
+    last_more : N.lists.registers ≤ (written p (Tree.For start c step a) x s from l).lists.registers
+    last_more = test_more p inner c (F.to + 3) N.to N.lists
+
+    next_more : D.lists.registers ≤ (written p (Tree.For start c step a) x s from l).lists.registers
+    next_more = let g = step_more p inner step D.to D.lists in let h = last_more in omega (arith, g, h)
+
+    pub for_first : (start_written p start s from l).lists.registers ≤ (written p (Tree.For start c step a) x s from l).lists.registers
+    for_first = let g = written_more p a (looping x (F.to + 1) (F.to + 2)) inner (F.to + 3) F.lists in let h = next_more in omega (arith, g, h)
+
+    module _ (m1 : Lists) (s1 : LocalScope) (pads pad other begin : ℕ) (exits : Exits) (e1 : m1 ≡ F.lists) (es : s1 ≡ locals_of_start start s) (ef : pads ≡ F.to) (ep : pad ≡ pads + 1) (eo : other ≡ pads + 2) (eb : begin ≡ pads + 3) (ex : exits ≡ looping x pad other) where
+      begin_is : begin ≡ F.to + 3
+      begin_is = eb ∙ ap (λ (k : ℕ). k + 3) ef
+
+      body_is : written p a exits s1 begin m1 ≡ D
+      body_is = λ j. written p a ((ex ∙ (λ i. looping x ((ep ∙ ap (λ (k : ℕ). k + 1) ef) i) ((eo ∙ ap (λ (k : ℕ). k + 2) ef) i))) j) (es j) (begin_is j) (e1 j)
+
+      pub for_body : (written p a exits s1 begin m1).lists.registers ≤ (written p (Tree.For start c step a) x s from l).lists.registers
+      for_body = let g = next_more in let d = ap (λ (u : Written). u.lists.registers) body_is in omega (arith, g, d)
+
+      module _ (m2 : Lists) (s2 : LocalScope) (step_at : ℕ) (e2 : m2 ≡ (written p a exits s1 begin m1).lists) (es2 : s2 ≡ s1) (ea : step_at ≡ (written p a exits s1 begin m1).to) where
+        step_is : for_step p s2 step step_at m2 ≡ N
+        step_is = λ j. for_step p ((es2 ∙ es) j) step ((ea ∙ ap (λ (u : Written). u.to) body_is) j) ((e2 ∙ ap (λ (u : Written). u.lists) body_is) j)
+
+        pub for_next : (for_step p s2 step step_at m2).lists.registers ≤ (written p (Tree.For start c step a) x s from l).lists.registers
+        for_next = let g = last_more in let d = ap (λ (u : Written). u.lists.registers) step_is in omega (arith, g, d)
+
+        pub for_last : (m3 : Lists) (test_at : ℕ) → m3 ≡ (for_step p s2 step step_at m2).lists → test_at ≡ (for_step p s2 step step_at m2).to → (for_test p s2 c begin test_at m3).lists.registers ≤ (written p (Tree.For start c step a) x s from l).lists.registers
+        for_last m3 test_at e3 et =
+            let same : for_test p s2 c begin test_at m3 ≡ for_test p inner c (F.to + 3) N.to N.lists = (λ j. for_test p ((es2 ∙ es) j) c (begin_is j) ((et ∙ ap (λ (u : Written). u.to) step_is) j) ((e3 ∙ ap (λ (u : Written). u.lists) step_is) j)) in
+            let d = ap (λ (u : Written). u.lists.registers) same in
+            omega (arith, d)

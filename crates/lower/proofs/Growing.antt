@@ -1,0 +1,108 @@
+-- What follows needs no fewer registers.
+use Rattle.std.proofs.Common.{◌≡◌, ℕ, suc, ◌+◌, ◌<◌, ◌≤◌, List, [], ◌∷◌, ◌++◌, length, max, Option, Some, None, Bool, true, false, Result, Ok, Err, IfErr, if◌then◌else◌, ◌==◌, ap, arith}
+use Rattle.lex.specs.declared.token.Scalar.{Scalar}
+use Rattle.syntax.specs.declared.tree.UnaryOp.TheVariants.{Negate, Keep, Not, Complement}
+use Rattle.syntax.specs.Tree.{Expr, Exprs, Variable, Constant, Element, Call, Parenthesized, Cast, Unary, Binary, Logical, Conditional, Program}
+use Rattle.syntax.specs.Names.{newest, global_of, GlobalCells}
+use Rattle.bytecode.specs.declared.instr.Instr.TheVariants as own
+use Rattle.lowered.specs.Expressions.{LocalScope, arranged}
+use Rattle.lower.specs.declared.fault.Failure.{Failure}
+use Rattle.lower.specs.declared.fault.Failure.TheVariants as failure
+use Rattle.lower.specs.inner.Limits.{NeedsMore}
+use Rattle.lower.specs.inner.Lists.{Lists, used, holding}
+use Rattle.lower.specs.inner.Names.{Callee, callee_of}
+use Rattle.lower.specs.inner.Expressions.{Emitted, AllEmitted, above, then_one, settled, variable, element, called, emitted, all_emitted}
+
+pub needs_more : (e : Failure) (m n : ℕ) → m ≤ n → NeedsMore e m → NeedsMore e n
+needs_more failure.Registers m n h k = omega (arith, h, k)
+needs_more failure.OutOfMemory m n h k = tt
+
+-- a failure that says less
+pub fails_more : {X : Type 0} (r : Result X Failure) (m n : ℕ) → m ≤ n → IfErr r (λ e. NeedsMore e m) → IfErr r (λ e. NeedsMore e n)
+fails_more (Ok x) m n h k = tt
+fails_more (Err e) m n h k = needs_more e m n h k
+
+max_left : (a b : ℕ) → a ≤ max a b
+max_left a b = grind arith
+
+pub used_more : (r : ℕ) (l : Lists) → l.registers ≤ (used r l).registers
+used_more r l = max_left l.registers (suc r)
+
+pub holding_more : (n : ℕ) (l : Lists) → l.registers ≤ (holding n l).registers
+holding_more n l = max_left l.registers n
+
+variable_more : (x : Option (ℕ × Scalar)) (g : Option GlobalCells) (from into : ℕ) (l : Lists) → l.registers ≤ (variable x g from into l).lists.registers
+variable_more (Some x) g from into l = used_more x.0 l
+variable_more None (Some g) from into l = used_more into l
+variable_more None None from into l = used_more into l
+
+pub element_more : (g : Option GlobalCells) (i : Emitted) (from into : ℕ) (l : Lists) → l.registers ≤ i.lists.registers → l.registers ≤ (element g i from into l).lists.registers
+element_more (Some g) i from into l h = let a = used_more into i.lists in omega (arith, h, a)
+element_more None i from into l h = used_more into l
+
+called_more : (f : Option Callee) (args : AllEmitted) (from into : ℕ) (l : Lists) → l.registers ≤ args.lists.registers → l.registers ≤ (called f args from into l).lists.registers
+called_more None args from into l h = used_more into l
+called_more (Some f) args from into l h =
+    let n = length (arranged f.parameters args.registers) in
+    let a = max_left args.lists.registers n in
+    let b = max_left (max args.lists.registers n) (suc into) in
+    omega (arith, h, a, b)
+
+pub settled_more : (r : ℕ) (e : Emitted) → e.lists.registers ≤ (settled r e).lists.registers
+settled_more r e = by (e.held.register == r)
+  where
+    by : (b : Bool) → e.lists.registers ≤ (if b then e else then_one e (own.Move r e.held.register) r e.held.of).lists.registers
+    by true = omega arith
+    by false = used_more r e.lists
+
+module _ (p : Program) (scope : LocalScope) where
+  mutual
+    pub emitted_more : (e : Expr) (from into free : ℕ) (l : Lists) → l.registers ≤ (emitted p scope e from into free l).lists.registers
+    emitted_more (Variable x) from into free l = variable_more (newest scope x.text) (global_of p x.text) from into l
+    emitted_more (Constant n t at) from into free l = used_more into l
+    emitted_more (Element x i at) from into free l = element_more (global_of p x.text) (emitted p scope i from free free l) from into l (emitted_more i from free free l)
+    emitted_more (Call f es at) from into free l = called_more (callee_of p f.text) (all_emitted p scope es from free l) from into l (all_more es from free l)
+    emitted_more (Parenthesized e at) from into free l = emitted_more e from into free l
+    emitted_more (Cast t e at) from into free l = emitted_more e from into free l
+    emitted_more (Unary Negate e at) from into free l =
+        let a = emitted_more e from free free l in let b = used_more into (emitted p scope e from free free l).lists in omega (arith, a, b)
+    emitted_more (Unary Keep e at) from into free l = emitted_more e from into free l
+    emitted_more (Unary Not e at) from into free l =
+        let made = emitted p scope e from free free l in
+        let a = emitted_more e from free free l in
+        let b = used_more (above free made.held.register) made.lists in
+        let c = used_more into (used (above free made.held.register) made.lists) in
+        omega (arith, a, b, c)
+    emitted_more (Unary Complement e at) from into free l =
+        let a = emitted_more e from free free l in let b = used_more into (emitted p scope e from free free l).lists in omega (arith, a, b)
+    emitted_more (Binary op a b at) from into free l =
+        let left = emitted p scope a from free free l in
+        let later = above free left.held.register in
+        let x = emitted_more a from free free l in
+        let y = emitted_more b left.held.to later later left.lists in
+        let z = used_more into (emitted p scope b left.held.to later later left.lists).lists in
+        omega (arith, x, y, z)
+    emitted_more (Logical op a b at) from into free l =
+        let left = emitted p scope a from free free l in
+        let x = emitted_more a from free free l in
+        let y = emitted_more b (left.held.to + 1) free free left.lists in
+        let z = used_more into (emitted p scope b (left.held.to + 1) free free left.lists).lists in
+        omega (arith, x, y, z)
+    emitted_more (Conditional c a b at) from into free l =
+        let test = emitted p scope c from free free l in
+        let first = emitted p scope a (test.held.to + 1) into free test.lists in
+        let second = emitted p scope b ((settled into first).held.to + 1) into free (settled into first).lists in
+        let u = emitted_more c from free free l in
+        let v = emitted_more a (test.held.to + 1) into free test.lists in
+        let w = settled_more into first in
+        let x = emitted_more b ((settled into first).held.to + 1) into free (settled into first).lists in
+        let y = settled_more into second in
+        omega (arith, u, v, w, x, y)
+
+    pub all_more : (es : Exprs) (from free : ℕ) (l : Lists) → l.registers ≤ (all_emitted p scope es from free l).lists.registers
+    all_more Exprs.[] from free l = omega arith
+    all_more (Exprs.◌∷◌ e es) from free l =
+        let first = emitted p scope e from free free l in
+        let a = emitted_more e from free free l in
+        let b = all_more es first.held.to (above free first.held.register) first.lists in
+        omega (arith, a, b)
