@@ -26,8 +26,8 @@ const EXAMPLES: [(&str, &str); 10] = [
         "== thread 0: trap 1\n== memory\ntotal = 2147483647\nentries = 5\n",
     ),
     (
-        "// Counts the primes below 1,000 by trial division, and leaves the count in shared memory.\nint primes;\n\nvoid worker(int self) {\n    int n, count = 0;\n    for (n = 2; n < 1000; n++) {\n        int d = 2;\n        while (d * d <= n && n % d != 0) d++;\n        if (d * d > n) count++;\n    }\n    __transaction_atomic { primes = count; }\n    printf(\"%d primes\\n\", count);\n}\n",
-        "== thread 0: ended\n168 primes\n== memory\nprimes = 168\n",
+        "// Counts the primes below 100 by trial division, and leaves the count in shared memory.\nint primes;\n\nvoid worker(int self) {\n    int n, count = 0;\n    for (n = 2; n < 100; n++) {\n        int d = 2;\n        while (d * d <= n && n % d != 0) d++;\n        if (d * d > n) count++;\n    }\n    __transaction_atomic { primes = count; }\n    printf(\"%d primes\\n\", count);\n}\n",
+        "== thread 0: ended\n25 primes\n== memory\nprimes = 25\n",
     ),
     (
         "// A bounded queue: one transaction puts or takes, and a cancel undoes what does not fit.\nint slots[4], head, count, refused;\n\nint put(int value) {\n    int done = 0;\n    __transaction_atomic {\n        slots[(head + count) % 4] = value;\n        count++;\n        if (count > 4) __transaction_cancel;\n        done = 1;\n    }\n    return done;\n}\n\nvoid worker(int self) {\n    int i;\n    for (i = 1; i <= 6; i++) {\n        if (!put(i * i)) {\n            __transaction_atomic { refused++; }\n        }\n    }\n    __transaction_relaxed {\n        printf(\"%d waiting, %d refused\\n\", count, refused);\n        while (count > 0) {\n            printf(\"%d \", slots[head]);\n            head = (head + 1) % 4;\n            count--;\n        }\n    }\n    printf(\"\\n\");\n}\n",
