@@ -1,8 +1,9 @@
 -- What is made of a body, of an item and of items one after another.
-use Rattle.std.proofs.Common.{◌≡◌, ℕ, ◌+◌, ◌<◌, ◌≤◌, List, [], ◌∷◌, ◌++◌, length, map, drop, get_or, refl, sym, ap, ◌∙◌, append_assoc, append-nil, Option, Some, None, option_map, subst}
-use Rattle.std.specs.Prelude.{slice_get, unwrap_or, zero, suc}
+use Rattle.std.proofs.Common.{◌≡◌, ℕ, ◌+◌, ◌<◌, ◌≤◌, List, [], ◌∷◌, ◌++◌, length, map, drop, get_or, refl, sym, ap, ◌∙◌, append_assoc, append-nil, Option, Some, None, option_map, subst, arith}
+use Rattle.std.specs.Prelude.{Contains, slice_get, unwrap_or, zero, suc}
 use Rattle.std.specs.List.{AllByRecursion}
-use Rattle.std.proofs.lemmas.List.{drop_all}
+use Rattle.std.proofs.lemmas.List.{drop_all, length-append}
+use Rattle.std.proofs.lemmas.List.Elements.{Contains-append_left}
 use Rattle.syntax.specs.declared.tree.Item.{Item as OwnItem}
 use Rattle.syntax.specs.declared.tree.Item.TheVariants as own
 use Rattle.syntax.specs.declared.tree.Function.{Function as OwnFunction}
@@ -92,6 +93,22 @@ module _ (p : Program) {A : Type 0} (items : List (OwnItem A)) (i : ℕ) (to : �
   unfolding row one joined
   next_lists x whole to' l' h is et el inv =
       ap (λ (m : Made). m.lists) (same x to' l' et el) ∙ sym (ap (λ (m : Made). m.lists) (here x h is)) ∙ inv
+
+  pub codes_among : (x : OwnItem A) (g : FunctionCode) → i < length items → x ≡ get_or items i x → Contains (all_made p (item_of x ∷ []) to l).functions g → Contains (all_made p (map item_of (drop i items)) to l).functions g
+  unfolding row one joined
+  codes_among x g h is c =
+      let rest = row (i + 1) (one x).to (one x).lists in
+      subst (λ (m : Made). Contains m.functions g) (sym (here x h is)) (Contains-append_left (one x).functions rest.functions g c)
+
+  pub code_grows : (x : OwnItem A) (done : List Instr) → i < length items → x ≡ get_or items i x → length (done ++ (all_made p (item_of x ∷ []) to l).code) ≤ length (done ++ (all_made p (map item_of (drop i items)) to l).code)
+  unfolding row one joined
+  code_grows x done h is =
+      let rest = row (i + 1) (one x).to (one x).lists in
+      let e : length (done ++ (row i to l).code) ≡ length (done ++ ((one x).code ++ rest.code)) = ap (λ (m : Made). length (done ++ m.code)) (here x h is) in
+      let a : length (done ++ (one x).code) ≡ length done + length (one x).code = length-append done (one x).code in
+      let b : length (done ++ ((one x).code ++ rest.code)) ≡ length done + length ((one x).code ++ rest.code) = length-append done ((one x).code ++ rest.code) in
+      let d : length ((one x).code ++ rest.code) ≡ length (one x).code + length rest.code = length-append (one x).code rest.code in
+      omega (arith, e, a, b, d)
 
   none_left : length items ≤ i → all_made p (map item_of (drop i items)) to l ≡ nothing_made to l
   none_left h = ap (λ xs. all_made p (map item_of xs) to l) (drop_all i items h)

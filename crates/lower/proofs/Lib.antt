@@ -19,6 +19,7 @@ mod GrowingStmts
 mod Failing
 -- functions and items one after another
 mod Bodies
+mod Faulty
 mod Picked
 mod Deeper
 -- what is picked for small programs

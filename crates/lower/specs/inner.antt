@@ -21,3 +21,5 @@ pub mod Statements
 pub mod Formats
 -- of functions and programs
 pub mod Programs
+-- why no code is made of a part
+pub mod Parts

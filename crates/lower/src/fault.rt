@@ -2,7 +2,6 @@
 
 ghost use Rattle.std.specs.Prelude.{◌≡◌};
 ghost use Rattle.lower.specs.declared.fault.Failure.TheVariants.{OutOfMemory};
-ghost use Rattle.lower.specs.Faults.{IsOfCode};
 
 use lex::token::Span;
 use std::alloc::AllocError;
@@ -66,17 +65,5 @@ impl LowerFault {
 impl From<AllocError> for LowerFault {
     fn from(_error: AllocError) -> LowerFault {
         LowerFault::OutOfMemory
-    }
-}
-
-impl Failure {
-    /// The fault of a program, by the name of the function whose code is not made.
-    pub(crate) fn of_function(self, name: Span) -> LowerFault
-        ensures { IsOfCode result }
-    {
-        match self {
-            Failure::OutOfMemory => LowerFault::OutOfMemory,
-            Failure::Registers => LowerFault::TooManyRegisters(name),
-        }
     }
 }

@@ -8,13 +8,14 @@ ghost use Rattle.bytecode.specs.Valid.{HasWorker};
 ghost use Rattle.bytecode.specs.Views.{code_of, function_of as code_function};
 ghost use Rattle.lowered.specs.Laws.{MeansItsProgram};
 ghost use Rattle.lower.specs.Nested.{nested_too_deep};
-ghost use Rattle.lower.specs.Faults.{IsFaultOf, IsOfCode};
+ghost use Rattle.lower.specs.Faults.{IsFaultOf};
 ghost use Rattle.lower.specs.inner.Lists.{lists_of};
+ghost use Rattle.lower.specs.inner.Parts.{IsOfDefinition, IsOfItem, IsOfCode};
 ghost use Rattle.lower.specs.inner.Programs.{body_written, function_code, all_made, lowered_code};
 ghost use Rattle.lower.specs.inner.Views.{program_in};
 
 use crate::deep::first_too_deep;
-use crate::fault::LowerFault;
+use crate::fault::{Failure, LowerFault};
 use crate::function::lower_function;
 use crate::lists::Lists;
 use crate::program::Names;
@@ -54,7 +55,7 @@ fn lower_definition<'p, A: Allocator + Copy>(
     ensures place { OnOk result (making.new.to ≡ (body_written (program_in names.now) (function_of f.now) (stmts_of body.now) making.old.to (lists_of making.old.lists)).to) }
     ensures registers { OnOk result ((body_written (program_in names.now) (function_of f.now) (stmts_of body.now) making.old.to (lists_of making.old.lists)).lists.registers ≤ 65535) }
     ensures instructions { OnOk result (length making.new.code.items ≤ 1048576) }
-    ensures fault { IfErr result IsOfCode }
+    ensures fault { IfErr result (IsOfDefinition (function_of f.now) (body_written (program_in names.now) (function_of f.now) (stmts_of body.now) making.old.to (lists_of making.old.lists)).lists.registers (length (making.old.code.items ++ (body_written (program_in names.now) (function_of f.now) (stmts_of body.now) making.old.to (lists_of making.old.lists)).code))) }
 {
     if f.parameters.len() > 65_535 {
         return Err(LowerFault::TooManyRegisters(f.name.span));
@@ -62,7 +63,8 @@ fn lower_definition<'p, A: Allocator + Copy>(
     let from = making.to;
     let to = match lower_function(names, &mut making.lists, &mut making.code, f, body, from) {
         Ok(to) => to,
-        Err(failure) => return Err(failure.of_function(f.name.span)),
+        Err(Failure::OutOfMemory) => return Err(LowerFault::OutOfMemory),
+        Err(Failure::Registers) => return Err(LowerFault::TooManyRegisters(f.name.span)),
     };
     if making.lists.registers > 65_535 {
         return Err(LowerFault::TooManyRegisters(f.name.span));
@@ -120,7 +122,7 @@ fn lower_item<'p, A: Allocator + Copy>(
     ensures place { OnOk result (making.new.to ≡ (all_made (program_in names.now) (item_of item.now ∷ []) making.old.to (lists_of making.old.lists)).to) }
     ensures few { OnOk result (AllByRecursion (λ f. f.registers ≤ 65535) (map code_function making.new.functions.items)) }
     ensures short { OnOk result (length making.new.code.items ≤ 1048576) }
-    ensures fault { IfErr result IsOfCode }
+    ensures fault { IfErr result (IsOfItem (item_of item.now) (all_made (program_in names.now) (item_of item.now ∷ []) making.old.to (lists_of making.old.lists)).functions (length (making.old.code.items ++ (all_made (program_in names.now) (item_of item.now ∷ []) making.old.to (lists_of making.old.lists)).code))) }
 {
     match item {
         Item::Function(f) => match &f.body {
@@ -144,7 +146,7 @@ fn lower_parts<'p, A: Allocator + Copy>(names: &Names<'p, A>) -> Result<Parts<A>
     ensures code { IfOk result (λ parts. code_of parts ≡ lowered_code (program_in names.now)) }
     ensures few { IfOk result (λ parts. AllByRecursion (λ f. f.registers ≤ 65535) (map code_function parts.functions)) }
     ensures short { IfOk result (λ parts. length parts.instructions ≤ 1048576) }
-    ensures fault { IfErr result IsOfCode }
+    ensures fault { IfErr result (IsOfCode (program_in names.now)) }
 {
     let mut making = Making {
         functions: Vec::new(names.alloc),

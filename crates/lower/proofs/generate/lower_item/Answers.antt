@@ -1,13 +1,15 @@
-use Rattle.std.proofs.Common.{◌++◌, ◌∷◌, [], ◌≤◌, map, ap, sym, ◌∙◌, subst, append-nil}
+use Rattle.std.proofs.Common.{◌++◌, ◌∷◌, [], ◌≤◌, map, ap, sym, ◌∙◌, subst, append-nil, length}
 use Rattle.std.specs.List.{AllByRecursion}
 use Rattle.syntax.specs.Names.{shared_by}
 use Rattle.syntax.specs.Views.{item_of, function_of, global_of, stmts_of}
 use Rattle.bytecode.specs.Code.{FunctionCode}
 use Rattle.bytecode.specs.Views.{function_of as code_function}
 use Rattle.lower.specs.inner.Lists.{lists_of}
-use Rattle.lower.specs.inner.Programs.{Made, body_written, function_code}
+use Rattle.lower.specs.inner.Parts.{IsOfDefinition, IsOfItem}
+use Rattle.lower.specs.inner.Programs.{Made, all_made, body_written, function_code}
 use Rattle.lower.specs.inner.Views.{program_in}
 use Rattle.lower.proofs.Bodies.{definition_made, few_more}
+use Rattle.lower.proofs.Faulty.{definition_fault, handed_on}
 use Rattle.lower.proofs.generate.lower_item.Goals as goal
 
 pub returns-in_ok-lower_definition-in-Some-clause-functions : goal.returns-in_ok-lower_definition-in-Some-clause-functions
@@ -72,3 +74,17 @@ returns-in_ok-lower_definition-in-Some-clause-few g c =
     let l = lists_of c.args.making.now.lists in
     subst (AllByRecursion (λ (h : FunctionCode). h.registers ≤ 65535)) (sym c.in_ok-lower_definition-in-Some.ensures.functions)
     (few_more (map code_function c.args.making.now.functions.items) (function_code (function_of f) from (body_written p (function_of f) (stmts_of c.as_slice.result.now) from l)) c.requires.few c.in_ok-lower_definition-in-Some.ensures.registers)
+
+pub returns-in_err-lower_definition-in-Some-clause-fault : goal.returns-in_err-lower_definition-in-Some-clause-fault
+returns-in_err-lower_definition-in-Some-clause-fault g c =
+    let p = program_in c.args.names.now in
+    let f = c.in-Function.f in
+    let from = c.args.making.now.to in
+    let l = lists_of c.args.making.now.lists in
+    let done = c.args.making.now.code.items in
+    let w = body_written p (function_of f) (stmts_of c.as_slice.result.now) from l in
+    let m = all_made p (item_of c.args.item.now ∷ []) from l in
+    handed_on c.lower_definition.result c.from_residual.result c.in_err-lower_definition-in-Some.field-0.0
+    (IsOfDefinition (function_of f) w.lists.registers (length (done ++ w.code))) (IsOfItem (item_of c.args.item.now) m.functions (length (done ++ m.code)))
+    c.lower_definition.ensures.fault c.in_err-lower_definition-in-Some.was c.from_residual.ensures
+    (λ e. definition_fault p c.args.item.now f c.in-Some.body c.as_slice.result.now from l done e c.in-Function.is c.in-Some.is c.as_slice.ensures)

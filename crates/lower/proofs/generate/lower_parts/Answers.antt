@@ -1,4 +1,4 @@
-use Rattle.std.proofs.Common.{◌≡◌, ◌++◌, ◌+◌, ◌≤◌, ◌<◌, map, length, ap, sym, ◌∙◌, subst, append-nil, append_assoc, drop, get_or, arith}
+use Rattle.std.proofs.Common.{◌≡◌, ◌++◌, ◌+◌, ◌≤◌, ◌<◌, map, length, ap, sym, ◌∙◌, subst, append-nil, append_assoc, drop, get_or, arith, ◌∷◌, []}
 use Rattle.std.specs.List.{AllByRecursion}
 use Rattle.std.proofs.lemmas.List.{drop_all}
 use Rattle.syntax.specs.Names.{globals, shared_by}
@@ -6,10 +6,12 @@ use Rattle.syntax.specs.Views.{item_of, global_of}
 use Rattle.bytecode.specs.Code.{FunctionCode}
 use Rattle.bytecode.specs.Views.{instr_of, function_of as code_function}
 use Rattle.lower.specs.inner.Lists.{Lists, lists_of}
+use Rattle.lower.specs.inner.Parts.{IsOfItem, IsOfCode}
 use Rattle.lower.specs.inner.Programs.{all_made, made_of}
 use Rattle.lower.specs.inner.Views.{program_in}
 use Rattle.lower.proofs.Bodies.{next_functions, next_code, next_lists, last_functions, last_code, last_lists}
 use Rattle.lower.proofs.Files.{items_more}
+use Rattle.lower.proofs.Faulty.{item_fault, handed_on}
 use Rattle.lower.proofs.generate.lower_parts.Goals as goal
 
 pub items-init : goal.items-init
@@ -74,3 +76,21 @@ returns-clause-code g c =
     ∙ sym (ap (λ xs. done ++ globals (map item_of xs)) (drop_all i items h))
     ∙ inv.globals in
     λ j. record { functions = fs j; instructions = map (instr_of (regs j)) (is j); texts = ts j; globals = gs j }
+
+pub returns-in_err-lower_item-clause-fault : goal.returns-in_err-lower_item-clause-fault
+returns-in_err-lower_item-clause-fault g c =
+    let p = program_in c.args.names.now in
+    let items = c.args.names.now.unit.now.items in
+    let i = c.items.item-index in
+    let x = c.item-item.result in
+    let to = c.items.making.to in
+    let l = lists_of c.items.making.lists in
+    let same = c.as_slice-item-items.ensures in
+    let h : i < length items = subst (λ xs. i < length xs) same c.items-test.true in
+    let is : x ≡ get_or items i x = c.item-item.is ∙ ap (λ xs. get_or xs i x) same in
+    let done = c.items.making.code.items in
+    let m = all_made p (item_of x ∷ []) to l in
+    handed_on c.lower_item.result c.from_residual.result c.in_err-lower_item.field-0.0
+    (IsOfItem (item_of x) m.functions (length (done ++ m.code))) (IsOfCode p)
+    c.lower_item.ensures.fault c.in_err-lower_item.was c.from_residual.ensures
+    (λ e. item_fault items i to l x (map code_function c.items.making.functions.items) done e h is c.items.invariant.functions c.items.invariant.code)

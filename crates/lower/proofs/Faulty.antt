@@ -1,0 +1,98 @@
+-- Why no code is made, from a definition to its item and to the program.
+use Rattle.std.proofs.Common.{◌≡◌, ℕ, ◌<◌, ◌≤◌, List, [], ◌∷◌, ◌++◌, length, map, drop, get_or, refl, sym, ap, ◌∙◌, subst, append-nil, arith, Some, None, Result, Ok, Err, IfErr, IsErr, IsErrAnd}
+use Rattle.std.specs.Prelude.{Contains}
+use Rattle.std.proofs.Math.ListN.{get_or-map}
+use Rattle.std.proofs.lemmas.List.{length-map}
+use Rattle.std.proofs.lemmas.List.Elements.{Contains-get_or, Contains-append_right}
+use Rattle.syntax.specs.declared.tree.Item.{Item as OwnItem}
+use Rattle.syntax.specs.declared.tree.Item.TheVariants as own
+use Rattle.syntax.specs.declared.tree.Function.{Function as OwnFunction}
+use Rattle.syntax.specs.declared.tree.Stmt.{Stmt as OwnStmt}
+use Rattle.syntax.specs.Tree.{Function, Stmts, Item, Defines, Shares, Program}
+use Rattle.syntax.specs.Views.{item_of, function_of, stmts_of}
+use Rattle.bytecode.specs.declared.instr.Instr.{Instr}
+use Rattle.bytecode.specs.Code.{FunctionCode}
+use Rattle.bytecode.specs.Views.{instr_of}
+use Rattle.lowered.specs.Programs.{parameter_locals}
+use Rattle.lower.specs.declared.fault.LowerFault.{LowerFault}
+use Rattle.lower.specs.declared.fault.LowerFault.TheVariants.{OutOfMemory, TooManyRegisters, TooMuchCode, NestedTooDeep}
+use Rattle.lower.specs.Nested.{nested_too_deep}
+use Rattle.lower.specs.Faults.{IsFaultOf}
+use Rattle.lower.specs.inner.Lists.{Lists}
+use Rattle.lower.specs.inner.Parts.{IsOfDefinition, IsOfItem, IsOfCode}
+use Rattle.lower.specs.inner.Simples.{Written}
+use Rattle.lower.specs.inner.Programs.{Made, no_exits, body_written, nothing_made, function_code, put_before, all_made, made_of, lowered_code}
+use Rattle.lower.proofs.Bodies.{definition_made, code_grows, codes_among}
+use Rattle.lower.proofs.GrowingStmts.{stmts_more}
+
+-- a function needs its parameters' registers at least
+pub parameters_fit : (p : Program) (f : Function) (body : Stmts) (from : ℕ) (l : Lists) → length f.parameters ≤ (body_written p f body from l).lists.registers
+parameters_fit p f body from l = stmts_more p body no_exits (parameter_locals f.parameters) from (record l { registers = length f.parameters })
+
+of_definition : (f : Function) (from n : ℕ) (w : Written) (e : LowerFault) → IsOfDefinition f w.lists.registers n e → IsOfItem (Defines f) (function_code f from w ∷ []) n e
+of_definition f from n w OutOfMemory h = tt
+of_definition f from n w (TooManyRegisters at) h = (h.0, (function_code f from w, (0, omega arith, refl), refl, h.1))
+of_definition f from n w (TooMuchCode at) h = h
+of_definition f from n w (NestedTooDeep at) h = h
+
+pub definition_fault : {A : Type 0} (p : Program) (item : OwnItem A) (f : OwnFunction A) (body slice : List (OwnStmt A)) (from : ℕ) (l : Lists) (done : List Instr) (e : LowerFault) → item ≡ own.Function f → f.body ≡ Some body → slice ≡ body →
+    IsOfDefinition (function_of f) (body_written p (function_of f) (stmts_of slice) from l).lists.registers (length (done ++ (body_written p (function_of f) (stmts_of slice) from l).code)) e →
+    IsOfItem (item_of item) (all_made p (item_of item ∷ []) from l).functions (length (done ++ (all_made p (item_of item ∷ []) from l).code)) e
+definition_fault p item f body slice from l done e is some same h =
+    let F = function_of f in
+    let w = body_written p F (stmts_of body) from l in
+    let made : Made = put_before (function_code F from w) w (nothing_made w.to w.lists) in
+    let a : IsOfDefinition F w.lists.registers (length (done ++ w.code)) e =
+    subst (λ b. IsOfDefinition F (body_written p F (stmts_of b) from l).lists.registers (length (done ++ (body_written p F (stmts_of b) from l).code)) e) same h in
+    let b : IsOfDefinition F w.lists.registers (length (done ++ made.code)) e =
+    subst (λ xs. IsOfDefinition F w.lists.registers (length (done ++ xs)) e) (sym (append-nil w.code)) a in
+    let c : IsOfItem (item_of item) made.functions (length (done ++ made.code)) e =
+    subst (λ i. IsOfItem (item_of i) made.functions (length (done ++ made.code)) e) (sym is) (of_definition F from (length (done ++ made.code)) w e b) in
+    subst (λ (m : Made). IsOfItem (item_of item) m.functions (length (done ++ m.code)) e) (sym (definition_made p item f body from l is some)) c
+
+among : {A : Type 0} (items : List (OwnItem A)) (i : ℕ) (x : OwnItem A) → i < length items → x ≡ get_or items i x → Contains (map item_of items) (item_of x)
+among items i x h is =
+    let n : length (map item_of items) ≡ length items = length-map items item_of in
+    let low : i < length (map item_of items) = omega (arith, n, h) in
+    subst (Contains (map item_of items)) (get_or-map item_of items i x ∙ ap item_of (sym is)) (Contains-get_or (map item_of items) i (item_of x) low)
+
+of_one : (p : Program) (item : Item) (codes : List FunctionCode) (n : ℕ) (e : LowerFault) → Contains p item → ((g : FunctionCode) → Contains codes g → Contains (lowered_code p).functions g) → n ≤ length (lowered_code p).instructions → IsOfItem item codes n e → IsOfCode p e
+of_one p item codes n OutOfMemory c d h k = tt
+of_one p (Defines f) codes n (TooManyRegisters at) c d h k = record {
+  function = f;
+  is_of = c;
+  is_at = k.0;
+  code = k.1.0;
+  is_picked = d k.1.0 k.1.1;
+  is_named = k.1.2;
+  needs = k.1.3;
+}
+of_one p (Defines f) codes n (TooMuchCode at) c d h k = let m = k.1 in ((f, c, k.0), omega (arith, h, m))
+of_one p (Defines f) codes n (NestedTooDeep at) c d h k = absurd k
+of_one p (Shares gs) codes n (TooManyRegisters at) c d h k = absurd k
+of_one p (Shares gs) codes n (TooMuchCode at) c d h k = absurd k
+of_one p (Shares gs) codes n (NestedTooDeep at) c d h k = absurd k
+
+pub item_fault : {A : Type 0} (items : List (OwnItem A)) (i to : ℕ) (l : Lists) (x : OwnItem A) (codes : List FunctionCode) (done : List Instr) (e : LowerFault) → i < length items → x ≡ get_or items i x →
+    codes ++ (all_made (map item_of items) (map item_of (drop i items)) to l).functions ≡ (made_of (map item_of items)).functions →
+    done ++ (all_made (map item_of items) (map item_of (drop i items)) to l).code ≡ (made_of (map item_of items)).code →
+    IsOfItem (item_of x) (all_made (map item_of items) (item_of x ∷ []) to l).functions (length (done ++ (all_made (map item_of items) (item_of x ∷ []) to l).code)) e → IsOfCode (map item_of items) e
+item_fault items i to l x codes done e h is fs inv k =
+    let p : Program = map item_of items in
+    let grows = code_grows p items i to l x done h is in
+    let whole : length (done ++ (all_made p (map item_of (drop i items)) to l).code) ≡ length (made_of p).code = ap length inv in
+    let n : length (map (instr_of (made_of p).lists.arguments) (made_of p).code) ≡ length (made_of p).code = length-map (made_of p).code (instr_of (made_of p).lists.arguments) in
+    of_one p (item_of x) (all_made p (item_of x ∷ []) to l).functions (length (done ++ (all_made p (item_of x ∷ []) to l).code)) e (among items i x h is)
+    (λ g c. subst (λ xs. Contains xs g) fs (Contains-append_right codes (all_made p (map item_of (drop i items)) to l).functions g (codes_among p items i to l x g h is c)))
+    (omega (arith, grows, whole, n)) k
+
+pub code_fault : (p : Program) (e : LowerFault) → nested_too_deep p ≡ None → IsOfCode p e → IsFaultOf p e
+code_fault p OutOfMemory none h = tt
+code_fault p (TooManyRegisters at) none h = (none, h)
+code_fault p (TooMuchCode at) none h = (none, h.0, h.1)
+code_fault p (NestedTooDeep at) none h = absurd h
+
+-- what a question mark hands on
+pub handed_on : {X Y : Type 0} (r : Result X LowerFault) (s : Result Y LowerFault) (f : LowerFault) (P Q : LowerFault → Type 0) → IfErr r P → r ≡ Err f → IsErr s × IsErrAnd s (λ y. y ≡ f) → ((e : LowerFault) → P e → Q e) → IfErr s Q
+handed_on r (Ok y) f P Q h e g k = tt
+handed_on r (Err y) f P Q h e g k = k y (subst P (sym g.1) (subst (λ q. IfErr q P) e h))

@@ -1,0 +1,22 @@
+use Rattle.std.proofs.Common.{◌≡◌, ◌++◌, ◌∷◌, [], ◌≤◌, ◌<◌, map, length, List, ap, sym, refl, ◌∙◌, arith}
+use Rattle.std.proofs.lemmas.List.{length-map, map-append}
+use Rattle.syntax.specs.Views.{function_of, stmts_of, parameter_of}
+use Rattle.bytecode.specs.Views.{function_of as code_function}
+use Rattle.lower.specs.inner.Lists.{lists_of}
+use Rattle.lower.specs.inner.Views.{program_in}
+use Rattle.lower.proofs.Faulty.{parameters_fit}
+use Rattle.lower.proofs.generate.lower_definition.Goals as goal
+
+pub returns-then-len-gt65535-clause-fault : goal.returns-then-len-gt65535-clause-fault
+returns-then-len-gt65535-clause-fault g c =
+    let fit = parameters_fit (program_in c.args.names.now) (function_of c.args.f.now) (stmts_of c.args.body.now) c.args.making.now.to (lists_of c.args.making.now.lists) in
+    let n : length (map parameter_of c.args.f.now.parameters) ≡ length c.args.f.now.parameters = length-map c.args.f.now.parameters parameter_of in
+    (refl, omega (arith, fit, n, c.len.ensures, c.if-len-gt65535.true))
+
+pub returns-clause-functions : goal.returns-clause-functions
+returns-clause-functions g c =
+    let old = c.args.making.now.functions.items in
+    let n : c.len-3.result ≡ length (map parameter_of c.args.f.now.parameters) = c.len-3.ensures ∙ sym (length-map c.args.f.now.parameters parameter_of) in
+    ap (λ fs. map code_function fs) c.in-Ok-push.ensures.items
+    ∙ map-append code_function old _
+    ∙ (λ j. map code_function old ++ record { name = c.in-Ok-copy.ensures j; first = c.args.making.now.to; registers = (c.in-Ok.ensures.lists j).registers; parameters = n j } ∷ [])
