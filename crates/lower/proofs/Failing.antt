@@ -1,5 +1,5 @@
 -- A failure of a part is one of the whole.
-use Rattle.std.proofs.Common.{◌≡◌, ℕ, suc, ◌+◌, ◌≤◌, List, [], ◌∷◌, ◌++◌, length, Bool, true, false, if◌then◌else◌, ◌==◌, Option, Some, None, Result, Ok, Err, IfErr, IsErr, IsErrAnd, refl, sym, ap, subst, ◌∙◌, append_assoc, arith}
+use Rattle.std.proofs.Common.{◌≡◌, ℕ, ◌+◌, ◌≤◌, List, [], ◌∷◌, ◌++◌, length, Bool, true, false, if◌then◌else◌, ◌==◌, Option, Some, None, Result, Ok, Err, IfErr, IsErr, IsErrAnd, refl, sym, ap, subst, ◌∙◌, append_assoc, arith}
 use Rattle.lex.specs.declared.token.Span.{Span}
 use Rattle.lex.specs.declared.token.Scalar.{Scalar}
 use Rattle.syntax.specs.declared.tree.Mode.{Mode}
@@ -11,7 +11,7 @@ use Rattle.syntax.specs.Tree as Tree
 use Rattle.syntax.specs.Tree.{Program}
 use Rattle.syntax.specs.Views.{expr_of, stmt_of}
 use Rattle.syntax.proofs.Seen.{stmt_of_if, stmt_of_if_else}
-use Rattle.syntax.specs.Formats.{Piece, pieces}
+use Rattle.syntax.specs.Formats.{Piece}
 use Rattle.bytecode.specs.declared.instr.Instr.{Instr}
 use Rattle.lowered.specs.Expressions.{LocalScope, arranged}
 use Rattle.lowered.specs.Statements.{with_local, locals_of_start}
@@ -30,10 +30,10 @@ use Rattle.lower.specs.inner.Names.{Callee}
 use Rattle.lower.specs.inner.Expressions.{Emitted, AllEmitted, above, both, computing, settled, called, emitted, all_emitted}
 use Rattle.lower.specs.inner.Conditions.{Condition, condition}
 use Rattle.lower.specs.inner.Tests.{test_in, aim_in}
-use Rattle.lower.specs.inner.Simples.{Written, Aimed, nothing_written, one_written, aimed, above_target, fetched, home_or, stored, value_or_one, assigned, adjusted, first_written, declarator_written, start_written}
+use Rattle.lower.specs.inner.Simples.{Written, Aimed, nothing_written, one_written, aimed, above_target, fetched, home_or, stored, value_or_one, assigned, adjusted, declarator_written, start_written}
 use Rattle.lower.specs.inner.Statements.{in_transaction, looping, print_written, tested_back, for_test, for_step, written, all_written}
-use Rattle.lower.proofs.Growing.{needs_more, used_more, holding_more, settled_more, emitted_more, all_more}
-use Rattle.lower.proofs.GrowingStmts.{condition_more, fetched_more, stored_same, one_more, pieces_same, first_more, start_more, test_more, step_more, written_more}
+use Rattle.lower.proofs.Growing.{needs_more, used_more, holding_more, settled_more, emitted_more}
+use Rattle.lower.proofs.GrowingStmts.{condition_more, fetched_more, stored_same, one_more, pieces_same, first_more, test_more, step_more, written_more}
 
 -- what a question mark hands on
 pub passed_on : {X Y : Type 0} (r : Result X Failure) (s : Result Y Failure) (f : Failure) (m n : ℕ) → IfErr r (λ why. NeedsMore why m) → r ≡ Err f → IsErr s × IsErrAnd s (λ y. y ≡ f) → m ≤ n → IfErr s (λ why. NeedsMore why n)

@@ -1,5 +1,5 @@
 -- The code that is picked for small programs.
-use Rattle.std.proofs.Common.{◌≡◌, ℕ, zero, suc, List, [], ◌∷◌, ◌++◌, Option, Some, None, refl}
+use Rattle.std.proofs.Common.{◌≡◌, ℕ, zero, suc, List, [], ◌∷◌, ◌++◌, Some, None, refl}
 use Rattle.std.specs.Prelude.{codes}
 use Rattle.lex.specs.declared.token.Span.{Span}
 use Rattle.syntax.specs.declared.tree.BinaryOp.TheVariants.{Less, Greater, Add, NotEqual}
@@ -8,7 +8,7 @@ use Rattle.lex.specs.declared.token.Scalar.TheVariants.{Int}
 use Rattle.syntax.specs.declared.tree.LogicalOp.TheVariants.{AndThen}
 use Rattle.syntax.specs.declared.tree.Mode.TheVariants.{Atomic, Relaxed}
 use Rattle.syntax.specs.declared.tree.IncDec.TheVariants.{Increment}
-use Rattle.syntax.specs.Tree.{Expr, Exprs, Print, If, While, For, Declares, Break, Name, Variable, Constant, Element, Call, Unary, Parenthesized, Binary, Logical, Assign, Adjust, Stmts, Do, Transaction, Return, Function, Global, Defines, Shares, Program}
+use Rattle.syntax.specs.Tree.{Expr, Exprs, Print, If, While, For, Declares, Break, Name, Variable, Constant, Element, Call, Unary, Parenthesized, Binary, Logical, Assign, Adjust, Stmts, Do, Transaction, Return, Function, Global, Defines, Shares}
 use Rattle.bytecode.specs.Code.{Code, Instr}
 use Rattle.lower.specs.inner.Lists.{Lists}
 use Rattle.lower.specs.inner.Expressions.{emitted}

@@ -1,5 +1,5 @@
 -- In a safe program a cancel stands directly in an atomic transaction.
-use Rattle.std.proofs.Common.{◌≡◌, refl, ℕ, List, [], ◌∷◌, ◌++◌, arith, Option, Some, None, Bool, true, false}
+use Rattle.std.proofs.Common.{◌≡◌, refl, ℕ, List, ◌++◌, arith, Option, Some, None, true, false}
 use Rattle.std.specs.Prelude.{Contains}
 use Rattle.std.proofs.Math.Logic.{∥∥₁_elim, ∥∥₁_prop}
 use Rattle.std.proofs.lemmas.List.Elements.{All-contains, Contains-append_left, Contains-append_right}
@@ -9,7 +9,7 @@ use Rattle.syntax.specs.Tree as Tree
 use Rattle.syntax.specs.Tree.{Stmt, Stmts, Empty, Declare, Do, Block, Print, If, IfElse, While, DoWhile, For, Break, Continue, Return, Transaction, Cancel, Function, Program}
 use Rattle.syntax.specs.Names.{definition_of}
 use Rattle.syntax.specs.Typing.{names_of, parameter_names}
-use Rattle.safety.specs.Sites.{Cancels, Relaxes, Site, Around, with_names, in_transaction, mode_site, expr_sites, simple_sites, sites_if_any, start_sites, names_of_start, stmt_sites, stmts_sites, body_sites, sites_of}
+use Rattle.safety.specs.Sites.{Cancels, Relaxes, Site, Around, with_names, in_transaction, mode_site, expr_sites, simple_sites, sites_if_any, start_sites, names_of_start, stmt_sites, stmts_sites, sites_of}
 use Rattle.safety.specs.Safe.{KeepsAtomic, IsSafeProgram}
 use Rattle.safety.proofs.CancelsStay.{definition_sites}
 use Rattle.lower.proofs.stands.Statements.{CancelsFit, AllCancelsFit}

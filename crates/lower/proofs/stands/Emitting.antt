@@ -1,6 +1,6 @@
 -- What is emitted stands for an expression, part by part.
-use Rattle.std.proofs.Common.{◌≡◌, refl, sym, ap, subst, ◌∙◌, ℕ, suc, ◌+◌, ◌≤◌, ◌<◌, List, [], ◌∷◌, ◌++◌, append_assoc, length, take, drop, arith, Option, Some, None, Bool, true, false, ◌⊎◌, inl, inr, ⊎_elim, eqb-true}
-use Rattle.std.specs.Prelude.{max, if◌then◌else◌, ◌==◌, unwrap_or}
+use Rattle.std.proofs.Common.{◌≡◌, refl, sym, subst, ℕ, suc, ◌+◌, ◌≤◌, ◌<◌, List, [], ◌∷◌, ◌++◌, length, arith, Option, None, Bool, true, false, ◌⊎◌, inl, inr, ⊎_elim, eqb-true}
+use Rattle.std.specs.Prelude.{if◌then◌else◌, ◌==◌}
 use Rattle.std.proofs.lemmas.Bool.{eqb-false}
 use Rattle.std.proofs.lemmas.List.{length-append}
 use Rattle.lex.specs.declared.token.Scalar.{Scalar}

@@ -1,22 +1,21 @@
 -- What is emitted for an expression of a typed program stands for it.
-use Rattle.std.proofs.Common.{◌≡◌, refl, sym, ap, subst, ◌∙◌, ℕ, suc, pos, ◌+◌, ◌≤◌, ◌<◌, List, [], ◌∷◌, ◌++◌, append_assoc, length, take, drop, map, arith, Option, Some, None, Bool, true, false, ◌⊎◌, inl, inr, ⊎_elim, not, IsTrue}
-use Rattle.std.specs.Prelude.{max, if◌then◌else◌, ◌==◌, unwrap_or, slice_get, is_some, is_none}
+use Rattle.std.proofs.Common.{◌≡◌, refl, sym, ap, subst, ◌∙◌, ℕ, pos, ◌+◌, List, [], ◌∷◌, ◌++◌, append_assoc, length, take, drop, arith, Option, Some, None, Bool, true, false, ◌⊎◌, inl, inr, ⊎_elim, not, IsTrue}
+use Rattle.std.specs.Prelude.{if◌then◌else◌, ◌==◌, unwrap_or, slice_get}
 use Rattle.std.proofs.lemmas.List.{length-append}
 use Rattle.std.proofs.Math.Seq.{drop-append_seam, take-append_seam}
 use Rattle.lex.specs.declared.token.Scalar.{Scalar}
-use Rattle.lex.specs.declared.token.Scalar.TheVariants.{Int, Unsigned}
+use Rattle.lex.specs.declared.token.Scalar.TheVariants.{Int}
 use Rattle.syntax.specs.declared.tree.UnaryOp.TheVariants.{Negate, Keep, Not, Complement}
 use Rattle.syntax.specs.declared.tree.BinaryOp.{BinaryOp}
 use Rattle.syntax.specs.declared.tree.BinaryOp.TheVariants.{Or, Xor, And, Equal, NotEqual, Less, Greater, LessEqual, GreaterEqual, ShiftLeft, ShiftRight, Add, Subtract, Multiply, Divide, Remainder}
 use Rattle.syntax.specs.declared.tree.LogicalOp.TheVariants.{AndThen, OrElse}
 use Rattle.syntax.specs.Tree.{Name, Expr, Exprs, Variable, Constant, Element, Call, Parenthesized, Cast, Unary, Binary, Logical, Conditional, Stmts, Function, Program}
 use Rattle.syntax.specs.Numbers.{word_of, common, operand_type, result_type}
-use Rattle.syntax.specs.Names.{Local, GlobalCells, cells, newest, global_of, definition_of}
-use Rattle.syntax.specs.Types.{Known, Number, Array, Callable, Scope, number_type, element_type, call_type, common_of, unary_type, binary_type, type_of, running_scope, known_function}
-use Rattle.syntax.specs.Typing.{is_unknown, may_be_function, gives_nothing}
+use Rattle.syntax.specs.Names.{Local, GlobalCells, newest, global_of, definition_of}
+use Rattle.syntax.specs.Types.{Callable, Scope, number_type, element_type, call_type, common_of, binary_type, type_of, running_scope, known_function}
+use Rattle.syntax.specs.Typing.{may_be_function, gives_nothing}
 use Rattle.syntax.specs.Typing.{IsTypedProgram}
 use Rattle.syntax.specs.ScopeLaws.{Agrees}
-use Rattle.syntax.specs.Laws.{shape}
 use Rattle.syntax.proofs.TypedParts.{Knows, Gives, TypedExpr, TypedExprs}
 use Rattle.syntax.proofs.Fits.{scope_in, same_type_of, agrees_by_shape, shape_agrees}
 use Rattle.syntax.proofs.ValueTypes.{Found}
@@ -24,13 +23,13 @@ use Rattle.bytecode.specs.declared.instr.Instr.{Instr}
 use Rattle.bytecode.specs.declared.instr.Instr.TheVariants as own
 use Rattle.bytecode.specs.Code.{Code, FunctionCode, Instr as Plain}
 use Rattle.bytecode.specs.Views.{args_of, instr_of}
-use Rattle.lowered.specs.Expressions.{LocalScope, IsLike, Coded, MayTake, GivenBy, LocalIs, VariableCode, ElementAt, CallCode, ConditionalCode, arranged, ExprCode, OwnTests, ArgsCode, CondCode}
+use Rattle.lowered.specs.Expressions.{LocalScope, IsLike, Coded, MayTake, GivenBy, VariableCode, ElementAt, CallCode, arranged, ExprCode, OwnTests, ArgsCode}
 use Rattle.lower.specs.inner.Lists.{Lists, used, holding}
 use Rattle.lower.specs.inner.Names.{Callee, callee_at, callee_of}
-use Rattle.lower.specs.inner.Expressions.{Emitted, AllEmitted, above, one, then_one, variable, element, called, constant, followed, settled, emitted, all_emitted}
-use Rattle.lower.proofs.stands.Standing.{Stand, front, behind, IsFront, front_same, front_more, max_left, Grows, grows_same, grows_further, grows_used, Fits, fits_before, is_register, given}
+use Rattle.lower.specs.inner.Expressions.{Emitted, AllEmitted, above, then_one, variable, element, called, settled, emitted, all_emitted}
+use Rattle.lower.proofs.stands.Standing.{Stand, front, behind, front_same, front_more, max_left, Grows, grows_same, grows_further, grows_used, Fits, fits_before, is_register, given}
 use Rattle.lower.proofs.stands.Named.{VariableFound, variable_found, array_found, function_found, known_number, known_array, known_callable}
-use Rattle.lower.proofs.stands.Emitting.{above_free, above_it, Emits, one_emits, in_local_emits, then_emits, element_emits, cast_emits, negated_emits, complemented_emits, compared_emits, both_emits, and_emits, or_emits, settled_emits, chosen_emits}
+use Rattle.lower.proofs.stands.Emitting.{above_free, above_it, Emits, one_emits, in_local_emits, element_emits, cast_emits, negated_emits, complemented_emits, compared_emits, both_emits, and_emits, or_emits, settled_emits, chosen_emits}
 
 -- a callee's number is that of a function of its name
 abbrev pub CalleesStand : Program → Code → Type 0

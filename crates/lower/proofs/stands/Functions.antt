@@ -1,20 +1,19 @@
 -- The code that is picked for a typed and safe program stands for it.
-use Rattle.std.proofs.Common.{◌≡◌, refl, sym, ap, subst, ◌∙◌, ℕ, zero, suc, ◌+◌, ◌≤◌, List, [], ◌∷◌, ◌++◌, append_assoc, append-nil, length, map, replicate, arith, Option, Some, None, Bool, true, false, ◌&&◌, ◌||◌, not, IsTrue}
-use Rattle.std.specs.Prelude.{if◌then◌else◌, bytes_eq, codes, unwrap_or, option_map, slice_get, is_none, pos}
-use Rattle.std.proofs.lemmas.List.{length-append, length-replicate, map-append}
+use Rattle.std.proofs.Common.{◌≡◌, refl, sym, ap, subst, ◌∙◌, ℕ, zero, suc, ◌+◌, List, [], ◌∷◌, ◌++◌, append_assoc, length, map, replicate, arith, Option, Some, None, Bool, true, false, ◌&&◌, ◌||◌, not, IsTrue}
+use Rattle.std.specs.Prelude.{if◌then◌else◌, bytes_eq, codes, unwrap_or, option_map, slice_get, is_none}
+use Rattle.std.proofs.lemmas.List.{length-append, length-replicate}
 use Rattle.std.proofs.lemmas.Slice.Eq.{bytes_eq-Decides}
 use Rattle.lex.specs.declared.token.Scalar.{Scalar}
 use Rattle.lex.specs.declared.token.Scalar.TheVariants.{Int}
-use Rattle.syntax.specs.Tree.{Name, Stmts, Parameter, Function, Item, Defines, Shares, Program}
+use Rattle.syntax.specs.Tree.{Name, Stmts, Parameter, Function, Defines, Shares, Program}
 use Rattle.syntax.specs.declared.numbers.Value.{Value}
-use Rattle.syntax.specs.Names.{Local, defined, definition_of, globals}
+use Rattle.syntax.specs.Names.{defined, definition_of}
 use Rattle.syntax.specs.Types.{Scope, Callable, Number, Array, Unknown, Known, file_scope, running_scope}
 use Rattle.syntax.specs.Typing.{demand, may_be_function, has_name, defined_names, parameter_names, agrees, is_worker, AreDefined, AreDistinct, AreTypedItems, IsTypedBody, IsTypedFunction, IsTypedProgram}
-use Rattle.syntax.specs.Meaning.{entered}
 use Rattle.syntax.specs.Laws.{shape}
 use Rattle.syntax.specs.ScopeLaws.{Agrees, body_scope}
-use Rattle.syntax.proofs.Demands.{AreMet, met_before, met_behind, is_met}
-use Rattle.syntax.proofs.TypedParts.{TypedStmts, stmts_parts}
+use Rattle.syntax.proofs.Demands.{AreMet, met_before, is_met}
+use Rattle.syntax.proofs.TypedParts.{stmts_parts}
 use Rattle.syntax.proofs.Fits.{scope_in, agrees_by_shape, shape_agrees}
 use Rattle.syntax.proofs.ValueTypes.{rest_met}
 use Rattle.syntax.proofs.Called.{called_are_defined, bodies_are_typed, worker_known, shapes_of, entered_shapes, all_enter}
@@ -23,15 +22,15 @@ use Rattle.bytecode.specs.declared.instr.Instr.TheVariants as own
 use Rattle.bytecode.specs.Code.{Code, FunctionCode}
 use Rattle.bytecode.specs.Views.{instr_of}
 use Rattle.bytecode.specs.Beginning.{worker_among}
-use Rattle.lowered.specs.Expressions.{LocalScope, At}
+use Rattle.lowered.specs.Expressions.{LocalScope}
 use Rattle.lowered.specs.Programs as Lowered
 use Rattle.lowered.specs.Programs.{parameter_locals, FunctionIsLowered, IsLowered}
 use Rattle.lower.specs.inner.Lists.{Lists}
-use Rattle.lower.specs.inner.Names.{Callee, callee_at, callee_first, callee_from, callee_of}
+use Rattle.lower.specs.inner.Names.{Callee, callee_at, callee_first, callee_from}
 use Rattle.lower.specs.inner.Simples.{Written}
 use Rattle.lower.specs.inner.Statements.{all_written}
 use Rattle.lower.specs.inner.Programs.{no_exits, body_written, Made, function_code, put_before, made_first, all_made, made_of, lowered_code}
-use Rattle.lower.proofs.stands.Standing.{Stand, front, behind, IsFront, front_same, front_front, Grows}
+use Rattle.lower.proofs.stands.Standing.{Stand, front, behind, IsFront, front_same, front_front}
 use Rattle.lower.proofs.stands.Exprs.{CalleesStand, DefinedAreCallees}
 use Rattle.lower.proofs.stands.Statements.{stmts_write}
 use Rattle.lower.proofs.stands.Cancelling.{CancelsAreFit}

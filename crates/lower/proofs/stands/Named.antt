@@ -1,11 +1,11 @@
 -- What the names of a typed program stand for.
-use Rattle.std.proofs.Common.{◌≡◌, refl, sym, ap, subst, ◌∙◌, ℕ, suc, ◌+◌, ◌<◌, List, [], ◌∷◌, length, arith, Option, Some, None, Bool, true, false, not, IsTrue}
+use Rattle.std.proofs.Common.{◌≡◌, refl, ap, subst, ◌∙◌, ℕ, ◌+◌, ◌<◌, List, [], ◌∷◌, length, arith, Option, Some, None, Bool, true, false, not, IsTrue}
 use Rattle.std.specs.Prelude.{if◌then◌else◌, bytes_eq, option_map, unwrap_or}
 use Rattle.std.specs.Option.{option_or}
 use Rattle.lex.specs.declared.token.Scalar.{Scalar}
 use Rattle.syntax.specs.Tree.{Stmts, Function, Program}
 use Rattle.syntax.specs.Names.{Local, GlobalCells, newest_from, newest, global_of, definition_of}
-use Rattle.syntax.specs.Types.{Known, Unknown, Number, Array, Callable, Scope, number_type, element_type, known_function, file_scope, running_scope}
+use Rattle.syntax.specs.Types.{Known, Unknown, Number, Array, Callable, number_type, known_function, file_scope, running_scope}
 use Rattle.syntax.specs.Typing.{is_unknown, may_be_number, may_be_array, may_be_function, IsTypedProgram}
 use Rattle.syntax.proofs.ValueTypes.{shared_type, Found, found}
 use Rattle.syntax.proofs.Called.{called_are_defined}

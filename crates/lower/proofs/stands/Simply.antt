@@ -1,19 +1,17 @@
 -- What is picked for assignments and declarations of a typed program stands for them.
-use Rattle.std.proofs.Common.{◌≡◌, refl, sym, ap, subst, ◌∙◌, ℕ, suc, ◌+◌, ◌≤◌, ◌<◌, List, [], ◌∷◌, ◌++◌, length, map, arith, Option, Some, None, Bool, true, false, ◌⊎◌, inl, inr, IsTrue}
-use Rattle.std.specs.Prelude.{unwrap_or}
+use Rattle.std.proofs.Common.{◌≡◌, refl, sym, subst, ◌∙◌, ℕ, suc, ◌+◌, List, [], ◌∷◌, ◌++◌, length, map, arith, Option, Some, None, Bool, true, false, ◌⊎◌, inl, inr, IsTrue}
 use Rattle.std.specs.Option.{IfSome}
 use Rattle.std.proofs.lemmas.List.{length-append, map-append}
 use Rattle.lex.specs.declared.token.Span.{Span}
 use Rattle.lex.specs.declared.token.Scalar.{Scalar}
 use Rattle.lex.specs.declared.token.Scalar.TheVariants.{Int}
 use Rattle.syntax.specs.declared.tree.BinaryOp.{BinaryOp}
-use Rattle.syntax.specs.declared.tree.UnaryOp.{UnaryOp}
-use Rattle.syntax.specs.Tree.{Name, Expr, Exprs, Variable, Constant, Element, Call, Parenthesized, Cast, Unary, Binary, Logical, Conditional, Simple, Evaluate, Assign, Adjust, Declarator, Start, Nothing, Declares, Does, Program}
+use Rattle.syntax.specs.Tree.{Name, Expr, Variable, Constant, Element, Call, Parenthesized, Cast, Unary, Binary, Logical, Conditional, Simple, Evaluate, Assign, Adjust, Declarator, Start, Nothing, Declares, Does, Program}
 use Rattle.syntax.specs.Meaning.{op_of}
 use Rattle.syntax.specs.Numbers.{operand_type, result_type}
-use Rattle.syntax.specs.Names.{Local, GlobalCells, cells, newest, global_of}
-use Rattle.syntax.specs.Types.{Known, Number, Array, Scope, with_number, running_scope}
-use Rattle.syntax.specs.Typing.{IsTypedProgram, knows, may_be_number, may_be_assigned, scope_of_start}
+use Rattle.syntax.specs.Names.{GlobalCells, cells, newest, global_of}
+use Rattle.syntax.specs.Types.{Scope, with_number, running_scope}
+use Rattle.syntax.specs.Typing.{IsTypedProgram, knows, may_be_assigned, scope_of_start}
 use Rattle.syntax.specs.Laws.{shape}
 use Rattle.syntax.specs.ScopeLaws.{Agrees}
 use Rattle.syntax.proofs.TypedParts.{TypedExpr, TypedTarget, TypedSimple, TypedDeclarators, TypedStart}
@@ -22,20 +20,18 @@ use Rattle.syntax.proofs.ValueTypes.{Found}
 use Rattle.bytecode.specs.declared.instr.Instr.{Instr}
 use Rattle.bytecode.specs.declared.instr.Instr.TheVariants as own
 use Rattle.bytecode.specs.Code.{Code, Instr as Plain}
-use Rattle.bytecode.specs.Views.{instr_of}
 use Rattle.lowered.specs.Expressions as Lowered
 use Rattle.lowered.specs.Expressions.{LocalScope, Coded, At, MayTake, GivenBy, BinaryCode, ExprCode}
-use Rattle.lowered.specs.Statements.{Target, LocalAt, CellAt, ElementOf, home_of, with_local, with_declared, locals_of_start, VariableTarget, CheckedAt, UncheckedAt, TargetCode, ReadTarget, FetchCode, StoreCode, AssignCode, ChangeCode, OneCode, SimpleCode, FirstValueCode, DeclareCode, DeclaratorCode, StartCode}
+use Rattle.lowered.specs.Statements.{Target, LocalAt, CellAt, ElementOf, home_of, with_local, with_declared, locals_of_start, VariableTarget, CheckedAt, UncheckedAt, TargetCode, ReadTarget, FetchCode, StoreCode, AssignCode, ChangeCode, OneCode, SimpleCode, FirstValueCode, DeclareCode, StartCode}
 use Rattle.lower.specs.declared.held.Target.{Target as OwnTarget}
-use Rattle.lower.specs.declared.held.Target.TheVariants as target
 use Rattle.lower.specs.inner.Lists.{Lists, used}
 use Rattle.lower.specs.inner.Expressions.{Emitted, above, both, constant, emitted}
-use Rattle.lower.specs.inner.Simples.{Written, Aimed, aimed_at, variable_target, checked_by, checks, element_target, above_target, fetched, home_or, stored, and_then, then_stored, behind as aimed_then, aimed, value_or_one, assigned, adjusted, simple_written, nothing_written, first_written, declarator_written, declared_written, start_written}
+use Rattle.lower.specs.inner.Simples.{Written, Aimed, variable_target, element_target, above_target, fetched, home_or, then_stored, behind as aimed_then, aimed, value_or_one, assigned, adjusted, simple_written, first_written, declared_written, start_written}
 use Rattle.lower.proofs.stands.Standing.{Stand, front, behind, Grows, grows_same, grows_further, grows_used, Fits, fits_before, is_register}
 use Rattle.lower.proofs.stands.Named.{VariableFound, variable_found, array_found, known_number, known_array}
 use Rattle.lower.proofs.stands.Emitting.{Emits, one_emits, both_emits}
 use Rattle.lower.proofs.stands.Exprs.{CalleesStand, DefinedAreCallees, expr_emits}
-use Rattle.lower.proofs.stands.Writing.{own_of, spares, target_above, may_take_home, Writes, nothing_writes, then_writes, evaluated_writes, fetched_emits, ValueStored, then_stored_writes}
+use Rattle.lower.proofs.stands.Writing.{own_of, spares, target_above, may_take_home, Writes, nothing_writes, fetched_emits, ValueStored, then_stored_writes}
 
 abbrev with_target : Aimed → OwnTarget → Aimed
 with_target a t = record { code = a.code; lists = a.lists; target = t; to = a.to }

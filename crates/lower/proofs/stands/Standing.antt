@@ -1,12 +1,11 @@
 -- Instructions that stand in a finished code, and lists that become those of a finished code.
 use Rattle.std.proofs.Common.{◌≡◌, refl, sym, ap, subst, ◌∙◌, ℕ, suc, ◌+◌, ◌≤◌, ◌<◌, List, [], ◌∷◌, ◌++◌, append_assoc, append-nil, length, arith, Option}
 use Rattle.std.specs.Prelude.{max}
-use Rattle.std.proofs.lemmas.List.{length-append}
 use Rattle.lex.specs.declared.token.Scalar.{Scalar}
 use Rattle.bytecode.specs.declared.instr.Instr.{Instr}
 use Rattle.bytecode.specs.Code.{Code}
 use Rattle.bytecode.specs.Views.{instr_of}
-use Rattle.lowered.specs.Expressions.{Coded, At, MayTake, GivenBy}
+use Rattle.lowered.specs.Expressions.{At, MayTake, GivenBy}
 use Rattle.lower.specs.inner.Lists.{Lists, used}
 
 -- instructions stand in a code from a place on

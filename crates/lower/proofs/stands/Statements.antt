@@ -1,5 +1,5 @@
 -- What is picked for a statement of a typed program stands for it.
-use Rattle.std.proofs.Common.{◌≡◌, refl, sym, ap, subst, ◌∙◌, ℕ, zero, suc, ◌+◌, ◌≤◌, ◌<◌, List, [], ◌∷◌, ◌++◌, length, replicate, arith, Option, Some, None, Bool, true, false, ◌⊎◌, inl, inr, IsTrue, eqb-true}
+use Rattle.std.proofs.Common.{◌≡◌, refl, sym, ap, subst, ◌∙◌, ℕ, zero, suc, ◌+◌, ◌≤◌, List, [], ◌∷◌, ◌++◌, length, replicate, arith, Option, Some, None, Bool, true, inl, inr, IsTrue, eqb-true}
 use Rattle.std.specs.Prelude.{slice_get, ◌==◌}
 use Rattle.std.specs.Option.{IfSome}
 use Rattle.std.proofs.lemmas.List.{length-append, length-replicate}
@@ -7,7 +7,7 @@ use Rattle.lex.specs.declared.token.Scalar.{Scalar}
 use Rattle.lex.specs.declared.token.Scalar.TheVariants.{Int, Unsigned}
 use Rattle.syntax.specs.declared.tree.Mode.{Mode}
 use Rattle.syntax.specs.declared.tree.Mode.TheVariants.{Atomic}
-use Rattle.syntax.specs.Tree.{Expr, Exprs, Simple, Start, Stmt, Stmts, Empty, Declare, Do, Block, Print, If, IfElse, While, DoWhile, For, Break, Continue, Return, Transaction, Cancel, Program}
+use Rattle.syntax.specs.Tree.{Expr, Exprs, Simple, Stmt, Stmts, Empty, Declare, Do, Block, Print, If, IfElse, While, DoWhile, For, Break, Continue, Return, Transaction, Cancel, Program}
 use Rattle.syntax.specs.Formats.{Piece, Literal, Figure, pieces, figures}
 use Rattle.syntax.specs.Types.{Scope, running_scope}
 use Rattle.syntax.specs.Typing as Typing
@@ -18,19 +18,18 @@ use Rattle.bytecode.specs.declared.instr.Instr.{Instr}
 use Rattle.bytecode.specs.declared.instr.Instr.TheVariants as own
 use Rattle.bytecode.specs.Code.{Code, Instr as Plain}
 use Rattle.bytecode.specs.Views.{instr_of}
-use Rattle.lowered.specs.Expressions.{LocalScope, At, LeadsTo, ExprCode, CondCode, ArgsCode}
+use Rattle.lowered.specs.Expressions.{LocalScope, At, ExprCode, CondCode, ArgsCode}
 use Rattle.lowered.specs.Statements as Lowered
 use Rattle.lowered.specs.Statements.{StartCode, IfCode, IfElseCode, WhileCode, DoWhileCode, ForCode, PrintCode, TransactionCode, Exits, in_transaction, looping, locals_of_start, locals_after, Leaves, ValueCode, TestCode, HoldsCode, SteppedCode, LiteralCode, PiecesCode, StmtCode, StmtsCode}
 use Rattle.lower.specs.declared.held.Exits.{Exits as OwnExits}
 use Rattle.lower.specs.inner.Lists.{Lists}
-use Rattle.lower.specs.inner.Expressions.{Emitted, AllEmitted, above, emitted, all_emitted}
+use Rattle.lower.specs.inner.Expressions.{above, emitted, all_emitted}
 use Rattle.lower.specs.inner.Conditions.{Condition, jump_if, jump_if_not, condition}
-use Rattle.lower.specs.inner.Simples.{Written, nothing_written, one_written, and_then, evaluated, simple_written, declared_written, start_written}
+use Rattle.lower.specs.inner.Simples.{Written, evaluated, start_written}
 use Rattle.lower.specs.inner.Statements as Own
 use Rattle.lower.specs.inner.Statements.{left_by, branched, branched_twice, tested_back, while_written, do_written, for_written, transacted, returned, printing, and_one, pieces_written, print_written, for_test, for_step, written, all_written}
-use Rattle.lower.proofs.stands.Standing.{Stand, front, behind, IsFront, front_same, front_more, Grows, grows_same, grows_further, Fits, fits_before}
-use Rattle.lower.proofs.stands.Emitting.{Emits}
-use Rattle.lower.proofs.stands.Exprs.{CalleesStand, DefinedAreCallees, AllEmits, expr_emits, all_emits}
+use Rattle.lower.proofs.stands.Standing.{Stand, front, behind, front_same, front_more, Grows, grows_same, grows_further, Fits, fits_before}
+use Rattle.lower.proofs.stands.Exprs.{CalleesStand, DefinedAreCallees, expr_emits, all_emits}
 use Rattle.lower.proofs.stands.Conds.{Decides, cond_decides}
 use Rattle.lower.proofs.stands.Writing.{Writes, nothing_writes, one_writes, then_writes, evaluated_writes}
 use Rattle.lower.proofs.stands.Simply.{simple_writes, declared_agrees, declared_writes, start_agrees, start_writes}

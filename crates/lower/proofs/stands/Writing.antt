@@ -1,21 +1,20 @@
 -- What is picked for an assignment goes to its target, part by part.
-use Rattle.std.proofs.Common.{◌≡◌, refl, sym, ap, subst, ◌∙◌, ℕ, suc, ◌+◌, ◌≤◌, ◌<◌, List, [], ◌∷◌, ◌++◌, length, arith, Option, Some, None, Bool, true, false, ◌⊎◌, inl, inr, eqb-true}
-use Rattle.std.specs.Prelude.{if◌then◌else◌, ◌==◌, unwrap_or}
+use Rattle.std.proofs.Common.{◌≡◌, refl, sym, ap, ℕ, suc, ◌+◌, ◌≤◌, List, ◌++◌, length, arith, Some, None, Bool, true, false, inl, inr, eqb-true}
+use Rattle.std.specs.Prelude.{if◌then◌else◌, ◌==◌}
 use Rattle.std.proofs.lemmas.List.{length-append}
 use Rattle.lex.specs.declared.token.Scalar.{Scalar}
-use Rattle.syntax.specs.declared.tree.BinaryOp.{BinaryOp}
 use Rattle.syntax.specs.Tree.{Program}
-use Rattle.syntax.specs.Names.{GlobalCells, cells}
+use Rattle.syntax.specs.Names.{cells}
 use Rattle.bytecode.specs.declared.instr.Instr.{Instr}
 use Rattle.bytecode.specs.declared.instr.Instr.TheVariants as own
 use Rattle.bytecode.specs.Code.{Code, Instr as Plain}
 use Rattle.bytecode.specs.Views.{instr_of}
-use Rattle.lowered.specs.Expressions.{Coded, At, MayTake, GivenBy, BinaryCode}
+use Rattle.lowered.specs.Expressions.{Coded, At, MayTake}
 use Rattle.lowered.specs.Statements.{Target, LocalAt, CellAt, ElementOf, home_of, Spares, FetchCode, StoreCode}
 use Rattle.lower.specs.declared.held.Target.{Target as OwnTarget}
 use Rattle.lower.specs.declared.held.Target.TheVariants as target
-use Rattle.lower.specs.inner.Lists.{Lists, used}
-use Rattle.lower.specs.inner.Expressions.{Emitted, above}
+use Rattle.lower.specs.inner.Lists.{Lists}
+use Rattle.lower.specs.inner.Expressions.{Emitted}
 use Rattle.lower.specs.inner.Simples.{Written, nothing_written, above_target, fetched, home_or, one_written, stored, and_then, evaluated, then_stored}
 use Rattle.lower.proofs.stands.Standing.{Stand, front, behind, Grows, grows_same, grows_further, Fits, fits_before}
 use Rattle.lower.proofs.stands.Emitting.{above_free, above_it, Emits, one_emits, in_local_emits}

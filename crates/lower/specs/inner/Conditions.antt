@@ -1,6 +1,6 @@
 -- The instructions that are picked for a condition: a value and a jump, for which `!` and comparisons with 0 only say when it
 -- is taken.
-use Rattle.std.specs.Prelude.{ℕ, zero, List, ◌+◌, Bool, true, false, not, if◌then◌else◌, Option, Some, None}
+use Rattle.std.specs.Prelude.{ℕ, zero, List, Bool, true, false, not, if◌then◌else◌, Option, Some, None}
 use Rattle.syntax.specs.declared.tree.UnaryOp.TheVariants.{Keep, Not}
 use Rattle.syntax.specs.declared.tree.BinaryOp.{BinaryOp}
 use Rattle.syntax.specs.declared.tree.BinaryOp.TheVariants.{Equal, NotEqual}

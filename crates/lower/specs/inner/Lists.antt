@@ -1,5 +1,5 @@
 -- The lists of a code as it is made, but that of its instructions.
-use Rattle.std.specs.Prelude.{Vec, ℕ, suc, List, max}
+use Rattle.std.specs.Prelude.{ℕ, suc, List, max}
 use Rattle.lower.specs.declared.lists.Lists.{Lists as OwnLists}
 
 -- the arguments of its calls, its texts, and the number of registers that its function needs as far as it is made

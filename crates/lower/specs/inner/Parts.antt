@@ -1,6 +1,6 @@
 -- Why no code is made of a definition, of an item and of a program in which no transaction lies too deep.
 use Rattle.std.specs.Prelude.{◌≡◌, ◌<◌, ℕ, List, Contains}
-use Rattle.syntax.specs.Tree.{Function, Item, Defines, Shares, Program}
+use Rattle.syntax.specs.Tree.{Function, Item, Defines, Program}
 use Rattle.bytecode.specs.Code.{FunctionCode}
 use Rattle.lower.specs.declared.fault.LowerFault.{LowerFault}
 use Rattle.lower.specs.declared.fault.LowerFault.TheVariants.{OutOfMemory, TooManyRegisters, TooMuchCode, NestedTooDeep}

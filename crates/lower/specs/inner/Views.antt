@@ -1,5 +1,5 @@
 -- What values of the program's own types hold.
-use Rattle.std.specs.Prelude.{Vec, map}
+use Rattle.std.specs.Prelude.{map}
 use Rattle.syntax.specs.Tree.{Program}
 use Rattle.syntax.specs.Views.{program_of}
 use Rattle.syntax.specs.Names as Source

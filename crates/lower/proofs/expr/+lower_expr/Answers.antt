@@ -1,12 +1,10 @@
-use Rattle.std.proofs.Common.{◌≡◌, ℕ, ◌∷◌, [], ◌++◌, ◌+◌, ap, sym, subst, ◌∙◌, arith, OnOk, IfOk, Result, Ok, Err, IfErr, refl, option_map, map, length}
-use Rattle.lex.specs.declared.token.Scalar.TheVariants.{Int}
+use Rattle.std.proofs.Common.{◌≡◌, ℕ, ◌∷◌, [], ◌++◌, ◌+◌, ap, sym, subst, ◌∙◌, arith, OnOk, IfOk, Result, Ok, Err, IfErr, refl}
 use Rattle.syntax.specs.declared.tree.UnaryOp.TheVariants.{Negate, Not, Complement}
 use Rattle.syntax.specs.Numbers.{common, operand_type}
-use Rattle.syntax.specs.Views.{expr_of, exprs_of, parameter_of}
+use Rattle.syntax.specs.Views.{expr_of, exprs_of}
 use Rattle.bytecode.specs.declared.instr.Instr.TheVariants as own
-use Rattle.lowered.specs.Expressions.{arranged}
 use Rattle.lower.specs.inner.Names.{callee_of}
-use Rattle.lower.specs.inner.Expressions.{Emitted, AllEmitted, above, negating, computing, short_jump, long_answer, short_answer, called, element, emitted, all_emitted}
+use Rattle.lower.specs.inner.Expressions.{Emitted, above, negating, computing, short_jump, long_answer, short_answer, called, element, emitted, all_emitted}
 use Rattle.syntax.specs.Names.{global_of, cells}
 use Rattle.lower.specs.inner.Tables.{callee_in, shared_in}
 use Rattle.lower.proofs.Arms.{tail_is, tails_are, jumped_over, parts_are, chosen_code, chosen_lists, chosen_held, called_code, called_lists, called_held, call_is, element_is, unary_is, binary_is, logical_is, conditional_is}

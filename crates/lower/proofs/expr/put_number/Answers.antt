@@ -1,6 +1,4 @@
-use Rattle.std.proofs.Common.{◌≡◌, subst, sym, arith, OnOk, IfOk, ◌++◌}
-use Rattle.std.specs.Prelude.{pos, ◌^◌, ◌<◌}
-use Rattle.syntax.specs.Numbers.{word_of}
+use Rattle.std.proofs.Common.{◌≡◌, subst, sym, arith, OnOk, ◌++◌}
 use Rattle.syntax.proofs.Words.{word_of_word}
 use Rattle.lower.specs.inner.Lists.{lists_of}
 use Rattle.lower.specs.inner.Expressions.{constant}

@@ -1,4 +1,4 @@
-use Rattle.std.proofs.Common.{◌≡◌, ◌++◌, ap, sym, subst, ◌∙◌, arith, OnOk, IfOk, drop, get_or, refl}
+use Rattle.std.proofs.Common.{◌≡◌, ◌++◌, ap, sym, subst, ◌∙◌, arith, OnOk, IfOk, get_or, refl}
 use Rattle.syntax.specs.Formats.{pieces}
 use Rattle.lower.specs.inner.Lists.{lists_of}
 use Rattle.lower.specs.inner.Simples.{Written}

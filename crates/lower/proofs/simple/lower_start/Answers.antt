@@ -1,4 +1,4 @@
-use Rattle.std.proofs.Common.{◌≡◌, ap, sym, subst, ◌∙◌, IfOk, IfErr, map}
+use Rattle.std.proofs.Common.{◌≡◌, ap, sym, subst, IfOk, IfErr, map}
 use Rattle.syntax.specs.Views.{declarator_of, start_of}
 use Rattle.lower.specs.inner.Limits.{NeedsMore}
 use Rattle.lower.specs.inner.Lists.{lists_of}

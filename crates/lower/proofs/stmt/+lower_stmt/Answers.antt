@@ -1,4 +1,4 @@
-use Rattle.std.proofs.Common.{◌≡◌, ◌++◌, ap, sym, subst, refl, ◌∙◌, arith, OnOk, IfOk, IfErr, Result, Ok, Err, None, Some, option_map, map}
+use Rattle.std.proofs.Common.{◌≡◌, ◌++◌, ap, sym, subst, ◌∙◌, arith, OnOk, IfOk, IfErr, Result, Ok, Err, option_map}
 use denote.Param.Weighed.{most, at_most}
 use Rattle.syntax.specs.declared.tree.Stmt.{the_lemmas}
 use Rattle.syntax.specs.declared.tree.Stmt.TheVariants as own_stmt
