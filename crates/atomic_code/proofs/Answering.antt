@@ -1,19 +1,18 @@
 -- What each function of a kept thread leaves is what the instruction comes to.
-use Rattle.std.proofs.Common.{◌≡◌, ◌<◌, ◌^◌, ℕ, Bool, true, false, List, [], ◌∷◌, ◌++◌, Option, None, Some, refl, sym, ◌∙◌, ap, subst, length, slice_index}
-use Rattle.std.specs.Prelude.{Vec, slice_set, is_some}
+use Rattle.std.proofs.Common.{◌≡◌, ◌<◌, ℕ, Bool, true, false, List, [], ◌∷◌, ◌++◌, Option, None, Some, refl, sym, ◌∙◌, ap, subst, length, slice_index}
+use Rattle.std.specs.Prelude.{Vec, slice_set}
 use Rattle.syntax.specs.declared.numbers.Trap.{Trap}
 use Rattle.syntax.specs.declared.numbers.Status.{Status}
 use Rattle.syntax.specs.declared.numbers.Status.TheVariants.{Running, Ended as HasEnded, Trapped as HasTrapped}
 use Rattle.syntax.specs.Behaviours.{Memory, IsMemory}
 use Rattle.nesting.specs.Begins.{Saved}
-use Rattle.bytecode.specs.Effects.{Effect, FitsCells}
 use Rattle.bytecode.specs.Effects.Effect.{Pure, Print, Begin, Read, Write, Commit, Cancel, Irrevocable, Traps, End as Ends}
 use Rattle.bytecode.specs.Code.{Code, Configuration, effect}
 use Rattle.bytecode.specs.Sequential.{OpenTransaction, InnerTransaction}
 use Rattle.bytecode.specs.Valid.{IsValid, bounds_of}
 use Rattle.bytecode.proofs.Fits.{fits_cells}
 use Rattle.frames.proofs.Keeping.{begins_stay_open}
-use Rattle.frames.specs.Open.{BeginsStayOpen, CanRestore, IsConfigurationOf, MayStand, restored, saved_in}
+use Rattle.frames.specs.Open.{CanRestore, IsConfigurationOf, MayStand, restored, saved_in}
 use Rattle.atomic_code.specs.declared.kept.Step.{Step}
 use Rattle.atomic_code.specs.declared.kept.Step.TheVariants.{Goes, Leaves, Wants}
 use Rattle.atomic_code.specs.Kept.{Kept, AreMemories, Runs, begins_of, cancelled_from}

@@ -1,7 +1,6 @@
 -- What each instruction of a thread comes to.
-use Rattle.std.proofs.Common.{◌≡◌, ◌≢◌, ◌<◌, ◌^◌, ◌-◌, ℕ, zero, suc, Bool, true, false, List, [], ◌∷◌, ◌++◌, Option, None, Some, refl, sym, ◌∙◌, ap, subst, map, length, drop, arith}
+use Rattle.std.proofs.Common.{◌≡◌, ◌-◌, ℕ, suc, true, false, List, [], ◌∷◌, ◌++◌, Option, None, Some, refl, sym, ◌∙◌, ap, subst, map, length, drop, arith}
 use Rattle.std.specs.Prelude.{slice_index, slice_set}
-use Rattle.std.specs.List.{AllByRecursion}
 use Rattle.syntax.specs.declared.numbers.Trap.{Trap}
 use Rattle.syntax.specs.declared.numbers.Status.{Status}
 use Rattle.syntax.specs.declared.numbers.Status.TheVariants.{Running, Ended as HasEnded, Trapped as HasTrapped}
@@ -10,7 +9,7 @@ use Rattle.nesting.specs.Begins.{Saved}
 use Rattle.bytecode.specs.Effects.{Effect, FitsCells, after_cancel}
 use Rattle.bytecode.specs.Effects.Effect.{Pure, Print, Begin, Read, Write, Commit, Cancel, Irrevocable, Traps, End as Ends}
 use Rattle.bytecode.specs.Code.{Code, Configuration, effect}
-use Rattle.bytecode.specs.Sequential.{Sequential, OpenTransaction, InnerTransaction, next, sequential_step, found_next, cancel_step, commit_step, print_step}
+use Rattle.bytecode.specs.Sequential.{Sequential, OpenTransaction, InnerTransaction, next, sequential_step, found_next, cancel_step, print_step}
 use Rattle.bytecode.specs.Valid.{IsValid, bounds_of, cells_of}
 use Rattle.bytecode.proofs.Fits.{fits_cells}
 use Rattle.frames.proofs.Keeping.{begins_stay_open}
@@ -18,9 +17,9 @@ use Rattle.frames.specs.Open.{BeginsStayOpen, MayStand, AreRestored, GoesOn, res
 use Rattle.atomic_code.specs.declared.kept.Step.{Step}
 use Rattle.atomic_code.specs.declared.kept.Step.TheVariants.{Goes, Leaves, Wants}
 use Rattle.std.specs.Prelude.{Vec}
-use Rattle.atomic_code.specs.Kept.{Kept, meant, cancelled_from, inner_by, transaction_by, open_by, begins_of, AreMemories, HasMemories, Runs, IsStanding}
+use Rattle.atomic_code.specs.Kept.{Kept, cancelled_from, inner_by, transaction_by, open_by, begins_of, AreMemories, HasMemories, Runs}
 use Rattle.atomic_code.specs.Carried.{finding, to_find}
-use Rattle.atomic_code.specs.inner.Making.{Makes, after_step, HasLeft, with_memory, made_irrevocable, begun_in, MayPrint}
+use Rattle.atomic_code.specs.inner.Making.{Makes, with_memory, made_irrevocable, begun_in, MayPrint}
 use Rattle.atomic_code.proofs.Memories.{written, word_at}
 use Rattle.atomic_code.proofs.Moves.{shown_there}
 

@@ -1,5 +1,5 @@
 -- Memories of a code: their lengths, their words, and what a write leaves.
-use Rattle.std.proofs.Common.{◌≡◌, ◌∙◌, ◌<◌, ◌^◌, ℕ, zero, suc, List, [], ◌∷◌, ap, length, set, refl, slice_index, arith}
+use Rattle.std.proofs.Common.{◌≡◌, ◌∙◌, ◌<◌, ◌^◌, ℕ, zero, suc, List, [], ◌∷◌, ap, length, refl, slice_index, arith}
 use Rattle.std.specs.Prelude.{slice_set, replicate, EachIndex}
 use Rattle.std.proofs.lemmas.List.{length-replicate}
 use Rattle.syntax.specs.Behaviours.{IsMemory}

@@ -1,5 +1,5 @@
 -- Threads of a code, at their beginning and later.
-use Rattle.std.proofs.Common.{◌≡◌, ◌+◌, ◌<◌, ◌≤◌, ◌^◌, ℕ, List, [], Option, None, Some, refl, sym, ap, subst, arith}
+use Rattle.std.proofs.Common.{◌≡◌, ◌+◌, ◌<◌, ◌^◌, ℕ, List, [], Option, None, Some, refl, sym, subst, arith}
 use Rattle.std.specs.Prelude.{Vec}
 use Rattle.syntax.specs.declared.numbers.Status.{Status}
 use Rattle.syntax.specs.declared.numbers.Status.TheVariants.{Running, Ended as HasEnded, Trapped as HasTrapped}
@@ -9,7 +9,6 @@ use Rattle.bytecode.specs.Beginning.{beginning}
 use Rattle.bytecode.specs.Valid.{IsValid}
 use Rattle.frames.specs.Open.{MayStand}
 use Rattle.frames.proofs.Keeping.{begins_stay_open}
-use Rattle.atomic_code.specs.declared.kept.Step.{Step}
 use Rattle.atomic_code.specs.declared.kept.Step.TheVariants.{Goes, Leaves, Wants}
 use Rattle.atomic_code.specs.Kept.{Kept, ThreadState, Runs, IsStanding, IsThreadOf}
 use Rattle.atomic_code.specs.declared.ran.Ran.{Ran}

@@ -1,22 +1,18 @@
 -- A whole thread, from transaction to transaction.
-use Rattle.std.proofs.Common.{◌≡◌, ◌+◌, ◌-◌, ◌<◌, ◌≤◌, ◌^◌, ℕ, zero, suc, Bool, true, false, List, [], ◌∷◌, ◌++◌, Option, None, Some, refl, sym, ◌∙◌, ap, subst, length, map, drop, arith, append_assoc}
+use Rattle.std.proofs.Common.{◌≡◌, ◌+◌, ◌-◌, ◌<◌, ◌≤◌, ℕ, zero, suc, true, false, List, [], ◌∷◌, ◌++◌, Option, None, refl, sym, ◌∙◌, ap, subst, length, drop, arith}
 use Rattle.std.specs.Prelude.{Vec, slice_get}
 use Rattle.std.specs.List.{AllByRecursion}
 use Rattle.std.proofs.lemmas.List.{append-nil, length-append}
-use Rattle.syntax.specs.declared.numbers.Status.{Status}
-use Rattle.syntax.specs.declared.numbers.Status.TheVariants.{Running, Ended as HasEnded, Trapped as HasTrapped}
-use Rattle.syntax.specs.Behaviours.{Memory, IsMemory, Outcome}
+use Rattle.syntax.specs.declared.numbers.Status.TheVariants.{Running}
+use Rattle.syntax.specs.Behaviours.{Memory, IsMemory}
 use Rattle.nesting.specs.Begins.{Saved}
 use Rattle.bytecode.specs.Code.{Code, Configuration, effect}
 use Rattle.bytecode.specs.Beginning.{beginning}
-use Rattle.bytecode.specs.Sequential.{Sequential, OpenTransaction, next, steps, start, outcome_of, end_of}
-use Rattle.bytecode.specs.Valid.{IsValid, bounds_of}
-use Rattle.frames.specs.Open.{MayStand}
-use Rattle.frames.proofs.Keeping.{begins_stay_open}
+use Rattle.bytecode.specs.Sequential.{Sequential, next, steps, start, outcome_of, end_of}
 use Rattle.atomic_code.specs.declared.kept.Step.{Step}
 use Rattle.atomic_code.specs.declared.kept.Step.TheVariants.{Goes, Leaves, Wants}
 use Rattle.atomic_code.specs.Kept.{Kept, Runs, IsStanding, meant}
-use Rattle.atomic_code.specs.Carried.{IsGoing, finding, to_find}
+use Rattle.atomic_code.specs.Carried.{finding, to_find}
 use Rattle.atomic_code.specs.inner.Making.{HasMemoryAtHand, after_step}
 use Rattle.atomic_code.specs.inner.Carrying.{ComesTo}
 use Rattle.atomic_code.specs.inner.Standing.{HasComeTo}

@@ -2,7 +2,7 @@ use Rattle.std.proofs.Common.{refl, ap, subst, Some}
 use Rattle.bytecode.specs.Valid.{bounds_of}
 use Rattle.atomic_code.specs.inner.Making.{HasMemoryAtHand}
 use Rattle.atomic_code.proofs.Answering.{begins_outside, at_some}
-use Rattle.atomic_code.specs.inner.Making.{kept, transaction_of}
+use Rattle.atomic_code.specs.inner.Making.{kept}
 use Rattle.atomic_code.proofs.kept.KeptThread.begin_outermost.Goals as goal
 
 pub returns-in_ok-outermost-in-Some-clause-ok : goal.returns-in_ok-outermost-in-Some-clause-ok

@@ -1,7 +1,7 @@
 use Rattle.std.proofs.Common.{refl, ◌∙◌, ap, sym}
 use Rattle.bytecode.specs.Code.{effect}
 use Rattle.atomic_code.proofs.Answering.{goes_pure}
-use Rattle.atomic_code.specs.inner.Making.{kept, transaction_of}
+use Rattle.atomic_code.specs.inner.Making.{kept}
 use Rattle.atomic_code.proofs.kept.KeptThread.call.Goals as goal
 
 pub returns-clause-ok : goal.returns-clause-ok

@@ -3,7 +3,7 @@ use Rattle.bytecode.specs.Code.{onward}
 use Rattle.frames.specs.Told.{piece_of}
 use Rattle.atomic_code.specs.inner.Making.{MayPrint}
 use Rattle.atomic_code.proofs.Answering.{goes_printing}
-use Rattle.atomic_code.specs.inner.Making.{kept, transaction_of}
+use Rattle.atomic_code.specs.inner.Making.{kept}
 use Rattle.atomic_code.proofs.kept.KeptThread.print.Goals as goal
 
 pub returns-clause-ok : goal.returns-clause-ok

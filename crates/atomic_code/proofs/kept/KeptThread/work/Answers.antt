@@ -1,6 +1,6 @@
 use Rattle.std.proofs.Common.{refl}
 use Rattle.atomic_code.proofs.Answering.{goes_pure}
-use Rattle.atomic_code.specs.inner.Making.{kept, transaction_of}
+use Rattle.atomic_code.specs.inner.Making.{kept}
 use Rattle.atomic_code.proofs.kept.KeptThread.work.Goals as goal
 
 pub returns : goal.returns
