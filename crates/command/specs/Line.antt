@@ -39,8 +39,13 @@ file_app name = with_rule (with_rule (new_app name) file_rule) verbose_rule
 abbrev pub check_app : App
 check_app = file_app (codes "check")
 
+abbrev pub listing_app : App
+listing_app = file_app (codes "listing")
+
 abbrev pub run_app : App
-run_app = file_app (codes "run")
+run_app =
+    let threads = with_rule (file_app (codes "run")) (number_rule (codes "threads")) in
+    with_rule threads (number_rule (codes "budget"))
 
 abbrev pub source_app : App
 source_app =
@@ -58,5 +63,6 @@ commandless_app =
 
 abbrev pub program_app : App
 program_app =
-    let files = with_subcommand (with_subcommand commandless_app check_app.top) run_app.top in
-    with_subcommand (with_subcommand files source_app.top) explain_app.top
+    let lists = with_subcommand (with_subcommand commandless_app check_app.top) listing_app.top in
+    let runs = with_subcommand (with_subcommand lists run_app.top) source_app.top in
+    with_subcommand runs explain_app.top

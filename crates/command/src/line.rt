@@ -1,9 +1,9 @@
 //! The commands of the program, and what each takes.
 
-ghost use Rattle.std.specs.Prelude.{◌≡◌, IfOk, false};
+ghost use Rattle.std.specs.Prelude.{◌≡◌, IfOk, codes, false};
 ghost use Rattle.clap.specs.Words.{app_of, rule_of};
 ghost use Rattle.clap.specs.declared.builder.command.Command.TheViews.{out-Command as fields_of};
-ghost use Rattle.command.specs.Line.{file_rule, verbose_rule, fault_rule, number_rule, order_rule, file_app, source_app, explain_app, commandless_app, program_app};
+ghost use Rattle.command.specs.Line.{file_rule, verbose_rule, fault_rule, number_rule, order_rule, file_app, run_app, source_app, explain_app, commandless_app, program_app};
 
 use clap::{Arg, ArgAction, Command, value_parser};
 use std::alloc::{AllocError, Global};
@@ -76,17 +76,45 @@ fn of_file<'a>(
         .arg(verbose(alloc))
 }
 
+/// The number of threads.
+fn threads<'a>(alloc: Global) -> Arg<'a>
+    ensures rule { rule_of result ≡ number_rule (codes "threads") }
+    ensures global { result.global ≡ false }
+{
+    number(
+        alloc,
+        "threads",
+        "T",
+        "How many threads there are: 1 to 64, and 1 if not given",
+    )
+}
+
+/// The command that runs all threads at once.
+fn run<'a>(alloc: Global) -> Result<Command<'a>, AllocError>
+    ensures app { IfOk result (λ c. app_of c ≡ run_app) }
+    ensures globals { IfOk result (λ c. (fields_of c).has_globals ≡ false) }
+{
+    let budget = number(
+        alloc,
+        "budget",
+        "B",
+        "How many steps each thread makes at most: 0 to 4294967295, and that if not given",
+    );
+    of_file(
+        alloc,
+        "run",
+        "Runs all threads of a program at once, and prints their ends, their output and the globals",
+        "Example:\n  txc run bank.c --threads 4",
+    )?
+    .arg(threads(alloc))?
+    .arg(budget)
+}
+
 /// The command that runs the source in an order of threads.
 fn source<'a>(alloc: Global) -> Result<Command<'a>, AllocError>
     ensures app { IfOk result (λ c. app_of c ≡ source_app) }
     ensures globals { IfOk result (λ c. (fields_of c).has_globals ≡ false) }
 {
-    let threads = number(
-        alloc,
-        "threads",
-        "T",
-        "How many threads there are: 1 to 64, and 1 if not given",
-    );
     let ticks = number(
         alloc,
         "ticks",
@@ -99,7 +127,7 @@ fn source<'a>(alloc: Global) -> Result<Command<'a>, AllocError>
         "Runs the source itself, transaction by transaction, in the order of threads that is given",
         "Example:\n  txc source first.c --threads 2 --order 0,1",
     )?
-    .arg(threads)?
+    .arg(threads(alloc))?
     .arg(order(alloc))?
     .arg(ticks)
 }
@@ -148,16 +176,18 @@ pub fn program<'a>(alloc: Global) -> Result<Command<'a>, AllocError>
         "Says whether a program is accepted",
         "Example:\n  txc check first.c",
     )?;
-    let run = of_file(
+    let listing = of_file(
         alloc,
-        "run",
-        "Runs a program with one thread, and prints its end, its output and its globals",
-        "Example:\n  txc run first.c",
+        "listing",
+        "Prints the register code of a program",
+        "Example:\n  txc listing first.c",
     )?;
+    let run = run(alloc)?;
     let source = source(alloc)?;
     let explain = explain(alloc)?;
     commandless(alloc)
         .subcommand(check)?
+        .subcommand(listing)?
         .subcommand(run)?
         .subcommand(source)?
         .subcommand(explain)

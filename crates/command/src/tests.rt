@@ -9,6 +9,30 @@ fn reads_words(rt: HostRuntime) -> Result<(), Fail> {
     assert!(rt;
         matches!(&run, Request::Program { file, verbose: false, task: Task::Run { threads: 1, budget: 4294967295 } } if file.as_str() == "a.c")
     );
+    let words = ["txc", "run", "--threads", "64", "--budget=0", "a.c"];
+    let run = command(rt.alloc(), words.as_slice())?;
+    assert!(rt;
+        matches!(
+            &run,
+            Request::Program {
+                task: Task::Run {
+                    threads: 64,
+                    budget: 0
+                },
+                ..
+            }
+        )
+    );
+    let listing = command(rt.alloc(), ["txc", "listing", "a.c"].as_slice())?;
+    assert!(rt;
+        matches!(
+            &listing,
+            Request::Program {
+                task: Task::Listing,
+                ..
+            }
+        )
+    );
     let check = command(rt.alloc(), ["txc", "check", "--verbose", "b.c"].as_slice())?;
     assert!(rt;
         matches!(&check, Request::Program { file, verbose: true, task: Task::Check } if file.as_str() == "b.c")
@@ -101,7 +125,9 @@ fn refuses_words(rt: HostRuntime) -> Result<(), Fail> {
     let none = command(rt.alloc(), ["txc"].as_slice());
     assert!(rt; matches!(&none, Err(UsageFault::Wrong { .. })));
     for words in [
-        ["txc", "run", "--threads=2", "a.c"],
+        ["txc", "run", "--threads=65", "a.c"],
+        ["txc", "run", "--budget=-1", "a.c"],
+        ["txc", "listing", "--threads=2", "a.c"],
         ["txc", "run", "a.c", "b.c"],
         ["txc", "source", "a.c", "--threads=2"],
         ["txc", "source", "--order=0", "--verbose"],

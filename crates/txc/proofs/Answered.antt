@@ -1,5 +1,5 @@
 -- What is answered to a request.
-use Rattle.std.proofs.Common.{◌≡◌, ◌≢◌, ℕ, List, Option, Some, None, subst, inl, inr}
+use Rattle.std.proofs.Common.{◌≡◌, ◌≢◌, ◌⊎◌, ℕ, List, Option, Some, None, refl, subst, inl, inr}
 use Rattle.std.specs.Prelude.{IfSome}
 use Rattle.command.specs.declared.request.Task.{Task}
 use Rattle.command.specs.declared.request.Task.TheVariants.{Check, Listing, Run, Replay, Source}
@@ -10,7 +10,7 @@ pub nothing_said : (task : Task) (text : List ℕ) (status : ℕ) (old new : Opt
 nothing_said Check text status old new zero three = λ ended. absurd (zero ended)
 nothing_said (Run threads budget) text status old new zero three = λ told. elim told [ inl e ↦ absurd (zero e) | inr e ↦ absurd (three e) ]
 nothing_said (Source threads order ticks) text status old new zero three = λ told. elim told [ inl e ↦ absurd (zero e) | inr e ↦ absurd (three e) ]
-nothing_said Listing text status old new zero three = tt
+nothing_said Listing text status old new zero three = λ ended. absurd (zero ended)
 nothing_said (Replay threads steps) text status old new zero three = tt
 
 -- so of bytes that are known

@@ -8,8 +8,7 @@ use Rattle.lex.specs.Tokens.{Tok}
 use Rattle.lex.specs.Pieces.{IsLexed}
 use Rattle.lex.specs.Faults.{IsFault}
 use Rattle.syntax.specs.Tree.{Program}
-use Rattle.syntax.specs.Behaviours.{Memory, ThreadEnd}
-use Rattle.syntax.specs.Names.{initial_memory}
+use Rattle.syntax.specs.Names.{initial_memory, globals}
 use Rattle.syntax.specs.Orders.{in_order}
 use Rattle.syntax.specs.Threads.{thread}
 use Rattle.syntax.specs.Grammar.{Source, Spells}
@@ -22,37 +21,36 @@ use Rattle.safety.specs.Answers as safety
 use Rattle.separation.specs.declared.fault.Violation.{Violation as SeparationViolation}
 use Rattle.separation.specs.Touching.{IsAccepted, IsSeparationFault}
 use Rattle.separation.specs.Answers as separation
-use Rattle.parse.specs.Faults.{IsFaultOf}
-use Rattle.meaning.specs.Alone.{IsAlone}
+use Rattle.parse.specs.Faults.{IsFaultOf as IsParseFault}
+use Rattle.meaning.specs.declared.outcome.MeaningFault.{MeaningFault}
 use Rattle.meaning.specs.InOrder.{NamesThreads, IsFaultOfOrder}
 use Rattle.std.specs.Io.KnownBytes.{Appends}
 use Rattle.txc.specs.declared.run.SourceFault.{SourceFault}
-use Rattle.txc.specs.declared.run.SourceFault.TheVariants.{OutOfMemory, Lex, Parse, IllTyped, Unsafe, NotSeparate}
+use Rattle.txc.specs.declared.run.SourceFault.TheVariants.{OutOfMemory, Lex, Parse, IllTyped, Unsafe, NotSeparate, NoCode}
+use Rattle.std.specs.Global.{Global}
+use Rattle.bytecode.specs.Code.{Code}
+use Rattle.bytecode.specs.Listing.{listing}
+use Rattle.lowered.specs.Laws.{MeansItsProgram}
+use Rattle.lower.specs.Faults.{IsFaultOf}
+use Rattle.lower.specs.declared.fault.LowerFault.{LowerFault}
+use Rattle.lower.specs.declared.fault.LowerFault.TheVariants as no_code
+use Rattle.workers.specs.Driving.{Ran, IsRunRefused}
+use Rattle.workers.specs.declared.run.RunReport.{RunReport}
 use Rattle.report.specs.Printed.{ThreadShown, Printed}
 use Rattle.report.specs.declared.printed.End.{End}
 use Rattle.report.specs.declared.printed.End.TheVariants as end
 use Rattle.report.specs.Report.{report_text}
 use Rattle.txc.specs.declared.order.OrderFault.{OrderFault}
 use Rattle.txc.specs.declared.order.OrderFault.TheVariants.{Source as OfSource, Order as OfOrder}
-use Rattle.txc.specs.Shows.{run_shown, order_shown}
+use Rattle.txc.specs.declared.concurrent.ThreadsFault.{ThreadsFault}
+use Rattle.txc.specs.declared.concurrent.ThreadsFault.TheVariants as of_threads
+use Rattle.txc.specs.Shows.{order_shown, at_once_shown}
 
 -- the tokens of a text spell this program
 pub record IsSourceOf (text : List ℕ) (source : Source) : Type 0 where
   pub tokens : List Tok
   pub lexed : IsLexed text tokens
   pub spelled : Spells source tokens
-
--- the most turns and ticks of a run
-abbrev pub most : ℕ
-most = 2 ^ 64 - 1
-
--- what a report shows of thread 0 alone, in which each transaction finds the memory that was left before it
-pub record IsRunOf (p : Program) (shown : Printed) : Type 0 where
-  pub memory : Memory
-  pub text : List ℕ
-  pub end : ThreadEnd
-  pub alone : IsAlone p most most memory text end
-  pub shows : shown ≡ run_shown p memory text end
 
 -- what a report shows of so many threads in an order, each with so many ticks
 pub record IsOrderOf (p : Program) (count ticks : ℕ) (order : List ℕ) (shown : Printed) : Type 0 where
@@ -65,19 +63,43 @@ pub record Accepts (text : List ℕ) : Type 0 where
   pub spelled : IsSourceOf text source
   pub accepted : ∥ IsAccepted source.program ∥₁
 
--- the text spells an accepted program, and this is what the report of its run shows
-pub record Runs (text : List ℕ) (shown : Printed) : Type 0 where
-  pub source : Source
-  pub spelled : IsSourceOf text source
-  pub accepted : ∥ IsAccepted source.program ∥₁
-  pub run : IsRunOf source.program shown
-
 -- the text spells an accepted program, and this is what the report of its threads in this order shows
 pub record RunsInOrder (count ticks : ℕ) (order text : List ℕ) (shown : Printed) : Type 0 where
   pub source : Source
   pub spelled : IsSourceOf text source
   pub accepted : ∥ IsAccepted source.program ∥₁
   pub run : IsOrderOf source.program count ticks order shown
+
+-- this code means a program, and has its globals
+pub record IsCodeOf (p : Program) (code : Code) : Type 0 where
+  pub means : MeansItsProgram p code
+  pub globals : code.globals ≡ globals p
+
+-- the text spells an accepted program, and this is code of it
+pub record Compiles (text : List ℕ) (code : Code) : Type 0 where
+  pub source : Source
+  pub spelled : IsSourceOf text source
+  pub accepted : ∥ IsAccepted source.program ∥₁
+  pub compiled : IsCodeOf source.program code
+
+-- a listing of such code
+pub record Lists (text listed : List ℕ) : Type 0 where
+  pub code : Code
+  pub compiled : Compiles text code
+  pub lists : listed ≡ listing code
+
+-- what a report shows of so many threads of this code at once, each with so many steps at most: their run is one of the
+-- program, and each thread stands in it
+pub record IsRunAtOnce (p : Program) (code : Code) (threads budget : ℕ) (shown : Printed) : Type 0 where
+  pub report : RunReport Global
+  pub ran : Ran (thread p) (record { code = code; threads = threads }) budget report
+  pub shows : shown ≡ at_once_shown p threads report
+
+-- the text spells an accepted program, and this is what the report of a run of its threads shows
+pub record RunsAtOnce (threads budget : ℕ) (text : List ℕ) (shown : Printed) : Type 0 where
+  pub code : Code
+  pub compiled : Compiles text code
+  pub run : IsRunAtOnce compiled.source.program code threads budget shown
 
 -- the tokens of a text are wrong in this way
 pub record IsMisspelled (text : List ℕ) (says : List Tok → Type 0) : Type 0 where
@@ -103,19 +125,44 @@ pub record IsNotSeparate (text : List ℕ) (fault : SeparationViolation) : Type 
   pub spelled : IsSourceOf text source
   pub first : IsSeparationFault (separation.number_in fault) (separation.span_in fault) source.program
 
+-- no code is made of the accepted program that a text spells
+pub record IsUncoded (text : List ℕ) (fault : LowerFault) : Type 0 where
+  pub source : Source
+  pub spelled : IsSourceOf text source
+  pub accepted : ∥ IsAccepted source.program ∥₁
+  pub because : IsFaultOf source.program fault
+
 -- what a fault says of a text; want of memory says nothing
 abbrev pub IsFaultOfText : List ℕ → SourceFault → Type 0
 IsFaultOfText text OutOfMemory = Unit {0}
 IsFaultOfText text (Lex fault) = IsFault text fault
-IsFaultOfText text (Parse fault) = IsMisspelled text (λ tokens. IsFaultOf tokens fault)
+IsFaultOfText text (Parse fault) = IsMisspelled text (λ tokens. IsParseFault tokens fault)
 IsFaultOfText text (IllTyped fault) = IsMistyped text fault
 IsFaultOfText text (Unsafe fault) = IsUnsafe text fault
 IsFaultOfText text (NotSeparate fault) = IsNotSeparate text fault
+IsFaultOfText text (NoCode fault) = IsUncoded text fault
 
 -- what a fault says of a text and of an order: the order is looked at last
 abbrev pub IsFaultInOrder : (text : List ℕ) (threads : ℕ) (order : List ℕ) → OrderFault → Type 0
 IsFaultInOrder text threads order (OfSource fault) = IsFaultOfText text fault
 IsFaultInOrder text threads order (OfOrder fault) = Accepts text × IsFaultOfOrder threads order fault
+
+-- what a fault says of a text and of a number of threads
+abbrev pub IsFaultAtOnce : (text : List ℕ) (threads : ℕ) → ThreadsFault → Type 0
+IsFaultAtOnce text threads (of_threads.Source fault) = IsFaultOfText text fault
+IsFaultAtOnce text threads (of_threads.Run fault) = IsRunRefused fault threads
+
+abbrev pub code_number : LowerFault → ℕ
+code_number no_code.OutOfMemory = 0
+code_number (no_code.TooManyRegisters at) = 60
+code_number (no_code.TooMuchCode at) = 61
+code_number (no_code.NestedTooDeep at) = 62
+
+abbrev pub code_span : LowerFault → Option Span
+code_span no_code.OutOfMemory = None
+code_span (no_code.TooManyRegisters at) = Some at
+code_span (no_code.TooMuchCode at) = Some at
+code_span (no_code.NestedTooDeep at) = Some at
 
 abbrev pub number_of_source : SourceFault → ℕ
 number_of_source OutOfMemory = 0
@@ -124,6 +171,7 @@ number_of_source (Parse fault) = parse.number_of fault
 number_of_source (IllTyped fault) = number_in fault
 number_of_source (Unsafe fault) = safety.number_in fault
 number_of_source (NotSeparate fault) = separation.number_in fault
+number_of_source (NoCode fault) = code_number fault
 
 abbrev pub span_of_source : SourceFault → Option Span
 span_of_source OutOfMemory = None
@@ -132,6 +180,7 @@ span_of_source (Parse fault) = parse.span_of fault
 span_of_source (IllTyped fault) = Some (span_in fault)
 span_of_source (Unsafe fault) = Some (safety.span_in fault)
 span_of_source (NotSeparate fault) = Some (separation.span_in fault)
+span_of_source (NoCode fault) = code_span fault
 
 -- a text has a fault that stands somewhere in it
 abbrev pub IsRefused : List ℕ → Type 0
@@ -162,3 +211,7 @@ Prints IsSo status old new = (status ≡ 0) ⊎ (status ≡ 3) → (shown : Prin
 -- the status 0 tells of a source that is accepted, and that this was written
 abbrev pub SaysAccepted : List ℕ → ℕ → Option (List ℕ) → Option (List ℕ) → Type 0
 SaysAccepted text status old new = status ≡ 0 → Accepts text × Appends old new (codes "accepted\n")
+
+-- the status 0 tells of a listing that was written
+abbrev pub PrintsListing : List ℕ → ℕ → Option (List ℕ) → Option (List ℕ) → Type 0
+PrintsListing text status old new = status ≡ 0 → (listed : List ℕ) × Lists text listed × Appends old new listed

@@ -51,7 +51,7 @@ const EXAMPLES: [(&str, &str); 10] = [
 fn examples_print_what_they_should(rt: HostRuntime) -> Result<(), Fail> {
     let request = command(rt.alloc(), ["txc", "run", "a.c"].as_slice())?;
     for (source, out) in EXAMPLES {
-        let answer = serve_bytes(rt.alloc(), &request, source.as_bytes());
+        let answer = serve_bytes(&rt, rt.alloc(), &request, source.as_bytes());
         assert_eq!(rt; answer.out.as_slice(), out.as_bytes());
         assert_eq!(rt; answer.err.len(), 0);
     }
@@ -142,7 +142,7 @@ fn transcripts_show_what_they_should(rt: HostRuntime) -> Result<(), Fail> {
             words.push(word)?;
         }
         let request = command(rt.alloc(), words.as_slice())?;
-        let mut answer = serve_told(rt.alloc(), &request, source.as_bytes(), true);
+        let mut answer = serve_told(&rt, rt.alloc(), &request, source.as_bytes(), true);
         answer.out.extend_from_slice(answer.err.as_slice())?;
         assert_eq!(rt; answer.out.as_slice(), shown.as_bytes());
     }

@@ -5,7 +5,9 @@ use crate::tests::{Served, serve_bytes, serve_told};
 use command::command;
 use faults::words;
 use std::alloc::{AllocError, Allocator, Global};
+use std::sync::Wait;
 use std::test::Fail;
+use std::thread::Threads;
 
 /// The faults that a program can show today.
 const TOLD: [(&str, u32, &str); 27] = [
@@ -107,7 +109,7 @@ const TOLD: [(&str, u32, &str); 27] = [
 ];
 
 /// Sources in pieces, each so many times: a fault that a program can show today.
-const LONG: [([(&str, usize); 5], u32, &str); 2] = [
+const LONG: [([(&str, usize); 5], u32, &str); 3] = [
     (
         [(" ", 1048577), ("", 0), ("", 0), ("", 0), ("", 0)],
         5,
@@ -124,20 +126,18 @@ const LONG: [([(&str, usize); 5], u32, &str); 2] = [
         11,
         "1:123: nested too deep",
     ),
+    (
+        [
+            ("void worker(int self) { ", 1),
+            ("__transaction_atomic { ", 17),
+            ("} ", 17),
+            ("}", 1),
+            ("", 0),
+        ],
+        62,
+        "1:393: transactions nested too deep",
+    ),
 ];
-
-/// The faults of sources that are not told yet: these programs run.
-const LONG_NOT_TOLD_YET: [([(&str, usize); 5], u32, &str); 1] = [(
-    [
-        ("void worker(int self) { ", 1),
-        ("__transaction_atomic { ", 17),
-        ("} ", 17),
-        ("}", 1),
-        ("", 0),
-    ],
-    62,
-    "1:393: transactions nested too deep",
-)];
 
 /// The text that pieces make.
 fn joined<A: Allocator + Copy>(
@@ -154,9 +154,9 @@ fn joined<A: Allocator + Copy>(
 }
 
 /// What `txc run` answers to a source.
-fn answer(alloc: Global, source: &[u8]) -> Result<Served<Global>, Fail> {
+fn answer<H: Threads + Wait + Sync>(rt: &H, alloc: Global, source: &[u8]) -> Result<Served, Fail> {
     let request = command(alloc, ["txc", "run", "a.c"].as_slice())?;
-    Ok(serve_bytes(alloc, &request, source))
+    Ok(serve_bytes(rt, alloc, &request, source))
 }
 
 /// The line that tells a fault.
@@ -167,7 +167,7 @@ fn line(alloc: Global, number: u32, told: &str) -> Result<String, Fail> {
 #[test]
 fn faults_are_told_with_place_and_words(rt: HostRuntime) -> Result<(), Fail> {
     for (source, number, told) in TOLD {
-        let answer = answer(rt.alloc(), source.as_bytes())?;
+        let answer = answer(&rt, rt.alloc(), source.as_bytes())?;
         let line = line(rt.alloc(), number, told)?;
         assert_eq!(rt; answer.err.as_slice(), line.as_str().as_bytes());
         assert_eq!(rt; answer.out.len(), 0);
@@ -175,21 +175,10 @@ fn faults_are_told_with_place_and_words(rt: HostRuntime) -> Result<(), Fail> {
     }
     for (pieces, number, told) in LONG {
         let source = joined(rt.alloc(), pieces.as_slice())?;
-        let answer = answer(rt.alloc(), source.as_str().as_bytes())?;
+        let answer = answer(&rt, rt.alloc(), source.as_str().as_bytes())?;
         let line = line(rt.alloc(), number, told)?;
         assert_eq!(rt; answer.err.as_slice(), line.as_str().as_bytes());
         assert_eq!(rt; answer.status, 1);
-    }
-    Ok(())
-}
-
-#[test]
-fn faults_that_are_not_told_yet(rt: HostRuntime) -> Result<(), Fail> {
-    for (pieces, number, told) in LONG_NOT_TOLD_YET {
-        let source = joined(rt.alloc(), pieces.as_slice())?;
-        let answer = answer(rt.alloc(), source.as_str().as_bytes())?;
-        assert_eq!(rt; answer.err.len(), 0);
-        assert!(rt; told.ends_with(words(number)));
     }
     Ok(())
 }
@@ -208,7 +197,7 @@ fn the_line_follows_on_a_terminal(rt: HostRuntime) -> Result<(), Fail> {
         (["txc", "run", "--verbose", "a.c"].as_slice(), false),
     ] {
         let request = command(rt.alloc(), words)?;
-        let answer = serve_told(rt.alloc(), &request, source.as_bytes(), is_terminal);
+        let answer = serve_told(&rt, rt.alloc(), &request, source.as_bytes(), is_terminal);
         assert_eq!(rt; answer.err.as_slice(), told.as_bytes());
         assert_eq!(rt; answer.status, 1);
     }
@@ -218,11 +207,11 @@ fn the_line_follows_on_a_terminal(rt: HostRuntime) -> Result<(), Fail> {
 #[test]
 fn explains_faults(rt: HostRuntime) -> Result<(), Fail> {
     let request = command(rt.alloc(), ["txc", "explain", "20"].as_slice())?;
-    let answer = serve_bytes(rt.alloc(), &request, b"");
+    let answer = serve_bytes(&rt, rt.alloc(), &request, b"");
     assert!(rt; answer.out.starts_with(b"fault 20: unknown name\nWhen: "));
     assert_eq!(rt; answer.status, 0);
     let request = command(rt.alloc(), ["txc", "explain", "07"].as_slice())?;
-    let answer = serve_bytes(rt.alloc(), &request, b"");
+    let answer = serve_bytes(&rt, rt.alloc(), &request, b"");
     assert_eq!(rt;
         answer.err.as_slice(),
         b"txc: usage: no fault has this number\n".as_slice()
@@ -238,7 +227,7 @@ fn a_long_text_that_is_not_utf8_is_too_long(rt: HostRuntime) -> Result<(), Fail>
     for _ in 0..1048577u32 {
         source.push(b'\xff')?;
     }
-    let answer = answer(rt.alloc(), source.as_slice())?;
+    let answer = answer(&rt, rt.alloc(), source.as_slice())?;
     assert_eq!(rt;
         answer.err.as_slice(),
         b"txc: fault 05 at 1:1: file too long\n".as_slice()

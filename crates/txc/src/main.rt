@@ -1,10 +1,13 @@
 //! The program: opens the file that is asked for, runs it and prints the report.
 #![tactic(auto)]
 
+mod at_once;
+mod concurrent;
 #[cfg(test)]
 mod example_tests;
 #[cfg(test)]
 mod fault_tests;
+mod listed;
 mod order;
 mod run;
 mod serve;
@@ -22,16 +25,18 @@ use std::env;
 use std::fs::File;
 use std::io::{ErrorKind, IsTerminal, Read};
 use std::process::ExitCode;
+use std::sync::Wait;
+use std::thread::Threads;
 use tell::{Detail, cannot_read, tell_usage};
 
 fn main(rt: HostRuntime) -> ExitCode {
-    ExitCode::from(answer(&rt))
+    ExitCode::from(answer(&rt, &rt))
 }
 
-/// Reads the command line and does what it asks. Gives the exit status.
-fn answer(rt: &HostRuntime) -> u8 {
+/// Reads the command line and does what it asks; `handle` starts threads and waits for them. Gives the exit status.
+fn answer<H: Threads + Wait + Sync>(rt: &HostRuntime, handle: &H) -> u8 {
     match request(rt) {
-        Ok(request) => open(rt, &request),
+        Ok(request) => open(rt, handle, &request),
         Err(fault) => tell_usage(&fault, &mut rt.stdout(), &mut rt.stderr()),
     }
 }
@@ -59,10 +64,10 @@ fn no_words(alloc: Global, kind: ErrorKind) -> UsageFault {
 }
 
 /// Opens the file that is asked for, if there is one, and serves the request.
-fn open(rt: &HostRuntime, request: &Request) -> u8 {
+fn open<H: Threads + Wait + Sync>(rt: &HostRuntime, handle: &H, request: &Request) -> u8 {
     match request {
         Request::Program { file, verbose, .. } => match File::open(rt, file.as_str()) {
-            Ok(source) => answer_from(rt, request, source),
+            Ok(source) => answer_from(rt, handle, request, source),
             Err(error) => {
                 let detail = Detail {
                     lines: false,
@@ -71,14 +76,20 @@ fn open(rt: &HostRuntime, request: &Request) -> u8 {
                 cannot_read(file.as_str(), &error, detail, &mut rt.stderr())
             }
         },
-        Request::Explain { .. } => answer_from(rt, request, b"".as_slice()),
+        Request::Explain { .. } => answer_from(rt, handle, request, b"".as_slice()),
     }
 }
 
 /// Serves a request over the program's own streams.
-fn answer_from<R: Read + Drop>(rt: &HostRuntime, request: &Request, source: R) -> u8 {
+fn answer_from<H: Threads + Wait + Sync, R: Read + Drop>(
+    rt: &HostRuntime,
+    handle: &H,
+    request: &Request,
+    source: R,
+) -> u8 {
     let is_terminal = rt.stderr().is_terminal();
     serve(
+        handle,
         rt.alloc(),
         request,
         source,

@@ -1,17 +1,14 @@
 //! From a source's text to what its report shows.
 
 ghost use Rattle.std.specs.Prelude.{◌≡◌, IfOk, IfErr, OnOk};
-ghost use Rattle.syntax.specs.Views.{program_of};
 ghost use Rattle.parse.specs.Faults.{source_of};
-ghost use Rattle.report.specs.Views.{printed_of};
-ghost use Rattle.txc.specs.Runs.{IsSourceOf, IsRunOf, Accepts, Runs, IsFaultOfText, number_of_source, span_of_source};
+ghost use Rattle.txc.specs.Runs as spec;
+ghost use Rattle.txc.specs.Runs.{IsSourceOf, Accepts, IsFaultOfText, number_of_source, span_of_source};
 
-use crate::shown::shown_alone;
 use lex::token::Span;
 use lex::{LexFault, lex};
-use meaning::{OutOfMemory, run_alone};
+use lower::LowerFault;
 use parse::{ParseFault, parse};
-use report::Printed;
 use safety::checked::Safe;
 use safety::{SafetyFault, safe};
 use separation::{Accepted, SeparationFault, accept};
@@ -36,6 +33,8 @@ pub enum SourceFault {
     Unsafe(safety::Violation),
     #[error("{0}")]
     NotSeparate(separation::Violation),
+    #[error("no code")]
+    NoCode(LowerFault),
 }
 
 impl SourceFault {
@@ -50,6 +49,7 @@ impl SourceFault {
             SourceFault::IllTyped(fault) => fault.number(),
             SourceFault::Unsafe(fault) => fault.number(),
             SourceFault::NotSeparate(fault) => fault.number(),
+            SourceFault::NoCode(fault) => code_number(*fault),
         }
     }
 
@@ -64,7 +64,32 @@ impl SourceFault {
             SourceFault::IllTyped(fault) => Some(fault.span()),
             SourceFault::Unsafe(fault) => Some(fault.span()),
             SourceFault::NotSeparate(fault) => Some(fault.span()),
+            SourceFault::NoCode(fault) => code_span(*fault),
         }
+    }
+}
+
+/// The number of a fault of code generation.
+fn code_number(fault: LowerFault) -> u32
+    ensures { result ≡ spec.code_number fault }
+{
+    match fault {
+        LowerFault::OutOfMemory => 0,
+        LowerFault::TooManyRegisters(_) => 60,
+        LowerFault::TooMuchCode(_) => 61,
+        LowerFault::NestedTooDeep(_) => 62,
+    }
+}
+
+/// Where a fault of code generation stands in the text.
+fn code_span(fault: LowerFault) -> Option<Span>
+    ensures { result ≡ spec.code_span fault }
+{
+    match fault {
+        LowerFault::OutOfMemory => None,
+        LowerFault::TooManyRegisters(at)
+        | LowerFault::TooMuchCode(at)
+        | LowerFault::NestedTooDeep(at) => Some(at),
     }
 }
 
@@ -130,34 +155,4 @@ pub fn check_source<A: Allocator + Copy>(alloc: A, text: &str) -> Result<(), Sou
 {
     let _accepted = read_accepted(alloc, text)?;
     Ok(())
-}
-
-/// Runs a source's text with one thread, and gives what its report shows.
-///
-/// The fault is that of the first phase that finds one: the lexer, the parser, or the checks of names and types, of safety
-/// and of separation.
-/// `OutOfMemory` comes only where a growth was refused.
-pub fn run_source<A: Allocator + Copy>(alloc: A, text: &str) -> Result<Printed<A>, SourceFault>
-    ensures ok { IfOk result (λ r. Runs text.now (printed_of r)) }
-    ensures err { IfErr result (λ f. IsFaultOfText text.now f) }
-{
-    let accepted = read_accepted(alloc, text)?;
-    match run_accepted(alloc, &accepted) {
-        Ok(printed) => Ok(printed),
-        Err(_) => Err(SourceFault::OutOfMemory),
-    }
-}
-
-/// Runs an accepted program with one thread.
-fn run_accepted<A: Allocator + Copy>(
-    alloc: A,
-    accepted: &Accepted<A>,
-) -> Result<Printed<A>, OutOfMemory>
-    ensures { IfOk result (λ r. IsRunOf (program_of accepted.now.safe.typed.unit) (printed_of r)) }
-{
-    let ran = run_alone(alloc, accepted, u64::MAX, u64::MAX)?;
-    match shown_alone(alloc, accepted.safe().typed().unit(), ran) {
-        Ok(printed) => Ok(printed),
-        Err(_) => Err(OutOfMemory),
-    }
 }

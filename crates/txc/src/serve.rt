@@ -3,21 +3,25 @@
 ghost use Rattle.std.specs.Prelude.{◌≡◌, ◌≢◌, ◌≤◌, IfSome};
 ghost use Rattle.txc.specs.Answers.{Answers, AnswersRequest};
 ghost use Rattle.report.specs.Views.{printed_of};
-ghost use Rattle.txc.specs.Runs.{IsRefused, Prints, PrintsShown, Runs, RunsInOrder, SaysAccepted};
+ghost use Rattle.txc.specs.Runs.{IsRefused, Prints, PrintsListing, PrintsShown, RunsAtOnce, RunsInOrder, SaysAccepted};
 
+use crate::concurrent::{ThreadsFault, run_threads};
+use crate::listed::list_source;
 use crate::order::{OrderFault, run_in_order};
-use crate::run::{check_source, run_source};
+use crate::run::check_source;
 use crate::source::{Source, read_source};
 use crate::status::{ENDED, status_of};
 use crate::tell::{
-    Detail, cannot_write, not_read, not_text, out_of_memory, print, refuse, refuse_order, too_long,
-    unusable,
+    Detail, cannot_write, not_read, not_text, out_of_memory, print, refuse, refuse_order,
+    refuse_run, too_long, unusable,
 };
 use command::{Request, Task};
 use faults::explanation;
 use report::{Printed, report_text};
-use std::alloc::Allocator;
+use std::alloc::{Allocator, Global};
 use std::io::{Read, Write};
+use std::sync::Wait;
+use std::thread::Threads;
 
 /// Does what is asked over two readers and two writers, and gives the exit status.
 ///
@@ -26,8 +30,9 @@ use std::io::{Read, Write};
 /// of the source follows its fault. The status is 0 where all threads ended, the source is accepted or a fault is explained,
 /// 1 where the source is refused, 2 where it cannot be read or is not UTF-8, or the words are of no use, 3 where a thread
 /// trapped, and 4 where one did neither, or memory or `out` was refused.
-pub fn serve<A: Allocator + Copy, R: Read + Drop, S: Read + Drop, W: Write, E: Write>(
-    alloc: A,
+pub fn serve<H: Threads + Wait + Sync, R: Read + Drop, S: Read + Drop, W: Write, E: Write>(
+    rt: &H,
+    alloc: Global,
     request: &Request,
     source: R,
     schedule: S,
@@ -49,7 +54,7 @@ pub fn serve<A: Allocator + Copy, R: Read + Drop, S: Read + Drop, W: Write, E: W
                 lines: *verbose || is_terminal,
                 reasons: *verbose,
             };
-            serve_program(alloc, file.as_str(), task, source, detail, out, err)
+            serve_program(rt, alloc, file.as_str(), task, source, detail, out, err)
         }
         Request::Explain { number } => {
             drop(source);
@@ -59,8 +64,9 @@ pub fn serve<A: Allocator + Copy, R: Read + Drop, S: Read + Drop, W: Write, E: W
 }
 
 /// Does what is asked with the program in a file.
-fn serve_program<A: Allocator + Copy, R: Read + Drop, W: Write, E: Write>(
-    alloc: A,
+fn serve_program<H: Threads + Wait + Sync, R: Read + Drop, W: Write, E: Write>(
+    rt: &H,
+    alloc: Global,
     file: &str,
     task: &Task,
     source: R,
@@ -72,7 +78,7 @@ fn serve_program<A: Allocator + Copy, R: Read + Drop, W: Write, E: Write>(
     ensures answer { IfSome (R.remaining source) (λ bytes. Answers task.now bytes result (W.contents out.old) (W.contents out.new)) }
 {
     match read_source(alloc, source) {
-        Ok(Source::Text(text)) => work(alloc, task, text.as_str(), detail, out, err),
+        Ok(Source::Text(text)) => work(rt, alloc, task, text.as_str(), detail, out, err),
         Ok(Source::NotText) => not_text(file, err),
         Ok(Source::TooLong) => too_long(err),
         Err(error) => not_read(file, &error, detail, err),
@@ -80,8 +86,9 @@ fn serve_program<A: Allocator + Copy, R: Read + Drop, W: Write, E: Write>(
 }
 
 /// Does what is asked with the text of a program.
-fn work<A: Allocator + Copy, W: Write, E: Write>(
-    alloc: A,
+fn work<H: Threads + Wait + Sync, W: Write, E: Write>(
+    rt: &H,
+    alloc: Global,
     task: &Task,
     text: &str,
     detail: Detail,
@@ -93,7 +100,17 @@ fn work<A: Allocator + Copy, W: Write, E: Write>(
 {
     match task {
         Task::Check => check(alloc, text, detail, out, err),
-        Task::Run { .. } => run(alloc, text, detail, out, err),
+        Task::Listing => list(alloc, text, detail, out, err),
+        Task::Run { threads, budget } => run(
+            rt,
+            alloc,
+            text,
+            *threads,
+            u64::from(*budget),
+            detail,
+            out,
+            err,
+        ),
         Task::Source {
             threads,
             order,
@@ -108,13 +125,35 @@ fn work<A: Allocator + Copy, W: Write, E: Write>(
             out,
             err,
         ),
-        // the command line offers none of these
-        Task::Listing | Task::Replay { .. } => unusable("no such command", err),
+        // the command line does not offer it
+        Task::Replay { .. } => unusable("no such command", err),
     }
 }
 
-/// Runs a source and prints its report.
-fn run<A: Allocator + Copy, W: Write, E: Write>(
+/// Runs all threads of a source at once and prints their report.
+fn run<H: Threads + Wait + Sync, W: Write, E: Write>(
+    rt: &H,
+    alloc: Global,
+    text: &str,
+    threads: u32,
+    budget: u64,
+    detail: Detail,
+    out: &mut W,
+    err: &mut E,
+) -> u8
+    ensures status { result ≤ 4 }
+    ensures report { Prints (RunsAtOnce threads budget text.now) result (W.contents out.old) (W.contents out.new) }
+    ensures refused { result ≡ 1 → IsRefused text.now }
+{
+    match run_threads(rt, alloc, text, threads, budget) {
+        Ok(printed) => print_report(alloc, &printed, out, err),
+        Err(ThreadsFault::Source(fault)) => refuse(alloc, text, fault, detail, err),
+        Err(ThreadsFault::Run(fault)) => refuse_run(fault, err),
+    }
+}
+
+/// Lists the code of a source.
+fn list<A: Allocator + Copy, W: Write, E: Write>(
     alloc: A,
     text: &str,
     detail: Detail,
@@ -122,11 +161,14 @@ fn run<A: Allocator + Copy, W: Write, E: Write>(
     err: &mut E,
 ) -> u8
     ensures status { result ≤ 4 }
-    ensures report { Prints (Runs text.now) result (W.contents out.old) (W.contents out.new) }
+    ensures listing { PrintsListing text.now result (W.contents out.old) (W.contents out.new) }
     ensures refused { result ≡ 1 → IsRefused text.now }
 {
-    match run_source(alloc, text) {
-        Ok(printed) => print_report(alloc, &printed, out, err),
+    match list_source(alloc, text) {
+        Ok(listed) => match print(listed.as_str().as_bytes(), out) {
+            Ok(()) => ENDED,
+            Err(_) => cannot_write(err),
+        },
         Err(fault) => refuse(alloc, text, fault, detail, err),
     }
 }

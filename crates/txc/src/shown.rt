@@ -1,40 +1,18 @@
-//! What a report shows of what threads have done.
+//! What a report shows of globals, and of threads in an order.
 
 ghost use Rattle.std.specs.Prelude.{◌≡◌, ◌++◌, [], map, take, drop, IfOk, OnOk};
 ghost use Rattle.syntax.specs.Views.{program_of, item_of, global_of};
 ghost use Rattle.syntax.specs.Names.{cells, globals};
 ghost use Rattle.report.specs.Views.{printed_of, shown_of, thread_of};
 ghost use Rattle.meaning.specs.Outcomes.{thread_end_in};
-ghost use Rattle.txc.specs.Shows.{program_shown, run_end, order_end, run_shown, shown_global, shown_globals, words_after};
+ghost use Rattle.txc.specs.Shows.{program_shown, order_end, shown_global, shown_globals, words_after};
 ghost use Rattle.txc.specs.inner.Told.{report_shown};
 
 use containers::{Copied, Items};
-use meaning::{AloneOutcome, SourceOutcome, ThreadEnd, ThreadReport};
+use meaning::{SourceOutcome, ThreadEnd, ThreadReport};
 use report::{End, Printed, Shown, ThreadShown};
 use std::alloc::{AllocError, Allocator};
 use syntax::tree::{Global, Item, Unit};
-
-/// What the report of a run with thread 0 alone shows.
-pub fn shown_alone<A: Allocator + Copy>(
-    alloc: A,
-    unit: &Unit<A>,
-    ran: AloneOutcome<A>,
-) -> Result<Printed<A>, AllocError>
-    ensures { IfOk result (λ r. printed_of r ≡ run_shown (program_of unit.now) ran.memory.items ran.text.items (thread_end_in ran.end)) }
-{
-    let globals = globals_shown(alloc, unit, ran.memory.as_slice())?;
-    let mut threads = Items::new(alloc);
-    threads.push(ThreadShown {
-        end: end_of_run(ran.end),
-        text: Items::from_vec(ran.text),
-    })?;
-    Ok(Printed {
-        events: None,
-        threads,
-        globals,
-        holder: None,
-    })
-}
 
 /// What the report of threads in an order shows.
 pub fn shown_in_order<A: Allocator + Copy>(
@@ -44,7 +22,8 @@ pub fn shown_in_order<A: Allocator + Copy>(
 ) -> Result<Printed<A>, AllocError>
     ensures { IfOk result (λ r. printed_of r ≡ program_shown (program_of unit.now) (map report_shown ran.threads.items) ran.memory.items) }
 {
-    let globals = globals_shown(alloc, unit, ran.memory.as_slice())?;
+    let memory = wide(alloc, ran.memory.as_slice())?;
+    let globals = globals_shown(alloc, unit, memory.as_slice())?;
     let threads = threads_shown(alloc, ran.threads)?;
     Ok(Printed {
         events: None,
@@ -78,17 +57,6 @@ fn thread_shown<A: Allocator>(report: ThreadReport<A>) -> ThreadShown<A>
     }
 }
 
-/// How a thread is found after a run.
-fn end_of_run(end: ThreadEnd) -> End
-    ensures { result ≡ run_end (thread_end_in end) }
-{
-    match end {
-        ThreadEnd::Ended => End::Ended,
-        ThreadEnd::Trapped(trap) => End::Trapped(trap),
-        ThreadEnd::Wants | ThreadEnd::Spent => End::Budget,
-    }
-}
-
 /// How a thread is found after its turns in an order.
 fn end_in_order(end: ThreadEnd) -> End
     ensures { result ≡ order_end (thread_end_in end) }
@@ -105,7 +73,7 @@ fn end_in_order(end: ThreadEnd) -> End
 pub fn globals_shown<A: Allocator + Copy>(
     alloc: A,
     unit: &Unit<A>,
-    words: &[u32],
+    words: &[u64],
 ) -> Result<Items<Shown<A>, A>, AllocError>
     ensures { IfOk result (λ v. map shown_of v ≡ shown_globals (globals (program_of unit.now)) words.now) }
 {
@@ -119,7 +87,7 @@ fn push_items<A: Allocator + Copy>(
     alloc: A,
     shown: &mut Items<Shown<A>, A>,
     items: &[Item<A>],
-    words: &[u32],
+    words: &[u64],
 ) -> Result<(), AllocError>
     ensures { OnOk result (map shown_of shown.new ≡ map shown_of shown.old ++ shown_globals (globals (map item_of items.now)) words.now) }
 {
@@ -137,8 +105,8 @@ fn push_globals<'a, A: Allocator + Copy>(
     alloc: A,
     shown: &mut Items<Shown<A>, A>,
     globals: &[Global<A>],
-    words: &'a [u32],
-) -> Result<&'a [u32], AllocError>
+    words: &'a [u64],
+) -> Result<&'a [u64], AllocError>
     ensures shown { OnOk result (map shown_of shown.new ≡ map shown_of shown.old ++ shown_globals (map global_of globals.now) words.now) }
     ensures rest { IfOk result (λ r. r.now ≡ words_after (map global_of globals.now) words.now) }
 {
@@ -155,24 +123,24 @@ fn push_globals<'a, A: Allocator + Copy>(
 fn global_shown<A: Allocator + Copy>(
     alloc: A,
     global: &Global<A>,
-    words: &[u32],
+    words: &[u64],
 ) -> Result<Shown<A>, AllocError>
     ensures { IfOk result (λ s. shown_of s ≡ shown_global (global_of global.now) words.now) }
 {
     let name = global.name.text.copy(alloc)?;
-    let words = wide(alloc, words)?;
+    let words = Vec::from_slice(alloc, words)?;
     Ok(Shown {
         name,
         of: global.of,
-        words,
+        words: Items::from_vec(words),
     })
 }
 
 /// Words in 64 bits.
-fn wide<A: Allocator>(alloc: A, words: &[u32]) -> Result<Items<u64, A>, AllocError>
-    ensures { IfOk result (λ v. v ≡ words.now) }
+fn wide<A: Allocator>(alloc: A, words: &[u32]) -> Result<Vec<u64, A>, AllocError>
+    ensures { IfOk result (λ v. v.items ≡ words.now) }
 {
-    let mut wide = Items::new(alloc);
+    let mut wide = Vec::new(alloc);
     'words: for word in words {
         wide.push(u64::from(*word))?;
     }
@@ -180,7 +148,7 @@ fn wide<A: Allocator>(alloc: A, words: &[u32]) -> Result<Items<u64, A>, AllocErr
 }
 
 /// The first words, and those after them.
-fn split(words: &[u32], count: usize) -> (&[u32], &[u32])
+fn split(words: &[u64], count: usize) -> (&[u64], &[u64])
     ensures first { result.0.now ≡ take count words.now }
     ensures rest { result.1.now ≡ drop count words.now }
 {

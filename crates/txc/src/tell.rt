@@ -15,6 +15,7 @@ use meaning::MeaningFault;
 use std::alloc::Allocator;
 use std::io;
 use std::io::{ErrorKind, Write};
+use workers::RunFault;
 
 /// How much is told of faults.
 #[derive(Clone, Copy, PartialEq, Eq, Debug)]
@@ -133,6 +134,19 @@ pub fn too_long<E: Write>(err: &mut E) -> u8
 {
     let _ = writeln!(err, "txc: fault 05 at 1:1: {}", words(5));
     REFUSED
+}
+
+/// Says why threads were not run.
+pub fn refuse_run<E: Write>(fault: RunFault, err: &mut E) -> u8
+    ensures { result ≡ 4 }
+{
+    let number = match fault {
+        RunFault::OutOfMemory => return out_of_memory(err),
+        RunFault::Threads => 72,
+        RunFault::NotStarted => 73,
+    };
+    let _ = writeln!(err, "txc: fault {number}");
+    STOPPED
 }
 
 /// Says why an order is refused.

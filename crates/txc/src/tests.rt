@@ -1,43 +1,50 @@
 //! Runs over readers and writers in memory.
 
+use crate::listed::list_source;
 use crate::open;
-use crate::run::run_source;
+use crate::order::{OrderFault, run_in_order};
 use crate::serve::serve;
 use crate::tell::tell_usage;
 use command::{Request, command};
 use refusing::Refusing;
-use std::alloc::Allocator;
+use report::report_text;
+use std::alloc::{Allocator, Global};
 use std::io;
 use std::io::{ErrorKind, Read, Write};
+use std::sync::Wait;
 use std::test::Fail;
+use std::thread::Threads;
 
 /// What serving a source gives: the status, the output and the standard error.
 #[derive(Drop)]
-pub(crate) struct Served<A: Allocator> {
+pub(crate) struct Served {
     pub(crate) status: u8,
-    pub(crate) out: Vec<u8, A>,
-    pub(crate) err: Vec<u8, A>,
+    pub(crate) out: Vec<u8>,
+    pub(crate) err: Vec<u8>,
 }
 
 /// Serves a source out of memory.
-pub(crate) fn serve_bytes<A: Allocator + Copy>(
-    alloc: A,
+pub(crate) fn serve_bytes<H: Threads + Wait + Sync>(
+    rt: &H,
+    alloc: Global,
     request: &Request,
     source: &[u8],
-) -> Served<A> {
-    serve_told(alloc, request, source, false)
+) -> Served {
+    serve_told(rt, alloc, request, source, false)
 }
 
 /// Serves a source out of memory, to a terminal or not.
-pub(crate) fn serve_told<A: Allocator + Copy>(
-    alloc: A,
+pub(crate) fn serve_told<H: Threads + Wait + Sync>(
+    rt: &H,
+    alloc: Global,
     request: &Request,
     source: &[u8],
     is_terminal: bool,
-) -> Served<A> {
+) -> Served {
     let mut out = Vec::new(alloc);
     let mut err = Vec::new(alloc);
     let status = serve(
+        rt,
         alloc,
         request,
         source,
@@ -169,7 +176,7 @@ fn serves_sources(rt: HostRuntime) -> Result<(), Fail> {
         (b"int \xff;", 2, b"", b"txc: a.c is not UTF-8\n"),
     ];
     for (source, status, out, err) in rows {
-        let answer = serve_bytes(rt.alloc(), &request, source);
+        let answer = serve_bytes(&rt, rt.alloc(), &request, source);
         assert_eq!(rt; answer.err.as_slice(), err);
         assert_eq!(rt; answer.out.as_slice(), out);
         assert_eq!(rt; answer.status, status);
@@ -196,7 +203,7 @@ fn says_what_is_accepted(rt: HostRuntime) -> Result<(), Fail> {
         ),
     ];
     for (source, status, out, err) in rows {
-        let answer = serve_bytes(rt.alloc(), &request, source);
+        let answer = serve_bytes(&rt, rt.alloc(), &request, source);
         assert_eq!(rt; answer.err.as_slice(), err);
         assert_eq!(rt; answer.out.as_slice(), out);
         assert_eq!(rt; answer.status, status);
@@ -316,7 +323,7 @@ fn serves_threads_in_an_order(rt: HostRuntime) -> Result<(), Fail> {
             ticks,
         ];
         let request = command(rt.alloc(), words.as_slice())?;
-        let answer = serve_bytes(rt.alloc(), &request, source);
+        let answer = serve_bytes(&rt, rt.alloc(), &request, source);
         assert_eq!(rt; answer.err.as_slice(), err);
         assert_eq!(rt; answer.out.as_slice(), out, "{order}");
         assert_eq!(rt; answer.status, status);
@@ -328,7 +335,7 @@ fn serves_threads_in_an_order(rt: HostRuntime) -> Result<(), Fail> {
 #[test]
 fn says_what_is_not_there(rt: HostRuntime) -> Result<(), Fail> {
     let request = command(rt.alloc(), ["txc", "check", "no/such/file.c"].as_slice())?;
-    assert_eq!(rt; open(&rt, &request), 2);
+    assert_eq!(rt; open(&rt, &rt, &request), 2);
     let wrong = command(
         rt.alloc(),
         ["txc", "source", "no/such/file.c", "--order=0,,1"].as_slice(),
@@ -358,6 +365,7 @@ fn says_what_cannot_be_read_or_written(rt: HostRuntime) -> Result<(), Fail> {
     let mut out = Vec::new(rt.alloc());
     let mut err = Vec::new(rt.alloc());
     let status = serve(
+        &rt,
         rt.alloc(),
         &request,
         Broken,
@@ -371,6 +379,7 @@ fn says_what_cannot_be_read_or_written(rt: HostRuntime) -> Result<(), Fail> {
     let verbose = command(rt.alloc(), ["txc", "run", "--verbose", "a.c"].as_slice())?;
     let mut err = Vec::new(rt.alloc());
     let status = serve(
+        &rt,
         rt.alloc(),
         &verbose,
         Broken,
@@ -386,6 +395,7 @@ fn says_what_cannot_be_read_or_written(rt: HostRuntime) -> Result<(), Fail> {
     assert_eq!(rt; status, 2);
     let mut err = Vec::new(rt.alloc());
     let status = serve(
+        &rt,
         rt.alloc(),
         &request,
         FIRST,
@@ -399,55 +409,136 @@ fn says_what_cannot_be_read_or_written(rt: HostRuntime) -> Result<(), Fail> {
     Ok(())
 }
 
+/// What a run in an order gives with an allocator.
+fn in_order_with<A: Allocator + Copy>(alloc: A, text: &str) -> Result<Vec<u8, A>, u32> {
+    match run_in_order(alloc, text, 2, [0, 1].as_slice(), 1000) {
+        Ok(printed) => match report_text(alloc, &printed) {
+            Ok(report) => Ok(report),
+            Err(_) => Err(0),
+        },
+        Err(OrderFault::Source(fault)) => Err(fault.number()),
+        Err(OrderFault::Order(fault)) => Err(fault.number()),
+    }
+}
+
 #[test]
 fn each_growth_is_refused_once(rt: HostRuntime) -> Result<(), Fail> {
     let text =
         "int x = 40, y; void worker(int self) { __transaction_atomic { x = x + 2; y = x - 1; } }";
+    let told = b"== thread 0: ended\n== thread 1: ended\n== memory\nx = 44\ny = 43\n";
     let mut met = 0;
-    for nth in 1..200u64 {
+    for nth in 1..400u64 {
         let alloc = Refusing::new(rt.alloc(), nth);
-        match run_source(&alloc, text) {
-            Ok(printed) => {
+        match in_order_with(&alloc, text) {
+            Ok(report) => {
                 assert!(rt; alloc.is_waiting());
-                assert_eq!(rt; printed.globals.len(), 2);
+                assert_eq!(rt; report.as_slice(), told.as_slice());
+                break;
+            }
+            Err(number) => {
+                met = nth;
+                assert_eq!(rt; number, 0);
+                let again = in_order_with(&alloc, text);
+                assert!(rt; again.is_ok());
+            }
+        }
+    }
+    assert!(rt; met > 0 && met < 399);
+    Ok(())
+}
+
+#[test]
+fn each_growth_of_a_listing_is_refused_once(rt: HostRuntime) -> Result<(), Fail> {
+    let text =
+        "int x = 40, y; void worker(int self) { __transaction_atomic { x = x + 2; y = x - 1; } }";
+    let mut met = 0;
+    for nth in 1..400u64 {
+        let alloc = Refusing::new(rt.alloc(), nth);
+        match list_source(&alloc, text) {
+            Ok(listed) => {
+                assert!(rt; alloc.is_waiting());
+                assert!(rt; listed.as_str().starts_with("function worker registers "));
                 break;
             }
             Err(fault) => {
                 met = nth;
                 assert_eq!(rt; fault.number(), 0);
-                let again = run_source(&alloc, text);
-                assert!(rt; again.is_ok());
+                assert!(rt; list_source(&alloc, text).is_ok());
             }
         }
     }
-    assert!(rt; met > 0 && met < 199);
+    assert!(rt; met > 0 && met < 399);
+    Ok(())
+}
+
+/// Threads that run at once: the sum of what all of them add, whatever their order.
+#[test]
+fn serves_threads_at_once(rt: HostRuntime) -> Result<(), Fail> {
+    let rows: [(&str, &str, &[u8], u8, &[u8]); 5] = [
+        (
+            "--threads=4",
+            "--budget=4294967295",
+            b"int x; void worker(int self) { int i; for (i = 0; i < 100; i++) { __transaction_atomic { x = x + 1; } } }",
+            0,
+            b"== thread 0: ended\n== thread 1: ended\n== thread 2: ended\n== thread 3: ended\n== memory\nx = 400\n",
+        ),
+        (
+            "--threads=3",
+            "--budget=4294967295",
+            b"void worker(int self) { }",
+            0,
+            b"== thread 0: ended\n== thread 1: ended\n== thread 2: ended\n== memory\n",
+        ),
+        (
+            "--threads=1",
+            "--budget=0",
+            b"void worker(int self) { }",
+            4,
+            b"== thread 0: budget\n== memory\n",
+        ),
+        (
+            "--threads=2",
+            "--budget=4294967295",
+            b"void down(int k) { if (k > 0) down(k - 1); } void worker(int self) { down(62 + self); }",
+            3,
+            b"== thread 0: ended\n== thread 1: trap 4\n== memory\n",
+        ),
+        (
+            "--threads=64",
+            "--budget=4294967295",
+            b"int x[64]; void worker(int self) { __transaction_atomic { x[self] = self; } if (self == 63) printf(\"%d\", self); }",
+            0,
+            b"",
+        ),
+    ];
+    for (threads, budget, source, status, out) in rows {
+        let words = ["txc", "run", threads, budget, "a.c"];
+        let request = command(rt.alloc(), words.as_slice())?;
+        let answer = serve_bytes(&rt, rt.alloc(), &request, source);
+        assert_eq!(rt; answer.err.as_slice(), b"".as_slice());
+        assert_eq!(rt; answer.status, status);
+        if out.len() > 0 {
+            assert_eq!(rt; answer.out.as_slice(), out);
+        } else {
+            assert!(rt;
+                answer.out.ends_with(
+                    b"== thread 63: ended\n63\n== memory\nx = 0 1 2 3 4 5 6 7 8 9 10 11 12 13 14 15 16 17 18 19 20 21 22 23 24 25 26 27 28 29 30 31 32 33 34 35 36 37 38 39 40 41 42 43 44 45 46 47 48 49 50 51 52 53 54 55 56 57 58 59 60 61 62 63\n"
+                )
+            );
+        }
+    }
     Ok(())
 }
 
 #[test]
-fn each_growth_of_serve_is_refused_once(rt: HostRuntime) -> Result<(), Fail> {
-    let request = command(rt.alloc(), ["txc", "run", "a.c"].as_slice())?;
-    for nth in 1..200u64 {
-        let alloc = Refusing::new(rt.alloc(), nth);
-        let mut out = Vec::new(rt.alloc());
-        let mut err = Vec::new(rt.alloc());
-        let status = serve(
-            &alloc,
-            &request,
-            FIRST,
-            b"".as_slice(),
-            &mut out,
-            &mut err,
-            false,
-        );
-        if alloc.is_waiting() {
-            assert_eq!(rt; out.as_slice(), FIRST_REPORT);
-            assert_eq!(rt; status, 0);
-            break;
-        }
-        assert_eq!(rt; err.as_slice(), b"txc: out of memory\n".as_slice());
-        assert_eq!(rt; out.len(), 0);
-        assert_eq!(rt; status, 4);
-    }
+fn lists_code(rt: HostRuntime) -> Result<(), Fail> {
+    let request = command(rt.alloc(), ["txc", "listing", "a.c"].as_slice())?;
+    let answer = serve_bytes(&rt, rt.alloc(), &request, ADDS);
+    assert_eq!(rt; answer.err.as_slice(), b"".as_slice());
+    assert_eq!(rt;
+        answer.out.as_slice(),
+        b"function worker registers 3\n0 begin >6\n1 rd r1 @0\n2 const r2 #1\n3 add.s r1 r1 r2\n4 wr @0 r1\n5 commit\n6 ret\n".as_slice()
+    );
+    assert_eq!(rt; answer.status, 0);
     Ok(())
 }

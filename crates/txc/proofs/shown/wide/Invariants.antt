@@ -3,4 +3,4 @@ use Rattle.txc.proofs.shown.wide.Given as goal
 
 -- the words so far
 abbrev pub invariant-words : goal.invariant-words
-invariant-words g l = l.wide ≡ take l.word-index l.words
+invariant-words g l = l.wide.items ≡ take l.word-index l.words
