@@ -59,7 +59,7 @@ fn examples_print_what_they_should(rt: HostRuntime) -> Result<(), Fail> {
 }
 
 /// The words, the source, the schedule, and what a terminal shows.
-const TRANSCRIPTS: [(&str, &str, &str, &str); 12] = [
+const TRANSCRIPTS: [(&str, &str, &str, &str); 14] = [
     (
         "txc check examples/queue.c",
         "// A bounded queue: one transaction puts or takes, and a cancel undoes what does not fit.\nint slots[4], head, count, refused;\n\nint put(int value) {\n    int done = 0;\n    __transaction_atomic {\n        slots[(head + count) % 4] = value;\n        count++;\n        if (count > 4) __transaction_cancel;\n        done = 1;\n    }\n    return done;\n}\n\nvoid worker(int self) {\n    int i;\n    for (i = 1; i <= 6; i++) {\n        if (!put(i * i)) {\n            __transaction_atomic { refused++; }\n        }\n    }\n    __transaction_relaxed {\n        printf(\"%d waiting, %d refused\\n\", count, refused);\n        while (count > 0) {\n            printf(\"%d \", slots[head]);\n            head = (head + 1) % 4;\n            count--;\n        }\n    }\n    printf(\"\\n\");\n}\n",
@@ -83,6 +83,18 @@ const TRANSCRIPTS: [(&str, &str, &str, &str); 12] = [
         "",
         "",
         "fault 20: unknown name\nWhen: a name that is not known where it stands\nPlace: the name\nExample: void worker(int self) { __transaction_atomic { z = 1; } }\nIt is told at: 1:48\n",
+    ),
+    (
+        "txc listing examples/first.c",
+        "int x = 40, y; void worker(int self) { __transaction_atomic { x = x + 2; y = x - 1; } }\n",
+        "",
+        "function worker registers 3\n0 begin >10\n1 rd r1 @0\n2 const r2 #2\n3 add.s r1 r1 r2\n4 wr @0 r1\n5 rd r1 @0\n6 const r2 #1\n7 sub.s r1 r1 r2\n8 wr @1 r1\n9 commit\n10 ret\n",
+    ),
+    (
+        "txc run examples/counter.c --threads 4",
+        "// Each thread adds one, three times. No addition is lost, whatever the threads do.\nint x;\n\nvoid worker(int self) {\n    int i;\n    for (i = 0; i < 3; i++) {\n        __transaction_atomic { x = x + 1; }\n    }\n}\n",
+        "",
+        "== thread 0: ended\n== thread 1: ended\n== thread 2: ended\n== thread 3: ended\n== memory\nx = 12\n",
     ),
     (
         "txc source examples/booking.c --threads 2 --order 1,0,0,1",
