@@ -2,7 +2,7 @@
 
 ghost use Rattle.std.specs.Prelude.{◌≡◌, ◌++◌, map, replicate, IfOk, OnOk};
 ghost use Rattle.syntax.specs.Views.{global_of};
-ghost use Rattle.syntax.specs.Names.{cells, first_word as first_word_of, first_words, initial_from};
+ghost use Rattle.syntax.specs.Names.{first_word, first_words, initial_from};
 ghost use Rattle.bytecode.specs.Initial.{initial_of};
 ghost use Rattle.bytecode.specs.Valid.{IsValid};
 
@@ -10,31 +10,11 @@ use crate::code::Code;
 use std::alloc::{AllocError, Allocator};
 use syntax::tree::{First, Global};
 
-// The word of a number that a global begins with.
-fn first_word(first: First) -> u32
-    ensures { result ≡ first_word_of first }
-{
-    if first.negative {
-        first.value.wrapping_neg()
-    } else {
-        first.value
-    }
-}
-
-fn cell_count<A: Allocator>(global: &Global<A>) -> usize
-    ensures { result ≡ cells (global_of global.now) }
-{
-    match global.length {
-        Some((count, _)) => count as usize,
-        None => 1,
-    }
-}
-
 fn push_firsts<A: Allocator>(words: &mut Vec<u64, A>, firsts: &[First]) -> Result<(), AllocError>
-    ensures { OnOk result (words.new.items ≡ words.old.items ++ map first_word_of firsts.now) }
+    ensures { OnOk result (words.new.items ≡ words.old.items ++ map first_word firsts.now) }
 {
     'firsts: for first in firsts {
-        words.push(u64::from(first_word(*first)))?;
+        words.push(u64::from(first.word()))?;
     }
     Ok(())
 }
@@ -55,7 +35,7 @@ fn push_global<A: Allocator, B: Allocator>(
     ensures { OnOk result (words.new.items ≡ words.old.items ++ first_words (global_of global.now)) }
 {
     push_firsts(words, global.first.as_slice())?;
-    let rest = cell_count(global).saturating_sub(global.first.as_slice().len());
+    let rest = global.cell_count().saturating_sub(global.first.as_slice().len());
     push_zeros(words, rest)
 }
 

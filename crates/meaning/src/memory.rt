@@ -2,38 +2,17 @@
 
 ghost use Rattle.std.specs.Prelude.{◌≡◌, ◌++◌, ◌-◌, ◌∷◌, [], map, replicate, length, IfOk, OnOk};
 ghost use Rattle.syntax.specs.Views.{program_of, item_of, global_of};
-ghost use Rattle.syntax.specs.Names.{globals, cells, first_word as first_word_of, first_words, initial_from, initial_memory as initial_memory_of};
+ghost use Rattle.syntax.specs.Names.{globals, first_word, first_words, initial_from, initial_memory as initial_memory_of};
 
 use std::alloc::{AllocError, Allocator};
 use syntax::tree::{First, Global, Item, Unit};
 
-/// The word of a number that a global begins with (C11 6.7.9, 6.3.1.3).
-fn first_word(first: First) -> u32
-    ensures { result ≡ first_word_of first }
-{
-    if first.negative {
-        first.value.wrapping_neg()
-    } else {
-        first.value
-    }
-}
-
-/// How many cells a global has.
-fn cell_count<A: Allocator>(global: &Global<A>) -> usize
-    ensures { result ≡ cells (global_of global.now) }
-{
-    match global.length {
-        Some((count, _)) => count as usize,
-        None => 1,
-    }
-}
-
 /// Adds the words that are given for a global's first cells.
 fn push_firsts<A: Allocator>(memory: &mut Vec<u32, A>, firsts: &[First]) -> Result<(), AllocError>
-    ensures { OnOk result (memory.new.items ≡ memory.old.items ++ map first_word_of firsts.now) }
+    ensures { OnOk result (memory.new.items ≡ memory.old.items ++ map first_word firsts.now) }
 {
     'firsts: for first in firsts {
-        memory.push(first_word(*first))?;
+        memory.push(first.word())?;
     }
     Ok(())
 }
@@ -43,7 +22,7 @@ fn push_global<A: Allocator>(memory: &mut Vec<u32, A>, global: &Global<A>) -> Re
     ensures { OnOk result (memory.new.items ≡ memory.old.items ++ first_words (global_of global.now)) }
 {
     push_firsts(memory, global.first.as_slice())?;
-    let rest = cell_count(global).saturating_sub(global.first.as_slice().len());
+    let rest = global.cell_count().saturating_sub(global.first.as_slice().len());
     push_zeros(memory, rest)
 }
 

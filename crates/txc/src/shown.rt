@@ -2,7 +2,7 @@
 
 ghost use Rattle.std.specs.Prelude.{◌≡◌, ◌++◌, [], map, take, drop, IfOk, OnOk};
 ghost use Rattle.syntax.specs.Views.{program_of, item_of, global_of};
-ghost use Rattle.syntax.specs.Names.{cells, globals};
+ghost use Rattle.syntax.specs.Names.{globals};
 ghost use Rattle.report.specs.Views.{printed_of, shown_of, thread_of};
 ghost use Rattle.meaning.specs.Outcomes.{thread_end_in};
 ghost use Rattle.txc.specs.Shows.{program_shown, order_end, shown_global, shown_globals, words_after};
@@ -112,7 +112,7 @@ fn push_globals<'a, A: Allocator + Copy>(
 {
     let mut rest = words;
     'globals: for global in globals {
-        let (mine, others) = split(rest, cell_count(global));
+        let (mine, others) = split(rest, global.cell_count());
         shown.push(global_shown(alloc, global, mine)?)?;
         rest = others;
     }
@@ -153,14 +153,4 @@ fn split(words: &[u64], count: usize) -> (&[u64], &[u64])
     ensures rest { result.1.now ≡ drop count words.now }
 {
     words.split_at(count.min(words.len()))
-}
-
-/// How many cells a global has.
-fn cell_count<A: Allocator>(global: &Global<A>) -> usize
-    ensures { result ≡ cells (global_of global.now) }
-{
-    match global.length {
-        Some((count, _)) => count as usize,
-        None => 1,
-    }
 }

@@ -7,11 +7,11 @@ use Rattle.std.proofs.lemmas.List.{length-take-le}
 use Rattle.std.proofs.lemmas.List.Sums.{prefix_len-le-length}
 use Rattle.lex.specs.declared.token.Fixed.{Fixed}
 use Rattle.lex.specs.Spelling.{spelling}
-use Rattle.lex.specs.Bytes.{is_white, is_letter, is_part, in_line, Only}
-use Rattle.lex.specs.Pieces.{IsWhite, IsWord, IsComment, IsOpen, IsLine, IsDirective, Closes, Shape, Longest}
+use Rattle.lex.specs.Bytes.{is_letter, is_part, in_line, Only}
+use Rattle.lex.specs.Pieces.{IsWord, IsComment, IsOpen, IsLine, IsDirective, Closes, Shape, Longest}
 use Rattle.lex.specs.Pieces as s
 use Rattle.lex.proofs.pieces.Runs.{only_run, only_most, front_byte}
-use Rattle.lex.proofs.pieces.Classes.{slash, class, white_class, letter_class, byte_class, space_only, word_only, directive_only, slash_only, slash_length, Slashed, closed, line, unclosed, fixed, front_class}
+use Rattle.lex.proofs.pieces.Classes.{slash, class, letter_class, byte_class, word_only, directive_only, slash_only, slash_length, Slashed, closed, line, unclosed, fixed, front_class}
 
 pub letter_part : (b : ℕ) → is_letter b ≡ true → is_part b ≡ true
 letter_part b h = grind (arith, nat_tests)
@@ -20,26 +20,6 @@ letter_part b h = grind (arith, nat_tests)
 pub run_some : (p : ℕ → Bool) (xs : List ℕ) → 0 < length xs → p (slice_index xs 0) ≡ true → 0 < prefix_len p xs
 run_some p [] lt h = absurd (omega arith)
 run_some p (b ∷ xs) lt h = rw h (omega arith)
-
--- ---- white space
-
-pub white_piece : (rest : List ℕ) → 0 < length rest → is_white (slice_index rest 0) ≡ true → IsWhite (take 1 rest)
-white_piece rest lt h = (length-take-le 1 rest (omega arith), ap is_white (front_byte rest 1 0 (omega arith)) ∙ h)
-
-pub white_longest : (rest : List ℕ) → 0 < length rest → is_white (slice_index rest 0) ≡ true → Longest rest 1
-white_longest rest lt h = record {
-  within = omega arith;
-  shaped = s.white (white_piece rest lt h);
-  longest = λ n le x. go n le x;
-}
-  where
-    go : (n : ℕ) → n ≤ length rest → Shape (take n rest) → n ≤ 1
-    go zero le x = omega arith
-    go (suc n) le x =
-        let w = space_only (take (suc n) rest) x (front_class rest (suc n) (omega arith) x ∙ white_class (slice_index rest 0) h) in
-        let size : length (take (suc n) rest) ≡ suc n = length-take-le (suc n) rest le in
-        let one : length (take (suc n) rest) ≡ 1 = w.0 in
-        omega arith
 
 -- ---- words
 
