@@ -1,8 +1,8 @@
 -- What is made of a body, of an item and of items one after another.
-use Rattle.std.proofs.Common.{◌≡◌, ℕ, ◌+◌, ◌<◌, ◌≤◌, List, [], ◌∷◌, ◌++◌, length, map, drop, get_or, refl, sym, ap, ◌∙◌, append_assoc, append-nil, Option, Some, None, option_map, subst, arith}
+use Rattle.std.proofs.Common.{◌≡◌, ℕ, ◌+◌, ◌<◌, ◌≤◌, List, [], ◌∷◌, ◌++◌, length, map, drop, take, get_or, refl, sym, ap, ◌∙◌, append_assoc, append-nil, Option, Some, None, option_map, subst, arith}
 use Rattle.std.specs.Prelude.{Contains, slice_get, unwrap_or, zero, suc}
 use Rattle.std.specs.List.{AllByRecursion}
-use Rattle.std.proofs.lemmas.List.{drop_all, length-append}
+use Rattle.std.proofs.lemmas.List.{drop_all, length-append, map_more}
 use Rattle.std.proofs.lemmas.List.Elements.{Contains-append_left}
 use Rattle.syntax.specs.declared.tree.Item.{Item as OwnItem}
 use Rattle.syntax.specs.declared.tree.Item.TheVariants as own
@@ -15,7 +15,7 @@ use Rattle.bytecode.specs.Code.{FunctionCode}
 use Rattle.lowered.specs.Expressions.{LocalScope}
 use Rattle.lower.specs.inner.Lists.{Lists}
 use Rattle.lower.specs.inner.Statements.{all_written}
-use Rattle.lower.specs.inner.Programs.{no_exits, body_written, Made, nothing_made, function_code, put_before, made_first, all_made}
+use Rattle.lower.specs.inner.Programs.{no_exits, body_written, Made, nothing_made, function_code, put_before, made_first, all_made, made_for}
 use Rattle.lower.proofs.Files.{items_more}
 
 -- a body in equal scopes, with equal numbers of registers
@@ -55,6 +55,49 @@ first_and_rest : (p : Program) (item : Item) (items : Program) (from : ℕ) (l :
 unfolding joined
 first_and_rest p (Shares gs) items from l = refl
 first_and_rest p (Defines f) items from l = definition_and_rest p f items f.body from l
+
+-- items, and then the others
+front_and_rest : (p : Program) (front items : Program) (from : ℕ) (l : Lists) →
+    all_made p (front ++ items) from l ≡ joined (all_made p front from l) (all_made p items (all_made p front from l).to (all_made p front from l).lists)
+unfolding joined
+front_and_rest p [] items from l = refl
+front_and_rest p (item ∷ front) items from l =
+    let one = all_made p (item ∷ []) from l in
+    let more = all_made p front one.to one.lists in
+    let rest = all_made p items more.to more.lists in
+    first_and_rest p item (front ++ items) from l
+    ∙ ap (λ (m : Made). joined one m) (front_and_rest p front items one.to one.lists)
+    ∙ (λ j. record { functions = sym (append_assoc one.functions more.functions rest.functions) j; code = sym (append_assoc one.code more.code rest.code) j; lists = rest.lists; to = rest.to })
+    ∙ sym (ap (λ (m : Made). joined m (all_made p items m.to m.lists)) (first_and_rest p item front from l))
+
+module _ (p : Program) {A : Type 0} (items : List (OwnItem A)) (i : ℕ) (x : OwnItem A) (to to' : ℕ) (l l' : Lists) (done done' : List Instr) where
+  front : ℕ → Made
+  front n = made_for p (map item_of (take n items))
+
+  alone : ℕ → Lists → Made
+  alone t m = all_made p (item_of x ∷ []) t m
+
+  pub one_more : i < length items → x ≡ get_or items i x → map item_of (take (i + 1) items) ≡ map item_of (take i items) ++ item_of x ∷ []
+  one_more h is = map_more item_of items i x h ∙ ap (λ y. map item_of (take i items) ++ item_of y ∷ []) (sym is)
+
+  front_made : i < length items → x ≡ get_or items i x → front (i + 1) ≡ joined (front i) (alone (front i).to (front i).lists)
+  unfolding front alone
+  front_made h is = ap (λ xs. made_for p xs) (one_more h is) ∙ front_and_rest p (map item_of (take i items)) (item_of x ∷ []) 0 _
+
+  pub front_code : i < length items → x ≡ get_or items i x → done ≡ (made_for p (map item_of (take i items))).code → to ≡ (made_for p (map item_of (take i items))).to → l ≡ (made_for p (map item_of (take i items))).lists →
+      done' ≡ done ++ (all_made p (item_of x ∷ []) to l).code → done' ≡ (made_for p (map item_of (take (i + 1) items))).code
+  unfolding front alone joined
+  front_code h is d t e n = n ∙ (λ j. d j ++ (alone (t j) (e j)).code) ∙ sym (ap (λ (m : Made). m.code) (front_made h is))
+
+  pub front_to : i < length items → x ≡ get_or items i x → to ≡ (made_for p (map item_of (take i items))).to → l ≡ (made_for p (map item_of (take i items))).lists →
+      to' ≡ (all_made p (item_of x ∷ []) to l).to → to' ≡ (made_for p (map item_of (take (i + 1) items))).to
+  unfolding front alone joined
+  front_to h is t e n = n ∙ (λ j. (alone (t j) (e j)).to) ∙ sym (ap (λ (m : Made). m.to) (front_made h is))
+
+  pub front_lists : i < length items → x ≡ get_or items i x → to ≡ (made_for p (map item_of (take i items))).to → l ≡ (made_for p (map item_of (take i items))).lists →
+      l' ≡ (all_made p (item_of x ∷ []) to l).lists → l' ≡ (made_for p (map item_of (take (i + 1) items))).lists
+  unfolding front alone joined
+  front_lists h is t e n = n ∙ (λ j. (alone (t j) (e j)).lists) ∙ sym (ap (λ (m : Made). m.lists) (front_made h is))
 
 module _ (p : Program) {A : Type 0} (items : List (OwnItem A)) (i : ℕ) (to : ℕ) (l : Lists) where
   row : ℕ → ℕ → Lists → Made

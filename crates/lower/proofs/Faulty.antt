@@ -1,8 +1,8 @@
 -- Why no code is made, from a definition to its item and to the program.
-use Rattle.std.proofs.Common.{◌≡◌, ℕ, ◌<◌, ◌≤◌, List, [], ◌∷◌, ◌++◌, length, map, drop, get_or, refl, sym, ap, ◌∙◌, subst, append-nil, arith, Some, None, Result, Ok, Err, IfErr, IsErr, IsErrAnd}
+use Rattle.std.proofs.Common.{◌≡◌, ℕ, ◌<◌, ◌≤◌, List, [], ◌∷◌, ◌++◌, length, map, drop, take, get_or, ◌+◌, refl, sym, ap, ◌∙◌, subst, append-nil, arith, Some, None, Result, Ok, Err, IfErr, IsErr, IsErrAnd}
 use Rattle.std.specs.Prelude.{Contains}
 use Rattle.std.proofs.Math.ListN.{get_or-map}
-use Rattle.std.proofs.lemmas.List.{length-map}
+use Rattle.std.proofs.lemmas.List.{length-map, map-append, take-append-drop}
 use Rattle.std.proofs.lemmas.List.Elements.{Contains-get_or, Contains-append_right}
 use Rattle.syntax.specs.declared.tree.Item.{Item as OwnItem}
 use Rattle.syntax.specs.declared.tree.Item.TheVariants as own
@@ -17,12 +17,13 @@ use Rattle.lowered.specs.Programs.{parameter_locals}
 use Rattle.lower.specs.declared.fault.LowerFault.{LowerFault}
 use Rattle.lower.specs.declared.fault.LowerFault.TheVariants.{OutOfMemory, TooManyRegisters, TooMuchCode, NestedTooDeep}
 use Rattle.lower.specs.Nested.{nested_too_deep}
-use Rattle.lower.specs.Faults.{IsFaultOf}
+use Rattle.lower.specs.Faults.{IsFaultOf, PassesWith, picked_for}
 use Rattle.lower.specs.inner.Lists.{Lists}
 use Rattle.lower.specs.inner.Parts.{IsOfDefinition, IsOfItem, IsOfCode}
 use Rattle.lower.specs.inner.Simples.{Written}
-use Rattle.lower.specs.inner.Programs.{Made, no_exits, body_written, nothing_made, function_code, put_before, all_made, made_of, lowered_code}
-use Rattle.lower.proofs.Bodies.{definition_made, code_grows, codes_among}
+use Rattle.lower.specs.inner.Programs.{Made, no_exits, body_written, nothing_made, function_code, put_before, all_made, made_for, made_of, lowered_code}
+use Rattle.lower.proofs.Bodies.{definition_made, code_grows, codes_among, front_code, one_more}
+use Rattle.lower.proofs.Files.{items_more}
 use Rattle.lower.proofs.GrowingStmts.{stmts_more}
 
 -- a function needs its parameters' registers at least
@@ -56,9 +57,10 @@ among items i x h is =
     let low : i < length (map item_of items) = omega (arith, n, h) in
     subst (Contains (map item_of items)) (get_or-map item_of items i x ∙ ap item_of (sym is)) (Contains-get_or (map item_of items) i (item_of x) low)
 
-of_one : (p : Program) (item : Item) (codes : List FunctionCode) (n : ℕ) (e : LowerFault) → Contains p item → ((g : FunctionCode) → Contains codes g → Contains (lowered_code p).functions g) → n ≤ length (lowered_code p).instructions → IsOfItem item codes n e → IsOfCode p e
-of_one p item codes n OutOfMemory c d h k = tt
-of_one p (Defines f) codes n (TooManyRegisters at) c d h k = record {
+of_one : (p before : Program) (item : Item) (after : Program) (codes : List FunctionCode) (n : ℕ) (e : LowerFault) → p ≡ before ++ item ∷ after → Contains p item → ((g : FunctionCode) → Contains codes g → Contains (lowered_code p).functions g) →
+    picked_for p before ≤ 1048576 → n ≡ picked_for p (before ++ item ∷ []) → n ≤ length (lowered_code p).instructions → IsOfItem item codes n e → IsOfCode p e
+of_one p before item after codes n OutOfMemory s c d b m h k = tt
+of_one p before (Defines f) after codes n (TooManyRegisters at) s c d b m h k = record {
   function = f;
   is_of = c;
   is_at = k.0;
@@ -67,24 +69,43 @@ of_one p (Defines f) codes n (TooManyRegisters at) c d h k = record {
   is_named = k.1.2;
   needs = k.1.3;
 }
-of_one p (Defines f) codes n (TooMuchCode at) c d h k = let m = k.1 in ((f, c, k.0), omega (arith, h, m))
-of_one p (Defines f) codes n (NestedTooDeep at) c d h k = absurd k
-of_one p (Shares gs) codes n (TooManyRegisters at) c d h k = absurd k
-of_one p (Shares gs) codes n (TooMuchCode at) c d h k = absurd k
-of_one p (Shares gs) codes n (NestedTooDeep at) c d h k = absurd k
+of_one p before (Defines f) after codes n (TooMuchCode at) s c d b m h k =
+    let more = k.1 in (
+      record {
+        before = before;
+        function = f;
+        after = after;
+        is_of = s;
+        is_at = k.0;
+        fits = b;
+        passes = subst (λ (x : ℕ). 1048576 < x) m more;
+      },
+      omega (arith, h, more),
+    )
+of_one p before (Defines f) after codes n (NestedTooDeep at) s c d b m h k = absurd k
+of_one p before (Shares gs) after codes n (TooManyRegisters at) s c d b m h k = absurd k
+of_one p before (Shares gs) after codes n (TooMuchCode at) s c d b m h k = absurd k
+of_one p before (Shares gs) after codes n (NestedTooDeep at) s c d b m h k = absurd k
 
 pub item_fault : {A : Type 0} (items : List (OwnItem A)) (i to : ℕ) (l : Lists) (x : OwnItem A) (codes : List FunctionCode) (done : List Instr) (e : LowerFault) → i < length items → x ≡ get_or items i x →
     codes ++ (all_made (map item_of items) (map item_of (drop i items)) to l).functions ≡ (made_of (map item_of items)).functions →
     done ++ (all_made (map item_of items) (map item_of (drop i items)) to l).code ≡ (made_of (map item_of items)).code →
+    done ≡ (made_for (map item_of items) (map item_of (take i items))).code → to ≡ (made_for (map item_of items) (map item_of (take i items))).to → l ≡ (made_for (map item_of items) (map item_of (take i items))).lists → length done ≤ 1048576 →
     IsOfItem (item_of x) (all_made (map item_of items) (item_of x ∷ []) to l).functions (length (done ++ (all_made (map item_of items) (item_of x ∷ []) to l).code)) e → IsOfCode (map item_of items) e
-item_fault items i to l x codes done e h is fs inv k =
+item_fault items i to l x codes done e h is fs inv d t a b k =
     let p : Program = map item_of items in
+    let before : Program = map item_of (take i items) in
+    let after : Program = map item_of (drop (i + 1) items) in
+    let parts : p ≡ before ++ item_of x ∷ after =
+    sym (ap (λ xs. map item_of xs) (take-append-drop i items)) ∙ map-append item_of (take i items) (drop i items) ∙ items_more (λ its. before ++ its) items i x h is in
+    let behind : done ++ (all_made p (item_of x ∷ []) to l).code ≡ (made_for p (before ++ item_of x ∷ [])).code =
+    front_code p items i x to to l l done (done ++ (all_made p (item_of x ∷ []) to l).code) h is d t a refl ∙ ap (λ its. (made_for p its).code) (one_more p items i x to to l l done done h is) in
     let grows = code_grows p items i to l x done h is in
     let whole : length (done ++ (all_made p (map item_of (drop i items)) to l).code) ≡ length (made_of p).code = ap length inv in
     let n : length (map (instr_of (made_of p).lists.arguments) (made_of p).code) ≡ length (made_of p).code = length-map (made_of p).code (instr_of (made_of p).lists.arguments) in
-    of_one p (item_of x) (all_made p (item_of x ∷ []) to l).functions (length (done ++ (all_made p (item_of x ∷ []) to l).code)) e (among items i x h is)
+    of_one p before (item_of x) after (all_made p (item_of x ∷ []) to l).functions (length (done ++ (all_made p (item_of x ∷ []) to l).code)) e parts (among items i x h is)
     (λ g c. subst (λ xs. Contains xs g) fs (Contains-append_right codes (all_made p (map item_of (drop i items)) to l).functions g (codes_among p items i to l x g h is c)))
-    (omega (arith, grows, whole, n)) k
+    (subst (λ (xs : List Instr). length xs ≤ 1048576) d b) (ap length behind) (omega (arith, grows, whole, n)) k
 
 pub code_fault : (p : Program) (e : LowerFault) → nested_too_deep p ≡ None → IsOfCode p e → IsFaultOf p e
 code_fault p OutOfMemory none h = tt

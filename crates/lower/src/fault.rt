@@ -2,6 +2,7 @@
 
 ghost use Rattle.std.specs.Prelude.{◌≡◌};
 ghost use Rattle.lower.specs.declared.fault.Failure.TheVariants.{OutOfMemory};
+ghost use Rattle.lower.specs.Faults.{number_of, span_of};
 
 use lex::token::Span;
 use std::alloc::AllocError;
@@ -42,7 +43,9 @@ pub enum LowerFault {
 
 impl LowerFault {
     /// The fault's number: 0, or 60 to 62.
-    pub fn number(&self) -> u32 {
+    pub fn number(&self) -> u32
+        ensures { result ≡ number_of self.now }
+    {
         match self {
             LowerFault::OutOfMemory => 0,
             LowerFault::TooManyRegisters(_) => 60,
@@ -52,7 +55,9 @@ impl LowerFault {
     }
 
     /// Where the fault stands in the text. Want of memory stands nowhere.
-    pub fn span(&self) -> Option<Span> {
+    pub fn span(&self) -> Option<Span>
+        ensures { result ≡ span_of self.now }
+    {
         match self {
             LowerFault::OutOfMemory => None,
             LowerFault::TooManyRegisters(at) => Some(*at),

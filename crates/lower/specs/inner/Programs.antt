@@ -52,8 +52,12 @@ all_made p [] from l = nothing_made from l
 all_made p (Shares gs ∷ items) from l = all_made p items from l
 all_made p (Defines f ∷ items) from l = made_first p f f.body (all_made p items) from l
 
+-- the codes of the functions that these first items of a program define
+abbrev pub made_for : Program → Program → Made
+made_for p items = all_made p items 0 (record { arguments = []; texts = []; registers = 0 })
+
 abbrev pub made_of : Program → Made
-made_of p = all_made p p 0 (record { arguments = []; texts = []; registers = 0 })
+made_of p = made_for p p
 
 -- the code that is picked for a program
 abbrev pub lowered_code : Program → Code

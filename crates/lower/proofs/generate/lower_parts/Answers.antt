@@ -1,4 +1,4 @@
-use Rattle.std.proofs.Common.{◌≡◌, ◌++◌, ◌+◌, ◌≤◌, ◌<◌, map, length, ap, sym, ◌∙◌, subst, append-nil, append_assoc, drop, get_or, arith, ◌∷◌, []}
+use Rattle.std.proofs.Common.{◌≡◌, ◌++◌, ◌+◌, ◌≤◌, ◌<◌, map, length, ap, sym, refl, ◌∙◌, subst, append-nil, append_assoc, drop, get_or, arith, ◌∷◌, []}
 use Rattle.std.specs.List.{AllByRecursion}
 use Rattle.std.proofs.lemmas.List.{drop_all}
 use Rattle.syntax.specs.Names.{globals, shared_by}
@@ -9,7 +9,7 @@ use Rattle.lower.specs.inner.Lists.{Lists, lists_of}
 use Rattle.lower.specs.inner.Parts.{IsOfItem, IsOfCode}
 use Rattle.lower.specs.inner.Programs.{all_made, made_of}
 use Rattle.lower.specs.inner.Views.{program_in}
-use Rattle.lower.proofs.Bodies.{next_functions, next_code, next_lists, last_functions, last_code, last_lists}
+use Rattle.lower.proofs.Bodies.{next_functions, next_code, next_lists, last_functions, last_code, last_lists, front_code, front_lists, front_to}
 use Rattle.lower.proofs.Files.{items_more}
 use Rattle.lower.proofs.Faulty.{item_fault, handed_on}
 use Rattle.lower.proofs.generate.lower_parts.Goals as goal
@@ -23,6 +23,9 @@ items-init g c =
       code = λ j. c.new-2.ensures.items j ++ (all_made p p 0 (record { arguments = c.new-3.ensures.items j; texts = c.new-4.ensures.items j; registers = 0 })).code;
       lists = λ j. (all_made p p 0 (record { arguments = c.new-3.ensures.items j; texts = c.new-4.ensures.items j; registers = 0 })).lists;
       globals = λ j. map global_of (c.new-5.ensures.items j) ++ globals p;
+      front_code = c.new-2.ensures.items;
+      front_lists = λ j. record { arguments = c.new-3.ensures.items j; texts = c.new-4.ensures.items j; registers = 0 };
+      front_to = refl;
       few = subst (λ xs. AllByRecursion (λ (f : FunctionCode). f.registers ≤ 65535) (map code_function xs)) (sym c.new.ensures.items) tt;
       short = omega (arith, short);
     }
@@ -51,6 +54,9 @@ items-preserved g c =
           ∙ append_assoc done (shared_by (item_of x)) rest
           ∙ sym (ap (λ gs. done ++ gs) (items_more globals items i x h is))
           ∙ inv.globals;
+      front_code = front_code p items i x c.items.making.to c.lower_item.new.making.to l l' c.items.making.code.items c.lower_item.new.making.code.items h is inv.front_code inv.front_to inv.front_lists e.code;
+      front_lists = front_lists p items i x c.items.making.to c.lower_item.new.making.to l l' c.items.making.code.items c.lower_item.new.making.code.items h is inv.front_to inv.front_lists e.lists;
+      front_to = front_to p items i x c.items.making.to c.lower_item.new.making.to l l' c.items.making.code.items c.lower_item.new.making.code.items h is inv.front_to inv.front_lists e.place;
       few = e.few;
       short = e.short;
     }
@@ -93,4 +99,4 @@ returns-in_err-lower_item-clause-fault g c =
     handed_on c.lower_item.result c.from_residual.result c.in_err-lower_item.field-0.0
     (IsOfItem (item_of x) m.functions (length (done ++ m.code))) (IsOfCode p)
     c.lower_item.ensures.fault c.in_err-lower_item.was c.from_residual.ensures
-    (λ e. item_fault items i to l x (map code_function c.items.making.functions.items) done e h is c.items.invariant.functions c.items.invariant.code)
+    (λ e. item_fault items i to l x (map code_function c.items.making.functions.items) done e h is c.items.invariant.functions c.items.invariant.code c.items.invariant.front_code c.items.invariant.front_to c.items.invariant.front_lists c.items.invariant.short)
