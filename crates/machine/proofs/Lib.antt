@@ -10,6 +10,8 @@ pub mod runs
 pub mod single
 -- steps that do not stop, and a thread alone
 pub mod alone
+-- undisturbed transactions, beside their meaning
+pub mod tallies
 -- what threads were answered, the addresses that they use, where attempts begin
 pub mod answers
 -- the frames of a thread that keeps the one on top of each begin

@@ -6,3 +6,5 @@ pub mod Replays
 pub mod Rows
 -- the worked codes meet the laws' premises
 pub mod Fits
+-- how many accesses small transactions make
+pub mod Tallied

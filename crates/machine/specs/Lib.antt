@@ -12,6 +12,10 @@ pub mod Serializable
 pub mod Alone
 -- how many accesses an undisturbed transaction makes
 pub mod Counts
+-- how many it makes, by what its code means
+pub mod Tallies
+-- what becomes of a thread that has the lock
+pub mod Holders
 -- what an event says of its step
 pub mod Events
 -- the addresses that threads use

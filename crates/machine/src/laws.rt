@@ -13,6 +13,8 @@ ghost use Rattle.machine.specs.Merges.{Entry};
 ghost use Rattle.machine.specs.Serializable.{world_after, IsOpaque, HasChanged, HoldersGoOn};
 ghost use Rattle.machine.specs.Alone.{ReachesEnd};
 ghost use Rattle.machine.specs.Counts.{CountsItsAccesses};
+ghost use Rattle.machine.specs.Tallies.{CountsByMeaning};
+ghost use Rattle.machine.specs.Holders.{HoldersNeverAbort};
 ghost use Rattle.machine.specs.Frames.{KeepsBegins};
 ghost use Rattle.machine.specs.Addresses.{NamesCells};
 ghost use Rattle.machine.specs.Events.{EventsTell};
@@ -72,6 +74,35 @@ pub fn alone<C>()
 /// stores, and one for the release. Of transactions without an irrevocable.
 pub fn undisturbed_transactions_are_counted<C>()
     ensures { (code : C → Effect C) (w : World C) (t : ℕ) → CountsItsAccesses code w t }
+{}
+
+/// How many accesses a transaction makes that nobody disturbs, counted by what its code means on the memory that it finds:
+/// no log, snapshot or validation occurs in the count. From an outermost begin under a free lock on, where no other thread
+/// makes an access, the attempt is never dropped, and makes
+///
+/// - one access for its begin;
+/// - two for each read of a cell that it has not written then;
+/// - at a commit, where it has written, one for the lock's swap, one for each cell written, and one for the release. A write
+///   that a cancel has undone does not count, and a cell counts once;
+/// - where it carries out an irrevocable, one swap there; then one access, not two, for each such read, and no further swap;
+///   the release also where nothing is written, and at a trap, which stores no cell.
+///
+/// So it is after each step on the way (`IsOpenAfter`) and at the end (`IsOverAfter`): the transaction has taken effect then,
+/// and its meaning has ended it too and comes where the thread is. Other threads may make local steps meanwhile. That a
+/// transaction comes to an end is not said.
+pub fn accesses_are_tallied<C>()
+    ensures { (code : C → Effect C) (init : ℕ → C) (bounds : List ℕ) (m0 : Memory) (threads : ℕ) (steps : List ℕ)
+        (t : ℕ) → FitsCells code bounds → IsMemory bounds m0 →
+        CountsByMeaning code (world_after code init m0 threads steps) t }
+{}
+
+/// A thread that has the lock, by the won swap of a commit or of an irrevocable, never aborts, whatever steps it and other
+/// threads make: after any of them it has the lock still, at the same snapshot, or the next of its transactions to have taken
+/// effect is the one for which it took the lock. That it ever takes effect is not said.
+pub fn a_holder_never_aborts<C>()
+    ensures { (code : C → Effect C) (init : ℕ → C) (bounds : List ℕ) (m0 : Memory) (threads : ℕ) (steps : List ℕ) →
+        FitsCells code bounds → IsMemory bounds m0 →
+        HoldersNeverAbort code (world_after code init m0 threads steps) }
 {}
 
 /// What an event says of the step that it is told of: an abort dropped the attempt, and nothing took effect; a commit made a
