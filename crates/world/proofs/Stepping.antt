@@ -23,6 +23,7 @@ use Rattle.machine.specs.Explained.{HasLock, IsExplainedBy, IsFree, IsHeld, has_
 use Rattle.machine.specs.Merges.{Entry, IsMerge}
 use Rattle.machine.specs.Standing.{IsThreadOf}
 use Rattle.machine.specs.States.{IsWordOf, ThreadState, attempt_has_lock, thread_has_lock}
+use Rattle.machine.specs.Tallies.{IsOpenAfter, IsOverAfter}
 use Rattle.machine.specs.Threads.{Thread, access, told}
 use Rattle.machine.specs.Traces.{GoesOn, RunsOn, heard_run}
 use Rattle.machine.specs.Worlds.{Part, World, answer, lock_after, new_world, part_after, run, step, step_of, words_after}
@@ -30,8 +31,10 @@ use Rattle.machine.proofs.answers.Answering.{reached}
 use Rattle.machine.proofs.answers.Holding.{memory, runs, swaps_even, unheld, within}
 use Rattle.machine.proofs.answers.Traces.{answered}
 use Rattle.machine.proofs.runs.Programs.{opaque, opaque_source}
+use Rattle.machine.proofs.single.Locked.{never_aborts}
+use Rattle.machine.proofs.tallies.Spans.{counts_by_meaning}
 use Rattle.world.proofs.Cells.{answer_fits, initial_fits, memory_length, word_fits}
-use Rattle.world.specs.Simulations.{IsExplained, IsHolder, Simulation, accesses_in, accesses_of, cost_at, cost_next, event_at, event_next, further, output_at, part_of, status_at, stops_at, stops_next, transactions_of, world_of}
+use Rattle.world.specs.Simulations.{CountsAccesses, IsExplained, IsHolder, Simulation, accesses_in, accesses_of, cost_at, cost_next, event_at, event_next, further, output_at, part_of, status_at, stops_at, stops_next, transactions_of, world_of}
 use Rattle.world.specs.inner.Kept.{AreOfParts, IsMakeable, IsOfPart, IsWorldOf}
 
 module _ (code : Code) where
@@ -88,6 +91,10 @@ module _ (code : Code) where
   accesses_more [] t w = omega arith
   accesses_more (u ∷ ts) t w = let e = accesses_more ts t (step (effect code) w u) in omega arith
 
+  accesses_on : (ts us : List ℕ) (w : World Configuration) → accesses_in code (ts ++ us) w ≡ accesses_in code ts w + accesses_in code us (run (effect code) ts w)
+  accesses_on [] us w = omega arith
+  accesses_on (u ∷ ts) us w = let e = accesses_on ts us (step (effect code) w u) in omega arith
+
   runs_more : (ts : List ℕ) (t : ℕ) (w : World Configuration) → RunsOn (effect code) ts w → GoesOn (effect code) (slice_get (run (effect code) ts w).parts t) → RunsOn (effect code) (ts ++ t ∷ []) w
   runs_more [] t w all on = (on, tt)
   runs_more (u ∷ ts) t w all on = (all.0, runs_more ts t (step (effect code) w u) all.1 on)
@@ -112,11 +119,21 @@ module _ (s : Simulation) (lock : ℕ) (words : List ℕ) (threads : List Thread
   unfolding heard
   is_answered = answered (effect s.code) (beginning s.code) (initial_of s.code) s.threads s.trace k.runs_on
 
+  counted : CountsAccesses s
+  counted t p us n begins quiet grown =
+      subst (λ (x : ℕ × World Configuration). IsOpenAfter (effect s.code) w t p x.0 x.1 ⊎ IsOverAfter (effect s.code) w t p x.0 x.1) (λ i. (same i, sym (run_more s.code s.trace (t ∷ us) (new_world (beginning s.code) (initial_of s.code) s.threads)) i))
+      (counts_by_meaning (effect s.code) (beginning s.code) (bounds_of s.code) (initial_of s.code) (initial_fits s.code) (fits_cells s.code k.valid) s.threads s.trace t p us begins quiet)
+    where
+      same : accesses_in s.code (t ∷ us) w ≡ n
+      same = let e = accesses_on s.code s.trace (t ∷ us) (new_world (beginning s.code) (initial_of s.code) s.threads) in omega arith
+
   pub explained : IsExplained s
   explained = record {
     reached = reached (effect s.code) (beginning s.code) (initial_of s.code) s.threads w heard is_answered;
     code = opaque (effect s.code) (beginning s.code) (bounds_of s.code) (initial_of s.code) (initial_fits s.code) (fits_cells s.code k.valid) s.threads s.trace;
     programs = λ program means. opaque_source (effect s.code) (beginning s.code) (bounds_of s.code) (initial_of s.code) (initial_fits s.code) (fits_cells s.code k.valid) program means s.threads (let f = k.few in omega arith) s.trace;
+    holders = never_aborts (effect s.code) (beginning s.code) (bounds_of s.code) (initial_of s.code) (initial_fits s.code) (fits_cells s.code k.valid) s.threads s.trace;
+    counts = counted;
   }
 
   is_memory : IsMemory (bounds_of s.code) words

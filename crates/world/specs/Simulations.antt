@@ -1,5 +1,5 @@
 -- A world of the machine as its contracts see it: what runs, and the steps that were made. All else follows from these.
-use Rattle.std.specs.Prelude.{◌≡◌, ◌+◌, ◌%◌, ℕ, Bool, true, false, List, [], ◌∷◌, ◌++◌, Option, None, Some, option_map}
+use Rattle.std.specs.Prelude.{◌≡◌, ◌+◌, ◌%◌, ◌⊎◌, ℕ, Bool, true, false, List, ◌∷◌, ◌++◌, Option, None, Some, option_map}
 use Rattle.std.specs.List.{slice_get, AllByRecursion}
 use Rattle.syntax.specs.Behaviours.{Behaviour, IsMemory, Means, Step, founds_of}
 use Rattle.syntax.specs.declared.numbers.Status.{Status}
@@ -8,13 +8,16 @@ use Rattle.bytecode.specs.Code.{Code, Configuration, effect}
 use Rattle.bytecode.specs.Initial.{initial_of}
 use Rattle.bytecode.specs.Sequential.{meaning}
 use Rattle.bytecode.specs.Valid.{bounds_of}
-use Rattle.norec_core.specs.Accesses.{cost, stops}
+use Rattle.norec_core.specs.Accesses.{stops}
 use Rattle.machine.specs.declared.event.Event.{Event}
 use Rattle.machine.specs.declared.event.Event.TheVariants as event
 use Rattle.machine.specs.Alone.{ReachesEnd}
+use Rattle.machine.specs.Holders.{HoldersNeverAbort}
 use Rattle.machine.specs.Merges.{run_of}
 use Rattle.machine.specs.Serializable.{IsOpaque, merge_after, world_after}
 use Rattle.machine.specs.States.{thread_has_lock}
+use Rattle.machine.specs.Tallies as tallies
+use Rattle.machine.specs.Tallies.{BeginsFree, IsOpenAfter, IsOverAfter, IsUndisturbed}
 use Rattle.machine.specs.Threads.{access, told}
 use Rattle.machine.specs.Worlds.{Part, Reached, World, answer, new_world, step}
 
@@ -70,16 +73,14 @@ IsHolder w (Some t) =
 
 -- how many accesses to the lock or the words a thread's next step makes
 abbrev pub cost_next : Code → Option (Part Configuration) → ℕ
-cost_next code None = 0
-cost_next code (Some p) = cost (access (effect code) p.thread)
+cost_next code o = tallies.cost_next (effect code) o
 
 abbrev pub cost_at : Simulation → ℕ → ℕ
 cost_at s t = cost_next s.code (part_of s t)
 
 -- how many these steps of all threads make from a world on
 abbrev pub accesses_in : Code → List ℕ → World Configuration → ℕ
-accesses_in code [] w = 0
-accesses_in code (t ∷ ts) w = cost_next code (slice_get w.parts t) + accesses_in code ts (step (effect code) w t)
+accesses_in code ts w = tallies.accesses_in (effect code) ts w
 
 abbrev pub accesses_of : Simulation → ℕ
 accesses_of s = accesses_in s.code s.trace (new_world (beginning s.code) (initial_of s.code) s.threads)
@@ -89,9 +90,19 @@ abbrev pub transactions_of : Simulation → List Step
 transactions_of s =
     run_of (merge_after (effect s.code) (beginning s.code) (initial_of s.code) s.threads s.trace)
 
+-- By how many the accesses of all threads grow over an undisturbed transaction: from where no thread has the lock and thread t
+-- is about to begin an outermost one, over this begin, steps of t in its attempt, and local steps of other threads.
+abbrev pub CountsAccesses : Simulation → Type 0
+CountsAccesses s = (t : ℕ) (p : Part Configuration) (us : List ℕ) (k : ℕ) →
+    BeginsFree (effect s.code) (world_of s) t p → IsUndisturbed (effect s.code) t us (step (effect s.code) (world_of s) t) →
+    accesses_of (further s (t ∷ us)) ≡ accesses_of s + k →
+    IsOpenAfter (effect s.code) (world_of s) t p k (world_of (further s (t ∷ us)))
+    ⊎ IsOverAfter (effect s.code) (world_of s) t p k (world_of (further s (t ∷ us)))
+
 -- What holds of every world: none of its steps was one that stops; its transactions are one after another, in the order of
 -- time, each attempt has a moment, and later runs extend earlier ones. So it is for the code, and for every program that
--- the code means.
+-- the code means. From here on a thread that has the lock never aborts, and the accesses of an undisturbed transaction are
+-- those that the code's meaning tells.
 pub record IsExplained (s : Simulation) : Type 0 where
   pub reached : Reached (effect s.code) (beginning s.code) (initial_of s.code) s.threads (world_of s)
   pub code : IsOpaque (effect s.code) (beginning s.code) (meaning (effect s.code) (beginning s.code)) (bounds_of s.code)
@@ -99,6 +110,8 @@ pub record IsExplained (s : Simulation) : Type 0 where
   pub programs : (program : Behaviour) →
       Means (bounds_of s.code) (meaning (effect s.code) (beginning s.code)) program →
       IsOpaque (effect s.code) (beginning s.code) program (bounds_of s.code) (initial_of s.code) s.threads s.trace
+  pub holders : HoldersNeverAbort (effect s.code) (world_of s)
+  pub counts : CountsAccesses s
 
 -- What a program that the code means does alone, a world of one thread does in some number of steps, and stays there.
 abbrev pub EndsAlone : Code → Type 0
