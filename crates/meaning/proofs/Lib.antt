@@ -5,11 +5,11 @@ pub mod Elements
 pub mod Entering
 pub mod Files
 pub mod Lookup
-pub mod Loops
 pub mod Outcomes
 pub mod Parts
 pub mod Placing
 pub mod Printed
+pub mod Sequences
 pub mod Steps
 pub mod Stops
 pub mod Symbols

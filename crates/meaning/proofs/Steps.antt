@@ -19,7 +19,7 @@ use Rattle.syntax.specs.Meaning.{Caller, End, Next, expr, stmt, stmts, exprs, pr
 use Rattle.meaning.specs.inner.Calls.{Begins, begun}
 use Rattle.meaning.specs.Outcomes.{memories_in}
 use Rattle.meaning.specs.inner.Does.{is_forbidden}
-use Rattle.meaning.proofs.Loops.{after, halts}
+use Rattle.meaning.proofs.Sequences.{after, halts}
 
 -- a statement's tick, and then the rest
 pub ticks_then : (p : Program) (call : Caller) (s clean : Stmt) (run : Action End) (s0 s1 : State) (r : Answer End) →

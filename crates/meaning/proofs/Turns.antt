@@ -1,19 +1,18 @@
 -- Threads that take turns.
 use Rattle.std.proofs.Common.{◌≡◌, ◌≢◌, ℕ, zero, suc, ◌+◌, ◌-◌, ◌<◌, ◌≤◌, List, [], ◌∷◌, ◌++◌, map, length, get_or, set, drop, take, replicate, refl, sym, ap, ◌∙◌, subst, ◌⊎◌, inl, inr, arith, Vec, Result, Ok, Err, OnOk}
-use Rattle.std.proofs.lemmas.List.{map-append, length-append, length-map, at_drop_more, take-append-drop, drop-append-le, length-take-le, replicate-append-replicate, length-replicate, set-get_or, get_or-map, map-set}
+use Rattle.std.proofs.lemmas.List.{map-append, length-map, at_drop_more, take-append-drop, drop-append-le, length-take-le, replicate-append-replicate, length-replicate, set-get_or, get_or-map, map-set}
 use Rattle.std.proofs.lemmas.Simd.{map-map}
 use Rattle.std.proofs.lemmas.Grind.{common_steps}
 use Rattle.syntax.specs.declared.numbers.Halt.TheVariants.{Trapped, Wants, Spent, Astray}
 use Rattle.syntax.specs.Tree.{Program}
 use Rattle.syntax.specs.Names.{initial_memory}
-use Rattle.syntax.specs.Behaviours.{Memory, Outcome, Behaviour, ThreadEnd, Ended, Stopped}
+use Rattle.syntax.specs.Behaviours.{Memory, Behaviour, ThreadEnd, Ended, Stopped}
 use Rattle.syntax.specs.Orders.{Progress, last_left, finds, if_wanting, entry, entries, outcomes, in_order}
 use Rattle.syntax.specs.Threads.{thread}
 use Rattle.meaning.specs.declared.outcome.SourceOutcome.{SourceOutcome}
 use Rattle.meaning.specs.declared.orders.Standing.{Standing}
 use Rattle.meaning.specs.Outcomes.{memories_in, thread_end_in}
 use Rattle.meaning.specs.InOrder.{IsInOrder, report_in, told}
-use Rattle.meaning.specs.Alone.{IsAlone}
 use Rattle.meaning.specs.inner.Seen.{seen_in}
 use Rattle.meaning.specs.inner.Turns.{AreKnown, IsKnown, TakesTurn, does_in, founds_in}
 
@@ -144,26 +143,10 @@ goes_on does ticks t i order now new whole lt at step was =
     ∙ sym (at_drop_more (λ us. entries does ticks us now) order i t lt)
     ∙ was
 
-entries_append : (does : Behaviour) (ticks : ℕ) (xs ys : List ℕ) (now : Progress) → entries does ticks (xs ++ ys) now ≡ entries does ticks ys (entries does ticks xs now)
-entries_append does ticks [] ys now = refl
-entries_append does ticks (x ∷ xs) ys now = entries_append does ticks xs ys (entry does ticks x now)
-
--- a turn more of thread 0
-pub one_more : (does : Behaviour) (ticks k : ℕ) (start now new : Progress) → entries does ticks (replicate k 0) start ≡ now → new ≡ entry does ticks 0 now → entries does ticks (replicate (k + 1) 0) start ≡ new
-one_more does ticks k start now new was step =
-    ap (λ xs. entries does ticks xs start) (sym (replicate-append-replicate k 1 0))
-    ∙ entries_append does ticks (replicate k 0) (0 ∷ []) start
-    ∙ ap (entry does ticks 0) was
-    ∙ sym step
-
 -- what follows where a call is done
 pub on_ok : {T E X Y : Type 0} (r : Result T E) → (X → Y) → OnOk r X → OnOk r Y
 on_ok (Ok x) f h = f h
 on_ok (Err e) f h = tt
-
-pub only_of : {X : Type 0} (xs ys : List X) (x : X) → length xs ≡ 1 → xs ≡ ys ++ x ∷ [] → xs ≡ x ∷ []
-only_of xs [] x one e = e
-only_of xs (y ∷ ys) x one e = absurd (let h = ap length e in let k = length-append ys (x ∷ []) in omega (arith, one, h, k))
 
 -- where the entries lead, by what is known of each thread
 stands : {A : Type 0} (p : Program) (ticks : ℕ) (order : List ℕ) (start : Progress) (m : Memory) (xs : List (Standing A)) → AreKnown p ticks 0 xs → entries (does_in p) ticks order start ≡ record { memory = m; founds = founds_in xs } →
@@ -187,16 +170,3 @@ in_this_order p threads ticks order m xs o known gone memory reports =
       memory = memory ∙ sym (ap (λ w. w.memory) h);
       threads = reports ∙ sym (map-map told (λ s. seen_in s.seen) xs) ∙ sym (ap (λ w. map told w.threads) h);
     }
-
--- where thread 0 stops taking turns
-pub stands_alone : {A : Type 0} (p : Program) (turns ticks k : ℕ) (m w : Memory) (text : List ℕ) (end : ThreadEnd) (xs : List (Standing A)) (s : Standing A) → xs ≡ s ∷ [] → w ≡ m → text ≡ s.seen.text.items → end ≡ thread_end_in s.seen.end → k ≤ turns →
-    AreKnown p ticks 0 xs → entries (does_in p) ticks (replicate k 0) (record { memory = initial_memory p; founds = [] ∷ [] }) ≡ record { memory = m; founds = founds_in xs } →
-    ((thread_end_in s.seen.end ≢ Stopped Wants) ⊎ (k ≡ turns)) → IsAlone p turns ticks w text end
-stands_alone {A = A} p turns ticks k m w text end xs s one is_m is_text is_end few known gone over = record {
-  taken = k;
-  few = few;
-  lefts = memories_in s.seen.lefts.items;
-  goes = in_order_by p 1 ticks (replicate k 0) m xs known gone ∙ ap (λ (ys : List (Standing A)). record { memory = m; threads = map (λ s. seen_in s.seen) ys }) one
-      ∙ (λ i. record { memory = sym is_m i; threads = record { lefts = memories_in s.seen.lefts.items; text = sym is_text i; end = sym is_end i } ∷ [] });
-  over = subst (λ e. (e ≢ Stopped Wants) ⊎ (k ≡ turns)) (sym is_end) over;
-}

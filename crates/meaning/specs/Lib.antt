@@ -2,7 +2,5 @@
 pub mod Outcomes
 -- threads in an order
 pub mod InOrder
--- thread 0 alone
-pub mod Alone
 -- what private functions say
 pub mod inner

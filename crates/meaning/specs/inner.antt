@@ -16,5 +16,5 @@ pub mod Does
 pub mod Printing
 -- what is seen of a thread, as it is kept
 pub mod Seen
--- thread 0 alone, turn by turn
+-- threads that take turns
 pub mod Turns

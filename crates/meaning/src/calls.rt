@@ -1,25 +1,31 @@
-//! How a call begins and ends.
+//! Calls: their arguments, how they begin, and what they give.
 
 ghost use Rattle.std.specs.Prelude.{◌≡◌, ◌≤◌, map, option_map, unwrap_or, IfOk};
+ghost use Rattle.lex.specs.declared.token.Span.{Span};
 ghost use Rattle.syntax.specs.Meaning as meaning;
-ghost use Rattle.syntax.specs.Views.{parameter_of, stmts_of};
+ghost use Rattle.syntax.specs.Views.{exprs_of, name_of, parameter_of, stmts_of};
 ghost use Rattle.syntax.specs.Depth.{block_depth, program_depth};
 ghost use Rattle.meaning.specs.inner.Calls.{begun, begun_in};
+ghost use Rattle.syntax.specs.Tree as tree;
 ghost use Rattle.syntax.specs.Tree.{Int};
-ghost use Rattle.meaning.specs.inner.Machine.{local_in, end_of, MeansAs, MeansWord, items_in, program_in, state_in};
+ghost use Rattle.meaning.specs.inner.Does.{called};
+ghost use Rattle.meaning.specs.inner.Machine.{local_in, end_of, MeansAs, MeansWord, MeansWords, items_in, program_in, state_in};
 
 use crate::arithmetic::convert;
-use crate::machine::{End, Halted, Local, Machine};
+use crate::expr::eval;
+use crate::machine::{End, Halted, Local, Machine, tick, trap};
 use crate::names::definition;
 use crate::program::Source;
-use crate::word::{Word, convert_word, flag};
+use crate::stmt::stmts;
+use crate::word::{Word, convert_word, flag, unpack};
 use lex::token::Scalar;
 use std::alloc::{AllocError, Allocator};
-use syntax::numbers::{Halt, Value};
-use syntax::tree::{Parameter, Stmt};
+use std::mem;
+use syntax::numbers::{Halt, Trap, Value};
+use syntax::tree::{Expr, Name, Parameter, Stmt};
 
 /// The locals that a call begins with, where each parameter has its argument.
-pub(crate) fn locals_of<'p, A: Allocator + Copy>(
+fn locals_of<'p, A: Allocator + Copy>(
     alloc: A,
     parameters: &'p [Parameter<A>],
     values: &[Value],
@@ -56,11 +62,7 @@ fn type_or_int(of: Option<Scalar>) -> Scalar
 }
 
 /// The value of a call, of the function's own type.
-pub(crate) fn result_of<A: Allocator>(
-    m: &mut Machine<A>,
-    of: Option<Scalar>,
-    end: End,
-) -> Result<Word, Halted>
+fn result_of<A: Allocator>(m: &mut Machine<A>, of: Option<Scalar>, end: End) -> Result<Word, Halted>
     ensures { MeansWord result (meaning.result_of of (end_of end) (state_in m.old)) m.new }
 {
     match end {
@@ -75,14 +77,14 @@ pub(crate) fn result_of<A: Allocator>(
 
 /// A call that begins: the type of its value, its body and its locals.
 #[derive(Drop)]
-pub(crate) struct Begun<'p, A: Allocator> {
-    pub of: Option<Scalar>,
-    pub body: &'p [Stmt<A>],
-    pub mine: Vec<Local<'p>, A>,
+struct Begun<'p, A: Allocator> {
+    of: Option<Scalar>,
+    body: &'p [Stmt<A>],
+    mine: Vec<Local<'p>, A>,
 }
 
 /// The call of a function by its name: its definition is looked up, and its parameters get the arguments.
-pub(crate) fn begin<'p, A: Allocator + Copy>(
+fn begin<'p, A: Allocator + Copy>(
     source: &Source<'p, A>,
     f: &str,
     values: &[Value],
@@ -108,4 +110,62 @@ pub(crate) fn begin<'p, A: Allocator + Copy>(
         body: d.body,
         mine,
     })
+}
+
+/// A call's arguments, its tick, and then the function.
+#[cycle(run)]
+pub(crate) fn call<'p, A: Allocator + Copy>(
+    source: &Source<'p, A>,
+    frames: u64,
+    f: &Name<A>,
+    args: &'p [Expr<A>],
+    m: &mut Machine<'p, A>,
+) -> Result<Word, Halted>
+    ensures { (at : Span) → MeansWord result (meaning.expr (program_in source.now) (called source.now frames) (tree.Call (name_of f.now) (exprs_of args.now) at) (state_in m.old)) m.new }
+{
+    let values = values(source, frames, args, m)?;
+    tick(m)?; // the call's
+    entered(source, frames, f.text.as_str(), values.as_slice(), m)
+}
+
+/// The values of arguments, in their order.
+#[cycle(run)]
+pub(crate) fn values<'p, A: Allocator + Copy>(
+    source: &Source<'p, A>,
+    frames: u64,
+    args: &'p [Expr<A>],
+    m: &mut Machine<'p, A>,
+) -> Result<Vec<Value, A>, Halted>
+    ensures { MeansWords result (meaning.exprs (program_in source.now) (called source.now frames) (exprs_of args.now) (state_in m.old)) m.new }
+{
+    let mut values = Vec::new(source.alloc);
+    'arguments: for e in args {
+        let v = eval(source, frames, e, m)?;
+        if values.push(unpack(v)).is_err() {
+            m.why = None;
+            return Err(Halted {});
+        }
+    }
+    Ok(values)
+}
+
+/// A function's body, with locals of its own, where a frame may come to live.
+#[cycle(run)]
+pub(crate) fn entered<'p, A: Allocator + Copy>(
+    source: &Source<'p, A>,
+    frames: u64,
+    f: &str,
+    values: &[Value],
+    m: &mut Machine<'p, A>,
+) -> Result<Word, Halted>
+    ensures { MeansWord result (called source.now frames f.now values.now (state_in m.old)) m.new }
+{
+    if frames == 0 {
+        return trap(m, Trap::Frames);
+    }
+    let Begun { of, body, mine } = begin(source, f, values, m)?;
+    let outer = mem::replace(&mut m.locals, mine);
+    let end = stmts(source, frames - 1, body, m)?;
+    m.locals = outer;
+    result_of(m, of, end)
 }

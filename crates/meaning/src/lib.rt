@@ -4,9 +4,10 @@
 //! memory is refused, nothing is said of the machine.
 #![tactic(auto)]
 
-mod alone;
 mod arithmetic;
 mod calls;
+mod expr;
+mod loops;
 mod machine;
 mod memory;
 mod names;
@@ -15,14 +16,14 @@ mod outcome;
 mod places;
 mod print;
 mod program;
-mod run;
+mod simple;
+mod stmt;
 mod tables;
 mod threads;
 mod transactions;
 mod word;
 mod words;
 
-pub use alone::{AloneOutcome, run_alone};
 pub use orders::run_order;
 pub use outcome::{
     MeaningFault, OutOfMemory, SourceOutcome, ThreadEnd, ThreadOutcome, ThreadReport,

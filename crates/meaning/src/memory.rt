@@ -22,7 +22,9 @@ fn push_global<A: Allocator>(memory: &mut Vec<u32, A>, global: &Global<A>) -> Re
     ensures { OnOk result (memory.new.items ≡ memory.old.items ++ first_words (global_of global.now)) }
 {
     push_firsts(memory, global.first.as_slice())?;
-    let rest = global.cell_count().saturating_sub(global.first.as_slice().len());
+    let rest = global
+        .cell_count()
+        .saturating_sub(global.first.as_slice().len());
     push_zeros(memory, rest)
 }
 

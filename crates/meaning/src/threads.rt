@@ -10,10 +10,10 @@ ghost use Rattle.meaning.specs.Outcomes.{AreWords, memories_in, outcome_in, thre
 ghost use Rattle.meaning.specs.inner.Seen.{seen_in};
 ghost use Rattle.meaning.specs.inner.Machine.{Means, context_in, program_in, state_in};
 
+use crate::calls::entered;
 use crate::machine::{Context, Halted, Machine, tick};
 use crate::outcome::{OutOfMemory, ThreadEnd, ThreadOutcome};
 use crate::program::Source;
-use crate::run::entered;
 use crate::tables::source;
 use crate::words::{narrow_all, widen_all};
 use lex::token::Scalar;

@@ -1,20 +1,23 @@
-//! How a transaction ends.
+//! Transactions: what they do, and what they leave.
 
 ghost use Rattle.std.specs.Prelude.{◌≡◌, List, map, IfOk};
 ghost use Rattle.syntax.specs.Actions as act;
 ghost use Rattle.syntax.specs.Meaning as meaning;
 ghost use Rattle.syntax.specs.Names as Names;
 ghost use Rattle.meaning.specs.Outcomes.{memories_in};
+ghost use Rattle.meaning.specs.inner.Does.{does_stmts, is_forbidden as is_forbidden_due};
 ghost use Rattle.meaning.specs.inner.Machine.{local_in, end_of, MeansEnd, context_in, state_in, items_in, left_too, Happened, halt_of};
 
 use crate::machine::{Context, End, Halted, Local, Machine, tick};
+use crate::program::Source;
+use crate::stmt::block;
 use std::alloc::{AllocError, Allocator};
 use std::mem;
 use syntax::numbers::Halt;
-use syntax::tree::Mode;
+use syntax::tree::{Mode, Stmt};
 
 /// Copies locals.
-pub(crate) fn copy_locals<'p, A: Allocator + Copy>(
+fn copy_locals<'p, A: Allocator + Copy>(
     alloc: A,
     locals: &[Local<'p>],
 ) -> Result<Vec<Local<'p>, A>, AllocError>
@@ -32,10 +35,7 @@ pub(crate) fn copy_locals<'p, A: Allocator + Copy>(
 }
 
 /// Copies a memory.
-pub(crate) fn copy_memory<A: Allocator + Copy>(
-    alloc: A,
-    memory: &[u32],
-) -> Result<Vec<u32, A>, AllocError>
+fn copy_memory<A: Allocator + Copy>(alloc: A, memory: &[u32]) -> Result<Vec<u32, A>, AllocError>
     ensures { IfOk result (λ v. v.items ≡ memory.now) }
 {
     let copy = Vec::from_slice(alloc, memory)?;
@@ -64,7 +64,7 @@ fn memory_of<A: Allocator + Copy>(alloc: A, context: Context<A>) -> Vec<u32, A>
 }
 
 /// What a nested transaction does at its end.
-pub(crate) fn leave_inner<'p, A: Allocator + Copy>(
+fn leave_inner<'p, A: Allocator + Copy>(
     alloc: A,
     outer: Mode,
     before: Vec<Local<'p>, A>,
@@ -89,7 +89,7 @@ pub(crate) fn leave_inner<'p, A: Allocator + Copy>(
 }
 
 /// What an outermost transaction does at its end.
-pub(crate) fn leave<'p, A: Allocator + Copy>(
+fn leave<'p, A: Allocator + Copy>(
     alloc: A,
     founds: &'p [Vec<u32, A>],
     lefts: Vec<Vec<u32, A>, A>,
@@ -143,7 +143,7 @@ fn leave_found<A: Allocator + Copy>(
 }
 
 /// What an outermost transaction that stops leaves: a trap leaves the memory that was found.
-pub(crate) fn close_stopped<'p, A: Allocator + Copy>(
+fn close_stopped<'p, A: Allocator + Copy>(
     alloc: A,
     founds: &'p [Vec<u32, A>],
     lefts: Vec<Vec<u32, A>, A>,
@@ -154,10 +154,111 @@ pub(crate) fn close_stopped<'p, A: Allocator + Copy>(
     ensures value { Happened m.new.why → (mine : List Names.Local) →
         meaning.close (memories_in founds.now) (memories_in lefts.items) mine found.now (act.Stops (halt_of m.old.why) (state_in m.old)) ≡ act.Stops (halt_of m.new.why) (state_in m.new) }
 {
-    m.context = Context::Outside(founds, lefts);
+    m.context = Context::Outside(founds, lefts); // what was written goes
     if let Some(Halt::Trapped(_)) = m.why {
         if leave_found(alloc, found, m).is_err() {
             m.why = None;
         }
     }
+}
+
+/// A relaxed transaction does not begin inside an atomic one.
+fn is_forbidden(outer: Mode, mode: Mode) -> bool
+    ensures { result ≡ is_forbidden_due outer mode }
+{
+    match outer {
+        Mode::Relaxed => false,
+        Mode::Atomic => match mode {
+            Mode::Atomic => false,
+            Mode::Relaxed => true,
+        },
+    }
+}
+
+/// A transaction: what it does counts as a whole, or not at all.
+#[cycle(run)]
+#[inline(never)]
+pub(crate) fn transaction<'p, A: Allocator + Copy>(
+    source: &Source<'p, A>,
+    frames: u64,
+    mode: Mode,
+    ss: &'p [Stmt<A>],
+    m: &mut Machine<'p, A>,
+) -> Result<End, Halted>
+    ensures { MeansEnd result (meaning.transaction mode (meaning.scoped (does_stmts source.now frames ss.now)) (state_in m.old)) m.new }
+{
+    let none = Context::Inside(mode, Vec::new(source.alloc));
+    match mem::replace(&mut m.context, none) {
+        Context::Outside(founds, lefts) => outermost(source, frames, mode, founds, lefts, ss, m),
+        Context::Inside(outer, found) => nested(source, frames, outer, found, mode, ss, m),
+    }
+}
+
+/// An outermost transaction, with the memories still to be found and those left so far.
+#[cycle(run)]
+#[inline(never)]
+fn outermost<'p, A: Allocator + Copy>(
+    source: &Source<'p, A>,
+    frames: u64,
+    mode: Mode,
+    founds: &'p [Vec<u32, A>],
+    lefts: Vec<Vec<u32, A>, A>,
+    ss: &'p [Stmt<A>],
+    m: &mut Machine<'p, A>,
+) -> Result<End, Halted>
+    ensures { MeansEnd result (let before = act.Outside (memories_in founds.now) (memories_in lefts.items) in meaning.enter before mode (meaning.scoped (does_stmts source.now frames ss.now)) (record (state_in m.old) { context = before })) m.new }
+{
+    let [found, rest @ ..] = founds else {
+        m.context = Context::Outside(founds, lefts);
+        m.why = Some(Halt::Wants);
+        return Err(Halted {});
+    };
+    let Ok(mine) = copy_locals(source.alloc, m.locals.as_slice()) else {
+        m.why = None;
+        return Err(Halted {});
+    };
+    let Ok(memory) = copy_memory(source.alloc, found.as_slice()) else {
+        m.why = None;
+        return Err(Halted {});
+    };
+    m.context = Context::Inside(mode, memory);
+    match block(source, frames, ss, m) {
+        Ok(end) => leave(source.alloc, rest, lefts, mine, found.as_slice(), end, m),
+        Err(halted) => {
+            close_stopped(source.alloc, rest, lefts, found.as_slice(), m);
+            Err(halted)
+        }
+    }
+}
+
+/// A transaction in another, which runs as `outer` on this memory.
+#[cycle(run)]
+#[inline(never)]
+fn nested<'p, A: Allocator + Copy>(
+    source: &Source<'p, A>,
+    frames: u64,
+    outer: Mode,
+    found: Vec<u32, A>,
+    mode: Mode,
+    ss: &'p [Stmt<A>],
+    m: &mut Machine<'p, A>,
+) -> Result<End, Halted>
+    ensures { MeansEnd result (let before = act.Inside outer found.items in meaning.enter before mode (meaning.scoped (does_stmts source.now frames ss.now)) (record (state_in m.old) { context = before })) m.new }
+{
+    if is_forbidden(outer, mode) {
+        m.context = Context::Inside(outer, found);
+        m.why = Some(Halt::Astray);
+        return Err(Halted {});
+    }
+    let Ok(mine) = copy_locals(source.alloc, m.locals.as_slice()) else {
+        m.why = None;
+        return Err(Halted {});
+    };
+    let Ok(memory) = copy_memory(source.alloc, found.as_slice()) else {
+        m.why = None;
+        return Err(Halted {});
+    };
+    m.context = Context::Inside(mode, memory);
+    let end = block(source, frames, ss, m)?;
+    Ok(leave_inner(source.alloc, outer, mine, found, end, m))
 }

@@ -15,8 +15,8 @@ use Rattle.syntax.specs.Actions.{Action, Gives, pure, locals, put_locals, ◌>>=
 use Rattle.syntax.specs.Meaning.{Caller, End, Next, calls, expr, stmt, stmts, scoped, after_body, holds, stepped, first_value, InLocal, start_with, loop}
 use Rattle.meaning.specs.declared.machine.End.{End as OwnEnd}
 use Rattle.meaning.specs.declared.program.Source.{Source}
-use Rattle.meaning.specs.declared.run.Loop.{Loop}
-use Rattle.meaning.specs.declared.run.Loop.TheVariants as kind
+use Rattle.meaning.specs.declared.loops.Loop.{Loop}
+use Rattle.meaning.specs.declared.loops.Loop.TheVariants as kind
 use Rattle.meaning.specs.inner.Machine.{program_in, end_of}
 use Rattle.std.specs.Prelude.{◌+◌, ◌*◌, max, Bool, true, false, [], ◌∷◌, ◌++◌, length}
 

@@ -1,5 +1,5 @@
 -- Threads that take turns.
-use Rattle.std.specs.Prelude.{Vec, ◌≡◌, ◌≢◌, ◌⊎◌, ℕ, ◌+◌, List, [], ◌∷◌, ◌++◌, map, length, drop}
+use Rattle.std.specs.Prelude.{◌≡◌, ◌≢◌, ◌⊎◌, ℕ, ◌+◌, List, [], ◌∷◌, ◌++◌, map, length, drop}
 use Rattle.syntax.specs.Tree.{Program}
 use Rattle.syntax.specs.declared.numbers.Halt.TheVariants.{Wants}
 use Rattle.syntax.specs.Behaviours.{Memory, Behaviour, Stopped}

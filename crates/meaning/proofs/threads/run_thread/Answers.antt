@@ -1,4 +1,4 @@
-use Rattle.std.proofs.Common.{◌∙◌, refl, sym, ap}
+use Rattle.std.proofs.Common.{◌∙◌, sym, ap}
 use Rattle.syntax.specs.Views.{program_of}
 use Rattle.syntax.specs.Threads.{worker_run}
 use Rattle.syntax.specs.Actions.{Stops, lefts_in}

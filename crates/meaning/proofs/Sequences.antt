@@ -1,4 +1,4 @@
--- Loops over parts of a tree, and turns of a loop, from one to the next.
+-- Parts of a tree one after another, and turns of a loop one after another.
 use Rattle.std.proofs.Common.{◌≡◌, ℕ, zero, suc, ◌+◌, ◌<◌, ◌≤◌, List, [], ◌∷◌, ◌++◌, length, map, take, drop, get_or, Option, Some, None, option_map, refl, sym, ap, ◌∙◌, append_assoc}
 use Rattle.std.proofs.lemmas.List.{at_drop_more, at_drop_all, length-map, append-nil}
 use Rattle.syntax.specs.declared.tree.Expr as E

@@ -17,24 +17,24 @@ use Rattle.meaning.proofs.Stops.{err_of, stops_as}
 use Rattle.meaning.proofs.Bodies.{weight_less}
 use Rattle.meaning.proofs.Deeper.{block_deep, transaction_deep, argument_deep, statement_deep, declarator_deep}
 use Rattle.meaning.proofs.Parts.{call_is, logical_is, conditional_is, declare_is, block_is, print_is, while_is, do_while_is, for_is, return_is, transaction_is}
-use Rattle.meaning.proofs.Loops.{after, halts, stmts_next, stmts_left, stmts_halt, stmts_end, values_next, values_halt, values_end, values_start, declare_next, declare_halt, scoped_gives, scoped_stops, truncated, turns_spent, turns_next, turns_ended}
+use Rattle.meaning.proofs.Sequences.{after, halts, stmts_next, stmts_left, stmts_halt, stmts_end, values_next, values_halt, values_end, values_start, declare_next, declare_halt, scoped_gives, scoped_stops, truncated, turns_spent, turns_next, turns_ended}
 use Rattle.meaning.proofs.Steps.{ticks_then, print_until, call_gives, call_stops, transaction_at, outermost_none, outermost_gives, outermost_stops, nested_astray, nested_gives, nested_stops, found_none, found_first, conditional_gives, branch_gives}
-use Rattle.meaning.proofs.run.+run.Goals as goal
-use Rattle.meaning.proofs.run.+run.Goals.{conditional-then-is_zero+in_ok-w, conditional-else-is_zero+in_ok-w-2}
+use Rattle.meaning.proofs.+run.Goals as goal
+use Rattle.meaning.proofs.+run.Goals.{expr::conditional-then-is_zero+in_ok-w, expr::conditional-else-is_zero+in_ok-w-2}
 
-pub block-returns : goal.block-returns
-block-returns g t c done =
+pub stmt::block-returns : goal.stmt::block-returns
+stmt::block-returns g t c done =
     let len : c.len-outer.result ≡ length c.args.m.now.locals.items = search (arith, c.len-outer.ensures) in
     scoped_gives (does_stmts c.args.source.now c.args.frames c.args.ss.now) (state_in c.args.m.now) (state_in c.stmts.new.m) (end_of c.in_ok-end.end) _ (c.in_ok-end.ensures tt)
     (truncated local_in c.args.m.now.locals.items c.stmts.new.m.locals.items c.truncate.new.self.items c.len-outer.result len c.truncate.ensures.items)
 
-pub block-returns-in_err-end : goal.block-returns-in_err-end
-block-returns-in_err-end g t c =
+pub stmt::block-returns-in_err-end : goal.stmt::block-returns-in_err-end
+stmt::block-returns-in_err-end g t c =
     let is : c.from_residual.result ≡ Err c.in_err-end.field-0.0 = err_of c.from_residual.result c.in_err-end.field-0.0 c.from_residual.ensures.1 in
     stops_as end_of c.from_residual.result c.in_err-end.field-0.0 _ c.stmts.new.m is (λ d. scoped_stops (does_stmts c.args.source.now c.args.frames c.args.ss.now) (state_in c.args.m.now) (state_in c.stmts.new.m) _ (c.in_err-end.ensures d))
 
-pub conditional-returns : goal.conditional-returns
-conditional-returns g t c at done =
+pub expr::conditional-returns : goal.expr::conditional-returns
+expr::conditional-returns g t c at done =
     let p = program_in c.args.source.now in
     let call = called c.args.source.now c.args.frames in
     let e1 = expr_of c.args.c.now in
@@ -44,220 +44,220 @@ conditional-returns g t c at done =
     let s2 = state_in c.if-is_zero.m in
     let w2 = value_of c.if-is_zero.w in
     elim c.if-is_zero.branch [
-      | conditional-then-is_zero+in_ok-w w ↦ conditional_gives p call e1 e2 e3 at (state_in c.args.m.now) s1 s2 (value_of c.in_ok-v.v) w2 _ (c.in_ok-v.ensures tt)
+      | expr::conditional-then-is_zero+in_ok-w w ↦ conditional_gives p call e1 e2 e3 at (state_in c.args.m.now) s1 s2 (value_of c.in_ok-v.v) w2 _ (c.in_ok-v.ensures tt)
           (branch_gives (expr p call e3) (expr p call e2) (is_zero (value_of c.in_ok-v.v)) true s1 (Gives w2 s2) (sym c.is_zero.ensures ∙ w.if-is_zero.true)
           (w.in_ok-w.ensures tt ∙ ap (λ x. Gives (value_of x) (state_in w.eval-then-is_zero.new.m)) (sym w.w-is) ∙ ap (λ m. Gives w2 (state_in m)) (sym w.m-is)))
           (c.joined.ensures done)
-      | conditional-else-is_zero+in_ok-w-2 w ↦ conditional_gives p call e1 e2 e3 at (state_in c.args.m.now) s1 s2 (value_of c.in_ok-v.v) w2 _ (c.in_ok-v.ensures tt)
+      | expr::conditional-else-is_zero+in_ok-w-2 w ↦ conditional_gives p call e1 e2 e3 at (state_in c.args.m.now) s1 s2 (value_of c.in_ok-v.v) w2 _ (c.in_ok-v.ensures tt)
           (branch_gives (expr p call e3) (expr p call e2) (is_zero (value_of c.in_ok-v.v)) false s1 (Gives w2 s2) (sym c.is_zero.ensures ∙ w.if-is_zero.false)
           (w.in_ok-w-2.ensures tt ∙ ap (λ x. Gives (value_of x) (state_in w.eval-else-is_zero.new.m)) (sym w.w-is) ∙ ap (λ m. Gives w2 (state_in m)) (sym w.m-is)))
           (c.joined.ensures done)
     ]
 
-pub declare-declarators-preserved : goal.declare-declarators-preserved
-declare-declarators-preserved g t c =
+pub simple::declare-declarators-preserved : goal.simple::declare-declarators-preserved
+simple::declare-declarators-preserved g t c =
     declare_next (program_in c.args.source.now) (called c.args.source.now c.args.frames) c.args.t c.args.ds.now c.declarators.d-index c.d-item.result (state_in c.declarators.m) (state_in c.declare_one.new.m) _ (declare (program_in c.args.source.now) (called c.args.source.now c.args.frames) c.args.t (map declarator_of c.args.ds.now) (state_in c.args.m.now)) c.declarators-test.true c.d-item.is c.declarators.invariant (c.in_ok-declare_one.ensures tt)
 
-pub declare-declare_one-requires : goal.declare-declare_one-requires
-declare-declare_one-requires g t c κs within =
+pub simple::declare-declare_one-requires : goal.simple::declare-declare_one-requires
+simple::declare-declare_one-requires g t c κs within =
     (omega (arith, declarator_deep c.args.ds.now c.declarators.d-index c.d-item.result c.declarators-test.true c.d-item.is, c.decreases), within)
 
-pub declare-returns-in_err-declare_one : goal.declare-returns-in_err-declare_one
-declare-returns-in_err-declare_one g t c =
+pub simple::declare-returns-in_err-declare_one : goal.simple::declare-returns-in_err-declare_one
+simple::declare-returns-in_err-declare_one g t c =
     let is : c.from_residual.result ≡ Err c.in_err-declare_one.field-0.0 = err_of c.from_residual.result c.in_err-declare_one.field-0.0 c.from_residual.ensures.1 in
     stops_as end_of c.from_residual.result c.in_err-declare_one.field-0.0 _ c.declare_one.new.m is (λ d. declare_halt (program_in c.args.source.now) (called c.args.source.now c.args.frames) c.args.t c.args.ds.now c.declarators.d-index c.d-item.result (state_in c.declarators.m) (state_in c.declare_one.new.m) _ (declare (program_in c.args.source.now) (called c.args.source.now c.args.frames) c.args.t (map declarator_of c.args.ds.now) (state_in c.args.m.now)) c.declarators-test.true c.d-item.is c.declarators.invariant (c.in_err-declare_one.ensures d))
 
-pub entered-returns : goal.entered-returns
-entered-returns g t c done =
+pub calls::entered-returns : goal.calls::entered-returns
+calls::entered-returns g t c done =
     let more : c.args.frames ≡ suc (c.args.frames - 1) = omega (arith, c.if-frames-eq0.false) in
     call_gives (program_in c.args.source.now) c.args.frames (c.args.frames - 1) c.args.f.now c.args.values.now (state_in c.args.m.now) (state_in c.begin.new.m) (begun_in c.in_ok-of.field-0) (items_in c.replace-outer.new.dest) (items_in c.replace-outer.result) more (c.in_ok-of.ensures.value tt) (ap items_in c.replace-outer.ensures.after) (ap items_in c.replace-outer.ensures.value) (state_in c.stmts.new.m) (end_of c.in_ok-end.end) _ (c.in_ok-end.ensures tt) (c.result_of.ensures done)
 
-pub entered-returns-in_err-end : goal.entered-returns-in_err-end
-entered-returns-in_err-end g t c =
+pub calls::entered-returns-in_err-end : goal.calls::entered-returns-in_err-end
+calls::entered-returns-in_err-end g t c =
     let more : c.args.frames ≡ suc (c.args.frames - 1) = omega (arith, c.if-frames-eq0.false) in
     let is : c.from_residual-in_err-end.result ≡ Err c.in_err-end.field-0.0 = err_of c.from_residual-in_err-end.result c.in_err-end.field-0.0 c.from_residual-in_err-end.ensures.1 in
     stops_as value_of c.from_residual-in_err-end.result c.in_err-end.field-0.0 _ c.stmts.new.m is (λ d. call_stops (program_in c.args.source.now) c.args.frames (c.args.frames - 1) c.args.f.now c.args.values.now (state_in c.args.m.now) (state_in c.begin.new.m) (begun_in c.in_ok-of.field-0) (items_in c.replace-outer.new.dest) (items_in c.replace-outer.result) more (c.in_ok-of.ensures.value tt) (ap items_in c.replace-outer.ensures.after) (ap items_in c.replace-outer.ensures.value) (state_in c.stmts.new.m) _ (c.in_err-end.ensures d))
 
-pub entered-stmts-requires : goal.entered-stmts-requires
-entered-stmts-requires g t c κs within =
+pub calls::entered-stmts-requires : goal.calls::entered-stmts-requires
+calls::entered-stmts-requires g t c κs within =
     let more : c.args.frames ≡ suc (c.args.frames - 1) = omega (arith, c.if-frames-eq0.false) in
     (omega (arith, weight_less (program_in c.args.source.now) c.args.frames (c.args.frames - 1) (block_depth (stmts_of c.in_ok-of.field-0.body.now)) more c.in_ok-of.ensures.deep), within)
 
-pub eval-returns-in-Call : goal.eval-returns-in-Call
-eval-returns-in-Call g t c done =
+pub expr::eval-returns-in-Call : goal.expr::eval-returns-in-Call
+expr::eval-returns-in-Call g t c done =
     ap (λ x. expr (program_in c.args.source.now) (called c.args.source.now c.args.frames) x (state_in c.args.m.now)) (call_is c.args.e.now c.in-Call.f c.in-Call.args c.as_slice.result.now c.in-Call.field-2 c.in-Call.is c.as_slice.ensures) ∙ c.call.ensures c.in-Call.field-2 done
 
-pub eval-returns-in-Conditional : goal.eval-returns-in-Conditional
-eval-returns-in-Conditional g t c done =
+pub expr::eval-returns-in-Conditional : goal.expr::eval-returns-in-Conditional
+expr::eval-returns-in-Conditional g t c done =
     ap (λ x. expr (program_in c.args.source.now) (called c.args.source.now c.args.frames) x (state_in c.args.m.now)) (conditional_is c.args.e.now c.in-Conditional.c c.in-Conditional.a c.in-Conditional.b c.get-in-Conditional.result.now c.get-in-Conditional-2.result.now c.get-in-Conditional-3.result.now c.in-Conditional.field-3 c.in-Conditional.is c.get-in-Conditional.ensures c.get-in-Conditional-2.ensures c.get-in-Conditional-3.ensures) ∙ c.conditional.ensures c.in-Conditional.field-3 done
 
-pub eval-returns-in-Logical : goal.eval-returns-in-Logical
-eval-returns-in-Logical g t c done =
+pub expr::eval-returns-in-Logical : goal.expr::eval-returns-in-Logical
+expr::eval-returns-in-Logical g t c done =
     ap (λ x. expr (program_in c.args.source.now) (called c.args.source.now c.args.frames) x (state_in c.args.m.now)) (logical_is c.args.e.now c.in-Logical.op c.in-Logical.a c.in-Logical.b c.get-in-Logical.result.now c.get-in-Logical-2.result.now c.in-Logical.field-3 c.in-Logical.is c.get-in-Logical.ensures c.get-in-Logical-2.ensures) ∙ c.logical.ensures c.in-Logical.field-3 done
 
-pub for_scoped-returns : goal.for_scoped-returns
-for_scoped-returns g t c done =
+pub loops::for_scoped-returns : goal.loops::for_scoped-returns
+loops::for_scoped-returns g t c done =
     let len : c.len-outer.result ≡ length c.args.m.now.locals.items = search (arith, c.len-outer.ensures) in
     scoped_gives (for_all (program_in c.args.source.now) (called c.args.source.now c.args.frames) (start_of c.args.head.now.start) (option_map expr_of c.args.head.now.condition) (option_map simple_of c.args.head.now.step) (stmt_of c.args.a.now)) (state_in c.args.m.now) (state_in c.for_run.new.m) (end_of c.in_ok-end.end) _ (c.in_ok-end.ensures tt)
     (truncated local_in c.args.m.now.locals.items c.for_run.new.m.locals.items c.truncate.new.self.items c.len-outer.result len c.truncate.ensures.items)
 
-pub nested-returns : goal.nested-returns
-nested-returns g t c done =
+pub transactions::nested-returns : goal.transactions::nested-returns
+transactions::nested-returns g t c done =
     nested_gives c.args.outer c.args.mode c.args.found.items c.in-Ok-copy_memory.memory.items (scoped (does_stmts c.args.source.now c.args.frames c.args.ss.now)) (record (state_in c.args.m.now) { context = act.Inside c.args.outer c.args.found.items }) (state_in c.block.new.m) (sym c.is_forbidden.ensures ∙ c.if-is_forbidden.false) (c.in-Ok-copy_memory.ensures ∙ c.as_slice-2.ensures.value) (items_in c.in-Ok.mine) (end_of c.in_ok-end.end) _ (c.in-Ok.ensures ∙ ap (map local_in) c.as_slice.ensures.value) (c.in_ok-end.ensures tt) c.leave_inner.ensures
 
-pub nested-returns-in_err-end : goal.nested-returns-in_err-end
-nested-returns-in_err-end g t c =
+pub transactions::nested-returns-in_err-end : goal.transactions::nested-returns-in_err-end
+transactions::nested-returns-in_err-end g t c =
     let is : c.from_residual.result ≡ Err c.in_err-end.field-0.0 = err_of c.from_residual.result c.in_err-end.field-0.0 c.from_residual.ensures.1 in
     stops_as end_of c.from_residual.result c.in_err-end.field-0.0 _ c.block.new.m is (λ d. nested_stops c.args.outer c.args.mode c.args.found.items c.in-Ok-copy_memory.memory.items (scoped (does_stmts c.args.source.now c.args.frames c.args.ss.now)) (record (state_in c.args.m.now) { context = act.Inside c.args.outer c.args.found.items }) (state_in c.block.new.m) (sym c.is_forbidden.ensures ∙ c.if-is_forbidden.false) (c.in-Ok-copy_memory.ensures ∙ c.as_slice-2.ensures.value) _ (c.in_err-end.ensures d))
 
-pub nested-returns-then-is_forbidden : goal.nested-returns-then-is_forbidden
-nested-returns-then-is_forbidden g t c done =
+pub transactions::nested-returns-then-is_forbidden : goal.transactions::nested-returns-then-is_forbidden
+transactions::nested-returns-then-is_forbidden g t c done =
     nested_astray c.args.outer c.args.mode c.args.found.items (scoped (does_stmts c.args.source.now c.args.frames c.args.ss.now)) _ (sym c.is_forbidden.ensures ∙ c.if-is_forbidden.true)
 
-pub outermost-returns-in-Err : goal.outermost-returns-in-Err
-outermost-returns-in-Err g t c done =
+pub transactions::outermost-returns-in-Err : goal.transactions::outermost-returns-in-Err
+transactions::outermost-returns-in-Err g t c done =
     outermost_stops c.args.mode (memories_in c.args.founds.now) (memories_in (take (length c.args.founds.now - 1) (drop 1 c.args.founds.now))) (memories_in c.args.lefts.items) c.as_slice-in-Err.result.now c.in-Ok-copy_memory.memory.items (scoped (does_stmts c.args.source.now c.args.frames c.args.ss.now)) (record (state_in c.args.m.now) { context = act.Outside (memories_in c.args.founds.now) (memories_in c.args.lefts.items) }) (state_in c.block.new.m) (found_first c.args.founds.now c.found-item.result c.as_slice-in-Err.result.now c.in-len1-up.len_at_least c.found-item.is c.as_slice-in-Err.ensures.value) (c.in-Ok-copy_memory.ensures ∙ c.as_slice-2.ensures.value ∙ sym c.as_slice-in-Err.ensures.value) _ _ (c.in-Err.ensures (c.close_stopped.ensures.known done)) (c.close_stopped.ensures.value done (items_in c.args.m.now.locals))
 
-pub outermost-returns-in-Ok-block : goal.outermost-returns-in-Ok-block
-outermost-returns-in-Ok-block g t c done =
+pub transactions::outermost-returns-in-Ok-block : goal.transactions::outermost-returns-in-Ok-block
+transactions::outermost-returns-in-Ok-block g t c done =
     outermost_gives c.args.mode (memories_in c.args.founds.now) (memories_in (take (length c.args.founds.now - 1) (drop 1 c.args.founds.now))) (memories_in c.args.lefts.items) c.as_slice-in-Ok-block.result.now c.in-Ok-copy_memory.memory.items (scoped (does_stmts c.args.source.now c.args.frames c.args.ss.now)) (record (state_in c.args.m.now) { context = act.Outside (memories_in c.args.founds.now) (memories_in c.args.lefts.items) }) (state_in c.block.new.m) (found_first c.args.founds.now c.found-item.result c.as_slice-in-Ok-block.result.now c.in-len1-up.len_at_least c.found-item.is c.as_slice-in-Ok-block.ensures.value) (c.in-Ok-copy_memory.ensures ∙ c.as_slice-2.ensures.value ∙ sym c.as_slice-in-Ok-block.ensures.value) (items_in c.in-Ok.mine) (end_of c.in-Ok-block.end) _ (c.in-Ok.ensures ∙ ap (map local_in) c.as_slice.ensures.value) (c.in-Ok-block.ensures tt) (c.leave.ensures done)
 
-pub outermost-returns-in_default : goal.outermost-returns-in_default
-outermost-returns-in_default g t c done =
+pub transactions::outermost-returns-in_default : goal.transactions::outermost-returns-in_default
+transactions::outermost-returns-in_default g t c done =
     outermost_none c.args.mode (memories_in c.args.founds.now) (memories_in c.args.lefts.items) (scoped (does_stmts c.args.source.now c.args.frames c.args.ss.now)) _ _ (found_none c.args.founds.now c.in_default.len_below) refl
 
-pub printed-returns : goal.printed-returns
-printed-returns g t c at format_at done =
+pub stmt::printed-returns : goal.stmt::printed-returns
+stmt::printed-returns g t c at format_at done =
     print_until (program_in c.args.source.now) (called c.args.source.now c.args.frames) at format_at c.args.format.now (exprs_of c.args.args.now) (state_in c.args.m.now) (state_in c.tick.new.m) (state_in c.may_print.new.m) (state_in c.values.new.m) c.as_slice.result.now (c.in_ok-tick.ensures tt) (c.in_ok-may_print.ensures tt) (c.in_ok-values.ensures tt ∙ ap (λ vs. Gives vs (state_in c.values.new.m)) (sym c.as_slice.ensures.value)) ∙ after _ (λ _. act.pure meaning.Next) _ (state_in c.print_pieces.new.m) (c.in_ok-print_pieces.ensures tt)
 
-pub printed-returns-in_err-print_pieces : goal.printed-returns-in_err-print_pieces
-printed-returns-in_err-print_pieces g t c at format_at =
+pub stmt::printed-returns-in_err-print_pieces : goal.stmt::printed-returns-in_err-print_pieces
+stmt::printed-returns-in_err-print_pieces g t c at format_at =
     let is : c.from_residual-in_err-print_pieces.result ≡ Err c.in_err-print_pieces.field-0.0 = err_of c.from_residual-in_err-print_pieces.result c.in_err-print_pieces.field-0.0 c.from_residual-in_err-print_pieces.ensures.1 in
     stops_as end_of c.from_residual-in_err-print_pieces.result c.in_err-print_pieces.field-0.0 _ c.print_pieces.new.m is (λ d. print_until (program_in c.args.source.now) (called c.args.source.now c.args.frames) at format_at c.args.format.now (exprs_of c.args.args.now) (state_in c.args.m.now) (state_in c.tick.new.m) (state_in c.may_print.new.m) (state_in c.values.new.m) c.as_slice.result.now (c.in_ok-tick.ensures tt) (c.in_ok-may_print.ensures tt) (c.in_ok-values.ensures tt ∙ ap (λ vs. Gives vs (state_in c.values.new.m)) (sym c.as_slice.ensures.value)) ∙ halts _ (λ _. act.pure meaning.Next) _ (state_in c.print_pieces.new.m) (c.in_err-print_pieces.ensures d))
 
-pub repeat-returns-in-Some : goal.repeat-returns-in-Some
-repeat-returns-in-Some g t c done =
+pub loops::repeat-returns-in-Some : goal.loops::repeat-returns-in-Some
+loops::repeat-returns-in-Some g t c done =
     turns_ended (does_turn c.args.source.now c.args.frames c.args.which.now) (c.args.m.now.ticks - c.turns.counter) (c.args.m.now.ticks - (c.turns.counter + 1)) (state_in c.turns.m) (state_in c.turn.new.m) (turns c.args.m.now.ticks (does_turn c.args.source.now c.args.frames c.args.which.now) (state_in c.args.m.now)) _ (state_in c.tick.new.m) c.turns.invariant (omega (arith, c.turns-test.true)) (c.in_ok-tick.ensures tt) _ c.in-Some.end (c.in_ok-end.ensures tt) c.in-Some.is
 
-pub repeat-returns-in_err-tick : goal.repeat-returns-in_err-tick
-repeat-returns-in_err-tick g t c =
+pub loops::repeat-returns-in_err-tick : goal.loops::repeat-returns-in_err-tick
+loops::repeat-returns-in_err-tick g t c =
     let is : c.from_residual.result ≡ Err c.in_err-tick.field-0.0 = err_of c.from_residual.result c.in_err-tick.field-0.0 c.from_residual.ensures.1 in
     stops_as end_of c.from_residual.result c.in_err-tick.field-0.0 _ c.tick.new.m is (λ d. turns_spent (does_turn c.args.source.now c.args.frames c.args.which.now) (c.args.m.now.ticks - c.turns.counter) (c.args.m.now.ticks - (c.turns.counter + 1)) (state_in c.turns.m) (state_in c.tick.new.m) (turns c.args.m.now.ticks (does_turn c.args.source.now c.args.frames c.args.which.now) (state_in c.args.m.now)) _ c.turns.invariant (omega (arith, c.turns-test.true)) (c.in_err-tick.ensures d))
 
-pub repeat-turns-preserved : goal.repeat-turns-preserved
-repeat-turns-preserved g t c =
+pub loops::repeat-turns-preserved : goal.loops::repeat-turns-preserved
+loops::repeat-turns-preserved g t c =
     turns_next (does_turn c.args.source.now c.args.frames c.args.which.now) (c.args.m.now.ticks - c.turns.counter) (c.args.m.now.ticks - (c.turns.counter + 1)) (state_in c.turns.m) (state_in c.turn.new.m) (turns c.args.m.now.ticks (does_turn c.args.source.now c.args.frames c.args.which.now) (state_in c.args.m.now)) _ (state_in c.tick.new.m) c.turns.invariant (omega (arith, c.turns-test.true)) (c.in_ok-tick.ensures tt) _ (c.in_ok-end.ensures tt) c.in_default.is
 
-pub scoped-returns : goal.scoped-returns
-scoped-returns g t c done =
+pub stmt::scoped-returns : goal.stmt::scoped-returns
+stmt::scoped-returns g t c done =
     let len : c.len-outer.result ≡ length c.args.m.now.locals.items = search (arith, c.len-outer.ensures) in
     scoped_gives (does_stmt c.args.source.now c.args.frames c.args.s.now) (state_in c.args.m.now) (state_in c.stmt.new.m) (end_of c.in_ok-end.end) _ (c.in_ok-end.ensures tt)
     (truncated local_in c.args.m.now.locals.items c.stmt.new.m.locals.items c.truncate.new.self.items c.len-outer.result len c.truncate.ensures.items)
 
-pub simple-returns-in-None : goal.simple-returns-in-None
-simple-returns-in-None g t c done =
+pub simple::simple-returns-in-None : goal.simple::simple-returns-in-None
+simple::simple-returns-in-None g t c done =
     ap (λ x. simple (program_in c.args.source.now) (called c.args.source.now c.args.frames) (simple_of x) (state_in c.args.m.now)) c.in-Assign.is ∙ ap (λ o. simple (program_in c.args.source.now) (called c.args.source.now c.args.frames) (tree.Assign (expr_of c.in-Assign.to) o (expr_of c.in-Assign.e)) (state_in c.args.m.now)) c.in-None.is ∙ c.assigned.ensures done
 
-pub simple-returns-in-Some : goal.simple-returns-in-Some
-simple-returns-in-Some g t c done =
+pub simple::simple-returns-in-Some : goal.simple::simple-returns-in-Some
+simple::simple-returns-in-Some g t c done =
     ap (λ x. simple (program_in c.args.source.now) (called c.args.source.now c.args.frames) (simple_of x) (state_in c.args.m.now)) c.in-Assign.is ∙ ap (λ o. simple (program_in c.args.source.now) (called c.args.source.now c.args.frames) (tree.Assign (expr_of c.in-Assign.to) o (expr_of c.in-Assign.e)) (state_in c.args.m.now)) c.in-Some.is ∙ c.changed.ensures done
 
-pub started-returns-in-Declare : goal.started-returns-in-Declare
-started-returns-in-Declare g t c done =
+pub loops::started-returns-in-Declare : goal.loops::started-returns-in-Declare
+loops::started-returns-in-Declare g t c done =
     ap (λ x. meaning.start_with (program_in c.args.source.now) (called c.args.source.now c.args.frames) (start_of x) (state_in c.args.m.now)) c.in-Declare.is ∙ ap (λ ds. declare (program_in c.args.source.now) (called c.args.source.now c.args.frames) c.in-Declare.d.of (map declarator_of ds) (state_in c.args.m.now)) (sym c.as_slice.ensures) ∙ c.declare.ensures done
 
-pub stmt-block-requires : goal.stmt-block-requires
-stmt-block-requires g t c κs within =
+pub stmt::stmt-block-requires : goal.stmt::stmt-block-requires
+stmt::stmt-block-requires g t c κs within =
     (omega (arith, block_deep c.args.s.now c.in-Block.ss c.as_slice-in-Block.result.now c.in-Block.is c.as_slice-in-Block.ensures, c.decreases), within)
 
-pub stmt-returns-in-Print : goal.stmt-returns-in-Print
-stmt-returns-in-Print g t c done =
+pub stmt::stmt-returns-in-Print : goal.stmt::stmt-returns-in-Print
+stmt::stmt-returns-in-Print g t c done =
     ap (λ x. stmt (program_in c.args.source.now) (called c.args.source.now c.args.frames) x (state_in c.args.m.now)) (print_is c.args.s.now c.in-Print.field-0 c.in-Print.format c.as_bytes.result.now c.in-Print.field-2 c.in-Print.args c.as_slice-in-Print.result.now c.in-Print.is (c.as_bytes.ensures.value ∙ c.as_str.ensures) c.as_slice-in-Print.ensures) ∙ c.printed.ensures c.in-Print.field-0 c.in-Print.field-2 done
 
-pub stmt-returns-in-Return : goal.stmt-returns-in-Return
-stmt-returns-in-Return g t c done =
+pub stmt::stmt-returns-in-Return : goal.stmt::stmt-returns-in-Return
+stmt::stmt-returns-in-Return g t c done =
     ap (λ x. stmt (program_in c.args.source.now) (called c.args.source.now c.args.frames) x (state_in c.args.m.now)) (return_is c.args.s.now c.in-Return.e c.in-Return.field-1 c.in-Return.is) ∙ c.returned.ensures c.in-Return.field-1 done
 
-pub stmt-returns-in_ok-tick-in-Block : goal.stmt-returns-in_ok-tick-in-Block
-stmt-returns-in_ok-tick-in-Block g t c done =
+pub stmt::stmt-returns-in_ok-tick-in-Block : goal.stmt::stmt-returns-in_ok-tick-in-Block
+stmt::stmt-returns-in_ok-tick-in-Block g t c done =
     ticks_then (program_in c.args.source.now) (called c.args.source.now c.args.frames) (stmt_of c.args.s.now) (tree.Block (stmts_of c.as_slice-in-Block.result.now)) (scoped (does_stmts c.args.source.now c.args.frames c.as_slice-in-Block.result.now)) (state_in c.args.m.now) (state_in c.tick-in-Block.new.m) _ (block_is c.args.s.now c.in-Block.ss c.as_slice-in-Block.result.now c.in-Block.is c.as_slice-in-Block.ensures) refl (c.in_ok-tick-in-Block.ensures tt) (c.block.ensures done)
 
-pub stmt-returns-in_ok-tick-in-Declare : goal.stmt-returns-in_ok-tick-in-Declare
-stmt-returns-in_ok-tick-in-Declare g t c done =
+pub stmt::stmt-returns-in_ok-tick-in-Declare : goal.stmt::stmt-returns-in_ok-tick-in-Declare
+stmt::stmt-returns-in_ok-tick-in-Declare g t c done =
     ticks_then (program_in c.args.source.now) (called c.args.source.now c.args.frames) (stmt_of c.args.s.now) (tree.Declare (record { of = c.in-Declare.d.of; declarators = map declarator_of c.as_slice.result.now })) (declare (program_in c.args.source.now) (called c.args.source.now c.args.frames) c.in-Declare.d.of (map declarator_of c.as_slice.result.now)) (state_in c.args.m.now) (state_in c.tick-in-Declare.new.m) _ (declare_is c.args.s.now c.in-Declare.d c.as_slice.result.now c.in-Declare.is c.as_slice.ensures) refl (c.in_ok-tick-in-Declare.ensures tt) (c.declare.ensures done)
 
-pub stmt-returns-in_ok-tick-in-DoWhile : goal.stmt-returns-in_ok-tick-in-DoWhile
-stmt-returns-in_ok-tick-in-DoWhile g t c done =
+pub stmt::stmt-returns-in_ok-tick-in-DoWhile : goal.stmt::stmt-returns-in_ok-tick-in-DoWhile
+stmt::stmt-returns-in_ok-tick-in-DoWhile g t c done =
     ticks_then (program_in c.args.source.now) (called c.args.source.now c.args.frames) (stmt_of c.args.s.now) (tree.DoWhile (stmt_of c.get-in-DoWhile.result.now) (expr_of c.in-DoWhile.c)) (meaning.loop (do_turn (program_in c.args.source.now) (called c.args.source.now c.args.frames) (stmt_of c.get-in-DoWhile.result.now) (expr_of c.in-DoWhile.c))) (state_in c.args.m.now) (state_in c.tick-in-DoWhile.new.m) _ (do_while_is c.args.s.now c.in-DoWhile.a c.get-in-DoWhile.result.now c.in-DoWhile.c c.in-DoWhile.is c.get-in-DoWhile.ensures) refl (c.in_ok-tick-in-DoWhile.ensures tt) (c.repeat-in-DoWhile.ensures done)
 
-pub stmt-returns-in_ok-tick-in-For : goal.stmt-returns-in_ok-tick-in-For
-stmt-returns-in_ok-tick-in-For g t c done =
+pub stmt::stmt-returns-in_ok-tick-in-For : goal.stmt::stmt-returns-in_ok-tick-in-For
+stmt::stmt-returns-in_ok-tick-in-For g t c done =
     ticks_then (program_in c.args.source.now) (called c.args.source.now c.args.frames) (stmt_of c.args.s.now) (tree.For (start_of c.get-in-For.result.now.start) (option_map expr_of c.get-in-For.result.now.condition) (option_map simple_of c.get-in-For.result.now.step) (stmt_of c.get-in-For-2.result.now)) (scoped (for_all (program_in c.args.source.now) (called c.args.source.now c.args.frames) (start_of c.get-in-For.result.now.start) (option_map expr_of c.get-in-For.result.now.condition) (option_map simple_of c.get-in-For.result.now.step) (stmt_of c.get-in-For-2.result.now))) (state_in c.args.m.now) (state_in c.tick-in-For.new.m) _ (for_is c.args.s.now c.in-For.head c.get-in-For.result.now c.in-For.a c.get-in-For-2.result.now c.in-For.is c.get-in-For.ensures c.get-in-For-2.ensures) refl (c.in_ok-tick-in-For.ensures tt) (c.for_scoped.ensures done)
 
-pub stmt-returns-in_ok-tick-in-Transaction : goal.stmt-returns-in_ok-tick-in-Transaction
-stmt-returns-in_ok-tick-in-Transaction g t c done =
+pub stmt::stmt-returns-in_ok-tick-in-Transaction : goal.stmt::stmt-returns-in_ok-tick-in-Transaction
+stmt::stmt-returns-in_ok-tick-in-Transaction g t c done =
     ticks_then (program_in c.args.source.now) (called c.args.source.now c.args.frames) (stmt_of c.args.s.now) (tree.Transaction c.in-Transaction.mode (stmts_of c.as_slice-in-Transaction.result.now) c.in-Transaction.field-2) (meaning.transaction c.in-Transaction.mode (scoped (does_stmts c.args.source.now c.args.frames c.as_slice-in-Transaction.result.now))) (state_in c.args.m.now) (state_in c.tick-in-Transaction.new.m) _ (transaction_is c.args.s.now c.in-Transaction.mode c.in-Transaction.ss c.as_slice-in-Transaction.result.now c.in-Transaction.field-2 c.in-Transaction.is c.as_slice-in-Transaction.ensures) refl (c.in_ok-tick-in-Transaction.ensures tt) (c.transaction.ensures done)
 
-pub stmt-returns-in_ok-tick-in-While : goal.stmt-returns-in_ok-tick-in-While
-stmt-returns-in_ok-tick-in-While g t c done =
+pub stmt::stmt-returns-in_ok-tick-in-While : goal.stmt::stmt-returns-in_ok-tick-in-While
+stmt::stmt-returns-in_ok-tick-in-While g t c done =
     ticks_then (program_in c.args.source.now) (called c.args.source.now c.args.frames) (stmt_of c.args.s.now) (tree.While (expr_of c.in-While.c) (stmt_of c.get-in-While.result.now)) (meaning.loop (while_turn (program_in c.args.source.now) (called c.args.source.now c.args.frames) (expr_of c.in-While.c) (stmt_of c.get-in-While.result.now))) (state_in c.args.m.now) (state_in c.tick-in-While.new.m) _ (while_is c.args.s.now c.in-While.c c.in-While.a c.get-in-While.result.now c.in-While.is c.get-in-While.ensures) refl (c.in_ok-tick-in-While.ensures tt) (c.repeat.ensures done)
 
-pub stmt-transaction-requires : goal.stmt-transaction-requires
-stmt-transaction-requires g t c κs within =
+pub stmt::stmt-transaction-requires : goal.stmt::stmt-transaction-requires
+stmt::stmt-transaction-requires g t c κs within =
     (omega (arith, transaction_deep c.args.s.now c.in-Transaction.mode c.in-Transaction.ss c.as_slice-in-Transaction.result.now c.in-Transaction.field-2 c.in-Transaction.is c.as_slice-in-Transaction.ensures, c.decreases), within)
 
-pub stmts-returns : goal.stmts-returns
-stmts-returns g t c done =
+pub stmt::stmts-returns : goal.stmt::stmts-returns
+stmt::stmts-returns g t c done =
     stmts_end (program_in c.args.source.now) (called c.args.source.now c.args.frames) c.args.ss.now c.statements.s-index (state_in c.statements.m) (does_stmts c.args.source.now c.args.frames c.args.ss.now (state_in c.args.m.now)) c.statements-test.false c.statements.invariant
 
-pub stmts-returns-in_default : goal.stmts-returns-in_default
-stmts-returns-in_default g t c done =
+pub stmt::stmts-returns-in_default : goal.stmt::stmts-returns-in_default
+stmt::stmts-returns-in_default g t c done =
     stmts_left (program_in c.args.source.now) (called c.args.source.now c.args.frames) c.args.ss.now c.statements.s-index c.s-item.result (state_in c.statements.m) (state_in c.stmt.new.m) c.in_ok-end.end (does_stmts c.args.source.now c.args.frames c.args.ss.now (state_in c.args.m.now)) c.statements-test.true c.s-item.is c.statements.invariant (c.in_ok-end.ensures tt) c.in_default.not-Next
 
-pub stmts-returns-in_err-end : goal.stmts-returns-in_err-end
-stmts-returns-in_err-end g t c =
+pub stmt::stmts-returns-in_err-end : goal.stmt::stmts-returns-in_err-end
+stmt::stmts-returns-in_err-end g t c =
     let is : c.from_residual.result ≡ Err c.in_err-end.field-0.0 = err_of c.from_residual.result c.in_err-end.field-0.0 c.from_residual.ensures.1 in
     stops_as end_of c.from_residual.result c.in_err-end.field-0.0 _ c.stmt.new.m is (λ d. stmts_halt (program_in c.args.source.now) (called c.args.source.now c.args.frames) c.args.ss.now c.statements.s-index c.s-item.result (state_in c.statements.m) (state_in c.stmt.new.m) _ (does_stmts c.args.source.now c.args.frames c.args.ss.now (state_in c.args.m.now)) c.statements-test.true c.s-item.is c.statements.invariant (c.in_err-end.ensures d))
 
-pub stmts-statements-preserved : goal.stmts-statements-preserved
-stmts-statements-preserved g t c =
+pub stmt::stmts-statements-preserved : goal.stmt::stmts-statements-preserved
+stmt::stmts-statements-preserved g t c =
     stmts_next (program_in c.args.source.now) (called c.args.source.now c.args.frames) c.args.ss.now c.statements.s-index c.s-item.result (state_in c.statements.m) (state_in c.stmt.new.m) c.in_ok-end.end (does_stmts c.args.source.now c.args.frames c.args.ss.now (state_in c.args.m.now)) c.statements-test.true c.s-item.is c.statements.invariant (c.in_ok-end.ensures tt) c.in-Next.is
 
-pub stmts-stmt-requires : goal.stmts-stmt-requires
-stmts-stmt-requires g t c κs within =
+pub stmt::stmts-stmt-requires : goal.stmt::stmts-stmt-requires
+stmt::stmts-stmt-requires g t c κs within =
     (omega (arith, statement_deep c.args.ss.now c.statements.s-index c.s-item.result c.statements-test.true c.s-item.is, c.decreases), within)
 
-pub transaction-returns-in-Inside : goal.transaction-returns-in-Inside
-transaction-returns-in-Inside g t c done =
+pub transactions::transaction-returns-in-Inside : goal.transactions::transaction-returns-in-Inside
+transactions::transaction-returns-in-Inside g t c done =
     transaction_at c.args.mode (scoped (does_stmts c.args.source.now c.args.frames c.args.ss.now)) (state_in c.args.m.now) (act.Inside c.in-Inside.outer c.in-Inside.found.items) _ (ap context_in (sym c.replace.ensures.value ∙ c.in-Inside.is)) (c.nested.ensures done)
 
-pub transaction-returns-in-Outside : goal.transaction-returns-in-Outside
-transaction-returns-in-Outside g t c done =
+pub transactions::transaction-returns-in-Outside : goal.transactions::transaction-returns-in-Outside
+transactions::transaction-returns-in-Outside g t c done =
     transaction_at c.args.mode (scoped (does_stmts c.args.source.now c.args.frames c.args.ss.now)) (state_in c.args.m.now) (act.Outside (memories_in c.in-Outside.founds.now) (memories_in c.in-Outside.lefts.items)) _ (ap context_in (sym c.replace.ensures.value ∙ c.in-Outside.is)) (c.outermost.ensures done)
 
-pub turn-returns-in-DoWhile : goal.turn-returns-in-DoWhile
-turn-returns-in-DoWhile g t c done =
+pub loops::turn-returns-in-DoWhile : goal.loops::turn-returns-in-DoWhile
+loops::turn-returns-in-DoWhile g t c done =
     ap (λ l. does_turn c.args.source.now c.args.frames l (state_in c.args.m.now)) c.in-DoWhile.is ∙ c.turn_do.ensures done
 
-pub values-arguments-init : goal.values-arguments-init
-values-arguments-init g t c =
+pub calls::values-arguments-init : goal.calls::values-arguments-init
+calls::values-arguments-init g t c =
     ap (λ us. go_on (exprs (program_in c.args.source.now) (called c.args.source.now c.args.frames) (exprs_of c.args.args.now) (state_in c.args.m.now)) (joined_to us)) c.new-values.ensures.items ∙ values_start (program_in c.args.source.now) (called c.args.source.now c.args.frames) c.args.args.now (state_in c.args.m.now)
 
-pub values-arguments-preserved : goal.values-arguments-preserved
-values-arguments-preserved g t c =
+pub calls::values-arguments-preserved : goal.calls::values-arguments-preserved
+calls::values-arguments-preserved g t c =
     let grown : c.push.new.self.items ≡ c.arguments.values.items ++ value_of c.in_ok-v.v ∷ [] =
     c.push.ensures.items ∙ ap (λ (b : Bool). if b then c.arguments.values.items ++ c.unpack.result ∷ [] else c.arguments.values.items) c.if-is_err.ensures.negation ∙ ap (λ v. c.arguments.values.items ++ v ∷ []) c.unpack.ensures.value in
     values_next (program_in c.args.source.now) (called c.args.source.now c.args.frames) c.args.args.now c.arguments.e-index c.e-item.result (state_in c.arguments.m) (state_in c.eval.new.m) c.arguments.values.items c.push.new.self.items (value_of c.in_ok-v.v) (exprs (program_in c.args.source.now) (called c.args.source.now c.args.frames) (exprs_of c.args.args.now) (state_in c.args.m.now)) c.arguments-test.true c.e-item.is c.arguments.invariant (c.in_ok-v.ensures tt) grown
 
-pub values-eval-requires : goal.values-eval-requires
-values-eval-requires g t c κs within =
+pub calls::values-eval-requires : goal.calls::values-eval-requires
+calls::values-eval-requires g t c κs within =
     (omega (arith, argument_deep c.args.args.now c.arguments.e-index c.e-item.result c.arguments-test.true c.e-item.is, c.decreases), within)
 
-pub values-returns : goal.values-returns
-values-returns g t c done =
+pub calls::values-returns : goal.calls::values-returns
+calls::values-returns g t c done =
     values_end (program_in c.args.source.now) (called c.args.source.now c.args.frames) c.args.args.now c.arguments.e-index (state_in c.arguments.m) c.arguments.values.items (exprs (program_in c.args.source.now) (called c.args.source.now c.args.frames) (exprs_of c.args.args.now) (state_in c.args.m.now)) c.arguments-test.false c.arguments.invariant
 
-pub values-returns-in_err-v : goal.values-returns-in_err-v
-values-returns-in_err-v g t c =
+pub calls::values-returns-in_err-v : goal.calls::values-returns-in_err-v
+calls::values-returns-in_err-v g t c =
     let is : c.from_residual.result ≡ Err c.in_err-v.field-0.0 = err_of c.from_residual.result c.in_err-v.field-0.0 c.from_residual.ensures.1 in
     stops_as (λ v. v.items) c.from_residual.result c.in_err-v.field-0.0 _ c.eval.new.m is (λ d. values_halt (program_in c.args.source.now) (called c.args.source.now c.args.frames) c.args.args.now c.arguments.e-index c.e-item.result (state_in c.arguments.m) (state_in c.eval.new.m) c.arguments.values.items _ (exprs (program_in c.args.source.now) (called c.args.source.now c.args.frames) (exprs_of c.args.args.now) (state_in c.args.m.now)) c.arguments-test.true c.e-item.is c.arguments.invariant (c.in_err-v.ensures d))

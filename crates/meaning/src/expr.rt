@@ -1,0 +1,122 @@
+//! Expressions.
+
+ghost use Rattle.lex.specs.declared.token.Span.{Span};
+ghost use Rattle.syntax.specs.Views.{expr_of};
+ghost use Rattle.syntax.specs.Tree as tree;
+ghost use Rattle.syntax.specs.Actions as act;
+ghost use Rattle.syntax.specs.Meaning as meaning;
+ghost use Rattle.meaning.specs.inner.Machine.{MeansSpot, MeansWord, program_in, state_in};
+ghost use Rattle.meaning.specs.inner.Does.{called, does_expr};
+
+use crate::calls::call;
+use crate::machine::{Halted, Machine, Spot, fetch, operate, operate_unary};
+use crate::places::{indexed, joined, variable};
+use crate::program::Source;
+use crate::word::{Word, constant, convert_word, flag, is_zero};
+use std::alloc::Allocator;
+use syntax::tree::{Expr, LogicalOp, Name};
+
+/// What an expression gives.
+#[cycle(run)]
+pub(crate) fn eval<'p, A: Allocator + Copy>(
+    source: &Source<'p, A>,
+    frames: u64,
+    e: &'p Expr<A>,
+    m: &mut Machine<'p, A>,
+) -> Result<Word, Halted>
+    ensures { MeansWord result (does_expr source.now frames e.now (state_in m.old)) m.new }
+{
+    match e {
+        Expr::Variable(x) => variable(source, x, m),
+        Expr::Constant(n, t, _) => Ok(constant(*n, *t)),
+        Expr::Element(x, i, _) => {
+            let at = element(source, frames, x, i.get(), m)?;
+            fetch(m, at)
+        }
+        Expr::Call(f, args, _) => call(source, frames, f, args.as_slice(), m),
+        Expr::Parenthesized(e, _) => eval(source, frames, e.get(), m),
+        Expr::Cast(t, e, _) => {
+            let v = eval(source, frames, e.get(), m)?;
+            Ok(convert_word(*t, v))
+        }
+        Expr::Unary(op, e, _) => {
+            let v = eval(source, frames, e.get(), m)?;
+            operate_unary(m, *op, v)
+        }
+        Expr::Binary(op, a, b, _) => {
+            let v = eval(source, frames, a.get(), m)?;
+            let w = eval(source, frames, b.get(), m)?;
+            operate(m, *op, v, w)
+        }
+        Expr::Logical(op, a, b, _) => logical(source, frames, *op, a.get(), b.get(), m),
+        Expr::Conditional(c, a, b, _) => conditional(source, frames, c.get(), a.get(), b.get(), m),
+    }
+}
+
+/// The right operand counts only where the left one does not decide.
+#[cycle(run)]
+fn logical<'p, A: Allocator + Copy>(
+    source: &Source<'p, A>,
+    frames: u64,
+    op: LogicalOp,
+    a: &'p Expr<A>,
+    b: &'p Expr<A>,
+    m: &mut Machine<'p, A>,
+) -> Result<Word, Halted>
+    ensures { (at : Span) → MeansWord result (meaning.expr (program_in source.now) (called source.now frames) (tree.Logical op (expr_of a.now) (expr_of b.now) at) (state_in m.old)) m.new }
+{
+    let v = eval(source, frames, a, m)?;
+    let w = match op {
+        LogicalOp::AndThen => {
+            if is_zero(v) {
+                v
+            } else {
+                eval(source, frames, b, m)?
+            }
+        }
+        LogicalOp::OrElse => {
+            if is_zero(v) {
+                eval(source, frames, b, m)?
+            } else {
+                v
+            }
+        }
+    };
+    Ok(flag(!is_zero(w)))
+}
+
+/// One of two branches, converted to their common type.
+#[cycle(run)]
+fn conditional<'p, A: Allocator + Copy>(
+    source: &Source<'p, A>,
+    frames: u64,
+    c: &'p Expr<A>,
+    a: &'p Expr<A>,
+    b: &'p Expr<A>,
+    m: &mut Machine<'p, A>,
+) -> Result<Word, Halted>
+    ensures { (at : Span) → MeansWord result (meaning.expr (program_in source.now) (called source.now frames) (tree.Conditional (expr_of c.now) (expr_of a.now) (expr_of b.now) at) (state_in m.old)) m.new }
+{
+    let v = eval(source, frames, c, m)?;
+    let w = if is_zero(v) {
+        eval(source, frames, b, m)?
+    } else {
+        eval(source, frames, a, m)?
+    };
+    joined(source, a, b, w, m)
+}
+
+/// The cell of an element, its index computed and tested.
+#[cycle(run)]
+pub(crate) fn element<'p, A: Allocator + Copy>(
+    source: &Source<'p, A>,
+    frames: u64,
+    x: &Name<A>,
+    i: &'p Expr<A>,
+    m: &mut Machine<'p, A>,
+) -> Result<Spot, Halted>
+    ensures { MeansSpot result (act.go_on (does_expr source.now frames i.now (state_in m.old)) (λ k. meaning.element (program_in source.now) (called source.now frames) x.now.text k)) m.new }
+{
+    let k = eval(source, frames, i, m)?;
+    indexed(source, x, k, m)
+}

@@ -1,0 +1,161 @@
+//! Assignments, steps and declarations.
+
+ghost use Rattle.std.specs.Prelude.{◌≡◌, None, Some, map};
+ghost use Rattle.syntax.specs.Views.{declarator_of, expr_of, simple_of};
+ghost use Rattle.syntax.specs.Tree as tree;
+ghost use Rattle.syntax.specs.Meaning as meaning;
+ghost use Rattle.meaning.specs.inner.Machine.{Means, MeansEnd, MeansSpot, program_in, state_in};
+ghost use Rattle.meaning.specs.inner.Does.{called, declared_one};
+
+use crate::expr::{element, eval};
+use crate::machine::{End, Halted, Local, Machine, Spot, assign, fetch, operate};
+use crate::places::named;
+use crate::program::Source;
+use crate::word::flag;
+use lex::token::Scalar;
+use std::alloc::Allocator;
+use syntax::numbers::Halt;
+use syntax::tree::{BinaryOp, Declarator, Expr, IncDec, Simple};
+
+/// The operator that adds one or takes one away.
+fn operator(by: IncDec) -> BinaryOp
+    ensures { result ≡ meaning.op_of by }
+{
+    match by {
+        IncDec::Increment => BinaryOp::Add,
+        IncDec::Decrement => BinaryOp::Subtract,
+    }
+}
+
+/// Where the left side of an assignment stands.
+#[cycle(run)]
+fn target<'p, A: Allocator + Copy>(
+    source: &Source<'p, A>,
+    frames: u64,
+    e: &'p Expr<A>,
+    m: &mut Machine<'p, A>,
+) -> Result<Spot, Halted>
+    ensures { MeansSpot result (meaning.spot (program_in source.now) (called source.now frames) (expr_of e.now) (state_in m.old)) m.new }
+{
+    match e {
+        Expr::Variable(x) => named(source, x, m),
+        Expr::Element(x, i, _) => element(source, frames, x, i.get(), m),
+        _ => {
+            m.why = Some(Halt::Astray);
+            Err(Halted {})
+        }
+    }
+}
+
+/// What an assignment without an operator does.
+#[cycle(run)]
+fn assigned<'p, A: Allocator + Copy>(
+    source: &Source<'p, A>,
+    frames: u64,
+    to: &'p Expr<A>,
+    e: &'p Expr<A>,
+    m: &mut Machine<'p, A>,
+) -> Result<End, Halted>
+    ensures { MeansEnd result (meaning.simple (program_in source.now) (called source.now frames) (tree.Assign (expr_of to.now) None (expr_of e.now)) (state_in m.old)) m.new }
+{
+    let at = target(source, frames, to, m)?;
+    let v = eval(source, frames, e, m)?;
+    assign(m, at, v)?;
+    Ok(End::Next)
+}
+
+/// What an assignment with an operator does: the old value is read first.
+#[cycle(run)]
+fn changed<'p, A: Allocator + Copy>(
+    source: &Source<'p, A>,
+    frames: u64,
+    to: &'p Expr<A>,
+    op: BinaryOp,
+    e: &'p Expr<A>,
+    m: &mut Machine<'p, A>,
+) -> Result<End, Halted>
+    ensures { MeansEnd result (meaning.simple (program_in source.now) (called source.now frames) (tree.Assign (expr_of to.now) (Some op) (expr_of e.now)) (state_in m.old)) m.new }
+{
+    let at = target(source, frames, to, m)?;
+    let before = fetch(m, at)?;
+    let v = eval(source, frames, e, m)?;
+    let new = operate(m, op, before, v)?;
+    assign(m, at, new)?;
+    Ok(End::Next)
+}
+
+/// What an expression, an assignment or a step does.
+#[cycle(run)]
+pub(crate) fn simple<'p, A: Allocator + Copy>(
+    source: &Source<'p, A>,
+    frames: u64,
+    s: &'p Simple<A>,
+    m: &mut Machine<'p, A>,
+) -> Result<End, Halted>
+    ensures { MeansEnd result (meaning.simple (program_in source.now) (called source.now frames) (simple_of s.now) (state_in m.old)) m.new }
+{
+    match s {
+        Simple::Evaluate(e) => {
+            eval(source, frames, e, m)?;
+            Ok(End::Next)
+        }
+        Simple::Assign(to, op, e) => match op {
+            None => assigned(source, frames, to, e, m),
+            Some(op) => changed(source, frames, to, *op, e, m),
+        },
+        Simple::Adjust(to, by) => {
+            let at = target(source, frames, to, m)?;
+            let old = fetch(m, at)?;
+            let new = operate(m, operator(*by), old, flag(true))?;
+            assign(m, at, new)?;
+            Ok(End::Next)
+        }
+    }
+}
+
+/// New locals, each with its first value.
+#[cycle(run)]
+pub(crate) fn declare<'p, A: Allocator + Copy>(
+    source: &Source<'p, A>,
+    frames: u64,
+    t: Scalar,
+    ds: &'p [Declarator<A>],
+    m: &mut Machine<'p, A>,
+) -> Result<End, Halted>
+    ensures { MeansEnd result (meaning.declare (program_in source.now) (called source.now frames) t (map declarator_of ds.now) (state_in m.old)) m.new }
+{
+    'declarators: for d in ds {
+        declare_one(source, frames, t, d, m)?;
+    }
+    Ok(End::Next)
+}
+
+/// A new local, which is 0 and then its first value.
+#[cycle(run)]
+fn declare_one<'p, A: Allocator + Copy>(
+    source: &Source<'p, A>,
+    frames: u64,
+    t: Scalar,
+    d: &'p Declarator<A>,
+    m: &mut Machine<'p, A>,
+) -> Result<(), Halted>
+    ensures { Means result (declared_one (program_in source.now) (called source.now frames) t (declarator_of d.now) (state_in m.old)) m.new }
+{
+    let place = m.locals.len();
+    let local = Local {
+        name: d.name.text.as_str(),
+        of: t,
+        word: 0,
+    };
+    if m.locals.push(local).is_err() {
+        m.why = None;
+        return Err(Halted {});
+    }
+    match &d.first {
+        None => Ok(()),
+        Some(e) => {
+            let v = eval(source, frames, e, m)?;
+            assign(m, Spot::InLocal(place, t), v)
+        }
+    }
+}

@@ -1,0 +1,204 @@
+//! Statements.
+
+ghost use Rattle.std.specs.Prelude.{None, Option, Some, option_map};
+ghost use Rattle.lex.specs.declared.token.Span.{Span};
+ghost use Rattle.syntax.specs.Views.{expr_of, exprs_of, stmt_of};
+ghost use Rattle.syntax.specs.Tree as tree;
+ghost use Rattle.syntax.specs.Meaning as meaning;
+ghost use Rattle.meaning.specs.inner.Machine.{MeansEnd, program_in, state_in};
+ghost use Rattle.meaning.specs.inner.Does.{called, does_stmt, does_stmts, if_of};
+
+use crate::calls::values;
+use crate::expr::eval;
+use crate::loops::{Loop, for_scoped, repeat};
+use crate::machine::{End, Halted, Machine, tick};
+use crate::print::{may_print, print_pieces};
+use crate::program::Source;
+use crate::simple::{declare, simple};
+use crate::transactions::transaction;
+use crate::word::{flag, is_zero};
+use containers::Boxed;
+use std::alloc::Allocator;
+use syntax::tree::{Expr, Stmt};
+
+/// What a statement does.
+#[cycle(run)]
+fn stmt<'p, A: Allocator + Copy>(
+    source: &Source<'p, A>,
+    frames: u64,
+    s: &'p Stmt<A>,
+    m: &mut Machine<'p, A>,
+) -> Result<End, Halted>
+    ensures { MeansEnd result (does_stmt source.now frames s.now (state_in m.old)) m.new }
+{
+    match s {
+        Stmt::Empty => {
+            tick(m)?;
+            Ok(End::Next)
+        }
+        Stmt::Declare(d) => {
+            tick(m)?;
+            declare(source, frames, d.of, d.declarators.as_slice(), m)
+        }
+        Stmt::Do(s) => {
+            tick(m)?;
+            simple(source, frames, s, m)
+        }
+        Stmt::Block(ss) => {
+            tick(m)?;
+            block(source, frames, ss.as_slice(), m)
+        }
+        Stmt::Print(_, format, _, args) => {
+            printed(
+                source,
+                frames,
+                format.as_str().as_bytes(),
+                args.as_slice(),
+                m,
+            )
+        }
+        Stmt::If(c, a, b) => either(source, frames, c, a.get(), b, m),
+        Stmt::While(c, a) => {
+            tick(m)?;
+            repeat(source, frames, &Loop::While(c, a.get()), m)
+        }
+        Stmt::DoWhile(a, c) => {
+            tick(m)?;
+            repeat(source, frames, &Loop::DoWhile(a.get(), c), m)
+        }
+        Stmt::For(head, a) => {
+            tick(m)?;
+            for_scoped(source, frames, head.get(), a.get(), m)
+        }
+        Stmt::Break(_) => {
+            tick(m)?;
+            Ok(End::Breaks)
+        }
+        Stmt::Continue(_) => {
+            tick(m)?;
+            Ok(End::Continues)
+        }
+        Stmt::Return(e, _) => returned(source, frames, e, m),
+        Stmt::Transaction(mode, ss, _) => {
+            tick(m)?;
+            transaction(source, frames, *mode, ss.as_slice(), m)
+        }
+        Stmt::Cancel(_) => {
+            tick(m)?;
+            Ok(End::Cancels)
+        }
+    }
+}
+
+/// What statements do, one after another, up to the first that goes elsewhere.
+#[cycle(run)]
+pub(crate) fn stmts<'p, A: Allocator + Copy>(
+    source: &Source<'p, A>,
+    frames: u64,
+    ss: &'p [Stmt<A>],
+    m: &mut Machine<'p, A>,
+) -> Result<End, Halted>
+    ensures { MeansEnd result (does_stmts source.now frames ss.now (state_in m.old)) m.new }
+{
+    'statements: for s in ss {
+        match stmt(source, frames, s, m)? {
+            End::Next => {}
+            end => return Ok(end),
+        }
+    }
+    Ok(End::Next)
+}
+
+/// Statements with names of their own.
+#[cycle(run)]
+pub(crate) fn block<'p, A: Allocator + Copy>(
+    source: &Source<'p, A>,
+    frames: u64,
+    ss: &'p [Stmt<A>],
+    m: &mut Machine<'p, A>,
+) -> Result<End, Halted>
+    ensures { MeansEnd result (meaning.scoped (does_stmts source.now frames ss.now) (state_in m.old)) m.new }
+{
+    let outer = m.locals.len();
+    let end = stmts(source, frames, ss, m)?;
+    m.locals.truncate(outer);
+    Ok(end)
+}
+
+/// A statement with names of its own.
+#[cycle(run)]
+pub(crate) fn scoped<'p, A: Allocator + Copy>(
+    source: &Source<'p, A>,
+    frames: u64,
+    s: &'p Stmt<A>,
+    m: &mut Machine<'p, A>,
+) -> Result<End, Halted>
+    ensures { MeansEnd result (meaning.scoped (does_stmt source.now frames s.now) (state_in m.old)) m.new }
+{
+    let outer = m.locals.len();
+    let end = stmt(source, frames, s, m)?;
+    m.locals.truncate(outer);
+    Ok(end)
+}
+
+/// What a format and its arguments print, where printing is allowed.
+#[cycle(run)]
+#[inline(never)]
+fn printed<'p, A: Allocator + Copy>(
+    source: &Source<'p, A>,
+    frames: u64,
+    format: &[u8],
+    args: &'p [Expr<A>],
+    m: &mut Machine<'p, A>,
+) -> Result<End, Halted>
+    ensures { (at format_at : Span) → MeansEnd result (meaning.stmt (program_in source.now) (called source.now frames) (tree.Print at format.now format_at (exprs_of args.now)) (state_in m.old)) m.new }
+{
+    tick(m)?;
+    may_print(m)?;
+    let values = values(source, frames, args, m)?;
+    print_pieces(m, format, values.as_slice())?;
+    Ok(End::Next)
+}
+
+/// One of two statements, or of one and nothing.
+#[cycle(run)]
+fn either<'p, A: Allocator + Copy>(
+    source: &Source<'p, A>,
+    frames: u64,
+    c: &'p Expr<A>,
+    a: &'p Stmt<A>,
+    b: &'p Option<Boxed<Stmt<A>, A>>,
+    m: &mut Machine<'p, A>,
+) -> Result<End, Halted>
+    ensures { MeansEnd result (meaning.stmt (program_in source.now) (called source.now frames) (if_of (expr_of c.now) (stmt_of a.now) (option_map stmt_of b.now)) (state_in m.old)) m.new }
+{
+    tick(m)?;
+    let v = eval(source, frames, c, m)?;
+    if !is_zero(v) {
+        return scoped(source, frames, a, m);
+    }
+    match b {
+        Some(b) => scoped(source, frames, b.get(), m),
+        None => Ok(End::Next),
+    }
+}
+
+/// The end that leaves a function.
+#[cycle(run)]
+fn returned<'p, A: Allocator + Copy>(
+    source: &Source<'p, A>,
+    frames: u64,
+    e: &'p Option<Expr<A>>,
+    m: &mut Machine<'p, A>,
+) -> Result<End, Halted>
+    ensures { (at : Span) → MeansEnd result (meaning.stmt (program_in source.now) (called source.now frames) (tree.Return (option_map expr_of e.now) at) (state_in m.old)) m.new }
+{
+    tick(m)?;
+    match e {
+        None => Ok(End::Returns(flag(false))),
+        Some(e) => {
+            let v = eval(source, frames, e, m)?;
+            Ok(End::Returns(v))
+        }
+    }
+}
