@@ -1,9 +1,10 @@
 #!/usr/bin/env python3
 """Writes crates/txc/src/example_tests.rt. It runs each program of examples/ and compares what it prints with the file of the same
 name that ends in .out; and it runs each transcript of examples/transcripts/, a file whose first line is a command line, `$ txc ..`,
-and which has under it what a terminal then shows.
+and which has under it what a terminal then shows. And it writes crates/meaning_tests/src/examples.rt, which runs each program of
+examples/ from its tree and compares with the same file.
 
-With --check it writes nothing, and fails where that file is not what it would write, or where a document shows what the program
+With --check it writes nothing, and fails where one of the two is not what it would write, or where a document shows what the program
 does not print: a block that begins with `$ txc run examples/NAME.c` has NAME.out under it, any other one that begins with
 `$ txc` is a transcript, README.md shows the output of first.c in a block of its own, and the C that it and GUIDE.md show is that
 of files of examples/.
@@ -16,6 +17,7 @@ import sys
 
 TOP = os.path.dirname(os.path.dirname(os.path.abspath(__file__)))
 TESTS = os.path.join(TOP, "crates/txc/src/example_tests.rt")
+MEANING_TESTS = os.path.join(TOP, "crates/meaning_tests/src/examples.rt")
 SHOWN = re.compile(r"^```\n(\$ txc [^\n]*\n)(.*?)^```$", re.M | re.S)
 PROGRAM = re.compile(r"^```c\n(.*?)^```$", re.M | re.S)
 RUN = re.compile(r"\$ txc run examples/(\w+)\.c\n")
@@ -91,12 +93,65 @@ fn transcripts_show_what_they_should(rt: HostRuntime) -> Result<(), Fail> {{
 """
 
 
+def told(out):
+    """What a report of one thread says: the number of its trap or 0, what it printed, and the words of memory."""
+    end, rest = out.split("\n", 1)
+    printed, memory = rest.split("== memory\n")
+    trap = re.fullmatch("== thread 0: (?:ended|trap ([1-5]))", end)[1]
+    words = [int(word) % 2**32 for line in memory.splitlines() for word in line.split(" = ")[1].split()]
+    return f"        {trap or 0},\n        {literal(printed)},\n        &{words},\n"
+
+
+def meaning_tests():
+    examples = [f"    (\n        {literal(read(name))},\n{told(read(name[:-2] + '.out'))}    ),\n" for name in names("examples/*.c")]
+    return f"""//! The programs of examples/, each run alone from its tree: written by scripts/examples.py.
+
+use crate::run::accepted_of;
+use meaning::{{ThreadEnd, run_order}};
+use std::test::Fail;
+
+/// A program, the number of the trap in which it ends or 0, what it prints, and the words of the memory that it leaves.
+type Row = (&'static str, u32, &'static str, &'static [u32]);
+
+const EXAMPLES: [Row; {len(examples)}] = [
+{"".join(examples)}];
+
+/// Entries enough for the transactions of each program.
+const ALONE: [u32; 20] = [0; 20];
+
+#[test]
+fn examples_leave_and_print_what_they_should(rt: HostRuntime) -> Result<(), Fail> {{
+    for (source, trap, printed, words) in EXAMPLES {{
+        let Some(accepted) = accepted_of(rt.alloc(), source) else {{
+            return Err("an example is an accepted program")?;
+        }};
+        let Ok(outcome) = run_order(rt.alloc(), &accepted, 1, ALONE.as_slice(), 100000) else {{
+            return Err("it runs")?;
+        }};
+        assert_eq!(rt; outcome.memory.as_slice(), words, "{{source}}");
+        let [thread] = outcome.threads.as_slice() else {{
+            return Err("one thread is told of")?;
+        }};
+        assert_eq!(rt; thread.text.as_slice(), printed.as_bytes(), "{{source}}");
+        match thread.end {{
+            ThreadEnd::Ended => assert_eq!(rt; trap, 0, "{{source}}"),
+            ThreadEnd::Trapped(why) => assert_eq!(rt; trap, why.number(), "{{source}}"),
+            _ => return Err("it comes to its end")?,
+        }}
+    }}
+    Ok(())
+}}
+"""
+
+
 def main():
+    written = {TESTS: tests(), MEANING_TESTS: meaning_tests()}
     if sys.argv[1:] != ["--check"]:
-        with open(TESTS, "w", encoding="utf-8") as file:
-            file.write(tests())
+        for path, text in written.items():
+            with open(path, "w", encoding="utf-8") as file:
+                file.write(text)
         return 0
-    wrong = [] if read(TESTS) == tests() else ["crates/txc/src/example_tests.rt is not what this script writes"]
+    wrong = [f"{os.path.relpath(path, TOP)} is not what this script writes" for path, text in written.items() if read(path) != text]
     transcripts = {read(name) for name in names("examples/transcripts/*.txt")}
     count = 0
     for document in ["README.md", *names("docs/*.md")]:
@@ -110,7 +165,7 @@ def main():
         wrong += [f"{document} shows a program that is no example: {text[:60]!r}" for text in PROGRAM.findall(read(document)) if text not in programs]
     if f"```\n{read('examples/first.out')}```" not in read("README.md"):
         wrong.append("README.md does not show what first.c prints")
-    print("\n".join(wrong) or f"the examples are those of the test, and {count} transcripts in documents are as they run")
+    print("\n".join(wrong) or f"the examples are those of the tests, and {count} transcripts in documents are as they run")
     return 1 if wrong else 0
 
 

@@ -4,6 +4,10 @@
 #[cfg(test)]
 mod deep;
 #[cfg(test)]
+mod evaluation;
+#[cfg(test)]
+mod examples;
+#[cfg(test)]
 mod memory;
 #[cfg(test)]
 mod orders;

@@ -2,6 +2,7 @@
 
 use crate::run::run;
 use meaning::ThreadEnd;
+use std::alloc::Allocator;
 use std::test::Fail;
 use syntax::numbers::Trap;
 
@@ -23,28 +24,84 @@ const WANTS: ThreadEnd = ThreadEnd::Wants;
 
 const ENDED: ThreadEnd = ThreadEnd::Ended;
 
+const DIVIDES: ThreadEnd = ThreadEnd::Trapped(Trap::ZeroDivisor);
+
 const IDLE: &str = "void worker(int self) { }";
 
 const SETS: &str = "int x; void worker(int self) { __transaction_atomic { x = 1; } }";
+// a block in a function is a statement, and the empty one in it too
+const BLOCK: &str = "void worker(int self) { { ; } }";
 // for: its statement, two turns with an empty statement each, and the turn that ends it
 const FOR: &str = "void worker(int self) { for (int i = 0; i < 2; i++) ; }";
+// a turn is due before the condition is computed, which takes a call's tick and those of its body
+const WHILE: &str =
+    "int f(void) { printf(\"c\"); return 0; } void worker(int self) { while (f()) ; }";
+
+const FOR_TESTED: &str =
+    "int f(void) { printf(\"c\"); return 0; } void worker(int self) { for (; f(); ) ; }";
 // do: its statement, two turns with a statement each
 const DO: &str = "void worker(int self) { int i = 2; do i--; while (i); }";
+// its turn is due before the body
+const DO_PRINTS: &str = "void worker(int self) { do printf(\"b\"); while (0); }";
+
+const BREAKS: &str = "void worker(int self) { while (1) { break; } }";
+// three turns, of which the second prints nothing, and the turn that ends it
+const CONTINUES: &str =
+    "void worker(int self) { for (int i = 0; i < 3; i++) { if (i == 1) continue; printf(\"%d\", i); } }";
+// a continue goes on with the condition behind the body
+const CONTINUES_DO: &str =
+    "void worker(int self) { int i = 0; do { i++; if (i == 1) continue; printf(\"%d\", i); } while (i < 2); }";
 // a call's tick comes behind its arguments, and its body is no statement
 const CALL: &str = "int f(int a) { return a; } void worker(int self) { f(f(1)); }";
+
+const CALL_PRINTS: &str = "int g(void) { printf(\"g\"); return 1; }
+int f(int a) { printf(\"f%d\", a); return a; }
+void worker(int self) { f(g()); }";
 // each piece takes one
 const PIECES: &str = "void worker(int self) { printf(\"a%d%%b\", 7); }";
+// no piece is printed
+const NO_PIECE: &str = "void worker(int self) { printf(\"\"); }";
 // a trap takes one, and the memory found is left
 const TRAPS: &str = "int x; void worker(int self) { __transaction_atomic { x = 1; x = x / 0; } }";
+
+const TRAPS_OUTSIDE: &str = "void worker(int self) { 1 % self; }";
 // a call for which no frame is left: 63 calls below `worker` with a statement each, and then the call's tick and the trap's
 const FRAMES: &str = "int f(int a) { return f(a); } void worker(int self) { f(0); }";
 // a cancel undoes cells and locals, and the tick of one left goes
 const CANCELS: &str =
     "int x; void worker(int self) { int k = 5; __transaction_atomic { x = 1; k = 6; __transaction_cancel; } printf(\"%d\", k); }";
+// an inner transaction takes no tick as it is left, and its cancel undoes what it did alone
+const CANCELS_INNER: &str =
+    "int x; void worker(int self) { __transaction_atomic { x = 1; __transaction_atomic { x = 2; __transaction_cancel; } } }";
+// a return leaves both transactions
+const RETURNS: &str =
+    "int x; int f(void) { __transaction_atomic { __transaction_atomic { x = 7; return x; } } } void worker(int self) { printf(\"%d\", f()); }";
+// to want a memory takes no tick
+const TWICE: &str =
+    "int x; void worker(int self) { __transaction_atomic { x = 1; } __transaction_atomic { x = 2; } }";
 
 const BRANCH: &str = "void worker(int self) { if (self) printf(\"a\"); else printf(\"b\"); }";
 
-const ROWS: [Row; 27] = [
+const BRANCH_TAKEN: &str =
+    "void worker(int self) { if (!self) printf(\"a\"); else printf(\"b\"); }";
+
+const BRANCH_MISSING: &str = "void worker(int self) { if (self) printf(\"a\"); }";
+
+/// Whether a thread does what the row says.
+fn is_so<A: Allocator + Copy>(alloc: A, row: &Row) -> bool {
+    let (text, founds, ticks, lefts, first, printed, end) = *row;
+    let Some(outcome) = run(alloc, text, 0, founds, ticks) else {
+        return false;
+    };
+    let last = match outcome.lefts.last() {
+        Some(memory) => memory.first().copied() == Some(first),
+        None => true,
+    };
+    let same = outcome.text.as_slice() == printed.as_bytes();
+    last && same && outcome.lefts.len() == lefts && outcome.end == end
+}
+
+const STATEMENTS: [Row; 22] = [
     (IDLE, 0, 0, 0, 0, "", SPENT),
     (IDLE, 0, 1, 0, 0, "", ENDED),
     (SETS, 1, 0, 0, 0, "", SPENT),
@@ -52,44 +109,113 @@ const ROWS: [Row; 27] = [
     (SETS, 1, 2, 0, 0, "", SPENT),
     (SETS, 1, 3, 1, 1, "", SPENT),
     (SETS, 1, 4, 1, 1, "", ENDED),
-    (FOR, 0, 6, 0, 0, "", SPENT),
-    (FOR, 0, 7, 0, 0, "", ENDED),
-    (DO, 0, 6, 0, 0, "", SPENT),
-    (DO, 0, 7, 0, 0, "", ENDED),
-    (CALL, 0, 5, 0, 0, "", SPENT),
-    (CALL, 0, 6, 0, 0, "", ENDED),
+    (BLOCK, 0, 2, 0, 0, "", SPENT),
+    (BLOCK, 0, 3, 0, 0, "", ENDED),
     (PIECES, 0, 1, 0, 0, "", SPENT),
     (PIECES, 0, 2, 0, 0, "a", SPENT),
     (PIECES, 0, 3, 0, 0, "a7", SPENT),
     (PIECES, 0, 4, 0, 0, "a7%b", SPENT),
     (PIECES, 0, 5, 0, 0, "a7%b", ENDED),
-    (TRAPS, 1, 3, 0, 0, "", SPENT),
-    (TRAPS, 1, 4, 1, 0, "", ThreadEnd::Trapped(Trap::ZeroDivisor)),
-    (FRAMES, 0, 128, 0, 0, "", SPENT),
-    (FRAMES, 0, 129, 0, 0, "", ThreadEnd::Trapped(Trap::Frames)),
-    (CANCELS, 1, 5, 0, 0, "", SPENT),
-    (CANCELS, 1, 8, 1, 0, "5", SPENT),
-    (CANCELS, 1, 9, 1, 0, "5", ENDED),
+    (NO_PIECE, 0, 1, 0, 0, "", SPENT),
+    (NO_PIECE, 0, 2, 0, 0, "", ENDED),
     (BRANCH, 0, 3, 0, 0, "b", SPENT),
     (BRANCH, 0, 4, 0, 0, "b", ENDED),
+    (BRANCH_TAKEN, 0, 3, 0, 0, "a", SPENT),
+    (BRANCH_TAKEN, 0, 4, 0, 0, "a", ENDED),
+    (BRANCH_MISSING, 0, 1, 0, 0, "", SPENT),
+    (BRANCH_MISSING, 0, 2, 0, 0, "", ENDED),
 ];
 
 #[test]
-fn each_thing_takes_its_ticks(rt: HostRuntime) -> Result<(), Fail> {
-    for (text, founds, ticks, lefts, first, printed, end) in ROWS {
-        let Some(outcome) = run(rt.alloc(), text, 0, founds, ticks) else {
-            return Err("a row has an accepted program")?;
-        };
-        assert_eq!(rt; outcome.end, end, "{text} with {ticks}");
-        assert_eq!(rt;
-            outcome.text.as_slice(),
-            printed.as_bytes(),
-            "{text} with {ticks}"
-        );
-        assert_eq!(rt; outcome.lefts.len(), lefts, "{text} with {ticks}");
-        if let Some(memory) = outcome.lefts.last() {
-            assert_eq!(rt; memory.first().copied(), Some(first), "{text} with {ticks}");
-        }
+fn statements_take_their_ticks(rt: HostRuntime) -> Result<(), Fail> {
+    for row in STATEMENTS {
+        assert!(rt; is_so(rt.alloc(), &row), "{} with {}", row.0, row.2);
+    }
+    Ok(())
+}
+
+const LOOPS: [Row; 24] = [
+    (FOR, 0, 6, 0, 0, "", SPENT),
+    (FOR, 0, 7, 0, 0, "", ENDED),
+    (WHILE, 0, 4, 0, 0, "", SPENT),
+    (WHILE, 0, 5, 0, 0, "c", SPENT),
+    (WHILE, 0, 6, 0, 0, "c", SPENT),
+    (WHILE, 0, 7, 0, 0, "c", ENDED),
+    (FOR_TESTED, 0, 4, 0, 0, "", SPENT),
+    (FOR_TESTED, 0, 5, 0, 0, "c", SPENT),
+    (FOR_TESTED, 0, 6, 0, 0, "c", SPENT),
+    (FOR_TESTED, 0, 7, 0, 0, "c", ENDED),
+    (DO, 0, 6, 0, 0, "", SPENT),
+    (DO, 0, 7, 0, 0, "", ENDED),
+    (DO_PRINTS, 0, 3, 0, 0, "", SPENT),
+    (DO_PRINTS, 0, 4, 0, 0, "b", SPENT),
+    (DO_PRINTS, 0, 5, 0, 0, "b", ENDED),
+    (BREAKS, 0, 4, 0, 0, "", SPENT),
+    (BREAKS, 0, 5, 0, 0, "", ENDED),
+    (CONTINUES, 0, 14, 0, 0, "0", SPENT),
+    (CONTINUES, 0, 15, 0, 0, "02", SPENT),
+    (CONTINUES, 0, 16, 0, 0, "02", SPENT),
+    (CONTINUES, 0, 17, 0, 0, "02", ENDED),
+    (CONTINUES_DO, 0, 12, 0, 0, "", SPENT),
+    (CONTINUES_DO, 0, 13, 0, 0, "2", SPENT),
+    (CONTINUES_DO, 0, 14, 0, 0, "2", ENDED),
+];
+
+#[test]
+fn loops_take_their_ticks(rt: HostRuntime) -> Result<(), Fail> {
+    for row in LOOPS {
+        assert!(rt; is_so(rt.alloc(), &row), "{} with {}", row.0, row.2);
+    }
+    Ok(())
+}
+
+const CALLS: [Row; 14] = [
+    (CALL, 0, 5, 0, 0, "", SPENT),
+    (CALL, 0, 6, 0, 0, "", ENDED),
+    (CALL_PRINTS, 0, 3, 0, 0, "", SPENT),
+    (CALL_PRINTS, 0, 4, 0, 0, "g", SPENT),
+    (CALL_PRINTS, 0, 7, 0, 0, "g", SPENT),
+    (CALL_PRINTS, 0, 8, 0, 0, "gf", SPENT),
+    (CALL_PRINTS, 0, 10, 0, 0, "gf1", SPENT),
+    (CALL_PRINTS, 0, 11, 0, 0, "gf1", ENDED),
+    (TRAPS, 1, 3, 0, 0, "", SPENT),
+    (TRAPS, 1, 4, 1, 0, "", DIVIDES),
+    (TRAPS_OUTSIDE, 0, 1, 0, 0, "", SPENT),
+    (TRAPS_OUTSIDE, 0, 2, 0, 0, "", DIVIDES),
+    (FRAMES, 0, 128, 0, 0, "", SPENT),
+    (FRAMES, 0, 129, 0, 0, "", ThreadEnd::Trapped(Trap::Frames)),
+];
+
+#[test]
+fn calls_and_traps_take_their_ticks(rt: HostRuntime) -> Result<(), Fail> {
+    for row in CALLS {
+        assert!(rt; is_so(rt.alloc(), &row), "{} with {}", row.0, row.2);
+    }
+    Ok(())
+}
+
+const TRANSACTIONS: [Row; 15] = [
+    (CANCELS, 1, 5, 0, 0, "", SPENT),
+    (CANCELS, 1, 6, 1, 0, "", SPENT),
+    (CANCELS, 1, 8, 1, 0, "5", SPENT),
+    (CANCELS, 1, 9, 1, 0, "5", ENDED),
+    (CANCELS_INNER, 1, 5, 0, 0, "", SPENT),
+    (CANCELS_INNER, 1, 6, 1, 1, "", SPENT),
+    (CANCELS_INNER, 1, 7, 1, 1, "", ENDED),
+    (RETURNS, 1, 6, 0, 0, "", SPENT),
+    (RETURNS, 1, 7, 1, 7, "", SPENT),
+    (RETURNS, 1, 8, 1, 7, "7", SPENT),
+    (RETURNS, 1, 9, 1, 7, "7", ENDED),
+    (TWICE, 1, 3, 1, 1, "", SPENT),
+    (TWICE, 1, 4, 1, 1, "", WANTS),
+    (TWICE, 2, 6, 2, 2, "", SPENT),
+    (TWICE, 2, 7, 2, 2, "", ENDED),
+];
+
+#[test]
+fn transactions_take_their_ticks(rt: HostRuntime) -> Result<(), Fail> {
+    for row in TRANSACTIONS {
+        assert!(rt; is_so(rt.alloc(), &row), "{} with {}", row.0, row.2);
     }
     Ok(())
 }

@@ -4,6 +4,7 @@ use crate::memory::zeros;
 use crate::run::{accepted_of, run};
 use meaning::{ThreadEnd, thread};
 use refusing::Refusing;
+use std::alloc::Allocator;
 use std::test::Fail;
 use syntax::numbers::Trap;
 
@@ -97,4 +98,38 @@ fn each_growth_that_is_refused_is_told(rt: HostRuntime) -> Result<(), Fail> {
         }
     }
     Err("with memory enough it ends")?
+}
+
+// turns with a block, a local and a branch, ten and a thousand of them
+const TURNS: [&str; 2] = [
+    "int x; void worker(int self) { __transaction_atomic { for (int i = 0; i < 10; i++) { int k = i; if (k & 1) { x = k; } } } }",
+    "int x; void worker(int self) { __transaction_atomic { for (int i = 0; i < 1000; i++) { int k = i; if (k & 1) { x = k; } } } }",
+];
+
+/// The first growth that a run of this text does not come to.
+fn growths<A: Allocator + Copy>(alloc: &Refusing<A>, text: &str) -> Result<u64, Fail> {
+    let Some(accepted) = accepted_of(alloc, text) else {
+        return Err("it is an accepted program")?;
+    };
+    let memories = zeros(alloc, 1, 4)?;
+    for n in 1..1000 {
+        alloc.refuse(n);
+        let answer = thread(alloc, &accepted, 0, memories.as_slice(), 1000000);
+        let waiting = alloc.is_waiting();
+        alloc.refuse(0);
+        if let Ok(outcome) = answer {
+            if waiting && outcome.end == ThreadEnd::Ended {
+                return Ok(n);
+            }
+        }
+    }
+    Err("with memory enough it ends")?
+}
+
+#[test]
+fn turns_take_no_memory_of_their_own(rt: HostRuntime) -> Result<(), Fail> {
+    let alloc = Refusing::new(rt.alloc(), 0);
+    let [few, many] = TURNS;
+    assert_eq!(rt; growths(&alloc, few)?, growths(&alloc, many)?);
+    Ok(())
 }

@@ -1,0 +1,112 @@
+//! In which order operands, arguments and pieces are computed, and of which type a value is.
+
+use crate::run::run;
+use meaning::ThreadEnd;
+use std::test::Fail;
+
+/// A text, what is printed, and the first cell of the memory left.
+type Row = (&'static str, &'static str, u64);
+
+// `p` prints its argument and gives it back
+const ROWS: [Row; 13] = [
+    // arguments from the left
+    (
+        "int x; int p(int n) { printf(\"%d\", n); return n; } int f(int a, int b) { return a - b; }
+        void worker(int self) { int k = f(p(5), p(2)); __transaction_atomic { x = k; } }",
+        "52",
+        3,
+    ),
+    // so do operands
+    (
+        "int x; int p(int n) { printf(\"%d\", n); return n; }
+        void worker(int self) { int k = p(5) - p(2) * p(1); __transaction_atomic { x = k; } }",
+        "521",
+        3,
+    ),
+    // arguments before the first piece
+    (
+        "int x; int p(int n) { printf(\"%d\", n); return n; }
+        void worker(int self) { printf(\"=%d,%d\", p(1), p(2)); __transaction_atomic { } }",
+        "12=1,2",
+        0,
+    ),
+    // what the left operand decides leaves the right one alone
+    (
+        "int x; int p(int n) { printf(\"%d\", n); return n; }
+        void worker(int self) { int k = (p(0) && p(1)) + 2 * (p(2) || p(3)) + 4 * (p(4) && p(5)); __transaction_atomic { x = k; } }",
+        "0245",
+        6,
+    ),
+    // one branch of two
+    (
+        "int x; int p(int n) { printf(\"%d\", n); return n; }
+        void worker(int self) { int k = p(0) ? p(1) : p(2); k = 10 * k + (p(3) ? p(4) : p(5)); __transaction_atomic { x = k; } }",
+        "0234",
+        24,
+    ),
+    // an index before the right side
+    (
+        "int x[4]; int p(int n) { printf(\"%d\", n); return n; }
+        void worker(int self) { __transaction_relaxed { x[p(0)] = p(6); } }",
+        "06",
+        6,
+    ),
+    // the old value before the right side
+    (
+        "int x; int f(void) { x = 5; return 1; } void worker(int self) { __transaction_atomic { x = 2; x += f(); } }",
+        "",
+        3,
+    ),
+    // both branches are converted to one type
+    (
+        "int x; void worker(int self) { int k = (self ? 1u : -1) > 0; __transaction_atomic { x = k; } }",
+        "",
+        1,
+    ),
+    // a value is converted to the function's type
+    (
+        "int x; unsigned f(int a) { return a; } void worker(int self) { int k = f(-1) > 0; __transaction_atomic { x = k; } }",
+        "",
+        1,
+    ),
+    // an argument is converted to its parameter's type
+    (
+        "int x; int f(unsigned a) { return a > 0; } void worker(int self) { int k = f(-1); __transaction_atomic { x = k; } }",
+        "",
+        1,
+    ),
+    // a local is 0 where it is declared, each time
+    (
+        "int x; void worker(int self) { for (int i = 0; i < 3; i++) { int k; k++; printf(\"%d\", k); } __transaction_atomic { } }",
+        "111",
+        0,
+    ),
+    // an inner local hides an outer one, up to the end of its block
+    (
+        "int x; void worker(int self) { int k = 1; { int k = 2; k++; printf(\"%d\", k); } __transaction_atomic { x = k; } }",
+        "3",
+        1,
+    ),
+    // a cancel of an inner transaction gives back the locals that its begin found
+    (
+        "int x; void worker(int self) { int k = 1; __transaction_atomic { k = 2; __transaction_atomic { k = 3; __transaction_cancel; } x = k; } printf(\"%d\", k); }",
+        "2",
+        2,
+    ),
+];
+
+#[test]
+fn things_are_computed_in_their_order(rt: HostRuntime) -> Result<(), Fail> {
+    for (text, printed, first) in ROWS {
+        let Some(outcome) = run(rt.alloc(), text, 0, 1, 1000) else {
+            return Err("a row has an accepted program")?;
+        };
+        assert_eq!(rt; outcome.end, ThreadEnd::Ended, "{text}");
+        assert_eq!(rt; outcome.text.as_slice(), printed.as_bytes(), "{text}");
+        let Some(memory) = outcome.lefts.last() else {
+            return Err("a memory is left")?;
+        };
+        assert_eq!(rt; memory.first().copied(), Some(first), "{text}");
+    }
+    Ok(())
+}
