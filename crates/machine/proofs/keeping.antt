@@ -12,3 +12,5 @@ pub mod Work
 pub mod Asking
 -- what the calls of a thread owe
 pub mod Calls
+-- many local steps of a kept thread are as many of the machine's
+pub mod Advancing

@@ -9,7 +9,8 @@ use Rattle.bytecode.specs.Beginning.{beginning}
 use Rattle.bytecode.specs.Code.{Code, Configuration, effect}
 use Rattle.frames.specs.Open.{saved_in}
 use Rattle.frames.specs.Stack.{HasRoom}
-use Rattle.frames.specs.Told.{IsCall}
+use Rattle.frames.specs.declared.doing.Doing.{Doing}
+use Rattle.frames.specs.Told.{IsCall, Tells}
 use Rattle.norec_core.specs.declared.step.Op.{Op}
 use Rattle.norec_core.specs.declared.step.Op.TheVariants as op
 use Rattle.norec_core.specs.declared.step.Access.{Access}
@@ -60,6 +61,10 @@ pub record IsReady (code : Code) (th : Thread Configuration) (r : Ready) : Type 
 pub record IsPrepared (code : Code) (s : ThreadState) : Type 0 where
   pub access : s.prepared ≡ Some (access (effect code) s.thread)
   pub ready : s.thread.status ≡ Running → IsReady code s.thread s.ready
+
+-- where the thread runs, this is what stands at its place to be done
+abbrev pub StandsAt : Code → ThreadState → Doing → Type 0
+StandsAt code s doing = s.thread.status ≡ Running → Tells code s.thread.configuration doing
 
 -- a loaded cell's word is a word
 abbrev pub IsWordOf : Access → Answer → Type 0

@@ -4,7 +4,10 @@
 ghost use Rattle.std.specs.Prelude.{◌≡◌, ◌≤◌, ◌^◌, ℕ, List, [], Some, None, length, replicate};
 ghost use Rattle.std.specs.List.{AllByRecursion, slice_get};
 ghost use Rattle.syntax.specs.Behaviours.{Memory, IsMemory, Behaviour, Step, Means, founds_of};
+ghost use Rattle.syntax.specs.declared.numbers.Status.TheVariants.{Running};
+ghost use Rattle.bytecode.specs.Code.{Code as Plain, Configuration, effect};
 ghost use Rattle.bytecode.specs.Effects.{Effect, FitsCells};
+ghost use Rattle.local_steps.specs.Local.{after_local};
 ghost use Rattle.bytecode.specs.Sequential.{meaning};
 ghost use Rattle.norec_core.specs.Attempts.{Attempt};
 ghost use Rattle.machine.specs.Threads.{Thread, access, told};
@@ -18,7 +21,7 @@ ghost use Rattle.machine.specs.Holders.{HoldersNeverAbort};
 ghost use Rattle.machine.specs.Frames.{KeepsBegins};
 ghost use Rattle.machine.specs.Addresses.{NamesCells};
 ghost use Rattle.machine.specs.Events.{EventsTell};
-ghost use Rattle.machine.specs.Answered.{Answered, AnswersOk, Heard};
+ghost use Rattle.machine.specs.Answered.{Answered, AnswersOk, Heard, Replays};
 ghost use Rattle.machine.specs.Traces.{IsTraced, RunsOn, heard_run};
 ghost use Rattle.machine.specs.Moments.{BeginsPast};
 
@@ -112,6 +115,14 @@ pub fn events_tell<C>()
     ensures { (code : C → Effect C) (init : ℕ → C) (bounds : List ℕ) (m0 : Memory) (threads : ℕ) (steps : List ℕ) →
         FitsCells code bounds → IsMemory bounds m0 →
         EventsTell code (world_after code init m0 threads steps) }
+{}
+
+/// So many instructions of a running thread that work on its own registers and frames are as many local steps of the machine:
+/// none of them makes an access, and all that they change is where the thread stands.
+pub fn instructions_are_local_steps()
+    ensures { (code : Plain) (th : Thread Configuration) (n : ℕ) (d : Configuration) → th.status ≡ Running →
+        after_local code n th.configuration ≡ Some d →
+        Replays (effect code) th n [] (record th { configuration = d }) }
 {}
 
 /// The addresses in an attempt's logs are cells, and so is the one that a thread's next access names.

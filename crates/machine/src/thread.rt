@@ -1,18 +1,19 @@
 //! A thread of the machine.
 
-ghost use Rattle.std.specs.Prelude.{◌≡◌, ◌+◌, ◌<◌, ◌^◌, ◌↔◌, ℕ, None, Some, true, false, IfOk, OnOk};
+ghost use Rattle.std.specs.Prelude.{◌≡◌, ◌+◌, ◌<◌, ◌≤◌, ◌^◌, ◌↔◌, ℕ, [], None, Some, true, false, IfOk, OnOk};
 ghost use Rattle.bytecode.specs.Beginning.{beginning};
 ghost use Rattle.bytecode.specs.Code.{effect};
 ghost use Rattle.norec_core.specs.Accesses.{IsAnswerTo, cost, stops};
 ghost use Rattle.machine.specs.Threads.{access, told as told_spec};
 ghost use Rattle.machine.specs.Standing.{IsThreadOf};
-ghost use Rattle.machine.specs.States.{IsPrepared, IsWordOf, first_thread, thread_has_lock};
+ghost use Rattle.machine.specs.Answered.{Replays};
+ghost use Rattle.machine.specs.States.{IsPrepared, IsWordOf, StandsAt, first_thread, thread_has_lock};
 ghost use Rattle.machine.specs.inner.Kept.{cost_if};
 
 use crate::event::Event;
 use crate::kept::KeptThread;
 use bytecode::Code;
-use frames::Frames;
+use frames::{Doing, Frames};
 use norec_core::{Access, Answer, Core, Stop};
 use std::alloc::{AllocError, Allocator, Global};
 use std::marker::Model;
@@ -79,13 +80,78 @@ impl<A: Allocator + Copy> Thread<A> {
         })
     }
 
-    /// Names the access of the next step, and makes all ready for its answer. A thread that is over makes local steps that
-    /// change nothing.
+    /// What stands at its place to be done, where it runs.
+    pub fn doing<B: Allocator>(&self, code: &Code<B>) -> Doing
+        requires { IsThreadOf code.now self.now.thread }
+        ensures { StandsAt code.now self.now result }
+    {
+        // The prover learns here that the code is valid.
+        let _valid = code.parts();
+        match self.held.status {
+            Status::Running => self.held.frames.doing(code),
+            Status::Ended => Doing::Local,
+            Status::Trapped(_) => Doing::Local,
+        }
+    }
+
+    /// Makes local steps in its registers and frames, calls and returns too, at most so many, up to the first instruction
+    /// that does something else: how many they were, and what stands there to be done. Where a call wants memory that is
+    /// refused, it is not made.
+    pub fn advance<B: Allocator>(&mut self, code: &Code<B>, most: u64) -> (u64, Doing)
+        requires { IsThreadOf code.now self.old.thread }
+        ensures steps { Replays (effect code.now) self.old.thread result.0 [] self.new.thread }
+        ensures count { result.0 ≤ most }
+        ensures stands { StandsAt code.now self.new result.1 }
+        ensures of { IsThreadOf code.now self.new.thread }
+        ensures accesses { self.new.accesses ≡ self.old.accesses }
+    {
+        // The prover learns here that the code is valid.
+        let _valid = code.parts();
+        match self.held.status {
+            Status::Running => self.held.advance(code, most),
+            Status::Ended => (0, Doing::Local),
+            Status::Trapped(_) => (0, Doing::Local),
+        }
+    }
+
+    /// `prepare_at` for what stands at its place to be done.
+    pub fn prepare<B: Allocator>(&mut self, code: &Code<B>) -> Result<Access, Stop>
+        requires { IsThreadOf code.now self.old.thread }
+        ensures thread { self.new.thread ≡ self.old.thread }
+        ensures accesses { self.new.accesses ≡ self.old.accesses }
+        ensures access { IfOk result (λ x. (x ≡ access (effect code.now) self.old.thread) × (stops x ≡ false)) }
+        ensures prepared { OnOk result (IsPrepared code.now self.new) }
+        ensures used_up { (result ≡ Err Stop.SequenceUsedUp) ↔ (stops (access (effect code.now) self.old.thread) ≡ true) }
+    {
+        let doing = self.doing(code);
+        self.prepare_at(code, doing)
+    }
+
+    /// `told_at` for what stands at its place to be done.
+    pub fn told<B: Allocator>(&mut self, code: &Code<B>, answer: Answer) -> Event
+        requires of { IsThreadOf code.now self.old.thread }
+        requires prepared { IsPrepared code.now self.old }
+        requires fits { IsAnswerTo (access (effect code.now) self.old.thread) answer }
+        requires word { IsWordOf (access (effect code.now) self.old.thread) answer }
+        requires count { self.old.accesses + cost (access (effect code.now) self.old.thread) < 2 ^ 64 }
+        ensures thread { self.new.thread ≡ (told_spec (effect code.now) self.old.thread answer).thread }
+        ensures event { result ≡ (told_spec (effect code.now) self.old.thread answer).event }
+        ensures of { IsThreadOf code.now self.new.thread }
+        ensures accesses { self.new.accesses ≡ self.old.accesses + cost (access (effect code.now) self.old.thread) }
+    {
+        let doing = self.doing(code);
+        let (event, _) = self.told_at(code, doing, answer);
+        event
+    }
+
+    /// Names the access of the next step, by what is to be done in it, and makes all ready for its answer. A thread that is
+    /// over makes local steps that change nothing.
     ///
     /// An error leaves the thread as it was: `OutOfMemory` where room was refused, `SequenceUsedUp` where the step would swap
     /// the lock from its last even value.
-    pub fn prepare<B: Allocator>(&mut self, code: &Code<B>) -> Result<Access, Stop>
-        requires { IsThreadOf code.now self.old.thread }
+    pub fn prepare_at<B: Allocator>(&mut self, code: &Code<B>, doing: Doing) -> Result<Access, Stop>
+        requires of { IsThreadOf code.now self.old.thread }
+        requires stands { StandsAt code.now self.old doing }
         ensures thread { self.new.thread ≡ self.old.thread }
         ensures accesses { self.new.accesses ≡ self.old.accesses }
         ensures access { IfOk result (λ x. (x ≡ access (effect code.now) self.old.thread) × (stops x ≡ false)) }
@@ -95,7 +161,7 @@ impl<A: Allocator + Copy> Thread<A> {
         // The prover learns here that the code is valid.
         let _valid = code.parts();
         match self.held.status {
-            Status::Running => match self.held.prepare(code) {
+            Status::Running => match self.held.prepare(code, doing) {
                 Ok(access) => {
                     self.prepared = Some(access);
                     Ok(access)
@@ -113,15 +179,23 @@ impl<A: Allocator + Copy> Thread<A> {
         }
     }
 
-    /// Makes the step that was prepared, with the answer to its access, and says what happened. It takes no memory.
-    pub fn told<B: Allocator>(&mut self, code: &Code<B>, answer: Answer) -> Event
+    /// Makes the step that was prepared, by what is to be done in it, with the answer to its access: what happened, and
+    /// whether the same is to be done in the next step. It takes no memory.
+    pub fn told_at<B: Allocator>(
+        &mut self,
+        code: &Code<B>,
+        doing: Doing,
+        answer: Answer,
+    ) -> (Event, bool)
         requires of { IsThreadOf code.now self.old.thread }
+        requires stands { StandsAt code.now self.old doing }
         requires prepared { IsPrepared code.now self.old }
         requires fits { IsAnswerTo (access (effect code.now) self.old.thread) answer }
         requires word { IsWordOf (access (effect code.now) self.old.thread) answer }
         requires count { self.old.accesses + cost (access (effect code.now) self.old.thread) < 2 ^ 64 }
         ensures thread { self.new.thread ≡ (told_spec (effect code.now) self.old.thread answer).thread }
-        ensures event { result ≡ (told_spec (effect code.now) self.old.thread answer).event }
+        ensures event { result.0 ≡ (told_spec (effect code.now) self.old.thread answer).event }
+        ensures again { result.1 ≡ true → StandsAt code.now self.new doing }
         ensures of { IsThreadOf code.now self.new.thread }
         ensures accesses { self.new.accesses ≡ self.old.accesses + cost (access (effect code.now) self.old.thread) }
     {
@@ -130,9 +204,9 @@ impl<A: Allocator + Copy> Thread<A> {
         self.accesses += cost_of(self.prepared);
         self.prepared = None;
         match self.held.status {
-            Status::Running => self.held.told(code, answer),
-            Status::Ended => Event::Quiet,
-            Status::Trapped(_) => Event::Quiet,
+            Status::Running => self.held.told(code, doing, answer),
+            Status::Ended => (Event::Quiet, false),
+            Status::Trapped(_) => (Event::Quiet, false),
         }
     }
 

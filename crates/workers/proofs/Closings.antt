@@ -1,6 +1,6 @@
 -- What the workers of a hall add up to when it is closed.
-use Rattle.std.proofs.Common.{add-one, take, drop, ◌≡◌, ◌≢◌, ◌⊎◌, inl, inr, ⊎_elim, ℕ, zero, suc, ◌+◌, ◌<◌, ◌≤◌, Bool, true, false, List, [], ◌∷◌, ◌++◌, Some, length, get_or, set, slice_get, refl, sym, ap, ◌∙◌, subst, arith}
-use Rattle.std.specs.Prelude.{Option, if◌then◌else◌, nat_lt, unwrap_or}
+use Rattle.std.proofs.Common.{drop, ◌≡◌, ◌≢◌, ◌⊎◌, inl, inr, ⊎_elim, ℕ, zero, suc, ◌+◌, ◌<◌, ◌≤◌, true, false, List, [], ◌∷◌, ◌++◌, Some, length, get_or, set, slice_get, refl, sym, ap, ◌∙◌, subst, arith}
+use Rattle.std.specs.Prelude.{Option, nat_lt, unwrap_or}
 use Rattle.std.proofs.lemmas.Option.{slice_get_within}
 use mathlib.Core.Option.{some, some-ne-none, some-injective}
 use lib.ListN.{get_elem?}
@@ -24,8 +24,8 @@ use Rattle.seats.proofs.Codes.{initial_fits}
 use Rattle.seats.specs.Setup.{Setup, IsWorldOf}
 use Rattle.workers.specs.declared.worker.Worker.{Worker}
 use Rattle.workers.specs.declared.close.Finished.{Finished}
-use Rattle.seats.specs.Views.{Among, ViewPart, Views, parts_in, parts_of}
-use Rattle.seats.specs.Rule.{Fits, IsRuled, Leaves, SeatView}
+use Rattle.seats.specs.Views.{Among, ViewPart, parts_in, parts_of}
+use Rattle.seats.specs.Rule.{Fits, Leaves, SeatView}
 use Rattle.workers.specs.Workers.{AreWorkersOf, IsWorkerOf}
 use Rattle.workers.specs.Closing.{AreThere, Closes, finished_back, parts_back}
 use Rattle.seats.proofs.Keeps.{at_most_one}

@@ -1,5 +1,7 @@
 -- what a step leaves of a worker
 pub mod Turns
+-- many local steps of a worker
+pub mod Resting
 -- what a worker does goes on from what it did
 pub mod Going
 -- two workers meet

@@ -3,15 +3,12 @@ use Rattle.std.specs.Prelude.{◌≡◌, ℕ, ◌≤◌, List, [], ◌∷◌, �
 use Rattle.bytecode.specs.Code.{Code, Configuration, effect}
 use Rattle.bytecode.specs.Valid.{IsValid}
 use Rattle.norec_core.specs.declared.step.Access.{Access}
-use Rattle.norec_core.specs.declared.step.Access.TheVariants.{Local, LoadLock, LoadWord, Swap, StoreWord, StoreLock}
-use Rattle.norec_core.specs.declared.step.Answer.{Answer}
-use Rattle.norec_core.specs.declared.step.Answer.TheVariants.{Done}
 use Rattle.norec_core.specs.declared.step.Stop.{Stop}
 use Rattle.norec_core.specs.declared.step.Stop.TheVariants.{OutOfMemory, SequenceUsedUp}
 use Rattle.norec_core.specs.Accesses.{stops}
 use Rattle.norec_core.specs.Attempts.{Attempt}
-use Rattle.machine.specs.Answered.{Heard, LocksFrom, Replays, is_local, paused}
-use Rattle.machine.specs.Threads.{Thread, access}
+use Rattle.machine.specs.Answered.{Heard, LocksFrom, Replays, paused}
+use Rattle.machine.specs.Threads.{Thread}
 use Rattle.machine.specs.Worlds.{Part}
 use Rattle.machine.specs.Standing.{IsThreadOf}
 use Rattle.machine.specs.States.{first_thread}

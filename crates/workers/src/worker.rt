@@ -1,14 +1,19 @@
 //! One thread of the machine, with its seat at the table.
 
-ghost use Rattle.std.specs.Prelude.{◌≡◌, ◌+◌, ◌^◌, ◌<◌, ◌≤◌, ℕ, OnOk, OnErr, IfOk, IfErr};
+ghost use Rattle.std.specs.Prelude.{◌≡◌, ◌+◌, ◌^◌, ◌<◌, ◌≤◌, ℕ, true, OnOk, OnErr, IfOk, IfErr};
+ghost use Rattle.atomic_table.specs.Seated.{TableId};
 ghost use Rattle.bytecode.specs.Code.{effect};
 ghost use Rattle.bytecode.specs.Valid.{cells_of};
 ghost use Rattle.machine.specs.Threads.{access as access_of};
+ghost use Rattle.machine.specs.Standing.{IsThreadOf};
+ghost use Rattle.machine.specs.States.{StandsAt};
+ghost use Rattle.seats.specs.Setup.{Setup};
 ghost use Rattle.workers.specs.Works.{Because};
 
 use crate::hall::Hall;
 use atomic_table::Seat;
 use bytecode::Code;
+use frames::Doing;
 use machine::Thread;
 use norec_core::Stop;
 use seats::{View, Words, make};
@@ -38,8 +43,43 @@ pub enum Status {
 impl<A: Allocator + Copy> Worker<A> {
     ghost use Rattle.workers.specs.Workers.{IsWorkerOf, StepsOn, FloorsAt, Reports};
 
-    // One step of the thread.
+    // Local steps of the thread, at most so many: what is to be done then.
     #[inline(always)]
+    fn advance(&mut self, code: &Code<A>, most: u64) -> Doing
+        requires of { IsThreadOf code.now self.old.thread.thread }
+        requires room { self.old.steps + most < 2 ^ 64 }
+        ensures number { self.new.number ≡ self.old.number }
+        ensures goes_on { (z : TableId) (key : Setup) → key.code ≡ code.now → StepsOn z key self.old self.new }
+        ensures steps { (self.old.steps ≤ self.new.steps) × (self.new.steps ≤ self.old.steps + most) }
+        ensures stands { StandsAt code.now self.new.thread result }
+    {
+        let (made, doing) = self.thread.advance(code, most);
+        self.steps += made;
+        doing
+    }
+
+    // One step of the thread, in which this is to be done: whether the same is to be done in the next one.
+    #[inline(always)]
+    fn step_at(&mut self, words: &Words<A>, code: &Code<A>, doing: Doing) -> Result<bool, Stop>
+        requires table { words.now.table_id.words ≡ cells_of code.now + 1 }
+        requires code { words.now.key.code ≡ code.now }
+        requires worker { IsWorkerOf words.now.table_id words.now.key self.old }
+        requires room { self.old.steps + 1 < 2 ^ 64 }
+        requires stands { StandsAt code.now self.old.thread doing }
+        ensures goes_on { (self.new.number ≡ self.old.number) × StepsOn words.now.table_id words.now.key self.old self.new }
+        ensures ok { OnOk result (self.new.steps ≡ self.old.steps + 1) }
+        ensures err { OnErr result (self.new.steps ≡ self.old.steps) }
+        ensures stop { IfErr result (λ e. Because e (access_of (effect code.now) self.new.thread.thread)) }
+        ensures again { IfOk result (λ again. again ≡ true → StandsAt code.now self.new.thread doing) }
+    {
+        let access = self.thread.prepare_at(code, doing)?;
+        let answer = make(words, &mut self.seat, access);
+        let (_, again) = self.thread.told_at(code, doing, answer);
+        self.steps += 1;
+        Ok(again)
+    }
+
+    // One step of the thread.
     pub(crate) fn step(&mut self, words: &Words<A>, code: &Code<A>) -> Result<(), Stop>
         requires table { words.now.table_id.words ≡ cells_of code.now + 1 }
         requires code { words.now.key.code ≡ code.now }
@@ -50,11 +90,51 @@ impl<A: Allocator + Copy> Worker<A> {
         ensures err { OnErr result (self.new.steps ≡ self.old.steps) }
         ensures stop { IfErr result (λ e. Because e (access_of (effect code.now) self.new.thread.thread)) }
     {
-        let access = self.thread.prepare(code)?;
-        let answer = make(words, &mut self.seat, access);
-        self.thread.told(code, answer);
-        self.steps += 1;
+        let doing = self.thread.doing(code);
+        match self.step_at(words, code, doing) {
+            Ok(_) => Ok(()),
+            Err(stop) => Err(stop),
+        }
+    }
+
+    // Steps of the thread in which this is to be done, at most so many, and one at least.
+    #[inline(always)]
+    fn operate(
+        &mut self,
+        words: &Words<A>,
+        code: &Code<A>,
+        doing: Doing,
+        most: u64,
+    ) -> Result<(), Stop>
+        requires table { words.now.table_id.words ≡ cells_of code.now + 1 }
+        requires code { words.now.key.code ≡ code.now }
+        requires worker { IsWorkerOf words.now.table_id words.now.key self.old }
+        requires room { self.old.steps + most < 2 ^ 64 }
+        requires some { 0 < most }
+        requires stands { StandsAt code.now self.old.thread doing }
+        ensures goes_on { (self.new.number ≡ self.old.number) × StepsOn words.now.table_id words.now.key self.old self.new }
+        ensures steps { (self.old.steps ≤ self.new.steps) × (self.new.steps ≤ self.old.steps + most) }
+        ensures ok { OnOk result (self.old.steps < self.new.steps) }
+        ensures stop { IfErr result (λ e. Because e (access_of (effect code.now) self.new.thread.thread)) }
+    {
+        'steps: for made in 0..most {
+            let again = self.step_at(words, code, doing)?;
+            if !again {
+                return Ok(());
+            }
+        }
         Ok(())
+    }
+
+    // How its thread is, after all steps of a budget.
+    fn reported(&self) -> Status
+        ensures { Reports result self.now.thread.thread.status self.now.steps self.now.steps }
+    {
+        match self.thread.status() {
+            ThreadStatus::Running => Status::Budget,
+            ThreadStatus::Ended => Status::Ended,
+            ThreadStatus::Trapped(cause) => Status::Trapped(cause),
+        }
     }
 
     /// Makes `budget` steps of the machine, or fewer where the thread is over or a step stops. An access to the lock or to a
@@ -71,19 +151,21 @@ impl<A: Allocator + Copy> Worker<A> {
         ensures status { IfOk result (λ s. Reports s self.new.thread.thread.status (self.old.steps + budget) self.new.steps) }
         ensures stop { IfErr result (λ e. Because e (access_of (effect hall.now.setup.code) self.new.thread.thread)) }
     {
-        'steps: for made in 0..budget {
+        let end = self.steps + budget;
+        'turns: while self.steps < end {
             match self.thread.status() {
                 ThreadStatus::Running => {}
                 ThreadStatus::Ended => return Ok(Status::Ended),
                 ThreadStatus::Trapped(cause) => return Ok(Status::Trapped(cause)),
             }
-            self.step(&hall.table.shared, hall.setup.code())?;
+            let doing = self.advance(hall.setup.code(), end - self.steps);
+            let left = end - self.steps;
+            if left == 0 {
+                return Ok(self.reported());
+            }
+            self.operate(&hall.table.shared, hall.setup.code(), doing, left)?;
         }
-        match self.thread.status() {
-            ThreadStatus::Running => Ok(Status::Budget),
-            ThreadStatus::Ended => Ok(Status::Ended),
-            ThreadStatus::Trapped(cause) => Ok(Status::Trapped(cause)),
-        }
+        Ok(self.reported())
     }
 
     /// From now on neither thread is answered a lock value below what either was answered so far, nor one that is not above

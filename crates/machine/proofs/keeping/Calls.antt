@@ -70,7 +70,7 @@ pub saved_same : (c : Configuration) (rs : List ℕ) (n p : ℕ) → rs ≡ c.re
 saved_same c rs n p a b d =
     ap (λ (x : List ℕ). let s : Saved = record { registers = x; frames = n; place = p } in s) a ∙ ap (λ (x : ℕ). let s : Saved = record { registers = c.registers; frames = x; place = p } in s) b ∙ ap (λ (x : ℕ). let s : Saved = record { registers = c.registers; frames = suc (length c.frames); place = x } in s) d
 
-asks_pure : (att : Option (Attempt Configuration)) (th : Thread Configuration) (d : Configuration) → th.status ≡ Running → asks_by th att (Pure d) ≡ None
+pub asks_pure : (att : Option (Attempt Configuration)) (th : Thread Configuration) (d : Configuration) → th.status ≡ Running → asks_by th att (Pure d) ≡ None
 asks_pure None th d e = ap (λ (s : Status). asks_outside {C = Configuration} s (Pure d)) e
 asks_pure (Some a) th d e = refl
 

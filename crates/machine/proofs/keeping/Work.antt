@@ -28,7 +28,7 @@ module _ {C : Type 0} (f : C → Effect C) (th : Thread C) (y : Answer) (running
   outside_is : (x : Effect C) (n : Next C) → told_outside f th Running x y ≡ n → told_of f th None x y ≡ n
   outside_is x n e = ap (λ (s : Status). told_outside f th s x y) running ∙ e
 
-  told_pure : (att : Option (Attempt C)) (d : C) → told_of f th att (Pure d) y ≡ quiet (record th { configuration = d })
+  pub told_pure : (att : Option (Attempt C)) (d : C) → told_of f th att (Pure d) y ≡ quiet (record th { configuration = d })
   told_pure None d = outside_is (Pure d) _ refl
   told_pure (Some a) d = refl
 

@@ -1,12 +1,12 @@
 -- A thread as code keeps it: of each open begin the registers of the frame on top, the number of frames and the place.
-use Rattle.std.specs.Prelude.{◌≡◌, ◌<◌, ◌≤◌, ℕ, suc, Bool, true, false, List, Option, None, Some, length, ◌-◌, string_bytes, string_len, string_capacity}
+use Rattle.std.specs.Prelude.{◌≡◌, ◌<◌, ◌≤◌, ℕ, suc, Bool, true, false, List, [], Option, None, Some, length, ◌-◌, string_bytes, string_len, string_capacity}
 use Rattle.std.specs.List.{AllByRecursion}
 use Rattle.syntax.specs.declared.numbers.Status.{Status}
 use Rattle.syntax.specs.declared.numbers.Status.TheVariants.{Running, Ended as HasEnded, Trapped as HasTrapped}
 use Rattle.nesting.specs.Begins.{Saved}
 use Rattle.bytecode.specs.Effects.{Effect}
 use Rattle.bytecode.specs.Effects.Effect.{Commit, Cancel, Traps}
-use Rattle.bytecode.specs.Code.{Code, Configuration}
+use Rattle.bytecode.specs.Code.{Code, Configuration, effect}
 use Rattle.frames.specs.declared.doing.Doing.{Doing}
 use Rattle.frames.specs.declared.doing.Doing.TheVariants as doing
 use Rattle.frames.specs.Open.{MayStand, IsConfigurationOf, CanRestore, restored}
@@ -21,6 +21,7 @@ use Rattle.norec_core.specs.Cores.{CoreState}
 use Rattle.norec_core.specs.Saved.{if_some, attempt_as}
 use Rattle.machine.specs.declared.event.Event.{Event}
 use Rattle.machine.specs.declared.event.Event.TheVariants as event
+use Rattle.machine.specs.Answered.{Replays}
 use Rattle.machine.specs.Threads.{Thread, Next}
 use Rattle.machine.specs.Standing.{begins_of, GivesWordsIf}
 use Rattle.machine.specs.States.{Ready}
@@ -145,3 +146,9 @@ pub record Makes (code : Code) (n : Next Configuration) (k : Kept) (e : Event) :
   pub event : e ≡ n.event
   pub of : IsKeptOf code k
   pub within : AreWithin k.configuration (begins_of k.core.attempt)
+
+-- so many local steps lead the thread there
+pub record Advances (code : Code) (k : Kept) (n : ℕ) (l : Kept) : Type 0 where
+  pub steps : Replays (effect code) (shown k) n [] (shown l)
+  pub of : IsKeptOf code l
+  pub within : AreWithin l.configuration (begins_of l.core.attempt)

@@ -1,4 +1,4 @@
-use Rattle.std.proofs.Common.{ap, ◌∙◌, subst}
+use Rattle.std.proofs.Common.{ap, subst}
 use Rattle.seats.specs.Setup.{Setup}
 use Rattle.seats.specs.Rule.{Leaves}
 use Rattle.workers.proofs.Closings.{closes}

@@ -1,4 +1,4 @@
-use Rattle.std.proofs.Common.{rules, ◌≡◌, ◌∙◌, ap, sym, subst, arith, ℕ, [], ◌∷◌, ◌-◌, ◌+◌, ◌<◌}
+use Rattle.std.proofs.Common.{rules, ◌≡◌, ◌∙◌, ap, sym, subst, ℕ, [], ◌∷◌, ◌-◌, ◌+◌, ◌<◌}
 use Rattle.bytecode.specs.Code.{Code}
 use Rattle.machine.specs.Standing.{IsThreadOf}
 use Rattle.machine.specs.States.{first_thread}

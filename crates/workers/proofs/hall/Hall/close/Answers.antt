@@ -1,6 +1,6 @@
 use Rattle.std.proofs.Common.{ℕ, ◌<◌, sym, subst}
 use Rattle.workers.specs.declared.close.CloseReason.{CloseReason}
-use Rattle.workers.specs.declared.close.CloseReason.TheVariants.{LockHeld, Missing}
+use Rattle.workers.specs.declared.close.CloseReason.TheVariants.{Missing}
 use Rattle.workers.specs.Closing.{AllHere, IsReason}
 use Rattle.workers.proofs.Opens.{some_word}
 use Rattle.workers.proofs.Ran.{some_worker}

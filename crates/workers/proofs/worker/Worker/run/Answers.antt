@@ -1,37 +1,66 @@
-use Rattle.std.proofs.Common.{◌∙◌, refl, sym, subst, arith, add-zero}
+use Rattle.std.proofs.Common.{◌∙◌, refl, sym, subst, arith}
 use Rattle.seats.specs.Setup.{Setup}
-use Rattle.workers.specs.Workers.{StepsOn}
+use Rattle.workers.specs.Workers.{IsWorkerOf, StepsOn}
 use Rattle.workers.proofs.Going.{further, stays}
 use Rattle.workers.proofs.worker.Worker.run.Goals as goal
 
-pub steps-init : goal.steps-init
-steps-init g c = record {
+pub turns-init : goal.turns-init
+turns-init g c = record {
   worker = c.requires.worker;
-  steps = sym (add-zero c.args.self.now.steps);
+  some = omega arith;
+  few = omega arith;
   number = refl;
   goes_on = stays c.args.hall.now.table.shared.table_id c.args.hall.now.setup c.args.self.now;
 }
 
-pub returns-in_err-step-clause-goes_on : goal.returns-in_err-step-clause-goes_on
-returns-in_err-step-clause-goes_on g c =
+pub returns-then-left-eq0-clause-worker : goal.returns-then-left-eq0-clause-worker
+returns-then-left-eq0-clause-worker g c = (c.advance-doing.ensures.goes_on c.args.hall.now.table.shared.table_id c.args.hall.now.setup (sym c.code.ensures) c.turns.invariant.worker).0
+
+pub returns-then-left-eq0-clause-goes_on : goal.returns-then-left-eq0-clause-goes_on
+returns-then-left-eq0-clause-goes_on g c =
     let z = c.args.hall.now.table.shared.table_id in
     let key = c.args.hall.now.setup in
-    let one = subst (λ (k : Setup). StepsOn z k c.steps.self c.step.new.self) c.args.hall.now.key c.step.ensures.goes_on.1 in
-    (c.step.ensures.goes_on.0 ∙ c.steps.invariant.number, further z key c.args.self.now c.steps.self c.step.new.self c.steps.invariant.goes_on one)
+    (c.advance-doing.ensures.number ∙ c.turns.invariant.number, further z key c.args.self.now c.turns.self c.advance-doing.new.self c.turns.invariant.goes_on (c.advance-doing.ensures.goes_on z key (sym c.code.ensures)))
 
-pub returns-in_err-step-clause-worker : goal.returns-in_err-step-clause-worker
-returns-in_err-step-clause-worker g c =
-    let one = subst (λ (k : Setup). StepsOn c.args.hall.now.table.shared.table_id k c.steps.self c.step.new.self) c.args.hall.now.key c.step.ensures.goes_on.1 in
-    (one c.steps.invariant.worker).0
+pub operate-requires-clause-worker : goal.operate-requires-clause-worker
+operate-requires-clause-worker g c =
+    let z = c.args.hall.now.table.shared.table_id in
+    subst (λ (k : Setup). IsWorkerOf z k c.advance-doing.new.self) (sym c.args.hall.now.key) (c.advance-doing.ensures.goes_on z c.args.hall.now.setup (sym c.code.ensures) c.turns.invariant.worker).0
 
-pub steps-preserved : goal.steps-preserved
-steps-preserved g c =
+pub turns-preserved : goal.turns-preserved
+turns-preserved g c =
     let z = c.args.hall.now.table.shared.table_id in
     let key = c.args.hall.now.setup in
-    let one = subst (λ (k : Setup). StepsOn z k c.steps.self c.step.new.self) c.args.hall.now.key c.step.ensures.goes_on.1 in
+    let go = c.advance-doing.ensures.goes_on z key (sym c.code.ensures) in
+    let one = subst (λ (k : Setup). StepsOn z k c.advance-doing.new.self c.operate.new.self) c.args.hall.now.key c.operate.ensures.goes_on.1 in
+    let a = c.advance-doing.ensures.steps.0 in
+    let b = c.advance-doing.ensures.steps.1 in
+    let d = c.operate.ensures.steps.0 in
+    let e = c.operate.ensures.steps.1 in
+    let few = c.turns.invariant.few in
+    let some = c.turns.invariant.some in
     record {
-      worker = (one c.steps.invariant.worker).0;
-      steps = (let a = c.in_ok-step.ensures.ok in let b = c.steps.invariant.steps in omega arith);
-      number = c.step.ensures.goes_on.0 ∙ c.steps.invariant.number;
-      goes_on = further z key c.args.self.now c.steps.self c.step.new.self c.steps.invariant.goes_on one;
+      worker = (one (go c.turns.invariant.worker).0).0;
+      some = omega (arith, a, d, some);
+      few = omega (arith, a, b, d, e, few, some);
+      number = c.operate.ensures.goes_on.0 ∙ c.advance-doing.ensures.number ∙ c.turns.invariant.number;
+      goes_on = further z key c.args.self.now c.advance-doing.new.self c.operate.new.self (further z key c.args.self.now c.turns.self c.advance-doing.new.self c.turns.invariant.goes_on go) one;
     }
+
+pub returns-in_err-operate-clause-worker : goal.returns-in_err-operate-clause-worker
+returns-in_err-operate-clause-worker g c =
+    let z = c.args.hall.now.table.shared.table_id in
+    let key = c.args.hall.now.setup in
+    let go = c.advance-doing.ensures.goes_on z key (sym c.code.ensures) in
+    let one = subst (λ (k : Setup). StepsOn z k c.advance-doing.new.self c.operate.new.self) c.args.hall.now.key c.operate.ensures.goes_on.1 in
+    (one (go c.turns.invariant.worker).0).0
+
+pub returns-in_err-operate-clause-goes_on : goal.returns-in_err-operate-clause-goes_on
+returns-in_err-operate-clause-goes_on g c =
+    let z = c.args.hall.now.table.shared.table_id in
+    let key = c.args.hall.now.setup in
+    let go = c.advance-doing.ensures.goes_on z key (sym c.code.ensures) in
+    let one = subst (λ (k : Setup). StepsOn z k c.advance-doing.new.self c.operate.new.self) c.args.hall.now.key c.operate.ensures.goes_on.1 in (
+      c.operate.ensures.goes_on.0 ∙ c.advance-doing.ensures.number ∙ c.turns.invariant.number,
+      further z key c.args.self.now c.advance-doing.new.self c.operate.new.self (further z key c.args.self.now c.turns.self c.advance-doing.new.self c.turns.invariant.goes_on go) one,
+    )

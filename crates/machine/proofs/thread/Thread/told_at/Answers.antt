@@ -7,14 +7,14 @@ use Rattle.machine.proofs.keeping.Calls.{ended_over, trapped_over, runs_of, over
 use Rattle.machine.proofs.keeping.Seen.{thread_of}
 use Rattle.machine.specs.States.{ThreadState}
 use Rattle.machine.specs.inner.Kept.{kept, cost_if}
-use Rattle.machine.proofs.thread.Thread.told.Goals as goal
+use Rattle.machine.proofs.thread.Thread.told_at.Goals as goal
 
 pub told-requires-clause-runs : goal.told-requires-clause-runs
 told-requires-clause-runs g c =
     runs_of c.args.code.now (begins_stay_open c.args.code.now c.parts-valid.ensures.valid) (kept {A = g.row.A.Denot} c.self.inside.held) c.args.self.now.thread (ap (λ (s : ThreadState). s.thread) c.self.view_is) c.self.invariant c.in-Running.is c.requires.of
 
 pub returns-in-Running-clause-of : goal.returns-in-Running-clause-of
-returns-in-Running-clause-of g c = thread_of c.args.code.now (begins_stay_open c.args.code.now c.parts-valid.ensures.valid) _ c.told.ensures.of
+returns-in-Running-clause-of g c = thread_of c.args.code.now (begins_stay_open c.args.code.now c.parts-valid.ensures.valid) _ c.told.ensures.makes.of
 
 pub returns-in-Ended-clause-thread : goal.returns-in-Ended-clause-thread
 returns-in-Ended-clause-thread g c = (over_makes c.args.code.now (begins_stay_open c.args.code.now c.parts-valid.ensures.valid) (kept {A = g.row.A.Denot} c.self.inside.held) c.args.self.now.thread (ap (λ (s : ThreadState). s.thread) c.self.view_is) c.self.invariant (ended_over _ c.in-Ended.is) c.requires.of c.args.answer).0
