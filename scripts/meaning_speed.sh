@@ -2,14 +2,14 @@
 # Prints how many ticks a second the source's meaning takes, in a built program, by the fastest of some rounds: a loop over a
 # local, a loop in a transaction over a global, and calls. Where `lua5.4` is installed, how long the same loops take there, and
 # how many times that the source's meaning takes.
-# The program is made in a folder of its own and removed.
+# The program is made in a folder of its own, over the proofs that lie in out/, and removed.
 set -e
 top=$(cd "$(dirname "$0")/.." && pwd)
 work=$(mktemp -d)
 trap 'rm -rf "$work"' EXIT
 mkdir -p "$work/crates/meaning_speed/src"
 for crate in containers lex meaning parse refusing safety separation syntax types; do
-    cp -r "$top/crates/$crate" "$work/crates/"
+    cp -a "$top/crates/$crate" "$work/crates/"
 done
 cat > "$work/crates.txt" <<'END_CRATES'
 containers: refusing
@@ -95,7 +95,8 @@ fn main(rt: HostRuntime) -> io::Result<()> {
 }
 END_MAIN
 cd "$work/crates/meaning_speed"
-rt run --jobs 2 | tee meaning.txt
+rt run --jobs 2 > meaning.txt || { cat meaning.txt; exit 1; }
+cat meaning.txt
 if command -v lua5.4 > /dev/null; then
     cat > loops.lua <<'END_LUA'
 local function timed(name, run)
