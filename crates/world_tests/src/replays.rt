@@ -1,0 +1,137 @@
+//! Replays of worked schedules.
+
+use crate::reports::{Wanted, is_as};
+use bytecode::{Code, Instr};
+use machine::Event;
+use machine_tests::codes::code_of_worker;
+use machine_tests::rows::traps;
+use replay::{Line, read_schedule, replay, seeded};
+use std::alloc::Global;
+use std::test::Fail;
+use syntax::numbers::Trap;
+use world::{End, StopReason};
+
+// Adds 1 to x.
+fn adds_one() -> &'static [Instr] {
+    static CODE: [Instr; 7] = [
+        Instr::Begin(6),
+        Instr::Read(0, 0),
+        Instr::Constant(1, 1),
+        Instr::AddSigned(0, 0, 1),
+        Instr::Write(0, 0),
+        Instr::Commit,
+        Instr::Return,
+    ];
+    &CODE
+}
+
+// Whether the report of these lines is as wanted.
+fn replays(alloc: Global, code: &Code, threads: u32, lines: &[Line], wanted: &Wanted) -> bool {
+    match replay(alloc, code, threads, lines) {
+        Ok(report) => is_as(&report, wanted),
+        Err(_) => false,
+    }
+}
+
+// The same of a schedule's text.
+fn replays_text(alloc: Global, code: &Code, threads: u32, text: &str, wanted: &Wanted) -> bool {
+    match read_schedule(alloc, text) {
+        Ok(lines) => replays(alloc, code, threads, lines.as_slice(), wanted),
+        Err(_) => false,
+    }
+}
+
+// The same of a worker of these instructions.
+fn gives(alloc: Global, instrs: &[Instr], threads: u32, text: &str, wanted: &Wanted) -> bool {
+    match code_of_worker(alloc, 2, instrs) {
+        Some(code) => replays_text(alloc, &code, threads, text, wanted),
+        None => false,
+    }
+}
+
+#[test]
+fn a_transaction_is_dropped_and_made_again(rt: HostRuntime) -> Result<(), Fail> {
+    let schedule = "0 a1\n1 a1\n0 a1\n1 a1\n0 a1\n1 a1\n0 a1\n1 a1\n0 a1\n1 a1\n0 a2\n1 a9";
+    let wanted = Wanted {
+        events: &[
+            (11, 0, Event::Commit),
+            (13, 1, Event::Abort),
+            (19, 1, Event::Commit),
+        ],
+        threads: &[(End::Ended, ""), (End::Ended, "")],
+        words: &[2],
+        holder: None,
+        stop: None,
+    };
+    assert!(rt; gives(rt.alloc(), adds_one(), 2, schedule, &wanted));
+    Ok(())
+}
+
+#[test]
+fn a_stranger_ends_a_replay(rt: HostRuntime) -> Result<(), Fail> {
+    let wanted = Wanted {
+        events: &[(6, 0, Event::Commit)],
+        threads: &[(End::Ended, ""), (End::Running, "")],
+        words: &[1],
+        holder: None,
+        stop: Some((1000, StopReason::Stranger)),
+    };
+    assert!(rt; gives(rt.alloc(), adds_one(), 2, "0 1000\n7 1\n1 100", &wanted));
+    Ok(())
+}
+
+#[test]
+fn a_trap_gives_the_lock_back(rt: HostRuntime) -> Result<(), Fail> {
+    let wanted = Wanted {
+        events: &[(3, 0, Event::Trap(Trap::ZeroDivisor))],
+        threads: &[(End::Trapped(Trap::ZeroDivisor), "2")],
+        words: &[0],
+        holder: None,
+        stop: None,
+    };
+    assert!(rt; gives(rt.alloc(), traps(), 1, "0 a10", &wanted));
+    Ok(())
+}
+
+#[test]
+fn a_replay_ends_with_the_lock_held(rt: HostRuntime) -> Result<(), Fail> {
+    let wanted = Wanted {
+        events: &[],
+        threads: &[(End::Running, "")],
+        words: &[0],
+        holder: Some(0),
+        stop: None,
+    };
+    assert!(rt; gives(rt.alloc(), traps(), 1, "0 a2", &wanted));
+    Ok(())
+}
+
+// What four threads leave that add one each, by the steps of a seed.
+fn adds_up(alloc: Global, code: &Code, seed: u64) -> bool {
+    let Ok(lines) = seeded(alloc, seed, 4, 400) else {
+        return false;
+    };
+    match replay(alloc, code, 4, lines.as_slice()) {
+        Ok(report) => report.holder.is_none() && report.words.as_slice() == [4u64].as_slice(),
+        Err(_) => false,
+    }
+}
+
+// The same for the seeds 1 to 19.
+fn all_add_up(alloc: Global, code: &Code) -> bool {
+    for seed in 1..20u64 {
+        if !adds_up(alloc, code, seed) {
+            return false;
+        }
+    }
+    true
+}
+
+#[test]
+fn a_seed_adds_all(rt: HostRuntime) -> Result<(), Fail> {
+    let Some(code) = code_of_worker(rt.alloc(), 2, adds_one()) else {
+        panic!(rt; "no code")
+    };
+    assert!(rt; all_add_up(rt.alloc(), &code));
+    Ok(())
+}
