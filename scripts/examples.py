@@ -2,9 +2,10 @@
 """Writes crates/txc/src/example_tests.rt. It runs each program of examples/ and compares what it prints with the file of the same
 name that ends in .out; and it runs each transcript of examples/transcripts/, a file whose first line is a command line, `$ txc ..`,
 and which has under it what a terminal then shows. And it writes crates/meaning_tests/src/examples.rt, which runs each program of
-examples/ from its tree and compares with the same file.
+examples/ from its tree and compares with the same file, and crates/lower_tests/src/examples.rt, which lists the programs of
+examples/ and demands a code of each.
 
-With --check it writes nothing, and fails where one of the two is not what it would write, or where a document shows what the program
+With --check it writes nothing, and fails where one of the three is not what it would write, or where a document shows what the program
 does not print: a block that begins with `$ txc run examples/NAME.c` has NAME.out under it, any other one that begins with
 `$ txc` is a transcript, README.md shows the output of first.c in a block of its own, and the C that it and GUIDE.md show is that
 of files of examples/.
@@ -18,6 +19,7 @@ import sys
 TOP = os.path.dirname(os.path.dirname(os.path.abspath(__file__)))
 TESTS = os.path.join(TOP, "crates/txc/src/example_tests.rt")
 MEANING_TESTS = os.path.join(TOP, "crates/meaning_tests/src/examples.rt")
+LOWER_TESTS = os.path.join(TOP, "crates/lower_tests/src/examples.rt")
 SHOWN = re.compile(r"^```\n(\$ txc [^\n]*\n)(.*?)^```$", re.M | re.S)
 PROGRAM = re.compile(r"^```c\n(.*?)^```$", re.M | re.S)
 RUN = re.compile(r"\$ txc run examples/(\w+)\.c\n")
@@ -144,8 +146,28 @@ fn examples_leave_and_print_what_they_should(rt: HostRuntime) -> Result<(), Fail
 """
 
 
+def lower_tests():
+    examples = [f"    {literal(read(name))},\n" for name in names("examples/*.c")]
+    return f"""//! The programs of examples/, and that each has a code: written by scripts/examples.py.
+
+use crate::accepted::code_of;
+use std::test::Fail;
+
+pub const EXAMPLES: [&str; {len(examples)}] = [
+{"".join(examples)}];
+
+#[test]
+fn each_example_has_code(rt: HostRuntime) -> Result<(), Fail> {{
+    for text in EXAMPLES {{
+        assert!(rt; code_of(rt.alloc(), text).is_ok());
+    }}
+    Ok(())
+}}
+"""
+
+
 def main():
-    written = {TESTS: tests(), MEANING_TESTS: meaning_tests()}
+    written = {TESTS: tests(), MEANING_TESTS: meaning_tests(), LOWER_TESTS: lower_tests()}
     if sys.argv[1:] != ["--check"]:
         for path, text in written.items():
             with open(path, "w", encoding="utf-8") as file:

@@ -43,6 +43,25 @@ fn a_function_may_not_have_more_registers(rt: HostRuntime) -> Result<(), Fail> {
     Ok(())
 }
 
+#[test]
+fn ninety_ones_take_few_registers(rt: HostRuntime) -> Result<(), Fail> {
+    let mut text = String::new(rt.alloc());
+    text.push_str("void worker(int self) { int v = 1")?;
+    for _ in 1..90u32 {
+        text.push_str(" + 1")?;
+    }
+    text.push_str("; }")?;
+    match code_of(rt.alloc(), text.as_str()) {
+        Ok(code) => {
+            let functions = code.functions();
+            assert_eq!(rt; functions.len(), 1);
+            assert!(rt; functions[0].registers <= 8);
+        }
+        Err(_) => assert!(rt; false),
+    }
+    Ok(())
+}
+
 /// A worker with so many statements of 33 instructions and 17 bytes each.
 fn with_statements<A: Allocator + Copy>(alloc: A, count: u32) -> Result<String<A>, AllocError> {
     let mut text = String::new(alloc);

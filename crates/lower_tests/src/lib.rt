@@ -12,3 +12,5 @@ mod large;
 mod listed;
 #[cfg(test)]
 mod nested;
+#[cfg(test)]
+mod outcomes;

@@ -4,7 +4,7 @@ use crate::accepted::listed;
 use std::test::Fail;
 
 /// Programs and the listings of their codes.
-const LISTED: [(&str, &str); 10] = [
+pub const LISTED: [(&str, &str); 10] = [
     (
         "int x; void worker(int self) { __transaction_atomic { x = x + 1; } }",
         "function worker registers 3\n0 begin >6\n1 rd r1 @0\n2 const r2 #1\n3 add.s r1 r1 r2\n4 wr @0 r1\n5 commit\n6 ret\n",

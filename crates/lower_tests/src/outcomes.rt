@@ -1,0 +1,224 @@
+//! What a thread of the source shows tick by tick is what its code's thread shows instruction by instruction: the memory that it
+//! has left, how it is found, and what it has printed. Thread 3 runs, and each of its transactions finds the memory that the one
+//! before it left.
+
+ghost use Rattle.std.specs.Prelude.{IfSome};
+ghost use Rattle.atomic_code.specs.Kept.{IsThreadOf};
+
+use crate::accepted::{accepted_of, code_of};
+use crate::examples::EXAMPLES;
+use crate::listed::LISTED;
+use atomic_code::{AtomicThread, is_memory};
+use bytecode::Code;
+use meaning::{SourceOutcome, ThreadEnd, run_order};
+use separation::Accepted;
+use std::alloc::{AllocError, Global};
+use std::test::Fail;
+use syntax::numbers::{Status, Trap};
+
+fn trap_number(trap: Trap) -> u8 {
+    match trap {
+        Trap::OutOfRange => 1,
+        Trap::ZeroDivisor => 2,
+        Trap::Index => 3,
+        Trap::Frames => 4,
+        Trap::ShiftCount => 5,
+    }
+}
+
+/// How a thread of the source is found: a trap's number, or one that no trap has.
+fn source_end(end: ThreadEnd) -> u8 {
+    match end {
+        ThreadEnd::Ended => 6,
+        ThreadEnd::Spent => 7,
+        ThreadEnd::Wants => 8,
+        ThreadEnd::Trapped(trap) => trap_number(trap),
+    }
+}
+
+/// The same of a thread of the code, which runs where one of the source would have no ticks left.
+fn code_end(status: Status) -> u8 {
+    match status {
+        Status::Ended => 6,
+        Status::Running => 7,
+        Status::Trapped(trap) => trap_number(trap),
+    }
+}
+
+/// Adds a line behind others, where it is not the last one already: where the last one begins then.
+fn add(lines: &mut String, last: usize, line: &str) -> Result<usize, AllocError> {
+    if lines.as_bytes().get(last..) == Some(line.as_bytes()) {
+        return Ok(last);
+    }
+    let at = lines.len();
+    lines.push_str(line)?;
+    Ok(at)
+}
+
+/// What is seen of thread 3 of four, in a line.
+fn source_line(alloc: Global, outcome: &SourceOutcome) -> Result<String, AllocError> {
+    let memory = outcome.memory.as_slice();
+    match outcome.threads.as_slice().get(3) {
+        None => Ok(String::new(alloc)),
+        Some(thread) => {
+            let (end, text) = (source_end(thread.end), thread.text.as_slice());
+            format!(in alloc; "{memory:?} {end} {text:?}\n")
+        }
+    }
+}
+
+/// What is seen of thread 3 of a program within so many ticks, and within 40 transactions.
+fn source_after(alloc: Global, accepted: &Accepted, ticks: u64) -> Result<String, AllocError> {
+    match run_order(alloc, accepted, 4, &[3u32; 40], ticks) {
+        Ok(outcome) => source_line(alloc, &outcome),
+        Err(_) => Err(AllocError),
+    }
+}
+
+/// What is seen of a program's thread within fewer ticks than these, one line for each change.
+fn source_lines(alloc: Global, accepted: &Accepted, ticks: u64) -> Result<String, AllocError> {
+    let mut lines = String::new(alloc);
+    let mut last = 0;
+    for n in 0..ticks {
+        let line = source_after(alloc, accepted, n)?;
+        last = add(&mut lines, last, line.as_str())?;
+    }
+    Ok(lines)
+}
+
+/// A thread at its beginning.
+fn begin(alloc: Global, code: &Code) -> Option<AtomicThread>
+    ensures { IfSome result (λ t. IsThreadOf code.now t.kept) }
+{
+    match AtomicThread::new(alloc, code, 3) {
+        Ok(thread) => Some(thread),
+        Err(_) => None,
+    }
+}
+
+/// One instruction of a thread, which finds this memory or leaves another there.
+fn step(thread: &mut AtomicThread, code: &Code, memory: &mut Vec<u64>) -> Result<(), AllocError>
+    requires { IsThreadOf code.now thread.old.kept }
+    ensures { IsThreadOf code.now thread.new.kept }
+{
+    if thread.steps() > 1_000_000 {
+        return Ok(());
+    }
+    if !is_memory(code, memory.as_slice()) {
+        return Ok(());
+    }
+    match thread.go(code, memory.as_slice(), 1) {
+        Ok(ran) => {
+            if let Some(left) = ran.left {
+                *memory = left;
+            }
+            Ok(())
+        }
+        Err(refused) => Err(refused),
+    }
+}
+
+/// What is seen of a thread over this memory, in a line.
+fn code_line(alloc: Global, thread: &AtomicThread, memory: &[u64]) -> Result<String, AllocError> {
+    let (end, text) = (code_end(thread.status()), thread.output().as_bytes());
+    format!(in alloc; "{memory:?} {end} {text:?}\n")
+}
+
+/// Adds what is seen of a thread within so many instructions, one line for each change.
+fn carry_on(
+    alloc: Global,
+    thread: &mut AtomicThread,
+    code: &Code,
+    memory: &mut Vec<u64>,
+    lines: &mut String,
+    steps: u32,
+) -> Result<(), AllocError>
+    requires { IsThreadOf code.now thread.old.kept }
+{
+    let mut last = 0;
+    'steps: for _ in 0..steps {
+        let line = code_line(alloc, thread, memory.as_slice())?;
+        last = add(lines, last, line.as_str())?;
+        step(thread, code, memory)?;
+    }
+    Ok(())
+}
+
+/// What is seen of a code's thread within so many instructions, one line for each change.
+fn code_lines(alloc: Global, code: &Code, steps: u32) -> Result<String, AllocError> {
+    let mut lines = String::new(alloc);
+    let mut memory = Vec::new(alloc);
+    code.push_initial(&mut memory)?;
+    match begin(alloc, code) {
+        None => Err(AllocError),
+        Some(mut thread) => {
+            carry_on(alloc, &mut thread, code, &mut memory, &mut lines, steps)?;
+            Ok(lines)
+        }
+    }
+}
+
+/// What is seen of the thread of an accepted text.
+fn of_source(alloc: Global, text: &str, ticks: u64) -> Option<String> {
+    match accepted_of(alloc, text) {
+        None => None,
+        Some(accepted) => source_lines(alloc, &accepted, ticks).ok(),
+    }
+}
+
+/// What is seen of the thread of its code.
+fn of_code(alloc: Global, text: &str, steps: u32) -> Option<String> {
+    match code_of(alloc, text) {
+        Err(_) => None,
+        Ok(code) => code_lines(alloc, &code, steps).ok(),
+    }
+}
+
+/// Whether more than one thing is seen of a text's thread within so many ticks, and the same of its code's within so many
+/// instructions.
+fn show_the_same(alloc: Global, text: &str, ticks: u64, steps: u32) -> bool {
+    let Some(source) = of_source(alloc, text, ticks) else {
+        return false;
+    };
+    let Some(code) = of_code(alloc, text, steps) else {
+        return false;
+    };
+    let many = source.as_bytes().iter().filter(|byte| **byte == 10).count() > 1;
+    many && source.as_str() == code.as_str()
+}
+
+/// Programs with one way of ending, of printing, of jumping or of leaving loops each.
+const TEXTS: [&str; 8] = [
+    "void worker(int self) { for (int i = 0; i < self; i++) { if (i == 1) continue; printf(\"%d;\", i); } }",
+    "int f(int n) { if (n < 2) return n; printf(\"f\"); return f(n - 1) + f(n - 2); } void worker(int self) { printf(\"%d %u\", f(self + 1), 7u); }",
+    "void worker(int self) { int v = 2147483640; do { v += self; printf(\"%d\\n\", v); } while (1); }",
+    "int g(int n) { return g(n + 1); } void worker(int self) { printf(\"a\"); g(0); printf(\"b\"); }",
+    "void worker(int self) { int k = 3; while (k >= 0) { printf(\"%d\", 6 / k); k--; } }",
+    "void worker(int self) { unsigned u = 1; for (;;) { u = u << self; printf(\"%u \", u); if (u > 100u && !(u == 512u)) break; self = self * 3; } }",
+    "int x; void worker(int self) { printf(\"%d\", self > 2 ? self || 1 / 0 : 0); __transaction_atomic { x = 1; } printf(\"z\"); }",
+    "void worker(int self) { int a = 1, b; b = a > 0 && self; while (1) { if (b) { { int a = 5; b = a - 5; } continue; } break; } printf(\"%d%d\", a, b); }",
+];
+
+#[test]
+fn small_programs_show_the_same(rt: HostRuntime) -> Result<(), Fail> {
+    for text in TEXTS {
+        assert!(rt; show_the_same(rt.alloc(), text, 300, 1000), "{text}");
+    }
+    Ok(())
+}
+
+#[test]
+fn listed_programs_show_the_same(rt: HostRuntime) -> Result<(), Fail> {
+    for (text, _) in LISTED {
+        assert!(rt; show_the_same(rt.alloc(), text, 300, 1000), "{text}");
+    }
+    Ok(())
+}
+
+#[test]
+fn examples_show_the_same(rt: HostRuntime) -> Result<(), Fail> {
+    for text in EXAMPLES {
+        assert!(rt; show_the_same(rt.alloc(), text, 1500, 5000), "{text}");
+    }
+    Ok(())
+}
