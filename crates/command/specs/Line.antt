@@ -47,6 +47,12 @@ run_app =
     let threads = with_rule (file_app (codes "run")) (number_rule (codes "threads")) in
     with_rule threads (number_rule (codes "budget"))
 
+abbrev pub replay_app : App
+replay_app =
+    let threads = with_rule (file_app (codes "replay")) (number_rule (codes "threads")) in
+    let schedule = with_rule threads (text_rule (codes "schedule")) in
+    with_rule (with_rule schedule (number_rule (codes "seed"))) (number_rule (codes "steps"))
+
 abbrev pub source_app : App
 source_app =
     let threads = with_rule (file_app (codes "source")) (number_rule (codes "threads")) in
@@ -64,5 +70,5 @@ commandless_app =
 abbrev pub program_app : App
 program_app =
     let lists = with_subcommand (with_subcommand commandless_app check_app.top) listing_app.top in
-    let runs = with_subcommand (with_subcommand lists run_app.top) source_app.top in
-    with_subcommand runs explain_app.top
+    let runs = with_subcommand (with_subcommand lists run_app.top) replay_app.top in
+    with_subcommand (with_subcommand runs source_app.top) explain_app.top

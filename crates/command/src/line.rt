@@ -3,7 +3,7 @@
 ghost use Rattle.std.specs.Prelude.{◌≡◌, IfOk, codes, false};
 ghost use Rattle.clap.specs.Words.{app_of, rule_of};
 ghost use Rattle.clap.specs.declared.builder.command.Command.TheViews.{out-Command as fields_of};
-ghost use Rattle.command.specs.Line.{file_rule, verbose_rule, fault_rule, number_rule, order_rule, file_app, run_app, source_app, explain_app, commandless_app, program_app};
+ghost use Rattle.command.specs.Line.{file_rule, verbose_rule, fault_rule, text_rule, number_rule, order_rule, file_app, run_app, replay_app, source_app, explain_app, commandless_app, program_app};
 
 use clap::{Arg, ArgAction, Command, value_parser};
 use std::alloc::{AllocError, Global};
@@ -33,17 +33,24 @@ fn verbose<'a>(alloc: Global) -> Arg<'a>
         .help("Shows the line of a fault, and says why a file can't be read")
 }
 
-/// An option with a number.
-fn number<'a>(alloc: Global, name: &'a str, value: &'a str, help: &'a str) -> Arg<'a>
-    ensures rule { rule_of result ≡ number_rule name.entry.now }
+/// An option with a value.
+fn text<'a>(alloc: Global, name: &'a str, value: &'a str, help: &'a str) -> Arg<'a>
+    ensures rule { rule_of result ≡ text_rule name.entry.now }
     ensures global { result.global ≡ false }
 {
     Arg::new(alloc, name)
         .long(name)
         .action(ArgAction::Set)
         .value_name(value)
-        .value_parser(value_parser!(u32))
         .help(help)
+}
+
+/// An option with a number.
+fn number<'a>(alloc: Global, name: &'a str, value: &'a str, help: &'a str) -> Arg<'a>
+    ensures rule { rule_of result ≡ number_rule name.entry.now }
+    ensures global { result.global ≡ false }
+{
+    text(alloc, name, value, help).value_parser(value_parser!(u32))
 }
 
 /// The order of threads.
@@ -51,12 +58,13 @@ fn order<'a>(alloc: Global) -> Arg<'a>
     ensures rule { rule_of result ≡ order_rule }
     ensures global { result.global ≡ false }
 {
-    Arg::new(alloc, "order")
-        .long("order")
-        .action(ArgAction::Set)
-        .value_name("LIST")
-        .required(true)
-        .help("Whose turn it is, turn by turn: thread numbers joined by commas, or an empty word")
+    text(
+        alloc,
+        "order",
+        "LIST",
+        "Whose turn it is, turn by turn: thread numbers joined by commas, or an empty word",
+    )
+    .required(true)
 }
 
 /// A command over a file.
@@ -108,6 +116,41 @@ fn run<'a>(alloc: Global) -> Result<Command<'a>, AllocError>
     )?
     .arg(threads(alloc))?
     .arg(budget)
+}
+
+/// The command that replays steps of the machine.
+fn replay<'a>(alloc: Global) -> Result<Command<'a>, AllocError>
+    ensures app { IfOk result (λ c. app_of c ≡ replay_app) }
+    ensures globals { IfOk result (λ c. (fields_of c).has_globals ≡ false) }
+{
+    let schedule = text(
+        alloc,
+        "schedule",
+        "S",
+        "A file with a schedule: lines `T COUNT`, steps of thread T, or `T aCOUNT`, its steps up to so many accesses",
+    );
+    let seed = number(
+        alloc,
+        "seed",
+        "N",
+        "Picks the thread of each step by chance, in place of a schedule: 0 to 4294967295",
+    );
+    let steps = number(
+        alloc,
+        "steps",
+        "K",
+        "How many steps are picked: 0 to 1048576, and 100000 if not given",
+    );
+    of_file(
+        alloc,
+        "replay",
+        "Makes the steps of the machine that a schedule or a seed names, and prints what happened in them and what they leave",
+        "Example:\n  txc replay counter.c --threads 2 --seed 7",
+    )?
+    .arg(threads(alloc))?
+    .arg(schedule)?
+    .arg(seed)?
+    .arg(steps)
 }
 
 /// The command that runs the source in an order of threads.
@@ -183,12 +226,14 @@ pub fn program<'a>(alloc: Global) -> Result<Command<'a>, AllocError>
         "Example:\n  txc listing first.c",
     )?;
     let run = run(alloc)?;
+    let replay = replay(alloc)?;
     let source = source(alloc)?;
     let explain = explain(alloc)?;
     commandless(alloc)
         .subcommand(check)?
         .subcommand(listing)?
         .subcommand(run)?
+        .subcommand(replay)?
         .subcommand(source)?
         .subcommand(explain)
 }

@@ -1,6 +1,6 @@
 //! Words, and what they ask.
 
-use crate::{Request, Task, UsageFault, command};
+use crate::{Request, Steps, Task, UsageFault, command};
 use std::test::Fail;
 
 #[test]
@@ -120,6 +120,83 @@ fn refuses_orders(rt: HostRuntime) -> Result<(), Fail> {
     Ok(())
 }
 
+/// Words for a replay, and where its steps come from.
+#[test]
+fn reads_replays(rt: HostRuntime) -> Result<(), Fail> {
+    let words = ["txc", "replay", "a.c", "--schedule", "s.txt"];
+    let request = command(rt.alloc(), words.as_slice())?;
+    assert!(rt;
+        matches!(&request, Request::Program { file, verbose: false, task: Task::Replay { threads: 1, steps: Steps::Schedule { file: schedule } } } if file.as_str() == "a.c" && schedule.as_str() == "s.txt")
+    );
+    let rows: [(&[&str], u32, u32, u32); 3] = [
+        (["txc", "replay", "--seed", "0", "a.c"].as_slice(), 1, 0, 100000),
+        (
+            ["txc", "replay", "--threads=64", "--seed=4294967295", "--steps=0", "a.c"].as_slice(),
+            64,
+            4294967295,
+            0,
+        ),
+        (
+            ["txc", "replay", "--threads=2", "--steps=1048576", "--seed=7", "a.c"].as_slice(),
+            2,
+            7,
+            1048576,
+        ),
+    ];
+    for (words, threads, seed, count) in rows {
+        let request = command(rt.alloc(), words)?;
+        assert!(rt;
+            matches!(&request, Request::Program { task: Task::Replay { threads: t, steps: Steps::Seed { seed: s, count: k } }, .. } if *t == threads && *s == seed && *k == count),
+            "{words:?}"
+        );
+    }
+    // with a schedule the number of steps has no effect
+    let words = ["txc", "replay", "--steps=5", "--schedule=s", "a.c"];
+    let request = command(rt.alloc(), words.as_slice())?;
+    assert!(rt;
+        matches!(
+            &request,
+            Request::Program {
+                task: Task::Replay {
+                    steps: Steps::Schedule { .. },
+                    ..
+                },
+                ..
+            }
+        )
+    );
+    Ok(())
+}
+
+/// Words for a replay that the program itself refuses, and what it says.
+#[test]
+fn refuses_replays(rt: HostRuntime) -> Result<(), Fail> {
+    let one = "txc: usage: one of --schedule and --seed\n";
+    let rows: [(&[&str], &str); 5] = [
+        (["--threads=2"].as_slice(), one),
+        (["--steps=5"].as_slice(), one),
+        (["--schedule=s", "--seed=1"].as_slice(), one),
+        (
+            ["--seed=1", "--steps=1048577"].as_slice(),
+            "txc: usage: --steps is 0 to 1048576\n",
+        ),
+        (
+            ["--seed=1", "--threads=65"].as_slice(),
+            "txc: usage: --threads is 1 to 64\n",
+        ),
+    ];
+    for (options, told) in rows {
+        let mut words = vec![in rt.alloc(); "txc", "replay", "a.c"]?;
+        words.extend_from_slice(options)?;
+        let fault = command(rt.alloc(), words.as_slice());
+        assert!(rt;
+            matches!(&fault, Err(UsageFault::Wrong { text }) if text.as_str() == told),
+            "{options:?}"
+        );
+    }
+    Ok(())
+}
+
 #[test]
 fn refuses_words(rt: HostRuntime) -> Result<(), Fail> {
     let none = command(rt.alloc(), ["txc"].as_slice());
@@ -133,7 +210,9 @@ fn refuses_words(rt: HostRuntime) -> Result<(), Fail> {
         ["txc", "source", "--order=0", "--verbose"],
         ["txc", "explain", "--verbose", "1"],
         ["txc", "explain", "4294967296", ""],
-        ["txc", "replay", "a.c", "--seed=1"],
+        ["txc", "replay", "a.c", "--seed=-1"],
+        ["txc", "replay", "--seed=4294967296", "a.c"],
+        ["txc", "replay", "--seed=1", "--order=0"],
     ] {
         let fault = command(rt.alloc(), words.as_slice());
         assert!(rt;
@@ -150,6 +229,7 @@ fn helps(rt: HostRuntime) -> Result<(), Fail> {
         ["txc", "help", "run"],
         ["txc", "run", "--help"],
         ["txc", "check", "--help"],
+        ["txc", "replay", "--help"],
         ["txc", "source", "--help"],
         ["txc", "explain", "-h"],
     ] {

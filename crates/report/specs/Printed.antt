@@ -1,7 +1,7 @@
 -- What a report shows.
 use Rattle.std.specs.Prelude.{ℕ, List, Option}
 use Rattle.lex.specs.declared.token.Scalar.{Scalar}
-pub use Rattle.report.specs.declared.event.Event.{Event}
+pub use Rattle.machine.specs.declared.event.Event.{Event}
 pub use Rattle.report.specs.declared.printed.End.{End}
 
 -- a thread: how it is found, and what it has printed

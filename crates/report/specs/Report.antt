@@ -4,7 +4,7 @@ use Rattle.std.specs.List.{slice_get}
 use Rattle.std.specs.Fmt.{signed_decimal}
 use Rattle.lex.specs.declared.token.Scalar.{Scalar}
 use Rattle.syntax.specs.Numbers.{number, trap_number}
-use Rattle.report.specs.declared.event.Event.TheVariants as event
+use Rattle.machine.specs.declared.event.Event.TheVariants as event
 use Rattle.report.specs.declared.printed.End.TheVariants.{Ended, Trapped, OutOfMemory, SequenceUsedUp, Budget, Running, Waits, Spent}
 use Rattle.report.specs.Printed.{Event, End, ThreadShown, Shown, Printed}
 

@@ -1,12 +1,10 @@
 //! Reports: what a run, a replay or a run of the source leaves, as text.
 #![tactic(auto)]
 
-mod event;
 mod printed;
 mod push;
 mod report;
 
-pub use event::Event;
 pub use printed::{End, Printed, Shown, ThreadShown};
 pub use report::report_text;
 

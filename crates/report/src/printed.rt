@@ -1,8 +1,8 @@
 //! What a report shows.
 
-use crate::event::Event;
 use containers::{Items, Text};
 use lex::token::Scalar;
+use machine::Event;
 use std::alloc::Allocator;
 use syntax::numbers::Trap;
 

@@ -5,10 +5,10 @@ ghost use Rattle.syntax.specs.Numbers.{number, trap_number};
 ghost use Rattle.report.specs.Report.{event_line, end_words, global_line, is_open, lines_of, values_text};
 ghost use Rattle.report.specs.Views.{shown_of};
 
-use crate::event::Event;
 use crate::printed::{End, Shown};
 use itoa::Buffer;
 use lex::token::Scalar;
+use machine::Event;
 use std::alloc::{AllocError, Allocator};
 use syntax::numbers::Trap;
 

@@ -5,9 +5,9 @@ ghost use Rattle.report.specs.Report.{event_line, events_text, global_line, memo
 ghost use Rattle.report.specs.Report as spec;
 ghost use Rattle.report.specs.Views.{printed_of, shown_of, thread_of};
 
-use crate::event::Event;
 use crate::printed::{Printed, Shown, ThreadShown};
 use crate::push::{push_bytes, push_end, push_event, push_global, push_lines, push_number};
+use machine::Event;
 use std::alloc::{AllocError, Allocator};
 
 /// Adds the lines of events.

@@ -1,8 +1,9 @@
 //! Reports of every kind, and each growth refused once.
 
-use crate::{End, Event, Printed, Shown, ThreadShown, report_text};
+use crate::{End, Printed, Shown, ThreadShown, report_text};
 use containers::{Items, Text};
 use lex::token::Scalar;
+use machine::Event;
 use refusing::Refusing;
 use std::alloc::{AllocError, Allocator};
 use std::test::Fail;
