@@ -1,11 +1,11 @@
 -- A run of all threads of a code at once is one of the program that the code means.
-use Rattle.std.proofs.Common.{◌≡◌, ◌∙◌, ◌+◌, ◌++◌, ◌∷◌, [], ℕ, List, length, replicate, map, ap, ap₂, subst, sym, refl, add-one, ◌^◌}
+use Rattle.std.proofs.Common.{◌≡◌, ◌∙◌, ◌+◌, ◌++◌, ◌∷◌, [], ℕ, List, length, replicate, map, ap, ap₂, subst, sym, add-one, ◌^◌}
 use Rattle.std.proofs.lemmas.List.{map-append}
 use Rattle.report.specs.declared.printed.ThreadShown.{ThreadShown}
 use Rattle.report.specs.Views.{thread_of}
 use Rattle.std.specs.Global.{Global}
 use Rattle.syntax.specs.Tree.{Program}
-use Rattle.syntax.specs.Names.{bounds, globals, initial_from}
+use Rattle.syntax.specs.Names.{bounds, initial_from}
 use Rattle.syntax.specs.Behaviours.{Behaviour, Means}
 use Rattle.syntax.specs.Threads.{thread}
 use Rattle.bytecode.specs.Code.{Code}

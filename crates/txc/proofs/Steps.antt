@@ -1,5 +1,5 @@
 -- One step of a loop that shows globals.
-use Rattle.std.proofs.Common.{◌≡◌, ℕ, suc, ◌+◌, ◌<◌, List, [], ◌∷◌, ◌++◌, map, length, take, drop, get_or, refl, sym, ap, append_assoc, add-one, drop-cons, ◌∙◌}
+use Rattle.std.proofs.Common.{◌≡◌, ℕ, suc, ◌+◌, ◌<◌, List, [], ◌∷◌, ◌++◌, map, length, take, drop, get_or, refl, sym, ap, append_assoc, add-one, drop-cons}
 use Rattle.syntax.specs.Tree.{Global, Item}
 use Rattle.syntax.specs.Names.{cells, globals, shared_by}
 use Rattle.report.specs.Printed.{Shown}

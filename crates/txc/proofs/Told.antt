@@ -4,13 +4,13 @@ use Rattle.syntax.specs.Behaviours.{Outcome}
 use Rattle.meaning.specs.InOrder.{report_in, told}
 use Rattle.meaning.specs.declared.outcome.ThreadReport.{ThreadReport}
 use Rattle.syntax.specs.Tree.{Program}
-use Rattle.syntax.specs.Names.{initial_memory, globals}
+use Rattle.syntax.specs.Names.{initial_memory}
 use Rattle.syntax.specs.Orders.{in_order}
 use Rattle.syntax.specs.Threads.{thread}
 use Rattle.meaning.specs.InOrder.{IsInOrder, NamesThreads}
 use Rattle.meaning.specs.declared.outcome.SourceOutcome.{SourceOutcome}
 use Rattle.report.specs.Printed.{Printed}
-use Rattle.txc.specs.Shows.{thread_shown, program_shown, shown_globals}
+use Rattle.txc.specs.Shows.{thread_shown, program_shown}
 use Rattle.txc.specs.Runs.{IsOrderOf}
 use Rattle.txc.specs.inner.Told.{told_shown, report_shown}
 

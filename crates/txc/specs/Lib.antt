@@ -4,6 +4,8 @@ pub mod Usage
 pub mod Shows
 -- sources that are accepted, run or refused
 pub mod Runs
+-- replays of sources
+pub mod Replays
 -- what is answered to a request
 pub mod Answers
 -- what only private functions speak of

@@ -1,5 +1,5 @@
 -- Running a source's text.
-use Rattle.std.specs.Prelude.{◌≡◌, ◌⊎◌, ◌-◌, ◌^◌, ℕ, Bool, true, false, List, Option, Some, None, codes, is_some, if◌then◌else◌}
+use Rattle.std.specs.Prelude.{◌≡◌, ◌⊎◌, ℕ, Bool, true, false, List, Option, Some, None, codes, is_some, if◌then◌else◌}
 use Rattle.std.specs.List.{list_any}
 use Rattle.lex.specs.declared.token.Span.{Span}
 use Rattle.lex.specs.Faults as lex
@@ -22,7 +22,6 @@ use Rattle.separation.specs.declared.fault.Violation.{Violation as SeparationVio
 use Rattle.separation.specs.Touching.{IsAccepted, IsSeparationFault}
 use Rattle.separation.specs.Answers as separation
 use Rattle.parse.specs.Faults.{IsFaultOf as IsParseFault}
-use Rattle.meaning.specs.declared.outcome.MeaningFault.{MeaningFault}
 use Rattle.meaning.specs.InOrder.{NamesThreads, IsFaultOfOrder}
 use Rattle.std.specs.Io.KnownBytes.{Appends}
 use Rattle.txc.specs.declared.run.SourceFault.{SourceFault}
@@ -31,9 +30,9 @@ use Rattle.std.specs.Global.{Global}
 use Rattle.bytecode.specs.Code.{Code}
 use Rattle.bytecode.specs.Listing.{listing}
 use Rattle.lowered.specs.Laws.{MeansItsProgram}
+use Rattle.lower.specs.Faults as lower
 use Rattle.lower.specs.Faults.{IsFaultOf}
 use Rattle.lower.specs.declared.fault.LowerFault.{LowerFault}
-use Rattle.lower.specs.declared.fault.LowerFault.TheVariants as no_code
 use Rattle.workers.specs.Driving.{Ran, IsRunRefused}
 use Rattle.workers.specs.declared.run.RunReport.{RunReport}
 use Rattle.report.specs.Printed.{ThreadShown, Printed}
@@ -152,18 +151,6 @@ abbrev pub IsFaultAtOnce : (text : List ℕ) (threads : ℕ) → ThreadsFault �
 IsFaultAtOnce text threads (of_threads.Source fault) = IsFaultOfText text fault
 IsFaultAtOnce text threads (of_threads.Run fault) = IsRunRefused fault threads
 
-abbrev pub code_number : LowerFault → ℕ
-code_number no_code.OutOfMemory = 0
-code_number (no_code.TooManyRegisters at) = 60
-code_number (no_code.TooMuchCode at) = 61
-code_number (no_code.NestedTooDeep at) = 62
-
-abbrev pub code_span : LowerFault → Option Span
-code_span no_code.OutOfMemory = None
-code_span (no_code.TooManyRegisters at) = Some at
-code_span (no_code.TooMuchCode at) = Some at
-code_span (no_code.NestedTooDeep at) = Some at
-
 abbrev pub number_of_source : SourceFault → ℕ
 number_of_source OutOfMemory = 0
 number_of_source (Lex fault) = lex.number_of fault
@@ -171,7 +158,7 @@ number_of_source (Parse fault) = parse.number_of fault
 number_of_source (IllTyped fault) = number_in fault
 number_of_source (Unsafe fault) = safety.number_in fault
 number_of_source (NotSeparate fault) = separation.number_in fault
-number_of_source (NoCode fault) = code_number fault
+number_of_source (NoCode fault) = lower.number_of fault
 
 abbrev pub span_of_source : SourceFault → Option Span
 span_of_source OutOfMemory = None
@@ -180,7 +167,7 @@ span_of_source (Parse fault) = parse.span_of fault
 span_of_source (IllTyped fault) = Some (span_in fault)
 span_of_source (Unsafe fault) = Some (safety.span_in fault)
 span_of_source (NotSeparate fault) = Some (separation.span_in fault)
-span_of_source (NoCode fault) = code_span fault
+span_of_source (NoCode fault) = lower.span_of fault
 
 -- a text has a fault that stands somewhere in it
 abbrev pub IsRefused : List ℕ → Type 0

@@ -16,7 +16,13 @@ use Rattle.workers.specs.declared.run.Ending.{Ending}
 use Rattle.workers.specs.declared.run.RunMemory.{RunMemory}
 use Rattle.workers.specs.declared.run.RunMemory.TheVariants.{Words, LockHeld}
 use Rattle.workers.specs.declared.run.RunReport.{RunReport}
-use Rattle.report.specs.Printed.{Shown, ThreadShown, Printed}
+use Rattle.world.specs.declared.report.End.{End as WorldEnd}
+use Rattle.world.specs.declared.report.End.TheVariants as world
+use Rattle.world.specs.declared.stop.StopReason.{StopReason}
+use Rattle.world.specs.Reports.{threads_shown}
+use Rattle.world.specs.Simulations.{Simulation, world_of}
+use Rattle.replay.specs.Replays.{events_of}
+use Rattle.report.specs.Printed.{Event, Shown, ThreadShown, Printed}
 use Rattle.report.specs.declared.printed.End.{End}
 use Rattle.report.specs.declared.printed.End.TheVariants as end
 
@@ -27,6 +33,14 @@ end_at_once (HasTrapped k) stopped = end.Trapped k
 end_at_once Running None = end.Budget
 end_at_once Running (Some stop.OutOfMemory) = end.OutOfMemory
 end_at_once Running (Some stop.SequenceUsedUp) = end.SequenceUsedUp
+
+-- how a thread is found after a replay
+abbrev pub end_after_replay : WorldEnd → End
+end_after_replay world.Ended = end.Ended
+end_after_replay (world.Trapped k) = end.Trapped k
+end_after_replay world.OutOfMemory = end.OutOfMemory
+end_after_replay world.SequenceUsedUp = end.SequenceUsedUp
+end_after_replay world.Running = end.Running
 
 -- how a thread is found after its turns in an order
 abbrev pub order_end : ThreadEnd → End
@@ -98,3 +112,20 @@ at_once_shown p threads r = record {
   globals = globals_left p r.memory;
   holder = held_by r.memory;
 }
+
+-- a thread of a world: how it is found, and what it has printed
+abbrev pub thread_found : WorldEnd × List ℕ → ThreadShown
+thread_found found = record { end = end_after_replay found.0; text = found.1 }
+
+-- a replay: what happened in its steps, how each thread is found and what it has printed, the words, and who has the lock
+abbrev pub replay_shown : Program → List (ℕ × ℕ × Event) → List (WorldEnd × List ℕ) → Memory → (holder : Option ℕ) → Printed
+replay_shown p events found words holder = record {
+  events = Some events;
+  threads = map thread_found found;
+  globals = shown_globals (globals p) words;
+  holder = holder;
+}
+
+-- the world that steps have led to, where the next step of a thread may have been refused
+abbrev pub world_shown : Program → Option (ℕ × StopReason) → (holder : Option ℕ) → Simulation → Printed
+world_shown p stop holder s = replay_shown p (events_of s) (threads_shown stop s) (world_of s).words holder

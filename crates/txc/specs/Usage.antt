@@ -1,6 +1,6 @@
 -- What is told of words that are no request.
 use Rattle.command.specs.declared.request.UsageFault.{UsageFault}
-use Rattle.command.specs.declared.request.UsageFault.TheVariants.{OutOfMemory, Help, Wrong}
+use Rattle.command.specs.declared.request.UsageFault.TheVariants.{Help, Wrong}
 
 -- help is told
 abbrev pub IsHelp : UsageFault → Type 0

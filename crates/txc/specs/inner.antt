@@ -2,3 +2,5 @@
 pub mod Told
 -- what was read
 pub mod Read
+-- what is shown of a replay's report
+pub mod Replayed

@@ -7,12 +7,10 @@ ghost use Rattle.workers.specs.Driving.{IsRunRefused};
 ghost use Rattle.txc.specs.Runs.{IsCodeOf, IsFaultAtOnce, IsRunAtOnce, RunsAtOnce};
 
 use crate::at_once::shown_at_once;
+use crate::compiled::{Compiled, compile};
 use crate::order::unit_of;
-use crate::run::{SourceFault, read_accepted};
-use bytecode::Code;
-use lower::lower;
+use crate::run::SourceFault;
 use report::Printed;
-use separation::Accepted;
 use std::alloc::Global;
 use std::sync::Wait;
 use std::thread::Threads;
@@ -51,32 +49,28 @@ pub fn run_threads<H: Threads + Wait + Sync>(
     ensures ok { IfOk result (λ r. RunsAtOnce threads budget text.now (printed_of r)) }
     ensures err { IfErr result (λ f. IsFaultAtOnce text.now threads f) }
 {
-    match read_accepted(alloc, text) {
-        Ok(accepted) => match lower(alloc, &accepted) {
-            Ok(code) => match run_code(rt, alloc, &accepted, &code, threads, budget) {
-                Ok(printed) => Ok(printed),
-                Err(fault) => Err(ThreadsFault::Run(fault)),
-            },
-            Err(fault) => Err(ThreadsFault::Source(SourceFault::NoCode(fault))),
+    match compile(alloc, text) {
+        Ok(compiled) => match run_code(rt, alloc, &compiled, threads, budget) {
+            Ok(printed) => Ok(printed),
+            Err(fault) => Err(ThreadsFault::Run(fault)),
         },
         Err(fault) => Err(ThreadsFault::Source(fault)),
     }
 }
 
-/// Runs all threads of code at once. What it promises is of code that means the accepted program and has its globals.
+/// Runs all threads of a program's code at once. What it promises is of code that means the program and has its globals.
 fn run_code<H: Threads + Wait + Sync>(
     rt: &H,
     alloc: Global,
-    accepted: &Accepted,
-    code: &Code,
+    compiled: &Compiled,
     threads: u32,
     budget: u64,
 ) -> Result<Printed, RunFault>
-    ensures ok { IfOk result (λ r. IsCodeOf (program_of accepted.now.safe.typed.unit) code.now → IsRunAtOnce (program_of accepted.now.safe.typed.unit) code.now threads budget (printed_of r)) }
+    ensures ok { IfOk result (λ r. IsCodeOf (program_of compiled.now.accepted.safe.typed.unit) compiled.now.code → IsRunAtOnce (program_of compiled.now.accepted.safe.typed.unit) compiled.now.code threads budget (printed_of r)) }
     ensures err { IfErr result (λ f. IsRunRefused f threads) }
 {
-    let ran = run_all(rt, alloc, code, threads, budget, &Open)?;
-    match shown_at_once(alloc, unit_of(accepted), threads, &ran) {
+    let ran = run_all(rt, alloc, &compiled.code, threads, budget, &Open)?;
+    match shown_at_once(alloc, unit_of(&compiled.accepted), threads, &ran) {
         Ok(printed) => Ok(printed),
         Err(_) => Err(RunFault::OutOfMemory),
     }

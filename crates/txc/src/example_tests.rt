@@ -59,7 +59,7 @@ fn examples_print_what_they_should(rt: HostRuntime) -> Result<(), Fail> {
 }
 
 /// The words, the source, the schedule, and what a terminal shows.
-const TRANSCRIPTS: [(&str, &str, &str, &str); 14] = [
+const TRANSCRIPTS: [(&str, &str, &str, &str); 19] = [
     (
         "txc check examples/queue.c",
         "// A bounded queue: one transaction puts or takes, and a cancel undoes what does not fit.\nint slots[4], head, count, refused;\n\nint put(int value) {\n    int done = 0;\n    __transaction_atomic {\n        slots[(head + count) % 4] = value;\n        count++;\n        if (count > 4) __transaction_cancel;\n        done = 1;\n    }\n    return done;\n}\n\nvoid worker(int self) {\n    int i;\n    for (i = 1; i <= 6; i++) {\n        if (!put(i * i)) {\n            __transaction_atomic { refused++; }\n        }\n    }\n    __transaction_relaxed {\n        printf(\"%d waiting, %d refused\\n\", count, refused);\n        while (count > 0) {\n            printf(\"%d \", slots[head]);\n            head = (head + 1) % 4;\n            count--;\n        }\n    }\n    printf(\"\\n\");\n}\n",
@@ -89,6 +89,36 @@ const TRANSCRIPTS: [(&str, &str, &str, &str); 14] = [
         "int x = 40, y; void worker(int self) { __transaction_atomic { x = x + 2; y = x - 1; } }\n",
         "",
         "function worker registers 3\n0 begin >10\n1 rd r1 @0\n2 const r2 #2\n3 add.s r1 r1 r2\n4 wr @0 r1\n5 rd r1 @0\n6 const r2 #1\n7 sub.s r1 r1 r2\n8 wr @1 r1\n9 commit\n10 ret\n",
+    ),
+    (
+        "txc replay examples/booking.c --schedule examples/schedules/booking.txt",
+        "// A cancel of an inner transaction undoes the inner one alone: who finds no seat in the train takes one in the bus, and what the\n// outer transaction wrote before stays. Each thread books twice.\nint train = 1, bus = 9, asked, by_train, by_bus;\n\nvoid worker(int self) {\n    int i;\n    for (i = 0; i < 2; i++) {\n        __transaction_atomic {\n            int seated = 0;\n            asked = asked + 1;\n            __transaction_atomic {\n                train = train - 1;\n                by_train = by_train + 1;\n                if (train < 0) __transaction_cancel;\n                seated = 1;\n            }\n            if (!seated) {\n                bus = bus - 1;\n                by_bus = by_bus + 1;\n            }\n        }\n    }\n}\n",
+        "0 a100\n",
+        "== events\n12 0 commit\n19 0 cancel\n28 0 commit\n== thread 0: ended\n== memory\ntrain = 0\nbus = 8\nasked = 2\nby_train = 1\nby_bus = 1\n",
+    ),
+    (
+        "txc replay examples/counter.c --threads 2 --schedule examples/schedules/counter.txt",
+        "// Each thread adds one, three times. No addition is lost, whatever the threads do.\nint x;\n\nvoid worker(int self) {\n    int i;\n    for (i = 0; i < 3; i++) {\n        __transaction_atomic { x = x + 1; }\n    }\n}\n",
+        "0 a3\n1 a3\n0 a3\n1 a100\n0 a100\n",
+        "== events\n9 0 commit\n12 1 abort\n18 1 commit\n24 1 commit\n30 1 commit\n36 0 commit\n42 0 commit\n== thread 0: ended\n== thread 1: ended\n== memory\nx = 6\n",
+    ),
+    (
+        "txc replay examples/receipt.c --threads 2 --schedule examples/schedules/receipt.txt",
+        "// Printing can't be undone, so it stands in a relaxed transaction: from its first piece on no other thread can change what is\n// shared, and the numbers on the receipt are those of one moment.\nint sold, left = 10;\n\nvoid worker(int self) {\n    __transaction_relaxed {\n        sold = sold + 1;\n        left = left - 1;\n        printf(\"ticket %d, %d left\\n\", sold, left);\n    }\n}\n",
+        "1 a5\n0 a100\n1 a100\n",
+        "== events\n14 0 commit\n17 1 abort\n26 1 commit\n== thread 0: ended\nticket 1, 9 left\n== thread 1: ended\nticket 2, 8 left\n== memory\nsold = 2\nleft = 8\n",
+    ),
+    (
+        "txc replay examples/transfer.c --threads 2 --schedule examples/schedules/transfer.txt",
+        "// Both accounts change in one step, or neither does.\nint checking = 120, savings = 40;\n\nvoid worker(int self) {\n    __transaction_atomic {\n        checking = checking - 50;\n        savings = savings + 50;\n    }\n    __transaction_atomic {\n        savings = savings + 1;\n    }\n}\n",
+        "0 a7\n1 a5\n",
+        "== events\n== thread 0: running\n== thread 1: running\n== memory: lock held by thread 0\n",
+    ),
+    (
+        "txc replay examples/withdraw.c --threads 2 --schedule examples/schedules/withdraw.txt",
+        "// A cancel undoes all that its transaction wrote: a thread takes 70 from the account, or nothing. It tries twice.\nint balance = 100, refused;\n\nint withdraw(int amount) {\n    int paid = 0;\n    __transaction_atomic {\n        balance = balance - amount;\n        if (balance < 0) __transaction_cancel;\n        paid = 1;\n    }\n    return paid;\n}\n\nvoid worker(int self) {\n    int i;\n    for (i = 0; i < 2; i++) {\n        if (!withdraw(70)) {\n            __transaction_atomic { refused = refused + 1; }\n        }\n    }\n}\n",
+        "0 a3\n1 a3\n0 a100\n1 a100\n",
+        "== events\n9 0 commit\n12 0 cancel\n18 0 commit\n21 1 abort\n24 1 cancel\n30 1 commit\n33 1 cancel\n39 1 commit\n== thread 0: ended\n== thread 1: ended\n== memory\nbalance = 30\nrefused = 3\n",
     ),
     (
         "txc run examples/counter.c --threads 4",
@@ -148,13 +178,20 @@ const TRANSCRIPTS: [(&str, &str, &str, &str); 14] = [
 
 #[test]
 fn transcripts_show_what_they_should(rt: HostRuntime) -> Result<(), Fail> {
-    for (line, source, _schedule, shown) in TRANSCRIPTS {
+    for (line, source, schedule, shown) in TRANSCRIPTS {
         let mut words = Vec::new(rt.alloc());
         for word in line.split(' ') {
             words.push(word)?;
         }
         let request = command(rt.alloc(), words.as_slice())?;
-        let mut answer = serve_told(&rt, rt.alloc(), &request, source.as_bytes(), true);
+        let mut answer = serve_told(
+            &rt,
+            rt.alloc(),
+            &request,
+            source.as_bytes(),
+            schedule.as_bytes(),
+            true,
+        );
         answer.out.extend_from_slice(answer.err.as_slice())?;
         assert_eq!(rt; answer.out.as_slice(), shown.as_bytes());
     }

@@ -197,7 +197,14 @@ fn the_line_follows_on_a_terminal(rt: HostRuntime) -> Result<(), Fail> {
         (["txc", "run", "--verbose", "a.c"].as_slice(), false),
     ] {
         let request = command(rt.alloc(), words)?;
-        let answer = serve_told(&rt, rt.alloc(), &request, source.as_bytes(), is_terminal);
+        let answer = serve_told(
+            &rt,
+            rt.alloc(),
+            &request,
+            source.as_bytes(),
+            b"",
+            is_terminal,
+        );
         assert_eq!(rt; answer.err.as_slice(), told.as_bytes());
         assert_eq!(rt; answer.status, 1);
     }

@@ -2,6 +2,7 @@
 #![tactic(auto)]
 
 mod at_once;
+mod compiled;
 mod concurrent;
 #[cfg(test)]
 mod example_tests;
@@ -9,7 +10,11 @@ mod example_tests;
 mod fault_tests;
 mod listed;
 mod order;
+#[cfg(test)]
+mod replay_tests;
+mod replayed;
 mod run;
+mod scheduled;
 mod serve;
 mod shown;
 mod source;
@@ -18,7 +23,7 @@ mod tell;
 #[cfg(test)]
 mod tests;
 
-use command::{Request, UsageFault, command};
+use command::{Request, Steps, Task, UsageFault, command};
 use serve::serve;
 use std::alloc::Global;
 use std::env;
@@ -63,29 +68,55 @@ fn no_words(alloc: Global, kind: ErrorKind) -> UsageFault {
     }
 }
 
-/// Opens the file that is asked for, if there is one, and serves the request.
+/// Opens the file that is asked for, if there is one, and a schedule, and serves the request.
 fn open<H: Threads + Wait + Sync>(rt: &HostRuntime, handle: &H, request: &Request) -> u8 {
     match request {
-        Request::Program { file, verbose, .. } => match File::open(rt, file.as_str()) {
-            Ok(source) => answer_from(rt, handle, request, source),
-            Err(error) => {
-                let detail = Detail {
-                    lines: false,
-                    reasons: *verbose,
-                };
-                cannot_read(file.as_str(), &error, detail, &mut rt.stderr())
+        Request::Program {
+            file,
+            verbose,
+            task,
+        } => {
+            let detail = Detail {
+                lines: false,
+                reasons: *verbose,
+            };
+            match File::open(rt, file.as_str()) {
+                Ok(source) => open_schedule(rt, handle, request, task, source, detail),
+                Err(error) => cannot_read(file.as_str(), &error, detail, &mut rt.stderr()),
             }
+        }
+        Request::Explain { .. } => answer_from(rt, handle, request, b"".as_slice(), b"".as_slice()),
+    }
+}
+
+/// Opens the schedule of a task, if it has one, and serves the request.
+fn open_schedule<H: Threads + Wait + Sync>(
+    rt: &HostRuntime,
+    handle: &H,
+    request: &Request,
+    task: &Task,
+    source: File,
+    detail: Detail,
+) -> u8 {
+    match task {
+        Task::Replay {
+            steps: Steps::Schedule { file },
+            ..
+        } => match File::open(rt, file.as_str()) {
+            Ok(schedule) => answer_from(rt, handle, request, source, schedule),
+            Err(error) => cannot_read(file.as_str(), &error, detail, &mut rt.stderr()),
         },
-        Request::Explain { .. } => answer_from(rt, handle, request, b"".as_slice()),
+        _ => answer_from(rt, handle, request, source, b"".as_slice()),
     }
 }
 
 /// Serves a request over the program's own streams.
-fn answer_from<H: Threads + Wait + Sync, R: Read + Drop>(
+fn answer_from<H: Threads + Wait + Sync, R: Read + Drop, S: Read + Drop>(
     rt: &HostRuntime,
     handle: &H,
     request: &Request,
     source: R,
+    schedule: S,
 ) -> u8 {
     let is_terminal = rt.stderr().is_terminal();
     serve(
@@ -93,7 +124,7 @@ fn answer_from<H: Threads + Wait + Sync, R: Read + Drop>(
         rt.alloc(),
         request,
         source,
-        b"".as_slice(),
+        schedule,
         &mut rt.stdout(),
         &mut rt.stderr(),
         is_terminal,

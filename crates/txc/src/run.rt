@@ -2,7 +2,6 @@
 
 ghost use Rattle.std.specs.Prelude.{◌≡◌, IfOk, IfErr, OnOk};
 ghost use Rattle.parse.specs.Faults.{source_of};
-ghost use Rattle.txc.specs.Runs as spec;
 ghost use Rattle.txc.specs.Runs.{IsSourceOf, Accepts, IsFaultOfText, number_of_source, span_of_source};
 
 use lex::token::Span;
@@ -49,7 +48,7 @@ impl SourceFault {
             SourceFault::IllTyped(fault) => fault.number(),
             SourceFault::Unsafe(fault) => fault.number(),
             SourceFault::NotSeparate(fault) => fault.number(),
-            SourceFault::NoCode(fault) => code_number(*fault),
+            SourceFault::NoCode(fault) => fault.number(),
         }
     }
 
@@ -64,32 +63,8 @@ impl SourceFault {
             SourceFault::IllTyped(fault) => Some(fault.span()),
             SourceFault::Unsafe(fault) => Some(fault.span()),
             SourceFault::NotSeparate(fault) => Some(fault.span()),
-            SourceFault::NoCode(fault) => code_span(*fault),
+            SourceFault::NoCode(fault) => fault.span(),
         }
-    }
-}
-
-/// The number of a fault of code generation.
-fn code_number(fault: LowerFault) -> u32
-    ensures { result ≡ spec.code_number fault }
-{
-    match fault {
-        LowerFault::OutOfMemory => 0,
-        LowerFault::TooManyRegisters(_) => 60,
-        LowerFault::TooMuchCode(_) => 61,
-        LowerFault::NestedTooDeep(_) => 62,
-    }
-}
-
-/// Where a fault of code generation stands in the text.
-fn code_span(fault: LowerFault) -> Option<Span>
-    ensures { result ≡ spec.code_span fault }
-{
-    match fault {
-        LowerFault::OutOfMemory => None,
-        LowerFault::TooManyRegisters(at)
-        | LowerFault::TooMuchCode(at)
-        | LowerFault::NestedTooDeep(at) => Some(at),
     }
 }
 

@@ -1,21 +1,25 @@
 //! Answers a request over readers and writers.
 
-ghost use Rattle.std.specs.Prelude.{◌≡◌, ◌≢◌, ◌≤◌, IfSome};
+ghost use Rattle.std.specs.Prelude.{◌≡◌, ◌≢◌, ◌≤◌, ◌⊎◌, IfSome, None};
 ghost use Rattle.txc.specs.Answers.{Answers, AnswersRequest};
 ghost use Rattle.report.specs.Views.{printed_of};
+ghost use Rattle.txc.specs.Replays.{Replays};
 ghost use Rattle.txc.specs.Runs.{IsRefused, Prints, PrintsListing, PrintsShown, RunsAtOnce, RunsInOrder, SaysAccepted};
 
+use crate::compiled::compile;
 use crate::concurrent::{ThreadsFault, run_threads};
 use crate::listed::list_source;
 use crate::order::{OrderFault, run_in_order};
+use crate::replayed::{Replayed, replay_code};
 use crate::run::check_source;
+use crate::scheduled::lines_of;
 use crate::source::{Source, read_source};
 use crate::status::{ENDED, status_of};
 use crate::tell::{
     Detail, cannot_write, not_read, not_text, out_of_memory, print, refuse, refuse_order,
-    refuse_run, too_long, unusable,
+    refuse_replay, refuse_run, refuse_step, too_long, unusable,
 };
-use command::{Request, Task};
+use command::{Request, Steps, Task};
 use faults::explanation;
 use report::{Printed, report_text};
 use std::alloc::{Allocator, Global};
@@ -25,11 +29,12 @@ use std::thread::Threads;
 
 /// Does what is asked over two readers and two writers, and gives the exit status.
 ///
-/// The source's text is read from `source`; no request reads a schedule yet. The report, `accepted` or what a fault means goes
-/// to `out`, and faults to `err`; what `err` does not take is lost. Where `err` is a terminal, or the words ask for it, the line
-/// of the source follows its fault. The status is 0 where all threads ended, the source is accepted or a fault is explained,
-/// 1 where the source is refused, 2 where it cannot be read or is not UTF-8, or the words are of no use, 3 where a thread
-/// trapped, and 4 where one did neither, or memory or `out` was refused.
+/// The source's text is read from `source`, and a schedule from `schedule`, once the source has code. The report, `accepted` or
+/// what a fault means goes to `out`, and faults to `err`; what `err` does not take is lost. Where `err` is a terminal, or the words
+/// ask for it, the line of the source or of the schedule follows its fault. The status is 0 where all threads ended, the source
+/// is accepted or a fault is explained, 1 where the source is refused, 2 where it or the schedule cannot be read or is not
+/// UTF-8, the schedule or an order is refused, or the words are of no use, 3 where a thread trapped, and 4 where one did neither,
+/// a step was not made, or memory or `out` was refused.
 pub fn serve<H: Threads + Wait + Sync, R: Read + Drop, S: Read + Drop, W: Write, E: Write>(
     rt: &H,
     alloc: Global,
@@ -41,9 +46,8 @@ pub fn serve<H: Threads + Wait + Sync, R: Read + Drop, S: Read + Drop, W: Write,
     is_terminal: bool,
 ) -> u8
     ensures status { result ≤ 4 }
-    ensures answer { IfSome (R.remaining source) (λ bytes. AnswersRequest request.now bytes result (W.contents out.old) (W.contents out.new)) }
+    ensures answer { IfSome (R.remaining source) (λ bytes. AnswersRequest request.now (S.remaining schedule) bytes result (W.contents out.old) (W.contents out.new)) }
 {
-    drop(schedule);
     match request {
         Request::Program {
             file,
@@ -54,31 +58,39 @@ pub fn serve<H: Threads + Wait + Sync, R: Read + Drop, S: Read + Drop, W: Write,
                 lines: *verbose || is_terminal,
                 reasons: *verbose,
             };
-            serve_program(rt, alloc, file.as_str(), task, source, detail, out, err)
+            serve_program(
+                rt,
+                alloc,
+                file.as_str(),
+                task,
+                source,
+                schedule,
+                detail,
+                out,
+                err,
+            )
         }
-        Request::Explain { number } => {
-            drop(source);
-            explain(*number, out, err)
-        }
+        Request::Explain { number } => explain(*number, out, err),
     }
 }
 
 /// Does what is asked with the program in a file.
-fn serve_program<H: Threads + Wait + Sync, R: Read + Drop, W: Write, E: Write>(
+fn serve_program<H: Threads + Wait + Sync, R: Read + Drop, S: Read + Drop, W: Write, E: Write>(
     rt: &H,
     alloc: Global,
     file: &str,
     task: &Task,
     source: R,
+    schedule: S,
     detail: Detail,
     out: &mut W,
     err: &mut E,
 ) -> u8
     ensures status { result ≤ 4 }
-    ensures answer { IfSome (R.remaining source) (λ bytes. Answers task.now bytes result (W.contents out.old) (W.contents out.new)) }
+    ensures answer { IfSome (R.remaining source) (λ bytes. Answers task.now (S.remaining schedule) bytes result (W.contents out.old) (W.contents out.new)) }
 {
     match read_source(alloc, source) {
-        Ok(Source::Text(text)) => work(rt, alloc, task, text.as_str(), detail, out, err),
+        Ok(Source::Text(text)) => work(rt, alloc, task, text.as_str(), schedule, detail, out, err),
         Ok(Source::NotText) => not_text(file, err),
         Ok(Source::TooLong) => too_long(err),
         Err(error) => not_read(file, &error, detail, err),
@@ -86,17 +98,18 @@ fn serve_program<H: Threads + Wait + Sync, R: Read + Drop, W: Write, E: Write>(
 }
 
 /// Does what is asked with the text of a program.
-fn work<H: Threads + Wait + Sync, W: Write, E: Write>(
+fn work<H: Threads + Wait + Sync, S: Read + Drop, W: Write, E: Write>(
     rt: &H,
     alloc: Global,
     task: &Task,
     text: &str,
+    schedule: S,
     detail: Detail,
     out: &mut W,
     err: &mut E,
 ) -> u8
     ensures status { result ≤ 4 }
-    ensures answer { Answers task.now text.now result (W.contents out.old) (W.contents out.new) }
+    ensures answer { Answers task.now (S.remaining schedule) text.now result (W.contents out.old) (W.contents out.new) }
 {
     match task {
         Task::Check => check(alloc, text, detail, out, err),
@@ -110,6 +123,9 @@ fn work<H: Threads + Wait + Sync, W: Write, E: Write>(
             detail,
             out,
             err,
+        ),
+        Task::Replay { threads, steps } => replay_source(
+            alloc, text, *threads, steps, schedule, detail, out, err,
         ),
         Task::Source {
             threads,
@@ -125,8 +141,6 @@ fn work<H: Threads + Wait + Sync, W: Write, E: Write>(
             out,
             err,
         ),
-        // the command line does not offer it
-        Task::Replay { .. } => unusable("no such command", err),
     }
 }
 
@@ -149,6 +163,33 @@ fn run<H: Threads + Wait + Sync, W: Write, E: Write>(
         Ok(printed) => print_report(alloc, &printed, out, err),
         Err(ThreadsFault::Source(fault)) => refuse(alloc, text, fault, detail, err),
         Err(ThreadsFault::Run(fault)) => refuse_run(fault, err),
+    }
+}
+
+/// Replays steps of a source's threads and prints their report.
+fn replay_source<A: Allocator + Copy, S: Read + Drop, W: Write, E: Write>(
+    alloc: A,
+    text: &str,
+    threads: u32,
+    steps: &Steps,
+    schedule: S,
+    detail: Detail,
+    out: &mut W,
+    err: &mut E,
+) -> u8
+    ensures status { result ≤ 4 }
+    ensures report { Prints (Replays threads steps.now (S.remaining schedule) text.now) result (W.contents out.old) (W.contents out.new) }
+    ensures refused { result ≡ 1 → IsRefused text.now }
+{
+    match compile(alloc, text) {
+        Ok(compiled) => match lines_of(alloc, threads, steps, schedule, detail, err) {
+            Ok(found) => match replay_code(alloc, &compiled, threads, found.as_slice()) {
+                Ok(replayed) => print_replay(alloc, &replayed, out, err),
+                Err(fault) => refuse_replay(fault, err),
+            },
+            Err(status) => status,
+        },
+        Err(fault) => refuse(alloc, text, fault, detail, err),
     }
 }
 
@@ -233,6 +274,25 @@ fn print_report<A: Allocator + Copy, W: Write, E: Write>(
             Err(_) => cannot_write(err),
         },
         Err(_) => out_of_memory(err),
+    }
+}
+
+/// Prints the report of a replay, and gives the exit status: by the ends of its threads, or by a step that was not made.
+fn print_replay<A: Allocator + Copy, W: Write, E: Write>(
+    alloc: A,
+    replayed: &Replayed<A>,
+    out: &mut W,
+    err: &mut E,
+) -> u8
+    ensures status { result ≤ 4 }
+    ensures whole { (result ≡ 0) ⊎ (result ≡ 3) → replayed.now.stop ≡ None }
+    ensures report { PrintsShown (printed_of replayed.now.printed) result (W.contents out.old) (W.contents out.new) }
+    ensures not_refused { result ≢ 1 }
+{
+    let status = print_report(alloc, &replayed.printed, out, err);
+    match replayed.stop {
+        Some(stop) => refuse_step(stop, err),
+        None => status,
     }
 }
 

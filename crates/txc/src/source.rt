@@ -1,6 +1,6 @@
-//! Reading a source.
+//! Reading a source, and a schedule.
 
-ghost use Rattle.std.specs.Prelude.{◌≡◌, IfOk, IfSome, take};
+ghost use Rattle.std.specs.Prelude.{◌≡◌, IfOk, IfSome, string_bytes, take};
 ghost use Rattle.txc.specs.inner.Read.{IsTextOf};
 
 use lex::MOST_BYTES;
@@ -48,4 +48,16 @@ pub fn read_source<A: Allocator, R: Read + Drop>(alloc: A, source: R) -> io::Res
     } else {
         Ok(source_of(bytes))
     }
+}
+
+/// Reads a text to its end. There is none where the bytes are not UTF-8.
+pub fn read_text<A: Allocator, R: Read + Drop>(
+    alloc: A,
+    mut reader: R,
+) -> io::Result<Option<String<A>>>
+    ensures { IfOk result (λ o. IfSome o (λ s. IfSome (R.remaining reader) (λ bytes. string_bytes s ≡ bytes))) }
+{
+    let mut bytes = Vec::new(alloc);
+    reader.read_to_end(&mut bytes)?;
+    Ok(String::from_utf8(bytes).ok())
 }

@@ -12,10 +12,12 @@ use faults::{underlined, words};
 use lex::place;
 use lex::token::Span;
 use meaning::MeaningFault;
+use replay::ScheduleFault;
 use std::alloc::Allocator;
 use std::io;
 use std::io::{ErrorKind, Write};
 use workers::RunFault;
+use world::{StopReason, WorldFault, WorldStop};
 
 /// How much is told of faults.
 #[derive(Clone, Copy, PartialEq, Eq, Debug)]
@@ -147,6 +149,73 @@ pub fn refuse_run<E: Write>(fault: RunFault, err: &mut E) -> u8
     };
     let _ = writeln!(err, "txc: fault {number}");
     STOPPED
+}
+
+/// Says why nothing was replayed.
+pub fn refuse_replay<E: Write>(fault: WorldFault, err: &mut E) -> u8
+    ensures { result ≡ 4 }
+{
+    match fault {
+        WorldFault::OutOfMemory => out_of_memory(err),
+        WorldFault::WrongThreads => {
+            let _ = writeln!(err, "txc: fault 72");
+            STOPPED
+        }
+    }
+}
+
+/// Says that a step was not made, where that is of a thread that there is not. A report tells the other reasons.
+pub fn refuse_step<E: Write>(stop: WorldStop, err: &mut E) -> u8
+    ensures { result ≡ 4 }
+{
+    if stop.reason == StopReason::Stranger {
+        let _ = writeln!(err, "txc: fault 71 at step {}", stop.step);
+    }
+    STOPPED
+}
+
+/// Says why a schedule is refused.
+pub fn refuse_schedule<A: Allocator + Copy, E: Write>(
+    alloc: A,
+    text: &str,
+    fault: ScheduleFault,
+    detail: Detail,
+    err: &mut E,
+) -> u8
+    ensures { (result ≡ 2) ⊎ (result ≡ 4) }
+{
+    match fault {
+        ScheduleFault::OutOfMemory => return out_of_memory(err),
+        ScheduleFault::BadLine(line) => {
+            let _ = writeln!(err, "txc: fault 80 at line {line}");
+            if detail.lines {
+                show_line(alloc, text, span_of_line(text.as_bytes(), line), err);
+            }
+        }
+        ScheduleFault::TooLong => {
+            let _ = writeln!(err, "txc: fault 81");
+        }
+    }
+    UNUSABLE
+}
+
+/// Where the line of this number stands in a text, or its last line.
+fn span_of_line(text: &[u8], line: usize) -> Span {
+    let mut start = 0;
+    let mut left = line;
+    'bytes: for at in 0..text.len() {
+        if text[at] == b'\n' {
+            if left <= 1 {
+                return Span { start, end: at };
+            }
+            left -= 1;
+            start = at + 1;
+        }
+    }
+    Span {
+        start,
+        end: text.len(),
+    }
 }
 
 /// Says why an order is refused.

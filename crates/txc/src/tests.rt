@@ -30,15 +30,16 @@ pub(crate) fn serve_bytes<H: Threads + Wait + Sync>(
     request: &Request,
     source: &[u8],
 ) -> Served {
-    serve_told(rt, alloc, request, source, false)
+    serve_told(rt, alloc, request, source, b"", false)
 }
 
-/// Serves a source out of memory, to a terminal or not.
+/// Serves a source and a schedule out of memory, to a terminal or not.
 pub(crate) fn serve_told<H: Threads + Wait + Sync>(
     rt: &H,
     alloc: Global,
     request: &Request,
     source: &[u8],
+    schedule: &[u8],
     is_terminal: bool,
 ) -> Served {
     let mut out = Vec::new(alloc);
@@ -48,7 +49,7 @@ pub(crate) fn serve_told<H: Threads + Wait + Sync>(
         alloc,
         request,
         source,
-        b"".as_slice(),
+        schedule,
         &mut out,
         &mut err,
         is_terminal,
@@ -58,7 +59,7 @@ pub(crate) fn serve_told<H: Threads + Wait + Sync>(
 
 /// A reader that gives no byte.
 #[derive(Drop)]
-struct Broken;
+pub(crate) struct Broken;
 
 impl Read for Broken {
     fn read(&mut self, _buf: &mut [u8]) -> io::Result<usize> {
@@ -212,7 +213,8 @@ fn says_what_is_accepted(rt: HostRuntime) -> Result<(), Fail> {
 }
 
 /// Two threads that each add one.
-const ADDS: &[u8] = b"int x; void worker(int self) { __transaction_atomic { x = x + 1; } }";
+pub(crate) const ADDS: &[u8] =
+    b"int x; void worker(int self) { __transaction_atomic { x = x + 1; } }";
 
 /// A transaction that never ends.
 const TURNS: &[u8] = b"int x; void worker(int self) { __transaction_atomic { while (1) { } } }";

@@ -1,0 +1,56 @@
+-- A replay of a code is one of the program that the code means.
+use Rattle.std.proofs.Common.{◌≡◌, ◌^◌, ℕ, List, Option, None, length, replicate, ap, subst, sym}
+use Rattle.syntax.specs.Tree.{Program}
+use Rattle.syntax.specs.Views.{program_of}
+use Rattle.parse.specs.Faults.{source_of}
+use Rattle.syntax.specs.Names.{bounds, initial_from}
+use Rattle.syntax.specs.Behaviours.{Means}
+use Rattle.syntax.specs.Threads.{thread}
+use Rattle.bytecode.specs.Beginning.{beginning}
+use Rattle.bytecode.specs.Code.{Code, effect}
+use Rattle.bytecode.specs.Sequential.{meaning}
+use Rattle.bytecode.specs.Valid.{bounds_of}
+use Rattle.world.specs.declared.report.Report.{Report}
+use Rattle.world.specs.declared.stop.WorldStop.{WorldStop}
+use Rattle.world.specs.Simulations.{IsHolder, world_of}
+use Rattle.command.specs.declared.request.Steps.{Steps}
+use Rattle.replay.specs.declared.line.Line.{Line}
+use Rattle.replay.specs.Replays.{IsReplay, played}
+use Rattle.report.specs.Printed.{Printed}
+use Rattle.txc.specs.declared.compiled.Compiled.{Compiled}
+use Rattle.txc.specs.Runs.{IsCodeOf, IsSourceOf}
+use Rattle.txc.specs.Replays.{AreLinesOf, IsReplayOf, Replays}
+use Rattle.txc.specs.inner.Replayed.{report_shown}
+use Rattle.txc.proofs.Codes.{compiles}
+
+pub replay_of : {A : Type 0} (p : Program) (code : Code) (threads : ℕ) (found : List Line) (r : Report A) (shown : Printed) → IsCodeOf p code → IsReplay code threads found r → shown ≡ report_shown p r → IsReplayOf p code threads found r.stop shown
+replay_of p code threads found r shown compiled replay shows =
+    let cells : bounds p ≡ bounds_of code = ap (λ gs. replicate (length (initial_from gs)) (2 ^ 32)) (sym compiled.globals) in
+    let held : shown.holder ≡ r.holder = ap (λ (s : Printed). s.holder) shows in
+    let events = replay.events in
+    let found_are = replay.threads_are in
+    let words = replay.words in
+    record {
+      made = replay.made;
+      rest = replay.rest;
+      stop = replay.stop;
+      named = replay.named;
+      ends = replay.ends;
+      explained = replay.explained.programs (thread p) (subst (λ bs. Means bs (meaning (effect code) (beginning code)) (thread p)) cells compiled.means);
+      holder = subst (λ (h : Option ℕ). IsHolder (world_of (played code threads replay.made)) h) (sym held) replay.holder;
+      shows = cc (shows, events, found_are, words, held);
+      stopped_is = replay.stop_is;
+    }
+
+-- a replay of a text's program whose steps were all made
+pub replays : {A : Type 0} (threads : ℕ) (steps : Steps) (schedule : Option (List ℕ)) (text : List ℕ) (c : Compiled A) (found slice : List Line) (stop : Option WorldStop) (shown : Printed) → IsSourceOf text (source_of c.accepted.safe.typed.unit) → IsCodeOf (program_of c.accepted.safe.typed.unit) c.code → AreLinesOf steps threads schedule found → slice ≡ found → stop ≡ None → IsReplayOf (program_of c.accepted.safe.typed.unit) c.code threads slice stop shown → Replays threads steps schedule text shown
+replays threads steps schedule text c found slice stop shown spelled compiled lines same whole replay =
+    let p = program_of c.accepted.safe.typed.unit in
+    let of_found = subst (λ (ls : List Line). IsReplayOf p c.code threads ls stop shown) same replay in
+    record {
+      code = c.code;
+      compiled = compiles text c spelled compiled;
+      found = found;
+      lines = lines;
+      replay = subst (λ (s : Option WorldStop). IsReplayOf p c.code threads found s shown) whole of_found;
+    }
