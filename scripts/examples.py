@@ -80,13 +80,20 @@ const TRANSCRIPTS: [(&str, &str, &str, &str); {len(transcripts)}] = [
 
 #[test]
 fn transcripts_show_what_they_should(rt: HostRuntime) -> Result<(), Fail> {{
-    for (line, source, _schedule, shown) in TRANSCRIPTS {{
+    for (line, source, schedule, shown) in TRANSCRIPTS {{
         let mut words = Vec::new(rt.alloc());
         for word in line.split(' ') {{
             words.push(word)?;
         }}
         let request = command(rt.alloc(), words.as_slice())?;
-        let mut answer = serve_told(&rt, rt.alloc(), &request, source.as_bytes(), true);
+        let mut answer = serve_told(
+            &rt,
+            rt.alloc(),
+            &request,
+            source.as_bytes(),
+            schedule.as_bytes(),
+            true,
+        );
         answer.out.extend_from_slice(answer.err.as_slice())?;
         assert_eq!(rt; answer.out.as_slice(), shown.as_bytes());
     }}
