@@ -1,0 +1,122 @@
+#!/usr/bin/env python3
+"""Holds replays against the source: each program of examples/ is replayed by 200 seeds, with two to four threads, every other time cut
+off early. Where no thread has the lock at the end, its source is run in the order of the transactions that the replay tells of. Both
+have to leave the same memory; each thread has to have printed no more than there, and to be over in the same way if it is over.
+
+  scripts/replays.py [SEEDS [TXC]]
+
+TXC is the program, crates/txc/out/txc if it is not given, which `cd crates/txc && rt run -- --version` builds.
+
+The order is that of the events: each commit, each trap, and each cancel of an outermost transaction is one turn. A transaction that
+is cancelled may have found an earlier memory than that before its event, if others committed in between. So where the order of
+the events does not give what the replay gave, each cancel takes the last earlier turn at which it leaves memory as it is.
+"""
+
+import glob
+import os
+import re
+import subprocess
+import sys
+
+TOP = os.path.dirname(os.path.dirname(os.path.abspath(__file__)))
+STEPS = 40_000
+REPORT = re.compile(r"(?:== events\n(?P<events>.*?))?(?P<threads>== thread .*?)== memory(?P<memory>.*)", re.S)
+THREAD = re.compile(r"^== thread \d+: (.*)\n((?:(?!== ).*\n)*)", re.M)
+
+
+def report(txc, *words):
+    """The events, the threads' ends and texts, and the memory that the program prints."""
+    done = subprocess.run([txc, *words], capture_output=True, text=True, check=False)
+    found = REPORT.fullmatch(done.stdout)
+    if not found or done.stderr:
+        sys.exit(f"{' '.join(words)}: {done.stdout}{done.stderr}")
+    return (found["events"] or "").splitlines(), THREAD.findall(found["threads"]), found["memory"]
+
+
+def cancels_inside(source):
+    """Whether the program's cancels are of transactions that stand in others. They have to be all of one kind."""
+    kinds, blocks, opens = set(), [], False
+    for word in re.findall(r"//.*|__transaction_\w+|[{}]", source):
+        if word == "{":
+            blocks.append(opens)
+        elif word == "}":
+            blocks.pop()
+        elif word == "__transaction_cancel":
+            kinds.add(sum(blocks) > 1)
+        opens = word in ("__transaction_atomic", "__transaction_relaxed")
+    assert len(kinds) < 2
+    return kinds == {True}
+
+
+def turns(events, inside):
+    """The thread of each turn, and whether it is a cancel."""
+    for event in events:
+        _, thread, what, *_ = event.split()
+        if what in ("commit", "trap") or what == "cancel" and not inside:
+            yield thread, what == "cancel"
+
+
+class Source:
+    """A program's source, run by turns."""
+
+    def __init__(self, txc, file, threads):
+        self.words = [txc, "source", file, "--threads", threads, "--order"]
+
+    def run(self, order):
+        _, threads, memory = report(*self.words, ",".join(order))
+        return threads, memory
+
+    def gives(self, order, replayed, memory):
+        """Whether the order leaves this memory, and what threads of a replay have printed and how they are over."""
+        threads, left = self.run(order)
+        return left == memory and all(
+            text.startswith(part.rstrip("\n")) and (end == "running" or end == there)
+            for (end, part), (there, text) in zip(replayed, threads)
+        )
+
+    def placed(self, found):
+        """The order in which each cancel has the last place, not before its thread's turn before, at which it changes nothing."""
+        order = []
+        for thread, cancels in found:
+            places = range(len(order), len(order) - order[::-1].index(thread) - 1 if thread in order else -1, -1)
+            if cancels:
+                memory = self.run(order)[1]
+                fits = (at for at in places if self.run(order[:at] + [thread] + order[at:])[1] == memory)
+                order.insert(next(fits, len(order)), thread)
+            else:
+                order.append(thread)
+        return order
+
+
+def main():
+    seeds = int(sys.argv[1]) if len(sys.argv) > 1 else 200
+    txc = sys.argv[2] if len(sys.argv) > 2 else f"{TOP}/crates/txc/out/txc"
+    if not os.path.isfile(txc):
+        sys.exit(f"{txc} is not there: cd crates/txc && rt run -- --version")
+    wrong = 0
+    for file in sorted(glob.glob(f"{TOP}/examples/*.c")):
+        with open(file, encoding="utf-8") as text:
+            inside = cancels_inside(text.read())
+        same, moved, held = 0, 0, 0
+        for seed in range(1, seeds + 1):
+            threads, steps = str(2 + seed % 3), str(STEPS if seed % 2 else 5 * seed)
+            events, replayed, memory = report(
+                txc, "replay", file, "--threads", threads, "--seed", str(seed), "--steps", steps
+            )
+            if memory.startswith(": lock held"):
+                held += 1
+                continue
+            source, found = Source(txc, file, threads), list(turns(events, inside))
+            if source.gives([thread for thread, _ in found], replayed, memory):
+                same += 1
+            elif source.gives(source.placed(found), replayed, memory):
+                moved += 1
+            else:
+                wrong += 1
+                print(f"{os.path.basename(file)}: {threads} threads, seed {seed}: not what the source gives")
+        print(f"{os.path.basename(file)}: {same} in the order of events, {moved} with cancels moved, {held} left with the lock held")
+    sys.exit(wrong > 0)
+
+
+if __name__ == "__main__":
+    main()
