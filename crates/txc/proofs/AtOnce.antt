@@ -16,14 +16,17 @@ use Rattle.workers.specs.Driving.{Ran}
 use Rattle.workers.specs.declared.run.RunReport.{RunReport}
 use Rattle.txc.specs.Shows.{at_once_shown, thread_at_once, threads_at_once}
 use Rattle.txc.specs.Runs.{IsCodeOf, IsRunAtOnce}
+use Rattle.txc.proofs.Found.{thread_shown}
 
 pub run_at_once : (p : Program) (code : Code) (threads budget : ℕ) (r : RunReport Global) (shown : Printed) → IsCodeOf p code → ((does : Behaviour) → Means (bounds_of code) (code_does code) does → Ran does (record { code = code; threads = threads }) budget r) → shown ≡ at_once_shown p threads r → IsRunAtOnce p code threads budget shown
 run_at_once p code threads budget r shown compiled ran shows =
     let cells : bounds p ≡ bounds_of code = ap (λ gs. replicate (length (initial_from gs)) (2 ^ 32)) (sym compiled.globals) in
+    let means : Ran (thread p) (record { code = code; threads = threads }) budget r = ran (thread p) (subst (λ bs. Means bs (code_does code) (thread p)) cells compiled.means) in
     record {
       report = r;
-      ran = ran (thread p) (subst (λ bs. Means bs (code_does code) (thread p)) cells compiled.means);
+      ran = means;
       shows = shows;
+      each = λ n lt. thread_shown (thread p) (record { code = code; threads = threads }) budget r means n lt;
     }
 
 -- one more thread

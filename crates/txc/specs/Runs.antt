@@ -1,6 +1,6 @@
 -- Running a source's text.
-use Rattle.std.specs.Prelude.{◌≡◌, ◌⊎◌, ℕ, Bool, true, false, List, Option, Some, None, codes, is_some, if◌then◌else◌}
-use Rattle.std.specs.List.{list_any}
+use Rattle.std.specs.Prelude.{◌≡◌, ◌⊎◌, ◌<◌, ℕ, Bool, true, false, List, Option, Some, None, codes, is_some, if◌then◌else◌}
+use Rattle.std.specs.List.{list_any, slice_get}
 use Rattle.lex.specs.declared.token.Span.{Span}
 use Rattle.lex.specs.Faults as lex
 use Rattle.parse.specs.Faults as parse
@@ -27,13 +27,18 @@ use Rattle.std.specs.Io.KnownBytes.{Appends}
 use Rattle.txc.specs.declared.run.SourceFault.{SourceFault}
 use Rattle.txc.specs.declared.run.SourceFault.TheVariants.{OutOfMemory, Lex, Parse, IllTyped, Unsafe, NotSeparate, NoCode}
 use Rattle.std.specs.Global.{Global}
-use Rattle.bytecode.specs.Code.{Code}
+use Rattle.bytecode.specs.Code.{Code, Configuration, effect}
 use Rattle.bytecode.specs.Listing.{listing}
 use Rattle.lowered.specs.Laws.{MeansItsProgram}
 use Rattle.lower.specs.Faults as lower
 use Rattle.lower.specs.Faults.{IsFaultOf}
 use Rattle.lower.specs.declared.fault.LowerFault.{LowerFault}
-use Rattle.workers.specs.Driving.{Ran, IsRunRefused}
+use Rattle.norec_core.specs.declared.step.Stop.{Stop}
+use Rattle.machine.specs.Answered.{Heard, Replays}
+use Rattle.machine.specs.States.{first_thread}
+use Rattle.machine.specs.Threads.{access}
+use Rattle.machine.specs.Worlds.{Part, World}
+use Rattle.workers.specs.Driving.{EndsBy, Ran, IsRunRefused}
 use Rattle.workers.specs.declared.run.RunReport.{RunReport}
 use Rattle.report.specs.Printed.{ThreadShown, Printed}
 use Rattle.report.specs.declared.printed.End.{End}
@@ -43,7 +48,7 @@ use Rattle.txc.specs.declared.order.OrderFault.{OrderFault}
 use Rattle.txc.specs.declared.order.OrderFault.TheVariants.{Source as OfSource, Order as OfOrder}
 use Rattle.txc.specs.declared.concurrent.ThreadsFault.{ThreadsFault}
 use Rattle.txc.specs.declared.concurrent.ThreadsFault.TheVariants as of_threads
-use Rattle.txc.specs.Shows.{order_shown, at_once_shown}
+use Rattle.txc.specs.Shows.{order_shown, at_once_shown, end_at_once, thread_at_once}
 
 -- the tokens of a text spell this program
 pub record IsSourceOf (text : List ℕ) (source : Source) : Type 0 where
@@ -87,12 +92,27 @@ pub record Lists (text listed : List ℕ) : Type 0 where
   pub compiled : Compiles text code
   pub lists : listed ≡ listing code
 
+-- What a report shows of the thread of this number: its text and its end in the world that the run led to. So many steps
+-- of its own have led it there. What stopped its loop is why no further step was made; where nothing did, it is over, or
+-- all steps of its budget are made.
+pub record IsThreadAtOnce (code : Code) (w : World Configuration) (budget number : ℕ) (shown : ThreadShown) : Type 0
+    where
+  pub part : Part Configuration
+  pub there : slice_get w.parts number ≡ Some part
+  pub steps : ℕ
+  pub answers : List Heard
+  pub makes : Replays (effect code) (first_thread code number) steps answers part.thread
+  pub stopped : Option Stop
+  pub because : EndsBy stopped (access (effect code) part.thread) part.thread.status budget steps
+  pub shows : shown ≡ record { end = end_at_once part.thread.status stopped; text = part.thread.text }
+
 -- what a report shows of so many threads of this code at once, each with so many steps at most: their run is one of the
--- program, and each thread stands in it
+-- program, and each thread stands in it as it is shown
 pub record IsRunAtOnce (p : Program) (code : Code) (threads budget : ℕ) (shown : Printed) : Type 0 where
   pub report : RunReport Global
   pub ran : Ran (thread p) (record { code = code; threads = threads }) budget report
   pub shows : shown ≡ at_once_shown p threads report
+  pub each : (n : ℕ) → n < threads → IsThreadAtOnce code ran.closes.world budget n (thread_at_once report n)
 
 -- the text spells an accepted program, and this is what the report of a run of its threads shows
 pub record RunsAtOnce (threads budget : ℕ) (text : List ℕ) (shown : Printed) : Type 0 where
@@ -185,15 +205,19 @@ is_stopped _ = true
 
 -- the exit status where a report was printed: by the ends of its threads
 abbrev pub exit_status : Printed → ℕ
-exit_status shown = if list_any (λ (t : ThreadShown). is_stopped t.end) shown.threads then 4 else if list_any (λ (t : ThreadShown). is_trapped t.end) shown.threads then 3 else 0
+exit_status shown =
+    if list_any (λ (t : ThreadShown). is_stopped t.end) shown.threads then 4
+    else if list_any (λ (t : ThreadShown). is_trapped t.end) shown.threads then 3 else 0
 
 -- the status tells of a report that was written: the bytes that the writer had, if they are known, and then the report
 abbrev pub PrintsShown : Printed → ℕ → Option (List ℕ) → Option (List ℕ) → Type 0
-PrintsShown shown status old new = (status ≡ 0) ⊎ (status ≡ 3) → (status ≡ exit_status shown) × Appends old new (report_text shown)
+PrintsShown shown status old new =
+    (status ≡ 0) ⊎ (status ≡ 3) → (status ≡ exit_status shown) × Appends old new (report_text shown)
 
 -- the report of something that is so
 abbrev pub Prints : (Printed → Type 0) → ℕ → Option (List ℕ) → Option (List ℕ) → Type 0
-Prints IsSo status old new = (status ≡ 0) ⊎ (status ≡ 3) → (shown : Printed) × IsSo shown × (status ≡ exit_status shown) × Appends old new (report_text shown)
+Prints IsSo status old new = (status ≡ 0) ⊎ (status ≡ 3) →
+    (shown : Printed) × IsSo shown × (status ≡ exit_status shown) × Appends old new (report_text shown)
 
 -- the status 0 tells of a source that is accepted, and that this was written
 abbrev pub SaysAccepted : List ℕ → ℕ → Option (List ℕ) → Option (List ℕ) → Type 0
