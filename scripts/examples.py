@@ -1,6 +1,6 @@
 #!/usr/bin/env python3
-"""Writes crates/txc/src/example_tests.rt. It runs each program of examples/ and compares what it prints with the file of the same
-name that ends in .out; and it runs each transcript of examples/transcripts/, a file whose first line is a command line, `$ txc ..`,
+"""Writes crates/txc/src/example_tests.rt. It runs each program of examples/ and examples/bench/ and compares what it prints with
+the file of the same name that ends in .out; and it runs each transcript of examples/transcripts/, a file whose first line is a command line, `$ txc ..`,
 and which has under it what a terminal then shows. And it writes crates/meaning_tests/src/examples.rt, which runs each program of
 examples/ from its tree and compares with the same file, and crates/lower_tests/src/examples.rt, which lists the programs of
 examples/ and demands a code of each.
@@ -52,7 +52,7 @@ def transcript(path):
 
 
 def tests():
-    examples = [row((read(name), read(name[:-2] + ".out"))) for name in names("examples/*.c")]
+    examples = [row((read(name), read(name[:-2] + ".out"))) for name in names("examples/*.c") + names("examples/bench/*.c")]
     transcripts = [row(transcript(name)) for name in names("examples/transcripts/*.txt")]
     return f"""//! The programs of examples/, with what each prints, and the transcripts of examples/transcripts/: written by scripts/examples.py.
 

@@ -4,14 +4,15 @@
     scripts/run_speed.py [ROUNDS]
 
 All sides run in turn in each of the rounds (9, where nothing is said). With one thread it prints the least processor time of
-each, with four the median time on the clock, and how often the peer's time txc took. The workloads and the peers' sources are
-in scripts/workloads. The program is crates/txc/out/txc, which `cd crates/txc && rt run -- --version` builds. What is not
-installed is named and left out. What a run leaves in memory is compared with what it must be.
+each, with four the median time on the clock, and how often the peer's time txc took. The workloads are in examples/bench, what
+the peers have besides in scripts/workloads. The program is crates/txc/out/txc, which `cd crates/txc && rt run -- --version`
+builds. What is not installed is named and left out. What a run leaves in memory is compared with what it must be.
 """
 import os, re, shutil, statistics, subprocess, sys, tempfile, time
 
 TOP = os.path.dirname(os.path.dirname(os.path.abspath(__file__)))
-WORK = os.path.join(TOP, 'scripts', 'workloads')
+PROGRAMS = os.path.join(TOP, 'examples', 'bench')
+PEERS = os.path.join(TOP, 'scripts', 'workloads')
 TXC = os.path.join(TOP, 'crates', 'txc', 'out', 'txc')
 LUA = ['primes', 'fib']
 SHARED = ['counter', 'bank', 'hashset', 'longread', 'disjoint']
@@ -67,7 +68,7 @@ def measured(rounds, sides, threads):
 
 
 def txc(name, threads):
-    return name, [TXC, 'run', os.path.join(WORK, name + '.c'), '--threads', str(threads)], {}
+    return name, [TXC, 'run', os.path.join(PROGRAMS, name + '.c'), '--threads', str(threads)], {}
 
 
 def table(title, names, peer, rounds, threads, peer_side):
@@ -89,13 +90,13 @@ def main():
     if not os.path.exists(TXC):
         sys.exit('crates/txc/out/txc is not there: build it by `cd crates/txc && rt run -- --version`')
     if shutil.which('lua5.4'):
-        table('One thread, processor time', LUA, 'lua5.4', rounds, 1, lambda name: (name, ['lua5.4', os.path.join(WORK, name + '.lua')], {}))
+        table('One thread, processor time', LUA, 'lua5.4', rounds, 1, lambda name: (name, ['lua5.4', os.path.join(PEERS, name + '.lua')], {}))
     else:
         print('lua5.4 is not installed: primes and fib are left out')
     with tempfile.TemporaryDirectory() as place:
         for name in SHARED:
             built = shutil.which('gcc') and subprocess.run(
-                ['gcc', '-O2', '-fgnu-tm', '-pthread', os.path.join(WORK, name + '.c'), os.path.join(WORK, 'threads.c'), '-litm', '-o', os.path.join(place, name)],
+                ['gcc', '-O2', '-fgnu-tm', '-pthread', os.path.join(PROGRAMS, name + '.c'), os.path.join(PEERS, 'threads.c'), '-litm', '-o', os.path.join(place, name)],
                 capture_output=True).returncode == 0
             if not built:
                 print('gcc with libitm is not installed: counter, bank, hashset, longread and disjoint are left out')
