@@ -1,0 +1,133 @@
+//! A hall that is not closed while a worker is missing or has the lock, and is closed then.
+
+ghost use Rattle.workers.specs.Workers.{AreWorkersOf, IsWorkerOf};
+
+use crate::hall::{Row, are_turns, leaves, opened, put, take};
+use crate::programs::PRINTS;
+use bytecode::Code;
+use lower_tests::accepted::code_of;
+use std::alloc::Global;
+use std::test::Fail;
+use workers::{CloseFault, CloseReason, Hall, Status, Worker};
+
+// Worker 0 up to its won swap, a step at a time, and a thousand steps of worker 1, which waits for the lock in vain.
+fn up_to_the_lock() -> &'static [Row] {
+    static ROWS: [Row; 7] = [
+        (0, 0, Status::Budget, 0, 0),
+        (0, 1, Status::Budget, 1, 1),
+        (0, 1, Status::Budget, 2, 2),
+        (0, 1, Status::Budget, 3, 3),
+        (0, 3, Status::Budget, 6, 3),
+        (0, 1, Status::Budget, 7, 4),
+        (1, 1000, Status::Budget, 1000, 1000),
+    ];
+    &ROWS
+}
+
+// Then both come to their ends, and stay there.
+fn to_the_ends() -> &'static [Row] {
+    static ROWS: [Row; 3] = [
+        (0, 100, Status::Ended, 13, 6),
+        (1, 100, Status::Ended, 1013, 1006),
+        (0, 0, Status::Ended, 13, 6),
+    ];
+    &ROWS
+}
+
+// Whether all was right so far, and this is the reason.
+fn is_still(right: bool, reason: CloseReason, wanted: CloseReason) -> bool {
+    right && reason == wanted
+}
+
+// Both go on to their ends, and the hall is closed.
+fn ends(alloc: Global, hall: Hall, mut workers: Vec<Worker>, right: bool) -> bool
+    requires { AreWorkersOf hall.table.shared.table_id hall.setup workers.items }
+{
+    let goes_on = are_turns(&hall, &mut workers, to_the_ends());
+    let closes = leaves(alloc, hall, workers, (2, "1\n", "2\n"));
+    right && goes_on && closes
+}
+
+// Worker 0 has the lock, and the hall is not closed.
+fn is_held(alloc: Global, hall: Hall, workers: Vec<Worker>, right: bool) -> bool
+    requires { AreWorkersOf hall.table.shared.table_id hall.setup workers.items }
+{
+    match hall.close(alloc, workers) {
+        Ok(_) => false,
+        Err(fault) => {
+            let CloseFault {
+                reason,
+                hall,
+                workers,
+            } = fault;
+            let still = is_still(right, reason, CloseReason::LockHeld(0));
+            ends(alloc, hall, workers, still)
+        }
+    }
+}
+
+// Worker 1 is missing, which comes before that worker 0 has the lock. Then it is there again.
+fn is_missing(alloc: Global, hall: Hall, workers: Vec<Worker>, second: Worker, right: bool) -> bool
+    requires list { AreWorkersOf hall.table.shared.table_id hall.setup workers.items }
+    requires second { IsWorkerOf hall.table.shared.table_id hall.setup second }
+{
+    match hall.close(alloc, workers) {
+        Ok(_) => false,
+        Err(fault) => {
+            let CloseFault {
+                reason,
+                hall,
+                mut workers,
+            } = fault;
+            let back = put(&hall, &mut workers, second);
+            let still = is_still(right && back, reason, CloseReason::Missing);
+            is_held(alloc, hall, workers, still)
+        }
+    }
+}
+
+// Worker 1 is taken away.
+fn loses_one(alloc: Global, hall: Hall, mut workers: Vec<Worker>, right: bool) -> bool
+    requires { AreWorkersOf hall.table.shared.table_id hall.setup workers.items }
+{
+    match take(&hall, &mut workers) {
+        Some(second) => is_missing(alloc, hall, workers, second, right),
+        None => false,
+    }
+}
+
+// Worker 0 has the lock: whether the hall is closed at last, after all that.
+fn closes_at_last(alloc: Global, code: &Code) -> bool {
+    match opened(alloc, code) {
+        Ok((hall, mut workers)) => {
+            let right = are_turns(&hall, &mut workers, up_to_the_lock());
+            loses_one(alloc, hall, workers, right)
+        }
+        Err(_) => false,
+    }
+}
+
+// A hall is not closed without workers.
+fn wants_workers(alloc: Global, hall: Hall) -> bool {
+    match hall.close(alloc, Vec::new(alloc)) {
+        Ok(_) => false,
+        Err(fault) => fault.reason == CloseReason::Missing,
+    }
+}
+
+fn is_kept_open(alloc: Global, code: &Code) -> bool {
+    match Hall::open(alloc, code, 64) {
+        Ok((hall, _)) => wants_workers(alloc, hall),
+        Err(_) => false,
+    }
+}
+
+#[test]
+fn one_has_the_lock(rt: HostRuntime) -> Result<(), Fail> {
+    let Ok(code) = code_of(rt.alloc(), PRINTS) else {
+        panic!(rt; "no code")
+    };
+    assert!(rt; closes_at_last(rt.alloc(), &code));
+    assert!(rt; is_kept_open(rt.alloc(), &code));
+    Ok(())
+}
