@@ -35,7 +35,9 @@ fn push_global<A: Allocator, B: Allocator>(
     ensures { OnOk result (words.new.items ≡ words.old.items ++ first_words (global_of global.now)) }
 {
     push_firsts(words, global.first.as_slice())?;
-    let rest = global.cell_count().saturating_sub(global.first.as_slice().len());
+    let rest = global
+        .cell_count()
+        .saturating_sub(global.first.as_slice().len());
     push_zeros(words, rest)
 }
 

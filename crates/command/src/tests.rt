@@ -129,15 +129,36 @@ fn reads_replays(rt: HostRuntime) -> Result<(), Fail> {
         matches!(&request, Request::Program { file, verbose: false, task: Task::Replay { threads: 1, steps: Steps::Schedule { file: schedule } } } if file.as_str() == "a.c" && schedule.as_str() == "s.txt")
     );
     let rows: [(&[&str], u32, u32, u32); 3] = [
-        (["txc", "replay", "--seed", "0", "a.c"].as_slice(), 1, 0, 100000),
         (
-            ["txc", "replay", "--threads=64", "--seed=4294967295", "--steps=0", "a.c"].as_slice(),
+            ["txc", "replay", "--seed", "0", "a.c"].as_slice(),
+            1,
+            0,
+            100000,
+        ),
+        (
+            [
+                "txc",
+                "replay",
+                "--threads=64",
+                "--seed=4294967295",
+                "--steps=0",
+                "a.c",
+            ]
+            .as_slice(),
             64,
             4294967295,
             0,
         ),
         (
-            ["txc", "replay", "--threads=2", "--steps=1048576", "--seed=7", "a.c"].as_slice(),
+            [
+                "txc",
+                "replay",
+                "--threads=2",
+                "--steps=1048576",
+                "--seed=7",
+                "a.c",
+            ]
+            .as_slice(),
             2,
             7,
             1048576,

@@ -94,10 +94,19 @@ module _ (z : TableId) (key : Setup) (w : World Configuration) (heard : List (Li
       by true is rest =
           let same : x.number ≡ n = sym ended.0.0 ∙ eqb-true e.number n is in
           let works = are.0.1 in
-          inr (e, rw is refl, (works.now, ap (slice_get w.parts) (sym same) ∙ there.0, x.steps, works.part.heard,
-            subst (λ (k : ℕ). Replays (effect key.code) (first_thread key.code k) x.steps works.part.heard works.now.thread) same
-              (subst (λ t. Replays (effect key.code) (first_thread key.code x.number) x.steps works.part.heard t) (sym works.thread_is) works.replays),
-            subst (λ t. EndsBy e.stopped (access (effect key.code) t) t.status all x.steps) (sym works.thread_is) ended.0.1))
+          inr (
+            e,
+            rw is refl,
+            (
+              works.now,
+              ap (slice_get w.parts) (sym same) ∙ there.0,
+              x.steps,
+              works.part.heard,
+              subst (λ (k : ℕ). Replays (effect key.code) (first_thread key.code k) x.steps works.part.heard works.now.thread) same
+                  (subst (λ t. Replays (effect key.code) (first_thread key.code x.number) x.steps works.part.heard t) (sym works.thread_is) works.replays),
+              subst (λ t. EndsBy e.stopped (access (effect key.code) t) t.status all x.steps) (sym works.thread_is) ended.0.1,
+            ),
+          )
       by false is rest = later is rest
 
   here : (ws : List (Worker Global)) → HasWorker ws n → NoWorker ws n → ⊥

@@ -95,13 +95,12 @@ pub record Lists (text listed : List ℕ) : Type 0 where
 -- What a report shows of the thread of this number: its text and its end in the world that the run led to. So many steps
 -- of its own have led it there. What stopped its loop is why no further step was made; where nothing did, it is over, or
 -- all steps of its budget are made.
-pub record IsThreadAtOnce (code : Code) (w : World Configuration) (budget number : ℕ) (shown : ThreadShown) : Type 0
-    where
+pub record IsThreadAtOnce (code : Code) (w : World Configuration) (budget n : ℕ) (shown : ThreadShown) : Type 0 where
   pub part : Part Configuration
-  pub there : slice_get w.parts number ≡ Some part
+  pub there : slice_get w.parts n ≡ Some part
   pub steps : ℕ
   pub answers : List Heard
-  pub makes : Replays (effect code) (first_thread code number) steps answers part.thread
+  pub makes : Replays (effect code) (first_thread code n) steps answers part.thread
   pub stopped : Option Stop
   pub because : EndsBy stopped (access (effect code) part.thread) part.thread.status budget steps
   pub shows : shown ≡ record { end = end_at_once part.thread.status stopped; text = part.thread.text }
