@@ -1,5 +1,6 @@
 #!/usr/bin/env python3
-"""Measures `txc run` against Lua, on work of one thread, and against GCC's transactional memory, with one and four threads.
+"""Measures `txc run` against Lua, on work of one thread, and against GCC's transactional memory, with one and four threads; and
+how long the longest replays take.
 
     scripts/run_speed.py [ROUNDS]
 
@@ -15,6 +16,7 @@ PROGRAMS = os.path.join(TOP, 'examples', 'bench')
 PEERS = os.path.join(TOP, 'scripts', 'workloads')
 TXC = os.path.join(TOP, 'crates', 'txc', 'out', 'txc')
 LUA = ['primes', 'fib']
+STEPS = 1048576
 SHARED = ['counter', 'bank', 'hashset', 'longread', 'disjoint']
 
 
@@ -61,7 +63,7 @@ def measured(rounds, sides, threads):
     for _ in range(rounds):
         for side, (name, words, more) in sides.items():
             cpu, clock, wrote = run(words, more)
-            if words[0] == TXC and not is_right(name, wrote, threads):
+            if words[:2] == [TXC, 'run'] and not is_right(name, wrote, threads):
                 sys.exit(f'txc run of {name} with {threads} threads left something else than it must:\n{wrote[:500]}')
             times[side].append(cpu if threads == 1 else clock)
     return {side: (min if threads == 1 else statistics.median)(all_times) for side, all_times in times.items()}
@@ -85,6 +87,15 @@ def table(title, names, peer, rounds, threads, peer_side):
         print(f'| {name} | {1000 * of["txc"]:.1f} | {1000 * of[peer]:.1f} | {of["txc"] / of[peer]:.2f} |')
 
 
+def replays(rounds):
+    """Prints how long the longest replay that a seed names takes, of each workload."""
+    sides = {name: (name, [TXC, 'replay', os.path.join(PROGRAMS, name + '.c'), '--threads', '4', '--seed', '1', '--steps', str(STEPS)], {})
+             for name in SHARED}
+    print(f'\nReplays of {STEPS:,} steps of four threads, processor time\n\n| Workload | ms |\n|---|---|')
+    for name, least in measured(rounds, sides, 1).items():
+        print(f'| {name} | {1000 * least:.0f} |')
+
+
 def main():
     rounds = int(sys.argv[1]) if len(sys.argv) > 1 else 9
     if not os.path.exists(TXC):
@@ -93,6 +104,7 @@ def main():
         table('One thread, processor time', LUA, 'lua5.4', rounds, 1, lambda name: (name, ['lua5.4', os.path.join(PEERS, name + '.lua')], {}))
     else:
         print('lua5.4 is not installed: primes and fib are left out')
+    replays(rounds)
     with tempfile.TemporaryDirectory() as place:
         for name in SHARED:
             built = shutil.which('gcc') and subprocess.run(
