@@ -1,6 +1,6 @@
 #!/usr/bin/env python3
 """Measures `txc run` against Lua, on work of one thread, and against GCC's transactional memory, with one and four threads; and
-how long the longest replays take.
+how long the longest replays and many turns of a source take.
 
     scripts/run_speed.py [ROUNDS]
 
@@ -96,6 +96,18 @@ def replays(rounds):
         print(f'| {name} | {1000 * least:.0f} |')
 
 
+def turns(rounds):
+    """Prints how long the source takes for so many turns of one thread, each of which begins from the thread's beginning."""
+    print('\n`txc source`, processor time\n\n| Turns of one thread | ms |\n|---|---|')
+    with tempfile.TemporaryDirectory() as place:
+        text = os.path.join(place, 'turns.c')
+        with open(text, 'w', encoding='utf-8') as file:
+            file.write('int x; void worker(int self) { int i; for (i = 0; i < 2000; i++) { __transaction_atomic { x = x + 1; } } }')
+        sides = {n: ('turns', [TXC, 'source', text, '--order', ','.join(['0'] * n)], {}) for n in (1000, 2000)}
+        for n, least in measured(rounds, sides, 1).items():
+            print(f'| {n:,} | {1000 * least:.0f} |')
+
+
 def main():
     rounds = int(sys.argv[1]) if len(sys.argv) > 1 else 9
     if not os.path.exists(TXC):
@@ -105,6 +117,7 @@ def main():
     else:
         print('lua5.4 is not installed: primes and fib are left out')
     replays(rounds)
+    turns(rounds)
     with tempfile.TemporaryDirectory() as place:
         for name in SHARED:
             built = shutil.which('gcc') and subprocess.run(
