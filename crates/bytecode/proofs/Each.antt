@@ -4,7 +4,7 @@ use Rattle.std.specs.Prelude.{slice_get, option_map, IsTrue, ◌↔◌}
 use Rattle.std.proofs.lemmas.List.{length-map, get_or_default}
 use Rattle.std.proofs.lemmas.Option.{slice_get-map, slice_get_read, slice_get_within}
 use Rattle.bytecode.proofs.Tables.{some_same}
-use Rattle.bytecode.proofs.Marks.{equal_or_not}
+use Rattle.bytecode.proofs.Arrivals.{equal_or_not}
 
 -- an item of a lent list, in the view of the whole
 pub has_item : {X Y : Type 0} (v : X → Y) (xs s : List X) (n : ℕ) (x : X) → s ≡ xs → x ≡ get_or s n x → n < length s → slice_get (map v xs) n ≡ Some (v x)

@@ -6,29 +6,29 @@ use Rattle.std.proofs.lemmas.Bool.{cases_lt}
 use Rattle.std.proofs.lemmas.Option.{slice_get_within}
 use Rattle.bytecode.specs.Code.{Code, FunctionCode}
 use Rattle.bytecode.specs.Valid.{leads_from, IsReached, at_first, AsksOpen, KeepsOpen}
-use Rattle.bytecode.specs.declared.walk.Mark.{Mark}
-use Rattle.bytecode.specs.declared.walk.Mark.TheVariants.{Unseen, Outside, Inside}
-use Rattle.bytecode.specs.inner.Walking.{Marks, mark_at, visited}
+use Rattle.bytecode.specs.declared.walk.Arrival.{Arrival}
+use Rattle.bytecode.specs.declared.walk.Arrival.TheVariants.{Unseen, Outside, Inside}
+use Rattle.bytecode.specs.inner.Walking.{Arrivals, arrival_at, visited}
 use Rattle.bytecode.proofs.Tables.{one_chain, IsFound, IsClosed, reached_in_table, one_list_by_table}
-use Rattle.bytecode.proofs.Marks.{before, from_on, inside_of, seen, seen_one, seen_within, innermost, table, Visited}
+use Rattle.bytecode.proofs.Arrivals.{before, from_on, inside_of, seen, seen_one, seen_within, innermost, table, Visited}
 use Rattle.bytecode.proofs.Meets.{visited_fails}
 use Rattle.bytecode.proofs.Walks.{Walked, closed}
 
-seen_mark : (o : Option Mark) (id : Option ℕ) → innermost o ≡ Some id → (m : Mark) × (o ≡ Some m) × (seen_one m ≡ 1)
-seen_mark None id e = cc e
-seen_mark (Some Unseen) id e = cc e
-seen_mark (Some Outside) id e = (Outside, refl, refl)
-seen_mark (Some (Inside b)) id e = (Inside b, refl, refl)
+seen_arrival : (o : Option Arrival) (id : Option ℕ) → innermost o ≡ Some id → (m : Arrival) × (o ≡ Some m) × (seen_one m ≡ 1)
+seen_arrival None id e = cc e
+seen_arrival (Some Unseen) id e = cc e
+seen_arrival (Some Outside) id e = (Outside, refl, refl)
+seen_arrival (Some (Inside b)) id e = (Inside b, refl, refl)
 
-pub seen_place : (first : ℕ) (ms : Marks) (q : ℕ) (id : Option ℕ) → table first ms q ≡ Some id → (m : Mark) × (mark_at first ms q ≡ Some m) × (seen_one m ≡ 1)
-seen_place first ms q id e = seen_mark (mark_at first ms q) id e
+pub seen_place : (first : ℕ) (ms : Arrivals) (q : ℕ) (id : Option ℕ) → table first ms q ≡ Some id → (m : Arrival) × (arrival_at first ms q ≡ Some m) × (seen_one m ≡ 1)
+seen_place first ms q id e = seen_arrival (arrival_at first ms q) id e
 
-pub place_bounds : (first : ℕ) (ms : Marks) (q : ℕ) (m : Mark) → mark_at first ms q ≡ Some m → (first ≤ q) × (q - first < length ms)
+pub place_bounds : (first : ℕ) (ms : Arrivals) (q : ℕ) (m : Arrival) → arrival_at first ms q ≡ Some m → (first ≤ q) × (q - first < length ms)
 place_bounds first ms q m e =
     let le = inside_of first ms q m e in
     (le, slice_get_within ms (q - first) m (sym (from_on first q ms le) ∙ e))
 
-unseen_get : (n i : ℕ) (o : Option Mark) → slice_get (replicate n Unseen) i ≡ o → innermost o ≡ None
+unseen_get : (n i : ℕ) (o : Option Arrival) → slice_get (replicate n Unseen) i ≡ o → innermost o ≡ None
 unseen_get zero i None e = refl
 unseen_get zero i (Some m) e = cc e
 unseen_get (suc n) zero o e = ap innermost (sym e)
@@ -49,7 +49,7 @@ module _ (code : Code) (f : FunctionCode) where
   none_found n q id e = cc (e, unseen_table f.first n q)
 
   -- at the beginning
-  pub starts : (n : ℕ) (ms : Marks) (work : List ℕ) → Visited f.first (replicate n Unseen) [] f.first Outside ms work → Walked code f ms work 0
+  pub starts : (n : ℕ) (ms : Arrivals) (work : List ℕ) → Visited f.first (replicate n Unseen) [] f.first Outside ms work → Walked code f ms work 0
   starts n ms work v = record {
     found = λ q id e. elim (v.new q id e) [
       | inl o ↦ cc (o, unseen_table f.first n q)
@@ -72,7 +72,7 @@ module _ (code : Code) (f : FunctionCode) where
   starts_well n end work long h k = visited_fails code f end (replicate n Unseen) work f.first Outside [] long (none_found n) at_first refl refl h k
 
   -- at the end
-  is_closed : (ms : Marks) (made : ℕ) → Walked code f ms [] made → IsClosed code f (table f.first ms)
+  is_closed : (ms : Arrivals) (made : ℕ) → Walked code f ms [] made → IsClosed code f (table f.first ms)
   is_closed ms made w = record {
     starts = w.begun;
     leads = λ q id bs e c q' bs' d.
@@ -80,7 +80,7 @@ module _ (code : Code) (f : FunctionCode) where
         s.leads q' bs' (subst (λ x. Contains (leads_from code q x (slice_get code.instructions q)) (q', bs')) (one_chain (table f.first ms) id bs s.begins c s.chain) d);
   }
 
-  pub finishes : (ms : Marks) (made end : ℕ) → Walked code f ms [] made → f.first + length ms ≡ end → KeepsOpen code f end
+  pub finishes : (ms : Arrivals) (made end : ℕ) → Walked code f ms [] made → f.first + length ms ≡ end → KeepsOpen code f end
   finishes ms made end w long = record {
     inside = λ q bs r.
         let h = reached_in_table code f (table f.first ms) (is_closed ms made w) q bs r in
@@ -99,11 +99,11 @@ module _ (code : Code) (f : FunctionCode) where
   empty_of (x ∷ xs) e = absurd (omega (arith, e))
 
   -- each place is taken at most once
-  pub all_made : (ms : Marks) (work : List ℕ) (end : ℕ) → Walked code f ms work (length ms) → f.first + length ms ≡ end → KeepsOpen code f end
+  pub all_made : (ms : Arrivals) (work : List ℕ) (end : ℕ) → Walked code f ms work (length ms) → f.first + length ms ≡ end → KeepsOpen code f end
   all_made ms work end w long =
       let e : work ≡ [] = empty_of work (let h = w.count in let l = seen_within ms in omega (arith, h, l)) in
       finishes ms (length ms) end (subst (λ x. Walked code f ms x (length ms)) e w) long
 
-  -- a place that is taken has a mark
-  pub taken_mark : (ms : Marks) (work : List ℕ) (q made : ℕ) → Walked code f ms (work ++ q ∷ []) made → (m : Mark) × (mark_at f.first ms q ≡ Some m) × (seen_one m ≡ 1)
-  taken_mark ms work q made w = let h = w.queued q (Contains-push work q) in seen_place f.first ms q h.0 h.1
+  -- a place that is taken has an arrival
+  pub taken_arrival : (ms : Arrivals) (work : List ℕ) (q made : ℕ) → Walked code f ms (work ++ q ∷ []) made → (m : Arrival) × (arrival_at f.first ms q ≡ Some m) × (seen_one m ≡ 1)
+  taken_arrival ms work q made w = let h = w.queued q (Contains-push work q) in seen_place f.first ms q h.0 h.1

@@ -4,13 +4,13 @@ use Rattle.std.specs.Prelude.{slice_get, Contains}
 use Rattle.std.proofs.lemmas.List.Elements.{Contains-push, Contains-append_left}
 use Rattle.bytecode.specs.Code.{Code, FunctionCode, Instr}
 use Rattle.bytecode.specs.Valid.{leads_from, cancel_of, IsReached, at_first, further, AsksOpen, KeepsOpen}
-use Rattle.bytecode.specs.declared.walk.Mark.{Mark}
-use Rattle.bytecode.specs.declared.walk.Mark.TheVariants.{Unseen, Outside, Inside}
+use Rattle.bytecode.specs.declared.walk.Arrival.{Arrival}
+use Rattle.bytecode.specs.declared.walk.Arrival.TheVariants.{Unseen, Outside, Inside}
 use Rattle.bytecode.specs.declared.walk.Way.{Way}
 use Rattle.bytecode.specs.declared.walk.Way.TheVariants.{On, To, Both, Opens, Closes, Cancels, Ends}
-use Rattle.bytecode.specs.inner.Walking.{Marks, mark_at, visited, way_of, reopened, begun, cancelled, twice, went_by}
+use Rattle.bytecode.specs.inner.Walking.{Arrivals, arrival_at, visited, way_of, reopened, begun, cancelled, twice, went_by}
 use Rattle.bytecode.proofs.Tables.{IsChain, some_same, IsFound}
-use Rattle.bytecode.proofs.Marks.{seen_table, seen_one, innermost, id_of, table, chain_grows}
+use Rattle.bytecode.proofs.Arrivals.{seen_table, seen_one, innermost, id_of, table, chain_grows}
 use Rattle.bytecode.proofs.Meets.{State, visited_gives, visited_fails}
 use Rattle.bytecode.proofs.Leads.{leads_by, asks_by, leads_so, asks_of, only, either, first_of}
 use Rattle.bytecode.proofs.Walks.{found_after}
@@ -94,14 +94,14 @@ reached_begins : (code : Code) (f : FunctionCode) (q : ℕ) (bs : List ℕ) → 
 reached_begins code f q bs at_first = tt
 reached_begins code f q bs (further {q = r} {xs = o} w c) = begins_in code r (slice_get code.instructions r) o q bs refl (reached_begins code f r o w) c
 
-module _ (code : Code) (f : FunctionCode) (end : ℕ) (ms : Marks) (work : List ℕ) (q : ℕ) (i : Instr) (m : Mark) (long : f.first + length ms ≡ end) (found : IsFound code f (table f.first ms)) (stands : slice_get code.instructions q ≡ Some i) (begins : List ℕ) (reached : IsReached code f q begins) (chain : IsChain (table f.first ms) (id_of m) begins) (opened : table f.first ms q ≡ Some (id_of m)) (keeps : KeepsOpen code f end) where
+module _ (code : Code) (f : FunctionCode) (end : ℕ) (ms : Arrivals) (work : List ℕ) (q : ℕ) (i : Instr) (m : Arrival) (long : f.first + length ms ≡ end) (found : IsFound code f (table f.first ms)) (stands : slice_get code.instructions q ≡ Some i) (begins : List ℕ) (reached : IsReached code f q begins) (chain : IsChain (table f.first ms) (id_of m) begins) (opened : table f.first ms q ≡ Some (id_of m)) (keeps : KeepsOpen code f end) where
   leads_to : (to : ℕ) (bs : List ℕ) → Contains (leads_by code q begins (way_of i)) (to, bs) → IsReached code f to bs
   leads_to to bs c = further reached (subst (λ o. Contains (leads_from code q begins o) (to, bs)) (sym stands) (subst (λ l. Contains l (to, bs)) (sym (leads_so code q begins i)) c))
 
   asked : asks_by (way_of i) begins
   asked = asks_of begins i (subst (λ o. AsksOpen o begins) stands (keeps.asks q begins reached))
 
-  no_one_way : (to : ℕ) (bs : List ℕ) (m' : Mark) → seen_one m' ≡ 1 → leads_by code q begins (way_of i) ≡ (to, bs) ∷ [] → IsChain (table f.first ms) (id_of m') bs → visited f.first ms work to m' ≡ None → ⊥
+  no_one_way : (to : ℕ) (bs : List ℕ) (m' : Arrival) → seen_one m' ≡ 1 → leads_by code q begins (way_of i) ≡ (to, bs) ∷ [] → IsChain (table f.first ms) (id_of m') bs → visited f.first ms work to m' ≡ None → ⊥
   no_one_way to bs m' one l c h = visited_fails code f end ms work to m' bs long found (leads_to to bs (subst (λ x. Contains x (to, bs)) (sym l) (first_of (to, bs)))) c one h keeps
 
   no_two_ways : (to : ℕ) (o : Option State) → seen_one m ≡ 1 → way_of i ≡ Both to → visited f.first ms work (suc q) m ≡ o → twice f.first to m o ≡ None → ⊥
@@ -116,13 +116,13 @@ module _ (code : Code) (f : FunctionCode) (end : ℕ) (ms : Marks) (work : List 
       let r' = leads_to to begins (subst (λ x. Contains x (to, begins)) (sym l) (Contains-push ((suc q, begins) ∷ []) (to, begins))) in
       visited_fails code f end t.0 t.1 to m begins (let g = v.long in omega (arith, g, long)) (found_after code f ms t.0 work t.1 (suc q) m begins found r chain v) r' (chain_grows (table f.first ms) (table f.first t.0) v.grows (id_of m) begins chain) one h keeps
 
-  no_way_back : (to : ℕ) (bs : List ℕ) (b : ℕ) (parent : Option ℕ) (o : Option Mark) → leads_by code q begins (way_of i) ≡ (to, bs) ∷ [] → table f.first ms b ≡ Some parent → IsChain (table f.first ms) parent bs → mark_at f.first ms b ≡ o → reopened f.first ms work to o ≡ None → ⊥
+  no_way_back : (to : ℕ) (bs : List ℕ) (b : ℕ) (parent : Option ℕ) (o : Option Arrival) → leads_by code q begins (way_of i) ≡ (to, bs) ∷ [] → table f.first ms b ≡ Some parent → IsChain (table f.first ms) parent bs → arrival_at f.first ms b ≡ o → reopened f.first ms work to o ≡ None → ⊥
   no_way_back to bs b parent None l t c e h = cc (t, ap innermost e)
   no_way_back to bs b parent (Some Unseen) l t c e h = cc (t, ap innermost e)
   no_way_back to bs b parent (Some Outside) l t c e h = no_one_way to bs Outside refl l (subst (λ x. IsChain (table f.first ms) x bs) (some_same parent None (sym t ∙ ap innermost e)) c) h
   no_way_back to bs b parent (Some (Inside d)) l t c e h = no_one_way to bs (Inside d) refl l (subst (λ x. IsChain (table f.first ms) x bs) (some_same parent (Some d) (sym t ∙ ap innermost e)) c) h
 
-  no_cancel : (bs : List ℕ) (b : ℕ) (parent : Option ℕ) (o : Option Instr) → IsBegin o → slice_get code.instructions b ≡ o → begins ≡ b ∷ bs → way_of i ≡ Cancels → table f.first ms b ≡ Some parent → IsChain (table f.first ms) parent bs → cancelled f.first ms work (mark_at f.first ms b) (begun o) ≡ None → ⊥
+  no_cancel : (bs : List ℕ) (b : ℕ) (parent : Option ℕ) (o : Option Instr) → IsBegin o → slice_get code.instructions b ≡ o → begins ≡ b ∷ bs → way_of i ≡ Cancels → table f.first ms b ≡ Some parent → IsChain (table f.first ms) parent bs → cancelled f.first ms work (arrival_at f.first ms b) (begun o) ≡ None → ⊥
   no_cancel bs b parent None z e g w t c h = z
   no_cancel bs b parent (Some (Instr.Constant d n)) z e g w t c h = z
   no_cancel bs b parent (Some (Instr.Move d a)) z e g w t c h = z
@@ -138,7 +138,7 @@ module _ (code : Code) (f : FunctionCode) (end : ℕ) (ms : Marks) (work : List 
   no_cancel bs b parent (Some (Instr.Write a r)) z e g w t c h = z
   no_cancel bs b parent (Some (Instr.WriteAt a n j r)) z e g w t c h = z
   no_cancel bs b parent (Some (Instr.Begin to)) z e g w t c h =
-      no_way_back to bs b parent (mark_at f.first ms b) (ap (λ x. leads_by code q x (way_of i)) g ∙ ap (leads_by code q (b ∷ bs)) w ∙ ap (λ x. cancel_of x [] (λ to. (to, bs) ∷ [])) e) t c refl h
+      no_way_back to bs b parent (arrival_at f.first ms b) (ap (λ x. leads_by code q x (way_of i)) g ∙ ap (leads_by code q (b ∷ bs)) w ∙ ap (λ x. cancel_of x [] (λ to. (to, bs) ∷ [])) e) t c refl h
   no_cancel bs b parent (Some Instr.Commit) z e g w t c h = z
   no_cancel bs b parent (Some Instr.Cancel) z e g w t c h = z
   no_cancel bs b parent (Some Instr.Irrevocable) z e g w t c h = z
@@ -147,13 +147,13 @@ module _ (code : Code) (f : FunctionCode) (end : ℕ) (ms : Marks) (work : List 
   no_cancel bs b parent (Some (Instr.PrintText n)) z e g w t c h = z
   no_cancel bs b parent (Some (Instr.PrintNumber u a)) z e g w t c h = z
 
-  no_close : (b : ℕ) (bs : List ℕ) → way_of i ≡ Closes → begins ≡ bs → IsChain (table f.first ms) (Some b) bs → reopened f.first ms work (suc q) (mark_at f.first ms b) ≡ None → ⊥
+  no_close : (b : ℕ) (bs : List ℕ) → way_of i ≡ Closes → begins ≡ bs → IsChain (table f.first ms) (Some b) bs → reopened f.first ms work (suc q) (arrival_at f.first ms b) ≡ None → ⊥
   no_close b [] w e c h = cc c
   no_close b (d ∷ bs) w e c h =
       let g : b ≡ d = some_same b d c.0 in
-      no_way_back (suc q) bs b c.1 (mark_at f.first ms b) (ap (λ x. leads_by code q x (way_of i)) e ∙ ap (leads_by code q (d ∷ bs)) w) (ap (table f.first ms) g ∙ c.2) c.3 refl h
+      no_way_back (suc q) bs b c.1 (arrival_at f.first ms b) (ap (λ x. leads_by code q x (way_of i)) e ∙ ap (leads_by code q (d ∷ bs)) w) (ap (table f.first ms) g ∙ c.2) c.3 refl h
 
-  no_cancels : (b : ℕ) (bs : List ℕ) → way_of i ≡ Cancels → begins ≡ bs → IsChain (table f.first ms) (Some b) bs → cancelled f.first ms work (mark_at f.first ms b) (begun (slice_get code.instructions b)) ≡ None → ⊥
+  no_cancels : (b : ℕ) (bs : List ℕ) → way_of i ≡ Cancels → begins ≡ bs → IsChain (table f.first ms) (Some b) bs → cancelled f.first ms work (arrival_at f.first ms b) (begun (slice_get code.instructions b)) ≡ None → ⊥
   no_cancels b [] w e c h = cc c
   no_cancels b (d ∷ bs) w e c h =
       let g : b ≡ d = some_same b d c.0 in
@@ -169,7 +169,7 @@ module _ (code : Code) (f : FunctionCode) (end : ℕ) (ms : Marks) (work : List 
   one_open b [] e c n = cc c
   one_open b (d ∷ bs) e c n = cc (e, n)
 
-  pub fails_by : (w : Way) (n : Mark) → seen_one m ≡ 1 → way_of i ≡ w → m ≡ n → went_by code.instructions f.first ms work q n w ≡ None → ⊥
+  pub fails_by : (w : Way) (n : Arrival) → seen_one m ≡ 1 → way_of i ≡ w → m ≡ n → went_by code.instructions f.first ms work q n w ≡ None → ⊥
   fails_by On n one w e h = no_one_way (suc q) begins m one (ap (leads_by code q begins) w) chain (ap (visited f.first ms work (suc q)) e ∙ h)
   fails_by (To to) n one w e h = no_one_way to begins m one (ap (leads_by code q begins) w) chain (ap (visited f.first ms work to) e ∙ h)
   fails_by (Both to) n one w e h = no_two_ways to (visited f.first ms work (suc q) m) one w refl (ap (λ x. twice f.first to x (visited f.first ms work (suc q) x)) e ∙ h)
@@ -184,8 +184,8 @@ module _ (code : Code) (f : FunctionCode) (end : ℕ) (ms : Marks) (work : List 
   fails_by Ends Outside one w e h = cc h
   fails_by Ends (Inside b) one w e h = one_open b begins refl (subst (λ x. IsChain (table f.first ms) (id_of x) begins) e chain) (subst (λ x. asks_by x begins) w asked)
 
-pub goes_nowhere : (code : Code) (f : FunctionCode) (end : ℕ) (ms : Marks) (work : List ℕ) (q : ℕ) (i : Instr) (m : Mark) → f.first + length ms ≡ end → IsFound code f (table f.first ms) → slice_get code.instructions q ≡ Some i → mark_at f.first ms q ≡ Some m → seen_one m ≡ 1 → went_by code.instructions f.first ms work q m (way_of i) ≡ None → KeepsOpen code f end → ⊥
-goes_nowhere code f end ms work q i m long found stands marked one h k =
-    let at : table f.first ms q ≡ Some (id_of m) = ap innermost marked ∙ seen_table m one in
+pub goes_nowhere : (code : Code) (f : FunctionCode) (end : ℕ) (ms : Arrivals) (work : List ℕ) (q : ℕ) (i : Instr) (m : Arrival) → f.first + length ms ≡ end → IsFound code f (table f.first ms) → slice_get code.instructions q ≡ Some i → arrival_at f.first ms q ≡ Some m → seen_one m ≡ 1 → went_by code.instructions f.first ms work q m (way_of i) ≡ None → KeepsOpen code f end → ⊥
+goes_nowhere code f end ms work q i m long found stands arrived one h k =
+    let at : table f.first ms q ≡ Some (id_of m) = ap innermost arrived ∙ seen_table m one in
     let r = found q (id_of m) at in
     fails_by code f end ms work q i m long found stands r.0 r.1 r.2 at k (way_of i) m one refl refl h

@@ -4,18 +4,18 @@ use Rattle.std.specs.Prelude.{slice_get, Contains}
 use Rattle.std.proofs.lemmas.List.Elements.{Contains-push, Contains-append_left}
 use Rattle.bytecode.specs.Code.{Code, FunctionCode, Instr}
 use Rattle.bytecode.specs.Valid.{Standing, leads_from, cancel_of, IsReached, further, AsksOpen}
-use Rattle.bytecode.specs.declared.walk.Mark.{Mark}
-use Rattle.bytecode.specs.declared.walk.Mark.TheVariants.{Unseen, Outside, Inside}
+use Rattle.bytecode.specs.declared.walk.Arrival.{Arrival}
+use Rattle.bytecode.specs.declared.walk.Arrival.TheVariants.{Unseen, Outside, Inside}
 use Rattle.bytecode.specs.declared.walk.Way.{Way}
 use Rattle.bytecode.specs.declared.walk.Way.TheVariants.{On, To, Both, Opens, Closes, Cancels, Ends}
-use Rattle.bytecode.specs.inner.Walking.{Marks, mark_at, visited, way_of, reopened, begun, cancelled, twice, went_by}
+use Rattle.bytecode.specs.inner.Walking.{Arrivals, arrival_at, visited, way_of, reopened, begun, cancelled, twice, went_by}
 use Rattle.bytecode.proofs.Tables.{IsChain, some_same}
-use Rattle.bytecode.proofs.Marks.{seen_table, seen_one, innermost, id_of, table, chain_grows}
+use Rattle.bytecode.proofs.Arrivals.{seen_table, seen_one, innermost, id_of, table, chain_grows}
 use Rattle.bytecode.proofs.Meets.{State, visited_gives}
 use Rattle.bytecode.proofs.Leads.{leads_by, asks_by, leads_so, asks_to, only, either, first_of}
 use Rattle.bytecode.proofs.Walks.{Walked, Taken, visit_keeps, settles}
 
-module _ (code : Code) (f : FunctionCode) (ms : Marks) (work : List ℕ) (q made : ℕ) (i : Instr) (m : Mark) (k : Taken code f ms work q made) (stands : slice_get code.instructions q ≡ Some i) (marked : mark_at f.first ms q ≡ Some m) (begins : List ℕ) (reached : IsReached code f q begins) (chain : IsChain (table f.first ms) (id_of m) begins) (at : table f.first ms q ≡ Some (id_of m)) where
+module _ (code : Code) (f : FunctionCode) (ms : Arrivals) (work : List ℕ) (q made : ℕ) (i : Instr) (m : Arrival) (k : Taken code f ms work q made) (stands : slice_get code.instructions q ≡ Some i) (arrived : arrival_at f.first ms q ≡ Some m) (begins : List ℕ) (reached : IsReached code f q begins) (chain : IsChain (table f.first ms) (id_of m) begins) (at : table f.first ms q ≡ Some (id_of m)) where
   -- one way on
   leads_to : (to : ℕ) (bs : List ℕ) → Contains (leads_by code q begins (way_of i)) (to, bs) → IsReached code f to bs
   leads_to to bs c = further reached (subst (λ o. Contains (leads_from code q begins o) (to, bs)) (sym stands) (subst (λ l. Contains l (to, bs)) (sym (leads_so code q begins i)) c))
@@ -26,7 +26,7 @@ module _ (code : Code) (f : FunctionCode) (ms : Marks) (work : List ℕ) (q made
   asked : asks_by (way_of i) begins → AsksOpen (slice_get code.instructions q) begins
   asked h = subst (λ o. AsksOpen o begins) (sym stands) (asks_to begins i h)
 
-  one_way : (to : ℕ) (bs : List ℕ) (m' : Mark) (s : State) → seen_one m' ≡ 1 → asks_by (way_of i) begins → leads_by code q begins (way_of i) ≡ (to, bs) ∷ [] → IsChain (table f.first ms) (id_of m') bs → visited f.first ms work to m' ≡ Some s → Walked code f s.0 s.1 (suc made)
+  one_way : (to : ℕ) (bs : List ℕ) (m' : Arrival) (s : State) → seen_one m' ≡ 1 → asks_by (way_of i) begins → leads_by code q begins (way_of i) ≡ (to, bs) ∷ [] → IsChain (table f.first ms) (id_of m') bs → visited f.first ms work to m' ≡ Some s → Walked code f s.0 s.1 (suc made)
   one_way to bs m' s one a l c h =
       let v = visited_gives f.first ms work to m' s one h in
       let r = leads_to to bs (subst (λ x. Contains x (to, bs)) (sym l) (first_of (to, bs))) in
@@ -69,13 +69,13 @@ module _ (code : Code) (f : FunctionCode) (ms : Marks) (work : List ℕ) (q made
       })
 
   -- back under an enclosing begin
-  back : (to : ℕ) (bs : List ℕ) (b : ℕ) (parent : Option ℕ) (s : State) (o : Option Mark) → asks_by (way_of i) begins → leads_by code q begins (way_of i) ≡ (to, bs) ∷ [] → table f.first ms b ≡ Some parent → IsChain (table f.first ms) parent bs → mark_at f.first ms b ≡ o → reopened f.first ms work to o ≡ Some s → Walked code f s.0 s.1 (suc made)
+  back : (to : ℕ) (bs : List ℕ) (b : ℕ) (parent : Option ℕ) (s : State) (o : Option Arrival) → asks_by (way_of i) begins → leads_by code q begins (way_of i) ≡ (to, bs) ∷ [] → table f.first ms b ≡ Some parent → IsChain (table f.first ms) parent bs → arrival_at f.first ms b ≡ o → reopened f.first ms work to o ≡ Some s → Walked code f s.0 s.1 (suc made)
   back to bs b parent s None a l t c e h = cc h
   back to bs b parent s (Some Unseen) a l t c e h = cc h
   back to bs b parent s (Some Outside) a l t c e h = one_way to bs Outside s refl a l (subst (λ x. IsChain (table f.first ms) x bs) (some_same parent None (sym t ∙ ap innermost e)) c) h
   back to bs b parent s (Some (Inside d)) a l t c e h = one_way to bs (Inside d) s refl a l (subst (λ x. IsChain (table f.first ms) x bs) (some_same parent (Some d) (sym t ∙ ap innermost e)) c) h
 
-  cancelled_back : (bs : List ℕ) (b : ℕ) (parent : Option ℕ) (s : State) (o : Option Instr) → slice_get code.instructions b ≡ o → begins ≡ b ∷ bs → way_of i ≡ Cancels → table f.first ms b ≡ Some parent → IsChain (table f.first ms) parent bs → cancelled f.first ms work (mark_at f.first ms b) (begun o) ≡ Some s → Walked code f s.0 s.1 (suc made)
+  cancelled_back : (bs : List ℕ) (b : ℕ) (parent : Option ℕ) (s : State) (o : Option Instr) → slice_get code.instructions b ≡ o → begins ≡ b ∷ bs → way_of i ≡ Cancels → table f.first ms b ≡ Some parent → IsChain (table f.first ms) parent bs → cancelled f.first ms work (arrival_at f.first ms b) (begun o) ≡ Some s → Walked code f s.0 s.1 (suc made)
   cancelled_back bs b parent s None e g w t c h = cc h
   cancelled_back bs b parent s (Some (Instr.Constant d n)) e g w t c h = cc h
   cancelled_back bs b parent s (Some (Instr.Move d a)) e g w t c h = cc h
@@ -91,7 +91,7 @@ module _ (code : Code) (f : FunctionCode) (ms : Marks) (work : List ℕ) (q made
   cancelled_back bs b parent s (Some (Instr.Write a r)) e g w t c h = cc h
   cancelled_back bs b parent s (Some (Instr.WriteAt a n j r)) e g w t c h = cc h
   cancelled_back bs b parent s (Some (Instr.Begin to)) e g w t c h =
-      back to bs b parent s (mark_at f.first ms b) (subst (λ x. asks_by x begins) (sym w) (λ n. cc (g, n))) (ap (λ x. leads_by code q x (way_of i)) g ∙ ap (leads_by code q (b ∷ bs)) w ∙ ap (λ x. cancel_of x [] (λ to. (to, bs) ∷ [])) e) t c refl h
+      back to bs b parent s (arrival_at f.first ms b) (subst (λ x. asks_by x begins) (sym w) (λ n. cc (g, n))) (ap (λ x. leads_by code q x (way_of i)) g ∙ ap (leads_by code q (b ∷ bs)) w ∙ ap (λ x. cancel_of x [] (λ to. (to, bs) ∷ [])) e) t c refl h
   cancelled_back bs b parent s (Some Instr.Commit) e g w t c h = cc h
   cancelled_back bs b parent s (Some Instr.Cancel) e g w t c h = cc h
   cancelled_back bs b parent s (Some Instr.Irrevocable) e g w t c h = cc h
@@ -100,13 +100,13 @@ module _ (code : Code) (f : FunctionCode) (ms : Marks) (work : List ℕ) (q made
   cancelled_back bs b parent s (Some (Instr.PrintText n)) e g w t c h = cc h
   cancelled_back bs b parent s (Some (Instr.PrintNumber u a)) e g w t c h = cc h
 
-  closes : (b : ℕ) (bs : List ℕ) (s : State) → way_of i ≡ Closes → begins ≡ bs → IsChain (table f.first ms) (Some b) bs → reopened f.first ms work (suc q) (mark_at f.first ms b) ≡ Some s → Walked code f s.0 s.1 (suc made)
+  closes : (b : ℕ) (bs : List ℕ) (s : State) → way_of i ≡ Closes → begins ≡ bs → IsChain (table f.first ms) (Some b) bs → reopened f.first ms work (suc q) (arrival_at f.first ms b) ≡ Some s → Walked code f s.0 s.1 (suc made)
   closes b [] s w e c h = cc c
   closes b (d ∷ bs) s w e c h =
       let g : b ≡ d = some_same b d c.0 in
-      back (suc q) bs b c.1 s (mark_at f.first ms b) (subst (λ x. asks_by x begins) (sym w) (λ n. cc (e, n))) (ap (λ x. leads_by code q x (way_of i)) e ∙ ap (leads_by code q (d ∷ bs)) w) (ap (table f.first ms) g ∙ c.2) c.3 refl h
+      back (suc q) bs b c.1 s (arrival_at f.first ms b) (subst (λ x. asks_by x begins) (sym w) (λ n. cc (e, n))) (ap (λ x. leads_by code q x (way_of i)) e ∙ ap (leads_by code q (d ∷ bs)) w) (ap (table f.first ms) g ∙ c.2) c.3 refl h
 
-  cancels : (b : ℕ) (bs : List ℕ) (s : State) → way_of i ≡ Cancels → begins ≡ bs → IsChain (table f.first ms) (Some b) bs → cancelled f.first ms work (mark_at f.first ms b) (begun (slice_get code.instructions b)) ≡ Some s → Walked code f s.0 s.1 (suc made)
+  cancels : (b : ℕ) (bs : List ℕ) (s : State) → way_of i ≡ Cancels → begins ≡ bs → IsChain (table f.first ms) (Some b) bs → cancelled f.first ms work (arrival_at f.first ms b) (begun (slice_get code.instructions b)) ≡ Some s → Walked code f s.0 s.1 (suc made)
   cancels b [] s w e c h = cc c
   cancels b (d ∷ bs) s w e c h =
       let g : b ≡ d = some_same b d c.0 in
@@ -117,7 +117,7 @@ module _ (code : Code) (f : FunctionCode) (ms : Marks) (work : List ℕ) (q made
   ends (d ∷ bs) s w e c h = cc c.0
 
   -- all ways on, by the instruction
-  goes_by : (w : Way) (n : Mark) (s : State) → seen_one m ≡ 1 → way_of i ≡ w → m ≡ n → went_by code.instructions f.first ms work q n w ≡ Some s → Walked code f s.0 s.1 (suc made)
+  goes_by : (w : Way) (n : Arrival) (s : State) → seen_one m ≡ 1 → way_of i ≡ w → m ≡ n → went_by code.instructions f.first ms work q n w ≡ Some s → Walked code f s.0 s.1 (suc made)
   goes_by On n s one w e h = one_way (suc q) begins m s one (subst (λ x. asks_by x begins) (sym w) tt) (ap (leads_by code q begins) w) chain (ap (visited f.first ms work (suc q)) e ∙ h)
   goes_by (To to) n s one w e h = one_way to begins m s one (subst (λ x. asks_by x begins) (sym w) tt) (ap (leads_by code q begins) w) chain (ap (visited f.first ms work to) e ∙ h)
   goes_by (Both to) n s one w e h = two_ways to s (visited f.first ms work (suc q) m) one w refl (ap (λ x. twice f.first to x (visited f.first ms work (suc q) x)) e ∙ h)
@@ -133,8 +133,8 @@ module _ (code : Code) (f : FunctionCode) (ms : Marks) (work : List ℕ) (q made
   goes_by Ends (Inside b) s one w e h = cc h
 
 -- going on from a place that was taken from the work
-pub goes_on : (code : Code) (f : FunctionCode) (ms : Marks) (work : List ℕ) (q made : ℕ) (i : Instr) (m : Mark) (s : State) → Taken code f ms work q made → slice_get code.instructions q ≡ Some i → mark_at f.first ms q ≡ Some m → seen_one m ≡ 1 → went_by code.instructions f.first ms work q m (way_of i) ≡ Some s → Walked code f s.0 s.1 (suc made)
-goes_on code f ms work q made i m s k stands marked one h =
-    let at : table f.first ms q ≡ Some (id_of m) = ap innermost marked ∙ seen_table m one in
+pub goes_on : (code : Code) (f : FunctionCode) (ms : Arrivals) (work : List ℕ) (q made : ℕ) (i : Instr) (m : Arrival) (s : State) → Taken code f ms work q made → slice_get code.instructions q ≡ Some i → arrival_at f.first ms q ≡ Some m → seen_one m ≡ 1 → went_by code.instructions f.first ms work q m (way_of i) ≡ Some s → Walked code f s.0 s.1 (suc made)
+goes_on code f ms work q made i m s k stands arrived one h =
+    let at : table f.first ms q ≡ Some (id_of m) = ap innermost arrived ∙ seen_table m one in
     let r = k.found q (id_of m) at in
-    goes_by code f ms work q made i m k stands marked r.0 r.1 r.2 at (way_of i) m s one refl refl h
+    goes_by code f ms work q made i m k stands arrived r.0 r.1 r.2 at (way_of i) m s one refl refl h

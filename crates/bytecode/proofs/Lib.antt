@@ -1,9 +1,9 @@
 -- the lines of a listing, and characters that stand for themselves in it
 mod Lines
 mod Escaping
--- marks of places as a table of innermost open begins, and what a visit does to it
+-- arrivals at places as a table of innermost open begins, and what a visit does to it
 pub mod Tables
-mod Marks
+mod Arrivals
 mod Meets
 -- where instructions lead, what the walk over a function's ways keeps, and how it goes on, fails, begins and ends
 mod Leads

@@ -5,7 +5,7 @@ use Rattle.std.proofs.lemmas.Slice.Eq.{bytes_eq-Decides}
 use Rattle.bytecode.specs.Code.{Code, FunctionCode}
 use Rattle.bytecode.specs.Valid.{Has, HasDistinctNames}
 use Rattle.bytecode.proofs.Tables.{some_same}
-use Rattle.bytecode.proofs.Marks.{equal_or_not}
+use Rattle.bytecode.proofs.Arrivals.{equal_or_not}
 
 -- one of the first functions has this name
 abbrev pub IsNamed : Code → ℕ → List ℕ → Type 0

@@ -5,23 +5,23 @@ use Rattle.std.proofs.lemmas.List.{length-append}
 use Rattle.std.proofs.lemmas.List.Elements.{Contains-append_left, Contains-push_cases}
 use Rattle.bytecode.specs.Code.{Code, FunctionCode}
 use Rattle.bytecode.specs.Valid.{leads_from, IsReached, AsksOpen}
-use Rattle.bytecode.specs.declared.walk.Mark.{Mark}
-use Rattle.bytecode.specs.inner.Walking.{Marks}
+use Rattle.bytecode.specs.declared.walk.Arrival.{Arrival}
+use Rattle.bytecode.specs.inner.Walking.{Arrivals}
 use Rattle.bytecode.proofs.Tables.{Table, IsChain, some_same, IsFound}
-use Rattle.bytecode.proofs.Marks.{seen, id_of, table, Grows, chain_grows, Visited}
+use Rattle.bytecode.proofs.Arrivals.{seen, id_of, table, Grows, chain_grows, Visited}
 
 module _ (code : Code) (f : FunctionCode) where
-  abbrev pub T : Marks → Table
+  abbrev pub T : Arrivals → Table
   T ms = table f.first ms
 
   -- a place that is gone on from: what its instruction asks is there, and where it leads is in the table
-  pub record Settled (ms : Marks) (q : ℕ) (id : Option ℕ) : Type 0 where
+  pub record Settled (ms : Arrivals) (q : ℕ) (id : Option ℕ) : Type 0 where
     pub begins : List ℕ
     pub chain : IsChain (T ms) id begins
     pub asks : AsksOpen (slice_get code.instructions q) begins
     pub leads : (q' : ℕ) (begins' : List ℕ) → Contains (leads_from code q begins (slice_get code.instructions q)) (q', begins') → (id' : Option ℕ) × (T ms q' ≡ Some id') × IsChain (T ms) id' begins'
 
-  pub settled_grows : (ms ms' : Marks) → Grows (T ms) (T ms') → (q : ℕ) (id : Option ℕ) → Settled ms q id → Settled ms' q id
+  pub settled_grows : (ms ms' : Arrivals) → Grows (T ms) (T ms') → (q : ℕ) (id : Option ℕ) → Settled ms q id → Settled ms' q id
   settled_grows ms ms' g q id s = record {
     begins = s.begins;
     chain = chain_grows (T ms) (T ms') g id s.begins s.chain;
@@ -30,28 +30,28 @@ module _ (code : Code) (f : FunctionCode) where
   }
 
   -- what is kept: made places are gone on from, and those in work are not
-  pub record Walked (ms : Marks) (work : List ℕ) (made : ℕ) : Type 0 where
+  pub record Walked (ms : Arrivals) (work : List ℕ) (made : ℕ) : Type 0 where
     pub found : IsFound code f (T ms)
     pub begun : T ms f.first ≡ Some None
     pub settled : (q : ℕ) (id : Option ℕ) → T ms q ≡ Some id → Contains work q ⊎ Settled ms q id
     pub queued : (q : ℕ) → Contains work q → (id : Option ℕ) × (T ms q ≡ Some id)
     pub count : made + length work ≡ seen ms
 
-  pub found_after : (ms ms' : Marks) (work work' : List ℕ) (q : ℕ) (m : Mark) (begins : List ℕ) → IsFound code f (T ms) → IsReached code f q begins → IsChain (T ms) (id_of m) begins → Visited f.first ms work q m ms' work' → IsFound code f (T ms')
+  pub found_after : (ms ms' : Arrivals) (work work' : List ℕ) (q : ℕ) (m : Arrival) (begins : List ℕ) → IsFound code f (T ms) → IsReached code f q begins → IsChain (T ms) (id_of m) begins → Visited f.first ms work q m ms' work' → IsFound code f (T ms')
   found_after ms ms' work work' q m begins found r c v p id t = elim (v.new p id t) [
     | inl o ↦ let h = found p id o in (h.0, h.1, chain_grows (T ms) (T ms') v.grows id h.0 h.2)
     | inr o ↦ (begins, subst (λ x. IsReached code f x begins) (sym o.1) r, subst (λ i. IsChain (T ms') i begins) (sym o.2) (chain_grows (T ms) (T ms') v.grows (id_of m) begins c))
   ]
 
   -- a place is taken from the work: all that is kept but that it is settled
-  pub record Taken (ms : Marks) (work : List ℕ) (q : ℕ) (made : ℕ) : Type 0 where
+  pub record Taken (ms : Arrivals) (work : List ℕ) (q : ℕ) (made : ℕ) : Type 0 where
     pub found : IsFound code f (T ms)
     pub begun : T ms f.first ≡ Some None
     pub settled : (p : ℕ) (id : Option ℕ) → T ms p ≡ Some id → Contains work p ⊎ (p ≡ q) ⊎ Settled ms p id
     pub queued : (p : ℕ) → Contains work p → (id : Option ℕ) × (T ms p ≡ Some id)
     pub count : suc made + length work ≡ seen ms
 
-  pub taken : (ms : Marks) (work : List ℕ) (q made : ℕ) → Walked ms (work ++ q ∷ []) made → Taken ms work q made
+  pub taken : (ms : Arrivals) (work : List ℕ) (q made : ℕ) → Walked ms (work ++ q ∷ []) made → Taken ms work q made
   taken ms work q made w = record {
     found = w.found;
     begun = w.begun;
@@ -67,7 +67,7 @@ module _ (code : Code) (f : FunctionCode) where
   }
 
   -- a visit keeps it
-  pub visit_keeps : (ms ms' : Marks) (work work' : List ℕ) (q made p : ℕ) (m : Mark) (begins : List ℕ) → Taken ms work q made → IsReached code f p begins → IsChain (T ms) (id_of m) begins → Visited f.first ms work p m ms' work' → Taken ms' work' q made
+  pub visit_keeps : (ms ms' : Arrivals) (work work' : List ℕ) (q made p : ℕ) (m : Arrival) (begins : List ℕ) → Taken ms work q made → IsReached code f p begins → IsChain (T ms) (id_of m) begins → Visited f.first ms work p m ms' work' → Taken ms' work' q made
   visit_keeps ms ms' work work' q made p m begins k r c v = record {
     found = found_after ms ms' work work' p m begins k.found r c v;
     begun = v.grows f.first None k.begun;
@@ -89,7 +89,7 @@ module _ (code : Code) (f : FunctionCode) where
   }
 
   -- the place that was taken is settled
-  pub settles : (ms : Marks) (work : List ℕ) (q made : ℕ) (id : Option ℕ) → Taken ms work q made → T ms q ≡ Some id → Settled ms q id → Walked ms work (suc made)
+  pub settles : (ms : Arrivals) (work : List ℕ) (q made : ℕ) (id : Option ℕ) → Taken ms work q made → T ms q ≡ Some id → Settled ms q id → Walked ms work (suc made)
   settles ms work q made id k t s = record {
     found = k.found;
     begun = k.begun;
@@ -105,7 +105,7 @@ module _ (code : Code) (f : FunctionCode) where
   }
 
   -- at the end nothing is left to go on from, and the table is closed
-  pub closed : (ms : Marks) (made : ℕ) → Walked ms [] made → (q : ℕ) (id : Option ℕ) → T ms q ≡ Some id → Settled ms q id
+  pub closed : (ms : Arrivals) (made : ℕ) → Walked ms [] made → (q : ℕ) (id : Option ℕ) → T ms q ≡ Some id → Settled ms q id
   closed ms made w q id t = elim (w.settled q id t) [
     | inl c ↦ absurd (omega (arith, c.1))
     | inr s ↦ s

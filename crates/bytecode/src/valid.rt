@@ -195,7 +195,7 @@ fn is_valid<A: Allocator + Copy>(alloc: A, parts: &Parts<A>) -> Result<bool, All
 }
 
 /// The code of these very parts, and `None` exactly where they are not valid. Takes time for their size alone, and memory for
-/// a mark and a place for each of the longest function's instructions and a name for each function. Where that is refused, the
+/// an arrival and a place for each of the longest function's instructions and a name for each function. Where that is refused, the
 /// parts come back.
 pub fn validate<A: Allocator + Copy>(
     alloc: A,

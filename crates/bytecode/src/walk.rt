@@ -4,8 +4,8 @@ ghost use Rattle.std.specs.Prelude.{◌≡◌, ◌+◌, ◌≤◌, ◌<◌, ◌^
 ghost use Rattle.bytecode.specs.Valid.{KeepsOpen};
 ghost use Rattle.bytecode.specs.Views.{code_of, function_of, instr_of};
 ghost use Rattle.bytecode.specs.Code.{Code as Plain, FunctionCode as FunctionPlain, Instr as PlainInstr};
-ghost use Rattle.bytecode.specs.declared.walk.Mark.TheVariants.{Unseen};
-ghost use Rattle.bytecode.specs.inner.Walking.{way_of, visited, given, mark_at, reopened, begun_by, begun, went_by};
+ghost use Rattle.bytecode.specs.declared.walk.Arrival.TheVariants.{Unseen};
+ghost use Rattle.bytecode.specs.inner.Walking.{way_of, visited, given, arrival_at, reopened, begun_by, begun, went_by};
 
 use crate::code::{FunctionCode, Parts};
 use crate::instr::Instr;
@@ -13,7 +13,7 @@ use std::alloc::{AllocError, Allocator};
 
 /// What is known of a place: whether a way comes to it, and the innermost begin that is open there.
 #[derive(Clone, Copy, PartialEq, Eq, Debug)]
-pub(crate) enum Mark {
+pub(crate) enum Arrival {
     /// No way so far.
     Unseen,
 
@@ -55,60 +55,60 @@ fn way_on(instr: &Instr) -> Way
 
 /// A way comes to a place: whether it may.
 fn visit<A: Allocator>(
-    marks: &mut [Mark],
+    arrivals: &mut [Arrival],
     work: &mut Vec<usize, A>,
     first: usize,
     to: usize,
-    mark: Mark,
+    arrival: Arrival,
 ) -> Result<bool, AllocError>
-    ensures visited { IfOk result (λ b. visited first marks.old work.old.items to mark ≡ given b marks.new work.new.items) }
-    ensures len { length marks.new ≡ length marks.old }
+    ensures visited { IfOk result (λ b. visited first arrivals.old work.old.items to arrival ≡ given b arrivals.new work.new.items) }
+    ensures len { length arrivals.new ≡ length arrivals.old }
 {
     if to < first {
         return Ok(false);
     }
-    match marks.get(to - first) {
+    match arrivals.get(to - first) {
         None => Ok(false),
-        Some(Mark::Unseen) => {
-            marks[to - first] = mark;
+        Some(Arrival::Unseen) => {
+            arrivals[to - first] = arrival;
             work.push(to)?;
             Ok(true)
         }
-        Some(Mark::Outside) => match mark {
-            Mark::Outside => Ok(true),
+        Some(Arrival::Outside) => match arrival {
+            Arrival::Outside => Ok(true),
             _ => Ok(false),
         },
-        Some(Mark::Inside(b)) => match mark {
-            Mark::Inside(c) => Ok(*b == c),
+        Some(Arrival::Inside(b)) => match arrival {
+            Arrival::Inside(c) => Ok(*b == c),
             _ => Ok(false),
         },
     }
 }
 
-// The mark of a place.
-fn mark_of(marks: &[Mark], first: usize, at: usize) -> Option<Mark>
-    ensures { result ≡ mark_at first marks.now at }
+// The arrival at a place.
+fn arrival_of(arrivals: &[Arrival], first: usize, at: usize) -> Option<Arrival>
+    ensures { result ≡ arrival_at first arrivals.now at }
 {
     if at < first {
         return None;
     }
-    marks.get(at - first).copied()
+    arrivals.get(at - first).copied()
 }
 
 // A way comes to a place back under the begin that encloses the one at `under`.
 fn reopen<A: Allocator>(
-    marks: &mut [Mark],
+    arrivals: &mut [Arrival],
     work: &mut Vec<usize, A>,
     first: usize,
     to: usize,
     under: usize,
 ) -> Result<bool, AllocError>
-    ensures reopened { IfOk result (λ b. reopened first marks.old work.old.items to (mark_at first marks.old under) ≡ given b marks.new work.new.items) }
-    ensures len { length marks.new ≡ length marks.old }
+    ensures reopened { IfOk result (λ b. reopened first arrivals.old work.old.items to (arrival_at first arrivals.old under) ≡ given b arrivals.new work.new.items) }
+    ensures len { length arrivals.new ≡ length arrivals.old }
 {
-    match mark_of(marks, first, under) {
-        None | Some(Mark::Unseen) => Ok(false),
-        Some(mark) => visit(marks, work, first, to, mark),
+    match arrival_of(arrivals, first, under) {
+        None | Some(Arrival::Unseen) => Ok(false),
+        Some(arrival) => visit(arrivals, work, first, to, arrival),
     }
 }
 
@@ -134,40 +134,40 @@ fn cancel_at(instrs: &[Instr], at: usize) -> Option<u32>
 // Goes on from a place by the way of its instruction: whether each way on may go where it goes.
 fn go_by<A: Allocator>(
     instrs: &[Instr],
-    marks: &mut [Mark],
+    arrivals: &mut [Arrival],
     work: &mut Vec<usize, A>,
     first: usize,
     at: usize,
-    mark: Mark,
+    arrival: Arrival,
     way: Way,
 ) -> Result<bool, AllocError>
     requires { at < length instrs.now }
-    ensures went { (arguments : List ℕ) → IfOk result (λ b. went_by (map (instr_of arguments) instrs.now) first marks.old work.old.items at mark way ≡ given b marks.new work.new.items) }
-    ensures len { length marks.new ≡ length marks.old }
+    ensures went { (arguments : List ℕ) → IfOk result (λ b. went_by (map (instr_of arguments) instrs.now) first arrivals.old work.old.items at arrival way ≡ given b arrivals.new work.new.items) }
+    ensures len { length arrivals.new ≡ length arrivals.old }
 {
     match way {
-        Way::On => visit(marks, work, first, at + 1, mark),
-        Way::To(to) => visit(marks, work, first, to as usize, mark),
+        Way::On => visit(arrivals, work, first, at + 1, arrival),
+        Way::To(to) => visit(arrivals, work, first, to as usize, arrival),
         Way::Both(to) => {
-            if !visit(marks, work, first, at + 1, mark)? {
+            if !visit(arrivals, work, first, at + 1, arrival)? {
                 return Ok(false);
             }
-            visit(marks, work, first, to as usize, mark)
+            visit(arrivals, work, first, to as usize, arrival)
         }
-        Way::Opens => visit(marks, work, first, at + 1, Mark::Inside(at)),
-        Way::Closes => match mark {
-            Mark::Inside(b) => reopen(marks, work, first, at + 1, b),
+        Way::Opens => visit(arrivals, work, first, at + 1, Arrival::Inside(at)),
+        Way::Closes => match arrival {
+            Arrival::Inside(b) => reopen(arrivals, work, first, at + 1, b),
             _ => Ok(false),
         },
-        Way::Cancels => match mark {
-            Mark::Inside(b) => match cancel_at(instrs, b) {
-                Some(to) => reopen(marks, work, first, to as usize, b),
+        Way::Cancels => match arrival {
+            Arrival::Inside(b) => match cancel_at(instrs, b) {
+                Some(to) => reopen(arrivals, work, first, to as usize, b),
                 None => Ok(false),
             },
             _ => Ok(false),
         },
-        Way::Ends => match mark {
-            Mark::Outside => Ok(true),
+        Way::Ends => match arrival {
+            Arrival::Outside => Ok(true),
             _ => Ok(false),
         },
     }
@@ -176,44 +176,44 @@ fn go_by<A: Allocator>(
 // Goes on from a place by its instruction: whether each way on may go where it goes.
 fn go_on<A: Allocator>(
     instrs: &[Instr],
-    marks: &mut [Mark],
+    arrivals: &mut [Arrival],
     work: &mut Vec<usize, A>,
     first: usize,
     at: usize,
-    mark: Mark,
+    arrival: Arrival,
 ) -> Result<bool, AllocError>
     requires { at < length instrs.now }
-    ensures went { (arguments : List ℕ) → (i : PlainInstr) → slice_get (map (instr_of arguments) instrs.now) at ≡ Some i → IfOk result (λ b. went_by (map (instr_of arguments) instrs.now) first marks.old work.old.items at mark (way_of i) ≡ given b marks.new work.new.items) }
-    ensures len { length marks.new ≡ length marks.old }
+    ensures went { (arguments : List ℕ) → (i : PlainInstr) → slice_get (map (instr_of arguments) instrs.now) at ≡ Some i → IfOk result (λ b. went_by (map (instr_of arguments) instrs.now) first arrivals.old work.old.items at arrival (way_of i) ≡ given b arrivals.new work.new.items) }
+    ensures len { length arrivals.new ≡ length arrivals.old }
 {
     let way = way_on(&instrs[at]);
-    go_by(instrs, marks, work, first, at, mark, way)
+    go_by(instrs, arrivals, work, first, at, arrival, way)
 }
 
-// The walk over a function's ways, by marks that are all unseen and an empty list of work.
+// The walk over a function's ways, by arrivals that are all unseen and an empty list of work.
 fn walk_over<A: Allocator>(
     instrs: &[Instr],
     first: usize,
     behind: usize,
-    marks: &mut [Mark],
+    arrivals: &mut [Arrival],
     work: &mut Vec<usize, A>,
 ) -> Result<bool, AllocError>
     requires starts { first < behind }
     requires ends { behind ≤ length instrs.now }
-    requires marks { marks.old ≡ replicate (behind - first) Unseen }
+    requires arrivals { arrivals.old ≡ replicate (behind - first) Unseen }
     requires work { work.old.items ≡ [] }
     ensures { IfOk result (λ b. (code : Plain) → (arguments : List ℕ) → (f : FunctionPlain) → code.instructions ≡ map (instr_of arguments) instrs.now → f.first ≡ first → IsTrue b ↔ KeepsOpen code f behind) }
 {
-    if !visit(marks, work, first, first, Mark::Outside)? {
+    if !visit(arrivals, work, first, first, Arrival::Outside)? {
         return Ok(false);
     }
     'places: for made in 0..behind - first {
         match work.pop() {
             None => return Ok(true),
-            Some(at) => match mark_of(marks, first, at) {
+            Some(at) => match arrival_of(arrivals, first, at) {
                 None => return Ok(false),
-                Some(mark) => {
-                    if !go_on(instrs, marks, work, first, at, mark)? {
+                Some(arrival) => {
+                    if !go_on(instrs, arrivals, work, first, at, arrival)? {
                         return Ok(false);
                     }
                 }
@@ -236,13 +236,13 @@ pub(crate) fn walk<A: Allocator + Copy>(
     ensures { IfOk result (λ b. IsTrue b ↔ KeepsOpen (code_of parts.now) (function_of f.now) behind) }
 {
     let first = f.first as usize;
-    let mut marks = vec![in alloc; Mark::Unseen; behind - first]?;
+    let mut arrivals = vec![in alloc; Arrival::Unseen; behind - first]?;
     let mut work = Vec::new(alloc);
     walk_over(
         parts.instructions.as_slice(),
         first,
         behind,
-        &mut marks,
+        &mut arrivals,
         &mut work,
     )
 }

@@ -1,8 +1,8 @@
 -- How ways through a function are followed: what an instruction does with the place and with the open begins.
 use Rattle.std.specs.Prelude.{ℕ, suc, ◌-◌, List, [], ◌∷◌, ◌++◌, Bool, true, false, Option, Some, None, slice_get, slice_set, nat_lt, if◌then◌else◌, ◌==◌}
 use Rattle.bytecode.specs.Code.{Instr}
-use Rattle.bytecode.specs.declared.walk.Mark.{Mark}
-use Rattle.bytecode.specs.declared.walk.Mark.TheVariants.{Unseen, Outside, Inside}
+use Rattle.bytecode.specs.declared.walk.Arrival.{Arrival}
+use Rattle.bytecode.specs.declared.walk.Arrival.TheVariants.{Unseen, Outside, Inside}
 use Rattle.bytecode.specs.declared.walk.Way.{Way}
 use Rattle.bytecode.specs.declared.walk.Way.TheVariants.{On, To, Both, Opens, Closes, Cancels, Ends}
 
@@ -17,36 +17,36 @@ way_of Instr.Cancel = Cancels
 way_of (Instr.Return a) = Ends
 way_of i = On
 
--- the marks of a function's places, from its first one on, and the places that ways have come to and not gone on from
-abbrev pub Marks : Type 0
-Marks = List Mark
+-- the arrivals at a function's places, from its first one on, and the places that ways have come to and not gone on from
+abbrev pub Arrivals : Type 0
+Arrivals = List Arrival
 
-abbrev pub mark_at : ℕ → Marks → ℕ → Option Mark
-mark_at first ms q = if nat_lt q first then None else slice_get ms (q - first)
+abbrev pub arrival_at : ℕ → Arrivals → ℕ → Option Arrival
+arrival_at first ms q = if nat_lt q first then None else slice_get ms (q - first)
 
-abbrev pub same_mark : Mark → Mark → Bool
-same_mark Unseen Unseen = true
-same_mark Outside Outside = true
-same_mark (Inside b) (Inside c) = b == c
-same_mark _ _ = false
+abbrev pub same_arrival : Arrival → Arrival → Bool
+same_arrival Unseen Unseen = true
+same_arrival Outside Outside = true
+same_arrival (Inside b) (Inside c) = b == c
+same_arrival _ _ = false
 
--- a way comes to a place where this mark stands: the marks and places after it, or nothing where it may not come
-abbrev pub met : ℕ → Marks → List ℕ → ℕ → Mark → Option Mark → Option (Marks × List ℕ)
+-- a way comes to a place that has this arrival: the arrivals and places after it, or nothing where it may not come
+abbrev pub met : ℕ → Arrivals → List ℕ → ℕ → Arrival → Option Arrival → Option (Arrivals × List ℕ)
 met first ms work q m None = None
 met first ms work q m (Some Unseen) = Some (slice_set ms (q - first) m, work ++ q ∷ [])
-met first ms work q m (Some Outside) = if same_mark Outside m then Some (ms, work) else None
-met first ms work q m (Some (Inside b)) = if same_mark (Inside b) m then Some (ms, work) else None
+met first ms work q m (Some Outside) = if same_arrival Outside m then Some (ms, work) else None
+met first ms work q m (Some (Inside b)) = if same_arrival (Inside b) m then Some (ms, work) else None
 
-abbrev pub visited : ℕ → Marks → List ℕ → ℕ → Mark → Option (Marks × List ℕ)
-visited first ms work q m = met first ms work q m (mark_at first ms q)
+abbrev pub visited : ℕ → Arrivals → List ℕ → ℕ → Arrival → Option (Arrivals × List ℕ)
+visited first ms work q m = met first ms work q m (arrival_at first ms q)
 
 -- what a call that answers yes or no gives
-abbrev pub given : Bool → Marks → List ℕ → Option (Marks × List ℕ)
+abbrev pub given : Bool → Arrivals → List ℕ → Option (Arrivals × List ℕ)
 given true ms work = Some (ms, work)
 given false ms work = None
 
--- back under the begin that encloses another: its mark
-abbrev pub reopened : ℕ → Marks → List ℕ → ℕ → Option Mark → Option (Marks × List ℕ)
+-- back under the begin that encloses another: its arrival
+abbrev pub reopened : ℕ → Arrivals → List ℕ → ℕ → Option Arrival → Option (Arrivals × List ℕ)
 reopened first ms work to None = None
 reopened first ms work to (Some Unseen) = None
 reopened first ms work to (Some Outside) = visited first ms work to Outside
@@ -61,24 +61,24 @@ abbrev pub begun : Option Instr → Option ℕ
 begun None = None
 begun (Some i) = begun_by i
 
-abbrev pub cancelled : ℕ → Marks → List ℕ → Option Mark → Option ℕ → Option (Marks × List ℕ)
+abbrev pub cancelled : ℕ → Arrivals → List ℕ → Option Arrival → Option ℕ → Option (Arrivals × List ℕ)
 cancelled first ms work o (Some to) = reopened first ms work to o
 cancelled first ms work o None = None
 
-abbrev pub twice : ℕ → ℕ → Mark → Option (Marks × List ℕ) → Option (Marks × List ℕ)
+abbrev pub twice : ℕ → ℕ → Arrival → Option (Arrivals × List ℕ) → Option (Arrivals × List ℕ)
 twice first to m None = None
 twice first to m (Some s) = visited first s.0 s.1 to m
 
 -- a way goes on from a place, by its instruction
-abbrev pub went_by : List Instr → ℕ → Marks → List ℕ → ℕ → Mark → Way → Option (Marks × List ℕ)
+abbrev pub went_by : List Instr → ℕ → Arrivals → List ℕ → ℕ → Arrival → Way → Option (Arrivals × List ℕ)
 went_by is first ms work q m On = visited first ms work (suc q) m
 went_by is first ms work q m (To to) = visited first ms work to m
 went_by is first ms work q m (Both to) = twice first to m (visited first ms work (suc q) m)
 went_by is first ms work q m Opens = visited first ms work (suc q) (Inside q)
-went_by is first ms work q (Inside b) Closes = reopened first ms work (suc q) (mark_at first ms b)
+went_by is first ms work q (Inside b) Closes = reopened first ms work (suc q) (arrival_at first ms b)
 went_by is first ms work q Outside Closes = None
 went_by is first ms work q Unseen Closes = None
-went_by is first ms work q (Inside b) Cancels = cancelled first ms work (mark_at first ms b) (begun (slice_get is b))
+went_by is first ms work q (Inside b) Cancels = cancelled first ms work (arrival_at first ms b) (begun (slice_get is b))
 went_by is first ms work q Outside Cancels = None
 went_by is first ms work q Unseen Cancels = None
 went_by is first ms work q Outside Ends = Some (ms, work)
