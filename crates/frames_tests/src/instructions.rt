@@ -1,8 +1,8 @@
 //! A code for every instruction, carried out.
 
-use crate::built::{code_of, two_functions, worker};
+use crate::built::{code_of, code_of_two};
 use crate::carried::run;
-use bytecode::Instr;
+use bytecode::{Code, Instr};
 use frames::Doing;
 use std::alloc::Allocator;
 use std::test::Fail;
@@ -10,10 +10,7 @@ use syntax::numbers::Trap;
 
 // What thread 5 comes to in a worker of these instructions and 4 registers, the local steps that it makes, and its register 1.
 fn of<A: Allocator + Copy>(alloc: A, instructions: &[Instr]) -> Option<(Doing, u64, u64)> {
-    let Ok(parts) = worker(alloc, 4, instructions) else {
-        return None;
-    };
-    match code_of(alloc, parts) {
+    match code_of(alloc, instructions) {
         None => None,
         Some(code) => {
             let mut memory = [9u32; 1];
@@ -285,9 +282,52 @@ fn cells_and_transactions(rt: HostRuntime) -> Result<(), Fail> {
     Ok(())
 }
 
+// What thread 5 comes to, its local steps and its first two registers, where it has printed this.
+fn prints<A: Allocator + Copy>(
+    alloc: A,
+    code: &Code<A>,
+    printed: &str,
+) -> Option<(Doing, u64, Option<u64>, Option<u64>)> {
+    let mut memory = [0u32; 1];
+    let mut text = String::new(alloc);
+    match run(alloc, code, 5, &mut memory, &mut text) {
+        Err(_) => None,
+        Ok((doing, made, registers)) => {
+            if text.as_str() != printed {
+                return None;
+            }
+            let first = registers.as_slice().get(0).copied();
+            let second = registers.as_slice().get(1).copied();
+            Some((doing, made, first, second))
+        }
+    }
+}
+
+// The same of these instructions.
+fn printed<A: Allocator + Copy>(
+    alloc: A,
+    instructions: &[Instr],
+    text: &str,
+) -> Option<(Doing, u64, Option<u64>, Option<u64>)> {
+    match code_of(alloc, instructions) {
+        None => None,
+        Some(code) => prints(alloc, &code, text),
+    }
+}
+
+// The same where a function `f` begins at 2.
+fn calls<A: Allocator + Copy>(
+    alloc: A,
+    instructions: &[Instr],
+) -> Option<(Doing, u64, Option<u64>, Option<u64>)> {
+    match code_of_two(alloc, instructions, 2) {
+        None => None,
+        Some(code) => prints(alloc, &code, ""),
+    }
+}
+
 #[test]
 fn texts_and_numbers_are_printed(rt: HostRuntime) -> Result<(), Fail> {
-    let a = rt.alloc();
     let instructions = [
         Instr::Constant(1, 4294967295),
         Instr::PrintSigned(1),
@@ -295,22 +335,15 @@ fn texts_and_numbers_are_printed(rt: HostRuntime) -> Result<(), Fail> {
         Instr::PrintUnsigned(1),
         Instr::Return,
     ];
-    match code_of(a, worker(a, 4, &instructions)?) {
-        None => assert!(rt; false),
-        Some(code) => {
-            let mut memory = [0u32; 1];
-            let mut text = String::new(a);
-            let (doing, made, _) = run(a, &code, 5, &mut memory, &mut text)?;
-            assert_eq!(rt; (doing, made), (Doing::End, 1));
-            assert_eq!(rt; text.as_str(), "-1\\\n4294967295");
-        }
-    }
+    assert_eq!(rt;
+        printed(rt.alloc(), &instructions, "-1\\\n4294967295"),
+        Some((Doing::End, 1, Some(5), Some(4294967295)))
+    );
     Ok(())
 }
 
 #[test]
 fn calls_return_what_they_give(rt: HostRuntime) -> Result<(), Fail> {
-    let a = rt.alloc();
     // r1 = f(r0), and f gives minus its parameter
     let instructions = [
         Instr::Call(1, 1, 1, 0),
@@ -318,23 +351,15 @@ fn calls_return_what_they_give(rt: HostRuntime) -> Result<(), Fail> {
         Instr::NegateUnsigned(0, 0),
         Instr::ReturnValue(0),
     ];
-    match code_of(a, two_functions(a, &[0], &instructions, 2)?) {
-        None => assert!(rt; false),
-        Some(code) => {
-            let mut memory = [0u32; 1];
-            let mut text = String::new(a);
-            let (doing, made, registers) = run(a, &code, 5, &mut memory, &mut text)?;
-            assert_eq!(rt; (doing, made), (Doing::End, 1));
-            assert_eq!(rt; registers.as_slice().get(0), Some(&5));
-            assert_eq!(rt; registers.as_slice().get(1), Some(&4294967291));
-        }
-    }
+    assert_eq!(rt;
+        calls(rt.alloc(), &instructions),
+        Some((Doing::End, 1, Some(5), Some(4294967291)))
+    );
     Ok(())
 }
 
 #[test]
 fn a_65th_frame_traps(rt: HostRuntime) -> Result<(), Fail> {
-    let a = rt.alloc();
     // f calls itself with its own parameter, which is the thread's number in each frame
     let instructions = [
         Instr::Call(1, 1, 1, 0),
@@ -342,15 +367,9 @@ fn a_65th_frame_traps(rt: HostRuntime) -> Result<(), Fail> {
         Instr::Call(0, 1, 1, 0),
         Instr::Return,
     ];
-    match code_of(a, two_functions(a, &[0], &instructions, 2)?) {
-        None => assert!(rt; false),
-        Some(code) => {
-            let mut memory = [0u32; 1];
-            let mut text = String::new(a);
-            let (doing, made, registers) = run(a, &code, 5, &mut memory, &mut text)?;
-            assert_eq!(rt; (doing, made), (Doing::Traps(Trap::Frames), 0));
-            assert_eq!(rt; registers.as_slice().get(0), Some(&5));
-        }
-    }
+    assert_eq!(rt;
+        calls(rt.alloc(), &instructions),
+        Some((Doing::Traps(Trap::Frames), 0, Some(5), None))
+    );
     Ok(())
 }
