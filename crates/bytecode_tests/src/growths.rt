@@ -1,53 +1,107 @@
 //! Each growth refused in turn.
 
-use crate::built::two_functions;
-use bytecode::{Instr, PartsFault, listing, validate};
+use crate::built::{Function, TEXTS, WORKER, code_of_parts, is_valid, parts_of};
+use bytecode::{Code, Instr, Parts, PartsFault, listing, validate};
 use refusing::Refusing;
+use std::alloc::Allocator;
 use std::test::Fail;
+
+// A call whose growths are refused.
+#[derive(Clone, Copy)]
+enum Call {
+    Validate,
+    Copy,
+    List,
+}
+
+const FUNCTIONS: [Function<'static>; 2] = [WORKER, ("f", 4, 1, 1)];
+
+const INSTRUCTIONS: [Instr; 5] = [
+    Instr::Begin(3),
+    Instr::Read(1, 0),
+    Instr::Commit,
+    Instr::Return,
+    Instr::ReturnValue(0),
+];
+
+// Whether parts are found valid at once, or else when they come back; `None` where they are found not to be.
+fn are_valid_at_once<A: Allocator + Copy>(alloc: A, parts: Parts<A>) -> Option<bool> {
+    match validate(alloc, parts) {
+        Ok(Some(_)) => Some(true),
+        Ok(None) => None,
+        Err(PartsFault::OutOfMemory(parts)) => match is_valid(alloc, parts) {
+            Some(true) => Some(false),
+            _ => None,
+        },
+    }
+}
+
+// Whether a validation is made where growth `nth` is refused, and whether that growth is still to come.
+fn validated<A: Allocator + Copy>(inner: A, nth: u64) -> Option<(bool, bool)> {
+    let alloc = Refusing::new(inner, 0);
+    match parts_of(&alloc, &FUNCTIONS, &[], &INSTRUCTIONS, &TEXTS) {
+        Err(_) => None,
+        Ok(parts) => {
+            alloc.refuse(nth);
+            match are_valid_at_once(&alloc, parts) {
+                None => None,
+                Some(at_once) => Some((at_once, alloc.is_waiting())),
+            }
+        }
+    }
+}
+
+// Whether a code is copied or listed.
+fn is_made<A: Allocator + Copy>(alloc: A, code: &Code<A>, copies: bool) -> bool {
+    if copies {
+        code.copy(alloc).is_ok()
+    } else {
+        listing(alloc, code).is_ok()
+    }
+}
+
+// Whether a copy or a listing is made where growth `nth` is refused, and whether that growth is still to come.
+fn made<A: Allocator + Copy>(inner: A, copies: bool, nth: u64) -> Option<(bool, bool)> {
+    let alloc = Refusing::new(inner, 0);
+    match code_of_parts(&alloc, &FUNCTIONS, &[], &INSTRUCTIONS, &TEXTS) {
+        None => None,
+        Some(code) => {
+            alloc.refuse(nth);
+            let is_made = is_made(&alloc, &code, copies);
+            Some((is_made, alloc.is_waiting()))
+        }
+    }
+}
+
+fn refused_at<A: Allocator + Copy>(inner: A, call: Call, nth: u64) -> Option<(bool, bool)> {
+    match call {
+        Call::Validate => validated(inner, nth),
+        Call::Copy => made(inner, true, nth),
+        Call::List => made(inner, false, nth),
+    }
+}
+
+// How many growths a call makes, each of which was refused once; `None` where one was made in spite of that, or not made at
+// last.
+fn growths<A: Allocator + Copy>(inner: A, call: Call) -> Option<u64> {
+    let mut met = 0;
+    for nth in 1..200u64 {
+        match refused_at(inner, call, nth) {
+            Some((true, true)) => return Some(met),
+            Some((false, false)) => met = nth,
+            _ => return None,
+        }
+    }
+    None
+}
 
 #[test]
 fn each_growth_may_be_refused(rt: HostRuntime) -> Result<(), Fail> {
-    let instructions = [
-        Instr::Begin(3),
-        Instr::Read(1, 0),
-        Instr::Commit,
-        Instr::Return,
-        Instr::ReturnValue(0),
-    ];
-    let mut met = 0;
-    for nth in 1..200u64 {
-        let alloc = Refusing::new(rt.alloc(), 0);
-        let parts = two_functions(&alloc, &[], &instructions, 4)?;
-        alloc.refuse(nth);
-        let code = match validate(&alloc, parts) {
-            Ok(Some(code)) => code,
-            Ok(None) => {
-                assert!(rt; false);
-                return Ok(());
-            }
-            Err(PartsFault::OutOfMemory(parts)) => {
-                assert!(rt; !alloc.is_waiting());
-                assert!(rt; validate(&alloc, parts).is_ok());
-                met = nth;
-                continue;
-            }
-        };
-        match code.copy(&alloc) {
-            Ok(_) => {}
-            Err(_) => {
-                met = nth;
-                continue;
-            }
-        }
-        match listing(&alloc, &code) {
-            Ok(_) => {
-                assert!(rt; alloc.is_waiting());
-                break;
-            }
-            Err(_) => met = nth,
-        }
-    }
-    // names, marks and work; a copy's lists and texts; the listing
-    assert!(rt; met > 10 && met < 199);
+    let a = rt.alloc();
+    // names, marks and work
+    assert!(rt; growths(a, Call::Validate) >= Some(3));
+    // the lists, names and texts
+    assert!(rt; growths(a, Call::Copy) >= Some(8));
+    assert!(rt; growths(a, Call::List) >= Some(1));
     Ok(())
 }

@@ -1,21 +1,42 @@
-//! The longest codes.
+//! The longest codes, and what an instruction takes.
 
-use crate::built::{is_valid, worker};
+use crate::built::of;
 use bytecode::{Instr, MOST_INSTRUCTIONS};
+use std::alloc::{AllocError, Allocator};
+use std::mem::size_of;
 use std::test::Fail;
+use std::time::Instant;
+
+// So many jumps, and a return.
+fn jumps<A: Allocator + Copy>(alloc: A, count: usize) -> Result<Vec<Instr, A>, AllocError> {
+    let mut instructions = Vec::new(alloc);
+    for _ in 0..count {
+        instructions.push(Instr::JumpZero(0, 0))?;
+    }
+    instructions.push(Instr::Return)?;
+    Ok(instructions)
+}
+
+// What `validate` says of a worker of so many instructions.
+fn is_valid_at<A: Allocator + Copy>(alloc: A, count: usize) -> Option<bool> {
+    match jumps(alloc, count.saturating_sub(1)) {
+        Ok(instructions) => of(alloc, instructions.as_slice()),
+        Err(_) => None,
+    }
+}
+
+#[test]
+fn an_instruction_takes_at_most_16_bytes(rt: HostRuntime) {
+    assert!(rt; size_of::<Instr>() <= 16);
+}
 
 #[test]
 fn the_longest_code_is_valid(rt: HostRuntime) -> Result<(), Fail> {
-    let mut instructions = vec![in rt.alloc(); Instr::JumpZero(0, 0); MOST_INSTRUCTIONS - 1]?;
-    instructions.push(Instr::Return)?;
-    assert_eq!(rt;
-        is_valid(rt.alloc(), worker(rt.alloc(), 2, &instructions)?),
-        Some(true)
-    );
-    instructions.push(Instr::Return)?;
-    assert_eq!(rt;
-        is_valid(rt.alloc(), worker(rt.alloc(), 2, &instructions)?),
-        Some(false)
-    );
+    let a = rt.alloc();
+    let start = Instant::now(&rt)?;
+    assert_eq!(rt; is_valid_at(a, MOST_INSTRUCTIONS), Some(true));
+    // a million instructions in far less than a second
+    assert!(rt; start.elapsed(&rt)?.as_secs() < 1);
+    assert_eq!(rt; is_valid_at(a, MOST_INSTRUCTIONS + 1), Some(false));
     Ok(())
 }

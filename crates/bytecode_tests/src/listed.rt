@@ -1,9 +1,63 @@
 //! Listings.
 
-use crate::built::{code_of, two_functions, worker};
-use bytecode::{Instr, listing};
-use containers::Items;
+use crate::built::{Function, TEXTS, WORKER, code_of_parts};
+use bytecode::{Code, Instr, listing};
+use std::alloc::Allocator;
 use std::test::Fail;
+
+// Whether this is a code's listing, if memory is there.
+fn is_listed<A: Allocator + Copy>(alloc: A, code: &Code<A>, wanted: &str) -> Option<bool> {
+    match listing(alloc, code) {
+        Ok(text) => Some(text.as_str() == wanted),
+        Err(_) => None,
+    }
+}
+
+// How many functions, instructions, texts and globals a code has.
+fn counts<A: Allocator>(code: &Code<A>) -> (usize, usize, usize, usize) {
+    (
+        code.functions().len(),
+        code.parts().instructions.len(),
+        code.texts().len(),
+        code.globals().len(),
+    )
+}
+
+// The same of a copy, where this is its listing.
+fn copied<A: Allocator + Copy>(
+    alloc: A,
+    code: &Code<A>,
+    wanted: &str,
+) -> Option<(usize, usize, usize, usize)> {
+    match code.copy(alloc) {
+        Err(_) => None,
+        Ok(copy) => match is_listed(alloc, &copy, wanted) {
+            Some(true) => Some(counts(&copy)),
+            _ => None,
+        },
+    }
+}
+
+// How many functions, instructions, texts and globals a copy of these functions' code has, where this is the listing of the code
+// and of the copy.
+fn listed<A: Allocator + Copy>(
+    alloc: A,
+    functions: &[Function],
+    instructions: &[Instr],
+    texts: &[&str],
+    wanted: &str,
+) -> Option<(usize, usize, usize, usize)> {
+    match code_of_parts(alloc, functions, &[1, 0], instructions, texts) {
+        None => None,
+        Some(code) => match is_listed(alloc, &code, wanted) {
+            Some(true) => copied(alloc, &code, wanted),
+            _ => None,
+        },
+    }
+}
+
+const TRANSACTION: &str =
+    "function worker registers 2\n0 begin >4\n1 rd r1 @0\n2 wr @0 r1\n3 commit\n4 ret\n";
 
 #[test]
 fn a_transaction_is_listed(rt: HostRuntime) -> Result<(), Fail> {
@@ -14,21 +68,33 @@ fn a_transaction_is_listed(rt: HostRuntime) -> Result<(), Fail> {
         Instr::Commit,
         Instr::Return,
     ];
-    let mut parts = worker(rt.alloc(), 2, &instructions)?;
-    parts.texts = Items::new(rt.alloc());
-    let Some(code) = code_of(rt.alloc(), parts) else {
-        assert!(rt; false);
-        return Ok(());
-    };
-    let text = listing(rt.alloc(), &code)?;
     assert_eq!(rt;
-        text.as_str(),
-        "function worker registers 2\n0 begin >4\n1 rd r1 @0\n2 wr @0 r1\n3 commit\n4 ret\n"
+        listed(rt.alloc(), &[WORKER], &instructions, &[], TRANSACTION),
+        Some((1, 5, 0, 1))
     );
     Ok(())
 }
 
-const EVERY_INSTRUCTION: &str = "function worker registers 2
+const COMPUTES: [Instr; 16] = [
+    Instr::Constant(1, 4294967295),
+    Instr::Move(1, 0),
+    Instr::AddSigned(1, 0, 1),
+    Instr::AddUnsigned(1, 0, 1),
+    Instr::SubtractSigned(1, 0, 1),
+    Instr::SubtractUnsigned(1, 0, 1),
+    Instr::MultiplySigned(1, 0, 1),
+    Instr::MultiplyUnsigned(1, 0, 1),
+    Instr::DivideSigned(1, 0, 1),
+    Instr::DivideUnsigned(1, 0, 1),
+    Instr::RemainderSigned(1, 0, 1),
+    Instr::RemainderUnsigned(1, 0, 1),
+    Instr::NegateSigned(1, 0),
+    Instr::NegateUnsigned(1, 0),
+    Instr::Complement(1, 0),
+    Instr::ReturnValue(1),
+];
+
+const COMPUTES_LISTED: &str = "function worker registers 2
 0 const r1 #4294967295
 1 move r1 r0
 2 add.s r1 r0 r1
@@ -41,110 +107,107 @@ const EVERY_INSTRUCTION: &str = "function worker registers 2
 9 div.u r1 r0 r1
 10 rem.s r1 r0 r1
 11 rem.u r1 r0 r1
-12 shl.s r1 r0 r1
-13 shl.u r1 r0 r1
-14 shr.s r1 r0 r1
-15 shr.u r1 r0 r1
-16 and r1 r0 r1
-17 or r1 r0 r1
-18 xor r1 r0 r1
-19 eq r1 r0 r1
-20 ne r1 r0 r1
-21 lt.s r1 r0 r1
-22 lt.u r1 r0 r1
-23 le.s r1 r0 r1
-24 le.u r1 r0 r1
-25 neg.s r1 r0
-26 neg.u r1 r0
-27 not r1 r0
-28 jump >29
-29 jz r0 >30
-30 jnz r0 >31
-31 check r0 #7
-32 begin >40
-33 begin >39
-34 rd r1 @0
-35 rdx r1 @0 #1 r0
-36 wr @0 r1
-37 wrx @0 #1 r0 r1
-38 cancel
-39 commit
-40 irrevocable
-41 print.t #1
-42 print.s r0
-43 print.u r1
-44 call f r1 r0
-45 ret
+12 neg.s r1 r0
+13 neg.u r1 r0
+14 not r1 r0
+15 ret r1
+";
+
+const BITS: [Instr; 14] = [
+    Instr::ShiftLeftSigned(1, 0, 1),
+    Instr::ShiftLeftUnsigned(1, 0, 1),
+    Instr::ShiftRightSigned(1, 0, 1),
+    Instr::ShiftRightUnsigned(1, 0, 1),
+    Instr::And(1, 0, 1),
+    Instr::Or(1, 0, 1),
+    Instr::Xor(1, 0, 1),
+    Instr::Equal(1, 0, 1),
+    Instr::NotEqual(1, 0, 1),
+    Instr::LessSigned(1, 0, 1),
+    Instr::LessUnsigned(1, 0, 1),
+    Instr::LessEqualSigned(1, 0, 1),
+    Instr::LessEqualUnsigned(1, 0, 1),
+    Instr::Return,
+];
+
+const BITS_LISTED: &str = "function worker registers 2
+0 shl.s r1 r0 r1
+1 shl.u r1 r0 r1
+2 shr.s r1 r0 r1
+3 shr.u r1 r0 r1
+4 and r1 r0 r1
+5 or r1 r0 r1
+6 xor r1 r0 r1
+7 eq r1 r0 r1
+8 ne r1 r0 r1
+9 lt.s r1 r0 r1
+10 lt.u r1 r0 r1
+11 le.s r1 r0 r1
+12 le.u r1 r0 r1
+13 ret
+";
+
+const LEADS: [Instr; 19] = [
+    Instr::Jump(1),
+    Instr::JumpZero(0, 2),
+    Instr::JumpNonzero(0, 3),
+    Instr::Check(0, 7),
+    Instr::Begin(12),
+    Instr::Begin(11),
+    Instr::Read(1, 0),
+    Instr::ReadAt(1, 0, 0, 1),
+    Instr::Write(1, 0),
+    Instr::WriteAt(0, 1, 0, 1),
+    Instr::Cancel,
+    Instr::Commit,
+    Instr::Irrevocable,
+    Instr::PrintText(1),
+    Instr::PrintSigned(0),
+    Instr::PrintUnsigned(1),
+    Instr::Call(1, 1, 1, 1),
+    Instr::Return,
+    Instr::ReturnValue(0),
+];
+
+const LEADS_LISTED: &str = "function worker registers 2
+0 jump >1
+1 jz r0 >2
+2 jnz r0 >3
+3 check r0 #7
+4 begin >12
+5 begin >11
+6 rd r1 @0
+7 rdx r1 @0 #1 r0
+8 wr @0 r1
+9 wrx @0 #1 r0 r1
+10 cancel
+11 commit
+12 irrevocable
+13 print.t #1
+14 print.s r0
+15 print.u r1
+16 call f r1 r0
+17 ret
 function f registers 1
-46 ret r0
+18 ret r0
 text 0 \"\\\"\\t\\\"\"
 text 1 \"\\\\\\n\"
 ";
 
 #[test]
 fn every_instruction_is_listed(rt: HostRuntime) -> Result<(), Fail> {
-    let instructions = [
-        Instr::Constant(1, 4294967295),
-        Instr::Move(1, 0),
-        Instr::AddSigned(1, 0, 1),
-        Instr::AddUnsigned(1, 0, 1),
-        Instr::SubtractSigned(1, 0, 1),
-        Instr::SubtractUnsigned(1, 0, 1),
-        Instr::MultiplySigned(1, 0, 1),
-        Instr::MultiplyUnsigned(1, 0, 1),
-        Instr::DivideSigned(1, 0, 1),
-        Instr::DivideUnsigned(1, 0, 1),
-        Instr::RemainderSigned(1, 0, 1),
-        Instr::RemainderUnsigned(1, 0, 1),
-        Instr::ShiftLeftSigned(1, 0, 1),
-        Instr::ShiftLeftUnsigned(1, 0, 1),
-        Instr::ShiftRightSigned(1, 0, 1),
-        Instr::ShiftRightUnsigned(1, 0, 1),
-        Instr::And(1, 0, 1),
-        Instr::Or(1, 0, 1),
-        Instr::Xor(1, 0, 1),
-        Instr::Equal(1, 0, 1),
-        Instr::NotEqual(1, 0, 1),
-        Instr::LessSigned(1, 0, 1),
-        Instr::LessUnsigned(1, 0, 1),
-        Instr::LessEqualSigned(1, 0, 1),
-        Instr::LessEqualUnsigned(1, 0, 1),
-        Instr::NegateSigned(1, 0),
-        Instr::NegateUnsigned(1, 0),
-        Instr::Complement(1, 0),
-        Instr::Jump(29),
-        Instr::JumpZero(0, 30),
-        Instr::JumpNonzero(0, 31),
-        Instr::Check(0, 7),
-        Instr::Begin(40),
-        Instr::Begin(39),
-        Instr::Read(1, 0),
-        Instr::ReadAt(1, 0, 0, 1),
-        Instr::Write(1, 0),
-        Instr::WriteAt(0, 1, 0, 1),
-        Instr::Cancel,
-        Instr::Commit,
-        Instr::Irrevocable,
-        Instr::PrintText(1),
-        Instr::PrintSigned(0),
-        Instr::PrintUnsigned(1),
-        Instr::Call(1, 1, 1, 1),
-        Instr::Return,
-        Instr::ReturnValue(0),
-    ];
-    let parts = two_functions(rt.alloc(), &[1, 0], &instructions, 46)?;
-    let Some(code) = code_of(rt.alloc(), parts) else {
-        assert!(rt; false);
-        return Ok(());
-    };
-    let text = listing(rt.alloc(), &code)?;
-    assert_eq!(rt; text.as_str(), EVERY_INSTRUCTION);
-    let copy = code.copy(rt.alloc())?;
-    let text = listing(rt.alloc(), &copy)?;
-    assert_eq!(rt; text.as_str(), EVERY_INSTRUCTION);
-    assert_eq!(rt; copy.functions().len(), 2);
-    assert_eq!(rt; copy.texts().len(), 2);
-    assert_eq!(rt; copy.globals().len(), 1);
-    assert_eq!(rt; copy.parts().instructions.len(), 47);
+    let a = rt.alloc();
+    assert_eq!(rt;
+        listed(a, &[WORKER], &COMPUTES, &[], COMPUTES_LISTED),
+        Some((1, 16, 0, 1))
+    );
+    assert_eq!(rt;
+        listed(a, &[WORKER], &BITS, &[], BITS_LISTED),
+        Some((1, 14, 0, 1))
+    );
+    assert_eq!(rt;
+        listed(a, &[WORKER, ("f", 18, 1, 1)], &LEADS, &TEXTS, LEADS_LISTED),
+        Some((2, 19, 2, 1))
+    );
     Ok(())
 }
