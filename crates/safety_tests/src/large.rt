@@ -24,15 +24,33 @@ fn add_call<A: Allocator + Copy>(
 
 const ENDS: &str = "void worker(int k) { __transaction_atomic { f0(); } }";
 
+const LAST: &str = "void f19999(void) { printf(\"a\"); }";
+
+/// The chain from its first function on.
+fn add_forwards<A: Allocator + Copy>(text: &mut String<A>, alloc: A) -> Result<(), AllocError> {
+    add_prototypes(text, alloc)?;
+    for i in 0..19999u64 {
+        add_call(text, alloc, i, i + 1)?;
+    }
+    text.push_str(LAST)?;
+    text.push_str(ENDS)
+}
+
+/// The chain from its last function on.
+fn add_backwards<A: Allocator + Copy>(text: &mut String<A>, alloc: A) -> Result<(), AllocError> {
+    add_prototypes(text, alloc)?;
+    text.push_str(LAST)?;
+    for i in 0..19999u64 {
+        let caller = 19998 - i;
+        add_call(text, alloc, caller, caller + 1)?;
+    }
+    text.push_str(ENDS)
+}
+
 #[test]
 fn a_chain_from_the_first_function(rt: HostRuntime) -> Result<(), Fail> {
     let mut text = String::new(rt.alloc());
-    add_prototypes(&mut text, rt.alloc())?;
-    for i in 0..19999u64 {
-        add_call(&mut text, rt.alloc(), i, i + 1)?;
-    }
-    text.push_str("void f19999(void) { printf(\"a\"); }")?;
-    text.push_str(ENDS)?;
+    add_forwards(&mut text, rt.alloc())?;
     let fault = fault_of(rt.alloc(), text.as_str());
     assert!(rt; matches!(&fault, Some((40, _))));
     Ok(())
@@ -41,13 +59,7 @@ fn a_chain_from_the_first_function(rt: HostRuntime) -> Result<(), Fail> {
 #[test]
 fn a_chain_from_the_last_function(rt: HostRuntime) -> Result<(), Fail> {
     let mut text = String::new(rt.alloc());
-    add_prototypes(&mut text, rt.alloc())?;
-    text.push_str("void f19999(void) { printf(\"a\"); }")?;
-    for i in 0..19999u64 {
-        let caller = 19998 - i;
-        add_call(&mut text, rt.alloc(), caller, caller + 1)?;
-    }
-    text.push_str(ENDS)?;
+    add_backwards(&mut text, rt.alloc())?;
     let fault = fault_of(rt.alloc(), text.as_str());
     assert!(rt; matches!(&fault, Some((40, _))));
     Ok(())
