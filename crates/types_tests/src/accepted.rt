@@ -1,10 +1,10 @@
 //! Programs whose names and types are right, and their tables.
 
-use crate::checked::fault_of;
-use lex::lex;
-use parse::parse;
+use crate::checked::{fault_of, unit_of};
+use std::alloc::Allocator;
 use std::test::Fail;
-use types::check;
+use syntax::tree::Unit;
+use types::{Typed, check};
 
 const ROWS: [&str; 10] = [
     "void worker(int self) { }",
@@ -33,24 +33,31 @@ fn right_programs_are_accepted(rt: HostRuntime) -> Result<(), Fail> {
     Ok(())
 }
 
+// Whether these are the functions and the first cells of the tables, and so many the items.
+fn has_tables<A: Allocator>(typed: &Typed<A>, functions: &[usize], cells: &[u32]) -> bool {
+    typed.functions() == functions && typed.cells() == cells && typed.unit().items.len() == 6
+}
+
+// The same of a tree.
+fn leaves_tables<A: Allocator + Copy>(
+    alloc: A,
+    unit: Unit<A>,
+    functions: &[usize],
+    cells: &[u32],
+) -> bool {
+    match check(alloc, unit) {
+        Ok(typed) => has_tables(&typed, functions, cells),
+        Err(_) => false,
+    }
+}
+
 #[test]
 fn the_tables_name_functions_and_cells(rt: HostRuntime) -> Result<(), Fail> {
     let text =
         "int x, a[3]; void f(void); unsigned y; void worker(int self) { } void f(void) { } int z;";
-    let Ok(tokens) = lex(rt.alloc(), text) else {
-        assert!(rt; false);
-        return Ok(());
-    };
-    let Ok(unit) = parse(rt.alloc(), tokens.as_slice()) else {
-        assert!(rt; false);
-        return Ok(());
-    };
-    let Ok(typed) = check(rt.alloc(), unit) else {
-        assert!(rt; false);
-        return Ok(());
-    };
-    assert_eq!(rt; typed.functions(), [3, 4].as_slice());
-    assert_eq!(rt; typed.cells(), [0, 1, 4, 5].as_slice());
-    assert_eq!(rt; typed.unit().items.len(), 6);
+    match unit_of(rt.alloc(), text) {
+        None => assert!(rt; false),
+        Some(unit) => assert!(rt; leaves_tables(rt.alloc(), unit, &[3, 4], &[0, 1, 4, 5])),
+    }
     Ok(())
 }

@@ -1,21 +1,30 @@
-//! A text's first fault of names and types.
+//! A text's tree, and its first fault of names and types.
 
 use lex::lex;
 use lex::token::Span;
 use parse::parse;
 use std::alloc::Allocator;
+use syntax::tree::Unit;
 use types::check;
+
+/// The tree of a text; none where it is no program, or memory is refused.
+pub fn unit_of<A: Allocator + Copy>(alloc: A, text: &str) -> Option<Unit<A>> {
+    match lex(alloc, text) {
+        Err(_) => None,
+        Ok(tokens) => match parse(alloc, tokens.as_slice()) {
+            Ok(unit) => Some(unit),
+            Err(_) => None,
+        },
+    }
+}
 
 /// The number and the place of a text's fault. One that is no program has the number 1.
 pub fn fault_of<A: Allocator + Copy>(alloc: A, text: &str) -> Option<(u32, Option<Span>)> {
-    let Ok(tokens) = lex(alloc, text) else {
-        return Some((1, None));
-    };
-    let Ok(unit) = parse(alloc, tokens.as_slice()) else {
-        return Some((1, None));
-    };
-    match check(alloc, unit) {
-        Ok(_) => None,
-        Err(fault) => Some((fault.number(), fault.span())),
+    match unit_of(alloc, text) {
+        None => Some((1, None)),
+        Some(unit) => match check(alloc, unit) {
+            Ok(_) => None,
+            Err(fault) => Some((fault.number(), fault.span())),
+        },
     }
 }

@@ -20,34 +20,70 @@ fn add_each<A: Allocator + Copy>(
     Ok(())
 }
 
+/// A text of a beginning, two such rows of so many each, and what stands between and behind them.
+fn text_of<A: Allocator + Copy>(
+    alloc: A,
+    n: usize,
+    words: [&str; 7],
+) -> Result<String<A>, AllocError> {
+    let [begin, one, one_behind, between, other, other_behind, end] = words;
+    let mut text = String::from_str(alloc, begin)?;
+    add_each(&mut text, alloc, one, n, one_behind)?;
+    text.push_str(between)?;
+    add_each(&mut text, alloc, other, n, other_behind)?;
+    text.push_str(end)?;
+    Ok(text)
+}
+
+/// Whether such a text is a program without a fault.
+fn is_right<A: Allocator + Copy>(alloc: A, n: usize, words: [&str; 7]) -> bool {
+    match text_of(alloc, n, words) {
+        Ok(text) => fault_of(alloc, text.as_str()) == None,
+        Err(_) => false,
+    }
+}
+
 #[test]
 fn no_program_has_too_many_names(rt: HostRuntime) -> Result<(), Fail> {
-    let mut globals = String::new(rt.alloc());
-    add_each(&mut globals, rt.alloc(), "int g", 4096, ";")?;
-    globals.push_str("void worker(int self) { __transaction_atomic {")?;
-    add_each(&mut globals, rt.alloc(), "g", 4096, "++;")?;
-    globals.push_str("} }")?;
-    assert_eq!(rt; fault_of(rt.alloc(), globals.as_str()), None);
-
-    let mut functions = String::new(rt.alloc());
-    add_each(&mut functions, rt.alloc(), "void f", 20000, "(void) { }")?;
-    functions.push_str("void worker(int self) {")?;
-    add_each(&mut functions, rt.alloc(), "f", 20000, "();")?;
-    functions.push_str("}")?;
-    assert_eq!(rt; fault_of(rt.alloc(), functions.as_str()), None);
-
-    let mut locals = String::new(rt.alloc());
-    locals.push_str("void worker(int self) {")?;
-    add_each(&mut locals, rt.alloc(), "int v", 20000, " = self;")?;
-    locals.push_str("}")?;
-    assert_eq!(rt; fault_of(rt.alloc(), locals.as_str()), None);
-
-    let mut parameters = String::new(rt.alloc());
-    parameters.push_str("void worker(int self) { } void f(int self")?;
-    add_each(&mut parameters, rt.alloc(), ", int q", 10000, "")?;
-    parameters.push_str(") { f(self")?;
-    add_each(&mut parameters, rt.alloc(), ", q", 10000, "")?;
-    parameters.push_str("); }")?;
-    assert_eq!(rt; fault_of(rt.alloc(), parameters.as_str()), None);
+    let globals = [
+        "",
+        "int g",
+        ";",
+        "void worker(int self) { __transaction_atomic {",
+        "g",
+        "++;",
+        "} }",
+    ];
+    assert!(rt; is_right(rt.alloc(), 4096, globals));
+    let functions = [
+        "",
+        "void f",
+        "(void) { }",
+        "void worker(int self) {",
+        "f",
+        "();",
+        "}",
+    ];
+    assert!(rt; is_right(rt.alloc(), 20000, functions));
+    let locals = [
+        "void worker(int self) {",
+        "int v",
+        " = self;",
+        "",
+        "v",
+        ";",
+        "}",
+    ];
+    assert!(rt; is_right(rt.alloc(), 20000, locals));
+    let parameters = [
+        "void worker(int self) { } void f(int self",
+        ", int q",
+        "",
+        ") { f(self",
+        ", q",
+        "",
+        "); }",
+    ];
+    assert!(rt; is_right(rt.alloc(), 10000, parameters));
     Ok(())
 }
