@@ -107,39 +107,81 @@ const SHAPES: [Shape; 17] = [
     ),
 ];
 
+/// Appends a text so many times.
+fn push_times<A: Allocator>(
+    text: &mut String<A>,
+    piece: &str,
+    times: u32,
+) -> Result<(), AllocError> {
+    for _ in 0..times {
+        text.push_str(piece)?;
+    }
+    Ok(())
+}
+
+/// Appends the program of a shape with so many levels.
+fn push_program<A: Allocator>(
+    text: &mut String<A>,
+    shape: &Shape,
+    levels: u32,
+) -> Result<(), AllocError> {
+    let (before, open, inside, close, behind, _) = *shape;
+    text.push_str(before)?;
+    push_times(text, open, levels)?;
+    text.push_str(inside)?;
+    push_times(text, close, levels)?;
+    text.push_str(behind)?;
+    text.push_str(" void worker(int self) { f(0); }")
+}
+
 /// The program of a shape with so many levels.
 fn program_of<A: Allocator + Copy>(
     alloc: A,
     shape: &Shape,
     levels: u32,
 ) -> Result<String<A>, AllocError> {
-    let (before, open, inside, close, behind, _) = *shape;
-    let mut text = String::from_str(alloc, before)?;
-    for _ in 0..levels {
-        text.push_str(open)?;
-    }
-    text.push_str(inside)?;
-    for _ in 0..levels {
-        text.push_str(close)?;
-    }
-    text.push_str(behind)?;
-    text.push_str(" void worker(int self) { f(0); }")?;
+    let mut text = String::new(alloc);
+    push_program(&mut text, shape, levels)?;
     Ok(text)
+}
+
+// How the thread of a text ends.
+fn end_of<A: Allocator + Copy>(alloc: A, text: &str) -> Option<ThreadEnd> {
+    match run(alloc, text, 0, 1, 1000000) {
+        Some(outcome) => Some(outcome.end),
+        None => None,
+    }
+}
+
+// The same of a shape with so many levels.
+fn end_at<A: Allocator + Copy>(alloc: A, shape: &Shape, levels: u32) -> Option<ThreadEnd> {
+    match program_of(alloc, shape, levels) {
+        Ok(text) => end_of(alloc, text.as_str()),
+        Err(_) => None,
+    }
+}
+
+// Whether a shape with so many levels is an accepted program.
+fn is_accepted_at<A: Allocator + Copy>(alloc: A, shape: &Shape, levels: u32) -> Option<bool> {
+    match program_of(alloc, shape, levels) {
+        Ok(text) => Some(accepted_of(alloc, text.as_str()).is_some()),
+        Err(_) => None,
+    }
 }
 
 #[test]
 fn deep_frames_fit_the_stack(rt: HostRuntime) -> Result<(), Fail> {
     for shape in SHAPES {
-        let text = program_of(rt.alloc(), &shape, shape.5)?;
-        let Some(outcome) = run(rt.alloc(), text.as_str(), 0, 1, 1000000) else {
-            return Err("a shape has an accepted program")?;
-        };
-        assert_eq!(rt; outcome.end, ThreadEnd::Trapped(Trap::Frames), "{text}");
-        let deeper = program_of(rt.alloc(), &shape, shape.5.saturating_add(1))?;
-        assert!(rt;
-            accepted_of(rt.alloc(), deeper.as_str()).is_none(),
-            "{deeper}"
+        let end = end_at(rt.alloc(), &shape, shape.5);
+        assert_eq!(rt;
+            end,
+            Some(ThreadEnd::Trapped(Trap::Frames)),
+            "{}{}",
+            shape.0,
+            shape.1
         );
+        let deeper = is_accepted_at(rt.alloc(), &shape, shape.5.saturating_add(1));
+        assert_eq!(rt; deeper, Some(false), "{}{}", shape.0, shape.1);
     }
     Ok(())
 }

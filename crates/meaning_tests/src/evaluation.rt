@@ -1,7 +1,8 @@
 //! In which order operands, arguments and pieces are computed, and of which type a value is.
 
 use crate::run::run;
-use meaning::ThreadEnd;
+use meaning::{ThreadEnd, ThreadOutcome};
+use std::alloc::Allocator;
 use std::test::Fail;
 
 /// A text, what is printed, and the first cell of the memory left.
@@ -95,18 +96,27 @@ const ROWS: [Row; 13] = [
     ),
 ];
 
+// Whether a thread has ended, has printed this, and has left a memory that begins so.
+fn leaves<A: Allocator>(outcome: &ThreadOutcome<A>, printed: &str, first: u64) -> bool {
+    let begins = match outcome.lefts.last() {
+        Some(memory) => memory.first().copied() == Some(first),
+        None => false,
+    };
+    begins && outcome.end == ThreadEnd::Ended && outcome.text.as_slice() == printed.as_bytes()
+}
+
+// Whether a thread does what the row says.
+fn is_so<A: Allocator + Copy>(alloc: A, row: &Row) -> bool {
+    match run(alloc, row.0, 0, 1, 1000) {
+        Some(outcome) => leaves(&outcome, row.1, row.2),
+        None => false,
+    }
+}
+
 #[test]
 fn things_are_computed_in_their_order(rt: HostRuntime) -> Result<(), Fail> {
-    for (text, printed, first) in ROWS {
-        let Some(outcome) = run(rt.alloc(), text, 0, 1, 1000) else {
-            return Err("a row has an accepted program")?;
-        };
-        assert_eq!(rt; outcome.end, ThreadEnd::Ended, "{text}");
-        assert_eq!(rt; outcome.text.as_slice(), printed.as_bytes(), "{text}");
-        let Some(memory) = outcome.lefts.last() else {
-            return Err("a memory is left")?;
-        };
-        assert_eq!(rt; memory.first().copied(), Some(first), "{text}");
+    for row in ROWS {
+        assert!(rt; is_so(rt.alloc(), &row), "{}", row.0);
     }
     Ok(())
 }

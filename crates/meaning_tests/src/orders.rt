@@ -1,8 +1,10 @@
 //! Threads in an order: what is left, what each has printed and how it ends; the faults; each growth refused in turn.
 
 use crate::run::accepted_of;
-use meaning::{MeaningFault, ThreadEnd, run_order};
+use meaning::{MeaningFault, SourceOutcome, ThreadEnd, ThreadReport, run_order};
 use refusing::Refusing;
+use separation::Accepted;
+use std::alloc::Allocator;
 use std::test::Fail;
 use syntax::numbers::Trap;
 
@@ -80,21 +82,44 @@ const ROWS: [Row; 11] = [
     ),
 ];
 
+// Whether a thread has printed this, and ends so.
+fn is_report<A: Allocator>(report: &ThreadReport<A>, printed: &str, end: ThreadEnd) -> bool {
+    report.text.as_slice() == printed.as_bytes() && report.end == end
+}
+
+// Whether this is what two threads have done.
+fn have_done<A: Allocator>(outcome: &SourceOutcome<A>, row: &Row) -> bool {
+    let (_, _, _, _, cell, ends) = *row;
+    match outcome.threads.as_slice() {
+        [first, second] => {
+            outcome.memory.as_slice() == [cell].as_slice()
+                && is_report(first, ends[0].0, ends[0].1)
+                && is_report(second, ends[1].0, ends[1].1)
+        }
+        _ => false,
+    }
+}
+
+// Whether the threads of a program do what the row says.
+fn do_so<A: Allocator + Copy>(alloc: A, accepted: &Accepted<A>, row: &Row) -> bool {
+    match run_order(alloc, accepted, row.1, row.2, row.3) {
+        Ok(outcome) => have_done(&outcome, row),
+        Err(_) => false,
+    }
+}
+
+// The same of its text.
+fn is_so<A: Allocator + Copy>(alloc: A, row: &Row) -> bool {
+    match accepted_of(alloc, row.0) {
+        Some(accepted) => do_so(alloc, &accepted, row),
+        None => false,
+    }
+}
+
 #[test]
 fn threads_run_in_an_order(rt: HostRuntime) -> Result<(), Fail> {
-    for (text, threads, order, ticks, cell, ends) in ROWS {
-        let Some(accepted) = accepted_of(rt.alloc(), text) else {
-            return Err("a row has an accepted program")?;
-        };
-        let Ok(outcome) = run_order(rt.alloc(), &accepted, threads, order, ticks) else {
-            return Err("it runs")?;
-        };
-        assert_eq!(rt; outcome.memory.as_slice(), [cell].as_slice(), "{text}");
-        assert_eq!(rt; outcome.threads.len(), 2, "{text}");
-        for (report, (printed, end)) in outcome.threads.iter().zip(ends) {
-            assert_eq!(rt; report.text.as_slice(), printed.as_bytes(), "{text}");
-            assert_eq!(rt; report.end, end, "{text}");
-        }
+    for row in ROWS {
+        assert!(rt; is_so(rt.alloc(), &row), "{} in {:?}", row.0, row.2);
     }
     Ok(())
 }
@@ -110,47 +135,86 @@ const FAULTS: [(u32, &[u32], u32); 6] = [
     (0, &[7], 72),
 ];
 
+// How many threads are told of, or the number of the order's fault.
+fn count<A: Allocator + Copy>(
+    alloc: A,
+    accepted: &Accepted<A>,
+    threads: u32,
+    order: &[u32],
+) -> Result<usize, u32> {
+    match run_order(alloc, accepted, threads, order, 100) {
+        Ok(outcome) => Ok(outcome.threads.len()),
+        Err(fault) => Err(fault.number()),
+    }
+}
+
+// The same of the text that adds.
+fn count_adding<A: Allocator + Copy>(
+    alloc: A,
+    threads: u32,
+    order: &[u32],
+) -> Option<Result<usize, u32>> {
+    match accepted_of(alloc, ADDS) {
+        Some(accepted) => Some(count(alloc, &accepted, threads, order)),
+        None => None,
+    }
+}
+
 #[test]
 fn a_wrong_order_has_a_fault(rt: HostRuntime) -> Result<(), Fail> {
-    let Some(accepted) = accepted_of(rt.alloc(), ADDS) else {
-        return Err("it is an accepted program")?;
-    };
     for (threads, order, number) in FAULTS {
-        match run_order(rt.alloc(), &accepted, threads, order, 100) {
-            Ok(_) => return Err("it has a fault")?,
-            Err(fault) => assert_eq!(rt; fault.number(), number),
+        let found = count_adding(rt.alloc(), threads, order);
+        assert!(rt; found == Some(Err(number)), "{threads}");
+    }
+    let found = count_adding(rt.alloc(), 64, &[63]);
+    assert!(rt; found == Some(Ok(64)));
+    Ok(())
+}
+
+// Whether a run is made where growth `n` is refused, and whether that growth is still to come; none where it is made wrong, or
+// has another fault.
+fn refused_at<'a, A: Allocator + Copy>(
+    alloc: &'a Refusing<A>,
+    accepted: &Accepted<&'a Refusing<A>>,
+    n: u64,
+) -> Option<(bool, bool)> {
+    alloc.refuse(n);
+    let answer = run_order(alloc, accepted, 2, &[0, 1, 0, 1], 100);
+    let waiting = alloc.is_waiting();
+    alloc.refuse(0);
+    match answer {
+        Ok(outcome) if outcome.memory.as_slice() == [300].as_slice() => Some((true, waiting)),
+        Err(MeaningFault::OutOfMemory) => Some((false, waiting)),
+        _ => None,
+    }
+}
+
+// The first growth that is not refused although it is to be.
+fn first_spared<'a, A: Allocator + Copy>(
+    alloc: &'a Refusing<A>,
+    accepted: &Accepted<&'a Refusing<A>>,
+) -> Option<u64> {
+    for n in 1..2000u64 {
+        match refused_at(alloc, accepted, n) {
+            Some((true, true)) => return Some(n),
+            Some((false, false)) => {}
+            _ => return None,
         }
     }
-    let Ok(outcome) = run_order(rt.alloc(), &accepted, 64, &[63], 100) else {
-        return Err("64 threads run")?;
-    };
-    assert_eq!(rt; outcome.threads.len(), 64);
-    Ok(())
+    None
+}
+
+// The same of the text that says.
+fn first_spared_of_saying<A: Allocator + Copy>(inner: A) -> Option<u64> {
+    let alloc = Refusing::new(inner, 0);
+    match accepted_of(&alloc, SAYS) {
+        Some(accepted) => first_spared(&alloc, &accepted),
+        None => None,
+    }
 }
 
 #[test]
 fn each_growth_that_is_refused_is_told(rt: HostRuntime) -> Result<(), Fail> {
-    let alloc = Refusing::new(rt.alloc(), 0);
-    let Some(accepted) = accepted_of(&alloc, SAYS) else {
-        return Err("it is an accepted program")?;
-    };
-    for n in 1..2000 {
-        alloc.refuse(n);
-        let answer = run_order(&alloc, &accepted, 2, &[0, 1, 0, 1], 100);
-        let waiting = alloc.is_waiting();
-        alloc.refuse(0);
-        match answer {
-            Ok(outcome) => {
-                assert!(rt; waiting);
-                assert_eq!(rt; outcome.memory.as_slice(), [300].as_slice());
-                assert!(rt; n > 10);
-                return Ok(());
-            }
-            Err(fault) => {
-                assert_eq!(rt; fault, MeaningFault::OutOfMemory);
-                assert!(rt; !waiting);
-            }
-        }
-    }
-    Err("with memory enough it runs")?
+    assert!(rt; first_spared_of_saying(rt.alloc()) > Some(10));
+    Ok(())
 }

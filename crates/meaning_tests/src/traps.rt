@@ -2,8 +2,9 @@
 
 use crate::memory::zeros;
 use crate::run::{accepted_of, run};
-use meaning::{ThreadEnd, thread};
+use meaning::{ThreadEnd, ThreadOutcome, thread};
 use refusing::Refusing;
+use separation::Accepted;
 use std::alloc::Allocator;
 use std::test::Fail;
 use syntax::numbers::Trap;
@@ -33,13 +34,19 @@ const TRAPS: [(&str, Trap); 7] = [
     ("void worker(int self) { 1 << 32; }", Trap::ShiftCount),
 ];
 
+// How the thread of a text ends.
+fn end_of<A: Allocator + Copy>(alloc: A, text: &str) -> Option<ThreadEnd> {
+    match run(alloc, text, 0, 1, 1000) {
+        Some(outcome) => Some(outcome.end),
+        None => None,
+    }
+}
+
 #[test]
 fn each_trap_has_a_program(rt: HostRuntime) -> Result<(), Fail> {
     for (text, trap) in TRAPS {
-        let Some(outcome) = run(rt.alloc(), text, 0, 1, 1000) else {
-            return Err("a row has an accepted program")?;
-        };
-        assert_eq!(rt; outcome.end, ThreadEnd::Trapped(trap), "{text}");
+        let end = end_of(rt.alloc(), text);
+        assert_eq!(rt; end, Some(ThreadEnd::Trapped(trap)), "{text}");
     }
     Ok(())
 }
@@ -60,44 +67,84 @@ void worker(int self) {
     do { int t = k; k = t - 1; } while (k != self);
 }";
 
+// Whether a thread has ended, has printed this, and has left three memories, of which these are the words of the last one.
+fn leaves<A: Allocator>(outcome: &ThreadOutcome<A>, printed: &[u8], words: &[u64]) -> bool {
+    let last = match outcome.lefts.last() {
+        Some(memory) => memory.as_slice() == words,
+        None => false,
+    };
+    last && outcome.lefts.len() == 3
+        && outcome.end == ThreadEnd::Ended
+        && outcome.text.as_slice() == printed
+}
+
 #[test]
 fn the_whole_language_runs(rt: HostRuntime) -> Result<(), Fail> {
-    let Some(outcome) = run(rt.alloc(), WHOLE, 3, 3, 10000) else {
-        return Err("it is an accepted program")?;
-    };
-    assert_eq!(rt; outcome.end, ThreadEnd::Ended);
-    assert_eq!(rt; outcome.text.as_slice(), b"3:1 4:0 5:0 ".as_slice());
-    assert_eq!(rt; outcome.lefts.len(), 3);
-    let Some(last) = outcome.lefts.last() else {
-        return Err("three memories are left")?;
-    };
-    assert_eq!(rt; last.as_slice(), [4294967295, 0, 0, 6].as_slice());
+    match run(rt.alloc(), WHOLE, 3, 3, 10000) {
+        None => assert!(rt; false),
+        Some(outcome) => assert!(rt; leaves(&outcome, b"3:1 4:0 5:0 ", &[4294967295, 0, 0, 6])),
+    }
     Ok(())
+}
+
+// Whether `worker(t)` ends where growth `n` is refused, and whether that growth is still to come.
+fn refused_at<'a, A: Allocator + Copy>(
+    alloc: &'a Refusing<A>,
+    accepted: &Accepted<&'a Refusing<A>>,
+    t: u32,
+    founds: usize,
+    n: u64,
+) -> Option<(bool, bool)> {
+    match zeros(alloc, founds, 4) {
+        Err(_) => None,
+        Ok(memories) => {
+            alloc.refuse(n);
+            let answer = thread(alloc, accepted, t, memories.as_slice(), 1000000);
+            let waiting = alloc.is_waiting();
+            alloc.refuse(0);
+            match answer {
+                Ok(outcome) => Some((outcome.end == ThreadEnd::Ended, waiting)),
+                Err(_) => Some((false, waiting)),
+            }
+        }
+    }
+}
+
+// The first growth that is not refused although it is to be.
+fn first_spared<'a, A: Allocator + Copy>(
+    alloc: &'a Refusing<A>,
+    accepted: &Accepted<&'a Refusing<A>>,
+    t: u32,
+    founds: usize,
+) -> Option<u64> {
+    for n in 1..1000u64 {
+        match refused_at(alloc, accepted, t, founds, n) {
+            Some((true, true)) => return Some(n),
+            Some((false, false)) => {}
+            _ => return None,
+        }
+    }
+    None
+}
+
+// The same of a text.
+fn first_spared_of<A: Allocator + Copy>(
+    inner: A,
+    text: &str,
+    t: u32,
+    founds: usize,
+) -> Option<u64> {
+    let alloc = Refusing::new(inner, 0);
+    match accepted_of(&alloc, text) {
+        Some(accepted) => first_spared(&alloc, &accepted, t, founds),
+        None => None,
+    }
 }
 
 #[test]
 fn each_growth_that_is_refused_is_told(rt: HostRuntime) -> Result<(), Fail> {
-    let alloc = Refusing::new(rt.alloc(), 0);
-    let Some(accepted) = accepted_of(&alloc, WHOLE) else {
-        return Err("it is an accepted program")?;
-    };
-    let memories = zeros(&alloc, 3, 4)?;
-    for n in 1..1000 {
-        alloc.refuse(n);
-        let answer = thread(&alloc, &accepted, 3, memories.as_slice(), 10000);
-        let waiting = alloc.is_waiting();
-        alloc.refuse(0);
-        match answer {
-            Ok(outcome) => {
-                assert!(rt; waiting);
-                assert_eq!(rt; outcome.end, ThreadEnd::Ended);
-                assert!(rt; n > 10);
-                return Ok(());
-            }
-            Err(_) => assert!(rt; !waiting),
-        }
-    }
-    Err("with memory enough it ends")?
+    assert!(rt; first_spared_of(rt.alloc(), WHOLE, 3, 3) > Some(10));
+    Ok(())
 }
 
 // turns with a block, a local and a branch, ten and a thousand of them
@@ -106,30 +153,11 @@ const TURNS: [&str; 2] = [
     "int x; void worker(int self) { __transaction_atomic { for (int i = 0; i < 1000; i++) { int k = i; if (k & 1) { x = k; } } } }",
 ];
 
-/// The first growth that a run of this text does not come to.
-fn growths<A: Allocator + Copy>(alloc: &Refusing<A>, text: &str) -> Result<u64, Fail> {
-    let Some(accepted) = accepted_of(alloc, text) else {
-        return Err("it is an accepted program")?;
-    };
-    let memories = zeros(alloc, 1, 4)?;
-    for n in 1..1000 {
-        alloc.refuse(n);
-        let answer = thread(alloc, &accepted, 0, memories.as_slice(), 1000000);
-        let waiting = alloc.is_waiting();
-        alloc.refuse(0);
-        if let Ok(outcome) = answer {
-            if waiting && outcome.end == ThreadEnd::Ended {
-                return Ok(n);
-            }
-        }
-    }
-    Err("with memory enough it ends")?
-}
-
 #[test]
 fn turns_take_no_memory_of_their_own(rt: HostRuntime) -> Result<(), Fail> {
-    let alloc = Refusing::new(rt.alloc(), 0);
     let [few, many] = TURNS;
-    assert_eq!(rt; growths(&alloc, few)?, growths(&alloc, many)?);
+    let spared = first_spared_of(rt.alloc(), few, 0, 1);
+    assert!(rt; spared.is_some());
+    assert_eq!(rt; first_spared_of(rt.alloc(), many, 0, 1), spared);
     Ok(())
 }

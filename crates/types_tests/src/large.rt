@@ -20,18 +20,29 @@ fn add_each<A: Allocator + Copy>(
     Ok(())
 }
 
-/// A text of a beginning, two such rows of so many each, and what stands between and behind them.
+/// Adds a beginning, two such rows of so many each, and what stands between and behind them.
+fn add_all<A: Allocator + Copy>(
+    text: &mut String<A>,
+    alloc: A,
+    n: usize,
+    words: [&str; 7],
+) -> Result<(), AllocError> {
+    let [begin, one, one_behind, between, other, other_behind, end] = words;
+    text.push_str(begin)?;
+    add_each(text, alloc, one, n, one_behind)?;
+    text.push_str(between)?;
+    add_each(text, alloc, other, n, other_behind)?;
+    text.push_str(end)
+}
+
+/// The text of these.
 fn text_of<A: Allocator + Copy>(
     alloc: A,
     n: usize,
     words: [&str; 7],
 ) -> Result<String<A>, AllocError> {
-    let [begin, one, one_behind, between, other, other_behind, end] = words;
-    let mut text = String::from_str(alloc, begin)?;
-    add_each(&mut text, alloc, one, n, one_behind)?;
-    text.push_str(between)?;
-    add_each(&mut text, alloc, other, n, other_behind)?;
-    text.push_str(end)?;
+    let mut text = String::new(alloc);
+    add_all(&mut text, alloc, n, words)?;
     Ok(text)
 }
 
