@@ -116,7 +116,9 @@ def meaning_tests():
     return f"""//! The programs of examples/, each run alone from its tree: written by scripts/examples.py.
 
 use crate::run::accepted_of;
-use meaning::{{ThreadEnd, run_order}};
+use meaning::{{SourceOutcome, ThreadEnd, ThreadReport, run_order}};
+use separation::Accepted;
+use std::alloc::Allocator;
 use std::test::Fail;
 
 /// A program, the number of the trap in which it ends or 0, what it prints, and the words of the memory that it leaves.
@@ -128,25 +130,44 @@ const EXAMPLES: [Row; {len(examples)}] = [
 /// Entries enough for the transactions of each program.
 const ALONE: [u32; 20] = [0; 20];
 
+// Whether a thread has printed what the row says, and is over so.
+fn is_report<A: Allocator>(report: &ThreadReport<A>, row: &Row) -> bool {{
+    let over = match report.end {{
+        ThreadEnd::Ended => row.1 == 0,
+        ThreadEnd::Trapped(why) => row.1 == why.number(),
+        _ => false,
+    }};
+    over && report.text.as_slice() == row.2.as_bytes()
+}}
+
+// Whether one thread has done what the row says.
+fn has_done<A: Allocator>(outcome: &SourceOutcome<A>, row: &Row) -> bool {{
+    match outcome.threads.as_slice() {{
+        [thread] => outcome.memory.as_slice() == row.3 && is_report(thread, row),
+        _ => false,
+    }}
+}}
+
+// Whether one thread of a program does what the row says.
+fn does_so<A: Allocator + Copy>(alloc: A, accepted: &Accepted<A>, row: &Row) -> bool {{
+    match run_order(alloc, accepted, 1, ALONE.as_slice(), 100000) {{
+        Ok(outcome) => has_done(&outcome, row),
+        Err(_) => false,
+    }}
+}}
+
+// The same of its text.
+fn is_so<A: Allocator + Copy>(alloc: A, row: &Row) -> bool {{
+    match accepted_of(alloc, row.0) {{
+        Some(accepted) => does_so(alloc, &accepted, row),
+        None => false,
+    }}
+}}
+
 #[test]
 fn examples_leave_and_print_what_they_should(rt: HostRuntime) -> Result<(), Fail> {{
-    for (source, trap, printed, words) in EXAMPLES {{
-        let Some(accepted) = accepted_of(rt.alloc(), source) else {{
-            return Err("an example is an accepted program")?;
-        }};
-        let Ok(outcome) = run_order(rt.alloc(), &accepted, 1, ALONE.as_slice(), 100000) else {{
-            return Err("it runs")?;
-        }};
-        assert_eq!(rt; outcome.memory.as_slice(), words, "{{source}}");
-        let [thread] = outcome.threads.as_slice() else {{
-            return Err("one thread is told of")?;
-        }};
-        assert_eq!(rt; thread.text.as_slice(), printed.as_bytes(), "{{source}}");
-        match thread.end {{
-            ThreadEnd::Ended => assert_eq!(rt; trap, 0, "{{source}}"),
-            ThreadEnd::Trapped(why) => assert_eq!(rt; trap, why.number(), "{{source}}"),
-            _ => return Err("it comes to its end")?,
-        }}
+    for row in EXAMPLES {{
+        assert!(rt; is_so(rt.alloc(), &row), "{{}}", row.0);
     }}
     Ok(())
 }}

@@ -171,21 +171,39 @@ fn a_wrong_order_has_a_fault(rt: HostRuntime) -> Result<(), Fail> {
     Ok(())
 }
 
-// Whether a run is made where growth `n` is refused, and whether that growth is still to come; none where it is made wrong, or
-// has another fault.
+// Whether a run in an order is made, and not refused for want of memory; none where it is made wrong, or has another fault.
+fn is_made<A: Allocator + Copy>(alloc: A, accepted: &Accepted<A>) -> Option<bool> {
+    match run_order(alloc, accepted, 2, &[0, 1, 0, 1], 100) {
+        Ok(outcome) => {
+            if outcome.memory.as_slice() == [300].as_slice() {
+                Some(true)
+            } else {
+                None
+            }
+        }
+        Err(fault) => {
+            if fault == MeaningFault::OutOfMemory {
+                Some(false)
+            } else {
+                None
+            }
+        }
+    }
+}
+
+// The same where growth `n` is refused, and whether that growth is still to come.
 fn refused_at<'a, A: Allocator + Copy>(
     alloc: &'a Refusing<A>,
     accepted: &Accepted<&'a Refusing<A>>,
     n: u64,
 ) -> Option<(bool, bool)> {
     alloc.refuse(n);
-    let answer = run_order(alloc, accepted, 2, &[0, 1, 0, 1], 100);
+    let made = is_made(alloc, accepted);
     let waiting = alloc.is_waiting();
     alloc.refuse(0);
-    match answer {
-        Ok(outcome) if outcome.memory.as_slice() == [300].as_slice() => Some((true, waiting)),
-        Err(MeaningFault::OutOfMemory) => Some((false, waiting)),
-        _ => None,
+    match made {
+        Some(made) => Some((made, waiting)),
+        None => None,
     }
 }
 

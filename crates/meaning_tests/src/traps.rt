@@ -1,5 +1,7 @@
 //! A program for each trap, each growth refused in turn, and programs that run long.
 
+ghost use Rattle.meaning.specs.Outcomes.{AreWords};
+
 use crate::memory::zeros;
 use crate::run::{accepted_of, run};
 use meaning::{ThreadEnd, ThreadOutcome, thread};
@@ -87,7 +89,22 @@ fn the_whole_language_runs(rt: HostRuntime) -> Result<(), Fail> {
     Ok(())
 }
 
-// Whether `worker(t)` ends where growth `n` is refused, and whether that growth is still to come.
+// Whether `worker(t)` over these memories ends.
+fn ends<A: Allocator + Copy>(
+    alloc: A,
+    accepted: &Accepted<A>,
+    t: u32,
+    memories: &[Vec<u64, A>],
+) -> bool
+    requires { AreWords memories.now }
+{
+    match thread(alloc, accepted, t, memories, 1000000) {
+        Ok(outcome) => outcome.end == ThreadEnd::Ended,
+        Err(_) => false,
+    }
+}
+
+// The same where growth `n` is refused, and whether that growth is still to come.
 fn refused_at<'a, A: Allocator + Copy>(
     alloc: &'a Refusing<A>,
     accepted: &Accepted<&'a Refusing<A>>,
@@ -99,13 +116,10 @@ fn refused_at<'a, A: Allocator + Copy>(
         Err(_) => None,
         Ok(memories) => {
             alloc.refuse(n);
-            let answer = thread(alloc, accepted, t, memories.as_slice(), 1000000);
+            let ended = ends(alloc, accepted, t, memories.as_slice());
             let waiting = alloc.is_waiting();
             alloc.refuse(0);
-            match answer {
-                Ok(outcome) => Some((outcome.end == ThreadEnd::Ended, waiting)),
-                Err(_) => Some((false, waiting)),
-            }
+            Some((ended, waiting))
         }
     }
 }
