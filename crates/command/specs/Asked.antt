@@ -8,7 +8,7 @@ use Rattle.clap.specs.declared.error.kind.ErrorKind.TheVariants.{DisplayHelp, Di
 use Rattle.command.specs.declared.request.Request.{Request}
 use Rattle.command.specs.declared.request.Request.TheVariants.{Program, Explain}
 use Rattle.command.specs.declared.request.Task.{Task}
-use Rattle.command.specs.declared.request.Task.TheVariants.{Check, Listing, Run, Replay, Source}
+use Rattle.command.specs.declared.request.Task.TheVariants.{Check, Listing, Run, Replay, PrintSchedule, Source}
 use Rattle.command.specs.declared.request.Steps.{Steps}
 use Rattle.command.specs.declared.request.Steps.TheVariants.{Schedule, Seed}
 use Rattle.command.specs.declared.request.UsageFault.{UsageFault}
@@ -62,6 +62,10 @@ pub record IsOrderGiven (given : List Row) (order : List ℕ) : Type 0 where
   pub said : first_of (codes "order") given ≡ Some text
   pub listed : IsOrder text order
 
+-- a flag
+abbrev pub IsFlagged : List Row → Text → Type 0
+IsFlagged given id = first_of id given ≡ Some (codes "true")
+
 -- what is done with a program
 
 abbrev pub IsTask : Text → List Row → Task → Type 0
@@ -70,6 +74,9 @@ IsTask name given Listing = name ≡ codes "listing"
 IsTask name given (Run threads budget) = (name ≡ codes "run") × AreThreadsGiven given threads
     × IsNumber given (codes "budget") 4294967295 0 4294967295 budget
 IsTask name given (Replay threads steps) = (name ≡ codes "replay") × AreThreadsGiven given threads × AreSteps given steps
+    × (IsFlagged given (codes "print-schedule") → ⊥)
+IsTask name given (PrintSchedule threads seed count) = (name ≡ codes "replay") × AreThreadsGiven given threads
+    × AreSteps given (Seed seed count) × IsFlagged given (codes "print-schedule")
 IsTask name given (Source threads order ticks) = (name ≡ codes "source") × AreThreadsGiven given threads
     × IsOrderGiven given order.items
     × IsNumber given (codes "ticks") 100000 0 1000000 ticks
@@ -77,7 +84,7 @@ IsTask name given (Source threads order ticks) = (name ≡ codes "source") × Ar
 -- a command and what is given for its arguments make this request
 abbrev pub IsRequest : Text → List Row → Request → Type 0
 IsRequest name given (Program file verbose task) = (first_of (codes "FILE") given ≡ Some (string_bytes file))
-    × (IsTrue verbose ↔ (first_of (codes "verbose") given ≡ Some (codes "true"))) × IsTask name given task
+    × (IsTrue verbose ↔ IsFlagged given (codes "verbose")) × IsTask name given task
 IsRequest name given (Explain number) =
     (name ≡ codes "explain") × (number_in given (codes "NN") ≡ Some number)
 

@@ -8,9 +8,9 @@ use Rattle.clap.specs.declared.builder.value_parser.ValueParser.TheVariants.{Sig
 abbrev pub file_rule : Rule
 file_rule = record (new_rule (codes "FILE")) { required = true; action = Some Set }
 
--- `--verbose`
-abbrev pub verbose_rule : Rule
-verbose_rule = record (new_rule (codes "verbose")) { long = Some (codes "verbose"); action = Some SetTrue }
+-- a flag of this name
+abbrev pub flag_rule : Text → Rule
+flag_rule name = record (new_rule name) { long = Some name; action = Some SetTrue }
 
 -- an option of this name with a value
 abbrev pub text_rule : Text → Rule
@@ -34,7 +34,7 @@ fault_rule = record (new_rule (codes "NN")) {
 
 -- a command over a file
 abbrev pub file_app : Text → App
-file_app name = with_rule (with_rule (new_app name) file_rule) verbose_rule
+file_app name = with_rule (with_rule (new_app name) file_rule) (flag_rule (codes "verbose"))
 
 abbrev pub check_app : App
 check_app = file_app (codes "check")
@@ -47,11 +47,14 @@ run_app =
     let threads = with_rule (file_app (codes "run")) (number_rule (codes "threads")) in
     with_rule threads (number_rule (codes "budget"))
 
-abbrev pub replay_app : App
-replay_app =
+abbrev pub replay_steps_app : App
+replay_steps_app =
     let threads = with_rule (file_app (codes "replay")) (number_rule (codes "threads")) in
     let schedule = with_rule threads (text_rule (codes "schedule")) in
     with_rule (with_rule schedule (number_rule (codes "seed"))) (number_rule (codes "steps"))
+
+abbrev pub replay_app : App
+replay_app = with_rule replay_steps_app (flag_rule (codes "print-schedule"))
 
 abbrev pub source_app : App
 source_app =

@@ -3,7 +3,7 @@
 ghost use Rattle.std.specs.Prelude.{◌≡◌, IfOk, codes, false};
 ghost use Rattle.clap.specs.Words.{app_of, rule_of};
 ghost use Rattle.clap.specs.declared.builder.command.Command.TheViews.{out-Command as fields_of};
-ghost use Rattle.command.specs.Line.{file_rule, verbose_rule, fault_rule, text_rule, number_rule, order_rule, file_app, run_app, replay_app, source_app, explain_app, commandless_app, program_app};
+ghost use Rattle.command.specs.Line.{file_rule, flag_rule, fault_rule, text_rule, number_rule, order_rule, file_app, run_app, replay_steps_app, replay_app, source_app, explain_app, commandless_app, program_app};
 
 use clap::{Arg, ArgAction, Command, value_parser};
 use std::alloc::{AllocError, Global};
@@ -22,15 +22,15 @@ fn file<'a>(alloc: Global) -> Arg<'a>
         .help("A C source with transactions")
 }
 
-/// Whether more is told of a fault than its line.
-fn verbose<'a>(alloc: Global) -> Arg<'a>
-    ensures rule { rule_of result ≡ verbose_rule }
+/// A flag.
+fn flag<'a>(alloc: Global, name: &'a str, help: &'a str) -> Arg<'a>
+    ensures rule { rule_of result ≡ flag_rule name.entry.now }
     ensures global { result.global ≡ false }
 {
-    Arg::new(alloc, "verbose")
-        .long("verbose")
+    Arg::new(alloc, name)
+        .long(name)
         .action(ArgAction::SetTrue)
-        .help("Shows the line of a fault, and says why a file can't be read")
+        .help(help)
 }
 
 /// An option with a value.
@@ -77,11 +77,16 @@ fn of_file<'a>(
     ensures app { IfOk result (λ c. app_of c ≡ file_app name.entry.now) }
     ensures globals { IfOk result (λ c. (fields_of c).has_globals ≡ false) }
 {
+    let verbose = flag(
+        alloc,
+        "verbose",
+        "Shows the line of a fault, and says why a file can't be read",
+    );
     Command::new(alloc, name)
         .about(about)
         .after_help(example)
         .arg(file(alloc))?
-        .arg(verbose(alloc))
+        .arg(verbose)
 }
 
 /// The number of threads.
@@ -118,9 +123,9 @@ fn run<'a>(alloc: Global) -> Result<Command<'a>, AllocError>
     .arg(budget)
 }
 
-/// The command that replays steps of the machine.
-fn replay<'a>(alloc: Global) -> Result<Command<'a>, AllocError>
-    ensures app { IfOk result (λ c. app_of c ≡ replay_app) }
+/// The command that replays steps of the machine, with where these come from.
+fn replay_steps<'a>(alloc: Global) -> Result<Command<'a>, AllocError>
+    ensures app { IfOk result (λ c. app_of c ≡ replay_steps_app) }
     ensures globals { IfOk result (λ c. (fields_of c).has_globals ≡ false) }
 {
     let schedule = text(
@@ -151,6 +156,19 @@ fn replay<'a>(alloc: Global) -> Result<Command<'a>, AllocError>
     .arg(schedule)?
     .arg(seed)?
     .arg(steps)
+}
+
+/// The command that replays steps of the machine.
+fn replay<'a>(alloc: Global) -> Result<Command<'a>, AllocError>
+    ensures app { IfOk result (λ c. app_of c ≡ replay_app) }
+    ensures globals { IfOk result (λ c. (fields_of c).has_globals ≡ false) }
+{
+    let print_schedule = flag(
+        alloc,
+        "print-schedule",
+        "Prints the steps of the seed as a schedule, and makes none of them",
+    );
+    replay_steps(alloc)?.arg(print_schedule)
 }
 
 /// The command that runs the source in an order of threads.

@@ -38,6 +38,12 @@ pub enum Task {
         threads: u32,
         steps: Steps,
     },
+    /// Prints the steps of a seed for 1 to 64 threads as a schedule.
+    PrintSchedule {
+        threads: u32,
+        seed: u32,
+        count: u32,
+    },
     /// Runs the source: 1 to 64 threads in an order, each with 0 to 1,000,000 ticks.
     Source {
         threads: u32,

@@ -5,7 +5,7 @@ ghost use Rattle.clap.specs.Words.{first_of, found_of, rows_of};
 ghost use Rattle.command.specs.Asked.{AreSteps, IsNumber, IsOrder, IsTask, AreThreadsGiven, IsOrderGiven};
 ghost use Rattle.command.specs.inner.Refusals.{IsOwn};
 
-use crate::given::{number_given, text_given, text_wanted, wrong};
+use crate::given::{flag_given, number_given, text_given, text_wanted, wrong};
 use crate::order::order;
 use crate::request::{Steps, Task, UsageFault};
 use clap::ArgMatches;
@@ -77,6 +77,26 @@ fn steps(alloc: Global, given: &ArgMatches<'_>) -> Result<Steps, UsageFault>
     }
 }
 
+/// A replay, or what it would make.
+fn replay(alloc: Global, given: &ArgMatches<'_>) -> Result<Task, UsageFault>
+    ensures ok { IfOk result (λ t. IsTask (codes "replay") (rows_of (found_of given.now)) t) }
+    ensures err { IfErr result IsOwn }
+{
+    let threads = threads(alloc, given)?;
+    let steps = steps(alloc, given)?;
+    if !flag_given(given, "print-schedule") {
+        return Ok(Task::Replay { threads, steps });
+    }
+    match steps {
+        Steps::Seed { seed, count } => Ok(Task::PrintSchedule {
+            threads,
+            seed,
+            count,
+        }),
+        Steps::Schedule { .. } => Err(wrong(alloc, "--print-schedule wants --seed")),
+    }
+}
+
 /// The order of threads that is given.
 fn order_given(alloc: Global, given: &ArgMatches<'_>) -> Result<Vec<u32>, UsageFault>
     ensures ok { IfOk result (λ v. IsOrderGiven (rows_of (found_of given.now)) v.items) }
@@ -115,10 +135,7 @@ pub(crate) fn task(alloc: Global, name: &str, given: &ArgMatches<'_>) -> Result<
             threads: threads(alloc, given)?,
             budget: number(alloc, given, "budget", u32::MAX, 0, u32::MAX)?,
         }),
-        "replay" => Ok(Task::Replay {
-            threads: threads(alloc, given)?,
-            steps: steps(alloc, given)?,
-        }),
+        "replay" => replay(alloc, given),
         "source" => source(alloc, given),
         _ => Err(wrong(alloc, "no such command")),
     }

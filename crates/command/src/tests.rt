@@ -171,6 +171,21 @@ fn reads_replays(rt: HostRuntime) -> Result<(), Fail> {
             "{words:?}"
         );
     }
+    let words = ["txc", "replay", "--print-schedule", "--seed=7", "a.c"];
+    let request = command(rt.alloc(), words.as_slice())?;
+    assert!(rt;
+        matches!(
+            &request,
+            Request::Program {
+                task: Task::PrintSchedule {
+                    threads: 1,
+                    seed: 7,
+                    count: 100000
+                },
+                ..
+            }
+        )
+    );
     // with a schedule the number of steps has no effect
     let words = ["txc", "replay", "--steps=5", "--schedule=s", "a.c"];
     let request = command(rt.alloc(), words.as_slice())?;
@@ -193,8 +208,13 @@ fn reads_replays(rt: HostRuntime) -> Result<(), Fail> {
 #[test]
 fn refuses_replays(rt: HostRuntime) -> Result<(), Fail> {
     let one = "txc: usage: one of --schedule and --seed\n";
-    let rows: [(&[&str], &str); 5] = [
+    let rows: [(&[&str], &str); 7] = [
         (["--threads=2"].as_slice(), one),
+        (["--print-schedule"].as_slice(), one),
+        (
+            ["--print-schedule", "--schedule=s"].as_slice(),
+            "txc: usage: --print-schedule wants --seed\n",
+        ),
         (["--steps=5"].as_slice(), one),
         (["--schedule=s", "--seed=1"].as_slice(), one),
         (

@@ -6,3 +6,5 @@ pub mod Lines
 pub mod Words
 -- the steps that lines name
 pub mod Playing
+-- lines that are written
+pub mod Writing

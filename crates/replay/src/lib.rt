@@ -6,11 +6,13 @@ mod play;
 mod row;
 mod schedule;
 mod seed;
+mod write;
 
 pub use line::{Line, MOST_STEPS};
 pub use play::replay;
 pub use schedule::{ScheduleFault, read_schedule};
 pub use seed::seeded;
+pub use write::write_schedule;
 
 #[cfg(test)]
 mod tests;

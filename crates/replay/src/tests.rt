@@ -1,6 +1,6 @@
 //! Schedules that are read, and those that are not.
 
-use crate::{Line, ScheduleFault, read_schedule, seeded};
+use crate::{Line, ScheduleFault, read_schedule, seeded, write_schedule};
 use refusing::Refusing;
 use std::alloc::Global;
 use std::test::Fail;
@@ -116,5 +116,24 @@ fn each_growth_may_be_refused(rt: HostRuntime) -> Result<(), Fail> {
     assert!(rt; met >= 2 && met < 49);
     let alloc = Refusing::new(rt.alloc(), 1);
     assert!(rt; seeded(&alloc, 1, 4, 10) == Err(ScheduleFault::OutOfMemory));
+    Ok(())
+}
+
+#[test]
+fn what_is_written_is_read_back(rt: HostRuntime) -> Result<(), Fail> {
+    let alloc = rt.alloc();
+    let lines = [
+        line(0, 1, false),
+        line(63, 0, true),
+        line(4294967295, 1048575, true),
+    ];
+    let text = write_schedule(alloc, lines.as_slice())?;
+    assert_eq!(rt; text.as_str(), "0 1\n63 a0\n4294967295 a1048575\n");
+    let read = read_schedule(alloc, text.as_str());
+    assert!(rt; matches!(&read, Ok(found) if found.as_slice() == lines.as_slice()));
+    let none = write_schedule(alloc, [].as_slice())?;
+    assert!(rt; none.as_str().is_empty());
+    let refusing = Refusing::new(alloc, 1);
+    assert!(rt; write_schedule(&refusing, lines.as_slice()).is_err());
     Ok(())
 }

@@ -1,5 +1,8 @@
 -- A replay of a code is one of the program that the code means.
-use Rattle.std.proofs.Common.{◌≡◌, ◌^◌, ℕ, List, Option, None, length, replicate, ap, subst, sym}
+use Rattle.std.proofs.Common.{◌≡◌, ◌≤◌, ◌^◌, ◌%◌, ◌∙◌, ℕ, zero, suc, List, [], ◌∷◌, Option, None, length, map, replicate, refl, ap, subst, sym, arith}
+use Rattle.rand_core.specs.Steps.{first_words}
+use Rattle.rand_pcg.specs.Lcg.{Lcg}
+use Rattle.rand_pcg.specs.Pcg.{pcg32}
 use Rattle.syntax.specs.Tree.{Program}
 use Rattle.syntax.specs.Views.{program_of}
 use Rattle.parse.specs.Faults.{source_of}
@@ -15,11 +18,14 @@ use Rattle.world.specs.declared.stop.WorldStop.{WorldStop}
 use Rattle.world.specs.Simulations.{IsHolder, world_of}
 use Rattle.command.specs.declared.request.Steps.{Steps}
 use Rattle.replay.specs.declared.line.Line.{Line}
+use Rattle.replay.specs.declared.line.TheConstants.{MOST_STEPS}
 use Rattle.replay.specs.Replays.{IsReplay, played}
+use Rattle.replay.specs.Schedules.{AreLines, AreRows, counts}
+use Rattle.replay.specs.Seeds.{generator_of, one_step}
 use Rattle.report.specs.Printed.{Printed}
 use Rattle.txc.specs.declared.compiled.Compiled.{Compiled}
 use Rattle.txc.specs.Runs.{IsCodeOf, IsSourceOf}
-use Rattle.txc.specs.Replays.{AreLinesOf, IsReplayOf, Replays}
+use Rattle.txc.specs.Replays.{AreLinesOf, IsReplayOf, Replays, lines_of_seed}
 use Rattle.txc.specs.inner.Replayed.{report_shown}
 use Rattle.txc.proofs.Codes.{compiles}
 
@@ -54,3 +60,20 @@ replays threads steps schedule text c found slice stop shown spelled compiled li
       lines = lines;
       replay = subst (λ (s : Option WorldStop). IsReplayOf p c.code threads found s shown) whole of_found;
     }
+
+-- one step for each word
+counts_of_words : (threads : ℕ) (ws : List ℕ) → counts (map (λ w. one_step (w % threads)) ws) ≡ length ws
+counts_of_words threads [] = refl
+counts_of_words threads (w ∷ ws) = let h = counts_of_words threads ws in omega (arith, h)
+
+words_counted : (n : ℕ) (g : Lcg) → length (first_words pcg32 n g) ≡ n
+unfolding first_words
+words_counted zero g = refl
+words_counted (suc n) g = ap suc (words_counted n (pcg32 g).1)
+
+-- rows that ask for the lines of a seed are a schedule
+pub lines_of : (seed threads count : ℕ) (rows : List (List ℕ)) (found slice : List Line) → found ≡ lines_of_seed seed threads count → slice ≡ found → count ≤ MOST_STEPS → AreRows rows slice → AreLines rows (lines_of_seed seed threads count)
+lines_of seed threads count rows found slice is same few asked =
+    let words = first_words pcg32 count (generator_of seed) in
+    let counted : counts (lines_of_seed seed threads count) ≡ count = counts_of_words threads words ∙ words_counted count (generator_of seed) in
+    (subst (λ (ls : List Line). AreRows rows ls) (same ∙ is) asked, omega (arith, counted, few))

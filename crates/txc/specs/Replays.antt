@@ -1,5 +1,6 @@
 -- Replaying steps of the threads of a source's text.
 use Rattle.std.specs.Prelude.{◌≡◌, ◌++◌, ◌%◌, ℕ, List, map, Option, None, IfSome}
+use Rattle.std.specs.Io.KnownBytes.{Appends}
 use Rattle.std.specs.Str.Lines.{lines}
 use Rattle.rand_core.specs.Steps.{first_words}
 use Rattle.rand_pcg.specs.Pcg.{pcg32}
@@ -51,6 +52,11 @@ pub record IsReplayOf (p : Program) (code : Code) (threads : ℕ) (found : List 
   pub holder : IsHolder (world_of (played code threads made)) shown.holder
   pub shows : shown ≡ world_shown p stop shown.holder (played code threads made)
   pub stopped_is : stopped ≡ stop_with stop (played code threads made)
+
+-- the status 0 tells of a text that spells an accepted program with code, and that a schedule of these lines was written
+abbrev pub PrintsSchedule : List Line → (text : List ℕ) → (status : ℕ) → (old new : Option (List ℕ)) → Type 0
+PrintsSchedule found text status old new =
+    status ≡ 0 → (written : List ℕ) × (code : Code) × Compiles text code × AreLines (lines written) found × Appends old new written
 
 -- the text spells an accepted program, and this is what the report of a replay of all steps shows
 pub record Replays (threads : ℕ) (steps : Steps) (schedule : Option (List ℕ)) (text : List ℕ) (shown : Printed) : Type 0 where

@@ -87,7 +87,7 @@ fn examples_print_what_they_should(rt: HostRuntime) -> Result<(), Fail> {
 }
 
 /// The words, the source, the schedule, and what a terminal shows.
-const TRANSCRIPTS: [(&str, &str, &str, &str); 19] = [
+const TRANSCRIPTS: [(&str, &str, &str, &str); 22] = [
     (
         "txc check examples/queue.c",
         "// A bounded queue: one transaction puts or takes, and a cancel undoes what does not fit.\nint slots[4], head, count, refused;\n\nint put(int value) {\n    int done = 0;\n    __transaction_atomic {\n        slots[(head + count) % 4] = value;\n        count++;\n        if (count > 4) __transaction_cancel;\n        done = 1;\n    }\n    return done;\n}\n\nvoid worker(int self) {\n    int i;\n    for (i = 1; i <= 6; i++) {\n        if (!put(i * i)) {\n            __transaction_atomic { refused++; }\n        }\n    }\n    __transaction_relaxed {\n        printf(\"%d waiting, %d refused\\n\", count, refused);\n        while (count > 0) {\n            printf(\"%d \", slots[head]);\n            head = (head + 1) % 4;\n            count--;\n        }\n    }\n    printf(\"\\n\");\n}\n",
@@ -129,6 +129,24 @@ const TRANSCRIPTS: [(&str, &str, &str, &str); 19] = [
         "// Each thread adds one, three times. No addition is lost, whatever the threads do.\nint x;\n\nvoid worker(int self) {\n    int i;\n    for (i = 0; i < 3; i++) {\n        __transaction_atomic { x = x + 1; }\n    }\n}\n",
         "0 a3\n1 a3\n0 a3\n1 a100\n0 a100\n",
         "== events\n9 0 commit\n12 1 abort\n18 1 commit\n24 1 commit\n30 1 commit\n36 0 commit\n42 0 commit\n== thread 0: ended\n== thread 1: ended\n== memory\nx = 6\n",
+    ),
+    (
+        "txc replay examples/counter.c --threads 2 --schedule examples/schedules/abort.txt",
+        "// Each thread adds one, three times. No addition is lost, whatever the threads do.\nint x;\n\nvoid worker(int self) {\n    int i;\n    for (i = 0; i < 3; i++) {\n        __transaction_atomic { x = x + 1; }\n    }\n}\n",
+        "1 a3\n0 a6\n1 a3\n",
+        "== events\n9 0 commit\n12 1 abort\n== thread 0: running\n== thread 1: running\n== memory\nx = 1\n",
+    ),
+    (
+        "txc replay examples/counter.c --threads 2 --seed 10 --steps 30",
+        "// Each thread adds one, three times. No addition is lost, whatever the threads do.\nint x;\n\nvoid worker(int self) {\n    int i;\n    for (i = 0; i < 3; i++) {\n        __transaction_atomic { x = x + 1; }\n    }\n}\n",
+        "",
+        "== events\n9 1 commit\n12 0 abort\n== thread 0: running\n== thread 1: running\n== memory\nx = 1\n",
+    ),
+    (
+        "txc replay examples/counter.c --threads 2 --seed 10 --steps 6 --print-schedule",
+        "// Each thread adds one, three times. No addition is lost, whatever the threads do.\nint x;\n\nvoid worker(int self) {\n    int i;\n    for (i = 0; i < 3; i++) {\n        __transaction_atomic { x = x + 1; }\n    }\n}\n",
+        "",
+        "1 1\n1 1\n1 1\n1 1\n0 1\n0 1\n",
     ),
     (
         "txc replay examples/receipt.c --threads 2 --schedule examples/schedules/receipt.txt",

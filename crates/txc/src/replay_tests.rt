@@ -328,6 +328,49 @@ fn replays_seeds(rt: HostRuntime) -> Result<(), Fail> {
     Ok(())
 }
 
+/// The steps of a seed, printed as a schedule, are read back to the same report.
+#[test]
+fn prints_schedules(rt: HostRuntime) -> Result<(), Fail> {
+    let words = [
+        "txc",
+        "replay",
+        "a.c",
+        "--threads=3",
+        "--seed=7",
+        "--steps=5",
+        "--print-schedule",
+    ];
+    let request = command(rt.alloc(), words.as_slice())?;
+    let printed = serve_bytes(&rt, rt.alloc(), &request, SHOWS);
+    assert_eq!(rt; printed.err.len(), 0);
+    assert_eq!(rt;
+        printed.out.as_slice(),
+        b"2 1\n2 1\n1 1\n0 1\n0 1\n".as_slice()
+    );
+    assert_eq!(rt; printed.status, 0);
+    let bare = b"int x; void worker(int self) { x = 1; }".as_slice();
+    let refused = serve_bytes(&rt, rt.alloc(), &request, bare);
+    assert_eq!(rt; refused.out.len(), 0);
+    assert_eq!(rt; refused.status, 1);
+    let seed = ["txc", "replay", "a.c", "--threads=3", "--seed=4294967295"];
+    let request = command(rt.alloc(), seed.as_slice())?;
+    let seeded = serve_bytes(&rt, rt.alloc(), &request, SHOWS);
+    let print = [
+        "txc",
+        "replay",
+        "a.c",
+        "--threads=3",
+        "--seed=4294967295",
+        "--print-schedule",
+    ];
+    let request = command(rt.alloc(), print.as_slice())?;
+    let printed = serve_bytes(&rt, rt.alloc(), &request, SHOWS);
+    let again = replayed(&rt, rt.alloc(), SHOWS, "3", printed.out.as_slice(), false)?;
+    assert_eq!(rt; again.out.as_slice(), seeded.out.as_slice());
+    assert_eq!(rt; again.status, seeded.status);
+    Ok(())
+}
+
 /// What no words ask for, and a caller may all the same.
 #[test]
 fn refuses_requests(rt: HostRuntime) -> Result<(), Fail> {

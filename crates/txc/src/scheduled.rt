@@ -1,6 +1,7 @@
 //! The lines that the steps of a replay come from.
 
-ghost use Rattle.std.specs.Prelude.{◌≡◌, ◌⊎◌, IfOk, IfErr};
+ghost use Rattle.std.specs.Prelude.{◌≡◌, ◌≤◌, ◌⊎◌, IfOk, IfErr, OnOk};
+ghost use Rattle.replay.specs.declared.line.TheConstants.{MOST_STEPS};
 ghost use Rattle.txc.specs.Replays.{AreLinesOf, IsSchedule, lines_of_seed};
 
 use crate::source::read_text;
@@ -51,7 +52,7 @@ fn lines_read<A: Allocator + Copy, S: Read + Drop, E: Write>(
 }
 
 /// The lines of a seed.
-fn lines_picked<A: Allocator + Copy, E: Write>(
+pub fn lines_picked<A: Allocator + Copy, E: Write>(
     alloc: A,
     seed: u32,
     threads: u32,
@@ -60,6 +61,7 @@ fn lines_picked<A: Allocator + Copy, E: Write>(
     err: &mut E,
 ) -> Result<Vec<Line, A>, u8>
     ensures lines { IfOk result (λ v. v.items ≡ lines_of_seed seed threads count) }
+    ensures few { OnOk result (count ≤ MOST_STEPS) }
     ensures told { IfErr result (λ s. (s ≡ 2) ⊎ (s ≡ 4)) }
 {
     if threads == 0 {

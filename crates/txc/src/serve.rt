@@ -1,9 +1,10 @@
 //! Answers a request over readers and writers.
 
 ghost use Rattle.std.specs.Prelude.{◌≡◌, ◌≢◌, ◌≤◌, ◌⊎◌, IfSome, None};
+ghost use Rattle.std.specs.Io.KnownBytes.{Appends};
 ghost use Rattle.txc.specs.Answers.{Answers, AnswersRequest};
 ghost use Rattle.report.specs.Views.{printed_of};
-ghost use Rattle.txc.specs.Replays.{Replays};
+ghost use Rattle.txc.specs.Replays.{PrintsSchedule, Replays, lines_of_seed};
 ghost use Rattle.txc.specs.Runs.{IsRefused, Prints, PrintsListing, PrintsShown, RunsAtOnce, RunsInOrder, SaysAccepted};
 
 use crate::compiled::compile;
@@ -12,7 +13,7 @@ use crate::listed::list_source;
 use crate::order::{OrderFault, run_in_order};
 use crate::replayed::{Replayed, replay_code};
 use crate::run::check_source;
-use crate::scheduled::lines_of;
+use crate::scheduled::{lines_of, lines_picked};
 use crate::source::{Source, read_source};
 use crate::status::{ENDED, status_of};
 use crate::tell::{
@@ -21,6 +22,7 @@ use crate::tell::{
 };
 use command::{Request, Steps, Task};
 use faults::explanation;
+use replay::write_schedule;
 use report::{Printed, report_text};
 use std::alloc::{Allocator, Global};
 use std::io::{Read, Write};
@@ -127,6 +129,11 @@ fn work<H: Threads + Wait + Sync, S: Read + Drop, W: Write, E: Write>(
         Task::Replay { threads, steps } => replay_source(
             alloc, text, *threads, steps, schedule, detail, out, err,
         ),
+        Task::PrintSchedule {
+            threads,
+            seed,
+            count,
+        } => print_schedule(alloc, text, *threads, *seed, *count, detail, out, err),
         Task::Source {
             threads,
             order,
@@ -193,6 +200,33 @@ fn replay_source<A: Allocator + Copy, S: Read + Drop, W: Write, E: Write>(
     }
 }
 
+/// Prints the steps of a seed as a schedule.
+fn print_schedule<A: Allocator + Copy, W: Write, E: Write>(
+    alloc: A,
+    text: &str,
+    threads: u32,
+    seed: u32,
+    count: u32,
+    detail: Detail,
+    out: &mut W,
+    err: &mut E,
+) -> u8
+    ensures status { result ≤ 4 }
+    ensures schedule { PrintsSchedule (lines_of_seed seed threads count) text.now result (W.contents out.old) (W.contents out.new) }
+    ensures refused { result ≡ 1 → IsRefused text.now }
+{
+    match compile(alloc, text) {
+        Ok(_compiled) => match lines_picked(alloc, seed, threads, count, detail, err) {
+            Ok(found) => match write_schedule(alloc, found.as_slice()) {
+                Ok(written) => print_text(written.as_str().as_bytes(), out, err),
+                Err(_) => out_of_memory(err),
+            },
+            Err(status) => status,
+        },
+        Err(fault) => refuse(alloc, text, fault, detail, err),
+    }
+}
+
 /// Lists the code of a source.
 fn list<A: Allocator + Copy, W: Write, E: Write>(
     alloc: A,
@@ -206,10 +240,7 @@ fn list<A: Allocator + Copy, W: Write, E: Write>(
     ensures refused { result ≡ 1 → IsRefused text.now }
 {
     match list_source(alloc, text) {
-        Ok(listed) => match print(listed.as_str().as_bytes(), out) {
-            Ok(()) => ENDED,
-            Err(_) => cannot_write(err),
-        },
+        Ok(listed) => print_text(listed.as_str().as_bytes(), out, err),
         Err(fault) => refuse(alloc, text, fault, detail, err),
     }
 }
@@ -249,11 +280,19 @@ fn check<A: Allocator + Copy, W: Write, E: Write>(
     ensures refused { result ≡ 1 → IsRefused text.now }
 {
     match check_source(alloc, text) {
-        Ok(()) => match print(b"accepted\n", out) {
-            Ok(()) => ENDED,
-            Err(_) => cannot_write(err),
-        },
+        Ok(()) => print_text(b"accepted\n", out, err),
         Err(fault) => refuse(alloc, text, fault, detail, err),
+    }
+}
+
+/// Prints a text, and gives the exit status.
+fn print_text<W: Write, E: Write>(text: &[u8], out: &mut W, err: &mut E) -> u8
+    ensures status { (result ≡ 0) ⊎ (result ≡ 4) }
+    ensures printed { result ≡ 0 → Appends (W.contents out.old) (W.contents out.new) text.now }
+{
+    match print(text, out) {
+        Ok(()) => ENDED,
+        Err(_) => cannot_write(err),
     }
 }
 
@@ -301,10 +340,7 @@ fn explain<W: Write, E: Write>(number: u32, out: &mut W, err: &mut E) -> u8
     ensures { result ≤ 4 }
 {
     match explanation(number) {
-        Some(text) => match print(text.as_bytes(), out) {
-            Ok(()) => ENDED,
-            Err(_) => cannot_write(err),
-        },
+        Some(text) => print_text(text.as_bytes(), out, err),
         None => unusable("no fault has this number", err),
     }
 }
