@@ -1,7 +1,6 @@
 -- How the parts of an expression's code are put together, and the clean tree of a node by the parts that are read of it.
 use Rattle.std.proofs.Common.{◌≡◌, ℕ, ◌+◌, List, [], ◌∷◌, ◌++◌, length, Some, sym, ap, ◌∙◌, append_assoc}
 use Rattle.lex.specs.declared.token.Span.{Span}
-use Rattle.lex.specs.declared.token.Scalar.{Scalar}
 use Rattle.syntax.specs.declared.tree.UnaryOp.{UnaryOp}
 use Rattle.syntax.specs.declared.tree.BinaryOp.{BinaryOp}
 use Rattle.syntax.specs.declared.tree.LogicalOp.{LogicalOp}
@@ -16,7 +15,11 @@ use Rattle.lower.specs.declared.held.Held.{Held}
 use Rattle.lowered.specs.Expressions.{arranged}
 use Rattle.lower.specs.inner.Lists.{Lists, used, holding}
 use Rattle.lower.specs.inner.Names.{Callee}
-use Rattle.lower.specs.inner.Expressions.{Emitted, AllEmitted, above, settled, chosen, called}
+use Rattle.lower.specs.declared.held.Tested.{Tested}
+use Rattle.lower.specs.declared.draft.Draft.{Draft}
+use Rattle.lower.specs.inner.Conditions.{Condition, test_in, going_on, first_of, joined}
+use Rattle.lower.specs.inner.Expressions.{Emitted, AllEmitted, above, answered, chosen, called}
+use Rattle.syntax.specs.Numbers.{common}
 
 -- a value, and instructions behind it
 pub tail_is : (A : Emitted) (T : Held → List Instr) (old ca : List Instr) (a : Held) → ca ≡ old ++ A.code → a ≡ A.held → ca ++ T a ≡ old ++ (A.code ++ T A.held)
@@ -35,71 +38,64 @@ tails_are A F T free old ca cb la a b later ec el ea ek eb eh =
     ∙ ap (λ x. x ++ T A.held B.held) (append_assoc old A.code B.code)
     ∙ append_assoc old (A.code ++ B.code) (T A.held B.held)
 
--- a value, an instruction, another value in a list of its own, and instructions
-pub jumped_over : (A : Emitted) (F : ℕ → Lists → Emitted) (J : Held → Held → Instr) (T : Held → List Instr) (old ca cb empty : List Instr) (la : Lists) (a b : Held) (next : ℕ) →
-    ca ≡ old ++ A.code → la ≡ A.lists → a ≡ A.held → next ≡ a.to + 1 → empty ≡ [] → cb ≡ empty ++ (F next la).code → b ≡ (F next la).held →
-    (ca ++ J a b ∷ cb) ++ T b ≡ old ++ ((A.code ++ J A.held (F (A.held.to + 1) A.lists).held ∷ (F (A.held.to + 1) A.lists).code) ++ T (F (A.held.to + 1) A.lists).held)
-jumped_over A F J T old ca cb empty la a b next ec el ea en e0 eb eh =
-    let B = F (A.held.to + 1) A.lists in
-    let same : F next la ≡ B = (λ j. F ((en ∙ ap (λ (h : Held). h.to + 1) ea) j) (el j)) in
-    let front : cb ≡ B.code = eb ∙ (λ j. e0 j ++ (same j).code) in
-    let held : b ≡ B.held = eh ∙ ap (λ (x : Emitted). x.held) same in
-    (λ j. (ec j ++ J (ea j) (held j) ∷ front j) ++ T (held j))
-    ∙ ap (λ x. x ++ T B.held) (append_assoc old A.code (J A.held B.held ∷ B.code))
-    ∙ append_assoc old (A.code ++ J A.held B.held ∷ B.code) (T B.held)
+-- what was done that gave this value behind other code
+pub record Gives (e : Emitted) (old new : List Instr) (l : Lists) (h : Held) : Type 0 where
+  pub code : new ≡ old ++ e.code
+  pub lists : l ≡ e.lists
+  pub held : h ≡ e.held
 
--- the same value, given by its parts
-pub parts_are : (E : Emitted) (code empty : List Instr) (l : Lists) (h : Held) → empty ≡ [] → code ≡ empty ++ E.code → l ≡ E.lists → h ≡ E.held → record { code = code; lists = l; held = h } ≡ E
-parts_are E code empty l h e0 ec el eh = λ j. record { code = (ec ∙ ap (λ x. x ++ E.code) e0) j; lists = el j; held = eh j }
+-- two conditions, one behind the other
+module _ (A : Condition) (F : ℕ → Lists → Condition) (op : LogicalOp) (old da : List Draft) (la : Lists) (next : ℕ) (ed : da ≡ old ++ first_of op A) (el : la ≡ A.lists) (en : next ≡ A.to + 1) where
+  second_is : F next la ≡ F (A.to + 1) A.lists
+  second_is = λ j. F (en j) (el j)
 
-abbrev pub held_at : ℕ → Scalar → ℕ → Held
-held_at r t k = record { register = r; of = t; to = k }
+  pub second_behind : da ++ (F next la).code ≡ old ++ (joined op A (F (A.to + 1) A.lists)).code
+  second_behind = (λ j. ed j ++ (second_is j).code) ∙ append_assoc old (first_of op A) (F (A.to + 1) A.lists).code
+
+  pub joined_code : (db : List Draft) → db ≡ da ++ (F next la).code → db ≡ old ++ (joined op A (F (A.to + 1) A.lists)).code
+  joined_code db e = e ∙ second_behind
+
+  pub joined_test : (t : Tested) → t ≡ test_in (F next la) → t ≡ test_in (F (A.to + 1) A.lists)
+  joined_test t e = e ∙ ap test_in second_is
+
+-- and the answers behind them
+pub logical_made : (A : Condition) (F : ℕ → Lists → Condition) (op : LogicalOp) (empty da db test : List Draft) (la : Lists) (next : ℕ) (t : Tested) → empty ≡ [] → da ≡ empty ++ first_of op A → la ≡ A.lists → next ≡ A.to + 1 →
+    db ≡ da ++ (F next la).code → test ≡ db → t ≡ test_in (F next la) → (old : List Instr) (into : ℕ) →
+    old ++ (going_on test t (t.to + 3) ++ own.Constant into 1 ∷ own.Jump (t.to + 4) ∷ own.Constant into 0 ∷ []) ≡ old ++ (answered (joined op A (F (A.to + 1) A.lists)) into).code
+logical_made A F op empty da db test la next t e0 ed el en eb es et old into =
+    let first : da ≡ first_of op A = ed ∙ ap (λ xs. xs ++ first_of op A) e0 in
+    let code = es ∙ joined_code A F op [] da la next first el en db eb in
+    let same = joined_test A F op [] da la next first el en t et in
+    λ j. old ++ (going_on (code j) (same j) ((same j).to + 3) ++ own.Constant into 1 ∷ own.Jump ((same j).to + 4) ∷ own.Constant into 0 ∷ [])
 
 -- a condition, and one of two values in one register
-module _ (C : Emitted) (G H : ℕ → Lists → Emitted) (into : ℕ) where
-  abbrev S1 : Emitted
-  S1 = settled into (G (C.held.to + 1) C.lists)
+module _ (C : Condition) (G H : ℕ → Lists → Emitted) (into : ℕ) (drafts : List Draft) (first second : List Instr) (lc la lb : Lists) (t : Tested) (a b : Held) (next other : ℕ)
+    (ed : drafts ≡ C.code) (el : lc ≡ C.lists) (et : t ≡ test_in C) (en : next ≡ t.to + 1) (made : Gives (G next lc) [] first la a) (eo : other ≡ a.to + 1) (made2 : Gives (H other la) [] second lb b) where
+  abbrev S : Emitted
+  S = G (C.to + 1) C.lists
 
-  abbrev S2 : Emitted
-  S2 = settled into (H (S1.held.to + 1) S1.lists)
+  abbrev T : Emitted
+  T = H (S.held.to + 1) S.lists
 
-  first_is : (lc : Lists) (c : Held) (next : ℕ) (X : Emitted) → lc ≡ C.lists → c ≡ C.held → next ≡ c.to + 1 → X ≡ G next lc → settled into X ≡ S1
-  first_is lc c next X el ec en ex = ap (λ x. settled into x) (ex ∙ (λ j. G ((en ∙ ap (λ (h : Held). h.to + 1) ec) j) (el j)))
+  one_is : G next lc ≡ S
+  one_is = λ j. G ((en ∙ ap (λ (k : Tested). k.to + 1) et) j) (el j)
 
-  second_is : (la : Lists) (a : Held) (other : ℕ) (X Y : Emitted) → X ≡ S1 → la ≡ X.lists → a ≡ X.held → other ≡ a.to + 1 → Y ≡ H other la → settled into Y ≡ S2
-  second_is la a other X Y es el ea eo ey =
-      let held : a ≡ S1.held = ea ∙ ap (λ (x : Emitted). x.held) es in
-      let lists : la ≡ S1.lists = el ∙ ap (λ (x : Emitted). x.lists) es in
-      ap (λ x. settled into x) (ey ∙ (λ j. H ((eo ∙ ap (λ (h : Held). h.to + 1) held) j) (lists j)))
+  held_is : a ≡ S.held
+  held_is = made.held ∙ ap (λ (e : Emitted). e.held) one_is
 
-  module _ (lc la : Lists) (c a : Held) (next other : ℕ) (X Y : Emitted)
-      (el : lc ≡ C.lists) (ec : c ≡ C.held) (en : next ≡ c.to + 1) (ex : X ≡ G next lc) (ela : la ≡ (settled into X).lists) (ea : a ≡ (settled into X).held) (eo : other ≡ a.to + 1) (ey : Y ≡ H other la) where
-    one_ : settled into X ≡ S1
-    one_ = first_is lc c next X el ec en ex
+  two_is : H other la ≡ T
+  two_is = λ j. H ((eo ∙ ap (λ (h : Held). h.to + 1) held_is) j) ((made.lists ∙ ap (λ (e : Emitted). e.lists) one_is) j)
 
-    two_ : settled into Y ≡ S2
-    two_ = second_is la a other (settled into X) Y one_ ela ea eo ey
-
-    pub chosen_code : (old cc first second : List Instr) (b : Held) → cc ≡ old ++ C.code → first ≡ (settled into X).code → second ≡ (settled into Y).code → b ≡ (settled into Y).held →
-        (cc ++ own.JumpZero c.register (a.to + 1) ∷ first) ++ own.Jump b.to ∷ second ≡ old ++ (chosen C (settled into (G (C.held.to + 1) C.lists)) (settled into (H ((settled into (G (C.held.to + 1) C.lists)).held.to + 1) (settled into (G (C.held.to + 1) C.lists)).lists)) into).code
-    chosen_code old cc first second b k kf ks kb =
-        let held : a ≡ S1.held = ea ∙ ap (λ (x : Emitted). x.held) one_ in
-        let code1 : first ≡ S1.code = kf ∙ ap (λ (x : Emitted). x.code) one_ in
-        let code2 : second ≡ S2.code = ks ∙ ap (λ (x : Emitted). x.code) two_ in
-        let end_ : b ≡ S2.held = kb ∙ ap (λ (x : Emitted). x.held) two_ in
-        (λ j. (k j ++ own.JumpZero (ec j).register ((held j).to + 1) ∷ code1 j) ++ own.Jump (end_ j).to ∷ code2 j)
-        ∙ ap (λ x. x ++ own.Jump S2.held.to ∷ S2.code) (append_assoc old C.code (own.JumpZero C.held.register (S1.held.to + 1) ∷ S1.code))
-        ∙ append_assoc old (C.code ++ own.JumpZero C.held.register (S1.held.to + 1) ∷ S1.code) (own.Jump S2.held.to ∷ S2.code)
-
-    pub chosen_lists : (lb : Lists) → lb ≡ (settled into Y).lists → lb ≡ (chosen C (settled into (G (C.held.to + 1) C.lists)) (settled into (H ((settled into (G (C.held.to + 1) C.lists)).held.to + 1) (settled into (G (C.held.to + 1) C.lists)).lists)) into).lists
-    chosen_lists lb e = e ∙ ap (λ (x : Emitted). x.lists) two_
-
-    pub chosen_held : (common : Scalar → Scalar → Scalar) (b : Held) → b ≡ (settled into Y).held → b.register ≡ into →
-        held_at b.register (common a.of b.of) b.to ≡ held_at into (common S1.held.of S2.held.of) S2.held.to
-    chosen_held common b kb kr =
-        let held : a ≡ S1.held = ea ∙ ap (λ (x : Emitted). x.held) one_ in
-        let end_ : b ≡ S2.held = kb ∙ ap (λ (x : Emitted). x.held) two_ in
-        (λ j. held_at (kr j) (common (held j).of (end_ j).of) (end_ j).to)
+  pub chosen_made : (old : List Instr) → b.register ≡ into → Gives (chosen C (G (C.to + 1) C.lists) (H ((G (C.to + 1) C.lists).held.to + 1) (G (C.to + 1) C.lists).lists) into) old (old ++ (going_on drafts t (a.to + 1) ++ first ++ own.Jump b.to ∷ second)) lb (record { register = b.register; of = common a.of b.of; to = b.to })
+  chosen_made old er =
+      let code1 : first ≡ S.code = made.code ∙ ap (λ (e : Emitted). e.code) one_is in
+      let code2 : second ≡ T.code = made2.code ∙ ap (λ (e : Emitted). e.code) two_is in
+      let end : b ≡ T.held = made2.held ∙ ap (λ (e : Emitted). e.held) two_is in
+      record {
+        code = λ j. old ++ (going_on (ed j) (et j) ((held_is j).to + 1) ++ code1 j ++ own.Jump (end j).to ∷ code2 j);
+        lists = made2.lists ∙ ap (λ (e : Emitted). e.lists) two_is;
+        held = λ j. record { register = er j; of = common (held_is j).of (end j).of; to = (end j).to };
+      }
 
 -- a call whose arguments are values
 module _ (f : Callee) (R : AllEmitted) (from into : ℕ) (L : Lists) (la : Lists) (empty rs shown : List ℕ) (el : la ≡ R.lists) (e0 : empty ≡ []) (er : rs ≡ empty ++ R.registers) (es : shown ≡ rs) where

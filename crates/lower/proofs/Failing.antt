@@ -1,5 +1,5 @@
 -- A failure of a part is one of the whole.
-use Rattle.std.proofs.Common.{◌≡◌, ℕ, ◌+◌, ◌≤◌, List, [], ◌∷◌, ◌++◌, length, Bool, true, false, if◌then◌else◌, ◌==◌, Option, Some, None, Result, Ok, Err, IfErr, IsErr, IsErrAnd, refl, sym, ap, subst, ◌∙◌, append_assoc, arith}
+use Rattle.std.proofs.Common.{◌≡◌, ℕ, suc, ◌+◌, ◌≤◌, List, [], ◌∷◌, ◌++◌, length, Bool, true, false, if◌then◌else◌, ◌==◌, Option, Some, None, Result, Ok, Err, IfErr, IsErr, IsErrAnd, refl, sym, ap, subst, ◌∙◌, append_assoc, arith}
 use Rattle.lex.specs.declared.token.Span.{Span}
 use Rattle.lex.specs.declared.token.Scalar.{Scalar}
 use Rattle.syntax.specs.declared.tree.Mode.{Mode}
@@ -27,18 +27,26 @@ use Rattle.lower.specs.declared.held.Exits.{Exits}
 use Rattle.lower.specs.inner.Limits.{NeedsMore}
 use Rattle.lower.specs.inner.Lists.{Lists, used, holding}
 use Rattle.lower.specs.inner.Names.{Callee}
-use Rattle.lower.specs.inner.Expressions.{Emitted, AllEmitted, above, both, computing, settled, called, emitted, all_emitted}
-use Rattle.lower.specs.inner.Conditions.{Condition, condition}
-use Rattle.lower.specs.inner.Tests.{test_in, aim_in}
-use Rattle.lower.specs.inner.Simples.{Written, Aimed, nothing_written, one_written, aimed, above_target, fetched, home_or, stored, value_or_one, assigned, adjusted, declarator_written, start_written}
+use Rattle.lower.specs.inner.Expressions.{Emitted, AllEmitted, above, both, computing, settled, called, emitted, condition, all_emitted}
+use Rattle.lower.specs.inner.Conditions.{Condition, test_in}
+use Rattle.lower.specs.inner.Aims.{aim_in}
+use Rattle.lower.specs.inner.Simples.{Written, Aimed, nothing_written, one_written, aimed, above_target, fetched, home_or, stored, value_or_one, assigned, adjusted, first_written, declarator_written, start_written}
 use Rattle.lower.specs.inner.Statements.{in_transaction, looping, print_written, tested_back, for_test, for_step, written, all_written}
-use Rattle.lower.proofs.Growing.{needs_more, used_more, holding_more, settled_more, emitted_more}
-use Rattle.lower.proofs.GrowingStmts.{condition_more, fetched_more, stored_same, one_more, pieces_same, first_more, test_more, step_more, written_more}
+use Rattle.lower.proofs.Growing.{needs_more, used_more, holding_more, settled_more, emitted_more, condition_more}
+use Rattle.lower.proofs.GrowingStmts.{fetched_more, stored_same, one_more, pieces_same, first_more, test_more, step_more, written_more}
 
 -- what a question mark hands on
 pub passed_on : {X Y : Type 0} (r : Result X Failure) (s : Result Y Failure) (f : Failure) (m n : ℕ) → IfErr r (λ why. NeedsMore why m) → r ≡ Err f → IsErr s × IsErrAnd s (λ y. y ≡ f) → m ≤ n → IfErr s (λ why. NeedsMore why n)
 passed_on r (Ok y) f m n h e g le = tt
 passed_on r (Err y) f m n h e g le = needs_more y m n le (subst (λ z. NeedsMore z m) (sym g.1) (subst (λ q. IfErr q (λ why. NeedsMore why m)) e h))
+
+module _ (p : Program) (scope : LocalScope) (from free : ℕ) (l : Lists) (e : Tree.Expr) where
+  pub joined_first : (op : LogicalOp) (a b : Tree.Expr) (at : Span) → e ≡ Tree.Logical op a b at → (condition p scope a from free l).lists.registers ≤ (condition p scope e from free l).lists.registers
+  joined_first op a b at is =
+      let first = condition p scope a from free l in
+      let y = condition_more p scope b (first.to + 1) free first.lists in
+      let w = ap (λ x. (condition p scope x from free l).lists.registers) is in
+      omega (arith, y, w)
 
 module _ (p : Program) (scope : LocalScope) (from into free : ℕ) (l : Lists) (e : Tree.Expr) where
   pub binary_first : (op : BinaryOp) (a b : Tree.Expr) (at : Span) → e ≡ Tree.Binary op a b at → (emitted p scope a from free free l).lists.registers ≤ (emitted p scope e from into free l).lists.registers
@@ -50,13 +58,18 @@ module _ (p : Program) (scope : LocalScope) (from into free : ℕ) (l : Lists) (
       let w = ap (λ x. (emitted p scope x from into free l).lists.registers) is in
       omega (arith, y, z, w)
 
-  pub logical_first : (op : LogicalOp) (a b : Tree.Expr) (at : Span) → e ≡ Tree.Logical op a b at → (emitted p scope a from free free l).lists.registers ≤ (emitted p scope e from into free l).lists.registers
-  logical_first op a b at is =
-      let left = emitted p scope a from free free l in
-      let y = emitted_more p scope b (left.held.to + 1) free free left.lists in
-      let z = used_more into (emitted p scope b (left.held.to + 1) free free left.lists).lists in
-      let w = ap (λ x. (emitted p scope x from into free l).lists.registers) is in
-      omega (arith, y, z, w)
+  module _ (op : LogicalOp) (a b : Tree.Expr) (at : Span) (is : e ≡ Tree.Logical op a b at) where
+    abbrev J : Condition
+    J = condition p scope a from free l
+
+    second_within : (condition p scope b (J.to + 1) free J.lists).lists.registers ≤ (emitted p scope e from into free l).lists.registers
+    second_within =
+        let z = used_more into (condition p scope b (J.to + 1) free J.lists).lists in
+        let w = ap (λ x. (emitted p scope x from into free l).lists.registers) is in
+        omega (arith, z, w)
+
+    pub logical_first : (condition p scope a from free l).lists.registers ≤ (emitted p scope e from into free l).lists.registers
+    logical_first = let y = condition_more p scope b (J.to + 1) free J.lists in let z = second_within in omega (arith, y, z)
 
   pub call_args : (f : Callee) (args : AllEmitted) → emitted p scope e from into free l ≡ called (Some f) args from into l → args.lists.registers ≤ (emitted p scope e from into free l).lists.registers
   call_args f args is =
@@ -67,74 +80,49 @@ module _ (p : Program) (scope : LocalScope) (from into free : ℕ) (l : Lists) (
       omega (arith, a, b, w)
 
   module _ (c a b : Tree.Expr) (at : Span) (is : e ≡ Tree.Conditional c a b at) where
-    abbrev C : Emitted
-    C = emitted p scope c from free free l
+    abbrev C : Condition
+    C = condition p scope c from free l
 
     abbrev G : ℕ → Lists → Emitted
-    G to m = emitted p scope a to into free m
+    G to m = settled into (emitted p scope a to into free m)
 
     abbrev H : ℕ → Lists → Emitted
-    H to m = emitted p scope b to into free m
+    H to m = settled into (emitted p scope b to into free m)
 
-    abbrev S1 : Emitted
-    S1 = settled into (G (C.held.to + 1) C.lists)
+    abbrev One : Emitted
+    One = G (C.to + 1) C.lists
 
-    abbrev S2 : Emitted
-    S2 = settled into (H (S1.held.to + 1) S1.lists)
-
-    whole_is : (emitted p scope e from into free l).lists.registers ≡ S2.lists.registers
+    whole_is : (emitted p scope e from into free l).lists.registers ≡ (H (One.held.to + 1) One.lists).lists.registers
     whole_is = ap (λ x. (emitted p scope x from into free l).lists.registers) is
 
-    second_more : S1.lists.registers ≤ S2.lists.registers
-    second_more = let x = emitted_more p scope b (S1.held.to + 1) into free S1.lists in let y = settled_more into (H (S1.held.to + 1) S1.lists) in omega (arith, x, y)
+    second_more : One.lists.registers ≤ (emitted p scope e from into free l).lists.registers
+    second_more =
+        let x = emitted_more p scope b (One.held.to + 1) into free One.lists in
+        let y = settled_more into (emitted p scope b (One.held.to + 1) into free One.lists) in
+        let z = whole_is in
+        omega (arith, x, y, z)
 
     pub conditional_first : C.lists.registers ≤ (emitted p scope e from into free l).lists.registers
     conditional_first =
-        let v = emitted_more p scope a (C.held.to + 1) into free C.lists in
-        let w = settled_more into (G (C.held.to + 1) C.lists) in
+        let v = emitted_more p scope a (C.to + 1) into free C.lists in
+        let w = settled_more into (emitted p scope a (C.to + 1) into free C.lists) in
         let x = second_more in
-        let z = whole_is in
-        omega (arith, v, w, x, z)
+        omega (arith, v, w, x)
 
-    module _ (lc : Lists) (h : Held) (next : ℕ) (el : lc ≡ C.lists) (eh : h ≡ C.held) (en : next ≡ h.to + 1) where
-      first_is : G next lc ≡ G (C.held.to + 1) C.lists
-      first_is = λ j. G ((en ∙ ap (λ (k : Held). k.to + 1) eh) j) (el j)
+    module _ (lc : Lists) (t : Tested) (next : ℕ) (el : lc ≡ C.lists) (et : t ≡ test_in C) (en : next ≡ t.to + 1) where
+      first_is : G next lc ≡ One
+      first_is = λ j. G ((en ∙ ap (λ (k : Tested). k.to + 1) et) j) (el j)
 
-      pub conditional_second : (emitted p scope a next into free lc).lists.registers ≤ (emitted p scope e from into free l).lists.registers
-      conditional_second =
-          let w = settled_more into (G (C.held.to + 1) C.lists) in
-          let x = second_more in
-          let y = ap (λ (u : Emitted). u.lists.registers) first_is in
+      pub conditional_second : (settled into (emitted p scope a next into free lc)).lists.registers ≤ (emitted p scope e from into free l).lists.registers
+      conditional_second = let x = second_more in let y = ap (λ (u : Emitted). u.lists.registers) first_is in omega (arith, x, y)
+
+      pub conditional_third : (la : Lists) (h : Held) (other : ℕ) → la ≡ (settled into (emitted p scope a next into free lc)).lists → h ≡ (settled into (emitted p scope a next into free lc)).held → other ≡ h.to + 1 →
+          (settled into (emitted p scope b other into free la)).lists.registers ≤ (emitted p scope e from into free l).lists.registers
+      conditional_third la h other ela eh eo =
+          let third_is : H other la ≡ H (One.held.to + 1) One.lists = (λ j. H ((eo ∙ ap (λ (u : Held). u.to + 1) (eh ∙ ap (λ (u : Emitted). u.held) first_is)) j) ((ela ∙ ap (λ (u : Emitted). u.lists) first_is) j)) in
+          let y = ap (λ (u : Emitted). u.lists.registers) third_is in
           let z = whole_is in
-          omega (arith, w, x, y, z)
-
-      module _ (X : Emitted) (ex : X ≡ emitted p scope a next into free lc) where
-        settled_is : settled into X ≡ S1
-        settled_is = ap (λ u. settled into u) (ex ∙ first_is)
-
-        pub conditional_settled : (settled into X).lists.registers ≤ (emitted p scope e from into free l).lists.registers
-        conditional_settled =
-            let x = second_more in
-            let y = ap (λ (u : Emitted). u.lists.registers) settled_is in
-            let z = whole_is in
-            omega (arith, x, y, z)
-
-        module _ (la : Lists) (k : Held) (other : ℕ) (ela : la ≡ (settled into X).lists) (ek : k ≡ (settled into X).held) (eo : other ≡ k.to + 1) where
-          third_is : H other la ≡ H (S1.held.to + 1) S1.lists
-          third_is = λ j. H ((eo ∙ ap (λ (u : Held). u.to + 1) (ek ∙ ap (λ (u : Emitted). u.held) settled_is)) j) ((ela ∙ ap (λ (u : Emitted). u.lists) settled_is) j)
-
-          pub conditional_third : (emitted p scope b other into free la).lists.registers ≤ (emitted p scope e from into free l).lists.registers
-          conditional_third =
-              let x = settled_more into (H (S1.held.to + 1) S1.lists) in
-              let y = ap (λ (u : Emitted). u.lists.registers) third_is in
-              let z = whole_is in
-              omega (arith, x, y, z)
-
-          pub conditional_last : (Y : Emitted) → Y ≡ emitted p scope b other into free la → (settled into Y).lists.registers ≤ (emitted p scope e from into free l).lists.registers
-          conditional_last Y ey =
-              let y = ap (λ (u : Emitted). (settled into u).lists.registers) (ey ∙ third_is) in
-              let z = whole_is in
-              omega (arith, y, z)
+          omega (arith, y, z)
 
 -- which lists stand there does not matter for what is stored
 stored_code : (t : Target) (a from : ℕ) (l m : Lists) → (stored t a from l).code ≡ (stored t a from m).code
@@ -146,6 +134,16 @@ stored_code (target.Local i t) a from l m = by (a == i)
 stored_code (target.Cell c t) a from l m = refl
 stored_code (target.Element i c n t) a from l m = refl
 stored_code target.Nowhere a from l m = refl
+
+stored_lists : (t : Target) (a from : ℕ) (l : Lists) → (stored t a from l).lists ≡ l
+stored_lists (target.Local i t) a from l = by (a == i)
+  where
+    by : (b : Bool) → (if b then nothing_written from l else one_written (own.Move i a) from l).lists ≡ l
+    by true = refl
+    by false = refl
+stored_lists (target.Cell c t) a from l = refl
+stored_lists (target.Element i c n t) a from l = refl
+stored_lists target.Nowhere a from l = refl
 
 module _ (p : Program) (scope : LocalScope) (lhs : Tree.Expr) (from free : ℕ) (l : Lists) where
   pub assigned_first : (e : Tree.Expr) → (aimed p scope true lhs from free l).lists.registers ≤ (assigned p scope lhs e from free l).lists.registers
@@ -228,6 +226,34 @@ module _ (p : Program) (scope : LocalScope) (lhs : Tree.Expr) (from free : ℕ) 
           let four : c4 ≡ (((first ++ T.code) ++ O.code) ++ V.code) ++ i ∷ [] = e4 ∙ (λ j. three j ++ computing op (operand_type op (held_is j).of (other_is j).of) (home_is j) (held_is j).register (other_is j).register ∷ []) in
           e5 ∙ (λ j. four j ++ tail_is j) ∙ simp append_assoc
 
+-- the first value of a local
+module _ (p : Program) (s : LocalScope) (i : ℕ) (t : Scalar) (e : Tree.Expr) (o : Option Tree.Expr) (from k : ℕ) (l : Lists) (is : o ≡ Some e) (ek : k ≡ suc i) where
+  abbrev Value : Emitted
+  Value = emitted p s e from i (suc i) l
+
+  value_is : emitted p s e from i k l ≡ Value
+  value_is = λ j. emitted p s e from i (ek j) l
+
+  pub value_fails : (emitted p s e from i k l).lists.registers ≤ (first_written p s i t o from l).lists.registers
+  value_fails =
+      let a = ap (λ (u : Emitted). u.lists.registers) value_is in
+      let b = stored_same (target.Local i t) Value.held.register Value.held.to Value.lists in
+      let c = ap (λ y. (first_written p s i t y from l).lists.registers) is in
+      omega (arith, a, b, c)
+
+  pub value_code : (old ce new : List Instr) (h : Held) → ce ≡ old ++ (emitted p s e from i k l).code → h ≡ (emitted p s e from i k l).held → ((m : Lists) → new ≡ ce ++ (stored (target.Local i t) h.register h.to m).code) → new ≡ old ++ (first_written p s i t o from l).code
+  value_code old ce new h ec eh en =
+      let held : h ≡ Value.held = eh ∙ ap (λ (u : Emitted). u.held) value_is in
+      en Value.lists
+      ∙ (λ j. (ec j) ++ (stored (target.Local i t) (held j).register (held j).to Value.lists).code)
+      ∙ ap (λ (u : Emitted). (old ++ u.code) ++ (stored (target.Local i t) Value.held.register Value.held.to Value.lists).code) value_is
+      ∙ append_assoc old Value.code (stored (target.Local i t) Value.held.register Value.held.to Value.lists).code
+      ∙ sym (ap (λ y. old ++ (first_written p s i t y from l).code) is)
+
+  pub value_lists : (m : Lists) → m ≡ (emitted p s e from i k l).lists → m ≡ (first_written p s i t o from l).lists
+  value_lists m em =
+      em ∙ ap (λ (u : Emitted). u.lists) value_is ∙ sym (stored_lists (target.Local i t) Value.held.register Value.held.to Value.lists) ∙ sym (ap (λ y. (first_written p s i t y from l).lists) is)
+
 module _ (p : Program) where
   pub declarator_first : (t : Scalar) (d : Tree.Declarator) (scope : LocalScope) (from i : ℕ) (l : Lists) → i ≡ length scope → (used i l).registers ≤ (declarator_written p t d scope from l).lists.registers
   declarator_first t d scope from i l e =
@@ -283,14 +309,27 @@ module _ (p : Program) (x : Exits) (s : LocalScope) (from : ℕ) (l : Lists) whe
         let e = ap (λ y. (written p (stmt_of y) x s from l).lists.registers) is in
         omega (arith, g, e, d)
 
-  pub while_body : (st : Tree.Stmt) (c : Tree.Expr) (a : Tree.Stmt) (exits : Exits) (pad start : ℕ) → st ≡ Tree.While c a → pad ≡ from + 1 → start ≡ from + 2 → exits ≡ looping x pad from → (written p a exits s start l).lists.registers ≤ (written p st x s from l).lists.registers
-  while_body st c a exits pad start is ep et ex =
-      let B = written p a (looping x (from + 1) from) s (from + 2) l in
-      let same : written p a exits s start l ≡ B = (λ j. written p a ((ex ∙ ap (λ k. looping x k from) ep) j) s (et j) l) in
-      let d = ap (λ (u : Written). u.lists.registers) same in
-      let g = condition_more p s c B.to (length s) B.lists in
-      let e = ap (λ y. (written p y x s from l).lists.registers) is in
-      omega (arith, g, e, d)
+  module _ (st : Tree.Stmt) (c : Tree.Expr) (a : Tree.Stmt) (exits : Exits) (pad start : ℕ) (is : st ≡ Tree.While c a) (ep : pad ≡ from + 1) (et : start ≡ from + 2) (ex : exits ≡ looping x pad from) where
+    abbrev Turn : Written
+    Turn = written p a (looping x (from + 1) from) s (from + 2) l
+
+    turn_is : written p a exits s start l ≡ Turn
+    turn_is = λ j. written p a ((ex ∙ ap (λ k. looping x k from) ep) j) s (et j) l
+
+    pub while_body : (written p a exits s start l).lists.registers ≤ (written p st x s from l).lists.registers
+    while_body =
+        let d = ap (λ (u : Written). u.lists.registers) turn_is in
+        let g = condition_more p s c Turn.to (length s) Turn.lists in
+        let e = ap (λ y. (written p y x s from l).lists.registers) is in
+        omega (arith, g, e, d)
+
+    pub while_test : (s1 : LocalScope) (m : Lists) (test_at : ℕ) → s1 ≡ s → m ≡ (written p a exits s start l).lists → test_at ≡ (written p a exits s start l).to →
+        (tested_back (condition p s1 c test_at (length s1) m) start).lists.registers ≤ (written p st x s from l).lists.registers
+    while_test s1 m test_at es em ea =
+        let same : condition p s1 c test_at (length s1) m ≡ condition p s c Turn.to (length s) Turn.lists = (λ j. condition p (es j) c ((ea ∙ ap (λ (u : Written). u.to) turn_is) j) (length (es j)) ((em ∙ ap (λ (u : Written). u.lists) turn_is) j)) in
+        let d = ap (λ (u : Condition). u.lists.registers) same in
+        let e = ap (λ y. (written p y x s from l).lists.registers) is in
+        omega (arith, e, d)
 
   module _ (st : Tree.Stmt) (c : Tree.Expr) (a : Tree.Stmt) (exits : Exits) (pad other start : ℕ) (is : st ≡ Tree.DoWhile a c) (ep : pad ≡ from + 1) (eo : other ≡ from + 2) (et : start ≡ from + 3) (ex : exits ≡ looping x pad other) where
     abbrev B : Written

@@ -17,7 +17,7 @@ use Rattle.lowered.specs.Programs.{parameter_locals}
 use Rattle.lower.specs.declared.fault.LowerFault.{LowerFault}
 use Rattle.lower.specs.declared.fault.LowerFault.TheVariants.{OutOfMemory, TooManyRegisters, TooMuchCode, NestedTooDeep}
 use Rattle.lower.specs.Nested.{nested_too_deep}
-use Rattle.lower.specs.Faults.{IsFaultOf, PassesWith, picked_for}
+use Rattle.lower.specs.Faults.{IsFaultOf, picked_for}
 use Rattle.lower.specs.inner.Lists.{Lists}
 use Rattle.lower.specs.inner.Parts.{IsOfDefinition, IsOfItem, IsOfCode}
 use Rattle.lower.specs.inner.Simples.{Written}

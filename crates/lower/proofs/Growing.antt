@@ -1,5 +1,6 @@
 -- What follows needs no fewer registers.
 use Rattle.std.proofs.Common.{ℕ, suc, ◌+◌, ◌≤◌, length, max, Option, Some, None, Bool, true, false, Result, Ok, Err, IfErr, if◌then◌else◌, ◌==◌, arith}
+use Rattle.std.specs.Option.{IfSome}
 use Rattle.lex.specs.declared.token.Scalar.{Scalar}
 use Rattle.syntax.specs.declared.tree.UnaryOp.TheVariants.{Negate, Keep, Not, Complement}
 use Rattle.syntax.specs.Tree.{Expr, Exprs, Variable, Constant, Element, Call, Parenthesized, Cast, Unary, Binary, Logical, Conditional, Program}
@@ -11,7 +12,8 @@ use Rattle.lower.specs.declared.fault.Failure.TheVariants as failure
 use Rattle.lower.specs.inner.Limits.{NeedsMore}
 use Rattle.lower.specs.inner.Lists.{Lists, used, holding}
 use Rattle.lower.specs.inner.Names.{Callee, callee_of}
-use Rattle.lower.specs.inner.Expressions.{Emitted, AllEmitted, above, then_one, settled, variable, element, called, emitted, all_emitted}
+use Rattle.lower.specs.inner.Conditions.{Condition, zero_test, zero_tested}
+use Rattle.lower.specs.inner.Expressions.{Emitted, AllEmitted, above, then_one, settled, variable, element, called, tested, emitted, own_condition, condition, all_emitted}
 
 pub needs_more : (e : Failure) (m n : ℕ) → m ≤ n → NeedsMore e m → NeedsMore e n
 needs_more failure.Registers m n h k = omega (arith, h, k)
@@ -55,7 +57,22 @@ settled_more r e = by (e.held.register == r)
     by true = omega arith
     by false = used_more r e.lists
 
+abbrev HasMore : Lists → Condition → Type 0
+HasMore l c = l.registers ≤ c.lists.registers
+
+tested_more : (l : Lists) (o : Option Condition) (e : Emitted) → IfSome o (HasMore l) → l.registers ≤ e.lists.registers → l.registers ≤ (tested o e).lists.registers
+tested_more l None e h k = k
+tested_more l (Some c) e h k = h
+
+zero_more : (o : Option Bool) (l : Lists) (other : Condition) → l.registers ≤ other.lists.registers → IfSome (zero_tested o other) (HasMore l)
+zero_more None l other h = tt
+zero_more (Some true) l other h = h
+zero_more (Some false) l other h = h
+
 module _ (p : Program) (scope : LocalScope) where
+  by_parts : (e : Expr) (from free : ℕ) (l : Lists) → IfSome (own_condition p scope e from free l) (HasMore l) → l.registers ≤ (emitted p scope e from free free l).lists.registers → l.registers ≤ (condition p scope e from free l).lists.registers
+  by_parts e from free l h k = tested_more l (own_condition p scope e from free l) (emitted p scope e from free free l) h k
+
   mutual
     pub emitted_more : (e : Expr) (from into free : ℕ) (l : Lists) → l.registers ≤ (emitted p scope e from into free l).lists.registers
     emitted_more (Variable x) from into free l = variable_more (newest scope x.text) (global_of p x.text) from into l
@@ -83,21 +100,41 @@ module _ (p : Program) (scope : LocalScope) where
         let z = used_more into (emitted p scope b left.held.to later later left.lists).lists in
         omega (arith, x, y, z)
     emitted_more (Logical op a b at) from into free l =
-        let left = emitted p scope a from free free l in
-        let x = emitted_more a from free free l in
-        let y = emitted_more b (left.held.to + 1) free free left.lists in
-        let z = used_more into (emitted p scope b (left.held.to + 1) free free left.lists).lists in
+        let first = condition p scope a from free l in
+        let second = condition p scope b (first.to + 1) free first.lists in
+        let x = by_parts a from free l (own_more a from free l) (emitted_more a from free free l) in
+        let y = by_parts b (first.to + 1) free first.lists (own_more b (first.to + 1) free first.lists) (emitted_more b (first.to + 1) free free first.lists) in
+        let z = used_more into second.lists in
         omega (arith, x, y, z)
     emitted_more (Conditional c a b at) from into free l =
-        let test = emitted p scope c from free free l in
-        let first = emitted p scope a (test.held.to + 1) into free test.lists in
+        let test = condition p scope c from free l in
+        let first = emitted p scope a (test.to + 1) into free test.lists in
         let second = emitted p scope b ((settled into first).held.to + 1) into free (settled into first).lists in
-        let u = emitted_more c from free free l in
-        let v = emitted_more a (test.held.to + 1) into free test.lists in
+        let u = by_parts c from free l (own_more c from free l) (emitted_more c from free free l) in
+        let v = emitted_more a (test.to + 1) into free test.lists in
         let w = settled_more into first in
         let x = emitted_more b ((settled into first).held.to + 1) into free (settled into first).lists in
         let y = settled_more into second in
         omega (arith, u, v, w, x, y)
+
+    own_more : (e : Expr) (from free : ℕ) (l : Lists) → IfSome (own_condition p scope e from free l) (HasMore l)
+    own_more (Variable x) from free l = tt
+    own_more (Constant n t at) from free l = tt
+    own_more (Element x i at) from free l = tt
+    own_more (Call f es at) from free l = tt
+    own_more (Parenthesized e at) from free l = by_parts e from free l (own_more e from free l) (emitted_more e from free free l)
+    own_more (Cast t e at) from free l = by_parts e from free l (own_more e from free l) (emitted_more e from free free l)
+    own_more (Unary Negate e at) from free l = tt
+    own_more (Unary Keep e at) from free l = by_parts e from free l (own_more e from free l) (emitted_more e from free free l)
+    own_more (Unary Not e at) from free l = by_parts e from free l (own_more e from free l) (emitted_more e from free free l)
+    own_more (Unary Complement e at) from free l = tt
+    own_more (Binary op a b at) from free l = zero_more (zero_test op b) l (condition p scope a from free l) (by_parts a from free l (own_more a from free l) (emitted_more a from free free l))
+    own_more (Logical op a b at) from free l =
+        let first = condition p scope a from free l in
+        let x = by_parts a from free l (own_more a from free l) (emitted_more a from free free l) in
+        let y = by_parts b (first.to + 1) free first.lists (own_more b (first.to + 1) free first.lists) (emitted_more b (first.to + 1) free free first.lists) in
+        omega (arith, x, y)
+    own_more (Conditional c a b at) from free l = tt
 
     pub all_more : (es : Exprs) (from free : ℕ) (l : Lists) → l.registers ≤ (all_emitted p scope es from free l).lists.registers
     all_more Exprs.[] from free l = omega arith
@@ -106,3 +143,6 @@ module _ (p : Program) (scope : LocalScope) where
         let a = emitted_more e from free free l in
         let b = all_more es first.held.to (above free first.held.register) first.lists in
         omega (arith, a, b)
+
+  pub condition_more : (e : Expr) (from free : ℕ) (l : Lists) → l.registers ≤ (condition p scope e from free l).lists.registers
+  condition_more e from free l = by_parts e from free l (own_more e from free l) (emitted_more e from free free l)

@@ -1,7 +1,6 @@
 -- What follows in a body needs no fewer registers.
 use Rattle.std.proofs.Common.{◌≡◌, ℕ, suc, ◌+◌, ◌≤◌, List, [], ◌∷◌, ◌++◌, length, Option, Some, None, Bool, true, false, if◌then◌else◌, ◌==◌, refl, arith}
 use Rattle.lex.specs.declared.token.Scalar.{Scalar}
-use Rattle.syntax.specs.declared.tree.UnaryOp.TheVariants.{Negate, Keep, Not, Complement}
 use Rattle.syntax.specs.declared.tree.BinaryOp.{BinaryOp}
 use Rattle.syntax.specs.Tree.{Expr, Variable, Constant, Element, Call, Parenthesized, Cast, Unary, Binary, Logical, Conditional, Simple, Evaluate, Assign, Adjust, Declarator, Start, Nothing, Declares, Does, Stmt, Stmts, Empty, Declare, Do, Block, Print, If, IfElse, While, DoWhile, For, Break, Continue, Return, Transaction, Cancel, Program}
 use Rattle.syntax.specs.Names.{newest, global_of, GlobalCells}
@@ -14,16 +13,10 @@ use Rattle.lower.specs.declared.held.Target.{Target}
 use Rattle.lower.specs.declared.held.Target.TheVariants as target
 use Rattle.lower.specs.declared.held.Exits.{Exits}
 use Rattle.lower.specs.inner.Lists.{Lists, used}
-use Rattle.lower.specs.inner.Expressions.{Emitted, above, both, emitted, all_emitted}
-use Rattle.lower.specs.inner.Conditions.{Condition, by_value, zero_test, zero_tested, condition}
+use Rattle.lower.specs.inner.Expressions.{Emitted, above, both, emitted, all_emitted, condition}
 use Rattle.lower.specs.inner.Simples.{nothing_written, one_written, variable_target, element_target, aimed, above_target, fetched, home_or, stored, value_or_one, assigned, adjusted, simple_written, first_written, declarator_written, declared_written, start_written}
 use Rattle.lower.specs.inner.Statements.{in_transaction, looping, pieces_written, for_test, for_step, written, all_written}
-use Rattle.lower.proofs.Growing.{used_more, emitted_more, all_more}
-
-tested_more : (o : Option Bool) (own other : Condition) (n : ℕ) → n ≤ own.lists.registers → n ≤ other.lists.registers → n ≤ (zero_tested o own other).lists.registers
-tested_more None own other n h k = h
-tested_more (Some true) own other n h k = k
-tested_more (Some false) own other n h k = k
+use Rattle.lower.proofs.Growing.{used_more, emitted_more, all_more, condition_more}
 
 pub target_more : (x : Option (ℕ × Scalar)) (g : Option GlobalCells) (from : ℕ) (l : Lists) → l.registers ≤ (variable_target x g from l).lists.registers
 target_more (Some x) g from l = used_more x.0 l
@@ -57,22 +50,6 @@ pieces_same (Figure t ∷ ps) [] from l = refl
 pieces_same (Figure t ∷ ps) (r ∷ rs) from l = pieces_same ps rs (from + 1) l
 
 module _ (p : Program) (scope : LocalScope) where
-  pub condition_more : (e : Expr) (from free : ℕ) (l : Lists) → l.registers ≤ (condition p scope e from free l).lists.registers
-  condition_more (Variable x) from free l = emitted_more p scope (Variable x) from free free l
-  condition_more (Constant n t at) from free l = emitted_more p scope (Constant n t at) from free free l
-  condition_more (Element x i at) from free l = emitted_more p scope (Element x i at) from free free l
-  condition_more (Call f es at) from free l = emitted_more p scope (Call f es at) from free free l
-  condition_more (Parenthesized e at) from free l = condition_more e from free l
-  condition_more (Cast t e at) from free l = condition_more e from free l
-  condition_more (Unary Negate e at) from free l = emitted_more p scope (Unary Negate e at) from free free l
-  condition_more (Unary Keep e at) from free l = condition_more e from free l
-  condition_more (Unary Not e at) from free l = condition_more e from free l
-  condition_more (Unary Complement e at) from free l = emitted_more p scope (Unary Complement e at) from free free l
-  condition_more (Binary op a b at) from free l =
-      tested_more (zero_test op b) (by_value (emitted p scope (Binary op a b at) from free free l)) (condition p scope a from free l) l.registers (emitted_more p scope (Binary op a b at) from free free l) (condition_more a from free l)
-  condition_more (Logical op a b at) from free l = emitted_more p scope (Logical op a b at) from free free l
-  condition_more (Conditional c a b at) from free l = emitted_more p scope (Conditional c a b at) from free free l
-
   pub aimed_more : (check : Bool) (e : Expr) (from free : ℕ) (l : Lists) → l.registers ≤ (aimed p scope check e from free l).lists.registers
   aimed_more check (Variable x) from free l = target_more (newest scope x.text) (global_of p x.text) from l
   aimed_more check (Constant n t at) from free l = omega arith

@@ -7,6 +7,7 @@ mod CellsFit
 mod Handed
 mod Rows
 mod Arms
+mod Drafted
 mod Declared
 -- formats, and statements by their parts
 mod Formatted

@@ -17,8 +17,9 @@ use Rattle.lowered.specs.Statements.{locals_of_start}
 use Rattle.lower.specs.declared.held.Tested.{Tested}
 use Rattle.lower.specs.declared.held.Exits.{Exits}
 use Rattle.lower.specs.inner.Lists.{Lists}
-use Rattle.lower.specs.inner.Conditions.{Condition, condition, jump_if_not}
-use Rattle.lower.specs.inner.Tests.{test_in}
+use Rattle.lower.specs.declared.draft.Draft.{Draft}
+use Rattle.lower.specs.inner.Conditions.{Condition, test_in, going_on}
+use Rattle.lower.specs.inner.Expressions.{condition}
 use Rattle.lower.specs.inner.Simples.{Written, start_written}
 use Rattle.lower.specs.inner.Statements.{tested_back, for_step, for_test, looping, in_transaction, written, all_written}
 
@@ -28,8 +29,8 @@ pub record Makes (w : Written) (old new : List Instr) (l : Lists) (to : ℕ) : T
   pub lists : l ≡ w.lists
   pub place : to ≡ w.to
 
-pub record Tests (c : Condition) (old new : List Instr) (l : Lists) (t : Tested) : Type 0 where
-  pub code : new ≡ old ++ c.code
+pub record Tests (c : Condition) (drafts : List Draft) (l : Lists) (t : Tested) : Type 0 where
+  pub code : drafts ≡ c.code
   pub lists : l ≡ c.lists
   pub tested : t ≡ test_in c
 
@@ -50,8 +51,8 @@ alone v w empty new l to e0 e m = record {
 
 module _ (p : Program) (x : Exits) (s : LocalScope) (from : ℕ) (l : Lists) (old new : List Instr) where
   -- a test and a branch, and two branches
-  module _ (c : Tree.Expr) (a : Tree.Stmt) (code first empty : List Instr) (l1 l2 : Lists) (t : Tested) (next to : ℕ)
-      (test : Tests (condition p s c from (length s) l) old code l1 t) (en : next ≡ t.to + 1) (e0 : empty ≡ []) (made : Makes (written p a x s next l1) empty first l2 to) where
+  module _ (c : Tree.Expr) (a : Tree.Stmt) (drafts : List Draft) (first empty : List Instr) (l1 l2 : Lists) (t : Tested) (next to : ℕ)
+      (test : Tests (condition p s c from (length s) l) drafts l1 t) (en : next ≡ t.to + 1) (e0 : empty ≡ []) (made : Makes (written p a x s next l1) empty first l2 to) where
     abbrev C : Condition
     C = condition p s c from (length s) l
 
@@ -61,29 +62,24 @@ module _ (p : Program) (x : Exits) (s : LocalScope) (from : ℕ) (l : Lists) (ol
     branch : Makes A [] first l2 to
     branch = alone (written p a x s next l1) A empty first l2 to e0 (λ j. written p a x s ((en ∙ ap (λ (u : Tested). u.to + 1) test.tested) j) (test.lists j)) made
 
-    pub if_made : new ≡ code ++ jump_if_not t.at_zero t.register to ∷ first → Makes (written p (Tree.If c a) x s from l) old new l2 to
+    pub if_made : new ≡ old ++ (going_on drafts t to ++ first) → Makes (written p (Tree.If c a) x s from l) old new l2 to
     if_made n =
         let m = branch in
-        let same : code ++ jump_if_not t.at_zero t.register to ∷ first ≡ (old ++ C.code) ++ jump_if_not C.at_zero C.register A.to ∷ A.code =
-        (λ j. test.code j ++ jump_if_not (test.tested j).at_zero (test.tested j).register (m.place j) ∷ m.code j) in
         record {
-          code = n ∙ same ∙ append_assoc old C.code (jump_if_not C.at_zero C.register A.to ∷ A.code);
+          code = n ∙ (λ j. old ++ (going_on (test.code j) (test.tested j) (m.place j) ++ m.code j));
           lists = m.lists;
           place = m.place;
         }
 
     pub if_else_made : (b : Tree.Stmt) (s1 : LocalScope) (second other_empty : List Instr) (l3 : Lists) (other_at behind : ℕ) → s1 ≡ s → other_at ≡ to + 1 → other_empty ≡ [] → Makes (written p b x s1 other_at l2) other_empty second l3 behind →
-        new ≡ code ++ jump_if_not t.at_zero t.register other_at ∷ first ++ own.Jump behind ∷ second → Makes (written p (Tree.IfElse c a b) x s from l) old new l3 behind
+        new ≡ old ++ (going_on drafts t other_at ++ first ++ own.Jump behind ∷ second) → Makes (written p (Tree.IfElse c a b) x s from l) old new l3 behind
     if_else_made b s1 second other_empty l3 other_at behind es eo e1 made2 n =
         let m = branch in
         let B = written p b x s (A.to + 1) A.lists in
         let place : other_at ≡ A.to + 1 = eo ∙ ap (λ (k : ℕ). k + 1) m.place in
         let k = alone (written p b x s1 other_at l2) B other_empty second l3 behind e1 (λ j. written p b x (es j) (place j) (m.lists j)) made2 in
-        let J = jump_if_not C.at_zero C.register (A.to + 1) in
-        let same : code ++ jump_if_not t.at_zero t.register other_at ∷ first ++ own.Jump behind ∷ second ≡ (old ++ C.code) ++ J ∷ A.code ++ own.Jump B.to ∷ B.code =
-        (λ j. test.code j ++ jump_if_not (test.tested j).at_zero (test.tested j).register (place j) ∷ m.code j ++ own.Jump (k.place j) ∷ k.code j) in
         record {
-          code = n ∙ same ∙ ap (λ y. y ++ own.Jump B.to ∷ B.code) (append_assoc old C.code (J ∷ A.code)) ∙ append_assoc old (C.code ++ J ∷ A.code) (own.Jump B.to ∷ B.code);
+          code = n ∙ (λ j. old ++ (going_on (test.code j) (test.tested j) (place j) ++ m.code j ++ own.Jump (k.place j) ∷ k.code j));
           lists = k.lists;
           place = k.place;
         }

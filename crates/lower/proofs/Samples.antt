@@ -78,23 +78,23 @@ second = lowered_code (Shares (a ∷ []) ∷ Defines f ∷ Defines (body countin
 
 of_f : List Instr
 of_f =
-    -- 0: n > 1
-    Instr.Constant 1 1 ∷ Instr.Compute Less Int 1 1 0 ∷ Instr.JumpZero 1 6 ∷ Instr.JumpZero 0 6 ∷ Instr.Constant 1 1 ∷ Instr.Jump 7 ∷ Instr.Constant 1 0
-    -- 7: the branch
-    ∷ Instr.JumpZero 1 10 ∷ Instr.Call 0 1 (0 ∷ []) ∷ Instr.Return (Some 1) ∷ Instr.Constant 1 0 ∷ Instr.Return (Some 1) ∷ Instr.Return None ∷ []
+    -- 0: n > 1, and then n
+    Instr.Constant 1 1 ∷ Instr.Compute Less Int 1 1 0 ∷ Instr.JumpZero 1 6 ∷ Instr.JumpZero 0 6
+    -- 4: the branch
+    ∷ Instr.Call 0 1 (0 ∷ []) ∷ Instr.Return (Some 1) ∷ Instr.Constant 1 0 ∷ Instr.Return (Some 1) ∷ Instr.Return None ∷ []
 
 of_worker : List Instr
 of_worker =
-    -- 13: i = 0, and then pads
-    Instr.Constant 1 0 ∷ Instr.Constant 1 0 ∷ Instr.Jump 32 ∷ Instr.Jump 35 ∷ Instr.Jump 30
-    -- 18: a[i] += f(i)
-    ∷ Instr.Begin 30 ∷ Instr.ReadAt 2 0 4 1 ∷ Instr.Call 0 3 (1 ∷ []) ∷ Instr.Compute Add Int 2 2 3 ∷ Instr.WriteAt 0 4 1 2
-    -- 23: the number, and a text
+    -- 9: i = 0, and then pads
+    Instr.Constant 1 0 ∷ Instr.Constant 1 0 ∷ Instr.Jump 28 ∷ Instr.Jump 31 ∷ Instr.Jump 26
+    -- 14: a[i] += f(i)
+    ∷ Instr.Begin 26 ∷ Instr.ReadAt 2 0 4 1 ∷ Instr.Call 0 3 (1 ∷ []) ∷ Instr.Compute Add Int 2 2 3 ∷ Instr.WriteAt 0 4 1 2
+    -- 19: the number, and a text
     ∷ Instr.Irrevocable ∷ Instr.ReadAt 2 0 4 1 ∷ Instr.PrintNumber Int 2 ∷ Instr.PrintText 0
-    -- 27: a break, and what stands behind it
-    ∷ Instr.Commit ∷ Instr.Jump 16 ∷ Instr.Commit
-    -- 30: i++, and i < 3
-    ∷ Instr.Constant 2 1 ∷ Instr.Compute Add Int 1 1 2 ∷ Instr.Constant 2 3 ∷ Instr.Compute Less Int 2 1 2 ∷ Instr.JumpNonzero 2 18 ∷ Instr.Return None ∷ []
+    -- 23: a break, and what stands behind it
+    ∷ Instr.Commit ∷ Instr.Jump 12 ∷ Instr.Commit
+    -- 26: i++, and i < 3
+    ∷ Instr.Constant 2 1 ∷ Instr.Compute Add Int 1 1 2 ∷ Instr.Constant 2 3 ∷ Instr.Compute Less Int 2 1 2 ∷ Instr.JumpNonzero 2 14 ∷ Instr.Return None ∷ []
 
 second_code : second.instructions ≡ of_f ++ of_worker
 unfolding of_f of_worker

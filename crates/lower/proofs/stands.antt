@@ -4,10 +4,10 @@ pub mod Standing
 pub mod Named
 -- the parts of an expression
 pub mod Emitting
--- whole expressions
-pub mod Exprs
--- conditions
+-- the parts of a condition
 pub mod Conds
+-- whole expressions and conditions
+pub mod Exprs
 -- targets and what goes to them
 pub mod Writing
 -- assignments and declarations

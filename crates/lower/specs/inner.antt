@@ -7,14 +7,14 @@ pub mod Views
 pub mod Lists
 -- what a failure says of them
 pub mod Limits
--- the instructions of expressions
-pub mod Expressions
--- of conditions
+-- the instructions of conditions
 pub mod Conditions
+-- of expressions
+pub mod Expressions
 -- of assignments and declarations
 pub mod Simples
--- what is known besides instructions
-pub mod Tests
+-- where an assignment goes
+pub mod Aims
 -- of statements
 pub mod Statements
 -- of formats, unit by unit

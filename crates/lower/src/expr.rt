@@ -1,4 +1,4 @@
-//! The instructions of expressions.
+//! The instructions of expressions and conditions.
 
 ghost use Rattle.std.specs.Prelude.{◌≡◌, [], ◌∷◌, ◌++◌, ◌+◌, ◌≤◌, length, map, pos, OnOk, IfOk, IfErr};
 ghost use Rattle.syntax.specs.Names as Source;
@@ -8,24 +8,29 @@ ghost use Rattle.bytecode.specs.declared.instr.Instr.TheVariants as instr;
 ghost use Rattle.lowered.specs.Expressions.{arranged, named_ones, nameless_ones};
 ghost use Rattle.lower.specs.inner.Limits.{NeedsMore};
 ghost use Rattle.lower.specs.inner.Lists.{lists_of, used, holding};
-ghost use Rattle.lower.specs.inner.Expressions.{constant, variable, emitted, all_emitted};
+ghost use Rattle.lower.specs.declared.draft.Draft.TheVariants as draft;
+ghost use Rattle.lower.specs.inner.Conditions as conditions;
+ghost use Rattle.lower.specs.inner.Conditions.{test_in, tested_by};
+ghost use Rattle.lower.specs.inner.Expressions.{constant, variable, settled, emitted, condition, all_emitted};
 ghost use Rattle.lower.specs.inner.Tables.{shared_in};
 ghost use Rattle.lower.specs.inner.Views.{program_in, scope_in};
 
+use crate::cond::{opposite, zero_test};
+use crate::draft::{Draft, keep, put_first, turn};
 use crate::fault::Failure;
-use crate::held::Held;
+use crate::held::{Held, Tested};
 use crate::lists::Lists;
 use crate::names::{Callee, Shared, called, cells_of, global};
 use crate::program::Names;
 use crate::put::{
-    above, after, put, put_both, put_chosen, put_compared, put_complemented, put_constant,
-    put_negated, put_tested, settle, take,
+    above, after, put, put_answers, put_both, put_chosen, put_compared, put_complemented,
+    put_constant, put_negated, settle, take,
 };
 use crate::scope::Scope;
 use bytecode::Instr;
 use lex::token::Scalar;
 use std::alloc::{AllocError, Allocator};
-use syntax::tree::{Expr, Parameter, UnaryOp};
+use syntax::tree::{Expr, LogicalOp, Parameter, UnaryOp};
 
 /// A constant of the program.
 fn put_number<A: Allocator>(
@@ -308,26 +313,17 @@ pub(crate) fn lower_expr<A: Allocator + Copy>(
             put_both(lists, code, *op, a, b, into)
         }
         Expr::Logical(op, left, right, _) => {
-            let a = lower_expr(names, scope, lists, code, left.get(), from, free, free)?;
-            let next = after(a.to, 1)?;
-            let mut second = Vec::new(names.alloc);
-            let b = lower_expr(
-                names,
-                scope,
-                lists,
-                &mut second,
-                right.get(),
-                next,
-                free,
-                free,
-            )?;
-            put_tested(lists, code, *op, a, second, b, into)
+            let mut test = Vec::new(names.alloc);
+            let next = lower_first(names, scope, lists, &mut test, *op, left.get(), from, free)?;
+            let t = lower_condition(names, scope, lists, &mut test, right.get(), next, free)?;
+            put_answers(lists, code, test.as_slice(), t, into)
         }
-        Expr::Conditional(test, left, right, _) => {
-            let c = lower_expr(names, scope, lists, code, test.get(), from, free, free)?;
-            let next = after(c.to, 1)?;
+        Expr::Conditional(c, left, right, _) => {
+            let mut test = Vec::new(names.alloc);
+            let t = lower_condition(names, scope, lists, &mut test, c.get(), from, free)?;
+            let next = after(t.to, 1)?;
             let mut first = Vec::new(names.alloc);
-            let a = lower_expr(
+            let a = lower_settled(
                 names,
                 scope,
                 lists,
@@ -337,10 +333,9 @@ pub(crate) fn lower_expr<A: Allocator + Copy>(
                 into,
                 free,
             )?;
-            let a = settle(lists, &mut first, a, into)?;
             let other = after(a.to, 1)?;
             let mut second = Vec::new(names.alloc);
-            let b = lower_expr(
+            let b = lower_settled(
                 names,
                 scope,
                 lists,
@@ -350,9 +345,145 @@ pub(crate) fn lower_expr<A: Allocator + Copy>(
                 into,
                 free,
             )?;
-            let b = settle(lists, &mut second, b, into)?;
-            put_chosen(code, c, first, a, second, b)
+            put_chosen(code, test.as_slice(), t, first, a, second, b)
         }
+    }
+}
+
+/// An expression's value in this very register.
+#[cycle(lower_expr)]
+fn lower_settled<A: Allocator + Copy>(
+    names: &Names<'_, A>,
+    scope: &Scope<'_, A>,
+    lists: &mut Lists<A>,
+    code: &mut Vec<Instr, A>,
+    e: &Expr<A>,
+    from: u32,
+    into: usize,
+    free: usize,
+) -> Result<Held, Failure>
+    requires { code.old.items ≡ [] }
+    ensures code { OnOk result (code.new.items ≡ (settled into (emitted (program_in names.now) (scope_in scope.now) (expr_of e.now) from into free (lists_of lists.old))).code) }
+    ensures lists { OnOk result (lists_of lists.new ≡ (settled into (emitted (program_in names.now) (scope_in scope.now) (expr_of e.now) from into free (lists_of lists.old))).lists) }
+    ensures held { IfOk result (λ held. held ≡ (settled into (emitted (program_in names.now) (scope_in scope.now) (expr_of e.now) from into free (lists_of lists.old))).held) }
+    ensures register { IfOk result (λ held. held.register ≡ into) }
+    ensures fails { IfErr result (λ why. NeedsMore why (settled into (emitted (program_in names.now) (scope_in scope.now) (expr_of e.now) from into free (lists_of lists.old))).lists.registers) }
+{
+    let held = lower_expr(names, scope, lists, code, e, from, into, free)?;
+    settle(lists, code, held, into)
+}
+
+/// A condition that is tested by its value.
+#[cycle(lower_expr)]
+fn lower_value<A: Allocator + Copy>(
+    names: &Names<'_, A>,
+    scope: &Scope<'_, A>,
+    lists: &mut Lists<A>,
+    drafts: &mut Vec<Draft, A>,
+    e: &Expr<A>,
+    from: u32,
+    free: usize,
+) -> Result<Tested, Failure>
+    ensures code { OnOk result (drafts.new.items ≡ drafts.old.items ++ map draft.Whole (emitted (program_in names.now) (scope_in scope.now) (expr_of e.now) from free free (lists_of lists.old)).code) }
+    ensures lists { OnOk result (lists_of lists.new ≡ (emitted (program_in names.now) (scope_in scope.now) (expr_of e.now) from free free (lists_of lists.old)).lists) }
+    ensures tested { IfOk result (λ t. t ≡ tested_by (emitted (program_in names.now) (scope_in scope.now) (expr_of e.now) from free free (lists_of lists.old)).held) }
+    ensures fails { IfErr result (λ why. NeedsMore why ((emitted (program_in names.now) (scope_in scope.now) (expr_of e.now) from free free (lists_of lists.old)).lists).registers) }
+{
+    let mut code = Vec::new(names.alloc);
+    let held = lower_expr(names, scope, lists, &mut code, e, from, free, free)?;
+    keep(drafts, code.as_slice())?;
+    Ok(Tested {
+        register: held.register,
+        at_zero: false,
+        to: held.to,
+    })
+}
+
+/// The opposite of a condition.
+#[cycle(lower_expr)]
+fn lower_opposite<A: Allocator + Copy>(
+    names: &Names<'_, A>,
+    scope: &Scope<'_, A>,
+    lists: &mut Lists<A>,
+    drafts: &mut Vec<Draft, A>,
+    e: &Expr<A>,
+    from: u32,
+    free: usize,
+) -> Result<Tested, Failure>
+    ensures code { OnOk result (drafts.new.items ≡ drafts.old.items ++ map conditions.turned (condition (program_in names.now) (scope_in scope.now) (expr_of e.now) from free (lists_of lists.old)).code) }
+    ensures lists { OnOk result (lists_of lists.new ≡ (condition (program_in names.now) (scope_in scope.now) (expr_of e.now) from free (lists_of lists.old)).lists) }
+    ensures tested { IfOk result (λ t. t ≡ test_in (conditions.opposite (condition (program_in names.now) (scope_in scope.now) (expr_of e.now) from free (lists_of lists.old)))) }
+    ensures fails { IfErr result (λ why. NeedsMore why ((condition (program_in names.now) (scope_in scope.now) (expr_of e.now) from free (lists_of lists.old)).lists).registers) }
+{
+    let mut first = Vec::new(names.alloc);
+    let t = lower_condition(names, scope, lists, &mut first, e, from, free)?;
+    turn(drafts, first.as_slice())?;
+    Ok(opposite(t))
+}
+
+/// The first condition of `&&` and `||` and its jump; the place behind.
+#[cycle(lower_expr)]
+fn lower_first<A: Allocator + Copy>(
+    names: &Names<'_, A>,
+    scope: &Scope<'_, A>,
+    lists: &mut Lists<A>,
+    drafts: &mut Vec<Draft, A>,
+    op: LogicalOp,
+    e: &Expr<A>,
+    from: u32,
+    free: usize,
+) -> Result<u32, Failure>
+    ensures code { OnOk result (drafts.new.items ≡ drafts.old.items ++ conditions.first_of op (condition (program_in names.now) (scope_in scope.now) (expr_of e.now) from free (lists_of lists.old))) }
+    ensures lists { OnOk result (lists_of lists.new ≡ (condition (program_in names.now) (scope_in scope.now) (expr_of e.now) from free (lists_of lists.old)).lists) }
+    ensures place { IfOk result (λ p. p ≡ (condition (program_in names.now) (scope_in scope.now) (expr_of e.now) from free (lists_of lists.old)).to + 1) }
+    ensures fails { IfErr result (λ why. NeedsMore why ((condition (program_in names.now) (scope_in scope.now) (expr_of e.now) from free (lists_of lists.old)).lists).registers) }
+{
+    let mut first = Vec::new(names.alloc);
+    let t = lower_condition(names, scope, lists, &mut first, e, from, free)?;
+    Ok(put_first(drafts, first.as_slice(), op, t)?)
+}
+
+/// A condition, up to the jump that it ends in.
+#[cycle(lower_expr)]
+pub(crate) fn lower_condition<A: Allocator + Copy>(
+    names: &Names<'_, A>,
+    scope: &Scope<'_, A>,
+    lists: &mut Lists<A>,
+    drafts: &mut Vec<Draft, A>,
+    e: &Expr<A>,
+    from: u32,
+    free: usize,
+) -> Result<Tested, Failure>
+    ensures code { OnOk result (drafts.new.items ≡ drafts.old.items ++ (condition (program_in names.now) (scope_in scope.now) (expr_of e.now) from free (lists_of lists.old)).code) }
+    ensures lists { OnOk result (lists_of lists.new ≡ (condition (program_in names.now) (scope_in scope.now) (expr_of e.now) from free (lists_of lists.old)).lists) }
+    ensures tested { IfOk result (λ t. t ≡ test_in (condition (program_in names.now) (scope_in scope.now) (expr_of e.now) from free (lists_of lists.old))) }
+    ensures fails { IfErr result (λ why. NeedsMore why ((condition (program_in names.now) (scope_in scope.now) (expr_of e.now) from free (lists_of lists.old)).lists).registers) }
+{
+    match e {
+        Expr::Parenthesized(e, _) => {
+            lower_condition(names, scope, lists, drafts, e.get(), from, free)
+        }
+        Expr::Cast(_, e, _) => lower_condition(names, scope, lists, drafts, e.get(), from, free),
+        Expr::Unary(op, a, _) => match op {
+            UnaryOp::Keep => lower_condition(names, scope, lists, drafts, a.get(), from, free),
+            UnaryOp::Not => lower_opposite(names, scope, lists, drafts, a.get(), from, free),
+            UnaryOp::Negate => lower_value(names, scope, lists, drafts, e, from, free),
+            UnaryOp::Complement => lower_value(names, scope, lists, drafts, e, from, free),
+        },
+        Expr::Binary(op, a, b, _) => match zero_test(*op, b.get()) {
+            Some(true) => lower_opposite(names, scope, lists, drafts, a.get(), from, free),
+            Some(false) => lower_condition(names, scope, lists, drafts, a.get(), from, free),
+            None => lower_value(names, scope, lists, drafts, e, from, free),
+        },
+        Expr::Logical(op, a, b, _) => {
+            let next = lower_first(names, scope, lists, drafts, *op, a.get(), from, free)?;
+            lower_condition(names, scope, lists, drafts, b.get(), next, free)
+        }
+        Expr::Variable(_) => lower_value(names, scope, lists, drafts, e, from, free),
+        Expr::Constant(_, _, _) => lower_value(names, scope, lists, drafts, e, from, free),
+        Expr::Element(_, _, _) => lower_value(names, scope, lists, drafts, e, from, free),
+        Expr::Call(_, _, _) => lower_value(names, scope, lists, drafts, e, from, free),
+        Expr::Conditional(_, _, _, _) => lower_value(names, scope, lists, drafts, e, from, free),
     }
 }
 

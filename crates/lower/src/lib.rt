@@ -3,6 +3,7 @@
 
 mod cond;
 mod deep;
+mod draft;
 mod expr;
 mod fault;
 mod function;

@@ -6,15 +6,17 @@ ghost use Rattle.syntax.specs.Numbers as numbers;
 ghost use Rattle.bytecode.specs.declared.instr.Instr.TheVariants as instr;
 ghost use Rattle.lower.specs.declared.lists.Lists as declared_lists;
 ghost use Rattle.lower.specs.inner.Lists.{lists_of, used, holding};
+ghost use Rattle.lower.specs.inner.Conditions as conditions;
 ghost use Rattle.lower.specs.inner.Expressions as expressions;
 
+use crate::draft::{Draft, put_test};
 use crate::fault::Failure;
-use crate::held::Held;
+use crate::held::{Held, Tested};
 use crate::lists::Lists;
 use bytecode::Instr;
 use lex::token::Scalar;
 use std::alloc::{AllocError, Allocator};
-use syntax::tree::{BinaryOp, LogicalOp};
+use syntax::tree::BinaryOp;
 
 /// The registers of a function have numbers below this one.
 const MOST_REGISTERS: usize = 65_535;
@@ -315,57 +317,26 @@ pub(crate) fn put_compared<A: Allocator>(
     })
 }
 
-fn short_jump(op: LogicalOp, a: u16, to: u32) -> Instr
-    ensures { result ≡ expressions.short_jump op a to }
-{
-    match op {
-        LogicalOp::AndThen => Instr::JumpZero(a, to),
-        LogicalOp::OrElse => Instr::JumpNonzero(a, to),
-    }
-}
-
-fn long_answer(op: LogicalOp) -> u32
-    ensures { result ≡ expressions.long_answer op }
-{
-    match op {
-        LogicalOp::AndThen => 1,
-        LogicalOp::OrElse => 0,
-    }
-}
-
-fn short_answer(op: LogicalOp) -> u32
-    ensures { result ≡ expressions.short_answer op }
-{
-    match op {
-        LogicalOp::AndThen => 0,
-        LogicalOp::OrElse => 1,
-    }
-}
-
-/// Behind a first value: its test, a second value and its test, and the answers.
-pub(crate) fn put_tested<A: Allocator>(
+/// A condition, and behind it the answers: 1 where it holds, and 0 where it does not.
+pub(crate) fn put_answers<A: Allocator>(
     lists: &mut Lists<A>,
     code: &mut Vec<Instr, A>,
-    op: LogicalOp,
-    a: Held,
-    second: Vec<Instr, A>,
-    b: Held,
+    test: &[Draft],
+    t: Tested,
     into: usize,
 ) -> Result<Held, Failure>
-    ensures code { OnOk result (code.new.items ≡ code.old.items ++ expressions.short_jump op a.register (b.to + 3) ∷ second.items ++ expressions.short_jump op b.register (b.to + 3) ∷ instr.Constant into (expressions.long_answer op) ∷ instr.Jump (b.to + 4) ∷ instr.Constant into (expressions.short_answer op) ∷ []) }
+    ensures code { OnOk result (code.new.items ≡ code.old.items ++ (conditions.going_on test.now t (t.to + 3) ++ instr.Constant into 1 ∷ instr.Jump (t.to + 4) ∷ instr.Constant into 0 ∷ [])) }
     ensures lists { OnOk result (lists_of lists.new ≡ used into (lists_of lists.old)) }
-    ensures held { IfOk result (λ held. held ≡ record { register = into; of = Scalar.Int; to = b.to + 4 }) }
+    ensures held { IfOk result (λ held. held ≡ record { register = into; of = Scalar.Int; to = t.to + 4 }) }
     ensures fails { IfErr result (λ why. NeedsMore why (used into (lists_of lists.old)).registers) }
 {
-    let other = after(b.to, 3)?;
-    let to = after(b.to, 4)?;
+    let unmet = after(t.to, 3)?;
+    let to = after(t.to, 4)?;
     let register = take(lists, into)?;
-    put(code, short_jump(op, a.register, other))?;
-    append(code, second)?;
-    put(code, short_jump(op, b.register, other))?;
-    put(code, Instr::Constant(register, long_answer(op)))?;
+    put_test(code, test, t, unmet)?;
+    put(code, Instr::Constant(register, 1))?;
     put(code, Instr::Jump(to))?;
-    put(code, Instr::Constant(register, short_answer(op)))?;
+    put(code, Instr::Constant(register, 0))?;
     Ok(Held {
         register,
         of: Scalar::Int,
@@ -373,21 +344,22 @@ pub(crate) fn put_tested<A: Allocator>(
     })
 }
 
-/// Behind a value that is tested: two values in one register.
+/// A condition, and behind it two values in one register.
 pub(crate) fn put_chosen<A: Allocator>(
     code: &mut Vec<Instr, A>,
-    test: Held,
+    test: &[Draft],
+    t: Tested,
     first: Vec<Instr, A>,
     a: Held,
     second: Vec<Instr, A>,
     b: Held,
 ) -> Result<Held, Failure>
-    ensures code { OnOk result (code.new.items ≡ code.old.items ++ instr.JumpZero test.register (a.to + 1) ∷ first.items ++ instr.Jump b.to ∷ second.items) }
+    ensures code { OnOk result (code.new.items ≡ code.old.items ++ (conditions.going_on test.now t (a.to + 1) ++ first.items ++ instr.Jump b.to ∷ second.items)) }
     ensures held { IfOk result (λ held. held ≡ record { register = b.register; of = numbers.common a.of b.of; to = b.to }) }
     ensures fails { IfErr result (λ why. NeedsMore why 0) }
 {
     let other = after(a.to, 1)?;
-    put(code, Instr::JumpZero(test.register, other))?;
+    put_test(code, test, t, other)?;
     append(code, first)?;
     put(code, Instr::Jump(b.to))?;
     append(code, second)?;

@@ -12,7 +12,7 @@ ghost use Rattle.lower.specs.inner.Lists.{lists_of, Lists as Plain};
 ghost use Rattle.lower.specs.inner.Simples as simples;
 ghost use Rattle.lower.specs.inner.Simples.{aimed, variable_target, fetched, stored, assigned, adjusted, simple_written, first_written, declarator_written, declared_written, start_written};
 ghost use Rattle.lower.specs.inner.Tables.{shared_in};
-ghost use Rattle.lower.specs.inner.Tests.{aim_in};
+ghost use Rattle.lower.specs.inner.Aims.{aim_in};
 ghost use Rattle.lower.specs.inner.Views.{program_in, scope_in};
 
 use crate::expr::{lower_expr, put_read_at};

@@ -9,17 +9,16 @@ ghost use Rattle.bytecode.specs.declared.instr.Instr.TheVariants as instr;
 ghost use Rattle.lowered.specs.Statements.{locals_after, locals_at_end};
 ghost use Rattle.lower.specs.inner.Limits.{NeedsMore};
 ghost use Rattle.lower.specs.inner.Lists.{lists_of};
-ghost use Rattle.lower.specs.inner.Expressions.{all_emitted};
+ghost use Rattle.lower.specs.inner.Expressions.{all_emitted, condition};
 ghost use Rattle.lower.specs.inner.Conditions as conditions;
-ghost use Rattle.lower.specs.inner.Conditions.{condition};
+ghost use Rattle.lower.specs.inner.Conditions.{test_in};
 ghost use Rattle.lower.specs.inner.Statements as statements;
 ghost use Rattle.lower.specs.inner.Simples.{simple_written};
 ghost use Rattle.lower.specs.inner.Statements.{print_written, tested_back, for_test, for_step, return_written, written, all_written};
-ghost use Rattle.lower.specs.inner.Tests.{test_in};
 ghost use Rattle.lower.specs.inner.Views.{program_in, scope_in};
 
-use crate::cond::{jump_if, jump_if_not, lower_condition};
-use crate::expr::{lower_all, lower_expr};
+use crate::draft::{Draft, put_back, put_test};
+use crate::expr::{lower_all, lower_condition, lower_expr};
 use crate::fault::Failure;
 use crate::held::{Exits, Tested};
 use crate::lists::Lists;
@@ -82,26 +81,17 @@ fn lower_head<A: Allocator + Copy>(
     names: &Names<'_, A>,
     scope: &Scope<'_, A>,
     lists: &mut Lists<A>,
-    code: &mut Vec<Instr, A>,
+    drafts: &mut Vec<Draft, A>,
     c: &Expr<A>,
     from: u32,
 ) -> Result<Tested, Failure>
-    ensures code { OnOk result (code.new.items ≡ code.old.items ++ (condition (program_in names.now) (scope_in scope.now) (expr_of c.now) from (length (scope_in scope.now)) (lists_of lists.old)).code) }
+    ensures code { OnOk result (drafts.new.items ≡ drafts.old.items ++ (condition (program_in names.now) (scope_in scope.now) (expr_of c.now) from (length (scope_in scope.now)) (lists_of lists.old)).code) }
     ensures lists { OnOk result (lists_of lists.new ≡ (condition (program_in names.now) (scope_in scope.now) (expr_of c.now) from (length (scope_in scope.now)) (lists_of lists.old)).lists) }
     ensures tested { IfOk result (λ t. t ≡ test_in (condition (program_in names.now) (scope_in scope.now) (expr_of c.now) from (length (scope_in scope.now)) (lists_of lists.old))) }
     ensures fails { IfErr result (λ why. NeedsMore why ((condition (program_in names.now) (scope_in scope.now) (expr_of c.now) from (length (scope_in scope.now)) (lists_of lists.old)).lists).registers) }
 {
     let free = scope.len();
-    lower_condition(names, scope, lists, code, c, from, free)
-}
-
-/// A jump back where a condition holds; the place behind.
-fn put_back<A: Allocator>(code: &mut Vec<Instr, A>, t: Tested, back: u32) -> Result<u32, AllocError>
-    ensures code { OnOk result (code.new.items ≡ code.old.items ++ conditions.jump_if t.at_zero t.register back ∷ []) }
-    ensures place { IfOk result (λ p. p ≡ t.to + 1) }
-{
-    put(code, jump_if(t.at_zero, t.register, back))?;
-    after(t.to, 1)
+    lower_condition(names, scope, lists, drafts, c, from, free)
 }
 
 /// A condition, and a jump back where it holds.
@@ -119,8 +109,9 @@ fn lower_back<A: Allocator + Copy>(
     ensures place { IfOk result (λ p. p ≡ (tested_back (condition (program_in names.now) (scope_in scope.now) (expr_of c.now) from (length (scope_in scope.now)) (lists_of lists.old)) back).to) }
     ensures fails { IfErr result (λ why. NeedsMore why ((tested_back (condition (program_in names.now) (scope_in scope.now) (expr_of c.now) from (length (scope_in scope.now)) (lists_of lists.old)) back).lists).registers) }
 {
-    let t = lower_head(names, scope, lists, code, c, from)?;
-    Ok(put_back(code, t, back)?)
+    let mut drafts = Vec::new(names.alloc);
+    let t = lower_head(names, scope, lists, &mut drafts, c, from)?;
+    Ok(put_back(code, drafts.as_slice(), t, back)?)
 }
 
 /// An assignment or an expression behind the locals.
@@ -185,31 +176,33 @@ fn lower_step<A: Allocator + Copy>(
     }
 }
 
-/// A jump over a branch where its condition does not hold, and the branch.
+/// A condition, and a branch that is taken where it holds.
 fn put_branch<A: Allocator>(
     code: &mut Vec<Instr, A>,
+    test: Vec<Draft, A>,
     t: Tested,
     branch: Vec<Instr, A>,
     to: u32,
 ) -> Result<(), AllocError>
-    ensures { OnOk result (code.new.items ≡ code.old.items ++ conditions.jump_if_not t.at_zero t.register to ∷ branch.items) }
+    ensures { OnOk result (code.new.items ≡ code.old.items ++ (conditions.going_on test.items t to ++ branch.items)) }
 {
-    put(code, jump_if_not(t.at_zero, t.register, to))?;
+    put_test(code, test.as_slice(), t, to)?;
     append(code, branch)
 }
 
-/// A branch, and a jump over the other one, which begins at `other_at`.
+/// And a jump over the other branch, which begins at `other_at`.
 fn put_branches<A: Allocator>(
     code: &mut Vec<Instr, A>,
+    test: Vec<Draft, A>,
     t: Tested,
     first: Vec<Instr, A>,
     other_at: u32,
     second: Vec<Instr, A>,
     to: u32,
 ) -> Result<(), AllocError>
-    ensures { OnOk result (code.new.items ≡ code.old.items ++ conditions.jump_if_not t.at_zero t.register other_at ∷ first.items ++ instr.Jump to ∷ second.items) }
+    ensures { OnOk result (code.new.items ≡ code.old.items ++ (conditions.going_on test.items t other_at ++ first.items ++ instr.Jump to ∷ second.items)) }
 {
-    put_branch(code, t, first, other_at)?;
+    put_branch(code, test, t, first, other_at)?;
     put(code, Instr::Jump(to))?;
     append(code, second)
 }
@@ -354,13 +347,14 @@ pub(crate) fn lower_stmt<'p, A: Allocator + Copy>(
             )
         }
         Stmt::If(c, then, other) => {
-            let t = lower_head(names, scope, lists, code, c, from)?;
+            let mut test = Vec::new(names.alloc);
+            let t = lower_head(names, scope, lists, &mut test, c, from)?;
             let next = after(t.to, 1)?;
             let mut first = Vec::new(names.alloc);
             let last = lower_scoped(names, scope, lists, &mut first, then.get(), exits, next)?;
             match other {
                 None => {
-                    put_branch(code, t, first, last)?;
+                    put_branch(code, test, t, first, last)?;
                     Ok(last)
                 }
                 Some(other) => {
@@ -375,7 +369,7 @@ pub(crate) fn lower_stmt<'p, A: Allocator + Copy>(
                         exits,
                         other_at,
                     )?;
-                    put_branches(code, t, first, other_at, second, to)?;
+                    put_branches(code, test, t, first, other_at, second, to)?;
                     Ok(to)
                 }
             }

@@ -4,18 +4,18 @@ use crate::accepted::listed;
 use std::test::Fail;
 
 /// Programs and the listings of their codes.
-pub const LISTED: [(&str, &str); 10] = [
+pub const LISTED: [(&str, &str); 11] = [
     (
         "int x; void worker(int self) { __transaction_atomic { x = x + 1; } }",
         "function worker registers 3\n0 begin >6\n1 rd r1 @0\n2 const r2 #1\n3 add.s r1 r1 r2\n4 wr @0 r1\n5 commit\n6 ret\n",
     ),
     (
         "int a[4]; int f(int n) { if (n > 1 && n) return f(n); return 0; } void worker(int self) { for (int i = 0; i < 3; i++) __transaction_relaxed { a[i] += f(i); printf(\"%d!\", a[i]); break; } }",
-        "function f registers 2\n0 const r1 #1\n1 lt.s r1 r1 r0\n2 jz r1 >6\n3 jz r0 >6\n4 const r1 #1\n5 jump >7\n6 const r1 #0\n7 jz r1 >10\n8 call f r1 r0\n9 ret r1\n10 const r1 #0\n11 ret r1\n12 ret\nfunction worker registers 4\n13 const r1 #0\n14 const r1 #0\n15 jump >32\n16 jump >35\n17 jump >30\n18 begin >30\n19 rdx r2 @0 #4 r1\n20 call f r3 r1\n21 add.s r2 r2 r3\n22 wrx @0 #4 r1 r2\n23 irrevocable\n24 rdx r2 @0 #4 r1\n25 print.s r2\n26 print.t #0\n27 commit\n28 jump >16\n29 commit\n30 const r2 #1\n31 add.s r1 r1 r2\n32 const r2 #3\n33 lt.s r2 r1 r2\n34 jnz r2 >18\n35 ret\ntext 0 \"!\"\n",
+        "function f registers 2\n0 const r1 #1\n1 lt.s r1 r1 r0\n2 jz r1 >6\n3 jz r0 >6\n4 call f r1 r0\n5 ret r1\n6 const r1 #0\n7 ret r1\n8 ret\nfunction worker registers 4\n9 const r1 #0\n10 const r1 #0\n11 jump >28\n12 jump >31\n13 jump >26\n14 begin >26\n15 rdx r2 @0 #4 r1\n16 call f r3 r1\n17 add.s r2 r2 r3\n18 wrx @0 #4 r1 r2\n19 irrevocable\n20 rdx r2 @0 #4 r1\n21 print.s r2\n22 print.t #0\n23 commit\n24 jump >12\n25 commit\n26 const r2 #1\n27 add.s r1 r1 r2\n28 const r2 #3\n29 lt.s r2 r1 r2\n30 jnz r2 >14\n31 ret\ntext 0 \"!\"\n",
     ),
     (
         "void worker(int self) { int v = 7; while (!(v != 0)) v = v * 2 - (v ? 1 : self); do { v -= 3; if (v == 4) continue; } while (v > 0 || self == v); return; }",
-        "function worker registers 4\n0 const r1 #0\n1 const r1 #7\n2 jump >11\n3 jump >12\n4 const r2 #2\n5 mul.s r2 r1 r2\n6 jz r1 >9\n7 const r3 #1\n8 jump >10\n9 move r3 r0\n10 sub.s r1 r2 r3\n11 jz r1 >4\n12 jump >15\n13 jump >30\n14 jump >21\n15 const r2 #3\n16 sub.s r1 r1 r2\n17 const r2 #4\n18 eq r2 r1 r2\n19 jz r2 >21\n20 jump >14\n21 const r2 #0\n22 lt.s r2 r2 r1\n23 jnz r2 >28\n24 eq r2 r0 r1\n25 jnz r2 >28\n26 const r2 #0\n27 jump >29\n28 const r2 #1\n29 jnz r2 >15\n30 ret\n31 ret\n",
+        "function worker registers 4\n0 const r1 #0\n1 const r1 #7\n2 jump >11\n3 jump >12\n4 const r2 #2\n5 mul.s r2 r1 r2\n6 jz r1 >9\n7 const r3 #1\n8 jump >10\n9 move r3 r0\n10 sub.s r1 r2 r3\n11 jz r1 >4\n12 jump >15\n13 jump >26\n14 jump >21\n15 const r2 #3\n16 sub.s r1 r1 r2\n17 const r2 #4\n18 eq r2 r1 r2\n19 jz r2 >21\n20 jump >14\n21 const r2 #0\n22 lt.s r2 r2 r1\n23 jnz r2 >15\n24 eq r2 r0 r1\n25 jnz r2 >15\n26 ret\n27 ret\n",
     ),
     (
         "unsigned u[3], w; void worker(int self) { __transaction_atomic { u[self] = -5 >> w; __transaction_atomic { w = ~u[1] % 7u; if (w) __transaction_cancel; } } }",
@@ -43,7 +43,11 @@ pub const LISTED: [(&str, &str); 10] = [
     ),
     (
         "void worker(int self) { int a, b = 2, c; { int a = b; b = a; } c = a < b && (b < c || !c); c = -c + +a - ~b; }",
-        "function worker registers 6\n0 const r1 #0\n1 const r2 #0\n2 const r2 #2\n3 const r3 #0\n4 const r4 #0\n5 move r4 r2\n6 move r2 r4\n7 lt.s r4 r1 r2\n8 jz r4 >20\n9 lt.s r4 r2 r3\n10 jnz r4 >16\n11 const r4 #0\n12 eq r4 r3 r4\n13 jnz r4 >16\n14 const r4 #0\n15 jump >17\n16 const r4 #1\n17 jz r4 >20\n18 const r3 #1\n19 jump >21\n20 const r3 #0\n21 neg.s r4 r3\n22 add.s r4 r4 r1\n23 not r5 r2\n24 sub.s r3 r4 r5\n25 ret\n",
+        "function worker registers 6\n0 const r1 #0\n1 const r2 #0\n2 const r2 #2\n3 const r3 #0\n4 const r4 #0\n5 move r4 r2\n6 move r2 r4\n7 lt.s r4 r1 r2\n8 jz r4 >14\n9 lt.s r4 r2 r3\n10 jnz r4 >12\n11 jnz r3 >14\n12 const r3 #1\n13 jump >15\n14 const r3 #0\n15 neg.s r4 r3\n16 add.s r4 r4 r1\n17 not r5 r2\n18 sub.s r3 r4 r5\n19 ret\n",
+    ),
+    (
+        "void worker(int self) { int a = self & 4, b = 0; while (!(a && b) && (a || self)) { if ((a || b) == 0) a = 1; else b = a && self ? 2 : 3; } }",
+        "function worker registers 3\n0 const r1 #0\n1 const r2 #4\n2 and r1 r0 r2\n3 const r2 #0\n4 const r2 #0\n5 jump >16\n6 jump >20\n7 jnz r1 >11\n8 jnz r2 >11\n9 const r1 #1\n10 jump >16\n11 jz r1 >15\n12 jz r0 >15\n13 const r2 #2\n14 jump >16\n15 const r2 #3\n16 jz r1 >18\n17 jnz r2 >20\n18 jnz r1 >7\n19 jnz r0 >7\n20 ret\n",
     ),
 ];
 

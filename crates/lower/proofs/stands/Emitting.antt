@@ -7,17 +7,16 @@ use Rattle.lex.specs.declared.token.Scalar.{Scalar}
 use Rattle.lex.specs.declared.token.Scalar.TheVariants.{Int, Unsigned}
 use Rattle.syntax.specs.declared.tree.BinaryOp.{BinaryOp}
 use Rattle.syntax.specs.declared.tree.BinaryOp.TheVariants.{Or, Xor, And, Equal, NotEqual, Less, Greater, LessEqual, GreaterEqual, ShiftLeft, ShiftRight, Add, Subtract, Multiply, Divide, Remainder}
-use Rattle.syntax.specs.declared.tree.LogicalOp.TheVariants.{AndThen, OrElse}
-use Rattle.syntax.specs.Numbers.{common, operand_type, result_type}
+use Rattle.syntax.specs.Numbers.{operand_type, result_type}
 use Rattle.syntax.specs.Names.{GlobalCells, cells}
 use Rattle.bytecode.specs.declared.instr.Instr.{Instr}
 use Rattle.bytecode.specs.declared.instr.Instr.TheVariants as own
 use Rattle.bytecode.specs.Code.{Code, Instr as Plain}
 use Rattle.bytecode.specs.Views.{instr_of}
 use Rattle.lowered.specs.Expressions as Lowered
-use Rattle.lowered.specs.Expressions.{Coded, Branching, At, LeadsTo, MayTake, GivenBy, LocalIs, VariableCode, ElementCode, CastCode, UnaryCode, NotCode, BinaryCode, ValueTested, Branches, BothHold, EitherHolds, TruthCode, MovedCode, BranchCode, ConditionalCode}
+use Rattle.lowered.specs.Expressions.{Coded, MayTake, GivenBy, LocalIs, VariableCode, ElementCode, CastCode, UnaryCode, NotCode, BinaryCode, MovedCode, BranchCode}
 use Rattle.lower.specs.inner.Lists.{Lists, used}
-use Rattle.lower.specs.inner.Expressions.{computing, negating, Emitted, above, one, then_one, in_local, converted_to, negated, complemented, compared, both, tested, settled, chosen}
+use Rattle.lower.specs.inner.Expressions.{computing, negating, Emitted, above, one, then_one, in_local, converted_to, negated, complemented, compared, both, settled}
 use Rattle.lower.proofs.stands.Standing.{Stand, front, behind, Grows, grows_same, grows_further, grows_used, max_left, max_right, Fits, fits_before, is_register, given}
 
 -- operators have the instructions of the relation
@@ -183,113 +182,6 @@ module _ (code : Code) (arguments : List ℕ) (size : ℕ) where
             };
       }
 
-  -- two tests and two answers
-  module _ (home : Option ℕ) (A B : Coded) (C D : Branching) (from free into : ℕ) (l : Lists) (a b : Emitted) (h : Emits A from free l a) (g : Emits B (a.held.to + 1) free a.lists b) (m : MayTake home free into) where
-    module _ (jump back to_long skip to_short : Instr) where
-      abbrev tail : List Instr
-      tail = back ∷ to_long ∷ skip ∷ to_short ∷ []
-
-      abbrev all : List Instr
-      all = a.code ++ jump ∷ b.code ++ back ∷ to_long ∷ skip ∷ to_short ∷ []
-
-      record Apart : Type 0 where
-        left : A from a.held.to free a.held.register a.held.of
-        jumps : At code a.held.to (instr_of arguments jump)
-        right : B (a.held.to + 1) b.held.to free b.held.register b.held.of
-        again : At code b.held.to (instr_of arguments back)
-        long : At code (b.held.to + 1) (instr_of arguments to_long)
-        skips : At code (b.held.to + 2) (instr_of arguments skip)
-        short : At code (b.held.to + 3) (instr_of arguments to_short)
-        register : into < size
-
-      last_is : b.held.to ≡ from + length (a.code ++ jump ∷ b.code)
-      last_is = let x = h.to_is in let y = g.to_is in let z : length (a.code ++ jump ∷ b.code) ≡ length a.code + length (jump ∷ b.code) = length-append a.code (jump ∷ b.code) in omega (arith, x, y, z)
-
-      tested_to_is : b.held.to + 4 ≡ from + length all
-      tested_to_is = let u : length all ≡ length (a.code ++ jump ∷ b.code) + 4 = length-append (a.code ++ jump ∷ b.code) tail in omega (arith, last_is, u)
-
-      at : (n q : ℕ) (i : Instr) → n ≡ q → At code n (instr_of arguments i) → At code q (instr_of arguments i)
-      at n q i e x = subst (λ k. At code k (instr_of arguments i)) e x
-
-      take_apart : Fits code arguments size (used into b.lists) → Stand code arguments from all → Apart
-      take_apart f st =
-          let first = front code arguments from (a.code ++ jump ∷ b.code) tail st in
-          let rest = behind code arguments from b.held.to (a.code ++ jump ∷ b.code) tail last_is st in
-          let middle = behind code arguments from a.held.to a.code (jump ∷ b.code) h.to_is first in
-          let inner = fits_before code arguments size b.lists (used into b.lists) (grows_used b.lists b.lists into (grows_same b.lists)) f in
-          record {
-            left = h.stands (fits_before code arguments size a.lists b.lists g.grows inner) (front code arguments from a.code (jump ∷ b.code) first);
-            jumps = middle.0;
-            right = g.stands inner (subst (λ q. Stand code arguments q b.code) (omega arith) middle.1);
-            again = rest.0;
-            long = at (suc b.held.to) (b.held.to + 1) to_long (omega arith) rest.1.0;
-            skips = at (suc (suc b.held.to)) (b.held.to + 2) skip (omega arith) rest.1.1.0;
-            short = at (suc (suc (suc b.held.to))) (b.held.to + 3) to_short (omega arith) rest.1.1.1.0;
-            register = is_register code arguments size b.lists into f;
-          }
-
-    abbrev Tests_a : Branching
-    Tests_a = Branches code size A C
-
-    abbrev Tests_b : Branching
-    Tests_b = Branches code size B D
-
-    pub and_emits : Emits (TruthCode code size home (BothHold code size Tests_a Tests_b)) from free l (tested AndThen a b into)
-    and_emits =
-        let other : ℕ = b.held.to + 3 in
-        let jump : Instr = own.JumpZero a.held.register other in
-        let back : Instr = own.JumpZero b.held.register other in
-        let long : Instr = own.Constant into 1 in
-        let skip : Instr = own.Jump (b.held.to + 4) in
-        let short : Instr = own.Constant into 0 in
-        record {
-          to_is = tested_to_is jump back long skip short;
-          grows = grows_used l b.lists into (grows_further l a.lists b.lists h.grows g.grows);
-          stands = λ f st.
-              let s = take_apart jump back long skip short f st in
-              record {
-                met = b.held.to + 1;
-                unmet = other;
-                decides = record {
-                  mid = a.held.to + 1;
-                  first = inl (record { mid = a.held.to; r = a.held.register; t = a.held.of; computes = s.left; jumps = s.jumps; leads = inl (omega arith) });
-                  second = inl (record { mid = b.held.to; r = b.held.register; t = b.held.of; computes = s.right; jumps = s.again; leads = inl (omega arith) });
-                };
-                gives_one = given code arguments size home long Int (b.held.to + 1) (suc (b.held.to + 1)) free into refl m s.register s.long;
-                one_leads = inr (at jump back long skip short (b.held.to + 2) (suc (b.held.to + 1)) skip (omega arith) s.skips);
-                gives_zero = given code arguments size home short Int other (suc other) free into refl m s.register s.short;
-                zero_leads = inl (omega arith);
-              };
-        }
-
-    pub or_emits : Emits (TruthCode code size home (EitherHolds code size Tests_a Tests_b)) from free l (tested OrElse a b into)
-    or_emits =
-        let other : ℕ = b.held.to + 3 in
-        let jump : Instr = own.JumpNonzero a.held.register other in
-        let back : Instr = own.JumpNonzero b.held.register other in
-        let long : Instr = own.Constant into 0 in
-        let skip : Instr = own.Jump (b.held.to + 4) in
-        let short : Instr = own.Constant into 1 in
-        record {
-          to_is = tested_to_is jump back long skip short;
-          grows = grows_used l b.lists into (grows_further l a.lists b.lists h.grows g.grows);
-          stands = λ f st.
-              let s = take_apart jump back long skip short f st in
-              record {
-                met = other;
-                unmet = b.held.to + 1;
-                decides = record {
-                  mid = a.held.to + 1;
-                  first = inr (inl (record { mid = a.held.to; r = a.held.register; t = a.held.of; computes = s.left; jumps = s.jumps; leads = inl (omega arith) }));
-                  second = inr (inl (record { mid = b.held.to; r = b.held.register; t = b.held.of; computes = s.right; jumps = s.again; leads = inl (omega arith) }));
-                };
-                gives_one = given code arguments size home short Int other (suc other) free into refl m s.register s.short;
-                one_leads = inl (omega arith);
-                gives_zero = given code arguments size home long Int (b.held.to + 1) (suc (b.held.to + 1)) free into refl m s.register s.long;
-                zero_leads = inr (at jump back long skip short (b.held.to + 2) (suc (b.held.to + 1)) skip (omega arith) s.skips);
-              };
-        }
-
   -- a value in this very register: it came there, or it is moved
   pub settled_emits : (home : Option ℕ) (A : Option ℕ → Coded) (from into free : ℕ) (l : Lists) (e : Emitted) → Emits (A home) from free l e → (Emits (A None) from free l e ⊎ (e.held.register ≡ into)) → MayTake home free into →
       (t : Scalar) → Emits (λ from to free r t'. BranchCode code size home A from to free into t) from free l (settled into e)
@@ -310,43 +202,3 @@ module _ (code : Code) (arguments : List ℕ) (size : ℕ) where
       by : (b : Bool) → (e.held.register == into) ≡ b → Emits (λ from to free r t'. BranchCode code size home A from to free into t) from free l (if b then e else then_one e (own.Move into e.held.register) into e.held.of)
       by true n = there (eqb-true e.held.register into n)
       by false n = ⊎_elim moved (λ same. absurd (eqb-false e.held.register into n same)) o
-
-  -- a value that is tested, and one of two values
-  pub chosen_emits : (home : Option ℕ) (C : Coded) (D : Branching) (A B : Option ℕ → Coded) (from into free : ℕ) (l : Lists) (c a b : Emitted) →
-      let t : Scalar = common a.held.of b.held.of in
-      Emits C from free l c → Emits (λ from to free r t'. BranchCode code size home A from to free into t) (c.held.to + 1) free c.lists a
-      → Emits (λ from to free r t'. BranchCode code size home B from to free into t) (a.held.to + 1) free a.lists b →
-      Emits (ConditionalCode code size home (Branches code size C D) A B) from free l (chosen c a b into)
-  chosen_emits home C D A B from into free l c a b h g k =
-      let test : Instr = own.JumpZero c.held.register (a.held.to + 1) in
-      let skip : Instr = own.Jump b.held.to in
-      let front_part : List Instr = c.code ++ test ∷ a.code in
-      let two : length front_part ≡ length c.code + length (test ∷ a.code) = length-append c.code (test ∷ a.code) in
-      let last_is : a.held.to ≡ from + length front_part = (let x = h.to_is in let y = g.to_is in omega (arith, x, y, two)) in
-      record {
-        to_is = let z = k.to_is in let u : length (front_part ++ skip ∷ b.code) ≡ length front_part + length (skip ∷ b.code) = length-append front_part (skip ∷ b.code) in omega (arith, last_is, z, u);
-        grows = grows_further l c.lists b.lists h.grows (grows_further c.lists a.lists b.lists g.grows k.grows);
-        stands = λ f st.
-            let first = front code arguments from front_part (skip ∷ b.code) st in
-            let rest = behind code arguments from a.held.to front_part (skip ∷ b.code) last_is st in
-            let middle = behind code arguments from c.held.to c.code (test ∷ a.code) h.to_is first in
-            let fa = fits_before code arguments size a.lists b.lists k.grows f in
-            record {
-              met = c.held.to + 1;
-              unmet = a.held.to + 1;
-              last = a.held.to;
-              end = b.held.to;
-              tests = inl (record {
-                mid = c.held.to;
-                r = c.held.register;
-                t = c.held.of;
-                computes = h.stands (fits_before code arguments size c.lists a.lists g.grows fa) (front code arguments from c.code (test ∷ a.code) first);
-                jumps = middle.0;
-                leads = inl (omega arith);
-              });
-              then_code = g.stands fa (subst (λ q. Stand code arguments q a.code) (omega arith) middle.1);
-              then_leads = inr rest.0;
-              else_code = k.stands f (subst (λ q. Stand code arguments q b.code) (omega arith) rest.1);
-              else_leads = inl refl;
-            };
-      }

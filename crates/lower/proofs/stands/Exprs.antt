@@ -1,6 +1,7 @@
--- What is emitted for an expression of a typed program stands for it.
+-- What is emitted for an expression of a typed program stands for it, and what is picked for a condition decides it.
 use Rattle.std.proofs.Common.{◌≡◌, refl, sym, ap, subst, ◌∙◌, ℕ, pos, ◌+◌, List, [], ◌∷◌, ◌++◌, append_assoc, length, take, drop, arith, Option, Some, None, Bool, true, false, ◌⊎◌, inl, inr, ⊎_elim, not, IsTrue}
 use Rattle.std.specs.Prelude.{if◌then◌else◌, ◌==◌, unwrap_or, slice_get}
+use Rattle.std.specs.Option.{IfSome}
 use Rattle.std.proofs.lemmas.List.{length-append}
 use Rattle.std.proofs.Math.Seq.{drop-append_seam, take-append_seam}
 use Rattle.lex.specs.declared.token.Scalar.{Scalar}
@@ -23,13 +24,15 @@ use Rattle.bytecode.specs.declared.instr.Instr.{Instr}
 use Rattle.bytecode.specs.declared.instr.Instr.TheVariants as own
 use Rattle.bytecode.specs.Code.{Code, FunctionCode, Instr as Plain}
 use Rattle.bytecode.specs.Views.{args_of, instr_of}
-use Rattle.lowered.specs.Expressions.{LocalScope, IsLike, Coded, MayTake, GivenBy, VariableCode, ElementAt, CallCode, arranged, ExprCode, OwnTests, ArgsCode}
+use Rattle.lowered.specs.Expressions.{LocalScope, IsLike, Coded, Branching, MayTake, GivenBy, VariableCode, ElementAt, BothHold, EitherHolds, CallCode, arranged, ExprCode, OwnTests, ArgsCode, CondCode}
 use Rattle.lower.specs.inner.Lists.{Lists, used, holding}
 use Rattle.lower.specs.inner.Names.{Callee, callee_at, callee_of}
-use Rattle.lower.specs.inner.Expressions.{Emitted, AllEmitted, above, then_one, variable, element, called, settled, emitted, all_emitted}
+use Rattle.lower.specs.inner.Conditions.{joined}
+use Rattle.lower.specs.inner.Expressions.{Emitted, AllEmitted, above, then_one, variable, element, called, settled, emitted, own_condition, condition, all_emitted}
 use Rattle.lower.proofs.stands.Standing.{Stand, front, behind, front_same, front_more, max_left, Grows, grows_same, grows_further, grows_used, Fits, fits_before, is_register, given}
 use Rattle.lower.proofs.stands.Named.{VariableFound, variable_found, array_found, function_found, known_number, known_array, known_callable}
-use Rattle.lower.proofs.stands.Emitting.{above_free, above_it, Emits, one_emits, in_local_emits, element_emits, cast_emits, negated_emits, complemented_emits, compared_emits, both_emits, and_emits, or_emits, settled_emits, chosen_emits}
+use Rattle.lower.proofs.stands.Emitting.{above_free, above_it, Emits, one_emits, in_local_emits, element_emits, cast_emits, negated_emits, complemented_emits, compared_emits, both_emits, settled_emits}
+use Rattle.lower.proofs.stands.Conds.{Decides, same_decides, opposite_decides, and_decides, or_decides, tested_decides, zero_decides, answered_emits, chosen_emits}
 
 -- a callee's number is that of a function of its name
 abbrev pub CalleesStand : Program → Code → Type 0
@@ -175,11 +178,11 @@ module _ (p : Program) (code : Code) (arguments : List ℕ) (size : ℕ) (typed 
         ∙ binary_of op left.held.of (emitted p scope b left.held.to later later left.lists).held.of
     type_is (Logical op a b at) h g from into free l = refl
     type_is (Conditional c a b at) h g from into free l =
-        let test = emitted p scope c from free free l in
-        let x = emitted p scope a (test.held.to + 1) into free test.lists in
+        let test = condition p scope c from free l in
+        let x = emitted p scope a (test.to + 1) into free test.lists in
         let first = settled into x in
         let y = emitted p scope b (first.held.to + 1) into free first.lists in
-        ap (λ o. common_of o (type_of known b)) (type_is a h.1 h.2 (test.held.to + 1) into free test.lists ∙ ap Some (sym (settled_of into x)))
+        ap (λ o. common_of o (type_of known b)) (type_is a h.1 h.2 (test.to + 1) into free test.lists ∙ ap Some (sym (settled_of into x)))
         ∙ ap (λ o. common_of (Some first.held.of) o) (type_is b h.3 h.4 (first.held.to + 1) into free first.lists ∙ ap Some (sym (settled_of into y)))
 
     call_emits : (home : Option ℕ) (x : List ℕ) (A : (from to free : ℕ) → List ℕ → Type 0) (c : Calls x) (o : Option Callee) → o ≡ Some (callee_at c.number c.definition.0) → (from into free : ℕ) (l : Lists) (args : AllEmitted) → AllEmits A from free l args → MayTake home free into →
@@ -249,6 +252,13 @@ module _ (p : Program) (code : Code) (arguments : List ℕ) (size : ℕ) (typed 
     elsewhere (Logical op a b at) h from into free l = inr refl
     elsewhere (Conditional c a b at) h from into free l = inr refl
 
+    abbrev Tests : Expr → Branching
+    Tests e = CondCode code size p scope e
+
+    by_parts : (e : Expr) (from free : ℕ) (l : Lists) → IfSome (own_condition p scope e from free l) (Decides code arguments size (Tests e) from free l) → Emits code arguments size (ExprCode code size p None scope e) from free l (emitted p scope e from free free l) →
+        Decides code arguments size (Tests e) from free l (condition p scope e from free l)
+    by_parts e from free l h g = tested_decides code arguments size (ExprCode code size p None scope e) (OwnTests code size p scope e) from free l (own_condition p scope e from free l) (emitted p scope e from free free l) h g
+
     mutual
       pub expr_emits : (home : Option ℕ) (e : Expr) → TypedExpr known e → (from into free : ℕ) (l : Lists) → MayTake home free into →
           Emits code arguments size (ExprCode code size p home scope e) from free l (emitted p scope e from into free l)
@@ -278,23 +288,29 @@ module _ (p : Program) (code : Code) (arguments : List ℕ) (size : ℕ) (typed 
           both_emits code arguments size home op (ExprCode code size p None scope a) (ExprCode code size p None scope b) from free into l left (emitted p scope b left.held.to later later left.lists)
           (expr_emits None a h.0 from free free l (omega arith)) (expr_emits None b h.2 left.held.to later later left.lists (omega arith)) m
       expr_emits home (Logical AndThen a b at) h from into free l m =
-          let left = emitted p scope a from free free l in
-          and_emits code arguments size home (ExprCode code size p None scope a) (ExprCode code size p None scope b) (OwnTests code size p scope a) (OwnTests code size p scope b) from free into l left (emitted p scope b (left.held.to + 1) free free left.lists)
-          (expr_emits None a h.0 from free free l (omega arith)) (expr_emits None b h.1 (left.held.to + 1) free free left.lists (omega arith)) m
+          let first = condition p scope a from free l in
+          let second = condition p scope b (first.to + 1) free first.lists in
+          answered_emits code arguments size home (BothHold code size (Tests a) (Tests b)) from free into l (joined AndThen first second)
+          (and_decides code arguments size (Tests a) (Tests b) from free l first second
+          (by_parts a from free l (own_decides a h.0 from free l) (expr_emits None a h.0 from free free l (omega arith)))
+          (by_parts b (first.to + 1) free first.lists (own_decides b h.1 (first.to + 1) free first.lists) (expr_emits None b h.1 (first.to + 1) free free first.lists (omega arith)))) m
       expr_emits home (Logical OrElse a b at) h from into free l m =
-          let left = emitted p scope a from free free l in
-          or_emits code arguments size home (ExprCode code size p None scope a) (ExprCode code size p None scope b) (OwnTests code size p scope a) (OwnTests code size p scope b) from free into l left (emitted p scope b (left.held.to + 1) free free left.lists)
-          (expr_emits None a h.0 from free free l (omega arith)) (expr_emits None b h.1 (left.held.to + 1) free free left.lists (omega arith)) m
+          let first = condition p scope a from free l in
+          let second = condition p scope b (first.to + 1) free first.lists in
+          answered_emits code arguments size home (EitherHolds code size (Tests a) (Tests b)) from free into l (joined OrElse first second)
+          (or_decides code arguments size (Tests a) (Tests b) from free l first second
+          (by_parts a from free l (own_decides a h.0 from free l) (expr_emits None a h.0 from free free l (omega arith)))
+          (by_parts b (first.to + 1) free first.lists (own_decides b h.1 (first.to + 1) free first.lists) (expr_emits None b h.1 (first.to + 1) free free first.lists (omega arith)))) m
       expr_emits home (Conditional c a b at) h from into free l m =
-          let test = emitted p scope c from free free l in
-          let x = emitted p scope a (test.held.to + 1) into free test.lists in
+          let test = condition p scope c from free l in
+          let x = emitted p scope a (test.to + 1) into free test.lists in
           let first = settled into x in
           let y = emitted p scope b (first.held.to + 1) into free first.lists in
           let second = settled into y in
           let t : Scalar = common first.held.of second.held.of in
-          let whole = chosen_emits code arguments size home (ExprCode code size p None scope c) (OwnTests code size p scope c) (λ k. ExprCode code size p k scope a) (λ k. ExprCode code size p k scope b) from into free l test first second
-          (expr_emits None c h.0 from free free l (omega arith))
-          (settled_emits code arguments size home (λ k. ExprCode code size p k scope a) (test.held.to + 1) into free test.lists x (expr_emits home a h.1 (test.held.to + 1) into free test.lists m) (elsewhere a h.1 (test.held.to + 1) into free test.lists) m t)
+          let whole = chosen_emits code arguments size home (Tests c) (λ k. ExprCode code size p k scope a) (λ k. ExprCode code size p k scope b) from into free l test first second
+          (by_parts c from free l (own_decides c h.0 from free l) (expr_emits None c h.0 from free free l (omega arith)))
+          (settled_emits code arguments size home (λ k. ExprCode code size p k scope a) (test.to + 1) into free test.lists x (expr_emits home a h.1 (test.to + 1) into free test.lists m) (elsewhere a h.1 (test.to + 1) into free test.lists) m t)
           (settled_emits code arguments size home (λ k. ExprCode code size p k scope b) (first.held.to + 1) into free first.lists y (expr_emits home b h.3 (first.held.to + 1) into free first.lists m) (elsewhere b h.3 (first.held.to + 1) into free first.lists) m t) in
           record {
             to_is = whole.to_is;
@@ -306,6 +322,45 @@ module _ (p : Program) (code : Code) (arguments : List ℕ) (size : ℕ) (typed 
                   ∙ type_is (Conditional c a b at) h refl from into free l,
             );
           }
+
+      own_decides : (e : Expr) → TypedExpr known e → (from free : ℕ) (l : Lists) → IfSome (own_condition p scope e from free l) (Decides code arguments size (Tests e) from free l)
+      own_decides (Variable x) h from free l = tt
+      own_decides (Constant n t at) h from free l = tt
+      own_decides (Element x i at) h from free l = tt
+      own_decides (Call f es at) h from free l = tt
+      own_decides (Parenthesized e at) h from free l =
+          same_decides code arguments size (Tests e) (Tests (Parenthesized e at)) from free l (condition p scope e from free l) (λ met unmet t. inr (inr t))
+          (by_parts e from free l (own_decides e h from free l) (expr_emits None e h from free free l (omega arith)))
+      own_decides (Cast t e at) h from free l =
+          same_decides code arguments size (Tests e) (Tests (Cast t e at)) from free l (condition p scope e from free l) (λ met unmet t. inr (inr t))
+          (by_parts e from free l (own_decides e h from free l) (expr_emits None e h from free free l (omega arith)))
+      own_decides (Unary Negate e at) h from free l = tt
+      own_decides (Unary Keep e at) h from free l =
+          same_decides code arguments size (Tests e) (Tests (Unary Keep e at)) from free l (condition p scope e from free l) (λ met unmet t. inr (inr t))
+          (by_parts e from free l (own_decides e h.0 from free l) (expr_emits None e h.0 from free free l (omega arith)))
+      own_decides (Unary Not e at) h from free l =
+          opposite_decides code arguments size (Tests e) (Tests (Unary Not e at)) from free l (condition p scope e from free l) (λ met unmet t. inr (inr t))
+          (by_parts e from free l (own_decides e h.0 from free l) (expr_emits None e h.0 from free free l (omega arith)))
+      own_decides (Unary Complement e at) h from free l = tt
+      own_decides (Binary op a b at) h from free l =
+          zero_decides code arguments size op b (Tests a) (Tests (Binary op a b at)) from free l (condition p scope a from free l)
+          (by_parts a from free l (own_decides a h.0 from free l) (expr_emits None a h.0 from free free l (omega arith)))
+          (λ met unmet t. inr (inr t))
+      own_decides (Logical AndThen a b at) h from free l =
+          let first = condition p scope a from free l in
+          let second = condition p scope b (first.to + 1) free first.lists in
+          same_decides code arguments size (BothHold code size (Tests a) (Tests b)) (Tests (Logical AndThen a b at)) from free l (joined AndThen first second) (λ met unmet t. inr (inr t))
+          (and_decides code arguments size (Tests a) (Tests b) from free l first second
+          (by_parts a from free l (own_decides a h.0 from free l) (expr_emits None a h.0 from free free l (omega arith)))
+          (by_parts b (first.to + 1) free first.lists (own_decides b h.1 (first.to + 1) free first.lists) (expr_emits None b h.1 (first.to + 1) free free first.lists (omega arith))))
+      own_decides (Logical OrElse a b at) h from free l =
+          let first = condition p scope a from free l in
+          let second = condition p scope b (first.to + 1) free first.lists in
+          same_decides code arguments size (EitherHolds code size (Tests a) (Tests b)) (Tests (Logical OrElse a b at)) from free l (joined OrElse first second) (λ met unmet t. inr (inr t))
+          (or_decides code arguments size (Tests a) (Tests b) from free l first second
+          (by_parts a from free l (own_decides a h.0 from free l) (expr_emits None a h.0 from free free l (omega arith)))
+          (by_parts b (first.to + 1) free first.lists (own_decides b h.1 (first.to + 1) free first.lists) (expr_emits None b h.1 (first.to + 1) free free first.lists (omega arith))))
+      own_decides (Conditional c a b at) h from free l = tt
 
       pub all_emits : (es : Exprs) → TypedExprs known es → (from free : ℕ) (l : Lists) → AllEmits (ArgsCode code size p scope es) from free l (all_emitted p scope es from free l)
       all_emits Exprs.[] h from free l = record { to_is = omega arith; grows = grows_same l; stands = λ f st. (refl, refl) }
@@ -331,3 +386,6 @@ module _ (p : Program) (code : Code) (arguments : List ℕ) (size : ℕ) (typed 
               are = refl;
             };
           }
+
+    pub cond_decides : (e : Expr) → TypedExpr known e → (from free : ℕ) (l : Lists) → Decides code arguments size (CondCode code size p scope e) from free l (condition p scope e from free l)
+    cond_decides e h from free l = by_parts e from free l (own_decides e h from free l) (expr_emits None e h from free free l (omega arith))

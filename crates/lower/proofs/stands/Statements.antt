@@ -23,14 +23,14 @@ use Rattle.lowered.specs.Statements as Lowered
 use Rattle.lowered.specs.Statements.{StartCode, IfCode, IfElseCode, WhileCode, DoWhileCode, ForCode, PrintCode, TransactionCode, Exits, in_transaction, looping, locals_of_start, locals_after, Leaves, ValueCode, TestCode, HoldsCode, SteppedCode, LiteralCode, PiecesCode, StmtCode, StmtsCode}
 use Rattle.lower.specs.declared.held.Exits.{Exits as OwnExits}
 use Rattle.lower.specs.inner.Lists.{Lists}
-use Rattle.lower.specs.inner.Expressions.{above, emitted, all_emitted}
-use Rattle.lower.specs.inner.Conditions.{Condition, jump_if, jump_if_not, condition}
+use Rattle.lower.specs.inner.Expressions.{above, emitted, all_emitted, condition}
+use Rattle.lower.specs.inner.Conditions.{Condition, test_in, going_on}
 use Rattle.lower.specs.inner.Simples.{Written, evaluated, start_written}
 use Rattle.lower.specs.inner.Statements as Own
 use Rattle.lower.specs.inner.Statements.{left_by, branched, branched_twice, tested_back, while_written, do_written, for_written, transacted, returned, printing, and_one, pieces_written, print_written, for_test, for_step, written, all_written}
 use Rattle.lower.proofs.stands.Standing.{Stand, front, behind, front_same, front_more, Grows, grows_same, grows_further, Fits, fits_before}
-use Rattle.lower.proofs.stands.Exprs.{CalleesStand, DefinedAreCallees, expr_emits, all_emits}
-use Rattle.lower.proofs.stands.Conds.{Decides, cond_decides}
+use Rattle.lower.proofs.stands.Exprs.{CalleesStand, DefinedAreCallees, expr_emits, all_emits, cond_decides}
+use Rattle.lower.proofs.stands.Conds.{Decides, on_is, goes_on, back_is, goes_back}
 use Rattle.lower.proofs.stands.Writing.{Writes, nothing_writes, one_writes, then_writes, evaluated_writes}
 use Rattle.lower.proofs.stands.Simply.{simple_writes, declared_agrees, declared_writes, start_agrees, start_writes}
 
@@ -139,15 +139,11 @@ module _ (p : Program) (code : Code) (arguments : List ℕ) (size : ℕ) (typed 
   back_writes known scope agrees c h there from l =
       let k = condition p scope c from (length scope) l in
       let d = cond_decides p code arguments size typed stand defined known scope agrees c h from (length scope) l in
-      let j : Instr = jump_if k.at_zero k.register there in
+      let T = CondCode code size p scope c in
       record {
-        to_is = let a = d.to_is in let u : length (k.code ++ j ∷ []) ≡ length k.code + 1 = length-append k.code (j ∷ []) in omega (arith, a, u);
+        to_is = back_is code arguments size T from (length scope) l k d there;
         grows = d.grows;
-        stands = λ f st. record {
-          free = length scope;
-          room = omega arith;
-          leads = d.holds f (front code arguments from k.code (j ∷ []) st) there (k.to + 1) (behind code arguments from k.to k.code (j ∷ []) d.to_is st).0 (inl (omega arith));
-        };
+        stands = λ f st. record { free = length scope; room = omega arith; leads = goes_back code arguments size T from (length scope) l k d f there st };
       }
 
   -- a condition, and a jump past what is done where it holds
@@ -158,26 +154,26 @@ module _ (p : Program) (code : Code) (arguments : List ℕ) (size : ℕ) (typed 
     d : Decides code arguments size (CondCode code size p scope c) from (length scope) l k
     d = cond_decides p code arguments size typed stand defined known scope agrees c h from (length scope) l
 
-    forward_to_is : (there : ℕ) (rest : List Instr) (to : ℕ) → to ≡ (k.to + 1) + length rest → to ≡ from + length (k.code ++ jump_if_not k.at_zero k.register there ∷ rest)
-    forward_to_is there rest to e =
-        let a = d.to_is in
-        let u : length (k.code ++ jump_if_not k.at_zero k.register there ∷ rest) ≡ length k.code + length (jump_if_not k.at_zero k.register there ∷ rest) = length-append k.code (jump_if_not k.at_zero k.register there ∷ rest) in
+    head_is : (there : ℕ) (rest : List Instr) (to : ℕ) → to ≡ (k.to + 1) + length rest → to ≡ from + length (going_on k.code (test_in k) there ++ rest)
+    head_is there rest to e =
+        let a = on_is code arguments size (CondCode code size p scope c) from (length scope) l k d there in
+        let u : length (going_on k.code (test_in k) there ++ rest) ≡ length (going_on k.code (test_in k) there) + length rest = length-append (going_on k.code (test_in k) there) rest in
         omega (arith, a, u, e)
 
-    forward_test : (there : ℕ) (rest : List Instr) → Fits code arguments size k.lists → Stand code arguments from (k.code ++ jump_if_not k.at_zero k.register there ∷ rest) → TestCode code size p scope (CondCode code size p scope c) from (k.to + 1) there
+    forward_test : (there : ℕ) (rest : List Instr) → Fits code arguments size k.lists → Stand code arguments from (going_on k.code (test_in k) there ++ rest) → TestCode code size p scope (CondCode code size p scope c) from (k.to + 1) there
     forward_test there rest f st = record {
       free = length scope;
       room = omega arith;
-      leads = d.fails f (front code arguments from k.code (jump_if_not k.at_zero k.register there ∷ rest) st) there (k.to + 1) (behind code arguments from k.to k.code (jump_if_not k.at_zero k.register there ∷ rest) d.to_is st).0 (inl (omega arith));
+      leads = goes_on code arguments size (CondCode code size p scope c) from (length scope) l k d f there (front code arguments from (going_on k.code (test_in k) there) rest st);
     }
 
-    forward_rest : (there : ℕ) (rest : List Instr) → Stand code arguments from (k.code ++ jump_if_not k.at_zero k.register there ∷ rest) → Stand code arguments (k.to + 1) rest
-    forward_rest there rest st = subst (λ q. Stand code arguments q rest) (omega arith) (behind code arguments from k.to k.code (jump_if_not k.at_zero k.register there ∷ rest) d.to_is st).1
+    forward_rest : (there : ℕ) (rest : List Instr) → Stand code arguments from (going_on k.code (test_in k) there ++ rest) → Stand code arguments (k.to + 1) rest
+    forward_rest there rest st = behind code arguments from (k.to + 1) (going_on k.code (test_in k) there) rest (on_is code arguments size (CondCode code size p scope c) from (length scope) l k d there) st
 
     if_writes : (A : ℕ → ℕ → Type 0) (a : Written) → Writes p code arguments size A (k.to + 1) k.lists a →
         Writes p code arguments size (λ from to. IfCode code size p scope (CondCode code size p scope c) A from to) from l (branched k a)
     if_writes A a g = record {
-      to_is = forward_to_is a.to a.code a.to g.to_is;
+      to_is = head_is a.to a.code a.to g.to_is;
       grows = grows_further l k.lists a.lists d.grows g.grows;
       stands = λ f st. record {
         met = k.to + 1;
@@ -194,8 +190,8 @@ module _ (p : Program) (code : Code) (arguments : List ℕ) (size : ℕ) (typed 
         Writes p code arguments size (λ from to. IfElseCode code size p scope (CondCode code size p scope c) A B from to) from l (branched_twice k a b)
     if_else_writes A B a b g w =
         let skip : Instr = own.Jump b.to in
-        let head : List Instr = k.code ++ jump_if_not k.at_zero k.register (a.to + 1) ∷ a.code in
-        let last_is : a.to ≡ from + length head = forward_to_is (a.to + 1) a.code a.to g.to_is in
+        let head : List Instr = going_on k.code (test_in k) (a.to + 1) ++ a.code in
+        let last_is : a.to ≡ from + length head = head_is (a.to + 1) a.code a.to g.to_is in
         record {
           to_is = let y = w.to_is in let u : length (head ++ skip ∷ b.code) ≡ length head + length (skip ∷ b.code) = length-append head (skip ∷ b.code) in omega (arith, last_is, y, u);
           grows = grows_further l k.lists b.lists d.grows (grows_further k.lists a.lists b.lists g.grows w.grows);

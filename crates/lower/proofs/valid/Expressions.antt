@@ -1,6 +1,7 @@
 -- What is picked for expressions and conditions of a typed program is in order.
-use Rattle.std.proofs.Common.{◌≡◌, refl, sym, ap, subst, ◌∙◌, ℕ, pos, ◌+◌, ◌≤◌, ◌<◌, List, length, map, arith, Option, Some, None, Bool, true, false, IsTrue, eqb-true}
+use Rattle.std.proofs.Common.{◌≡◌, refl, sym, ap, subst, ◌∙◌, ℕ, pos, ◌+◌, ◌≤◌, List, length, map, arith, Option, Some, None, IsTrue, eqb-true}
 use Rattle.std.specs.Prelude.{option_map, unwrap_or}
+use Rattle.std.specs.Option.{IfSome}
 use Rattle.std.proofs.lemmas.List.{length-map}
 use Rattle.lex.specs.declared.token.Scalar.{Scalar}
 use Rattle.lex.specs.declared.token.Scalar.TheVariants.{Int}
@@ -19,14 +20,13 @@ use Rattle.bytecode.specs.Valid.{cells_of, Takes}
 use Rattle.lowered.specs.Expressions.{LocalScope}
 use Rattle.lower.specs.inner.Lists.{Lists}
 use Rattle.lower.specs.inner.Names.{Callee, callee_at, callee_of}
-use Rattle.lower.specs.inner.Expressions.{Emitted, AllEmitted, above, variable, element, called, settled, emitted, all_emitted}
-use Rattle.lower.specs.inner.Conditions.{Condition, by_value, opposite, zero_test, zero_tested, condition}
-use Rattle.lower.proofs.stands.Standing.{Grows, grows_same, Fits}
+use Rattle.lower.specs.inner.Expressions.{Emitted, AllEmitted, above, variable, element, called, settled, emitted, own_condition, condition, all_emitted}
+use Rattle.lower.specs.inner.Conditions.{joined, zero_test}
+use Rattle.lower.proofs.stands.Standing.{grows_same}
 use Rattle.lower.proofs.stands.Named.{known_number, known_callable, function_found}
 use Rattle.lower.proofs.stands.Exprs.{DefinedAreCallees}
 use Rattle.lower.proofs.stands.Statements.{registers_are}
-use Rattle.lower.proofs.valid.Goods.{AreGood, Runs}
-use Rattle.lower.proofs.valid.Sounds.{settled_into, Sound, AllSound, one_sound, in_local_sound, then_sound, cast_sound, negated_sound, complemented_sound, compared_sound, both_sound, tested_sound, settled_sound, chosen_sound, followed_sound, called_sound}
+use Rattle.lower.proofs.valid.Sounds.{settled_into, Sound, TestSound, AllSound, one_sound, in_local_sound, then_sound, cast_sound, negated_sound, complemented_sound, compared_sound, both_sound, opposite_sound, joined_sound, tested_sound, zero_sound, answered_sound, settled_sound, chosen_sound, followed_sound, called_sound}
 use Rattle.lower.proofs.valid.Shared.{cells_lie, variable_has_one}
 
 -- a callee's number is that of a function of so many parameters
@@ -75,6 +75,10 @@ module _ (p : Program) (code : Code) (arguments : List ℕ) (f : FunctionCode) (
     call_sound None x e from into l args h many = one_sound code arguments f end (own.Constant into 0) from into Int l (λ q bs. (refl, tt)) (λ r s. (r, omega arith))
     call_sound (Some c) x e from into l args h many = called_sound code arguments f end c into from l args h (many c refl) (takes x c e)
 
+    by_parts : (e : Expr) (from free : ℕ) (l : Lists) → IfSome (own_condition p scope e from free l) (TestSound code arguments f end from l) → Sound code arguments f end from l (emitted p scope e from free free l) →
+        TestSound code arguments f end from l (condition p scope e from free l)
+    by_parts e from free l h g = tested_sound code arguments f end from l (own_condition p scope e from free l) (emitted p scope e from free free l) h g
+
     mutual
       pub expr_sound : (e : Expr) → TypedExpr known e → (from into free : ℕ) (l : Lists) → Sound code arguments f end from l (emitted p scope e from into free l)
       expr_sound (Variable x) h from into free l =
@@ -96,16 +100,42 @@ module _ (p : Program) (code : Code) (arguments : List ℕ) (f : FunctionCode) (
           let later : ℕ = above free left.held.register in
           both_sound code arguments f end op into from l left (emitted p scope b left.held.to later later left.lists) (expr_sound a h.0 from free free l) (expr_sound b h.2 left.held.to later later left.lists)
       expr_sound (Logical op a b at) h from into free l =
-          let left = emitted p scope a from free free l in
-          tested_sound code arguments f end op into from l left (emitted p scope b (left.held.to + 1) free free left.lists) (expr_sound a h.0 from free free l) (expr_sound b h.1 (left.held.to + 1) free free left.lists)
+          let first = condition p scope a from free l in
+          let second = condition p scope b (first.to + 1) free first.lists in
+          answered_sound code arguments f end into from l (joined op first second)
+          (joined_sound code arguments f end op from l first second
+          (by_parts a from free l (own_sound a h.0 from free l) (expr_sound a h.0 from free free l))
+          (by_parts b (first.to + 1) free first.lists (own_sound b h.1 (first.to + 1) free first.lists) (expr_sound b h.1 (first.to + 1) free free first.lists)))
       expr_sound (Conditional c a b at) h from into free l =
-          let test = emitted p scope c from free free l in
-          let x = emitted p scope a (test.held.to + 1) into free test.lists in
+          let test = condition p scope c from free l in
+          let x = emitted p scope a (test.to + 1) into free test.lists in
           let first = settled into x in
           let y = emitted p scope b (first.held.to + 1) into free first.lists in
-          chosen_sound code arguments f end into from l test first (settled into y) (expr_sound c h.0 from free free l)
-          (settled_sound code arguments f end into (test.held.to + 1) test.lists x (expr_sound a h.1 (test.held.to + 1) into free test.lists))
+          chosen_sound code arguments f end into from l test first (settled into y)
+          (by_parts c from free l (own_sound c h.0 from free l) (expr_sound c h.0 from free free l))
+          (settled_sound code arguments f end into (test.to + 1) test.lists x (expr_sound a h.1 (test.to + 1) into free test.lists))
           (settled_sound code arguments f end into (first.held.to + 1) first.lists y (expr_sound b h.3 (first.held.to + 1) into free first.lists)) (settled_into into y)
+
+      own_sound : (e : Expr) → TypedExpr known e → (from free : ℕ) (l : Lists) → IfSome (own_condition p scope e from free l) (TestSound code arguments f end from l)
+      own_sound (Variable x) h from free l = tt
+      own_sound (Constant n t at) h from free l = tt
+      own_sound (Element x i at) h from free l = tt
+      own_sound (Call g es at) h from free l = tt
+      own_sound (Parenthesized e at) h from free l = by_parts e from free l (own_sound e h from free l) (expr_sound e h from free free l)
+      own_sound (Cast t e at) h from free l = by_parts e from free l (own_sound e h from free l) (expr_sound e h from free free l)
+      own_sound (Unary Negate e at) h from free l = tt
+      own_sound (Unary Keep e at) h from free l = by_parts e from free l (own_sound e h.0 from free l) (expr_sound e h.0 from free free l)
+      own_sound (Unary Not e at) h from free l =
+          opposite_sound code arguments f end from l (condition p scope e from free l) (by_parts e from free l (own_sound e h.0 from free l) (expr_sound e h.0 from free free l))
+      own_sound (Unary Complement e at) h from free l = tt
+      own_sound (Binary op a b at) h from free l =
+          zero_sound code arguments f end (zero_test op b) from l (condition p scope a from free l) (by_parts a from free l (own_sound a h.0 from free l) (expr_sound a h.0 from free free l))
+      own_sound (Logical op a b at) h from free l =
+          let first = condition p scope a from free l in
+          joined_sound code arguments f end op from l first (condition p scope b (first.to + 1) free first.lists)
+          (by_parts a from free l (own_sound a h.0 from free l) (expr_sound a h.0 from free free l))
+          (by_parts b (first.to + 1) free first.lists (own_sound b h.1 (first.to + 1) free first.lists) (expr_sound b h.1 (first.to + 1) free free first.lists))
+      own_sound (Conditional c a b at) h from free l = tt
 
       pub all_sound : (es : Exprs) → TypedExprs known es → (from free : ℕ) (l : Lists) → AllSound code arguments f end from l (all_emitted p scope es from free l)
       all_sound Exprs.[] h from free l = record { to_is = omega arith; grows = grows_same l; held = tt; goods = λ o bs k run. tt }
@@ -114,39 +144,5 @@ module _ (p : Program) (code : Code) (arguments : List ℕ) (f : FunctionCode) (
           let later : ℕ = above free first.held.register in
           followed_sound code arguments f end from l first (all_emitted p scope es first.held.to later first.lists) (expr_sound e h.0 from free free l) (all_sound es h.1 first.held.to later first.lists)
 
-    -- a condition, up to its jump
-    pub record TestSound (from : ℕ) (l : Lists) (c : Condition) : Type 0 where
-      pub to_is : c.to ≡ from + length c.code
-      pub grows : Grows l c.lists
-      pub held : c.register < c.lists.registers
-      pub goods : (open_at : ℕ → List ℕ) (bs : List ℕ) → Fits code arguments f.registers c.lists → Runs code arguments f end open_at from c.to bs → AreGood code arguments f end open_at from c.code
-
-    value_sound : (from : ℕ) (l : Lists) (e : Emitted) → Sound code arguments f end from l e → TestSound from l (by_value e)
-    value_sound from l e h = record { to_is = h.to_is; grows = h.grows; held = h.held; goods = h.goods }
-
-    opposite_sound : (from : ℕ) (l : Lists) (c : Condition) → TestSound from l c → TestSound from l (opposite c)
-    opposite_sound from l c h = record { to_is = h.to_is; grows = h.grows; held = h.held; goods = h.goods }
-
-    zero_sound : (o : Option Bool) (from : ℕ) (l : Lists) (a b : Condition) → TestSound from l a → TestSound from l b → TestSound from l (zero_tested o a b)
-    zero_sound None from l a b h g = h
-    zero_sound (Some true) from l a b h g = opposite_sound from l b g
-    zero_sound (Some false) from l a b h g = g
-
-    own_sound : (e : Expr) → TypedExpr known e → (from free : ℕ) (l : Lists) → TestSound from l (by_value (emitted p scope e from free free l))
-    own_sound e h from free l = value_sound from l (emitted p scope e from free free l) (expr_sound e h from free free l)
-
-    pub test_sound : (e : Expr) → TypedExpr known e → (from free : ℕ) (l : Lists) → TestSound from l (condition p scope e from free l)
-    test_sound (Variable x) h from free l = own_sound (Variable x) h from free l
-    test_sound (Constant n t at) h from free l = own_sound (Constant n t at) h from free l
-    test_sound (Element x i at) h from free l = own_sound (Element x i at) h from free l
-    test_sound (Call g es at) h from free l = own_sound (Call g es at) h from free l
-    test_sound (Parenthesized e at) h from free l = test_sound e h from free l
-    test_sound (Cast t e at) h from free l = test_sound e h from free l
-    test_sound (Unary Negate e at) h from free l = own_sound (Unary Negate e at) h from free l
-    test_sound (Unary Keep e at) h from free l = test_sound e h.0 from free l
-    test_sound (Unary Not e at) h from free l = opposite_sound from l (condition p scope e from free l) (test_sound e h.0 from free l)
-    test_sound (Unary Complement e at) h from free l = own_sound (Unary Complement e at) h from free l
-    test_sound (Binary op a b at) h from free l =
-        zero_sound (zero_test op b) from l (by_value (emitted p scope (Binary op a b at) from free free l)) (condition p scope a from free l) (own_sound (Binary op a b at) h from free l) (test_sound a h.0 from free l)
-    test_sound (Logical op a b at) h from free l = own_sound (Logical op a b at) h from free l
-    test_sound (Conditional c a b at) h from free l = own_sound (Conditional c a b at) h from free l
+    pub test_sound : (e : Expr) → TypedExpr known e → (from free : ℕ) (l : Lists) → TestSound code arguments f end from l (condition p scope e from free l)
+    test_sound e h from free l = by_parts e from free l (own_sound e h from free l) (expr_sound e h from free free l)

@@ -1,5 +1,5 @@
 -- Parts of a body, with the begins that are open at each of their places, and how they are put together.
-use Rattle.std.proofs.Common.{◌≡◌, refl, sym, ap, subst, ◌∙◌, ℕ, zero, suc, ◌+◌, ◌-◌, ◌≤◌, ◌<◌, List, [], ◌∷◌, ◌++◌, length, replicate, drop, arith, Option, Some, Bool, true, false, IsTrue}
+use Rattle.std.proofs.Common.{◌≡◌, refl, sym, ap, subst, ◌∙◌, ℕ, zero, suc, ◌+◌, ◌-◌, ◌≤◌, ◌<◌, List, [], ◌∷◌, ◌++◌, length, replicate, drop, arith, Option, Some, Bool, IsTrue}
 use Rattle.std.specs.List.{AllByRecursion}
 use Rattle.std.proofs.lemmas.List.{length-append, length-replicate}
 use Rattle.syntax.specs.declared.tree.Mode.{Mode}
@@ -12,12 +12,10 @@ use Rattle.bytecode.specs.Views.{instr_of}
 use Rattle.lowered.specs.Expressions.{At}
 use Rattle.lower.specs.declared.held.Exits.{Exits}
 use Rattle.lower.specs.inner.Lists.{Lists}
-use Rattle.lower.specs.inner.Conditions.{jump_if, jump_if_not}
 use Rattle.lower.specs.inner.Simples.{Written, one_written, and_then}
 use Rattle.lower.specs.inner.Statements.{in_transaction, left_by, transacted}
 use Rattle.lower.proofs.stands.Standing.{Stand, front, behind, Grows, grows_same, grows_further, Fits, fits_before}
-use Rattle.lower.proofs.valid.Goods.{IsGood, AreGood, good_append, Meets}
-use Rattle.lower.proofs.valid.Sounds.{in_size}
+use Rattle.lower.proofs.valid.Goods.{IsGood, AreGood, good_append, Meets, Runs}
 use Rattle.lower.proofs.valid.Simples.{Flat}
 
 -- these begins are open at a place and those behind it
@@ -77,18 +75,22 @@ module _ (code : Code) (arguments : List ℕ) (f : FunctionCode) (end : ℕ) whe
     pub goods : (open_at : ℕ → List ℕ) → Fits code arguments f.registers w.lists → Stand code arguments from w.code → f.first ≤ from → w.to < end → Are open_at from opens → open_at w.to ≡ bs → P open_at →
         AreGood code arguments f end open_at from w.code
 
-  pub flat_part : (P : (ℕ → List ℕ) → Type 0) (bs : List ℕ) (from : ℕ) (l : Lists) (w : Written) → Flat code arguments f end from l w → Part P bs from l w
-  flat_part P bs from l w h =
+  -- what is in order where the begins are open throughout, and in what is known
+  pub level_part : (P : (ℕ → List ℕ) → Type 0) (bs : List ℕ) (from : ℕ) (l : Lists) (w : Written) → w.to ≡ from + length w.code → Grows l w.lists →
+      ((open_at : ℕ → List ℕ) → Fits code arguments f.registers w.lists → P open_at → Runs code arguments f end open_at from w.to bs → AreGood code arguments f end open_at from w.code) → Part P bs from l w
+  level_part P bs from l w to_is grows good =
       let n : ℕ = length w.code in
-      let same = h.to_is in
       record {
-        to_is = h.to_is;
-        grows = h.grows;
+        to_is = to_is;
+        grows = grows;
         opens = replicate n bs;
         many = length-replicate n bs;
-        enters = λ o are e. level_at o n from w.to bs h.to_is are e from (omega arith) (omega (arith, same));
-        goods = λ o k st first last are e holds. h.goods o bs k (record { first = first; last = last; level = level_at o n from w.to bs h.to_is are e });
+        enters = λ o are e. level_at o n from w.to bs to_is are e from (omega arith) (omega (arith, to_is));
+        goods = λ o k st first last are e holds. good o k holds (record { first = first; last = last; level = level_at o n from w.to bs to_is are e });
       }
+
+  pub flat_part : (P : (ℕ → List ℕ) → Type 0) (bs : List ℕ) (from : ℕ) (l : Lists) (w : Written) → Flat code arguments f end from l w → Part P bs from l w
+  flat_part P bs from l w h = level_part P bs from l w h.to_is h.grows (λ o k holds run. h.goods o bs k run)
 
   -- a part is in order where more is known
   abbrev pub knowing : (P Q : (ℕ → List ℕ) → Type 0) (bs : List ℕ) (from : ℕ) (l : Lists) (w : Written) (h : Part P bs from l w) → ((open_at : ℕ → List ℕ) → f.first ≤ from → w.to < end → Are open_at from h.opens → open_at w.to ≡ bs → Q open_at → P open_at) → Part Q bs from l w
@@ -147,25 +149,6 @@ module _ (code : Code) (arguments : List ℕ) (f : FunctionCode) (end : ℕ) whe
   abbrev pub jump_part : (P : (ℕ → List ℕ) → Type 0) (bs : List ℕ) (there from : ℕ) (l : Lists) → ((open_at : ℕ → List ℕ) → P open_at → Meets code arguments f end open_at (there, bs)) → Part P bs from l (one_written (own.Jump there) from l)
   jump_part P bs there from l meets =
       one_part P bs (own.Jump there) from l (λ o k first last are e holds. let m = meets o holds in record { begins = bs; are = are; written = m.0; asks = tt; leads = (m, tt) })
-
-  zero_good : (open_at : ℕ → List ℕ) (bs : List ℕ) (q r there : ℕ) → open_at q ≡ bs → r < f.registers → Meets code arguments f end open_at (suc q, bs) → Meets code arguments f end open_at (there, bs) → IsGood code arguments f end open_at q (Plain.JumpZero r there)
-  zero_good o bs q r there are h next m = record { begins = bs; are = are; written = (h, m.0); asks = tt; leads = (next, (m, tt)) }
-
-  nonzero_good : (open_at : ℕ → List ℕ) (bs : List ℕ) (q r there : ℕ) → open_at q ≡ bs → r < f.registers → Meets code arguments f end open_at (suc q, bs) → Meets code arguments f end open_at (there, bs) → IsGood code arguments f end open_at q (Plain.JumpNonzero r there)
-  nonzero_good o bs q r there are h next m = record { begins = bs; are = are; written = (h, m.0); asks = tt; leads = (next, (m, tt)) }
-
-  next_meets : (open_at : ℕ → List ℕ) (bs : List ℕ) (from : ℕ) → f.first ≤ from → from + 1 < end → open_at (from + 1) ≡ bs → Meets code arguments f end open_at (suc from, bs)
-  next_meets o bs from first last e = ((omega (arith, first), omega (arith, last)), let same : from + 1 ≡ suc from = omega arith in subst (λ q. o q ≡ bs) same e)
-
-  pub jump_if_part : (P : (ℕ → List ℕ) → Type 0) (bs : List ℕ) (zero : Bool) (r there from : ℕ) (l : Lists) → r < l.registers → ((open_at : ℕ → List ℕ) → P open_at → Meets code arguments f end open_at (there, bs)) → Part P bs from l (one_written (jump_if zero r there) from l)
-  jump_if_part P bs true r there from l h meets =
-      one_part P bs (own.JumpZero r there) from l (λ o k first last are e holds. zero_good o bs from r there are (in_size code arguments f end r l h k) (next_meets o bs from first last e) (meets o holds))
-  jump_if_part P bs false r there from l h meets =
-      one_part P bs (own.JumpNonzero r there) from l (λ o k first last are e holds. nonzero_good o bs from r there are (in_size code arguments f end r l h k) (next_meets o bs from first last e) (meets o holds))
-
-  pub jump_if_not_part : (P : (ℕ → List ℕ) → Type 0) (bs : List ℕ) (zero : Bool) (r there from : ℕ) (l : Lists) → r < l.registers → ((open_at : ℕ → List ℕ) → P open_at → Meets code arguments f end open_at (there, bs)) → Part P bs from l (one_written (jump_if_not zero r there) from l)
-  jump_if_not_part P bs true r there from l h meets = jump_if_part P bs false r there from l h meets
-  jump_if_not_part P bs false r there from l h meets = jump_if_part P bs true r there from l h meets
 
   -- so many commits, and then an instruction
   lowered_first : (open_at : ℕ → List ℕ) (n q : ℕ) (bs : List ℕ) → Are open_at q (lowering n bs) → open_at q ≡ bs

@@ -1,8 +1,9 @@
 -- The parts of an expression, as they are picked, are in order.
-use Rattle.std.proofs.Common.{◌≡◌, refl, sym, ap, subst, ◌∙◌, ℕ, suc, ◌+◌, ◌≤◌, ◌<◌, ◌^◌, List, [], ◌∷◌, ◌++◌, length, arith, Some, Bool, true, false, eqb-true}
+use Rattle.std.proofs.Common.{◌≡◌, refl, sym, ap, subst, ◌∙◌, ℕ, suc, ◌+◌, ◌≤◌, ◌<◌, List, [], ◌∷◌, ◌++◌, length, map, arith, Option, Some, None, Bool, true, false, eqb-true}
 use Rattle.std.specs.Prelude.{if◌then◌else◌, ◌==◌, is_some}
 use Rattle.std.specs.List.{AllByRecursion}
-use Rattle.std.proofs.lemmas.List.{length-append}
+use Rattle.std.specs.Option.{IfSome}
+use Rattle.std.proofs.lemmas.List.{length-append, length-map, map-append}
 use Rattle.lex.specs.declared.token.Scalar.{Scalar}
 use Rattle.lex.specs.declared.token.Scalar.TheVariants.{Int, Unsigned}
 use Rattle.syntax.specs.declared.tree.BinaryOp.{BinaryOp}
@@ -20,7 +21,10 @@ use Rattle.lowered.specs.Expressions as Lowered
 use Rattle.lowered.specs.Expressions.{named_ones, nameless_ones, arranged}
 use Rattle.lower.specs.inner.Lists.{Lists, used, holding}
 use Rattle.lower.specs.inner.Names.{Callee}
-use Rattle.lower.specs.inner.Expressions.{computing, negating, short_jump, long_answer, short_answer, Emitted, AllEmitted, above, one, then_one, in_local, converted_to, negated, complemented, compared, both, tested, settled, chosen, followed, called}
+use Rattle.lower.specs.declared.draft.Draft.TheVariants as draft
+use Rattle.lower.specs.inner.Conditions.{Condition, test_in, jump_if, jump_if_not, completed, turned, going_on, going_back, by_value, opposite, first_of, joined, zero_tested}
+use Rattle.lower.specs.inner.Expressions.{computing, negating, Emitted, AllEmitted, above, one, then_one, in_local, converted_to, negated, complemented, compared, both, answered, tested, settled, chosen, followed, called}
+use Rattle.lower.proofs.Drafted.{whole_are, turned_are, first_and, first_or, completed_length, on_length, back_length, first_length}
 use Rattle.lower.proofs.stands.Standing.{front_same, front_more, Grows, grows_same, grows_further, grows_used, max_left, max_right, Fits, fits_before, is_register}
 use Rattle.lower.proofs.stands.Emitting.{computing_is}
 use Rattle.lower.proofs.stands.Exprs.{handed_over}
@@ -204,55 +208,127 @@ module _ (code : Code) (arguments : List ℕ) (f : FunctionCode) (end : ℕ) whe
             );
       }
 
-  good_short : (open_at : ℕ → List ℕ) (op : LogicalOp) (from to : ℕ) (bs : List ℕ) → Runs code arguments f end open_at from to bs → (a there : ℕ) → a < f.registers → Meets code arguments f end open_at (there, bs) → (q : ℕ) → from ≤ q → suc q ≤ to →
-      IsGood code arguments f end open_at q (instr_of arguments (short_jump op a there))
-  good_short o AndThen from to bs r a there h m q low high = good_zero code arguments f end o from to bs r a there h m q low high
-  good_short o OrElse from to bs r a there h m q low high = good_nonzero code arguments f end o from to bs r a there h m q low high
+  -- a condition, up to its jump
+  pub record TestSound (from : ℕ) (l : Lists) (c : Condition) : Type 0 where
+    pub to_is : c.to ≡ from + length c.code
+    pub grows : Grows l c.lists
+    pub held : c.register < c.lists.registers
+    pub goods : (open_at : ℕ → List ℕ) (bs : List ℕ) → Fits code arguments f.registers c.lists → (met unmet : ℕ) → Meets code arguments f end open_at (met, bs) → Meets code arguments f end open_at (unmet, bs) →
+        Runs code arguments f end open_at from c.to bs → AreGood code arguments f end open_at from (map (completed met unmet) c.code)
 
-  long_small : (op : LogicalOp) → long_answer op < 2 ^ 32
-  long_small AndThen = omega arith
-  long_small OrElse = omega arith
+  value_sound : (from : ℕ) (l : Lists) (e : Emitted) → Sound from l e → TestSound from l (by_value e.code e.lists e.held)
+  value_sound from l e h = record {
+    to_is = let x = h.to_is in let y : length (map draft.Whole e.code) ≡ length e.code = length-map e.code draft.Whole in omega (arith, x, y);
+    grows = h.grows;
+    held = h.held;
+    goods = λ o bs k met unmet m u run. subst (AreGood code arguments f end o from) (sym (whole_are met unmet e.code)) (h.goods o bs k run);
+  }
 
-  short_small : (op : LogicalOp) → short_answer op < 2 ^ 32
-  short_small AndThen = omega arith
-  short_small OrElse = omega arith
+  pub opposite_sound : (from : ℕ) (l : Lists) (c : Condition) → TestSound from l c → TestSound from l (opposite c)
+  opposite_sound from l c h = record {
+    to_is = let x = h.to_is in let y : length (map turned c.code) ≡ length c.code = length-map c.code turned in omega (arith, x, y);
+    grows = h.grows;
+    held = h.held;
+    goods = λ o bs k met unmet m u run. subst (AreGood code arguments f end o from) (sym (turned_are met unmet c.code)) (h.goods o bs k unmet met u m run);
+  }
 
-  pub tested_sound : (op : LogicalOp) (into from : ℕ) (l : Lists) (a b : Emitted) → Sound from l a → Sound (a.held.to + 1) a.lists b → Sound from l (tested op a b into)
-  tested_sound op into from l a b h g =
-      let last : ℕ = b.held.to in
-      let jump : Instr = short_jump op a.held.register (last + 3) in
-      let back : Instr = short_jump op b.held.register (last + 3) in
-      let long : Instr = own.Constant into (long_answer op) in
-      let skip : Instr = own.Jump (last + 4) in
-      let short : Instr = own.Constant into (short_answer op) in
-      let tail : List Instr = back ∷ long ∷ skip ∷ short ∷ [] in
-      let head : List Instr = a.code ++ jump ∷ b.code in
+  good_if : (open_at : ℕ → List ℕ) (zero : Bool) (from to : ℕ) (bs : List ℕ) → Runs code arguments f end open_at from to bs → (a there : ℕ) → a < f.registers → Meets code arguments f end open_at (there, bs) → (q : ℕ) → from ≤ q → suc q ≤ to →
+      IsGood code arguments f end open_at q (instr_of arguments (jump_if zero a there))
+  good_if o true from to bs r a there h m q low high = good_zero code arguments f end o from to bs r a there h m q low high
+  good_if o false from to bs r a there h m q low high = good_nonzero code arguments f end o from to bs r a there h m q low high
+
+  good_if_not : (open_at : ℕ → List ℕ) (zero : Bool) (from to : ℕ) (bs : List ℕ) → Runs code arguments f end open_at from to bs → (a there : ℕ) → a < f.registers → Meets code arguments f end open_at (there, bs) → (q : ℕ) → from ≤ q → suc q ≤ to →
+      IsGood code arguments f end open_at q (instr_of arguments (jump_if_not zero a there))
+  good_if_not o true from to bs r a there h m q low high = good_nonzero code arguments f end o from to bs r a there h m q low high
+  good_if_not o false from to bs r a there h m q low high = good_zero code arguments f end o from to bs r a there h m q low high
+
+  -- a condition with its jump
+  module _ (from : ℕ) (l : Lists) (c : Condition) (h : TestSound from l c) where
+    at_jump : (met unmet : ℕ) → c.to ≡ from + length (map (completed met unmet) c.code)
+    at_jump met unmet = let x = h.to_is in let y = completed_length met unmet c.code in omega (arith, x, y)
+
+    pub test_on_is : (unmet : ℕ) → c.to + 1 ≡ from + length (going_on c.code (test_in c) unmet)
+    test_on_is unmet = let x = h.to_is in let y = on_length c.code (test_in c) unmet in omega (arith, x, y)
+
+    pub test_back_is : (met : ℕ) → c.to + 1 ≡ from + length (going_back c.code (test_in c) met)
+    test_back_is met = let x = h.to_is in let y = back_length c.code (test_in c) met in omega (arith, x, y)
+
+    module _ (open_at : ℕ → List ℕ) (bs : List ℕ) (k : Fits code arguments f.registers c.lists) (there to : ℕ) (m : Meets code arguments f end open_at (there, bs)) (low : c.to + 1 ≤ to) (run : Runs code arguments f end open_at from to bs) where
+      next_is : Meets code arguments f end open_at (c.to + 1, bs)
+      next_is = let x = h.to_is in meets_in code arguments f end open_at from to (c.to + 1) bs run (omega (arith, x)) low
+
+      until : Runs code arguments f end open_at from c.to bs
+      until = within code arguments f end open_at from to from c.to bs run (omega arith) (omega (arith, low))
+
+      pub going_on_good : AreGood code arguments f end open_at from (going_on c.code (test_in c) there)
+      going_on_good =
+          let x = h.to_is in
+          good_append code arguments f end open_at from c.to (map (completed (c.to + 1) there) c.code) (jump_if_not c.at_zero c.register there ∷ []) (at_jump (c.to + 1) there)
+          (h.goods open_at bs k (c.to + 1) there next_is m until)
+          (good_if_not open_at c.at_zero from to bs run c.register there (in_size c.register c.lists h.held k) m c.to (omega (arith, x)) (omega (arith, low)), tt)
+
+      pub going_back_good : AreGood code arguments f end open_at from (going_back c.code (test_in c) there)
+      going_back_good =
+          let x = h.to_is in
+          good_append code arguments f end open_at from c.to (map (completed there (c.to + 1)) c.code) (jump_if c.at_zero c.register there ∷ []) (at_jump there (c.to + 1))
+          (h.goods open_at bs k there (c.to + 1) m next_is until)
+          (good_if open_at c.at_zero from to bs run c.register there (in_size c.register c.lists h.held k) m c.to (omega (arith, x)) (omega (arith, low)), tt)
+
+  -- two conditions, one behind the other
+  pub joined_sound : (op : LogicalOp) (from : ℕ) (l : Lists) (a b : Condition) → TestSound from l a → TestSound (a.to + 1) a.lists b → TestSound from l (joined op a b)
+  joined_sound op from l a b h g =
       let x = h.to_is in
       let y = g.to_is in
-      let last_is : last ≡ from + length head = (let z : length head ≡ length a.code + length (jump ∷ b.code) = length-append a.code (jump ∷ b.code) in omega (arith, x, y, z)) in
+      let z = first_length op a in
       record {
-        to_is = let u : length (head ++ tail) ≡ length head + 4 = length-append head tail in omega (arith, last_is, u);
-        grows = grows_used l b.lists into (grows_further l a.lists b.lists h.grows g.grows);
-        held = let z = max_right b.lists.registers (suc into) in omega (arith, z);
+        to_is = let u : length (first_of op a ++ b.code) ≡ length (first_of op a) + length b.code = length-append (first_of op a) b.code in omega (arith, x, y, z, u);
+        grows = grows_further l a.lists b.lists h.grows g.grows;
+        held = g.held;
+        goods = λ o bs k met unmet m u run.
+            subst (AreGood code arguments f end o from) (sym (map-append (completed met unmet) (first_of op a) b.code))
+            (good_append code arguments f end o from (a.to + 1) (map (completed met unmet) (first_of op a)) (map (completed met unmet) b.code) (let v = completed_length met unmet (first_of op a) in omega (arith, x, z, v))
+            (by op o bs (fits_before code arguments f.registers a.lists b.lists g.grows k) met unmet m u (within code arguments f end o from b.to from (a.to + 1) bs run (omega arith) (omega (arith, y))))
+            (g.goods o bs k met unmet m u (within code arguments f end o from b.to (a.to + 1) b.to bs run (omega (arith, x)) (omega arith))));
+      }
+    where
+      by : (op : LogicalOp) (o : ℕ → List ℕ) (bs : List ℕ) → Fits code arguments f.registers a.lists → (met unmet : ℕ) → Meets code arguments f end o (met, bs) → Meets code arguments f end o (unmet, bs) → Runs code arguments f end o from (a.to + 1) bs →
+          AreGood code arguments f end o from (map (completed met unmet) (first_of op a))
+      by AndThen o bs k met unmet m u run = subst (AreGood code arguments f end o from) (sym (first_and met unmet a)) (going_on_good from l a h o bs k unmet (a.to + 1) u (omega arith) run)
+      by OrElse o bs k met unmet m u run = subst (AreGood code arguments f end o from) (sym (first_or met unmet a)) (going_back_good from l a h o bs k met (a.to + 1) m (omega arith) run)
+
+  pub tested_sound : (from : ℕ) (l : Lists) (o : Option Condition) (e : Emitted) → IfSome o (TestSound from l) → Sound from l e → TestSound from l (tested o e)
+  tested_sound from l None e h g = value_sound from l e g
+  tested_sound from l (Some c) e h g = h
+
+  pub zero_sound : (o : Option Bool) (from : ℕ) (l : Lists) (c : Condition) → TestSound from l c → IfSome (zero_tested o c) (TestSound from l)
+  zero_sound None from l c h = tt
+  zero_sound (Some true) from l c h = opposite_sound from l c h
+  zero_sound (Some false) from l c h = h
+
+  pub answered_sound : (into from : ℕ) (l : Lists) (c : Condition) → TestSound from l c → Sound from l (answered c into)
+  answered_sound into from l c h =
+      let long : Instr = own.Constant into 1 in
+      let skip : Instr = own.Jump (c.to + 4) in
+      let short : Instr = own.Constant into 0 in
+      let tail : List Instr = long ∷ skip ∷ short ∷ [] in
+      let head : List Instr = going_on c.code (test_in c) (c.to + 3) in
+      let next = test_on_is from l c h (c.to + 3) in
+      let x = h.to_is in
+      record {
+        to_is = let u : length (head ++ tail) ≡ length head + 3 = length-append head tail in omega (arith, next, u);
+        grows = grows_used l c.lists into h.grows;
+        held = let z = max_right c.lists.registers (suc into) in omega (arith, z);
         goods = λ o bs k run.
-            let inner = fits_before code arguments f.registers b.lists (used into b.lists) (grows_used b.lists b.lists into (grows_same b.lists)) k in
-            let first = fits_before code arguments f.registers a.lists b.lists g.grows inner in
-            let here = is_register code arguments f.registers b.lists into k in
-            let there = meets_in code arguments f end o from (last + 4) (last + 3) bs run (omega (arith, last_is)) (omega arith) in
-            let out = meets_in code arguments f end o from (last + 4) (last + 4) bs run (omega (arith, last_is)) (omega arith) in
-            good_append code arguments f end o from last head tail last_is
-            (good_append code arguments f end o from a.held.to a.code (jump ∷ b.code) h.to_is
-            (h.goods o bs first (within code arguments f end o from (last + 4) from a.held.to bs run (omega arith) (omega (arith, y)))) (
-              good_short o op from (last + 4) bs run a.held.register (last + 3) (in_size a.held.register a.lists h.held first) there a.held.to (omega (arith, x)) (omega (arith, y)),
-              subst (λ q. AreGood code arguments f end o q b.code) (omega arith) (g.goods o bs inner (within code arguments f end o from (last + 4) (a.held.to + 1) last bs run (omega (arith, x)) (omega arith))),
-            )) (
-              good_short o op from (last + 4) bs run b.held.register (last + 3) (in_size b.held.register b.lists g.held inner) there last (omega (arith, last_is)) (omega arith),
+            let inner = fits_before code arguments f.registers c.lists (used into c.lists) (grows_used c.lists c.lists into (grows_same c.lists)) k in
+            let here = is_register code arguments f.registers c.lists into k in
+            let there = meets_in code arguments f end o from (c.to + 4) (c.to + 3) bs run (omega (arith, x)) (omega arith) in
+            let out = meets_in code arguments f end o from (c.to + 4) (c.to + 4) bs run (omega (arith, x)) (omega arith) in
+            good_append code arguments f end o from (c.to + 1) head tail next
+            (going_on_good from l c h o bs inner (c.to + 3) (c.to + 4) there (omega arith) run) (
+              good_on code arguments f end o from (c.to + 4) bs run (instr_of arguments long) (λ q bs. (refl, tt)) (here, omega arith) (c.to + 1) (omega (arith, x)) (omega arith),
               (
-                good_on code arguments f end o from (last + 4) bs run (instr_of arguments long) (λ q bs. (refl, tt)) (here, long_small op) (suc last) (omega (arith, last_is)) (omega arith),
-                (
-                  good_jump code arguments f end o from (last + 4) bs run (last + 4) out (suc (suc last)) (omega (arith, last_is)) (omega arith),
-                  (good_on code arguments f end o from (last + 4) bs run (instr_of arguments short) (λ q bs. (refl, tt)) (here, short_small op) (suc (suc (suc last))) (omega (arith, last_is)) (omega arith), tt),
-                ),
+                good_jump code arguments f end o from (c.to + 4) bs run (c.to + 4) out (suc (c.to + 1)) (omega (arith, x)) (omega arith),
+                (good_on code arguments f end o from (c.to + 4) bs run (instr_of arguments short) (λ q bs. (refl, tt)) (here, omega arith) (suc (suc (c.to + 1))) (omega (arith, x)) (omega arith), tt),
               ),
             );
       }
@@ -264,16 +340,17 @@ module _ (code : Code) (arguments : List ℕ) (f : FunctionCode) (end : ℕ) whe
       by true = h
       by false = then_sound (own.Move r e.held.register) r e.held.of from l e h (λ q bs. (refl, tt)) (λ x y. (x, y))
 
-  pub chosen_sound : (into from : ℕ) (l : Lists) (c a b : Emitted) → Sound from l c → Sound (c.held.to + 1) c.lists a → Sound (a.held.to + 1) a.lists b → b.held.register ≡ into → Sound from l (chosen c a b into)
+  pub chosen_sound : (into from : ℕ) (l : Lists) (c : Condition) (a b : Emitted) → TestSound from l c → Sound (c.to + 1) c.lists a → Sound (a.held.to + 1) a.lists b → b.held.register ≡ into → Sound from l (chosen c a b into)
   chosen_sound into from l c a b h g w same =
-      let test : Instr = own.JumpZero c.held.register (a.held.to + 1) in
+      let test : List Instr = going_on c.code (test_in c) (a.held.to + 1) in
       let skip : Instr = own.Jump b.held.to in
-      let head : List Instr = c.code ++ test ∷ a.code in
-      let two : length head ≡ length c.code + length (test ∷ a.code) = length-append c.code (test ∷ a.code) in
+      let head : List Instr = test ++ a.code in
+      let two : length head ≡ length test + length a.code = length-append test a.code in
+      let next = test_on_is from l c h (a.held.to + 1) in
       let x = h.to_is in
       let y = g.to_is in
       let z = w.to_is in
-      let last_is : a.held.to ≡ from + length head = omega (arith, x, y, two) in
+      let last_is : a.held.to ≡ from + length head = omega (arith, next, y, two) in
       record {
         to_is = let u : length (head ++ skip ∷ b.code) ≡ length head + length (skip ∷ b.code) = length-append head (skip ∷ b.code) in omega (arith, last_is, z, u);
         grows = grows_further l c.lists b.lists h.grows (grows_further c.lists a.lists b.lists g.grows w.grows);
@@ -284,11 +361,9 @@ module _ (code : Code) (arguments : List ℕ) (f : FunctionCode) (end : ℕ) whe
             let other = meets_in code arguments f end o from b.held.to (a.held.to + 1) bs run (omega (arith, last_is)) (omega (arith, z)) in
             let out = meets_in code arguments f end o from b.held.to b.held.to bs run (omega (arith, last_is, z)) (omega arith) in
             good_append code arguments f end o from a.held.to head (skip ∷ b.code) last_is
-            (good_append code arguments f end o from c.held.to c.code (test ∷ a.code) h.to_is
-            (h.goods o bs fc (within code arguments f end o from b.held.to from c.held.to bs run (omega arith) (omega (arith, y, z)))) (
-              good_zero code arguments f end o from b.held.to bs run c.held.register (a.held.to + 1) (in_size c.held.register c.lists h.held fc) other c.held.to (omega (arith, x)) (omega (arith, y, z)),
-              subst (λ q. AreGood code arguments f end o q a.code) (omega arith) (g.goods o bs fa (within code arguments f end o from b.held.to (c.held.to + 1) a.held.to bs run (omega (arith, x)) (omega (arith, z)))),
-            )) (
+            (good_append code arguments f end o from (c.to + 1) test a.code next
+            (going_on_good from l c h o bs fc (a.held.to + 1) b.held.to other (omega (arith, y, z)) run)
+            (g.goods o bs fa (within code arguments f end o from b.held.to (c.to + 1) a.held.to bs run (omega (arith, x)) (omega (arith, z))))) (
               good_jump code arguments f end o from b.held.to bs run b.held.to out a.held.to (omega (arith, last_is)) (omega (arith, z)),
               subst (λ q. AreGood code arguments f end o q b.code) (omega arith) (w.goods o bs k (within code arguments f end o from b.held.to (a.held.to + 1) b.held.to bs run (omega (arith, last_is)) (omega arith))),
             );

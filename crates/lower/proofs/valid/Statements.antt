@@ -1,5 +1,5 @@
 -- What is picked for statements of a typed program, whose cancels stand in atomic transactions, is in order.
-use Rattle.std.proofs.Common.{◌≡◌, refl, ap, subst, ◌∙◌, ℕ, zero, suc, ◌+◌, ◌<◌, List, [], ◌∷◌, ◌++◌, length, drop, arith, Option, Some, None, Bool, true}
+use Rattle.std.proofs.Common.{◌≡◌, refl, ap, subst, ◌∙◌, ℕ, zero, suc, ◌+◌, List, [], ◌∷◌, ◌++◌, length, drop, arith, Option, Some, None, Bool, true}
 use Rattle.std.specs.Option.{IfSome}
 use Rattle.std.proofs.lemmas.List.{length-append}
 use Rattle.lex.specs.declared.token.Scalar.{Scalar}
@@ -19,8 +19,8 @@ use Rattle.lowered.specs.Expressions.{LocalScope}
 use Rattle.lowered.specs.Statements.{locals_of_start, locals_after}
 use Rattle.lower.specs.declared.held.Exits.{Exits}
 use Rattle.lower.specs.inner.Lists.{Lists}
-use Rattle.lower.specs.inner.Expressions.{AllEmitted, emitted, all_emitted}
-use Rattle.lower.specs.inner.Conditions.{Condition, jump_if, jump_if_not, condition}
+use Rattle.lower.specs.inner.Expressions.{AllEmitted, emitted, condition, all_emitted}
+use Rattle.lower.specs.inner.Conditions.{Condition, test_in, going_on}
 use Rattle.lower.specs.inner.Simples.{Written, nothing_written, one_written, and_then, evaluated, start_written}
 use Rattle.lower.specs.inner.Statements.{in_transaction, looping, left_by, branched, branched_twice, tested_back, while_written, do_written, for_written, returned, printing, and_one, pieces_written, print_written, for_test, for_step, written, all_written}
 use Rattle.lower.proofs.stands.Standing.{Grows, grows_further, front_same, front_more, fits_before}
@@ -28,14 +28,14 @@ use Rattle.lower.proofs.stands.Exprs.{CalleesStand, DefinedAreCallees}
 use Rattle.lower.proofs.stands.Simply.{start_agrees}
 use Rattle.lower.proofs.stands.Statements.{CancelsFit, AllCancelsFit, after_agrees}
 use Rattle.lower.proofs.valid.Goods.{Meets, AreGood, within, good_on}
-use Rattle.lower.proofs.valid.Sounds.{Sound, AreBelow, in_size}
-use Rattle.lower.proofs.valid.Expressions.{CalleesTake, TestSound, expr_sound, all_sound, test_sound}
+use Rattle.lower.proofs.valid.Sounds.{Sound, TestSound, AreBelow, in_size, test_on_is, test_back_is, going_on_good, going_back_good}
+use Rattle.lower.proofs.valid.Expressions.{CalleesTake, expr_sound, all_sound, test_sound}
 use Rattle.lower.proofs.valid.Simples.{Flat, nothing_flat, one_flat, then_flat, evaluated_flat, simple_flat, declared_flat, start_flat}
-use Rattle.lower.proofs.valid.Parts.{Are, are_front, are_behind, Exiting, Part, flat_part, knowing, given, then_part, jump_part, jump_if_part, jump_if_not_part, left_part, cancel_part, transaction_part}
+use Rattle.lower.proofs.valid.Parts.{Are, are_front, are_behind, Exiting, Part, level_part, flat_part, knowing, given, then_part, jump_part, left_part, cancel_part, transaction_part}
 
--- a condition without its jump, and the values of arguments, as what is written
-abbrev tested : Condition → Written
-tested c = record { code = c.code; lists = c.lists; to = c.to }
+-- a condition with its jump, and the values of arguments, as what is written
+abbrev leading : Condition → ℕ → Written
+leading c unmet = record { code = going_on c.code (test_in c) unmet; lists = c.lists; to = c.to + 1 }
 
 abbrev handed : AllEmitted → Written
 handed e = record { code = e.code; lists = e.lists; to = e.to }
@@ -78,46 +78,45 @@ module _ (code : Code) (arguments : List ℕ) (f : FunctionCode) (end : ℕ) whe
       by Int g = then_flat code arguments f end from l (one_written (own.PrintSigned r) from l) (pieces_written ps rs (from + 1) l) (one_flat code arguments f end (own.PrintSigned r) from l (λ q bs. (refl, tt)) (λ k. in_size code arguments f end r l h.0 k)) g
       by Unsigned g = then_flat code arguments f end from l (one_written (own.PrintUnsigned r) from l) (pieces_written ps rs (from + 1) l) (one_flat code arguments f end (own.PrintUnsigned r) from l (λ q bs. (refl, tt)) (λ k. in_size code arguments f end r l h.0 k)) g
 
+  -- a condition with its jump
+  leading_part : (P : (ℕ → List ℕ) → Type 0) (bs : List ℕ) (there from : ℕ) (l : Lists) (c : Condition) → TestSound code arguments f end from l c → ((open_at : ℕ → List ℕ) → P open_at → Open bs there open_at) → Part code arguments f end P bs from l (leading c there)
+  leading_part P bs there from l c h meets =
+      level_part code arguments f end P bs from l (leading c there) (test_on_is code arguments f end from l c h there) h.grows
+      (λ o k holds run. going_on_good code arguments f end from l c h o bs k there (c.to + 1) (meets o holds) (omega arith) run)
+
+  back_part : (P : (ℕ → List ℕ) → Type 0) (bs : List ℕ) (there from : ℕ) (l : Lists) (c : Condition) → TestSound code arguments f end from l c → ((open_at : ℕ → List ℕ) → P open_at → Open bs there open_at) → Part code arguments f end P bs from l (tested_back c there)
+  back_part P bs there from l c h meets =
+      level_part code arguments f end P bs from l (tested_back c there) (test_back_is code arguments f end from l c h there) h.grows
+      (λ o k holds run. going_back_good code arguments f end from l c h o bs k there (c.to + 1) (meets o holds) (omega arith) run)
+
   -- a branch
-  if_part : (P : (ℕ → List ℕ) → Type 0) (bs : List ℕ) (from : ℕ) (l : Lists) (c : Condition) (a : Written) → Flat code arguments f end from l (tested c) → c.register < c.lists.registers → Part code arguments f end P bs (c.to + 1) c.lists a → Part code arguments f end P bs from l (branched c a)
-  if_part P bs from l c a h held g =
+  if_part : (P : (ℕ → List ℕ) → Type 0) (bs : List ℕ) (from : ℕ) (l : Lists) (c : Condition) (a : Written) → TestSound code arguments f end from l c → Part code arguments f end P bs (c.to + 1) c.lists a → Part code arguments f end P bs from l (branched c a)
+  if_part P bs from l c a h g =
       let Q : (ℕ → List ℕ) → Type 0 = λ o. P o × Open bs a.to o in
-      let jump = one_written (jump_if_not c.at_zero c.register a.to) c.to c.lists in
       let x = h.to_is in
       let y = g.to_is in
       knowing code arguments f end Q P bs from l (branched c a)
-      (then_part code arguments f end Q bs from c.to l (tested c) (and_then jump a) refl (flat_part code arguments f end Q bs from l (tested c) h)
-      (then_part code arguments f end Q bs c.to (c.to + 1) c.lists jump a refl (jump_if_not_part code arguments f end Q bs c.at_zero c.register a.to c.to c.lists held (λ o q. q.1)) (given code arguments f end P Q bs (c.to + 1) c.lists a g (λ o q. q.0))))
+      (then_part code arguments f end Q bs from (c.to + 1) l (leading c a.to) a refl (leading_part Q bs a.to from l c h (λ o q. q.1)) (given code arguments f end P Q bs (c.to + 1) c.lists a g (λ o q. q.0)))
       (λ o first last are e holds. (holds, ((omega (arith, first, x, y), last), e)))
 
-  if_else_part : (P : (ℕ → List ℕ) → Type 0) (bs : List ℕ) (from : ℕ) (l : Lists) (c : Condition) (a b : Written) → Flat code arguments f end from l (tested c) → c.register < c.lists.registers → Part code arguments f end P bs (c.to + 1) c.lists a → Part code arguments f end P bs (a.to + 1) a.lists b →
+  if_else_part : (P : (ℕ → List ℕ) → Type 0) (bs : List ℕ) (from : ℕ) (l : Lists) (c : Condition) (a b : Written) → TestSound code arguments f end from l c → Part code arguments f end P bs (c.to + 1) c.lists a → Part code arguments f end P bs (a.to + 1) a.lists b →
       Part code arguments f end P bs from l (branched_twice c a b)
-  if_else_part P bs from l c a b h held g w =
+  if_else_part P bs from l c a b h g w =
       let Q : (ℕ → List ℕ) → Type 0 = λ o. P o × Open bs (a.to + 1) o × Open bs b.to o in
-      let jump = one_written (jump_if_not c.at_zero c.register (a.to + 1)) c.to c.lists in
       let skip = one_written (own.Jump b.to) a.to a.lists in
       let x = h.to_is in
       let y = g.to_is in
       let z = w.to_is in
-      let head =
-      then_part code arguments f end Q bs from c.to l (tested c) (and_then jump a) refl (flat_part code arguments f end Q bs from l (tested c) h)
-      (then_part code arguments f end Q bs c.to (c.to + 1) c.lists jump a refl (jump_if_not_part code arguments f end Q bs c.at_zero c.register (a.to + 1) c.to c.lists held (λ o q. q.1)) (given code arguments f end P Q bs (c.to + 1) c.lists a g (λ o q. q.0))) in
+      let head = then_part code arguments f end Q bs from (c.to + 1) l (leading c (a.to + 1)) a refl (leading_part Q bs (a.to + 1) from l c h (λ o q. q.1)) (given code arguments f end P Q bs (c.to + 1) c.lists a g (λ o q. q.0)) in
       let tail = then_part code arguments f end Q bs a.to (a.to + 1) a.lists skip b refl (jump_part code arguments f end Q bs b.to a.to a.lists (λ o q. q.2)) (given code arguments f end P Q bs (a.to + 1) a.lists b w (λ o q. q.0)) in
       let m = head.many in
       let hx = head.to_is in
       let head_is : a.to ≡ from + length head.opens = omega (arith, m, hx) in
       knowing code arguments f end Q P bs from l (branched_twice c a b)
-      (then_part code arguments f end Q bs from a.to l (and_then (tested c) (and_then jump a)) (and_then skip b) refl head tail)
+      (then_part code arguments f end Q bs from a.to l (and_then (leading c (a.to + 1)) a) (and_then skip b) refl head tail)
       (λ o first last are e holds.
       let behind_skip = are_behind o a.to (a.to + 1) (bs ∷ []) w.opens (omega arith) (are_behind o from a.to head.opens tail.opens head_is are) in
       (holds, ((omega (arith, first, x, y), omega (arith, last, z)), w.enters o behind_skip e), ((omega (arith, first, x, y, z), last), e)))
-
-  -- a condition and a jump that is taken where it holds
-  back_part : (P : (ℕ → List ℕ) → Type 0) (bs : List ℕ) (there from : ℕ) (l : Lists) (c : Condition) → Flat code arguments f end from l (tested c) → c.register < c.lists.registers → ((open_at : ℕ → List ℕ) → P open_at → Open bs there open_at) →
-      Part code arguments f end P bs from l (tested_back c there)
-  back_part P bs there from l c h held meets =
-      then_part code arguments f end P bs from c.to l (tested c) (one_written (jump_if c.at_zero c.register there) c.to c.lists) refl (flat_part code arguments f end P bs from l (tested c) h)
-      (jump_if_part code arguments f end P bs c.at_zero c.register there c.to c.lists held meets)
 
   -- where a loop's jumps and pads lead to
   record InLoop (bs : List ℕ) (breaks continues body test out : ℕ) (open_at : ℕ → List ℕ) : Type 0 where
@@ -267,17 +266,11 @@ module _ (code : Code) (arguments : List ℕ) (f : FunctionCode) (end : ℕ) whe
       sound : (e : Expr) → TypedExpr known e → (from free : ℕ) (l : Lists) → Sound code arguments f end from l (emitted p scope e from free free l)
       sound e h from free l = expr_sound p code arguments f end typed takes defined shares known scope agrees e h from free free l
 
-      test : (c : Expr) → TypedExpr known c → (from : ℕ) (l : Lists) → TestSound p code arguments f end typed takes defined shares known scope agrees from l (condition p scope c from (length scope) l)
+      test : (c : Expr) → TypedExpr known c → (from : ℕ) (l : Lists) → TestSound code arguments f end from l (condition p scope c from (length scope) l)
       test c h from l = test_sound p code arguments f end typed takes defined shares known scope agrees c h from (length scope) l
 
-      test_flat : (c : Expr) → TypedExpr known c → (from : ℕ) (l : Lists) → Flat code arguments f end from l (tested (condition p scope c from (length scope) l))
-      test_flat c h from l = let t = test c h from l in record { to_is = t.to_is; grows = t.grows; goods = t.goods }
-
-      test_held : (c : Expr) → TypedExpr known c → (from : ℕ) (l : Lists) → let k = condition p scope c from (length scope) l in k.register < k.lists.registers
-      test_held c h from l = (test c h from l).held
-
       test_part : (bs : List ℕ) (c : Expr) → TypedExpr known c → (there from : ℕ) (l : Lists) → Part code arguments f end (Open bs there) bs from l (tested_back (condition p scope c from (length scope) l) there)
-      test_part bs c h there from l = back_part (Open bs there) bs there from l (condition p scope c from (length scope) l) (test_flat c h from l) (test_held c h from l) (λ o m. m)
+      test_part bs c h there from l = back_part (Open bs there) bs there from l (condition p scope c from (length scope) l) (test c h from l) (λ o m. m)
 
       for_test_part : (bs : List ℕ) (c : Option Expr) → IfSome c (TypedExpr known) → (there from : ℕ) (l : Lists) → Part code arguments f end (Open bs there) bs from l (for_test p scope c there from l)
       for_test_part bs None h there from l = jump_part code arguments f end (Open bs there) bs there from l (λ o m. m)
@@ -320,12 +313,12 @@ module _ (code : Code) (arguments : List ℕ) (f : FunctionCode) (end : ℕ) whe
           flat_part code arguments f end (Exiting code arguments f end bs x loops m) bs from l (written p (Print at format format_at es) x scope from l) (print_flat known scope agrees format es h.0 from l)
       stmt_part (If e a) known loops scope x m agrees h c bs from l =
           let k = condition p scope e from (length scope) l in
-          if_part (Exiting code arguments f end bs x loops m) bs from l k (written p a x scope (k.to + 1) k.lists) (test_flat known scope agrees e h.0 from l) (test_held known scope agrees e h.0 from l)
+          if_part (Exiting code arguments f end bs x loops m) bs from l k (written p a x scope (k.to + 1) k.lists) (test known scope agrees e h.0 from l)
           (stmt_part a known loops scope x m agrees h.1 c bs (k.to + 1) k.lists)
       stmt_part (IfElse e a b) known loops scope x m agrees h c bs from l =
           let k = condition p scope e from (length scope) l in
           let first = written p a x scope (k.to + 1) k.lists in
-          if_else_part (Exiting code arguments f end bs x loops m) bs from l k first (written p b x scope (first.to + 1) first.lists) (test_flat known scope agrees e h.0 from l) (test_held known scope agrees e h.0 from l)
+          if_else_part (Exiting code arguments f end bs x loops m) bs from l k first (written p b x scope (first.to + 1) first.lists) (test known scope agrees e h.0 from l)
           (stmt_part a known loops scope x m agrees h.1 c.0 bs (k.to + 1) k.lists) (stmt_part b known loops scope x m agrees h.2 c.1 bs (first.to + 1) first.lists)
       stmt_part (While e a) known loops scope x m agrees h c bs from l =
           let body = written p a (looping x (from + 1) from) scope (from + 2) l in

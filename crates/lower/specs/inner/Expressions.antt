@@ -8,7 +8,6 @@ use Rattle.syntax.specs.declared.tree.UnaryOp.TheVariants.{Negate, Keep, Not, Co
 use Rattle.syntax.specs.declared.tree.BinaryOp.{BinaryOp}
 use Rattle.syntax.specs.declared.tree.BinaryOp.TheVariants.{Or, Xor, And, Equal, NotEqual, Less, Greater, LessEqual, GreaterEqual, ShiftLeft, ShiftRight, Add, Subtract, Multiply, Divide, Remainder}
 use Rattle.syntax.specs.declared.tree.LogicalOp.{LogicalOp}
-use Rattle.syntax.specs.declared.tree.LogicalOp.TheVariants.{AndThen, OrElse}
 use Rattle.syntax.specs.Tree.{Expr, Exprs, Variable, Constant, Element, Call, Parenthesized, Cast, Unary, Binary, Logical, Conditional, Program}
 use Rattle.syntax.specs.Numbers.{word_of, common, operand_type, result_type}
 use Rattle.syntax.specs.Names.{newest, global_of, cells, GlobalCells}
@@ -18,6 +17,7 @@ use Rattle.lowered.specs.Expressions.{LocalScope, arranged}
 use Rattle.lower.specs.declared.held.Held.{Held}
 use Rattle.lower.specs.inner.Lists.{Lists, used, holding}
 use Rattle.lower.specs.inner.Names.{Callee, callee_of}
+use Rattle.lower.specs.inner.Conditions.{Condition, test_in, going_on, by_value, opposite, joined, zero_test, zero_tested}
 
 -- the instruction of an operator: one that asks for more is the other way round
 abbrev pub computing : BinaryOp → Scalar → ℕ → ℕ → ℕ → Instr
@@ -52,19 +52,6 @@ computing GreaterEqual Unsigned d a b = own.LessEqualUnsigned d b a
 abbrev pub negating : Scalar → ℕ → ℕ → Instr
 negating Int d a = own.NegateSigned d a
 negating Unsigned d a = own.NegateUnsigned d a
-
--- `&&` and `||`: the jump to the short answer, and the two answers
-abbrev pub short_jump : LogicalOp → ℕ → ℕ → Instr
-short_jump AndThen a to = own.JumpZero a to
-short_jump OrElse a to = own.JumpNonzero a to
-
-abbrev pub long_answer : LogicalOp → ℕ
-long_answer AndThen = 1
-long_answer OrElse = 0
-
-abbrev pub short_answer : LogicalOp → ℕ
-short_answer AndThen = 0
-short_answer OrElse = 1
 
 -- instructions, the lists after them, and where the value lies behind them
 pub record Emitted : Type 0 where
@@ -139,17 +126,15 @@ both op a b into =
       held = record { register = into; of = result_type op t; to = b.held.to + 1 };
     }
 
--- two tests, and the answers behind them
-abbrev pub tested : LogicalOp → Emitted → Emitted → ℕ → Emitted
-tested op a b into =
-    let last = b.held.to in
+-- the int 1 where a condition holds, and 0 where it does not
+abbrev pub answered : Condition → ℕ → Emitted
+answered c into =
+    let last = c.to in
     record {
       code =
-          a.code
-          ++ short_jump op a.held.register (last + 3) ∷ b.code
-          ++ short_jump op b.held.register (last + 3) ∷ own.Constant into (long_answer op) ∷ own.Jump (last + 4)
-          ∷ own.Constant into (short_answer op) ∷ [];
-      lists = used into b.lists;
+          going_on c.code (test_in c) (last + 3)
+          ++ own.Constant into 1 ∷ own.Jump (last + 4) ∷ own.Constant into 0 ∷ [];
+      lists = used into c.lists;
       held = record { register = into; of = Int; to = last + 4 };
     }
 
@@ -157,13 +142,22 @@ tested op a b into =
 abbrev pub settled : ℕ → Emitted → Emitted
 settled r e = if e.held.register == r then e else then_one e (own.Move r e.held.register) r e.held.of
 
--- a value that is tested, and one of two values that lie in one register
-abbrev pub chosen : Emitted → Emitted → Emitted → ℕ → Emitted
+-- a condition, and one of two values that lie in one register
+abbrev pub chosen : Condition → Emitted → Emitted → ℕ → Emitted
 chosen c a b into = record {
-  code = c.code ++ own.JumpZero c.held.register (a.held.to + 1) ∷ a.code ++ own.Jump b.held.to ∷ b.code;
+  code = going_on c.code (test_in c) (a.held.to + 1) ++ a.code ++ own.Jump b.held.to ∷ b.code;
   lists = b.lists;
   held = record { register = into; of = common a.held.of b.held.of; to = b.held.to };
 }
+
+-- a condition as its operator has it, or else by its value
+abbrev pub tested : Option Condition → Emitted → Condition
+tested None e = by_value e.code e.lists e.held
+tested (Some c) e = c
+
+-- two conditions, one behind the other
+abbrev pub joining : LogicalOp → (first second : ℕ → Lists → Condition) → ℕ → Lists → Condition
+joining op first second from l = let a = first from l in joined op a (second (a.to + 1) a.lists)
 
 abbrev pub none_emitted : ℕ → Lists → AllEmitted
 none_emitted from l = record { code = []; lists = l; registers = []; to = from }
@@ -207,12 +201,31 @@ module _ (p : Program) (scope : LocalScope) where
         let later = above free left.held.register in
         both op left (emitted b left.held.to later later left.lists) into
     emitted (Logical op a b at) from into free l =
-        let left = emitted a from free free l in
-        tested op left (emitted b (left.held.to + 1) free free left.lists) into
+        answered
+        (joining op (λ to m. tested (own_condition a to free m) (emitted a to free free m))
+        (λ to m. tested (own_condition b to free m) (emitted b to free free m)) from l)
+        into
     emitted (Conditional c a b at) from into free l =
-        let test = emitted c from free free l in
-        let first = settled into (emitted a (test.held.to + 1) into free test.lists) in
+        let test = tested (own_condition c from free l) (emitted c from free free l) in
+        let first = settled into (emitted a (test.to + 1) into free test.lists) in
         chosen test first (settled into (emitted b (first.held.to + 1) into free first.lists)) into
+
+    -- a condition whose operator says how it is tested
+    pub own_condition : Expr → (from free : ℕ) → Lists → Option Condition
+    own_condition (Parenthesized e at) from free l =
+        Some (tested (own_condition e from free l) (emitted e from free free l))
+    own_condition (Cast t e at) from free l =
+        Some (tested (own_condition e from free l) (emitted e from free free l))
+    own_condition (Unary Keep e at) from free l =
+        Some (tested (own_condition e from free l) (emitted e from free free l))
+    own_condition (Unary Not e at) from free l =
+        Some (opposite (tested (own_condition e from free l) (emitted e from free free l)))
+    own_condition (Binary op a b at) from free l =
+        zero_tested (zero_test op b) (tested (own_condition a from free l) (emitted a from free free l))
+    own_condition (Logical op a b at) from free l = Some
+        (joining op (λ to m. tested (own_condition a to free m) (emitted a to free free m))
+        (λ to m. tested (own_condition b to free m) (emitted b to free free m)) from l)
+    own_condition e from free l = None
 
     -- values from left to right, each in a register of its own
     pub all_emitted : Exprs → (from free : ℕ) → Lists → AllEmitted
@@ -220,3 +233,6 @@ module _ (p : Program) (scope : LocalScope) where
     all_emitted (Exprs.◌∷◌ e es) from free l =
         let first = emitted e from free free l in
         followed first (all_emitted es first.held.to (above free first.held.register) first.lists)
+
+  abbrev pub condition : Expr → (from free : ℕ) → Lists → Condition
+  condition e from free l = tested (own_condition e from free l) (emitted e from free free l)

@@ -11,8 +11,8 @@ use Rattle.lowered.specs.Expressions.{LocalScope}
 use Rattle.lowered.specs.Statements.{locals_of_start, locals_after}
 use Rattle.lower.specs.declared.held.Exits.{Exits}
 use Rattle.lower.specs.inner.Lists.{Lists}
-use Rattle.lower.specs.inner.Expressions.{Emitted, AllEmitted, emitted, all_emitted}
-use Rattle.lower.specs.inner.Conditions.{Condition, jump_if, jump_if_not, condition}
+use Rattle.lower.specs.inner.Expressions.{Emitted, AllEmitted, emitted, all_emitted, condition}
+use Rattle.lower.specs.inner.Conditions.{Condition, test_in, going_on, going_back}
 use Rattle.lower.specs.inner.Simples.{Written, nothing_written, one_written, and_then, evaluated, simple_written, declared_written, start_written}
 
 -- so many commits, and then an instruction
@@ -27,18 +27,18 @@ looping x break_to continue_to = record x { break_to = break_to; continue_to = c
 
 -- a condition, a jump to the place behind the branch where it does not hold, and the branch
 abbrev pub branched : Condition → Written → Written
-branched c a = record { code = c.code ++ jump_if_not c.at_zero c.register a.to ∷ a.code; lists = a.lists; to = a.to }
+branched c a = record { code = going_on c.code (test_in c) a.to ++ a.code; lists = a.lists; to = a.to }
 
 abbrev pub branched_twice : Condition → Written → Written → Written
 branched_twice c a b = record {
-  code = c.code ++ jump_if_not c.at_zero c.register (a.to + 1) ∷ a.code ++ own.Jump b.to ∷ b.code;
+  code = going_on c.code (test_in c) (a.to + 1) ++ a.code ++ own.Jump b.to ∷ b.code;
   lists = b.lists;
   to = b.to;
 }
 
 -- a condition, and a jump where it holds
 abbrev pub tested_back : Condition → ℕ → Written
-tested_back c to = record { code = c.code ++ jump_if c.at_zero c.register to ∷ []; lists = c.lists; to = c.to + 1 }
+tested_back c to = record { code = going_back c.code (test_in c) to; lists = c.lists; to = c.to + 1 }
 
 -- a jump to the test, which is a continue's pad too, a pad for breaks, the body, and the test
 abbrev pub while_written : Written → Written → Written

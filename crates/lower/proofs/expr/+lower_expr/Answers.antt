@@ -1,19 +1,20 @@
-use Rattle.std.proofs.Common.{◌≡◌, ℕ, ◌∷◌, [], ◌++◌, ◌+◌, ap, sym, subst, ◌∙◌, arith, OnOk, IfOk, Result, Ok, Err, IfErr, refl}
+use Rattle.std.proofs.Common.{◌≡◌, ℕ, ◌∷◌, [], ◌++◌, ap, sym, subst, ◌∙◌, arith, OnOk, IfOk, Result, Ok, Err, IfErr, refl}
 use Rattle.syntax.specs.declared.tree.UnaryOp.TheVariants.{Negate, Not, Complement}
-use Rattle.syntax.specs.Numbers.{common, operand_type}
+use Rattle.syntax.specs.Numbers.{operand_type}
 use Rattle.syntax.specs.Views.{expr_of, exprs_of}
 use Rattle.bytecode.specs.declared.instr.Instr.TheVariants as own
 use Rattle.lower.specs.inner.Names.{callee_of}
-use Rattle.lower.specs.inner.Expressions.{Emitted, above, negating, computing, short_jump, long_answer, short_answer, called, element, emitted, all_emitted}
+use Rattle.lower.specs.inner.Conditions.{Condition}
+use Rattle.lower.specs.inner.Expressions.{Emitted, above, negating, computing, called, settled, element, emitted, condition, all_emitted}
 use Rattle.syntax.specs.Names.{global_of, cells}
 use Rattle.lower.specs.inner.Tables.{callee_in, shared_in}
-use Rattle.lower.proofs.Arms.{tail_is, tails_are, jumped_over, parts_are, chosen_code, chosen_lists, chosen_held, called_code, called_lists, called_held, call_is, element_is, unary_is, binary_is, logical_is, conditional_is}
+use Rattle.lower.proofs.Arms.{tail_is, tails_are, second_behind, logical_made, chosen_made, called_code, called_lists, called_held, call_is, element_is, unary_is, binary_is, logical_is, conditional_is}
 use denote.Param.Weighed.{most}
 use Rattle.syntax.specs.declared.tree.Expr.{the_lemmas}
 use Rattle.syntax.proofs.tree.Expr.TheLaws.{the_size}
 use Rattle.lower.specs.inner.Lists.{Lists, lists_of}
 use Rattle.lower.specs.inner.Views.{program_in, scope_in}
-use Rattle.lower.proofs.Failing.{passed_on, binary_first, logical_first, call_args, conditional_first, conditional_second, conditional_settled, conditional_third, conditional_last}
+use Rattle.lower.proofs.Failing.{passed_on, binary_first, logical_first, joined_first, call_args, conditional_first, conditional_second, conditional_third}
 use Rattle.lower.specs.inner.Limits.{NeedsMore}
 use Rattle.lower.proofs.Rows.{first_within, next_code, next_registers, next_lists, next_place, last_code, last_registers}
 use Rattle.lower.proofs.expr.+lower_expr.Goals as goal
@@ -52,61 +53,6 @@ lower_expr-returns-in_ok-b-in-Binary-clause-code g t c =
     c.in_ok-a-in-Binary.ensures.code c.in_ok-a-in-Binary.ensures.lists c.in_ok-a-in-Binary.ensures.held c.above-later.ensures c.in_ok-b-in-Binary.ensures.code c.in_ok-b-in-Binary.ensures.held
     ∙ sym (ap (λ x. c.args.code.now.items ++ (emitted (program_in c.args.names.now) (scope_in c.args.scope.now) x c.args.from c.args.into c.args.free (lists_of c.args.lists.now)).code) is))
     c.put_both.ensures.code
-
-pub lower_expr-returns-in_ok-b-in-Logical-clause-code : goal.lower_expr-returns-in_ok-b-in-Logical-clause-code
-lower_expr-returns-in_ok-b-in-Logical-clause-code g t c =
-    let op = c.in-Logical.op in
-    let left = emitted (program_in c.args.names.now) (scope_in c.args.scope.now) (expr_of c.get-in-Logical.result.now) c.args.from c.args.free c.args.free (lists_of c.args.lists.now) in
-    let is = logical_is c.args.e.now op c.in-Logical.left c.in-Logical.right c.get-in-Logical.result.now c.get-in-Logical-2.result.now c.in-Logical.field-3 c.in-Logical.is c.get-in-Logical.ensures c.get-in-Logical-2.ensures in
-    subst (λ z. OnOk c.put_tested.result (c.put_tested.new.code.items ≡ z))
-    (jumped_over left (λ to l. emitted (program_in c.args.names.now) (scope_in c.args.scope.now) (expr_of c.get-in-Logical-2.result.now) to c.args.free c.args.free l) (λ a b. short_jump op a.register (b.to + 3))
-    (λ b. short_jump op b.register (b.to + 3) ∷ own.Constant c.args.into (long_answer op) ∷ own.Jump (b.to + 4) ∷ own.Constant c.args.into (short_answer op) ∷ [])
-    c.args.code.now.items c.lower_expr-in-Logical.new.code.items c.lower_expr-in-Logical-2.new.code.items c.new-second.result.items (lists_of c.lower_expr-in-Logical.new.lists) c.in_ok-a-in-Logical.a c.in_ok-b-in-Logical.b c.in_ok-next-in-Logical.next
-    c.in_ok-a-in-Logical.ensures.code c.in_ok-a-in-Logical.ensures.lists c.in_ok-a-in-Logical.ensures.held c.in_ok-next-in-Logical.ensures c.new-second.ensures.items c.in_ok-b-in-Logical.ensures.code c.in_ok-b-in-Logical.ensures.held
-    ∙ sym (ap (λ x. c.args.code.now.items ++ (emitted (program_in c.args.names.now) (scope_in c.args.scope.now) x c.args.from c.args.into c.args.free (lists_of c.args.lists.now)).code) is))
-    c.put_tested.ensures.code
-
-pub lower_expr-returns-in_ok-b-in-Conditional-2-clause-code : goal.lower_expr-returns-in_ok-b-in-Conditional-2-clause-code
-lower_expr-returns-in_ok-b-in-Conditional-2-clause-code g t c =
-    let test = emitted (program_in c.args.names.now) (scope_in c.args.scope.now) (expr_of c.get-in-Conditional.result.now) c.args.from c.args.free c.args.free (lists_of c.args.lists.now) in
-    let first : ℕ → Lists → Emitted = (λ to l. emitted (program_in c.args.names.now) (scope_in c.args.scope.now) (expr_of c.get-in-Conditional-2.result.now) to c.args.into c.args.free l) in
-    let second : ℕ → Lists → Emitted = (λ to l. emitted (program_in c.args.names.now) (scope_in c.args.scope.now) (expr_of c.get-in-Conditional-3.result.now) to c.args.into c.args.free l) in
-    let is = conditional_is c.args.e.now c.in-Conditional.test c.in-Conditional.left c.in-Conditional.right c.get-in-Conditional.result.now c.get-in-Conditional-2.result.now c.get-in-Conditional-3.result.now c.in-Conditional.field-3 c.in-Conditional.is c.get-in-Conditional.ensures c.get-in-Conditional-2.ensures c.get-in-Conditional-3.ensures in
-    let lc = lists_of c.lower_expr-in-Conditional.new.lists in
-    let la = lists_of c.settle.new.lists in
-    let x = parts_are (first c.in_ok-next-in-Conditional.next lc) c.lower_expr-in-Conditional-2.new.code.items c.new-first.result.items (lists_of c.lower_expr-in-Conditional-2.new.lists) c.in_ok-a-in-Conditional.a c.new-first.ensures.items c.in_ok-a-in-Conditional.ensures.code c.in_ok-a-in-Conditional.ensures.lists c.in_ok-a-in-Conditional.ensures.held in
-    let y = parts_are (second c.in_ok-other-in-Conditional.other la) c.lower_expr-in-Conditional-3.new.code.items c.new-second-in-Conditional.result.items (lists_of c.lower_expr-in-Conditional-3.new.lists) c.in_ok-b-in-Conditional.b c.new-second-in-Conditional.ensures.items c.in_ok-b-in-Conditional.ensures.code c.in_ok-b-in-Conditional.ensures.lists c.in_ok-b-in-Conditional.ensures.held in
-    subst (λ z. OnOk c.put_chosen.result (c.put_chosen.new.code.items ≡ z))
-    (chosen_code test first second c.args.into lc la c.in_ok-c-in-Conditional.c c.in_ok-a-in-Conditional-2.a c.in_ok-next-in-Conditional.next c.in_ok-other-in-Conditional.other _ _ c.in_ok-c-in-Conditional.ensures.lists c.in_ok-c-in-Conditional.ensures.held c.in_ok-next-in-Conditional.ensures x c.in_ok-a-in-Conditional-2.ensures.lists c.in_ok-a-in-Conditional-2.ensures.held c.in_ok-other-in-Conditional.ensures y c.args.code.now.items c.lower_expr-in-Conditional.new.code.items c.settle.new.code.items c.settle-in-Conditional.new.code.items c.in_ok-b-in-Conditional-2.b
-    c.in_ok-c-in-Conditional.ensures.code c.in_ok-a-in-Conditional-2.ensures.code c.in_ok-b-in-Conditional-2.ensures.code c.in_ok-b-in-Conditional-2.ensures.held
-    ∙ sym (ap (λ x. c.args.code.now.items ++ (emitted (program_in c.args.names.now) (scope_in c.args.scope.now) x c.args.from c.args.into c.args.free (lists_of c.args.lists.now)).code) is))
-    c.put_chosen.ensures.code
-
-pub lower_expr-returns-in_ok-b-in-Conditional-2-clause-lists : goal.lower_expr-returns-in_ok-b-in-Conditional-2-clause-lists
-lower_expr-returns-in_ok-b-in-Conditional-2-clause-lists g t c =
-    let test = emitted (program_in c.args.names.now) (scope_in c.args.scope.now) (expr_of c.get-in-Conditional.result.now) c.args.from c.args.free c.args.free (lists_of c.args.lists.now) in
-    let first : ℕ → Lists → Emitted = (λ to l. emitted (program_in c.args.names.now) (scope_in c.args.scope.now) (expr_of c.get-in-Conditional-2.result.now) to c.args.into c.args.free l) in
-    let second : ℕ → Lists → Emitted = (λ to l. emitted (program_in c.args.names.now) (scope_in c.args.scope.now) (expr_of c.get-in-Conditional-3.result.now) to c.args.into c.args.free l) in
-    let is = conditional_is c.args.e.now c.in-Conditional.test c.in-Conditional.left c.in-Conditional.right c.get-in-Conditional.result.now c.get-in-Conditional-2.result.now c.get-in-Conditional-3.result.now c.in-Conditional.field-3 c.in-Conditional.is c.get-in-Conditional.ensures c.get-in-Conditional-2.ensures c.get-in-Conditional-3.ensures in
-    let lc = lists_of c.lower_expr-in-Conditional.new.lists in
-    let la = lists_of c.settle.new.lists in
-    let x = parts_are (first c.in_ok-next-in-Conditional.next lc) c.lower_expr-in-Conditional-2.new.code.items c.new-first.result.items (lists_of c.lower_expr-in-Conditional-2.new.lists) c.in_ok-a-in-Conditional.a c.new-first.ensures.items c.in_ok-a-in-Conditional.ensures.code c.in_ok-a-in-Conditional.ensures.lists c.in_ok-a-in-Conditional.ensures.held in
-    let y = parts_are (second c.in_ok-other-in-Conditional.other la) c.lower_expr-in-Conditional-3.new.code.items c.new-second-in-Conditional.result.items (lists_of c.lower_expr-in-Conditional-3.new.lists) c.in_ok-b-in-Conditional.b c.new-second-in-Conditional.ensures.items c.in_ok-b-in-Conditional.ensures.code c.in_ok-b-in-Conditional.ensures.lists c.in_ok-b-in-Conditional.ensures.held in
-    holds c.put_chosen.result (chosen_lists test first second c.args.into lc la c.in_ok-c-in-Conditional.c c.in_ok-a-in-Conditional-2.a c.in_ok-next-in-Conditional.next c.in_ok-other-in-Conditional.other _ _ c.in_ok-c-in-Conditional.ensures.lists c.in_ok-c-in-Conditional.ensures.held c.in_ok-next-in-Conditional.ensures x c.in_ok-a-in-Conditional-2.ensures.lists c.in_ok-a-in-Conditional-2.ensures.held c.in_ok-other-in-Conditional.ensures y (lists_of c.settle-in-Conditional.new.lists) c.in_ok-b-in-Conditional-2.ensures.lists ∙ sym (ap (λ x. (emitted (program_in c.args.names.now) (scope_in c.args.scope.now) x c.args.from c.args.into c.args.free (lists_of c.args.lists.now)).lists) is))
-
-pub lower_expr-returns-in_ok-b-in-Conditional-2-clause-held : goal.lower_expr-returns-in_ok-b-in-Conditional-2-clause-held
-lower_expr-returns-in_ok-b-in-Conditional-2-clause-held g t c =
-    let test = emitted (program_in c.args.names.now) (scope_in c.args.scope.now) (expr_of c.get-in-Conditional.result.now) c.args.from c.args.free c.args.free (lists_of c.args.lists.now) in
-    let first : ℕ → Lists → Emitted = (λ to l. emitted (program_in c.args.names.now) (scope_in c.args.scope.now) (expr_of c.get-in-Conditional-2.result.now) to c.args.into c.args.free l) in
-    let second : ℕ → Lists → Emitted = (λ to l. emitted (program_in c.args.names.now) (scope_in c.args.scope.now) (expr_of c.get-in-Conditional-3.result.now) to c.args.into c.args.free l) in
-    let is = conditional_is c.args.e.now c.in-Conditional.test c.in-Conditional.left c.in-Conditional.right c.get-in-Conditional.result.now c.get-in-Conditional-2.result.now c.get-in-Conditional-3.result.now c.in-Conditional.field-3 c.in-Conditional.is c.get-in-Conditional.ensures c.get-in-Conditional-2.ensures c.get-in-Conditional-3.ensures in
-    let lc = lists_of c.lower_expr-in-Conditional.new.lists in
-    let la = lists_of c.settle.new.lists in
-    let x = parts_are (first c.in_ok-next-in-Conditional.next lc) c.lower_expr-in-Conditional-2.new.code.items c.new-first.result.items (lists_of c.lower_expr-in-Conditional-2.new.lists) c.in_ok-a-in-Conditional.a c.new-first.ensures.items c.in_ok-a-in-Conditional.ensures.code c.in_ok-a-in-Conditional.ensures.lists c.in_ok-a-in-Conditional.ensures.held in
-    let y = parts_are (second c.in_ok-other-in-Conditional.other la) c.lower_expr-in-Conditional-3.new.code.items c.new-second-in-Conditional.result.items (lists_of c.lower_expr-in-Conditional-3.new.lists) c.in_ok-b-in-Conditional.b c.new-second-in-Conditional.ensures.items c.in_ok-b-in-Conditional.ensures.code c.in_ok-b-in-Conditional.ensures.lists c.in_ok-b-in-Conditional.ensures.held in
-    subst (λ z. IfOk c.put_chosen.result (λ held. held ≡ z))
-    (chosen_held test first second c.args.into lc la c.in_ok-c-in-Conditional.c c.in_ok-a-in-Conditional-2.a c.in_ok-next-in-Conditional.next c.in_ok-other-in-Conditional.other _ _ c.in_ok-c-in-Conditional.ensures.lists c.in_ok-c-in-Conditional.ensures.held c.in_ok-next-in-Conditional.ensures x c.in_ok-a-in-Conditional-2.ensures.lists c.in_ok-a-in-Conditional-2.ensures.held c.in_ok-other-in-Conditional.ensures y common c.in_ok-b-in-Conditional-2.b c.in_ok-b-in-Conditional-2.ensures.held c.in_ok-b-in-Conditional-2.ensures.register ∙ sym (ap (λ x. (emitted (program_in c.args.names.now) (scope_in c.args.scope.now) x c.args.from c.args.into c.args.free (lists_of c.args.lists.now)).held) is))
-    c.put_chosen.ensures.held
 
 pub lower_expr-returns-in_ok-to-in-Some-called-clause-code : goal.lower_expr-returns-in_ok-to-in-Some-called-clause-code
 lower_expr-returns-in_ok-to-in-Some-called-clause-code g t c =
@@ -148,36 +94,6 @@ pub lower_expr-returns-in_err-a-in-Binary-clause-fails : goal.lower_expr-returns
 lower_expr-returns-in_err-a-in-Binary-clause-fails g t c =
     passed_on c.lower_expr-in-Binary.result c.from_residual-in_err-a-in-Binary.result c.in_err-a-in-Binary.field-0.0 _ _ c.lower_expr-in-Binary.ensures.fails c.in_err-a-in-Binary.was c.from_residual-in_err-a-in-Binary.ensures
     (binary_first (program_in c.args.names.now) (scope_in c.args.scope.now) c.args.from c.args.into c.args.free (lists_of c.args.lists.now) (expr_of c.args.e.now) c.in-Binary.op (expr_of c.get-in-Binary.result.now) (expr_of c.in-Binary.right) c.in-Binary.field-3 (binary_is c.args.e.now c.in-Binary.op c.in-Binary.left c.in-Binary.right c.get-in-Binary.result.now c.in-Binary.right c.in-Binary.field-3 c.in-Binary.is c.get-in-Binary.ensures refl))
-
-pub lower_expr-returns-in_err-a-in-Logical-clause-fails : goal.lower_expr-returns-in_err-a-in-Logical-clause-fails
-lower_expr-returns-in_err-a-in-Logical-clause-fails g t c =
-    passed_on c.lower_expr-in-Logical.result c.from_residual-in_err-a-in-Logical.result c.in_err-a-in-Logical.field-0.0 _ _ c.lower_expr-in-Logical.ensures.fails c.in_err-a-in-Logical.was c.from_residual-in_err-a-in-Logical.ensures
-    (logical_first (program_in c.args.names.now) (scope_in c.args.scope.now) c.args.from c.args.into c.args.free (lists_of c.args.lists.now) (expr_of c.args.e.now) c.in-Logical.op (expr_of c.get-in-Logical.result.now) (expr_of c.in-Logical.right) c.in-Logical.field-3 (logical_is c.args.e.now c.in-Logical.op c.in-Logical.left c.in-Logical.right c.get-in-Logical.result.now c.in-Logical.right c.in-Logical.field-3 c.in-Logical.is c.get-in-Logical.ensures refl))
-
-pub lower_expr-returns-in_err-c-in-Conditional-clause-fails : goal.lower_expr-returns-in_err-c-in-Conditional-clause-fails
-lower_expr-returns-in_err-c-in-Conditional-clause-fails g t c =
-    passed_on c.lower_expr-in-Conditional.result c.from_residual-in_err-c-in-Conditional.result c.in_err-c-in-Conditional.field-0.0 _ _ c.lower_expr-in-Conditional.ensures.fails c.in_err-c-in-Conditional.was c.from_residual-in_err-c-in-Conditional.ensures
-    (conditional_first (program_in c.args.names.now) (scope_in c.args.scope.now) c.args.from c.args.into c.args.free (lists_of c.args.lists.now) (expr_of c.args.e.now) (expr_of c.get-in-Conditional.result.now) (expr_of c.in-Conditional.left) (expr_of c.in-Conditional.right) c.in-Conditional.field-3 (conditional_is c.args.e.now c.in-Conditional.test c.in-Conditional.left c.in-Conditional.right c.get-in-Conditional.result.now c.in-Conditional.left c.in-Conditional.right c.in-Conditional.field-3 c.in-Conditional.is c.get-in-Conditional.ensures refl refl))
-
-pub lower_expr-returns-in_err-a-in-Conditional-clause-fails : goal.lower_expr-returns-in_err-a-in-Conditional-clause-fails
-lower_expr-returns-in_err-a-in-Conditional-clause-fails g t c =
-    passed_on c.lower_expr-in-Conditional-2.result c.from_residual-in_err-a-in-Conditional.result c.in_err-a-in-Conditional.field-0.0 _ _ c.lower_expr-in-Conditional-2.ensures.fails c.in_err-a-in-Conditional.was c.from_residual-in_err-a-in-Conditional.ensures
-    (conditional_second (program_in c.args.names.now) (scope_in c.args.scope.now) c.args.from c.args.into c.args.free (lists_of c.args.lists.now) (expr_of c.args.e.now) (expr_of c.get-in-Conditional.result.now) (expr_of c.get-in-Conditional-2.result.now) (expr_of c.in-Conditional.right) c.in-Conditional.field-3 (conditional_is c.args.e.now c.in-Conditional.test c.in-Conditional.left c.in-Conditional.right c.get-in-Conditional.result.now c.get-in-Conditional-2.result.now c.in-Conditional.right c.in-Conditional.field-3 c.in-Conditional.is c.get-in-Conditional.ensures c.get-in-Conditional-2.ensures refl) (lists_of c.lower_expr-in-Conditional.new.lists) c.in_ok-c-in-Conditional.c c.in_ok-next-in-Conditional.next c.in_ok-c-in-Conditional.ensures.lists c.in_ok-c-in-Conditional.ensures.held c.in_ok-next-in-Conditional.ensures)
-
-pub lower_expr-returns-in_err-a-in-Conditional-2-clause-fails : goal.lower_expr-returns-in_err-a-in-Conditional-2-clause-fails
-lower_expr-returns-in_err-a-in-Conditional-2-clause-fails g t c =
-    passed_on c.settle.result c.from_residual-in_err-a-in-Conditional-2.result c.in_err-a-in-Conditional-2.field-0.0 _ _ c.settle.ensures.fails c.in_err-a-in-Conditional-2.was c.from_residual-in_err-a-in-Conditional-2.ensures
-    (conditional_settled (program_in c.args.names.now) (scope_in c.args.scope.now) c.args.from c.args.into c.args.free (lists_of c.args.lists.now) (expr_of c.args.e.now) (expr_of c.get-in-Conditional.result.now) (expr_of c.get-in-Conditional-2.result.now) (expr_of c.in-Conditional.right) c.in-Conditional.field-3 (conditional_is c.args.e.now c.in-Conditional.test c.in-Conditional.left c.in-Conditional.right c.get-in-Conditional.result.now c.get-in-Conditional-2.result.now c.in-Conditional.right c.in-Conditional.field-3 c.in-Conditional.is c.get-in-Conditional.ensures c.get-in-Conditional-2.ensures refl) (lists_of c.lower_expr-in-Conditional.new.lists) c.in_ok-c-in-Conditional.c c.in_ok-next-in-Conditional.next c.in_ok-c-in-Conditional.ensures.lists c.in_ok-c-in-Conditional.ensures.held c.in_ok-next-in-Conditional.ensures _ (parts_are (emitted (program_in c.args.names.now) (scope_in c.args.scope.now) (expr_of c.get-in-Conditional-2.result.now) c.in_ok-next-in-Conditional.next c.args.into c.args.free (lists_of c.lower_expr-in-Conditional.new.lists)) c.lower_expr-in-Conditional-2.new.code.items c.new-first.result.items (lists_of c.lower_expr-in-Conditional-2.new.lists) c.in_ok-a-in-Conditional.a c.new-first.ensures.items c.in_ok-a-in-Conditional.ensures.code c.in_ok-a-in-Conditional.ensures.lists c.in_ok-a-in-Conditional.ensures.held))
-
-pub lower_expr-returns-in_err-b-in-Conditional-clause-fails : goal.lower_expr-returns-in_err-b-in-Conditional-clause-fails
-lower_expr-returns-in_err-b-in-Conditional-clause-fails g t c =
-    passed_on c.lower_expr-in-Conditional-3.result c.from_residual-in_err-b-in-Conditional.result c.in_err-b-in-Conditional.field-0.0 _ _ c.lower_expr-in-Conditional-3.ensures.fails c.in_err-b-in-Conditional.was c.from_residual-in_err-b-in-Conditional.ensures
-    (conditional_third (program_in c.args.names.now) (scope_in c.args.scope.now) c.args.from c.args.into c.args.free (lists_of c.args.lists.now) (expr_of c.args.e.now) (expr_of c.get-in-Conditional.result.now) (expr_of c.get-in-Conditional-2.result.now) (expr_of c.get-in-Conditional-3.result.now) c.in-Conditional.field-3 (conditional_is c.args.e.now c.in-Conditional.test c.in-Conditional.left c.in-Conditional.right c.get-in-Conditional.result.now c.get-in-Conditional-2.result.now c.get-in-Conditional-3.result.now c.in-Conditional.field-3 c.in-Conditional.is c.get-in-Conditional.ensures c.get-in-Conditional-2.ensures c.get-in-Conditional-3.ensures) (lists_of c.lower_expr-in-Conditional.new.lists) c.in_ok-c-in-Conditional.c c.in_ok-next-in-Conditional.next c.in_ok-c-in-Conditional.ensures.lists c.in_ok-c-in-Conditional.ensures.held c.in_ok-next-in-Conditional.ensures _ (parts_are (emitted (program_in c.args.names.now) (scope_in c.args.scope.now) (expr_of c.get-in-Conditional-2.result.now) c.in_ok-next-in-Conditional.next c.args.into c.args.free (lists_of c.lower_expr-in-Conditional.new.lists)) c.lower_expr-in-Conditional-2.new.code.items c.new-first.result.items (lists_of c.lower_expr-in-Conditional-2.new.lists) c.in_ok-a-in-Conditional.a c.new-first.ensures.items c.in_ok-a-in-Conditional.ensures.code c.in_ok-a-in-Conditional.ensures.lists c.in_ok-a-in-Conditional.ensures.held) (lists_of c.settle.new.lists) c.in_ok-a-in-Conditional-2.a c.in_ok-other-in-Conditional.other c.in_ok-a-in-Conditional-2.ensures.lists c.in_ok-a-in-Conditional-2.ensures.held c.in_ok-other-in-Conditional.ensures)
-
-pub lower_expr-returns-in_err-b-in-Conditional-2-clause-fails : goal.lower_expr-returns-in_err-b-in-Conditional-2-clause-fails
-lower_expr-returns-in_err-b-in-Conditional-2-clause-fails g t c =
-    passed_on c.settle-in-Conditional.result c.from_residual-in_err-b-in-Conditional-2.result c.in_err-b-in-Conditional-2.field-0.0 _ _ c.settle-in-Conditional.ensures.fails c.in_err-b-in-Conditional-2.was c.from_residual-in_err-b-in-Conditional-2.ensures
-    (conditional_last (program_in c.args.names.now) (scope_in c.args.scope.now) c.args.from c.args.into c.args.free (lists_of c.args.lists.now) (expr_of c.args.e.now) (expr_of c.get-in-Conditional.result.now) (expr_of c.get-in-Conditional-2.result.now) (expr_of c.get-in-Conditional-3.result.now) c.in-Conditional.field-3 (conditional_is c.args.e.now c.in-Conditional.test c.in-Conditional.left c.in-Conditional.right c.get-in-Conditional.result.now c.get-in-Conditional-2.result.now c.get-in-Conditional-3.result.now c.in-Conditional.field-3 c.in-Conditional.is c.get-in-Conditional.ensures c.get-in-Conditional-2.ensures c.get-in-Conditional-3.ensures) (lists_of c.lower_expr-in-Conditional.new.lists) c.in_ok-c-in-Conditional.c c.in_ok-next-in-Conditional.next c.in_ok-c-in-Conditional.ensures.lists c.in_ok-c-in-Conditional.ensures.held c.in_ok-next-in-Conditional.ensures _ (parts_are (emitted (program_in c.args.names.now) (scope_in c.args.scope.now) (expr_of c.get-in-Conditional-2.result.now) c.in_ok-next-in-Conditional.next c.args.into c.args.free (lists_of c.lower_expr-in-Conditional.new.lists)) c.lower_expr-in-Conditional-2.new.code.items c.new-first.result.items (lists_of c.lower_expr-in-Conditional-2.new.lists) c.in_ok-a-in-Conditional.a c.new-first.ensures.items c.in_ok-a-in-Conditional.ensures.code c.in_ok-a-in-Conditional.ensures.lists c.in_ok-a-in-Conditional.ensures.held) (lists_of c.settle.new.lists) c.in_ok-a-in-Conditional-2.a c.in_ok-other-in-Conditional.other c.in_ok-a-in-Conditional-2.ensures.lists c.in_ok-a-in-Conditional-2.ensures.held c.in_ok-other-in-Conditional.ensures _ (parts_are (emitted (program_in c.args.names.now) (scope_in c.args.scope.now) (expr_of c.get-in-Conditional-3.result.now) c.in_ok-other-in-Conditional.other c.args.into c.args.free (lists_of c.settle.new.lists)) c.lower_expr-in-Conditional-3.new.code.items c.new-second-in-Conditional.result.items (lists_of c.lower_expr-in-Conditional-3.new.lists) c.in_ok-b-in-Conditional.b c.new-second-in-Conditional.ensures.items c.in_ok-b-in-Conditional.ensures.code c.in_ok-b-in-Conditional.ensures.lists c.in_ok-b-in-Conditional.ensures.held))
 
 pub lower_expr-returns-in_err-to-in-Some-called-clause-fails : goal.lower_expr-returns-in_err-to-in-Some-called-clause-fails
 lower_expr-returns-in_err-to-in-Some-called-clause-fails g t c =
@@ -241,3 +157,87 @@ lower_expr-returns-in_ok-i-in-Some-clause-code g t c =
     (tail_is i (λ a. own.ReadAt c.args.into a.register x.cell (cells x.global) ∷ []) c.args.code.now.items c.lower_expr.new.code.items c.in_ok-i-in-Some.i c.in_ok-i-in-Some.ensures.code c.in_ok-i-in-Some.ensures.held
     ∙ sym (ap (λ (w : Emitted). c.args.code.now.items ++ w.code) whole))
     c.put_read_at.ensures.code
+
+pub lower_expr-returns-in_ok-t-in-Logical-clause-code : goal.lower_expr-returns-in_ok-t-in-Logical-clause-code
+lower_expr-returns-in_ok-t-in-Logical-clause-code g t c =
+    let first = condition (program_in c.args.names.now) (scope_in c.args.scope.now) (expr_of c.get-in-Logical.result.now) c.args.from c.args.free (lists_of c.args.lists.now) in
+    let is = logical_is c.args.e.now c.in-Logical.op c.in-Logical.left c.in-Logical.right c.get-in-Logical.result.now c.get-in-Logical-2.result.now c.in-Logical.field-3 c.in-Logical.is c.get-in-Logical.ensures c.get-in-Logical-2.ensures in
+    subst (λ z. OnOk c.put_answers.result (c.put_answers.new.code.items ≡ z))
+    (logical_made first (λ to l. condition (program_in c.args.names.now) (scope_in c.args.scope.now) (expr_of c.get-in-Logical-2.result.now) to c.args.free l) c.in-Logical.op c.new-test.result.items c.lower_first.new.drafts.items c.lower_condition.new.drafts.items c.as_slice-in-Logical.result.now (lists_of c.lower_first.new.lists) c.in_ok-next-in-Logical.next c.in_ok-t-in-Logical.t
+    c.new-test.ensures.items c.in_ok-next-in-Logical.ensures.code c.in_ok-next-in-Logical.ensures.lists c.in_ok-next-in-Logical.ensures.place c.in_ok-t-in-Logical.ensures.code c.as_slice-in-Logical.ensures.value c.in_ok-t-in-Logical.ensures.tested c.args.code.now.items c.args.into
+    ∙ sym (ap (λ x. c.args.code.now.items ++ (emitted (program_in c.args.names.now) (scope_in c.args.scope.now) x c.args.from c.args.into c.args.free (lists_of c.args.lists.now)).code) is))
+    c.put_answers.ensures.code
+
+pub lower_expr-returns-in_err-next-in-Logical-clause-fails : goal.lower_expr-returns-in_err-next-in-Logical-clause-fails
+lower_expr-returns-in_err-next-in-Logical-clause-fails g t c =
+    passed_on c.lower_first.result c.from_residual-in_err-next-in-Logical.result c.in_err-next-in-Logical.field-0.0 _ _ c.lower_first.ensures.fails c.in_err-next-in-Logical.was c.from_residual-in_err-next-in-Logical.ensures
+    (logical_first (program_in c.args.names.now) (scope_in c.args.scope.now) c.args.from c.args.into c.args.free (lists_of c.args.lists.now) (expr_of c.args.e.now) c.in-Logical.op (expr_of c.get-in-Logical.result.now) (expr_of c.in-Logical.right) c.in-Logical.field-3 (logical_is c.args.e.now c.in-Logical.op c.in-Logical.left c.in-Logical.right c.get-in-Logical.result.now c.in-Logical.right c.in-Logical.field-3 c.in-Logical.is c.get-in-Logical.ensures refl))
+
+pub lower_expr-returns-in_ok-b-in-Conditional-clause-code : goal.lower_expr-returns-in_ok-b-in-Conditional-clause-code
+lower_expr-returns-in_ok-b-in-Conditional-clause-code g t c =
+    let test = condition (program_in c.args.names.now) (scope_in c.args.scope.now) (expr_of c.get-in-Conditional.result.now) c.args.from c.args.free (lists_of c.args.lists.now) in
+    let first : ℕ → Lists → Emitted = (λ to l. settled c.args.into (emitted (program_in c.args.names.now) (scope_in c.args.scope.now) (expr_of c.get-in-Conditional-2.result.now) to c.args.into c.args.free l)) in
+    let second : ℕ → Lists → Emitted = (λ to l. settled c.args.into (emitted (program_in c.args.names.now) (scope_in c.args.scope.now) (expr_of c.get-in-Conditional-3.result.now) to c.args.into c.args.free l)) in
+    let is = conditional_is c.args.e.now c.in-Conditional.c c.in-Conditional.left c.in-Conditional.right c.get-in-Conditional.result.now c.get-in-Conditional-2.result.now c.get-in-Conditional-3.result.now c.in-Conditional.field-3 c.in-Conditional.is c.get-in-Conditional.ensures c.get-in-Conditional-2.ensures c.get-in-Conditional-3.ensures in
+    let made = chosen_made test first second c.args.into c.as_slice-in-Conditional.result.now c.lower_settled.new.code.items c.lower_settled-in-Conditional.new.code.items (lists_of c.lower_condition-in-Conditional.new.lists) (lists_of c.lower_settled.new.lists) (lists_of c.lower_settled-in-Conditional.new.lists)
+    c.in_ok-t-in-Conditional.t c.in_ok-a-in-Conditional.a c.in_ok-b-in-Conditional.b c.in_ok-next-in-Conditional.next c.in_ok-other-in-Conditional.other
+    (c.as_slice-in-Conditional.ensures.value ∙ c.in_ok-t-in-Conditional.ensures.code ∙ ap (λ xs. xs ++ test.code) c.new-test-in-Conditional.ensures.items) c.in_ok-t-in-Conditional.ensures.lists c.in_ok-t-in-Conditional.ensures.tested c.in_ok-next-in-Conditional.ensures
+    (record { code = c.in_ok-a-in-Conditional.ensures.code; lists = c.in_ok-a-in-Conditional.ensures.lists; held = c.in_ok-a-in-Conditional.ensures.held }) c.in_ok-other-in-Conditional.ensures
+    (record { code = c.in_ok-b-in-Conditional.ensures.code; lists = c.in_ok-b-in-Conditional.ensures.lists; held = c.in_ok-b-in-Conditional.ensures.held }) c.args.code.now.items c.in_ok-b-in-Conditional.ensures.register in
+    subst (λ z. OnOk c.put_chosen.result (c.put_chosen.new.code.items ≡ z)) (made.code ∙ sym (ap (λ x. c.args.code.now.items ++ (emitted (program_in c.args.names.now) (scope_in c.args.scope.now) x c.args.from c.args.into c.args.free (lists_of c.args.lists.now)).code) is)) c.put_chosen.ensures.code
+
+pub lower_expr-returns-in_ok-b-in-Conditional-clause-lists : goal.lower_expr-returns-in_ok-b-in-Conditional-clause-lists
+lower_expr-returns-in_ok-b-in-Conditional-clause-lists g t c =
+    let test = condition (program_in c.args.names.now) (scope_in c.args.scope.now) (expr_of c.get-in-Conditional.result.now) c.args.from c.args.free (lists_of c.args.lists.now) in
+    let first : ℕ → Lists → Emitted = (λ to l. settled c.args.into (emitted (program_in c.args.names.now) (scope_in c.args.scope.now) (expr_of c.get-in-Conditional-2.result.now) to c.args.into c.args.free l)) in
+    let second : ℕ → Lists → Emitted = (λ to l. settled c.args.into (emitted (program_in c.args.names.now) (scope_in c.args.scope.now) (expr_of c.get-in-Conditional-3.result.now) to c.args.into c.args.free l)) in
+    let is = conditional_is c.args.e.now c.in-Conditional.c c.in-Conditional.left c.in-Conditional.right c.get-in-Conditional.result.now c.get-in-Conditional-2.result.now c.get-in-Conditional-3.result.now c.in-Conditional.field-3 c.in-Conditional.is c.get-in-Conditional.ensures c.get-in-Conditional-2.ensures c.get-in-Conditional-3.ensures in
+    let made = chosen_made test first second c.args.into c.as_slice-in-Conditional.result.now c.lower_settled.new.code.items c.lower_settled-in-Conditional.new.code.items (lists_of c.lower_condition-in-Conditional.new.lists) (lists_of c.lower_settled.new.lists) (lists_of c.lower_settled-in-Conditional.new.lists)
+    c.in_ok-t-in-Conditional.t c.in_ok-a-in-Conditional.a c.in_ok-b-in-Conditional.b c.in_ok-next-in-Conditional.next c.in_ok-other-in-Conditional.other
+    (c.as_slice-in-Conditional.ensures.value ∙ c.in_ok-t-in-Conditional.ensures.code ∙ ap (λ xs. xs ++ test.code) c.new-test-in-Conditional.ensures.items) c.in_ok-t-in-Conditional.ensures.lists c.in_ok-t-in-Conditional.ensures.tested c.in_ok-next-in-Conditional.ensures
+    (record { code = c.in_ok-a-in-Conditional.ensures.code; lists = c.in_ok-a-in-Conditional.ensures.lists; held = c.in_ok-a-in-Conditional.ensures.held }) c.in_ok-other-in-Conditional.ensures
+    (record { code = c.in_ok-b-in-Conditional.ensures.code; lists = c.in_ok-b-in-Conditional.ensures.lists; held = c.in_ok-b-in-Conditional.ensures.held }) c.args.code.now.items c.in_ok-b-in-Conditional.ensures.register in
+    holds c.put_chosen.result (made.lists ∙ sym (ap (λ x. (emitted (program_in c.args.names.now) (scope_in c.args.scope.now) x c.args.from c.args.into c.args.free (lists_of c.args.lists.now)).lists) is))
+
+pub lower_expr-returns-in_ok-b-in-Conditional-clause-held : goal.lower_expr-returns-in_ok-b-in-Conditional-clause-held
+lower_expr-returns-in_ok-b-in-Conditional-clause-held g t c =
+    let test = condition (program_in c.args.names.now) (scope_in c.args.scope.now) (expr_of c.get-in-Conditional.result.now) c.args.from c.args.free (lists_of c.args.lists.now) in
+    let first : ℕ → Lists → Emitted = (λ to l. settled c.args.into (emitted (program_in c.args.names.now) (scope_in c.args.scope.now) (expr_of c.get-in-Conditional-2.result.now) to c.args.into c.args.free l)) in
+    let second : ℕ → Lists → Emitted = (λ to l. settled c.args.into (emitted (program_in c.args.names.now) (scope_in c.args.scope.now) (expr_of c.get-in-Conditional-3.result.now) to c.args.into c.args.free l)) in
+    let is = conditional_is c.args.e.now c.in-Conditional.c c.in-Conditional.left c.in-Conditional.right c.get-in-Conditional.result.now c.get-in-Conditional-2.result.now c.get-in-Conditional-3.result.now c.in-Conditional.field-3 c.in-Conditional.is c.get-in-Conditional.ensures c.get-in-Conditional-2.ensures c.get-in-Conditional-3.ensures in
+    let made = chosen_made test first second c.args.into c.as_slice-in-Conditional.result.now c.lower_settled.new.code.items c.lower_settled-in-Conditional.new.code.items (lists_of c.lower_condition-in-Conditional.new.lists) (lists_of c.lower_settled.new.lists) (lists_of c.lower_settled-in-Conditional.new.lists)
+    c.in_ok-t-in-Conditional.t c.in_ok-a-in-Conditional.a c.in_ok-b-in-Conditional.b c.in_ok-next-in-Conditional.next c.in_ok-other-in-Conditional.other
+    (c.as_slice-in-Conditional.ensures.value ∙ c.in_ok-t-in-Conditional.ensures.code ∙ ap (λ xs. xs ++ test.code) c.new-test-in-Conditional.ensures.items) c.in_ok-t-in-Conditional.ensures.lists c.in_ok-t-in-Conditional.ensures.tested c.in_ok-next-in-Conditional.ensures
+    (record { code = c.in_ok-a-in-Conditional.ensures.code; lists = c.in_ok-a-in-Conditional.ensures.lists; held = c.in_ok-a-in-Conditional.ensures.held }) c.in_ok-other-in-Conditional.ensures
+    (record { code = c.in_ok-b-in-Conditional.ensures.code; lists = c.in_ok-b-in-Conditional.ensures.lists; held = c.in_ok-b-in-Conditional.ensures.held }) c.args.code.now.items c.in_ok-b-in-Conditional.ensures.register in
+    subst (λ z. IfOk c.put_chosen.result (λ held. held ≡ z)) (made.held ∙ sym (ap (λ x. (emitted (program_in c.args.names.now) (scope_in c.args.scope.now) x c.args.from c.args.into c.args.free (lists_of c.args.lists.now)).held) is)) c.put_chosen.ensures.held
+
+pub lower_expr-returns-in_err-t-in-Conditional-clause-fails : goal.lower_expr-returns-in_err-t-in-Conditional-clause-fails
+lower_expr-returns-in_err-t-in-Conditional-clause-fails g t c =
+    passed_on c.lower_condition-in-Conditional.result c.from_residual-in_err-t-in-Conditional.result c.in_err-t-in-Conditional.field-0.0 _ _ c.lower_condition-in-Conditional.ensures.fails c.in_err-t-in-Conditional.was c.from_residual-in_err-t-in-Conditional.ensures
+    (conditional_first (program_in c.args.names.now) (scope_in c.args.scope.now) c.args.from c.args.into c.args.free (lists_of c.args.lists.now) (expr_of c.args.e.now) (expr_of c.get-in-Conditional.result.now) (expr_of c.in-Conditional.left) (expr_of c.in-Conditional.right) c.in-Conditional.field-3 (conditional_is c.args.e.now c.in-Conditional.c c.in-Conditional.left c.in-Conditional.right c.get-in-Conditional.result.now c.in-Conditional.left c.in-Conditional.right c.in-Conditional.field-3 c.in-Conditional.is c.get-in-Conditional.ensures refl refl))
+
+pub lower_expr-returns-in_err-a-in-Conditional-clause-fails : goal.lower_expr-returns-in_err-a-in-Conditional-clause-fails
+lower_expr-returns-in_err-a-in-Conditional-clause-fails g t c =
+    passed_on c.lower_settled.result c.from_residual-in_err-a-in-Conditional.result c.in_err-a-in-Conditional.field-0.0 _ _ c.lower_settled.ensures.fails c.in_err-a-in-Conditional.was c.from_residual-in_err-a-in-Conditional.ensures
+    (conditional_second (program_in c.args.names.now) (scope_in c.args.scope.now) c.args.from c.args.into c.args.free (lists_of c.args.lists.now) (expr_of c.args.e.now) (expr_of c.get-in-Conditional.result.now) (expr_of c.get-in-Conditional-2.result.now) (expr_of c.in-Conditional.right) c.in-Conditional.field-3 (conditional_is c.args.e.now c.in-Conditional.c c.in-Conditional.left c.in-Conditional.right c.get-in-Conditional.result.now c.get-in-Conditional-2.result.now c.in-Conditional.right c.in-Conditional.field-3 c.in-Conditional.is c.get-in-Conditional.ensures c.get-in-Conditional-2.ensures refl) (lists_of c.lower_condition-in-Conditional.new.lists) c.in_ok-t-in-Conditional.t c.in_ok-next-in-Conditional.next c.in_ok-t-in-Conditional.ensures.lists c.in_ok-t-in-Conditional.ensures.tested c.in_ok-next-in-Conditional.ensures)
+
+pub lower_expr-returns-in_err-b-in-Conditional-clause-fails : goal.lower_expr-returns-in_err-b-in-Conditional-clause-fails
+lower_expr-returns-in_err-b-in-Conditional-clause-fails g t c =
+    passed_on c.lower_settled-in-Conditional.result c.from_residual-in_err-b-in-Conditional.result c.in_err-b-in-Conditional.field-0.0 _ _ c.lower_settled-in-Conditional.ensures.fails c.in_err-b-in-Conditional.was c.from_residual-in_err-b-in-Conditional.ensures
+    (conditional_third (program_in c.args.names.now) (scope_in c.args.scope.now) c.args.from c.args.into c.args.free (lists_of c.args.lists.now) (expr_of c.args.e.now) (expr_of c.get-in-Conditional.result.now) (expr_of c.get-in-Conditional-2.result.now) (expr_of c.get-in-Conditional-3.result.now) c.in-Conditional.field-3 (conditional_is c.args.e.now c.in-Conditional.c c.in-Conditional.left c.in-Conditional.right c.get-in-Conditional.result.now c.get-in-Conditional-2.result.now c.get-in-Conditional-3.result.now c.in-Conditional.field-3 c.in-Conditional.is c.get-in-Conditional.ensures c.get-in-Conditional-2.ensures c.get-in-Conditional-3.ensures) (lists_of c.lower_condition-in-Conditional.new.lists) c.in_ok-t-in-Conditional.t c.in_ok-next-in-Conditional.next c.in_ok-t-in-Conditional.ensures.lists c.in_ok-t-in-Conditional.ensures.tested c.in_ok-next-in-Conditional.ensures (lists_of c.lower_settled.new.lists) c.in_ok-a-in-Conditional.a c.in_ok-other-in-Conditional.other c.in_ok-a-in-Conditional.ensures.lists c.in_ok-a-in-Conditional.ensures.held c.in_ok-other-in-Conditional.ensures)
+
+pub lower_condition-returns-in_err-next-in-Logical-clause-fails : goal.lower_condition-returns-in_err-next-in-Logical-clause-fails
+lower_condition-returns-in_err-next-in-Logical-clause-fails g t c =
+    passed_on c.lower_first.result c.from_residual.result c.in_err-next-in-Logical.field-0.0 _ _ c.lower_first.ensures.fails c.in_err-next-in-Logical.was c.from_residual.ensures
+    (joined_first (program_in c.args.names.now) (scope_in c.args.scope.now) c.args.from c.args.free (lists_of c.args.lists.now) (expr_of c.args.e.now) c.in-Logical.op (expr_of c.get-in-Logical.result.now) (expr_of c.in-Logical.b) c.in-Logical.field-3 (logical_is c.args.e.now c.in-Logical.op c.in-Logical.a c.in-Logical.b c.get-in-Logical.result.now c.in-Logical.b c.in-Logical.field-3 c.in-Logical.is c.get-in-Logical.ensures refl))
+
+pub lower_condition-returns-in_ok-next-in-Logical-clause-code : goal.lower_condition-returns-in_ok-next-in-Logical-clause-code
+lower_condition-returns-in_ok-next-in-Logical-clause-code g t c =
+    let first = condition (program_in c.args.names.now) (scope_in c.args.scope.now) (expr_of c.get-in-Logical.result.now) c.args.from c.args.free (lists_of c.args.lists.now) in
+    let second : ℕ → Lists → Condition = (λ to l. condition (program_in c.args.names.now) (scope_in c.args.scope.now) (expr_of c.get-in-Logical-2.result.now) to c.args.free l) in
+    let is = logical_is c.args.e.now c.in-Logical.op c.in-Logical.a c.in-Logical.b c.get-in-Logical.result.now c.get-in-Logical-2.result.now c.in-Logical.field-3 c.in-Logical.is c.get-in-Logical.ensures c.get-in-Logical-2.ensures in
+    subst (λ z. OnOk c.lower_condition-in-Logical.result (c.lower_condition-in-Logical.new.drafts.items ≡ z))
+    (second_behind first second c.in-Logical.op c.args.drafts.now.items c.lower_first.new.drafts.items (lists_of c.lower_first.new.lists) c.in_ok-next-in-Logical.next c.in_ok-next-in-Logical.ensures.code c.in_ok-next-in-Logical.ensures.lists c.in_ok-next-in-Logical.ensures.place
+    ∙ sym (ap (λ x. c.args.drafts.now.items ++ (condition (program_in c.args.names.now) (scope_in c.args.scope.now) x c.args.from c.args.free (lists_of c.args.lists.now)).code) is))
+    c.lower_condition-in-Logical.ensures.code

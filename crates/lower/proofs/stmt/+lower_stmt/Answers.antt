@@ -1,4 +1,4 @@
-use Rattle.std.proofs.Common.{◌≡◌, ◌++◌, ap, sym, subst, ◌∙◌, arith, OnOk, IfOk, IfErr, Result, Ok, Err, option_map}
+use Rattle.std.proofs.Common.{◌≡◌, ◌++◌, length, ap, sym, subst, ◌∙◌, arith, OnOk, IfOk, IfErr, Result, Ok, Err, option_map}
 use denote.Param.Weighed.{most, at_most}
 use Rattle.syntax.specs.declared.tree.Stmt.{the_lemmas}
 use Rattle.syntax.specs.declared.tree.Stmt.TheVariants as own_stmt
@@ -6,13 +6,14 @@ use Rattle.syntax.proofs.tree.Stmt.TheLaws.{the_size}
 use Rattle.syntax.specs.Views.{expr_of, simple_of, start_of, stmt_of, stmts_of}
 use Rattle.lowered.specs.Statements.{locals_after}
 use Rattle.lower.specs.inner.Lists.{lists_of}
+use Rattle.lower.specs.inner.Expressions.{condition}
 use Rattle.lower.specs.inner.Statements.{written}
 use Rattle.lower.specs.inner.Views.{program_in, scope_in}
 use Rattle.lower.specs.inner.Limits.{NeedsMore}
-use Rattle.lower.proofs.Failing.{passed_on, if_test, if_branch, while_body, do_body, do_test, transaction_body, for_first, for_body, for_next, for_last}
+use Rattle.lower.proofs.Failing.{passed_on, if_test, if_branch, while_body, while_test, do_body, do_test, transaction_body, for_first, for_body, for_next, for_last}
 use Rattle.lower.proofs.Written.{first_within, next_code, next_lists, next_place, next_scope, last_code, last_lists, last_place, last_scope}
 use Rattle.lower.proofs.Leaving.{start_longer, start_left, stmt_longer, stmt_left, stmts_longer, stmts_left}
-use Rattle.lower.proofs.Made.{if_made, if_else_made, do_made, for_made, transaction_made, declare_is, print_is, block_is, if_is, if_else_is, while_is, do_is, transaction_is}
+use Rattle.lower.proofs.Made.{if_made, if_else_made, while_made, do_made, for_made, transaction_made, declare_is, print_is, block_is, if_is, if_else_is, while_is, do_is, transaction_is}
 use Rattle.lower.proofs.stmt.+lower_stmt.Goals as goal
 
 holds : {X Y P : Type 0} (r : Result X Y) → P → OnOk r P
@@ -153,16 +154,16 @@ pub lower_stmt-returns-in_ok-put_branch-in-None-clause-code : goal.lower_stmt-re
 lower_stmt-returns-in_ok-put_branch-in-None-clause-code g t c =
     let is = if_is c.args.s.now c.in-If.c c.in-If.then c.get.result.now (c.in-If.is ∙ ap (λ o. own_stmt.If c.in-If.c c.in-If.then o) c.in-None.is) c.get.ensures in
     (if_made (program_in c.args.names.now) c.args.exits (scope_in c.args.scope.now) c.args.from (lists_of c.args.lists.now) c.args.code.now.items c.put_branch.new.code.items (expr_of c.in-If.c) (stmt_of c.get.result.now)
-    c.lower_head.new.code.items c.lower_scoped.new.code.items c.new-first.result.items (lists_of c.lower_head.new.lists) (lists_of c.lower_scoped.new.lists) c.in_ok-t-in-If.t c.in_ok-next-in-If.next c.in_ok-last-in-If.last
-    (record { code = c.in_ok-t-in-If.ensures.code; lists = c.in_ok-t-in-If.ensures.lists; tested = c.in_ok-t-in-If.ensures.tested }) c.in_ok-next-in-If.ensures c.new-first.ensures.items (record { code = c.in_ok-last-in-If.ensures.code; lists = c.in_ok-last-in-If.ensures.lists; place = c.in_ok-last-in-If.ensures.place }) c.in_ok-put_branch-in-None.ensures).code
+    c.lower_head.new.drafts.items c.lower_scoped.new.code.items c.new-first.result.items (lists_of c.lower_head.new.lists) (lists_of c.lower_scoped.new.lists) c.in_ok-t-in-If.t c.in_ok-next-in-If.next c.in_ok-last-in-If.last
+    (record { code = c.in_ok-t-in-If.ensures.code ∙ ap (λ xs. xs ++ (condition (program_in c.args.names.now) (scope_in c.args.scope.now) (expr_of c.in-If.c) c.args.from (length (scope_in c.args.scope.now)) (lists_of c.args.lists.now)).code) c.new-test.ensures.items; lists = c.in_ok-t-in-If.ensures.lists; tested = c.in_ok-t-in-If.ensures.tested }) c.in_ok-next-in-If.ensures c.new-first.ensures.items (record { code = c.in_ok-last-in-If.ensures.code; lists = c.in_ok-last-in-If.ensures.lists; place = c.in_ok-last-in-If.ensures.place }) c.in_ok-put_branch-in-None.ensures).code
     ∙ sym (ap (λ s. c.args.code.now.items ++ (written (program_in c.args.names.now) s c.args.exits (scope_in c.args.scope.now) c.args.from (lists_of c.args.lists.now)).code) is)
 
 pub lower_stmt-returns-in_ok-put_branches-in-Some-clause-code : goal.lower_stmt-returns-in_ok-put_branches-in-Some-clause-code
 lower_stmt-returns-in_ok-put_branches-in-Some-clause-code g t c =
     let is = if_else_is c.args.s.now c.in-If.c c.in-If.then c.in-Some.other c.get.result.now c.get-in-Some.result.now (c.in-If.is ∙ ap (λ o. own_stmt.If c.in-If.c c.in-If.then o) c.in-Some.is) c.get.ensures c.get-in-Some.ensures in
     (if_else_made (program_in c.args.names.now) c.args.exits (scope_in c.args.scope.now) c.args.from (lists_of c.args.lists.now) c.args.code.now.items c.put_branches.new.code.items (expr_of c.in-If.c) (stmt_of c.get.result.now)
-    c.lower_head.new.code.items c.lower_scoped.new.code.items c.new-first.result.items (lists_of c.lower_head.new.lists) (lists_of c.lower_scoped.new.lists) c.in_ok-t-in-If.t c.in_ok-next-in-If.next c.in_ok-last-in-If.last
-    (record { code = c.in_ok-t-in-If.ensures.code; lists = c.in_ok-t-in-If.ensures.lists; tested = c.in_ok-t-in-If.ensures.tested }) c.in_ok-next-in-If.ensures c.new-first.ensures.items (record { code = c.in_ok-last-in-If.ensures.code; lists = c.in_ok-last-in-If.ensures.lists; place = c.in_ok-last-in-If.ensures.place }) (stmt_of c.get-in-Some.result.now) (scope_in c.lower_scoped.new.scope) c.lower_scoped-in-Some.new.code.items c.new-second.result.items (lists_of c.lower_scoped-in-Some.new.lists) c.in_ok-other_at-in-Some.other_at c.in_ok-to-in-Some.to
+    c.lower_head.new.drafts.items c.lower_scoped.new.code.items c.new-first.result.items (lists_of c.lower_head.new.lists) (lists_of c.lower_scoped.new.lists) c.in_ok-t-in-If.t c.in_ok-next-in-If.next c.in_ok-last-in-If.last
+    (record { code = c.in_ok-t-in-If.ensures.code ∙ ap (λ xs. xs ++ (condition (program_in c.args.names.now) (scope_in c.args.scope.now) (expr_of c.in-If.c) c.args.from (length (scope_in c.args.scope.now)) (lists_of c.args.lists.now)).code) c.new-test.ensures.items; lists = c.in_ok-t-in-If.ensures.lists; tested = c.in_ok-t-in-If.ensures.tested }) c.in_ok-next-in-If.ensures c.new-first.ensures.items (record { code = c.in_ok-last-in-If.ensures.code; lists = c.in_ok-last-in-If.ensures.lists; place = c.in_ok-last-in-If.ensures.place }) (stmt_of c.get-in-Some.result.now) (scope_in c.lower_scoped.new.scope) c.lower_scoped-in-Some.new.code.items c.new-second.result.items (lists_of c.lower_scoped-in-Some.new.lists) c.in_ok-other_at-in-Some.other_at c.in_ok-to-in-Some.to
     c.in_ok-last-in-If.ensures.scope c.in_ok-other_at-in-Some.ensures c.new-second.ensures.items (record { code = c.in_ok-to-in-Some.ensures.code; lists = c.in_ok-to-in-Some.ensures.lists; place = c.in_ok-to-in-Some.ensures.place }) c.in_ok-put_branches-in-Some.ensures).code
     ∙ sym (ap (λ s. c.args.code.now.items ++ (written (program_in c.args.names.now) s c.args.exits (scope_in c.args.scope.now) c.args.from (lists_of c.args.lists.now)).code) is)
 
@@ -313,3 +314,36 @@ pub lower_stmts-returns-in_err-to-clause-fails : goal.lower_stmts-returns-in_err
 lower_stmts-returns-in_err-to-clause-fails g t c =
     passed_on c.lower_stmt.result c.from_residual.result c.in_err-to.field-0.0 _ _ c.lower_stmt.ensures.fails c.in_err-to.was c.from_residual.ensures
     (first_within (program_in c.args.names.now) c.args.exits c.args.body.now c.body.s-index c.body.to (scope_in c.body.scope) (lists_of c.body.lists) c.s-item.result _ c.body-test.true c.s-item.is c.body.invariant.lists)
+
+pub lower_stmt-returns-in_ok-put_while-in-While-clause-code : goal.lower_stmt-returns-in_ok-put_while-in-While-clause-code
+lower_stmt-returns-in_ok-put_while-in-While-clause-code g t c =
+    let is = while_is c.args.s.now c.in-While.c c.in-While.body c.get-in-While.result.now c.in-While.is c.get-in-While.ensures in
+    (while_made (program_in c.args.names.now) c.args.exits (scope_in c.args.scope.now) c.args.from (lists_of c.args.lists.now) c.args.code.now.items c.put_while.new.code.items (expr_of c.in-While.c) (stmt_of c.get-in-While.result.now)
+    c.new-inner.result.items c.lower_scoped-in-While.new.code.items c.lower_back.new.code.items (lists_of c.lower_scoped-in-While.new.lists) (lists_of c.lower_back.new.lists) c.looping-exits.result (scope_in c.lower_scoped-in-While.new.scope) c.in_ok-test_at-in-While.test_at c.in_ok-to-in-While.to
+    c.in_ok-pad-in-While.pad c.in_ok-start-in-While.start c.in_ok-pad-in-While.ensures c.in_ok-start-in-While.ensures c.looping-exits.ensures c.new-inner.ensures.items c.in_ok-test_at-in-While.ensures.scope
+    (record { code = c.in_ok-test_at-in-While.ensures.code; lists = c.in_ok-test_at-in-While.ensures.lists; place = c.in_ok-test_at-in-While.ensures.place }) (record { code = c.in_ok-to-in-While.ensures.code; lists = c.in_ok-to-in-While.ensures.lists; place = c.in_ok-to-in-While.ensures.place }) c.in_ok-put_while-in-While.ensures).code
+    ∙ sym (ap (λ s. c.args.code.now.items ++ (written (program_in c.args.names.now) s c.args.exits (scope_in c.args.scope.now) c.args.from (lists_of c.args.lists.now)).code) is)
+
+pub lower_stmt-returns-in_ok-put_while-in-While-clause-lists : goal.lower_stmt-returns-in_ok-put_while-in-While-clause-lists
+lower_stmt-returns-in_ok-put_while-in-While-clause-lists g t c =
+    let is = while_is c.args.s.now c.in-While.c c.in-While.body c.get-in-While.result.now c.in-While.is c.get-in-While.ensures in
+    (while_made (program_in c.args.names.now) c.args.exits (scope_in c.args.scope.now) c.args.from (lists_of c.args.lists.now) c.args.code.now.items c.put_while.new.code.items (expr_of c.in-While.c) (stmt_of c.get-in-While.result.now)
+    c.new-inner.result.items c.lower_scoped-in-While.new.code.items c.lower_back.new.code.items (lists_of c.lower_scoped-in-While.new.lists) (lists_of c.lower_back.new.lists) c.looping-exits.result (scope_in c.lower_scoped-in-While.new.scope) c.in_ok-test_at-in-While.test_at c.in_ok-to-in-While.to
+    c.in_ok-pad-in-While.pad c.in_ok-start-in-While.start c.in_ok-pad-in-While.ensures c.in_ok-start-in-While.ensures c.looping-exits.ensures c.new-inner.ensures.items c.in_ok-test_at-in-While.ensures.scope
+    (record { code = c.in_ok-test_at-in-While.ensures.code; lists = c.in_ok-test_at-in-While.ensures.lists; place = c.in_ok-test_at-in-While.ensures.place }) (record { code = c.in_ok-to-in-While.ensures.code; lists = c.in_ok-to-in-While.ensures.lists; place = c.in_ok-to-in-While.ensures.place }) c.in_ok-put_while-in-While.ensures).lists
+    ∙ sym (ap (λ s. (written (program_in c.args.names.now) s c.args.exits (scope_in c.args.scope.now) c.args.from (lists_of c.args.lists.now)).lists) is)
+
+pub lower_stmt-returns-in_ok-put_while-in-While-clause-place : goal.lower_stmt-returns-in_ok-put_while-in-While-clause-place
+lower_stmt-returns-in_ok-put_while-in-While-clause-place g t c =
+    let is = while_is c.args.s.now c.in-While.c c.in-While.body c.get-in-While.result.now c.in-While.is c.get-in-While.ensures in
+    (while_made (program_in c.args.names.now) c.args.exits (scope_in c.args.scope.now) c.args.from (lists_of c.args.lists.now) c.args.code.now.items c.put_while.new.code.items (expr_of c.in-While.c) (stmt_of c.get-in-While.result.now)
+    c.new-inner.result.items c.lower_scoped-in-While.new.code.items c.lower_back.new.code.items (lists_of c.lower_scoped-in-While.new.lists) (lists_of c.lower_back.new.lists) c.looping-exits.result (scope_in c.lower_scoped-in-While.new.scope) c.in_ok-test_at-in-While.test_at c.in_ok-to-in-While.to
+    c.in_ok-pad-in-While.pad c.in_ok-start-in-While.start c.in_ok-pad-in-While.ensures c.in_ok-start-in-While.ensures c.looping-exits.ensures c.new-inner.ensures.items c.in_ok-test_at-in-While.ensures.scope
+    (record { code = c.in_ok-test_at-in-While.ensures.code; lists = c.in_ok-test_at-in-While.ensures.lists; place = c.in_ok-test_at-in-While.ensures.place }) (record { code = c.in_ok-to-in-While.ensures.code; lists = c.in_ok-to-in-While.ensures.lists; place = c.in_ok-to-in-While.ensures.place }) c.in_ok-put_while-in-While.ensures).place
+    ∙ sym (ap (λ s. (written (program_in c.args.names.now) s c.args.exits (scope_in c.args.scope.now) c.args.from (lists_of c.args.lists.now)).to) is)
+
+pub lower_stmt-returns-in_err-to-in-While-clause-fails : goal.lower_stmt-returns-in_err-to-in-While-clause-fails
+lower_stmt-returns-in_err-to-in-While-clause-fails g t c =
+    passed_on c.lower_back.result c.from_residual-in_err-to-in-While.result c.in_err-to-in-While.field-0.0 _ _ c.lower_back.ensures.fails c.in_err-to-in-While.was c.from_residual-in_err-to-in-While.ensures
+    (while_test (program_in c.args.names.now) c.args.exits (scope_in c.args.scope.now) c.args.from (lists_of c.args.lists.now) (stmt_of c.args.s.now) (expr_of c.in-While.c) (stmt_of c.get-in-While.result.now) c.looping-exits.result c.in_ok-pad-in-While.pad c.in_ok-start-in-While.start (while_is c.args.s.now c.in-While.c c.in-While.body c.get-in-While.result.now c.in-While.is c.get-in-While.ensures) c.in_ok-pad-in-While.ensures c.in_ok-start-in-While.ensures c.looping-exits.ensures
+    (scope_in c.lower_scoped-in-While.new.scope) (lists_of c.lower_scoped-in-While.new.lists) c.in_ok-test_at-in-While.test_at c.in_ok-test_at-in-While.ensures.scope c.in_ok-test_at-in-While.ensures.lists c.in_ok-test_at-in-While.ensures.place)
