@@ -188,7 +188,7 @@ fn show_the_same(alloc: Global, text: &str, ticks: u64, steps: u32) -> bool {
 }
 
 /// Programs with one way of ending, of printing, of jumping or of leaving loops each.
-const TEXTS: [&str; 8] = [
+const TEXTS: [&str; 9] = [
     "void worker(int self) { for (int i = 0; i < self; i++) { if (i == 1) continue; printf(\"%d;\", i); } }",
     "int f(int n) { if (n < 2) return n; printf(\"f\"); return f(n - 1) + f(n - 2); } void worker(int self) { printf(\"%d %u\", f(self + 1), 7u); }",
     "void worker(int self) { int v = 2147483640; do { v += self; printf(\"%d\\n\", v); } while (1); }",
@@ -197,6 +197,7 @@ const TEXTS: [&str; 8] = [
     "void worker(int self) { unsigned u = 1; for (;;) { u = u << self; printf(\"%u \", u); if (u > 100u && !(u == 512u)) break; self = self * 3; } }",
     "int x; void worker(int self) { printf(\"%d\", self > 2 ? self || 1 / 0 : 0); __transaction_atomic { x = 1; } printf(\"z\"); }",
     "void worker(int self) { int a = 1, b; b = a > 0 && self; while (1) { if (b) { { int a = 5; b = a - 5; } continue; } break; } printf(\"%d%d\", a, b); }",
+    "void worker(int self) { for (int i = 0; i < 8; i++) { int a = i & 1, b = i & 2, c = i & 4; if (a && b || !(c || b != 0)) printf(\"%d\", i); while ((a || b) && !(c && a)) { a = 0; b = 0; } printf(\"%d%d\", a ? b || c : c && self, (a && (b || c)) == 0 ? 1 : 2); } }",
 ];
 
 #[test]
