@@ -14,3 +14,5 @@ pub mod Asking
 pub mod Calls
 -- many local steps of a kept thread are as many of the machine's
 pub mod Advancing
+-- a read that loads its word and then the lock
+pub mod Reading

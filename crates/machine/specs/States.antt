@@ -1,5 +1,5 @@
 -- A thread as its contracts see it.
-use Rattle.std.specs.Prelude.{◌≡◌, ◌<◌, ◌≤◌, ◌^◌, ℕ, Bool, false, List, [], Option, None, Some, length}
+use Rattle.std.specs.Prelude.{◌≡◌, ◌<◌, ◌≤◌, ◌^◌, ℕ, Bool, false, List, [], Option, None, Some, IsSomeAnd, length}
 use Rattle.syntax.specs.declared.numbers.Status.{Status}
 use Rattle.syntax.specs.declared.numbers.Status.TheVariants.{Running}
 use Rattle.nesting.specs.Begins.{Saved}
@@ -14,12 +14,14 @@ use Rattle.frames.specs.Told.{IsCall, Tells}
 use Rattle.norec_core.specs.declared.step.Op.{Op}
 use Rattle.norec_core.specs.declared.step.Op.TheVariants as op
 use Rattle.norec_core.specs.declared.step.Access.{Access}
-use Rattle.norec_core.specs.declared.step.Access.TheVariants.{LoadWord}
+use Rattle.norec_core.specs.declared.step.Access.TheVariants.{LoadLock, LoadWord}
 use Rattle.norec_core.specs.declared.step.Answer.{Answer}
 use Rattle.norec_core.specs.declared.step.Answer.TheVariants.{Value}
 use Rattle.norec_core.specs.Attempts.{Attempt}
+use Rattle.norec_core.specs.Cores.{LoadsBoth}
 use Rattle.machine.specs.Explained.{has_lock}
-use Rattle.machine.specs.Threads.{Thread, op_of, access}
+use Rattle.machine.specs.Standing.{IsThreadOf}
+use Rattle.machine.specs.Threads.{Next, Thread, op_of, access, told}
 
 -- what was made ready for a step: the operation that the core was asked for, what a begin then saves, and the room for a call
 -- and for a print
@@ -65,6 +67,20 @@ pub record IsPrepared (code : Code) (s : ThreadState) : Type 0 where
 -- where the thread runs, this is what stands at its place to be done
 abbrev pub StandsAt : Code → ThreadState → Doing → Type 0
 StandsAt code s doing = s.thread.status ≡ Running → Tells code s.thread.configuration doing
+
+-- The thread runs, and its next two steps are a read's: a load of this cell's word and, whatever word it finds, one of the lock.
+-- All is ready for their answers.
+pub record LoadsNext (code : Code) (s : ThreadState) (cell : ℕ) : Type 0 where
+  pub running : s.thread.status ≡ Running
+  pub loads : IsSomeAnd s.thread.attempt (λ a. LoadsBoth a cell)
+  pub word : access (effect code) s.thread ≡ LoadWord cell
+  pub lock : (word : ℕ) → word < 2 ^ 32 → access (effect code) (told (effect code) s.thread (Value word)).thread ≡ LoadLock
+  pub between : (word : ℕ) → word < 2 ^ 32 → IsThreadOf code (told (effect code) s.thread (Value word)).thread
+  pub asked : s.ready.asked ≡ Some (op.Read cell)
+
+-- the thread after both steps of a read
+abbrev pub told_twice : Code → Thread Configuration → (word lock : ℕ) → Next Configuration
+told_twice code th word lock = told (effect code) (told (effect code) th (Value word)).thread (Value lock)
 
 -- a loaded cell's word is a word
 abbrev pub IsWordOf : Access → Answer → Type 0

@@ -7,7 +7,7 @@ ghost use Rattle.norec_core.specs.Accesses.{IsAnswerTo, cost, stops};
 ghost use Rattle.machine.specs.Threads.{access, told as told_spec};
 ghost use Rattle.machine.specs.Standing.{IsThreadOf};
 ghost use Rattle.machine.specs.Answered.{Replays};
-ghost use Rattle.machine.specs.States.{IsPrepared, IsWordOf, StandsAt, first_thread, thread_has_lock};
+ghost use Rattle.machine.specs.States.{IsPrepared, IsWordOf, LoadsNext, StandsAt, first_thread, thread_has_lock, told_twice};
 ghost use Rattle.machine.specs.inner.Kept.{cost_if};
 
 use crate::event::Event;
@@ -208,6 +208,52 @@ impl<A: Allocator + Copy> Thread<A> {
             Status::Ended => (Event::Quiet, false),
             Status::Trapped(_) => (Event::Quiet, false),
         }
+    }
+
+    /// Whether the read of this cell that stands at its place is made by two steps, a load of the cell's word and then one of
+    /// the lock, whatever word is found. Where it is, room is made for the read's entry; where that is refused it is false too.
+    #[inline(always)]
+    pub fn prepare_read<B: Allocator>(&mut self, code: &Code<B>, to: u16, cell: u32) -> bool
+        requires of { IsThreadOf code.now self.old.thread }
+        requires stands { StandsAt code.now self.old (Doing.Read to cell) }
+        ensures thread { self.new.thread ≡ self.old.thread }
+        ensures accesses { self.new.accesses ≡ self.old.accesses }
+        ensures loads { result ≡ true → LoadsNext code.now self.new cell }
+    {
+        // The prover learns here that the code is valid.
+        let _valid = code.parts();
+        // The prover names by it where the word goes.
+        let _to = to;
+        match self.held.status {
+            Status::Running => self.held.core.prepare_read(cell),
+            Status::Ended => false,
+            Status::Trapped(_) => false,
+        }
+    }
+
+    /// Makes both steps of such a read, with the word and the lock's value that were loaded. It takes no memory.
+    #[inline(always)]
+    pub fn take_read<B: Allocator>(
+        &mut self,
+        code: &Code<B>,
+        to: u16,
+        cell: u32,
+        word: u64,
+        lock: u64,
+    )
+        requires of { IsThreadOf code.now self.old.thread }
+        requires stands { StandsAt code.now self.old (Doing.Read to cell) }
+        requires loads { LoadsNext code.now self.old cell }
+        requires word { word < 2 ^ 32 }
+        requires count { self.old.accesses + 2 < 2 ^ 64 }
+        ensures thread { self.new.thread ≡ (told_twice code.now self.old.thread word lock).thread }
+        ensures of { IsThreadOf code.now self.new.thread }
+        ensures accesses { self.new.accesses ≡ self.old.accesses + 2 }
+    {
+        // The prover learns here that the code is valid.
+        let _valid = code.parts();
+        self.accesses += 2;
+        let _event = self.held.take_read(code, to, cell, word, lock);
     }
 
     /// How it is.

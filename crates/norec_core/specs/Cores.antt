@@ -1,9 +1,10 @@
 -- A core as its contracts see it.
-use Rattle.std.specs.Prelude.{Bool, true, false, Option, None, Some, IsSomeAnd}
+use Rattle.std.specs.Prelude.{◌≡◌, ℕ, Bool, true, false, Option, None, Some, IsSomeAnd}
+use Rattle.write_log.specs.Overlay.{written}
 use Rattle.norec_core.specs.declared.step.Op.{Op}
 use Rattle.norec_core.specs.declared.step.Answer.{Answer}
 use Rattle.norec_core.specs.declared.step.Phase.{Phase}
-use Rattle.norec_core.specs.declared.step.Phase.TheVariants.{Stores}
+use Rattle.norec_core.specs.declared.step.Phase.TheVariants.{AtOperation, Stores}
 use Rattle.nesting.specs.Begins.{Saved}
 use Rattle.norec_core.specs.Attempts.{Attempt}
 use Rattle.norec_core.specs.Accesses.{IsAnswerTo}
@@ -25,6 +26,14 @@ stepped_by c (Some op) answer = core_step c.saved c.attempt op answer
 
 abbrev pub stepped : CoreState → Answer → CoreStep Saved
 stepped c answer = stepped_by c c.asked answer
+
+-- a read of this cell loads its word and then the lock
+abbrev pub LoadsBoth : {S : Type 0} → Attempt S → ℕ → Type 0
+LoadsBoth a cell = (a.phase ≡ AtOperation) × (a.kept ≡ false) × (written cell a.writes ≡ None)
+
+-- two steps of an operation, with the answers to their accesses
+abbrev pub stepped_twice : CoreState → Op → (first second : Answer) → CoreStep Saved
+stepped_twice c op first second = core_step c.saved (core_step c.saved c.attempt op first).attempt op second
 
 -- whether an attempt is under way whose lock is kept
 abbrev pub is_kept : Option (Attempt Saved) → Bool

@@ -1,9 +1,10 @@
 //! The core of a thread: an operation's step is prepared, then told the answer to its access.
 
-ghost use Rattle.std.specs.Prelude.{◌≡◌, ◌≢◌, ◌↔◌, true, None, Some, IsTrue, IsSome, IfOk, IfSome, OnOk, OnErr};
+ghost use Rattle.std.specs.Prelude.{◌≡◌, ◌≢◌, ◌↔◌, true, None, Some, IsTrue, IsSome, IsSomeAnd, IfOk, IfSome, OnOk, OnErr};
 ghost use Rattle.norec_core.specs.Accesses.{stops};
 ghost use Rattle.norec_core.specs.Phases.{core_access};
-ghost use Rattle.norec_core.specs.Cores.{IsAnswered, stepped, is_kept, has_lock};
+ghost use Rattle.norec_core.specs.Cores.{IsAnswered, LoadsBoth, stepped, stepped_twice, is_kept, has_lock};
+ghost use Rattle.norec_core.specs.declared.step.Answer.TheVariants.{Value};
 
 use super::step::{Access, Answer, Op, Outcome, Stop};
 use super::steps::Steps;
@@ -91,6 +92,34 @@ impl<A: Allocator + Copy> Core<A> {
             Some(op) => self.steps.told(op, answer),
             None => Outcome::Going,
         }
+    }
+
+    /// Prepares both steps of a read of this cell, where it loads the cell's word and then the lock: whether it did. It does not
+    /// either where the room for the read's entry is refused.
+    #[inline(always)]
+    pub fn prepare_read(&mut self, cell: u32) -> bool
+        ensures loads { result ≡ true → IsSomeAnd self.old.attempt (λ a. LoadsBoth a cell) }
+        ensures asked { result ≡ true → self.new.asked ≡ Some (Op.Read cell) }
+        ensures attempt { self.new.attempt ≡ self.old.attempt }
+    {
+        if !self.steps.loads_both(cell) || !self.steps.make_read_room() {
+            return false;
+        }
+        self.asked = Some(Op::Read(cell));
+        true
+    }
+
+    /// Makes both steps of a read that were prepared, with the word and the lock's value that were loaded. It takes no memory.
+    #[inline(always)]
+    pub fn take_read(&mut self, cell: u32, word: u64, lock: u64) -> Outcome
+        requires loads { IsSomeAnd self.old.attempt (λ a. LoadsBoth a cell) }
+        requires asked { self.old.asked ≡ Some (Op.Read cell) }
+        ensures attempt { self.new.attempt ≡ (stepped_twice self.old (Op.Read cell) (Value word) (Value lock)).attempt }
+        ensures outcome { result ≡ (stepped_twice self.old (Op.Read cell) (Value word) (Value lock)).outcome }
+        ensures asked { self.new.asked ≡ None }
+    {
+        self.asked = None;
+        self.steps.take_read(cell, word, lock)
     }
 
     /// What to go back to, after a step that cancelled or aborted: the thread's state at that begin.

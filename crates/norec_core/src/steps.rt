@@ -4,7 +4,9 @@ ghost use Rattle.std.specs.Prelude.{◌≡◌, ◌≢◌, ◌+◌, ◌^◌, ◌<
 ghost use Rattle.write_log.specs.Overlay.{written};
 ghost use Rattle.norec_core.specs.Accesses.{stops};
 ghost use Rattle.norec_core.specs.Phases.{core_access, core_step, core_phase, core_operation, core_read, core_commit, core_cancel, core_store, core_check, core_time, core_compare, operation_access, commit_access, entry_access, store_access};
-ghost use Rattle.norec_core.specs.Cores.{holds};
+ghost use Rattle.norec_core.specs.Cores.{LoadsBoth, holds};
+ghost use Rattle.norec_core.specs.declared.step.Answer.TheVariants.{Value};
+ghost use Rattle.norec_core.specs.declared.step.Phase.TheVariants.{ReadsLock};
 ghost use Rattle.norec_core.specs.inner.Runs.{attempt_of, IsStep, GainsRoom, HasRoom, CanRelease};
 
 use super::step::{Access, Answer, Op, Outcome, Phase};
@@ -94,6 +96,45 @@ impl<A: Allocator + Copy> Steps<A> {
         ensures { result.now ≡ self.now.aside }
     {
         self.logs.aside()
+    }
+
+    // Whether a read of this cell loads its word and then the lock.
+    #[inline(always)]
+    pub(crate) fn loads_both(&self, cell: u32) -> bool
+        ensures { result ≡ true → (self.now.begun ≡ true) × LoadsBoth self.now.attempt cell }
+    {
+        if !self.begun || self.logs.is_kept() {
+            return false;
+        }
+        match self.phase {
+            Phase::AtOperation => self.logs.written(cell).is_none(),
+            _ => false,
+        }
+    }
+
+    // Makes room for a read's entry: whether there is.
+    #[inline(always)]
+    pub(crate) fn make_read_room(&mut self) -> bool
+        ensures room { result ≡ true → 0 < self.new.read_room }
+        ensures others { GainsRoom self.old self.new }
+    {
+        self.logs.prepare_read().is_ok()
+    }
+
+    // Both steps of such a read.
+    #[inline(always)]
+    pub(crate) fn take_read(&mut self, cell: u32, word: u64, lock: u64) -> Outcome
+        requires begun { self.old.begun ≡ true }
+        requires loads { LoadsBoth self.old.attempt cell }
+        requires room { 0 < self.old.read_room }
+        ensures { IsStep (core_check (record self.old.attempt { phase = ReadsLock word }) (Op.Read cell) word (Value lock)) result self.new }
+    {
+        if self.snapshot == lock {
+            self.logs.log_read(cell, word);
+            return Outcome::Read(word);
+        }
+        self.phase = Phase::ValidatesTime;
+        Outcome::Going
     }
 
     // The access of the next step.

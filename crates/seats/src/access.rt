@@ -15,8 +15,9 @@ use std::alloc::Allocator;
 /// The words that all seats step on: word 0 is the lock, and the cells follow.
 pub type Words<A> = Shared<(), View, Setup<A>, Ruled>;
 
+/// A load of the lock.
 #[inline(always)]
-fn load_lock<A: Allocator>(words: &Words<A>, seat: &mut Seat<(), View>) -> u64
+pub fn load_lock<A: Allocator>(words: &Words<A>, seat: &mut Seat<(), View>) -> u64
     requires table { (seat.old.table_id ≡ words.now.table_id) × (0 < words.now.table_id.words) }
     requires next { IsNext words.now.key seat.old.me LoadLock }
     ensures seat { (seat.new.table_id ≡ seat.old.table_id) × (seat.new.id ≡ seat.old.id) }
@@ -25,8 +26,9 @@ fn load_lock<A: Allocator>(words: &Words<A>, seat: &mut Seat<(), View>) -> u64
     words.load::<Told>(seat, 0)
 }
 
+/// A load of a cell's word.
 #[inline(always)]
-fn load_word<A: Allocator>(words: &Words<A>, seat: &mut Seat<(), View>, cell: usize) -> u64
+pub fn load_word<A: Allocator>(words: &Words<A>, seat: &mut Seat<(), View>, cell: usize) -> u64
     requires table { (seat.old.table_id ≡ words.now.table_id) × (cell + 1 < words.now.table_id.words) }
     requires room { words.now.table_id.words < 2 ^ 64 }
     requires next { IsNext words.now.key seat.old.me (LoadWord cell) }

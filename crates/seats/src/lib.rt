@@ -12,7 +12,7 @@ mod opening;
 mod rule;
 mod sharing;
 
-pub use access::{Words, make};
+pub use access::{Words, load_lock, load_word, make};
 pub use closing::close;
 pub use opening::{WordsTable, open};
 pub use rule::{Ruled, Setup, View};

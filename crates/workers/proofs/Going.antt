@@ -18,7 +18,7 @@ begins_on xs ys zs g h = (g.0 ++ h.0, h.1 ∙ ap (λ l. l ++ h.0) g.1 ∙ append
 goes_nowhere : (code : Code) (p : ViewPart) (now : Part Configuration) → GoesOnFrom code p now p now
 goes_nowhere code p now = record { count = 0; more = []; heard = sym (append-nil p.heard); steps = Replays.none; records = ([], sym (append-nil now.records)); floor = (refl, refl) }
 
-goes_further : (code : Code) (p q r : ViewPart) (a b c : Part Configuration) → GoesOnFrom code p a q b → GoesOnFrom code q b r c → GoesOnFrom code p a r c
+pub goes_further : (code : Code) (p q r : ViewPart) (a b c : Part Configuration) → GoesOnFrom code p a q b → GoesOnFrom code q b r c → GoesOnFrom code p a r c
 goes_further code p q r a b c f g = record {
   count = f.count + g.count;
   more = f.more ++ g.more;

@@ -18,3 +18,5 @@ pub mod Numbers
 pub mod Ran
 -- what a thread begins after a meeting
 pub mod Later
+-- both steps of a read
+pub mod Loading

@@ -1,6 +1,6 @@
 //! One thread of the machine, with its seat at the table.
 
-ghost use Rattle.std.specs.Prelude.{◌≡◌, ◌+◌, ◌^◌, ◌<◌, ◌≤◌, ℕ, true, OnOk, OnErr, IfOk, IfErr};
+ghost use Rattle.std.specs.Prelude.{◌≡◌, ◌+◌, ◌^◌, ◌<◌, ◌≤◌, ℕ, true, false, OnOk, OnErr, IfOk, IfErr};
 ghost use Rattle.atomic_table.specs.Seated.{TableId};
 ghost use Rattle.bytecode.specs.Code.{effect};
 ghost use Rattle.bytecode.specs.Valid.{cells_of};
@@ -16,7 +16,7 @@ use bytecode::Code;
 use frames::Doing;
 use machine::Thread;
 use norec_core::Stop;
-use seats::{View, Words, make};
+use seats::{View, Words, load_lock, load_word, make};
 use std::alloc::{Allocator, Global};
 use syntax::numbers::{Status as ThreadStatus, Trap};
 
@@ -97,9 +97,50 @@ impl<A: Allocator + Copy> Worker<A> {
         }
     }
 
-    // Steps of the thread in which this is to be done, at most so many, and one at least.
+    // Both steps of the read of this cell that stands at its place, where it loads the cell's word and then the lock: whether they
+    // were made.
+    #[inline(never)]
+    fn read(&mut self, words: &Words<A>, code: &Code<A>, to: u16, cell: u32) -> bool
+        requires table { words.now.table_id.words ≡ cells_of code.now + 1 }
+        requires code { words.now.key.code ≡ code.now }
+        requires worker { IsWorkerOf words.now.table_id words.now.key self.old }
+        requires room { self.old.steps + 2 < 2 ^ 64 }
+        requires stands { StandsAt code.now self.old.thread (Doing.Read to cell) }
+        ensures goes_on { (self.new.number ≡ self.old.number) × StepsOn words.now.table_id words.now.key self.old self.new }
+        ensures made { result ≡ true → self.new.steps ≡ self.old.steps + 2 }
+        ensures not_made { result ≡ false → (self.new.steps ≡ self.old.steps) × StandsAt code.now self.new.thread (Doing.Read to cell) }
+    {
+        if !self.thread.prepare_read(code, to, cell) {
+            return false;
+        }
+        let word = load_word(words, &mut self.seat, cell as usize);
+        let lock = load_lock(words, &mut self.seat);
+        self.thread.take_read(code, to, cell, word, lock);
+        self.steps += 2;
+        true
+    }
+
+    // All steps of what is to be done, where a function of its own makes them and they are so many at most: whether they were made.
     #[inline(always)]
-    fn operate(
+    fn complete(&mut self, words: &Words<A>, code: &Code<A>, doing: Doing, most: u64) -> bool
+        requires table { words.now.table_id.words ≡ cells_of code.now + 1 }
+        requires code { words.now.key.code ≡ code.now }
+        requires worker { IsWorkerOf words.now.table_id words.now.key self.old }
+        requires room { self.old.steps + most < 2 ^ 64 }
+        requires stands { StandsAt code.now self.old.thread doing }
+        ensures goes_on { (self.new.number ≡ self.old.number) × StepsOn words.now.table_id words.now.key self.old self.new }
+        ensures made { result ≡ true → (self.old.steps < self.new.steps) × (self.new.steps ≤ self.old.steps + most) }
+        ensures not_made { result ≡ false → (self.new.steps ≡ self.old.steps) × StandsAt code.now self.new.thread doing }
+    {
+        match doing {
+            Doing::Read(to, cell) => 2 <= most && self.read(words, code, to, cell),
+            _ => false,
+        }
+    }
+
+    // Steps of the thread in which this is to be done, one by one, at most so many, and one at least.
+    #[inline(never)]
+    fn go_through(
         &mut self,
         words: &Words<A>,
         code: &Code<A>,
@@ -124,6 +165,32 @@ impl<A: Allocator + Copy> Worker<A> {
             }
         }
         Ok(())
+    }
+
+    // Steps of the thread in which this is to be done, at most so many, and one at least.
+    #[inline(always)]
+    fn operate(
+        &mut self,
+        words: &Words<A>,
+        code: &Code<A>,
+        doing: Doing,
+        most: u64,
+    ) -> Result<(), Stop>
+        requires table { words.now.table_id.words ≡ cells_of code.now + 1 }
+        requires code { words.now.key.code ≡ code.now }
+        requires worker { IsWorkerOf words.now.table_id words.now.key self.old }
+        requires room { self.old.steps + most < 2 ^ 64 }
+        requires some { 0 < most }
+        requires stands { StandsAt code.now self.old.thread doing }
+        ensures goes_on { (self.new.number ≡ self.old.number) × StepsOn words.now.table_id words.now.key self.old self.new }
+        ensures steps { (self.old.steps ≤ self.new.steps) × (self.new.steps ≤ self.old.steps + most) }
+        ensures ok { OnOk result (self.old.steps < self.new.steps) }
+        ensures stop { IfErr result (λ e. Because e (access_of (effect code.now) self.new.thread.thread)) }
+    {
+        if self.complete(words, code, doing, most) {
+            return Ok(());
+        }
+        self.go_through(words, code, doing, most)
     }
 
     // How its thread is, after all steps of a budget.

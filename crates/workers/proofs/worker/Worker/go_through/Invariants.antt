@@ -1,7 +1,7 @@
 use Rattle.std.proofs.Common.{◌≡◌, ◌+◌}
 use Rattle.workers.specs.Workers.{IsWorkerOf, StepsOn}
 use Rattle.machine.specs.States.{StandsAt}
-use Rattle.workers.proofs.worker.Worker.operate.Given as goal
+use Rattle.workers.proofs.worker.Worker.go_through.Given as goal
 
 abbrev pub invariant-steps : goal.invariant-steps
 invariant-steps g l = record {
