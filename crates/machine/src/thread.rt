@@ -94,9 +94,9 @@ impl<A: Allocator + Copy> Thread<A> {
         }
     }
 
-    /// Makes local steps in its registers and frames, calls and returns too, at most so many, up to the first instruction
-    /// that does something else: how many they were, and what stands there to be done. Where a call wants memory that is
-    /// refused, it is not made.
+    /// Makes local steps, at most so many: those in its registers and frames, calls and returns too, writes in a transaction, and
+    /// commits that make no access. It ends before the first instruction that does something else, or that wants memory which is
+    /// refused: how many steps it made, and what stands there to be done.
     pub fn advance<B: Allocator>(&mut self, code: &Code<B>, most: u64) -> (u64, Doing)
         requires { IsThreadOf code.now self.old.thread }
         ensures steps { Replays (effect code.now) self.old.thread result.0 [] self.new.thread }

@@ -2,7 +2,10 @@
 use Rattle.std.specs.Prelude.{◌≡◌, ℕ, Bool, true, false, Option, None, Some, IsSomeAnd}
 use Rattle.write_log.specs.Overlay.{written}
 use Rattle.norec_core.specs.declared.step.Op.{Op}
+use Rattle.norec_core.specs.declared.step.Access.TheVariants.{Local}
 use Rattle.norec_core.specs.declared.step.Answer.{Answer}
+use Rattle.norec_core.specs.declared.step.Answer.TheVariants.{Done}
+use Rattle.norec_core.specs.declared.step.Outcome.TheVariants as outcome
 use Rattle.norec_core.specs.declared.step.Phase.{Phase}
 use Rattle.norec_core.specs.declared.step.Phase.TheVariants.{AtOperation, Stores}
 use Rattle.nesting.specs.Begins.{Saved}
@@ -34,6 +37,13 @@ LoadsBoth a cell = (a.phase ≡ AtOperation) × (a.kept ≡ false) × (written c
 -- two steps of an operation, with the answers to their accesses
 abbrev pub stepped_twice : CoreState → Op → (first second : Answer) → CoreStep Saved
 stepped_twice c op first second = core_step c.saved (core_step c.saved c.attempt op first).attempt op second
+
+-- a step without an access, in which the operation is done, and after which nothing is gone back to
+pub record IsDoneAtOnce (c : CoreState) (op : Op) (d : CoreState) : Type 0 where
+  pub access : core_access c.attempt op ≡ Local
+  pub attempt : d.attempt ≡ (core_step c.saved c.attempt op Done).attempt
+  pub outcome : (core_step c.saved c.attempt op Done).outcome ≡ outcome.Done
+  pub back : (core_step c.saved c.attempt op Done).back ≡ None
 
 -- whether an attempt is under way whose lock is kept
 abbrev pub is_kept : Option (Attempt Saved) → Bool

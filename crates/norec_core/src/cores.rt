@@ -1,9 +1,9 @@
 //! The core of a thread: an operation's step is prepared, then told the answer to its access.
 
-ghost use Rattle.std.specs.Prelude.{◌≡◌, ◌≢◌, ◌↔◌, true, None, Some, IsTrue, IsSome, IsSomeAnd, IfOk, IfSome, OnOk, OnErr};
+ghost use Rattle.std.specs.Prelude.{◌≡◌, ◌≢◌, ◌↔◌, true, false, None, Some, IsTrue, IsSome, IsSomeAnd, IfOk, IfSome, OnOk, OnErr};
 ghost use Rattle.norec_core.specs.Accesses.{stops};
 ghost use Rattle.norec_core.specs.Phases.{core_access};
-ghost use Rattle.norec_core.specs.Cores.{IsAnswered, LoadsBoth, stepped, stepped_twice, is_kept, has_lock};
+ghost use Rattle.norec_core.specs.Cores.{IsAnswered, IsDoneAtOnce, LoadsBoth, stepped, stepped_twice, is_kept, has_lock};
 ghost use Rattle.norec_core.specs.declared.step.Answer.TheVariants.{Value};
 
 use super::step::{Access, Answer, Op, Outcome, Stop};
@@ -120,6 +120,36 @@ impl<A: Allocator + Copy> Core<A> {
     {
         self.asked = None;
         self.steps.take_read(cell, word, lock)
+    }
+
+    /// Makes the step of a write, where it stands at an operation: whether it did. It makes the room that the write needs; where
+    /// that is refused nothing changes.
+    #[inline(always)]
+    pub fn write(&mut self, cell: u32, word: u64) -> bool
+        ensures done { result ≡ true → IsDoneAtOnce self.old (Op.Write cell word) self.new }
+        ensures not_done { result ≡ false → self.new.attempt ≡ self.old.attempt }
+    {
+        if !self.steps.is_at_operation() || !self.steps.make_write_room() {
+            return false;
+        }
+        self.asked = None;
+        self.steps.write(cell, word);
+        true
+    }
+
+    /// Makes the step of a commit that makes no access, that of an inner transaction or of one that wrote nothing: whether it did.
+    /// It takes no memory.
+    #[inline(always)]
+    pub fn commit(&mut self) -> bool
+        ensures done { result ≡ true → IsDoneAtOnce self.old Op.Commit self.new }
+        ensures not_done { result ≡ false → self.new.attempt ≡ self.old.attempt }
+    {
+        if !self.steps.is_at_operation() || !self.steps.commits_at_once() {
+            return false;
+        }
+        self.asked = None;
+        self.steps.commit();
+        true
     }
 
     /// What to go back to, after a step that cancelled or aborted: the thread's state at that begin.

@@ -1,7 +1,7 @@
 //! The steps of an attempt, phase by phase: the access of each, and what comes of its answer.
 
 ghost use Rattle.std.specs.Prelude.{◌≡◌, ◌≢◌, ◌+◌, ◌^◌, ◌<◌, ◌≤◌, true, false, None, OnOk, OnErr, slice_get};
-ghost use Rattle.write_log.specs.Overlay.{written};
+ghost use Rattle.write_log.specs.Overlay.{put, written};
 ghost use Rattle.norec_core.specs.Accesses.{stops};
 ghost use Rattle.norec_core.specs.Phases.{core_access, core_step, core_phase, core_operation, core_read, core_commit, core_cancel, core_store, core_check, core_time, core_compare, operation_access, commit_access, entry_access, store_access};
 ghost use Rattle.norec_core.specs.Cores.{LoadsBoth, holds};
@@ -135,6 +135,59 @@ impl<A: Allocator + Copy> Steps<A> {
         }
         self.phase = Phase::ValidatesTime;
         Outcome::Going
+    }
+
+    // Whether it stands at an operation.
+    #[inline(always)]
+    pub(crate) fn is_at_operation(&self) -> bool
+        ensures { result ≡ true → (self.now.begun ≡ true) × (self.now.attempt.phase ≡ Phase.AtOperation) }
+    {
+        match self.phase {
+            Phase::AtOperation => self.begun,
+            _ => false,
+        }
+    }
+
+    // Makes room for a write: whether there is.
+    #[inline(always)]
+    pub(crate) fn make_write_room(&mut self) -> bool
+        ensures room { result ≡ true → 0 < self.new.write_room }
+        ensures others { GainsRoom self.old self.new }
+    {
+        self.logs.prepare_write().is_ok()
+    }
+
+    // Writes a word.
+    #[inline(always)]
+    pub(crate) fn write(&mut self, cell: u32, word: u64)
+        requires { 0 < self.old.write_room }
+        ensures begun { self.new.begun ≡ self.old.begun }
+        ensures attempt { self.new.attempt ≡ record self.old.attempt { writes = put cell word self.old.attempt.writes } }
+    {
+        self.logs.write(cell, word);
+    }
+
+    // Whether a commit makes no access.
+    #[inline(always)]
+    pub(crate) fn commits_at_once(&self) -> bool
+        requires { self.now.attempt.phase ≡ Phase.AtOperation }
+        ensures { result ≡ true → commit_access self.now.attempt self.now.attempt.inner self.now.attempt.kept self.now.attempt.writes ≡ Access.Local }
+    {
+        match self.commit_access() {
+            Access::Local => true,
+            _ => false,
+        }
+    }
+
+    // Commits without an access.
+    #[inline(always)]
+    pub(crate) fn commit(&mut self)
+        requires begun { self.old.begun ≡ true }
+        requires phase { self.old.attempt.phase ≡ Phase.AtOperation }
+        requires local { commit_access self.old.attempt self.old.attempt.inner self.old.attempt.kept self.old.attempt.writes ≡ Access.Local }
+        ensures { attempt_of self.new ≡ (core_commit self.old.attempt self.old.attempt.inner self.old.attempt.kept self.old.attempt.writes Answer.Done).attempt }
+    {
+        self.told_commit(Answer::Done);
     }
 
     // The access of the next step.
