@@ -45,6 +45,7 @@ impl<A: Allocator> Model for Thread<A> {
 }
 
 // How many accesses to the lock or the words what was prepared makes.
+#[inline(always)]
 fn cost_of(prepared: Option<Access>) -> u64
     ensures { result ≡ cost_if prepared }
 {
@@ -149,6 +150,7 @@ impl<A: Allocator + Copy> Thread<A> {
     ///
     /// An error leaves the thread as it was: `OutOfMemory` where room was refused, `SequenceUsedUp` where the step would swap
     /// the lock from its last even value.
+    #[inline(always)]
     pub fn prepare_at<B: Allocator>(&mut self, code: &Code<B>, doing: Doing) -> Result<Access, Stop>
         requires of { IsThreadOf code.now self.old.thread }
         requires stands { StandsAt code.now self.old doing }
@@ -181,6 +183,7 @@ impl<A: Allocator + Copy> Thread<A> {
 
     /// Makes the step that was prepared, by what is to be done in it, with the answer to its access: what happened, and
     /// whether the same is to be done in the next step. It takes no memory.
+    #[inline(always)]
     pub fn told_at<B: Allocator>(
         &mut self,
         code: &Code<B>,

@@ -54,6 +54,7 @@ impl<A: Allocator + Copy> Core<A> {
     ///
     /// An error leaves all as it was: `OutOfMemory` where room was refused, `SequenceUsedUp` where the step would swap the
     /// lock from its last even value.
+    #[inline(always)]
     pub fn prepare(
         &mut self,
         op: Op,
@@ -88,10 +89,24 @@ impl<A: Allocator + Copy> Core<A> {
         ensures back { IfSome (stepped self.old answer).back (λ s. self.new.saved ≡ s) }
         ensures asked { self.new.asked ≡ None }
     {
-        match self.asked.take() {
-            Some(op) => self.steps.told(op, answer),
+        match self.asked {
+            Some(op) => self.told_as(op, answer),
             None => Outcome::Going,
         }
+    }
+
+    /// `told`, by the operation that was prepared.
+    #[inline(always)]
+    pub fn told_as(&mut self, op: Op, answer: Answer) -> Outcome
+        requires asked { self.old.asked ≡ Some op }
+        requires answered { IsAnswered self.old answer }
+        ensures attempt { self.new.attempt ≡ (stepped self.old answer).attempt }
+        ensures outcome { result ≡ (stepped self.old answer).outcome }
+        ensures back { IfSome (stepped self.old answer).back (λ s. self.new.saved ≡ s) }
+        ensures asked { self.new.asked ≡ None }
+    {
+        self.asked = None;
+        self.steps.told(op, answer)
     }
 
     /// Prepares both steps of a read of this cell, where it loads the cell's word and then the lock: whether it did. It does not

@@ -50,6 +50,7 @@ impl<A: Allocator + Copy> Steps<A> {
     }
 
     // Makes room for what a step of this operation may add, and sets aside what a begin saves.
+    #[inline(always)]
     pub(crate) fn make_room(
         &mut self,
         op: Op,
@@ -71,12 +72,14 @@ impl<A: Allocator + Copy> Steps<A> {
         }
     }
 
+    #[inline(always)]
     pub(crate) fn has_begun(&self) -> bool
         ensures { result ≡ self.now.begun }
     {
         self.begun
     }
 
+    #[inline(always)]
     pub(crate) fn is_kept(&self) -> bool
         ensures { result ≡ self.now.attempt.kept }
     {
@@ -191,6 +194,7 @@ impl<A: Allocator + Copy> Steps<A> {
     }
 
     // The access of the next step.
+    #[inline(always)]
     pub(crate) fn access(&self, op: Op) -> Access
         ensures { result ≡ core_access (attempt_of self.now) op }
     {
@@ -209,6 +213,7 @@ impl<A: Allocator + Copy> Steps<A> {
         }
     }
 
+    #[inline(always)]
     fn operation_access(&self, op: Op) -> Access
         requires { self.now.attempt.phase ≡ Phase.AtOperation }
         ensures { result ≡ operation_access self.now.attempt op }
@@ -225,6 +230,7 @@ impl<A: Allocator + Copy> Steps<A> {
         }
     }
 
+    #[inline(always)]
     fn commit_access(&self) -> Access
         requires { self.now.attempt.phase ≡ Phase.AtOperation }
         ensures { result ≡ commit_access self.now.attempt self.now.attempt.inner self.now.attempt.kept self.now.attempt.writes }
@@ -241,6 +247,7 @@ impl<A: Allocator + Copy> Steps<A> {
         }
     }
 
+    #[inline(never)]
     fn entry_access(&self, place: usize) -> Access
         ensures { result ≡ entry_access (slice_get self.now.attempt.reads place) }
     {
@@ -250,6 +257,7 @@ impl<A: Allocator + Copy> Steps<A> {
         }
     }
 
+    #[inline(always)]
     fn store_access(&self, place: usize) -> Access
         requires { CanRelease self.now.attempt.snapshot }
         ensures { result ≡ store_access self.now.attempt.snapshot (slice_get self.now.attempt.writes place) }
@@ -261,6 +269,7 @@ impl<A: Allocator + Copy> Steps<A> {
     }
 
     // Makes the step with the answer to its access. It takes no memory.
+    #[inline(always)]
     pub(crate) fn told(&mut self, op: Op, answer: Answer) -> Outcome
         requires room { HasRoom op self.old }
         requires goes_on { stops (core_access (attempt_of self.old) op) ≡ false }
@@ -276,6 +285,7 @@ impl<A: Allocator + Copy> Steps<A> {
     }
 
     // An outermost begin: an even lock value is the snapshot.
+    #[inline(always)]
     fn told_begin(&mut self, answer: Answer) -> Outcome
         requires { self.old.begun ≡ false }
         ensures { IsStep (core_step self.old.aside None Op.Begin answer) result self.new }
@@ -293,6 +303,7 @@ impl<A: Allocator + Copy> Steps<A> {
         Outcome::Going
     }
 
+    #[inline(always)]
     fn told_inside(&mut self, op: Op, answer: Answer) -> Outcome
         requires begun { self.old.begun ≡ true }
         requires room { HasRoom op self.old }
@@ -310,6 +321,7 @@ impl<A: Allocator + Copy> Steps<A> {
     }
 
     // The first step of an operation.
+    #[inline(always)]
     fn told_operation(&mut self, op: Op, answer: Answer) -> Outcome
         requires begun { self.old.begun ≡ true }
         requires phase { self.old.attempt.phase ≡ Phase.AtOperation }
@@ -329,6 +341,7 @@ impl<A: Allocator + Copy> Steps<A> {
         Outcome::Done
     }
 
+    #[inline(always)]
     fn told_read(&mut self, address: u32, answer: Answer) -> Outcome
         requires begun { self.old.begun ≡ true }
         requires phase { self.old.attempt.phase ≡ Phase.AtOperation }
@@ -347,6 +360,7 @@ impl<A: Allocator + Copy> Steps<A> {
         Outcome::Going
     }
 
+    #[inline(always)]
     fn told_commit(&mut self, answer: Answer) -> Outcome
         requires begun { self.old.begun ≡ true }
         requires phase { self.old.attempt.phase ≡ Phase.AtOperation }
@@ -373,6 +387,7 @@ impl<A: Allocator + Copy> Steps<A> {
     }
 
     // The write log goes back to the begin, the read log stays. With the lock kept the outermost one stands still.
+    #[inline(never)]
     fn told_cancel(&mut self) -> Outcome
         requires { self.old.begun ≡ true }
         ensures { IsStep (core_cancel self.old.attempt self.old.attempt.inner self.old.attempt.kept) result self.new }
@@ -389,6 +404,7 @@ impl<A: Allocator + Copy> Steps<A> {
         Outcome::Done
     }
 
+    #[inline(never)]
     fn told_irrevocable(&mut self, answer: Answer) -> Outcome
         requires begun { self.old.begun ≡ true }
         requires phase { self.old.attempt.phase ≡ Phase.AtOperation }
@@ -412,6 +428,7 @@ impl<A: Allocator + Copy> Steps<A> {
     }
 
     // The word at a place of the write log, or past the last one the lock, was stored.
+    #[inline(always)]
     fn told_store(&mut self, place: usize) -> Outcome
         requires begun { self.old.begun ≡ true }
         requires lock { CanRelease self.old.attempt.snapshot }
@@ -426,6 +443,7 @@ impl<A: Allocator + Copy> Steps<A> {
     }
 
     // A read that has its word is logged where the lock is still the snapshot.
+    #[inline(always)]
     fn told_check(&mut self, address: u32, word: u64, answer: Answer) -> Outcome
         requires begun { self.old.begun ≡ true }
         requires phase { self.old.attempt.phase ≡ Phase.ReadsLock word }
@@ -444,6 +462,7 @@ impl<A: Allocator + Copy> Steps<A> {
     }
 
     // Validation begins at an even lock.
+    #[inline(never)]
     fn told_time(&mut self, answer: Answer) -> Outcome
         requires begun { self.old.begun ≡ true }
         requires phase { self.old.attempt.phase ≡ Phase.ValidatesTime }
@@ -458,6 +477,7 @@ impl<A: Allocator + Copy> Steps<A> {
 
     // An entry with another word drops the attempt. Past the last entry the lock, unchanged since the time, is the new
     // snapshot.
+    #[inline(never)]
     fn told_compare(&mut self, time: u64, place: usize, answer: Answer) -> Outcome
         requires begun { self.old.begun ≡ true }
         requires phase { self.old.attempt.phase ≡ Phase.ValidatesEntry time place }

@@ -139,7 +139,7 @@ impl<A: Allocator + Copy> Worker<A> {
     }
 
     // Steps of the thread in which this is to be done, one by one, at most so many, and one at least.
-    #[inline(never)]
+    #[inline(always)]
     fn go_through(
         &mut self,
         words: &Words<A>,
@@ -167,6 +167,90 @@ impl<A: Allocator + Copy> Worker<A> {
         Ok(())
     }
 
+    // Such steps of a commit.
+    #[inline(never)]
+    fn commit(&mut self, words: &Words<A>, code: &Code<A>, most: u64) -> Result<(), Stop>
+        requires table { words.now.table_id.words ≡ cells_of code.now + 1 }
+        requires code { words.now.key.code ≡ code.now }
+        requires worker { IsWorkerOf words.now.table_id words.now.key self.old }
+        requires room { self.old.steps + most < 2 ^ 64 }
+        requires some { 0 < most }
+        requires stands { StandsAt code.now self.old.thread Doing.Commit }
+        ensures goes_on { (self.new.number ≡ self.old.number) × StepsOn words.now.table_id words.now.key self.old self.new }
+        ensures steps { (self.old.steps ≤ self.new.steps) × (self.new.steps ≤ self.old.steps + most) }
+        ensures ok { OnOk result (self.old.steps < self.new.steps) }
+        ensures stop { IfErr result (λ e. Because e (access_of (effect code.now) self.new.thread.thread)) }
+    {
+        self.go_through(words, code, Doing::Commit, most)
+    }
+
+    // Such steps of a begin.
+    #[inline(never)]
+    fn begin(&mut self, words: &Words<A>, code: &Code<A>, to: u32, most: u64) -> Result<(), Stop>
+        requires table { words.now.table_id.words ≡ cells_of code.now + 1 }
+        requires code { words.now.key.code ≡ code.now }
+        requires worker { IsWorkerOf words.now.table_id words.now.key self.old }
+        requires room { self.old.steps + most < 2 ^ 64 }
+        requires some { 0 < most }
+        requires stands { StandsAt code.now self.old.thread (Doing.Begin to) }
+        ensures goes_on { (self.new.number ≡ self.old.number) × StepsOn words.now.table_id words.now.key self.old self.new }
+        ensures steps { (self.old.steps ≤ self.new.steps) × (self.new.steps ≤ self.old.steps + most) }
+        ensures ok { OnOk result (self.old.steps < self.new.steps) }
+        ensures stop { IfErr result (λ e. Because e (access_of (effect code.now) self.new.thread.thread)) }
+    {
+        self.go_through(words, code, Doing::Begin(to), most)
+    }
+
+    // Such steps of anything.
+    #[inline(never)]
+    fn others(
+        &mut self,
+        words: &Words<A>,
+        code: &Code<A>,
+        doing: Doing,
+        most: u64,
+    ) -> Result<(), Stop>
+        requires table { words.now.table_id.words ≡ cells_of code.now + 1 }
+        requires code { words.now.key.code ≡ code.now }
+        requires worker { IsWorkerOf words.now.table_id words.now.key self.old }
+        requires room { self.old.steps + most < 2 ^ 64 }
+        requires some { 0 < most }
+        requires stands { StandsAt code.now self.old.thread doing }
+        ensures goes_on { (self.new.number ≡ self.old.number) × StepsOn words.now.table_id words.now.key self.old self.new }
+        ensures steps { (self.old.steps ≤ self.new.steps) × (self.new.steps ≤ self.old.steps + most) }
+        ensures ok { OnOk result (self.old.steps < self.new.steps) }
+        ensures stop { IfErr result (λ e. Because e (access_of (effect code.now) self.new.thread.thread)) }
+    {
+        self.go_through(words, code, doing, most)
+    }
+
+    // Such steps, by a copy of their code for each of the frequent ones.
+    #[inline(always)]
+    fn step_through(
+        &mut self,
+        words: &Words<A>,
+        code: &Code<A>,
+        doing: Doing,
+        most: u64,
+    ) -> Result<(), Stop>
+        requires table { words.now.table_id.words ≡ cells_of code.now + 1 }
+        requires code { words.now.key.code ≡ code.now }
+        requires worker { IsWorkerOf words.now.table_id words.now.key self.old }
+        requires room { self.old.steps + most < 2 ^ 64 }
+        requires some { 0 < most }
+        requires stands { StandsAt code.now self.old.thread doing }
+        ensures goes_on { (self.new.number ≡ self.old.number) × StepsOn words.now.table_id words.now.key self.old self.new }
+        ensures steps { (self.old.steps ≤ self.new.steps) × (self.new.steps ≤ self.old.steps + most) }
+        ensures ok { OnOk result (self.old.steps < self.new.steps) }
+        ensures stop { IfErr result (λ e. Because e (access_of (effect code.now) self.new.thread.thread)) }
+    {
+        match doing {
+            Doing::Commit => self.commit(words, code, most),
+            Doing::Begin(to) => self.begin(words, code, to, most),
+            _ => self.others(words, code, doing, most),
+        }
+    }
+
     // Steps of the thread in which this is to be done, at most so many, and one at least.
     #[inline(always)]
     fn operate(
@@ -190,7 +274,7 @@ impl<A: Allocator + Copy> Worker<A> {
         if self.complete(words, code, doing, most) {
             return Ok(());
         }
-        self.go_through(words, code, doing, most)
+        self.step_through(words, code, doing, most)
     }
 
     // How its thread is, after all steps of a budget.
