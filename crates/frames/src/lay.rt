@@ -5,6 +5,7 @@ ghost use Rattle.std.specs.Prelude.{◌≡◌, ◌+◌, ◌<◌, ◌≤◌, ◌+
 use std::alloc::{AllocError, Allocator};
 
 // So many zeros. There is room.
+#[inline(always)]
 fn push_zeros<A: Allocator>(registers: &mut Vec<u64, A>, count: usize)
     requires { vec_len registers.old + count ≤ vec_capacity registers.old }
     ensures { registers.new.items ≡ registers.old.items ++ replicate count 0 }
@@ -30,6 +31,7 @@ pub(crate) fn lay_first<A: Allocator>(
 }
 
 // The values of arguments, which are registers of the frame that begins at `base`. There is room.
+#[inline(always)]
 fn push_arguments<A: Allocator>(registers: &mut Vec<u64, A>, base: usize, args: &[u16])
     requires room { vec_len registers.old + length args.now ≤ vec_capacity registers.old }
     requires base { base ≤ vec_len registers.old }
@@ -44,6 +46,7 @@ fn push_arguments<A: Allocator>(registers: &mut Vec<u64, A>, base: usize, args: 
 }
 
 /// The registers of a frame that is called: the values of the arguments, and so many zeros. There is room.
+#[inline(always)]
 pub(crate) fn lay_frame<A: Allocator>(
     registers: &mut Vec<u64, A>,
     base: usize,

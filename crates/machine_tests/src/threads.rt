@@ -8,6 +8,7 @@ ghost use Rattle.machine.specs.States.{IsWordOf};
 use crate::codes::code_of_worker;
 use crate::rows::{Row, adds_five, dropped_once, trapped, traps};
 use bytecode::{Code, Instr};
+use frames::Doing;
 use machine::{Event, Thread};
 use norec_core::{Access, Answer, Stop};
 use refusing::Refusing;
@@ -210,6 +211,64 @@ fn a_reader_and_a_last_writer_commit(rt: HostRuntime) -> Result<(), Fail> {
         (LAST - 1, 0, Some((Access::StoreLock(LAST), Event::Commit))),
     ];
     assert!(rt; steps(rt.alloc(), 0, writes(), &rows, (Status::Running, "", 4)) == Some(0));
+    Ok(())
+}
+
+// Whether the read that stands at the thread's place is made whole, where it finds this word and this lock.
+fn reads<A: Allocator + Copy>(thread: &mut Thread<A>, code: &Code<A>, word: u32, lock: u64) -> bool
+    requires { IsThreadOf code.now thread.old.thread }
+    ensures { IsThreadOf code.now thread.new.thread }
+{
+    if thread.accesses() > MOST {
+        return false;
+    }
+    match thread.doing(code) {
+        Doing::Read(to, cell) => {
+            if !thread.prepare_read(code, to, cell) {
+                return false;
+            }
+            thread.take_read(code, to, cell, u64::from(word), lock);
+            true
+        }
+        _ => false,
+    }
+}
+
+// What stands there after a begin at the lock value 2, a whole read of 7, and all local steps, and how many these are.
+fn reads_on<A: Allocator + Copy>(thread: &mut Thread<A>, code: &Code<A>) -> Option<(u64, Doing)>
+    requires { IsThreadOf code.now thread.old.thread }
+{
+    step(thread, code, 2, 0)?;
+    if !reads(thread, code, 7, 2) {
+        return None;
+    }
+    Some(thread.advance(code, MOST))
+}
+
+// The same of a thread of these instructions.
+fn reads_of(inner: Global, instructions: &[Instr]) -> Option<(u64, Doing)> {
+    let code = code_of_worker(inner, 2, instructions)?;
+    let mut thread = begun(inner, &code)?;
+    reads_on(&mut thread, &code)
+}
+
+#[test]
+fn a_read_is_made_whole_and_what_follows_is_local(rt: HostRuntime) -> Result<(), Fail> {
+    let reader = [
+        Instr::Begin(3),
+        Instr::Read(1, 0),
+        Instr::Commit,
+        Instr::Return,
+    ];
+    assert_eq!(rt; reads_of(rt.alloc(), &reader), Some((1, Doing::End)));
+    let writer = [
+        Instr::Begin(4),
+        Instr::Read(1, 0),
+        Instr::Write(1, 0),
+        Instr::Commit,
+        Instr::Return,
+    ];
+    assert_eq!(rt; reads_of(rt.alloc(), &writer), Some((1, Doing::Commit)));
     Ok(())
 }
 

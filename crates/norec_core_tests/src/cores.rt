@@ -292,3 +292,58 @@ fn large_logs_are_stored(rt: HostRuntime) -> Result<(), Fail> {
     );
     Ok(())
 }
+
+// What comes of a read that is made whole, if it is: it finds this word, and then this lock.
+fn reads<A: Allocator + Copy>(
+    core: &mut Core<A>,
+    cell: u32,
+    word: u64,
+    lock: u64,
+) -> Option<Outcome> {
+    if !core.prepare_read(cell) {
+        return None;
+    }
+    Some(core.take_read(cell, word, lock))
+}
+
+#[test]
+fn reads_are_made_whole(rt: HostRuntime) -> Result<(), Fail> {
+    let alloc = Refusing::new(rt.alloc(), 0);
+    let mut core = Core::new(&alloc);
+    assert_eq!(rt; reads(&mut core, 5, 7, 2), None);
+    step(&mut core, Op::Begin, 2)?;
+    alloc.refuse(1);
+    assert_eq!(rt; reads(&mut core, 5, 7, 2), None);
+    assert_eq!(rt; reads(&mut core, 5, 7, 2), Some(Outcome::Read(7)));
+    assert_eq!(rt; reads(&mut core, 6, 7, 4), Some(Outcome::Going));
+    // Validation is under way.
+    assert_eq!(rt; reads(&mut core, 6, 7, 4), None);
+    assert_eq!(rt;
+        step(&mut core, Op::Read(6), 4)?,
+        (Access::LoadLock, Outcome::Going)
+    );
+    assert_eq!(rt;
+        step(&mut core, Op::Read(6), 8)?,
+        (Access::LoadWord(5), Outcome::Aborted)
+    );
+    Ok(())
+}
+
+#[test]
+fn writes_and_commits_are_made_at_once(rt: HostRuntime) -> Result<(), Fail> {
+    let mut core = Core::new(rt.alloc());
+    assert!(rt; !core.write(5, 9) && !core.commit());
+    step(&mut core, Op::Begin, 2)?;
+    assert!(rt; core.commit());
+    assert!(rt; !core.has_attempt());
+    step(&mut core, Op::Begin, 2)?;
+    assert!(rt; core.write(5, 9));
+    // The lock is to be taken, and the word is not read from memory.
+    assert!(rt; !core.commit());
+    assert_eq!(rt; reads(&mut core, 5, 7, 2), None);
+    assert_eq!(rt;
+        step(&mut core, Op::Read(5), 0)?,
+        (Access::Local, Outcome::Read(9))
+    );
+    Ok(())
+}
