@@ -1,15 +1,15 @@
 -- A begin opens one more, a commit and a cancel close the innermost one, and any of them can be gone back to.
-use Rattle.std.proofs.Common.{◌≡◌, ℕ, zero, suc, ◌+◌, ◌-◌, ◌<◌, ◌≤◌, ◌^◌, List, [], ◌∷◌, ◌++◌, ◌≢◌, ◌⊎◌, inl, inr, length, map, drop, Option, Some, None, refl, sym, ap, ◌∙◌, subst, arith}
+use Rattle.std.proofs.Common.{◌≡◌, ℕ, suc, ◌-◌, ◌<◌, ◌≤◌, List, [], ◌∷◌, ◌++◌, ◌≢◌, ◌⊎◌, inl, inr, length, map, drop, Option, Some, refl, sym, ap, ◌∙◌, subst, arith}
 use Rattle.std.specs.Prelude.{slice_get}
 use Rattle.nesting.specs.Begins.{Saved}
 use Rattle.bytecode.specs.Effects.{Effect, after_cancel}
-use Rattle.bytecode.specs.Code.{Code, FunctionCode, Configuration, Frame, Instr, onward, going, effect, effect_of, returned}
+use Rattle.bytecode.specs.Code.{Code, FunctionCode, Configuration, Frame, Instr, onward, going, effect, effect_of}
 use Rattle.bytecode.specs.Valid.{IsReached, AsksOpen, IsValid}
-use Rattle.local_steps.specs.Local.{standing, AreWords}
+use Rattle.local_steps.specs.Local.{standing}
 use Rattle.frames.specs.Open.{saved_in, restored, IsSavedAt, AreSaved, IsFrame, AreCallers, MayStand, AreRestored, CanRestore}
 use Rattle.frames.proofs.Reached.{AreReached, IsBeginAt, are_reached, to_inside, to_outside, to_cancelled}
 use Rattle.frames.proofs.ByWay.{kind_of, begins_only, commits_only, cancels_only, ends_only}
-use Rattle.frames.proofs.Levels.{AreUpTo, callers_up_to, all_up_to, frames_under, restored_under}
+use Rattle.frames.proofs.Levels.{AreUpTo, callers_up_to, frames_under, restored_under}
 use Rattle.frames.proofs.Leading.{Way, way_of, asks_of, asks_by}
 
 same_level : (n k : ℕ) → k ≡ suc n → suc n - k ≡ 0

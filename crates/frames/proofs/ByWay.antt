@@ -1,10 +1,10 @@
 -- Which instructions begin, commit, cancel and return, by their ways.
-use Rattle.std.proofs.Common.{◌≡◌, ℕ, Bool, true, false, List, [], ◌∷◌, Option, Some, None, Result, Ok, Err, refl, sym, ap, ◌∙◌}
+use Rattle.std.proofs.Common.{◌≡◌, ℕ, Bool, true, false, List, [], ◌∷◌, Option, Some, None, Result, Ok, Err, refl, ap}
 use Rattle.std.specs.Prelude.{slice_get, if◌then◌else◌, nat_lt, length}
 use Rattle.syntax.specs.declared.numbers.Trap.{Trap}
 use Rattle.syntax.specs.declared.numbers.Trap.TheVariants.{Index}
 use Rattle.bytecode.specs.Effects.{Effect}
-use Rattle.bytecode.specs.Code.{Code, FunctionCode, Configuration, Frame, Instr, onward, going, setting, residue, register, effect_of, or_traps, if_below, called, returned, printed}
+use Rattle.bytecode.specs.Code.{Code, FunctionCode, Configuration, Frame, Instr, onward, going, register, effect_of, or_traps, called, returned, printed}
 use Rattle.frames.proofs.Leading.{Way, way_of}
 
 -- an effect that opens no begin, closes none and does not end

@@ -1,5 +1,5 @@
 -- An instruction that opens no begin and closes none leaves the begins that are open as they are.
-use Rattle.std.proofs.Common.{◌≡◌, ℕ, zero, suc, ◌+◌, ◌-◌, ◌<◌, ◌≤◌, ◌^◌, Bool, true, false, List, [], ◌∷◌, ◌++◌, length, map, Option, Some, None, Result, Ok, Err, refl, sym, ap, ◌∙◌, subst, arith, length-append}
+use Rattle.std.proofs.Common.{◌≡◌, ℕ, suc, ◌+◌, ◌-◌, ◌<◌, ◌^◌, Bool, true, false, List, [], ◌∷◌, ◌++◌, length, map, Option, Some, None, Result, Ok, Err, refl, sym, ap, ◌∙◌, subst, arith, length-append}
 use Rattle.std.specs.Prelude.{slice_get, slice_index, slice_set, replicate, if◌then◌else◌, nat_lt, ◌==◌, IfOk}
 use Rattle.std.proofs.lemmas.Bool.{ltb-true}
 use Rattle.std.proofs.lemmas.List.{length-set, length-map, length-replicate}
@@ -8,11 +8,11 @@ use Rattle.syntax.specs.declared.numbers.Trap.TheVariants.{Index}
 use Rattle.syntax.proofs.Words.{computed_below, fitted_below}
 use Rattle.nesting.specs.Begins.{Saved}
 use Rattle.bytecode.specs.Effects.{Effect}
-use Rattle.bytecode.specs.Code.{Code, FunctionCode, Configuration, Frame, Instr, onward, going, setting, residue, register, effect, effect_of, or_traps, if_below, called, entering, returned, value_in, printed}
+use Rattle.bytecode.specs.Code.{Code, FunctionCode, Configuration, Frame, Instr, setting, residue, effect, effect_of, or_traps, called, entering, returned, value_in, printed}
 use Rattle.bytecode.specs.Valid.{Has, IsReached, at_first, IsWritten, IsValid, end_of}
 use Rattle.bytecode.proofs.Tables.{some_same}
 use Rattle.local_steps.specs.Local.{standing, AreWords}
-use Rattle.frames.specs.Open.{restored, AreSaved, IsFrame, AreCallers, MayStand, AreRestored, GoesOn}
+use Rattle.frames.specs.Open.{AreSaved, MayStand, AreRestored, GoesOn}
 use Rattle.frames.proofs.Reached.{to_next, to_place, or_next, or_place}
 use Rattle.frames.proofs.Registers.{words_set, words_append, words_of_registers, words_zero}
 use Rattle.frames.proofs.Levels.{AreUpTo, callers_up_to, all_up_to, restored_under}

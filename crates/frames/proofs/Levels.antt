@@ -1,6 +1,6 @@
 -- The begins that are open in all frames: none is in a frame above the one on top, so a frame that comes or goes on top
 -- changes none of the configurations that they had.
-use Rattle.std.proofs.Common.{◌≡◌, ℕ, suc, ◌-◌, ◌≤◌, List, [], ◌∷◌, length, map, drop, refl, sym, ap, ap₂, ◌∙◌, subst, arith}
+use Rattle.std.proofs.Common.{◌≡◌, ℕ, suc, ◌-◌, ◌≤◌, List, [], ◌∷◌, length, map, drop, refl, sym, ap, ap₂, subst, arith}
 use Rattle.nesting.specs.Begins.{Saved}
 use Rattle.bytecode.specs.Code.{Code, FunctionCode, Frame}
 use Rattle.local_steps.specs.Local.{standing}

@@ -1,5 +1,5 @@
 -- Steps without an access in which an operation is done.
-use Rattle.std.proofs.Common.{◌≡◌, ℕ, Bool, true, false, List, [], ◌∷◌, Option, None, Some, refl, sym, ap, ◌∙◌, subst}
+use Rattle.std.proofs.Common.{◌≡◌, ℕ, Bool, true, false, List, [], ◌∷◌, Option, None, Some, refl, sym, ap, ◌∙◌}
 use Rattle.norec_core.specs.declared.step.Op.{Op}
 use Rattle.norec_core.specs.declared.step.Op.TheVariants as op
 use Rattle.norec_core.specs.declared.step.Access.TheVariants.{Local}
@@ -11,7 +11,7 @@ use Rattle.nesting.specs.Begins.{Saved}
 use Rattle.write_log.specs.Overlay.{put}
 use Rattle.norec_core.specs.Attempts.{Attempt, Checkpoint}
 use Rattle.norec_core.specs.Cores.{CoreState, IsDoneAtOnce}
-use Rattle.norec_core.specs.Phases.{CoreStep, commit_access, core_access, core_commit, core_phase, core_step, on, phase_access}
+use Rattle.norec_core.specs.Phases.{CoreStep, commit_access, core_access, core_commit, core_phase, core_step, phase_access}
 
 module _ (a : Attempt Saved) where
   commit_done : (inner : List (Checkpoint Saved)) (kept : Bool) (writes : List (ℕ × ℕ)) → commit_access a inner kept writes ≡ Local → ((core_commit a inner kept writes Done).outcome ≡ outcome.Done) × ((core_commit a inner kept writes Done).back ≡ None)
