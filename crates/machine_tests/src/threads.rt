@@ -238,18 +238,27 @@ fn reads<A: Allocator + Copy>(thread: &mut Thread<A>, code: &Code<A>, word: u32,
 fn reads_on<A: Allocator + Copy>(thread: &mut Thread<A>, code: &Code<A>) -> Option<(u64, Doing)>
     requires { IsThreadOf code.now thread.old.thread }
 {
-    step(thread, code, 2, 0)?;
-    if !reads(thread, code, 7, 2) {
-        return None;
+    let begins = step(thread, code, 2, 0);
+    if begins.is_some() && reads(thread, code, 7, 2) {
+        return Some(thread.advance(code, MOST));
     }
-    Some(thread.advance(code, MOST))
+    None
 }
 
-// The same of a thread of these instructions.
+// The same of a new thread.
+fn reads_first<A: Allocator + Copy>(alloc: A, code: &Code<A>) -> Option<(u64, Doing)> {
+    match begun(alloc, code) {
+        Some(mut thread) => reads_on(&mut thread, code),
+        None => None,
+    }
+}
+
+// The same of one of these instructions.
 fn reads_of(inner: Global, instructions: &[Instr]) -> Option<(u64, Doing)> {
-    let code = code_of_worker(inner, 2, instructions)?;
-    let mut thread = begun(inner, &code)?;
-    reads_on(&mut thread, &code)
+    match code_of_worker(inner, 2, instructions) {
+        Some(code) => reads_first(inner, &code),
+        None => None,
+    }
 }
 
 #[test]

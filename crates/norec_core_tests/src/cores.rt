@@ -306,41 +306,57 @@ fn reads<A: Allocator + Copy>(
     Some(core.take_read(cell, word, lock))
 }
 
+// Whether reads are made whole in an attempt, where room is there and nothing disturbs them, and leave validation where the
+// lock has moved.
+fn reads_whole<A: Allocator>(
+    core: &mut Core<&Refusing<A>>,
+    alloc: &Refusing<A>,
+) -> Result<bool, Stop> {
+    let outside = reads(core, 5, 7, 2);
+    step(core, Op::Begin, 2)?;
+    alloc.refuse(1);
+    let refused = reads(core, 5, 7, 2);
+    let first = reads(core, 5, 7, 2);
+    let moved = reads(core, 6, 7, 4);
+    let disturbed = reads(core, 6, 7, 4);
+    let made = first == Some(Outcome::Read(7)) && moved == Some(Outcome::Going);
+    Ok(made && outside.is_none() && refused.is_none() && disturbed.is_none())
+}
+
+// Validation after that.
+fn validates() -> &'static [Row] {
+    static ROWS: [Row; 2] = [
+        (Op::Read(6), 4, Access::LoadLock, Outcome::Going),
+        (Op::Read(6), 8, Access::LoadWord(5), Outcome::Aborted),
+    ];
+    &ROWS
+}
+
 #[test]
 fn reads_are_made_whole(rt: HostRuntime) -> Result<(), Fail> {
     let alloc = Refusing::new(rt.alloc(), 0);
     let mut core = Core::new(&alloc);
-    assert_eq!(rt; reads(&mut core, 5, 7, 2), None);
-    step(&mut core, Op::Begin, 2)?;
-    alloc.refuse(1);
-    assert_eq!(rt; reads(&mut core, 5, 7, 2), None);
-    assert_eq!(rt; reads(&mut core, 5, 7, 2), Some(Outcome::Read(7)));
-    assert_eq!(rt; reads(&mut core, 6, 7, 4), Some(Outcome::Going));
-    // Validation is under way.
-    assert_eq!(rt; reads(&mut core, 6, 7, 4), None);
-    assert_eq!(rt;
-        step(&mut core, Op::Read(6), 4)?,
-        (Access::LoadLock, Outcome::Going)
-    );
-    assert_eq!(rt;
-        step(&mut core, Op::Read(6), 8)?,
-        (Access::LoadWord(5), Outcome::Aborted)
-    );
+    assert!(rt; reads_whole(&mut core, &alloc)?);
+    assert!(rt; plays(&mut core, validates())?);
     Ok(())
+}
+
+// Whether a commit of nothing and a write are made at once, and not outside; then neither a commit, which takes the lock, nor a
+// read of what was written.
+fn writes_at_once<A: Allocator + Copy>(core: &mut Core<A>) -> Result<bool, Stop> {
+    let outside = core.write(5, 9) || core.commit();
+    step(core, Op::Begin, 2)?;
+    let empty = core.commit() && !core.has_attempt();
+    step(core, Op::Begin, 2)?;
+    let written = core.write(5, 9);
+    let later = core.commit() || core.prepare_read(5);
+    Ok(!outside && empty && written && !later)
 }
 
 #[test]
 fn writes_and_commits_are_made_at_once(rt: HostRuntime) -> Result<(), Fail> {
     let mut core = Core::new(rt.alloc());
-    assert!(rt; !core.write(5, 9) && !core.commit());
-    step(&mut core, Op::Begin, 2)?;
-    assert!(rt; core.commit());
-    assert!(rt; !core.has_attempt());
-    step(&mut core, Op::Begin, 2)?;
-    assert!(rt; core.write(5, 9));
-    // The lock is to be taken, and the word is not read from memory.
-    assert!(rt; !core.commit());
-    assert_eq!(rt; reads(&mut core, 5, 7, 2), None);
+    assert!(rt; writes_at_once(&mut core)?);
     assert_eq!(rt;
         step(&mut core, Op::Read(5), 0)?,
         (Access::Local, Outcome::Read(9))
