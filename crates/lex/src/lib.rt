@@ -18,6 +18,3 @@ pub use escape::unescape;
 pub use fault::LexFault;
 pub use lexer::{MOST_BYTES, lex};
 pub use line::place;
-
-#[cfg(test)]
-mod tests;

@@ -1,13 +1,13 @@
 //! Each call once with ample memory, each fault with its span, and a refused growth.
 
-use crate::token::{Keyword, Kind, Scalar, Span, Token};
-use crate::{lex, place, unescape};
+use lex::token::{Keyword, Kind, Scalar, Span, Token};
+use lex::{lex, place, unescape};
 use refusing::Refusing;
-use std::alloc::{AllocError, Allocator};
+use std::alloc::Allocator;
 use std::test::Fail;
 
 /// Whether the text is refused with this number and span.
-fn is_refused(rt: &HostRuntime, text: &str, number: u32, start: usize, end: usize) -> bool {
+pub fn is_refused(rt: &HostRuntime, text: &str, number: u32, start: usize, end: usize) -> bool {
     match lex(rt.alloc(), text) {
         Ok(_) => false,
         Err(fault) => fault.number() == number && fault.span() == Some(Span { start, end }),
@@ -15,7 +15,7 @@ fn is_refused(rt: &HostRuntime, text: &str, number: u32, start: usize, end: usiz
 }
 
 /// Whether the text's tokens stand at these places.
-fn stand_at(rt: &HostRuntime, text: &str, places: &[(usize, usize)]) -> bool {
+pub fn stand_at(rt: &HostRuntime, text: &str, places: &[(usize, usize)]) -> bool {
     match lex(rt.alloc(), text) {
         Ok(tokens) => {
             tokens.len() == places.len()
@@ -26,58 +26,51 @@ fn stand_at(rt: &HostRuntime, text: &str, places: &[(usize, usize)]) -> bool {
     }
 }
 
+// Whether these are the tokens of `#include <stdio.h>`, and below it `int x=0x1FU;// c` and `char "a\n"`.
+fn are_told(tokens: &[Token]) -> bool {
+    let int = matches!(
+        tokens.get(0),
+        Some(Token {
+            kind: Kind::Keyword(Keyword::Int),
+            ..
+        })
+    );
+    let name = matches!(
+        tokens.get(1),
+        Some(Token {
+            kind: Kind::Name("x"),
+            span: Span { start: 23, end: 24 }
+        })
+    );
+    let constant = matches!(
+        tokens.get(3),
+        Some(Token {
+            kind: Kind::Constant(31, Scalar::Unsigned),
+            ..
+        })
+    );
+    let char = matches!(
+        tokens.get(5),
+        Some(Token {
+            kind: Kind::Reserved,
+            ..
+        })
+    );
+    let string = matches!(
+        tokens.get(6),
+        Some(Token {
+            kind: Kind::StringLiteral("a\\n"),
+            ..
+        })
+    );
+    int && name && constant && char && string && tokens.len() == 7
+}
+
 #[test]
 fn tokens_say_what_they_are(rt: HostRuntime) -> Result<(), Fail> {
-    let tokens = lex(
-        rt.alloc(),
-        "#include <stdio.h>\nint x=0x1FU;// c\nchar \"a\\n\"",
-    )?;
-    assert_eq!(rt; tokens.len(), 7);
-    assert!(rt;
-        matches!(
-            tokens.get(0),
-            Some(Token {
-                kind: Kind::Keyword(Keyword::Int),
-                ..
-            })
-        )
-    );
-    assert!(rt;
-        matches!(
-            tokens.get(1),
-            Some(Token {
-                kind: Kind::Name("x"),
-                span: Span { start: 23, end: 24 }
-            })
-        )
-    );
-    assert!(rt;
-        matches!(
-            tokens.get(3),
-            Some(Token {
-                kind: Kind::Constant(31, Scalar::Unsigned),
-                ..
-            })
-        )
-    );
-    assert!(rt;
-        matches!(
-            tokens.get(5),
-            Some(Token {
-                kind: Kind::Reserved,
-                ..
-            })
-        )
-    );
-    assert!(rt;
-        matches!(
-            tokens.get(6),
-            Some(Token {
-                kind: Kind::StringLiteral("a\\n"),
-                ..
-            })
-        )
-    );
+    let text = "#include <stdio.h>\nint x=0x1FU;// c\nchar \"a\\n\"";
+    let tokens = lex(rt.alloc(), text)?;
+    assert!(rt; are_told(tokens.as_slice()));
     Ok(())
 }
 
@@ -139,68 +132,23 @@ fn open_comments_bad_strings_and_directives(rt: HostRuntime) {
     assert!(rt; is_refused(&rt, "#", 6, 0, 1));
 }
 
-#[test]
-fn a_text_has_at_most_a_mebibyte(rt: HostRuntime) -> Result<(), Fail> {
-    let mut text = String::from_str(rt.alloc(), "@")?;
-    for _ in 0..1048576 {
-        text.push_str(" ")?;
+// Whether the text without its escapes is this; none where memory is refused.
+fn becomes<A: Allocator + Copy>(alloc: A, text: &str, wanted: &str) -> Option<bool> {
+    match unescape(alloc, text) {
+        Ok(found) => Some(found.as_str() == wanted),
+        Err(_) => None,
     }
-    assert!(rt; is_refused(&rt, text.as_str(), 5, 0, 0));
-    let mut text = String::from_str(rt.alloc(), "")?;
-    for _ in 0..1048576 {
-        text.push_str(" ")?;
-    }
-    assert!(rt; stand_at(&rt, text.as_str(), &[]));
-    Ok(())
-}
-
-/// A text of a part, another one so many times, and a last one.
-fn repeated<A: Allocator + Copy>(
-    alloc: A,
-    before: &str,
-    part: &str,
-    times: usize,
-    after: &str,
-) -> Result<String<A>, AllocError> {
-    let mut text = String::from_str(alloc, before)?;
-    for _ in 0..times {
-        text.push_str(part)?;
-    }
-    text.push_str(after)?;
-    Ok(text)
 }
 
 #[test]
-fn large_pieces_are_lexed(rt: HostRuntime) -> Result<(), Fail> {
-    let comment = repeated(rt.alloc(), "/*", "*\n", 100000, "*/;")?;
-    assert!(rt; stand_at(&rt, comment.as_str(), &[(200004, 200005)]));
-    let line = repeated(rt.alloc(), "//", "*", 100000, "\n;")?;
-    assert!(rt; stand_at(&rt, line.as_str(), &[(100003, 100004)]));
-    let string = repeated(rt.alloc(), "\"", "\\n", 100000, "\"")?;
-    assert!(rt; stand_at(&rt, string.as_str(), &[(0, 200002)]));
-    let name = repeated(rt.alloc(), "_", "a", 100000, "")?;
-    assert!(rt; stand_at(&rt, name.as_str(), &[(0, 100001)]));
-    let include = repeated(rt.alloc(), "#include <", "a", 100000, ">\n;")?;
-    assert!(rt; stand_at(&rt, include.as_str(), &[(100012, 100013)]));
-    let constant = repeated(rt.alloc(), "0", "0", 100000, "7")?;
-    assert!(rt; stand_at(&rt, constant.as_str(), &[(0, 100002)]));
-    let names = repeated(rt.alloc(), "", "a ", 100000, "")?;
-    assert_eq!(rt; lex(rt.alloc(), names.as_str())?.len(), 100000);
-    let escapes = repeated(rt.alloc(), "", "\\n", 100000, "")?;
-    assert_eq!(rt; unescape(rt.alloc(), escapes.as_str())?.len(), 100000);
-    Ok(())
-}
-
-#[test]
-fn an_escape_is_one_character(rt: HostRuntime) -> Result<(), Fail> {
+fn an_escape_is_one_character(rt: HostRuntime) {
     assert_eq!(rt;
-        unescape(rt.alloc(), "a\\n\\t\\\\\\\"n\u{e4}")?.as_str(),
-        "a\n\t\\\"n\u{e4}"
+        becomes(rt.alloc(), "a\\n\\t\\\\\\\"n\u{e4}", "a\n\t\\\"n\u{e4}"),
+        Some(true)
     );
     let alloc = Refusing::new(rt.alloc(), 1);
-    assert!(rt; unescape(&alloc, "a").is_err());
-    assert_eq!(rt; unescape(&alloc, "a")?.as_str(), "a");
-    Ok(())
+    assert_eq!(rt; becomes(&alloc, "a", "a"), None);
+    assert_eq!(rt; becomes(&alloc, "a", "a"), Some(true));
 }
 
 #[test]
@@ -213,25 +161,32 @@ fn a_place_is_a_line_and_a_column_in_bytes(rt: HostRuntime) {
     assert_eq!(rt; place(text, text.len()), (3, 2));
 }
 
+// The number of a text's tokens; of its fault the number and the span.
+fn count<A: Allocator + Copy>(alloc: A, text: &str) -> Result<usize, (u32, Option<Span>)> {
+    match lex(alloc, text) {
+        Ok(tokens) => Ok(tokens.len()),
+        Err(fault) => Err((fault.number(), fault.span())),
+    }
+}
+
 #[test]
-fn a_refused_growth_is_out_of_memory(rt: HostRuntime) -> Result<(), Fail> {
+fn a_refused_growth_is_out_of_memory(rt: HostRuntime) {
     let text = "int x; void worker(int self) { x = x + 1; }";
     let mut met = 0;
     for nth in 1..100u64 {
         let alloc = Refusing::new(rt.alloc(), nth);
-        match lex(&alloc, text) {
+        match count(&alloc, text) {
             Ok(_) => {
                 assert!(rt; alloc.is_waiting());
                 break;
             }
-            Err(fault) => {
+            Err((number, span)) => {
                 met = nth;
-                assert_eq!(rt; fault.number(), 0);
-                assert!(rt; fault.span() == None);
-                assert_eq!(rt; lex(&alloc, text)?.len(), 17);
+                assert_eq!(rt; number, 0);
+                assert!(rt; span == None);
+                assert!(rt; count(&alloc, text) == Ok(17));
             }
         }
     }
     assert!(rt; 0 < met);
-    Ok(())
 }
