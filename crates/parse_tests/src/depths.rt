@@ -1,24 +1,59 @@
 //! How deep a program may be, and how long.
 
-use lex::lex;
+use crate::parsed::{body_of, fault_of, unit_of};
 use lex::token::Span;
-use parse::parse;
 use std::alloc::{AllocError, Allocator};
 use std::test::Fail;
-use syntax::tree::Item;
+
+// Appends a text so many times.
+fn push_times<A: Allocator>(
+    to: &mut String<A>,
+    text: &str,
+    times: usize,
+) -> Result<(), AllocError> {
+    for _ in 0..times {
+        to.push_str(text)?;
+    }
+    Ok(())
+}
+
+// Appends what stands before, a text so many times, what stands between, another as often, and what stands behind.
+fn push_pairs<A: Allocator>(
+    to: &mut String<A>,
+    before: &str,
+    open: &str,
+    between: &str,
+    close: &str,
+    behind: &str,
+    times: usize,
+) -> Result<(), AllocError> {
+    to.push_str(before)?;
+    push_times(to, open, times)?;
+    to.push_str(between)?;
+    push_times(to, close, times)?;
+    to.push_str(behind)
+}
 
 // A worker with a declaration whose first value stands in so many pairs of parentheses.
 fn nested<A: Allocator + Copy>(alloc: A, pairs: usize) -> Result<String<A>, AllocError> {
     let mut text = String::new(alloc);
-    text.push_str("void worker(int self) { int a = ")?;
-    for _ in 0..pairs {
-        text.push_str("(")?;
-    }
-    text.push_str("1")?;
-    for _ in 0..pairs {
-        text.push_str(")")?;
-    }
-    text.push_str("; }")?;
+    let before = "void worker(int self) { int a = ";
+    push_pairs(&mut text, before, "(", "1", ")", "; }", pairs)?;
+    Ok(text)
+}
+
+// A worker with so many blocks in one another.
+fn blocks<A: Allocator + Copy>(alloc: A, times: usize) -> Result<String<A>, AllocError> {
+    let mut text = String::new(alloc);
+    push_pairs(
+        &mut text,
+        "void worker(int self) { ",
+        "{ ",
+        "",
+        "} ",
+        "}",
+        times,
+    )?;
     Ok(text)
 }
 
@@ -31,102 +66,87 @@ fn repeated<A: Allocator + Copy>(
     after: &str,
 ) -> Result<String<A>, AllocError> {
     let mut all = String::new(alloc);
-    all.push_str(before)?;
-    for _ in 0..times {
-        all.push_str(text)?;
-    }
-    all.push_str(after)?;
+    push_pairs(&mut all, before, text, "", "", after, times)?;
     Ok(all)
+}
+
+// The depth of a text's tree, or the number and the place of its fault.
+fn depth_of<A: Allocator + Copy>(alloc: A, text: &str) -> Result<usize, (u32, Option<Span>)> {
+    match unit_of(alloc, text) {
+        Ok(unit) => Ok(unit.depth()),
+        Err(fault) => Err(fault),
+    }
+}
+
+// The same of so many pairs of parentheses.
+fn depth_at<A: Allocator + Copy>(
+    alloc: A,
+    pairs: usize,
+) -> Option<Result<usize, (u32, Option<Span>)>> {
+    match nested(alloc, pairs) {
+        Ok(text) => Some(depth_of(alloc, text.as_str())),
+        Err(_) => None,
+    }
 }
 
 #[test]
 fn a_program_may_be_100_deep(rt: HostRuntime) -> Result<(), Fail> {
-    let fits = nested(rt.alloc(), 97)?;
-    let Ok(tokens) = lex(rt.alloc(), fits.as_str()) else {
-        assert!(rt; false);
-        return Ok(());
+    assert!(rt; depth_at(rt.alloc(), 97) == Some(Ok(100)));
+    let one = Span {
+        start: 130,
+        end: 131,
     };
-    let Ok(unit) = parse(rt.alloc(), tokens.as_slice()) else {
-        assert!(rt; false);
-        return Ok(());
-    };
-    assert_eq!(rt; unit.depth(), 100);
-    let deep = nested(rt.alloc(), 98)?;
-    let Ok(tokens) = lex(rt.alloc(), deep.as_str()) else {
-        assert!(rt; false);
-        return Ok(());
-    };
-    let fault = parse(rt.alloc(), tokens.as_slice()).err();
-    assert_eq!(rt; fault.map(|f| f.number()), Some(11));
-    assert_eq!(rt;
-        fault.and_then(|f| f.span()),
-        Some(Span {
-            start: 130,
-            end: 131
-        })
-    );
+    assert!(rt; depth_at(rt.alloc(), 98) == Some(Err((11, Some(one)))));
     Ok(())
+}
+
+// The number of a text's fault, or 0.
+fn number_of<A: Allocator + Copy>(alloc: A, text: &str) -> u32 {
+    match fault_of(alloc, text) {
+        Some(fault) => fault.0,
+        None => 0,
+    }
+}
+
+// The same of so many blocks.
+fn number_at<A: Allocator + Copy>(alloc: A, times: usize) -> Option<u32> {
+    match blocks(alloc, times) {
+        Ok(text) => Some(number_of(alloc, text.as_str())),
+        Err(_) => None,
+    }
 }
 
 #[test]
 fn blocks_may_be_100_deep(rt: HostRuntime) -> Result<(), Fail> {
-    for (blocks, number) in [(99usize, None), (100, Some(11u32))] {
-        let opened = repeated(rt.alloc(), "void worker(int self) { ", "{ ", blocks, "")?;
-        let text = repeated(rt.alloc(), opened.as_str(), "} ", blocks, "}")?;
-        let Ok(tokens) = lex(rt.alloc(), text.as_str()) else {
-            assert!(rt; false);
-            return Ok(());
-        };
-        let fault = parse(rt.alloc(), tokens.as_slice()).err();
-        assert_eq!(rt; fault.map(|f| f.number()), number);
-    }
+    assert_eq!(rt; number_at(rt.alloc(), 99), Some(0));
+    assert_eq!(rt; number_at(rt.alloc(), 100), Some(11));
     Ok(())
 }
 
 #[test]
 fn a_long_chain_is_too_deep(rt: HostRuntime) -> Result<(), Fail> {
-    let text = repeated(
-        rt.alloc(),
-        "void worker(int self) { a = 1",
-        " + 1",
-        1000,
-        "; }",
-    )?;
-    let Ok(tokens) = lex(rt.alloc(), text.as_str()) else {
-        assert!(rt; false);
-        return Ok(());
-    };
-    let fault = parse(rt.alloc(), tokens.as_slice()).err();
-    assert_eq!(rt; fault.map(|f| f.number()), Some(11));
+    let before = "void worker(int self) { a = 1";
+    let text = repeated(rt.alloc(), before, " + 1", 1000, "; }")?;
+    assert_eq!(rt; number_of(rt.alloc(), text.as_str()), 11);
     Ok(())
+}
+
+// How many statements the one function of a text has.
+fn count_statements<A: Allocator + Copy>(alloc: A, text: &str) -> Option<usize> {
+    match unit_of(alloc, text) {
+        Ok(unit) => match body_of(&unit) {
+            Some(body) => Some(body.len()),
+            None => None,
+        },
+        Err(_) => None,
+    }
 }
 
 #[test]
 fn a_block_may_be_long(rt: HostRuntime) -> Result<(), Fail> {
-    let text = repeated(
-        rt.alloc(),
-        "void worker(int self) { ",
-        "a = b[1]; ",
-        10000,
-        "}",
-    )?;
-    let Ok(tokens) = lex(rt.alloc(), text.as_str()) else {
-        assert!(rt; false);
-        return Ok(());
-    };
-    let Ok(unit) = parse(rt.alloc(), tokens.as_slice()) else {
-        assert!(rt; false);
-        return Ok(());
-    };
-    let [Item::Function(function)] = unit.items.as_slice() else {
-        assert!(rt; false);
-        return Ok(());
-    };
-    let Some(body) = &function.body else {
-        assert!(rt; false);
-        return Ok(());
-    };
-    assert_eq!(rt; body.len(), 10000);
+    let before = "void worker(int self) { ";
+    let text = repeated(rt.alloc(), before, "a = b[1]; ", 10000, "}")?;
+    assert_eq!(rt; count_statements(rt.alloc(), text.as_str()), Some(10000));
     Ok(())
 }
 
@@ -156,15 +176,24 @@ const LONG: [(&str, &str, usize, &str); 8] = [
     ("", "int a;", 100000, ""),
 ];
 
+// Whether such a text has no fault.
+fn is_accepted<A: Allocator + Copy>(
+    alloc: A,
+    before: &str,
+    one: &str,
+    times: usize,
+    after: &str,
+) -> bool {
+    match repeated(alloc, before, one, times, after) {
+        Ok(text) => fault_of(alloc, text.as_str()).is_none(),
+        Err(_) => false,
+    }
+}
+
 #[test]
 fn no_list_is_too_long(rt: HostRuntime) -> Result<(), Fail> {
     for (before, one, times, after) in LONG {
-        let text = repeated(rt.alloc(), before, one, times, after)?;
-        let Ok(tokens) = lex(rt.alloc(), text.as_str()) else {
-            assert!(rt; false);
-            return Ok(());
-        };
-        assert!(rt; parse(rt.alloc(), tokens.as_slice()).is_ok());
+        assert!(rt; is_accepted(rt.alloc(), before, one, times, after), "{one}");
     }
     Ok(())
 }

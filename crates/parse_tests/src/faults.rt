@@ -1,8 +1,7 @@
 //! Faults with their places.
 
-use lex::lex;
+use crate::parsed::fault_of;
 use lex::token::Span;
-use parse::parse;
 use std::test::Fail;
 
 /// A source, its fault's number, and the bytes that it names.
@@ -44,17 +43,8 @@ const ROWS: [(&str, u32, usize, usize); 30] = [
 #[test]
 fn each_fault_has_its_place(rt: HostRuntime) -> Result<(), Fail> {
     for (text, number, start, end) in ROWS {
-        let Ok(tokens) = lex(rt.alloc(), text) else {
-            assert!(rt; false, "{text}");
-            return Ok(());
-        };
-        let fault = parse(rt.alloc(), tokens.as_slice()).err();
-        assert_eq!(rt; fault.map(|f| f.number()), Some(number), "{text}");
-        assert_eq!(rt;
-            fault.and_then(|f| f.span()),
-            Some(Span { start, end }),
-            "{text}"
-        );
+        let fault = fault_of(rt.alloc(), text);
+        assert_eq!(rt; fault, Some((number, Some(Span { start, end }))), "{text}");
     }
     Ok(())
 }

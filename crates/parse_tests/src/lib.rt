@@ -8,6 +8,8 @@ mod faults;
 #[cfg(test)]
 mod growths;
 #[cfg(test)]
+mod parsed;
+#[cfg(test)]
 mod productions;
 #[cfg(test)]
 mod trees;

@@ -1,7 +1,7 @@
 //! One source for each production of the grammar.
 
-use lex::lex;
-use parse::parse;
+use crate::parsed::{fault_of, worker_of};
+use std::alloc::Allocator;
 use std::test::Fail;
 
 const ITEMS: [&str; 27] = [
@@ -101,22 +101,21 @@ const STATEMENTS: [&str; 51] = [
     "a = b ? c ? d : e : f;",
 ];
 
+// Whether a worker of these statements has no fault.
+fn is_accepted<A: Allocator + Copy>(alloc: A, inner: &str) -> bool {
+    match worker_of(alloc, inner) {
+        Ok(text) => fault_of(alloc, text.as_str()).is_none(),
+        Err(_) => false,
+    }
+}
+
 #[test]
 fn each_production_is_accepted(rt: HostRuntime) -> Result<(), Fail> {
     for text in ITEMS {
-        let Ok(tokens) = lex(rt.alloc(), text) else {
-            assert!(rt; false, "{text}");
-            return Ok(());
-        };
-        assert!(rt; parse(rt.alloc(), tokens.as_slice()).is_ok(), "{text}");
+        assert_eq!(rt; fault_of(rt.alloc(), text), None, "{text}");
     }
     for inner in STATEMENTS {
-        let text = format!(in rt.alloc(); "void worker(int self) {{ {inner} }}")?;
-        let Ok(tokens) = lex(rt.alloc(), text.as_str()) else {
-            assert!(rt; false, "{text}");
-            return Ok(());
-        };
-        assert!(rt; parse(rt.alloc(), tokens.as_slice()).is_ok(), "{text}");
+        assert!(rt; is_accepted(rt.alloc(), inner), "{inner}");
     }
     Ok(())
 }

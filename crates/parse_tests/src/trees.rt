@@ -1,10 +1,10 @@
 //! Trees of sources: what the grammar groups, and what a tree keeps.
 
-use lex::lex;
+use crate::parsed::{body_of, unit_of, worker_of};
 use lex::token::{Scalar, Span};
-use parse::parse;
+use std::alloc::Allocator;
 use std::test::Fail;
-use syntax::tree::{Attribute, BinaryOp, Expr, Item, Simple, Stmt};
+use syntax::tree::{Attribute, BinaryOp, Expr, Function, Global, Item, Simple, Stmt, Unit};
 
 /// Statements of a worker that are one `if`, and whether the `else` is that of the inner one.
 const CHOICES: [(&str, bool); 3] = [
@@ -13,34 +13,38 @@ const CHOICES: [(&str, bool); 3] = [
     ("if (a) do if (b) ; while (c); else ;", false),
 ];
 
+// Of a statement that is one `if`, whether its `else` is that of an `if` in it.
+fn is_nearest<A: Allocator>(body: &[Stmt<A>]) -> Option<bool> {
+    match body {
+        [Stmt::If(_, _, Some(_))] => Some(false),
+        [Stmt::If(_, then, None)] => {
+            if matches!(then.get(), Stmt::If(_, _, Some(_))) {
+                Some(true)
+            } else {
+                None
+            }
+        }
+        _ => None,
+    }
+}
+
+// The same of a text.
+fn is_nearest_in<A: Allocator + Copy>(alloc: A, text: &str) -> Option<bool> {
+    match unit_of(alloc, text) {
+        Err(_) => None,
+        Ok(unit) => match body_of(&unit) {
+            Some(body) => is_nearest(body),
+            None => None,
+        },
+    }
+}
+
 #[test]
 fn an_else_belongs_to_the_nearest_if(rt: HostRuntime) -> Result<(), Fail> {
     for (inner, nearest) in CHOICES {
-        let text = format!(in rt.alloc(); "void worker(int self) {{ {inner} }}")?;
-        let Ok(tokens) = lex(rt.alloc(), text.as_str()) else {
-            assert!(rt; false, "{inner}");
-            return Ok(());
-        };
-        let Ok(unit) = parse(rt.alloc(), tokens.as_slice()) else {
-            assert!(rt; false, "{inner}");
-            return Ok(());
-        };
-        let [Item::Function(function)] = unit.items.as_slice() else {
-            assert!(rt; false, "{inner}");
-            return Ok(());
-        };
-        let Some(body) = &function.body else {
-            assert!(rt; false, "{inner}");
-            return Ok(());
-        };
-        let [Stmt::If(_, then, other)] = body.as_slice() else {
-            assert!(rt; false, "{inner}");
-            return Ok(());
-        };
-        assert_eq!(rt; other.is_none(), nearest, "{inner}");
-        if nearest {
-            assert!(rt; matches!(then.get(), Stmt::If(_, _, Some(_))), "{inner}");
-        }
+        let text = worker_of(rt.alloc(), inner)?;
+        let found = is_nearest_in(rt.alloc(), text.as_str());
+        assert_eq!(rt; found, Some(nearest), "{inner}");
     }
     Ok(())
 }
@@ -59,118 +63,136 @@ const SUMS: [(&str, BinaryOp, bool, bool); 10] = [
     ("a | b ^ c;", BinaryOp::Or, false, true),
 ];
 
+// Of a statement that is a value, its outermost operator, and whether the operands are operators' values.
+fn grouped<A: Allocator>(body: &[Stmt<A>]) -> Option<(BinaryOp, bool, bool)> {
+    match body {
+        [Stmt::Do(Simple::Evaluate(Expr::Binary(op, a, b, _)))] => {
+            let left = matches!(a.get(), Expr::Binary(_, _, _, _));
+            let right = matches!(b.get(), Expr::Binary(_, _, _, _));
+            Some((*op, left, right))
+        }
+        _ => None,
+    }
+}
+
+// The same of a text.
+fn grouped_in<A: Allocator + Copy>(alloc: A, text: &str) -> Option<(BinaryOp, bool, bool)> {
+    match unit_of(alloc, text) {
+        Err(_) => None,
+        Ok(unit) => match body_of(&unit) {
+            Some(body) => grouped(body),
+            None => None,
+        },
+    }
+}
+
 #[test]
 fn operators_group_by_level_and_to_the_left(rt: HostRuntime) -> Result<(), Fail> {
     for (inner, outer, left, right) in SUMS {
-        let text = format!(in rt.alloc(); "void worker(int self) {{ {inner} }}")?;
-        let Ok(tokens) = lex(rt.alloc(), text.as_str()) else {
-            assert!(rt; false, "{inner}");
-            return Ok(());
-        };
-        let Ok(unit) = parse(rt.alloc(), tokens.as_slice()) else {
-            assert!(rt; false, "{inner}");
-            return Ok(());
-        };
-        let [Item::Function(function)] = unit.items.as_slice() else {
-            assert!(rt; false, "{inner}");
-            return Ok(());
-        };
-        let Some(body) = &function.body else {
-            assert!(rt; false, "{inner}");
-            return Ok(());
-        };
-        let [Stmt::Do(Simple::Evaluate(Expr::Binary(op, a, b, _)))] = body.as_slice() else {
-            assert!(rt; false, "{inner}");
-            return Ok(());
-        };
-        assert_eq!(rt; *op, outer, "{inner}");
-        assert_eq!(rt;
-            matches!(a.get(), Expr::Binary(_, _, _, _)),
-            left,
-            "{inner}"
-        );
-        assert_eq!(rt;
-            matches!(b.get(), Expr::Binary(_, _, _, _)),
-            right,
-            "{inner}"
-        );
+        let text = worker_of(rt.alloc(), inner)?;
+        let found = grouped_in(rt.alloc(), text.as_str());
+        assert_eq!(rt; found, Some((outer, left, right)), "{inner}");
     }
     Ok(())
 }
 
+const DECLARED: &str =
+    "[[transaction_safe, transaction_unsafe]] unsigned f(int a, unsigned) __attribute__((transaction_callable));";
+
+// Whether the attributes, the type and the name are those of the text.
+fn keeps_head<A: Allocator>(f: &Function<A>) -> bool {
+    let kept = [Attribute::Safe, Attribute::Unsafe, Attribute::Callable];
+    f.attributes.as_slice() == kept.as_slice()
+        && f.result == Some(Scalar::Unsigned)
+        && f.name.text.as_str() == "f"
+        && f.body.is_none()
+}
+
+// Whether the parameters are those of the text.
+fn keeps_parameters<A: Allocator>(f: &Function<A>) -> bool {
+    match f.parameters.as_slice() {
+        [first, second] => {
+            first.of == Scalar::Int
+                && first.name.is_some()
+                && second.of == Scalar::Unsigned
+                && second.name.is_none()
+        }
+        _ => false,
+    }
+}
+
+// Whether this is the tree of the text.
+fn keeps_function<A: Allocator>(unit: &Unit<A>) -> bool {
+    match unit.items.as_slice() {
+        [Item::Function(f)] => {
+            unit.end == DECLARED.len() && keeps_head(f) && keeps_parameters(f)
+        }
+        _ => false,
+    }
+}
+
 #[test]
 fn a_function_keeps_its_attributes_and_parameters(rt: HostRuntime) -> Result<(), Fail> {
-    let text =
-        "[[transaction_safe, transaction_unsafe]] unsigned f(int a, unsigned) __attribute__((transaction_callable));";
-    let Ok(tokens) = lex(rt.alloc(), text) else {
-        assert!(rt; false);
-        return Ok(());
-    };
-    let Ok(unit) = parse(rt.alloc(), tokens.as_slice()) else {
-        assert!(rt; false);
-        return Ok(());
-    };
-    assert_eq!(rt; unit.end, text.len());
-    let [Item::Function(function)] = unit.items.as_slice() else {
-        assert!(rt; false);
-        return Ok(());
-    };
-    let kept = [Attribute::Safe, Attribute::Unsafe, Attribute::Callable];
-    assert_eq!(rt; function.attributes.as_slice(), kept.as_slice());
-    assert_eq!(rt; function.result, Some(Scalar::Unsigned));
-    assert_eq!(rt; function.name.text.as_str(), "f");
-    assert!(rt; function.body.is_none());
-    let [first, second] = function.parameters.as_slice() else {
-        assert!(rt; false);
-        return Ok(());
-    };
-    assert_eq!(rt; first.of, Scalar::Int);
-    assert!(rt; first.name.is_some());
-    assert_eq!(rt; second.of, Scalar::Unsigned);
-    assert!(rt; second.name.is_none());
+    match unit_of(rt.alloc(), DECLARED) {
+        Ok(unit) => assert!(rt; keeps_function(&unit)),
+        Err(_) => assert!(rt; false),
+    }
     Ok(())
+}
+
+// Whether a global is an `unsigned` with no length, and 7 its first value.
+fn is_seven<A: Allocator>(g: &Global<A>) -> bool {
+    match g.first.as_slice() {
+        [seven] => {
+            g.of == Scalar::Unsigned
+                && g.length.is_none()
+                && seven.value == 7
+                && seven.of == Scalar::Unsigned
+        }
+        _ => false,
+    }
+}
+
+// Whether a global is an array of three `unsigned`, of which the second first value is a negative one.
+fn is_array<A: Allocator>(g: &Global<A>) -> bool {
+    let long = match g.length {
+        Some((length, _)) => length == 3,
+        None => false,
+    };
+    match g.first.as_slice() {
+        [one, two] => {
+            long && g.of == Scalar::Unsigned
+                && !one.negative
+                && two.negative
+                && two.span == Span { start: 28, end: 30 }
+        }
+        _ => false,
+    }
+}
+
+// Whether these are the two declarations of the text.
+fn keeps_globals<A: Allocator>(both: &[Global<A>], last: &[Global<A>]) -> bool {
+    match (both, last) {
+        ([a, b], [c]) => { is_seven(a) && is_array(b) && c.of == Scalar::Int && c.first.len() == 0 }
+        _ => false,
+    }
+}
+
+// Whether this is the tree of the text.
+fn keeps_values<A: Allocator>(unit: &Unit<A>) -> bool {
+    match unit.items.as_slice() {
+        [Item::Globals(both), Item::Globals(last)] => {
+            keeps_globals(both.as_slice(), last.as_slice())
+        }
+        _ => false,
+    }
 }
 
 #[test]
 fn globals_keep_their_lengths_and_values(rt: HostRuntime) -> Result<(), Fail> {
-    let text = "unsigned a = 7u, b[3] = {1, -2,}; signed c;";
-    let Ok(tokens) = lex(rt.alloc(), text) else {
-        assert!(rt; false);
-        return Ok(());
-    };
-    let Ok(unit) = parse(rt.alloc(), tokens.as_slice()) else {
-        assert!(rt; false);
-        return Ok(());
-    };
-    let [Item::Globals(both), Item::Globals(last)] = unit.items.as_slice() else {
-        assert!(rt; false);
-        return Ok(());
-    };
-    let [a, b] = both.as_slice() else {
-        assert!(rt; false);
-        return Ok(());
-    };
-    assert_eq!(rt; a.of, Scalar::Unsigned);
-    assert!(rt; a.length.is_none());
-    let [seven] = a.first.as_slice() else {
-        assert!(rt; false);
-        return Ok(());
-    };
-    assert_eq!(rt; seven.value, 7);
-    assert_eq!(rt; seven.of, Scalar::Unsigned);
-    assert_eq!(rt; b.of, Scalar::Unsigned);
-    assert_eq!(rt; b.length.map(|l| l.0), Some(3));
-    let [one, two] = b.first.as_slice() else {
-        assert!(rt; false);
-        return Ok(());
-    };
-    assert!(rt; !one.negative && two.negative);
-    assert_eq!(rt; two.span, Span { start: 28, end: 30 });
-    let [c] = last.as_slice() else {
-        assert!(rt; false);
-        return Ok(());
-    };
-    assert_eq!(rt; c.of, Scalar::Int);
-    assert_eq!(rt; c.first.len(), 0);
+    match unit_of(rt.alloc(), "unsigned a = 7u, b[3] = {1, -2,}; signed c;") {
+        Ok(unit) => assert!(rt; keeps_values(&unit)),
+        Err(_) => assert!(rt; false),
+    }
     Ok(())
 }
