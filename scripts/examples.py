@@ -38,8 +38,9 @@ def literal(text):
     return '"' + text.replace("\\", "\\\\").replace('"', '\\"').replace("\n", "\\n") + '"'
 
 
-def row(texts):
-    return "    (\n" + "".join(f"        {literal(text)},\n" for text in texts) + "    ),\n"
+def row(texts, deep=4):
+    gap = " " * deep
+    return f"{gap}(\n" + "".join(f"{gap}    {literal(text)},\n" for text in texts) + f"{gap}),\n"
 
 
 def transcript(path):
@@ -52,50 +53,106 @@ def transcript(path):
 
 
 def tests():
-    examples = [row((read(name), read(name[:-2] + ".out"))) for name in names("examples/*.c") + names("examples/bench/*.c")]
-    transcripts = [row(transcript(name)) for name in names("examples/transcripts/*.txt")]
+    examples = [row((read(name), read(name[:-2] + ".out")), 8) for name in names("examples/*.c") + names("examples/bench/*.c")]
+    transcripts = [row(transcript(name), 8) for name in names("examples/transcripts/*.txt")]
     return f"""//! The programs of examples/, with what each prints, and the transcripts of examples/transcripts/: written by scripts/examples.py.
 
-use crate::tests::{{serve_bytes, serve_told}};
-use command::command;
+use crate::tests::{{Served, serve_bytes, serve_told}};
+use command::{{Request, command}};
+use std::alloc::{{AllocError, Global}};
+use std::sync::Wait;
 use std::test::Fail;
+use std::thread::Threads;
 
-const EXAMPLES: [(&str, &str); {len(examples)}] = [
-{"".join(examples)}];
+/// A source, and what it prints.
+type Example = (&'static str, &'static str);
+
+/// The rows stand in a function, so that no proof but its own looks at them.
+fn examples() -> &'static [Example] {{
+    static ROWS: [Example; {len(examples)}] = [
+{"".join(examples)}    ];
+    &ROWS
+}}
+
+// Whether a source prints this, and nothing on standard error.
+fn prints<H: Threads + Wait + Sync>(
+    rt: &H,
+    alloc: Global,
+    request: &Request,
+    source: &[u8],
+    out: &[u8],
+) -> bool {{
+    let served = serve_bytes(rt, alloc, request, source);
+    served.out.as_slice() == out && served.err.is_empty()
+}}
 
 #[test]
 fn examples_print_what_they_should(rt: HostRuntime) -> Result<(), Fail> {{
     let request = command(rt.alloc(), ["txc", "run", "a.c"].as_slice())?;
-    for (source, out) in EXAMPLES {{
-        let answer = serve_bytes(&rt, rt.alloc(), &request, source.as_bytes());
-        assert_eq!(rt; answer.out.as_slice(), out.as_bytes());
-        assert_eq!(rt; answer.err.len(), 0);
+    for (source, out) in examples() {{
+        let right = prints(&rt, rt.alloc(), &request, source.as_bytes(), out.as_bytes());
+        assert!(rt; right, "{{source}}");
     }}
     Ok(())
 }}
 
 /// The words, the source, the schedule, and what a terminal shows.
-const TRANSCRIPTS: [(&str, &str, &str, &str); {len(transcripts)}] = [
-{"".join(transcripts)}];
+type Transcript = (&'static str, &'static str, &'static str, &'static str);
+
+fn transcripts() -> &'static [Transcript] {{
+    static ROWS: [Transcript; {len(transcripts)}] = [
+{"".join(transcripts)}    ];
+    &ROWS
+}}
+
+// The words of a line.
+fn words_of<'a>(alloc: Global, line: &'a str) -> Result<Vec<&'a str>, AllocError> {{
+    let mut words = Vec::new(alloc);
+    for word in line.split(' ') {{
+        words.push(word)?;
+    }}
+    Ok(words)
+}}
+
+// Whether this is what was served: the output, and behind it the standard error.
+fn shows(mut served: Served, shown: &[u8]) -> bool {{
+    match served.out.extend_from_slice(served.err.as_slice()) {{
+        Ok(()) => served.out.as_slice() == shown,
+        Err(_) => false,
+    }}
+}}
+
+// Whether a terminal shows this of words.
+fn is_shown<H: Threads + Wait + Sync>(
+    rt: &H,
+    alloc: Global,
+    words: &[&str],
+    source: &[u8],
+    schedule: &[u8],
+    shown: &[u8],
+) -> bool {{
+    match command(alloc, words) {{
+        Ok(request) => {{
+            let served = serve_told(rt, alloc, &request, source, schedule, true);
+            shows(served, shown)
+        }}
+        Err(_) => false,
+    }}
+}}
 
 #[test]
 fn transcripts_show_what_they_should(rt: HostRuntime) -> Result<(), Fail> {{
-    for (line, source, schedule, shown) in TRANSCRIPTS {{
-        let mut words = Vec::new(rt.alloc());
-        for word in line.split(' ') {{
-            words.push(word)?;
-        }}
-        let request = command(rt.alloc(), words.as_slice())?;
-        let mut answer = serve_told(
+    for (line, source, schedule, shown) in transcripts() {{
+        let words = words_of(rt.alloc(), line)?;
+        let right = is_shown(
             &rt,
             rt.alloc(),
-            &request,
+            words.as_slice(),
             source.as_bytes(),
             schedule.as_bytes(),
-            true,
+            shown.as_bytes(),
         );
-        answer.out.extend_from_slice(answer.err.as_slice())?;
-        assert_eq!(rt; answer.out.as_slice(), shown.as_bytes());
+        assert!(rt; right, "{{line}}");
     }}
     Ok(())
 }}

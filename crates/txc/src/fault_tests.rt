@@ -1,9 +1,8 @@
 //! The examples of docs/FAULTS.md: each is a source, its fault's number, and what standard error says behind the number.
 //! `scripts/faults.py` compares these tables with the document's.
 
-use crate::tests::{Served, serve_bytes, serve_told};
-use command::command;
-use faults::words;
+use crate::tests::{answers, serve_bytes, tells};
+use command::{Request, command};
 use std::alloc::{AllocError, Allocator, Global};
 use std::sync::Wait;
 use std::test::Fail;
@@ -153,32 +152,58 @@ fn joined<A: Allocator + Copy>(
     Ok(text)
 }
 
-/// What `txc run` answers to a source.
-fn answer<H: Threads + Wait + Sync>(rt: &H, alloc: Global, source: &[u8]) -> Result<Served, Fail> {
-    let request = command(alloc, ["txc", "run", "a.c"].as_slice())?;
-    Ok(serve_bytes(rt, alloc, &request, source))
+// The line that tells a fault.
+fn line(alloc: Global, number: u32, told: &str) -> Result<String, AllocError> {
+    format!(in alloc; "txc: fault {number:02} at {told}\n")
 }
 
-/// The line that tells a fault.
-fn line(alloc: Global, number: u32, told: &str) -> Result<String, Fail> {
-    Ok(format!(in alloc; "txc: fault {number:02} at {told}\n")?)
+// Whether `txc run` answers a source by a fault with this number, and these words behind it.
+fn is_told<H: Threads + Wait + Sync>(
+    rt: &H,
+    alloc: Global,
+    source: &[u8],
+    number: u32,
+    told: &str,
+) -> bool {
+    match line(alloc, number, told) {
+        Ok(line) => {
+            let wanted = (1, b"".as_slice(), line.as_str().as_bytes());
+            tells(rt, alloc, &["txc", "run", "a.c"], source, wanted)
+        }
+        Err(_) => false,
+    }
 }
 
 #[test]
 fn faults_are_told_with_place_and_words(rt: HostRuntime) -> Result<(), Fail> {
-    for (source, number, told) in TOLD {
-        let answer = answer(&rt, rt.alloc(), source.as_bytes())?;
-        let line = line(rt.alloc(), number, told)?;
-        assert_eq!(rt; answer.err.as_slice(), line.as_str().as_bytes());
-        assert_eq!(rt; answer.out.len(), 0);
-        assert_eq!(rt; answer.status, 1);
+    for (source, number, words) in TOLD {
+        let right = is_told(&rt, rt.alloc(), source.as_bytes(), number, words);
+        assert!(rt; right, "{source}");
     }
-    for (pieces, number, told) in LONG {
-        let source = joined(rt.alloc(), pieces.as_slice())?;
-        let answer = answer(&rt, rt.alloc(), source.as_str().as_bytes())?;
-        let line = line(rt.alloc(), number, told)?;
-        assert_eq!(rt; answer.err.as_slice(), line.as_str().as_bytes());
-        assert_eq!(rt; answer.status, 1);
+    Ok(())
+}
+
+// The same of a source in pieces.
+fn is_told_of<H: Threads + Wait + Sync>(
+    rt: &H,
+    alloc: Global,
+    pieces: &[(&str, usize)],
+    number: u32,
+    told: &str,
+) -> bool {
+    match joined(alloc, pieces) {
+        Ok(source) => is_told(rt, alloc, source.as_str().as_bytes(), number, told),
+        Err(_) => false,
+    }
+}
+
+#[test]
+fn faults_of_long_sources_are_told(rt: HostRuntime) -> Result<(), Fail> {
+    for (pieces, number, words) in LONG {
+        assert!(rt;
+            is_told_of(&rt, rt.alloc(), pieces.as_slice(), number, words),
+            "{number}"
+        );
     }
     Ok(())
 }
@@ -192,38 +217,53 @@ const UNDERLINED: (&str, &str) = (
 #[test]
 fn the_line_follows_on_a_terminal(rt: HostRuntime) -> Result<(), Fail> {
     let (source, told) = UNDERLINED;
-    for (words, is_terminal) in [
-        (["txc", "check", "a.c"].as_slice(), true),
-        (["txc", "run", "--verbose", "a.c"].as_slice(), false),
-    ] {
-        let request = command(rt.alloc(), words)?;
-        let answer = serve_told(
+    let wanted = (1, b"".as_slice(), told.as_bytes());
+    let check = ["txc", "check", "a.c"];
+    assert!(rt;
+        answers(
             &rt,
             rt.alloc(),
-            &request,
+            &check,
             source.as_bytes(),
             b"",
-            is_terminal,
-        );
-        assert_eq!(rt; answer.err.as_slice(), told.as_bytes());
-        assert_eq!(rt; answer.status, 1);
-    }
+            true,
+            wanted
+        )
+    );
+    let verbose = ["txc", "run", "--verbose", "a.c"];
+    assert!(rt;
+        answers(
+            &rt,
+            rt.alloc(),
+            &verbose,
+            source.as_bytes(),
+            b"",
+            false,
+            wanted
+        )
+    );
     Ok(())
+}
+
+// Whether what is explained begins so.
+fn explains<H: Threads + Wait + Sync>(
+    rt: &H,
+    alloc: Global,
+    request: &Request,
+    begins: &[u8],
+) -> bool {
+    let served = serve_bytes(rt, alloc, request, b"");
+    served.status == 0 && served.out.starts_with(begins)
 }
 
 #[test]
 fn explains_faults(rt: HostRuntime) -> Result<(), Fail> {
     let request = command(rt.alloc(), ["txc", "explain", "20"].as_slice())?;
-    let answer = serve_bytes(&rt, rt.alloc(), &request, b"");
-    assert!(rt; answer.out.starts_with(b"fault 20: unknown name\nWhen: "));
-    assert_eq!(rt; answer.status, 0);
-    let request = command(rt.alloc(), ["txc", "explain", "07"].as_slice())?;
-    let answer = serve_bytes(&rt, rt.alloc(), &request, b"");
-    assert_eq!(rt;
-        answer.err.as_slice(),
-        b"txc: usage: no fault has this number\n".as_slice()
-    );
-    assert_eq!(rt; answer.status, 2);
+    let begins = b"fault 20: unknown name\nWhen: ";
+    assert!(rt; explains(&rt, rt.alloc(), &request, begins));
+    let unknown = ["txc", "explain", "07"];
+    let told = b"txc: usage: no fault has this number\n";
+    assert!(rt; tells(&rt, rt.alloc(), &unknown, b"", (2, b"", told)));
     Ok(())
 }
 
@@ -234,11 +274,6 @@ fn a_long_text_that_is_not_utf8_is_too_long(rt: HostRuntime) -> Result<(), Fail>
     for _ in 0..1048577u32 {
         source.push(b'\xff')?;
     }
-    let answer = answer(&rt, rt.alloc(), source.as_slice())?;
-    assert_eq!(rt;
-        answer.err.as_slice(),
-        b"txc: fault 05 at 1:1: file too long\n".as_slice()
-    );
-    assert_eq!(rt; answer.status, 1);
+    assert!(rt; is_told(&rt, rt.alloc(), source.as_slice(), 5, "1:1: file too long"));
     Ok(())
 }
