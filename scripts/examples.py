@@ -115,11 +115,9 @@ fn words_of<'a>(alloc: Global, line: &'a str) -> Result<Vec<&'a str>, AllocError
 }}
 
 // Whether this is what was served: the output, and behind it the standard error.
-fn shows(mut served: Served, shown: &[u8]) -> bool {{
-    match served.out.extend_from_slice(served.err.as_slice()) {{
-        Ok(()) => served.out.as_slice() == shown,
-        Err(_) => false,
-    }}
+fn shows(served: &Served, shown: &[u8]) -> bool {{
+    let out = served.out.as_slice();
+    shown.starts_with(out) && shown.get(out.len()..) == Some(served.err.as_slice())
 }}
 
 // Whether a terminal shows this of words.
@@ -134,7 +132,7 @@ fn is_shown<H: Threads + Wait + Sync>(
     match command(alloc, words) {{
         Ok(request) => {{
             let served = serve_told(rt, alloc, &request, source, schedule, true);
-            shows(served, shown)
+            shows(&served, shown)
         }}
         Err(_) => false,
     }}
