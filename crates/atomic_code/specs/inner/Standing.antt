@@ -8,9 +8,11 @@ use Rattle.bytecode.specs.Sequential.{start, steps}
 use Rattle.atomic_code.specs.Kept.{Kept, Runs, meant}
 
 -- after so many instructions the thread has left these memories, and stands outside transactions
-pub record HasComeTo (code : Code) (t : ℕ) (founds : List Memory) (most made : ℕ) (lefts : List Memory) (k : Kept) : Type 0 where
+pub record HasComeTo (code : Code) (t : ℕ) (founds : List Memory) (most made : ℕ) (lefts : List Memory) (k : Kept)
+    : Type 0 where
   pub few : made ≤ most
-  pub does : steps (effect code) made (start (beginning code t) founds) ≡ meant code (drop (length lefts) founds) lefts false k
+  pub does : steps (effect code) made (start (beginning code t) founds)
+      ≡ meant code (drop (length lefts) founds) lefts false k
   pub outside : k.open_in ≡ None
   pub running : k.status ≡ Running
   pub runs : Runs code k

@@ -32,7 +32,8 @@ left_or go (Some e) s = Gives (Some (end_of e)) s
 
 -- one turn of a loop
 abbrev pub while_turn : Program → Caller → Expr → Stmt → Action (Option End)
-while_turn p call c a = do v ← expr p call c; if is_zero v then pure (Some Next) else (scoped (stmt p call a) >>= after_body (pure None))
+while_turn p call c a =
+    do v ← expr p call c; if is_zero v then pure (Some Next) else (scoped (stmt p call a) >>= after_body (pure None))
 
 abbrev pub tested : Program → Caller → Expr → Action (Option End)
 tested p call c = do v ← expr p call c; pure (if is_zero v then Some Next else None)
@@ -41,7 +42,10 @@ abbrev pub do_turn : Program → Caller → Stmt → Expr → Action (Option End
 do_turn p call a c = scoped (stmt p call a) >>= after_body (tested p call c)
 
 abbrev pub for_turn : Program → Caller → Option Expr → Option Simple → Stmt → Action (Option End)
-for_turn p call c step a = do more ← holds p call c; if more then (scoped (stmt p call a) >>= after_body (stepped p call step)) else pure (Some Next)
+for_turn p call c step a =
+    do
+      more ← holds p call c
+      if more then (scoped (stmt p call a) >>= after_body (stepped p call step)) else pure (Some Next)
 
 -- what a `for` begins with, and then its turns
 abbrev pub for_all : Program → Caller → Start → Option Expr → Option Simple → Stmt → Action End
@@ -85,14 +89,22 @@ module _ {A : Type 0} where
   does_stmts source frames ss = stmts (program_in source) (called source frames) (stmts_of ss)
 
   abbrev pub does_turn : Source A → ℕ → Loop A → Action (Option End)
-  does_turn source frames (kind.While c a) = while_turn (program_in source) (called source frames) (expr_of c.now) (stmt_of a.now)
-  does_turn source frames (kind.DoWhile a c) = do_turn (program_in source) (called source frames) (stmt_of a.now) (expr_of c.now)
-  does_turn source frames (kind.For head a) = for_turn (program_in source) (called source frames) (option_map expr_of head.now.condition) (option_map simple_of head.now.step) (stmt_of a.now)
+  does_turn source frames (kind.While c a) =
+      while_turn (program_in source) (called source frames) (expr_of c.now) (stmt_of a.now)
+  does_turn source frames (kind.DoWhile a c) =
+      do_turn (program_in source) (called source frames) (stmt_of a.now) (expr_of c.now)
+  does_turn source frames (kind.For head a) =
+      for_turn (program_in source) (called source frames) (option_map expr_of head.now.condition)
+      (option_map simple_of head.now.step) (stmt_of a.now)
 
   abbrev pub loop_depth : Loop A → ℕ
   loop_depth (kind.While c a) = max (expr_depth (expr_of c.now)) (stmt_depth (stmt_of a.now))
   loop_depth (kind.DoWhile a c) = max (stmt_depth (stmt_of a.now)) (expr_depth (expr_of c.now))
-  loop_depth (kind.For head a) = max (optional_depth (option_map expr_of head.now.condition)) (max (optional_simple_depth (option_map simple_of head.now.step)) (stmt_depth (stmt_of a.now)))
+  loop_depth (kind.For head a) =
+      max (optional_depth (option_map expr_of head.now.condition))
+      (max (optional_simple_depth (option_map simple_of head.now.step)) (stmt_depth (stmt_of a.now)))
 
   abbrev pub head_depth : ForHead A → OwnStmt A → ℕ
-  head_depth head a = max (max (start_depth (start_of head.start)) (optional_depth (option_map expr_of head.condition))) (max (optional_simple_depth (option_map simple_of head.step)) (stmt_depth (stmt_of a)))
+  head_depth head a =
+      max (max (start_depth (start_of head.start)) (optional_depth (option_map expr_of head.condition)))
+      (max (optional_simple_depth (option_map simple_of head.step)) (stmt_depth (stmt_of a)))

@@ -64,7 +64,12 @@ module _ {A : Type 0} where
   context_in (context.Inside mode memory) = Actions.Inside mode memory.items
 
   abbrev pub state_in : Machine A → State
-  state_in m = record { ticks = m.ticks; locals = map local_in m.locals.items; context = context_in m.context; text = m.text.items }
+  state_in m = record {
+    ticks = m.ticks;
+    locals = map local_in m.locals.items;
+    context = context_in m.context;
+    text = m.text.items;
+  }
 
   abbrev pub program_in : Source A → Program
   program_in source = program_of source.unit.now

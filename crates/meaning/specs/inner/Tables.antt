@@ -14,7 +14,8 @@ use Rattle.meaning.specs.inner.File.{shared_in, known_or}
 abbrev pub number_from : ℕ → List Item → List ℕ → Option ℕ
 number_from n [] x = None
 number_from n (Shares gs ∷ items) x = number_from (n + 1) items x
-number_from n (Defines f ∷ items) x = if is_some f.body && bytes_eq f.name.text x then Some n else number_from (n + 1) items x
+number_from n (Defines f ∷ items) x =
+    if is_some f.body && bytes_eq f.name.text x then Some n else number_from (n + 1) items x
 
 -- these are the numbers of the functions that these items define
 abbrev pub AreNumbers : ℕ → List Item → BTreeMap (Bor (List ℕ)) ℕ → Type 0

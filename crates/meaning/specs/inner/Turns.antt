@@ -14,13 +14,15 @@ use Rattle.meaning.specs.declared.orders.Way.{Way}
 unfoldable pub does_in : Program → Behaviour
 does_in p = thread p
 
--- a turn of a thread, from the memory at hand and those that it has found: where it wants one it finds the memory at hand,
+-- a turn of a thread, from the memory at hand and those that it has found: where it wants one it finds the one at hand,
 -- and what it leaves on that takes its place
 unfoldable pub TakesTurn : Program → (ticks t : ℕ) → Memory → List Memory → Memory → List Memory → Type 0
 TakesTurn p ticks t m founds n further =
     let does = does_in p t in
     (((does founds ticks).end ≢ Stopped Wants) × (n ≡ m) × (further ≡ founds))
-    ⊎ (((does founds ticks).end ≡ Stopped Wants) × (n ≡ last_left m (drop (length (does founds ticks).lefts) (does further ticks).lefts)) × (further ≡ founds ++ m ∷ []))
+    ⊎ (((does founds ticks).end ≡ Stopped Wants)
+    × (n ≡ last_left m (drop (length (does founds ticks).lefts) (does further ticks).lefts))
+    × (further ≡ founds ++ m ∷ []))
 
 module _ {A : Type 0} where
   -- what is seen of a thread is what it does with the memories that it has found
