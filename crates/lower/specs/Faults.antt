@@ -39,7 +39,8 @@ IsTooMuch p = MOST_INSTRUCTIONS < length (lowered_code p).instructions
 abbrev pub picked_for : Program → Program → ℕ
 picked_for p items = length (made_for p items).code
 
--- a code may have as many instructions as are picked for what stands before a function of this name, but not its own too
+-- a code may have as many instructions as are picked for what stands before a function of this name, but not its own
+-- too
 pub record PassesWith (p : Program) (at : Span) : Type 0 where
   pub before : Program
   pub function : Function
@@ -49,8 +50,9 @@ pub record PassesWith (p : Program) (at : Span) : Type 0 where
   pub fits : picked_for p before ≤ MOST_INSTRUCTIONS
   pub passes : MOST_INSTRUCTIONS < picked_for p (before ++ Defines function ∷ [])
 
--- a fault of this program. A transaction lies in 16 others, and this is the keyword of the first one that does. Or none
--- does, and a limit of code is passed, in or with the function of this name. Want of memory says nothing of the program.
+-- a fault of this program. A transaction lies in 16 others, and this is the keyword of the first one that does. Or
+-- none does, and a limit of code is passed, in or with the function of this name. Want of memory says nothing of the
+-- program.
 abbrev pub IsFaultOf : Program → LowerFault → Type 0
 IsFaultOf p OutOfMemory = Unit {0}
 IsFaultOf p (TooManyRegisters at) = (nested_too_deep p ≡ None) × NeedsTooMany p at

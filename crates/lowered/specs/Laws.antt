@@ -43,4 +43,5 @@ pub record MeetsMachine (p : Program) (code : Code) : Type 0 where
   pub means : MeansItsProgram p code
 
 abbrev pub AcceptedCodeMeetsMachine : Type 0
-AcceptedCodeMeetsMachine = (p : Program) (code : Code) → IsAccepted p → IsLowered p code → IsValid code → MeetsMachine p code
+AcceptedCodeMeetsMachine =
+    (p : Program) (code : Code) → IsAccepted p → IsLowered p code → IsValid code → MeetsMachine p code

@@ -1,5 +1,5 @@
--- What each thread of a world was answered. The worlds of real threads are these too: there each access is an atomic step
--- on the shared words, and the answers are all that a thread learns of them.
+-- What each thread of a world was answered. The worlds of real threads are these too: there each access is an atomic
+-- step on the shared words, and the answers are all that a thread learns of them.
 use Rattle.std.specs.Prelude.{◌≡◌, ◌≤◌, ◌<◌, ◌+◌, ◌*◌, ◌⊎◌, ℕ, zero, suc, Bool, true, false, List, [], ◌∷◌, ◌++◌, Option, None, Some, replicate, slice_index, slice_set, if◌then◌else◌}
 use Rattle.std.specs.List.{slice_get}
 use Rattle.syntax.specs.Behaviours.{Memory, last_memory}
@@ -51,7 +51,8 @@ abbrev pub paused : {C : Type 0} → (C → Effect C) → ℕ → Part C → Opt
 paused code zero p = Some p
 paused code (suc k) p = if is_local (access code p.thread) then paused code k (local_step code p) else None
 
--- So many steps bring the thread to this one, where its accesses get these answers in order, all of them, and no step stops.
+-- So many steps bring the thread to this one, where its accesses get these answers in order,
+-- all of them, and no step stops.
 pub data Replays {C : Type 0} (code : C → Effect C) (th : Thread C) : ℕ → List Heard → Thread C → Type 0 where
   none : Replays code th zero [] th
   local_more : (n : ℕ) (hs : List Heard) (u : Thread C) → Replays code th n hs u → is_local (access code u) ≡ true →
@@ -129,8 +130,9 @@ HaveWords m0 w es l [] = Unit {0}
 HaveWords m0 w es l (h ∷ hs) = WordOf m0 w es l h.access h.answer
     × HaveWords m0 w es (next_lock l (lock_value h.access h.answer)) hs
 
--- What holds of the answers of a thread in every world: the lock values never fall and are at most the lock, a lost swap
--- found another value than the one that it swaps from, and each word is one that a place of the run has, or that is stored so far.
+-- What holds of the answers of a thread in every world: the lock values never fall and are at most the lock,
+-- a lost swap found another value than the one that it swaps from, and each word is one that a place of the
+-- run has, or that is stored so far.
 pub record AnswersOk {C : Type 0} (m0 : Memory) (w : World C) (hs : List Heard) : Type 0 where
   pub ascend : Ascends hs
   pub bounded : LocksTo w.lock hs

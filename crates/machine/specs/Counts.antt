@@ -13,8 +13,8 @@ abbrev pub is_irrevocable : {C : Type 0} → Effect C → Bool
 is_irrevocable (Irrevocable c) = true
 is_irrevocable _ = false
 
--- Steps of thread t alone, from a world w with an even lock where it is at an outermost begin: the begin, and steps inside
--- its attempt, none of which is an irrevocable. So many accesses lead to this world.
+-- Steps of thread t alone, from a world w with an even lock where it is at an outermost begin: the begin, and steps
+-- inside its attempt, none of which is an irrevocable. So many accesses lead to this world.
 pub data Undisturbed {C : Type 0} (code : C → Effect C) (t : ℕ) (w : World C) : ℕ → World C → Type 0 where
   begun : (p : Part C) (c d : C) → slice_get w.parts t ≡ Some p → w.lock % 2 ≡ 0 → p.thread.attempt ≡ None →
       p.thread.status ≡ Running → code p.thread.configuration ≡ Begin c d → Undisturbed code t w 1 (step code w t)
@@ -22,8 +22,8 @@ pub data Undisturbed {C : Type 0} (code : C → Effect C) (t : ℕ) (w : World C
       slice_get v.parts t ≡ Some p → p.thread.attempt ≡ Some a → is_irrevocable (code p.thread.configuration) ≡ false →
       Undisturbed code t w (k + cost (access code p.thread)) (step code v t)
 
--- one for the begin, two for each entry of the read log, and where the lock was taken the swap, a store for each word and
--- the release
+-- one for the begin, two for each entry of the read log, and where the lock was taken the swap, a store
+-- for each word and the release
 abbrev pub accesses_of : {C : Type 0} → Attempt C → Bool → ℕ
 accesses_of a took_lock = 1 + 2 * length a.reads + (if took_lock then length a.writes + 2 else 0)
 

@@ -1,5 +1,5 @@
--- How a thread stands in a valid code: in its frames, with its begins open there, and with words in hand. Each call of a
--- thread asks it and gives it back, since the thread keeps no code.
+-- How a thread stands in a valid code: in its frames, with its begins open there, and with words in hand. Each call
+-- of a thread asks it and gives it back, since the thread keeps no code.
 use Rattle.std.specs.Prelude.{◌≡◌, ◌<◌, ◌^◌, ℕ, List, [], ◌∷◌, ◌++◌, Option, None, Some, map}
 use Rattle.std.specs.List.{AllByRecursion}
 use Rattle.syntax.specs.declared.numbers.Status.{Status}
@@ -37,7 +37,8 @@ abbrev pub GivesWordsIf : {S : Type 0} → Option (Attempt S) → Type 0
 GivesWordsIf None = Unit {0}
 GivesWordsIf (Some a) = GivesWords a
 
--- a thread that runs may stand where it does, where its open begins saved these: they had the configurations of its attempt
+-- a thread that runs may stand where it does, where its open begins saved these: they had the
+-- configurations of its attempt
 pub record Runs (code : Code) (th : Thread Configuration) : Type 0 where
   pub saved : List Saved
   pub stands : MayStand code th.configuration saved

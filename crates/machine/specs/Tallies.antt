@@ -63,7 +63,8 @@ abbrev pub tally_after : {C : Type 0} → (C → Effect C) → ℕ → Sequentia
 tally_after code zero s t = (s, t)
 tally_after code (suc n) s t = tally_after code n (next code s) (tallied t (code s.configuration))
 
--- one access for the begin, two for each read, and where an irrevocable was carried out its swap and one for each read since
+-- one access for the begin, two for each read, and where an irrevocable was carried out its
+-- swap and one for each read since
 abbrev pub accesses_so_far : Tally → ℕ
 accesses_so_far t = 1 + 2 * t.reads + (if t.kept then 1 + t.kept_reads else 0)
 
@@ -72,8 +73,8 @@ abbrev pub commit_accesses : List ℕ → ℕ
 commit_accesses [] = 0
 commit_accesses (a ∷ cells) = length (a ∷ cells) + 2
 
--- all accesses of a transaction that ends with this tally. With the lock kept a commit stores each word and releases it;
--- a trap releases it alone.
+-- all accesses of a transaction that ends with this tally. With the lock kept a commit stores each word and releases
+-- it; a trap releases it alone.
 abbrev pub accesses : Tally → (commits : Bool) → ℕ
 accesses t true = accesses_so_far t + (if t.kept then length t.written + 1 else commit_accesses t.written)
 accesses t false = accesses_so_far t + (if t.kept then 1 else 0)
@@ -140,8 +141,8 @@ pub record IsOpenAfter {C : Type 0} (code : C → Effect C) (w : World C) (t : �
   pub stands : meant.configuration ≡ part.thread.configuration
   pub count : k ≡ accesses_so_far tally + accesses_at tally.kept attempt.phase
 
--- After k accesses the transaction has taken effect: it has left its record, and the meaning's next instruction has ended it
--- too and comes where the thread is.
+-- After k accesses the transaction has taken effect: it has left its record, and the meaning's next instruction has
+-- ended it too and comes where the thread is.
 pub record IsOverAfter {C : Type 0} (code : C → Effect C) (w : World C) (t : ℕ) (first : Part C) (k : ℕ)
     (v : World C) : Type 0 where
   pub part : Part C

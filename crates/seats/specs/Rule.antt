@@ -26,8 +26,8 @@ pub record Fits (key : Setup) (w : World Configuration) (heard : List (List Hear
   pub floor : p.floor ≤ w.lock
   pub since : LocksFrom p.floor (drop p.floor_at p.heard)
 
--- The words are the lock and the words of a world that some list of steps of the machine leads to. Each thread has one part
--- among all views, and it is that world's.
+-- The words are the lock and the words of a world that some list of steps of the machine leads to. Each thread has
+-- one part among all views, and it is that world's.
 pub record IsRuled (key : Setup) (words : List ℕ) (views : Views) : Type 0 where
   pub world : World Configuration
   pub heard : List (List Heard)
@@ -63,7 +63,8 @@ part_told p words now x a = record p {
 }
 
 -- what an access leaves of a part and of its view
-pub record TookAs (p : ViewPart) (now : Part Configuration) (x : Access) (a : Answer) (after : List ViewPart) : Type 0 where
+pub record TookAs (p : ViewPart) (now : Part Configuration) (x : Access) (a : Answer) (after : List ViewPart)
+    : Type 0 where
   pub words : List ℕ
   pub leaves : after ≡ part_told p words now x a ∷ []
   pub answers : IsAnswerTo x a

@@ -25,16 +25,16 @@ IsExplained does key w es = IsExplainedBy does (bounds_of key.code) (initial_of 
 abbrev pub code_does : Code → Behaviour
 code_does code = meaning (effect code) (beginning code)
 
--- There is a merge of the records, and every merge is a run of the code in which every thread stands. While the lock is even
--- the words are its last memory; while it is odd one thread has it, and the words are that memory with what this thread
--- has stored so far. Each attempt has a moment.
+-- There is a merge of the records, and every merge is a run of the code in which every thread stands. While the lock
+-- is even the words are its last memory; while it is odd one thread has it, and the words are that memory with what
+-- this thread has stored so far. Each attempt has a moment.
 pub record RunsSay (key : Setup) (w : World Configuration) : Type 0 where
   pub entries : List Entry
   pub is_merge : IsMerge w.parts entries
   pub each : (es : List Entry) → IsMerge w.parts es → IsExplained (code_does key.code) key w es
 
--- The answers of a thread are in order and each is explained; its records that took the lock have numbers below the lock,
--- its floor is not above the lock, and no lock value answered since is below the floor.
+-- The answers of a thread are in order and each is explained; its records that took the lock have numbers below the
+-- lock, its floor is not above the lock, and no lock value answered since is below the floor.
 pub record PartSays (key : Setup) (w : World Configuration) (p : ViewPart) : Type 0 where
   pub answers : AnswersOk (initial_of key.code) w p.heard
   pub below : NumbersBelow w.lock p.part.records

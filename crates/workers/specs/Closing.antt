@@ -56,8 +56,8 @@ module _ {A : Type 0} where
       (slice_get w.parts x.number ≡ Some all.0.1.now) × (slice_get heard x.number ≡ Some all.0.1.part.heard)
       × AreThere z key w heard xs all.1
 
-  -- There is one world, which some list of steps leads to, with these cells and with every worker's steps. Its merges are
-  -- runs of the code in which every thread stands, as every world's are.
+  -- There is one world, which some list of steps leads to, with these cells and with every worker's steps. Its merges
+  -- are runs of the code in which every thread stands, as every world's are.
   pub record Closes (z : TableId) (key : Setup) (ws : List (Worker A)) (all : AreWorkersOf z key ws) (cells : List ℕ)
       (threads : List (Finished A)) : Type 0 where
     pub world : World Configuration

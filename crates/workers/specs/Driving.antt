@@ -91,8 +91,8 @@ module _ {A : Type 0} where
   IsMemoryOf (Words v) ws cells = (v.items ≡ cells) × NoneHolds ws
   IsMemoryOf (LockHeld n) ws cells = Holds ws n
 
-  -- One world, which some list of steps of the machine leads to, has all threads as they are reported, and its words are
-  -- those reported. Each merge of its records is a run of the program in which every thread stands.
+  -- One world, which some list of steps of the machine leads to, has all threads as they are reported, and its words
+  -- are those reported. Each merge of its records is a run of the program in which every thread stands.
   pub record Ran (does : Behaviour) (key : Setup) (all : ℕ) (r : RunReport A) : Type 0 where
     pub table : TableId
     pub workers : List (Worker A)

@@ -16,10 +16,11 @@ use Rattle.seats.specs.Setup.{Setup, IsPart}
 use Rattle.seats.specs.Views.{ViewPart, floored}
 use Rattle.seats.specs.Rule.{SeatView, Settles}
 
--- The seat speaks for the thread alone. The thread is what `steps` steps make of its beginning where its accesses get the
--- view's answers in order. Some world that steps which do not stop lead to has it with its records: as of the seat's last
--- access, and so too after the local steps since, which leave the part now.
-pub record Works (key : Setup) (number : ℕ) (th : Thread Configuration) (steps accesses : ℕ) (me : SeatView) : Type 0 where
+-- The seat speaks for the thread alone. The thread is what `steps` steps make of its beginning where its accesses get
+-- the view's answers in order. Some world that steps which do not stop lead to has it with its records: as of the
+-- seat's last access, and so too after the local steps since, which leave the part now.
+pub record Works (key : Setup) (number : ℕ) (th : Thread Configuration) (steps accesses : ℕ) (me : SeatView)
+    : Type 0 where
   pub part : ViewPart
   pub pauses : ℕ
   pub now : Part Configuration
@@ -40,10 +41,10 @@ pub record Works (key : Setup) (number : ℕ) (th : Thread Configuration) (steps
 abbrev pub Grows : {X : Type 0} → List X → List X → Type 0
 Grows {X} xs ys = (more : List X) × (ys ≡ xs ++ more)
 
--- Nothing is lost of what was done, neither answers nor records, those of local steps too; and the steps made in between
--- lead from the one thread to the other.
-pub record GoesOnFrom (code : Code) (p : ViewPart) (now : Part Configuration) (q : ViewPart) (later : Part Configuration) :
-    Type 0 where
+-- Nothing is lost of what was done, neither answers nor records, those of local steps too; and the steps made in
+-- between lead from the one thread to the other.
+pub record GoesOnFrom (code : Code) (p : ViewPart) (now : Part Configuration) (q : ViewPart) (later : Part Configuration)
+    : Type 0 where
   pub count : ℕ
   pub more : List Heard
   pub heard : q.heard ≡ p.heard ++ more
@@ -57,8 +58,8 @@ Because OutOfMemory x = Unit {0}
 Because SequenceUsedUp x = stops x ≡ true
 
 -- the part with a new floor, which is at least the old one, and at least all that it settles
-pub record MeetsAt (n : ℕ) (p : ViewPart) (now : Part Configuration) (q : ViewPart) (later : Part Configuration) :
-    Type 0 where
+pub record MeetsAt (n : ℕ) (p : ViewPart) (now : Part Configuration) (q : ViewPart) (later : Part Configuration)
+    : Type 0 where
   pub part : q ≡ floored n p
   pub same : later ≡ now
   pub settles : Settles n p

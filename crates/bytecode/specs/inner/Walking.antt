@@ -17,7 +17,8 @@ way_of Instr.Cancel = Cancels
 way_of (Instr.Return a) = Ends
 way_of i = On
 
--- the arrivals at a function's places, from its first one on, and the places that ways have come to and not gone on from
+-- the arrivals at a function's places, from its first one on, and the places that ways have come to and not gone on
+-- from
 abbrev pub Arrivals : Type 0
 Arrivals = List Arrival
 

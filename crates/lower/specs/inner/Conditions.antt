@@ -1,5 +1,5 @@
--- The instructions that are picked for a condition: a value and a jump, for which `!` and comparisons with 0 only say when it
--- is taken, and for `&&` and `||` a first condition with its jump before it.
+-- The instructions that are picked for a condition: a value and a jump, for which `!` and comparisons with 0 only say
+-- when it is taken, and for `&&` and `||` a first condition with its jump before it.
 use Rattle.std.specs.Prelude.{ℕ, zero, ◌+◌, List, [], ◌∷◌, ◌++◌, map, Bool, true, false, not, if◌then◌else◌, Option, Some, None}
 use Rattle.syntax.specs.declared.tree.BinaryOp.{BinaryOp}
 use Rattle.syntax.specs.declared.tree.BinaryOp.TheVariants.{Equal, NotEqual}
@@ -14,8 +14,8 @@ use Rattle.lower.specs.declared.draft.Draft.{Draft}
 use Rattle.lower.specs.declared.draft.Draft.TheVariants as draft
 use Rattle.lower.specs.inner.Lists.{Lists}
 
--- instructions, some of which lead to where the condition holds or to where it does not; the lists after them, the register of
--- a value, whether the condition holds where that is 0, and the place behind
+-- instructions, some of which lead to where the condition holds or to where it does not; the lists after them, the
+-- register of a value, whether the condition holds where that is 0, and the place behind
 pub record Condition : Type 0 where
   pub code : List Draft
   pub lists : Lists

@@ -1,6 +1,6 @@
--- The instructions that are picked for an expression. Each part is told its first place and gives the place behind it, so
--- that jumps over it need no further pass. A result that is computed comes into the register `into`, and registers from `free`
--- on may be written.
+-- The instructions that are picked for an expression. Each part is told its first place and gives the place behind
+-- it, so that jumps over it need no further pass. A result that is computed comes into the register `into`, and
+-- registers from `free` on may be written.
 use Rattle.std.specs.Prelude.{ℕ, suc, pos, ◌+◌, List, [], ◌∷◌, ◌++◌, length, Option, Some, None, max, if◌then◌else◌, ◌==◌}
 use Rattle.lex.specs.declared.token.Scalar.{Scalar}
 use Rattle.lex.specs.declared.token.Scalar.TheVariants.{Int, Unsigned}

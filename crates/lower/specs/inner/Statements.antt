@@ -1,5 +1,5 @@
--- The instructions that are picked for statements. A loop is tested at its bottom. In front of it stand a jump and pads:
--- places that are known before the body is made, from which a break and a continue go on.
+-- The instructions that are picked for statements. A loop is tested at its bottom. In front of it stand a jump and
+-- pads: places that are known before the body is made, from which a break and a continue go on.
 use Rattle.std.specs.Prelude.{ℕ, ◌+◌, List, [], ◌∷◌, ◌++◌, length, replicate, Option, Some, None}
 use Rattle.lex.specs.declared.token.Scalar.{Scalar}
 use Rattle.lex.specs.declared.token.Scalar.TheVariants.{Int, Unsigned}
@@ -105,7 +105,8 @@ module _ (p : Program) where
 
   abbrev pub return_written : LocalScope → Option Expr → ℕ → ℕ → Lists → Written
   return_written scope None commits from l = left_by commits own.Return from l
-  return_written scope (Some e) commits from l = returned commits (emitted p scope e from (length scope) (length scope) l)
+  return_written scope (Some e) commits from l =
+      returned commits (emitted p scope e from (length scope) (length scope) l)
 
   abbrev mutual
     pub written : Stmt → Exits → LocalScope → ℕ → Lists → Written

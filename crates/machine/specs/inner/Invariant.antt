@@ -177,7 +177,8 @@ module _ {C : Type 0} (code : C → Effect C) where
     pub comes_to : ComesTo c0 xs a.saved text1 Running
     -- nothing was printed without the lock, so an abort leaves the text as it was
     pub same_text : a.kept ≡ false → text1 ≡ text
-    -- in every memory that the attempt may have found: so a new snapshot costs nothing, and the end is one step of the run
+    -- in every memory that the attempt may have found: so a new snapshot costs nothing, and the end is one step of
+    -- the run
     pub reaches : Reaches bounds (h.mem a.snapshot) c1 text1 c a text
 
   -- what holds of the values in hand
@@ -217,7 +218,8 @@ module _ {C : Type 0} (code : C → Effect C) where
     pub begun : Begun bounds h c0 xs c a text
     -- one holder alone, whose snapshot is the last one, and what it has stored
     pub holds : LockBy h t a (has_lock a.kept a.phase)
-    -- a word or a validation in hand is right if the lock still has its value, so another thread's step keeps or voids it
+    -- a word or a validation in hand is right if the lock still has its value, so another thread's step keeps or
+    -- voids it
     pub in_hand : InHand h a c a.phase
 
   abbrev pub Now : List ℕ → History → ℕ → C → List Record → Memory → Thread C → Option (Attempt C) → Type 0

@@ -11,7 +11,8 @@ use Rattle.norec_core.specs.Attempts.{Attempt}
 use Rattle.norec_core.specs.Accesses.{stops}
 use Rattle.norec_core.specs.Phases.{CoreStep, core_access}
 
--- an attempt, whether it is under way, what was set aside, and for how many inner begins, reads and writes there is room
+-- an attempt, whether it is under way, what was set aside, and for how many inner begins, reads and writes there is
+-- room
 pub record Run : Type 0 where
   pub begun : Bool
   pub attempt : Attempt Saved
