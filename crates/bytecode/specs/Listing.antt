@@ -72,6 +72,15 @@ instr_text fs (Instr.Return (Some a)) = codes "ret" ++ r_text a
 instr_text fs (Instr.PrintText k) = codes "print.t" ++ k_text k
 instr_text fs (Instr.PrintNumber t a) = typed_word (codes "print") t ++ r_text a
 
+-- an instruction, if there is one
+abbrev pub if_instr_text : List FunctionCode → Option Instr → List ℕ
+if_instr_text fs None = []
+if_instr_text fs (Some i) = instr_text fs i
+
+-- the instruction at a place of a code
+abbrev pub text_at : Code → ℕ → List ℕ
+text_at code q = if_instr_text code.functions (slice_get code.instructions q)
+
 -- instructions from a place on, a line each
 abbrev pub lines_from : List FunctionCode → ℕ → List Instr → List ℕ
 lines_from fs q [] = []

@@ -1,7 +1,7 @@
 //! The listing of a code.
 
 ghost use Rattle.std.specs.Prelude.{◌≡◌, ◌+◌, ◌-◌, ◌<◌, ◌^◌, ◌++◌, ◌∷◌, [], OnOk, IfOk, string_bytes, codes, decimal, flat_map, map, take, drop, length};
-ghost use Rattle.bytecode.specs.Listing.{lines_from, escaped, functions_text, texts_text};
+ghost use Rattle.bytecode.specs.Listing.{lines_from, escaped, functions_text, text_at, texts_text};
 ghost use Rattle.bytecode.specs.Listing as spec;
 ghost use Rattle.bytecode.specs.Views.{function_of, instr_of, code_of};
 
@@ -118,5 +118,26 @@ pub fn listing<A: Allocator>(alloc: A, code: &Code<A>) -> Result<String<A>, Allo
     let mut text = String::new(alloc);
     push_functions(&mut text, code.parts())?;
     push_texts(&mut text, code.texts())?;
+    Ok(text)
+}
+
+/// The text of the instruction at a place; none where there is no such place.
+pub fn instruction_text<A: Allocator>(
+    alloc: A,
+    code: &Code<A>,
+    place: u32,
+) -> Result<String<A>, AllocError>
+    ensures { IfOk result (λ s. string_bytes s ≡ text_at code.now place) }
+{
+    let parts = code.parts();
+    let mut text = String::new(alloc);
+    if let Some(instr) = parts.instructions.get(place as usize) {
+        push_instr(
+            &mut text,
+            parts.functions.as_slice(),
+            parts.arguments.as_slice(),
+            instr,
+        )?;
+    }
     Ok(text)
 }

@@ -8,7 +8,7 @@ use Rattle.clap.specs.declared.error.kind.ErrorKind.TheVariants.{DisplayHelp, Di
 use Rattle.command.specs.declared.request.Request.{Request}
 use Rattle.command.specs.declared.request.Request.TheVariants.{Program, Explain}
 use Rattle.command.specs.declared.request.Task.{Task}
-use Rattle.command.specs.declared.request.Task.TheVariants.{Check, Listing, Run, Replay, PrintSchedule, Source}
+use Rattle.command.specs.declared.request.Task.TheVariants.{Check, Listing, Run, Replay, Timeline, PrintSchedule, Source}
 use Rattle.command.specs.declared.request.Steps.{Steps}
 use Rattle.command.specs.declared.request.Steps.TheVariants.{Schedule, Seed}
 use Rattle.command.specs.declared.request.UsageFault.{UsageFault}
@@ -73,10 +73,15 @@ IsTask name given Check = name ≡ codes "check"
 IsTask name given Listing = name ≡ codes "listing"
 IsTask name given (Run threads budget) = (name ≡ codes "run") × AreThreadsGiven given threads
     × IsNumber given (codes "budget") 4294967295 0 4294967295 budget
-IsTask name given (Replay threads steps) = (name ≡ codes "replay") × AreThreadsGiven given threads × AreSteps given steps
-    × (IsFlagged given (codes "print-schedule") → ⊥)
+IsTask name given (Replay threads steps) = (name ≡ codes "replay")
+    × AreThreadsGiven given threads × AreSteps given steps
+    × (IsFlagged given (codes "timeline") → ⊥) × (IsFlagged given (codes "print-schedule") → ⊥)
+IsTask name given (Timeline threads steps) = (name ≡ codes "replay")
+    × AreThreadsGiven given threads × AreSteps given steps
+    × IsFlagged given (codes "timeline") × (IsFlagged given (codes "print-schedule") → ⊥)
 IsTask name given (PrintSchedule threads seed count) = (name ≡ codes "replay") × AreThreadsGiven given threads
-    × AreSteps given (Seed seed count) × IsFlagged given (codes "print-schedule")
+    × AreSteps given (Seed seed count)
+    × (IsFlagged given (codes "timeline") → ⊥) × IsFlagged given (codes "print-schedule")
 IsTask name given (Source threads order ticks) = (name ≡ codes "source") × AreThreadsGiven given threads
     × IsOrderGiven given order.items
     × IsNumber given (codes "ticks") 100000 0 1000000 ticks

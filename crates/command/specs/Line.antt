@@ -54,7 +54,8 @@ replay_steps_app =
     with_rule (with_rule schedule (number_rule (codes "seed"))) (number_rule (codes "steps"))
 
 abbrev pub replay_app : App
-replay_app = with_rule replay_steps_app (flag_rule (codes "print-schedule"))
+replay_app =
+    with_rule (with_rule replay_steps_app (flag_rule (codes "timeline"))) (flag_rule (codes "print-schedule"))
 
 abbrev pub source_app : App
 source_app =

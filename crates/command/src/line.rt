@@ -163,12 +163,17 @@ fn replay<'a>(alloc: Global) -> Result<Command<'a>, AllocError>
     ensures app { IfOk result (λ c. app_of c ≡ replay_app) }
     ensures globals { IfOk result (λ c. (fields_of c).has_globals ≡ false) }
 {
+    let timeline = flag(
+        alloc,
+        "timeline",
+        "Shows each step, a line each, before the report",
+    );
     let print_schedule = flag(
         alloc,
         "print-schedule",
         "Prints the steps of the seed as a schedule, and makes none of them",
     );
-    replay_steps(alloc)?.arg(print_schedule)
+    replay_steps(alloc)?.arg(timeline)?.arg(print_schedule)
 }
 
 /// The command that runs the source in an order of threads.

@@ -1,6 +1,6 @@
 //! What a command does with a program.
 
-ghost use Rattle.std.specs.Prelude.{◌≡◌, ◌≤◌, IfOk, IfErr, Some, None, codes};
+ghost use Rattle.std.specs.Prelude.{◌≡◌, ◌≤◌, IfOk, IfErr, Some, None, codes, if◌then◌else◌};
 ghost use Rattle.clap.specs.Words.{first_of, found_of, rows_of};
 ghost use Rattle.command.specs.Asked.{AreSteps, IsNumber, IsOrder, IsTask, AreThreadsGiven, IsOrderGiven};
 ghost use Rattle.command.specs.inner.Refusals.{IsOwn};
@@ -77,6 +77,17 @@ fn steps(alloc: Global, given: &ArgMatches<'_>) -> Result<Steps, UsageFault>
     }
 }
 
+/// A replay, with a timeline or without.
+fn replay_of(threads: u32, steps: Steps, timeline: bool) -> Task
+    ensures { result ≡ (if timeline then Task.Timeline threads steps else Task.Replay threads steps) }
+{
+    if timeline {
+        Task::Timeline { threads, steps }
+    } else {
+        Task::Replay { threads, steps }
+    }
+}
+
 /// A replay, or what it would make.
 fn replay(alloc: Global, given: &ArgMatches<'_>) -> Result<Task, UsageFault>
     ensures ok { IfOk result (λ t. IsTask (codes "replay") (rows_of (found_of given.now)) t) }
@@ -84,8 +95,12 @@ fn replay(alloc: Global, given: &ArgMatches<'_>) -> Result<Task, UsageFault>
 {
     let threads = threads(alloc, given)?;
     let steps = steps(alloc, given)?;
+    let timeline = flag_given(given, "timeline");
     if !flag_given(given, "print-schedule") {
-        return Ok(Task::Replay { threads, steps });
+        return Ok(replay_of(threads, steps, timeline));
+    }
+    if timeline {
+        return Err(wrong(alloc, "one of --print-schedule and --timeline"));
     }
     match steps {
         Steps::Seed { seed, count } => Ok(Task::PrintSchedule {

@@ -186,6 +186,20 @@ fn reads_replays(rt: HostRuntime) -> Result<(), Fail> {
             }
         )
     );
+    let words = ["txc", "replay", "--schedule=s", "--timeline", "a.c"];
+    let request = command(rt.alloc(), words.as_slice())?;
+    assert!(rt;
+        matches!(
+            &request,
+            Request::Program {
+                task: Task::Timeline {
+                    threads: 1,
+                    steps: Steps::Schedule { .. }
+                },
+                ..
+            }
+        )
+    );
     // with a schedule the number of steps has no effect
     let words = ["txc", "replay", "--steps=5", "--schedule=s", "a.c"];
     let request = command(rt.alloc(), words.as_slice())?;
@@ -208,7 +222,12 @@ fn reads_replays(rt: HostRuntime) -> Result<(), Fail> {
 #[test]
 fn refuses_replays(rt: HostRuntime) -> Result<(), Fail> {
     let one = "txc: usage: one of --schedule and --seed\n";
-    let rows: [(&[&str], &str); 7] = [
+    let rows: [(&[&str], &str); 9] = [
+        (["--timeline"].as_slice(), one),
+        (
+            ["--timeline", "--seed=1", "--print-schedule"].as_slice(),
+            "txc: usage: one of --print-schedule and --timeline\n",
+        ),
         (["--threads=2"].as_slice(), one),
         (["--print-schedule"].as_slice(), one),
         (

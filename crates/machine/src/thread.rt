@@ -266,6 +266,13 @@ impl<A: Allocator + Copy> Thread<A> {
         self.held.status
     }
 
+    /// The place in the code at which it stands.
+    pub fn place(&self) -> u32
+        ensures { result ≡ self.now.thread.configuration.place }
+    {
+        self.held.frames.place()
+    }
+
     /// What it has printed.
     pub fn output(&self) -> &str
         ensures { result.now ≡ self.now.thread.text }

@@ -8,3 +8,5 @@ pub mod Words
 pub mod Playing
 -- lines that are written
 pub mod Writing
+-- what is shown of steps, one more at the end
+pub mod Showing

@@ -154,7 +154,7 @@ module _ (code : Code) (threads : ℕ) (lines : List Line) where
         h.named ∙ ap (λ (c : Code). h.made ++ steps_of c room (line ∷ rest) (world_of now)) (sym same) ∙ ap (λ (xs : List ℕ). h.made ++ xs) (p.named rest) ∙ ap (λ (c : Code). h.made ++ (p.made ++ steps_of c left rest (world_of next))) same ∙ sym (append_assoc h.made p.made _);
   }
 
-  module _ {A : Type 0} (r : Report A) (now : Simulation) (explained : IsExplained now) (events : r.events.items ≡ events_of now) where
+  module _ {A : Type 0} (r : Report A) (now : Simulation) (explained : IsExplained now) (events : r.events.items ≡ events_of now) (trace : r.trace.items ≡ now.trace) where
     pub plays_all : (room : ℕ) → HasPlayed code threads lines room [] now → threads_of r.threads.items ≡ threads_shown None now → r.words.items ≡ (world_of now).words → IsHolder (world_of now) r.holder → r.stop ≡ stop_with None now → IsReplay code threads lines r
     plays_all room h shown words holder stop = record {
       made = h.made;
@@ -162,6 +162,7 @@ module _ (code : Code) (threads : ℕ) (lines : List Line) where
       stop = None;
       named = h.named ∙ ap (λ (xs : List ℕ). h.made ++ xs) (no_lines code room (world_of now));
       ends = refl;
+      made_is = trace ∙ ap (λ (v : Simulation). v.trace) h.are;
       explained = subst IsExplained h.are explained;
       events = events ∙ ap events_of h.are;
       threads_are = shown ∙ ap (threads_shown None) h.are;
@@ -182,6 +183,7 @@ module _ (code : Code) (threads : ℕ) (lines : List Line) where
           stop = Some (line.thread, reason);
           named = h.named ∙ ap (λ (c : Code). h.made ++ steps_of c room (line ∷ rest) (world_of before)) (sym same) ∙ ap (λ (xs : List ℕ). h.made ++ xs) (p.named rest).1 ∙ sym (append_assoc h.made p.made _);
           ends = (((p.named rest).0, refl), subst (λ (v : Simulation). StopsFor v line.thread reason) are stops);
+          made_is = trace ∙ ap (λ (v : Simulation). v.trace) are;
           explained = subst IsExplained are explained;
           events = events ∙ ap events_of are;
           threads_are = shown ∙ ap (threads_shown (Some (line.thread, reason))) are;

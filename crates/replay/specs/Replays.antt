@@ -6,13 +6,14 @@ use Rattle.syntax.specs.declared.numbers.Status.TheVariants.{Running, Ended as H
 use Rattle.bytecode.specs.Code.{Code, Configuration, effect}
 use Rattle.machine.specs.declared.event.Event.{Event}
 use Rattle.machine.specs.declared.event.Event.TheVariants as event
+use Rattle.machine.specs.declared.event.StepShown.{StepShown}
 use Rattle.machine.specs.Worlds.{Part, World, step}
 use Rattle.replay.specs.declared.line.Line.{Line}
 use Rattle.replay.specs.declared.line.TheConstants.{MOST_STEPS}
 use Rattle.world.specs.declared.report.Report.{Report}
 use Rattle.world.specs.declared.stop.StopReason.{StopReason}
 use Rattle.world.specs.Reports.{stop_with, threads_of, threads_shown}
-use Rattle.world.specs.Simulations.{IsExplained, IsHolder, Simulation, cost_next, event_next, world_of}
+use Rattle.world.specs.Simulations.{IsExplained, IsHolder, Simulation, cost_next, event_next, shown_next, world_of}
 use Rattle.world.specs.Stops.{StopsFor}
 
 abbrev pub is_over_by : Status → Bool
@@ -81,6 +82,22 @@ first_world code threads = world_of (played code threads [])
 abbrev pub events_of : Simulation → List (ℕ × ℕ × Event)
 events_of s = events_in s.code s.trace (first_world s.code s.threads) 0
 
+-- what is shown of one step, with the accesses that all threads had made, and the thread
+abbrev pub step_shown : ℕ → ℕ → Option StepShown → List (ℕ × ℕ × StepShown)
+step_shown accesses t None = []
+step_shown accesses t (Some x) = (accesses, t, x) ∷ []
+
+-- what is shown of these steps from a world on, before which so many accesses were made
+abbrev pub shown_in : Code → List ℕ → World Configuration → ℕ → List (ℕ × ℕ × StepShown)
+shown_in code [] w n = []
+shown_in code (t ∷ ts) w n =
+    step_shown (n + cost_next code (slice_get w.parts t)) t (shown_next code w (slice_get w.parts t))
+    ++ shown_in code ts (step (effect code) w t) (n + cost_next code (slice_get w.parts t))
+
+-- what is shown of all steps of a world
+abbrev pub timeline_of : Simulation → List (ℕ × ℕ × StepShown)
+timeline_of s = shown_in s.code s.trace (first_world s.code s.threads) 0
+
 -- All steps that the schedule names were made, or the first of the rest could not be made.
 abbrev pub EndsAt : Simulation → List ℕ → Option (ℕ × StopReason) → Type 0
 EndsAt s rest None = rest ≡ []
@@ -94,6 +111,7 @@ pub record IsReplay {A : Type 0} (code : Code) (threads : ℕ) (lines : List Lin
   pub stop : Option (ℕ × StopReason)
   pub named : steps_of code MOST_STEPS lines (first_world code threads) ≡ made ++ rest
   pub ends : EndsAt (played code threads made) rest stop
+  pub made_is : r.trace.items ≡ made
   pub explained : IsExplained (played code threads made)
   pub events : r.events.items ≡ events_of (played code threads made)
   pub threads_are : threads_of r.threads.items ≡ threads_shown stop (played code threads made)

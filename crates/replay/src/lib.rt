@@ -6,12 +6,14 @@ mod play;
 mod row;
 mod schedule;
 mod seed;
+mod shown;
 mod write;
 
 pub use line::{Line, MOST_STEPS};
 pub use play::replay;
 pub use schedule::{ScheduleFault, read_schedule};
 pub use seed::seeded;
+pub use shown::timeline;
 pub use write::write_schedule;
 
 #[cfg(test)]

@@ -184,6 +184,7 @@ fn reported<A: Allocator + Copy>(
     ensures words { IfOk result (λ r. r.words.items ≡ (world_of world.now).words) }
     ensures holder { IfOk result (λ r. IsHolder (world_of world.now) r.holder) }
     ensures stop { IfOk result (λ r. r.stop ≡ stop_with stop world.now) }
+    ensures trace { IfOk result (λ r. r.trace.items ≡ world.now.trace) }
     ensures explained { IsExplained world.now }
 {
     // The prover learns here that the world is explained.

@@ -2,5 +2,7 @@
 pub mod Printed
 -- the text of a report
 pub mod Report
+-- the text of a timeline
+pub mod Timeline
 -- the Rust types as these
 pub mod Views

@@ -2,7 +2,7 @@
 
 ghost use Rattle.std.specs.Prelude.{◌≡◌, ◌++◌, ◌∷◌, [], OnOk, codes, decimal, flat_map, unwrap_or, option_map};
 ghost use Rattle.syntax.specs.Numbers.{number, trap_number};
-ghost use Rattle.report.specs.Report.{event_line, end_words, global_line, is_open, lines_of, values_text};
+ghost use Rattle.report.specs.Report.{event_line, event_words, end_words, global_line, is_open, lines_of, values_text};
 ghost use Rattle.report.specs.Views.{shown_of};
 
 use crate::printed::{End, Shown};
@@ -81,8 +81,8 @@ pub(crate) fn push_lines<A: Allocator>(
     }
 }
 
-/// Adds what happened in a step, behind the accesses made so far and the thread.
-fn push_told<A: Allocator>(
+/// Adds the accesses made so far and the thread, behind which it is told what happened.
+pub(crate) fn push_told<A: Allocator>(
     report: &mut Vec<u8, A>,
     accesses: u64,
     thread: u32,
@@ -93,6 +93,22 @@ fn push_told<A: Allocator>(
     push_bytes(report, b" ")?;
     push_number(report, u64::from(thread))?;
     push_bytes(report, b" ")
+}
+
+/// Adds what happened in a step, if that is told.
+pub(crate) fn push_happened<A: Allocator>(
+    report: &mut Vec<u8, A>,
+    event: Event,
+) -> Result<(), AllocError>
+    ensures { OnOk result (report.new.items ≡ report.old.items ++ unwrap_or (event_words event) []) }
+{
+    match event {
+        Event::Quiet => Ok(()),
+        Event::Commit => push_bytes(report, b"commit"),
+        Event::Abort => push_bytes(report, b"abort"),
+        Event::Cancel => push_bytes(report, b"cancel"),
+        Event::Trap(trap) => push_trap(report, trap),
+    }
 }
 
 /// Adds the line of an event.
@@ -108,13 +124,7 @@ pub(crate) fn push_event<A: Allocator>(
         return Ok(());
     }
     push_told(report, accesses, thread)?;
-    match event {
-        Event::Quiet => {}
-        Event::Commit => push_bytes(report, b"commit")?,
-        Event::Abort => push_bytes(report, b"abort")?,
-        Event::Cancel => push_bytes(report, b"cancel")?,
-        Event::Trap(trap) => push_trap(report, trap)?,
-    }
+    push_happened(report, event)?;
     push_bytes(report, b"\n")
 }
 

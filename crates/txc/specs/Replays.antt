@@ -1,5 +1,5 @@
 -- Replaying steps of the threads of a source's text.
-use Rattle.std.specs.Prelude.{◌≡◌, ◌++◌, ◌%◌, ℕ, List, map, Option, None, IfSome}
+use Rattle.std.specs.Prelude.{◌≡◌, ◌⊎◌, ◌++◌, ◌%◌, ℕ, List, map, Option, None, IfSome}
 use Rattle.std.specs.Io.KnownBytes.{Appends}
 use Rattle.std.specs.Str.Lines.{lines}
 use Rattle.rand_core.specs.Steps.{first_words}
@@ -17,14 +17,16 @@ use Rattle.world.specs.Reports.{stop_with}
 use Rattle.world.specs.Simulations.{IsHolder, world_of}
 use Rattle.replay.specs.declared.line.Line.{Line}
 use Rattle.replay.specs.declared.line.TheConstants.{MOST_STEPS}
-use Rattle.replay.specs.Replays.{EndsAt, first_world, played, steps_of}
+use Rattle.replay.specs.Replays.{EndsAt, first_world, played, steps_of, timeline_of}
 use Rattle.replay.specs.Schedules.{AreLines}
 use Rattle.replay.specs.Seeds.{generator_of, one_step}
 use Rattle.command.specs.declared.request.Steps.{Steps}
 use Rattle.command.specs.declared.request.Steps.TheVariants.{Schedule, Seed}
 use Rattle.report.specs.Printed.{Printed}
+use Rattle.report.specs.Report.{report_text}
+use Rattle.report.specs.Timeline.{timeline_text}
 use Rattle.txc.specs.Shows.{world_shown}
-use Rattle.txc.specs.Runs.{Compiles}
+use Rattle.txc.specs.Runs.{Compiles, exit_status}
 
 -- the lines of a schedule, where its bytes are known
 abbrev pub IsSchedule : Option (List ℕ) → List Line → Type 0
@@ -39,11 +41,10 @@ abbrev pub AreLinesOf : Steps → (threads : ℕ) → (schedule : Option (List �
 AreLinesOf (Schedule file) threads schedule found = IsSchedule schedule found
 AreLinesOf (Seed seed count) threads schedule found = found ≡ lines_of_seed seed threads count
 
--- What a report shows of a replay: of the steps that the lines name, at most 1,048,576, so many were made, up to the first
+-- What a report shows of a replay: of the steps that the lines name, at most 1,048,576, these were made, up to the first
 -- that could not be; these are explained by runs of the program; and the report shows the world that they lead to.
-pub record IsReplayOf (p : Program) (code : Code) (threads : ℕ) (found : List Line) (stopped : Option WorldStop)
-    (shown : Printed) : Type 0 where
-  pub made : List ℕ
+pub record IsReplayOf (p : Program) (code : Code) (threads : ℕ) (found : List Line) (made : List ℕ)
+    (stopped : Option WorldStop) (shown : Printed) : Type 0 where
   pub rest : List ℕ
   pub stop : Option (ℕ × StopReason)
   pub named : steps_of code MOST_STEPS found (first_world code threads) ≡ made ++ rest
@@ -58,10 +59,36 @@ abbrev pub PrintsSchedule : List Line → (text : List ℕ) → (status : ℕ) �
 PrintsSchedule found text status old new =
     status ≡ 0 → (written : List ℕ) × (code : Code) × Compiles text code × AreLines (lines written) found × Appends old new written
 
--- the text spells an accepted program, and this is what the report of a replay of all steps shows
-pub record Replays (threads : ℕ) (steps : Steps) (schedule : Option (List ℕ)) (text : List ℕ) (shown : Printed) : Type 0 where
-  pub code : Code
+-- the text spells an accepted program, and this is what the report of a replay of its code shows
+pub record IsReplayOfText (threads : ℕ) (steps : Steps) (schedule : Option (List ℕ)) (text : List ℕ) (code : Code)
+    (made : List ℕ) (stopped : Option WorldStop) (shown : Printed) : Type 0 where
   pub compiled : Compiles text code
   pub found : List Line
   pub lines : AreLinesOf steps threads schedule found
-  pub replay : IsReplayOf compiled.source.program code threads found None shown
+  pub replay : IsReplayOf compiled.source.program code threads found made stopped shown
+
+-- this is what the report of a replay of all steps shows
+pub record Replays (threads : ℕ) (steps : Steps) (schedule : Option (List ℕ)) (text : List ℕ) (shown : Printed) :
+    Type 0 where
+  pub code : Code
+  pub made : List ℕ
+  pub replay : IsReplayOfText threads steps schedule text code made None shown
+
+-- these are the lines that show each of all steps, and this is what the report shows
+pub record ReplaysShown (threads : ℕ) (steps : Steps) (schedule : Option (List ℕ)) (text lines : List ℕ)
+    (shown : Printed) : Type 0 where
+  pub code : Code
+  pub made : List ℕ
+  pub replay : IsReplayOfText threads steps schedule text code made None shown
+  pub lines_are : lines ≡ timeline_text code (timeline_of (played code threads made))
+
+-- the status tells of a report that was written behind these lines
+abbrev pub PrintsBehind : (lines : List ℕ) → Printed → ℕ → Option (List ℕ) → Option (List ℕ) → Type 0
+PrintsBehind lines shown status old new =
+    (status ≡ 0) ⊎ (status ≡ 3) → (status ≡ exit_status shown) × Appends old new (lines ++ report_text shown)
+
+-- the lines and the report of something that is so
+abbrev pub PrintsTimeline : (List ℕ → Printed → Type 0) → ℕ → Option (List ℕ) → Option (List ℕ) → Type 0
+PrintsTimeline AreSo status old new = (status ≡ 0) ⊎ (status ≡ 3) →
+    (lines : List ℕ) × (shown : Printed) × AreSo lines shown × (status ≡ exit_status shown)
+    × Appends old new (lines ++ report_text shown)

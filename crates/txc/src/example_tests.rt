@@ -111,7 +111,7 @@ fn examples_print_what_they_should(rt: HostRuntime) -> Result<(), Fail> {
 type Transcript = (&'static str, &'static str, &'static str, &'static str);
 
 fn transcripts() -> &'static [Transcript] {
-    static ROWS: [Transcript; 22] = [
+    static ROWS: [Transcript; 25] = [
         (
             "txc check examples/queue.c",
             "// A bounded queue: one transaction puts or takes, and a cancel undoes what does not fit.\nint slots[4], head, count, refused;\n\nint put(int value) {\n    int done = 0;\n    __transaction_atomic {\n        slots[(head + count) % 4] = value;\n        count++;\n        if (count > 4) __transaction_cancel;\n        done = 1;\n    }\n    return done;\n}\n\nvoid worker(int self) {\n    int i;\n    for (i = 1; i <= 6; i++) {\n        if (!put(i * i)) {\n            __transaction_atomic { refused++; }\n        }\n    }\n    __transaction_relaxed {\n        printf(\"%d waiting, %d refused\\n\", count, refused);\n        while (count > 0) {\n            printf(\"%d \", slots[head]);\n            head = (head + 1) % 4;\n            count--;\n        }\n    }\n    printf(\"\\n\");\n}\n",
@@ -155,10 +155,10 @@ fn transcripts() -> &'static [Transcript] {
             "== events\n9 0 commit\n12 1 abort\n18 1 commit\n24 1 commit\n30 1 commit\n36 0 commit\n42 0 commit\n== thread 0: ended\n== thread 1: ended\n== memory\nx = 6\n",
         ),
         (
-            "txc replay examples/counter.c --threads 2 --schedule examples/schedules/abort.txt",
+            "txc replay examples/counter.c --threads 2 --schedule examples/schedules/abort.txt --timeline",
             "// Each thread adds one, three times. No addition is lost, whatever the threads do.\nint x;\n\nvoid worker(int self) {\n    int i;\n    for (i = 0; i < 3; i++) {\n        __transaction_atomic { x = x + 1; }\n    }\n}\n",
             "1 a3\n0 a6\n1 a3\n",
-            "== events\n9 0 commit\n12 1 abort\n== thread 0: running\n== thread 1: running\n== memory\nx = 1\n",
+            "== timeline\n0 1 0 const r1 #0\n0 1 1 const r1 #0\n0 1 2 jump >13\n0 1 13 const r2 #3\n0 1 14 lt.s r2 r1 r2\n0 1 15 jnz r2 >5\n1 1 5 begin >11; load lock = 0\n2 1 6 rd r2 @0; load @0 = 0\n3 1 6 rd r2 @0; load lock = 0\n3 0 0 const r1 #0\n3 0 1 const r1 #0\n3 0 2 jump >13\n3 0 13 const r2 #3\n3 0 14 lt.s r2 r1 r2\n3 0 15 jnz r2 >5\n4 0 5 begin >11; load lock = 0\n5 0 6 rd r2 @0; load @0 = 0\n6 0 6 rd r2 @0; load lock = 0\n6 0 7 const r3 #1\n6 0 8 add.s r2 r2 r3\n6 0 9 wr @0 r2\n7 0 10 commit; swap lock 0: won\n8 0 10 commit; store @0 = 1\n9 0 10 commit; store lock = 2; commit\n9 1 7 const r3 #1\n9 1 8 add.s r2 r2 r3\n9 1 9 wr @0 r2\n10 1 10 commit; swap lock 0: lost, 2\n11 1 10 commit; load lock = 2\n12 1 10 commit; load @0 = 1; abort\n== events\n9 0 commit\n12 1 abort\n== thread 0: running\n== thread 1: running\n== memory\nx = 1\n",
         ),
         (
             "txc replay examples/counter.c --threads 2 --seed 10 --steps 30",
@@ -173,10 +173,28 @@ fn transcripts() -> &'static [Transcript] {
             "1 1\n1 1\n1 1\n1 1\n0 1\n0 1\n",
         ),
         (
+            "txc replay examples/first.c --seed 1 --steps 17 --timeline",
+            "int x = 40, y; void worker(int self) { __transaction_atomic { x = x + 2; y = x - 1; } }\n",
+            "",
+            "== timeline\n1 0 0 begin >10; load lock = 0\n2 0 1 rd r1 @0; load @0 = 40\n3 0 1 rd r1 @0; load lock = 0\n3 0 2 const r2 #2\n3 0 3 add.s r1 r1 r2\n3 0 4 wr @0 r1\n3 0 5 rd r1 @0\n3 0 6 const r2 #1\n3 0 7 sub.s r1 r1 r2\n3 0 8 wr @1 r1\n4 0 9 commit; swap lock 0: won\n5 0 9 commit; store @0 = 42\n6 0 9 commit; store @1 = 41\n7 0 9 commit; store lock = 2; commit\n7 0 10 ret\n7 0 ended\n7 0 ended\n== events\n7 0 commit\n== thread 0: ended\n== memory\nx = 42\ny = 41\n",
+        ),
+        (
+            "txc replay examples/overflow.c --seed 1 --steps 12 --timeline",
+            "// A sum that leaves the range of `int` is trap 1: the thread ends, and nothing of the transaction is left.\nint total = 2147483647, entries = 5;\n\nvoid worker(int self) {\n    __transaction_atomic {\n        entries = entries + 1;\n        total = total + 1;\n    }\n}\n",
+            "",
+            "== timeline\n1 0 0 begin >10; load lock = 0\n2 0 1 rd r1 @1; load @1 = 5\n3 0 1 rd r1 @1; load lock = 0\n3 0 2 const r2 #1\n3 0 3 add.s r1 r1 r2\n3 0 4 wr @1 r1\n4 0 5 rd r1 @0; load @0 = 2147483647\n5 0 5 rd r1 @0; load lock = 0\n5 0 6 const r2 #1\n5 0 7 add.s r1 r1 r2; trap 1\n5 0 trap 1\n5 0 trap 1\n== events\n5 0 trap 1\n== thread 0: trap 1\n== memory\ntotal = 2147483647\nentries = 5\n",
+        ),
+        (
             "txc replay examples/receipt.c --threads 2 --schedule examples/schedules/receipt.txt",
             "// Printing can't be undone, so it stands in a relaxed transaction: from its first piece on no other thread can change what is\n// shared, and the numbers on the receipt are those of one moment.\nint sold, left = 10;\n\nvoid worker(int self) {\n    __transaction_relaxed {\n        sold = sold + 1;\n        left = left - 1;\n        printf(\"ticket %d, %d left\\n\", sold, left);\n    }\n}\n",
             "1 a5\n0 a100\n1 a100\n",
             "== events\n14 0 commit\n17 1 abort\n26 1 commit\n== thread 0: ended\nticket 1, 9 left\n== thread 1: ended\nticket 2, 8 left\n== memory\nsold = 2\nleft = 8\n",
+        ),
+        (
+            "txc replay examples/receipt.c --seed 3 --steps 23 --timeline",
+            "// Printing can't be undone, so it stands in a relaxed transaction: from its first piece on no other thread can change what is\n// shared, and the numbers on the receipt are those of one moment.\nint sold, left = 10;\n\nvoid worker(int self) {\n    __transaction_relaxed {\n        sold = sold + 1;\n        left = left - 1;\n        printf(\"ticket %d, %d left\\n\", sold, left);\n    }\n}\n",
+            "",
+            "== timeline\n1 0 0 begin >18; load lock = 0\n2 0 1 rd r1 @0; load @0 = 0\n3 0 1 rd r1 @0; load lock = 0\n3 0 2 const r2 #1\n3 0 3 add.s r1 r1 r2\n3 0 4 wr @0 r1\n4 0 5 rd r1 @1; load @1 = 10\n5 0 5 rd r1 @1; load lock = 0\n5 0 6 const r2 #1\n5 0 7 sub.s r1 r1 r2\n5 0 8 wr @1 r1\n6 0 9 irrevocable; swap lock 0: won\n6 0 10 rd r1 @0\n6 0 11 rd r2 @1\n6 0 12 print.t #0\n6 0 13 print.s r1\n6 0 14 print.t #1\n6 0 15 print.s r2\n6 0 16 print.t #2\n7 0 17 commit; store @0 = 1\n8 0 17 commit; store @1 = 9\n9 0 17 commit; store lock = 2; commit\n9 0 18 ret\n== events\n9 0 commit\n== thread 0: ended\nticket 1, 9 left\n== memory\nsold = 1\nleft = 9\n",
         ),
         (
             "txc replay examples/transfer.c --threads 2 --schedule examples/schedules/transfer.txt",

@@ -22,6 +22,7 @@ mod status;
 mod tell;
 #[cfg(test)]
 mod tests;
+mod timeline;
 
 use command::{Request, Steps, Task, UsageFault, command};
 use serve::serve;
@@ -100,6 +101,10 @@ fn open_schedule<H: Threads + Wait + Sync>(
 ) -> u8 {
     match task {
         Task::Replay {
+            steps: Steps::Schedule { file },
+            ..
+        }
+        | Task::Timeline {
             steps: Steps::Schedule { file },
             ..
         } => match File::open(rt, file.as_str()) {

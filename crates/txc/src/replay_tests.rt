@@ -1,9 +1,10 @@
 //! Replays over readers and writers in memory.
 
-use crate::compiled::compile;
-use crate::replayed::replay_code;
+use crate::compiled::{Compiled, compile};
+use crate::replayed::{Replayed, replay_code};
 use crate::serve::serve;
 use crate::tests::{ADDS, Broken, Served, serve_bytes, serve_told};
+use crate::timeline::lines_shown;
 use command::{Request, Steps, Task, command};
 use refusing::Refusing;
 use replay::read_schedule;
@@ -468,11 +469,21 @@ fn replay_with<A: Allocator + Copy>(alloc: A, text: &str) -> Result<Vec<u8, A>, 
         Err(fault) => return Err(fault.number()),
     };
     match replay_code(alloc, &compiled, 2, found.as_slice()) {
-        Ok(replayed) => match report_text(alloc, &replayed.printed) {
-            Ok(report) => Ok(report),
-            Err(_) => Err(0),
-        },
+        Ok(replayed) => reported(alloc, &compiled, &replayed),
         Err(_) => Err(0),
+    }
+}
+
+/// The report of a replay of two threads, where memory was there for its timeline too.
+fn reported<A: Allocator + Copy>(
+    alloc: A,
+    compiled: &Compiled<A>,
+    replayed: &Replayed<A>,
+) -> Result<Vec<u8, A>, u32> {
+    let lines = lines_shown(alloc, &compiled.code, 2, replayed.made.as_slice());
+    match (lines, report_text(alloc, &replayed.printed)) {
+        (Some(_), Ok(report)) => Ok(report),
+        _ => Err(0),
     }
 }
 
@@ -483,7 +494,7 @@ fn each_growth_of_a_replay_is_refused_once(rt: HostRuntime) -> Result<(), Fail> 
         b"== events\n9 0 commit\n12 1 abort\n18 1 commit\n== thread 0: ended\n== thread 1: ended\n== memory\nx = 2\n";
     let mut met = 0;
     let mut has_stopped = false;
-    for nth in 1..600u64 {
+    for nth in 1..900u64 {
         let alloc = Refusing::new(rt.alloc(), nth);
         match replay_with(&alloc, text) {
             Ok(report) => {
@@ -506,7 +517,7 @@ fn each_growth_of_a_replay_is_refused_once(rt: HostRuntime) -> Result<(), Fail> 
         let again = replay_with(&alloc, text);
         assert!(rt; matches!(&again, Ok(report) if report.as_slice() == told.as_slice()));
     }
-    assert!(rt; met > 0 && met < 599);
+    assert!(rt; met > 0 && met < 899);
     assert!(rt; has_stopped);
     Ok(())
 }

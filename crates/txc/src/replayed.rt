@@ -26,6 +26,8 @@ pub struct Replayed<A: Allocator = Global> {
     pub printed: Printed<A>,
     /// The step that was not made, if one was not.
     pub stop: Option<WorldStop>,
+    /// The thread of each step that was made.
+    pub made: Vec<u32, A>,
 }
 
 /// Makes the steps that lines name, with so many threads of a program's code. What it promises is of code that means the program
@@ -36,13 +38,12 @@ pub fn replay_code<A: Allocator + Copy>(
     threads: u32,
     lines: &[Line],
 ) -> Result<Replayed<A>, WorldFault>
-    ensures ok { IfOk result (λ r. IsCodeOf (program_of compiled.now.accepted.safe.typed.unit) compiled.now.code → IsReplayOf (program_of compiled.now.accepted.safe.typed.unit) compiled.now.code threads lines.now r.stop (printed_of r.printed)) }
+    ensures ok { IfOk result (λ r. IsCodeOf (program_of compiled.now.accepted.safe.typed.unit) compiled.now.code → IsReplayOf (program_of compiled.now.accepted.safe.typed.unit) compiled.now.code threads lines.now r.made.items r.stop (printed_of r.printed)) }
     ensures wrong { result ≡ Err WorldFault.WrongThreads → (threads ≡ 0) ⊎ (64 < threads) }
 {
     let report = replay(alloc, &compiled.code, threads, lines)?;
-    let stop = report.stop;
     match shown_after_replay(alloc, unit_of(&compiled.accepted), report) {
-        Ok(printed) => Ok(Replayed { printed, stop }),
+        Ok(replayed) => Ok(replayed),
         Err(_) => Err(WorldFault::OutOfMemory),
     }
 }
@@ -52,16 +53,22 @@ fn shown_after_replay<A: Allocator + Copy>(
     alloc: A,
     unit: &Unit<A>,
     report: Report<A>,
-) -> Result<Printed<A>, AllocError>
-    ensures { IfOk result (λ r. printed_of r ≡ report_shown (program_of unit.now) report) }
+) -> Result<Replayed<A>, AllocError>
+    ensures printed { IfOk result (λ r. printed_of r.printed ≡ report_shown (program_of unit.now) report) }
+    ensures stop { IfOk result (λ r. r.stop ≡ report.stop) }
+    ensures made { IfOk result (λ r. r.made.items ≡ report.trace.items) }
 {
     let globals = globals_shown(alloc, unit, report.words.as_slice())?;
     let threads = threads_shown(alloc, report.threads)?;
-    Ok(Printed {
-        events: Some(Items::from_vec(report.events)),
-        threads,
-        globals,
-        holder: report.holder,
+    Ok(Replayed {
+        printed: Printed {
+            events: Some(Items::from_vec(report.events)),
+            threads,
+            globals,
+            holder: report.holder,
+        },
+        stop: report.stop,
+        made: report.trace,
     })
 }
 

@@ -1,13 +1,15 @@
 //! Answers a request over readers and writers.
 
-ghost use Rattle.std.specs.Prelude.{◌≡◌, ◌≢◌, ◌≤◌, ◌⊎◌, IfSome, None};
+ghost use Rattle.std.specs.Prelude.{◌≡◌, ◌≢◌, ◌≤◌, ◌⊎◌, IfErr, IfOk, IfSome, None};
 ghost use Rattle.std.specs.Io.KnownBytes.{Appends};
 ghost use Rattle.txc.specs.Answers.{Answers, AnswersRequest};
+ghost use Rattle.replay.specs.Replays.{played, timeline_of};
+ghost use Rattle.report.specs.Timeline.{timeline_text};
 ghost use Rattle.report.specs.Views.{printed_of};
-ghost use Rattle.txc.specs.Replays.{PrintsSchedule, Replays, lines_of_seed};
+ghost use Rattle.txc.specs.Replays.{IsReplayOfText, PrintsBehind, PrintsSchedule, PrintsTimeline, Replays, ReplaysShown, lines_of_seed};
 ghost use Rattle.txc.specs.Runs.{IsRefused, Prints, PrintsListing, PrintsShown, RunsAtOnce, RunsInOrder, SaysAccepted};
 
-use crate::compiled::compile;
+use crate::compiled::{Compiled, compile};
 use crate::concurrent::{ThreadsFault, run_threads};
 use crate::listed::list_source;
 use crate::order::{OrderFault, run_in_order};
@@ -20,6 +22,8 @@ use crate::tell::{
     Detail, cannot_write, not_read, not_text, out_of_memory, print, refuse, refuse_order,
     refuse_replay, refuse_run, refuse_step, too_long, unusable,
 };
+use crate::timeline::lines_shown;
+use bytecode::Code;
 use command::{Request, Steps, Task};
 use faults::explanation;
 use replay::write_schedule;
@@ -129,6 +133,9 @@ fn work<H: Threads + Wait + Sync, S: Read + Drop, W: Write, E: Write>(
         Task::Replay { threads, steps } => replay_source(
             alloc, text, *threads, steps, schedule, detail, out, err,
         ),
+        Task::Timeline { threads, steps } => show_steps(
+            alloc, text, *threads, steps, schedule, detail, out, err,
+        ),
         Task::PrintSchedule {
             threads,
             seed,
@@ -188,15 +195,57 @@ fn replay_source<A: Allocator + Copy, S: Read + Drop, W: Write, E: Write>(
     ensures report { Prints (Replays threads steps.now (S.remaining schedule) text.now) result (W.contents out.old) (W.contents out.new) }
     ensures refused { result ≡ 1 → IsRefused text.now }
 {
+    match replay_text(alloc, text, threads, steps, schedule, detail, err) {
+        Ok((_compiled, replayed)) => print_replay(alloc, &replayed, out, err),
+        Err(status) => status,
+    }
+}
+
+/// Replays steps of a source's threads, and prints what is shown of each and their report.
+fn show_steps<A: Allocator + Copy, S: Read + Drop, W: Write, E: Write>(
+    alloc: A,
+    text: &str,
+    threads: u32,
+    steps: &Steps,
+    schedule: S,
+    detail: Detail,
+    out: &mut W,
+    err: &mut E,
+) -> u8
+    ensures status { result ≤ 4 }
+    ensures timeline { PrintsTimeline (ReplaysShown threads steps.now (S.remaining schedule) text.now) result (W.contents out.old) (W.contents out.new) }
+    ensures refused { result ≡ 1 → IsRefused text.now }
+{
+    match replay_text(alloc, text, threads, steps, schedule, detail, err) {
+        Ok((compiled, replayed)) => {
+            print_timeline(alloc, &compiled.code, threads, &replayed, out, err)
+        }
+        Err(status) => status,
+    }
+}
+
+/// Replays steps of a source's threads. What is wrong is told, and the error is then the exit status.
+fn replay_text<A: Allocator + Copy, S: Read + Drop, E: Write>(
+    alloc: A,
+    text: &str,
+    threads: u32,
+    steps: &Steps,
+    schedule: S,
+    detail: Detail,
+    err: &mut E,
+) -> Result<(Compiled<A>, Replayed<A>), u8>
+    ensures ok { IfOk result (λ r. IsReplayOfText threads steps.now (S.remaining schedule) text.now r.0.code r.1.made.items r.1.stop (printed_of r.1.printed)) }
+    ensures status { IfErr result (λ s. (s ≡ 1) × IsRefused text.now ⊎ (s ≡ 2) ⊎ (s ≡ 4)) }
+{
     match compile(alloc, text) {
         Ok(compiled) => match lines_of(alloc, threads, steps, schedule, detail, err) {
             Ok(found) => match replay_code(alloc, &compiled, threads, found.as_slice()) {
-                Ok(replayed) => print_replay(alloc, &replayed, out, err),
-                Err(fault) => refuse_replay(fault, err),
+                Ok(replayed) => Ok((compiled, replayed)),
+                Err(fault) => Err(refuse_replay(fault, err)),
             },
-            Err(status) => status,
+            Err(status) => Err(status),
         },
-        Err(fault) => refuse(alloc, text, fault, detail, err),
+        Err(fault) => Err(refuse(alloc, text, fault, detail, err)),
     }
 }
 
@@ -332,6 +381,30 @@ fn print_replay<A: Allocator + Copy, W: Write, E: Write>(
     match replayed.stop {
         Some(stop) => refuse_step(stop, err),
         None => status,
+    }
+}
+
+/// Prints what is shown of each step of a replay, and then its report. Gives the exit status as `print_replay` does.
+fn print_timeline<A: Allocator + Copy, W: Write, E: Write>(
+    alloc: A,
+    code: &Code<A>,
+    threads: u32,
+    replayed: &Replayed<A>,
+    out: &mut W,
+    err: &mut E,
+) -> u8
+    ensures status { result ≤ 4 }
+    ensures whole { (result ≡ 0) ⊎ (result ≡ 3) → replayed.now.stop ≡ None }
+    ensures report { PrintsBehind (timeline_text code.now (timeline_of (played code.now threads replayed.now.made.items))) (printed_of replayed.now.printed) result (W.contents out.old) (W.contents out.new) }
+    ensures not_refused { result ≢ 1 }
+{
+    match lines_shown(alloc, code, threads, replayed.made.as_slice()) {
+        Some(lines) => match print(lines.as_slice(), out) {
+            Ok(()) => print_replay(alloc, replayed, out, err),
+            Err(_) => cannot_write(err),
+        },
+        // The steps were made once, so memory was refused.
+        None => out_of_memory(err),
     }
 }
 

@@ -17,6 +17,7 @@ use Rattle.norec_core.specs.declared.step.Answer.{Answer}
 use Rattle.norec_core.specs.declared.step.Stop.{Stop}
 use Rattle.norec_core.specs.declared.step.Stop.TheVariants.{SequenceUsedUp}
 use Rattle.machine.specs.declared.event.Event.{Event}
+use Rattle.machine.specs.declared.event.StepShown.{StepShown}
 use Rattle.machine.specs.Addresses.{AccessFits}
 use Rattle.machine.specs.Answered.{Answered, Heard}
 use Rattle.machine.specs.Explained.{HasLock, IsExplainedBy, IsFree, IsHeld, has_lock}
@@ -34,7 +35,7 @@ use Rattle.machine.proofs.runs.Programs.{opaque, opaque_source}
 use Rattle.machine.proofs.single.Locked.{never_aborts}
 use Rattle.machine.proofs.tallies.Spans.{counts_by_meaning}
 use Rattle.world.proofs.Cells.{answer_fits, initial_fits, memory_length, word_fits}
-use Rattle.world.specs.Simulations.{CountsAccesses, IsExplained, IsHolder, Simulation, accesses_in, accesses_of, cost_at, cost_next, event_at, event_next, further, output_at, part_of, status_at, stops_at, stops_next, transactions_of, world_of}
+use Rattle.world.specs.Simulations.{CountsAccesses, IsExplained, IsHolder, Simulation, accesses_in, accesses_of, cost_at, cost_next, event_at, event_next, further, output_at, shown_at, shown_by, shown_next, part_of, status_at, stops_at, stops_next, transactions_of, world_of}
 use Rattle.world.specs.inner.Kept.{AreOfParts, IsMakeable, IsOfPart, IsWorldOf}
 
 module _ (code : Code) where
@@ -182,9 +183,6 @@ module _ (s : Simulation) (lock : ℕ) (words : List ℕ) (threads : List Thread
     pub stops_is : stops_at s t ≡ stops a
     stops_is = ap (stops_next s.code) part.1 ∙ ap stops same_access
 
-    pub event_is : event_at s t ≡ (told (effect s.code) x.thread (answer lock words a)).event
-    event_is = ap (event_next s.code w) part.1 ∙ (λ i. (told (effect s.code) (sym part.2.thread i) (answer (sym k.lock_is i) (sym k.words_are i) (access (effect s.code) (sym part.2.thread i)))).event)
-
     -- how it is, and what it has printed
     pub status_is : status_at s t ≡ Some x.thread.status
     status_is = ap (option_map (λ (p : Part Configuration). p.thread.status)) part.1 ∙ ap (λ (th : Thread Configuration). Some th.status) (sym part.2.thread)
@@ -282,8 +280,12 @@ module _ (s : Simulation) (lock : ℕ) (words : List ℕ) (threads : List Thread
           pub ready_word : IsWordOf (access (effect s.code) y.thread) reply
           ready_word = subst (λ (z : Access × Answer). IsWordOf z.0 z.1) (λ i. (sym b i, sym same_answer i)) word
 
-          pub ready_event : (event : Event) → event ≡ (told (effect s.code) y.thread reply).event → event ≡ event_at s t
-          ready_event event e = e ∙ (λ i. (told (effect s.code) (th i) (same_answer i)).event) ∙ sym event_is
+          pub ready_shown : (event : Event) → event ≡ (told (effect s.code) y.thread reply).event → shown_at s t ≡ Some (record { status = x.thread.status; place = x.thread.configuration.place; access = made; answer = reply; event = event })
+          ready_shown event e =
+              let of_part : access (effect s.code) part.0.thread ≡ made = same_access ∙ sym made_is in
+              let of_reply : answer w.lock w.words (access (effect s.code) part.0.thread) ≡ reply = (λ i. answer (sym k.lock_is i) (sym k.words_are i) (of_part i)) ∙ sym reply_is in
+              let of_event : (told (effect s.code) part.0.thread (answer w.lock w.words (access (effect s.code) part.0.thread))).event ≡ event = (λ i. (told (effect s.code) ((sym part.2.thread ∙ sym th) i) (of_reply i)).event) ∙ sym e in
+              ap (shown_next s.code w) part.1 ∙ (λ i. Some (record { status = (sym part.2.thread i).status; place = (sym part.2.thread i).configuration.place; access = of_part i; answer = of_reply i; event = of_event i }))
 
           module _ (z : ThreadState) (on : stops made ≡ false) (next : z.thread ≡ (told (effect s.code) y.thread reply).thread) (of : IsThreadOf s.code z.thread) (counted : z.accesses ≡ y.accesses + cost (access (effect s.code) y.thread))
               (lock_now : ℕ) (words_now : List ℕ) (m : ℕ) (trace_now : List ℕ) (lock_is : lock_now ≡ lock_after lock made) (words_is : words_now ≡ words_after words made) (m_is : m ≡ cost made) (trace_is : trace_now ≡ s.trace ++ t ∷ []) where
@@ -339,7 +341,7 @@ pub extends : (s z : Simulation) (us : List ℕ) → z ≡ further s us → IsEx
 extends s z us e k = subst (λ (v : Simulation). Extends (transactions_of s) (transactions_of v)) (sym e) (k.code.extended us)
 
 -- why a step was not made
-pub used_up_by : (r : Result Access Stop) (o : Result Event Stop) (why : Stop) (m n : Bool) → r ≡ Err why → o ≡ Err why → (r ≡ Err SequenceUsedUp) ↔ (m ≡ true) → n ≡ m → (o ≡ Err SequenceUsedUp) ↔ (n ≡ true)
+pub used_up_by : {X : Type 0} (r : Result Access Stop) (o : Result X Stop) (why : Stop) (m n : Bool) → r ≡ Err why → o ≡ Err why → (r ≡ Err SequenceUsedUp) ↔ (m ≡ true) → n ≡ m → (o ≡ Err SequenceUsedUp) ↔ (n ≡ true)
 used_up_by r o why m n is now used same = (
   λ e. same ∙ used.0 (is ∙ ap Err (let f : why ≡ SequenceUsedUp = cc in f)),
   λ e. let f : r ≡ Err SequenceUsedUp = used.1 (sym same ∙ e) in let h : why ≡ SequenceUsedUp = cc in now ∙ ap Err h,
@@ -377,3 +379,11 @@ one_access s t = at (part_of s t)
     at : (o : Option (Part Configuration)) → cost_next s.code o ≤ 1
     at None = omega arith
     at (Some p) = at_most_one (access (effect s.code) p.thread)
+
+-- the event of a step is what is shown of it
+pub event_shown : (s : Simulation) (t : ℕ) (x : StepShown) → shown_at s t ≡ Some x → x.event ≡ event_at s t
+event_shown s t x e = at (part_of s t) e
+  where
+    at : (o : Option (Part Configuration)) → shown_next s.code (world_of s) o ≡ Some x → x.event ≡ event_next s.code (world_of s) o
+    at None f = absurd (cc)
+    at (Some p) f = let g : shown_by s.code (world_of s) p ≡ x = cc in ap (λ (z : StepShown). z.event) (sym g)

@@ -11,6 +11,7 @@ use Rattle.bytecode.specs.Valid.{bounds_of}
 use Rattle.norec_core.specs.Accesses.{stops}
 use Rattle.machine.specs.declared.event.Event.{Event}
 use Rattle.machine.specs.declared.event.Event.TheVariants as event
+use Rattle.machine.specs.declared.event.StepShown.{StepShown}
 use Rattle.machine.specs.Alone.{ReachesEnd}
 use Rattle.machine.specs.Holders.{HoldersNeverAbort}
 use Rattle.machine.specs.Merges.{run_of}
@@ -54,6 +55,25 @@ event_next code w (Some p) = (told (effect code) p.thread (answer w.lock w.words
 
 abbrev pub event_at : Simulation → ℕ → Event
 event_at s t = event_next s.code (world_of s) (part_of s t)
+
+-- what is shown of a thread's next step
+abbrev pub shown_by : Code → World Configuration → Part Configuration → StepShown
+shown_by code w p =
+    let a = access (effect code) p.thread in
+    let reply = answer w.lock w.words a in
+    record {
+      status = p.thread.status;
+      place = p.thread.configuration.place;
+      access = a;
+      answer = reply;
+      event = (told (effect code) p.thread reply).event;
+    }
+
+abbrev pub shown_next : Code → World Configuration → Option (Part Configuration) → Option StepShown
+shown_next code w o = option_map (shown_by code w) o
+
+abbrev pub shown_at : Simulation → ℕ → Option StepShown
+shown_at s t = shown_next s.code (world_of s) (part_of s t)
 
 -- how a thread is, and what it has printed
 abbrev pub status_at : Simulation → ℕ → Option Status

@@ -39,6 +39,8 @@ pub struct Report<A: Allocator = Global> {
     pub holder: Option<u32>,
     /// The step that was not made, if one was not.
     pub stop: Option<WorldStop>,
+    /// The thread of each step that was made, in their order.
+    pub trace: Vec<u32, A>,
 }
 
 fn end_of(status: Status) -> End
@@ -112,15 +114,18 @@ impl<A: Allocator + Copy> World<A> {
         ensures words { IfOk result (λ r. r.words.items ≡ (world_of self.now).words) }
         ensures holder { IfOk result (λ r. IsHolder (world_of self.now) r.holder) }
         ensures stop { IfOk result (λ r. r.stop ≡ stop_with stop self.now) }
+        ensures trace { IfOk result (λ r. r.trace.items ≡ self.now.trace) }
     {
         let threads = self.shown(alloc, stop)?;
         let words = Vec::from_slice(alloc, self.words())?;
+        let trace = Vec::from_slice(alloc, self.trace())?;
         Ok(Report {
             events: Vec::new(alloc),
             threads,
             words,
             holder: self.holder(),
             stop: self.stop_with(stop),
+            trace,
         })
     }
 
@@ -131,6 +136,7 @@ impl<A: Allocator + Copy> World<A> {
         ensures words { IfOk result (λ r. r.words.items ≡ (world_of self.now).words) }
         ensures holder { IfOk result (λ r. IsHolder (world_of self.now) r.holder) }
         ensures stop { IfOk result (λ r. r.stop ≡ None) }
+        ensures trace { IfOk result (λ r. r.trace.items ≡ self.now.trace) }
     {
         self.report_with(alloc, None)
     }

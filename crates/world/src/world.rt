@@ -2,14 +2,14 @@
 
 ghost use Rattle.std.specs.Prelude.{◌≡◌, ◌+◌, ◌<◌, ◌≤◌, ◌⊎◌, ◌↔◌, ◌∷◌, [], true, Some, IfOk, IfErr, OnOk, OnErr, length, slice_index, take, vec_len};
 ghost use Rattle.syntax.specs.Behaviours.{Extends};
-ghost use Rattle.world.specs.Simulations.{EndsAlone, IsExplained, IsHolder, accesses_of, event_at, further, output_at, status_at, stops_at, transactions_of, world_of};
+ghost use Rattle.world.specs.Simulations.{EndsAlone, IsExplained, IsHolder, accesses_of, event_at, further, output_at, shown_at, status_at, stops_at, transactions_of, world_of};
 ghost use Rattle.world.specs.Stops.{StopsFor};
 ghost use Rattle.world.specs.inner.Kept.{AreFirstFrom};
 
 use crate::make::{cost, make};
 use crate::stop::{StopReason, WorldFault, WorldStop};
 use bytecode::Code;
-use machine::{Event, Thread};
+use machine::{Event, StepShown, Thread};
 use norec_core::Stop;
 use std::alloc::{AllocError, Allocator, Global};
 use std::marker::Model;
@@ -116,7 +116,24 @@ impl<A: Allocator + Copy> World<A> {
         ensures used_up { (result ≡ Err Stop.SequenceUsedUp) ↔ (stops_at self.old t ≡ true) }
         ensures explained { IsExplained self.new }
     {
+        match self.step_shown(t) {
+            Ok(shown) => Ok(shown.event),
+            Err(why) => Err(why),
+        }
+    }
+
+    /// `step`, and what is shown of it.
+    pub fn step_shown(&mut self, t: u32) -> Result<StepShown, Stop>
+        requires { t < self.old.threads }
+        ensures ok { OnOk result (self.new ≡ further self.old (t ∷ [])) }
+        ensures shown { IfOk result (λ x. shown_at self.old t ≡ Some x) }
+        ensures err { OnErr result (self.new ≡ self.old) }
+        ensures used_up { (result ≡ Err Stop.SequenceUsedUp) ↔ (stops_at self.old t ≡ true) }
+        ensures explained { IsExplained self.new }
+    {
         let thread = &mut self.threads[t as usize];
+        let status = thread.status();
+        let place = thread.place();
         let access = match thread.prepare(&self.code) {
             Ok(access) => access,
             Err(why) => return Err(why),
@@ -128,7 +145,13 @@ impl<A: Allocator + Copy> World<A> {
         let event = thread.told(&self.code, answer);
         self.accesses += cost(access);
         self.trace.push_reserved(t);
-        Ok(event)
+        Ok(StepShown {
+            status,
+            place,
+            access,
+            answer,
+            event,
+        })
     }
 
     /// Makes these steps, each the next one of its thread, in order. An error says which step was not made, and why; the

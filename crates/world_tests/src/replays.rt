@@ -2,13 +2,14 @@
 
 use crate::reports::{Wanted, is_as};
 use bytecode::{Code, Instr};
-use machine::Event;
+use machine::{Event, StepShown};
 use machine_tests::codes::code_of_worker;
 use machine_tests::rows::traps;
-use replay::{Line, read_schedule, replay, seeded};
+use norec_core::{Access, Answer};
+use replay::{Line, read_schedule, replay, seeded, timeline};
 use std::alloc::Global;
 use std::test::Fail;
-use syntax::numbers::Trap;
+use syntax::numbers::{Status, Trap};
 use world::{End, StopReason};
 
 // Adds 1 to x.
@@ -133,5 +134,46 @@ fn a_seed_adds_all(rt: HostRuntime) -> Result<(), Fail> {
         panic!(rt; "no code")
     };
     assert!(rt; all_add_up(rt.alloc(), &code));
+    Ok(())
+}
+
+// A quiet step of a thread that runs.
+fn quiet(place: u32, access: Access, answer: Answer) -> StepShown {
+    StepShown {
+        status: Status::Running,
+        place,
+        access,
+        answer,
+        event: Event::Quiet,
+    }
+}
+
+// Whether this is shown of steps of two threads that add 1 to x.
+fn shows(alloc: Global, steps: &[u32], wanted: &[(u64, u32, StepShown)]) -> bool {
+    let Some(code) = code_of_worker(alloc, 2, adds_one()) else {
+        return false;
+    };
+    match timeline(alloc, &code, 2, steps) {
+        Some(shown) => shown.as_slice() == wanted,
+        None => wanted.is_empty(),
+    }
+}
+
+#[test]
+fn each_step_is_shown(rt: HostRuntime) -> Result<(), Fail> {
+    let lock = quiet(0, Access::LoadLock, Answer::Value(0));
+    let word = quiet(1, Access::LoadWord(0), Answer::Value(0));
+    let again = quiet(1, Access::LoadLock, Answer::Value(0));
+    let local = quiet(2, Access::Local, Answer::Done);
+    let wanted = [
+        (1, 0, lock),
+        (2, 0, word),
+        (3, 1, lock),
+        (4, 0, again),
+        (4, 0, local),
+    ];
+    assert!(rt; shows(rt.alloc(), [0, 0, 1, 0, 0].as_slice(), wanted.as_slice()));
+    // nothing is shown with a step of a thread that there is not
+    assert!(rt; shows(rt.alloc(), [0, 2].as_slice(), [].as_slice()));
     Ok(())
 }

@@ -27,7 +27,7 @@ pub returns-in-Err-Stopped-clause-report : goal.returns-in-Err-Stopped-clause-re
 returns-in-Err-Stopped-clause-report g c =
     let h = subst (λ (ls : List Line). HasPlayed c.args.code.now c.args.threads c.args.lines.now c.lines.room ls c.lines.world) (drop_get c.args.lines.now c.lines.at c.line_at-line.result c.line_at-line.ensures) c.lines.invariant.played in
     let halts = subst (λ (v : Halt). HaltsIn c.line_at-line.result c.lines.room v c.lines.world c.play.new.world c.play.new.events.items) c.in-Err-Stopped.field-0-is c.in-Err-Stopped.ensures.halt in
-    plays_to c.args.code.now c.args.threads c.args.lines.now c.in-Ok-reported.report c.play.new.world c.reported.ensures.explained (c.in-Ok-reported.ensures.events ∙ halts.2) c.lines.room c.line_at-line.result (drop (c.lines.at + 1) c.args.lines.now) c.lines.world c.in-Err-Stopped.reason h halts.0 halts.1
+    plays_to c.args.code.now c.args.threads c.args.lines.now c.in-Ok-reported.report c.play.new.world c.reported.ensures.explained (c.in-Ok-reported.ensures.events ∙ halts.2) c.in-Ok-reported.ensures.trace c.lines.room c.line_at-line.result (drop (c.lines.at + 1) c.args.lines.now) c.lines.world c.in-Err-Stopped.reason h halts.0 halts.1
     (subst (λ (q : StopReason). threads_of c.in-Ok-reported.report.threads.items ≡ threads_shown (Some (c.line_at-line.result.thread, q)) c.play.new.world) c.in-Err-Stopped.reason-is c.in-Ok-reported.ensures.threads)
     c.in-Ok-reported.ensures.words c.in-Ok-reported.ensures.holder
     (subst (λ (q : StopReason). c.in-Ok-reported.report.stop ≡ stop_with (Some (c.line_at-line.result.thread, q)) c.play.new.world) c.in-Err-Stopped.reason-is c.in-Ok-reported.ensures.stop)
@@ -35,5 +35,5 @@ returns-in-Err-Stopped-clause-report g c =
 pub returns-in-Ok-reported-2-clause-report : goal.returns-in-Ok-reported-2-clause-report
 returns-in-Ok-reported-2-clause-report g c =
     let h = subst (λ (ls : List Line). HasPlayed c.args.code.now c.args.threads c.args.lines.now c.lines.room ls c.lines.world) (drop_end c.args.lines.now c.lines.at (let f = c.lines-test.false in omega arith)) c.lines.invariant.played in
-    plays_all c.args.code.now c.args.threads c.args.lines.now c.in-Ok-reported-2.report c.lines.world c.reported-2.ensures.explained (c.in-Ok-reported-2.ensures.events ∙ c.lines.invariant.events) c.lines.room h
+    plays_all c.args.code.now c.args.threads c.args.lines.now c.in-Ok-reported-2.report c.lines.world c.reported-2.ensures.explained (c.in-Ok-reported-2.ensures.events ∙ c.lines.invariant.events) c.in-Ok-reported-2.ensures.trace c.lines.room h
     c.in-Ok-reported-2.ensures.threads c.in-Ok-reported-2.ensures.words c.in-Ok-reported-2.ensures.holder c.in-Ok-reported-2.ensures.stop

@@ -1,0 +1,10 @@
+use Rattle.std.proofs.Common.{◌≡◌, take}
+use Rattle.replay.specs.Replays.{played, timeline_of}
+use Rattle.replay.proofs.shown.timeline.Given as goal
+
+-- the steps so far were made, and each is shown
+abbrev pub invariant-steps : goal.invariant-steps
+invariant-steps g l = record {
+  made : l.world ≡ played l.code l.threads (take l.at l.steps);
+  shown : l.shown.items ≡ timeline_of l.world;
+}
