@@ -134,7 +134,7 @@ def table():
     shown = lambda row, field: "not measured" if field not in row else f"{int(row[field]):,}" if int(row[field]) else "–"
     lines = ["| Crate | Check, s | Tests, s | Wrong bodies | Their s | Peak of one process, GB | At commit |", "|---|---|---|---|---|---|---|"]
     crates = [it for it in libraries()]
-    for crate in sorted((it for it in last if it in crates), key=lambda it: -whole(last[it])):
+    for crate in sorted((it for it in peaks if it in crates), key=lambda it: -whole(last[it])):
         row, peak = last[crate], max(peaks[crate].values()) / 1024
         lines.append(
             f"| `{crate}` | {shown(row, 'check_s')} | {shown(row, 'tests_s')} | {shown(row, 'wrong_bodies')} | {shown(row, 'wrong_s')} | {peak:.1f} | {row['commit']} |"
@@ -144,7 +144,7 @@ def table():
     minutes = (sums[0] + sums[1] + sums[3]) / 60
     most = max([max(peaks[it].values()) for it in crates if it in peaks] or [0]) / 1024
     lines.append(f"| all measured: {minutes:.0f} min | {sums[0]:,} | {sums[1]:,} | {sums[2]} | {sums[3]:,} | {most:.1f} | |")
-    missing = [it for it in crates if it not in last]
+    missing = [it for it in crates if it not in peaks]
     if missing:
         lines += ["", f"Not measured yet: {', '.join(f'`{it}`' for it in missing)}."]
     return "\n".join(lines) + "\n"
@@ -155,8 +155,9 @@ def write():
         page = file.read()
     if BEGIN not in page or END not in page:
         sys.exit("docs/GATE.md has no place for the table")
+    page = page[: page.index(BEGIN)] + BEGIN + "\n" + table() + "\n" + page[page.index(END) :]
     with open(PAGE, "w", encoding="utf-8") as file:
-        file.write(page[: page.index(BEGIN)] + BEGIN + "\n" + table() + "\n" + page[page.index(END) :])
+        file.write(page)
 
 
 def main():
