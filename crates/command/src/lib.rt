@@ -10,6 +10,3 @@ mod task;
 
 pub use read::command;
 pub use request::{Request, Steps, Task, UsageFault};
-
-#[cfg(test)]
-mod tests;

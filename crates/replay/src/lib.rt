@@ -15,6 +15,3 @@ pub use schedule::{ScheduleFault, read_schedule};
 pub use seed::seeded;
 pub use shown::timeline;
 pub use write::write_schedule;
-
-#[cfg(test)]
-mod tests;

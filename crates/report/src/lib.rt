@@ -9,6 +9,3 @@ mod timeline;
 pub use printed::{End, Printed, Shown, ThreadShown};
 pub use report::report_text;
 pub use timeline::timeline_text;
-
-#[cfg(test)]
-mod tests;

@@ -1,7 +1,7 @@
 //! Schedules that are read, and those that are not.
 
-use crate::{Line, ScheduleFault, read_schedule, seeded, write_schedule};
 use refusing::Refusing;
+use replay::{Line, ScheduleFault, read_schedule, seeded, write_schedule};
 use std::alloc::Global;
 use std::test::Fail;
 

@@ -1,10 +1,10 @@
 //! Reports of every kind, and each growth refused once.
 
-use crate::{End, Printed, Shown, ThreadShown, report_text};
 use containers::{Items, Text};
 use lex::token::Scalar;
 use machine::Event;
 use refusing::Refusing;
+use report::{End, Printed, Shown, ThreadShown, report_text};
 use std::alloc::{AllocError, Allocator};
 use std::test::Fail;
 use syntax::numbers::Trap;
