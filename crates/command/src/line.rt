@@ -3,7 +3,7 @@
 ghost use Rattle.std.specs.Prelude.{◌≡◌, IfOk, codes, false};
 ghost use Rattle.clap.specs.Words.{app_of, rule_of};
 ghost use Rattle.clap.specs.declared.builder.command.Command.TheViews.{out-Command as fields_of};
-ghost use Rattle.command.specs.Line.{file_rule, flag_rule, fault_rule, text_rule, number_rule, order_rule, file_app, run_app, replay_steps_app, replay_app, source_app, explain_app, commandless_app, program_app};
+ghost use Rattle.command.specs.Line.{file_rule, flag_rule, fault_rule, text_rule, number_rule, order_rule, file_app, check_app, listing_app, run_app, replay_steps_app, replay_app, source_app, explain_app, commandless_app, program_app};
 
 use clap::{Arg, ArgAction, Command, value_parser};
 use std::alloc::{AllocError, Global};
@@ -77,16 +77,41 @@ fn of_file<'a>(
     ensures app { IfOk result (λ c. app_of c ≡ file_app name.entry.now) }
     ensures globals { IfOk result (λ c. (fields_of c).has_globals ≡ false) }
 {
-    let verbose = flag(
-        alloc,
-        "verbose",
-        "Shows the line of a fault, and says why a file can't be read",
-    );
     Command::new(alloc, name)
         .about(about)
         .after_help(example)
         .arg(file(alloc))?
-        .arg(verbose)
+        .arg(flag(
+            alloc,
+            "verbose",
+            "Shows the line of a fault, and says why a file can't be read",
+        ))
+}
+
+/// The command that says whether a program is accepted.
+fn check<'a>(alloc: Global) -> Result<Command<'a>, AllocError>
+    ensures app { IfOk result (λ c. app_of c ≡ check_app) }
+    ensures globals { IfOk result (λ c. (fields_of c).has_globals ≡ false) }
+{
+    of_file(
+        alloc,
+        "check",
+        "Says whether a program is accepted",
+        "Example:\n  txc check first.c",
+    )
+}
+
+/// The command that lists the code of a program.
+fn listing<'a>(alloc: Global) -> Result<Command<'a>, AllocError>
+    ensures app { IfOk result (λ c. app_of c ≡ listing_app) }
+    ensures globals { IfOk result (λ c. (fields_of c).has_globals ≡ false) }
+{
+    of_file(
+        alloc,
+        "listing",
+        "Prints the register code of a program",
+        "Example:\n  txc listing first.c",
+    )
 }
 
 /// The number of threads.
@@ -107,12 +132,6 @@ fn run<'a>(alloc: Global) -> Result<Command<'a>, AllocError>
     ensures app { IfOk result (λ c. app_of c ≡ run_app) }
     ensures globals { IfOk result (λ c. (fields_of c).has_globals ≡ false) }
 {
-    let budget = number(
-        alloc,
-        "budget",
-        "B",
-        "How many steps each thread makes at most: 0 to 4294967295, and that if not given",
-    );
     of_file(
         alloc,
         "run",
@@ -120,7 +139,12 @@ fn run<'a>(alloc: Global) -> Result<Command<'a>, AllocError>
         "Example:\n  txc run bank.c --threads 4",
     )?
     .arg(threads(alloc))?
-    .arg(budget)
+    .arg(number(
+        alloc,
+        "budget",
+        "B",
+        "How many steps each thread makes at most: 0 to 4294967295, and that if not given",
+    ))
 }
 
 /// The command that replays steps of the machine, with where these come from.
@@ -128,24 +152,6 @@ fn replay_steps<'a>(alloc: Global) -> Result<Command<'a>, AllocError>
     ensures app { IfOk result (λ c. app_of c ≡ replay_steps_app) }
     ensures globals { IfOk result (λ c. (fields_of c).has_globals ≡ false) }
 {
-    let schedule = text(
-        alloc,
-        "schedule",
-        "S",
-        "A file with a schedule: lines `T COUNT`, steps of thread T, or `T aCOUNT`, its steps up to so many accesses",
-    );
-    let seed = number(
-        alloc,
-        "seed",
-        "N",
-        "Picks the thread of each step by chance, in place of a schedule: 0 to 4294967295",
-    );
-    let steps = number(
-        alloc,
-        "steps",
-        "K",
-        "How many steps are picked: 0 to 1048576, and 100000 if not given",
-    );
     of_file(
         alloc,
         "replay",
@@ -153,9 +159,24 @@ fn replay_steps<'a>(alloc: Global) -> Result<Command<'a>, AllocError>
         "Example:\n  txc replay counter.c --threads 2 --seed 7",
     )?
     .arg(threads(alloc))?
-    .arg(schedule)?
-    .arg(seed)?
-    .arg(steps)
+    .arg(text(
+        alloc,
+        "schedule",
+        "S",
+        "A file with a schedule: lines `T COUNT`, steps of thread T, or `T aCOUNT`, its steps up to so many accesses",
+    ))?
+    .arg(number(
+        alloc,
+        "seed",
+        "N",
+        "Picks the thread of each step by chance, in place of a schedule: 0 to 4294967295",
+    ))?
+    .arg(number(
+        alloc,
+        "steps",
+        "K",
+        "How many steps are picked: 0 to 1048576, and 100000 if not given",
+    ))
 }
 
 /// The command that replays steps of the machine.
@@ -163,17 +184,17 @@ fn replay<'a>(alloc: Global) -> Result<Command<'a>, AllocError>
     ensures app { IfOk result (λ c. app_of c ≡ replay_app) }
     ensures globals { IfOk result (λ c. (fields_of c).has_globals ≡ false) }
 {
-    let timeline = flag(
-        alloc,
-        "timeline",
-        "Shows each step, a line each, before the report",
-    );
-    let print_schedule = flag(
-        alloc,
-        "print-schedule",
-        "Prints the steps of the seed as a schedule, and makes none of them",
-    );
-    replay_steps(alloc)?.arg(timeline)?.arg(print_schedule)
+    replay_steps(alloc)?
+        .arg(flag(
+            alloc,
+            "timeline",
+            "Shows each step, a line each, before the report",
+        ))?
+        .arg(flag(
+            alloc,
+            "print-schedule",
+            "Prints the steps of the seed as a schedule, and makes none of them",
+        ))
 }
 
 /// The command that runs the source in an order of threads.
@@ -181,12 +202,6 @@ fn source<'a>(alloc: Global) -> Result<Command<'a>, AllocError>
     ensures app { IfOk result (λ c. app_of c ≡ source_app) }
     ensures globals { IfOk result (λ c. (fields_of c).has_globals ≡ false) }
 {
-    let ticks = number(
-        alloc,
-        "ticks",
-        "N",
-        "How many ticks each thread has: 0 to 1000000, and 100000 if not given",
-    );
     of_file(
         alloc,
         "source",
@@ -195,7 +210,12 @@ fn source<'a>(alloc: Global) -> Result<Command<'a>, AllocError>
     )?
     .arg(threads(alloc))?
     .arg(order(alloc))?
-    .arg(ticks)
+    .arg(number(
+        alloc,
+        "ticks",
+        "N",
+        "How many ticks each thread has: 0 to 1000000, and 100000 if not given",
+    ))
 }
 
 /// The number of a fault.
@@ -236,27 +256,11 @@ fn commandless<'a>(alloc: Global) -> Command<'a>
 pub fn program<'a>(alloc: Global) -> Result<Command<'a>, AllocError>
     ensures { IfOk result (λ c. app_of c ≡ program_app) }
 {
-    let check = of_file(
-        alloc,
-        "check",
-        "Says whether a program is accepted",
-        "Example:\n  txc check first.c",
-    )?;
-    let listing = of_file(
-        alloc,
-        "listing",
-        "Prints the register code of a program",
-        "Example:\n  txc listing first.c",
-    )?;
-    let run = run(alloc)?;
-    let replay = replay(alloc)?;
-    let source = source(alloc)?;
-    let explain = explain(alloc)?;
     commandless(alloc)
-        .subcommand(check)?
-        .subcommand(listing)?
-        .subcommand(run)?
-        .subcommand(replay)?
-        .subcommand(source)?
-        .subcommand(explain)
+        .subcommand(check(alloc)?)?
+        .subcommand(listing(alloc)?)?
+        .subcommand(run(alloc)?)?
+        .subcommand(replay(alloc)?)?
+        .subcommand(source(alloc)?)?
+        .subcommand(explain(alloc)?)
 }
