@@ -103,8 +103,8 @@ abbrev pub EndsAt : Simulation → List ℕ → Option (ℕ × StopReason) → T
 EndsAt s rest None = rest ≡ []
 EndsAt s rest (Some stop) = ((later : List ℕ) × (rest ≡ stop.0 ∷ later)) × StopsFor s stop.0 stop.1
 
--- What a replay reports: the steps that the lines name were made in their order, up to the limit or to the first that could
--- not be made; and the events, threads and words are those of the world that they lead to.
+-- What a replay reports: the steps that the lines name were made in their order, up to the limit or to the first that
+-- could not be made; and the events, threads and words are those of the world that they lead to.
 pub record IsReplay {A : Type 0} (code : Code) (threads : ℕ) (lines : List Line) (r : Report A) : Type 0 where
   pub made : List ℕ
   pub rest : List ℕ

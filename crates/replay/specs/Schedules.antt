@@ -20,8 +20,8 @@ abbrev pub mark : Bool → List ℕ
 mark true = codes "a"
 mark false = []
 
--- A row asks for steps: a thread's number, spaces, and a count, which an `a` makes one of accesses. Spaces may stand round
--- the two.
+-- A row asks for steps: a thread's number, spaces, and a count, which an `a` makes one of accesses. Spaces may stand
+-- round the two.
 pub record Asks (row : List ℕ) (line : Line) : Type 0 where
   pub before : List ℕ
   pub thread : List ℕ

@@ -15,7 +15,8 @@ pub record Shown : Type 0 where
   pub of : Scalar
   pub words : List ℕ
 
--- the events of a replay, with the shared accesses made so far and the thread; the threads; the globals; who holds the lock
+-- the events of a replay, with the shared accesses made so far and the thread; the threads; the globals; who holds the
+-- lock
 pub record Printed : Type 0 where
   pub events : Option (List (ℕ × ℕ × Event))
   pub threads : List ThreadShown

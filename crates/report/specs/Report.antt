@@ -18,7 +18,9 @@ event_words (event.Trap k) = Some (codes "trap " ++ decimal (trap_number k))
 
 -- an event's line: the shared accesses made so far, the thread, and what happened
 abbrev pub event_line : ℕ × ℕ × Event → List ℕ
-event_line e = unwrap_or (option_map (λ words. decimal e.0 ++ codes " " ++ decimal e.1 ++ codes " " ++ words ++ codes "\n") (event_words e.2)) []
+event_line e =
+    unwrap_or (option_map (λ words. decimal e.0 ++ codes " " ++ decimal e.1 ++ codes " " ++ words ++ codes "\n")
+    (event_words e.2)) []
 
 abbrev pub events_text : Option (List (ℕ × ℕ × Event)) → List ℕ
 events_text None = []
@@ -49,7 +51,8 @@ values_text of = flat_map (λ w. codes " " ++ signed_decimal (number of w))
 
 -- how a thread is found, and what it has printed
 abbrev pub thread_text : ℕ → ThreadShown → List ℕ
-thread_text t thread = codes "== thread " ++ decimal t ++ codes ": " ++ end_words thread.end ++ codes "\n" ++ lines_of thread.text
+thread_text t thread =
+    codes "== thread " ++ decimal t ++ codes ": " ++ end_words thread.end ++ codes "\n" ++ lines_of thread.text
 
 -- threads from this one on
 abbrev pub threads_text : ℕ → List ThreadShown → List ℕ

@@ -110,19 +110,21 @@ abbrev pub transactions_of : Simulation → List Step
 transactions_of s =
     run_of (merge_after (effect s.code) (beginning s.code) (initial_of s.code) s.threads s.trace)
 
--- By how many the accesses of all threads grow over an undisturbed transaction: from where no thread has the lock and thread t
--- is about to begin an outermost one, over this begin, steps of t in its attempt, and local steps of other threads.
+-- By how many the accesses of all threads grow over an undisturbed transaction: from where no thread has the lock and
+-- thread t is about to begin an outermost one, over this begin, steps of t in its attempt, and local steps of other
+-- threads.
 abbrev pub CountsAccesses : Simulation → Type 0
 CountsAccesses s = (t : ℕ) (p : Part Configuration) (us : List ℕ) (k : ℕ) →
-    BeginsFree (effect s.code) (world_of s) t p → IsUndisturbed (effect s.code) t us (step (effect s.code) (world_of s) t) →
+    BeginsFree (effect s.code) (world_of s) t p →
+    IsUndisturbed (effect s.code) t us (step (effect s.code) (world_of s) t) →
     accesses_of (further s (t ∷ us)) ≡ accesses_of s + k →
     IsOpenAfter (effect s.code) (world_of s) t p k (world_of (further s (t ∷ us)))
     ⊎ IsOverAfter (effect s.code) (world_of s) t p k (world_of (further s (t ∷ us)))
 
--- What holds of every world: none of its steps was one that stops; its transactions are one after another, in the order of
--- time, each attempt has a moment, and later runs extend earlier ones. So it is for the code, and for every program that
--- the code means. From here on a thread that has the lock never aborts, and the accesses of an undisturbed transaction are
--- those that the code's meaning tells.
+-- What holds of every world: none of its steps was one that stops; its transactions are one after another, in the order
+-- of time, each attempt has a moment, and later runs extend earlier ones. So it is for the code, and for every program
+-- that the code means. From here on a thread that has the lock never aborts, and the accesses of an undisturbed
+-- transaction are those that the code's meaning tells.
 pub record IsExplained (s : Simulation) : Type 0 where
   pub reached : Reached (effect s.code) (beginning s.code) (initial_of s.code) s.threads (world_of s)
   pub code : IsOpaque (effect s.code) (beginning s.code) (meaning (effect s.code) (beginning s.code)) (bounds_of s.code)

@@ -15,7 +15,8 @@ pub record Plays (line : Line) (room left : ℕ) (before after : Simulation) : T
   pub made : List ℕ
   pub are : after ≡ further before made
   pub named : (lines : List Line) →
-      steps_of before.code room (line ∷ lines) (world_of before) ≡ made ++ steps_of before.code left lines (world_of after)
+      steps_of before.code room (line ∷ lines) (world_of before)
+      ≡ made ++ steps_of before.code left lines (world_of after)
 
 -- the same up to a step that is not made
 pub record IsCut (line : Line) (room : ℕ) (before after : Simulation) : Type 0 where
@@ -26,7 +27,8 @@ pub record IsCut (line : Line) (room : ℕ) (before after : Simulation) : Type 0
 
 -- where a step of a thread was not made, the world is as it was
 abbrev pub HaltsAt : ℕ → Halt → Simulation → Simulation → List (ℕ × ℕ × Event) → Type 0
-HaltsAt t (Stopped reason) before after events = (after ≡ before) × StopsFor before t reason × (events ≡ events_of before)
+HaltsAt t (Stopped reason) before after events =
+    (after ≡ before) × StopsFor before t reason × (events ≡ events_of before)
 HaltsAt t Refused before after events = Unit {0}
 
 -- and where a line was not made to its end, all its steps before that were made
