@@ -1,16 +1,13 @@
 -- What a piece is, by its first byte.
-use Rattle.std.proofs.Common.{◌≡◌, ℕ, zero, suc, ◌<◌, ◌≤◌, inl, inr, Bool, true, false, ◌==◌, if◌then◌else◌, List, [], ◌∷◌, ◌++◌, length, take, slice_index, codes, refl, sym, ap, ◌∙◌, arith, subst, lit≤}
+use Rattle.std.proofs.Common.{◌≡◌, ℕ, zero, suc, ◌<◌, ◌≤◌, inl, inr, Bool, true, false, not, ◌||◌, ◌==◌, nat_le, if◌then◌else◌, List, [], ◌∷◌, ◌++◌, length, take, slice_index, codes, refl, sym, ap, ◌∙◌, arith, subst}
 use Rattle.lex.proofs.pieces.Runs.{front_byte}
-use Rattle.lex.proofs.pieces.Fixed.{passes}
+use Rattle.lex.proofs.pieces.Fixed.{all, passes}
 use Rattle.std.specs.List.{list_all}
 use Rattle.std.proofs.lemmas.Bool.Decides.{nat_tests}
-use Rattle.std.proofs.lemmas.Bool.{and_parts}
+use Rattle.std.proofs.lemmas.Bool.{and_parts, leb-true}
 use Rattle.lex.specs.declared.constant.Base.{Base}
 use Rattle.lex.specs.declared.constant.Base.TheVariants.{Decimal, Octal, Hexadecimal}
 use Rattle.lex.specs.declared.token.Fixed.{Fixed}
-use Rattle.lex.specs.declared.token.Fixed.TheVariants.{Keyword, Punctuator}
-use Rattle.lex.specs.declared.token.Keyword.TheVariants as key
-use Rattle.lex.specs.declared.token.Punctuator.TheVariants as punct
 use Rattle.lex.specs.Spelling.{spelling}
 use Rattle.lex.specs.Bytes.{is_white, is_letter, is_digit, is_part, Only}
 use Rattle.lex.specs.Pieces.{IsWhite, IsComment, IsOpen, IsLine, IsDirective, IsString, Constant, Shape}
@@ -99,26 +96,23 @@ only_from p [] e k lt = absurd (omega arith)
 only_from p (b ∷ w) e zero lt = (and_parts (p b) (list_all p w) e).0
 only_from p (b ∷ w) e (suc k) lt = only_from p w (and_parts (p b) (list_all p w) e).1 k (omega arith)
 
+-- a test that the tokens of one spelling pass which begin with a byte of a class
+abbrev pub passes_where : (Class → Bool) → (Fixed → Bool) → Fixed → Bool
+passes_where at p k = not (at (class (spelling k))) || p k
+
+pub passes_at : (at : Class → Bool) (p : Fixed → Bool) → list_all (passes_where at p) all ≡ true → (k : Fixed) (c : Class) → class (spelling k) ≡ c → at c ≡ true → p k ≡ true
+passes_at at p h k c e t = subst (λ (b : Bool). (not b || p k) ≡ true) (ap at e ∙ t) (passes (passes_where at p) h k)
+
+abbrev pub at_letter : Class → Bool
+at_letter letter = true
+at_letter _ = false
+
+abbrev pub at_slash : Class → Bool
+at_slash slash = true
+at_slash _ = false
+
 pub keyword_parts : (k : Fixed) → class (spelling k) ≡ letter → list_all is_part (spelling k) ≡ true
-keyword_parts (Keyword key.Int) e = refl
-keyword_parts (Keyword key.Unsigned) e = refl
-keyword_parts (Keyword key.Signed) e = refl
-keyword_parts (Keyword key.Void) e = refl
-keyword_parts (Keyword key.If) e = refl
-keyword_parts (Keyword key.Else) e = refl
-keyword_parts (Keyword key.While) e = refl
-keyword_parts (Keyword key.Do) e = refl
-keyword_parts (Keyword key.For) e = refl
-keyword_parts (Keyword key.Break) e = refl
-keyword_parts (Keyword key.Continue) e = refl
-keyword_parts (Keyword key.Return) e = refl
-keyword_parts (Keyword key.Printf) e = refl
-keyword_parts (Keyword key.Atomic) e = refl
-keyword_parts (Keyword key.Relaxed) e = refl
-keyword_parts (Keyword key.Cancel) e = refl
-keyword_parts (Keyword key.Attribute) e = refl
-keyword_parts (Punctuator punct.Comma) e = absurd cc
-keyword_parts _ e = absurd cc
+keyword_parts k e = passes_at at_letter (λ k. list_all is_part (spelling k)) refl k letter e refl
 
 -- no token of one spelling begins like anything but a word, a comment or a punctuator
 abbrev pub begins_fixed : Class → Bool
@@ -137,10 +131,7 @@ no_fixed k c e f =
     cc
 
 pub slash_length : (k : Fixed) → class (spelling k) ≡ slash → length (spelling k) ≤ 2
-slash_length (Punctuator punct.DivideAssign) e = lit≤ tt
-slash_length (Punctuator punct.Slash) e = lit≤ tt
-slash_length (Keyword key.Int) e = absurd cc
-slash_length _ e = absurd cc
+slash_length k e = leb-true (length (spelling k)) 2 (passes_at at_slash (λ k. nat_le (length (spelling k)) 2) refl k slash e refl)
 
 -- what a shape is, by the class of its first byte
 pub space_only : (w : List ℕ) (x : Shape w) → shape_class x ≡ space → IsWhite w

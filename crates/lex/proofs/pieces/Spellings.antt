@@ -1,14 +1,11 @@
 -- What tokens of one spelling and reserved words are spelled like.
 use Rattle.std.proofs.Common.{◌≡◌, ℕ, zero, suc, ◌+◌, ◌<◌, ◌&&◌, ◌||◌, ◌==◌, ◌⊎◌, inl, inr, Bool, true, false, not, if◌then◌else◌, List, [], ◌∷◌, length, slice_index, codes, refl, sym, ap, ◌∙◌, arith, subst, eqb-true}
-use Rattle.std.proofs.lemmas.Bool.{and_parts}
+use Rattle.std.proofs.lemmas.Bool.{and_parts, or_cases}
 use Rattle.lex.specs.declared.token.Fixed.{Fixed}
-use Rattle.lex.specs.declared.token.Fixed.TheVariants.{Keyword, Punctuator}
-use Rattle.lex.specs.declared.token.Keyword.TheVariants as key
-use Rattle.lex.specs.declared.token.Punctuator.TheVariants as punct
 use Rattle.lex.specs.Spelling.{spelling, Reserved}
 use Rattle.lex.specs.Spelling as words
 use Rattle.lex.proofs.pieces.Fixed.{all, nth, placed, passes}
-use Rattle.lex.proofs.pieces.Classes.{letter, slash, class}
+use Rattle.lex.proofs.pieces.Classes.{letter, slash, class, at_slash, passes_at}
 
 abbrev same : List ℕ → List ℕ → Bool
 same [] [] = true
@@ -118,7 +115,10 @@ reserved_class w (words.is_volatile e) = ap class e
 
 -- a punctuator that begins with a slash has no second slash and no star
 pub slash_second : (k : Fixed) → class (spelling k) ≡ slash → (slice_index (spelling k) 1 ≡ 0) ⊎ (slice_index (spelling k) 1 ≡ 61)
-slash_second (Punctuator punct.DivideAssign) e = inr refl
-slash_second (Punctuator punct.Slash) e = inl refl
-slash_second (Keyword key.Int) e = absurd cc
-slash_second _ e = absurd cc
+slash_second k e =
+    let second = λ (k : Fixed). slice_index (spelling k) 1 in
+    let either = passes_at at_slash (λ k. second k == 0 || second k == 61) refl k slash e refl in
+    elim (or_cases (second k == 0) (second k == 61) either) [
+      | inl h ↦ inl (eqb-true (second k) 0 h)
+      | inr h ↦ inr (eqb-true (second k) 61 h)
+    ]
