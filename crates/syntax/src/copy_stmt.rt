@@ -2,6 +2,7 @@
 
 ghost use Rattle.std.specs.Prelude.{◌≡◌, IfOk};
 
+use crate::copy::{copy_three, copy_two};
 use crate::tree::{Declaration, Declarator, ForHead, Simple, Start, Stmt};
 use containers::{Boxed, Copied, Items};
 use std::alloc::{AllocError, Allocator};
@@ -10,7 +11,10 @@ impl<A: Allocator + Copy> Copied<A> for Simple<A> {
     fn copy(&self, alloc: A) -> Result<Simple<A>, AllocError> {
         match self {
             Simple::Evaluate(e) => Ok(Simple::Evaluate(e.copy(alloc)?)),
-            Simple::Assign(to, op, e) => Ok(Simple::Assign(to.copy(alloc)?, *op, e.copy(alloc)?)),
+            Simple::Assign(to, op, e) => {
+                let (to, e) = copy_two(alloc, to, e)?;
+                Ok(Simple::Assign(to, *op, e))
+            }
             Simple::Adjust(to, by) => Ok(Simple::Adjust(to.copy(alloc)?, *by)),
         }
     }
@@ -46,9 +50,7 @@ impl<A: Allocator + Copy> Copied<A> for Start<A> {
 
 impl<A: Allocator + Copy> Copied<A> for ForHead<A> {
     fn copy(&self, alloc: A) -> Result<ForHead<A>, AllocError> {
-        let start = self.start.copy(alloc)?;
-        let condition = self.condition.copy(alloc)?;
-        let step = self.step.copy(alloc)?;
+        let (start, condition, step) = copy_three(alloc, &self.start, &self.condition, &self.step)?;
         Ok(ForHead {
             start,
             condition,
