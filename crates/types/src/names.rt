@@ -38,7 +38,10 @@ impl<'a, A: Allocator + Copy> Names<'a, A> {
         ensures { result ≡ slot_in self.now name.now }
     {
         match self.slots.get(&name) {
-            Some(slot) => *slot,
+            Some(slot) => Slot {
+                symbol: slot.symbol.copy(),
+                place: slot.place,
+            },
             None => Slot {
                 symbol: Symbol::Unknown,
                 place: 0,

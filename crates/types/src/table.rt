@@ -7,14 +7,14 @@ use std::alloc::Allocator;
 use std::collections::BTreeMap;
 
 /// What a name is known as, and how many locals there were with it: 0 for a name of the file.
-#[derive(Clone, Copy)]
+#[derive(Drop)]
 pub(crate) struct Slot<'a, A: Allocator> {
     pub(crate) symbol: Symbol<'a, A>,
     pub(crate) place: usize,
 }
 
 /// A local, and what its name was before.
-#[derive(Clone, Copy)]
+#[derive(Drop)]
 pub(crate) struct Local<'a, A: Allocator> {
     pub(crate) name: &'a str,
     pub(crate) hidden: Slot<'a, A>,
