@@ -8,8 +8,8 @@ top=$(cd "$(dirname "$0")/.." && pwd)
 work=$(mktemp -d)
 trap 'rm -rf "$work"' EXIT
 mkdir -p "$work/crates/write_log_speed/src"
-cp -r "$top/crates/refusing" "$top/crates/write_log" "$work/crates/"
-printf 'refusing:\nwrite_log: refusing\nwrite_log_speed: write_log\n' > "$work/crates.txt"
+cp -r "$top/crates/write_log" "$work/crates/"
+printf 'write_log:\nwrite_log_speed: write_log\n' > "$work/crates.txt"
 cat > "$work/crates/write_log_speed/src/main.rt" <<'END'
 //! Prints what the write log takes, beside a plain list.
 #![tactic(auto)]

@@ -1,5 +1,5 @@
 use Rattle.std.proofs.Common.{◌≡◌, ◌+◌, length}
-use Rattle.write_log.proofs.tests.answers_as_a_plain_list.Given as goal
+use Rattle.write_log_tests.proofs.calls.answers_as_a_plain_list.Given as goal
 
 abbrev pub invariant-marks : goal.invariant-marks
 invariant-marks g l = length l.log.marks ≡ l.depth

@@ -2,13 +2,13 @@
 
 ghost use Rattle.std.specs.Prelude.{◌≡◌, ◌+◌, ◌<◌, ◌≤◌, OnOk, length};
 
-use super::{Looks, WriteLog};
 use refusing::Refusing;
 use std::alloc::{AllocError, Allocator};
 use std::marker::Brand;
 use std::mem::size_of;
 use std::sync::ledger::{Blank, Ledger};
 use std::test::Fail;
+use write_log::{Looks, WriteLog};
 
 /// Makes room, at the second call where the first one is refused, and says whether it was.
 fn make_room<A: Allocator + Copy>(log: &mut WriteLog<A>) -> Result<bool, AllocError>
