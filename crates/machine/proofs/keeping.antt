@@ -16,3 +16,5 @@ pub mod Calls
 pub mod Advancing
 -- a read that loads its word and then the lock
 pub mod Reading
+-- a commit that swaps the lock and stores, and the load of an outermost begin
+pub mod Committing

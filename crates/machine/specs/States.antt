@@ -14,11 +14,12 @@ use Rattle.frames.specs.Told.{IsCall, Tells}
 use Rattle.norec_core.specs.declared.step.Op.{Op}
 use Rattle.norec_core.specs.declared.step.Op.TheVariants as op
 use Rattle.norec_core.specs.declared.step.Access.{Access}
-use Rattle.norec_core.specs.declared.step.Access.TheVariants.{LoadLock, LoadWord}
+use Rattle.norec_core.specs.declared.step.Access.TheVariants.{LoadLock, LoadWord, Swap}
 use Rattle.norec_core.specs.declared.step.Answer.{Answer}
 use Rattle.norec_core.specs.declared.step.Answer.TheVariants.{Value}
 use Rattle.norec_core.specs.Attempts.{Attempt}
-use Rattle.norec_core.specs.Cores.{LoadsBoth}
+use Rattle.norec_core.specs.Accesses.{stops}
+use Rattle.norec_core.specs.Cores.{IsStoring, LoadsBoth}
 use Rattle.machine.specs.Explained.{has_lock}
 use Rattle.machine.specs.Standing.{IsThreadOf}
 use Rattle.machine.specs.Threads.{Next, Thread, op_of, access, told}
@@ -78,6 +79,23 @@ pub record LoadsNext (code : Code) (s : ThreadState) (cell : ℕ) : Type 0 where
       access (effect code) (told (effect code) s.thread (Value word)).thread ≡ LoadLock
   pub between : (word : ℕ) → word < 2 ^ 32 → IsThreadOf code (told (effect code) s.thread (Value word)).thread
   pub asked : s.ready.asked ≡ Some (op.Read cell)
+
+-- The thread runs, and its next step is the load of an outermost begin. What the begin saves is ready.
+pub record BeginsNext (code : Code) (s : ThreadState) : Type 0 where
+  pub running : s.thread.status ≡ Running
+  pub attempt : s.thread.attempt ≡ None
+  pub saved : s.ready.saved ≡ saved_in s.thread.configuration
+
+-- the thread runs, and its commit stores the pair at this place of the write log next, or past the last pair the lock
+pub record StoresNext (s : ThreadState) (place : ℕ) : Type 0 where
+  pub running : s.thread.status ≡ Running
+  pub stores : IsSomeAnd s.thread.attempt (λ a. IsStoring place a)
+
+-- the thread runs, and its next access is a swap from this value of the lock, which can be followed
+pub record SwapsNext (code : Code) (s : ThreadState) (from : ℕ) : Type 0 where
+  pub running : s.thread.status ≡ Running
+  pub swap : access (effect code) s.thread ≡ Swap from
+  pub goes_on : stops (Swap from) ≡ false
 
 -- the thread after both steps of a read
 abbrev pub told_twice : Code → Thread Configuration → (word lock : ℕ) → Next Configuration

@@ -1,13 +1,15 @@
 //! A thread of the machine.
 
-ghost use Rattle.std.specs.Prelude.{◌≡◌, ◌+◌, ◌<◌, ◌≤◌, ◌^◌, ◌↔◌, ℕ, [], None, Some, true, false, IfOk, OnOk};
+ghost use Rattle.std.specs.Prelude.{◌≡◌, ◌+◌, ◌<◌, ◌≤◌, ◌^◌, ◌↔◌, ℕ, [], None, Some, true, false, IfOk, IfSome, OnOk};
 ghost use Rattle.bytecode.specs.Beginning.{beginning};
 ghost use Rattle.bytecode.specs.Code.{effect};
 ghost use Rattle.norec_core.specs.Accesses.{IsAnswerTo, cost, stops};
+ghost use Rattle.norec_core.specs.declared.step.Answer.{Answer as Reply};
+ghost use Rattle.norec_core.specs.declared.step.Answer.TheVariants.{Value};
 ghost use Rattle.machine.specs.Threads.{access, told as told_spec};
 ghost use Rattle.machine.specs.Standing.{IsThreadOf};
 ghost use Rattle.machine.specs.Answered.{Replays};
-ghost use Rattle.machine.specs.States.{IsPrepared, IsWordOf, LoadsNext, StandsAt, first_thread, thread_has_lock, told_twice};
+ghost use Rattle.machine.specs.States.{BeginsNext, IsPrepared, IsWordOf, LoadsNext, StandsAt, StoresNext, SwapsNext, first_thread, thread_has_lock, told_twice};
 ghost use Rattle.machine.specs.inner.Kept.{cost_if};
 
 use crate::event::Event;
@@ -257,6 +259,129 @@ impl<A: Allocator + Copy> Thread<A> {
         let _valid = code.parts();
         self.accesses += 2;
         let _event = self.held.take_read(code, to, cell, word, lock);
+    }
+
+    /// Prepares the load of the begin that stands at its place, where no attempt is under way: whether it did. It does not where
+    /// the room that the begin needs is refused.
+    #[inline(always)]
+    pub fn prepare_begin<B: Allocator>(&mut self, code: &Code<B>, to: u32) -> bool
+        requires of { IsThreadOf code.now self.old.thread }
+        requires stands { StandsAt code.now self.old (Doing.Begin to) }
+        ensures thread { self.new.thread ≡ self.old.thread }
+        ensures accesses { self.new.accesses ≡ self.old.accesses }
+        ensures begins { result ≡ true → BeginsNext code.now self.new }
+        ensures access { result ≡ true → access (effect code.now) self.new.thread ≡ Access.LoadLock }
+    {
+        // The prover learns here that the code is valid.
+        let _valid = code.parts();
+        // The prover names by it where the begin leads.
+        let _to = to;
+        match self.held.status {
+            Status::Running => self.held.core.prepare_begin(
+                self.held.frames.registers(),
+                self.held.frames.frames(),
+                self.held.frames.place(),
+            ),
+            Status::Ended => false,
+            Status::Trapped(_) => false,
+        }
+    }
+
+    /// Makes the step of such a begin, with the lock's value that was loaded. It takes no memory.
+    #[inline(always)]
+    pub fn take_begin<B: Allocator>(&mut self, code: &Code<B>, to: u32, lock: u64)
+        requires of { IsThreadOf code.now self.old.thread }
+        requires stands { StandsAt code.now self.old (Doing.Begin to) }
+        requires begins { BeginsNext code.now self.old }
+        requires count { self.old.accesses + 1 < 2 ^ 64 }
+        ensures thread { self.new.thread ≡ (told_spec (effect code.now) self.old.thread (Value lock)).thread }
+        ensures of { IsThreadOf code.now self.new.thread }
+        ensures accesses { self.new.accesses ≡ self.old.accesses + 1 }
+    {
+        // The prover learns here that the code is valid.
+        let _valid = code.parts();
+        self.accesses += 1;
+        let _event = self.held.take_begin(code, to, lock);
+    }
+
+    /// From which value of the lock the commit that stands at its place swaps it in its next step, where it does.
+    #[inline(always)]
+    pub fn swaps_from<B: Allocator>(&self, code: &Code<B>) -> Option<u64>
+        requires of { IsThreadOf code.now self.now.thread }
+        requires stands { StandsAt code.now self.now Doing.Commit }
+        ensures { IfSome result (λ from. SwapsNext code.now self.now from) }
+    {
+        // The prover learns here that the code is valid.
+        let _valid = code.parts();
+        match self.held.status {
+            Status::Running => self.held.core.swaps_from(),
+            Status::Ended => None,
+            Status::Trapped(_) => None,
+        }
+    }
+
+    /// Makes this step, with the answer to its access. The commit stands there still. It takes no memory.
+    #[inline(always)]
+    pub fn take_swap<B: Allocator>(&mut self, code: &Code<B>, from: u64, answer: Answer)
+        requires of { IsThreadOf code.now self.old.thread }
+        requires stands { StandsAt code.now self.old Doing.Commit }
+        requires swaps { SwapsNext code.now self.old from }
+        requires count { self.old.accesses + 1 < 2 ^ 64 }
+        ensures thread { self.new.thread ≡ (told_spec (effect code.now) self.old.thread answer).thread }
+        ensures of { IsThreadOf code.now self.new.thread }
+        ensures stands { StandsAt code.now self.new Doing.Commit }
+        ensures accesses { self.new.accesses ≡ self.old.accesses + 1 }
+    {
+        // The prover learns here that the code is valid.
+        let _valid = code.parts();
+        self.accesses += 1;
+        let _event = self.held.take_swap(code, from, answer);
+    }
+
+    /// The place in the write log that its commit stores next, where it stores; past the last pair it stores the lock.
+    #[inline(always)]
+    pub fn storing(&self) -> Option<usize>
+        ensures { IfSome result (λ place. StoresNext self.now place) }
+    {
+        match self.held.status {
+            Status::Running => self.held.core.storing(),
+            Status::Ended => None,
+            Status::Trapped(_) => None,
+        }
+    }
+
+    /// The access of such a step of the commit that stands at its place.
+    #[inline(always)]
+    pub fn store_access<B: Allocator>(&self, code: &Code<B>, place: usize) -> Access
+        requires of { IsThreadOf code.now self.now.thread }
+        requires stands { StandsAt code.now self.now Doing.Commit }
+        requires stores { StoresNext self.now place }
+        ensures access { result ≡ access (effect code.now) self.now.thread }
+        ensures goes_on { stops result ≡ false }
+        ensures cost { cost result ≡ 1 }
+    {
+        // The prover learns here that the code is valid.
+        let _valid = code.parts();
+        self.held.core.store_access(place)
+    }
+
+    /// Makes such a step, whose access was made: whether the commit stands there still. It takes no memory.
+    #[inline(always)]
+    pub fn stored<B: Allocator>(&mut self, code: &Code<B>, place: usize) -> bool
+        requires of { IsThreadOf code.now self.old.thread }
+        requires stands { StandsAt code.now self.old Doing.Commit }
+        requires stores { StoresNext self.old place }
+        requires count { self.old.accesses + 1 < 2 ^ 64 }
+        ensures thread { (answer : Reply) → self.new.thread ≡ (told_spec (effect code.now) self.old.thread answer).thread }
+        ensures again { result ≡ true → StandsAt code.now self.new Doing.Commit }
+        ensures of { IsThreadOf code.now self.new.thread }
+        ensures accesses { self.new.accesses ≡ self.old.accesses + 1 }
+    {
+        // The prover learns here that the code is valid.
+        let _valid = code.parts();
+        self.accesses += 1;
+        let (_event, again) = self.held.stored(code, place);
+        again
     }
 
     /// How it is.

@@ -34,6 +34,10 @@ stepped c answer = stepped_by c c.asked answer
 abbrev pub LoadsBoth : {S : Type 0} → Attempt S → ℕ → Type 0
 LoadsBoth a cell = (a.phase ≡ AtOperation) × (a.kept ≡ false) × (written cell a.writes ≡ None)
 
+-- a commit stores the pair at this place of the write log next, or past the last pair the lock
+abbrev pub IsStoring : {S : Type 0} → ℕ → Attempt S → Type 0
+IsStoring place a = a.phase ≡ Stores place
+
 -- two steps of an operation, with the answers to their accesses
 abbrev pub stepped_twice : CoreState → Op → (first second : Answer) → CoreStep Saved
 stepped_twice c op first second = core_step c.saved (core_step c.saved c.attempt op first).attempt op second

@@ -2,8 +2,9 @@
 
 ghost use Rattle.std.specs.Prelude.{◌≡◌, ◌≢◌, ◌↔◌, true, false, None, Some, IsTrue, IsSome, IsSomeAnd, IfOk, IfSome, OnOk, OnErr};
 ghost use Rattle.norec_core.specs.Accesses.{stops};
-ghost use Rattle.norec_core.specs.Phases.{core_access};
-ghost use Rattle.norec_core.specs.Cores.{IsAnswered, IsDoneAtOnce, LoadsBoth, stepped, stepped_twice, is_kept, has_lock};
+ghost use Rattle.norec_core.specs.Phases.{core_access, core_step};
+ghost use Rattle.norec_core.specs.Cores.{IsAnswered, IsDoneAtOnce, IsStoring, LoadsBoth, stepped, stepped_twice, is_kept, has_lock};
+ghost use Rattle.norec_core.specs.declared.step.Answer.{Answer as Reply};
 ghost use Rattle.norec_core.specs.declared.step.Answer.TheVariants.{Value};
 
 use super::step::{Access, Answer, Op, Outcome, Stop};
@@ -165,6 +166,92 @@ impl<A: Allocator + Copy> Core<A> {
         self.asked = None;
         self.steps.commit();
         true
+    }
+
+    /// Prepares an outermost begin, which saves these registers, this number of frames and this place: whether it did. It does not
+    /// where an attempt is under way, nor where room is refused.
+    #[inline(always)]
+    pub fn prepare_begin(&mut self, registers: &[u64], frames: usize, place: u32) -> bool
+        ensures none { result ≡ true → self.new.attempt ≡ None }
+        ensures saved { result ≡ true → self.new.saved ≡ record { registers = registers.now; frames = frames; place = place } }
+        ensures attempt { self.new.attempt ≡ self.old.attempt }
+    {
+        if self.steps.has_begun() {
+            return false;
+        }
+        self.asked = None;
+        self.steps.make_begin_room(registers, frames, place)
+    }
+
+    /// Makes the step of an outermost begin that was prepared, with the lock's value that was loaded. It takes no memory.
+    #[inline(always)]
+    pub fn take_begin(&mut self, lock: u64) -> Outcome
+        requires { self.old.attempt ≡ None }
+        ensures attempt { self.new.attempt ≡ (core_step self.old.saved self.old.attempt Op.Begin (Value lock)).attempt }
+        ensures outcome { result ≡ (core_step self.old.saved self.old.attempt Op.Begin (Value lock)).outcome }
+        ensures asked { self.new.asked ≡ None }
+    {
+        self.asked = None;
+        self.steps.told_begin(Answer::Value(lock))
+    }
+
+    /// From which value of the lock the next step of a commit swaps it, where it does; none where that is its last even value.
+    #[inline(always)]
+    pub fn swaps_from(&self) -> Option<u64>
+        ensures { IfSome result (λ from. (core_access self.now.attempt Op.Commit ≡ Access.Swap from) × (stops (Access.Swap from) ≡ false)) }
+    {
+        match self.steps.access(Op::Commit) {
+            Access::Swap(from) => {
+                if from == LAST_SNAPSHOT {
+                    None
+                } else {
+                    Some(from)
+                }
+            }
+            _ => None,
+        }
+    }
+
+    /// Makes the next step of a commit, which was not prepared, with the answer to its access. It takes no memory.
+    #[inline(always)]
+    pub fn told_commit(&mut self, answer: Answer) -> Outcome
+        requires { stops (core_access self.old.attempt Op.Commit) ≡ false }
+        ensures attempt { self.new.attempt ≡ (core_step self.old.saved self.old.attempt Op.Commit answer).attempt }
+        ensures outcome { result ≡ (core_step self.old.saved self.old.attempt Op.Commit answer).outcome }
+        ensures back { IfSome (core_step self.old.saved self.old.attempt Op.Commit answer).back (λ s. self.new.saved ≡ s) }
+        ensures asked { self.new.asked ≡ None }
+    {
+        self.asked = None;
+        self.steps.told(Op::Commit, answer)
+    }
+
+    /// The place in the write log that a commit stores next, where one stores; past the last pair it stores the lock.
+    #[inline(always)]
+    pub fn storing(&self) -> Option<usize>
+        ensures { IfSome result (λ place. IsSomeAnd self.now.attempt (λ a. IsStoring place a)) }
+    {
+        self.steps.storing()
+    }
+
+    /// The access of such a step.
+    #[inline(always)]
+    pub fn store_access(&self, place: usize) -> Access
+        requires { IsSomeAnd self.now.attempt (λ a. IsStoring place a) }
+        ensures { result ≡ core_access self.now.attempt Op.Commit }
+    {
+        self.steps.next_store(place)
+    }
+
+    /// Makes such a step, whose access was made. It takes no memory.
+    #[inline(always)]
+    pub fn stored(&mut self, place: usize) -> Outcome
+        requires { IsSomeAnd self.old.attempt (λ a. IsStoring place a) }
+        ensures attempt { (answer : Reply) → self.new.attempt ≡ (core_step self.old.saved self.old.attempt Op.Commit answer).attempt }
+        ensures outcome { (answer : Reply) → result ≡ (core_step self.old.saved self.old.attempt Op.Commit answer).outcome }
+        ensures asked { self.new.asked ≡ None }
+    {
+        self.asked = None;
+        self.steps.stored(place)
     }
 
     /// What to go back to, after a step that cancelled or aborted: the thread's state at that begin.

@@ -1,6 +1,6 @@
 //! The steps of an attempt, phase by phase: the access of each, and what comes of its answer.
 
-ghost use Rattle.std.specs.Prelude.{◌≡◌, ◌≢◌, ◌+◌, ◌^◌, ◌<◌, ◌≤◌, true, false, None, OnOk, OnErr, slice_get};
+ghost use Rattle.std.specs.Prelude.{◌≡◌, ◌≢◌, ◌+◌, ◌^◌, ◌<◌, ◌≤◌, true, false, None, IfSome, OnOk, OnErr, slice_get};
 ghost use Rattle.write_log.specs.Overlay.{put, written};
 ghost use Rattle.norec_core.specs.Accesses.{stops};
 ghost use Rattle.norec_core.specs.Phases.{core_access, core_step, core_phase, core_operation, core_read, core_commit, core_cancel, core_store, core_check, core_time, core_compare, operation_access, commit_access, entry_access, store_access};
@@ -193,6 +193,49 @@ impl<A: Allocator + Copy> Steps<A> {
         self.told_commit(Answer::Done);
     }
 
+    // Makes room for what a begin may add, and sets aside what it saves: whether there is room.
+    #[inline(always)]
+    pub(crate) fn make_begin_room(&mut self, registers: &[u64], frames: usize, place: u32) -> bool
+        ensures aside { result ≡ true → self.new.aside ≡ record { registers = registers.now; frames = frames; place = place } }
+        ensures others { GainsRoom (record self.old { aside = self.new.aside }) self.new }
+    {
+        self.logs.prepare_begin(registers, frames, place).is_ok()
+    }
+
+    // The place in the write log that a commit stores next, where one stores.
+    #[inline(always)]
+    pub(crate) fn storing(&self) -> Option<usize>
+        ensures { IfSome result (λ place. (self.now.begun ≡ true) × (self.now.attempt.phase ≡ Phase.Stores place)) }
+    {
+        match self.phase {
+            Phase::Stores(place) => { if self.begun { Some(place) } else { None } }
+            _ => None,
+        }
+    }
+
+    // The access of a commit that stores this pair next, or past the last one the lock.
+    #[inline(always)]
+    pub(crate) fn next_store(&self, place: usize) -> Access
+        requires { self.now.attempt.phase ≡ Phase.Stores place }
+        ensures { result ≡ store_access self.now.attempt.snapshot (slice_get self.now.attempt.writes place) }
+    {
+        // The prover learns here that the lock can be released.
+        let _phase = self.phase;
+        self.store_access(place)
+    }
+
+    // Such a commit, whose access was made.
+    #[inline(always)]
+    pub(crate) fn stored(&mut self, place: usize) -> Outcome
+        requires begun { self.old.begun ≡ true }
+        requires phase { self.old.attempt.phase ≡ Phase.Stores place }
+        ensures { IsStep (core_store self.old.attempt place (slice_get self.old.attempt.writes place)) result self.new }
+    {
+        // The prover learns here that the lock can be released.
+        let _phase = self.phase;
+        self.told_store(place)
+    }
+
     // The access of the next step.
     #[inline(always)]
     pub(crate) fn access(&self, op: Op) -> Access
@@ -286,7 +329,7 @@ impl<A: Allocator + Copy> Steps<A> {
 
     // An outermost begin: an even lock value is the snapshot.
     #[inline(always)]
-    fn told_begin(&mut self, answer: Answer) -> Outcome
+    pub(crate) fn told_begin(&mut self, answer: Answer) -> Outcome
         requires { self.old.begun ≡ false }
         ensures { IsStep (core_step self.old.aside None Op.Begin answer) result self.new }
     {

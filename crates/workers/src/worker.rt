@@ -6,7 +6,7 @@ ghost use Rattle.bytecode.specs.Code.{effect};
 ghost use Rattle.bytecode.specs.Valid.{cells_of};
 ghost use Rattle.machine.specs.Threads.{access as access_of};
 ghost use Rattle.machine.specs.Standing.{IsThreadOf};
-ghost use Rattle.machine.specs.States.{StandsAt};
+ghost use Rattle.machine.specs.States.{StandsAt, StoresNext};
 ghost use Rattle.seats.specs.Setup.{Setup};
 ghost use Rattle.workers.specs.Works.{Because};
 
@@ -15,7 +15,7 @@ use atomic_table::Seat;
 use bytecode::Code;
 use frames::Doing;
 use machine::Thread;
-use norec_core::Stop;
+use norec_core::{Access, Stop};
 use seats::{View, Words, load_lock, load_word, make};
 use std::alloc::{Allocator, Global};
 use syntax::numbers::{Status as ThreadStatus, Trap};
@@ -120,13 +120,123 @@ impl<A: Allocator + Copy> Worker<A> {
         true
     }
 
-    // All steps of what is to be done, where a function of its own makes them and they are so many at most: whether they were made.
+    // The step of a begin, which loads the lock, where no attempt is under way: whether it was made.
+    #[inline(never)]
+    fn begin(&mut self, words: &Words<A>, code: &Code<A>, to: u32) -> bool
+        requires table { words.now.table_id.words ≡ cells_of code.now + 1 }
+        requires code { words.now.key.code ≡ code.now }
+        requires worker { IsWorkerOf words.now.table_id words.now.key self.old }
+        requires room { self.old.steps + 1 < 2 ^ 64 }
+        requires stands { StandsAt code.now self.old.thread (Doing.Begin to) }
+        ensures goes_on { (self.new.number ≡ self.old.number) × StepsOn words.now.table_id words.now.key self.old self.new }
+        ensures made { result ≡ true → self.new.steps ≡ self.old.steps + 1 }
+        ensures not_made { result ≡ false → (self.new.steps ≡ self.old.steps) × StandsAt code.now self.new.thread (Doing.Begin to) }
+    {
+        if !self.thread.prepare_begin(code, to) {
+            return false;
+        }
+        let lock = load_lock(words, &mut self.seat);
+        self.thread.take_begin(code, to, lock);
+        self.steps += 1;
+        true
+    }
+
+    // The step of a commit that swaps the lock, where that is its next one: whether it was made.
+    #[inline(always)]
+    fn swap(&mut self, words: &Words<A>, code: &Code<A>) -> bool
+        requires table { words.now.table_id.words ≡ cells_of code.now + 1 }
+        requires code { words.now.key.code ≡ code.now }
+        requires worker { IsWorkerOf words.now.table_id words.now.key self.old }
+        requires room { self.old.steps + 1 < 2 ^ 64 }
+        requires stands { StandsAt code.now self.old.thread Doing.Commit }
+        ensures goes_on { (self.new.number ≡ self.old.number) × StepsOn words.now.table_id words.now.key self.old self.new }
+        ensures made { result ≡ true → self.new.steps ≡ self.old.steps + 1 }
+        ensures not_made { result ≡ false → self.new.steps ≡ self.old.steps }
+        ensures stands { StandsAt code.now self.new.thread Doing.Commit }
+    {
+        let Some(from) = self.thread.swaps_from(code) else {
+            return false;
+        };
+        let answer = make(words, &mut self.seat, Access::Swap(from));
+        self.thread.take_swap(code, from, answer);
+        self.steps += 1;
+        true
+    }
+
+    // The step of a commit that stores the pair at this place of the write log, or past the last one the lock: whether the commit
+    // goes on.
+    #[inline(always)]
+    fn store(&mut self, words: &Words<A>, code: &Code<A>, place: usize) -> bool
+        requires table { words.now.table_id.words ≡ cells_of code.now + 1 }
+        requires code { words.now.key.code ≡ code.now }
+        requires worker { IsWorkerOf words.now.table_id words.now.key self.old }
+        requires room { self.old.steps + 1 < 2 ^ 64 }
+        requires stands { StandsAt code.now self.old.thread Doing.Commit }
+        requires stores { StoresNext self.old.thread place }
+        ensures goes_on { (self.new.number ≡ self.old.number) × StepsOn words.now.table_id words.now.key self.old self.new }
+        ensures steps { self.new.steps ≡ self.old.steps + 1 }
+        ensures again { result ≡ true → StandsAt code.now self.new.thread Doing.Commit }
+    {
+        let access = self.thread.store_access(code, place);
+        let _answer = make(words, &mut self.seat, access);
+        let again = self.thread.stored(code, place);
+        self.steps += 1;
+        again
+    }
+
+    // Such steps, one after another, at most so many: how many were made.
+    #[inline(always)]
+    fn store_all(&mut self, words: &Words<A>, code: &Code<A>, most: u64) -> u64
+        requires table { words.now.table_id.words ≡ cells_of code.now + 1 }
+        requires code { words.now.key.code ≡ code.now }
+        requires worker { IsWorkerOf words.now.table_id words.now.key self.old }
+        requires room { self.old.steps + most < 2 ^ 64 }
+        requires stands { StandsAt code.now self.old.thread Doing.Commit }
+        ensures goes_on { (self.new.number ≡ self.old.number) × StepsOn words.now.table_id words.now.key self.old self.new }
+        ensures steps { self.new.steps ≡ self.old.steps + result }
+        ensures few { result ≤ most }
+        ensures none { result ≡ 0 → StandsAt code.now self.new.thread Doing.Commit }
+    {
+        'stores: for made in 0..most {
+            let Some(place) = self.thread.storing() else {
+                return made;
+            };
+            if !self.store(words, code, place) {
+                return made + 1;
+            }
+        }
+        most
+    }
+
+    // The swap of a commit and what follows it, at most so many steps, where it goes on with the swap or stores: whether any were
+    // made.
+    #[inline(never)]
+    fn commit(&mut self, words: &Words<A>, code: &Code<A>, most: u64) -> bool
+        requires table { words.now.table_id.words ≡ cells_of code.now + 1 }
+        requires code { words.now.key.code ≡ code.now }
+        requires worker { IsWorkerOf words.now.table_id words.now.key self.old }
+        requires room { self.old.steps + most < 2 ^ 64 }
+        requires some { 0 < most }
+        requires stands { StandsAt code.now self.old.thread Doing.Commit }
+        ensures goes_on { (self.new.number ≡ self.old.number) × StepsOn words.now.table_id words.now.key self.old self.new }
+        ensures made { result ≡ true → (self.old.steps < self.new.steps) × (self.new.steps ≤ self.old.steps + most) }
+        ensures not_made { result ≡ false → (self.new.steps ≡ self.old.steps) × StandsAt code.now self.new.thread Doing.Commit }
+    {
+        if !self.swap(words, code) {
+            return self.store_all(words, code, most) > 0;
+        }
+        let _stored = self.store_all(words, code, most - 1);
+        true
+    }
+
+    // Steps of what is to be done, at most so many, where a function of its own makes them: whether any were made.
     #[inline(always)]
     fn complete(&mut self, words: &Words<A>, code: &Code<A>, doing: Doing, most: u64) -> bool
         requires table { words.now.table_id.words ≡ cells_of code.now + 1 }
         requires code { words.now.key.code ≡ code.now }
         requires worker { IsWorkerOf words.now.table_id words.now.key self.old }
         requires room { self.old.steps + most < 2 ^ 64 }
+        requires some { 0 < most }
         requires stands { StandsAt code.now self.old.thread doing }
         ensures goes_on { (self.new.number ≡ self.old.number) × StepsOn words.now.table_id words.now.key self.old self.new }
         ensures made { result ≡ true → (self.old.steps < self.new.steps) × (self.new.steps ≤ self.old.steps + most) }
@@ -134,12 +244,14 @@ impl<A: Allocator + Copy> Worker<A> {
     {
         match doing {
             Doing::Read(to, cell) => 2 <= most && self.read(words, code, to, cell),
+            Doing::Begin(to) => self.begin(words, code, to),
+            Doing::Commit => self.commit(words, code, most),
             _ => false,
         }
     }
 
     // Steps of the thread in which this is to be done, one by one, at most so many, and one at least.
-    #[inline(always)]
+    #[inline(never)]
     fn go_through(
         &mut self,
         words: &Words<A>,
@@ -167,90 +279,6 @@ impl<A: Allocator + Copy> Worker<A> {
         Ok(())
     }
 
-    // Such steps of a commit.
-    #[inline(never)]
-    fn commit(&mut self, words: &Words<A>, code: &Code<A>, most: u64) -> Result<(), Stop>
-        requires table { words.now.table_id.words ≡ cells_of code.now + 1 }
-        requires code { words.now.key.code ≡ code.now }
-        requires worker { IsWorkerOf words.now.table_id words.now.key self.old }
-        requires room { self.old.steps + most < 2 ^ 64 }
-        requires some { 0 < most }
-        requires stands { StandsAt code.now self.old.thread Doing.Commit }
-        ensures goes_on { (self.new.number ≡ self.old.number) × StepsOn words.now.table_id words.now.key self.old self.new }
-        ensures steps { (self.old.steps ≤ self.new.steps) × (self.new.steps ≤ self.old.steps + most) }
-        ensures ok { OnOk result (self.old.steps < self.new.steps) }
-        ensures stop { IfErr result (λ e. Because e (access_of (effect code.now) self.new.thread.thread)) }
-    {
-        self.go_through(words, code, Doing::Commit, most)
-    }
-
-    // Such steps of a begin.
-    #[inline(never)]
-    fn begin(&mut self, words: &Words<A>, code: &Code<A>, to: u32, most: u64) -> Result<(), Stop>
-        requires table { words.now.table_id.words ≡ cells_of code.now + 1 }
-        requires code { words.now.key.code ≡ code.now }
-        requires worker { IsWorkerOf words.now.table_id words.now.key self.old }
-        requires room { self.old.steps + most < 2 ^ 64 }
-        requires some { 0 < most }
-        requires stands { StandsAt code.now self.old.thread (Doing.Begin to) }
-        ensures goes_on { (self.new.number ≡ self.old.number) × StepsOn words.now.table_id words.now.key self.old self.new }
-        ensures steps { (self.old.steps ≤ self.new.steps) × (self.new.steps ≤ self.old.steps + most) }
-        ensures ok { OnOk result (self.old.steps < self.new.steps) }
-        ensures stop { IfErr result (λ e. Because e (access_of (effect code.now) self.new.thread.thread)) }
-    {
-        self.go_through(words, code, Doing::Begin(to), most)
-    }
-
-    // Such steps of anything.
-    #[inline(never)]
-    fn others(
-        &mut self,
-        words: &Words<A>,
-        code: &Code<A>,
-        doing: Doing,
-        most: u64,
-    ) -> Result<(), Stop>
-        requires table { words.now.table_id.words ≡ cells_of code.now + 1 }
-        requires code { words.now.key.code ≡ code.now }
-        requires worker { IsWorkerOf words.now.table_id words.now.key self.old }
-        requires room { self.old.steps + most < 2 ^ 64 }
-        requires some { 0 < most }
-        requires stands { StandsAt code.now self.old.thread doing }
-        ensures goes_on { (self.new.number ≡ self.old.number) × StepsOn words.now.table_id words.now.key self.old self.new }
-        ensures steps { (self.old.steps ≤ self.new.steps) × (self.new.steps ≤ self.old.steps + most) }
-        ensures ok { OnOk result (self.old.steps < self.new.steps) }
-        ensures stop { IfErr result (λ e. Because e (access_of (effect code.now) self.new.thread.thread)) }
-    {
-        self.go_through(words, code, doing, most)
-    }
-
-    // Such steps, by a copy of their code for each of the frequent ones.
-    #[inline(always)]
-    fn step_through(
-        &mut self,
-        words: &Words<A>,
-        code: &Code<A>,
-        doing: Doing,
-        most: u64,
-    ) -> Result<(), Stop>
-        requires table { words.now.table_id.words ≡ cells_of code.now + 1 }
-        requires code { words.now.key.code ≡ code.now }
-        requires worker { IsWorkerOf words.now.table_id words.now.key self.old }
-        requires room { self.old.steps + most < 2 ^ 64 }
-        requires some { 0 < most }
-        requires stands { StandsAt code.now self.old.thread doing }
-        ensures goes_on { (self.new.number ≡ self.old.number) × StepsOn words.now.table_id words.now.key self.old self.new }
-        ensures steps { (self.old.steps ≤ self.new.steps) × (self.new.steps ≤ self.old.steps + most) }
-        ensures ok { OnOk result (self.old.steps < self.new.steps) }
-        ensures stop { IfErr result (λ e. Because e (access_of (effect code.now) self.new.thread.thread)) }
-    {
-        match doing {
-            Doing::Commit => self.commit(words, code, most),
-            Doing::Begin(to) => self.begin(words, code, to, most),
-            _ => self.others(words, code, doing, most),
-        }
-    }
-
     // Steps of the thread in which this is to be done, at most so many, and one at least.
     #[inline(always)]
     fn operate(
@@ -274,7 +302,7 @@ impl<A: Allocator + Copy> Worker<A> {
         if self.complete(words, code, doing, most) {
             return Ok(());
         }
-        self.step_through(words, code, doing, most)
+        self.go_through(words, code, doing, most)
     }
 
     // How its thread is, after all steps of a budget.

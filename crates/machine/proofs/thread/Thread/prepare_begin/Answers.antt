@@ -1,0 +1,31 @@
+use Rattle.std.proofs.Common.{◌∙◌, refl, sym, ap, subst}
+use Rattle.syntax.specs.declared.numbers.Status.TheVariants.{Running}
+use Rattle.frames.specs.declared.doing.Doing.TheVariants as doing
+use Rattle.frames.proofs.Keeping.{begins_stay_open}
+use Rattle.machine.proofs.keeping.Calls.{runs_of, saved_same}
+use Rattle.machine.proofs.keeping.Committing.{begin_access}
+use Rattle.machine.proofs.keeping.Makes.{kept_same}
+use Rattle.machine.specs.States.{StandsAt, ThreadState}
+use Rattle.machine.specs.inner.Kept.{kept, shown_from}
+use Rattle.machine.proofs.thread.Thread.prepare_begin.Goals as goal
+
+pub frames-requires : goal.frames-requires
+frames-requires g c =
+    let k = kept {A = g.row.A.Denot} c.self.inside.held in
+    (runs_of c.args.code.now (begins_stay_open c.args.code.now c.parts-valid.ensures.valid) k c.args.self.now.thread (ap (λ (s : ThreadState). s.thread) c.self.view_is) c.self.invariant c.in-Running.is c.requires.of).stands.few
+
+pub returns-in-Running-clause-begins : goal.returns-in-Running-clause-begins
+returns-in-Running-clause-begins g c = λ made. record {
+  running = c.in-Running.is;
+  attempt = ap (shown_from c.self.inside.held.frames.configuration) (c.prepare_begin.ensures.none made);
+  saved = c.prepare_begin.ensures.saved made ∙ saved_same c.self.inside.held.frames.configuration c.registers.result.now c.frames.result c.place.result c.registers.ensures c.frames.ensures c.place.ensures;
+}
+
+pub returns-in-Running-clause-access : goal.returns-in-Running-clause-access
+returns-in-Running-clause-access g c = λ made.
+    let k = kept {A = g.row.A.Denot} c.self.inside.held in
+    let law = begins_stay_open c.args.code.now c.parts-valid.ensures.valid in
+    let l = record k { core = c.prepare_begin.new.self } in
+    let runs = runs_of c.args.code.now law k c.args.self.now.thread (ap (λ (s : ThreadState). s.thread) c.self.view_is) c.self.invariant c.in-Running.is c.requires.of in
+    let tells = subst (λ (s : ThreadState). StandsAt c.args.code.now s (doing.Begin c.args.to)) (sym c.self.view_is) c.requires.stands c.in-Running.is in
+    begin_access c.args.code.now law l c.args.to c.in-Running.is (kept_same c.args.code.now k l Running refl (sym c.prepare_begin.ensures.attempt) runs) tells (c.prepare_begin.ensures.none made)
