@@ -99,7 +99,7 @@ impl<A: Allocator + Copy> Worker<A> {
 
     // Both steps of the read of this cell that stands at its place, where it loads the cell's word and then the lock: whether they
     // were made.
-    #[inline(never)]
+    #[inline(always)]
     fn read(&mut self, words: &Words<A>, code: &Code<A>, to: u16, cell: u32) -> bool
         requires table { words.now.table_id.words ≡ cells_of code.now + 1 }
         requires code { words.now.key.code ≡ code.now }
@@ -121,7 +121,7 @@ impl<A: Allocator + Copy> Worker<A> {
     }
 
     // The step of a begin, which loads the lock, where no attempt is under way: whether it was made.
-    #[inline(never)]
+    #[inline(always)]
     fn begin(&mut self, words: &Words<A>, code: &Code<A>, to: u32) -> bool
         requires table { words.now.table_id.words ≡ cells_of code.now + 1 }
         requires code { words.now.key.code ≡ code.now }
@@ -210,7 +210,7 @@ impl<A: Allocator + Copy> Worker<A> {
 
     // The swap of a commit and what follows it, at most so many steps, where it goes on with the swap or stores: whether any were
     // made.
-    #[inline(never)]
+    #[inline(always)]
     fn commit(&mut self, words: &Words<A>, code: &Code<A>, most: u64) -> bool
         requires table { words.now.table_id.words ≡ cells_of code.now + 1 }
         requires code { words.now.key.code ≡ code.now }
