@@ -68,7 +68,7 @@ fn carry_out<A: Allocator + Copy>(
     Ok(true)
 }
 
-// Local steps, at most 1,000 of them: how many they were.
+// Steps in the frames, at most 1,000 of them: how many they were.
 fn go_far<A: Allocator + Copy>(frames: &mut Frames<A>, code: &Code<A>) -> u64
     requires { IsConfigurationOf code.now frames.old.configuration }
     ensures { IsConfigurationOf code.now frames.new.configuration }
@@ -91,8 +91,8 @@ fn first<A: Allocator + Copy>(
     Frames::new(alloc, code, thread)
 }
 
-/// Carries a thread on for at most so many turns, each of local steps and one other instruction: what it comes to, and how many
-/// local steps it made.
+/// Carries a thread on for at most so many turns, each of steps in the frames and one other instruction: what it comes to, and
+/// how many steps it made in the frames.
 pub fn carry_on<A: Allocator + Copy>(
     frames: &mut Frames<A>,
     code: &Code<A>,
@@ -114,7 +114,8 @@ pub fn carry_on<A: Allocator + Copy>(
     Ok((frames.doing(code), made))
 }
 
-/// A thread of a code from its beginning on: what it comes to, the local steps that it made, and its registers there.
+/// A thread of a code from its beginning on: what it comes to, the steps that it made in the frames, and its registers
+/// there.
 pub fn run<A: Allocator + Copy>(
     alloc: A,
     code: &Code<A>,
