@@ -27,7 +27,7 @@ use Rattle.lower.specs.declared.held.Exits.{Exits}
 use Rattle.lower.specs.inner.Limits.{NeedsMore}
 use Rattle.lower.specs.inner.Lists.{Lists, used, holding}
 use Rattle.lower.specs.inner.Names.{Callee}
-use Rattle.lower.specs.inner.Expressions.{Emitted, AllEmitted, above, both, computing, settled, called, emitted, condition, all_emitted}
+use Rattle.lower.specs.inner.Expressions.{Emitted, AllEmitted, above, both, computing, answered, settled, called, emitted, condition, both_conditions, conditional, all_emitted}
 use Rattle.lower.specs.inner.Conditions.{Condition, test_in}
 use Rattle.lower.specs.inner.Aims.{aim_in}
 use Rattle.lower.specs.inner.Simples.{Written, Aimed, nothing_written, one_written, aimed, above_target, fetched, home_or, stored, value_or_one, assigned, adjusted, first_written, declarator_written, start_written}
@@ -58,28 +58,24 @@ module _ (p : Program) (scope : LocalScope) (from into free : ℕ) (l : Lists) (
       let w = ap (λ x. (emitted p scope x from into free l).lists.registers) is in
       omega (arith, y, z, w)
 
-  module _ (op : LogicalOp) (a b : Tree.Expr) (at : Span) (is : e ≡ Tree.Logical op a b at) where
-    abbrev J : Condition
-    J = condition p scope a from free l
+module _ (p : Program) (scope : LocalScope) (from into free : ℕ) (l : Lists) where
+  pub logical_first : (op : LogicalOp) (a b : Tree.Expr) → (condition p scope a from free l).lists.registers ≤ (answered (both_conditions p scope op a b from free l) into).lists.registers
+  logical_first op a b =
+      let first = condition p scope a from free l in
+      let second = condition p scope b (first.to + 1) free first.lists in
+      let y = condition_more p scope b (first.to + 1) free first.lists in
+      let z = used_more into second.lists in
+      let w : (answered (both_conditions p scope op a b from free l) into).lists.registers ≡ (used into second.lists).registers = refl in
+      omega (arith, y, z, w)
 
-    second_within : (condition p scope b (J.to + 1) free J.lists).lists.registers ≤ (emitted p scope e from into free l).lists.registers
-    second_within =
-        let z = used_more into (condition p scope b (J.to + 1) free J.lists).lists in
-        let w = ap (λ x. (emitted p scope x from into free l).lists.registers) is in
-        omega (arith, z, w)
-
-    pub logical_first : (condition p scope a from free l).lists.registers ≤ (emitted p scope e from into free l).lists.registers
-    logical_first = let y = condition_more p scope b (J.to + 1) free J.lists in let z = second_within in omega (arith, y, z)
-
-  pub call_args : (f : Callee) (args : AllEmitted) → emitted p scope e from into free l ≡ called (Some f) args from into l → args.lists.registers ≤ (emitted p scope e from into free l).lists.registers
-  call_args f args is =
+  pub call_args : (f : Callee) (args : AllEmitted) → args.lists.registers ≤ (called (Some f) args from into l).lists.registers
+  call_args f args =
       let n = length (arranged f.parameters args.registers) in
       let a = holding_more n (record args.lists { arguments = args.lists.arguments ++ arranged f.parameters args.registers }) in
       let b = used_more into (holding n (record args.lists { arguments = args.lists.arguments ++ arranged f.parameters args.registers })) in
-      let w = ap (λ (x : Emitted). x.lists.registers) is in
-      omega (arith, a, b, w)
+      omega (arith, a, b)
 
-  module _ (c a b : Tree.Expr) (at : Span) (is : e ≡ Tree.Conditional c a b at) where
+  module _ (c a b : Tree.Expr) where
     abbrev C : Condition
     C = condition p scope c from free l
 
@@ -92,17 +88,17 @@ module _ (p : Program) (scope : LocalScope) (from into free : ℕ) (l : Lists) (
     abbrev One : Emitted
     One = G (C.to + 1) C.lists
 
-    whole_is : (emitted p scope e from into free l).lists.registers ≡ (H (One.held.to + 1) One.lists).lists.registers
-    whole_is = ap (λ x. (emitted p scope x from into free l).lists.registers) is
+    whole_is : (conditional p scope c a b from into free l).lists.registers ≡ (H (One.held.to + 1) One.lists).lists.registers
+    whole_is = refl
 
-    second_more : One.lists.registers ≤ (emitted p scope e from into free l).lists.registers
+    second_more : One.lists.registers ≤ (conditional p scope c a b from into free l).lists.registers
     second_more =
         let x = emitted_more p scope b (One.held.to + 1) into free One.lists in
         let y = settled_more into (emitted p scope b (One.held.to + 1) into free One.lists) in
         let z = whole_is in
         omega (arith, x, y, z)
 
-    pub conditional_first : C.lists.registers ≤ (emitted p scope e from into free l).lists.registers
+    pub conditional_first : C.lists.registers ≤ (conditional p scope c a b from into free l).lists.registers
     conditional_first =
         let v = emitted_more p scope a (C.to + 1) into free C.lists in
         let w = settled_more into (emitted p scope a (C.to + 1) into free C.lists) in
@@ -113,11 +109,11 @@ module _ (p : Program) (scope : LocalScope) (from into free : ℕ) (l : Lists) (
       first_is : G next lc ≡ One
       first_is = λ j. G ((en ∙ ap (λ (k : Tested). k.to + 1) et) j) (el j)
 
-      pub conditional_second : (settled into (emitted p scope a next into free lc)).lists.registers ≤ (emitted p scope e from into free l).lists.registers
+      pub conditional_second : (settled into (emitted p scope a next into free lc)).lists.registers ≤ (conditional p scope c a b from into free l).lists.registers
       conditional_second = let x = second_more in let y = ap (λ (u : Emitted). u.lists.registers) first_is in omega (arith, x, y)
 
       pub conditional_third : (la : Lists) (h : Held) (other : ℕ) → la ≡ (settled into (emitted p scope a next into free lc)).lists → h ≡ (settled into (emitted p scope a next into free lc)).held → other ≡ h.to + 1 →
-          (settled into (emitted p scope b other into free la)).lists.registers ≤ (emitted p scope e from into free l).lists.registers
+          (settled into (emitted p scope b other into free la)).lists.registers ≤ (conditional p scope c a b from into free l).lists.registers
       conditional_third la h other ela eh eo =
           let third_is : H other la ≡ H (One.held.to + 1) One.lists = (λ j. H ((eo ∙ ap (λ (u : Held). u.to + 1) (eh ∙ ap (λ (u : Emitted). u.held) first_is)) j) ((ela ∙ ap (λ (u : Emitted). u.lists) first_is) j)) in
           let y = ap (λ (u : Emitted). u.lists.registers) third_is in

@@ -1,6 +1,7 @@
 //! The instructions of expressions and conditions.
 
-ghost use Rattle.std.specs.Prelude.{◌≡◌, [], ◌∷◌, ◌++◌, ◌+◌, ◌≤◌, length, map, pos, OnOk, IfOk, IfErr};
+ghost use Rattle.std.specs.Prelude.{◌≡◌, [], ◌∷◌, ◌++◌, ◌+◌, ◌≤◌, length, map, pos, Some, OnOk, IfOk, IfErr};
+ghost use Rattle.syntax.specs.declared.tree.Expr as tree;
 ghost use Rattle.syntax.specs.Names as Source;
 ghost use Rattle.syntax.specs.Numbers.{word_of};
 ghost use Rattle.syntax.specs.Views.{expr_of, exprs_of, parameter_of};
@@ -11,8 +12,8 @@ ghost use Rattle.lower.specs.inner.Lists.{lists_of, used, holding};
 ghost use Rattle.lower.specs.declared.draft.Draft.TheVariants as draft;
 ghost use Rattle.lower.specs.inner.Conditions as conditions;
 ghost use Rattle.lower.specs.inner.Conditions.{test_in, tested_by};
-ghost use Rattle.lower.specs.inner.Expressions.{constant, variable, settled, emitted, condition, all_emitted};
-ghost use Rattle.lower.specs.inner.Tables.{shared_in};
+ghost use Rattle.lower.specs.inner.Expressions.{constant, variable, settled, answered, called, emitted, condition, both_conditions, conditional, all_emitted};
+ghost use Rattle.lower.specs.inner.Tables.{callee_in, shared_in};
 ghost use Rattle.lower.specs.inner.Views.{program_in, scope_in};
 
 use crate::cond::{opposite, zero_test};
@@ -28,7 +29,7 @@ use crate::put::{
 };
 use crate::scope::Scope;
 use bytecode::Instr;
-use lex::token::Scalar;
+use lex::token::{Scalar, Span};
 use std::alloc::{AllocError, Allocator};
 use syntax::tree::{Expr, LogicalOp, Parameter, UnaryOp};
 
@@ -275,8 +276,18 @@ pub(crate) fn lower_expr<A: Allocator + Copy>(
             Some(f) => {
                 let mut registers = Vec::new(names.alloc);
                 let all = args.as_slice();
-                let to = lower_all(names, scope, lists, code, &mut registers, all, from, free)?;
-                put_call(lists, code, f, registers.as_slice(), to, into)
+                lower_call(
+                    names,
+                    scope,
+                    lists,
+                    code,
+                    &mut registers,
+                    f,
+                    all,
+                    from,
+                    into,
+                    free,
+                )
             }
             None => put_constant(lists, code, 0, Scalar::Int, from, into),
         },
@@ -312,42 +323,141 @@ pub(crate) fn lower_expr<A: Allocator + Copy>(
             let b = lower_expr(names, scope, lists, code, right.get(), a.to, later, later)?;
             put_both(lists, code, *op, a, b, into)
         }
-        Expr::Logical(op, left, right, _) => {
+        Expr::Logical(op, left, right, at) => {
             let mut test = Vec::new(names.alloc);
-            let next = lower_first(names, scope, lists, &mut test, *op, left.get(), from, free)?;
-            let t = lower_condition(names, scope, lists, &mut test, right.get(), next, free)?;
-            put_answers(lists, code, test.as_slice(), t, into)
-        }
-        Expr::Conditional(c, left, right, _) => {
-            let mut test = Vec::new(names.alloc);
-            let t = lower_condition(names, scope, lists, &mut test, c.get(), from, free)?;
-            let next = after(t.to, 1)?;
-            let mut first = Vec::new(names.alloc);
-            let a = lower_settled(
+            lower_logical(
                 names,
                 scope,
                 lists,
-                &mut first,
+                code,
+                &mut test,
+                e,
+                *op,
                 left.get(),
-                next,
+                right.get(),
+                *at,
+                from,
                 into,
                 free,
-            )?;
-            let other = after(a.to, 1)?;
+            )
+        }
+        Expr::Conditional(c, left, right, at) => {
+            let mut test = Vec::new(names.alloc);
+            let mut first = Vec::new(names.alloc);
             let mut second = Vec::new(names.alloc);
-            let b = lower_settled(
+            lower_conditional(
                 names,
                 scope,
                 lists,
+                code,
+                &mut test,
+                &mut first,
                 &mut second,
+                e,
+                c.get(),
+                left.get(),
                 right.get(),
-                other,
+                *at,
+                from,
                 into,
                 free,
-            )?;
-            put_chosen(code, test.as_slice(), t, first, a, second, b)
+            )
         }
     }
+}
+
+/// A call; its arguments' registers are gathered in `registers`.
+#[cycle(lower_expr)]
+fn lower_call<A: Allocator + Copy>(
+    names: &Names<'_, A>,
+    scope: &Scope<'_, A>,
+    lists: &mut Lists<A>,
+    code: &mut Vec<Instr, A>,
+    registers: &mut Vec<u16, A>,
+    f: Callee<'_, A>,
+    all: &[Expr<A>],
+    from: u32,
+    into: usize,
+    free: usize,
+) -> Result<Held, Failure>
+    requires { registers.old.items ≡ [] }
+    ensures code { OnOk result (code.new.items ≡ code.old.items ++ (called (Some (callee_in f.entry)) (all_emitted (program_in names.now) (scope_in scope.now) (exprs_of all.now) from free (lists_of lists.old)) from into (lists_of lists.old)).code) }
+    ensures lists { OnOk result (lists_of lists.new ≡ (called (Some (callee_in f.entry)) (all_emitted (program_in names.now) (scope_in scope.now) (exprs_of all.now) from free (lists_of lists.old)) from into (lists_of lists.old)).lists) }
+    ensures held { IfOk result (λ held. held ≡ (called (Some (callee_in f.entry)) (all_emitted (program_in names.now) (scope_in scope.now) (exprs_of all.now) from free (lists_of lists.old)) from into (lists_of lists.old)).held) }
+    ensures fails { IfErr result (λ why. NeedsMore why ((called (Some (callee_in f.entry)) (all_emitted (program_in names.now) (scope_in scope.now) (exprs_of all.now) from free (lists_of lists.old)) from into (lists_of lists.old)).lists).registers) }
+{
+    let to = lower_all(names, scope, lists, code, registers, all, from, free)?;
+    put_call(lists, code, f, registers.as_slice(), to, into)
+}
+
+/// `&&` and `||` as a value; both conditions are gathered in `test`. The prover needs `e` and `at`: the parts are smaller than `e`.
+#[cycle(lower_expr)]
+fn lower_logical<A: Allocator + Copy>(
+    names: &Names<'_, A>,
+    scope: &Scope<'_, A>,
+    lists: &mut Lists<A>,
+    code: &mut Vec<Instr, A>,
+    test: &mut Vec<Draft, A>,
+    e: &Expr<A>,
+    op: LogicalOp,
+    left: &Expr<A>,
+    right: &Expr<A>,
+    at: Span,
+    from: u32,
+    into: usize,
+    free: usize,
+) -> Result<Held, Failure>
+    requires test { test.old.items ≡ [] }
+    requires parts { e.now ≡ tree.Logical op left.now right.now at }
+    ensures code { OnOk result (code.new.items ≡ code.old.items ++ (answered (both_conditions (program_in names.now) (scope_in scope.now) op (expr_of left.now) (expr_of right.now) from free (lists_of lists.old)) into).code) }
+    ensures lists { OnOk result (lists_of lists.new ≡ (answered (both_conditions (program_in names.now) (scope_in scope.now) op (expr_of left.now) (expr_of right.now) from free (lists_of lists.old)) into).lists) }
+    ensures held { IfOk result (λ held. held ≡ (answered (both_conditions (program_in names.now) (scope_in scope.now) op (expr_of left.now) (expr_of right.now) from free (lists_of lists.old)) into).held) }
+    ensures fails { IfErr result (λ why. NeedsMore why ((answered (both_conditions (program_in names.now) (scope_in scope.now) op (expr_of left.now) (expr_of right.now) from free (lists_of lists.old)) into).lists).registers) }
+{
+    let _whole = e;
+    let _at = at;
+    let next = lower_first(names, scope, lists, test, op, left, from, free)?;
+    let t = lower_condition(names, scope, lists, test, right, next, free)?;
+    put_answers(lists, code, test.as_slice(), t, into)
+}
+
+/// One of two values by a condition; the three parts are gathered in `test`, `first` and `second`. The prover needs `e` and `at`: the
+/// parts are smaller than `e`.
+#[cycle(lower_expr)]
+fn lower_conditional<A: Allocator + Copy>(
+    names: &Names<'_, A>,
+    scope: &Scope<'_, A>,
+    lists: &mut Lists<A>,
+    code: &mut Vec<Instr, A>,
+    test: &mut Vec<Draft, A>,
+    first: &mut Vec<Instr, A>,
+    second: &mut Vec<Instr, A>,
+    e: &Expr<A>,
+    c: &Expr<A>,
+    left: &Expr<A>,
+    right: &Expr<A>,
+    at: Span,
+    from: u32,
+    into: usize,
+    free: usize,
+) -> Result<Held, Failure>
+    requires test { test.old.items ≡ [] }
+    requires first { first.old.items ≡ [] }
+    requires second { second.old.items ≡ [] }
+    requires parts { e.now ≡ tree.Conditional c.now left.now right.now at }
+    ensures code { OnOk result (code.new.items ≡ code.old.items ++ (conditional (program_in names.now) (scope_in scope.now) (expr_of c.now) (expr_of left.now) (expr_of right.now) from into free (lists_of lists.old)).code) }
+    ensures lists { OnOk result (lists_of lists.new ≡ (conditional (program_in names.now) (scope_in scope.now) (expr_of c.now) (expr_of left.now) (expr_of right.now) from into free (lists_of lists.old)).lists) }
+    ensures held { IfOk result (λ held. held ≡ (conditional (program_in names.now) (scope_in scope.now) (expr_of c.now) (expr_of left.now) (expr_of right.now) from into free (lists_of lists.old)).held) }
+    ensures fails { IfErr result (λ why. NeedsMore why ((conditional (program_in names.now) (scope_in scope.now) (expr_of c.now) (expr_of left.now) (expr_of right.now) from into free (lists_of lists.old)).lists).registers) }
+{
+    let _whole = e;
+    let _at = at;
+    let t = lower_condition(names, scope, lists, test, c, from, free)?;
+    let next = after(t.to, 1)?;
+    let a = lower_settled(names, scope, lists, first, left, next, into, free)?;
+    let other = after(a.to, 1)?;
+    let b = lower_settled(names, scope, lists, second, right, other, into, free)?;
+    put_chosen(code, test.as_slice(), t, first, a, second, b)
 }
 
 /// An expression's value in this very register.

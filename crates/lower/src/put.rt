@@ -34,12 +34,11 @@ pub(crate) fn put<A: Allocator>(code: &mut Vec<Instr, A>, instr: Instr) -> Resul
 /// These instructions behind the others.
 pub(crate) fn append<A: Allocator>(
     code: &mut Vec<Instr, A>,
-    more: Vec<Instr, A>,
+    more: &mut Vec<Instr, A>,
 ) -> Result<(), AllocError>
-    ensures { OnOk result (code.new.items ≡ code.old.items ++ more.items) }
+    ensures { OnOk result (code.new.items ≡ code.old.items ++ more.old.items) }
 {
-    let mut more = more;
-    match code.append(&mut more) {
+    match code.append(more) {
         Ok(()) => Ok(()),
         Err(_) => Err(AllocError),
     }
@@ -349,12 +348,12 @@ pub(crate) fn put_chosen<A: Allocator>(
     code: &mut Vec<Instr, A>,
     test: &[Draft],
     t: Tested,
-    first: Vec<Instr, A>,
+    first: &mut Vec<Instr, A>,
     a: Held,
-    second: Vec<Instr, A>,
+    second: &mut Vec<Instr, A>,
     b: Held,
 ) -> Result<Held, Failure>
-    ensures code { OnOk result (code.new.items ≡ code.old.items ++ (conditions.going_on test.now t (a.to + 1) ++ first.items ++ instr.Jump b.to ∷ second.items)) }
+    ensures code { OnOk result (code.new.items ≡ code.old.items ++ (conditions.going_on test.now t (a.to + 1) ++ first.old.items ++ instr.Jump b.to ∷ second.old.items)) }
     ensures held { IfOk result (λ held. held ≡ record { register = b.register; of = numbers.common a.of b.of; to = b.to }) }
     ensures fails { IfErr result (λ why. NeedsMore why 0) }
 {

@@ -181,13 +181,13 @@ fn put_branch<A: Allocator>(
     code: &mut Vec<Instr, A>,
     test: Vec<Draft, A>,
     t: Tested,
-    branch: Vec<Instr, A>,
+    mut branch: Vec<Instr, A>,
     to: u32,
 ) -> Result<(), AllocError>
     ensures { OnOk result (code.new.items ≡ code.old.items ++ (conditions.going_on test.items t to ++ branch.items)) }
 {
     put_test(code, test.as_slice(), t, to)?;
-    append(code, branch)
+    append(code, &mut branch)
 }
 
 /// And a jump over the other branch, which begins at `other_at`.
@@ -197,14 +197,14 @@ fn put_branches<A: Allocator>(
     t: Tested,
     first: Vec<Instr, A>,
     other_at: u32,
-    second: Vec<Instr, A>,
+    mut second: Vec<Instr, A>,
     to: u32,
 ) -> Result<(), AllocError>
     ensures { OnOk result (code.new.items ≡ code.old.items ++ (conditions.going_on test.items t other_at ++ first.items ++ instr.Jump to ∷ second.items)) }
 {
     put_branch(code, test, t, first, other_at)?;
     put(code, Instr::Jump(to))?;
-    append(code, second)
+    append(code, &mut second)
 }
 
 /// A loop that is tested first: a jump to its test, a pad for breaks, and the rest.
@@ -212,13 +212,13 @@ fn put_while<A: Allocator>(
     code: &mut Vec<Instr, A>,
     test_at: u32,
     to: u32,
-    rest: Vec<Instr, A>,
+    mut rest: Vec<Instr, A>,
 ) -> Result<(), AllocError>
     ensures { OnOk result (code.new.items ≡ code.old.items ++ instr.Jump test_at ∷ instr.Jump to ∷ rest.items) }
 {
     put(code, Instr::Jump(test_at))?;
     put(code, Instr::Jump(to))?;
-    append(code, rest)
+    append(code, &mut rest)
 }
 
 /// A loop with a pad for continues: a jump to where it begins, pads for breaks and continues, and the rest.
@@ -239,12 +239,12 @@ fn put_loop<A: Allocator>(
 fn put_transaction<A: Allocator>(
     code: &mut Vec<Instr, A>,
     to: u32,
-    inner: Vec<Instr, A>,
+    mut inner: Vec<Instr, A>,
 ) -> Result<(), AllocError>
     ensures { OnOk result (code.new.items ≡ code.old.items ++ instr.Begin to ∷ inner.items ++ instr.Commit ∷ []) }
 {
     put(code, Instr::Begin(to))?;
-    append(code, inner)?;
+    append(code, &mut inner)?;
     put(code, Instr::Commit)
 }
 

@@ -236,3 +236,15 @@ module _ (p : Program) (scope : LocalScope) where
 
   abbrev pub condition : Expr → (from free : ℕ) → Lists → Condition
   condition e from free l = tested (own_condition e from free l) (emitted e from free free l)
+
+  -- both conditions of `&&` and `||`
+  abbrev pub both_conditions : LogicalOp → (a b : Expr) → (from free : ℕ) → Lists → Condition
+  both_conditions op a b from free l =
+      joining op (λ to m. condition a to free m) (λ to m. condition b to free m) from l
+
+  -- `c ? a : b`
+  abbrev pub conditional : (c a b : Expr) → (from into free : ℕ) → Lists → Emitted
+  conditional c a b from into free l =
+      let test = condition c from free l in
+      let first = settled into (emitted a (test.to + 1) into free test.lists) in
+      chosen test first (settled into (emitted b (first.held.to + 1) into free first.lists)) into

@@ -23,12 +23,6 @@ holds : {X Y P : Type 0} (r : Result X Y) → P → OnOk r P
 holds (Ok x) p = p
 holds (Err e) p = tt
 
-pub lower_expr-lower_all-requires : goal.lower_expr-lower_all-requires
-lower_expr-lower_all-requires g t c κs within =
-    let size = simp the_lemmas at (ap (the_size g.row.A g.A.Allocator g.A.laws) c.in-Call.is) in
-    let here = ap (most (the_size g.row.A g.A.Allocator g.A.laws)) c.as_slice-all.ensures in
-    (omega (arith, size, here, c.decreases), within)
-
 pub lower_all-each-preserved : goal.lower_all-each-preserved
 lower_all-each-preserved g t c = record {
   code = next_code (program_in c.args.names.now) (scope_in c.args.scope.now) c.args.all.now c.each.one-index c.each.to c.each.later (lists_of c.each.lists) c.one-item.result _ _ _ _ _ _ c.each-test.true c.one-item.is c.in_ok-held.ensures.code c.in_ok-held.ensures.lists c.in_ok-held.ensures.held c.above-later.ensures c.each.invariant.code;
@@ -54,68 +48,10 @@ lower_expr-returns-in_ok-b-in-Binary-clause-code g t c =
     ∙ sym (ap (λ x. c.args.code.now.items ++ (emitted (program_in c.args.names.now) (scope_in c.args.scope.now) x c.args.from c.args.into c.args.free (lists_of c.args.lists.now)).code) is))
     c.put_both.ensures.code
 
-pub lower_expr-returns-in_ok-to-in-Some-called-clause-code : goal.lower_expr-returns-in_ok-to-in-Some-called-clause-code
-lower_expr-returns-in_ok-to-in-Some-called-clause-code g t c =
-    let f = callee_in c.in-Some-called.f in
-    let args = all_emitted (program_in c.args.names.now) (scope_in c.args.scope.now) (exprs_of c.as_slice-all.result.now) c.args.from c.args.free (lists_of c.args.lists.now) in
-    let is = call_is c.args.e.now c.in-Call.f c.in-Call.args c.as_slice-all.result.now c.in-Call.field-2 c.in-Call.is c.as_slice-all.ensures in
-    let found = sym (c.in-Some-called.ensures ∙ ap (callee_of (program_in c.args.names.now)) c.as_str-in-Call.ensures) in
-    let whole = ap (λ x. emitted (program_in c.args.names.now) (scope_in c.args.scope.now) x c.args.from c.args.into c.args.free (lists_of c.args.lists.now)) is ∙ ap (λ o. called o args c.args.from c.args.into (lists_of c.args.lists.now)) found in
-    subst (λ z. OnOk c.put_call.result (c.put_call.new.code.items ≡ z))
-    (called_code f args c.args.from c.args.into (lists_of c.args.lists.now) (lists_of c.lower_all.new.lists) c.new-registers.result.items c.lower_all.new.registers.items c.as_slice.result.now c.in_ok-to-in-Some-called.ensures.lists c.new-registers.ensures.items c.in_ok-to-in-Some-called.ensures.registers c.as_slice.ensures.value c.args.code.now.items c.lower_all.new.code.items c.in_ok-to-in-Some-called.ensures.code
-    ∙ sym (ap (λ (w : Emitted). c.args.code.now.items ++ w.code) whole))
-    c.put_call.ensures.code
-
-pub lower_expr-returns-in_ok-to-in-Some-called-clause-lists : goal.lower_expr-returns-in_ok-to-in-Some-called-clause-lists
-lower_expr-returns-in_ok-to-in-Some-called-clause-lists g t c =
-    let f = callee_in c.in-Some-called.f in
-    let args = all_emitted (program_in c.args.names.now) (scope_in c.args.scope.now) (exprs_of c.as_slice-all.result.now) c.args.from c.args.free (lists_of c.args.lists.now) in
-    let is = call_is c.args.e.now c.in-Call.f c.in-Call.args c.as_slice-all.result.now c.in-Call.field-2 c.in-Call.is c.as_slice-all.ensures in
-    let found = sym (c.in-Some-called.ensures ∙ ap (callee_of (program_in c.args.names.now)) c.as_str-in-Call.ensures) in
-    let whole = ap (λ x. emitted (program_in c.args.names.now) (scope_in c.args.scope.now) x c.args.from c.args.into c.args.free (lists_of c.args.lists.now)) is ∙ ap (λ o. called o args c.args.from c.args.into (lists_of c.args.lists.now)) found in
-    subst (λ z. OnOk c.put_call.result (lists_of c.put_call.new.lists ≡ z))
-    (called_lists f args c.args.from c.args.into (lists_of c.args.lists.now) (lists_of c.lower_all.new.lists) c.new-registers.result.items c.lower_all.new.registers.items c.as_slice.result.now c.in_ok-to-in-Some-called.ensures.lists c.new-registers.ensures.items c.in_ok-to-in-Some-called.ensures.registers c.as_slice.ensures.value
-    ∙ sym (ap (λ (w : Emitted). w.lists) whole))
-    c.put_call.ensures.lists
-
-pub lower_expr-returns-in_ok-to-in-Some-called-clause-held : goal.lower_expr-returns-in_ok-to-in-Some-called-clause-held
-lower_expr-returns-in_ok-to-in-Some-called-clause-held g t c =
-    let f = callee_in c.in-Some-called.f in
-    let args = all_emitted (program_in c.args.names.now) (scope_in c.args.scope.now) (exprs_of c.as_slice-all.result.now) c.args.from c.args.free (lists_of c.args.lists.now) in
-    let is = call_is c.args.e.now c.in-Call.f c.in-Call.args c.as_slice-all.result.now c.in-Call.field-2 c.in-Call.is c.as_slice-all.ensures in
-    let found = sym (c.in-Some-called.ensures ∙ ap (callee_of (program_in c.args.names.now)) c.as_str-in-Call.ensures) in
-    let whole = ap (λ x. emitted (program_in c.args.names.now) (scope_in c.args.scope.now) x c.args.from c.args.into c.args.free (lists_of c.args.lists.now)) is ∙ ap (λ o. called o args c.args.from c.args.into (lists_of c.args.lists.now)) found in
-    subst (λ z. IfOk c.put_call.result (λ held. held ≡ z))
-    (called_held f args c.args.from c.args.into (lists_of c.args.lists.now) (lists_of c.lower_all.new.lists) c.new-registers.result.items c.lower_all.new.registers.items c.as_slice.result.now c.in_ok-to-in-Some-called.ensures.lists c.new-registers.ensures.items c.in_ok-to-in-Some-called.ensures.registers c.as_slice.ensures.value c.in_ok-to-in-Some-called.to c.in_ok-to-in-Some-called.ensures.place
-    ∙ sym (ap (λ (w : Emitted). w.held) whole))
-    c.put_call.ensures.held
-
 pub lower_expr-returns-in_err-a-in-Binary-clause-fails : goal.lower_expr-returns-in_err-a-in-Binary-clause-fails
 lower_expr-returns-in_err-a-in-Binary-clause-fails g t c =
     passed_on c.lower_expr-in-Binary.result c.from_residual-in_err-a-in-Binary.result c.in_err-a-in-Binary.field-0.0 _ _ c.lower_expr-in-Binary.ensures.fails c.in_err-a-in-Binary.was c.from_residual-in_err-a-in-Binary.ensures
     (binary_first (program_in c.args.names.now) (scope_in c.args.scope.now) c.args.from c.args.into c.args.free (lists_of c.args.lists.now) (expr_of c.args.e.now) c.in-Binary.op (expr_of c.get-in-Binary.result.now) (expr_of c.in-Binary.right) c.in-Binary.field-3 (binary_is c.args.e.now c.in-Binary.op c.in-Binary.left c.in-Binary.right c.get-in-Binary.result.now c.in-Binary.right c.in-Binary.field-3 c.in-Binary.is c.get-in-Binary.ensures refl))
-
-pub lower_expr-returns-in_err-to-in-Some-called-clause-fails : goal.lower_expr-returns-in_err-to-in-Some-called-clause-fails
-lower_expr-returns-in_err-to-in-Some-called-clause-fails g t c =
-    let f = callee_in c.in-Some-called.f in
-    let args = all_emitted (program_in c.args.names.now) (scope_in c.args.scope.now) (exprs_of c.as_slice-all.result.now) c.args.from c.args.free (lists_of c.args.lists.now) in
-    let is = call_is c.args.e.now c.in-Call.f c.in-Call.args c.as_slice-all.result.now c.in-Call.field-2 c.in-Call.is c.as_slice-all.ensures in
-    let found = sym (c.in-Some-called.ensures ∙ ap (callee_of (program_in c.args.names.now)) c.as_str-in-Call.ensures) in
-    let whole = ap (λ x. emitted (program_in c.args.names.now) (scope_in c.args.scope.now) x c.args.from c.args.into c.args.free (lists_of c.args.lists.now)) is ∙ ap (λ o. called o args c.args.from c.args.into (lists_of c.args.lists.now)) found in
-    passed_on c.lower_all.result c.from_residual-in_err-to-in-Some-called.result c.in_err-to-in-Some-called.field-0.0 _ _ c.lower_all.ensures.fails c.in_err-to-in-Some-called.was c.from_residual-in_err-to-in-Some-called.ensures
-    (call_args (program_in c.args.names.now) (scope_in c.args.scope.now) c.args.from c.args.into c.args.free (lists_of c.args.lists.now) (expr_of c.args.e.now) f args whole)
-
-pub lower_expr-returns-in_ok-to-in-Some-called-clause-fails : goal.lower_expr-returns-in_ok-to-in-Some-called-clause-fails
-lower_expr-returns-in_ok-to-in-Some-called-clause-fails g t c =
-    let f = callee_in c.in-Some-called.f in
-    let args = all_emitted (program_in c.args.names.now) (scope_in c.args.scope.now) (exprs_of c.as_slice-all.result.now) c.args.from c.args.free (lists_of c.args.lists.now) in
-    let is = call_is c.args.e.now c.in-Call.f c.in-Call.args c.as_slice-all.result.now c.in-Call.field-2 c.in-Call.is c.as_slice-all.ensures in
-    let found = sym (c.in-Some-called.ensures ∙ ap (callee_of (program_in c.args.names.now)) c.as_str-in-Call.ensures) in
-    let whole = ap (λ x. emitted (program_in c.args.names.now) (scope_in c.args.scope.now) x c.args.from c.args.into c.args.free (lists_of c.args.lists.now)) is ∙ ap (λ o. called o args c.args.from c.args.into (lists_of c.args.lists.now)) found in
-    subst (λ (z : Lists). IfErr c.put_call.result (λ why. NeedsMore why z.registers))
-    (called_lists f args c.args.from c.args.into (lists_of c.args.lists.now) (lists_of c.lower_all.new.lists) c.new-registers.result.items c.lower_all.new.registers.items c.as_slice.result.now c.in_ok-to-in-Some-called.ensures.lists c.new-registers.ensures.items c.in_ok-to-in-Some-called.ensures.registers c.as_slice.ensures.value
-    ∙ sym (ap (λ (w : Emitted). w.lists) whole))
-    c.put_call.ensures.fails
 
 pub lower_all-returns-in_err-held-clause-fails : goal.lower_all-returns-in_err-held-clause-fails
 lower_all-returns-in_err-held-clause-fails g t c =
@@ -158,75 +94,6 @@ lower_expr-returns-in_ok-i-in-Some-clause-code g t c =
     ∙ sym (ap (λ (w : Emitted). c.args.code.now.items ++ w.code) whole))
     c.put_read_at.ensures.code
 
-pub lower_expr-returns-in_ok-t-in-Logical-clause-code : goal.lower_expr-returns-in_ok-t-in-Logical-clause-code
-lower_expr-returns-in_ok-t-in-Logical-clause-code g t c =
-    let first = condition (program_in c.args.names.now) (scope_in c.args.scope.now) (expr_of c.get-in-Logical.result.now) c.args.from c.args.free (lists_of c.args.lists.now) in
-    let is = logical_is c.args.e.now c.in-Logical.op c.in-Logical.left c.in-Logical.right c.get-in-Logical.result.now c.get-in-Logical-2.result.now c.in-Logical.field-3 c.in-Logical.is c.get-in-Logical.ensures c.get-in-Logical-2.ensures in
-    subst (λ z. OnOk c.put_answers.result (c.put_answers.new.code.items ≡ z))
-    (logical_made first (λ to l. condition (program_in c.args.names.now) (scope_in c.args.scope.now) (expr_of c.get-in-Logical-2.result.now) to c.args.free l) c.in-Logical.op c.new-test.result.items c.lower_first.new.drafts.items c.lower_condition.new.drafts.items c.as_slice-in-Logical.result.now (lists_of c.lower_first.new.lists) c.in_ok-next-in-Logical.next c.in_ok-t-in-Logical.t
-    c.new-test.ensures.items c.in_ok-next-in-Logical.ensures.code c.in_ok-next-in-Logical.ensures.lists c.in_ok-next-in-Logical.ensures.place c.in_ok-t-in-Logical.ensures.code c.as_slice-in-Logical.ensures.value c.in_ok-t-in-Logical.ensures.tested c.args.code.now.items c.args.into
-    ∙ sym (ap (λ x. c.args.code.now.items ++ (emitted (program_in c.args.names.now) (scope_in c.args.scope.now) x c.args.from c.args.into c.args.free (lists_of c.args.lists.now)).code) is))
-    c.put_answers.ensures.code
-
-pub lower_expr-returns-in_err-next-in-Logical-clause-fails : goal.lower_expr-returns-in_err-next-in-Logical-clause-fails
-lower_expr-returns-in_err-next-in-Logical-clause-fails g t c =
-    passed_on c.lower_first.result c.from_residual-in_err-next-in-Logical.result c.in_err-next-in-Logical.field-0.0 _ _ c.lower_first.ensures.fails c.in_err-next-in-Logical.was c.from_residual-in_err-next-in-Logical.ensures
-    (logical_first (program_in c.args.names.now) (scope_in c.args.scope.now) c.args.from c.args.into c.args.free (lists_of c.args.lists.now) (expr_of c.args.e.now) c.in-Logical.op (expr_of c.get-in-Logical.result.now) (expr_of c.in-Logical.right) c.in-Logical.field-3 (logical_is c.args.e.now c.in-Logical.op c.in-Logical.left c.in-Logical.right c.get-in-Logical.result.now c.in-Logical.right c.in-Logical.field-3 c.in-Logical.is c.get-in-Logical.ensures refl))
-
-pub lower_expr-returns-in_ok-b-in-Conditional-clause-code : goal.lower_expr-returns-in_ok-b-in-Conditional-clause-code
-lower_expr-returns-in_ok-b-in-Conditional-clause-code g t c =
-    let test = condition (program_in c.args.names.now) (scope_in c.args.scope.now) (expr_of c.get-in-Conditional.result.now) c.args.from c.args.free (lists_of c.args.lists.now) in
-    let first : ℕ → Lists → Emitted = (λ to l. settled c.args.into (emitted (program_in c.args.names.now) (scope_in c.args.scope.now) (expr_of c.get-in-Conditional-2.result.now) to c.args.into c.args.free l)) in
-    let second : ℕ → Lists → Emitted = (λ to l. settled c.args.into (emitted (program_in c.args.names.now) (scope_in c.args.scope.now) (expr_of c.get-in-Conditional-3.result.now) to c.args.into c.args.free l)) in
-    let is = conditional_is c.args.e.now c.in-Conditional.c c.in-Conditional.left c.in-Conditional.right c.get-in-Conditional.result.now c.get-in-Conditional-2.result.now c.get-in-Conditional-3.result.now c.in-Conditional.field-3 c.in-Conditional.is c.get-in-Conditional.ensures c.get-in-Conditional-2.ensures c.get-in-Conditional-3.ensures in
-    let made = chosen_made test first second c.args.into c.as_slice-in-Conditional.result.now c.lower_settled.new.code.items c.lower_settled-in-Conditional.new.code.items (lists_of c.lower_condition-in-Conditional.new.lists) (lists_of c.lower_settled.new.lists) (lists_of c.lower_settled-in-Conditional.new.lists)
-    c.in_ok-t-in-Conditional.t c.in_ok-a-in-Conditional.a c.in_ok-b-in-Conditional.b c.in_ok-next-in-Conditional.next c.in_ok-other-in-Conditional.other
-    (c.as_slice-in-Conditional.ensures.value ∙ c.in_ok-t-in-Conditional.ensures.code ∙ ap (λ xs. xs ++ test.code) c.new-test-in-Conditional.ensures.items) c.in_ok-t-in-Conditional.ensures.lists c.in_ok-t-in-Conditional.ensures.tested c.in_ok-next-in-Conditional.ensures
-    (record { code = c.in_ok-a-in-Conditional.ensures.code; lists = c.in_ok-a-in-Conditional.ensures.lists; held = c.in_ok-a-in-Conditional.ensures.held }) c.in_ok-other-in-Conditional.ensures
-    (record { code = c.in_ok-b-in-Conditional.ensures.code; lists = c.in_ok-b-in-Conditional.ensures.lists; held = c.in_ok-b-in-Conditional.ensures.held }) c.args.code.now.items c.in_ok-b-in-Conditional.ensures.register in
-    subst (λ z. OnOk c.put_chosen.result (c.put_chosen.new.code.items ≡ z)) (made.code ∙ sym (ap (λ x. c.args.code.now.items ++ (emitted (program_in c.args.names.now) (scope_in c.args.scope.now) x c.args.from c.args.into c.args.free (lists_of c.args.lists.now)).code) is)) c.put_chosen.ensures.code
-
-pub lower_expr-returns-in_ok-b-in-Conditional-clause-lists : goal.lower_expr-returns-in_ok-b-in-Conditional-clause-lists
-lower_expr-returns-in_ok-b-in-Conditional-clause-lists g t c =
-    let test = condition (program_in c.args.names.now) (scope_in c.args.scope.now) (expr_of c.get-in-Conditional.result.now) c.args.from c.args.free (lists_of c.args.lists.now) in
-    let first : ℕ → Lists → Emitted = (λ to l. settled c.args.into (emitted (program_in c.args.names.now) (scope_in c.args.scope.now) (expr_of c.get-in-Conditional-2.result.now) to c.args.into c.args.free l)) in
-    let second : ℕ → Lists → Emitted = (λ to l. settled c.args.into (emitted (program_in c.args.names.now) (scope_in c.args.scope.now) (expr_of c.get-in-Conditional-3.result.now) to c.args.into c.args.free l)) in
-    let is = conditional_is c.args.e.now c.in-Conditional.c c.in-Conditional.left c.in-Conditional.right c.get-in-Conditional.result.now c.get-in-Conditional-2.result.now c.get-in-Conditional-3.result.now c.in-Conditional.field-3 c.in-Conditional.is c.get-in-Conditional.ensures c.get-in-Conditional-2.ensures c.get-in-Conditional-3.ensures in
-    let made = chosen_made test first second c.args.into c.as_slice-in-Conditional.result.now c.lower_settled.new.code.items c.lower_settled-in-Conditional.new.code.items (lists_of c.lower_condition-in-Conditional.new.lists) (lists_of c.lower_settled.new.lists) (lists_of c.lower_settled-in-Conditional.new.lists)
-    c.in_ok-t-in-Conditional.t c.in_ok-a-in-Conditional.a c.in_ok-b-in-Conditional.b c.in_ok-next-in-Conditional.next c.in_ok-other-in-Conditional.other
-    (c.as_slice-in-Conditional.ensures.value ∙ c.in_ok-t-in-Conditional.ensures.code ∙ ap (λ xs. xs ++ test.code) c.new-test-in-Conditional.ensures.items) c.in_ok-t-in-Conditional.ensures.lists c.in_ok-t-in-Conditional.ensures.tested c.in_ok-next-in-Conditional.ensures
-    (record { code = c.in_ok-a-in-Conditional.ensures.code; lists = c.in_ok-a-in-Conditional.ensures.lists; held = c.in_ok-a-in-Conditional.ensures.held }) c.in_ok-other-in-Conditional.ensures
-    (record { code = c.in_ok-b-in-Conditional.ensures.code; lists = c.in_ok-b-in-Conditional.ensures.lists; held = c.in_ok-b-in-Conditional.ensures.held }) c.args.code.now.items c.in_ok-b-in-Conditional.ensures.register in
-    holds c.put_chosen.result (made.lists ∙ sym (ap (λ x. (emitted (program_in c.args.names.now) (scope_in c.args.scope.now) x c.args.from c.args.into c.args.free (lists_of c.args.lists.now)).lists) is))
-
-pub lower_expr-returns-in_ok-b-in-Conditional-clause-held : goal.lower_expr-returns-in_ok-b-in-Conditional-clause-held
-lower_expr-returns-in_ok-b-in-Conditional-clause-held g t c =
-    let test = condition (program_in c.args.names.now) (scope_in c.args.scope.now) (expr_of c.get-in-Conditional.result.now) c.args.from c.args.free (lists_of c.args.lists.now) in
-    let first : ℕ → Lists → Emitted = (λ to l. settled c.args.into (emitted (program_in c.args.names.now) (scope_in c.args.scope.now) (expr_of c.get-in-Conditional-2.result.now) to c.args.into c.args.free l)) in
-    let second : ℕ → Lists → Emitted = (λ to l. settled c.args.into (emitted (program_in c.args.names.now) (scope_in c.args.scope.now) (expr_of c.get-in-Conditional-3.result.now) to c.args.into c.args.free l)) in
-    let is = conditional_is c.args.e.now c.in-Conditional.c c.in-Conditional.left c.in-Conditional.right c.get-in-Conditional.result.now c.get-in-Conditional-2.result.now c.get-in-Conditional-3.result.now c.in-Conditional.field-3 c.in-Conditional.is c.get-in-Conditional.ensures c.get-in-Conditional-2.ensures c.get-in-Conditional-3.ensures in
-    let made = chosen_made test first second c.args.into c.as_slice-in-Conditional.result.now c.lower_settled.new.code.items c.lower_settled-in-Conditional.new.code.items (lists_of c.lower_condition-in-Conditional.new.lists) (lists_of c.lower_settled.new.lists) (lists_of c.lower_settled-in-Conditional.new.lists)
-    c.in_ok-t-in-Conditional.t c.in_ok-a-in-Conditional.a c.in_ok-b-in-Conditional.b c.in_ok-next-in-Conditional.next c.in_ok-other-in-Conditional.other
-    (c.as_slice-in-Conditional.ensures.value ∙ c.in_ok-t-in-Conditional.ensures.code ∙ ap (λ xs. xs ++ test.code) c.new-test-in-Conditional.ensures.items) c.in_ok-t-in-Conditional.ensures.lists c.in_ok-t-in-Conditional.ensures.tested c.in_ok-next-in-Conditional.ensures
-    (record { code = c.in_ok-a-in-Conditional.ensures.code; lists = c.in_ok-a-in-Conditional.ensures.lists; held = c.in_ok-a-in-Conditional.ensures.held }) c.in_ok-other-in-Conditional.ensures
-    (record { code = c.in_ok-b-in-Conditional.ensures.code; lists = c.in_ok-b-in-Conditional.ensures.lists; held = c.in_ok-b-in-Conditional.ensures.held }) c.args.code.now.items c.in_ok-b-in-Conditional.ensures.register in
-    subst (λ z. IfOk c.put_chosen.result (λ held. held ≡ z)) (made.held ∙ sym (ap (λ x. (emitted (program_in c.args.names.now) (scope_in c.args.scope.now) x c.args.from c.args.into c.args.free (lists_of c.args.lists.now)).held) is)) c.put_chosen.ensures.held
-
-pub lower_expr-returns-in_err-t-in-Conditional-clause-fails : goal.lower_expr-returns-in_err-t-in-Conditional-clause-fails
-lower_expr-returns-in_err-t-in-Conditional-clause-fails g t c =
-    passed_on c.lower_condition-in-Conditional.result c.from_residual-in_err-t-in-Conditional.result c.in_err-t-in-Conditional.field-0.0 _ _ c.lower_condition-in-Conditional.ensures.fails c.in_err-t-in-Conditional.was c.from_residual-in_err-t-in-Conditional.ensures
-    (conditional_first (program_in c.args.names.now) (scope_in c.args.scope.now) c.args.from c.args.into c.args.free (lists_of c.args.lists.now) (expr_of c.args.e.now) (expr_of c.get-in-Conditional.result.now) (expr_of c.in-Conditional.left) (expr_of c.in-Conditional.right) c.in-Conditional.field-3 (conditional_is c.args.e.now c.in-Conditional.c c.in-Conditional.left c.in-Conditional.right c.get-in-Conditional.result.now c.in-Conditional.left c.in-Conditional.right c.in-Conditional.field-3 c.in-Conditional.is c.get-in-Conditional.ensures refl refl))
-
-pub lower_expr-returns-in_err-a-in-Conditional-clause-fails : goal.lower_expr-returns-in_err-a-in-Conditional-clause-fails
-lower_expr-returns-in_err-a-in-Conditional-clause-fails g t c =
-    passed_on c.lower_settled.result c.from_residual-in_err-a-in-Conditional.result c.in_err-a-in-Conditional.field-0.0 _ _ c.lower_settled.ensures.fails c.in_err-a-in-Conditional.was c.from_residual-in_err-a-in-Conditional.ensures
-    (conditional_second (program_in c.args.names.now) (scope_in c.args.scope.now) c.args.from c.args.into c.args.free (lists_of c.args.lists.now) (expr_of c.args.e.now) (expr_of c.get-in-Conditional.result.now) (expr_of c.get-in-Conditional-2.result.now) (expr_of c.in-Conditional.right) c.in-Conditional.field-3 (conditional_is c.args.e.now c.in-Conditional.c c.in-Conditional.left c.in-Conditional.right c.get-in-Conditional.result.now c.get-in-Conditional-2.result.now c.in-Conditional.right c.in-Conditional.field-3 c.in-Conditional.is c.get-in-Conditional.ensures c.get-in-Conditional-2.ensures refl) (lists_of c.lower_condition-in-Conditional.new.lists) c.in_ok-t-in-Conditional.t c.in_ok-next-in-Conditional.next c.in_ok-t-in-Conditional.ensures.lists c.in_ok-t-in-Conditional.ensures.tested c.in_ok-next-in-Conditional.ensures)
-
-pub lower_expr-returns-in_err-b-in-Conditional-clause-fails : goal.lower_expr-returns-in_err-b-in-Conditional-clause-fails
-lower_expr-returns-in_err-b-in-Conditional-clause-fails g t c =
-    passed_on c.lower_settled-in-Conditional.result c.from_residual-in_err-b-in-Conditional.result c.in_err-b-in-Conditional.field-0.0 _ _ c.lower_settled-in-Conditional.ensures.fails c.in_err-b-in-Conditional.was c.from_residual-in_err-b-in-Conditional.ensures
-    (conditional_third (program_in c.args.names.now) (scope_in c.args.scope.now) c.args.from c.args.into c.args.free (lists_of c.args.lists.now) (expr_of c.args.e.now) (expr_of c.get-in-Conditional.result.now) (expr_of c.get-in-Conditional-2.result.now) (expr_of c.get-in-Conditional-3.result.now) c.in-Conditional.field-3 (conditional_is c.args.e.now c.in-Conditional.c c.in-Conditional.left c.in-Conditional.right c.get-in-Conditional.result.now c.get-in-Conditional-2.result.now c.get-in-Conditional-3.result.now c.in-Conditional.field-3 c.in-Conditional.is c.get-in-Conditional.ensures c.get-in-Conditional-2.ensures c.get-in-Conditional-3.ensures) (lists_of c.lower_condition-in-Conditional.new.lists) c.in_ok-t-in-Conditional.t c.in_ok-next-in-Conditional.next c.in_ok-t-in-Conditional.ensures.lists c.in_ok-t-in-Conditional.ensures.tested c.in_ok-next-in-Conditional.ensures (lists_of c.lower_settled.new.lists) c.in_ok-a-in-Conditional.a c.in_ok-other-in-Conditional.other c.in_ok-a-in-Conditional.ensures.lists c.in_ok-a-in-Conditional.ensures.held c.in_ok-other-in-Conditional.ensures)
-
 pub lower_condition-returns-in_err-next-in-Logical-clause-fails : goal.lower_condition-returns-in_err-next-in-Logical-clause-fails
 lower_condition-returns-in_err-next-in-Logical-clause-fails g t c =
     passed_on c.lower_first.result c.from_residual.result c.in_err-next-in-Logical.field-0.0 _ _ c.lower_first.ensures.fails c.in_err-next-in-Logical.was c.from_residual.ensures
@@ -241,3 +108,158 @@ lower_condition-returns-in_ok-next-in-Logical-clause-code g t c =
     (second_behind first second c.in-Logical.op c.args.drafts.now.items c.lower_first.new.drafts.items (lists_of c.lower_first.new.lists) c.in_ok-next-in-Logical.next c.in_ok-next-in-Logical.ensures.code c.in_ok-next-in-Logical.ensures.lists c.in_ok-next-in-Logical.ensures.place
     ∙ sym (ap (λ x. c.args.drafts.now.items ++ (condition (program_in c.args.names.now) (scope_in c.args.scope.now) x c.args.from c.args.free (lists_of c.args.lists.now)).code) is))
     c.lower_condition-in-Logical.ensures.code
+
+pub lower_expr-returns-in-Some-called-clause-code : goal.lower_expr-returns-in-Some-called-clause-code
+lower_expr-returns-in-Some-called-clause-code g t c =
+    let args = all_emitted (program_in c.args.names.now) (scope_in c.args.scope.now) (exprs_of c.as_slice-all.result.now) c.args.from c.args.free (lists_of c.args.lists.now) in
+    let is = call_is c.args.e.now c.in-Call.f c.in-Call.args c.as_slice-all.result.now c.in-Call.field-2 c.in-Call.is c.as_slice-all.ensures in
+    let found = sym (c.in-Some-called.ensures ∙ ap (callee_of (program_in c.args.names.now)) c.as_str-in-Call.ensures) in
+    let whole = ap (λ x. emitted (program_in c.args.names.now) (scope_in c.args.scope.now) x c.args.from c.args.into c.args.free (lists_of c.args.lists.now)) is ∙ ap (λ o. called o args c.args.from c.args.into (lists_of c.args.lists.now)) found in
+    subst (λ (w : Emitted). OnOk c.lower_call.result (c.lower_call.new.code.items ≡ c.args.code.now.items ++ w.code)) (sym whole) c.lower_call.ensures.code
+
+pub lower_expr-returns-in-Some-called-clause-lists : goal.lower_expr-returns-in-Some-called-clause-lists
+lower_expr-returns-in-Some-called-clause-lists g t c =
+    let args = all_emitted (program_in c.args.names.now) (scope_in c.args.scope.now) (exprs_of c.as_slice-all.result.now) c.args.from c.args.free (lists_of c.args.lists.now) in
+    let is = call_is c.args.e.now c.in-Call.f c.in-Call.args c.as_slice-all.result.now c.in-Call.field-2 c.in-Call.is c.as_slice-all.ensures in
+    let found = sym (c.in-Some-called.ensures ∙ ap (callee_of (program_in c.args.names.now)) c.as_str-in-Call.ensures) in
+    let whole = ap (λ x. emitted (program_in c.args.names.now) (scope_in c.args.scope.now) x c.args.from c.args.into c.args.free (lists_of c.args.lists.now)) is ∙ ap (λ o. called o args c.args.from c.args.into (lists_of c.args.lists.now)) found in
+    subst (λ (w : Emitted). OnOk c.lower_call.result (lists_of c.lower_call.new.lists ≡ w.lists)) (sym whole) c.lower_call.ensures.lists
+
+pub lower_expr-returns-in-Some-called-clause-held : goal.lower_expr-returns-in-Some-called-clause-held
+lower_expr-returns-in-Some-called-clause-held g t c =
+    let args = all_emitted (program_in c.args.names.now) (scope_in c.args.scope.now) (exprs_of c.as_slice-all.result.now) c.args.from c.args.free (lists_of c.args.lists.now) in
+    let is = call_is c.args.e.now c.in-Call.f c.in-Call.args c.as_slice-all.result.now c.in-Call.field-2 c.in-Call.is c.as_slice-all.ensures in
+    let found = sym (c.in-Some-called.ensures ∙ ap (callee_of (program_in c.args.names.now)) c.as_str-in-Call.ensures) in
+    let whole = ap (λ x. emitted (program_in c.args.names.now) (scope_in c.args.scope.now) x c.args.from c.args.into c.args.free (lists_of c.args.lists.now)) is ∙ ap (λ o. called o args c.args.from c.args.into (lists_of c.args.lists.now)) found in
+    subst (λ (w : Emitted). IfOk c.lower_call.result (λ held. held ≡ w.held)) (sym whole) c.lower_call.ensures.held
+
+pub lower_expr-returns-in-Some-called-clause-fails : goal.lower_expr-returns-in-Some-called-clause-fails
+lower_expr-returns-in-Some-called-clause-fails g t c =
+    let args = all_emitted (program_in c.args.names.now) (scope_in c.args.scope.now) (exprs_of c.as_slice-all.result.now) c.args.from c.args.free (lists_of c.args.lists.now) in
+    let is = call_is c.args.e.now c.in-Call.f c.in-Call.args c.as_slice-all.result.now c.in-Call.field-2 c.in-Call.is c.as_slice-all.ensures in
+    let found = sym (c.in-Some-called.ensures ∙ ap (callee_of (program_in c.args.names.now)) c.as_str-in-Call.ensures) in
+    let whole = ap (λ x. emitted (program_in c.args.names.now) (scope_in c.args.scope.now) x c.args.from c.args.into c.args.free (lists_of c.args.lists.now)) is ∙ ap (λ o. called o args c.args.from c.args.into (lists_of c.args.lists.now)) found in
+    subst (λ (w : Emitted). IfErr c.lower_call.result (λ why. NeedsMore why w.lists.registers)) (sym whole) c.lower_call.ensures.fails
+
+pub lower_call-returns-clause-code : goal.lower_call-returns-clause-code
+lower_call-returns-clause-code g t c =
+    subst (λ z. OnOk c.put_call.result (c.put_call.new.code.items ≡ z))
+    (called_code (callee_in c.args.f) (all_emitted (program_in c.args.names.now) (scope_in c.args.scope.now) (exprs_of c.args.all.now) c.args.from c.args.free (lists_of c.args.lists.now)) c.args.from c.args.into (lists_of c.args.lists.now) (lists_of c.lower_all.new.lists) c.args.registers.now.items c.lower_all.new.registers.items c.as_slice.result.now c.in_ok-to.ensures.lists c.requires c.in_ok-to.ensures.registers c.as_slice.ensures.value c.args.code.now.items c.lower_all.new.code.items c.in_ok-to.ensures.code)
+    c.put_call.ensures.code
+
+pub lower_call-returns-clause-lists : goal.lower_call-returns-clause-lists
+lower_call-returns-clause-lists g t c =
+    subst (λ z. OnOk c.put_call.result (lists_of c.put_call.new.lists ≡ z))
+    (called_lists (callee_in c.args.f) (all_emitted (program_in c.args.names.now) (scope_in c.args.scope.now) (exprs_of c.args.all.now) c.args.from c.args.free (lists_of c.args.lists.now)) c.args.from c.args.into (lists_of c.args.lists.now) (lists_of c.lower_all.new.lists) c.args.registers.now.items c.lower_all.new.registers.items c.as_slice.result.now c.in_ok-to.ensures.lists c.requires c.in_ok-to.ensures.registers c.as_slice.ensures.value)
+    c.put_call.ensures.lists
+
+pub lower_call-returns-clause-held : goal.lower_call-returns-clause-held
+lower_call-returns-clause-held g t c =
+    subst (λ z. IfOk c.put_call.result (λ held. held ≡ z))
+    (called_held (callee_in c.args.f) (all_emitted (program_in c.args.names.now) (scope_in c.args.scope.now) (exprs_of c.args.all.now) c.args.from c.args.free (lists_of c.args.lists.now)) c.args.from c.args.into (lists_of c.args.lists.now) (lists_of c.lower_all.new.lists) c.args.registers.now.items c.lower_all.new.registers.items c.as_slice.result.now c.in_ok-to.ensures.lists c.requires c.in_ok-to.ensures.registers c.as_slice.ensures.value c.in_ok-to.to c.in_ok-to.ensures.place)
+    c.put_call.ensures.held
+
+pub lower_call-returns-clause-fails : goal.lower_call-returns-clause-fails
+lower_call-returns-clause-fails g t c =
+    subst (λ (z : Lists). IfErr c.put_call.result (λ why. NeedsMore why z.registers))
+    (called_lists (callee_in c.args.f) (all_emitted (program_in c.args.names.now) (scope_in c.args.scope.now) (exprs_of c.args.all.now) c.args.from c.args.free (lists_of c.args.lists.now)) c.args.from c.args.into (lists_of c.args.lists.now) (lists_of c.lower_all.new.lists) c.args.registers.now.items c.lower_all.new.registers.items c.as_slice.result.now c.in_ok-to.ensures.lists c.requires c.in_ok-to.ensures.registers c.as_slice.ensures.value)
+    c.put_call.ensures.fails
+
+pub lower_call-returns-in_err-to-clause-fails : goal.lower_call-returns-in_err-to-clause-fails
+lower_call-returns-in_err-to-clause-fails g t c =
+    passed_on c.lower_all.result c.from_residual.result c.in_err-to.field-0.0 _ _ c.lower_all.ensures.fails c.in_err-to.was c.from_residual.ensures
+    (call_args (program_in c.args.names.now) (scope_in c.args.scope.now) c.args.from c.args.into c.args.free (lists_of c.args.lists.now) (callee_in c.args.f) (all_emitted (program_in c.args.names.now) (scope_in c.args.scope.now) (exprs_of c.args.all.now) c.args.from c.args.free (lists_of c.args.lists.now)))
+
+pub lower_logical-returns-clause-code : goal.lower_logical-returns-clause-code
+lower_logical-returns-clause-code g t c =
+    subst (λ z. OnOk c.put_answers.result (c.put_answers.new.code.items ≡ z))
+    (logical_made (condition (program_in c.args.names.now) (scope_in c.args.scope.now) (expr_of c.args.left.now) c.args.from c.args.free (lists_of c.args.lists.now)) (λ to l. condition (program_in c.args.names.now) (scope_in c.args.scope.now) (expr_of c.args.right.now) to c.args.free l) c.args.op c.args.test.now.items c.lower_first.new.drafts.items c.lower_condition.new.drafts.items c.as_slice.result.now (lists_of c.lower_first.new.lists) c.in_ok-next.next c.in_ok-t.t
+    c.requires.test c.in_ok-next.ensures.code c.in_ok-next.ensures.lists c.in_ok-next.ensures.place c.in_ok-t.ensures.code c.as_slice.ensures.value c.in_ok-t.ensures.tested c.args.code.now.items c.args.into)
+    c.put_answers.ensures.code
+
+pub lower_logical-returns-in_err-next-clause-fails : goal.lower_logical-returns-in_err-next-clause-fails
+lower_logical-returns-in_err-next-clause-fails g t c =
+    passed_on c.lower_first.result c.from_residual.result c.in_err-next.field-0.0 _ _ c.lower_first.ensures.fails c.in_err-next.was c.from_residual.ensures
+    (logical_first (program_in c.args.names.now) (scope_in c.args.scope.now) c.args.from c.args.into c.args.free (lists_of c.args.lists.now) c.args.op (expr_of c.args.left.now) (expr_of c.args.right.now))
+
+pub lower_conditional-returns-clause-code : goal.lower_conditional-returns-clause-code
+lower_conditional-returns-clause-code g t c =
+    let test = condition (program_in c.args.names.now) (scope_in c.args.scope.now) (expr_of c.args.c.now) c.args.from c.args.free (lists_of c.args.lists.now) in
+    let first : ℕ → Lists → Emitted = (λ to l. settled c.args.into (emitted (program_in c.args.names.now) (scope_in c.args.scope.now) (expr_of c.args.left.now) to c.args.into c.args.free l)) in
+    let second : ℕ → Lists → Emitted = (λ to l. settled c.args.into (emitted (program_in c.args.names.now) (scope_in c.args.scope.now) (expr_of c.args.right.now) to c.args.into c.args.free l)) in
+    let made = chosen_made test first second c.args.into c.as_slice.result.now c.lower_settled.new.code.items c.lower_settled-2.new.code.items (lists_of c.lower_condition.new.lists) (lists_of c.lower_settled.new.lists) (lists_of c.lower_settled-2.new.lists)
+    c.in_ok-t.t c.in_ok-a.a c.in_ok-b.b c.in_ok-next.next c.in_ok-other.other
+    (c.as_slice.ensures.value ∙ c.in_ok-t.ensures.code ∙ ap (λ xs. xs ++ test.code) c.requires.test) c.in_ok-t.ensures.lists c.in_ok-t.ensures.tested c.in_ok-next.ensures
+    (record { code = c.in_ok-a.ensures.code; lists = c.in_ok-a.ensures.lists; held = c.in_ok-a.ensures.held }) c.in_ok-other.ensures
+    (record { code = c.in_ok-b.ensures.code; lists = c.in_ok-b.ensures.lists; held = c.in_ok-b.ensures.held }) c.args.code.now.items c.in_ok-b.ensures.register in
+    subst (λ z. OnOk c.put_chosen.result (c.put_chosen.new.code.items ≡ z)) made.code c.put_chosen.ensures.code
+
+pub lower_conditional-returns-clause-lists : goal.lower_conditional-returns-clause-lists
+lower_conditional-returns-clause-lists g t c =
+    let test = condition (program_in c.args.names.now) (scope_in c.args.scope.now) (expr_of c.args.c.now) c.args.from c.args.free (lists_of c.args.lists.now) in
+    let first : ℕ → Lists → Emitted = (λ to l. settled c.args.into (emitted (program_in c.args.names.now) (scope_in c.args.scope.now) (expr_of c.args.left.now) to c.args.into c.args.free l)) in
+    let second : ℕ → Lists → Emitted = (λ to l. settled c.args.into (emitted (program_in c.args.names.now) (scope_in c.args.scope.now) (expr_of c.args.right.now) to c.args.into c.args.free l)) in
+    let made = chosen_made test first second c.args.into c.as_slice.result.now c.lower_settled.new.code.items c.lower_settled-2.new.code.items (lists_of c.lower_condition.new.lists) (lists_of c.lower_settled.new.lists) (lists_of c.lower_settled-2.new.lists)
+    c.in_ok-t.t c.in_ok-a.a c.in_ok-b.b c.in_ok-next.next c.in_ok-other.other
+    (c.as_slice.ensures.value ∙ c.in_ok-t.ensures.code ∙ ap (λ xs. xs ++ test.code) c.requires.test) c.in_ok-t.ensures.lists c.in_ok-t.ensures.tested c.in_ok-next.ensures
+    (record { code = c.in_ok-a.ensures.code; lists = c.in_ok-a.ensures.lists; held = c.in_ok-a.ensures.held }) c.in_ok-other.ensures
+    (record { code = c.in_ok-b.ensures.code; lists = c.in_ok-b.ensures.lists; held = c.in_ok-b.ensures.held }) c.args.code.now.items c.in_ok-b.ensures.register in
+    holds c.put_chosen.result made.lists
+
+pub lower_conditional-returns-clause-held : goal.lower_conditional-returns-clause-held
+lower_conditional-returns-clause-held g t c =
+    let test = condition (program_in c.args.names.now) (scope_in c.args.scope.now) (expr_of c.args.c.now) c.args.from c.args.free (lists_of c.args.lists.now) in
+    let first : ℕ → Lists → Emitted = (λ to l. settled c.args.into (emitted (program_in c.args.names.now) (scope_in c.args.scope.now) (expr_of c.args.left.now) to c.args.into c.args.free l)) in
+    let second : ℕ → Lists → Emitted = (λ to l. settled c.args.into (emitted (program_in c.args.names.now) (scope_in c.args.scope.now) (expr_of c.args.right.now) to c.args.into c.args.free l)) in
+    let made = chosen_made test first second c.args.into c.as_slice.result.now c.lower_settled.new.code.items c.lower_settled-2.new.code.items (lists_of c.lower_condition.new.lists) (lists_of c.lower_settled.new.lists) (lists_of c.lower_settled-2.new.lists)
+    c.in_ok-t.t c.in_ok-a.a c.in_ok-b.b c.in_ok-next.next c.in_ok-other.other
+    (c.as_slice.ensures.value ∙ c.in_ok-t.ensures.code ∙ ap (λ xs. xs ++ test.code) c.requires.test) c.in_ok-t.ensures.lists c.in_ok-t.ensures.tested c.in_ok-next.ensures
+    (record { code = c.in_ok-a.ensures.code; lists = c.in_ok-a.ensures.lists; held = c.in_ok-a.ensures.held }) c.in_ok-other.ensures
+    (record { code = c.in_ok-b.ensures.code; lists = c.in_ok-b.ensures.lists; held = c.in_ok-b.ensures.held }) c.args.code.now.items c.in_ok-b.ensures.register in
+    subst (λ z. IfOk c.put_chosen.result (λ held. held ≡ z)) made.held c.put_chosen.ensures.held
+
+pub lower_conditional-returns-in_err-t-clause-fails : goal.lower_conditional-returns-in_err-t-clause-fails
+lower_conditional-returns-in_err-t-clause-fails g t c =
+    passed_on c.lower_condition.result c.from_residual.result c.in_err-t.field-0.0 _ _ c.lower_condition.ensures.fails c.in_err-t.was c.from_residual.ensures
+    (conditional_first (program_in c.args.names.now) (scope_in c.args.scope.now) c.args.from c.args.into c.args.free (lists_of c.args.lists.now) (expr_of c.args.c.now) (expr_of c.args.left.now) (expr_of c.args.right.now))
+
+pub lower_conditional-returns-in_err-a-clause-fails : goal.lower_conditional-returns-in_err-a-clause-fails
+lower_conditional-returns-in_err-a-clause-fails g t c =
+    passed_on c.lower_settled.result c.from_residual-in_err-a.result c.in_err-a.field-0.0 _ _ c.lower_settled.ensures.fails c.in_err-a.was c.from_residual-in_err-a.ensures
+    (conditional_second (program_in c.args.names.now) (scope_in c.args.scope.now) c.args.from c.args.into c.args.free (lists_of c.args.lists.now) (expr_of c.args.c.now) (expr_of c.args.left.now) (expr_of c.args.right.now) (lists_of c.lower_condition.new.lists) c.in_ok-t.t c.in_ok-next.next c.in_ok-t.ensures.lists c.in_ok-t.ensures.tested c.in_ok-next.ensures)
+
+pub lower_conditional-returns-in_err-b-clause-fails : goal.lower_conditional-returns-in_err-b-clause-fails
+lower_conditional-returns-in_err-b-clause-fails g t c =
+    passed_on c.lower_settled-2.result c.from_residual-in_err-b.result c.in_err-b.field-0.0 _ _ c.lower_settled-2.ensures.fails c.in_err-b.was c.from_residual-in_err-b.ensures
+    (conditional_third (program_in c.args.names.now) (scope_in c.args.scope.now) c.args.from c.args.into c.args.free (lists_of c.args.lists.now) (expr_of c.args.c.now) (expr_of c.args.left.now) (expr_of c.args.right.now) (lists_of c.lower_condition.new.lists) c.in_ok-t.t c.in_ok-next.next c.in_ok-t.ensures.lists c.in_ok-t.ensures.tested c.in_ok-next.ensures (lists_of c.lower_settled.new.lists) c.in_ok-a.a c.in_ok-other.other c.in_ok-a.ensures.lists c.in_ok-a.ensures.held c.in_ok-other.ensures)
+
+pub lower_expr-lower_call-requires : goal.lower_expr-lower_call-requires
+lower_expr-lower_call-requires g t c κs within =
+    let size = simp the_lemmas at (ap (the_size g.row.A g.A.Allocator g.A.laws) c.in-Call.is) in
+    let here = ap (most (the_size g.row.A g.A.Allocator g.A.laws)) c.as_slice-all.ensures in
+    (omega (arith, size, here, c.decreases), (within, c.new-registers.ensures.items))
+
+pub lower_expr-returns-in-Logical-clause-code : goal.lower_expr-returns-in-Logical-clause-code
+lower_expr-returns-in-Logical-clause-code g t c =
+    let is = logical_is c.args.e.now c.in-Logical.op c.in-Logical.left c.in-Logical.right c.get-in-Logical.result.now c.get-in-Logical-2.result.now c.in-Logical.at c.in-Logical.is c.get-in-Logical.ensures c.get-in-Logical-2.ensures in
+    subst (λ x. OnOk c.lower_logical.result (c.lower_logical.new.code.items ≡ c.args.code.now.items ++ (emitted (program_in c.args.names.now) (scope_in c.args.scope.now) x c.args.from c.args.into c.args.free (lists_of c.args.lists.now)).code)) (sym is) c.lower_logical.ensures.code
+
+pub lower_expr-returns-in-Conditional-clause-code : goal.lower_expr-returns-in-Conditional-clause-code
+lower_expr-returns-in-Conditional-clause-code g t c =
+    let is = conditional_is c.args.e.now c.in-Conditional.c c.in-Conditional.left c.in-Conditional.right c.get-in-Conditional.result.now c.get-in-Conditional-2.result.now c.get-in-Conditional-3.result.now c.in-Conditional.at c.in-Conditional.is c.get-in-Conditional.ensures c.get-in-Conditional-2.ensures c.get-in-Conditional-3.ensures in
+    subst (λ x. OnOk c.lower_conditional.result (c.lower_conditional.new.code.items ≡ c.args.code.now.items ++ (emitted (program_in c.args.names.now) (scope_in c.args.scope.now) x c.args.from c.args.into c.args.free (lists_of c.args.lists.now)).code)) (sym is) c.lower_conditional.ensures.code
+
+pub lower_expr-returns-in-Conditional-clause-lists : goal.lower_expr-returns-in-Conditional-clause-lists
+lower_expr-returns-in-Conditional-clause-lists g t c =
+    let is = conditional_is c.args.e.now c.in-Conditional.c c.in-Conditional.left c.in-Conditional.right c.get-in-Conditional.result.now c.get-in-Conditional-2.result.now c.get-in-Conditional-3.result.now c.in-Conditional.at c.in-Conditional.is c.get-in-Conditional.ensures c.get-in-Conditional-2.ensures c.get-in-Conditional-3.ensures in
+    subst (λ x. OnOk c.lower_conditional.result (lists_of c.lower_conditional.new.lists ≡ (emitted (program_in c.args.names.now) (scope_in c.args.scope.now) x c.args.from c.args.into c.args.free (lists_of c.args.lists.now)).lists)) (sym is) c.lower_conditional.ensures.lists
+
+pub lower_expr-returns-in-Conditional-clause-held : goal.lower_expr-returns-in-Conditional-clause-held
+lower_expr-returns-in-Conditional-clause-held g t c =
+    let is = conditional_is c.args.e.now c.in-Conditional.c c.in-Conditional.left c.in-Conditional.right c.get-in-Conditional.result.now c.get-in-Conditional-2.result.now c.get-in-Conditional-3.result.now c.in-Conditional.at c.in-Conditional.is c.get-in-Conditional.ensures c.get-in-Conditional-2.ensures c.get-in-Conditional-3.ensures in
+    subst (λ x. IfOk c.lower_conditional.result (λ held. held ≡ (emitted (program_in c.args.names.now) (scope_in c.args.scope.now) x c.args.from c.args.into c.args.free (lists_of c.args.lists.now)).held)) (sym is) c.lower_conditional.ensures.held
+
+pub lower_expr-returns-in-Conditional-clause-fails : goal.lower_expr-returns-in-Conditional-clause-fails
+lower_expr-returns-in-Conditional-clause-fails g t c =
+    let is = conditional_is c.args.e.now c.in-Conditional.c c.in-Conditional.left c.in-Conditional.right c.get-in-Conditional.result.now c.get-in-Conditional-2.result.now c.get-in-Conditional-3.result.now c.in-Conditional.at c.in-Conditional.is c.get-in-Conditional.ensures c.get-in-Conditional-2.ensures c.get-in-Conditional-3.ensures in
+    subst (λ x. IfErr c.lower_conditional.result (λ why. NeedsMore why (emitted (program_in c.args.names.now) (scope_in c.args.scope.now) x c.args.from c.args.into c.args.free (lists_of c.args.lists.now)).lists.registers)) (sym is) c.lower_conditional.ensures.fails
