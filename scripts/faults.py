@@ -31,7 +31,7 @@ def plain(text):
 
 def tested(code, name):
     """The rows of a table of the tests: source, number, what is told behind the number."""
-    found = re.search(rf"const {name}: .*?= \[(.*?)\];\n", code, re.S)
+    found = re.search(rf"static {name}: .*?= \[(.*?)\];\n", code, re.S)
     if not found:
         return []
     if not name.startswith("LONG"):

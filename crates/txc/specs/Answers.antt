@@ -9,11 +9,13 @@ use Rattle.txc.specs.Replays.{PrintsSchedule, PrintsTimeline, Replays, ReplaysSh
 
 -- a task with a text: the bytes that the writer had, if they are known, and those that it has then; a replay may have a
 -- schedule, whose bytes may be known
-abbrev pub Answers : Task → (schedule : Option (List ℕ)) → (text : List ℕ) → (status : ℕ) → (old new : Option (List ℕ)) → Type 0
+abbrev pub Answers : Task → (schedule : Option (List ℕ)) → (text : List ℕ) → (status : ℕ) →
+    (old new : Option (List ℕ)) → Type 0
 Answers Check schedule text status old new = SaysAccepted text status old new
 Answers Listing schedule text status old new = PrintsListing text status old new
 Answers (Run threads budget) schedule text status old new = Prints (RunsAtOnce threads budget text) status old new
-Answers (Replay threads steps) schedule text status old new = Prints (Replays threads steps schedule text) status old new
+Answers (Replay threads steps) schedule text status old new =
+    Prints (Replays threads steps schedule text) status old new
 Answers (Timeline threads steps) schedule text status old new =
     PrintsTimeline (ReplaysShown threads steps schedule text) status old new
 Answers (PrintSchedule threads seed count) schedule text status old new =
@@ -22,6 +24,7 @@ Answers (Source threads order ticks) schedule text status old new =
     Prints (RunsInOrder threads ticks order.items text) status old new
 
 -- a request, where these bytes are those of the file
-abbrev pub AnswersRequest : Request → (schedule : Option (List ℕ)) → (bytes : List ℕ) → (status : ℕ) → (old new : Option (List ℕ)) → Type 0
+abbrev pub AnswersRequest : Request → (schedule : Option (List ℕ)) → (bytes : List ℕ) → (status : ℕ) →
+    (old new : Option (List ℕ)) → Type 0
 AnswersRequest (Program file verbose task) schedule bytes status old new = Answers task schedule bytes status old new
 AnswersRequest (Explain number) schedule bytes status old new = Unit {0}

@@ -41,8 +41,8 @@ abbrev pub AreLinesOf : Steps → (threads : ℕ) → (schedule : Option (List �
 AreLinesOf (Schedule file) threads schedule found = IsSchedule schedule found
 AreLinesOf (Seed seed count) threads schedule found = found ≡ lines_of_seed seed threads count
 
--- What a report shows of a replay: of the steps that the lines name, at most 1,048,576, these were made, up to the first
--- that could not be; these are explained by runs of the program; and the report shows the world that they lead to.
+-- What a report shows of a replay: of the steps that the lines name, at most 1,048,576, these were made, up to the
+-- first that could not be; these are explained by runs of the program; and the report shows the world that they lead to.
 pub record IsReplayOf (p : Program) (code : Code) (threads : ℕ) (found : List Line) (made : List ℕ)
     (stopped : Option WorldStop) (shown : Printed) : Type 0 where
   pub rest : List ℕ
@@ -54,10 +54,12 @@ pub record IsReplayOf (p : Program) (code : Code) (threads : ℕ) (found : List 
   pub shows : shown ≡ world_shown p stop shown.holder (played code threads made)
   pub stopped_is : stopped ≡ stop_with stop (played code threads made)
 
--- the status 0 tells of a text that spells an accepted program with code, and that a schedule of these lines was written
+-- the status 0 tells of a text that spells an accepted program with code, and that a schedule of these lines was
+-- written
 abbrev pub PrintsSchedule : List Line → (text : List ℕ) → (status : ℕ) → (old new : Option (List ℕ)) → Type 0
 PrintsSchedule found text status old new =
-    status ≡ 0 → (written : List ℕ) × (code : Code) × Compiles text code × AreLines (lines written) found × Appends old new written
+    status ≡ 0 → (written : List ℕ) × (code : Code) × Compiles text code × AreLines (lines written) found
+    × Appends old new written
 
 -- the text spells an accepted program, and this is what the report of a replay of its code shows
 pub record IsReplayOfText (threads : ℕ) (steps : Steps) (schedule : Option (List ℕ)) (text : List ℕ) (code : Code)

@@ -92,9 +92,9 @@ pub record Lists (text listed : List ℕ) : Type 0 where
   pub compiled : Compiles text code
   pub lists : listed ≡ listing code
 
--- What a report shows of the thread of this number: its text and its end in the world that the run led to. So many steps
--- of its own have led it there. What stopped its loop is why no further step was made; where nothing did, it is over, or
--- all steps of its budget are made.
+-- What a report shows of the thread of this number: its text and its end in the world that the run led to. So many
+-- steps of its own have led it there. What stopped its loop is why no further step was made; where nothing did, it is
+-- over, or all steps of its budget are made.
 pub record IsThreadAtOnce (code : Code) (w : World Configuration) (budget n : ℕ) (shown : ThreadShown) : Type 0 where
   pub part : Part Configuration
   pub there : slice_get w.parts n ≡ Some part

@@ -117,8 +117,10 @@ at_once_shown p threads r = record {
 abbrev pub thread_found : WorldEnd × List ℕ → ThreadShown
 thread_found found = record { end = end_after_replay found.0; text = found.1 }
 
--- a replay: what happened in its steps, how each thread is found and what it has printed, the words, and who has the lock
-abbrev pub replay_shown : Program → List (ℕ × ℕ × Event) → List (WorldEnd × List ℕ) → Memory → (holder : Option ℕ) → Printed
+-- a replay: what happened in its steps, how each thread is found and what it has printed, the words, and who has the
+-- lock
+abbrev pub replay_shown : Program → List (ℕ × ℕ × Event) → List (WorldEnd × List ℕ) → Memory → (holder : Option ℕ) →
+    Printed
 replay_shown p events found words holder = record {
   events = Some events;
   threads = map thread_found found;

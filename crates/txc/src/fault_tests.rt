@@ -8,135 +8,142 @@ use std::sync::Wait;
 use std::test::Fail;
 use std::thread::Threads;
 
-/// The faults that a program can show today.
-const TOLD: [(&str, u32, &str); 27] = [
-    ("int x$;", 1, "1:6: bad character"),
-    ("int x = 2147483648;", 2, "1:9: constant too large"),
-    ("void worker(int self) { } /* end", 3, "1:27: open comment"),
-    ("void worker(int self) { printf(\"a", 4, "1:32: bad string"),
-    ("#define A 1", 6, "1:1: directive"),
-    ("int x y;", 10, "1:7: unexpected token"),
-    ("void worker(int self) {", 12, "1:24: unexpected end"),
-    (
-        "void worker(int self) { __transaction_atomic { z = 1; } }",
-        20,
-        "1:48: unknown name",
-    ),
-    (
-        "int x, x; void worker(int self) { }",
-        21,
-        "1:8: declared twice",
-    ),
-    (
-        "int x; void worker(int self) { __transaction_atomic { x = worker; } }",
-        22,
-        "1:59: wrong type",
-    ),
-    (
-        "void worker(int self) { __transaction_atomic { worker = 1; } }",
-        24,
-        "1:48: not assignable",
-    ),
-    ("void other(int self) { }", 28, "1:25: no worker"),
-    (
-        "void f(void) { } void worker(int self) { int v = f(); }",
-        22,
-        "1:50: wrong type",
-    ),
-    (
-        "void f(void) { } void worker(int self) { f(1); }",
-        23,
-        "1:42: wrong number of arguments",
-    ),
-    (
-        "void worker(int self) { 1 = 2; }",
-        24,
-        "1:25: not assignable",
-    ),
-    (
-        "int a[0]; void worker(int self) { }",
-        25,
-        "1:7: bad array length",
-    ),
-    (
-        "void worker(int self) { break; }",
-        26,
-        "1:25: break or continue outside a loop",
-    ),
-    (
-        "void worker(int self) { printf(\"%x\", 1); }",
-        27,
-        "1:32: bad format",
-    ),
-    ("int x;", 28, "1:7: no worker"),
-    ("", 28, "1:1: no worker"),
-    (
-        "void f(void); void worker(int self) { }",
-        29,
-        "1:6: not defined",
-    ),
-    (
-        "void worker(int self) { __transaction_atomic { printf(\"a\"); } }",
-        40,
-        "1:48: unsafe in atomic",
-    ),
-    (
-        "void worker(int self) { __transaction_atomic { __transaction_relaxed { } } }",
-        41,
-        "1:48: relaxed in atomic",
-    ),
-    (
-        "void worker(int self) { __transaction_relaxed { __transaction_cancel; } }",
-        42,
-        "1:49: cancel outside atomic",
-    ),
-    (
-        "__attribute__((transaction_safe)) void f(void) { printf(\"a\"); } void worker(int self) { }",
-        43,
-        "1:40: transaction_safe on an unsafe function",
-    ),
-    (
-        "int x; void worker(int self) { x = 1; }",
-        50,
-        "1:32: shared access outside a transaction",
-    ),
-    (
-        "int x; int get(void) { return x; } void worker(int self) { get(); }",
-        51,
-        "1:60: call touches shared data outside a transaction",
-    ),
-];
+/// A source, the number of its fault, and what is told behind it.
+type Told = (&'static str, u32, &'static str);
 
-/// Sources in pieces, each so many times: a fault that a program can show today.
-const LONG: [([(&str, usize); 5], u32, &str); 3] = [
-    (
-        [(" ", 1048577), ("", 0), ("", 0), ("", 0), ("", 0)],
-        5,
-        "1:1: file too long",
-    ),
-    (
-        [
-            ("void worker(int self) { ", 1),
-            ("(", 98),
-            ("1", 1),
-            (")", 98),
-            ("; }", 1),
-        ],
-        11,
-        "1:123: nested too deep",
-    ),
-    (
-        [
-            ("void worker(int self) { ", 1),
-            ("__transaction_atomic { ", 17),
-            ("} ", 17),
-            ("}", 1),
-            ("", 0),
-        ],
-        62,
-        "1:393: transactions nested too deep",
-    ),
-];
+/// The faults that a program can show today.
+fn told() -> &'static [Told] {
+    static TOLD: [Told; 27] = [
+        ("int x$;", 1, "1:6: bad character"),
+        ("int x = 2147483648;", 2, "1:9: constant too large"),
+        ("void worker(int self) { } /* end", 3, "1:27: open comment"),
+        ("void worker(int self) { printf(\"a", 4, "1:32: bad string"),
+        ("#define A 1", 6, "1:1: directive"),
+        ("int x y;", 10, "1:7: unexpected token"),
+        ("void worker(int self) {", 12, "1:24: unexpected end"),
+        (
+            "void worker(int self) { __transaction_atomic { z = 1; } }",
+            20,
+            "1:48: unknown name",
+        ),
+        (
+            "int x, x; void worker(int self) { }",
+            21,
+            "1:8: declared twice",
+        ),
+        (
+            "int x; void worker(int self) { __transaction_atomic { x = worker; } }",
+            22,
+            "1:59: wrong type",
+        ),
+        (
+            "void worker(int self) { __transaction_atomic { worker = 1; } }",
+            24,
+            "1:48: not assignable",
+        ),
+        ("void other(int self) { }", 28, "1:25: no worker"),
+        (
+            "void f(void) { } void worker(int self) { int v = f(); }",
+            22,
+            "1:50: wrong type",
+        ),
+        (
+            "void f(void) { } void worker(int self) { f(1); }",
+            23,
+            "1:42: wrong number of arguments",
+        ),
+        (
+            "void worker(int self) { 1 = 2; }",
+            24,
+            "1:25: not assignable",
+        ),
+        (
+            "int a[0]; void worker(int self) { }",
+            25,
+            "1:7: bad array length",
+        ),
+        (
+            "void worker(int self) { break; }",
+            26,
+            "1:25: break or continue outside a loop",
+        ),
+        (
+            "void worker(int self) { printf(\"%x\", 1); }",
+            27,
+            "1:32: bad format",
+        ),
+        ("int x;", 28, "1:7: no worker"),
+        ("", 28, "1:1: no worker"),
+        (
+            "void f(void); void worker(int self) { }",
+            29,
+            "1:6: not defined",
+        ),
+        (
+            "void worker(int self) { __transaction_atomic { printf(\"a\"); } }",
+            40,
+            "1:48: unsafe in atomic",
+        ),
+        (
+            "void worker(int self) { __transaction_atomic { __transaction_relaxed { } } }",
+            41,
+            "1:48: relaxed in atomic",
+        ),
+        (
+            "void worker(int self) { __transaction_relaxed { __transaction_cancel; } }",
+            42,
+            "1:49: cancel outside atomic",
+        ),
+        (
+            "__attribute__((transaction_safe)) void f(void) { printf(\"a\"); } void worker(int self) { }",
+            43,
+            "1:40: transaction_safe on an unsafe function",
+        ),
+        (
+            "int x; void worker(int self) { x = 1; }",
+            50,
+            "1:32: shared access outside a transaction",
+        ),
+        (
+            "int x; int get(void) { return x; } void worker(int self) { get(); }",
+            51,
+            "1:60: call touches shared data outside a transaction",
+        ),
+    ];
+    &TOLD
+}
+
+/// The same of a source in pieces, each so many times.
+type ToldOfLong = (&'static [(&'static str, usize)], u32, &'static str);
+
+/// Those of long sources.
+fn told_of_long() -> &'static [ToldOfLong] {
+    static LONG: [ToldOfLong; 3] = [
+        (&[(" ", 1048577)], 5, "1:1: file too long"),
+        (
+            &[
+                ("void worker(int self) { ", 1),
+                ("(", 98),
+                ("1", 1),
+                (")", 98),
+                ("; }", 1),
+            ],
+            11,
+            "1:123: nested too deep",
+        ),
+        (
+            &[
+                ("void worker(int self) { ", 1),
+                ("__transaction_atomic { ", 17),
+                ("} ", 17),
+                ("}", 1),
+            ],
+            62,
+            "1:393: transactions nested too deep",
+        ),
+    ];
+    &LONG
+}
 
 /// The text that pieces make.
 fn joined<A: Allocator + Copy>(
@@ -176,8 +183,8 @@ fn is_told<H: Threads + Wait + Sync>(
 
 #[test]
 fn faults_are_told_with_place_and_words(rt: HostRuntime) -> Result<(), Fail> {
-    for (source, number, words) in TOLD {
-        let right = is_told(&rt, rt.alloc(), source.as_bytes(), number, words);
+    for (source, number, words) in told() {
+        let right = is_told(&rt, rt.alloc(), source.as_bytes(), *number, words);
         assert!(rt; right, "{source}");
     }
     Ok(())
@@ -199,9 +206,9 @@ fn is_told_of<H: Threads + Wait + Sync>(
 
 #[test]
 fn faults_of_long_sources_are_told(rt: HostRuntime) -> Result<(), Fail> {
-    for (pieces, number, words) in LONG {
+    for (pieces, number, words) in told_of_long() {
         assert!(rt;
-            is_told_of(&rt, rt.alloc(), pieces.as_slice(), number, words),
+            is_told_of(&rt, rt.alloc(), pieces, *number, words),
             "{number}"
         );
     }
