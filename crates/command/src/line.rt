@@ -1,8 +1,8 @@
 //! The commands of the program, and what each takes.
 
 ghost use Rattle.std.specs.Prelude.{◌≡◌, IfOk, codes, false};
-ghost use Rattle.clap.specs.Words.{app_of, rule_of};
-ghost use Rattle.clap.specs.declared.builder.command.Command.TheViews.{out-Command as fields_of};
+ghost use Rattle.clap.specs.Words.{App, Rule, app_of, new_app, rule_of, with_rule, with_subcommand};
+ghost use Rattle.command.specs.inner.Made.{IsMade};
 ghost use Rattle.command.specs.Line.{file_rule, flag_rule, fault_rule, text_rule, number_rule, order_rule, file_app, check_app, listing_app, run_app, replay_steps_app, replay_app, source_app, explain_app, commandless_app, program_app};
 
 use clap::{Arg, ArgAction, Command, value_parser};
@@ -67,6 +67,23 @@ fn order<'a>(alloc: Global) -> Arg<'a>
     .required(true)
 }
 
+/// A command with what is said of it.
+fn described<'a>(alloc: Global, name: &'a str, about: &'a str, example: &'a str) -> Command<'a>
+    ensures { IsMade (new_app name.entry.now) result }
+{
+    Command::new(alloc, name).about(about).after_help(example)
+}
+
+/// A command that was made, with one more argument.
+fn with<'a>(
+    command: Result<Command<'a>, AllocError>,
+    arg: Arg<'a>,
+) -> Result<Command<'a>, AllocError>
+    ensures { (app : App) (rule : Rule) → IfOk command.entry (IsMade app) → rule_of arg.entry ≡ rule → arg.entry.global ≡ false → IfOk result (IsMade (with_rule app rule)) }
+{
+    command?.arg(arg)
+}
+
 /// A command over a file.
 fn of_file<'a>(
     alloc: Global,
@@ -74,24 +91,20 @@ fn of_file<'a>(
     about: &'a str,
     example: &'a str,
 ) -> Result<Command<'a>, AllocError>
-    ensures app { IfOk result (λ c. app_of c ≡ file_app name.entry.now) }
-    ensures globals { IfOk result (λ c. (fields_of c).has_globals ≡ false) }
+    ensures { IfOk result (IsMade (file_app name.entry.now)) }
 {
-    Command::new(alloc, name)
-        .about(about)
-        .after_help(example)
-        .arg(file(alloc))?
-        .arg(flag(
-            alloc,
-            "verbose",
-            "Shows the line of a fault, and says why a file can't be read",
-        ))
+    let command = with(Ok(described(alloc, name, about, example)), file(alloc));
+    let verbose = flag(
+        alloc,
+        "verbose",
+        "Shows the line of a fault, and says why a file can't be read",
+    );
+    with(command, verbose)
 }
 
 /// The command that says whether a program is accepted.
 fn check<'a>(alloc: Global) -> Result<Command<'a>, AllocError>
-    ensures app { IfOk result (λ c. app_of c ≡ check_app) }
-    ensures globals { IfOk result (λ c. (fields_of c).has_globals ≡ false) }
+    ensures { IfOk result (IsMade check_app) }
 {
     of_file(
         alloc,
@@ -103,8 +116,7 @@ fn check<'a>(alloc: Global) -> Result<Command<'a>, AllocError>
 
 /// The command that lists the code of a program.
 fn listing<'a>(alloc: Global) -> Result<Command<'a>, AllocError>
-    ensures app { IfOk result (λ c. app_of c ≡ listing_app) }
-    ensures globals { IfOk result (λ c. (fields_of c).has_globals ≡ false) }
+    ensures { IfOk result (IsMade listing_app) }
 {
     of_file(
         alloc,
@@ -129,93 +141,96 @@ fn threads<'a>(alloc: Global) -> Arg<'a>
 
 /// The command that runs all threads at once.
 fn run<'a>(alloc: Global) -> Result<Command<'a>, AllocError>
-    ensures app { IfOk result (λ c. app_of c ≡ run_app) }
-    ensures globals { IfOk result (λ c. (fields_of c).has_globals ≡ false) }
+    ensures { IfOk result (IsMade run_app) }
 {
-    of_file(
+    let command = of_file(
         alloc,
         "run",
         "Runs all threads of a program at once, and prints their ends, their output and the globals",
         "Example:\n  txc run bank.c --threads 4",
-    )?
-    .arg(threads(alloc))?
-    .arg(number(
+    );
+    let command = with(command, threads(alloc));
+    let budget = number(
         alloc,
         "budget",
         "B",
         "How many steps each thread makes at most: 0 to 4294967295, and that if not given",
-    ))
+    );
+    with(command, budget)
 }
 
 /// The command that replays steps of the machine, with where these come from.
 fn replay_steps<'a>(alloc: Global) -> Result<Command<'a>, AllocError>
-    ensures app { IfOk result (λ c. app_of c ≡ replay_steps_app) }
-    ensures globals { IfOk result (λ c. (fields_of c).has_globals ≡ false) }
+    ensures { IfOk result (IsMade replay_steps_app) }
 {
-    of_file(
+    let command = of_file(
         alloc,
         "replay",
         "Makes the steps of the machine that a schedule or a seed names, and prints what happened in them and what they leave",
         "Example:\n  txc replay counter.c --threads 2 --seed 7",
-    )?
-    .arg(threads(alloc))?
-    .arg(text(
+    );
+    let command = with(command, threads(alloc));
+    let schedule = text(
         alloc,
         "schedule",
         "S",
         "A file with a schedule: lines `T COUNT`, steps of thread T, or `T aCOUNT`, its steps up to so many accesses",
-    ))?
-    .arg(number(
+    );
+    let command = with(command, schedule);
+    let seed = number(
         alloc,
         "seed",
         "N",
         "Picks the thread of each step by chance, in place of a schedule: 0 to 4294967295",
-    ))?
-    .arg(number(
+    );
+    let command = with(command, seed);
+    let steps = number(
         alloc,
         "steps",
         "K",
         "How many steps are picked: 0 to 1048576, and 100000 if not given",
-    ))
+    );
+    with(command, steps)
 }
 
 /// The command that replays steps of the machine.
 fn replay<'a>(alloc: Global) -> Result<Command<'a>, AllocError>
-    ensures app { IfOk result (λ c. app_of c ≡ replay_app) }
-    ensures globals { IfOk result (λ c. (fields_of c).has_globals ≡ false) }
+    ensures { IfOk result (IsMade replay_app) }
 {
-    replay_steps(alloc)?
-        .arg(flag(
-            alloc,
-            "timeline",
-            "Shows each step, a line each, before the report",
-        ))?
-        .arg(flag(
-            alloc,
-            "print-schedule",
-            "Prints the steps of the seed as a schedule, and makes none of them",
-        ))
+    let command = replay_steps(alloc);
+    let timeline = flag(
+        alloc,
+        "timeline",
+        "Shows each step, a line each, before the report",
+    );
+    let command = with(command, timeline);
+    let print_schedule = flag(
+        alloc,
+        "print-schedule",
+        "Prints the steps of the seed as a schedule, and makes none of them",
+    );
+    with(command, print_schedule)
 }
 
 /// The command that runs the source in an order of threads.
 fn source<'a>(alloc: Global) -> Result<Command<'a>, AllocError>
-    ensures app { IfOk result (λ c. app_of c ≡ source_app) }
-    ensures globals { IfOk result (λ c. (fields_of c).has_globals ≡ false) }
+    ensures { IfOk result (IsMade source_app) }
 {
-    of_file(
+    let command = of_file(
         alloc,
         "source",
         "Runs the source itself, transaction by transaction, in the order of threads that is given",
         "Example:\n  txc source first.c --threads 2 --order 0,1",
-    )?
-    .arg(threads(alloc))?
-    .arg(order(alloc))?
-    .arg(number(
+    );
+    let command = with(command, threads(alloc));
+    let command = with(command, order(alloc));
+    let ticks = number(
         alloc,
         "ticks",
         "N",
         "How many ticks each thread has: 0 to 1000000, and 100000 if not given",
-    ))
+    );
+    with(command, ticks)
 }
 
 /// The number of a fault.
@@ -232,35 +247,49 @@ fn fault<'a>(alloc: Global) -> Arg<'a>
 
 /// The command that tells what a fault means.
 fn explain<'a>(alloc: Global) -> Result<Command<'a>, AllocError>
-    ensures app { IfOk result (λ c. app_of c ≡ explain_app) }
-    ensures globals { IfOk result (λ c. (fields_of c).has_globals ≡ false) }
+    ensures { IfOk result (IsMade explain_app) }
 {
-    Command::new(alloc, "explain")
-        .about("Says what a fault means, with an example")
-        .after_help("Example:\n  txc explain 20")
-        .arg(fault(alloc))
+    let command = described(
+        alloc,
+        "explain",
+        "Says what a fault means, with an example",
+        "Example:\n  txc explain 20",
+    );
+    with(Ok(command), fault(alloc))
 }
 
 /// The program, which wants a command.
 fn commandless<'a>(alloc: Global) -> Command<'a>
     ensures { app_of result ≡ commandless_app }
 {
-    Command::new(alloc, "txc")
-        .version(VERSION)
-        .about("A compiler and a machine for C programs with transactions")
-        .after_help("Example:\n  txc run first.c")
-        .subcommand_required(true)
+    described(
+        alloc,
+        "txc",
+        "A compiler and a machine for C programs with transactions",
+        "Example:\n  txc run first.c",
+    )
+    .version(VERSION)
+    .subcommand_required(true)
+}
+
+/// A program that was made, with one more command.
+fn with_command<'a>(
+    program: Result<Command<'a>, AllocError>,
+    command: Result<Command<'a>, AllocError>,
+) -> Result<Command<'a>, AllocError>
+    ensures { (app sub : App) → IfOk program.entry (λ p. app_of p ≡ app) → IfOk command.entry (IsMade sub) → IfOk result (λ c. app_of c ≡ with_subcommand app sub.top) }
+{
+    program?.subcommand(command?)
 }
 
 /// The command line of the program.
 pub fn program<'a>(alloc: Global) -> Result<Command<'a>, AllocError>
     ensures { IfOk result (λ c. app_of c ≡ program_app) }
 {
-    commandless(alloc)
-        .subcommand(check(alloc)?)?
-        .subcommand(listing(alloc)?)?
-        .subcommand(run(alloc)?)?
-        .subcommand(replay(alloc)?)?
-        .subcommand(source(alloc)?)?
-        .subcommand(explain(alloc)?)
+    let program = with_command(Ok(commandless(alloc)), check(alloc));
+    let program = with_command(program, listing(alloc));
+    let program = with_command(program, run(alloc));
+    let program = with_command(program, replay(alloc));
+    let program = with_command(program, source(alloc));
+    with_command(program, explain(alloc))
 }
