@@ -1,6 +1,6 @@
 //! Each worker in a thread of the program of its own.
 
-ghost use Rattle.std.specs.Prelude.{◌≡◌, ◌+◌, ◌^◌, ◌<◌, ◌≤◌, ℕ, IfOk, IfErr};
+ghost use Rattle.std.specs.Prelude.{◌≡◌, ◌+◌, ◌^◌, ◌<◌, ◌≤◌, ◌++◌, ◌∷◌, [], ℕ, IfOk, IfErr, OnOk};
 ghost use Rattle.syntax.specs.Behaviours.{Behaviour, Means};
 ghost use Rattle.bytecode.specs.Valid.{bounds_of};
 ghost use Rattle.seats.specs.Saying.{code_does};
@@ -279,6 +279,40 @@ pub struct RunReport<A: Allocator = Global> {
     pub overheld: Vec<u32, A>,
 }
 
+// Adds how a worker's loop ended, and its number where the gate held it to the end.
+fn note(one: &Driven, ends: &mut Vec<Ending>, overheld: &mut Vec<u32>) -> Result<(), AllocError>
+    ensures { OnOk result (ends.new.items ≡ ends.old.items ++ record { number = one.now.worker.number; stopped = one.now.stopped } ∷ []) }
+{
+    if one.overheld {
+        overheld.push(one.worker.number)?;
+    }
+    ends.push(Ending {
+        number: one.worker.number,
+        stopped: one.stopped,
+    })?;
+    Ok(())
+}
+
+// Moves the workers to a list of their own, the last one first.
+fn unpack_into(
+    hall: &Hall,
+    budget: u64,
+    driven: &mut Vec<Driven>,
+    workers: &mut Vec<Worker>,
+    ends: &mut Vec<Ending>,
+    overheld: &mut Vec<u32>,
+) -> Result<(), AllocError>
+    requires driven { AreDrivenOf hall.now.table.shared.table_id hall.now.setup budget driven.old.items }
+    requires none_yet { (workers.old.items ≡ []) × (ends.old.items ≡ []) }
+    ensures { OnOk result (AreWorkersOf hall.now.table.shared.table_id hall.now.setup workers.new.items × AreEnded hall.now.setup budget workers.new.items ends.new.items × ((n : ℕ) → IsNumbered driven_number driven.old.items n → IsNumbered worker_number workers.new.items n)) }
+{
+    while let Some(one) = driven.pop() {
+        note(&one, ends, overheld)?;
+        workers.push(one.worker)?;
+    }
+    Ok(())
+}
+
 // The workers, how their loops ended, and the numbers of those that were held to the end.
 fn unpack(
     alloc: Global,
@@ -292,21 +326,14 @@ fn unpack(
     let mut workers = Vec::new(alloc);
     let mut ends = Vec::new(alloc);
     let mut overheld = Vec::new(alloc);
-    while let Some(one) = driven.pop() {
-        let Driven {
-            worker,
-            overheld: held,
-            stopped,
-        } = one;
-        if held {
-            overheld.push(worker.number)?;
-        }
-        ends.push(Ending {
-            number: worker.number,
-            stopped,
-        })?;
-        workers.push(worker)?;
-    }
+    unpack_into(
+        hall,
+        budget,
+        &mut driven,
+        &mut workers,
+        &mut ends,
+        &mut overheld,
+    )?;
     Ok((workers, ends, overheld))
 }
 

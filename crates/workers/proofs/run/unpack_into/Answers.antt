@@ -5,7 +5,7 @@ use Rattle.workers.specs.Workers.{AreWorkersOf}
 use Rattle.workers.specs.Driving.{AreDrivenOf, AreEnded, IsNumbered, driven_number, worker_number}
 use Rattle.workers.proofs.Drives.{driven_without, ended_more, with_last}
 use Rattle.workers.proofs.Numbers.{moved}
-use Rattle.workers.proofs.run.unpack.Goals as goal
+use Rattle.workers.proofs.run.unpack_into.Goals as goal
 
 pub loop-one-preserved : goal.loop-one-preserved
 loop-one-preserved c =
@@ -16,8 +16,8 @@ loop-one-preserved c =
     let d = driven_without z key all c.pop.new.self.items c.in-Some.one (subst (AreDrivenOf z key all) (c.in-Some.ensures.items) inv.driven) in
     record {
       driven = d.0;
-      workers = subst (AreWorkersOf z key) (sym (c.in_ok-push-3.ensures.items)) (with_last z key c.loop-one.workers.items c.in-Some.one.worker inv.workers d.1.0);
-      ended = subst (λ (p : List (Worker _) × List Ending). AreEnded key all p.0 p.1) (λ i. (sym (c.in_ok-push-3.ensures.items) i, sym (c.in_ok-push-2.ensures.items) i))
+      workers = subst (AreWorkersOf z key) (sym (c.in_ok-push.ensures.items)) (with_last z key c.loop-one.workers.items c.in-Some.one.worker inv.workers d.1.0);
+      ended = subst (λ (p : List (Worker _) × List Ending). AreEnded key all p.0 p.1) (λ i. (sym (c.in_ok-push.ensures.items) i, sym (c.in_ok-note.ensures) i))
           (ended_more key all c.loop-one.workers.items c.loop-one.ends.items c.in-Some.one.worker (record { number = c.in-Some.one.worker.number; stopped = c.in-Some.one.stopped }) inv.ended refl d.1.1);
-      numbers = moved driven_number worker_number (IsNumbered driven_number c.args.driven.items) c.loop-one.driven.items c.pop.new.self.items c.in-Some.one c.loop-one.workers.items _ c.in-Some.one.worker inv.numbers c.in-Some.ensures.items c.in_ok-push-3.ensures.items refl;
+      numbers = moved driven_number worker_number (IsNumbered driven_number c.args.driven.now.items) c.loop-one.driven.items c.pop.new.self.items c.in-Some.one c.loop-one.workers.items _ c.in-Some.one.worker inv.numbers c.in-Some.ensures.items c.in_ok-push.ensures.items refl;
     }
