@@ -1,5 +1,5 @@
 #!/usr/bin/env python3
-"""Writes crates/txc/src/example_tests.rt. It runs each program of examples/ and examples/bench/ and compares what it prints with
+"""Writes crates/serving_tests/src/examples.rt. It runs each program of examples/ and examples/bench/ and compares what it prints with
 the file of the same name that ends in .out; and it runs each transcript of examples/transcripts/, a file whose first line is a command line, `$ txc ..`,
 and which has under it what a terminal then shows. And it writes crates/meaning_tests/src/examples.rt, which runs each program of
 examples/ from its tree and compares with the same file, and crates/lower_tests/src/examples.rt, which lists the programs of
@@ -17,7 +17,7 @@ import re
 import sys
 
 TOP = os.path.dirname(os.path.dirname(os.path.abspath(__file__)))
-TESTS = os.path.join(TOP, "crates/txc/src/example_tests.rt")
+TESTS = os.path.join(TOP, "crates/serving_tests/src/examples.rt")
 MEANING_TESTS = os.path.join(TOP, "crates/meaning_tests/src/examples.rt")
 LOWER_TESTS = os.path.join(TOP, "crates/lower_tests/src/examples.rt")
 SHOWN = re.compile(r"^```\n(\$ txc [^\n]*\n)(.*?)^```$", re.M | re.S)
@@ -57,7 +57,7 @@ def tests():
     transcripts = [row(transcript(name), 8) for name in names("examples/transcripts/*.txt")]
     return f"""//! The programs of examples/, with what each prints, and the transcripts of examples/transcripts/: written by scripts/examples.py.
 
-use crate::tests::{{Served, serve_bytes, serve_told}};
+use crate::served::{{Served, serve_bytes, serve_told}};
 use command::{{Request, command}};
 use std::alloc::{{AllocError, Global}};
 use std::sync::Wait;

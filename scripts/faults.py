@@ -4,7 +4,7 @@
   scripts/faults.py           fails where they differ
   scripts/faults.py --write   writes crates/faults/src/explanations.rt, which is what `txc explain` prints, from the page
 
-Each example of the page's first two tables has to stand in crates/txc/src/fault_tests.rt, with the same number, place and
+Each example of the page's first two tables has to stand in crates/serving_tests/src/refusals.rt, with the same number, place and
 words, in TOLD and LONG or in NOT_TOLD_YET and LONG_NOT_TOLD_YET; each number of the page has the words of
 crates/faults/src/table.rt. Prints what differs, and ends in status 1 where something does.
 """
@@ -111,7 +111,7 @@ def main():
         with open(os.path.join(TOP, EXPLANATIONS), "w", encoding="utf-8") as file:
             file.write(explanations(read("docs/FAULTS.md")))
         return 0
-    page, code = read("docs/FAULTS.md"), read("crates/txc/src/fault_tests.rt")
+    page, code = read("docs/FAULTS.md"), read("crates/serving_tests/src/refusals.rt")
     parts = re.split(r"^## ", page, flags=re.M)
     wrong = []
     for part, tables in (("Told today", ("TOLD", "LONG")), ("Not told yet: sources", ("NOT_TOLD_YET", "LONG_NOT_TOLD_YET"))):

@@ -1,31 +1,11 @@
 //! The program: opens the file that is asked for, runs it and prints the report.
 #![tactic(auto)]
 
-mod at_once;
-mod compiled;
-mod concurrent;
-#[cfg(test)]
-mod example_tests;
-#[cfg(test)]
-mod fault_tests;
-mod listed;
-mod order;
-#[cfg(test)]
-mod replay_tests;
-mod replayed;
-mod run;
-mod scheduled;
-mod serve;
-mod shown;
-mod source;
-mod status;
-mod tell;
 #[cfg(test)]
 mod tests;
-mod timeline;
 
 use command::{Request, Steps, Task, UsageFault, command};
-use serve::serve;
+use serving::{Detail, cannot_read, serve, tell_usage};
 use std::alloc::Global;
 use std::env;
 use std::fs::File;
@@ -33,7 +13,6 @@ use std::io::{ErrorKind, IsTerminal, Read};
 use std::process::ExitCode;
 use std::sync::Wait;
 use std::thread::Threads;
-use tell::{Detail, cannot_read, tell_usage};
 
 fn main(rt: HostRuntime) -> ExitCode {
     ExitCode::from(answer(&rt, &rt))

@@ -1,0 +1,14 @@
+-- The program of a text, with its code.
+use Rattle.std.proofs.Common.{ℕ, List}
+use Rattle.syntax.specs.Views.{program_of}
+use Rattle.parse.specs.Faults.{source_of}
+use Rattle.serving.specs.declared.compiled.Compiled.{Compiled}
+use Rattle.serving.specs.Runs.{Compiles, IsCodeOf, IsSourceOf}
+
+abbrev pub compiles : {A : Type 0} (text : List ℕ) (c : Compiled A) → IsSourceOf text (source_of c.accepted.safe.typed.unit) → IsCodeOf (program_of c.accepted.safe.typed.unit) c.code → Compiles text c.code
+compiles text c spelled compiled = record {
+  source = source_of c.accepted.safe.typed.unit;
+  spelled = spelled;
+  accepted = c.accepted.accepted;
+  compiled = compiled;
+}

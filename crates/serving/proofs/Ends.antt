@@ -1,0 +1,22 @@
+-- Tests of ends, over the threads that a report shows.
+use Rattle.std.proofs.Common.{◌≡◌, Bool, true, false, List, [], ◌∷◌, ◌||◌, map, refl, ap}
+use Rattle.std.specs.List.{list_any}
+use Rattle.report.specs.declared.printed.End.{End}
+use Rattle.report.specs.declared.printed.ThreadShown.{ThreadShown}
+use Rattle.report.specs.Printed as plain
+use Rattle.report.specs.Views.{thread_of}
+use Rattle.serving.specs.Runs.{is_stopped, is_trapped, exit_status}
+
+pub any_shown : {A : Type 0} (p : End → Bool) (threads : List (ThreadShown A)) → list_any (λ (t : plain.ThreadShown). p t.end) (map thread_of threads) ≡ list_any (λ (t : ThreadShown A). p t.end) threads
+any_shown p [] = refl
+any_shown p (t ∷ threads) = ap (λ b. p t.end || b) (any_shown p threads)
+
+-- some thread stopped; none did, and some trapped; none did either
+pub some_stopped : (shown : plain.Printed) → list_any (λ (t : plain.ThreadShown). is_stopped t.end) shown.threads ≡ true → 4 ≡ exit_status shown
+some_stopped shown stopped = rw stopped refl
+
+pub some_trapped : (shown : plain.Printed) → list_any (λ (t : plain.ThreadShown). is_stopped t.end) shown.threads ≡ false → list_any (λ (t : plain.ThreadShown). is_trapped t.end) shown.threads ≡ true → 3 ≡ exit_status shown
+some_trapped shown stopped trapped = rw (stopped, trapped) refl
+
+pub all_ended : (shown : plain.Printed) → list_any (λ (t : plain.ThreadShown). is_stopped t.end) shown.threads ≡ false → list_any (λ (t : plain.ThreadShown). is_trapped t.end) shown.threads ≡ false → 0 ≡ exit_status shown
+all_ended shown stopped trapped = rw (stopped, trapped) refl

@@ -1,0 +1,96 @@
+-- Replaying steps of the threads of a source's text.
+use Rattle.std.specs.Prelude.{◌≡◌, ◌⊎◌, ◌++◌, ◌%◌, ℕ, List, map, Option, None, IfSome}
+use Rattle.std.specs.Io.KnownBytes.{Appends}
+use Rattle.std.specs.Str.Lines.{lines}
+use Rattle.rand_core.specs.Steps.{first_words}
+use Rattle.rand_pcg.specs.Pcg.{pcg32}
+use Rattle.syntax.specs.Tree.{Program}
+use Rattle.syntax.specs.Threads.{thread}
+use Rattle.bytecode.specs.Beginning.{beginning}
+use Rattle.bytecode.specs.Code.{Code, effect}
+use Rattle.bytecode.specs.Initial.{initial_of}
+use Rattle.bytecode.specs.Valid.{bounds_of}
+use Rattle.machine.specs.Serializable.{IsOpaque}
+use Rattle.world.specs.declared.stop.StopReason.{StopReason}
+use Rattle.world.specs.declared.stop.WorldStop.{WorldStop}
+use Rattle.world.specs.Reports.{stop_with}
+use Rattle.world.specs.Simulations.{IsHolder, world_of}
+use Rattle.replay.specs.declared.line.Line.{Line}
+use Rattle.replay.specs.declared.line.TheConstants.{MOST_STEPS}
+use Rattle.replay.specs.Replays.{EndsAt, first_world, played, steps_of, timeline_of}
+use Rattle.replay.specs.Schedules.{AreLines}
+use Rattle.replay.specs.Seeds.{generator_of, one_step}
+use Rattle.command.specs.declared.request.Steps.{Steps}
+use Rattle.command.specs.declared.request.Steps.TheVariants.{Schedule, Seed}
+use Rattle.report.specs.Printed.{Printed}
+use Rattle.report.specs.Report.{report_text}
+use Rattle.report.specs.Timeline.{timeline_text}
+use Rattle.serving.specs.Shows.{world_shown}
+use Rattle.serving.specs.Runs.{Compiles, exit_status}
+
+-- the lines of a schedule, where its bytes are known
+abbrev pub IsSchedule : Option (List ℕ) → List Line → Type 0
+IsSchedule schedule found = IfSome schedule (λ text. AreLines (lines text) found)
+
+-- one step for each line; the thread of each is the next 32-bit word of PCG-XSH-RR 64/32, modulo the number of threads
+abbrev pub lines_of_seed : (seed threads count : ℕ) → List Line
+lines_of_seed seed threads count = map (λ w. one_step (w % threads)) (first_words pcg32 count (generator_of seed))
+
+-- the lines that the steps of a replay come from
+abbrev pub AreLinesOf : Steps → (threads : ℕ) → (schedule : Option (List ℕ)) → List Line → Type 0
+AreLinesOf (Schedule file) threads schedule found = IsSchedule schedule found
+AreLinesOf (Seed seed count) threads schedule found = found ≡ lines_of_seed seed threads count
+
+-- What a report shows of a replay: of the steps that the lines name, at most 1,048,576, these were made, up to the
+-- first that could not be; these are explained by runs of the program; and the report shows the world that they lead to.
+pub record IsReplayOf (p : Program) (code : Code) (threads : ℕ) (found : List Line) (made : List ℕ)
+    (stopped : Option WorldStop) (shown : Printed) : Type 0 where
+  pub rest : List ℕ
+  pub stop : Option (ℕ × StopReason)
+  pub named : steps_of code MOST_STEPS found (first_world code threads) ≡ made ++ rest
+  pub ends : EndsAt (played code threads made) rest stop
+  pub explained : IsOpaque (effect code) (beginning code) (thread p) (bounds_of code) (initial_of code) threads made
+  pub holder : IsHolder (world_of (played code threads made)) shown.holder
+  pub shows : shown ≡ world_shown p stop shown.holder (played code threads made)
+  pub stopped_is : stopped ≡ stop_with stop (played code threads made)
+
+-- the status 0 tells of a text that spells an accepted program with code, and that a schedule of these lines was
+-- written
+abbrev pub PrintsSchedule : List Line → (text : List ℕ) → (status : ℕ) → (old new : Option (List ℕ)) → Type 0
+PrintsSchedule found text status old new =
+    status ≡ 0 → (written : List ℕ) × (code : Code) × Compiles text code × AreLines (lines written) found
+    × Appends old new written
+
+-- the text spells an accepted program, and this is what the report of a replay of its code shows
+pub record IsReplayOfText (threads : ℕ) (steps : Steps) (schedule : Option (List ℕ)) (text : List ℕ) (code : Code)
+    (made : List ℕ) (stopped : Option WorldStop) (shown : Printed) : Type 0 where
+  pub compiled : Compiles text code
+  pub found : List Line
+  pub lines : AreLinesOf steps threads schedule found
+  pub replay : IsReplayOf compiled.source.program code threads found made stopped shown
+
+-- this is what the report of a replay of all steps shows
+pub record Replays (threads : ℕ) (steps : Steps) (schedule : Option (List ℕ)) (text : List ℕ) (shown : Printed) :
+    Type 0 where
+  pub code : Code
+  pub made : List ℕ
+  pub replay : IsReplayOfText threads steps schedule text code made None shown
+
+-- these are the lines that show each of all steps, and this is what the report shows
+pub record ReplaysShown (threads : ℕ) (steps : Steps) (schedule : Option (List ℕ)) (text lines : List ℕ)
+    (shown : Printed) : Type 0 where
+  pub code : Code
+  pub made : List ℕ
+  pub replay : IsReplayOfText threads steps schedule text code made None shown
+  pub lines_are : lines ≡ timeline_text code (timeline_of (played code threads made))
+
+-- the status tells of a report that was written behind these lines
+abbrev pub PrintsBehind : (lines : List ℕ) → Printed → ℕ → Option (List ℕ) → Option (List ℕ) → Type 0
+PrintsBehind lines shown status old new =
+    (status ≡ 0) ⊎ (status ≡ 3) → (status ≡ exit_status shown) × Appends old new (lines ++ report_text shown)
+
+-- the lines and the report of something that is so
+abbrev pub PrintsTimeline : (List ℕ → Printed → Type 0) → ℕ → Option (List ℕ) → Option (List ℕ) → Type 0
+PrintsTimeline AreSo status old new = (status ≡ 0) ⊎ (status ≡ 3) →
+    (lines : List ℕ) × (shown : Printed) × AreSo lines shown × (status ≡ exit_status shown)
+    × Appends old new (lines ++ report_text shown)

@@ -1,0 +1,77 @@
+//! Running all threads of a source's text at once.
+
+ghost use Rattle.std.specs.Prelude.{◌≡◌, IfOk, IfErr};
+ghost use Rattle.syntax.specs.Views.{program_of};
+ghost use Rattle.report.specs.Views.{printed_of};
+ghost use Rattle.workers.specs.Driving.{IsRunRefused};
+ghost use Rattle.serving.specs.Runs.{IsCodeOf, IsFaultAtOnce, IsRunAtOnce, RunsAtOnce};
+
+use crate::at_once::shown_at_once;
+use crate::compiled::{Compiled, compile};
+use crate::order::unit_of;
+use crate::run::SourceFault;
+use report::Printed;
+use std::alloc::Global;
+use std::sync::Wait;
+use std::thread::Threads;
+use workers::{Gate, RunFault, run_all};
+
+/// Holds no thread back.
+struct Open;
+
+impl Gate for Open {
+    const HOLDS: bool = false;
+
+    fn hold(&self, _thread: u32, _accesses: u64) -> bool {
+        false
+    }
+
+    fn ended(&self, _thread: u32) {}
+}
+
+/// Why the threads of a source do not run.
+#[derive(Clone, Copy, Debug)]
+pub enum ThreadsFault {
+    /// The source is refused.
+    Source(SourceFault),
+    /// The run is.
+    Run(RunFault),
+}
+
+/// Runs all threads of a source's text at once, each with so many steps at most, and gives what their report shows.
+pub fn run_threads<H: Threads + Wait + Sync>(
+    rt: &H,
+    alloc: Global,
+    text: &str,
+    threads: u32,
+    budget: u64,
+) -> Result<Printed, ThreadsFault>
+    ensures ok { IfOk result (λ r. RunsAtOnce threads budget text.now (printed_of r)) }
+    ensures err { IfErr result (λ f. IsFaultAtOnce text.now threads f) }
+{
+    match compile(alloc, text) {
+        Ok(compiled) => match run_code(rt, alloc, &compiled, threads, budget) {
+            Ok(printed) => Ok(printed),
+            Err(fault) => Err(ThreadsFault::Run(fault)),
+        },
+        Err(fault) => Err(ThreadsFault::Source(fault)),
+    }
+}
+
+/// Runs all threads of a program's code at once. What it promises is of code that means the program and has its globals.
+fn run_code<H: Threads + Wait + Sync>(
+    rt: &H,
+    alloc: Global,
+    compiled: &Compiled,
+    threads: u32,
+    budget: u64,
+) -> Result<Printed, RunFault>
+    ensures ok { IfOk result (λ r. IsCodeOf (program_of compiled.now.accepted.safe.typed.unit) compiled.now.code → IsRunAtOnce (program_of compiled.now.accepted.safe.typed.unit) compiled.now.code threads budget (printed_of r)) }
+    ensures err { IfErr result (λ f. IsRunRefused f threads) }
+{
+    let ran = run_all(rt, alloc, &compiled.code, threads, budget, &Open)?;
+    match shown_at_once(alloc, unit_of(&compiled.accepted), threads, &ran) {
+        Ok(printed) => Ok(printed),
+        Err(_) => Err(RunFault::OutOfMemory),
+    }
+}

@@ -1,0 +1,27 @@
+//! Does what a request asks, over readers and writers: sources and schedules are read, reports and refusals are written, and
+//! the exit status tells how it went.
+#![tactic(auto)]
+
+mod at_once;
+mod compiled;
+mod concurrent;
+mod listed;
+mod order;
+mod replayed;
+mod request;
+mod run;
+mod scheduled;
+mod shown;
+mod source;
+mod status;
+mod tell;
+mod timeline;
+
+pub use compiled::{Compiled, compile};
+pub use listed::list_source;
+pub use order::{OrderFault, run_in_order};
+pub use replayed::{Replayed, replay_code};
+pub use request::serve;
+pub use run::SourceFault;
+pub use tell::{Detail, cannot_read, tell_usage};
+pub use timeline::lines_shown;

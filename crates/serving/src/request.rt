@@ -1,0 +1,419 @@
+//! Answers a request over readers and writers.
+
+ghost use Rattle.std.specs.Prelude.{◌≡◌, ◌≢◌, ◌≤◌, ◌⊎◌, IfErr, IfOk, IfSome, None};
+ghost use Rattle.std.specs.Io.KnownBytes.{Appends};
+ghost use Rattle.serving.specs.Answers.{Answers, AnswersRequest};
+ghost use Rattle.replay.specs.Replays.{played, timeline_of};
+ghost use Rattle.report.specs.Timeline.{timeline_text};
+ghost use Rattle.report.specs.Views.{printed_of};
+ghost use Rattle.serving.specs.Replays.{IsReplayOfText, PrintsBehind, PrintsSchedule, PrintsTimeline, Replays, ReplaysShown, lines_of_seed};
+ghost use Rattle.serving.specs.Runs.{IsRefused, Prints, PrintsListing, PrintsShown, RunsAtOnce, RunsInOrder, SaysAccepted};
+
+use crate::compiled::{Compiled, compile};
+use crate::concurrent::{ThreadsFault, run_threads};
+use crate::listed::list_source;
+use crate::order::{OrderFault, run_in_order};
+use crate::replayed::{Replayed, replay_code};
+use crate::run::check_source;
+use crate::scheduled::{lines_of, lines_picked};
+use crate::source::{Source, read_source};
+use crate::status::{ENDED, status_of};
+use crate::tell::{
+    Detail, cannot_write, not_read, not_text, out_of_memory, print, refuse, refuse_order,
+    refuse_replay, refuse_run, refuse_step, too_long, unusable,
+};
+use crate::timeline::lines_shown;
+use bytecode::Code;
+use command::{Request, Steps, Task};
+use faults::explanation;
+use replay::write_schedule;
+use report::{Printed, report_text};
+use std::alloc::{Allocator, Global};
+use std::io::{Read, Write};
+use std::sync::Wait;
+use std::thread::Threads;
+
+/// Does what is asked over two readers and two writers, and gives the exit status.
+///
+/// The source's text is read from `source`, and a schedule from `schedule`, once the source has code. The report, `accepted` or
+/// what a fault means goes to `out`, and faults to `err`; what `err` does not take is lost. Where `err` is a terminal, or the words
+/// ask for it, the line of the source or of the schedule follows its fault. The status is 0 where all threads ended, the source
+/// is accepted or a fault is explained, 1 where the source is refused, 2 where it or the schedule cannot be read or is not
+/// UTF-8, the schedule or an order is refused, or the words are of no use, 3 where a thread trapped, and 4 where one did neither,
+/// a step was not made, or memory or `out` was refused.
+pub fn serve<H: Threads + Wait + Sync, R: Read + Drop, S: Read + Drop, W: Write, E: Write>(
+    rt: &H,
+    alloc: Global,
+    request: &Request,
+    source: R,
+    schedule: S,
+    out: &mut W,
+    err: &mut E,
+    is_terminal: bool,
+) -> u8
+    ensures status { result ≤ 4 }
+    ensures answer { IfSome (R.remaining source) (λ bytes. AnswersRequest request.now (S.remaining schedule) bytes result (W.contents out.old) (W.contents out.new)) }
+{
+    match request {
+        Request::Program {
+            file,
+            verbose,
+            task,
+        } => {
+            let detail = Detail {
+                lines: *verbose || is_terminal,
+                reasons: *verbose,
+            };
+            serve_program(
+                rt,
+                alloc,
+                file.as_str(),
+                task,
+                source,
+                schedule,
+                detail,
+                out,
+                err,
+            )
+        }
+        Request::Explain { number } => explain(*number, out, err),
+    }
+}
+
+/// Does what is asked with the program in a file.
+fn serve_program<H: Threads + Wait + Sync, R: Read + Drop, S: Read + Drop, W: Write, E: Write>(
+    rt: &H,
+    alloc: Global,
+    file: &str,
+    task: &Task,
+    source: R,
+    schedule: S,
+    detail: Detail,
+    out: &mut W,
+    err: &mut E,
+) -> u8
+    ensures status { result ≤ 4 }
+    ensures answer { IfSome (R.remaining source) (λ bytes. Answers task.now (S.remaining schedule) bytes result (W.contents out.old) (W.contents out.new)) }
+{
+    match read_source(alloc, source) {
+        Ok(Source::Text(text)) => work(rt, alloc, task, text.as_str(), schedule, detail, out, err),
+        Ok(Source::NotText) => not_text(file, err),
+        Ok(Source::TooLong) => too_long(err),
+        Err(error) => not_read(file, &error, detail, err),
+    }
+}
+
+/// Does what is asked with the text of a program.
+fn work<H: Threads + Wait + Sync, S: Read + Drop, W: Write, E: Write>(
+    rt: &H,
+    alloc: Global,
+    task: &Task,
+    text: &str,
+    schedule: S,
+    detail: Detail,
+    out: &mut W,
+    err: &mut E,
+) -> u8
+    ensures status { result ≤ 4 }
+    ensures answer { Answers task.now (S.remaining schedule) text.now result (W.contents out.old) (W.contents out.new) }
+{
+    match task {
+        Task::Check => check(alloc, text, detail, out, err),
+        Task::Listing => list(alloc, text, detail, out, err),
+        Task::Run { threads, budget } => run(
+            rt,
+            alloc,
+            text,
+            *threads,
+            u64::from(*budget),
+            detail,
+            out,
+            err,
+        ),
+        Task::Replay { threads, steps } => replay_source(
+            alloc, text, *threads, steps, schedule, detail, out, err,
+        ),
+        Task::Timeline { threads, steps } => show_steps(
+            alloc, text, *threads, steps, schedule, detail, out, err,
+        ),
+        Task::PrintSchedule {
+            threads,
+            seed,
+            count,
+        } => print_schedule(alloc, text, *threads, *seed, *count, detail, out, err),
+        Task::Source {
+            threads,
+            order,
+            ticks,
+        } => in_order(
+            alloc,
+            text,
+            *threads,
+            order.as_slice(),
+            u64::from(*ticks),
+            detail,
+            out,
+            err,
+        ),
+    }
+}
+
+/// Runs all threads of a source at once and prints their report.
+fn run<H: Threads + Wait + Sync, W: Write, E: Write>(
+    rt: &H,
+    alloc: Global,
+    text: &str,
+    threads: u32,
+    budget: u64,
+    detail: Detail,
+    out: &mut W,
+    err: &mut E,
+) -> u8
+    ensures status { result ≤ 4 }
+    ensures report { Prints (RunsAtOnce threads budget text.now) result (W.contents out.old) (W.contents out.new) }
+    ensures refused { result ≡ 1 → IsRefused text.now }
+{
+    match run_threads(rt, alloc, text, threads, budget) {
+        Ok(printed) => print_report(alloc, &printed, out, err),
+        Err(ThreadsFault::Source(fault)) => refuse(alloc, text, fault, detail, err),
+        Err(ThreadsFault::Run(fault)) => refuse_run(fault, err),
+    }
+}
+
+/// Replays steps of a source's threads and prints their report.
+fn replay_source<A: Allocator + Copy, S: Read + Drop, W: Write, E: Write>(
+    alloc: A,
+    text: &str,
+    threads: u32,
+    steps: &Steps,
+    schedule: S,
+    detail: Detail,
+    out: &mut W,
+    err: &mut E,
+) -> u8
+    ensures status { result ≤ 4 }
+    ensures report { Prints (Replays threads steps.now (S.remaining schedule) text.now) result (W.contents out.old) (W.contents out.new) }
+    ensures refused { result ≡ 1 → IsRefused text.now }
+{
+    match replay_text(alloc, text, threads, steps, schedule, detail, err) {
+        Ok((_compiled, replayed)) => print_replay(alloc, &replayed, out, err),
+        Err(status) => status,
+    }
+}
+
+/// Replays steps of a source's threads, and prints what is shown of each and their report.
+fn show_steps<A: Allocator + Copy, S: Read + Drop, W: Write, E: Write>(
+    alloc: A,
+    text: &str,
+    threads: u32,
+    steps: &Steps,
+    schedule: S,
+    detail: Detail,
+    out: &mut W,
+    err: &mut E,
+) -> u8
+    ensures status { result ≤ 4 }
+    ensures timeline { PrintsTimeline (ReplaysShown threads steps.now (S.remaining schedule) text.now) result (W.contents out.old) (W.contents out.new) }
+    ensures refused { result ≡ 1 → IsRefused text.now }
+{
+    match replay_text(alloc, text, threads, steps, schedule, detail, err) {
+        Ok((compiled, replayed)) => {
+            print_timeline(alloc, &compiled.code, threads, &replayed, out, err)
+        }
+        Err(status) => status,
+    }
+}
+
+/// Replays steps of a source's threads. What is wrong is told, and the error is then the exit status.
+fn replay_text<A: Allocator + Copy, S: Read + Drop, E: Write>(
+    alloc: A,
+    text: &str,
+    threads: u32,
+    steps: &Steps,
+    schedule: S,
+    detail: Detail,
+    err: &mut E,
+) -> Result<(Compiled<A>, Replayed<A>), u8>
+    ensures ok { IfOk result (λ r. IsReplayOfText threads steps.now (S.remaining schedule) text.now r.0.code r.1.made.items r.1.stop (printed_of r.1.printed)) }
+    ensures status { IfErr result (λ s. (s ≡ 1) × IsRefused text.now ⊎ (s ≡ 2) ⊎ (s ≡ 4)) }
+{
+    match compile(alloc, text) {
+        Ok(compiled) => match lines_of(alloc, threads, steps, schedule, detail, err) {
+            Ok(found) => match replay_code(alloc, &compiled, threads, found.as_slice()) {
+                Ok(replayed) => Ok((compiled, replayed)),
+                Err(fault) => Err(refuse_replay(fault, err)),
+            },
+            Err(status) => Err(status),
+        },
+        Err(fault) => Err(refuse(alloc, text, fault, detail, err)),
+    }
+}
+
+/// Prints the steps of a seed as a schedule.
+fn print_schedule<A: Allocator + Copy, W: Write, E: Write>(
+    alloc: A,
+    text: &str,
+    threads: u32,
+    seed: u32,
+    count: u32,
+    detail: Detail,
+    out: &mut W,
+    err: &mut E,
+) -> u8
+    ensures status { result ≤ 4 }
+    ensures schedule { PrintsSchedule (lines_of_seed seed threads count) text.now result (W.contents out.old) (W.contents out.new) }
+    ensures refused { result ≡ 1 → IsRefused text.now }
+{
+    match compile(alloc, text) {
+        Ok(_compiled) => match lines_picked(alloc, seed, threads, count, detail, err) {
+            Ok(found) => match write_schedule(alloc, found.as_slice()) {
+                Ok(written) => print_text(written.as_str().as_bytes(), out, err),
+                Err(_) => out_of_memory(err),
+            },
+            Err(status) => status,
+        },
+        Err(fault) => refuse(alloc, text, fault, detail, err),
+    }
+}
+
+/// Lists the code of a source.
+fn list<A: Allocator + Copy, W: Write, E: Write>(
+    alloc: A,
+    text: &str,
+    detail: Detail,
+    out: &mut W,
+    err: &mut E,
+) -> u8
+    ensures status { result ≤ 4 }
+    ensures listing { PrintsListing text.now result (W.contents out.old) (W.contents out.new) }
+    ensures refused { result ≡ 1 → IsRefused text.now }
+{
+    match list_source(alloc, text) {
+        Ok(listed) => print_text(listed.as_str().as_bytes(), out, err),
+        Err(fault) => refuse(alloc, text, fault, detail, err),
+    }
+}
+
+/// Runs threads of a source in an order and prints their report.
+fn in_order<A: Allocator + Copy, W: Write, E: Write>(
+    alloc: A,
+    text: &str,
+    threads: u32,
+    order: &[u32],
+    ticks: u64,
+    detail: Detail,
+    out: &mut W,
+    err: &mut E,
+) -> u8
+    ensures status { result ≤ 4 }
+    ensures report { Prints (RunsInOrder threads ticks order.now text.now) result (W.contents out.old) (W.contents out.new) }
+    ensures refused { result ≡ 1 → IsRefused text.now }
+{
+    match run_in_order(alloc, text, threads, order, ticks) {
+        Ok(printed) => print_report(alloc, &printed, out, err),
+        Err(OrderFault::Source(fault)) => refuse(alloc, text, fault, detail, err),
+        Err(OrderFault::Order(fault)) => refuse_order(fault, err),
+    }
+}
+
+/// Says whether a source is accepted.
+fn check<A: Allocator + Copy, W: Write, E: Write>(
+    alloc: A,
+    text: &str,
+    detail: Detail,
+    out: &mut W,
+    err: &mut E,
+) -> u8
+    ensures status { result ≤ 4 }
+    ensures accepted { SaysAccepted text.now result (W.contents out.old) (W.contents out.new) }
+    ensures refused { result ≡ 1 → IsRefused text.now }
+{
+    match check_source(alloc, text) {
+        Ok(()) => print_text(b"accepted\n", out, err),
+        Err(fault) => refuse(alloc, text, fault, detail, err),
+    }
+}
+
+/// Prints a text, and gives the exit status.
+fn print_text<W: Write, E: Write>(text: &[u8], out: &mut W, err: &mut E) -> u8
+    ensures status { (result ≡ 0) ⊎ (result ≡ 4) }
+    ensures printed { result ≡ 0 → Appends (W.contents out.old) (W.contents out.new) text.now }
+{
+    match print(text, out) {
+        Ok(()) => ENDED,
+        Err(_) => cannot_write(err),
+    }
+}
+
+/// Prints a report, and gives the exit status by the ends of its threads.
+fn print_report<A: Allocator + Copy, W: Write, E: Write>(
+    alloc: A,
+    printed: &Printed<A>,
+    out: &mut W,
+    err: &mut E,
+) -> u8
+    ensures status { result ≤ 4 }
+    ensures report { PrintsShown (printed_of printed.now) result (W.contents out.old) (W.contents out.new) }
+    ensures not_refused { result ≢ 1 }
+{
+    match report_text(alloc, printed) {
+        Ok(report) => match print(report.as_slice(), out) {
+            Ok(()) => status_of(printed),
+            Err(_) => cannot_write(err),
+        },
+        Err(_) => out_of_memory(err),
+    }
+}
+
+/// Prints the report of a replay, and gives the exit status: by the ends of its threads, or by a step that was not made.
+fn print_replay<A: Allocator + Copy, W: Write, E: Write>(
+    alloc: A,
+    replayed: &Replayed<A>,
+    out: &mut W,
+    err: &mut E,
+) -> u8
+    ensures status { result ≤ 4 }
+    ensures whole { (result ≡ 0) ⊎ (result ≡ 3) → replayed.now.stop ≡ None }
+    ensures report { PrintsShown (printed_of replayed.now.printed) result (W.contents out.old) (W.contents out.new) }
+    ensures not_refused { result ≢ 1 }
+{
+    let status = print_report(alloc, &replayed.printed, out, err);
+    match replayed.stop {
+        Some(stop) => refuse_step(stop, err),
+        None => status,
+    }
+}
+
+/// Prints what is shown of each step of a replay, and then its report. Gives the exit status as `print_replay` does.
+fn print_timeline<A: Allocator + Copy, W: Write, E: Write>(
+    alloc: A,
+    code: &Code<A>,
+    threads: u32,
+    replayed: &Replayed<A>,
+    out: &mut W,
+    err: &mut E,
+) -> u8
+    ensures status { result ≤ 4 }
+    ensures whole { (result ≡ 0) ⊎ (result ≡ 3) → replayed.now.stop ≡ None }
+    ensures report { PrintsBehind (timeline_text code.now (timeline_of (played code.now threads replayed.now.made.items))) (printed_of replayed.now.printed) result (W.contents out.old) (W.contents out.new) }
+    ensures not_refused { result ≢ 1 }
+{
+    match lines_shown(alloc, code, threads, replayed.made.as_slice()) {
+        Some(lines) => match print(lines.as_slice(), out) {
+            Ok(()) => print_replay(alloc, replayed, out, err),
+            Err(_) => cannot_write(err),
+        },
+        // The steps were made once, so memory was refused.
+        None => out_of_memory(err),
+    }
+}
+
+/// Says what a fault means.
+fn explain<W: Write, E: Write>(number: u32, out: &mut W, err: &mut E) -> u8
+    ensures { result ≤ 4 }
+{
+    match explanation(number) {
+        Some(text) => print_text(text.as_bytes(), out, err),
+        None => unusable("no fault has this number", err),
+    }
+}

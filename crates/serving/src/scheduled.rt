@@ -1,0 +1,74 @@
+//! The lines that the steps of a replay come from.
+
+ghost use Rattle.std.specs.Prelude.{◌≡◌, ◌≤◌, ◌⊎◌, IfOk, IfErr, OnOk};
+ghost use Rattle.replay.specs.declared.line.TheConstants.{MOST_STEPS};
+ghost use Rattle.serving.specs.Replays.{AreLinesOf, IsSchedule, lines_of_seed};
+
+use crate::source::read_text;
+use crate::tell::{Detail, not_read, not_text, refuse_replay, refuse_schedule};
+use command::Steps;
+use replay::{Line, read_schedule, seeded};
+use std::alloc::Allocator;
+use std::io::{Read, Write};
+use world::WorldFault;
+
+/// The lines of a schedule, or of a seed. What is wrong with them is told, and the error is then the exit status.
+pub fn lines_of<A: Allocator + Copy, S: Read + Drop, E: Write>(
+    alloc: A,
+    threads: u32,
+    steps: &Steps,
+    schedule: S,
+    detail: Detail,
+    err: &mut E,
+) -> Result<Vec<Line, A>, u8>
+    ensures lines { IfOk result (λ v. AreLinesOf steps.now threads (S.remaining schedule) v.items) }
+    ensures told { IfErr result (λ s. (s ≡ 2) ⊎ (s ≡ 4)) }
+{
+    match steps {
+        Steps::Schedule { file } => lines_read(alloc, file.as_str(), schedule, detail, err),
+        Steps::Seed { seed, count } => lines_picked(alloc, *seed, threads, *count, detail, err),
+    }
+}
+
+/// The lines of a schedule.
+fn lines_read<A: Allocator + Copy, S: Read + Drop, E: Write>(
+    alloc: A,
+    file: &str,
+    schedule: S,
+    detail: Detail,
+    err: &mut E,
+) -> Result<Vec<Line, A>, u8>
+    ensures lines { IfOk result (λ v. IsSchedule (S.remaining schedule) v.items) }
+    ensures told { IfErr result (λ s. (s ≡ 2) ⊎ (s ≡ 4)) }
+{
+    match read_text(alloc, schedule) {
+        Ok(Some(text)) => match read_schedule(alloc, text.as_str()) {
+            Ok(found) => Ok(found),
+            Err(fault) => Err(refuse_schedule(alloc, text.as_str(), fault, detail, err)),
+        },
+        Ok(None) => Err(not_text(file, err)),
+        Err(error) => Err(not_read(file, &error, detail, err)),
+    }
+}
+
+/// The lines of a seed.
+pub fn lines_picked<A: Allocator + Copy, E: Write>(
+    alloc: A,
+    seed: u32,
+    threads: u32,
+    count: u32,
+    detail: Detail,
+    err: &mut E,
+) -> Result<Vec<Line, A>, u8>
+    ensures lines { IfOk result (λ v. v.items ≡ lines_of_seed seed threads count) }
+    ensures few { OnOk result (count ≤ MOST_STEPS) }
+    ensures told { IfErr result (λ s. (s ≡ 2) ⊎ (s ≡ 4)) }
+{
+    if threads == 0 {
+        return Err(refuse_replay(WorldFault::WrongThreads, err));
+    }
+    match seeded(alloc, u64::from(seed), threads, count) {
+        Ok(found) => Ok(found),
+        Err(fault) => Err(refuse_schedule(alloc, "", fault, detail, err)),
+    }
+}

@@ -1,0 +1,156 @@
+//! What a report shows of globals, and of threads in an order.
+
+ghost use Rattle.std.specs.Prelude.{◌≡◌, ◌++◌, [], map, take, drop, IfOk, OnOk};
+ghost use Rattle.syntax.specs.Views.{program_of, item_of, global_of};
+ghost use Rattle.syntax.specs.Names.{globals};
+ghost use Rattle.report.specs.Views.{printed_of, shown_of, thread_of};
+ghost use Rattle.meaning.specs.Outcomes.{thread_end_in};
+ghost use Rattle.serving.specs.Shows.{program_shown, order_end, shown_global, shown_globals, words_after};
+ghost use Rattle.serving.specs.inner.Told.{report_shown};
+
+use containers::{Copied, Items};
+use meaning::{SourceOutcome, ThreadEnd, ThreadReport};
+use report::{End, Printed, Shown, ThreadShown};
+use std::alloc::{AllocError, Allocator};
+use syntax::tree::{Global, Item, Unit};
+
+/// What the report of threads in an order shows.
+pub fn shown_in_order<A: Allocator + Copy>(
+    alloc: A,
+    unit: &Unit<A>,
+    ran: SourceOutcome<A>,
+) -> Result<Printed<A>, AllocError>
+    ensures { IfOk result (λ r. printed_of r ≡ program_shown (program_of unit.now) (map report_shown ran.threads.items) ran.memory.items) }
+{
+    let memory = wide(alloc, ran.memory.as_slice())?;
+    let globals = globals_shown(alloc, unit, memory.as_slice())?;
+    let threads = threads_shown(alloc, ran.threads)?;
+    Ok(Printed {
+        events: None,
+        threads,
+        globals,
+        holder: None,
+    })
+}
+
+/// What is shown of threads after their turns.
+fn threads_shown<A: Allocator + Copy>(
+    alloc: A,
+    reports: Vec<ThreadReport<A>, A>,
+) -> Result<Items<ThreadShown<A>, A>, AllocError>
+    ensures { IfOk result (λ v. map thread_of v ≡ map report_shown reports.items) }
+{
+    let mut threads = Items::new(alloc);
+    'reports: for report in reports {
+        threads.push(thread_shown(report))?;
+    }
+    Ok(threads)
+}
+
+/// What is shown of a thread after its turns.
+fn thread_shown<A: Allocator>(report: ThreadReport<A>) -> ThreadShown<A>
+    ensures { thread_of result ≡ report_shown report }
+{
+    ThreadShown {
+        end: end_in_order(report.end),
+        text: Items::from_vec(report.text),
+    }
+}
+
+/// How a thread is found after its turns in an order.
+fn end_in_order(end: ThreadEnd) -> End
+    ensures { result ≡ order_end (thread_end_in end) }
+{
+    match end {
+        ThreadEnd::Ended => End::Ended,
+        ThreadEnd::Trapped(trap) => End::Trapped(trap),
+        ThreadEnd::Wants => End::Waits,
+        ThreadEnd::Spent => End::Spent,
+    }
+}
+
+/// The globals of a program, with the words of their cells.
+pub fn globals_shown<A: Allocator + Copy>(
+    alloc: A,
+    unit: &Unit<A>,
+    words: &[u64],
+) -> Result<Items<Shown<A>, A>, AllocError>
+    ensures { IfOk result (λ v. map shown_of v ≡ shown_globals (globals (program_of unit.now)) words.now) }
+{
+    let mut shown = Items::new(alloc);
+    push_items(alloc, &mut shown, unit.items.as_slice(), words)?;
+    Ok(shown)
+}
+
+/// Adds the globals of items.
+fn push_items<A: Allocator + Copy>(
+    alloc: A,
+    shown: &mut Items<Shown<A>, A>,
+    items: &[Item<A>],
+    words: &[u64],
+) -> Result<(), AllocError>
+    ensures { OnOk result (map shown_of shown.new ≡ map shown_of shown.old ++ shown_globals (globals (map item_of items.now)) words.now) }
+{
+    let mut rest = words;
+    'items: for item in items {
+        if let Item::Globals(globals) = item {
+            rest = push_globals(alloc, shown, globals.as_slice(), rest)?;
+        }
+    }
+    Ok(())
+}
+
+/// Adds globals, and gives the words beyond theirs.
+fn push_globals<'a, A: Allocator + Copy>(
+    alloc: A,
+    shown: &mut Items<Shown<A>, A>,
+    globals: &[Global<A>],
+    words: &'a [u64],
+) -> Result<&'a [u64], AllocError>
+    ensures shown { OnOk result (map shown_of shown.new ≡ map shown_of shown.old ++ shown_globals (map global_of globals.now) words.now) }
+    ensures rest { IfOk result (λ r. r.now ≡ words_after (map global_of globals.now) words.now) }
+{
+    let mut rest = words;
+    'globals: for global in globals {
+        let (mine, others) = split(rest, global.cell_count());
+        shown.push(global_shown(alloc, global, mine)?)?;
+        rest = others;
+    }
+    Ok(rest)
+}
+
+/// A global with the words of its cells.
+fn global_shown<A: Allocator + Copy>(
+    alloc: A,
+    global: &Global<A>,
+    words: &[u64],
+) -> Result<Shown<A>, AllocError>
+    ensures { IfOk result (λ s. shown_of s ≡ shown_global (global_of global.now) words.now) }
+{
+    let name = global.name.text.copy(alloc)?;
+    let words = Vec::from_slice(alloc, words)?;
+    Ok(Shown {
+        name,
+        of: global.of,
+        words: Items::from_vec(words),
+    })
+}
+
+/// Words in 64 bits.
+fn wide<A: Allocator>(alloc: A, words: &[u32]) -> Result<Vec<u64, A>, AllocError>
+    ensures { IfOk result (λ v. v.items ≡ words.now) }
+{
+    let mut wide = Vec::new(alloc);
+    'words: for word in words {
+        wide.push(u64::from(*word))?;
+    }
+    Ok(wide)
+}
+
+/// The first words, and those after them.
+fn split(words: &[u64], count: usize) -> (&[u64], &[u64])
+    ensures first { result.0.now ≡ take count words.now }
+    ensures rest { result.1.now ≡ drop count words.now }
+{
+    words.split_at(count.min(words.len()))
+}

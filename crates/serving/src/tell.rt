@@ -1,0 +1,248 @@
+//! What standard error is told.
+
+ghost use Rattle.std.specs.Prelude.{◌≡◌, ◌≢◌, ◌≤◌, ◌⊎◌, OnOk, is_some, true};
+ghost use Rattle.serving.specs.Runs.{span_of_source};
+ghost use Rattle.std.specs.Io.KnownBytes.{Appends};
+ghost use Rattle.serving.specs.Usage.{IsHelp, IsWrong};
+
+use crate::run::SourceFault;
+use crate::status::{ENDED, REFUSED, STOPPED, UNUSABLE};
+use command::UsageFault;
+use faults::{underlined, words};
+use lex::place;
+use lex::token::Span;
+use meaning::MeaningFault;
+use replay::ScheduleFault;
+use std::alloc::Allocator;
+use std::io;
+use std::io::{ErrorKind, Write};
+use workers::RunFault;
+use world::{StopReason, WorldFault, WorldStop};
+
+/// How much is told of faults.
+#[derive(Clone, Copy, PartialEq, Eq, Debug)]
+pub struct Detail {
+    /// Whether the line of the source follows.
+    pub lines: bool,
+    /// Whether it is said why a file cannot be read.
+    pub reasons: bool,
+}
+
+/// Tells help, or why words are not a request. Gives the exit status.
+pub fn tell_usage<W: Write, E: Write>(fault: &UsageFault, out: &mut W, err: &mut E) -> u8
+    ensures help { IsHelp fault.now → (result ≡ 0) ⊎ (result ≡ 4) }
+    ensures wrong { IsWrong fault.now → result ≡ 2 }
+{
+    match fault {
+        UsageFault::OutOfMemory => out_of_memory(err),
+        UsageFault::Help { text } => match print(text.as_str().as_bytes(), out) {
+            Ok(()) => ENDED,
+            Err(_) => cannot_write(err),
+        },
+        UsageFault::Wrong { text } => {
+            let _ = write!(err, "{text}");
+            UNUSABLE
+        }
+    }
+}
+
+/// Says why a source is refused.
+pub fn refuse<A: Allocator + Copy, E: Write>(
+    alloc: A,
+    text: &str,
+    fault: SourceFault,
+    detail: Detail,
+    err: &mut E,
+) -> u8
+    ensures within { result ≤ 4 }
+    ensures not_ended { result ≢ 0 }
+    ensures not_trapped { result ≢ 3 }
+    ensures refused { result ≡ 1 → is_some (span_of_source fault) ≡ true }
+{
+    let number = fault.number();
+    match fault.span() {
+        Some(span) => {
+            let (line, column) = place(text, span.start.min(text.len()));
+            let _ = writeln!(
+                err,
+                "txc: fault {number:02} at {line}:{column}: {}",
+                words(number)
+            );
+            if detail.lines {
+                show_line(alloc, text, span, err);
+            }
+            REFUSED
+        }
+        None => out_of_memory(err),
+    }
+}
+
+/// Shows the line of a source that a span begins in, with carets under the span. Where memory is refused it shows nothing.
+fn show_line<A: Allocator + Copy, E: Write>(alloc: A, text: &str, span: Span, err: &mut E) {
+    if let Ok(shown) = underlined(alloc, text, span) {
+        let _ = err.write_all(shown.as_slice());
+    }
+}
+
+/// Says that memory was refused.
+pub fn out_of_memory<E: Write>(err: &mut E) -> u8
+    ensures { result ≡ 4 }
+{
+    let _ = writeln!(err, "txc: out of memory");
+    STOPPED
+}
+
+/// Says that the output was refused.
+pub fn cannot_write<E: Write>(err: &mut E) -> u8
+    ensures { result ≡ 4 }
+{
+    let _ = writeln!(err, "txc: cannot write");
+    STOPPED
+}
+
+/// Says that a file cannot be read, and why where that is wanted.
+pub fn cannot_read<E: Write>(file: &str, error: &io::Error, detail: Detail, err: &mut E) -> u8
+    ensures { result ≡ 2 }
+{
+    if detail.reasons {
+        let _ = writeln!(err, "txc: cannot read {file} ({error})");
+    } else {
+        let _ = writeln!(err, "txc: cannot read {file}");
+    }
+    UNUSABLE
+}
+
+/// Says why a file's text was not read: memory was refused, or the file cannot be read.
+pub fn not_read<E: Write>(file: &str, error: &io::Error, detail: Detail, err: &mut E) -> u8
+    ensures { (result ≡ 2) ⊎ (result ≡ 4) }
+{
+    match error.kind() {
+        ErrorKind::OutOfMemory => out_of_memory(err),
+        _ => cannot_read(file, error, detail, err),
+    }
+}
+
+/// Says that a file's text is not UTF-8.
+pub fn not_text<E: Write>(file: &str, err: &mut E) -> u8
+    ensures { result ≡ 2 }
+{
+    let _ = writeln!(err, "txc: {file} is not UTF-8");
+    UNUSABLE
+}
+
+/// Says that a source has too many bytes.
+pub fn too_long<E: Write>(err: &mut E) -> u8
+    ensures { result ≡ 1 }
+{
+    let _ = writeln!(err, "txc: fault 05 at 1:1: {}", words(5));
+    REFUSED
+}
+
+/// Says why threads were not run.
+pub fn refuse_run<E: Write>(fault: RunFault, err: &mut E) -> u8
+    ensures { result ≡ 4 }
+{
+    let number = match fault {
+        RunFault::OutOfMemory => return out_of_memory(err),
+        RunFault::Threads => 72,
+        RunFault::NotStarted => 73,
+    };
+    let _ = writeln!(err, "txc: fault {number}");
+    STOPPED
+}
+
+/// Says why nothing was replayed.
+pub fn refuse_replay<E: Write>(fault: WorldFault, err: &mut E) -> u8
+    ensures { result ≡ 4 }
+{
+    match fault {
+        WorldFault::OutOfMemory => out_of_memory(err),
+        WorldFault::WrongThreads => {
+            let _ = writeln!(err, "txc: fault 72");
+            STOPPED
+        }
+    }
+}
+
+/// Says that a step was not made, where that is of a thread that there is not. A report tells the other reasons.
+pub fn refuse_step<E: Write>(stop: WorldStop, err: &mut E) -> u8
+    ensures { result ≡ 4 }
+{
+    if stop.reason == StopReason::Stranger {
+        let _ = writeln!(err, "txc: fault 71 at step {}", stop.step);
+    }
+    STOPPED
+}
+
+/// Says why a schedule is refused.
+pub fn refuse_schedule<A: Allocator + Copy, E: Write>(
+    alloc: A,
+    text: &str,
+    fault: ScheduleFault,
+    detail: Detail,
+    err: &mut E,
+) -> u8
+    ensures { (result ≡ 2) ⊎ (result ≡ 4) }
+{
+    match fault {
+        ScheduleFault::OutOfMemory => return out_of_memory(err),
+        ScheduleFault::BadLine(line) => {
+            let _ = writeln!(err, "txc: fault 80 at line {line}");
+            if detail.lines {
+                show_line(alloc, text, span_of_line(text.as_bytes(), line), err);
+            }
+        }
+        ScheduleFault::TooLong => {
+            let _ = writeln!(err, "txc: fault 81");
+        }
+    }
+    UNUSABLE
+}
+
+/// Where the line of this number stands in a text, or its last line.
+fn span_of_line(text: &[u8], line: usize) -> Span {
+    let mut start = 0;
+    let mut left = line;
+    'bytes: for at in 0..text.len() {
+        if text[at] == b'\n' {
+            if left <= 1 {
+                return Span { start, end: at };
+            }
+            left -= 1;
+            start = at + 1;
+        }
+    }
+    Span {
+        start,
+        end: text.len(),
+    }
+}
+
+/// Says why an order is refused.
+pub fn refuse_order<E: Write>(fault: MeaningFault, err: &mut E) -> u8
+    ensures { (result ≡ 2) ⊎ (result ≡ 4) }
+{
+    match fault {
+        MeaningFault::OutOfMemory => out_of_memory(err),
+        MeaningFault::Stranger | MeaningFault::WrongThreads => {
+            let _ = writeln!(err, "txc: fault {}", fault.number());
+            UNUSABLE
+        }
+    }
+}
+
+/// Says that words are of no use.
+pub fn unusable<E: Write>(why: &str, err: &mut E) -> u8
+    ensures { result ≡ 2 }
+{
+    let _ = writeln!(err, "txc: usage: {why}");
+    UNUSABLE
+}
+
+/// Writes a text and flushes the writer.
+pub fn print<W: Write>(text: &[u8], out: &mut W) -> io::Result<()>
+    ensures { OnOk result (Appends (W.contents out.old) (W.contents out.new) text.now) }
+{
+    out.write_all(text)?;
+    out.flush()
+}

@@ -1,0 +1,286 @@
+//! The examples of docs/FAULTS.md: each is a source, its fault's number, and what standard error says behind the number.
+//! `scripts/faults.py` compares these tables with the document's.
+
+use crate::served::{answers, serve_bytes, tells};
+use command::{Request, command};
+use std::alloc::{AllocError, Allocator, Global};
+use std::sync::Wait;
+use std::test::Fail;
+use std::thread::Threads;
+
+/// A source, the number of its fault, and what is told behind it.
+type Told = (&'static str, u32, &'static str);
+
+/// The faults that a program can show today.
+fn told() -> &'static [Told] {
+    static TOLD: [Told; 27] = [
+        ("int x$;", 1, "1:6: bad character"),
+        ("int x = 2147483648;", 2, "1:9: constant too large"),
+        ("void worker(int self) { } /* end", 3, "1:27: open comment"),
+        ("void worker(int self) { printf(\"a", 4, "1:32: bad string"),
+        ("#define A 1", 6, "1:1: directive"),
+        ("int x y;", 10, "1:7: unexpected token"),
+        ("void worker(int self) {", 12, "1:24: unexpected end"),
+        (
+            "void worker(int self) { __transaction_atomic { z = 1; } }",
+            20,
+            "1:48: unknown name",
+        ),
+        (
+            "int x, x; void worker(int self) { }",
+            21,
+            "1:8: declared twice",
+        ),
+        (
+            "int x; void worker(int self) { __transaction_atomic { x = worker; } }",
+            22,
+            "1:59: wrong type",
+        ),
+        (
+            "void worker(int self) { __transaction_atomic { worker = 1; } }",
+            24,
+            "1:48: not assignable",
+        ),
+        ("void other(int self) { }", 28, "1:25: no worker"),
+        (
+            "void f(void) { } void worker(int self) { int v = f(); }",
+            22,
+            "1:50: wrong type",
+        ),
+        (
+            "void f(void) { } void worker(int self) { f(1); }",
+            23,
+            "1:42: wrong number of arguments",
+        ),
+        (
+            "void worker(int self) { 1 = 2; }",
+            24,
+            "1:25: not assignable",
+        ),
+        (
+            "int a[0]; void worker(int self) { }",
+            25,
+            "1:7: bad array length",
+        ),
+        (
+            "void worker(int self) { break; }",
+            26,
+            "1:25: break or continue outside a loop",
+        ),
+        (
+            "void worker(int self) { printf(\"%x\", 1); }",
+            27,
+            "1:32: bad format",
+        ),
+        ("int x;", 28, "1:7: no worker"),
+        ("", 28, "1:1: no worker"),
+        (
+            "void f(void); void worker(int self) { }",
+            29,
+            "1:6: not defined",
+        ),
+        (
+            "void worker(int self) { __transaction_atomic { printf(\"a\"); } }",
+            40,
+            "1:48: unsafe in atomic",
+        ),
+        (
+            "void worker(int self) { __transaction_atomic { __transaction_relaxed { } } }",
+            41,
+            "1:48: relaxed in atomic",
+        ),
+        (
+            "void worker(int self) { __transaction_relaxed { __transaction_cancel; } }",
+            42,
+            "1:49: cancel outside atomic",
+        ),
+        (
+            "__attribute__((transaction_safe)) void f(void) { printf(\"a\"); } void worker(int self) { }",
+            43,
+            "1:40: transaction_safe on an unsafe function",
+        ),
+        (
+            "int x; void worker(int self) { x = 1; }",
+            50,
+            "1:32: shared access outside a transaction",
+        ),
+        (
+            "int x; int get(void) { return x; } void worker(int self) { get(); }",
+            51,
+            "1:60: call touches shared data outside a transaction",
+        ),
+    ];
+    &TOLD
+}
+
+/// The same of a source in pieces, each so many times.
+type ToldOfLong = (&'static [(&'static str, usize)], u32, &'static str);
+
+/// Those of long sources.
+fn told_of_long() -> &'static [ToldOfLong] {
+    static LONG: [ToldOfLong; 3] = [
+        (&[(" ", 1048577)], 5, "1:1: file too long"),
+        (
+            &[
+                ("void worker(int self) { ", 1),
+                ("(", 98),
+                ("1", 1),
+                (")", 98),
+                ("; }", 1),
+            ],
+            11,
+            "1:123: nested too deep",
+        ),
+        (
+            &[
+                ("void worker(int self) { ", 1),
+                ("__transaction_atomic { ", 17),
+                ("} ", 17),
+                ("}", 1),
+            ],
+            62,
+            "1:393: transactions nested too deep",
+        ),
+    ];
+    &LONG
+}
+
+/// The text that pieces make.
+fn joined<A: Allocator + Copy>(
+    alloc: A,
+    pieces: &[(&str, usize)],
+) -> Result<String<A>, AllocError> {
+    let mut text = String::new(alloc);
+    for (piece, times) in pieces {
+        for _ in 0..*times {
+            text.push_str(piece)?;
+        }
+    }
+    Ok(text)
+}
+
+// The line that tells a fault.
+fn line(alloc: Global, number: u32, told: &str) -> Result<String, AllocError> {
+    format!(in alloc; "txc: fault {number:02} at {told}\n")
+}
+
+// Whether `txc run` answers a source by a fault with this number, and these words behind it.
+fn is_told<H: Threads + Wait + Sync>(
+    rt: &H,
+    alloc: Global,
+    source: &[u8],
+    number: u32,
+    told: &str,
+) -> bool {
+    match line(alloc, number, told) {
+        Ok(line) => {
+            let wanted = (1, b"".as_slice(), line.as_str().as_bytes());
+            tells(rt, alloc, &["txc", "run", "a.c"], source, wanted)
+        }
+        Err(_) => false,
+    }
+}
+
+#[test]
+fn faults_are_told_with_place_and_words(rt: HostRuntime) -> Result<(), Fail> {
+    for (source, number, words) in told() {
+        let right = is_told(&rt, rt.alloc(), source.as_bytes(), *number, words);
+        assert!(rt; right, "{source}");
+    }
+    Ok(())
+}
+
+// The same of a source in pieces.
+fn is_told_of<H: Threads + Wait + Sync>(
+    rt: &H,
+    alloc: Global,
+    pieces: &[(&str, usize)],
+    number: u32,
+    told: &str,
+) -> bool {
+    match joined(alloc, pieces) {
+        Ok(source) => is_told(rt, alloc, source.as_str().as_bytes(), number, told),
+        Err(_) => false,
+    }
+}
+
+#[test]
+fn faults_of_long_sources_are_told(rt: HostRuntime) -> Result<(), Fail> {
+    for (pieces, number, words) in told_of_long() {
+        assert!(rt;
+            is_told_of(&rt, rt.alloc(), pieces, *number, words),
+            "{number}"
+        );
+    }
+    Ok(())
+}
+
+/// What is told on a terminal of a source.
+const UNDERLINED: (&str, &str) = (
+    "void worker(int self) { __transaction_atomic { zoo = 1; } }",
+    "txc: fault 20 at 1:48: unknown name\nvoid worker(int self) { __transaction_atomic { zoo = 1; } }\n                                               ^^^\n",
+);
+
+#[test]
+fn the_line_follows_on_a_terminal(rt: HostRuntime) -> Result<(), Fail> {
+    let (source, told) = UNDERLINED;
+    let wanted = (1, b"".as_slice(), told.as_bytes());
+    let check = ["txc", "check", "a.c"];
+    assert!(rt;
+        answers(
+            &rt,
+            rt.alloc(),
+            &check,
+            source.as_bytes(),
+            b"",
+            true,
+            wanted
+        )
+    );
+    let verbose = ["txc", "run", "--verbose", "a.c"];
+    assert!(rt;
+        answers(
+            &rt,
+            rt.alloc(),
+            &verbose,
+            source.as_bytes(),
+            b"",
+            false,
+            wanted
+        )
+    );
+    Ok(())
+}
+
+// Whether what is explained begins so.
+fn explains<H: Threads + Wait + Sync>(
+    rt: &H,
+    alloc: Global,
+    request: &Request,
+    begins: &[u8],
+) -> bool {
+    let served = serve_bytes(rt, alloc, request, b"");
+    served.status == 0 && served.out.starts_with(begins)
+}
+
+#[test]
+fn explains_faults(rt: HostRuntime) -> Result<(), Fail> {
+    let request = command(rt.alloc(), ["txc", "explain", "20"].as_slice())?;
+    let begins = b"fault 20: unknown name\nWhen: ";
+    assert!(rt; explains(&rt, rt.alloc(), &request, begins));
+    let unknown = ["txc", "explain", "07"];
+    let told = b"txc: usage: no fault has this number\n";
+    assert!(rt; tells(&rt, rt.alloc(), &unknown, b"", (2, b"", told)));
+    Ok(())
+}
+
+/// A text that is too long is told as such before it is told that it is not UTF-8.
+#[test]
+fn a_long_text_that_is_not_utf8_is_too_long(rt: HostRuntime) -> Result<(), Fail> {
+    let mut source = Vec::new(rt.alloc());
+    for _ in 0..1048577u32 {
+        source.push(b'\xff')?;
+    }
+    assert!(rt; is_told(&rt, rt.alloc(), source.as_slice(), 5, "1:1: file too long"));
+    Ok(())
+}

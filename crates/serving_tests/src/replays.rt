@@ -1,0 +1,719 @@
+//! Replays over readers and writers in memory.
+
+use crate::served::{ADDS, Answer, Broken, Served, answers, is_answer, serve_bytes, serve_told};
+use command::{Request, Steps, Task, command};
+use refusing::Refusing;
+use replay::{Line, read_schedule};
+use report::{Printed, report_text};
+use serving::{Compiled, Replayed, compile, lines_shown, replay_code, serve};
+use std::alloc::{AllocError, Allocator, Global};
+use std::str;
+use std::sync::Wait;
+use std::test::Fail;
+use std::thread::Threads;
+
+/// Whether a replay of a schedule is answered so.
+fn replays<H: Threads + Wait + Sync>(
+    rt: &H,
+    alloc: Global,
+    source: &[u8],
+    threads: &str,
+    schedule: &[u8],
+    wanted: Answer,
+) -> bool {
+    let words = [
+        "txc",
+        "replay",
+        "a.c",
+        "--threads",
+        threads,
+        "--schedule",
+        "s.txt",
+    ];
+    answers(rt, alloc, &words, source, schedule, false, wanted)
+}
+
+/// A source, how many threads run it and a schedule, and what is answered.
+type Row = (&'static [u8], &'static str, &'static [u8], Answer<'static>);
+
+fn schedules() -> &'static [Row] {
+    static ROWS: [Row; 20] = [
+        // a lost swap, and a validation that fails
+        (
+            b"int x; void worker(int self) { __transaction_atomic { x = x + 1; } }",
+            "2",
+            b"0 a1\n1 a1\n0 a1\n1 a1\n0 a1\n1 a1\n0 a1\n1 a1\n0 a1\n1 a1\n0 a2\n1 a9\n",
+            (
+                0,
+                b"== events\n11 0 commit\n13 1 abort\n19 1 commit\n== thread 0: ended\n== thread 1: ended\n== memory\nx = 2\n",
+                b"",
+            ),
+        ),
+        // a lost swap, and a validation that passes: the word was stored anew and is the same
+        (
+            b"int x = 5, y; void worker(int self) { __transaction_atomic { if (self == 0) x = 5; else y = x; } }",
+            "2",
+            b"1 a3\n0 a5\n1 a8\n",
+            (
+                0,
+                b"== events\n7 0 commit\n14 1 commit\n== thread 0: ended\n== thread 1: ended\n== memory\nx = 5\ny = 5\n",
+                b"",
+            ),
+        ),
+        // x goes 1, 2, 1 between the reads
+        (
+            b"int x = 1, y, s; void worker(int self) { if (self == 0) { __transaction_atomic { x = 2; } __transaction_atomic { x = 1; y = 7; } } else { __transaction_atomic { s = x * 10 + y; } } }",
+            "2",
+            b"1 a3\n0 a10\n1 a11\n",
+            (
+                0,
+                b"== events\n7 0 commit\n12 0 commit\n22 1 commit\n== thread 0: ended\n== thread 1: ended\n== memory\nx = 1\ny = 7\ns = 17\n",
+                b"",
+            ),
+        ),
+        // an attempt that will be dropped never divides by the 0 that no memory had
+        (
+            b"int x = 3, y = 3, q; void worker(int self) { if (self == 0) { __transaction_atomic { x = 4; y = 4; } } else { __transaction_atomic { q = 100 / (1 + x - y); } } }",
+            "2",
+            b"1 a3\n0 a4\n1 a3\n0 a2\n1 a11\n",
+            (
+                0,
+                b"== events\n11 0 commit\n13 1 abort\n21 1 commit\n== thread 0: ended\n== thread 1: ended\n== memory\nx = 4\ny = 4\nq = 100\n",
+                b"",
+            ),
+        ),
+        // a transaction that only reads commits late, and what it read was there
+        (
+            b"int x = 1; void worker(int self) { int v; if (self == 0) { __transaction_atomic { x = 2; } } else { __transaction_atomic { v = x; } printf(\"%d\\n\", v); } }",
+            "2",
+            b"1 a3\n0 a5\n1 a1\n",
+            (
+                0,
+                b"== events\n7 0 commit\n7 1 commit\n== thread 0: ended\n== thread 1: ended\n1\n== memory\nx = 2\n",
+                b"",
+            ),
+        ),
+        // what a cancelled transaction has read is still validated
+        (
+            b"int f, g = 1, h; void worker(int self) { if (self == 0) { __transaction_atomic { f = 1; h = 1; } } else { __transaction_atomic { __transaction_atomic { if (f == 0) { g = 9; __transaction_cancel; } g = 5; } g = g + h; } } }",
+            "2",
+            b"1 a5\n0 a6\n1 a13\n",
+            (
+                0,
+                b"== events\n3 1 cancel\n10 0 commit\n14 1 abort\n22 1 commit\n== thread 0: ended\n== thread 1: ended\n== memory\nf = 1\ng = 6\nh = 1\n",
+                b"",
+            ),
+        ),
+        // an attempt is dropped before it prints
+        (
+            b"int x; void worker(int self) { __transaction_relaxed { x = x + 1; printf(\"%d\\n\", x); } }",
+            "2",
+            b"0 a3\n1 a3\n0 a1\n1 a2\n0 a3\n1 a9\n",
+            (
+                0,
+                b"== events\n11 0 commit\n13 1 abort\n19 1 commit\n== thread 0: ended\n1\n== thread 1: ended\n2\n== memory\nx = 2\n",
+                b"",
+            ),
+        ),
+        // a thread that has the lock
+        (
+            b"int x; void worker(int self) { __transaction_relaxed { x = x + 1; printf(\"%d\\n\", x); } }",
+            "1",
+            b"0 a5\n",
+            (
+                4,
+                b"== events\n== thread 0: running\n1\n== memory: lock held by thread 0\n",
+                b"",
+            ),
+        ),
+        // a trap releases the lock and stores nothing
+        (
+            b"int x = 2147483647, y; void worker(int self) { __transaction_relaxed { y = 3; printf(\"go\\n\"); x = x + 1; } }",
+            "1",
+            b"0 a10\n",
+            (
+                3,
+                b"== events\n4 0 trap 1\n== thread 0: trap 1\ngo\n== memory\nx = 2147483647\ny = 0\n",
+                b"",
+            ),
+        ),
+        // an inner cancel
+        (
+            b"int x = 1, y; void worker(int self) { __transaction_atomic { x = 2; __transaction_atomic { x = 3; y = x; __transaction_cancel; } y = x + y; } }",
+            "1",
+            b"0 a20\n",
+            (
+                0,
+                b"== events\n1 0 cancel\n7 0 commit\n== thread 0: ended\n== memory\nx = 2\ny = 2\n",
+                b"",
+            ),
+        ),
+        // the lock is taken before the first print
+        (
+            b"int x = 4; void worker(int self) { __transaction_relaxed { x = x + 1; printf(\"%d \", x); x = x * 2; printf(\"%d\", x); } }",
+            "1",
+            b"0 a20\n",
+            (
+                0,
+                b"== events\n6 0 commit\n== thread 0: ended\n5 10\n== memory\nx = 10\n",
+                b"",
+            ),
+        ),
+        // a cancel while the lock is kept
+        (
+            b"int x = 4, y = 7; void worker(int self) { __transaction_relaxed { printf(\"go\"); x = y; __transaction_atomic { y = 1; __transaction_cancel; } } }",
+            "1",
+            b"0 a20\n",
+            (
+                0,
+                b"== events\n3 0 cancel\n5 0 commit\n== thread 0: ended\ngo\n== memory\nx = 7\ny = 7\n",
+                b"",
+            ),
+        ),
+        // a stranger: the steps before it stand
+        (
+            b"void worker(int self) { }",
+            "2",
+            b"0 1000\n7 1\n1 100\n",
+            (
+                4,
+                b"== events\n== thread 0: ended\n== thread 1: running\n== memory\n",
+                b"txc: fault 71 at step 1000\n",
+            ),
+        ),
+        // a stranger when all threads have ended, or one has trapped
+        (
+            b"void worker(int self) { }",
+            "1",
+            b"0 5\n1 a1\n",
+            (
+                4,
+                b"== events\n== thread 0: ended\n== memory\n",
+                b"txc: fault 71 at step 5\n",
+            ),
+        ),
+        (
+            b"void worker(int self) { 1 << 32; }",
+            "1",
+            b"0 9\n4294967295 1\n",
+            (
+                4,
+                b"== events\n0 0 trap 5\n== thread 0: trap 5\n== memory\n",
+                b"txc: fault 71 at step 9\n",
+            ),
+        ),
+        // a stranger of whom no step is asked
+        (
+            b"void worker(int self) { }",
+            "1",
+            b"7 0\n0 5\n",
+            (0, b"== events\n== thread 0: ended\n== memory\n", b""),
+        ),
+        // as many steps as a schedule may ask for, none, and no line
+        (
+            b"void worker(int self) { }",
+            "1",
+            b"0 1048576\n",
+            (0, b"== events\n== thread 0: ended\n== memory\n", b""),
+        ),
+        (
+            b"void worker(int self) { }",
+            "1",
+            b"0 a0\n",
+            (4, b"== events\n== thread 0: running\n== memory\n", b""),
+        ),
+        (
+            b"int x; void worker(int self) { __transaction_atomic { x = x + 1; } }",
+            "1",
+            b"\n",
+            (
+                4,
+                b"== events\n== thread 0: running\n== memory\nx = 0\n",
+                b"",
+            ),
+        ),
+        // spaces round the two, leading zeros, blank lines, and CR before LF
+        (
+            b"int x; void worker(int self) { __transaction_atomic { x = x + 1; } }",
+            "1",
+            b"  0   a004  \r\n\r\n   \n0 a9",
+            (
+                0,
+                b"== events\n6 0 commit\n== thread 0: ended\n== memory\nx = 1\n",
+                b"",
+            ),
+        ),
+    ];
+    &ROWS
+}
+
+#[test]
+fn replays_schedules(rt: HostRuntime) -> Result<(), Fail> {
+    for (source, threads, schedule, wanted) in schedules() {
+        let right = replays(&rt, rt.alloc(), source, threads, schedule, *wanted);
+        assert!(rt; right, "{source:?} {schedule:?}");
+    }
+    Ok(())
+}
+
+/// A schedule that is refused, what is told of it, and what follows on a terminal.
+type Refusal = (&'static [u8], &'static [u8], &'static [u8]);
+
+fn refusals() -> &'static [Refusal] {
+    static ROWS: [Refusal; 9] = [
+        (b"0 x", b"txc: fault 80 at line 1\n", b"0 x\n^^^\n"),
+        (
+            b"0 1\n\n  1 b2 \n0 1\n",
+            b"txc: fault 80 at line 3\n",
+            b"  1 b2 \n^^^^^^^\n",
+        ),
+        (
+            b"0 1\r\n-1 1\r\n",
+            b"txc: fault 80 at line 2\n",
+            b"-1 1\n^^^^\n",
+        ),
+        (
+            b"0 4294967296\n",
+            b"txc: fault 80 at line 1\n",
+            b"0 4294967296\n^^^^^^^^^^^^\n",
+        ),
+        (b"-1 1", b"txc: fault 80 at line 1\n", b"-1 1\n^^^^\n"),
+        (b"0\t1", b"txc: fault 80 at line 1\n", b"0\t1\n^^^\n"),
+        (b"0 1048576\n0 1\n", b"txc: fault 81\n", b""),
+        // the first of two decides
+        (b"0 1048576\n0 1\n0 x\n", b"txc: fault 81\n", b""),
+        (b"0 \xff", b"txc: s.txt is not UTF-8\n", b""),
+    ];
+    &ROWS
+}
+
+// Whether this is what was served of a schedule that is refused: its fault, and this behind it.
+fn is_refused_so(served: &Served, told: &[u8], shown: &[u8]) -> bool {
+    let err = served.err.as_slice();
+    served.status == 2
+        && served.out.is_empty()
+        && err.starts_with(told)
+        && err.get(told.len()..) == Some(shown)
+}
+
+// Whether a schedule is refused so, on a terminal or not.
+fn is_refused<H: Threads + Wait + Sync>(
+    rt: &H,
+    alloc: Global,
+    schedule: &[u8],
+    is_terminal: bool,
+    told: &[u8],
+    shown: &[u8],
+) -> bool {
+    match command(alloc, &["txc", "replay", "a.c", "--schedule", "s.txt"]) {
+        Ok(request) => {
+            let served = serve_told(rt, alloc, &request, ADDS, schedule, is_terminal);
+            is_refused_so(&served, told, shown)
+        }
+        Err(_) => false,
+    }
+}
+
+#[test]
+fn refuses_schedules(rt: HostRuntime) -> Result<(), Fail> {
+    for (schedule, told, shown) in refusals() {
+        assert!(rt;
+            is_refused(&rt, rt.alloc(), schedule, true, told, shown),
+            "{schedule:?}"
+        );
+        assert!(rt;
+            is_refused(&rt, rt.alloc(), schedule, false, told, b""),
+            "{schedule:?}"
+        );
+    }
+    Ok(())
+}
+
+/// A source that is refused, and what is told of it.
+const BARE: &[u8] = b"int x; void worker(int self) { x = 1; }";
+
+const BARE_TOLD: &[u8] = b"txc: fault 50 at 1:32: shared access outside a transaction\n";
+
+/// A source is refused before its schedule is read.
+#[test]
+fn refuses_a_source_first(rt: HostRuntime) -> Result<(), Fail> {
+    let wanted = (1, b"".as_slice(), BARE_TOLD);
+    assert!(rt; replays(&rt, rt.alloc(), BARE, "1", b"0 x", wanted));
+    Ok(())
+}
+
+// Whether a schedule that cannot be read is told so.
+fn cannot_read<H: Threads + Wait + Sync>(
+    rt: &H,
+    alloc: Global,
+    request: &Request,
+    told: &[u8],
+) -> bool {
+    let mut out = Vec::new(alloc);
+    let mut err = Vec::new(alloc);
+    let status = serve(rt, alloc, request, ADDS, Broken, &mut out, &mut err, false);
+    status == 2 && out.is_empty() && err.as_slice() == told
+}
+
+#[test]
+fn a_schedule_that_cannot_be_read(rt: HostRuntime) -> Result<(), Fail> {
+    let words = ["txc", "replay", "a.c", "--schedule=s.txt", "--verbose"];
+    let request = command(rt.alloc(), words.as_slice())?;
+    let told = b"txc: cannot read s.txt (permission denied)\n";
+    assert!(rt; cannot_read(&rt, rt.alloc(), &request, told));
+    Ok(())
+}
+
+/// The steps of seed 7 for three threads, by PCG-XSH-RR 64/32 as it was published.
+const SEED_7: &[u8] =
+    b"2 2\n1 1\n0 3\n2 1\n1 1\n2 1\n0 2\n1 1\n2 1\n1 2\n0 3\n1 1\n2 1\n0 1\n2 1\n0 1\n1 1\n0 1\n2 1\n1 1\n2 2\n1 1\n2 2\n1 1\n0 1\n1 1\n0 2\n2 1\n1 1\n0 1\n2 1\n0 2\n1 4\n2 2\n0 1\n1 3\n0 3\n1 1\n0 3";
+
+/// Three threads that add, and show what they find.
+const SHOWS: &[u8] =
+    b"int x = 1; void worker(int self) { int i; for (i = 0; i < 2; i++) { int v; __transaction_atomic { v = x; x = x * 3 + self; } printf(\"%d \", v); } }";
+
+// What is answered to words with a source alone.
+fn served<H: Threads + Wait + Sync>(
+    rt: &H,
+    alloc: Global,
+    words: &[&str],
+    source: &[u8],
+) -> Option<Served> {
+    match command(alloc, words) {
+        Ok(request) => Some(serve_bytes(rt, alloc, &request, source)),
+        Err(_) => None,
+    }
+}
+
+// Whether a replay of a schedule by three threads is answered as another one was.
+fn is_replayed_alike<H: Threads + Wait + Sync>(
+    rt: &H,
+    alloc: Global,
+    schedule: &[u8],
+    other: &Served,
+) -> bool {
+    let wanted = (other.status, other.out.as_slice(), other.err.as_slice());
+    replays(rt, alloc, SHOWS, "3", schedule, wanted)
+}
+
+// Whether words for a seed are answered with this status, and as a schedule is.
+fn replays_as<H: Threads + Wait + Sync>(
+    rt: &H,
+    alloc: Global,
+    words: &[&str],
+    status: u8,
+    schedule: &[u8],
+) -> bool {
+    match served(rt, alloc, words, SHOWS) {
+        Some(seeded) => {
+            seeded.status == status
+                && seeded.err.is_empty()
+                && is_replayed_alike(rt, alloc, schedule, &seeded)
+        }
+        None => false,
+    }
+}
+
+// Whether all threads end by the steps of a seed.
+fn ends<H: Threads + Wait + Sync>(rt: &H, alloc: Global, words: &[&str]) -> bool {
+    match served(rt, alloc, words, SHOWS) {
+        Some(seeded) => seeded.status == 0,
+        None => false,
+    }
+}
+
+#[test]
+fn replays_seeds(rt: HostRuntime) -> Result<(), Fail> {
+    let words = [
+        "txc",
+        "replay",
+        "a.c",
+        "--threads=3",
+        "--seed=7",
+        "--steps=60",
+    ];
+    assert!(rt; replays_as(&rt, rt.alloc(), &words, 4, SEED_7));
+    let words = ["txc", "replay", "a.c", "--threads=3", "--seed=7"];
+    assert!(rt; ends(&rt, rt.alloc(), &words));
+    Ok(())
+}
+
+#[test]
+fn prints_schedules(rt: HostRuntime) -> Result<(), Fail> {
+    let words = [
+        "txc",
+        "replay",
+        "a.c",
+        "--threads=3",
+        "--seed=7",
+        "--steps=5",
+        "--print-schedule",
+    ];
+    let printed = (0, b"2 1\n2 1\n1 1\n0 1\n0 1\n".as_slice(), b"".as_slice());
+    assert!(rt; answers(&rt, rt.alloc(), &words, SHOWS, b"", false, printed));
+    let refused = (1, b"".as_slice(), BARE_TOLD);
+    assert!(rt; answers(&rt, rt.alloc(), &words, BARE, b"", false, refused));
+    Ok(())
+}
+
+// Whether what is printed for words is a schedule that is replayed as another replay was.
+fn prints_alike<H: Threads + Wait + Sync>(
+    rt: &H,
+    alloc: Global,
+    words: &[&str],
+    other: &Served,
+) -> bool {
+    match served(rt, alloc, words, SHOWS) {
+        Some(printed) => is_replayed_alike(rt, alloc, printed.out.as_slice(), other),
+        None => false,
+    }
+}
+
+// Whether the steps of a seed, printed as a schedule, are read back to the same report.
+fn reads_back<H: Threads + Wait + Sync>(
+    rt: &H,
+    alloc: Global,
+    replay: &[&str],
+    print: &[&str],
+) -> bool {
+    match served(rt, alloc, replay, SHOWS) {
+        Some(seeded) => prints_alike(rt, alloc, print, &seeded),
+        None => false,
+    }
+}
+
+#[test]
+fn reads_back_what_is_printed(rt: HostRuntime) -> Result<(), Fail> {
+    let replay = ["txc", "replay", "a.c", "--threads=3", "--seed=4294967295"];
+    let print = [
+        "txc",
+        "replay",
+        "a.c",
+        "--threads=3",
+        "--seed=4294967295",
+        "--print-schedule",
+    ];
+    assert!(rt; reads_back(&rt, rt.alloc(), &replay, &print));
+    Ok(())
+}
+
+// A request of so many threads and steps.
+fn seeded(alloc: Global, threads: u32, count: u32) -> Result<Request, AllocError> {
+    let file = String::from_str(alloc, "a.c")?;
+    let steps = Steps::Seed { seed: 1, count };
+    Ok(Request::Program {
+        file,
+        verbose: false,
+        task: Task::Replay { threads, steps },
+    })
+}
+
+// Whether a request is answered so.
+fn is_served<H: Threads + Wait + Sync>(
+    rt: &H,
+    alloc: Global,
+    request: &Request,
+    wanted: Answer,
+) -> bool {
+    let served = serve_bytes(rt, alloc, request, ADDS);
+    is_answer(&served, wanted)
+}
+
+/// What no words ask for, and a caller may all the same.
+#[test]
+fn refuses_requests(rt: HostRuntime) -> Result<(), Fail> {
+    let rows: [(u32, u32, Answer); 3] = [
+        (0, 5, (4, b"", b"txc: fault 72\n")),
+        (65, 5, (4, b"", b"txc: fault 72\n")),
+        (1, 1048577, (2, b"", b"txc: fault 81\n")),
+    ];
+    for (threads, count, wanted) in rows {
+        let request = seeded(rt.alloc(), threads, count)?;
+        assert!(rt; is_served(&rt, rt.alloc(), &request, wanted));
+    }
+    Ok(())
+}
+
+/// A loop of transactions, and a print after each.
+const COUNTS: &[u8] =
+    b"int x; void worker(int self) { int i; for (i = 0; i < 100; i++) { __transaction_atomic { x = x + 1; } printf(\"%d \", i); } }";
+
+// The thread of a commit that a line tells.
+fn committer(line: &str) -> Option<&str> {
+    let told = line.strip_suffix(" commit")?;
+    let (_, thread) = told.split_once(' ')?;
+    Some(thread)
+}
+
+// One more of what commas join.
+fn push_joined(order: &mut String, thread: &str) -> Result<(), AllocError> {
+    if !order.as_str().is_empty() {
+        order.push_str(",")?;
+    }
+    order.push_str(thread)
+}
+
+/// The threads of the commits that a report tells, joined by commas.
+fn push_order(order: &mut String, report: &str) -> Result<(), AllocError> {
+    for line in report.lines() {
+        if line.starts_with("== thread") {
+            break;
+        }
+        if let Some(thread) = committer(line) {
+            push_joined(order, thread)?;
+        }
+    }
+    Ok(())
+}
+
+// Whether a run of the source leaves what a replay does, if that tells it, and each thread's text there begins the one here.
+fn agrees(replayed: &str, ran: &str) -> bool {
+    let Some((_, left)) = replayed.split_once("== memory\n") else {
+        return true;
+    };
+    let texts = replayed.lines().filter(|line| line.starts_with("0 "));
+    let others = ran.lines().filter(|line| line.starts_with("0 "));
+    for (text, other) in texts.zip(others) {
+        if !other.starts_with(text) {
+            return false;
+        }
+    }
+    ran.ends_with(left)
+}
+
+// Whether the source, run in an order, agrees with a replay.
+fn runs_alike<H: Threads + Wait + Sync>(
+    rt: &H,
+    alloc: Global,
+    order: &str,
+    replayed: &str,
+) -> bool {
+    let words = ["txc", "source", "a.c", "--threads=4", "--order", order];
+    match served(rt, alloc, &words, COUNTS) {
+        Some(ran) => match str::from_utf8(ran.out.as_slice()) {
+            Ok(ran) => agrees(replayed, ran),
+            Err(_) => false,
+        },
+        None => false,
+    }
+}
+
+// Whether the source agrees with a replay in the order of its commits.
+fn runs_in_its_order<H: Threads + Wait + Sync>(rt: &H, alloc: Global, replayed: &str) -> bool {
+    let mut order = String::new(alloc);
+    push_order(&mut order, replayed).is_ok() && runs_alike(rt, alloc, order.as_str(), replayed)
+}
+
+// The same of the replay of a seed.
+fn runs_as_replayed<H: Threads + Wait + Sync>(rt: &H, alloc: Global, seed: &str) -> bool {
+    let words = ["txc", "replay", "a.c", "--threads=4", seed];
+    match served(rt, alloc, &words, COUNTS) {
+        Some(replayed) => match str::from_utf8(replayed.out.as_slice()) {
+            Ok(replayed) => runs_in_its_order(rt, alloc, replayed),
+            Err(_) => false,
+        },
+        None => false,
+    }
+}
+
+/// What the source leaves and prints in the order of the commits is what the replay does.
+#[test]
+fn the_source_agrees_in_the_order_of_commits(rt: HostRuntime) -> Result<(), Fail> {
+    for seed in 1..21u32 {
+        let seed = format!(in rt.alloc(); "--seed={seed}")?;
+        assert!(rt; runs_as_replayed(&rt, rt.alloc(), seed.as_str()), "{seed}");
+    }
+    Ok(())
+}
+
+/// How a replay comes out whose memory may be refused.
+#[derive(Clone, Copy, PartialEq, Eq)]
+enum Outcome {
+    /// Its report is the one that it should be.
+    Told,
+    /// Its report says that a step was not made for want of memory.
+    Stopped,
+    /// Its report is another one.
+    Wrong,
+    /// The fault of this number keeps it from having one.
+    Refused(u32),
+}
+
+const TOLD: &[u8] =
+    b"== events\n9 0 commit\n12 1 abort\n18 1 commit\n== thread 0: ended\n== thread 1: ended\n== memory\nx = 2\n";
+
+// What a report tells.
+fn told(report: &[u8]) -> Outcome {
+    if report == TOLD {
+        return Outcome::Told;
+    }
+    match str::from_utf8(report) {
+        Ok(report) if report.contains(": stop 00\n") => Outcome::Stopped,
+        _ => Outcome::Wrong,
+    }
+}
+
+// What the report of a replay tells.
+fn reported<A: Allocator + Copy>(alloc: A, printed: &Printed<A>) -> Outcome {
+    match report_text(alloc, printed) {
+        Ok(report) => told(report.as_slice()),
+        Err(_) => Outcome::Refused(0),
+    }
+}
+
+// The same, where memory is there for a timeline too.
+fn shown<A: Allocator + Copy>(alloc: A, compiled: &Compiled<A>, replayed: &Replayed<A>) -> Outcome {
+    match lines_shown(alloc, &compiled.code, 2, replayed.made.as_slice()) {
+        Some(_) => reported(alloc, &replayed.printed),
+        None => Outcome::Refused(0),
+    }
+}
+
+// How a replay of lines by two threads comes out.
+fn played<A: Allocator + Copy>(alloc: A, compiled: &Compiled<A>, lines: &[Line]) -> Outcome {
+    match replay_code(alloc, compiled, 2, lines) {
+        Ok(replayed) => shown(alloc, compiled, &replayed),
+        Err(_) => Outcome::Refused(0),
+    }
+}
+
+// How a replay of a schedule comes out.
+fn scheduled<A: Allocator + Copy>(alloc: A, compiled: &Compiled<A>) -> Outcome {
+    match read_schedule(alloc, "0 a3\n1 a3\n0 a9\n1 a99\n") {
+        Ok(found) => played(alloc, compiled, found.as_slice()),
+        Err(fault) => Outcome::Refused(fault.number()),
+    }
+}
+
+// How a replay of a source comes out.
+fn replay_with<A: Allocator + Copy>(alloc: A) -> Outcome {
+    let text = "int x; void worker(int self) { __transaction_atomic { x = x + 1; } }";
+    match compile(alloc, text) {
+        Ok(compiled) => scheduled(alloc, &compiled),
+        Err(fault) => Outcome::Refused(fault.number()),
+    }
+}
+
+#[test]
+fn each_growth_of_a_replay_is_refused_once(rt: HostRuntime) -> Result<(), Fail> {
+    let mut met = 0;
+    let mut has_stopped = false;
+    for nth in 1..900u64 {
+        let alloc = Refusing::new(rt.alloc(), nth);
+        match replay_with(&alloc) {
+            Outcome::Told if alloc.is_waiting() => break,
+            Outcome::Stopped => has_stopped = true,
+            outcome => {
+                assert!(rt;
+                    outcome == Outcome::Told || outcome == Outcome::Refused(0),
+                    "{nth}"
+                )
+            }
+        }
+        met = nth;
+        assert!(rt; replay_with(&alloc) == Outcome::Told);
+    }
+    assert!(rt; met > 0 && met < 899);
+    assert!(rt; has_stopped);
+    Ok(())
+}

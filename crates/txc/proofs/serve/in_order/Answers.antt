@@ -1,5 +1,0 @@
-use Rattle.report.specs.Views.{printed_of}
-use Rattle.txc.proofs.serve.in_order.Goals as goal
-
-pub returns-in-Ok-clause-report : goal.returns-in-Ok-clause-report
-returns-in-Ok-clause-report g c = λ status. (printed_of c.in-Ok.printed, c.in-Ok.ensures.ok, (c.print_report.ensures.report status).0, (c.print_report.ensures.report status).1)
