@@ -1,5 +1,5 @@
 -- The clean tree of a node, by the parts that are read of it.
-use Rattle.std.proofs.Common.{◌≡◌, ℕ, List, Option, map, option_map, sym, ap, ◌∙◌}
+use Rattle.std.proofs.Common.{◌≡◌, ℕ, List, Option, Some, None, map, option_map, sym, ap, ◌∙◌}
 use Rattle.lex.specs.declared.token.Span.{Span}
 use Rattle.syntax.specs.declared.tree.LogicalOp.{LogicalOp}
 use Rattle.syntax.specs.declared.tree.Mode.{Mode}
@@ -11,7 +11,8 @@ use Rattle.syntax.specs.declared.tree.ForHead as H
 use Rattle.syntax.specs.declared.tree.Stmt as S
 use Rattle.syntax.specs.Tree as Tree
 use Rattle.syntax.specs.Views.{name_of, expr_of, exprs_of, simple_of, declarator_of, start_of, stmt_of, stmts_of}
-use Rattle.syntax.proofs.Seen.{expr_of_call, expr_of_logical, expr_of_conditional, stmt_of_declare, stmt_of_block, stmt_of_print, stmt_of_while, stmt_of_do_while, stmt_of_for, stmt_of_return, stmt_of_transaction}
+use Rattle.syntax.proofs.Seen.{expr_of_call, expr_of_logical, expr_of_conditional, stmt_of_declare, stmt_of_block, stmt_of_print, stmt_of_if, stmt_of_if_else, stmt_of_while, stmt_of_do_while, stmt_of_for, stmt_of_return, stmt_of_transaction}
+use Rattle.meaning.specs.inner.Does.{if_of}
 
 module _ {A : Type 0} where
   pub call_is : (e : E.Expr A) (f : N.Name A) (es es' : List (E.Expr A)) (at : Span) → e ≡ E.Call f es at → es' ≡ es → expr_of e ≡ Tree.Call (name_of f) (exprs_of es') at
@@ -35,6 +36,10 @@ module _ {A : Type 0} where
   pub print_is : (s : S.Stmt A) (at : Span) (text text' : List ℕ) (text_at : Span) (es es' : List (E.Expr A)) → s ≡ S.Print at text text_at es → text' ≡ text → es' ≡ es → stmt_of s ≡ Tree.Print at text' text_at (exprs_of es')
   print_is s at text text' text_at es es' is t a =
       ap stmt_of is ∙ stmt_of_print at text text_at es ∙ ap (λ y. Tree.Print at y text_at (exprs_of es)) (sym t) ∙ ap (λ y. Tree.Print at text' text_at (exprs_of y)) (sym a)
+
+  pub if_is : (s : S.Stmt A) (c : E.Expr A) (a a' : S.Stmt A) (b : Option (S.Stmt A)) → s ≡ S.If c a b → a' ≡ a → stmt_of s ≡ if_of (expr_of c) (stmt_of a') (option_map stmt_of b)
+  if_is s c a a' None is k = ap stmt_of is ∙ stmt_of_if c a ∙ ap (λ y. Tree.If (expr_of c) (stmt_of y)) (sym k)
+  if_is s c a a' (Some b) is k = ap stmt_of is ∙ stmt_of_if_else c a b ∙ ap (λ y. Tree.IfElse (expr_of c) (stmt_of y) (stmt_of b)) (sym k)
 
   pub while_is : (s : S.Stmt A) (c : E.Expr A) (a a' : S.Stmt A) → s ≡ S.While c a → a' ≡ a → stmt_of s ≡ Tree.While (expr_of c) (stmt_of a')
   while_is s c a a' is k = ap stmt_of is ∙ stmt_of_while c a ∙ ap (λ y. Tree.While (expr_of c) (stmt_of y)) (sym k)

@@ -5,26 +5,49 @@ use Rattle.lex.specs.declared.token.Span.{Span}
 use Rattle.syntax.specs.declared.numbers.Value.{Value}
 use Rattle.syntax.specs.declared.numbers.Halt.{Halt}
 use Rattle.syntax.specs.declared.numbers.Halt.TheVariants.{Astray}
+use Rattle.syntax.specs.declared.tree.BinaryOp.{BinaryOp}
+use Rattle.syntax.specs.declared.tree.IncDec.{IncDec}
 use Rattle.syntax.specs.declared.tree.Mode.{Mode}
 use Rattle.syntax.specs.declared.tree.Mode.TheVariants.{Atomic, Relaxed}
 use Rattle.std.specs.Prelude.{Bool, if◌then◌else◌}
-use Rattle.syntax.specs.Numbers.{converted, is_zero}
+use Rattle.syntax.specs.Numbers.{converted, is_zero, binary}
 use Rattle.syntax.specs.Types.{common_of, type_of, running_scope}
+use Rattle.syntax.specs.Tree as tree
 use Rattle.syntax.specs.Tree.{Program, Expr, Conditional, Stmt, Stmts, Exprs, Print, Function}
 use Rattle.syntax.specs.Names.{Local, definition_of}
 use Rattle.syntax.specs.Behaviours.{Memory}
 use Rattle.syntax.specs.Formats.{pieces}
-use Rattle.syntax.specs.Actions.{Context, Outside, Inside, State, Answer, Gives, Stops, Action, pure, go_on, or_astray, locals, put_locals, tick, may_print, ◌>>=◌, ◌>>◌}
-use Rattle.syntax.specs.Meaning.{Caller, End, Next, expr, stmt, stmts, exprs, print_pieces, transaction, enter, leave, left_by, leave_inner, close, close_inner, entered, invoke, calls, result_of}
+use Rattle.syntax.specs.Actions.{Context, Outside, Inside, State, Answer, Gives, Stops, Action, pure, go_on, or_trap, or_astray, locals, put_locals, tick, may_print, ◌>>=◌, ◌>>◌}
+use Rattle.syntax.specs.Meaning.{Caller, Spot, fetch, assign, spot, changed, op_of, int_one, End, Next, Breaks, Continues, Returns, Cancels, scoped, loop, simple, declare, return_value, expr, stmt, stmts, exprs, print_pieces, transaction, enter, leave, left_by, leave_inner, close, close_inner, entered, invoke, calls, result_of}
 use Rattle.meaning.specs.inner.Calls.{Begins, begun}
 use Rattle.meaning.specs.Outcomes.{memories_in}
-use Rattle.meaning.specs.inner.Does.{is_forbidden}
+use Rattle.meaning.specs.inner.Does.{is_forbidden, while_turn, do_turn, for_all}
 use Rattle.meaning.proofs.Sequences.{after, halts}
 
 -- a statement's tick, and then the rest
 pub ticks_then : (p : Program) (call : Caller) (s clean : Stmt) (run : Action End) (s0 s1 : State) (r : Answer End) →
     s ≡ clean → stmt p call clean s0 ≡ go_on (tick s0) (λ _. run) → tick s0 ≡ Gives tt s1 → run s1 ≡ r → stmt p call s s0 ≡ r
 ticks_then p call s clean run s0 s1 r is does t d = ap (λ x. stmt p call x s0) is ∙ does ∙ ap (λ q. go_on q (λ _. run)) t ∙ d
+
+-- where no tick is left for a statement, it does nothing
+pub spent_first : (p : Program) (call : Caller) (s : Stmt) (s0 s1 : State) (why : Halt) → tick s0 ≡ Stops why s1 → stmt p call s s0 ≡ Stops why s1
+spent_first p call tree.Empty s0 s1 why t = halts (tick s0) (λ _. pure Next) why s1 t
+spent_first p call (tree.Declare d) s0 s1 why t = halts (tick s0) (λ _. declare p call d.of d.declarators) why s1 t
+spent_first p call (tree.Do i) s0 s1 why t = halts (tick s0) (λ _. simple p call i) why s1 t
+spent_first p call (tree.Block ss) s0 s1 why t = halts (tick s0) (λ _. scoped (stmts p call ss)) why s1 t
+spent_first p call (tree.Print at format format_at es) s0 s1 why t =
+    halts (tick s0) (λ _. may_print >> (exprs p call es >>= (λ us. print_pieces (pieces format) us >> pure Next))) why s1 t
+spent_first p call (tree.If c a) s0 s1 why t = halts (tick s0) (λ _. expr p call c >>= (λ v. if is_zero v then pure Next else scoped (stmt p call a))) why s1 t
+spent_first p call (tree.IfElse c a b) s0 s1 why t =
+    halts (tick s0) (λ _. expr p call c >>= (λ v. if is_zero v then scoped (stmt p call b) else scoped (stmt p call a))) why s1 t
+spent_first p call (tree.While c a) s0 s1 why t = halts (tick s0) (λ _. loop (while_turn p call c a)) why s1 t
+spent_first p call (tree.DoWhile a c) s0 s1 why t = halts (tick s0) (λ _. loop (do_turn p call a c)) why s1 t
+spent_first p call (tree.For start c step a) s0 s1 why t = halts (tick s0) (λ _. scoped (for_all p call start c step a)) why s1 t
+spent_first p call (tree.Break at) s0 s1 why t = halts (tick s0) (λ _. pure Breaks) why s1 t
+spent_first p call (tree.Continue at) s0 s1 why t = halts (tick s0) (λ _. pure Continues) why s1 t
+spent_first p call (tree.Return e at) s0 s1 why t = halts (tick s0) (λ _. return_value p call e >>= (λ v. pure (Returns v))) why s1 t
+spent_first p call (tree.Transaction mode ss at) s0 s1 why t = halts (tick s0) (λ _. transaction mode (scoped (stmts p call ss))) why s1 t
+spent_first p call (tree.Cancel at) s0 s1 why t = halts (tick s0) (λ _. pure Cancels) why s1 t
 
 -- a print, up to its pieces
 pub print_until : (p : Program) (call : Caller) (at format_at : Span) (format : List ℕ) (es : Exprs) (s0 s1 s2 s3 : State) (vs : List Value) →
@@ -43,6 +66,29 @@ conditional_gives p call c a b at s0 s1 s2 v w r test branch last =
     after (expr p call c s0) (λ x. (if is_zero x then expr p call b else expr p call a) >>= (λ y. locals >>= (λ mine. or_astray (common_of (type_of (running_scope p mine) a) (type_of (running_scope p mine) b)) >>= (λ t. pure (converted t y))))) v s1 test
     ∙ after ((if is_zero v then expr p call b else expr p call a) s1) (λ y. locals >>= (λ mine. or_astray (common_of (type_of (running_scope p mine) a) (type_of (running_scope p mine) b)) >>= (λ t. pure (converted t y)))) w s2 branch
     ∙ last
+
+-- an old value that is changed, up to what an operator gives
+rewritten : (p : Program) (call : Caller) (at : Spot) (by : Action Value) (op : BinaryOp) (s1 s2 s3 : State) (old v : Value) (r : Answer End) →
+    fetch at s1 ≡ Gives old s2 → by s2 ≡ Gives v s3 → go_on (go_on (or_trap (binary op old v) s3) (assign at)) (λ _. pure Next) ≡ r → go_on (changed p call at by op s1) (λ _. pure Next) ≡ r
+rewritten p call at by op s1 s2 s3 old v r f d last =
+    ap (λ q. go_on (go_on q (λ x. by >>= (λ y. or_trap (binary op x y) >>= assign at))) (λ _. pure Next)) f
+    ∙ ap (λ q. go_on (go_on q (λ y. or_trap (binary op old y) >>= assign at)) (λ _. pure Next)) d
+    ∙ last
+
+pub changed_gives : (p : Program) (call : Caller) (to e : Expr) (op : BinaryOp) (s0 s1 s2 s3 : State) (at : Spot) (old v : Value) (r : Answer End) →
+    spot p call to s0 ≡ Gives at s1 → fetch at s1 ≡ Gives old s2 → expr p call e s2 ≡ Gives v s3 → go_on (go_on (or_trap (binary op old v) s3) (assign at)) (λ _. pure Next) ≡ r →
+    simple p call (tree.Assign to (Some op) e) s0 ≡ r
+changed_gives p call to e op s0 s1 s2 s3 at old v r there f d last =
+    after (spot p call to s0) (λ a. changed p call a (expr p call e) op >> pure Next) at s1 there
+    ∙ rewritten p call at (expr p call e) op s1 s2 s3 old v r f d last
+
+pub adjusted_gives : (p : Program) (call : Caller) (to : Expr) (by : IncDec) (op : BinaryOp) (one : Value) (s0 s1 s2 : State) (at : Spot) (old : Value) (r : Answer End) →
+    op ≡ op_of by → one ≡ int_one → spot p call to s0 ≡ Gives at s1 → fetch at s1 ≡ Gives old s2 → go_on (go_on (or_trap (binary op old one) s2) (assign at)) (λ _. pure Next) ≡ r →
+    simple p call (tree.Adjust to by) s0 ≡ r
+adjusted_gives p call to by op one s0 s1 s2 at old r is same there f last =
+    after (spot p call to s0) (λ a. changed p call a (pure int_one) (op_of by) >> pure Next) at s1 there
+    ∙ rewritten p call at (pure int_one) (op_of by) s1 s2 s2 old int_one r f refl
+    (ap (λ o. go_on (go_on (or_trap (binary o old int_one) s2) (assign at)) (λ _. pure Next)) (sym is) ∙ ap (λ w. go_on (go_on (or_trap (binary op old w) s2) (assign at)) (λ _. pure Next)) (sym same) ∙ last)
 
 -- a branch that is picked
 pub branch_gives : (run other : Action Value) (tested zero : Bool) (s : State) (r : Answer Value) → tested ≡ zero → (if zero then run else other) s ≡ r → (if tested then run else other) s ≡ r

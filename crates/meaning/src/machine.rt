@@ -44,11 +44,11 @@ pub(crate) struct Machine<'p, A: Allocator> {
 }
 
 /// A thread goes no further here: why stands in its machine.
-#[derive(Clone, Copy, Debug)]
+#[derive(Clone, Copy)]
 pub(crate) struct Halted {}
 
 /// How a statement ends.
-#[derive(Clone, Copy, Debug)]
+#[derive(Clone, Copy)]
 pub(crate) enum End {
     Next,
     Breaks,
@@ -58,7 +58,7 @@ pub(crate) enum End {
 }
 
 /// Where a value stands.
-#[derive(Clone, Copy, Debug)]
+#[derive(Clone, Copy)]
 pub(crate) enum Spot {
     InLocal(usize, Scalar),
     InCell(usize, Scalar),

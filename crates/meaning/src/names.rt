@@ -29,7 +29,7 @@ pub(crate) fn cells_of<A: Allocator>(g: &Global<A>) -> usize
 }
 
 /// A global, with its first cell.
-#[derive(Clone, Copy)]
+#[derive(Drop)]
 pub(crate) struct Shared<'p, A: Allocator> {
     pub cell: usize,
     pub global: &'p Global<A>,
@@ -95,7 +95,7 @@ pub(crate) fn definition<'p, A: Allocator + Copy>(
 }
 
 /// What a name of the file is declared as.
-#[derive(Clone, Copy)]
+#[derive(Drop)]
 pub(crate) enum Symbol<'p, A: Allocator> {
     Unknown,
     Global(&'p Global<A>),
@@ -107,8 +107,9 @@ fn declared<'p, A: Allocator + Copy>(source: &Source<'p, A>, name: &str) -> Symb
     ensures { known_of result ≡ file_scope (program_in source.now) name.now }
 {
     match source.symbols.get(name) {
-        Some(s) => *s,
-        None => Symbol::Unknown,
+        Some(Symbol::Global(g)) => Symbol::Global(*g),
+        Some(Symbol::Function(f)) => Symbol::Function(*f),
+        Some(Symbol::Unknown) | None => Symbol::Unknown,
     }
 }
 

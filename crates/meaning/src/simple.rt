@@ -3,15 +3,18 @@
 ghost use Rattle.std.specs.Prelude.{◌≡◌, None, Some, map};
 ghost use Rattle.syntax.specs.Views.{declarator_of, expr_of, simple_of};
 ghost use Rattle.syntax.specs.Tree as tree;
+ghost use Rattle.syntax.specs.Actions as act;
 ghost use Rattle.syntax.specs.Meaning as meaning;
-ghost use Rattle.meaning.specs.inner.Machine.{Means, MeansEnd, MeansSpot, program_in, state_in};
+ghost use Rattle.syntax.specs.Numbers.{binary};
+ghost use Rattle.meaning.specs.inner.Machine.{Means, MeansEnd, MeansSpot, program_in, spot_of, state_in};
+ghost use Rattle.meaning.specs.inner.Word.{value_of};
 ghost use Rattle.meaning.specs.inner.Does.{called, declared_one};
 
 use crate::expr::{element, eval};
 use crate::machine::{End, Halted, Local, Machine, Spot, assign, fetch, operate};
 use crate::places::named;
 use crate::program::Source;
-use crate::word::flag;
+use crate::word::{Word, flag};
 use lex::token::Scalar;
 use std::alloc::Allocator;
 use syntax::numbers::Halt;
@@ -25,6 +28,21 @@ fn operator(by: IncDec) -> BinaryOp
         IncDec::Increment => BinaryOp::Add,
         IncDec::Decrement => BinaryOp::Subtract,
     }
+}
+
+/// Writes what an operator gives of an old value and another one in the old one's place.
+fn rewrite<A: Allocator>(
+    m: &mut Machine<A>,
+    at: Spot,
+    op: BinaryOp,
+    old: Word,
+    by: Word,
+) -> Result<End, Halted>
+    ensures { MeansEnd result (act.go_on (act.go_on (act.or_trap (binary op (value_of old) (value_of by)) (state_in m.old)) (meaning.assign (spot_of at))) (λ _. act.pure meaning.Next)) m.new }
+{
+    let new = operate(m, op, old, by)?;
+    assign(m, at, new)?;
+    Ok(End::Next)
 }
 
 /// Where the left side of an assignment stands.
@@ -79,9 +97,7 @@ fn changed<'p, A: Allocator + Copy>(
     let at = target(source, frames, to, m)?;
     let before = fetch(m, at)?;
     let v = eval(source, frames, e, m)?;
-    let new = operate(m, op, before, v)?;
-    assign(m, at, new)?;
-    Ok(End::Next)
+    rewrite(m, at, op, before, v)
 }
 
 /// What an expression, an assignment or a step does.
@@ -106,9 +122,7 @@ pub(crate) fn simple<'p, A: Allocator + Copy>(
         Simple::Adjust(to, by) => {
             let at = target(source, frames, to, m)?;
             let old = fetch(m, at)?;
-            let new = operate(m, operator(*by), old, flag(true))?;
-            assign(m, at, new)?;
-            Ok(End::Next)
+            rewrite(m, at, operator(*by), old, flag(true))
         }
     }
 }

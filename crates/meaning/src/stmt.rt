@@ -1,9 +1,10 @@
 //! Statements.
 
-ghost use Rattle.std.specs.Prelude.{None, Option, Some, option_map};
+ghost use Rattle.std.specs.Prelude.{◌≡◌, None, Option, Some, option_map};
 ghost use Rattle.lex.specs.declared.token.Span.{Span};
 ghost use Rattle.syntax.specs.Views.{expr_of, exprs_of, stmt_of};
 ghost use Rattle.syntax.specs.Tree as tree;
+ghost use Rattle.syntax.specs.Actions as act;
 ghost use Rattle.syntax.specs.Meaning as meaning;
 ghost use Rattle.meaning.specs.inner.Machine.{MeansEnd, program_in, state_in};
 ghost use Rattle.meaning.specs.inner.Does.{called, does_stmt, does_stmts, if_of};
@@ -31,23 +32,12 @@ fn stmt<'p, A: Allocator + Copy>(
 ) -> Result<End, Halted>
     ensures { MeansEnd result (does_stmt source.now frames s.now (state_in m.old)) m.new }
 {
+    tick(m)?;
     match s {
-        Stmt::Empty => {
-            tick(m)?;
-            Ok(End::Next)
-        }
-        Stmt::Declare(d) => {
-            tick(m)?;
-            declare(source, frames, d.of, d.declarators.as_slice(), m)
-        }
-        Stmt::Do(s) => {
-            tick(m)?;
-            simple(source, frames, s, m)
-        }
-        Stmt::Block(ss) => {
-            tick(m)?;
-            block(source, frames, ss.as_slice(), m)
-        }
+        Stmt::Empty => Ok(End::Next),
+        Stmt::Declare(d) => declare(source, frames, d.of, d.declarators.as_slice(), m),
+        Stmt::Do(s) => simple(source, frames, s, m),
+        Stmt::Block(ss) => block(source, frames, ss.as_slice(), m),
         Stmt::Print(_, format, _, args) => {
             printed(
                 source,
@@ -58,35 +48,14 @@ fn stmt<'p, A: Allocator + Copy>(
             )
         }
         Stmt::If(c, a, b) => either(source, frames, c, a.get(), b, m),
-        Stmt::While(c, a) => {
-            tick(m)?;
-            repeat(source, frames, &Loop::While(c, a.get()), m)
-        }
-        Stmt::DoWhile(a, c) => {
-            tick(m)?;
-            repeat(source, frames, &Loop::DoWhile(a.get(), c), m)
-        }
-        Stmt::For(head, a) => {
-            tick(m)?;
-            for_scoped(source, frames, head.get(), a.get(), m)
-        }
-        Stmt::Break(_) => {
-            tick(m)?;
-            Ok(End::Breaks)
-        }
-        Stmt::Continue(_) => {
-            tick(m)?;
-            Ok(End::Continues)
-        }
+        Stmt::While(c, a) => repeat(source, frames, &Loop::While(c, a.get()), m),
+        Stmt::DoWhile(a, c) => repeat(source, frames, &Loop::DoWhile(a.get(), c), m),
+        Stmt::For(head, a) => for_scoped(source, frames, head.get(), a.get(), m),
+        Stmt::Break(_) => Ok(End::Breaks),
+        Stmt::Continue(_) => Ok(End::Continues),
         Stmt::Return(e, _) => returned(source, frames, e, m),
-        Stmt::Transaction(mode, ss, _) => {
-            tick(m)?;
-            transaction(source, frames, *mode, ss.as_slice(), m)
-        }
-        Stmt::Cancel(_) => {
-            tick(m)?;
-            Ok(End::Cancels)
-        }
+        Stmt::Transaction(mode, ss, _) => transaction(source, frames, *mode, ss.as_slice(), m),
+        Stmt::Cancel(_) => Ok(End::Cancels),
     }
 }
 
@@ -141,7 +110,7 @@ pub(crate) fn scoped<'p, A: Allocator + Copy>(
     Ok(end)
 }
 
-/// What a format and its arguments print, where printing is allowed.
+/// What a format and its arguments print behind the statement's tick, where printing is allowed.
 #[cycle(run)]
 #[inline(never)]
 fn printed<'p, A: Allocator + Copy>(
@@ -151,16 +120,15 @@ fn printed<'p, A: Allocator + Copy>(
     args: &'p [Expr<A>],
     m: &mut Machine<'p, A>,
 ) -> Result<End, Halted>
-    ensures { (at format_at : Span) → MeansEnd result (meaning.stmt (program_in source.now) (called source.now frames) (tree.Print at format.now format_at (exprs_of args.now)) (state_in m.old)) m.new }
+    ensures { (at format_at : Span) (begun : act.State) → act.tick begun ≡ act.Gives tt (state_in m.old) → MeansEnd result (meaning.stmt (program_in source.now) (called source.now frames) (tree.Print at format.now format_at (exprs_of args.now)) begun) m.new }
 {
-    tick(m)?;
     may_print(m)?;
     let values = values(source, frames, args, m)?;
     print_pieces(m, format, values.as_slice())?;
     Ok(End::Next)
 }
 
-/// One of two statements, or of one and nothing.
+/// One of two statements, or of one and nothing, behind the statement's tick.
 #[cycle(run)]
 fn either<'p, A: Allocator + Copy>(
     source: &Source<'p, A>,
@@ -170,9 +138,8 @@ fn either<'p, A: Allocator + Copy>(
     b: &'p Option<Boxed<Stmt<A>, A>>,
     m: &mut Machine<'p, A>,
 ) -> Result<End, Halted>
-    ensures { MeansEnd result (meaning.stmt (program_in source.now) (called source.now frames) (if_of (expr_of c.now) (stmt_of a.now) (option_map stmt_of b.now)) (state_in m.old)) m.new }
+    ensures { (begun : act.State) → act.tick begun ≡ act.Gives tt (state_in m.old) → MeansEnd result (meaning.stmt (program_in source.now) (called source.now frames) (if_of (expr_of c.now) (stmt_of a.now) (option_map stmt_of b.now)) begun) m.new }
 {
-    tick(m)?;
     let v = eval(source, frames, c, m)?;
     if !is_zero(v) {
         return scoped(source, frames, a, m);
@@ -183,7 +150,7 @@ fn either<'p, A: Allocator + Copy>(
     }
 }
 
-/// The end that leaves a function.
+/// The end that leaves a function, behind the statement's tick.
 #[cycle(run)]
 fn returned<'p, A: Allocator + Copy>(
     source: &Source<'p, A>,
@@ -191,9 +158,8 @@ fn returned<'p, A: Allocator + Copy>(
     e: &'p Option<Expr<A>>,
     m: &mut Machine<'p, A>,
 ) -> Result<End, Halted>
-    ensures { (at : Span) → MeansEnd result (meaning.stmt (program_in source.now) (called source.now frames) (tree.Return (option_map expr_of e.now) at) (state_in m.old)) m.new }
+    ensures { (at : Span) (begun : act.State) → act.tick begun ≡ act.Gives tt (state_in m.old) → MeansEnd result (meaning.stmt (program_in source.now) (called source.now frames) (tree.Return (option_map expr_of e.now) at) begun) m.new }
 {
-    tick(m)?;
     match e {
         None => Ok(End::Returns(flag(false))),
         Some(e) => {

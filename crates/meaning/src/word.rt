@@ -9,7 +9,7 @@ use lex::token::Scalar;
 use syntax::numbers::Value;
 
 /// A value in 64 bits without a gap: its word, and above it 1 where it is unsigned.
-#[derive(Clone, Copy, Debug)]
+#[derive(Clone, Copy)]
 pub(crate) struct Word {
     bits: u64,
 }

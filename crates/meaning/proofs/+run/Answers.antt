@@ -10,15 +10,15 @@ use Rattle.syntax.specs.Meaning as meaning
 use Rattle.syntax.specs.Meaning.{expr, exprs, stmt, simple, declare, scoped, turns}
 use Rattle.meaning.specs.inner.Calls.{begun_in}
 use Rattle.meaning.specs.Outcomes.{memories_in}
-use Rattle.meaning.specs.inner.Machine.{context_in, end_of, items_in, local_in, program_in, state_in}
+use Rattle.meaning.specs.inner.Machine.{context_in, end_of, items_in, local_in, program_in, spot_of, state_in}
 use Rattle.meaning.specs.inner.Does.{called, does_stmt, does_stmts, does_turn, do_turn, for_all, joined_to, while_turn}
 use Rattle.meaning.specs.inner.Word.{value_of}
 use Rattle.meaning.proofs.Stops.{err_of, stops_as}
 use Rattle.meaning.proofs.Bodies.{weight_less}
 use Rattle.meaning.proofs.Deeper.{block_deep, transaction_deep, argument_deep, statement_deep, declarator_deep}
-use Rattle.meaning.proofs.Parts.{call_is, logical_is, conditional_is, declare_is, block_is, print_is, while_is, do_while_is, for_is, return_is, transaction_is}
+use Rattle.meaning.proofs.Parts.{call_is, logical_is, conditional_is, declare_is, block_is, print_is, if_is, while_is, do_while_is, for_is, return_is, transaction_is}
 use Rattle.meaning.proofs.Sequences.{after, halts, stmts_next, stmts_left, stmts_halt, stmts_end, values_next, values_halt, values_end, values_start, declare_next, declare_halt, scoped_gives, scoped_stops, truncated, turns_spent, turns_next, turns_ended}
-use Rattle.meaning.proofs.Steps.{ticks_then, print_until, call_gives, call_stops, transaction_at, outermost_none, outermost_gives, outermost_stops, nested_astray, nested_gives, nested_stops, found_none, found_first, conditional_gives, branch_gives}
+use Rattle.meaning.proofs.Steps.{ticks_then, spent_first, changed_gives, adjusted_gives, print_until, call_gives, call_stops, transaction_at, outermost_none, outermost_gives, outermost_stops, nested_astray, nested_gives, nested_stops, found_none, found_first, conditional_gives, branch_gives}
 use Rattle.meaning.proofs.+run.Goals as goal
 use Rattle.meaning.proofs.+run.Goals.{expr::conditional-then-is_zero+in_ok-w, expr::conditional-else-is_zero+in_ok-w-2}
 
@@ -127,13 +127,13 @@ transactions::outermost-returns-in_default g t c done =
     outermost_none c.args.mode (memories_in c.args.founds.now) (memories_in c.args.lefts.items) (scoped (does_stmts c.args.source.now c.args.frames c.args.ss.now)) _ _ (found_none c.args.founds.now c.in_default.len_below) refl
 
 pub stmt::printed-returns : goal.stmt::printed-returns
-stmt::printed-returns g t c at format_at done =
-    print_until (program_in c.args.source.now) (called c.args.source.now c.args.frames) at format_at c.args.format.now (exprs_of c.args.args.now) (state_in c.args.m.now) (state_in c.tick.new.m) (state_in c.may_print.new.m) (state_in c.values.new.m) c.as_slice.result.now (c.in_ok-tick.ensures tt) (c.in_ok-may_print.ensures tt) (c.in_ok-values.ensures tt ∙ ap (λ vs. Gives vs (state_in c.values.new.m)) (sym c.as_slice.ensures.value)) ∙ after _ (λ _. act.pure meaning.Next) _ (state_in c.print_pieces.new.m) (c.in_ok-print_pieces.ensures tt)
+stmt::printed-returns g t c at format_at begun ticked done =
+    print_until (program_in c.args.source.now) (called c.args.source.now c.args.frames) at format_at c.args.format.now (exprs_of c.args.args.now) begun (state_in c.args.m.now) (state_in c.may_print.new.m) (state_in c.values.new.m) c.as_slice.result.now ticked (c.in_ok-may_print.ensures tt) (c.in_ok-values.ensures tt ∙ ap (λ vs. Gives vs (state_in c.values.new.m)) (sym c.as_slice.ensures.value)) ∙ after _ (λ _. act.pure meaning.Next) _ (state_in c.print_pieces.new.m) (c.in_ok-print_pieces.ensures tt)
 
 pub stmt::printed-returns-in_err-print_pieces : goal.stmt::printed-returns-in_err-print_pieces
-stmt::printed-returns-in_err-print_pieces g t c at format_at =
+stmt::printed-returns-in_err-print_pieces g t c at format_at begun ticked =
     let is : c.from_residual-in_err-print_pieces.result ≡ Err c.in_err-print_pieces.field-0.0 = err_of c.from_residual-in_err-print_pieces.result c.in_err-print_pieces.field-0.0 c.from_residual-in_err-print_pieces.ensures.1 in
-    stops_as end_of c.from_residual-in_err-print_pieces.result c.in_err-print_pieces.field-0.0 _ c.print_pieces.new.m is (λ d. print_until (program_in c.args.source.now) (called c.args.source.now c.args.frames) at format_at c.args.format.now (exprs_of c.args.args.now) (state_in c.args.m.now) (state_in c.tick.new.m) (state_in c.may_print.new.m) (state_in c.values.new.m) c.as_slice.result.now (c.in_ok-tick.ensures tt) (c.in_ok-may_print.ensures tt) (c.in_ok-values.ensures tt ∙ ap (λ vs. Gives vs (state_in c.values.new.m)) (sym c.as_slice.ensures.value)) ∙ halts _ (λ _. act.pure meaning.Next) _ (state_in c.print_pieces.new.m) (c.in_err-print_pieces.ensures d))
+    stops_as end_of c.from_residual-in_err-print_pieces.result c.in_err-print_pieces.field-0.0 _ c.print_pieces.new.m is (λ d. print_until (program_in c.args.source.now) (called c.args.source.now c.args.frames) at format_at c.args.format.now (exprs_of c.args.args.now) begun (state_in c.args.m.now) (state_in c.may_print.new.m) (state_in c.values.new.m) c.as_slice.result.now ticked (c.in_ok-may_print.ensures tt) (c.in_ok-values.ensures tt ∙ ap (λ vs. Gives vs (state_in c.values.new.m)) (sym c.as_slice.ensures.value)) ∙ halts _ (λ _. act.pure meaning.Next) _ (state_in c.print_pieces.new.m) (c.in_err-print_pieces.ensures d))
 
 pub loops::repeat-returns-in-Some : goal.loops::repeat-returns-in-Some
 loops::repeat-returns-in-Some g t c done =
@@ -154,6 +154,15 @@ stmt::scoped-returns g t c done =
     scoped_gives (does_stmt c.args.source.now c.args.frames c.args.s.now) (state_in c.args.m.now) (state_in c.stmt.new.m) (end_of c.in_ok-end.end) _ (c.in_ok-end.ensures tt)
     (truncated local_in c.args.m.now.locals.items c.stmt.new.m.locals.items c.truncate.new.self.items c.len-outer.result len c.truncate.ensures.items)
 
+pub simple::changed-returns : goal.simple::changed-returns
+simple::changed-returns g t c done =
+    changed_gives (program_in c.args.source.now) (called c.args.source.now c.args.frames) (expr_of c.args.to.now) (expr_of c.args.e.now) c.args.op (state_in c.args.m.now) (state_in c.target.new.m) (state_in c.fetch.new.m) (state_in c.eval.new.m) (spot_of c.in_ok-at.at) (value_of c.in_ok-before.before) (value_of c.in_ok-v.v) _ (c.in_ok-at.ensures tt) (c.in_ok-before.ensures tt) (c.in_ok-v.ensures tt) (c.rewrite.ensures done)
+
+pub simple::simple-returns-in_ok-old-in-Adjust : goal.simple::simple-returns-in_ok-old-in-Adjust
+simple::simple-returns-in_ok-old-in-Adjust g t c done =
+    ap (λ x. simple (program_in c.args.source.now) (called c.args.source.now c.args.frames) (simple_of x) (state_in c.args.m.now)) c.in-Adjust.is
+    ∙ adjusted_gives (program_in c.args.source.now) (called c.args.source.now c.args.frames) (expr_of c.in-Adjust.to) c.in-Adjust.by c.operator.result (value_of c.flag.result) (state_in c.args.m.now) (state_in c.target.new.m) (state_in c.fetch.new.m) (spot_of c.in_ok-at-in-Adjust.at) (value_of c.in_ok-old-in-Adjust.old) _ c.operator.ensures c.flag.ensures (c.in_ok-at-in-Adjust.ensures tt) (c.in_ok-old-in-Adjust.ensures tt) (c.rewrite.ensures done)
+
 pub simple::simple-returns-in-None : goal.simple::simple-returns-in-None
 simple::simple-returns-in-None g t c done =
     ap (λ x. simple (program_in c.args.source.now) (called c.args.source.now c.args.frames) (simple_of x) (state_in c.args.m.now)) c.in-Assign.is ∙ ap (λ o. simple (program_in c.args.source.now) (called c.args.source.now c.args.frames) (tree.Assign (expr_of c.in-Assign.to) o (expr_of c.in-Assign.e)) (state_in c.args.m.now)) c.in-None.is ∙ c.assigned.ensures done
@@ -170,37 +179,46 @@ pub stmt::stmt-block-requires : goal.stmt::stmt-block-requires
 stmt::stmt-block-requires g t c κs within =
     (omega (arith, block_deep c.args.s.now c.in-Block.ss c.as_slice-in-Block.result.now c.in-Block.is c.as_slice-in-Block.ensures, c.decreases), within)
 
+pub stmt::stmt-returns-in-If : goal.stmt::stmt-returns-in-If
+stmt::stmt-returns-in-If g t c done =
+    ap (λ x. stmt (program_in c.args.source.now) (called c.args.source.now c.args.frames) x (state_in c.args.m.now)) (if_is c.args.s.now c.in-If.c c.in-If.a c.get.result.now c.in-If.b c.in-If.is c.get.ensures) ∙ c.either.ensures (state_in c.args.m.now) (c.in_ok-tick.ensures tt) done
+
+pub stmt::stmt-returns-in_err-tick : goal.stmt::stmt-returns-in_err-tick
+stmt::stmt-returns-in_err-tick g t c =
+    let is : c.from_residual.result ≡ Err c.in_err-tick.field-0.0 = err_of c.from_residual.result c.in_err-tick.field-0.0 c.from_residual.ensures.1 in
+    stops_as end_of c.from_residual.result c.in_err-tick.field-0.0 _ c.tick.new.m is (λ d. spent_first (program_in c.args.source.now) (called c.args.source.now c.args.frames) (stmt_of c.args.s.now) (state_in c.args.m.now) (state_in c.tick.new.m) _ (c.in_err-tick.ensures d))
+
 pub stmt::stmt-returns-in-Print : goal.stmt::stmt-returns-in-Print
 stmt::stmt-returns-in-Print g t c done =
-    ap (λ x. stmt (program_in c.args.source.now) (called c.args.source.now c.args.frames) x (state_in c.args.m.now)) (print_is c.args.s.now c.in-Print.field-0 c.in-Print.format c.as_bytes.result.now c.in-Print.field-2 c.in-Print.args c.as_slice-in-Print.result.now c.in-Print.is (c.as_bytes.ensures.value ∙ c.as_str.ensures) c.as_slice-in-Print.ensures) ∙ c.printed.ensures c.in-Print.field-0 c.in-Print.field-2 done
+    ap (λ x. stmt (program_in c.args.source.now) (called c.args.source.now c.args.frames) x (state_in c.args.m.now)) (print_is c.args.s.now c.in-Print.field-0 c.in-Print.format c.as_bytes.result.now c.in-Print.field-2 c.in-Print.args c.as_slice-in-Print.result.now c.in-Print.is (c.as_bytes.ensures.value ∙ c.as_str.ensures) c.as_slice-in-Print.ensures) ∙ c.printed.ensures c.in-Print.field-0 c.in-Print.field-2 (state_in c.args.m.now) (c.in_ok-tick.ensures tt) done
 
 pub stmt::stmt-returns-in-Return : goal.stmt::stmt-returns-in-Return
 stmt::stmt-returns-in-Return g t c done =
-    ap (λ x. stmt (program_in c.args.source.now) (called c.args.source.now c.args.frames) x (state_in c.args.m.now)) (return_is c.args.s.now c.in-Return.e c.in-Return.field-1 c.in-Return.is) ∙ c.returned.ensures c.in-Return.field-1 done
+    ap (λ x. stmt (program_in c.args.source.now) (called c.args.source.now c.args.frames) x (state_in c.args.m.now)) (return_is c.args.s.now c.in-Return.e c.in-Return.field-1 c.in-Return.is) ∙ c.returned.ensures c.in-Return.field-1 (state_in c.args.m.now) (c.in_ok-tick.ensures tt) done
 
-pub stmt::stmt-returns-in_ok-tick-in-Block : goal.stmt::stmt-returns-in_ok-tick-in-Block
-stmt::stmt-returns-in_ok-tick-in-Block g t c done =
-    ticks_then (program_in c.args.source.now) (called c.args.source.now c.args.frames) (stmt_of c.args.s.now) (tree.Block (stmts_of c.as_slice-in-Block.result.now)) (scoped (does_stmts c.args.source.now c.args.frames c.as_slice-in-Block.result.now)) (state_in c.args.m.now) (state_in c.tick-in-Block.new.m) _ (block_is c.args.s.now c.in-Block.ss c.as_slice-in-Block.result.now c.in-Block.is c.as_slice-in-Block.ensures) refl (c.in_ok-tick-in-Block.ensures tt) (c.block.ensures done)
+pub stmt::stmt-returns-in-Block : goal.stmt::stmt-returns-in-Block
+stmt::stmt-returns-in-Block g t c done =
+    ticks_then (program_in c.args.source.now) (called c.args.source.now c.args.frames) (stmt_of c.args.s.now) (tree.Block (stmts_of c.as_slice-in-Block.result.now)) (scoped (does_stmts c.args.source.now c.args.frames c.as_slice-in-Block.result.now)) (state_in c.args.m.now) (state_in c.tick.new.m) _ (block_is c.args.s.now c.in-Block.ss c.as_slice-in-Block.result.now c.in-Block.is c.as_slice-in-Block.ensures) refl (c.in_ok-tick.ensures tt) (c.block.ensures done)
 
-pub stmt::stmt-returns-in_ok-tick-in-Declare : goal.stmt::stmt-returns-in_ok-tick-in-Declare
-stmt::stmt-returns-in_ok-tick-in-Declare g t c done =
-    ticks_then (program_in c.args.source.now) (called c.args.source.now c.args.frames) (stmt_of c.args.s.now) (tree.Declare (record { of = c.in-Declare.d.of; declarators = map declarator_of c.as_slice.result.now })) (declare (program_in c.args.source.now) (called c.args.source.now c.args.frames) c.in-Declare.d.of (map declarator_of c.as_slice.result.now)) (state_in c.args.m.now) (state_in c.tick-in-Declare.new.m) _ (declare_is c.args.s.now c.in-Declare.d c.as_slice.result.now c.in-Declare.is c.as_slice.ensures) refl (c.in_ok-tick-in-Declare.ensures tt) (c.declare.ensures done)
+pub stmt::stmt-returns-in-Declare : goal.stmt::stmt-returns-in-Declare
+stmt::stmt-returns-in-Declare g t c done =
+    ticks_then (program_in c.args.source.now) (called c.args.source.now c.args.frames) (stmt_of c.args.s.now) (tree.Declare (record { of = c.in-Declare.d.of; declarators = map declarator_of c.as_slice.result.now })) (declare (program_in c.args.source.now) (called c.args.source.now c.args.frames) c.in-Declare.d.of (map declarator_of c.as_slice.result.now)) (state_in c.args.m.now) (state_in c.tick.new.m) _ (declare_is c.args.s.now c.in-Declare.d c.as_slice.result.now c.in-Declare.is c.as_slice.ensures) refl (c.in_ok-tick.ensures tt) (c.declare.ensures done)
 
-pub stmt::stmt-returns-in_ok-tick-in-DoWhile : goal.stmt::stmt-returns-in_ok-tick-in-DoWhile
-stmt::stmt-returns-in_ok-tick-in-DoWhile g t c done =
-    ticks_then (program_in c.args.source.now) (called c.args.source.now c.args.frames) (stmt_of c.args.s.now) (tree.DoWhile (stmt_of c.get-in-DoWhile.result.now) (expr_of c.in-DoWhile.c)) (meaning.loop (do_turn (program_in c.args.source.now) (called c.args.source.now c.args.frames) (stmt_of c.get-in-DoWhile.result.now) (expr_of c.in-DoWhile.c))) (state_in c.args.m.now) (state_in c.tick-in-DoWhile.new.m) _ (do_while_is c.args.s.now c.in-DoWhile.a c.get-in-DoWhile.result.now c.in-DoWhile.c c.in-DoWhile.is c.get-in-DoWhile.ensures) refl (c.in_ok-tick-in-DoWhile.ensures tt) (c.repeat-in-DoWhile.ensures done)
+pub stmt::stmt-returns-in-DoWhile : goal.stmt::stmt-returns-in-DoWhile
+stmt::stmt-returns-in-DoWhile g t c done =
+    ticks_then (program_in c.args.source.now) (called c.args.source.now c.args.frames) (stmt_of c.args.s.now) (tree.DoWhile (stmt_of c.get-in-DoWhile.result.now) (expr_of c.in-DoWhile.c)) (meaning.loop (do_turn (program_in c.args.source.now) (called c.args.source.now c.args.frames) (stmt_of c.get-in-DoWhile.result.now) (expr_of c.in-DoWhile.c))) (state_in c.args.m.now) (state_in c.tick.new.m) _ (do_while_is c.args.s.now c.in-DoWhile.a c.get-in-DoWhile.result.now c.in-DoWhile.c c.in-DoWhile.is c.get-in-DoWhile.ensures) refl (c.in_ok-tick.ensures tt) (c.repeat-in-DoWhile.ensures done)
 
-pub stmt::stmt-returns-in_ok-tick-in-For : goal.stmt::stmt-returns-in_ok-tick-in-For
-stmt::stmt-returns-in_ok-tick-in-For g t c done =
-    ticks_then (program_in c.args.source.now) (called c.args.source.now c.args.frames) (stmt_of c.args.s.now) (tree.For (start_of c.get-in-For.result.now.start) (option_map expr_of c.get-in-For.result.now.condition) (option_map simple_of c.get-in-For.result.now.step) (stmt_of c.get-in-For-2.result.now)) (scoped (for_all (program_in c.args.source.now) (called c.args.source.now c.args.frames) (start_of c.get-in-For.result.now.start) (option_map expr_of c.get-in-For.result.now.condition) (option_map simple_of c.get-in-For.result.now.step) (stmt_of c.get-in-For-2.result.now))) (state_in c.args.m.now) (state_in c.tick-in-For.new.m) _ (for_is c.args.s.now c.in-For.head c.get-in-For.result.now c.in-For.a c.get-in-For-2.result.now c.in-For.is c.get-in-For.ensures c.get-in-For-2.ensures) refl (c.in_ok-tick-in-For.ensures tt) (c.for_scoped.ensures done)
+pub stmt::stmt-returns-in-For : goal.stmt::stmt-returns-in-For
+stmt::stmt-returns-in-For g t c done =
+    ticks_then (program_in c.args.source.now) (called c.args.source.now c.args.frames) (stmt_of c.args.s.now) (tree.For (start_of c.get-in-For.result.now.start) (option_map expr_of c.get-in-For.result.now.condition) (option_map simple_of c.get-in-For.result.now.step) (stmt_of c.get-in-For-2.result.now)) (scoped (for_all (program_in c.args.source.now) (called c.args.source.now c.args.frames) (start_of c.get-in-For.result.now.start) (option_map expr_of c.get-in-For.result.now.condition) (option_map simple_of c.get-in-For.result.now.step) (stmt_of c.get-in-For-2.result.now))) (state_in c.args.m.now) (state_in c.tick.new.m) _ (for_is c.args.s.now c.in-For.head c.get-in-For.result.now c.in-For.a c.get-in-For-2.result.now c.in-For.is c.get-in-For.ensures c.get-in-For-2.ensures) refl (c.in_ok-tick.ensures tt) (c.for_scoped.ensures done)
 
-pub stmt::stmt-returns-in_ok-tick-in-Transaction : goal.stmt::stmt-returns-in_ok-tick-in-Transaction
-stmt::stmt-returns-in_ok-tick-in-Transaction g t c done =
-    ticks_then (program_in c.args.source.now) (called c.args.source.now c.args.frames) (stmt_of c.args.s.now) (tree.Transaction c.in-Transaction.mode (stmts_of c.as_slice-in-Transaction.result.now) c.in-Transaction.field-2) (meaning.transaction c.in-Transaction.mode (scoped (does_stmts c.args.source.now c.args.frames c.as_slice-in-Transaction.result.now))) (state_in c.args.m.now) (state_in c.tick-in-Transaction.new.m) _ (transaction_is c.args.s.now c.in-Transaction.mode c.in-Transaction.ss c.as_slice-in-Transaction.result.now c.in-Transaction.field-2 c.in-Transaction.is c.as_slice-in-Transaction.ensures) refl (c.in_ok-tick-in-Transaction.ensures tt) (c.transaction.ensures done)
+pub stmt::stmt-returns-in-Transaction : goal.stmt::stmt-returns-in-Transaction
+stmt::stmt-returns-in-Transaction g t c done =
+    ticks_then (program_in c.args.source.now) (called c.args.source.now c.args.frames) (stmt_of c.args.s.now) (tree.Transaction c.in-Transaction.mode (stmts_of c.as_slice-in-Transaction.result.now) c.in-Transaction.field-2) (meaning.transaction c.in-Transaction.mode (scoped (does_stmts c.args.source.now c.args.frames c.as_slice-in-Transaction.result.now))) (state_in c.args.m.now) (state_in c.tick.new.m) _ (transaction_is c.args.s.now c.in-Transaction.mode c.in-Transaction.ss c.as_slice-in-Transaction.result.now c.in-Transaction.field-2 c.in-Transaction.is c.as_slice-in-Transaction.ensures) refl (c.in_ok-tick.ensures tt) (c.transaction.ensures done)
 
-pub stmt::stmt-returns-in_ok-tick-in-While : goal.stmt::stmt-returns-in_ok-tick-in-While
-stmt::stmt-returns-in_ok-tick-in-While g t c done =
-    ticks_then (program_in c.args.source.now) (called c.args.source.now c.args.frames) (stmt_of c.args.s.now) (tree.While (expr_of c.in-While.c) (stmt_of c.get-in-While.result.now)) (meaning.loop (while_turn (program_in c.args.source.now) (called c.args.source.now c.args.frames) (expr_of c.in-While.c) (stmt_of c.get-in-While.result.now))) (state_in c.args.m.now) (state_in c.tick-in-While.new.m) _ (while_is c.args.s.now c.in-While.c c.in-While.a c.get-in-While.result.now c.in-While.is c.get-in-While.ensures) refl (c.in_ok-tick-in-While.ensures tt) (c.repeat.ensures done)
+pub stmt::stmt-returns-in-While : goal.stmt::stmt-returns-in-While
+stmt::stmt-returns-in-While g t c done =
+    ticks_then (program_in c.args.source.now) (called c.args.source.now c.args.frames) (stmt_of c.args.s.now) (tree.While (expr_of c.in-While.c) (stmt_of c.get-in-While.result.now)) (meaning.loop (while_turn (program_in c.args.source.now) (called c.args.source.now c.args.frames) (expr_of c.in-While.c) (stmt_of c.get-in-While.result.now))) (state_in c.args.m.now) (state_in c.tick.new.m) _ (while_is c.args.s.now c.in-While.c c.in-While.a c.get-in-While.result.now c.in-While.is c.get-in-While.ensures) refl (c.in_ok-tick.ensures tt) (c.repeat.ensures done)
 
 pub stmt::stmt-transaction-requires : goal.stmt::stmt-transaction-requires
 stmt::stmt-transaction-requires g t c κs within =
