@@ -23,15 +23,15 @@ pub(crate) fn place_of<A: Allocator>(e: &Expr<A>) -> Span
 {
     match e {
         Expr::Variable(x) => x.span,
-        Expr::Constant(_, _, at) => *at,
-        Expr::Element(_, _, at) => *at,
-        Expr::Call(_, _, at) => *at,
-        Expr::Parenthesized(_, at) => *at,
-        Expr::Cast(_, _, at) => *at,
-        Expr::Unary(_, _, at) => *at,
-        Expr::Binary(_, _, _, at) => *at,
-        Expr::Logical(_, _, _, at) => *at,
-        Expr::Conditional(_, _, _, at) => *at,
+        Expr::Constant(_, _, at)
+        | Expr::Element(_, _, at)
+        | Expr::Call(_, _, at)
+        | Expr::Parenthesized(_, at)
+        | Expr::Cast(_, _, at)
+        | Expr::Unary(_, _, at)
+        | Expr::Binary(_, _, _, at)
+        | Expr::Logical(_, _, _, at)
+        | Expr::Conditional(_, _, _, at) => *at,
     }
 }
 
@@ -72,6 +72,18 @@ fn check_element<'a, A: Allocator + Copy>(
     demand(!symbol.is_unknown(), Violation::UnknownName(x.span))?;
     check_number(names, index)?;
     demand(symbol.may_be_array(), Violation::WrongType(at))
+}
+
+/// A variable: its name, and then that it is a number.
+fn check_variable<'a, A: Allocator + Copy>(
+    names: &Names<'a, A>,
+    x: &'a Name<A>,
+) -> Result<(), Violation>
+    ensures { unmet_in result ≡ first_unmet (IsTyped (known_in names.now) (Tree.Variable (name_of x.now))) }
+{
+    let symbol = names.look(x.text.as_str());
+    demand(!symbol.is_unknown(), Violation::UnknownName(x.span))?;
+    demand(symbol.may_be_number(), Violation::WrongType(x.span))
 }
 
 /// The number of expressions.
@@ -148,11 +160,7 @@ pub(crate) fn check_expr<'a, A: Allocator + Copy>(
     ensures { unmet_in result ≡ first_unmet (IsTyped (known_in names.now) (expr_of e.now)) }
 {
     match e {
-        Expr::Variable(x) => {
-            let symbol = names.look(x.text.as_str());
-            demand(!symbol.is_unknown(), Violation::UnknownName(x.span))?;
-            demand(symbol.may_be_number(), Violation::WrongType(x.span))
-        }
+        Expr::Variable(x) => check_variable(names, x),
         Expr::Constant(_, _, _) => Ok(()),
         Expr::Element(x, index, at) => check_element(names, x, index.get(), *at),
         Expr::Call(f, args, at) => check_call(names, f, args.as_slice(), *at),

@@ -3,7 +3,7 @@
 ghost use Rattle.std.specs.Prelude.{◌≡◌};
 ghost use Rattle.syntax.specs.Typing.{demand, first_unmet};
 ghost use Rattle.types.specs.declared.fault.Failure.TheVariants as Failure;
-ghost use Rattle.types.specs.Answers.{number_in, span_in, unmet_in, number_of, span_of, unit_of};
+ghost use Rattle.types.specs.Answers.{number_in, span_in, unmet_in, Tells, number_of, span_of, unit_of};
 
 use lex::token::Span;
 use std::alloc::{AllocError, Allocator};
@@ -111,6 +111,16 @@ impl From<AllocError> for Failure {
 
     fn from(_fault: AllocError) -> Failure {
         Failure::OutOfMemory
+    }
+}
+
+/// What a check that wants no memory says, as a check says it that may.
+pub(crate) fn as_failure(checked: Result<(), Violation>) -> Result<(), Failure>
+    ensures { Tells result (unmet_in checked) }
+{
+    match checked {
+        Ok(()) => Ok(()),
+        Err(violation) => Err(Failure::Violation(violation)),
     }
 }
 

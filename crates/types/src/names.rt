@@ -38,10 +38,7 @@ impl<'a, A: Allocator + Copy> Names<'a, A> {
         ensures { result ≡ slot_in self.now name.now }
     {
         match self.slots.get(&name) {
-            Some(slot) => Slot {
-                symbol: slot.symbol.copy(),
-                place: slot.place,
-            },
+            Some(slot) => *slot,
             None => Slot {
                 symbol: Symbol::Unknown,
                 place: 0,

@@ -9,7 +9,7 @@ ghost use Rattle.types.specs.Answers.{Answers, unmet_in};
 ghost use Rattle.types.specs.inner.Known.{known_in, count_in, AreDeclared, Grows, Agrees};
 
 use crate::expr::{check_expr, check_number, gives_number};
-use crate::fault::{Failure, Violation, demand};
+use crate::fault::{Failure, Violation, as_failure, demand};
 use crate::format::check_print;
 use crate::scope::{check_declarators, check_first, check_lone, check_start};
 use crate::simple::check_simple;
@@ -133,15 +133,14 @@ pub(crate) fn check_stmt<'a, A: Allocator + Copy>(
     match stmt {
         Stmt::Empty => Ok(()),
         Stmt::Declare(one) => check_lone(names, context.start, one),
-        Stmt::Do(s) => {
-            check_simple(names, s)?;
-            Ok(())
-        }
+        Stmt::Do(s) => as_failure(check_simple(names, s)),
         Stmt::Block(body) => check_block(names, body.as_slice(), context),
-        Stmt::Print(_, format, at, args) => {
-            check_print(names, format.as_str(), *at, args.as_slice())?;
-            Ok(())
-        }
+        Stmt::Print(_, format, at, args) => as_failure(check_print(
+            names,
+            format.as_str(),
+            *at,
+            args.as_slice(),
+        )),
         Stmt::If(c, a, b) => {
             check_number(names, c)?;
             check_stmt(names, a.get(), context)?;
@@ -156,8 +155,7 @@ pub(crate) fn check_stmt<'a, A: Allocator + Copy>(
         }
         Stmt::DoWhile(body, c) => {
             check_stmt(names, body.get(), inside)?;
-            check_number(names, c)?;
-            Ok(())
+            as_failure(check_number(names, c))
         }
         Stmt::For(head, body) => {
             let outer = names.len();
@@ -171,18 +169,10 @@ pub(crate) fn check_stmt<'a, A: Allocator + Copy>(
             names.leave(outer);
             Ok(())
         }
-        Stmt::Break(at) => {
-            demand(context.looping, Violation::OutsideLoop(*at))?;
-            Ok(())
+        Stmt::Break(at) | Stmt::Continue(at) => {
+            as_failure(demand(context.looping, Violation::OutsideLoop(*at)))
         }
-        Stmt::Continue(at) => {
-            demand(context.looping, Violation::OutsideLoop(*at))?;
-            Ok(())
-        }
-        Stmt::Return(e, at) => {
-            check_return(names, context.gives, e, *at)?;
-            Ok(())
-        }
+        Stmt::Return(e, at) => as_failure(check_return(names, context.gives, e, *at)),
         Stmt::Transaction(_, body, _) => check_block(names, body.as_slice(), context),
         Stmt::Cancel(_) => Ok(()),
     }

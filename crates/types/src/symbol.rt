@@ -10,7 +10,7 @@ use std::alloc::Allocator;
 use syntax::tree::Function;
 
 /// What a name is known as.
-#[derive(Drop)]
+#[derive(Clone, Copy)]
 pub(crate) enum Symbol<'a, A: Allocator> {
     Unknown,
     Number(Scalar),
@@ -21,18 +21,6 @@ pub(crate) enum Symbol<'a, A: Allocator> {
 }
 
 impl<'a, A: Allocator> Symbol<'a, A> {
-    /// The same once more.
-    pub(crate) fn copy(&self) -> Symbol<'a, A>
-        ensures { result ≡ self.now }
-    {
-        match self {
-            Symbol::Unknown => Symbol::Unknown,
-            Symbol::Number(t) => Symbol::Number(*t),
-            Symbol::Array(t, count) => Symbol::Array(*t, *count),
-            Symbol::Callable(f) => Symbol::Callable(f),
-        }
-    }
-
     pub(crate) fn is_unknown(&self) -> bool
         ensures { result ≡ is_unknown (known_of self.now) }
     {

@@ -34,7 +34,7 @@ struct Tables<A: Allocator> {
 
 /// What is found out item by item.
 #[derive(Drop)]
-struct Found<'a, A: Allocator> {
+struct Found<'a, A: Allocator + Copy> {
     pub(crate) names: Names<'a, A>,
     pub(crate) bodies: Bodies<'a, A>,
     functions: Items<usize, A>,

@@ -23,7 +23,7 @@ check_expr-returns-in-Call g t c =
 pub check_expr-returns-in_err-check_number-in-Binary : goal.check_expr-returns-in_err-check_number-in-Binary
 check_expr-returns-in_err-check_number-in-Binary g t c =
     let is = typed_binary (known_in c.args.names.now) c.args.e.now c.in-Binary.field-0 c.in-Binary.a c.in-Binary.b c.in-Binary.field-3 c.in-Binary.is in
-    stop c.check_number-in-Binary.result _ c.in_err-check_number-in-Binary.field-0.0 _ _ _ is (c.check_number-in-Binary.ensures ∙ ap (λ x. first_unmet (IsNumber (known_in c.args.names.now) (expr_of x))) c.get-in-Binary.ensures) c.in_err-check_number-in-Binary.was c.from_residual-in_err-check_number-in-Binary.ensures
+    stop c.check_number-in-Binary.result _ c.in_err-check_number-in-Binary.field-0.0 _ _ _ is (c.check_number-in-Binary.ensures ∙ ap (λ x. first_unmet (IsNumber (known_in c.args.names.now) (expr_of x))) c.get-in-Binary.ensures) c.in_err-check_number-in-Binary.was c.from_residual.ensures
 
 pub check_expr-returns-in_ok-check_number-in-Binary : goal.check_expr-returns-in_ok-check_number-in-Binary
 check_expr-returns-in_ok-check_number-in-Binary g t c =

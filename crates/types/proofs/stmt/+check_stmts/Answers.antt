@@ -7,12 +7,11 @@ use Rattle.syntax.specs.declared.tree.Stmt.{the_lemmas}
 use Rattle.syntax.proofs.tree.Stmt.TheLaws.{the_size}
 use Rattle.syntax.specs.Typing.{has_name, knows, scope_after, scope_of_start, names_of}
 use Rattle.syntax.specs.Typing.{first_unmet, IsNumber, IsTypedPrint, IsTypedStmt, AreTypedStmts, AreTypedDeclarators}
-use Rattle.types.specs.Answers.{unmet_in}
 use Rattle.types.specs.inner.Known.{known_in, slot_before, declared_by, AreDeclared, Grows, Agrees}
-use Rattle.types.proofs.Steps.{skip, stop_at, tell_skip, tell_stop, tell_rest, tell_same, tell_single}
-use Rattle.types.proofs.Grown.{left, grows_on, grows_same, none_declared, same_known, same_declared}
+use Rattle.types.proofs.Steps.{skip, stop_at, tell_skip, tell_stop, tell_rest, tell_same}
+use Rattle.types.proofs.Grown.{left, grows_on, grows_same, none_declared, agrees_all, same_known, same_declared}
 use Rattle.types.proofs.Stmts.{else_first, stmts_more, typed_block, typed_transaction, typed_print, typed_if, typed_while, typed_do_while, typed_for}
-use Rattle.types.proofs.BlockItems.{declaration_is, declared_named, nothing_known, nothing_named, on_ok}
+use Rattle.types.proofs.BlockItems.{declaration_is, declared_named, nothing_known, nothing_named, on_ok, ok_any}
 use Rattle.types.proofs.stmt.+check_stmts.Goals as goal
 
 pub check_block-returns-in_err-check_stmts-clause-answer : goal.check_block-returns-in_err-check_stmts-clause-answer
@@ -52,28 +51,23 @@ check_stmt-returns-in-Transaction-clause-answer g t c = λ declared h.
     let x = c.args.context in
     tell_rest c.check_block-in-Transaction.result _ _ (typed_transaction x.gives k declared x.looping c.args.stmt.now c.in-Transaction.field-0 c.in-Transaction.body c.in-Transaction.field-2 c.in-Transaction.is ∙ ap (λ ss. first_unmet (AreTypedStmts x.gives (stmts_of ss) k [] x.looping)) (sym c.as_slice-in-Transaction.ensures)) c.check_block-in-Transaction.ensures.answer
 
-pub check_stmt-returns-in_err-check_print-in-Print-clause-answer : goal.check_stmt-returns-in_err-check_print-in-Print-clause-answer
-check_stmt-returns-in_err-check_print-in-Print-clause-answer g t c = λ declared h.
+pub check_stmt-returns-in-Print-clause-answer : goal.check_stmt-returns-in-Print-clause-answer
+check_stmt-returns-in-Print-clause-answer g t c = λ declared h.
     let k = known_in c.args.names.now in
     let x = c.args.context in
     let is = typed_print x.gives k declared x.looping c.args.stmt.now c.in-Print.field-0 c.in-Print.format c.in-Print.at c.in-Print.args c.in-Print.is in
     let same : first_unmet (IsTypedPrint k c.as_str.result.now c.in-Print.at (exprs_of c.as_slice-in-Print.result.now)) ≡ first_unmet (IsTypedPrint k c.in-Print.format c.in-Print.at (exprs_of c.in-Print.args)) = (λ i. first_unmet (IsTypedPrint k (c.as_str.ensures i) c.in-Print.at (exprs_of (c.as_slice-in-Print.ensures i)))) in
-    tell_single c.check_print.result _ c.in_err-check_print-in-Print.field-0.0 _ (c.check_print.ensures ∙ same ∙ sym is) c.in_err-check_print-in-Print.was c.from_residual-in_err-check_print-in-Print.ensures
+    tell_rest c.as_failure-in-Print.result _ _ (is ∙ sym (c.check_print.ensures ∙ same)) c.as_failure-in-Print.ensures
 
-pub check_stmt-returns-in_ok-check_print-in-Print-clause-answer : goal.check_stmt-returns-in_ok-check_print-in-Print-clause-answer
-check_stmt-returns-in_ok-check_print-in-Print-clause-answer g t c = λ declared h.
-    let k = known_in c.args.names.now in
-    let x = c.args.context in
-    let is = typed_print x.gives k declared x.looping c.args.stmt.now c.in-Print.field-0 c.in-Print.format c.in-Print.at c.in-Print.args c.in-Print.is in
-    let same : first_unmet (IsTypedPrint k c.as_str.result.now c.in-Print.at (exprs_of c.as_slice-in-Print.result.now)) ≡ first_unmet (IsTypedPrint k c.in-Print.format c.in-Print.at (exprs_of c.in-Print.args)) = (λ i. first_unmet (IsTypedPrint k (c.as_str.ensures i) c.in-Print.at (exprs_of (c.as_slice-in-Print.ensures i)))) in
-    sym (ap unmet_in c.in_ok-check_print-in-Print.was) ∙ c.check_print.ensures ∙ same ∙ sym is
+pub check_stmt-returns-in-Print-clause-same : goal.check_stmt-returns-in-Print-clause-same
+check_stmt-returns-in-Print-clause-same g t c = ok_any c.as_failure-in-Print.result (Agrees c.args.names.now c.args.names.now) (agrees_all c.args.names.now)
 
 pub check_stmt-returns-in_err-check_number-in-If-clause-answer : goal.check_stmt-returns-in_err-check_number-in-If-clause-answer
 check_stmt-returns-in_err-check_number-in-If-clause-answer g t c = λ declared h.
     let k = known_in c.args.names.now in
     let x = c.args.context in
     let is = typed_if x.gives k declared x.looping c.args.stmt.now c.in-If.c c.in-If.a c.in-If.b c.in-If.is in
-    stop_at c.check_number.result _ c.in_err-check_number-in-If.field-0.0 _ _ _ is c.check_number.ensures c.in_err-check_number-in-If.was c.from_residual-in_err-check_number-in-If.ensures
+    stop_at c.check_number.result _ c.in_err-check_number-in-If.field-0.0 _ _ _ is c.check_number.ensures c.in_err-check_number-in-If.was c.from_residual.ensures
 
 pub check_stmt-returns-in_err-check_stmt-in-If-clause-answer : goal.check_stmt-returns-in_err-check_stmt-in-If-clause-answer
 check_stmt-returns-in_err-check_stmt-in-If-clause-answer g t c = λ declared h.
@@ -131,8 +125,8 @@ check_stmt-returns-in_err-check_stmt-in-DoWhile-clause-answer g t c = λ declare
     let at_a = ap (λ s. option_or (first_unmet (IsTypedStmt x.gives (stmt_of s) k declared true)) (first_unmet (IsNumber k (expr_of c.in-DoWhile.c)))) (sym c.get-in-DoWhile.ensures) in
     tell_stop c.check_stmt-in-DoWhile.result _ c.in_err-check_stmt-in-DoWhile.field-0.0 _ _ _ (is ∙ at_a) (c.check_stmt-in-DoWhile.ensures.answer declared h) c.in_err-check_stmt-in-DoWhile.was c.from_residual-in_err-check_stmt-in-DoWhile.ensures
 
-pub check_stmt-returns-in_err-check_number-in-DoWhile-clause-answer : goal.check_stmt-returns-in_err-check_number-in-DoWhile-clause-answer
-check_stmt-returns-in_err-check_number-in-DoWhile-clause-answer g t c = λ declared h.
+pub check_stmt-returns-in_ok-check_stmt-in-DoWhile-clause-answer : goal.check_stmt-returns-in_ok-check_stmt-in-DoWhile-clause-answer
+check_stmt-returns-in_ok-check_stmt-in-DoWhile-clause-answer g t c = λ declared h.
     let old = c.args.names.now in
     let new = c.check_stmt-in-DoWhile.new.names in
     let same = c.in_ok-check_stmt-in-DoWhile.ensures.same in
@@ -141,19 +135,7 @@ check_stmt-returns-in_err-check_number-in-DoWhile-clause-answer g t c = λ decla
     let is = typed_do_while x.gives k declared x.looping c.args.stmt.now c.in-DoWhile.body c.in-DoWhile.c c.in-DoWhile.is in
     let at_a = ap (λ s. option_or (first_unmet (IsTypedStmt x.gives (stmt_of s) k declared true)) (first_unmet (IsNumber k (expr_of c.in-DoWhile.c)))) (sym c.get-in-DoWhile.ensures) in
     let last = tell_skip c.check_stmt-in-DoWhile.result _ _ _ _ (is ∙ at_a) (c.check_stmt-in-DoWhile.ensures.answer declared h) c.in_ok-check_stmt-in-DoWhile.was in
-    tell_single c.check_number-in-DoWhile.result _ c.in_err-check_number-in-DoWhile.field-0.0 _ (c.check_number-in-DoWhile.ensures ∙ ap (λ s. first_unmet (IsNumber s (expr_of c.in-DoWhile.c))) (same_known old new same) ∙ sym last) c.in_err-check_number-in-DoWhile.was c.from_residual-in_err-check_number-in-DoWhile.ensures
-
-pub check_stmt-returns-in_ok-check_number-in-DoWhile-clause-answer : goal.check_stmt-returns-in_ok-check_number-in-DoWhile-clause-answer
-check_stmt-returns-in_ok-check_number-in-DoWhile-clause-answer g t c = λ declared h.
-    let old = c.args.names.now in
-    let new = c.check_stmt-in-DoWhile.new.names in
-    let same = c.in_ok-check_stmt-in-DoWhile.ensures.same in
-    let k = known_in old in
-    let x = c.args.context in
-    let is = typed_do_while x.gives k declared x.looping c.args.stmt.now c.in-DoWhile.body c.in-DoWhile.c c.in-DoWhile.is in
-    let at_a = ap (λ s. option_or (first_unmet (IsTypedStmt x.gives (stmt_of s) k declared true)) (first_unmet (IsNumber k (expr_of c.in-DoWhile.c)))) (sym c.get-in-DoWhile.ensures) in
-    let last = tell_skip c.check_stmt-in-DoWhile.result _ _ _ _ (is ∙ at_a) (c.check_stmt-in-DoWhile.ensures.answer declared h) c.in_ok-check_stmt-in-DoWhile.was in
-    sym (ap unmet_in c.in_ok-check_number-in-DoWhile.was) ∙ c.check_number-in-DoWhile.ensures ∙ ap (λ s. first_unmet (IsNumber s (expr_of c.in-DoWhile.c))) (same_known old new same) ∙ sym last
+    tell_rest c.as_failure-in-DoWhile.result _ _ (last ∙ sym (c.check_number-in-DoWhile.ensures ∙ ap (λ s. first_unmet (IsNumber s (expr_of c.in-DoWhile.c))) (same_known old new same))) c.as_failure-in-DoWhile.ensures
 
 pub check_stmt-returns-in_err-check_head-in-For-clause-answer : goal.check_stmt-returns-in_err-check_head-in-For-clause-answer
 check_stmt-returns-in_err-check_head-in-For-clause-answer g t c = λ declared h.
