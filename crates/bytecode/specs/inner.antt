@@ -2,3 +2,5 @@
 pub mod Walking
 -- how the functions' codes lie
 pub mod Layout
+-- what stands behind an instruction's word in a listing
+pub mod Operands
