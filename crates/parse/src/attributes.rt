@@ -7,10 +7,10 @@ ghost use Rattle.lex.specs.declared.token.Keyword.TheVariants as key;
 ghost use Rattle.lex.specs.declared.token.Punctuator.TheVariants as punct;
 ghost use Rattle.syntax.specs.declared.tree.Attribute.{Attribute};
 ghost use Rattle.syntax.specs.Grammar.{the_attribute, attribute_named};
-ghost use Rattle.parse.specs.inner.Reading.{Gives, take, head};
+ghost use Rattle.parse.specs.inner.Reading.{Gives, take, head, behind, before};
 ghost use Rattle.parse.specs.inner.Items.{words, bracketed, parenthesized, attribute_list, is_plain, attributes};
 
-use crate::cursor::{counted, expect, is_next};
+use crate::cursor::{closed, counted, expect, is_next};
 use crate::fault::Failure;
 use crate::list::{Element, listed};
 use containers::Items;
@@ -80,6 +80,21 @@ fn words<'t, 'a, A: Allocator + Copy>(
     listed(alloc, &EachWord {}, tokens)
 }
 
+/// Words between two of the one and two of the other.
+fn enclosed<'t, 'a, A: Allocator + Copy>(
+    alloc: A,
+    tokens: &'t [Token<'a>],
+    opening: Fixed,
+    closing: Fixed,
+) -> Result<Found<'t, 'a, A>, Failure<'t, 'a>>
+    ensures { Gives (λ x. (x.0, toks x.1.now)) result
+        (behind opening (behind opening (before closing (before closing words))) (toks tokens.now)) }
+{
+    let rest = expect(tokens, opening)?;
+    let rest = expect(rest, opening)?;
+    closed(closed(words(alloc, rest), closing), closing)
+}
+
 /// `[[ .. ]]`
 fn bracketed<'t, 'a, A: Allocator + Copy>(
     alloc: A,
@@ -87,12 +102,12 @@ fn bracketed<'t, 'a, A: Allocator + Copy>(
 ) -> Result<Found<'t, 'a, A>, Failure<'t, 'a>>
     ensures { Gives (λ x. (x.0, toks x.1.now)) result (bracketed (toks tokens.now)) }
 {
-    let rest = expect(tokens, Fixed::Punctuator(Punctuator::OpenBracket))?;
-    let rest = expect(rest, Fixed::Punctuator(Punctuator::OpenBracket))?;
-    let (words, rest) = words(alloc, rest)?;
-    let rest = expect(rest, Fixed::Punctuator(Punctuator::CloseBracket))?;
-    let rest = expect(rest, Fixed::Punctuator(Punctuator::CloseBracket))?;
-    Ok((words, rest))
+    enclosed(
+        alloc,
+        tokens,
+        Fixed::Punctuator(Punctuator::OpenBracket),
+        Fixed::Punctuator(Punctuator::CloseBracket),
+    )
 }
 
 /// `__attribute__((..))`
@@ -103,12 +118,12 @@ fn parenthesized<'t, 'a, A: Allocator + Copy>(
     ensures { Gives (λ x. (x.0, toks x.1.now)) result (parenthesized (toks tokens.now)) }
 {
     let rest = expect(tokens, Fixed::Keyword(Keyword::Attribute))?;
-    let rest = expect(rest, Fixed::Punctuator(Punctuator::OpenParen))?;
-    let rest = expect(rest, Fixed::Punctuator(Punctuator::OpenParen))?;
-    let (words, rest) = words(alloc, rest)?;
-    let rest = expect(rest, Fixed::Punctuator(Punctuator::CloseParen))?;
-    let rest = expect(rest, Fixed::Punctuator(Punctuator::CloseParen))?;
-    Ok((words, rest))
+    enclosed(
+        alloc,
+        rest,
+        Fixed::Punctuator(Punctuator::OpenParen),
+        Fixed::Punctuator(Punctuator::CloseParen),
+    )
 }
 
 /// `[[ words ]]` or `__attribute__ (( words ))`

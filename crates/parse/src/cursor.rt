@@ -5,7 +5,7 @@ ghost use Rattle.lex.specs.Tokens.{terminal, toks};
 ghost use Rattle.syntax.specs.Phrases.{is_fixed};
 ghost use Rattle.syntax.specs.Views.{name_of};
 ghost use Rattle.syntax.specs.Grammar.{the_name};
-ghost use Rattle.parse.specs.inner.Reading.{Gives, GivesBehind, expect, spot, take, is_next, head};
+ghost use Rattle.parse.specs.inner.Reading.{Gives, GivesBefore, GivesBehind, expect, spot, take, is_next, head};
 
 use crate::fault::Failure;
 use containers::Text;
@@ -61,18 +61,20 @@ pub fn eat<'t, 'a>(tokens: &'t [Token<'a>], fixed: Fixed) -> Option<&'t [Token<'
     }
 }
 
-/// What was read, where this keyword or punctuator stands behind it. What was read is dropped here where it does not:
-/// written out at each caller, the drop of a tree is dear to prove.
+/// What was read, where this keyword or punctuator stands behind it. It takes what a call returned: a caller with a `?`
+/// before it and one behind it is dearer to prove. What was read is dropped here where the token is missing: written
+/// out at each caller, the drop of a tree is dear too.
 pub fn closed<'t, 'a, T: Drop>(
-    read: T,
-    tokens: &'t [Token<'a>],
+    read: Result<(T, &'t [Token<'a>]), Failure<'t, 'a>>,
     fixed: Fixed,
 ) -> Result<(T, &'t [Token<'a>]), Failure<'t, 'a>>
-    ensures value { IfOk result (λ x. x.0 ≡ read) }
-    ensures rest { Gives (λ x. (tt, toks x.1.now)) result (expect fixed (toks tokens.now)) }
+    ensures { GivesBefore fixed read.entry result }
 {
-    match expect(tokens, fixed) {
-        Ok(rest) => Ok((read, rest)),
+    match read {
+        Ok((one, rest)) => match expect(rest, fixed) {
+            Ok(after) => Ok((one, after)),
+            Err(failure) => Err(failure),
+        },
         Err(failure) => Err(failure),
     }
 }

@@ -54,7 +54,7 @@ impl ParseFault {
 }
 
 /// What stops a descent, with the tokens from the place where it stops.
-#[derive(Debug, Drop)]
+#[derive(Drop)]
 pub enum Failure<'t, 'a> {
     Memory,
     Wrong(&'t [Token<'a>]),

@@ -15,7 +15,7 @@ ghost use Rattle.parse.specs.inner.Items as items;
 ghost use Rattle.parse.specs.inner.Headings.{heading_of};
 
 use crate::attributes::{attributes, joined};
-use crate::cursor::{eat, expect, is_next, name};
+use crate::cursor::{closed, eat, expect, is_next, name};
 use crate::fault::Failure;
 use crate::list::{Element, listed};
 use crate::scalar::scalar;
@@ -141,9 +141,10 @@ fn parameters<'t, 'a, A: Allocator + Copy>(
     ensures { Gives (λ x. (map parameter_of x.0, toks x.1.now)) result (parameters (toks tokens.now)) }
 {
     let rest = expect(tokens, Fixed::Punctuator(Punctuator::OpenParen))?;
-    let (all, rest) = parameter_list(alloc, rest)?;
-    let rest = expect(rest, Fixed::Punctuator(Punctuator::CloseParen))?;
-    Ok((all, rest))
+    closed(
+        parameter_list(alloc, rest),
+        Fixed::Punctuator(Punctuator::CloseParen),
+    )
 }
 
 /// Whether each of them has a name.

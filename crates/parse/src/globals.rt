@@ -8,12 +8,12 @@ ghost use Rattle.lex.specs.declared.token.Punctuator.TheVariants as punct;
 ghost use Rattle.syntax.specs.Tree as Tree;
 ghost use Rattle.syntax.specs.Views.{name_of, global_of, item_of};
 ghost use Rattle.syntax.specs.Grammar.{the_length};
-ghost use Rattle.parse.specs.inner.Reading.{Gives, take};
+ghost use Rattle.parse.specs.inner.Reading.{Gives, take, before, behind};
 ghost use Rattle.parse.specs.inner.Items.{the_placed_value, initialiser, first_value, further_values, first_values, sized, global, value_list, several, globals_from};
 
-use crate::cursor::{eat, expect, is_next, name, spot};
+use crate::cursor::{closed, eat, expect, is_next, name, spot};
 use crate::fault::Failure;
-use crate::list::{Element, further};
+use crate::list::{Element, further, one};
 use containers::Items;
 use lex::token::{Fixed, Kind, Punctuator, Scalar, Span, Token};
 use std::alloc::Allocator;
@@ -56,6 +56,18 @@ fn length<'t, 'a>(
     }
 }
 
+/// `[ length ]`
+fn array_length<'t, 'a>(
+    tokens: &'t [Token<'a>],
+) -> Result<((u32, Span), &'t [Token<'a>]), Failure<'t, 'a>>
+    ensures { Gives (λ x. (x.0, toks x.1.now)) result
+        (behind (token.Punctuator punct.OpenBracket) (before (token.Punctuator punct.CloseBracket) (take the_length))
+        (toks tokens.now)) }
+{
+    let rest = expect(tokens, Fixed::Punctuator(Punctuator::OpenBracket))?;
+    closed(length(rest), Fixed::Punctuator(Punctuator::CloseBracket))
+}
+
 /// `[-] constant`
 fn initialiser<'t, 'a>(tokens: &'t [Token<'a>]) -> Result<(First, &'t [Token<'a>]), Failure<'t, 'a>>
     ensures { Gives (λ x. (x.0, toks x.1.now)) result (initialiser (toks tokens.now)) }
@@ -91,13 +103,11 @@ fn first_value<'t, 'a, A: Allocator + Copy>(
 ) -> Result<Firsts<'t, 'a, A>, Failure<'t, 'a>>
     ensures { Gives (λ x. (x.0, toks x.1.now)) result (first_value (toks tokens.now)) }
 {
-    let mut first = Items::new(alloc);
     let Some(rest) = eat(tokens, Fixed::Punctuator(Punctuator::Assign)) else {
-        return Ok((first, tokens));
+        return Ok((Items::new(alloc), tokens));
     };
     let (value, rest) = initialiser(rest)?;
-    first.push(value)?;
-    Ok((first, rest))
+    Ok((one(alloc, value)?, rest))
 }
 
 /// `initialiser { , initialiser } [,]`
@@ -139,9 +149,10 @@ fn first_values<'t, 'a, A: Allocator + Copy>(
         return Ok((Items::new(alloc), tokens));
     };
     let rest = expect(rest, Fixed::Punctuator(Punctuator::OpenBrace))?;
-    let (all, rest) = value_list(alloc, rest)?;
-    let rest = expect(rest, Fixed::Punctuator(Punctuator::CloseBrace))?;
-    Ok((all, rest))
+    closed(
+        value_list(alloc, rest),
+        Fixed::Punctuator(Punctuator::CloseBrace),
+    )
 }
 
 /// `[= initialiser]` or `[ length ] [= { value_list }]`, behind a global's name.
@@ -151,12 +162,11 @@ fn sized<'t, 'a, A: Allocator + Copy>(
 ) -> Result<Sized<'t, 'a, A>, Failure<'t, 'a>>
     ensures { Gives (λ x. ((x.0.0, x.0.1), toks x.1.now)) result (sized (toks tokens.now)) }
 {
-    let Some(rest) = eat(tokens, Fixed::Punctuator(Punctuator::OpenBracket)) else {
+    if !is_next(tokens, Fixed::Punctuator(Punctuator::OpenBracket)) {
         let (first, rest) = first_value(alloc, tokens)?;
         return Ok(((None, first), rest));
-    };
-    let (length, rest) = length(rest)?;
-    let rest = expect(rest, Fixed::Punctuator(Punctuator::CloseBracket))?;
+    }
+    let (length, rest) = array_length(tokens)?;
     let (first, rest) = first_values(alloc, rest)?;
     Ok(((Some(length), first), rest))
 }
@@ -206,13 +216,13 @@ fn several<'t, 'a, A: Allocator + Copy>(
     ensures { Gives (λ x. (map global_of x.0, toks x.1.now)) result (several of (name_of name) (toks tokens.now)) }
 {
     let ((length, first), rest) = sized(alloc, tokens)?;
-    let mut all = Items::new(alloc);
-    all.push(Global {
+    let first = Global {
         of,
         name,
         length,
         first,
-    })?;
+    };
+    let all = one(alloc, first)?;
     further(&EachGlobal { alloc, of }, all, rest)
 }
 
@@ -225,7 +235,9 @@ pub fn globals<'t, 'a, A: Allocator + Copy>(
 ) -> Result<(Item<A>, &'t [Token<'a>]), Failure<'t, 'a>>
     ensures { Gives (λ x. (item_of x.0, toks x.1.now)) result (globals_from of (name_of name) (toks tokens.now)) }
 {
-    let (all, rest) = several(alloc, tokens, of, name)?;
-    let rest = expect(rest, Fixed::Punctuator(Punctuator::Semicolon))?;
+    let (all, rest) = closed(
+        several(alloc, tokens, of, name),
+        Fixed::Punctuator(Punctuator::Semicolon),
+    )?;
     Ok((Item::Globals(all), rest))
 }

@@ -11,14 +11,14 @@ use lex::token::{Fixed, Keyword, Kind, Punctuator, Token};
 use syntax::tree::{BinaryOp, LogicalOp, Mode};
 
 /// An operator between two operands.
-#[derive(Clone, Copy, PartialEq, Eq, Debug)]
+#[derive(Clone, Copy)]
 pub enum Infix {
     Computing(BinaryOp),
     Choosing(LogicalOp),
 }
 
 /// What kind of operand a token begins.
-#[derive(Clone, Copy, PartialEq, Eq, Debug)]
+#[derive(Clone, Copy)]
 pub enum Operand {
     Name,
     Constant,
@@ -30,7 +30,7 @@ pub enum Operand {
 }
 
 /// What kind of statement a token begins.
-#[derive(Clone, Copy, PartialEq, Eq, Debug)]
+#[derive(Clone, Copy)]
 pub enum Lead {
     Empty,
     Block,

@@ -1,6 +1,6 @@
 //! Lists with commas between their elements.
 
-ghost use Rattle.std.specs.Prelude.{◌≡◌, ◌++◌, map};
+ghost use Rattle.std.specs.Prelude.{◌≡◌, [], ◌∷◌, ◌++◌, map, IfOk};
 ghost use Rattle.lex.specs.Tokens.{toks};
 ghost use Rattle.lex.specs.declared.token.Fixed.TheVariants as token;
 ghost use Rattle.lex.specs.declared.token.Punctuator.TheVariants as punct;
@@ -10,7 +10,7 @@ use crate::cursor::{counted, eat, is_next};
 use crate::fault::Failure;
 use containers::Items;
 use lex::token::{Fixed, Punctuator, Token};
-use std::alloc::Allocator;
+use std::alloc::{AllocError, Allocator};
 
 /// How one element of a list is read, with what reading it needs.
 pub trait Element<T> {
@@ -26,6 +26,16 @@ pub trait Element<T> {
     fn read<'t, 'a>(&self, tokens: &'t [Token<'a>]) -> Result<(T, &'t [Token<'a>]), Failure<'t, 'a>>
         requires { can self.now }
         ensures { Gives (λ x. (plain x.0, toks x.1.now)) result (reads self.now (toks tokens.now)) };
+}
+
+/// A list of one item. Where memory ends, the list is dropped here, whatever its type: the drop of one of trees, written
+/// out at each place, is dear to prove.
+pub fn one<T: Drop, A: Allocator>(alloc: A, item: T) -> Result<Items<T, A>, AllocError>
+    ensures { IfOk result (λ all. all ≡ item ∷ []) }
+{
+    let mut all = Items::new(alloc);
+    all.push(item)?;
+    Ok(all)
 }
 
 /// `{ , element }`: adds further elements to those that were read.
@@ -66,7 +76,6 @@ pub fn listed<'t, 'a, T: Drop, E: Element<T>, A: Allocator + Copy>(
     ensures { Gives (λ x. (map E.plain x.0, toks x.1.now)) result (listed (E.reads element.now) (toks tokens.now)) }
 {
     let (first, rest) = element.read(tokens)?;
-    let mut all = Items::new(alloc);
-    all.push(first)?;
+    let all = one(alloc, first)?;
     further(element, all, rest)
 }

@@ -11,7 +11,7 @@ ghost use Rattle.syntax.specs.Grammar.{the_text};
 ghost use Rattle.parse.specs.inner.Reading.{Gives, take, mapped, before, expect, spot};
 ghost use Rattle.parse.specs.inner.Statements.{simple_at, printed, print_stmt, return_stmt};
 
-use crate::cursor::{expect, spot};
+use crate::cursor::{closed, expect, spot};
 use crate::expr::further;
 use crate::fault::Failure;
 use crate::simple::{last_expression, simple_before};
@@ -77,10 +77,13 @@ fn printed<'t, 'a, A: Allocator + Copy>(
     requires { depth < 2 ^ 32 }
     ensures { Gives (λ x. (map expr_of x.0, toks x.1.now)) result (printed depth (toks tokens.now)) }
 {
-    let (arguments, rest) = further(alloc, tokens, depth)?;
-    let rest = expect(rest, Fixed::Punctuator(Punctuator::CloseParen))?;
-    let rest = expect(rest, Fixed::Punctuator(Punctuator::Semicolon))?;
-    Ok((arguments, rest))
+    closed(
+        closed(
+            further(alloc, tokens, depth),
+            Fixed::Punctuator(Punctuator::CloseParen),
+        ),
+        Fixed::Punctuator(Punctuator::Semicolon),
+    )
 }
 
 /// `printf ( string { , expr } ) ;`
@@ -107,9 +110,10 @@ fn alone<'t, 'a>(
     ensures { Gives (λ x. (x.0, toks x.1.now)) result
         (before (token.Punctuator punct.Semicolon) (spot fixed) (toks tokens.now)) }
 {
-    let (at, rest) = spot(tokens, fixed)?;
-    let rest = expect(rest, Fixed::Punctuator(Punctuator::Semicolon))?;
-    Ok((at, rest))
+    closed(
+        spot(tokens, fixed),
+        Fixed::Punctuator(Punctuator::Semicolon),
+    )
 }
 
 /// `break ;`

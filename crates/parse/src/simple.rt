@@ -151,9 +151,7 @@ pub fn simple_before<'t, 'a, A: Allocator + Copy>(
     requires { depth < 2 ^ 32 }
     ensures { Gives (λ x. (simple_of x.0, toks x.1.now)) result (before fixed (simple_at depth) (toks tokens.now)) }
 {
-    let (simple, rest) = simple(alloc, tokens, depth)?;
-    let (simple, rest) = closed(simple, rest, fixed)?;
-    Ok((simple, rest))
+    closed(simple(alloc, tokens, depth), fixed)
 }
 
 /// `[= expr]`
@@ -227,9 +225,11 @@ fn declarators<'t, 'a, A: Allocator + Copy>(
     ensures { Gives (λ x. (map declarator_of x.0, toks x.1.now)) result
         (before (token.Punctuator punct.Semicolon) (listed (declarator (whole_at depth))) (toks tokens.now)) }
 {
-    let (all, rest) = listed(alloc, &EachDeclarator { alloc, depth }, tokens)?;
-    let (all, rest) = closed(all, rest, Fixed::Punctuator(Punctuator::Semicolon))?;
-    Ok((all, rest))
+    let each = EachDeclarator { alloc, depth };
+    closed(
+        listed(alloc, &each, tokens),
+        Fixed::Punctuator(Punctuator::Semicolon),
+    )
 }
 
 /// `type declarators`, whose parts have at most this depth.
@@ -327,6 +327,8 @@ pub fn last_expression<'t, 'a, A: Allocator + Copy>(
         return Ok((None, rest));
     }
     let (value, rest) = expression(alloc, tokens, depth)?;
-    let (value, rest) = closed(value, rest, Fixed::Punctuator(Punctuator::Semicolon))?;
-    Ok((Some(value), rest))
+    closed(
+        Ok((Some(value), rest)),
+        Fixed::Punctuator(Punctuator::Semicolon),
+    )
 }

@@ -44,9 +44,10 @@ fn in_parens<'t, 'a, A: Allocator + Copy>(
     ensures { Gives (λ x. (expr_of x.0, toks x.1.now)) result (in_parens (whole_at depth) (toks tokens.now)) }
 {
     let rest = expect(tokens, Fixed::Punctuator(Punctuator::OpenParen))?;
-    let (inner, rest) = expression(alloc, rest, depth)?;
-    let (inner, rest) = closed(inner, rest, Fixed::Punctuator(Punctuator::CloseParen))?;
-    Ok((inner, rest))
+    closed(
+        expression(alloc, rest, depth),
+        Fixed::Punctuator(Punctuator::CloseParen),
+    )
 }
 
 /// `[expr] ; [simple] )`
@@ -123,9 +124,10 @@ fn end_of_do<'t, 'a, A: Allocator + Copy>(
     ensures { Gives (λ x. (expr_of x.0, toks x.1.now)) result (end_of_do depth (toks tokens.now)) }
 {
     let rest = expect(tokens, Fixed::Keyword(Keyword::While))?;
-    let (condition, rest) = in_parens(alloc, rest, depth)?;
-    let (condition, rest) = closed(condition, rest, Fixed::Punctuator(Punctuator::Semicolon))?;
-    Ok((condition, rest))
+    closed(
+        in_parens(alloc, rest, depth),
+        Fixed::Punctuator(Punctuator::Semicolon),
+    )
 }
 
 /// What was read of a statement, in a box. In this function and the next ones, which take what the cycle of statements
@@ -247,7 +249,7 @@ fn braced<'t, 'a, A: Allocator + Copy>(
     ensures rest { Gives (λ x. (tt, toks x.1.now)) result
         (expect (token.Punctuator punct.CloseBrace) (toks tokens.now)) }
 {
-    closed(all, tokens, Fixed::Punctuator(Punctuator::CloseBrace))
+    closed(Ok((all, tokens)), Fixed::Punctuator(Punctuator::CloseBrace))
 }
 
 /// A statement, in a box.

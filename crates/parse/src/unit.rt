@@ -50,11 +50,9 @@ fn item<'t, 'a, A: Allocator + Copy>(
 {
     let (heading, rest) = header(alloc, tokens)?;
     if is_next(rest, Fixed::Punctuator(Punctuator::OpenParen)) {
-        let (item, rest) = function(alloc, rest, depth, heading)?;
-        return Ok((item, rest));
+        return function(alloc, rest, depth, heading);
     }
-    let (item, rest) = shared(alloc, rest, heading)?;
-    Ok((item, rest))
+    shared(alloc, rest, heading)
 }
 
 /// `{ item }`, up to the last token.

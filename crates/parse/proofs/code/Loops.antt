@@ -12,7 +12,7 @@ use Rattle.syntax.specs.Tree.{Name, Global, Shares}
 use Rattle.syntax.specs.declared.tree.Attribute.{Attribute}
 use Rattle.syntax.specs.Grammar.{joined}
 use Rattle.parse.specs.inner.Reading.{Fault, wrong, ◌>>=◌, Parser, head, seq, expect, is_next, is_other, many, many_until, mapped, behind, before, trailing, in_front, finished}
-use Rattle.parse.specs.inner.Items.{at_end, Size, global_tree, sized, global, several, globals_from}
+use Rattle.parse.specs.inner.Items.{Header, at_end, Size, global_tree, sized, global, several, globals_from, function_at, header, item_at, item_from, shared_from}
 use Rattle.parse.proofs.code.Turns.{onward}
 
 -- as many turns as there are tokens
@@ -51,6 +51,21 @@ before_mapped {A} {B} {C} k g h P ts = go (P ts)
 
 pub globals_are : (t : Scalar) (x : Name) (ts : List Tok) → globals_from t x ts ≡ mapped Shares (before (Punctuator punct.Semicolon) (several t x)) ts
 globals_are t x ts = before_mapped (Punctuator punct.Semicolon) (λ y. global_tree t x y.0 ∷ y.1) Shares (seq sized (many_until (is_other (Punctuator punct.Comma)) (behind (Punctuator punct.Comma) (global t)))) ts
+
+-- an item whose header was read is what follows it
+goes_on_alone : {A B : Type 0} (x : A) (r : Result (B × List Tok) Fault) → ((r >>= λ (y : B × List Tok). Ok ((x, y.0), y.1)) >>= λ (z : (A × B) × List Tok). Ok (z.0.1, z.1)) ≡ r
+goes_on_alone x (Ok y) = refl
+goes_on_alone x (Err f) = refl
+
+module _ (d : ℕ) (ts rest : List Tok) (h : Header) (read : header ts ≡ Ok (h, rest)) where
+  item_goes : item_at d ts ≡ item_from d h rest
+  item_goes = rw read (goes_on_alone h (item_from d h rest))
+
+  pub function_goes : is_next (Punctuator punct.OpenParen) (head rest) ≡ true → item_at d ts ≡ function_at d h rest
+  function_goes e = item_goes ∙ rw e refl
+
+  pub shared_goes : is_next (Punctuator punct.OpenParen) (head rest) ≡ false → item_at d ts ≡ shared_from h rest
+  shared_goes e = item_goes ∙ rw e refl
 
 -- ---- lists of attributes, which the loop joins
 

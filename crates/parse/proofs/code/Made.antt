@@ -6,7 +6,7 @@ use Rattle.lex.specs.declared.token.Token.{Token}
 use Rattle.lex.specs.Tokens.{Tok, toks}
 use Rattle.parse.specs.declared.fault.Failure.{Failure}
 use Rattle.parse.specs.declared.fault.Failure.TheVariants as failure
-use Rattle.parse.specs.inner.Reading.{Fault, ◌>>=◌, Fails, Gives, Parser, behind, expect, mapped, seq}
+use Rattle.parse.specs.inner.Reading.{Fault, ◌>>=◌, Fails, Gives, GivesBefore, Parser, before, behind, expect, mapped, seq}
 use Rattle.parse.proofs.code.Climbing.{fails_along}
 
 module _ {X U V : Type 0} (view : X → U) (make : U → V) (one : Result (X × Bor (List Token)) Failure) where
@@ -41,6 +41,13 @@ fails_before make (failure.Wrong r) (Ok x) h = absurd cc
 fails_before make (failure.Wrong r) (Err f) h = cc
 fails_before make (failure.Deep r) (Ok x) h = absurd cc
 fails_before make (failure.Deep r) (Err f) h = cc
+
+-- what stands before a fixed token that is read too
+pub closes : {X Y : Type 0} (view : X → Y) (k : Fixed) (P : Parser Y) (ts : List Tok) (one other : Result (X × Bor (List Token)) Failure)
+    → Gives {Y = Y × List Tok} (λ x. (view x.0, toks x.1.now)) one (P ts) → GivesBefore k one other → Gives {Y = Y × List Tok} (λ x. (view x.0, toks x.1.now)) other (before k P ts)
+closes view k P ts (Ok x) (Ok y) h b = rw (h, b.1, b.0) refl
+closes view k P ts (Ok x) (Err e) h b = fails_along e (expect k (toks x.1.now)) (before k P ts) (λ f q. rw (h, q) refl) b.1
+closes view k P ts (Err e) other h b = rw b (fails_along e (P ts) (before k P ts) (λ f q. rw q refl) h)
 
 -- two parts behind a punctuator, where the first was read
 module _ {A B C : Type 0} (k : Fixed) (P : Parser A) (Q : Parser B) (make : A × B → C) where

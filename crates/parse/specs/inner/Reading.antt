@@ -1,5 +1,5 @@
 -- What each function of the parser answers, as functions on lists.
-use Rattle.std.specs.Prelude.{◌≡◌, ℕ, zero, suc, Bool, true, false, not, List, [], ◌∷◌, length, Option, Some, None, Result, Ok, Err, if◌then◌else◌, nat_lt, nat_le}
+use Rattle.std.specs.Prelude.{◌≡◌, ℕ, zero, suc, Bool, true, false, not, List, [], ◌∷◌, length, Option, Some, None, Result, Ok, Err, if◌then◌else◌, nat_lt, nat_le, IfOk}
 use Rattle.std.specs.Borrow.{Bor}
 use Rattle.lex.specs.declared.token.Fixed.{Fixed}
 use Rattle.lex.specs.declared.token.Fixed.TheVariants.{Punctuator}
@@ -97,6 +97,13 @@ take f (t ∷ ts) = taken (f t) t ts
 
 abbrev pub expect : Fixed → Parser (Unit {0})
 expect m = take (the_fixed m)
+
+-- What was read, where a fixed token stands behind it: the other gives it with the tokens behind that token.
+abbrev pub GivesBefore : {X : Type 0} → Fixed → Result (X × Bor (List Token)) Failure →
+    Result (X × Bor (List Token)) Failure → Type 0
+GivesBefore k (Ok x) other =
+    IfOk other (λ y. y.0 ≡ x.0) × Gives {Y = Unit {0} × List Tok} (λ y. (tt, toks y.1.now)) other (expect k (toks x.1.now))
+GivesBefore k (Err e) other = other ≡ Err e
 
 -- a fixed token, by its place
 abbrev pub spot : Fixed → Parser Span

@@ -10,7 +10,7 @@ pub returns : goal.returns
 returns g c =
     let P = g.E.Element.reads c.args.element.now in
     let view = g.E.Element.plain in
-    let front : map view c.push.new.self ≡ view c.in_ok-first.first ∷ [] = rw (c.in_ok-push.ensures.ok, c.new-all.ensures) refl in
-    let start : listed P (toks c.args.tokens.now) ≡ mapped (λ xs. map view c.push.new.self ++ xs) (many_until (is_other (Punctuator punct.Comma)) (behind (Punctuator punct.Comma) P)) (toks c.in_ok-first.rest.now) =
+    let front : map view c.in_ok-all.all ≡ view c.in_ok-first.first ∷ [] = rw c.in_ok-all.ensures refl in
+    let start : listed P (toks c.args.tokens.now) ≡ mapped (λ xs. map view c.in_ok-all.all ++ xs) (many_until (is_other (Punctuator punct.Comma)) (behind (Punctuator punct.Comma) P)) (toks c.in_ok-first.rest.now) =
     rw front (listed_is P (toks c.args.tokens.now) (toks c.in_ok-first.rest.now) (view c.in_ok-first.first) c.in_ok-first.ensures) in
     rw start c.further.ensures

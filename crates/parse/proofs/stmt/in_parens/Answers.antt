@@ -1,0 +1,14 @@
+use Rattle.lex.specs.declared.token.Fixed.TheVariants.{Punctuator}
+use Rattle.lex.specs.declared.token.Punctuator.TheVariants as punct
+use Rattle.lex.specs.Tokens.{toks}
+use Rattle.syntax.specs.Views.{expr_of}
+use Rattle.parse.specs.inner.Reading.{before}
+use Rattle.parse.specs.inner.Expressions.{whole_at}
+use Rattle.parse.proofs.code.Braces.{behind_is}
+use Rattle.parse.proofs.code.Made.{closes}
+use Rattle.parse.proofs.stmt.in_parens.Goals as goal
+
+pub returns : goal.returns
+returns g c =
+    rw (behind_is (Punctuator punct.OpenParen) (before (Punctuator punct.CloseParen) (whole_at c.args.depth)) (toks c.args.tokens.now) (toks c.in_ok-rest.rest.now) c.in_ok-rest.ensures)
+    (closes expr_of (Punctuator punct.CloseParen) (whole_at c.args.depth) (toks c.in_ok-rest.rest.now) c.expression.result c.closed.result c.expression.ensures c.closed.ensures)
