@@ -79,7 +79,9 @@ fn with<'a>(
     command: Result<Command<'a>, AllocError>,
     arg: Arg<'a>,
 ) -> Result<Command<'a>, AllocError>
-    ensures { (app : App) (rule : Rule) → IfOk command.entry (IsMade app) → rule_of arg.entry ≡ rule → arg.entry.global ≡ false → IfOk result (IsMade (with_rule app rule)) }
+    ensures { (app : App) (rule : Rule) → IfOk command.entry (IsMade app)
+        → rule_of arg.entry ≡ rule → arg.entry.global ≡ false
+        → IfOk result (IsMade (with_rule app rule)) }
 {
     command?.arg(arg)
 }
@@ -277,7 +279,8 @@ fn with_command<'a>(
     program: Result<Command<'a>, AllocError>,
     command: Result<Command<'a>, AllocError>,
 ) -> Result<Command<'a>, AllocError>
-    ensures { (app sub : App) → IfOk program.entry (λ p. app_of p ≡ app) → IfOk command.entry (IsMade sub) → IfOk result (λ c. app_of c ≡ with_subcommand app sub.top) }
+    ensures { (app sub : App) → IfOk program.entry (λ p. app_of p ≡ app) → IfOk command.entry (IsMade sub)
+        → IfOk result (λ c. app_of c ≡ with_subcommand app sub.top) }
 {
     program?.subcommand(command?)
 }
