@@ -86,6 +86,18 @@ fn with<'a>(
     command?.arg(arg)
 }
 
+/// Whether more is told.
+fn verbose<'a>(alloc: Global) -> Arg<'a>
+    ensures rule { rule_of result ≡ flag_rule (codes "verbose") }
+    ensures global { result.global ≡ false }
+{
+    flag(
+        alloc,
+        "verbose",
+        "Shows the line of a fault, and says why a file can't be read",
+    )
+}
+
 /// A command over a file.
 fn of_file<'a>(
     alloc: Global,
@@ -96,12 +108,7 @@ fn of_file<'a>(
     ensures { IfOk result (IsMade (file_app name.entry.now)) }
 {
     let command = with(Ok(described(alloc, name, about, example)), file(alloc));
-    let verbose = flag(
-        alloc,
-        "verbose",
-        "Shows the line of a fault, and says why a file can't be read",
-    );
-    with(command, verbose)
+    with(command, verbose(alloc))
 }
 
 /// The command that says whether a program is accepted.

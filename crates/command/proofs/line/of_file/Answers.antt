@@ -3,4 +3,4 @@ use Rattle.command.proofs.line.of_file.Goals as goal
 pub returns : goal.returns
 returns c =
     let one = c.with-command.ensures _ _ c.described.ensures c.file.ensures.rule c.file.ensures.global in
-    c.with.ensures _ _ one c.flag-verbose.ensures.rule c.flag-verbose.ensures.global
+    c.with.ensures _ _ one c.verbose.ensures.rule c.verbose.ensures.global
