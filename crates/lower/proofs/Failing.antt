@@ -1,16 +1,11 @@
 -- A failure of a part is one of the whole.
-use Rattle.std.proofs.Common.{◌≡◌, ℕ, suc, ◌+◌, ◌≤◌, List, [], ◌∷◌, ◌++◌, length, Bool, true, false, if◌then◌else◌, ◌==◌, Option, Some, None, Result, Ok, Err, IfErr, IsErr, IsErrAnd, refl, sym, ap, subst, ◌∙◌, append_assoc, arith}
+use Rattle.std.proofs.Common.{◌≡◌, ℕ, suc, ◌+◌, ◌≤◌, List, [], ◌∷◌, ◌++◌, length, Bool, true, false, if◌then◌else◌, ◌==◌, Option, Some, Result, Ok, Err, IfErr, IsErr, IsErrAnd, refl, sym, ap, subst, ◌∙◌, append_assoc, arith}
 use Rattle.lex.specs.declared.token.Span.{Span}
 use Rattle.lex.specs.declared.token.Scalar.{Scalar}
-use Rattle.syntax.specs.declared.tree.Mode.{Mode}
 use Rattle.syntax.specs.declared.tree.BinaryOp.{BinaryOp}
 use Rattle.syntax.specs.declared.tree.LogicalOp.{LogicalOp}
-use Rattle.syntax.specs.declared.tree.Expr as E
-use Rattle.syntax.specs.declared.tree.Stmt as S
 use Rattle.syntax.specs.Tree as Tree
 use Rattle.syntax.specs.Tree.{Program}
-use Rattle.syntax.specs.Views.{expr_of, stmt_of}
-use Rattle.syntax.proofs.Seen.{stmt_of_if, stmt_of_if_else}
 use Rattle.syntax.specs.Formats.{Piece}
 use Rattle.bytecode.specs.declared.instr.Instr.{Instr}
 use Rattle.lowered.specs.Expressions.{LocalScope, arranged}
@@ -31,7 +26,7 @@ use Rattle.lower.specs.inner.Expressions.{Emitted, AllEmitted, above, both, comp
 use Rattle.lower.specs.inner.Conditions.{Condition, test_in}
 use Rattle.lower.specs.inner.Aims.{aim_in}
 use Rattle.lower.specs.inner.Simples.{Written, Aimed, nothing_written, one_written, aimed, above_target, fetched, home_or, stored, value_or_one, assigned, adjusted, first_written, declarator_written, start_written}
-use Rattle.lower.specs.inner.Statements.{in_transaction, looping, print_written, tested_back, for_test, for_step, written, all_written}
+use Rattle.lower.specs.inner.Statements.{in_transaction, looping, print_written, tested_back, transacted, for_test, for_step, written, all_written}
 use Rattle.lower.proofs.Growing.{needs_more, used_more, holding_more, settled_more, emitted_more, condition_more}
 use Rattle.lower.proofs.GrowingStmts.{fetched_more, stored_same, one_more, pieces_same, first_more, test_more, step_more, written_more}
 
@@ -267,94 +262,90 @@ module _ (p : Program) where
 
 -- parts of statements
 module _ (p : Program) (x : Exits) (s : LocalScope) (from : ℕ) (l : Lists) where
-  module _ {A : Type 0} (c : E.Expr A) (a : S.Stmt A) where
+  module _ (c : Tree.Expr) (a : Tree.Stmt) where
     abbrev Q : Condition
-    Q = condition p s (expr_of c) from (length s) l
+    Q = condition p s c from (length s) l
 
-    if_first : (o : Option (S.Stmt A)) → Q.lists.registers ≤ (written p (stmt_of (S.If c a o)) x s from l).lists.registers
-    if_first None =
-        let e = ap (λ y. (written p y x s from l).lists.registers) (stmt_of_if c a) in
-        let g = written_more p (stmt_of a) x s (Q.to + 1) Q.lists in
-        omega (arith, e, g)
-    if_first (Some b) =
-        let first = written p (stmt_of a) x s (Q.to + 1) Q.lists in
-        let e = ap (λ y. (written p y x s from l).lists.registers) (stmt_of_if_else c a b) in
-        let g = written_more p (stmt_of a) x s (Q.to + 1) Q.lists in
-        let h = written_more p (stmt_of b) x s (first.to + 1) first.lists in
-        omega (arith, e, g, h)
+    abbrev Then : Written
+    Then = written p a x s (Q.to + 1) Q.lists
 
-    if_second : (o : Option (S.Stmt A)) → (written p (stmt_of a) x s (Q.to + 1) Q.lists).lists.registers ≤ (written p (stmt_of (S.If c a o)) x s from l).lists.registers
-    if_second None =
-        let e = ap (λ y. (written p y x s from l).lists.registers) (stmt_of_if c a) in
-        omega (arith, e)
-    if_second (Some b) =
-        let first = written p (stmt_of a) x s (Q.to + 1) Q.lists in
-        let e = ap (λ y. (written p y x s from l).lists.registers) (stmt_of_if_else c a b) in
-        let h = written_more p (stmt_of b) x s (first.to + 1) first.lists in
-        omega (arith, e, h)
+    module _ (t : Tested) (next : ℕ) (m : Lists) (et : t ≡ test_in Q) (en : next ≡ t.to + 1) (em : m ≡ Q.lists) where
+      then_is : written p a x s next m ≡ Then
+      then_is = λ j. written p a x s ((en ∙ ap (λ (u : Tested). u.to + 1) et) j) (em j)
 
-    pub if_test : (st : S.Stmt A) (o : Option (S.Stmt A)) → st ≡ S.If c a o → (condition p s (expr_of c) from (length s) l).lists.registers ≤ (written p (stmt_of st) x s from l).lists.registers
-    if_test st o is = let g = if_first o in let e = ap (λ y. (written p (stmt_of y) x s from l).lists.registers) is in omega (arith, g, e)
+      pub if_branch : (written p a x s next m).lists.registers ≤ (written p (Tree.If c a) x s from l).lists.registers
+      if_branch = let d = ap (λ (u : Written). u.lists.registers) then_is in omega (arith, d)
 
-    pub if_branch : (st a' : S.Stmt A) (o : Option (S.Stmt A)) (t : Tested) (next : ℕ) (m : Lists) → st ≡ S.If c a o → a' ≡ a → t ≡ test_in (condition p s (expr_of c) from (length s) l) → next ≡ t.to + 1 → m ≡ (condition p s (expr_of c) from (length s) l).lists →
-        (written p (stmt_of a') x s next m).lists.registers ≤ (written p (stmt_of st) x s from l).lists.registers
-    if_branch st a' o t next m is ea et en em =
-        let same : written p (stmt_of a') x s next m ≡ written p (stmt_of a) x s (Q.to + 1) Q.lists = (λ j. written p (stmt_of (ea j)) x s ((en ∙ ap (λ (u : Tested). u.to + 1) et) j) (em j)) in
-        let d = ap (λ (u : Written). u.lists.registers) same in
-        let g = if_second o in
-        let e = ap (λ y. (written p (stmt_of y) x s from l).lists.registers) is in
-        omega (arith, g, e, d)
+    pub if_test : Q.lists.registers ≤ (written p (Tree.If c a) x s from l).lists.registers
+    if_test = written_more p a x s (Q.to + 1) Q.lists
 
-  module _ (st : Tree.Stmt) (c : Tree.Expr) (a : Tree.Stmt) (exits : Exits) (pad start : ℕ) (is : st ≡ Tree.While c a) (ep : pad ≡ from + 1) (et : start ≡ from + 2) (ex : exits ≡ looping x pad from) where
+    module _ (b : Tree.Stmt) where
+      abbrev Else : Written
+      Else = written p b x s (Then.to + 1) Then.lists
+
+      else_more : Then.lists.registers ≤ (written p (Tree.IfElse c a b) x s from l).lists.registers
+      else_more = written_more p b x s (Then.to + 1) Then.lists
+
+      pub if_else_test : Q.lists.registers ≤ (written p (Tree.IfElse c a b) x s from l).lists.registers
+      if_else_test = let g = if_test in let h = else_more in omega (arith, g, h)
+
+      module _ (t : Tested) (next : ℕ) (m : Lists) (et : t ≡ test_in Q) (en : next ≡ t.to + 1) (em : m ≡ Q.lists) where
+        pub if_else_first : (written p a x s next m).lists.registers ≤ (written p (Tree.IfElse c a b) x s from l).lists.registers
+        if_else_first = let g = if_branch t next m et en em in let h = else_more in omega (arith, g, h)
+
+        pub if_else_second : (s1 : LocalScope) (k : Lists) (last other_at : ℕ) → s1 ≡ s → k ≡ (written p a x s next m).lists → last ≡ (written p a x s next m).to → other_at ≡ last + 1 →
+            (written p b x s1 other_at k).lists.registers ≤ (written p (Tree.IfElse c a b) x s from l).lists.registers
+        if_else_second s1 k last other_at es ek el eo =
+            let first : written p a x s next m ≡ Then = then_is t next m et en em in
+            let same : written p b x s1 other_at k ≡ Else = (λ j. written p b x (es j) ((eo ∙ ap (λ (n : ℕ). n + 1) (el ∙ ap (λ (u : Written). u.to) first)) j) ((ek ∙ ap (λ (u : Written). u.lists) first) j)) in
+            let d = ap (λ (u : Written). u.lists.registers) same in
+            omega (arith, d)
+
+  module _ (c : Tree.Expr) (a : Tree.Stmt) (exits : Exits) (pad start : ℕ) (ep : pad ≡ from + 1) (et : start ≡ from + 2) (ex : exits ≡ looping x pad from) where
     abbrev Turn : Written
     Turn = written p a (looping x (from + 1) from) s (from + 2) l
 
     turn_is : written p a exits s start l ≡ Turn
     turn_is = λ j. written p a ((ex ∙ ap (λ k. looping x k from) ep) j) s (et j) l
 
-    pub while_body : (written p a exits s start l).lists.registers ≤ (written p st x s from l).lists.registers
+    pub while_body : (written p a exits s start l).lists.registers ≤ (written p (Tree.While c a) x s from l).lists.registers
     while_body =
         let d = ap (λ (u : Written). u.lists.registers) turn_is in
         let g = condition_more p s c Turn.to (length s) Turn.lists in
-        let e = ap (λ y. (written p y x s from l).lists.registers) is in
-        omega (arith, g, e, d)
+        omega (arith, g, d)
 
     pub while_test : (s1 : LocalScope) (m : Lists) (test_at : ℕ) → s1 ≡ s → m ≡ (written p a exits s start l).lists → test_at ≡ (written p a exits s start l).to →
-        (tested_back (condition p s1 c test_at (length s1) m) start).lists.registers ≤ (written p st x s from l).lists.registers
+        (tested_back (condition p s1 c test_at (length s1) m) start).lists.registers ≤ (written p (Tree.While c a) x s from l).lists.registers
     while_test s1 m test_at es em ea =
         let same : condition p s1 c test_at (length s1) m ≡ condition p s c Turn.to (length s) Turn.lists = (λ j. condition p (es j) c ((ea ∙ ap (λ (u : Written). u.to) turn_is) j) (length (es j)) ((em ∙ ap (λ (u : Written). u.lists) turn_is) j)) in
         let d = ap (λ (u : Condition). u.lists.registers) same in
-        let e = ap (λ y. (written p y x s from l).lists.registers) is in
-        omega (arith, e, d)
+        omega (arith, d)
 
-  module _ (st : Tree.Stmt) (c : Tree.Expr) (a : Tree.Stmt) (exits : Exits) (pad other start : ℕ) (is : st ≡ Tree.DoWhile a c) (ep : pad ≡ from + 1) (eo : other ≡ from + 2) (et : start ≡ from + 3) (ex : exits ≡ looping x pad other) where
+  module _ (c : Tree.Expr) (a : Tree.Stmt) (exits : Exits) (pad other start : ℕ) (ep : pad ≡ from + 1) (eo : other ≡ from + 2) (et : start ≡ from + 3) (ex : exits ≡ looping x pad other) where
     abbrev B : Written
     B = written p a (looping x (from + 1) (from + 2)) s (from + 3) l
 
     do_same : written p a exits s start l ≡ B
     do_same = λ j. written p a ((ex ∙ (λ i. looping x (ep i) (eo i))) j) s (et j) l
 
-    pub do_body : (written p a exits s start l).lists.registers ≤ (written p st x s from l).lists.registers
+    pub do_body : (written p a exits s start l).lists.registers ≤ (written p (Tree.DoWhile a c) x s from l).lists.registers
     do_body =
         let d = ap (λ (u : Written). u.lists.registers) do_same in
         let g = condition_more p s c B.to (length s) B.lists in
-        let e = ap (λ y. (written p y x s from l).lists.registers) is in
-        omega (arith, g, e, d)
+        omega (arith, g, d)
 
     pub do_test : (s1 : LocalScope) (m : Lists) (test_at : ℕ) → s1 ≡ s → m ≡ (written p a exits s start l).lists → test_at ≡ (written p a exits s start l).to →
-        (tested_back (condition p s1 c test_at (length s1) m) start).lists.registers ≤ (written p st x s from l).lists.registers
+        (tested_back (condition p s1 c test_at (length s1) m) start).lists.registers ≤ (written p (Tree.DoWhile a c) x s from l).lists.registers
     do_test s1 m test_at es em ea =
         let same : condition p s1 c test_at (length s1) m ≡ condition p s c B.to (length s) B.lists = (λ j. condition p (es j) c ((ea ∙ ap (λ (u : Written). u.to) do_same) j) (length (es j)) ((em ∙ ap (λ (u : Written). u.lists) do_same) j)) in
         let d = ap (λ (u : Condition). u.lists.registers) same in
-        let e = ap (λ y. (written p y x s from l).lists.registers) is in
-        omega (arith, e, d)
+        omega (arith, d)
 
-  pub transaction_body : (st : Tree.Stmt) (mode : Mode) (ss : Tree.Stmts) (at : Span) (exits : Exits) (start : ℕ) → st ≡ Tree.Transaction mode ss at → exits ≡ in_transaction x → start ≡ from + 1 → (all_written p ss exits s start l).lists.registers ≤ (written p st x s from l).lists.registers
-  transaction_body st mode ss at exits start is ex et =
+  pub transaction_body : (ss : Tree.Stmts) (exits : Exits) (start : ℕ) → exits ≡ in_transaction x → start ≡ from + 1 → (all_written p ss exits s start l).lists.registers ≤ (transacted (all_written p ss (in_transaction x) s (from + 1) l)).lists.registers
+  transaction_body ss exits start ex et =
       let same : all_written p ss exits s start l ≡ all_written p ss (in_transaction x) s (from + 1) l = (λ j. all_written p ss (ex j) s (et j) l) in
       let d = ap (λ (u : Written). u.lists.registers) same in
-      let e = ap (λ y. (written p y x s from l).lists.registers) is in
-      omega (arith, e, d)
+      omega (arith, d)
 
   module _ (start : Tree.Start) (c : Option Tree.Expr) (step : Option Tree.Simple) (a : Tree.Stmt) where
     abbrev inner : LocalScope

@@ -21,7 +21,7 @@ use Rattle.lower.specs.declared.draft.Draft.{Draft}
 use Rattle.lower.specs.inner.Conditions.{Condition, test_in, going_on}
 use Rattle.lower.specs.inner.Expressions.{condition}
 use Rattle.lower.specs.inner.Simples.{Written, start_written}
-use Rattle.lower.specs.inner.Statements.{tested_back, for_step, for_test, looping, in_transaction, written, all_written}
+use Rattle.lower.specs.inner.Statements.{tested_back, for_step, for_test, looping, in_transaction, transacted, written, all_written}
 
 -- what was done that gave this code behind another one
 pub record Makes (w : Written) (old new : List Instr) (l : Lists) (to : ℕ) : Type 0 where
@@ -170,9 +170,9 @@ module _ (p : Program) (x : Exits) (s : LocalScope) (from : ℕ) (l : Lists) (ol
         place = last_to;
       }
 
-  pub transaction_made : (mode : Mode) (ss : Tree.Stmts) (at : Span) (empty body : List Instr) (l1 : Lists) (exits : Exits) (start last to : ℕ) → exits ≡ in_transaction x → start ≡ from + 1 → empty ≡ [] →
-      Makes (all_written p ss exits s start l) empty body l1 last → to ≡ last + 1 → new ≡ old ++ own.Begin to ∷ body ++ own.Commit ∷ [] → Makes (written p (Tree.Transaction mode ss at) x s from l) old new l1 to
-  transaction_made mode ss at empty body l1 exits start last to ex et e0 made eo n =
+  pub transaction_made : (ss : Tree.Stmts) (empty body : List Instr) (l1 : Lists) (exits : Exits) (start last to : ℕ) → exits ≡ in_transaction x → start ≡ from + 1 → empty ≡ [] →
+      Makes (all_written p ss exits s start l) empty body l1 last → to ≡ last + 1 → new ≡ old ++ own.Begin to ∷ body ++ own.Commit ∷ [] → Makes (transacted (all_written p ss (in_transaction x) s (from + 1) l)) old new l1 to
+  transaction_made ss empty body l1 exits start last to ex et e0 made eo n =
       let B = all_written p ss (in_transaction x) s (from + 1) l in
       let b = alone (all_written p ss exits s start l) B empty body l1 last e0 (λ j. all_written p ss (ex j) s (et j) l) made in
       let place : to ≡ B.to + 1 = eo ∙ ap (λ (k : ℕ). k + 1) b.place in

@@ -1,8 +1,9 @@
 //! The instructions of statements. A loop is tested at its bottom; in front of it stand a jump and pads: places that are known
 //! before the body is made, from which a break and a continue go on.
 
-ghost use Rattle.std.specs.Prelude.{◌≡◌, ◌++◌, ◌∷◌, [], ◌+◌, ◌≤◌, map, option_map, length, replicate, take, OnOk, IfOk, IfErr};
+ghost use Rattle.std.specs.Prelude.{◌≡◌, ◌++◌, ◌∷◌, [], ◌+◌, ◌≤◌, map, option_map, Some, length, replicate, take, OnOk, IfOk, IfErr};
 ghost use Rattle.syntax.specs.Tree as Tree;
+ghost use Rattle.syntax.specs.declared.tree.Stmt as tree;
 ghost use Rattle.syntax.specs.Views.{expr_of, exprs_of, simple_of, start_of, stmt_of, stmts_of};
 ghost use Rattle.syntax.specs.Formats.{pieces};
 ghost use Rattle.bytecode.specs.declared.instr.Instr.TheVariants as instr;
@@ -14,7 +15,7 @@ ghost use Rattle.lower.specs.inner.Conditions as conditions;
 ghost use Rattle.lower.specs.inner.Conditions.{test_in};
 ghost use Rattle.lower.specs.inner.Statements as statements;
 ghost use Rattle.lower.specs.inner.Simples.{simple_written};
-ghost use Rattle.lower.specs.inner.Statements.{print_written, tested_back, for_test, for_step, return_written, written, all_written};
+ghost use Rattle.lower.specs.inner.Statements.{print_written, tested_back, for_test, for_step, return_written, transacted, written, all_written};
 ghost use Rattle.lower.specs.inner.Views.{program_in, scope_in};
 
 use crate::draft::{Draft, put_back, put_test};
@@ -179,32 +180,32 @@ fn lower_step<A: Allocator + Copy>(
 /// A condition, and a branch that is taken where it holds.
 fn put_branch<A: Allocator>(
     code: &mut Vec<Instr, A>,
-    test: Vec<Draft, A>,
+    test: &[Draft],
     t: Tested,
-    mut branch: Vec<Instr, A>,
+    branch: &mut Vec<Instr, A>,
     to: u32,
 ) -> Result<(), AllocError>
-    ensures { OnOk result (code.new.items ≡ code.old.items ++ (conditions.going_on test.items t to ++ branch.items)) }
+    ensures { OnOk result (code.new.items ≡ code.old.items ++ (conditions.going_on test.now t to ++ branch.old.items)) }
 {
-    put_test(code, test.as_slice(), t, to)?;
-    append(code, &mut branch)
+    put_test(code, test, t, to)?;
+    append(code, branch)
 }
 
 /// And a jump over the other branch, which begins at `other_at`.
 fn put_branches<A: Allocator>(
     code: &mut Vec<Instr, A>,
-    test: Vec<Draft, A>,
+    test: &[Draft],
     t: Tested,
-    first: Vec<Instr, A>,
+    first: &mut Vec<Instr, A>,
     other_at: u32,
-    mut second: Vec<Instr, A>,
+    second: &mut Vec<Instr, A>,
     to: u32,
 ) -> Result<(), AllocError>
-    ensures { OnOk result (code.new.items ≡ code.old.items ++ (conditions.going_on test.items t other_at ++ first.items ++ instr.Jump to ∷ second.items)) }
+    ensures { OnOk result (code.new.items ≡ code.old.items ++ (conditions.going_on test.now t other_at ++ first.old.items ++ instr.Jump to ∷ second.old.items)) }
 {
     put_branch(code, test, t, first, other_at)?;
     put(code, Instr::Jump(to))?;
-    append(code, &mut second)
+    append(code, second)
 }
 
 /// A loop that is tested first: a jump to its test, a pad for breaks, and the rest.
@@ -212,13 +213,13 @@ fn put_while<A: Allocator>(
     code: &mut Vec<Instr, A>,
     test_at: u32,
     to: u32,
-    mut rest: Vec<Instr, A>,
+    rest: &mut Vec<Instr, A>,
 ) -> Result<(), AllocError>
-    ensures { OnOk result (code.new.items ≡ code.old.items ++ instr.Jump test_at ∷ instr.Jump to ∷ rest.items) }
+    ensures { OnOk result (code.new.items ≡ code.old.items ++ instr.Jump test_at ∷ instr.Jump to ∷ rest.old.items) }
 {
     put(code, Instr::Jump(test_at))?;
     put(code, Instr::Jump(to))?;
-    append(code, &mut rest)
+    append(code, rest)
 }
 
 /// A loop with a pad for continues: a jump to where it begins, pads for breaks and continues, and the rest.
@@ -227,9 +228,9 @@ fn put_loop<A: Allocator>(
     begin: u32,
     to: u32,
     next: u32,
-    rest: Vec<Instr, A>,
+    rest: &mut Vec<Instr, A>,
 ) -> Result<(), AllocError>
-    ensures { OnOk result (code.new.items ≡ code.old.items ++ instr.Jump begin ∷ instr.Jump to ∷ instr.Jump next ∷ rest.items) }
+    ensures { OnOk result (code.new.items ≡ code.old.items ++ instr.Jump begin ∷ instr.Jump to ∷ instr.Jump next ∷ rest.old.items) }
 {
     put(code, Instr::Jump(begin))?;
     put_while(code, to, next, rest)
@@ -239,12 +240,12 @@ fn put_loop<A: Allocator>(
 fn put_transaction<A: Allocator>(
     code: &mut Vec<Instr, A>,
     to: u32,
-    mut inner: Vec<Instr, A>,
+    inner: &mut Vec<Instr, A>,
 ) -> Result<(), AllocError>
-    ensures { OnOk result (code.new.items ≡ code.old.items ++ instr.Begin to ∷ inner.items ++ instr.Commit ∷ []) }
+    ensures { OnOk result (code.new.items ≡ code.old.items ++ instr.Begin to ∷ inner.old.items ++ instr.Commit ∷ []) }
 {
     put(code, Instr::Begin(to))?;
-    append(code, &mut inner)?;
+    append(code, inner)?;
     put(code, Instr::Commit)
 }
 
@@ -346,61 +347,80 @@ pub(crate) fn lower_stmt<'p, A: Allocator + Copy>(
                 from,
             )
         }
-        Stmt::If(c, then, other) => {
-            let mut test = Vec::new(names.alloc);
-            let t = lower_head(names, scope, lists, &mut test, c, from)?;
-            let next = after(t.to, 1)?;
-            let mut first = Vec::new(names.alloc);
-            let last = lower_scoped(names, scope, lists, &mut first, then.get(), exits, next)?;
-            match other {
-                None => {
-                    put_branch(code, test, t, first, last)?;
-                    Ok(last)
-                }
-                Some(other) => {
-                    let other_at = after(last, 1)?;
-                    let mut second = Vec::new(names.alloc);
-                    let to = lower_scoped(
-                        names,
-                        scope,
-                        lists,
-                        &mut second,
-                        other.get(),
-                        exits,
-                        other_at,
-                    )?;
-                    put_branches(code, test, t, first, other_at, second, to)?;
-                    Ok(to)
-                }
+        Stmt::If(c, then, other) => match other {
+            None => {
+                let mut test = Vec::new(names.alloc);
+                let mut branch = Vec::new(names.alloc);
+                lower_if(
+                    names,
+                    scope,
+                    lists,
+                    code,
+                    &mut test,
+                    &mut branch,
+                    then.get(),
+                    c,
+                    exits,
+                    from,
+                )
             }
-        }
+            Some(other) => {
+                let mut test = Vec::new(names.alloc);
+                let mut first = Vec::new(names.alloc);
+                let mut second = Vec::new(names.alloc);
+                lower_if_else(
+                    names,
+                    scope,
+                    lists,
+                    code,
+                    &mut test,
+                    &mut first,
+                    &mut second,
+                    s,
+                    c,
+                    then.get(),
+                    other.get(),
+                    exits,
+                    from,
+                )
+            }
+        },
         Stmt::While(c, body) => {
-            let pad = after(from, 1)?;
-            let start = after(from, 2)?;
             let mut inner = Vec::new(names.alloc);
-            let exits = looping(exits, pad, from);
-            let test_at = lower_scoped(names, scope, lists, &mut inner, body.get(), exits, start)?;
-            let to = lower_back(names, scope, lists, &mut inner, c, test_at, start)?;
-            put_while(code, test_at, to, inner)?;
-            Ok(to)
+            lower_while(
+                names,
+                scope,
+                lists,
+                code,
+                &mut inner,
+                body.get(),
+                c,
+                exits,
+                from,
+            )
         }
         Stmt::DoWhile(body, c) => {
-            let pad = after(from, 1)?;
-            let other = after(from, 2)?;
-            let start = after(from, 3)?;
             let mut inner = Vec::new(names.alloc);
-            let exits = looping(exits, pad, other);
-            let test_at = lower_scoped(names, scope, lists, &mut inner, body.get(), exits, start)?;
-            let to = lower_back(names, scope, lists, &mut inner, c, test_at, start)?;
-            put_loop(code, start, to, test_at, inner)?;
-            Ok(to)
+            lower_do_while(
+                names,
+                scope,
+                lists,
+                code,
+                &mut inner,
+                body.get(),
+                c,
+                exits,
+                from,
+            )
         }
         Stmt::For(head, body) => {
+            let mut inner = Vec::new(names.alloc);
             lower_for(
                 names,
                 scope,
                 lists,
                 code,
+                &mut inner,
                 head.get(),
                 body.get(),
                 exits,
@@ -413,14 +433,9 @@ pub(crate) fn lower_stmt<'p, A: Allocator + Copy>(
             lower_return(names, scope, lists, code, e, exits.in_function, from)
         }
         Stmt::Transaction(_, body, _) => {
-            let exits = entered(exits)?;
-            let start = after(from, 1)?;
             let mut inner = Vec::new(names.alloc);
             let all = body.as_slice();
-            let last = lower_block(names, scope, lists, &mut inner, all, exits, start)?;
-            let to = after(last, 1)?;
-            put_transaction(code, to, inner)?;
-            Ok(to)
+            lower_transaction(names, scope, lists, code, &mut inner, all, exits, from)
         }
         Stmt::Cancel(_) => {
             put(code, Instr::Cancel)?;
@@ -429,18 +444,173 @@ pub(crate) fn lower_stmt<'p, A: Allocator + Copy>(
     }
 }
 
-/// A `for`: its start, pads, its body, its step and its test.
+/// An `if` without `else`; its condition is gathered in `test`, and its branch in `branch`.
+#[cycle(lower_stmt)]
+fn lower_if<'p, A: Allocator + Copy>(
+    names: &Names<'p, A>,
+    scope: &mut Scope<'p, A>,
+    lists: &mut Lists<A>,
+    code: &mut Vec<Instr, A>,
+    test: &mut Vec<Draft, A>,
+    branch: &mut Vec<Instr, A>,
+    then: &'p Stmt<A>,
+    c: &Expr<A>,
+    exits: Exits,
+    from: u32,
+) -> Result<u32, Failure>
+    requires test { test.old.items ≡ [] }
+    requires branch { branch.old.items ≡ [] }
+    ensures scope { OnOk result (scope_in scope.new ≡ scope_in scope.old) }
+    ensures code { OnOk result (code.new.items ≡ code.old.items ++ (written (program_in names.now) (Tree.If (expr_of c.now) (stmt_of then.now)) exits (scope_in scope.old) from (lists_of lists.old)).code) }
+    ensures lists { OnOk result (lists_of lists.new ≡ (written (program_in names.now) (Tree.If (expr_of c.now) (stmt_of then.now)) exits (scope_in scope.old) from (lists_of lists.old)).lists) }
+    ensures place { IfOk result (λ p. p ≡ (written (program_in names.now) (Tree.If (expr_of c.now) (stmt_of then.now)) exits (scope_in scope.old) from (lists_of lists.old)).to) }
+    ensures fails { IfErr result (λ why. NeedsMore why ((written (program_in names.now) (Tree.If (expr_of c.now) (stmt_of then.now)) exits (scope_in scope.old) from (lists_of lists.old)).lists).registers) }
+{
+    let t = lower_head(names, scope, lists, test, c, from)?;
+    let next = after(t.to, 1)?;
+    let to = lower_scoped(names, scope, lists, branch, then, exits, next)?;
+    put_branch(code, test.as_slice(), t, branch, to)?;
+    Ok(to)
+}
+
+/// An `if` with `else`; the three parts are gathered in `test`, `first` and `second`. The prover needs `s`: both branches are smaller
+/// than it.
+#[cycle(lower_stmt)]
+fn lower_if_else<'p, A: Allocator + Copy>(
+    names: &Names<'p, A>,
+    scope: &mut Scope<'p, A>,
+    lists: &mut Lists<A>,
+    code: &mut Vec<Instr, A>,
+    test: &mut Vec<Draft, A>,
+    first: &mut Vec<Instr, A>,
+    second: &mut Vec<Instr, A>,
+    s: &'p Stmt<A>,
+    c: &Expr<A>,
+    then: &'p Stmt<A>,
+    other: &'p Stmt<A>,
+    exits: Exits,
+    from: u32,
+) -> Result<u32, Failure>
+    requires test { test.old.items ≡ [] }
+    requires first { first.old.items ≡ [] }
+    requires second { second.old.items ≡ [] }
+    requires parts { s.now ≡ tree.If c.now then.now (Some other.now) }
+    ensures scope { OnOk result (scope_in scope.new ≡ scope_in scope.old) }
+    ensures code { OnOk result (code.new.items ≡ code.old.items ++ (written (program_in names.now) (Tree.IfElse (expr_of c.now) (stmt_of then.now) (stmt_of other.now)) exits (scope_in scope.old) from (lists_of lists.old)).code) }
+    ensures lists { OnOk result (lists_of lists.new ≡ (written (program_in names.now) (Tree.IfElse (expr_of c.now) (stmt_of then.now) (stmt_of other.now)) exits (scope_in scope.old) from (lists_of lists.old)).lists) }
+    ensures place { IfOk result (λ p. p ≡ (written (program_in names.now) (Tree.IfElse (expr_of c.now) (stmt_of then.now) (stmt_of other.now)) exits (scope_in scope.old) from (lists_of lists.old)).to) }
+    ensures fails { IfErr result (λ why. NeedsMore why ((written (program_in names.now) (Tree.IfElse (expr_of c.now) (stmt_of then.now) (stmt_of other.now)) exits (scope_in scope.old) from (lists_of lists.old)).lists).registers) }
+{
+    let _whole = s;
+    let t = lower_head(names, scope, lists, test, c, from)?;
+    let next = after(t.to, 1)?;
+    let last = lower_scoped(names, scope, lists, first, then, exits, next)?;
+    let other_at = after(last, 1)?;
+    let to = lower_scoped(names, scope, lists, second, other, exits, other_at)?;
+    put_branches(code, test.as_slice(), t, first, other_at, second, to)?;
+    Ok(to)
+}
+
+/// A `while`; its body and its test are gathered in `inner`.
+#[cycle(lower_stmt)]
+fn lower_while<'p, A: Allocator + Copy>(
+    names: &Names<'p, A>,
+    scope: &mut Scope<'p, A>,
+    lists: &mut Lists<A>,
+    code: &mut Vec<Instr, A>,
+    inner: &mut Vec<Instr, A>,
+    body: &'p Stmt<A>,
+    c: &Expr<A>,
+    exits: Exits,
+    from: u32,
+) -> Result<u32, Failure>
+    requires { inner.old.items ≡ [] }
+    ensures scope { OnOk result (scope_in scope.new ≡ scope_in scope.old) }
+    ensures code { OnOk result (code.new.items ≡ code.old.items ++ (written (program_in names.now) (Tree.While (expr_of c.now) (stmt_of body.now)) exits (scope_in scope.old) from (lists_of lists.old)).code) }
+    ensures lists { OnOk result (lists_of lists.new ≡ (written (program_in names.now) (Tree.While (expr_of c.now) (stmt_of body.now)) exits (scope_in scope.old) from (lists_of lists.old)).lists) }
+    ensures place { IfOk result (λ p. p ≡ (written (program_in names.now) (Tree.While (expr_of c.now) (stmt_of body.now)) exits (scope_in scope.old) from (lists_of lists.old)).to) }
+    ensures fails { IfErr result (λ why. NeedsMore why ((written (program_in names.now) (Tree.While (expr_of c.now) (stmt_of body.now)) exits (scope_in scope.old) from (lists_of lists.old)).lists).registers) }
+{
+    let pad = after(from, 1)?;
+    let start = after(from, 2)?;
+    let exits = looping(exits, pad, from);
+    let test_at = lower_scoped(names, scope, lists, inner, body, exits, start)?;
+    let to = lower_back(names, scope, lists, inner, c, test_at, start)?;
+    put_while(code, test_at, to, inner)?;
+    Ok(to)
+}
+
+/// A `do`; its body and its test are gathered in `inner`.
+#[cycle(lower_stmt)]
+fn lower_do_while<'p, A: Allocator + Copy>(
+    names: &Names<'p, A>,
+    scope: &mut Scope<'p, A>,
+    lists: &mut Lists<A>,
+    code: &mut Vec<Instr, A>,
+    inner: &mut Vec<Instr, A>,
+    body: &'p Stmt<A>,
+    c: &Expr<A>,
+    exits: Exits,
+    from: u32,
+) -> Result<u32, Failure>
+    requires { inner.old.items ≡ [] }
+    ensures scope { OnOk result (scope_in scope.new ≡ scope_in scope.old) }
+    ensures code { OnOk result (code.new.items ≡ code.old.items ++ (written (program_in names.now) (Tree.DoWhile (stmt_of body.now) (expr_of c.now)) exits (scope_in scope.old) from (lists_of lists.old)).code) }
+    ensures lists { OnOk result (lists_of lists.new ≡ (written (program_in names.now) (Tree.DoWhile (stmt_of body.now) (expr_of c.now)) exits (scope_in scope.old) from (lists_of lists.old)).lists) }
+    ensures place { IfOk result (λ p. p ≡ (written (program_in names.now) (Tree.DoWhile (stmt_of body.now) (expr_of c.now)) exits (scope_in scope.old) from (lists_of lists.old)).to) }
+    ensures fails { IfErr result (λ why. NeedsMore why ((written (program_in names.now) (Tree.DoWhile (stmt_of body.now) (expr_of c.now)) exits (scope_in scope.old) from (lists_of lists.old)).lists).registers) }
+{
+    let pad = after(from, 1)?;
+    let other = after(from, 2)?;
+    let start = after(from, 3)?;
+    let exits = looping(exits, pad, other);
+    let test_at = lower_scoped(names, scope, lists, inner, body, exits, start)?;
+    let to = lower_back(names, scope, lists, inner, c, test_at, start)?;
+    put_loop(code, start, to, test_at, inner)?;
+    Ok(to)
+}
+
+/// A transaction; its statements are gathered in `inner`.
+#[cycle(lower_stmt)]
+fn lower_transaction<'p, A: Allocator + Copy>(
+    names: &Names<'p, A>,
+    scope: &mut Scope<'p, A>,
+    lists: &mut Lists<A>,
+    code: &mut Vec<Instr, A>,
+    inner: &mut Vec<Instr, A>,
+    body: &'p [Stmt<A>],
+    exits: Exits,
+    from: u32,
+) -> Result<u32, Failure>
+    requires { inner.old.items ≡ [] }
+    ensures scope { OnOk result (scope_in scope.new ≡ scope_in scope.old) }
+    ensures code { OnOk result (code.new.items ≡ code.old.items ++ (transacted (all_written (program_in names.now) (stmts_of body.now) (statements.in_transaction exits) (scope_in scope.old) (from + 1) (lists_of lists.old))).code) }
+    ensures lists { OnOk result (lists_of lists.new ≡ (transacted (all_written (program_in names.now) (stmts_of body.now) (statements.in_transaction exits) (scope_in scope.old) (from + 1) (lists_of lists.old))).lists) }
+    ensures place { IfOk result (λ p. p ≡ (transacted (all_written (program_in names.now) (stmts_of body.now) (statements.in_transaction exits) (scope_in scope.old) (from + 1) (lists_of lists.old))).to) }
+    ensures fails { IfErr result (λ why. NeedsMore why ((transacted (all_written (program_in names.now) (stmts_of body.now) (statements.in_transaction exits) (scope_in scope.old) (from + 1) (lists_of lists.old))).lists).registers) }
+{
+    let exits = entered(exits)?;
+    let start = after(from, 1)?;
+    let last = lower_block(names, scope, lists, inner, body, exits, start)?;
+    let to = after(last, 1)?;
+    put_transaction(code, to, inner)?;
+    Ok(to)
+}
+
+/// A `for`: its start, pads, and its body, its step and its test, which are gathered in `inner`.
 #[cycle(lower_stmt)]
 fn lower_for<'p, A: Allocator + Copy>(
     names: &Names<'p, A>,
     scope: &mut Scope<'p, A>,
     lists: &mut Lists<A>,
     code: &mut Vec<Instr, A>,
+    inner: &mut Vec<Instr, A>,
     head: &'p ForHead<A>,
     body: &'p Stmt<A>,
     exits: Exits,
     from: u32,
 ) -> Result<u32, Failure>
+    requires { inner.old.items ≡ [] }
     ensures scope { OnOk result (scope_in scope.new ≡ scope_in scope.old) }
     ensures code { OnOk result (code.new.items ≡ code.old.items ++ (written (program_in names.now) (Tree.For (start_of head.now.start) (option_map expr_of head.now.condition) (option_map simple_of head.now.step) (stmt_of body.now)) exits (scope_in scope.old) from (lists_of lists.old)).code) }
     ensures lists { OnOk result (lists_of lists.new ≡ (written (program_in names.now) (Tree.For (start_of head.now.start) (option_map expr_of head.now.condition) (option_map simple_of head.now.step) (stmt_of body.now)) exits (scope_in scope.old) from (lists_of lists.old)).lists) }
@@ -452,19 +622,10 @@ fn lower_for<'p, A: Allocator + Copy>(
     let pad = after(pads, 1)?;
     let other = after(pads, 2)?;
     let start = after(pads, 3)?;
-    let mut inner = Vec::new(names.alloc);
     let exits = looping(exits, pad, other);
-    let step_at = lower_scoped(names, scope, lists, &mut inner, body, exits, start)?;
-    let test_at = lower_step(names, scope, lists, &mut inner, &head.step, step_at)?;
-    let to = lower_test(
-        names,
-        scope,
-        lists,
-        &mut inner,
-        &head.condition,
-        start,
-        test_at,
-    )?;
+    let step_at = lower_scoped(names, scope, lists, inner, body, exits, start)?;
+    let test_at = lower_step(names, scope, lists, inner, &head.step, step_at)?;
+    let to = lower_test(names, scope, lists, inner, &head.condition, start, test_at)?;
     scope.leave(outer);
     put_loop(code, test_at, to, step_at, inner)?;
     Ok(to)

@@ -10,7 +10,7 @@ use Rattle.lower.specs.inner.Expressions.{condition}
 use Rattle.lower.specs.inner.Statements.{written}
 use Rattle.lower.specs.inner.Views.{program_in, scope_in}
 use Rattle.lower.specs.inner.Limits.{NeedsMore}
-use Rattle.lower.proofs.Failing.{passed_on, if_test, if_branch, while_body, while_test, do_body, do_test, transaction_body, for_first, for_body, for_next, for_last}
+use Rattle.lower.proofs.Failing.{passed_on, if_test, if_branch, if_else_test, if_else_first, if_else_second, while_body, while_test, do_body, do_test, transaction_body, for_first, for_body, for_next, for_last}
 use Rattle.lower.proofs.Written.{first_within, next_code, next_lists, next_place, next_scope, last_code, last_lists, last_place, last_scope}
 use Rattle.lower.proofs.Leaving.{start_longer, start_left, stmt_longer, stmt_left, stmts_longer, stmts_left}
 use Rattle.lower.proofs.Made.{if_made, if_else_made, while_made, do_made, for_made, transaction_made, declare_is, print_is, block_is, if_is, if_else_is, while_is, do_is, transaction_is}
@@ -24,12 +24,6 @@ pub lower_stmt-lower_block-requires : goal.lower_stmt-lower_block-requires
 lower_stmt-lower_block-requires g t c κs within =
     let size = simp the_lemmas at (ap (the_size g.row.A g.A.Allocator g.A.laws) c.in-Block.is) in
     let here = ap (most (the_size g.row.A g.A.Allocator g.A.laws)) c.as_slice-in-Block.ensures in
-    (omega (arith, size, here, c.decreases), within)
-
-pub lower_stmt-lower_block-requires-in-Transaction : goal.lower_stmt-lower_block-requires-in-Transaction
-lower_stmt-lower_block-requires-in-Transaction g t c κs within =
-    let size = simp the_lemmas at (ap (the_size g.row.A g.A.Allocator g.A.laws) c.in-Transaction.is) in
-    let here = ap (most (the_size g.row.A g.A.Allocator g.A.laws)) c.as_slice-all.ensures in
     (omega (arith, size, here, c.decreases), within)
 
 pub lower_stmts-lower_stmt-requires : goal.lower_stmts-lower_stmt-requires
@@ -61,33 +55,33 @@ pub lower_for-returns-clause-code : goal.lower_for-returns-clause-code
 lower_for-returns-clause-code g t c =
     (for_made (program_in c.args.names.now) c.args.exits (scope_in c.args.scope.now) c.args.from (lists_of c.args.lists.now) c.args.code.now.items c.put_loop.new.code.items
     (start_of c.args.head.now.start) (option_map expr_of c.args.head.now.condition) (option_map simple_of c.args.head.now.step) (stmt_of c.args.body.now)
-    c.lower_start.new.code.items c.new-inner.result.items c.lower_scoped.new.code.items c.lower_step.new.code.items c.lower_test.new.code.items
+    c.lower_start.new.code.items c.args.inner.now.items c.lower_scoped.new.code.items c.lower_step.new.code.items c.lower_test.new.code.items
     (lists_of c.lower_start.new.lists) (lists_of c.lower_scoped.new.lists) (lists_of c.lower_step.new.lists) (lists_of c.lower_test.new.lists)
     c.looping-exits.result (scope_in c.lower_start.new.scope) (scope_in c.lower_scoped.new.scope)
     c.in_ok-pads.pads c.in_ok-pad.pad c.in_ok-other.other c.in_ok-start.start c.in_ok-step_at.step_at c.in_ok-test_at.test_at c.in_ok-to.to
-    (record { code = c.in_ok-pads.ensures.code; lists = c.in_ok-pads.ensures.lists; place = c.in_ok-pads.ensures.place }) c.in_ok-pads.ensures.scope c.in_ok-pad.ensures c.in_ok-other.ensures c.in_ok-start.ensures c.looping-exits.ensures c.new-inner.ensures.items
+    (record { code = c.in_ok-pads.ensures.code; lists = c.in_ok-pads.ensures.lists; place = c.in_ok-pads.ensures.place }) c.in_ok-pads.ensures.scope c.in_ok-pad.ensures c.in_ok-other.ensures c.in_ok-start.ensures c.looping-exits.ensures c.requires
     (record { code = c.in_ok-step_at.ensures.code; lists = c.in_ok-step_at.ensures.lists; place = c.in_ok-step_at.ensures.place }) c.in_ok-step_at.ensures.scope (record { code = c.in_ok-test_at.ensures.code; lists = c.in_ok-test_at.ensures.lists; place = c.in_ok-test_at.ensures.place }) (record { code = c.in_ok-to.ensures.code; lists = c.in_ok-to.ensures.lists; place = c.in_ok-to.ensures.place }) c.in_ok-put_loop.ensures).code
 
 pub lower_for-returns-clause-lists : goal.lower_for-returns-clause-lists
 lower_for-returns-clause-lists g t c =
     (for_made (program_in c.args.names.now) c.args.exits (scope_in c.args.scope.now) c.args.from (lists_of c.args.lists.now) c.args.code.now.items c.put_loop.new.code.items
     (start_of c.args.head.now.start) (option_map expr_of c.args.head.now.condition) (option_map simple_of c.args.head.now.step) (stmt_of c.args.body.now)
-    c.lower_start.new.code.items c.new-inner.result.items c.lower_scoped.new.code.items c.lower_step.new.code.items c.lower_test.new.code.items
+    c.lower_start.new.code.items c.args.inner.now.items c.lower_scoped.new.code.items c.lower_step.new.code.items c.lower_test.new.code.items
     (lists_of c.lower_start.new.lists) (lists_of c.lower_scoped.new.lists) (lists_of c.lower_step.new.lists) (lists_of c.lower_test.new.lists)
     c.looping-exits.result (scope_in c.lower_start.new.scope) (scope_in c.lower_scoped.new.scope)
     c.in_ok-pads.pads c.in_ok-pad.pad c.in_ok-other.other c.in_ok-start.start c.in_ok-step_at.step_at c.in_ok-test_at.test_at c.in_ok-to.to
-    (record { code = c.in_ok-pads.ensures.code; lists = c.in_ok-pads.ensures.lists; place = c.in_ok-pads.ensures.place }) c.in_ok-pads.ensures.scope c.in_ok-pad.ensures c.in_ok-other.ensures c.in_ok-start.ensures c.looping-exits.ensures c.new-inner.ensures.items
+    (record { code = c.in_ok-pads.ensures.code; lists = c.in_ok-pads.ensures.lists; place = c.in_ok-pads.ensures.place }) c.in_ok-pads.ensures.scope c.in_ok-pad.ensures c.in_ok-other.ensures c.in_ok-start.ensures c.looping-exits.ensures c.requires
     (record { code = c.in_ok-step_at.ensures.code; lists = c.in_ok-step_at.ensures.lists; place = c.in_ok-step_at.ensures.place }) c.in_ok-step_at.ensures.scope (record { code = c.in_ok-test_at.ensures.code; lists = c.in_ok-test_at.ensures.lists; place = c.in_ok-test_at.ensures.place }) (record { code = c.in_ok-to.ensures.code; lists = c.in_ok-to.ensures.lists; place = c.in_ok-to.ensures.place }) c.in_ok-put_loop.ensures).lists
 
 pub lower_for-returns-clause-place : goal.lower_for-returns-clause-place
 lower_for-returns-clause-place g t c =
     (for_made (program_in c.args.names.now) c.args.exits (scope_in c.args.scope.now) c.args.from (lists_of c.args.lists.now) c.args.code.now.items c.put_loop.new.code.items
     (start_of c.args.head.now.start) (option_map expr_of c.args.head.now.condition) (option_map simple_of c.args.head.now.step) (stmt_of c.args.body.now)
-    c.lower_start.new.code.items c.new-inner.result.items c.lower_scoped.new.code.items c.lower_step.new.code.items c.lower_test.new.code.items
+    c.lower_start.new.code.items c.args.inner.now.items c.lower_scoped.new.code.items c.lower_step.new.code.items c.lower_test.new.code.items
     (lists_of c.lower_start.new.lists) (lists_of c.lower_scoped.new.lists) (lists_of c.lower_step.new.lists) (lists_of c.lower_test.new.lists)
     c.looping-exits.result (scope_in c.lower_start.new.scope) (scope_in c.lower_scoped.new.scope)
     c.in_ok-pads.pads c.in_ok-pad.pad c.in_ok-other.other c.in_ok-start.start c.in_ok-step_at.step_at c.in_ok-test_at.test_at c.in_ok-to.to
-    (record { code = c.in_ok-pads.ensures.code; lists = c.in_ok-pads.ensures.lists; place = c.in_ok-pads.ensures.place }) c.in_ok-pads.ensures.scope c.in_ok-pad.ensures c.in_ok-other.ensures c.in_ok-start.ensures c.looping-exits.ensures c.new-inner.ensures.items
+    (record { code = c.in_ok-pads.ensures.code; lists = c.in_ok-pads.ensures.lists; place = c.in_ok-pads.ensures.place }) c.in_ok-pads.ensures.scope c.in_ok-pad.ensures c.in_ok-other.ensures c.in_ok-start.ensures c.looping-exits.ensures c.requires
     (record { code = c.in_ok-step_at.ensures.code; lists = c.in_ok-step_at.ensures.lists; place = c.in_ok-step_at.ensures.place }) c.in_ok-step_at.ensures.scope (record { code = c.in_ok-test_at.ensures.code; lists = c.in_ok-test_at.ensures.lists; place = c.in_ok-test_at.ensures.place }) (record { code = c.in_ok-to.ensures.code; lists = c.in_ok-to.ensures.lists; place = c.in_ok-to.ensures.place }) c.in_ok-put_loop.ensures).place
 
 pub lower_stmt-returns-in-Declare-clause-scope : goal.lower_stmt-returns-in-Declare-clause-scope
@@ -150,61 +144,6 @@ lower_stmt-returns-in-Print-clause-place g t c =
     let is = print_is c.args.s.now c.in-Print.field-0 c.in-Print.format c.as_str.result.now c.in-Print.field-2 c.in-Print.args c.as_slice-in-Print.result.now c.in-Print.is c.as_str.ensures c.as_slice-in-Print.ensures in
     subst (λ z. IfOk c.lower_print.result (λ to. to ≡ z)) (sym (ap (λ s. (written (program_in c.args.names.now) s c.args.exits (scope_in c.args.scope.now) c.args.from (lists_of c.args.lists.now)).to) is)) c.lower_print.ensures.place
 
-pub lower_stmt-returns-in_ok-put_branch-in-None-clause-code : goal.lower_stmt-returns-in_ok-put_branch-in-None-clause-code
-lower_stmt-returns-in_ok-put_branch-in-None-clause-code g t c =
-    let is = if_is c.args.s.now c.in-If.c c.in-If.then c.get.result.now (c.in-If.is ∙ ap (λ o. own_stmt.If c.in-If.c c.in-If.then o) c.in-None.is) c.get.ensures in
-    (if_made (program_in c.args.names.now) c.args.exits (scope_in c.args.scope.now) c.args.from (lists_of c.args.lists.now) c.args.code.now.items c.put_branch.new.code.items (expr_of c.in-If.c) (stmt_of c.get.result.now)
-    c.lower_head.new.drafts.items c.lower_scoped.new.code.items c.new-first.result.items (lists_of c.lower_head.new.lists) (lists_of c.lower_scoped.new.lists) c.in_ok-t-in-If.t c.in_ok-next-in-If.next c.in_ok-last-in-If.last
-    (record { code = c.in_ok-t-in-If.ensures.code ∙ ap (λ xs. xs ++ (condition (program_in c.args.names.now) (scope_in c.args.scope.now) (expr_of c.in-If.c) c.args.from (length (scope_in c.args.scope.now)) (lists_of c.args.lists.now)).code) c.new-test.ensures.items; lists = c.in_ok-t-in-If.ensures.lists; tested = c.in_ok-t-in-If.ensures.tested }) c.in_ok-next-in-If.ensures c.new-first.ensures.items (record { code = c.in_ok-last-in-If.ensures.code; lists = c.in_ok-last-in-If.ensures.lists; place = c.in_ok-last-in-If.ensures.place }) c.in_ok-put_branch-in-None.ensures).code
-    ∙ sym (ap (λ s. c.args.code.now.items ++ (written (program_in c.args.names.now) s c.args.exits (scope_in c.args.scope.now) c.args.from (lists_of c.args.lists.now)).code) is)
-
-pub lower_stmt-returns-in_ok-put_branches-in-Some-clause-code : goal.lower_stmt-returns-in_ok-put_branches-in-Some-clause-code
-lower_stmt-returns-in_ok-put_branches-in-Some-clause-code g t c =
-    let is = if_else_is c.args.s.now c.in-If.c c.in-If.then c.in-Some.other c.get.result.now c.get-in-Some.result.now (c.in-If.is ∙ ap (λ o. own_stmt.If c.in-If.c c.in-If.then o) c.in-Some.is) c.get.ensures c.get-in-Some.ensures in
-    (if_else_made (program_in c.args.names.now) c.args.exits (scope_in c.args.scope.now) c.args.from (lists_of c.args.lists.now) c.args.code.now.items c.put_branches.new.code.items (expr_of c.in-If.c) (stmt_of c.get.result.now)
-    c.lower_head.new.drafts.items c.lower_scoped.new.code.items c.new-first.result.items (lists_of c.lower_head.new.lists) (lists_of c.lower_scoped.new.lists) c.in_ok-t-in-If.t c.in_ok-next-in-If.next c.in_ok-last-in-If.last
-    (record { code = c.in_ok-t-in-If.ensures.code ∙ ap (λ xs. xs ++ (condition (program_in c.args.names.now) (scope_in c.args.scope.now) (expr_of c.in-If.c) c.args.from (length (scope_in c.args.scope.now)) (lists_of c.args.lists.now)).code) c.new-test.ensures.items; lists = c.in_ok-t-in-If.ensures.lists; tested = c.in_ok-t-in-If.ensures.tested }) c.in_ok-next-in-If.ensures c.new-first.ensures.items (record { code = c.in_ok-last-in-If.ensures.code; lists = c.in_ok-last-in-If.ensures.lists; place = c.in_ok-last-in-If.ensures.place }) (stmt_of c.get-in-Some.result.now) (scope_in c.lower_scoped.new.scope) c.lower_scoped-in-Some.new.code.items c.new-second.result.items (lists_of c.lower_scoped-in-Some.new.lists) c.in_ok-other_at-in-Some.other_at c.in_ok-to-in-Some.to
-    c.in_ok-last-in-If.ensures.scope c.in_ok-other_at-in-Some.ensures c.new-second.ensures.items (record { code = c.in_ok-to-in-Some.ensures.code; lists = c.in_ok-to-in-Some.ensures.lists; place = c.in_ok-to-in-Some.ensures.place }) c.in_ok-put_branches-in-Some.ensures).code
-    ∙ sym (ap (λ s. c.args.code.now.items ++ (written (program_in c.args.names.now) s c.args.exits (scope_in c.args.scope.now) c.args.from (lists_of c.args.lists.now)).code) is)
-
-pub lower_stmt-returns-in_ok-put_loop-in-DoWhile-clause-place : goal.lower_stmt-returns-in_ok-put_loop-in-DoWhile-clause-place
-lower_stmt-returns-in_ok-put_loop-in-DoWhile-clause-place g t c =
-    let is = do_is c.args.s.now c.in-DoWhile.c c.in-DoWhile.body c.get-in-DoWhile.result.now c.in-DoWhile.is c.get-in-DoWhile.ensures in
-    (do_made (program_in c.args.names.now) c.args.exits (scope_in c.args.scope.now) c.args.from (lists_of c.args.lists.now) c.args.code.now.items c.put_loop.new.code.items (expr_of c.in-DoWhile.c) (stmt_of c.get-in-DoWhile.result.now)
-    c.new-inner-in-DoWhile.result.items c.lower_scoped-in-DoWhile.new.code.items c.lower_back-in-DoWhile.new.code.items (lists_of c.lower_scoped-in-DoWhile.new.lists) (lists_of c.lower_back-in-DoWhile.new.lists) c.looping-exits-in-DoWhile.result (scope_in c.lower_scoped-in-DoWhile.new.scope) c.in_ok-test_at-in-DoWhile.test_at c.in_ok-to-in-DoWhile.to
-    c.in_ok-pad-in-DoWhile.pad c.in_ok-other-in-DoWhile.other c.in_ok-start-in-DoWhile.start c.in_ok-pad-in-DoWhile.ensures c.in_ok-other-in-DoWhile.ensures c.in_ok-start-in-DoWhile.ensures c.looping-exits-in-DoWhile.ensures c.new-inner-in-DoWhile.ensures.items c.in_ok-test_at-in-DoWhile.ensures.scope
-    (record { code = c.in_ok-test_at-in-DoWhile.ensures.code; lists = c.in_ok-test_at-in-DoWhile.ensures.lists; place = c.in_ok-test_at-in-DoWhile.ensures.place }) (record { code = c.in_ok-to-in-DoWhile.ensures.code; lists = c.in_ok-to-in-DoWhile.ensures.lists; place = c.in_ok-to-in-DoWhile.ensures.place }) c.in_ok-put_loop-in-DoWhile.ensures).place
-    ∙ sym (ap (λ s. (written (program_in c.args.names.now) s c.args.exits (scope_in c.args.scope.now) c.args.from (lists_of c.args.lists.now)).to) is)
-
-pub lower_stmt-returns-in_ok-put_transaction-in-Transaction-clause-scope : goal.lower_stmt-returns-in_ok-put_transaction-in-Transaction-clause-scope
-lower_stmt-returns-in_ok-put_transaction-in-Transaction-clause-scope g t c =
-    let is = transaction_is c.args.s.now c.in-Transaction.field-0 c.in-Transaction.body c.as_slice-all.result.now c.in-Transaction.field-2 c.in-Transaction.is c.as_slice-all.ensures in
-    c.in_ok-last-in-Transaction.ensures.scope ∙ sym (ap (λ s. locals_after s (scope_in c.args.scope.now)) is)
-
-pub lower_stmt-returns-in_ok-put_transaction-in-Transaction-clause-code : goal.lower_stmt-returns-in_ok-put_transaction-in-Transaction-clause-code
-lower_stmt-returns-in_ok-put_transaction-in-Transaction-clause-code g t c =
-    let is = transaction_is c.args.s.now c.in-Transaction.field-0 c.in-Transaction.body c.as_slice-all.result.now c.in-Transaction.field-2 c.in-Transaction.is c.as_slice-all.ensures in
-    (transaction_made (program_in c.args.names.now) c.args.exits (scope_in c.args.scope.now) c.args.from (lists_of c.args.lists.now) c.args.code.now.items c.put_transaction.new.code.items c.in-Transaction.field-0 (stmts_of c.as_slice-all.result.now) c.in-Transaction.field-2
-    c.new-inner-in-Transaction.result.items c.lower_block-in-Transaction.new.code.items (lists_of c.lower_block-in-Transaction.new.lists) c.in_ok-exits-in-Transaction.exits c.in_ok-start-in-Transaction.start c.in_ok-last-in-Transaction.last c.in_ok-to-in-Transaction.to
-    c.in_ok-exits-in-Transaction.ensures c.in_ok-start-in-Transaction.ensures c.new-inner-in-Transaction.ensures.items (record { code = c.in_ok-last-in-Transaction.ensures.code; lists = c.in_ok-last-in-Transaction.ensures.lists; place = c.in_ok-last-in-Transaction.ensures.place }) c.in_ok-to-in-Transaction.ensures c.in_ok-put_transaction-in-Transaction.ensures).code
-    ∙ sym (ap (λ s. c.args.code.now.items ++ (written (program_in c.args.names.now) s c.args.exits (scope_in c.args.scope.now) c.args.from (lists_of c.args.lists.now)).code) is)
-
-pub lower_stmt-returns-in_ok-put_transaction-in-Transaction-clause-lists : goal.lower_stmt-returns-in_ok-put_transaction-in-Transaction-clause-lists
-lower_stmt-returns-in_ok-put_transaction-in-Transaction-clause-lists g t c =
-    let is = transaction_is c.args.s.now c.in-Transaction.field-0 c.in-Transaction.body c.as_slice-all.result.now c.in-Transaction.field-2 c.in-Transaction.is c.as_slice-all.ensures in
-    (transaction_made (program_in c.args.names.now) c.args.exits (scope_in c.args.scope.now) c.args.from (lists_of c.args.lists.now) c.args.code.now.items c.put_transaction.new.code.items c.in-Transaction.field-0 (stmts_of c.as_slice-all.result.now) c.in-Transaction.field-2
-    c.new-inner-in-Transaction.result.items c.lower_block-in-Transaction.new.code.items (lists_of c.lower_block-in-Transaction.new.lists) c.in_ok-exits-in-Transaction.exits c.in_ok-start-in-Transaction.start c.in_ok-last-in-Transaction.last c.in_ok-to-in-Transaction.to
-    c.in_ok-exits-in-Transaction.ensures c.in_ok-start-in-Transaction.ensures c.new-inner-in-Transaction.ensures.items (record { code = c.in_ok-last-in-Transaction.ensures.code; lists = c.in_ok-last-in-Transaction.ensures.lists; place = c.in_ok-last-in-Transaction.ensures.place }) c.in_ok-to-in-Transaction.ensures c.in_ok-put_transaction-in-Transaction.ensures).lists
-    ∙ sym (ap (λ s. (written (program_in c.args.names.now) s c.args.exits (scope_in c.args.scope.now) c.args.from (lists_of c.args.lists.now)).lists) is)
-
-pub lower_stmt-returns-in_ok-put_transaction-in-Transaction-clause-place : goal.lower_stmt-returns-in_ok-put_transaction-in-Transaction-clause-place
-lower_stmt-returns-in_ok-put_transaction-in-Transaction-clause-place g t c =
-    let is = transaction_is c.args.s.now c.in-Transaction.field-0 c.in-Transaction.body c.as_slice-all.result.now c.in-Transaction.field-2 c.in-Transaction.is c.as_slice-all.ensures in
-    (transaction_made (program_in c.args.names.now) c.args.exits (scope_in c.args.scope.now) c.args.from (lists_of c.args.lists.now) c.args.code.now.items c.put_transaction.new.code.items c.in-Transaction.field-0 (stmts_of c.as_slice-all.result.now) c.in-Transaction.field-2
-    c.new-inner-in-Transaction.result.items c.lower_block-in-Transaction.new.code.items (lists_of c.lower_block-in-Transaction.new.lists) c.in_ok-exits-in-Transaction.exits c.in_ok-start-in-Transaction.start c.in_ok-last-in-Transaction.last c.in_ok-to-in-Transaction.to
-    c.in_ok-exits-in-Transaction.ensures c.in_ok-start-in-Transaction.ensures c.new-inner-in-Transaction.ensures.items (record { code = c.in_ok-last-in-Transaction.ensures.code; lists = c.in_ok-last-in-Transaction.ensures.lists; place = c.in_ok-last-in-Transaction.ensures.place }) c.in_ok-to-in-Transaction.ensures c.in_ok-put_transaction-in-Transaction.ensures).place
-    ∙ sym (ap (λ s. (written (program_in c.args.names.now) s c.args.exits (scope_in c.args.scope.now) c.args.from (lists_of c.args.lists.now)).to) is)
-
 pub lower_stmts-body-preserved : goal.lower_stmts-body-preserved
 lower_stmts-body-preserved g t c =
     let e = c.in_ok-to.ensures in
@@ -242,54 +181,6 @@ lower_stmt-returns-in-Print-clause-fails g t c =
     let is = print_is c.args.s.now c.in-Print.field-0 c.in-Print.format c.as_str.result.now c.in-Print.field-2 c.in-Print.args c.as_slice-in-Print.result.now c.in-Print.is c.as_str.ensures c.as_slice-in-Print.ensures in
     subst (λ s. IfErr c.lower_print.result (λ why. NeedsMore why (written (program_in c.args.names.now) s c.args.exits (scope_in c.args.scope.now) c.args.from (lists_of c.args.lists.now)).lists.registers)) (sym is) c.lower_print.ensures.fails
 
-pub lower_stmt-returns-in_err-t-in-If-clause-fails : goal.lower_stmt-returns-in_err-t-in-If-clause-fails
-lower_stmt-returns-in_err-t-in-If-clause-fails g t c =
-    passed_on c.lower_head.result c.from_residual.result c.in_err-t-in-If.field-0.0 _ _ c.lower_head.ensures.fails c.in_err-t-in-If.was c.from_residual.ensures
-    (if_test (program_in c.args.names.now) c.args.exits (scope_in c.args.scope.now) c.args.from (lists_of c.args.lists.now) c.in-If.c c.in-If.then c.args.s.now c.in-If.other c.in-If.is)
-
-pub lower_stmt-returns-in_err-last-in-If-clause-fails : goal.lower_stmt-returns-in_err-last-in-If-clause-fails
-lower_stmt-returns-in_err-last-in-If-clause-fails g t c =
-    passed_on c.lower_scoped.result c.from_residual-in_err-last-in-If.result c.in_err-last-in-If.field-0.0 _ _ c.lower_scoped.ensures.fails c.in_err-last-in-If.was c.from_residual-in_err-last-in-If.ensures
-    (if_branch (program_in c.args.names.now) c.args.exits (scope_in c.args.scope.now) c.args.from (lists_of c.args.lists.now) c.in-If.c c.in-If.then c.args.s.now c.get.result.now c.in-If.other c.in_ok-t-in-If.t c.in_ok-next-in-If.next (lists_of c.lower_head.new.lists) c.in-If.is c.get.ensures c.in_ok-t-in-If.ensures.tested c.in_ok-next-in-If.ensures c.in_ok-t-in-If.ensures.lists)
-
-pub lower_stmt-returns-in_err-test_at-in-While-clause-fails : goal.lower_stmt-returns-in_err-test_at-in-While-clause-fails
-lower_stmt-returns-in_err-test_at-in-While-clause-fails g t c =
-    passed_on c.lower_scoped-in-While.result c.from_residual-in_err-test_at-in-While.result c.in_err-test_at-in-While.field-0.0 _ _ c.lower_scoped-in-While.ensures.fails c.in_err-test_at-in-While.was c.from_residual-in_err-test_at-in-While.ensures
-    (while_body (program_in c.args.names.now) c.args.exits (scope_in c.args.scope.now) c.args.from (lists_of c.args.lists.now) (stmt_of c.args.s.now) (expr_of c.in-While.c) (stmt_of c.get-in-While.result.now) c.looping-exits.result c.in_ok-pad-in-While.pad c.in_ok-start-in-While.start (while_is c.args.s.now c.in-While.c c.in-While.body c.get-in-While.result.now c.in-While.is c.get-in-While.ensures) c.in_ok-pad-in-While.ensures c.in_ok-start-in-While.ensures c.looping-exits.ensures)
-
-pub lower_stmt-returns-in_err-test_at-in-DoWhile-clause-fails : goal.lower_stmt-returns-in_err-test_at-in-DoWhile-clause-fails
-lower_stmt-returns-in_err-test_at-in-DoWhile-clause-fails g t c =
-    passed_on c.lower_scoped-in-DoWhile.result c.from_residual-in_err-test_at-in-DoWhile.result c.in_err-test_at-in-DoWhile.field-0.0 _ _ c.lower_scoped-in-DoWhile.ensures.fails c.in_err-test_at-in-DoWhile.was c.from_residual-in_err-test_at-in-DoWhile.ensures
-    (do_body (program_in c.args.names.now) c.args.exits (scope_in c.args.scope.now) c.args.from (lists_of c.args.lists.now) (stmt_of c.args.s.now) (expr_of c.in-DoWhile.c) (stmt_of c.get-in-DoWhile.result.now) c.looping-exits-in-DoWhile.result c.in_ok-pad-in-DoWhile.pad c.in_ok-other-in-DoWhile.other c.in_ok-start-in-DoWhile.start (do_is c.args.s.now c.in-DoWhile.c c.in-DoWhile.body c.get-in-DoWhile.result.now c.in-DoWhile.is c.get-in-DoWhile.ensures) c.in_ok-pad-in-DoWhile.ensures c.in_ok-other-in-DoWhile.ensures c.in_ok-start-in-DoWhile.ensures c.looping-exits-in-DoWhile.ensures)
-
-pub lower_stmt-returns-in_err-to-in-DoWhile-clause-fails : goal.lower_stmt-returns-in_err-to-in-DoWhile-clause-fails
-lower_stmt-returns-in_err-to-in-DoWhile-clause-fails g t c =
-    passed_on c.lower_back-in-DoWhile.result c.from_residual-in_err-to-in-DoWhile.result c.in_err-to-in-DoWhile.field-0.0 _ _ c.lower_back-in-DoWhile.ensures.fails c.in_err-to-in-DoWhile.was c.from_residual-in_err-to-in-DoWhile.ensures
-    (do_test (program_in c.args.names.now) c.args.exits (scope_in c.args.scope.now) c.args.from (lists_of c.args.lists.now) (stmt_of c.args.s.now) (expr_of c.in-DoWhile.c) (stmt_of c.get-in-DoWhile.result.now) c.looping-exits-in-DoWhile.result c.in_ok-pad-in-DoWhile.pad c.in_ok-other-in-DoWhile.other c.in_ok-start-in-DoWhile.start (do_is c.args.s.now c.in-DoWhile.c c.in-DoWhile.body c.get-in-DoWhile.result.now c.in-DoWhile.is c.get-in-DoWhile.ensures) c.in_ok-pad-in-DoWhile.ensures c.in_ok-other-in-DoWhile.ensures c.in_ok-start-in-DoWhile.ensures c.looping-exits-in-DoWhile.ensures (scope_in c.lower_scoped-in-DoWhile.new.scope) (lists_of c.lower_scoped-in-DoWhile.new.lists) c.in_ok-test_at-in-DoWhile.test_at c.in_ok-test_at-in-DoWhile.ensures.scope c.in_ok-test_at-in-DoWhile.ensures.lists c.in_ok-test_at-in-DoWhile.ensures.place)
-
-pub lower_stmt-returns-in_ok-put_loop-in-DoWhile-clause-code : goal.lower_stmt-returns-in_ok-put_loop-in-DoWhile-clause-code
-lower_stmt-returns-in_ok-put_loop-in-DoWhile-clause-code g t c =
-    let is = do_is c.args.s.now c.in-DoWhile.c c.in-DoWhile.body c.get-in-DoWhile.result.now c.in-DoWhile.is c.get-in-DoWhile.ensures in
-    (do_made (program_in c.args.names.now) c.args.exits (scope_in c.args.scope.now) c.args.from (lists_of c.args.lists.now) c.args.code.now.items c.put_loop.new.code.items (expr_of c.in-DoWhile.c) (stmt_of c.get-in-DoWhile.result.now)
-    c.new-inner-in-DoWhile.result.items c.lower_scoped-in-DoWhile.new.code.items c.lower_back-in-DoWhile.new.code.items (lists_of c.lower_scoped-in-DoWhile.new.lists) (lists_of c.lower_back-in-DoWhile.new.lists) c.looping-exits-in-DoWhile.result (scope_in c.lower_scoped-in-DoWhile.new.scope) c.in_ok-test_at-in-DoWhile.test_at c.in_ok-to-in-DoWhile.to
-    c.in_ok-pad-in-DoWhile.pad c.in_ok-other-in-DoWhile.other c.in_ok-start-in-DoWhile.start c.in_ok-pad-in-DoWhile.ensures c.in_ok-other-in-DoWhile.ensures c.in_ok-start-in-DoWhile.ensures c.looping-exits-in-DoWhile.ensures c.new-inner-in-DoWhile.ensures.items c.in_ok-test_at-in-DoWhile.ensures.scope
-    (record { code = c.in_ok-test_at-in-DoWhile.ensures.code; lists = c.in_ok-test_at-in-DoWhile.ensures.lists; place = c.in_ok-test_at-in-DoWhile.ensures.place }) (record { code = c.in_ok-to-in-DoWhile.ensures.code; lists = c.in_ok-to-in-DoWhile.ensures.lists; place = c.in_ok-to-in-DoWhile.ensures.place }) c.in_ok-put_loop-in-DoWhile.ensures).code
-    ∙ sym (ap (λ s. c.args.code.now.items ++ (written (program_in c.args.names.now) s c.args.exits (scope_in c.args.scope.now) c.args.from (lists_of c.args.lists.now)).code) is)
-
-pub lower_stmt-returns-in_ok-put_loop-in-DoWhile-clause-lists : goal.lower_stmt-returns-in_ok-put_loop-in-DoWhile-clause-lists
-lower_stmt-returns-in_ok-put_loop-in-DoWhile-clause-lists g t c =
-    let is = do_is c.args.s.now c.in-DoWhile.c c.in-DoWhile.body c.get-in-DoWhile.result.now c.in-DoWhile.is c.get-in-DoWhile.ensures in
-    (do_made (program_in c.args.names.now) c.args.exits (scope_in c.args.scope.now) c.args.from (lists_of c.args.lists.now) c.args.code.now.items c.put_loop.new.code.items (expr_of c.in-DoWhile.c) (stmt_of c.get-in-DoWhile.result.now)
-    c.new-inner-in-DoWhile.result.items c.lower_scoped-in-DoWhile.new.code.items c.lower_back-in-DoWhile.new.code.items (lists_of c.lower_scoped-in-DoWhile.new.lists) (lists_of c.lower_back-in-DoWhile.new.lists) c.looping-exits-in-DoWhile.result (scope_in c.lower_scoped-in-DoWhile.new.scope) c.in_ok-test_at-in-DoWhile.test_at c.in_ok-to-in-DoWhile.to
-    c.in_ok-pad-in-DoWhile.pad c.in_ok-other-in-DoWhile.other c.in_ok-start-in-DoWhile.start c.in_ok-pad-in-DoWhile.ensures c.in_ok-other-in-DoWhile.ensures c.in_ok-start-in-DoWhile.ensures c.looping-exits-in-DoWhile.ensures c.new-inner-in-DoWhile.ensures.items c.in_ok-test_at-in-DoWhile.ensures.scope
-    (record { code = c.in_ok-test_at-in-DoWhile.ensures.code; lists = c.in_ok-test_at-in-DoWhile.ensures.lists; place = c.in_ok-test_at-in-DoWhile.ensures.place }) (record { code = c.in_ok-to-in-DoWhile.ensures.code; lists = c.in_ok-to-in-DoWhile.ensures.lists; place = c.in_ok-to-in-DoWhile.ensures.place }) c.in_ok-put_loop-in-DoWhile.ensures).lists
-    ∙ sym (ap (λ s. (written (program_in c.args.names.now) s c.args.exits (scope_in c.args.scope.now) c.args.from (lists_of c.args.lists.now)).lists) is)
-
-pub lower_stmt-returns-in_err-last-in-Transaction-clause-fails : goal.lower_stmt-returns-in_err-last-in-Transaction-clause-fails
-lower_stmt-returns-in_err-last-in-Transaction-clause-fails g t c =
-    passed_on c.lower_block-in-Transaction.result c.from_residual-in_err-last-in-Transaction.result c.in_err-last-in-Transaction.field-0.0 _ _ c.lower_block-in-Transaction.ensures.fails c.in_err-last-in-Transaction.was c.from_residual-in_err-last-in-Transaction.ensures
-    (transaction_body (program_in c.args.names.now) c.args.exits (scope_in c.args.scope.now) c.args.from (lists_of c.args.lists.now) (stmt_of c.args.s.now) c.in-Transaction.field-0 (stmts_of c.as_slice-all.result.now) c.in-Transaction.field-2 c.in_ok-exits-in-Transaction.exits c.in_ok-start-in-Transaction.start (transaction_is c.args.s.now c.in-Transaction.field-0 c.in-Transaction.body c.as_slice-all.result.now c.in-Transaction.field-2 c.in-Transaction.is c.as_slice-all.ensures) c.in_ok-exits-in-Transaction.ensures c.in_ok-start-in-Transaction.ensures)
-
 pub lower_for-returns-in_err-pads-clause-fails : goal.lower_for-returns-in_err-pads-clause-fails
 lower_for-returns-in_err-pads-clause-fails g t c =
     passed_on c.lower_start.result c.from_residual.result c.in_err-pads.field-0.0 _ _ c.lower_start.ensures.fails c.in_err-pads.was c.from_residual.ensures
@@ -315,35 +206,292 @@ lower_stmts-returns-in_err-to-clause-fails g t c =
     passed_on c.lower_stmt.result c.from_residual.result c.in_err-to.field-0.0 _ _ c.lower_stmt.ensures.fails c.in_err-to.was c.from_residual.ensures
     (first_within (program_in c.args.names.now) c.args.exits c.args.body.now c.body.s-index c.body.to (scope_in c.body.scope) (lists_of c.body.lists) c.s-item.result _ c.body-test.true c.s-item.is c.body.invariant.lists)
 
-pub lower_stmt-returns-in_ok-put_while-in-While-clause-code : goal.lower_stmt-returns-in_ok-put_while-in-While-clause-code
-lower_stmt-returns-in_ok-put_while-in-While-clause-code g t c =
-    let is = while_is c.args.s.now c.in-While.c c.in-While.body c.get-in-While.result.now c.in-While.is c.get-in-While.ensures in
-    (while_made (program_in c.args.names.now) c.args.exits (scope_in c.args.scope.now) c.args.from (lists_of c.args.lists.now) c.args.code.now.items c.put_while.new.code.items (expr_of c.in-While.c) (stmt_of c.get-in-While.result.now)
-    c.new-inner.result.items c.lower_scoped-in-While.new.code.items c.lower_back.new.code.items (lists_of c.lower_scoped-in-While.new.lists) (lists_of c.lower_back.new.lists) c.looping-exits.result (scope_in c.lower_scoped-in-While.new.scope) c.in_ok-test_at-in-While.test_at c.in_ok-to-in-While.to
-    c.in_ok-pad-in-While.pad c.in_ok-start-in-While.start c.in_ok-pad-in-While.ensures c.in_ok-start-in-While.ensures c.looping-exits.ensures c.new-inner.ensures.items c.in_ok-test_at-in-While.ensures.scope
-    (record { code = c.in_ok-test_at-in-While.ensures.code; lists = c.in_ok-test_at-in-While.ensures.lists; place = c.in_ok-test_at-in-While.ensures.place }) (record { code = c.in_ok-to-in-While.ensures.code; lists = c.in_ok-to-in-While.ensures.lists; place = c.in_ok-to-in-While.ensures.place }) c.in_ok-put_while-in-While.ensures).code
-    ∙ sym (ap (λ s. c.args.code.now.items ++ (written (program_in c.args.names.now) s c.args.exits (scope_in c.args.scope.now) c.args.from (lists_of c.args.lists.now)).code) is)
+pub lower_if-returns-clause-code : goal.lower_if-returns-clause-code
+lower_if-returns-clause-code g t c =
+    (if_made (program_in c.args.names.now) c.args.exits (scope_in c.args.scope.now) c.args.from (lists_of c.args.lists.now) c.args.code.now.items c.put_branch.new.code.items (expr_of c.args.c.now) (stmt_of c.args.then.now)
+    c.as_slice.result.now c.lower_scoped.new.code.items c.args.branch.now.items (lists_of c.lower_head.new.lists) (lists_of c.lower_scoped.new.lists) c.in_ok-t.t c.in_ok-next.next c.in_ok-to.to
+    (record { code = c.as_slice.ensures.value ∙ c.in_ok-t.ensures.code ∙ ap (λ xs. xs ++ (condition (program_in c.args.names.now) (scope_in c.args.scope.now) (expr_of c.args.c.now) c.args.from (length (scope_in c.args.scope.now)) (lists_of c.args.lists.now)).code) c.requires.test; lists = c.in_ok-t.ensures.lists; tested = c.in_ok-t.ensures.tested }) c.in_ok-next.ensures c.requires.branch (record { code = c.in_ok-to.ensures.code; lists = c.in_ok-to.ensures.lists; place = c.in_ok-to.ensures.place }) c.in_ok-put_branch.ensures).code
 
-pub lower_stmt-returns-in_ok-put_while-in-While-clause-lists : goal.lower_stmt-returns-in_ok-put_while-in-While-clause-lists
-lower_stmt-returns-in_ok-put_while-in-While-clause-lists g t c =
-    let is = while_is c.args.s.now c.in-While.c c.in-While.body c.get-in-While.result.now c.in-While.is c.get-in-While.ensures in
-    (while_made (program_in c.args.names.now) c.args.exits (scope_in c.args.scope.now) c.args.from (lists_of c.args.lists.now) c.args.code.now.items c.put_while.new.code.items (expr_of c.in-While.c) (stmt_of c.get-in-While.result.now)
-    c.new-inner.result.items c.lower_scoped-in-While.new.code.items c.lower_back.new.code.items (lists_of c.lower_scoped-in-While.new.lists) (lists_of c.lower_back.new.lists) c.looping-exits.result (scope_in c.lower_scoped-in-While.new.scope) c.in_ok-test_at-in-While.test_at c.in_ok-to-in-While.to
-    c.in_ok-pad-in-While.pad c.in_ok-start-in-While.start c.in_ok-pad-in-While.ensures c.in_ok-start-in-While.ensures c.looping-exits.ensures c.new-inner.ensures.items c.in_ok-test_at-in-While.ensures.scope
-    (record { code = c.in_ok-test_at-in-While.ensures.code; lists = c.in_ok-test_at-in-While.ensures.lists; place = c.in_ok-test_at-in-While.ensures.place }) (record { code = c.in_ok-to-in-While.ensures.code; lists = c.in_ok-to-in-While.ensures.lists; place = c.in_ok-to-in-While.ensures.place }) c.in_ok-put_while-in-While.ensures).lists
-    ∙ sym (ap (λ s. (written (program_in c.args.names.now) s c.args.exits (scope_in c.args.scope.now) c.args.from (lists_of c.args.lists.now)).lists) is)
+pub lower_if-returns-clause-lists : goal.lower_if-returns-clause-lists
+lower_if-returns-clause-lists g t c =
+    (if_made (program_in c.args.names.now) c.args.exits (scope_in c.args.scope.now) c.args.from (lists_of c.args.lists.now) c.args.code.now.items c.put_branch.new.code.items (expr_of c.args.c.now) (stmt_of c.args.then.now)
+    c.as_slice.result.now c.lower_scoped.new.code.items c.args.branch.now.items (lists_of c.lower_head.new.lists) (lists_of c.lower_scoped.new.lists) c.in_ok-t.t c.in_ok-next.next c.in_ok-to.to
+    (record { code = c.as_slice.ensures.value ∙ c.in_ok-t.ensures.code ∙ ap (λ xs. xs ++ (condition (program_in c.args.names.now) (scope_in c.args.scope.now) (expr_of c.args.c.now) c.args.from (length (scope_in c.args.scope.now)) (lists_of c.args.lists.now)).code) c.requires.test; lists = c.in_ok-t.ensures.lists; tested = c.in_ok-t.ensures.tested }) c.in_ok-next.ensures c.requires.branch (record { code = c.in_ok-to.ensures.code; lists = c.in_ok-to.ensures.lists; place = c.in_ok-to.ensures.place }) c.in_ok-put_branch.ensures).lists
 
-pub lower_stmt-returns-in_ok-put_while-in-While-clause-place : goal.lower_stmt-returns-in_ok-put_while-in-While-clause-place
-lower_stmt-returns-in_ok-put_while-in-While-clause-place g t c =
-    let is = while_is c.args.s.now c.in-While.c c.in-While.body c.get-in-While.result.now c.in-While.is c.get-in-While.ensures in
-    (while_made (program_in c.args.names.now) c.args.exits (scope_in c.args.scope.now) c.args.from (lists_of c.args.lists.now) c.args.code.now.items c.put_while.new.code.items (expr_of c.in-While.c) (stmt_of c.get-in-While.result.now)
-    c.new-inner.result.items c.lower_scoped-in-While.new.code.items c.lower_back.new.code.items (lists_of c.lower_scoped-in-While.new.lists) (lists_of c.lower_back.new.lists) c.looping-exits.result (scope_in c.lower_scoped-in-While.new.scope) c.in_ok-test_at-in-While.test_at c.in_ok-to-in-While.to
-    c.in_ok-pad-in-While.pad c.in_ok-start-in-While.start c.in_ok-pad-in-While.ensures c.in_ok-start-in-While.ensures c.looping-exits.ensures c.new-inner.ensures.items c.in_ok-test_at-in-While.ensures.scope
-    (record { code = c.in_ok-test_at-in-While.ensures.code; lists = c.in_ok-test_at-in-While.ensures.lists; place = c.in_ok-test_at-in-While.ensures.place }) (record { code = c.in_ok-to-in-While.ensures.code; lists = c.in_ok-to-in-While.ensures.lists; place = c.in_ok-to-in-While.ensures.place }) c.in_ok-put_while-in-While.ensures).place
-    ∙ sym (ap (λ s. (written (program_in c.args.names.now) s c.args.exits (scope_in c.args.scope.now) c.args.from (lists_of c.args.lists.now)).to) is)
+pub lower_if-returns-clause-place : goal.lower_if-returns-clause-place
+lower_if-returns-clause-place g t c =
+    (if_made (program_in c.args.names.now) c.args.exits (scope_in c.args.scope.now) c.args.from (lists_of c.args.lists.now) c.args.code.now.items c.put_branch.new.code.items (expr_of c.args.c.now) (stmt_of c.args.then.now)
+    c.as_slice.result.now c.lower_scoped.new.code.items c.args.branch.now.items (lists_of c.lower_head.new.lists) (lists_of c.lower_scoped.new.lists) c.in_ok-t.t c.in_ok-next.next c.in_ok-to.to
+    (record { code = c.as_slice.ensures.value ∙ c.in_ok-t.ensures.code ∙ ap (λ xs. xs ++ (condition (program_in c.args.names.now) (scope_in c.args.scope.now) (expr_of c.args.c.now) c.args.from (length (scope_in c.args.scope.now)) (lists_of c.args.lists.now)).code) c.requires.test; lists = c.in_ok-t.ensures.lists; tested = c.in_ok-t.ensures.tested }) c.in_ok-next.ensures c.requires.branch (record { code = c.in_ok-to.ensures.code; lists = c.in_ok-to.ensures.lists; place = c.in_ok-to.ensures.place }) c.in_ok-put_branch.ensures).place
 
-pub lower_stmt-returns-in_err-to-in-While-clause-fails : goal.lower_stmt-returns-in_err-to-in-While-clause-fails
-lower_stmt-returns-in_err-to-in-While-clause-fails g t c =
-    passed_on c.lower_back.result c.from_residual-in_err-to-in-While.result c.in_err-to-in-While.field-0.0 _ _ c.lower_back.ensures.fails c.in_err-to-in-While.was c.from_residual-in_err-to-in-While.ensures
-    (while_test (program_in c.args.names.now) c.args.exits (scope_in c.args.scope.now) c.args.from (lists_of c.args.lists.now) (stmt_of c.args.s.now) (expr_of c.in-While.c) (stmt_of c.get-in-While.result.now) c.looping-exits.result c.in_ok-pad-in-While.pad c.in_ok-start-in-While.start (while_is c.args.s.now c.in-While.c c.in-While.body c.get-in-While.result.now c.in-While.is c.get-in-While.ensures) c.in_ok-pad-in-While.ensures c.in_ok-start-in-While.ensures c.looping-exits.ensures
-    (scope_in c.lower_scoped-in-While.new.scope) (lists_of c.lower_scoped-in-While.new.lists) c.in_ok-test_at-in-While.test_at c.in_ok-test_at-in-While.ensures.scope c.in_ok-test_at-in-While.ensures.lists c.in_ok-test_at-in-While.ensures.place)
+pub lower_if_else-returns-clause-code : goal.lower_if_else-returns-clause-code
+lower_if_else-returns-clause-code g t c =
+    (if_else_made (program_in c.args.names.now) c.args.exits (scope_in c.args.scope.now) c.args.from (lists_of c.args.lists.now) c.args.code.now.items c.put_branches.new.code.items (expr_of c.args.c.now) (stmt_of c.args.then.now)
+    c.as_slice.result.now c.lower_scoped.new.code.items c.args.first.now.items (lists_of c.lower_head.new.lists) (lists_of c.lower_scoped.new.lists) c.in_ok-t.t c.in_ok-next.next c.in_ok-last.last
+    (record { code = c.as_slice.ensures.value ∙ c.in_ok-t.ensures.code ∙ ap (λ xs. xs ++ (condition (program_in c.args.names.now) (scope_in c.args.scope.now) (expr_of c.args.c.now) c.args.from (length (scope_in c.args.scope.now)) (lists_of c.args.lists.now)).code) c.requires.test; lists = c.in_ok-t.ensures.lists; tested = c.in_ok-t.ensures.tested }) c.in_ok-next.ensures c.requires.first (record { code = c.in_ok-last.ensures.code; lists = c.in_ok-last.ensures.lists; place = c.in_ok-last.ensures.place }) (stmt_of c.args.other.now) (scope_in c.lower_scoped.new.scope) c.lower_scoped-2.new.code.items c.args.second.now.items (lists_of c.lower_scoped-2.new.lists) c.in_ok-other_at.other_at c.in_ok-to.to
+    c.in_ok-last.ensures.scope c.in_ok-other_at.ensures c.requires.second (record { code = c.in_ok-to.ensures.code; lists = c.in_ok-to.ensures.lists; place = c.in_ok-to.ensures.place }) c.in_ok-put_branches.ensures).code
+
+pub lower_if_else-returns-clause-lists : goal.lower_if_else-returns-clause-lists
+lower_if_else-returns-clause-lists g t c =
+    (if_else_made (program_in c.args.names.now) c.args.exits (scope_in c.args.scope.now) c.args.from (lists_of c.args.lists.now) c.args.code.now.items c.put_branches.new.code.items (expr_of c.args.c.now) (stmt_of c.args.then.now)
+    c.as_slice.result.now c.lower_scoped.new.code.items c.args.first.now.items (lists_of c.lower_head.new.lists) (lists_of c.lower_scoped.new.lists) c.in_ok-t.t c.in_ok-next.next c.in_ok-last.last
+    (record { code = c.as_slice.ensures.value ∙ c.in_ok-t.ensures.code ∙ ap (λ xs. xs ++ (condition (program_in c.args.names.now) (scope_in c.args.scope.now) (expr_of c.args.c.now) c.args.from (length (scope_in c.args.scope.now)) (lists_of c.args.lists.now)).code) c.requires.test; lists = c.in_ok-t.ensures.lists; tested = c.in_ok-t.ensures.tested }) c.in_ok-next.ensures c.requires.first (record { code = c.in_ok-last.ensures.code; lists = c.in_ok-last.ensures.lists; place = c.in_ok-last.ensures.place }) (stmt_of c.args.other.now) (scope_in c.lower_scoped.new.scope) c.lower_scoped-2.new.code.items c.args.second.now.items (lists_of c.lower_scoped-2.new.lists) c.in_ok-other_at.other_at c.in_ok-to.to
+    c.in_ok-last.ensures.scope c.in_ok-other_at.ensures c.requires.second (record { code = c.in_ok-to.ensures.code; lists = c.in_ok-to.ensures.lists; place = c.in_ok-to.ensures.place }) c.in_ok-put_branches.ensures).lists
+
+pub lower_if_else-returns-clause-place : goal.lower_if_else-returns-clause-place
+lower_if_else-returns-clause-place g t c =
+    (if_else_made (program_in c.args.names.now) c.args.exits (scope_in c.args.scope.now) c.args.from (lists_of c.args.lists.now) c.args.code.now.items c.put_branches.new.code.items (expr_of c.args.c.now) (stmt_of c.args.then.now)
+    c.as_slice.result.now c.lower_scoped.new.code.items c.args.first.now.items (lists_of c.lower_head.new.lists) (lists_of c.lower_scoped.new.lists) c.in_ok-t.t c.in_ok-next.next c.in_ok-last.last
+    (record { code = c.as_slice.ensures.value ∙ c.in_ok-t.ensures.code ∙ ap (λ xs. xs ++ (condition (program_in c.args.names.now) (scope_in c.args.scope.now) (expr_of c.args.c.now) c.args.from (length (scope_in c.args.scope.now)) (lists_of c.args.lists.now)).code) c.requires.test; lists = c.in_ok-t.ensures.lists; tested = c.in_ok-t.ensures.tested }) c.in_ok-next.ensures c.requires.first (record { code = c.in_ok-last.ensures.code; lists = c.in_ok-last.ensures.lists; place = c.in_ok-last.ensures.place }) (stmt_of c.args.other.now) (scope_in c.lower_scoped.new.scope) c.lower_scoped-2.new.code.items c.args.second.now.items (lists_of c.lower_scoped-2.new.lists) c.in_ok-other_at.other_at c.in_ok-to.to
+    c.in_ok-last.ensures.scope c.in_ok-other_at.ensures c.requires.second (record { code = c.in_ok-to.ensures.code; lists = c.in_ok-to.ensures.lists; place = c.in_ok-to.ensures.place }) c.in_ok-put_branches.ensures).place
+
+pub lower_while-returns-clause-code : goal.lower_while-returns-clause-code
+lower_while-returns-clause-code g t c =
+    (while_made (program_in c.args.names.now) c.args.exits (scope_in c.args.scope.now) c.args.from (lists_of c.args.lists.now) c.args.code.now.items c.put_while.new.code.items (expr_of c.args.c.now) (stmt_of c.args.body.now)
+    c.args.inner.now.items c.lower_scoped.new.code.items c.lower_back.new.code.items (lists_of c.lower_scoped.new.lists) (lists_of c.lower_back.new.lists) c.looping-exits.result (scope_in c.lower_scoped.new.scope) c.in_ok-test_at.test_at c.in_ok-to.to
+    c.in_ok-pad.pad c.in_ok-start.start c.in_ok-pad.ensures c.in_ok-start.ensures c.looping-exits.ensures c.requires c.in_ok-test_at.ensures.scope
+    (record { code = c.in_ok-test_at.ensures.code; lists = c.in_ok-test_at.ensures.lists; place = c.in_ok-test_at.ensures.place }) (record { code = c.in_ok-to.ensures.code; lists = c.in_ok-to.ensures.lists; place = c.in_ok-to.ensures.place }) c.in_ok-put_while.ensures).code
+
+pub lower_while-returns-clause-lists : goal.lower_while-returns-clause-lists
+lower_while-returns-clause-lists g t c =
+    (while_made (program_in c.args.names.now) c.args.exits (scope_in c.args.scope.now) c.args.from (lists_of c.args.lists.now) c.args.code.now.items c.put_while.new.code.items (expr_of c.args.c.now) (stmt_of c.args.body.now)
+    c.args.inner.now.items c.lower_scoped.new.code.items c.lower_back.new.code.items (lists_of c.lower_scoped.new.lists) (lists_of c.lower_back.new.lists) c.looping-exits.result (scope_in c.lower_scoped.new.scope) c.in_ok-test_at.test_at c.in_ok-to.to
+    c.in_ok-pad.pad c.in_ok-start.start c.in_ok-pad.ensures c.in_ok-start.ensures c.looping-exits.ensures c.requires c.in_ok-test_at.ensures.scope
+    (record { code = c.in_ok-test_at.ensures.code; lists = c.in_ok-test_at.ensures.lists; place = c.in_ok-test_at.ensures.place }) (record { code = c.in_ok-to.ensures.code; lists = c.in_ok-to.ensures.lists; place = c.in_ok-to.ensures.place }) c.in_ok-put_while.ensures).lists
+
+pub lower_while-returns-clause-place : goal.lower_while-returns-clause-place
+lower_while-returns-clause-place g t c =
+    (while_made (program_in c.args.names.now) c.args.exits (scope_in c.args.scope.now) c.args.from (lists_of c.args.lists.now) c.args.code.now.items c.put_while.new.code.items (expr_of c.args.c.now) (stmt_of c.args.body.now)
+    c.args.inner.now.items c.lower_scoped.new.code.items c.lower_back.new.code.items (lists_of c.lower_scoped.new.lists) (lists_of c.lower_back.new.lists) c.looping-exits.result (scope_in c.lower_scoped.new.scope) c.in_ok-test_at.test_at c.in_ok-to.to
+    c.in_ok-pad.pad c.in_ok-start.start c.in_ok-pad.ensures c.in_ok-start.ensures c.looping-exits.ensures c.requires c.in_ok-test_at.ensures.scope
+    (record { code = c.in_ok-test_at.ensures.code; lists = c.in_ok-test_at.ensures.lists; place = c.in_ok-test_at.ensures.place }) (record { code = c.in_ok-to.ensures.code; lists = c.in_ok-to.ensures.lists; place = c.in_ok-to.ensures.place }) c.in_ok-put_while.ensures).place
+
+pub lower_do_while-returns-clause-code : goal.lower_do_while-returns-clause-code
+lower_do_while-returns-clause-code g t c =
+    (do_made (program_in c.args.names.now) c.args.exits (scope_in c.args.scope.now) c.args.from (lists_of c.args.lists.now) c.args.code.now.items c.put_loop.new.code.items (expr_of c.args.c.now) (stmt_of c.args.body.now)
+    c.args.inner.now.items c.lower_scoped.new.code.items c.lower_back.new.code.items (lists_of c.lower_scoped.new.lists) (lists_of c.lower_back.new.lists) c.looping-exits.result (scope_in c.lower_scoped.new.scope) c.in_ok-test_at.test_at c.in_ok-to.to
+    c.in_ok-pad.pad c.in_ok-other.other c.in_ok-start.start c.in_ok-pad.ensures c.in_ok-other.ensures c.in_ok-start.ensures c.looping-exits.ensures c.requires c.in_ok-test_at.ensures.scope
+    (record { code = c.in_ok-test_at.ensures.code; lists = c.in_ok-test_at.ensures.lists; place = c.in_ok-test_at.ensures.place }) (record { code = c.in_ok-to.ensures.code; lists = c.in_ok-to.ensures.lists; place = c.in_ok-to.ensures.place }) c.in_ok-put_loop.ensures).code
+
+pub lower_do_while-returns-clause-lists : goal.lower_do_while-returns-clause-lists
+lower_do_while-returns-clause-lists g t c =
+    (do_made (program_in c.args.names.now) c.args.exits (scope_in c.args.scope.now) c.args.from (lists_of c.args.lists.now) c.args.code.now.items c.put_loop.new.code.items (expr_of c.args.c.now) (stmt_of c.args.body.now)
+    c.args.inner.now.items c.lower_scoped.new.code.items c.lower_back.new.code.items (lists_of c.lower_scoped.new.lists) (lists_of c.lower_back.new.lists) c.looping-exits.result (scope_in c.lower_scoped.new.scope) c.in_ok-test_at.test_at c.in_ok-to.to
+    c.in_ok-pad.pad c.in_ok-other.other c.in_ok-start.start c.in_ok-pad.ensures c.in_ok-other.ensures c.in_ok-start.ensures c.looping-exits.ensures c.requires c.in_ok-test_at.ensures.scope
+    (record { code = c.in_ok-test_at.ensures.code; lists = c.in_ok-test_at.ensures.lists; place = c.in_ok-test_at.ensures.place }) (record { code = c.in_ok-to.ensures.code; lists = c.in_ok-to.ensures.lists; place = c.in_ok-to.ensures.place }) c.in_ok-put_loop.ensures).lists
+
+pub lower_do_while-returns-clause-place : goal.lower_do_while-returns-clause-place
+lower_do_while-returns-clause-place g t c =
+    (do_made (program_in c.args.names.now) c.args.exits (scope_in c.args.scope.now) c.args.from (lists_of c.args.lists.now) c.args.code.now.items c.put_loop.new.code.items (expr_of c.args.c.now) (stmt_of c.args.body.now)
+    c.args.inner.now.items c.lower_scoped.new.code.items c.lower_back.new.code.items (lists_of c.lower_scoped.new.lists) (lists_of c.lower_back.new.lists) c.looping-exits.result (scope_in c.lower_scoped.new.scope) c.in_ok-test_at.test_at c.in_ok-to.to
+    c.in_ok-pad.pad c.in_ok-other.other c.in_ok-start.start c.in_ok-pad.ensures c.in_ok-other.ensures c.in_ok-start.ensures c.looping-exits.ensures c.requires c.in_ok-test_at.ensures.scope
+    (record { code = c.in_ok-test_at.ensures.code; lists = c.in_ok-test_at.ensures.lists; place = c.in_ok-test_at.ensures.place }) (record { code = c.in_ok-to.ensures.code; lists = c.in_ok-to.ensures.lists; place = c.in_ok-to.ensures.place }) c.in_ok-put_loop.ensures).place
+
+pub lower_transaction-returns-clause-code : goal.lower_transaction-returns-clause-code
+lower_transaction-returns-clause-code g t c =
+    (transaction_made (program_in c.args.names.now) c.args.exits (scope_in c.args.scope.now) c.args.from (lists_of c.args.lists.now) c.args.code.now.items c.put_transaction.new.code.items (stmts_of c.args.body.now)
+    c.args.inner.now.items c.lower_block.new.code.items (lists_of c.lower_block.new.lists) c.in_ok-exits.exits c.in_ok-start.start c.in_ok-last.last c.in_ok-to.to
+    c.in_ok-exits.ensures c.in_ok-start.ensures c.requires (record { code = c.in_ok-last.ensures.code; lists = c.in_ok-last.ensures.lists; place = c.in_ok-last.ensures.place }) c.in_ok-to.ensures c.in_ok-put_transaction.ensures).code
+
+pub lower_transaction-returns-clause-lists : goal.lower_transaction-returns-clause-lists
+lower_transaction-returns-clause-lists g t c =
+    (transaction_made (program_in c.args.names.now) c.args.exits (scope_in c.args.scope.now) c.args.from (lists_of c.args.lists.now) c.args.code.now.items c.put_transaction.new.code.items (stmts_of c.args.body.now)
+    c.args.inner.now.items c.lower_block.new.code.items (lists_of c.lower_block.new.lists) c.in_ok-exits.exits c.in_ok-start.start c.in_ok-last.last c.in_ok-to.to
+    c.in_ok-exits.ensures c.in_ok-start.ensures c.requires (record { code = c.in_ok-last.ensures.code; lists = c.in_ok-last.ensures.lists; place = c.in_ok-last.ensures.place }) c.in_ok-to.ensures c.in_ok-put_transaction.ensures).lists
+
+pub lower_transaction-returns-clause-place : goal.lower_transaction-returns-clause-place
+lower_transaction-returns-clause-place g t c =
+    (transaction_made (program_in c.args.names.now) c.args.exits (scope_in c.args.scope.now) c.args.from (lists_of c.args.lists.now) c.args.code.now.items c.put_transaction.new.code.items (stmts_of c.args.body.now)
+    c.args.inner.now.items c.lower_block.new.code.items (lists_of c.lower_block.new.lists) c.in_ok-exits.exits c.in_ok-start.start c.in_ok-last.last c.in_ok-to.to
+    c.in_ok-exits.ensures c.in_ok-start.ensures c.requires (record { code = c.in_ok-last.ensures.code; lists = c.in_ok-last.ensures.lists; place = c.in_ok-last.ensures.place }) c.in_ok-to.ensures c.in_ok-put_transaction.ensures).place
+
+pub lower_if-returns-in_err-t-clause-fails : goal.lower_if-returns-in_err-t-clause-fails
+lower_if-returns-in_err-t-clause-fails g t c =
+    passed_on c.lower_head.result c.from_residual.result c.in_err-t.field-0.0 _ _ c.lower_head.ensures.fails c.in_err-t.was c.from_residual.ensures
+    (if_test (program_in c.args.names.now) c.args.exits (scope_in c.args.scope.now) c.args.from (lists_of c.args.lists.now) (expr_of c.args.c.now) (stmt_of c.args.then.now))
+
+pub lower_if-returns-in_err-to-clause-fails : goal.lower_if-returns-in_err-to-clause-fails
+lower_if-returns-in_err-to-clause-fails g t c =
+    passed_on c.lower_scoped.result c.from_residual-in_err-to.result c.in_err-to.field-0.0 _ _ c.lower_scoped.ensures.fails c.in_err-to.was c.from_residual-in_err-to.ensures
+    (if_branch (program_in c.args.names.now) c.args.exits (scope_in c.args.scope.now) c.args.from (lists_of c.args.lists.now) (expr_of c.args.c.now) (stmt_of c.args.then.now) c.in_ok-t.t c.in_ok-next.next (lists_of c.lower_head.new.lists) c.in_ok-t.ensures.tested c.in_ok-next.ensures c.in_ok-t.ensures.lists)
+
+pub lower_if_else-returns-in_err-t-clause-fails : goal.lower_if_else-returns-in_err-t-clause-fails
+lower_if_else-returns-in_err-t-clause-fails g t c =
+    passed_on c.lower_head.result c.from_residual.result c.in_err-t.field-0.0 _ _ c.lower_head.ensures.fails c.in_err-t.was c.from_residual.ensures
+    (if_else_test (program_in c.args.names.now) c.args.exits (scope_in c.args.scope.now) c.args.from (lists_of c.args.lists.now) (expr_of c.args.c.now) (stmt_of c.args.then.now) (stmt_of c.args.other.now))
+
+pub lower_if_else-returns-in_err-last-clause-fails : goal.lower_if_else-returns-in_err-last-clause-fails
+lower_if_else-returns-in_err-last-clause-fails g t c =
+    passed_on c.lower_scoped.result c.from_residual-in_err-last.result c.in_err-last.field-0.0 _ _ c.lower_scoped.ensures.fails c.in_err-last.was c.from_residual-in_err-last.ensures
+    (if_else_first (program_in c.args.names.now) c.args.exits (scope_in c.args.scope.now) c.args.from (lists_of c.args.lists.now) (expr_of c.args.c.now) (stmt_of c.args.then.now) (stmt_of c.args.other.now) c.in_ok-t.t c.in_ok-next.next (lists_of c.lower_head.new.lists) c.in_ok-t.ensures.tested c.in_ok-next.ensures c.in_ok-t.ensures.lists)
+
+pub lower_if_else-returns-in_err-to-clause-fails : goal.lower_if_else-returns-in_err-to-clause-fails
+lower_if_else-returns-in_err-to-clause-fails g t c =
+    passed_on c.lower_scoped-2.result c.from_residual-in_err-to.result c.in_err-to.field-0.0 _ _ c.lower_scoped-2.ensures.fails c.in_err-to.was c.from_residual-in_err-to.ensures
+    (if_else_second (program_in c.args.names.now) c.args.exits (scope_in c.args.scope.now) c.args.from (lists_of c.args.lists.now) (expr_of c.args.c.now) (stmt_of c.args.then.now) (stmt_of c.args.other.now) c.in_ok-t.t c.in_ok-next.next (lists_of c.lower_head.new.lists) c.in_ok-t.ensures.tested c.in_ok-next.ensures c.in_ok-t.ensures.lists (scope_in c.lower_scoped.new.scope) (lists_of c.lower_scoped.new.lists) c.in_ok-last.last c.in_ok-other_at.other_at c.in_ok-last.ensures.scope c.in_ok-last.ensures.lists c.in_ok-last.ensures.place c.in_ok-other_at.ensures)
+
+pub lower_while-returns-in_err-test_at-clause-fails : goal.lower_while-returns-in_err-test_at-clause-fails
+lower_while-returns-in_err-test_at-clause-fails g t c =
+    passed_on c.lower_scoped.result c.from_residual-in_err-test_at.result c.in_err-test_at.field-0.0 _ _ c.lower_scoped.ensures.fails c.in_err-test_at.was c.from_residual-in_err-test_at.ensures
+    (while_body (program_in c.args.names.now) c.args.exits (scope_in c.args.scope.now) c.args.from (lists_of c.args.lists.now) (expr_of c.args.c.now) (stmt_of c.args.body.now) c.looping-exits.result c.in_ok-pad.pad c.in_ok-start.start c.in_ok-pad.ensures c.in_ok-start.ensures c.looping-exits.ensures)
+
+pub lower_while-returns-in_err-to-clause-fails : goal.lower_while-returns-in_err-to-clause-fails
+lower_while-returns-in_err-to-clause-fails g t c =
+    passed_on c.lower_back.result c.from_residual-in_err-to.result c.in_err-to.field-0.0 _ _ c.lower_back.ensures.fails c.in_err-to.was c.from_residual-in_err-to.ensures
+    (while_test (program_in c.args.names.now) c.args.exits (scope_in c.args.scope.now) c.args.from (lists_of c.args.lists.now) (expr_of c.args.c.now) (stmt_of c.args.body.now) c.looping-exits.result c.in_ok-pad.pad c.in_ok-start.start c.in_ok-pad.ensures c.in_ok-start.ensures c.looping-exits.ensures (scope_in c.lower_scoped.new.scope) (lists_of c.lower_scoped.new.lists) c.in_ok-test_at.test_at c.in_ok-test_at.ensures.scope c.in_ok-test_at.ensures.lists c.in_ok-test_at.ensures.place)
+
+pub lower_do_while-returns-in_err-test_at-clause-fails : goal.lower_do_while-returns-in_err-test_at-clause-fails
+lower_do_while-returns-in_err-test_at-clause-fails g t c =
+    passed_on c.lower_scoped.result c.from_residual-in_err-test_at.result c.in_err-test_at.field-0.0 _ _ c.lower_scoped.ensures.fails c.in_err-test_at.was c.from_residual-in_err-test_at.ensures
+    (do_body (program_in c.args.names.now) c.args.exits (scope_in c.args.scope.now) c.args.from (lists_of c.args.lists.now) (expr_of c.args.c.now) (stmt_of c.args.body.now) c.looping-exits.result c.in_ok-pad.pad c.in_ok-other.other c.in_ok-start.start c.in_ok-pad.ensures c.in_ok-other.ensures c.in_ok-start.ensures c.looping-exits.ensures)
+
+pub lower_do_while-returns-in_err-to-clause-fails : goal.lower_do_while-returns-in_err-to-clause-fails
+lower_do_while-returns-in_err-to-clause-fails g t c =
+    passed_on c.lower_back.result c.from_residual-in_err-to.result c.in_err-to.field-0.0 _ _ c.lower_back.ensures.fails c.in_err-to.was c.from_residual-in_err-to.ensures
+    (do_test (program_in c.args.names.now) c.args.exits (scope_in c.args.scope.now) c.args.from (lists_of c.args.lists.now) (expr_of c.args.c.now) (stmt_of c.args.body.now) c.looping-exits.result c.in_ok-pad.pad c.in_ok-other.other c.in_ok-start.start c.in_ok-pad.ensures c.in_ok-other.ensures c.in_ok-start.ensures c.looping-exits.ensures (scope_in c.lower_scoped.new.scope) (lists_of c.lower_scoped.new.lists) c.in_ok-test_at.test_at c.in_ok-test_at.ensures.scope c.in_ok-test_at.ensures.lists c.in_ok-test_at.ensures.place)
+
+pub lower_transaction-returns-in_err-last-clause-fails : goal.lower_transaction-returns-in_err-last-clause-fails
+lower_transaction-returns-in_err-last-clause-fails g t c =
+    passed_on c.lower_block.result c.from_residual-in_err-last.result c.in_err-last.field-0.0 _ _ c.lower_block.ensures.fails c.in_err-last.was c.from_residual-in_err-last.ensures
+    (transaction_body (program_in c.args.names.now) c.args.exits (scope_in c.args.scope.now) c.args.from (lists_of c.args.lists.now) (stmts_of c.args.body.now) c.in_ok-exits.exits c.in_ok-start.start c.in_ok-exits.ensures c.in_ok-start.ensures)
+
+pub lower_stmt-lower_transaction-requires : goal.lower_stmt-lower_transaction-requires
+lower_stmt-lower_transaction-requires g t c κs within =
+    let size = simp the_lemmas at (ap (the_size g.row.A g.A.Allocator g.A.laws) c.in-Transaction.is) in
+    let here = ap (most (the_size g.row.A g.A.Allocator g.A.laws)) c.as_slice-all.ensures in
+    (omega (arith, size, here, c.decreases), (within, c.new-inner-in-Transaction.ensures.items))
+
+pub lower_stmt-returns-in-None-clause-scope : goal.lower_stmt-returns-in-None-clause-scope
+lower_stmt-returns-in-None-clause-scope g t c =
+    let is = if_is c.args.s.now c.in-If.c c.in-If.then c.get.result.now (c.in-If.is ∙ ap (λ o. own_stmt.If c.in-If.c c.in-If.then o) c.in-None.is) c.get.ensures in
+    subst (λ z. OnOk c.lower_if.result (scope_in c.lower_if.new.scope ≡ locals_after z (scope_in c.args.scope.now))) (sym is) c.lower_if.ensures.scope
+
+pub lower_stmt-returns-in-None-clause-code : goal.lower_stmt-returns-in-None-clause-code
+lower_stmt-returns-in-None-clause-code g t c =
+    let is = if_is c.args.s.now c.in-If.c c.in-If.then c.get.result.now (c.in-If.is ∙ ap (λ o. own_stmt.If c.in-If.c c.in-If.then o) c.in-None.is) c.get.ensures in
+    subst (λ z. OnOk c.lower_if.result (c.lower_if.new.code.items ≡ c.args.code.now.items ++ (written (program_in c.args.names.now) z c.args.exits (scope_in c.args.scope.now) c.args.from (lists_of c.args.lists.now)).code)) (sym is) c.lower_if.ensures.code
+
+pub lower_stmt-returns-in-None-clause-lists : goal.lower_stmt-returns-in-None-clause-lists
+lower_stmt-returns-in-None-clause-lists g t c =
+    let is = if_is c.args.s.now c.in-If.c c.in-If.then c.get.result.now (c.in-If.is ∙ ap (λ o. own_stmt.If c.in-If.c c.in-If.then o) c.in-None.is) c.get.ensures in
+    subst (λ z. OnOk c.lower_if.result (lists_of c.lower_if.new.lists ≡ (written (program_in c.args.names.now) z c.args.exits (scope_in c.args.scope.now) c.args.from (lists_of c.args.lists.now)).lists)) (sym is) c.lower_if.ensures.lists
+
+pub lower_stmt-returns-in-None-clause-place : goal.lower_stmt-returns-in-None-clause-place
+lower_stmt-returns-in-None-clause-place g t c =
+    let is = if_is c.args.s.now c.in-If.c c.in-If.then c.get.result.now (c.in-If.is ∙ ap (λ o. own_stmt.If c.in-If.c c.in-If.then o) c.in-None.is) c.get.ensures in
+    subst (λ z. IfOk c.lower_if.result (λ to. to ≡ (written (program_in c.args.names.now) z c.args.exits (scope_in c.args.scope.now) c.args.from (lists_of c.args.lists.now)).to)) (sym is) c.lower_if.ensures.place
+
+pub lower_stmt-returns-in-None-clause-fails : goal.lower_stmt-returns-in-None-clause-fails
+lower_stmt-returns-in-None-clause-fails g t c =
+    let is = if_is c.args.s.now c.in-If.c c.in-If.then c.get.result.now (c.in-If.is ∙ ap (λ o. own_stmt.If c.in-If.c c.in-If.then o) c.in-None.is) c.get.ensures in
+    subst (λ z. IfErr c.lower_if.result (λ why. NeedsMore why (written (program_in c.args.names.now) z c.args.exits (scope_in c.args.scope.now) c.args.from (lists_of c.args.lists.now)).lists.registers)) (sym is) c.lower_if.ensures.fails
+
+pub lower_stmt-returns-in-Some-clause-scope : goal.lower_stmt-returns-in-Some-clause-scope
+lower_stmt-returns-in-Some-clause-scope g t c =
+    let is = if_else_is c.args.s.now c.in-If.c c.in-If.then c.in-Some.other c.get-in-Some.result.now c.get-in-Some-2.result.now (c.in-If.is ∙ ap (λ o. own_stmt.If c.in-If.c c.in-If.then o) c.in-Some.is) c.get-in-Some.ensures c.get-in-Some-2.ensures in
+    subst (λ z. OnOk c.lower_if_else.result (scope_in c.lower_if_else.new.scope ≡ locals_after z (scope_in c.args.scope.now))) (sym is) c.lower_if_else.ensures.scope
+
+pub lower_stmt-returns-in-Some-clause-code : goal.lower_stmt-returns-in-Some-clause-code
+lower_stmt-returns-in-Some-clause-code g t c =
+    let is = if_else_is c.args.s.now c.in-If.c c.in-If.then c.in-Some.other c.get-in-Some.result.now c.get-in-Some-2.result.now (c.in-If.is ∙ ap (λ o. own_stmt.If c.in-If.c c.in-If.then o) c.in-Some.is) c.get-in-Some.ensures c.get-in-Some-2.ensures in
+    subst (λ z. OnOk c.lower_if_else.result (c.lower_if_else.new.code.items ≡ c.args.code.now.items ++ (written (program_in c.args.names.now) z c.args.exits (scope_in c.args.scope.now) c.args.from (lists_of c.args.lists.now)).code)) (sym is) c.lower_if_else.ensures.code
+
+pub lower_stmt-returns-in-Some-clause-lists : goal.lower_stmt-returns-in-Some-clause-lists
+lower_stmt-returns-in-Some-clause-lists g t c =
+    let is = if_else_is c.args.s.now c.in-If.c c.in-If.then c.in-Some.other c.get-in-Some.result.now c.get-in-Some-2.result.now (c.in-If.is ∙ ap (λ o. own_stmt.If c.in-If.c c.in-If.then o) c.in-Some.is) c.get-in-Some.ensures c.get-in-Some-2.ensures in
+    subst (λ z. OnOk c.lower_if_else.result (lists_of c.lower_if_else.new.lists ≡ (written (program_in c.args.names.now) z c.args.exits (scope_in c.args.scope.now) c.args.from (lists_of c.args.lists.now)).lists)) (sym is) c.lower_if_else.ensures.lists
+
+pub lower_stmt-returns-in-Some-clause-place : goal.lower_stmt-returns-in-Some-clause-place
+lower_stmt-returns-in-Some-clause-place g t c =
+    let is = if_else_is c.args.s.now c.in-If.c c.in-If.then c.in-Some.other c.get-in-Some.result.now c.get-in-Some-2.result.now (c.in-If.is ∙ ap (λ o. own_stmt.If c.in-If.c c.in-If.then o) c.in-Some.is) c.get-in-Some.ensures c.get-in-Some-2.ensures in
+    subst (λ z. IfOk c.lower_if_else.result (λ to. to ≡ (written (program_in c.args.names.now) z c.args.exits (scope_in c.args.scope.now) c.args.from (lists_of c.args.lists.now)).to)) (sym is) c.lower_if_else.ensures.place
+
+pub lower_stmt-returns-in-Some-clause-fails : goal.lower_stmt-returns-in-Some-clause-fails
+lower_stmt-returns-in-Some-clause-fails g t c =
+    let is = if_else_is c.args.s.now c.in-If.c c.in-If.then c.in-Some.other c.get-in-Some.result.now c.get-in-Some-2.result.now (c.in-If.is ∙ ap (λ o. own_stmt.If c.in-If.c c.in-If.then o) c.in-Some.is) c.get-in-Some.ensures c.get-in-Some-2.ensures in
+    subst (λ z. IfErr c.lower_if_else.result (λ why. NeedsMore why (written (program_in c.args.names.now) z c.args.exits (scope_in c.args.scope.now) c.args.from (lists_of c.args.lists.now)).lists.registers)) (sym is) c.lower_if_else.ensures.fails
+
+pub lower_stmt-returns-in-While-clause-scope : goal.lower_stmt-returns-in-While-clause-scope
+lower_stmt-returns-in-While-clause-scope g t c =
+    let is = while_is c.args.s.now c.in-While.c c.in-While.body c.get-in-While.result.now c.in-While.is c.get-in-While.ensures in
+    subst (λ z. OnOk c.lower_while.result (scope_in c.lower_while.new.scope ≡ locals_after z (scope_in c.args.scope.now))) (sym is) c.lower_while.ensures.scope
+
+pub lower_stmt-returns-in-While-clause-code : goal.lower_stmt-returns-in-While-clause-code
+lower_stmt-returns-in-While-clause-code g t c =
+    let is = while_is c.args.s.now c.in-While.c c.in-While.body c.get-in-While.result.now c.in-While.is c.get-in-While.ensures in
+    subst (λ z. OnOk c.lower_while.result (c.lower_while.new.code.items ≡ c.args.code.now.items ++ (written (program_in c.args.names.now) z c.args.exits (scope_in c.args.scope.now) c.args.from (lists_of c.args.lists.now)).code)) (sym is) c.lower_while.ensures.code
+
+pub lower_stmt-returns-in-While-clause-lists : goal.lower_stmt-returns-in-While-clause-lists
+lower_stmt-returns-in-While-clause-lists g t c =
+    let is = while_is c.args.s.now c.in-While.c c.in-While.body c.get-in-While.result.now c.in-While.is c.get-in-While.ensures in
+    subst (λ z. OnOk c.lower_while.result (lists_of c.lower_while.new.lists ≡ (written (program_in c.args.names.now) z c.args.exits (scope_in c.args.scope.now) c.args.from (lists_of c.args.lists.now)).lists)) (sym is) c.lower_while.ensures.lists
+
+pub lower_stmt-returns-in-While-clause-place : goal.lower_stmt-returns-in-While-clause-place
+lower_stmt-returns-in-While-clause-place g t c =
+    let is = while_is c.args.s.now c.in-While.c c.in-While.body c.get-in-While.result.now c.in-While.is c.get-in-While.ensures in
+    subst (λ z. IfOk c.lower_while.result (λ to. to ≡ (written (program_in c.args.names.now) z c.args.exits (scope_in c.args.scope.now) c.args.from (lists_of c.args.lists.now)).to)) (sym is) c.lower_while.ensures.place
+
+pub lower_stmt-returns-in-While-clause-fails : goal.lower_stmt-returns-in-While-clause-fails
+lower_stmt-returns-in-While-clause-fails g t c =
+    let is = while_is c.args.s.now c.in-While.c c.in-While.body c.get-in-While.result.now c.in-While.is c.get-in-While.ensures in
+    subst (λ z. IfErr c.lower_while.result (λ why. NeedsMore why (written (program_in c.args.names.now) z c.args.exits (scope_in c.args.scope.now) c.args.from (lists_of c.args.lists.now)).lists.registers)) (sym is) c.lower_while.ensures.fails
+
+pub lower_stmt-returns-in-DoWhile-clause-scope : goal.lower_stmt-returns-in-DoWhile-clause-scope
+lower_stmt-returns-in-DoWhile-clause-scope g t c =
+    let is = do_is c.args.s.now c.in-DoWhile.c c.in-DoWhile.body c.get-in-DoWhile.result.now c.in-DoWhile.is c.get-in-DoWhile.ensures in
+    subst (λ z. OnOk c.lower_do_while.result (scope_in c.lower_do_while.new.scope ≡ locals_after z (scope_in c.args.scope.now))) (sym is) c.lower_do_while.ensures.scope
+
+pub lower_stmt-returns-in-DoWhile-clause-code : goal.lower_stmt-returns-in-DoWhile-clause-code
+lower_stmt-returns-in-DoWhile-clause-code g t c =
+    let is = do_is c.args.s.now c.in-DoWhile.c c.in-DoWhile.body c.get-in-DoWhile.result.now c.in-DoWhile.is c.get-in-DoWhile.ensures in
+    subst (λ z. OnOk c.lower_do_while.result (c.lower_do_while.new.code.items ≡ c.args.code.now.items ++ (written (program_in c.args.names.now) z c.args.exits (scope_in c.args.scope.now) c.args.from (lists_of c.args.lists.now)).code)) (sym is) c.lower_do_while.ensures.code
+
+pub lower_stmt-returns-in-DoWhile-clause-lists : goal.lower_stmt-returns-in-DoWhile-clause-lists
+lower_stmt-returns-in-DoWhile-clause-lists g t c =
+    let is = do_is c.args.s.now c.in-DoWhile.c c.in-DoWhile.body c.get-in-DoWhile.result.now c.in-DoWhile.is c.get-in-DoWhile.ensures in
+    subst (λ z. OnOk c.lower_do_while.result (lists_of c.lower_do_while.new.lists ≡ (written (program_in c.args.names.now) z c.args.exits (scope_in c.args.scope.now) c.args.from (lists_of c.args.lists.now)).lists)) (sym is) c.lower_do_while.ensures.lists
+
+pub lower_stmt-returns-in-DoWhile-clause-place : goal.lower_stmt-returns-in-DoWhile-clause-place
+lower_stmt-returns-in-DoWhile-clause-place g t c =
+    let is = do_is c.args.s.now c.in-DoWhile.c c.in-DoWhile.body c.get-in-DoWhile.result.now c.in-DoWhile.is c.get-in-DoWhile.ensures in
+    subst (λ z. IfOk c.lower_do_while.result (λ to. to ≡ (written (program_in c.args.names.now) z c.args.exits (scope_in c.args.scope.now) c.args.from (lists_of c.args.lists.now)).to)) (sym is) c.lower_do_while.ensures.place
+
+pub lower_stmt-returns-in-DoWhile-clause-fails : goal.lower_stmt-returns-in-DoWhile-clause-fails
+lower_stmt-returns-in-DoWhile-clause-fails g t c =
+    let is = do_is c.args.s.now c.in-DoWhile.c c.in-DoWhile.body c.get-in-DoWhile.result.now c.in-DoWhile.is c.get-in-DoWhile.ensures in
+    subst (λ z. IfErr c.lower_do_while.result (λ why. NeedsMore why (written (program_in c.args.names.now) z c.args.exits (scope_in c.args.scope.now) c.args.from (lists_of c.args.lists.now)).lists.registers)) (sym is) c.lower_do_while.ensures.fails
+
+pub lower_stmt-returns-in-Transaction-clause-scope : goal.lower_stmt-returns-in-Transaction-clause-scope
+lower_stmt-returns-in-Transaction-clause-scope g t c =
+    let is = transaction_is c.args.s.now c.in-Transaction.field-0 c.in-Transaction.body c.as_slice-all.result.now c.in-Transaction.field-2 c.in-Transaction.is c.as_slice-all.ensures in
+    subst (λ z. OnOk c.lower_transaction.result (scope_in c.lower_transaction.new.scope ≡ locals_after z (scope_in c.args.scope.now))) (sym is) c.lower_transaction.ensures.scope
+
+pub lower_stmt-returns-in-Transaction-clause-code : goal.lower_stmt-returns-in-Transaction-clause-code
+lower_stmt-returns-in-Transaction-clause-code g t c =
+    let is = transaction_is c.args.s.now c.in-Transaction.field-0 c.in-Transaction.body c.as_slice-all.result.now c.in-Transaction.field-2 c.in-Transaction.is c.as_slice-all.ensures in
+    subst (λ z. OnOk c.lower_transaction.result (c.lower_transaction.new.code.items ≡ c.args.code.now.items ++ (written (program_in c.args.names.now) z c.args.exits (scope_in c.args.scope.now) c.args.from (lists_of c.args.lists.now)).code)) (sym is) c.lower_transaction.ensures.code
+
+pub lower_stmt-returns-in-Transaction-clause-lists : goal.lower_stmt-returns-in-Transaction-clause-lists
+lower_stmt-returns-in-Transaction-clause-lists g t c =
+    let is = transaction_is c.args.s.now c.in-Transaction.field-0 c.in-Transaction.body c.as_slice-all.result.now c.in-Transaction.field-2 c.in-Transaction.is c.as_slice-all.ensures in
+    subst (λ z. OnOk c.lower_transaction.result (lists_of c.lower_transaction.new.lists ≡ (written (program_in c.args.names.now) z c.args.exits (scope_in c.args.scope.now) c.args.from (lists_of c.args.lists.now)).lists)) (sym is) c.lower_transaction.ensures.lists
+
+pub lower_stmt-returns-in-Transaction-clause-place : goal.lower_stmt-returns-in-Transaction-clause-place
+lower_stmt-returns-in-Transaction-clause-place g t c =
+    let is = transaction_is c.args.s.now c.in-Transaction.field-0 c.in-Transaction.body c.as_slice-all.result.now c.in-Transaction.field-2 c.in-Transaction.is c.as_slice-all.ensures in
+    subst (λ z. IfOk c.lower_transaction.result (λ to. to ≡ (written (program_in c.args.names.now) z c.args.exits (scope_in c.args.scope.now) c.args.from (lists_of c.args.lists.now)).to)) (sym is) c.lower_transaction.ensures.place
+
+pub lower_stmt-returns-in-Transaction-clause-fails : goal.lower_stmt-returns-in-Transaction-clause-fails
+lower_stmt-returns-in-Transaction-clause-fails g t c =
+    let is = transaction_is c.args.s.now c.in-Transaction.field-0 c.in-Transaction.body c.as_slice-all.result.now c.in-Transaction.field-2 c.in-Transaction.is c.as_slice-all.ensures in
+    subst (λ z. IfErr c.lower_transaction.result (λ why. NeedsMore why (written (program_in c.args.names.now) z c.args.exits (scope_in c.args.scope.now) c.args.from (lists_of c.args.lists.now)).lists.registers)) (sym is) c.lower_transaction.ensures.fails
+
+pub lower_if_else-lower_scoped-requires : goal.lower_if_else-lower_scoped-requires
+lower_if_else-lower_scoped-requires g t c κs within =
+    let size = simp the_lemmas at (ap (the_size g.row.A g.A.Allocator g.A.laws) c.requires.parts) in
+    (omega (arith, size, c.decreases), within)
+
+pub lower_if_else-lower_scoped-requires-2 : goal.lower_if_else-lower_scoped-requires-2
+lower_if_else-lower_scoped-requires-2 g t c κs within =
+    let size = simp the_lemmas at (ap (the_size g.row.A g.A.Allocator g.A.laws) c.requires.parts) in
+    (omega (arith, size, c.decreases), within)
