@@ -1,14 +1,17 @@
 #!/usr/bin/env python3
 """Measures what the gate costs, crate by crate, and keeps the table of docs/GATE.md.
 
-  scripts/gate_cost.py CRATE..                  measures crates one after another and adds a line for each to docs/gate_cost.csv
+  scripts/gate_cost.py --gate                   runs `rt ci` once, passes on what it prints, and adds a line for each crate to docs/gate_cost.csv
+  scripts/gate_cost.py CRATE..                  measures crates one after another in copies, and adds a line for each
   scripts/gate_cost.py --part check CRATE..     one part alone: check, tests or wrong (wrong bodies)
   scripts/gate_cost.py --table                  prints the table, from the last measurement of each part of each crate
   scripts/gate_cost.py --write                  puts the table into docs/GATE.md
 
-A crate is measured in a copy, from nothing, as the gate proves it; the crates below it are taken as they are in their out/
-folders (those that have none are proved first, outside of the measurement). Seconds are of processor, over all processes;
-memory is the most that any one process held. --jobs N is how many jobs a check gets (2).
+With --gate each process of the run is looked at five times a second, with all that it started, and counted to the crate and the part
+that it works for; what it takes after the last look is in the sum alone, which the system gives at the end.
+A crate that is measured alone is proved from nothing in a copy; the crates below it are taken as they are in their out/ folders
+(those that have none are proved first, outside of the measurement), with their proofs, where the gate reads their statements alone.
+Seconds are of processor, over all processes; memory is the most that any one process held. --jobs N is how many jobs a check gets (2).
 """
 
 import argparse
@@ -16,10 +19,12 @@ import csv
 import datetime
 import os
 import re
+import resource
 import shutil
 import subprocess
 import sys
 import tempfile
+import time
 
 TOP = os.path.dirname(os.path.dirname(os.path.abspath(__file__)))
 CSV = f"{TOP}/docs/gate_cost.csv"
@@ -118,6 +123,72 @@ def keep(row):
         writer.writerow(row)
 
 
+def text_of(pid, name):
+    try:
+        with open(f"/proc/{pid}/{name}", "rb") as file:
+            return file.read().decode(errors="replace")
+    except OSError:
+        return ""
+
+
+def work_of(pid):
+    """The crate and the part of the gate that a process works for; none where it is of no one crate."""
+    words = text_of(pid, "cmdline").split("\0")
+    try:
+        folder = os.readlink(f"/proc/{pid}/cwd")
+    except OSError:
+        return None
+    if "--crate-name" in words:
+        return words[words.index("--crate-name") + 1], "wrong" if "/rt-edit-" in folder else "tests" if "--test" in words else "check"
+    tests = [it[1] for it in (re.search(r"/bin/(\w+)_tests$", word) for word in words) if it]
+    return (tests[0], "tests") if tests else None
+
+
+def look(root, taken, most):
+    """Notes what each process that `root` started has taken so far, with all below it, in ticks, and the most kilobytes of any one."""
+    stats, below = {}, {}
+    for pid in filter(str.isdigit, os.listdir("/proc")):
+        stat = text_of(pid, "stat").rpartition(")")[2].split()
+        if stat:
+            stats[pid] = stat
+            below.setdefault(stat[1], []).append(pid)
+    for top in below.get(str(root), []):
+        work = work_of(top)
+        if work is None:
+            continue
+        ticks, line = 0, [top]
+        while line:
+            pid = line.pop()
+            line += below.get(pid, [])
+            ticks += sum(int(it) for it in stats[pid][11:15])
+            held = re.search(r"VmHWM:\s+(\d+)", text_of(pid, "status"))
+            most[work] = max(most.get(work, 0), int(held[1]) if held else 0)
+        key = top, stats[top][19], work
+        taken[key] = max(taken.get(key, 0), ticks)
+
+
+def gate():
+    """Runs the gate, keeps a line for each crate, and gives the gate's status."""
+    taken, most, start = {}, {}, time.monotonic()
+    run = subprocess.Popen(["rt", "ci"], cwd=TOP, stdin=subprocess.DEVNULL)
+    while run.poll() is None:
+        look(run.pid, taken, most)
+        time.sleep(0.2)
+    used = resource.getrusage(resource.RUSAGE_CHILDREN)
+    for crate in libraries():
+        folder = f"{TOP}/crates/{crate}/must-fail"
+        edits = [it for it in os.listdir(folder) if it.endswith(".edit")] if os.path.isdir(folder) else []
+        row = {"crate": crate, "wrong_bodies": len(edits)}
+        for part in ("check", "tests", "wrong"):
+            ticks = sum(it for key, it in taken.items() if key[2] == (crate, part))
+            row[f"{part}_s"] = round(ticks / os.sysconf("SC_CLK_TCK"))
+        row["peak_mb"] = round(max([most.get((crate, part), 0) for part in ("check", "tests", "wrong")]) / 1024)
+        keep(row)
+    minutes, seconds = round((time.monotonic() - start) / 60), used.ru_utime + used.ru_stime
+    print(f"the gate {'failed' if run.returncode else 'passed'} in {minutes} minutes, with {round(seconds / 60)} of processor")
+    return run.returncode
+
+
 def table():
     """The table, from the last value of each part; the memory is the most of the lines that gave these."""
     last, peaks = {}, {}
@@ -137,7 +208,7 @@ def table():
     for crate in sorted((it for it in peaks if it in crates), key=lambda it: -whole(last[it])):
         row, peak = last[crate], max(peaks[crate].values()) / 1024
         lines.append(
-            f"| `{crate}` | {shown(row, 'check_s')} | {shown(row, 'tests_s')} | {shown(row, 'wrong_bodies')} | {shown(row, 'wrong_s')} | {peak:.1f} | {row['commit']} |"
+            f"| `{crate}` | {shown(row, 'check_s')} | {shown(row, 'tests_s')} | {shown(row, 'wrong_bodies')} | {shown(row, 'wrong_s')} | {f'{peak:.1f}' if peak else 'not measured'} | {row['commit']} |"
         )
     rows = [last[it] for it in crates if it in last]
     sums = [sum(number(row, field) for row in rows) for field in ("check_s", "tests_s", "wrong_bodies", "wrong_s")]
@@ -165,19 +236,22 @@ def main():
     words.add_argument("crates", nargs="*")
     words.add_argument("--part", action="append", choices=["check", "tests", "wrong"])
     words.add_argument("--jobs", type=int, default=2)
+    words.add_argument("--gate", action="store_true")
     words.add_argument("--table", action="store_true")
     words.add_argument("--write", action="store_true")
     given = words.parse_args()
     unknown = [it for it in given.crates if it not in libraries()]
     if unknown:
         sys.exit(f"crates.txt names no {', '.join(unknown)}")
+    status = gate() if given.gate else 0
     for crate in given.crates:
         keep(measured(crate, given.part or ["check", "tests", "wrong"], given.jobs))
     if given.table:
         print(table(), end="")
     if given.write:
         write()
+    return status
 
 
 if __name__ == "__main__":
-    main()
+    sys.exit(main())
