@@ -54,8 +54,10 @@ impl<A: Allocator + Copy> Saved<A> {
         ensures ok { OnOk result (self.new ≡ record { registers = registers.now; frames = frames; place = place }) }
         ensures err { OnErr result (self.new ≡ self.old) }
     {
-        let more = registers.len().saturating_sub(self.registers.len());
-        self.registers.reserve(more)?;
+        if self.registers.capacity() < registers.len() {
+            let more = registers.len().saturating_sub(self.registers.len());
+            self.registers.reserve(more)?;
+        }
         refill(&mut self.registers, registers);
         self.frames = frames;
         self.place = place;

@@ -7,7 +7,7 @@ use Rattle.std.proofs.lemmas.List.Edits.{length-insert, get_or-insert_below, get
 use Rattle.std.proofs.lemmas.List.Sums.{position_or_len_is}
 use Rattle.std.proofs.Math.Nat.{pow-suc}
 use Rattle.write_log.specs.Overlay.{Lacks, IsDistinct}
-use Rattle.write_log.specs.inner.Order.{IsPlace, IsFound, IsRising, IsOrderOf, AreBetween, IsSearched}
+use Rattle.write_log.specs.inner.Order.{IsPlace, IsFound, IsRising, IsOrderOf, AreBetween, IsAbove, IsSearched}
 use Rattle.write_log.proofs.Places.{lacks_all, lacks_at}
 
 -- ---- searching
@@ -85,9 +85,9 @@ outside a least greatest ps b out = lacks_all a ps (λ i l e. at i (b i l) e out
     at i h e (inr l) = omega arith
 
 -- one above them would be inserted at the end
-pub above_all : (a least greatest : ℕ) (ps order : List (ℕ × ℕ)) → IsOrderOf ps order → AreBetween least greatest ps → greatest < a → IsSearched a order (Err (length order))
-above_all a least greatest ps order o b lt =
-    (omega arith, (λ j l. let p = o.here j l in let q = b (get_or order j (0, 0)).1 p.0 in omega (arith, p.1)), (λ j le l. absurd (omega arith)))
+pub above_all : (a : ℕ) (ps order : List (ℕ × ℕ)) → IsOrderOf ps order → IsAbove a ps → IsSearched a order (Err (length order))
+above_all a ps order o over =
+    (omega arith, (λ j l. let p = o.here j l in let q = over (get_or order j (0, 0)).1 p.0 in omega (arith, p.1)), (λ j le l. absurd (omega arith)))
 
 -- the place that was found is the first, since no other has the address
 before_place : (a : ℕ) (ps : List (ℕ × ℕ)) (i k : ℕ) → IsDistinct ps → IsPlace a ps i → k < i → (get_or ps k (0, 0)).0 ≢ a
@@ -265,5 +265,5 @@ last_found p ps order k o h =
     lacks_at p.0 (ps ++ p ∷ []) (length ps) (missing p.0 (ps ++ p ∷ []) order k o h) (omega (arith, length_push ps p)) (ap (λ y. y.0) (get_or_push ps p (0, 0) (length ps) refl))
 
 -- a pair added above all others
-pub between-above : (a v least greatest : ℕ) (ps : List (ℕ × ℕ)) → greatest < a → AreBetween least greatest ps → AreBetween (min least a) a (ps ++ (a, v) ∷ [])
-between-above a v least greatest ps lt b i l = let h = between-added a v least greatest ps b i l in (h.0, omega (arith, h.1))
+pub between-above : (a v least greatest : ℕ) (ps : List (ℕ × ℕ)) → IsAbove a ps → AreBetween least greatest ps → AreBetween (min least a) a (ps ++ (a, v) ∷ [])
+between-above a v least greatest ps over b i l = let h = between-added a v least a ps (λ j m. ((b j m).0, omega (arith, over j m))) i l in (h.0, omega (arith, h.1))

@@ -1,9 +1,9 @@
 //! The pairs of a write log in order of first write, with their order by address.
 
-ghost use Rattle.std.specs.Prelude.{◌≡◌, ◌+◌, ◌<◌, ◌≤◌, ◌^◌, [], OnOk, OnErr, length, vec_len, vec_capacity};
+ghost use Rattle.std.specs.Prelude.{◌≡◌, true, ◌+◌, ◌<◌, ◌≤◌, ◌^◌, [], OnOk, OnErr, length, vec_len, vec_capacity};
 ghost use Rattle.std.specs.List.{slice_get, insert};
 ghost use Rattle.write_log.specs.Overlay.{put, IsDistinct};
-ghost use Rattle.write_log.specs.inner.Order.{IsRising, IsSearched, IsFound, IsWithinDigits};
+ghost use Rattle.write_log.specs.inner.Order.{IsAbove, IsRising, IsSearched, IsFound, IsWithinDigits};
 ghost use Rattle.write_log.specs.inner.Journal.{undone, CanUndo};
 
 use crate::looks::Looks;
@@ -101,6 +101,21 @@ fn insert_reserved<A: Allocator>(order: &mut Vec<(u32, usize), A>, at: usize, en
     }
 }
 
+/// Makes room for one more item. It is a test where there is some, and no call.
+#[inline(always)]
+pub fn reserve_one<T, A: Allocator>(list: &mut Vec<T, A>) -> Result<(), AllocError>
+    ensures items { list.new.items ≡ list.old.items }
+    ensures room { vec_capacity list.old ≤ vec_capacity list.new }
+    ensures ok { OnOk result (vec_len list.new < vec_capacity list.new) }
+    ensures err { OnErr result (vec_capacity list.new ≡ vec_capacity list.old) }
+    ensures full { OnErr result (vec_capacity list.old ≡ vec_len list.old) }
+{
+    if list.len() < list.capacity() {
+        return Ok(());
+    }
+    list.reserve(1)
+}
+
 impl<A: Allocator + Copy> Pairs<A> {
     /// No pairs. It takes no memory yet.
     pub fn new(alloc: A) -> Pairs<A>
@@ -122,8 +137,8 @@ impl<A: Allocator + Copy> Pairs<A> {
         ensures err { OnErr result (self.new ≡ self.old) }
         ensures full { OnErr result (self.old.room ≡ 0) }
     {
-        self.list.reserve(1)?;
-        self.order.reserve(1)
+        reserve_one(&mut self.list)?;
+        reserve_one(&mut self.order)
     }
 
     /// The place of an address, if any.
@@ -141,6 +156,14 @@ impl<A: Allocator + Copy> Pairs<A> {
         }
     }
 
+    // Whether an address is above all others, as is known without a search.
+    #[inline(always)]
+    fn is_above(&self, address: u32) -> bool
+        ensures { result ≡ true → IsAbove address self.now.pairs }
+    {
+        self.list.is_empty() || self.greatest < address
+    }
+
     /// Writes a word at an address, and answers what that changed. An address above all others needs no search.
     pub fn put(&mut self, address: u32, word: u64) -> Change
         requires { 0 < self.old.room }
@@ -149,7 +172,7 @@ impl<A: Allocator + Copy> Pairs<A> {
         ensures can_undo { CanUndo result self.new.pairs }
         ensures room { self.old.room ≤ self.new.room + 1 }
     {
-        if self.greatest < address {
+        if self.is_above(address) {
             self.order.push_reserved((address, self.list.len()));
             self.list.push_reserved((address, word));
             self.least = self.least.min(address);

@@ -34,6 +34,10 @@ abbrev pub AreBetween : ℕ → ℕ → List (ℕ × ℕ) → Type 0
 AreBetween least greatest ps = (i : ℕ) → i < length ps →
     (least ≤ (slice_index_or ps i (0, 0)).0) × ((slice_index_or ps i (0, 0)).0 ≤ greatest)
 
+-- an address is above those of all pairs
+abbrev pub IsAbove : ℕ → List (ℕ × ℕ) → Type 0
+IsAbove a ps = (i : ℕ) → i < length ps → (slice_index_or ps i (0, 0)).0 < a
+
 -- where an order has an address, or where it would be inserted
 abbrev pub IsSearched : ℕ → List (ℕ × ℕ) → Result ℕ ℕ → Type 0
 IsSearched a order (Ok k) = (k < length order) × ((slice_index_or order k (0, 0)).0 ≡ a)
