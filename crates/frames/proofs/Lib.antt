@@ -20,5 +20,5 @@ mod Telling
 mod Laying
 -- the moves, as the frames lie
 mod Moves
+
 -- steps of the frames, one after the other
-mod Passing

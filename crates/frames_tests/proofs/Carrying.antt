@@ -1,8 +1,8 @@
 -- Where a thread that is carried on may stand.
-use Rattle.std.proofs.Common.{◌≡◌, ℕ, ◌<◌, ◌^◌, List, [], ◌∷◌, Some, Result, Ok, Err, sym, ap, refl, ◌∙◌, subst}
+use Rattle.std.proofs.Common.{◌≡◌, ℕ, ◌<◌, ◌^◌, List, [], ◌∷◌, Some, Result, Ok, Err, sym, refl, ◌∙◌, subst}
 use Rattle.std.specs.Prelude.{IfOk}
 use Rattle.bytecode.specs.Effects.{Effect}
-use Rattle.bytecode.specs.Code.{Code, Configuration, Frame, effect, onward, setting, returned}
+use Rattle.bytecode.specs.Code.{Code, Configuration, effect, onward, setting, returned}
 use Rattle.bytecode.specs.Beginning.{beginning}
 use Rattle.bytecode.specs.Valid.{IsValid}
 use Rattle.local_steps.specs.Local.{after_local}

@@ -68,14 +68,32 @@ fn carry_out<A: Allocator + Copy>(
     Ok(true)
 }
 
-// Steps in the frames, at most 1,000 of them: how many they were.
-fn go_far<A: Allocator + Copy>(frames: &mut Frames<A>, code: &Code<A>) -> u64
+// Local steps, at most 1,000, and the call or the return that stands there then: how many they were, and whether there was one.
+fn go_once<A: Allocator + Copy>(frames: &mut Frames<A>, code: &Code<A>) -> (u64, bool)
     requires { IsConfigurationOf code.now frames.old.configuration }
     ensures { IsConfigurationOf code.now frames.new.configuration }
 {
     // The prover learns here that the code is valid.
     let _parts = code.parts();
-    frames.advance(code, 1000)
+    let made = frames.advance(code, 1000);
+    (made, frames.pass(code))
+}
+
+// Steps in the frames, as far as they go: how many they were.
+fn go_far<A: Allocator + Copy>(frames: &mut Frames<A>, code: &Code<A>) -> u64
+    requires { IsConfigurationOf code.now frames.old.configuration }
+    ensures { IsConfigurationOf code.now frames.new.configuration }
+{
+    let mut made: u64 = 0;
+    'passes: for _ in 0..1000u64 {
+        let (local, passed) = go_once(frames, code);
+        made = made.saturating_add(local);
+        if !passed {
+            return made;
+        }
+        made = made.saturating_add(1);
+    }
+    made
 }
 
 // A thread at its beginning.

@@ -315,15 +315,24 @@ fn printed<A: Allocator + Copy>(
     }
 }
 
-// The same where a function `f` begins at 2.
+// The same where a function `f` begins at this place.
+fn calls_from<A: Allocator + Copy>(
+    alloc: A,
+    instructions: &[Instr],
+    first: u32,
+) -> Option<(Doing, u64, Option<u64>, Option<u64>)> {
+    match code_of_two(alloc, instructions, first) {
+        None => None,
+        Some(code) => prints(alloc, &code, ""),
+    }
+}
+
+// The same where it begins at 2.
 fn calls<A: Allocator + Copy>(
     alloc: A,
     instructions: &[Instr],
 ) -> Option<(Doing, u64, Option<u64>, Option<u64>)> {
-    match code_of_two(alloc, instructions, 2) {
-        None => None,
-        Some(code) => prints(alloc, &code, ""),
-    }
+    calls_from(alloc, instructions, 2)
 }
 
 // The same without the number of steps: how many of the calls are made in the frames depends on the room that a growth makes.
@@ -364,6 +373,18 @@ fn calls_return_what_they_give(rt: HostRuntime) -> Result<(), Fail> {
     assert_eq!(rt;
         calls(rt.alloc(), &instructions),
         Some((Doing::End, 2, Some(5), Some(4294967291)))
+    );
+    // The second call finds the room that was made for the first, so that it is a step in the frames.
+    let again = [
+        Instr::Call(1, 1, 1, 0),
+        Instr::Call(1, 1, 1, 0),
+        Instr::Return,
+        Instr::NegateUnsigned(0, 0),
+        Instr::ReturnValue(0),
+    ];
+    assert_eq!(rt;
+        calls_from(rt.alloc(), &again, 3),
+        Some((Doing::End, 5, Some(5), Some(4294967291)))
     );
     Ok(())
 }

@@ -1,6 +1,6 @@
 //! A thread of the machine.
 
-ghost use Rattle.std.specs.Prelude.{◌≡◌, ◌+◌, ◌<◌, ◌≤◌, ◌^◌, ◌↔◌, ℕ, [], None, Some, true, false, IfOk, IfSome, OnOk};
+ghost use Rattle.std.specs.Prelude.{◌≡◌, ◌+◌, ◌<◌, ◌≤◌, ◌^◌, ◌↔◌, ℕ, [], None, Some, true, false, IfOk, IfNone, IfSome, OnOk};
 ghost use Rattle.bytecode.specs.Beginning.{beginning};
 ghost use Rattle.bytecode.specs.Code.{effect};
 ghost use Rattle.norec_core.specs.Accesses.{IsAnswerTo, cost, stops};
@@ -58,6 +58,14 @@ fn cost_of(prepared: Option<Access>) -> u64
     }
 }
 
+// What stands to be done where no step is made of so many.
+fn idle(most: u64) -> Option<Doing>
+    ensures all { IfNone result (0 ≡ most) }
+    ensures local { IfSome result (λ doing. (0 < most) × (doing ≡ Doing.Local)) }
+{
+    if most == 0 { None } else { Some(Doing::Local) }
+}
+
 impl<A: Allocator + Copy> Thread<A> {
     /// Thread `number` at its beginning. The error comes only where memory is refused.
     pub fn new<B: Allocator>(alloc: A, code: &Code<B>, number: u32) -> Result<Thread<A>, AllocError>
@@ -99,12 +107,14 @@ impl<A: Allocator + Copy> Thread<A> {
 
     /// Makes local steps, at most so many: those in its registers and frames, calls and returns too, writes in a transaction, and
     /// commits that make no access. It ends before the first instruction that does something else, or that wants memory which is
-    /// refused: how many steps it made, and what stands there to be done.
-    pub fn advance<B: Allocator>(&mut self, code: &Code<B>, most: u64) -> (u64, Doing)
+    /// refused: how many steps it made, and where they are fewer what stands there to be done.
+    #[inline(always)]
+    pub fn advance<B: Allocator>(&mut self, code: &Code<B>, most: u64) -> (u64, Option<Doing>)
         requires { IsThreadOf code.now self.old.thread }
         ensures steps { Replays (effect code.now) self.old.thread result.0 [] self.new.thread }
         ensures count { result.0 ≤ most }
-        ensures stands { StandsAt code.now self.new result.1 }
+        ensures all { IfNone result.1 (result.0 ≡ most) }
+        ensures stands { IfSome result.1 (λ doing. (result.0 < most) × StandsAt code.now self.new doing) }
         ensures of { IsThreadOf code.now self.new.thread }
         ensures accesses { self.new.accesses ≡ self.old.accesses }
     {
@@ -112,8 +122,8 @@ impl<A: Allocator + Copy> Thread<A> {
         let _valid = code.parts();
         match self.held.status {
             Status::Running => self.held.advance(code, most),
-            Status::Ended => (0, Doing::Local),
-            Status::Trapped(_) => (0, Doing::Local),
+            Status::Ended => (0, idle(most)),
+            Status::Trapped(_) => (0, idle(most)),
         }
     }
 

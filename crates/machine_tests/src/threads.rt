@@ -235,7 +235,10 @@ fn reads<A: Allocator + Copy>(thread: &mut Thread<A>, code: &Code<A>, word: u32,
 }
 
 // What stands there after a begin at the lock value 2, a whole read of 7, and all local steps, and how many these are.
-fn reads_on<A: Allocator + Copy>(thread: &mut Thread<A>, code: &Code<A>) -> Option<(u64, Doing)>
+fn reads_on<A: Allocator + Copy>(
+    thread: &mut Thread<A>,
+    code: &Code<A>,
+) -> Option<(u64, Option<Doing>)>
     requires { IsThreadOf code.now thread.old.thread }
 {
     let begins = step(thread, code, 2, 0);
@@ -246,7 +249,7 @@ fn reads_on<A: Allocator + Copy>(thread: &mut Thread<A>, code: &Code<A>) -> Opti
 }
 
 // The same of a new thread.
-fn reads_first<A: Allocator + Copy>(alloc: A, code: &Code<A>) -> Option<(u64, Doing)> {
+fn reads_first<A: Allocator + Copy>(alloc: A, code: &Code<A>) -> Option<(u64, Option<Doing>)> {
     match begun(alloc, code) {
         Some(mut thread) => reads_on(&mut thread, code),
         None => None,
@@ -254,7 +257,7 @@ fn reads_first<A: Allocator + Copy>(alloc: A, code: &Code<A>) -> Option<(u64, Do
 }
 
 // The same of one of these instructions.
-fn reads_of(inner: Global, instructions: &[Instr]) -> Option<(u64, Doing)> {
+fn reads_of(inner: Global, instructions: &[Instr]) -> Option<(u64, Option<Doing>)> {
     match code_of_worker(inner, 2, instructions) {
         Some(code) => reads_first(inner, &code),
         None => None,
@@ -269,7 +272,7 @@ fn a_read_is_made_whole_and_what_follows_is_local(rt: HostRuntime) -> Result<(),
         Instr::Commit,
         Instr::Return,
     ];
-    assert_eq!(rt; reads_of(rt.alloc(), &reader), Some((1, Doing::End)));
+    assert_eq!(rt; reads_of(rt.alloc(), &reader), Some((1, Some(Doing::End))));
     let writer = [
         Instr::Begin(4),
         Instr::Read(1, 0),
@@ -277,7 +280,10 @@ fn a_read_is_made_whole_and_what_follows_is_local(rt: HostRuntime) -> Result<(),
         Instr::Commit,
         Instr::Return,
     ];
-    assert_eq!(rt; reads_of(rt.alloc(), &writer), Some((1, Doing::Commit)));
+    assert_eq!(rt;
+        reads_of(rt.alloc(), &writer),
+        Some((1, Some(Doing::Commit)))
+    );
     Ok(())
 }
 

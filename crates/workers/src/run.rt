@@ -349,8 +349,8 @@ fn memory(words: Vec<u64>, held: Option<u32>) -> RunMemory
 /// Runs each thread of the code in a thread of the program's own, with so many steps each, and waits until all of them are over,
 /// have made their steps or were stopped. Nothing else here waits. The report is one run of every program that the code means.
 ///
-/// A fault is `Threads` exactly where the number is not 1 to 64; `NotStarted` where a thread could not be started, in which
-/// case those that were are waited for; `OutOfMemory` where a growth was refused.
+/// A fault is `Threads` only where the number is not 1 to 64; `NotStarted` where a thread could not be started, in which case
+/// those that were are waited for; `OutOfMemory` where a growth was refused.
 pub fn run_all<R: Threads + Wait + Sync, G: Gate + Sync>(
     rt: &R,
     alloc: Global,

@@ -1,6 +1,6 @@
 //! One thread of the machine, with its seat at the table.
 
-ghost use Rattle.std.specs.Prelude.{◌≡◌, ◌+◌, ◌^◌, ◌<◌, ◌≤◌, ℕ, true, false, OnOk, OnErr, IfOk, IfErr};
+ghost use Rattle.std.specs.Prelude.{◌≡◌, ◌+◌, ◌^◌, ◌<◌, ◌≤◌, ℕ, true, false, OnOk, OnErr, IfErr, IfNone, IfOk, IfSome};
 ghost use Rattle.atomic_table.specs.Seated.{TableId};
 ghost use Rattle.bytecode.specs.Code.{effect};
 ghost use Rattle.bytecode.specs.Valid.{cells_of};
@@ -43,15 +43,16 @@ pub enum Status {
 impl<A: Allocator + Copy> Worker<A> {
     ghost use Rattle.workers.specs.Workers.{IsWorkerOf, StepsOn, FloorsAt, Reports};
 
-    // Local steps of the thread, at most so many: what is to be done then.
+    // Local steps of the thread, at most so many: where they are fewer what is to be done then.
     #[inline(always)]
-    fn advance(&mut self, code: &Code<A>, most: u64) -> Doing
+    fn advance(&mut self, code: &Code<A>, most: u64) -> Option<Doing>
         requires of { IsThreadOf code.now self.old.thread.thread }
         requires room { self.old.steps + most < 2 ^ 64 }
         ensures number { self.new.number ≡ self.old.number }
         ensures goes_on { (z : TableId) (key : Setup) → key.code ≡ code.now → StepsOn z key self.old self.new }
         ensures steps { (self.old.steps ≤ self.new.steps) × (self.new.steps ≤ self.old.steps + most) }
-        ensures stands { StandsAt code.now self.new.thread result }
+        ensures all { IfNone result (self.new.steps ≡ self.old.steps + most) }
+        ensures stands { IfSome result (λ doing. (self.new.steps < self.old.steps + most) × StandsAt code.now self.new.thread doing) }
     {
         let (made, doing) = self.thread.advance(code, most);
         self.steps += made;
@@ -250,26 +251,20 @@ impl<A: Allocator + Copy> Worker<A> {
         }
     }
 
-    // Steps of the thread in which this is to be done, one by one, at most so many, and one at least.
+    // Steps of the thread in which the same is to be done, one by one, at most so many, and one at least.
     #[inline(never)]
-    fn go_through(
-        &mut self,
-        words: &Words<A>,
-        code: &Code<A>,
-        doing: Doing,
-        most: u64,
-    ) -> Result<(), Stop>
+    fn go_through(&mut self, words: &Words<A>, code: &Code<A>, most: u64) -> Result<(), Stop>
         requires table { words.now.table_id.words ≡ cells_of code.now + 1 }
         requires code { words.now.key.code ≡ code.now }
         requires worker { IsWorkerOf words.now.table_id words.now.key self.old }
         requires room { self.old.steps + most < 2 ^ 64 }
         requires some { 0 < most }
-        requires stands { StandsAt code.now self.old.thread doing }
         ensures goes_on { (self.new.number ≡ self.old.number) × StepsOn words.now.table_id words.now.key self.old self.new }
         ensures steps { (self.old.steps ≤ self.new.steps) × (self.new.steps ≤ self.old.steps + most) }
         ensures ok { OnOk result (self.old.steps < self.new.steps) }
         ensures stop { IfErr result (λ e. Because e (access_of (effect code.now) self.new.thread.thread)) }
     {
+        let doing = self.thread.doing(code);
         'steps: for made in 0..most {
             let again = self.step_at(words, code, doing)?;
             if !again {
@@ -302,7 +297,7 @@ impl<A: Allocator + Copy> Worker<A> {
         if self.complete(words, code, doing, most) {
             return Ok(());
         }
-        self.go_through(words, code, doing, most)
+        self.go_through(words, code, most)
     }
 
     // How its thread is, after all steps of a budget.
@@ -337,12 +332,15 @@ impl<A: Allocator + Copy> Worker<A> {
                 ThreadStatus::Ended => return Ok(Status::Ended),
                 ThreadStatus::Trapped(cause) => return Ok(Status::Trapped(cause)),
             }
-            let doing = self.advance(hall.setup.code(), end - self.steps);
-            let left = end - self.steps;
-            if left == 0 {
+            let Some(doing) = self.advance(hall.setup.code(), end - self.steps) else {
                 return Ok(self.reported());
-            }
-            self.operate(&hall.table.shared, hall.setup.code(), doing, left)?;
+            };
+            self.operate(
+                &hall.table.shared,
+                hall.setup.code(),
+                doing,
+                end - self.steps,
+            )?;
         }
         Ok(self.reported())
     }

@@ -1,4 +1,4 @@
-use Rattle.std.proofs.Common.{ℕ, ◌<◌, ◌^◌, arith}
+use Rattle.std.proofs.Common.{◌<◌, ◌^◌, arith}
 use Rattle.frames.specs.Stack.{Stack}
 use Rattle.frames.specs.Open.{IsConfigurationOf}
 use Rattle.bytecode.specs.Beginning.{beginning}

@@ -8,7 +8,7 @@ steps-init g c = record {
   steps = sym (add-zero c.args.self.now.steps);
   number = refl;
   goes_on = stays c.args.words.now.table_id c.args.words.now.key c.args.self.now;
-  stands = c.requires.stands;
+  stands = c.doing-doing.ensures;
 }
 
 pub returns-in_err-again-clause-goes_on : goal.returns-in_err-again-clause-goes_on

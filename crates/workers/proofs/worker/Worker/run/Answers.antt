@@ -13,28 +13,28 @@ turns-init g c = record {
   goes_on = stays c.args.hall.now.table.shared.table_id c.args.hall.now.setup c.args.self.now;
 }
 
-pub returns-then-left-eq0-clause-worker : goal.returns-then-left-eq0-clause-worker
-returns-then-left-eq0-clause-worker g c = (c.advance-doing.ensures.goes_on c.args.hall.now.table.shared.table_id c.args.hall.now.setup (sym c.code.ensures) c.turns.invariant.worker).0
+pub returns-in_default-clause-worker : goal.returns-in_default-clause-worker
+returns-in_default-clause-worker g c = (c.advance.ensures.goes_on c.args.hall.now.table.shared.table_id c.args.hall.now.setup (sym c.code.ensures) c.turns.invariant.worker).0
 
-pub returns-then-left-eq0-clause-goes_on : goal.returns-then-left-eq0-clause-goes_on
-returns-then-left-eq0-clause-goes_on g c =
+pub returns-in_default-clause-goes_on : goal.returns-in_default-clause-goes_on
+returns-in_default-clause-goes_on g c =
     let z = c.args.hall.now.table.shared.table_id in
     let key = c.args.hall.now.setup in
-    (c.advance-doing.ensures.number ∙ c.turns.invariant.number, further z key c.args.self.now c.turns.self c.advance-doing.new.self c.turns.invariant.goes_on (c.advance-doing.ensures.goes_on z key (sym c.code.ensures)))
+    (c.advance.ensures.number ∙ c.turns.invariant.number, further z key c.args.self.now c.turns.self c.advance.new.self c.turns.invariant.goes_on (c.advance.ensures.goes_on z key (sym c.code.ensures)))
 
 pub operate-requires-clause-worker : goal.operate-requires-clause-worker
 operate-requires-clause-worker g c =
     let z = c.args.hall.now.table.shared.table_id in
-    subst (λ (k : Setup). IsWorkerOf z k c.advance-doing.new.self) (sym c.args.hall.now.key) (c.advance-doing.ensures.goes_on z c.args.hall.now.setup (sym c.code.ensures) c.turns.invariant.worker).0
+    subst (λ (k : Setup). IsWorkerOf z k c.advance.new.self) (sym c.args.hall.now.key) (c.advance.ensures.goes_on z c.args.hall.now.setup (sym c.code.ensures) c.turns.invariant.worker).0
 
 pub turns-preserved : goal.turns-preserved
 turns-preserved g c =
     let z = c.args.hall.now.table.shared.table_id in
     let key = c.args.hall.now.setup in
-    let go = c.advance-doing.ensures.goes_on z key (sym c.code.ensures) in
-    let one = subst (λ (k : Setup). StepsOn z k c.advance-doing.new.self c.operate.new.self) c.args.hall.now.key c.operate.ensures.goes_on.1 in
-    let a = c.advance-doing.ensures.steps.0 in
-    let b = c.advance-doing.ensures.steps.1 in
+    let go = c.advance.ensures.goes_on z key (sym c.code.ensures) in
+    let one = subst (λ (k : Setup). StepsOn z k c.advance.new.self c.operate.new.self) c.args.hall.now.key c.operate.ensures.goes_on.1 in
+    let a = c.advance.ensures.steps.0 in
+    let b = c.advance.ensures.steps.1 in
     let d = c.operate.ensures.steps.0 in
     let e = c.operate.ensures.steps.1 in
     let few = c.turns.invariant.few in
@@ -43,24 +43,24 @@ turns-preserved g c =
       worker = (one (go c.turns.invariant.worker).0).0;
       some = omega (arith, a, d, some);
       few = omega (arith, a, b, d, e, few, some);
-      number = c.operate.ensures.goes_on.0 ∙ c.advance-doing.ensures.number ∙ c.turns.invariant.number;
-      goes_on = further z key c.args.self.now c.advance-doing.new.self c.operate.new.self (further z key c.args.self.now c.turns.self c.advance-doing.new.self c.turns.invariant.goes_on go) one;
+      number = c.operate.ensures.goes_on.0 ∙ c.advance.ensures.number ∙ c.turns.invariant.number;
+      goes_on = further z key c.args.self.now c.advance.new.self c.operate.new.self (further z key c.args.self.now c.turns.self c.advance.new.self c.turns.invariant.goes_on go) one;
     }
 
 pub returns-in_err-operate-clause-worker : goal.returns-in_err-operate-clause-worker
 returns-in_err-operate-clause-worker g c =
     let z = c.args.hall.now.table.shared.table_id in
     let key = c.args.hall.now.setup in
-    let go = c.advance-doing.ensures.goes_on z key (sym c.code.ensures) in
-    let one = subst (λ (k : Setup). StepsOn z k c.advance-doing.new.self c.operate.new.self) c.args.hall.now.key c.operate.ensures.goes_on.1 in
+    let go = c.advance.ensures.goes_on z key (sym c.code.ensures) in
+    let one = subst (λ (k : Setup). StepsOn z k c.advance.new.self c.operate.new.self) c.args.hall.now.key c.operate.ensures.goes_on.1 in
     (one (go c.turns.invariant.worker).0).0
 
 pub returns-in_err-operate-clause-goes_on : goal.returns-in_err-operate-clause-goes_on
 returns-in_err-operate-clause-goes_on g c =
     let z = c.args.hall.now.table.shared.table_id in
     let key = c.args.hall.now.setup in
-    let go = c.advance-doing.ensures.goes_on z key (sym c.code.ensures) in
-    let one = subst (λ (k : Setup). StepsOn z k c.advance-doing.new.self c.operate.new.self) c.args.hall.now.key c.operate.ensures.goes_on.1 in (
-      c.operate.ensures.goes_on.0 ∙ c.advance-doing.ensures.number ∙ c.turns.invariant.number,
-      further z key c.args.self.now c.advance-doing.new.self c.operate.new.self (further z key c.args.self.now c.turns.self c.advance-doing.new.self c.turns.invariant.goes_on go) one,
+    let go = c.advance.ensures.goes_on z key (sym c.code.ensures) in
+    let one = subst (λ (k : Setup). StepsOn z k c.advance.new.self c.operate.new.self) c.args.hall.now.key c.operate.ensures.goes_on.1 in (
+      c.operate.ensures.goes_on.0 ∙ c.advance.ensures.number ∙ c.turns.invariant.number,
+      further z key c.args.self.now c.advance.new.self c.operate.new.self (further z key c.args.self.now c.turns.self c.advance.new.self c.turns.invariant.goes_on go) one,
     )
