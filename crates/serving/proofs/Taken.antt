@@ -27,3 +27,10 @@ all_taken n xs ys is short =
 pub text_taken : {A : Type 0} (known : Option (List ℕ)) (n : ℕ) (ys : List ℕ) (s : Source A) → IfSome known (λ xs. ys ≡ take n xs) → length ys < n → IsTextOf ys s → IfSome known (λ xs. IsTextOf xs s)
 text_taken None n ys s is short text = tt
 text_taken (Some xs) n ys s is short text = subst (λ zs. IsTextOf zs s) (all_taken n xs ys is short) text
+
+-- what was read is no longer than what there is
+pub as_long : (known : Option (List ℕ)) (n most : ℕ) (ys : List ℕ) → IfSome known (λ xs. ys ≡ take n xs) → most < length ys → IfSome known (λ xs. most < length xs)
+as_long None n most ys is long = tt
+as_long (Some xs) n most ys is long =
+    let counted : length ys ≡ min n (length xs) = ap length is ∙ length-take n xs in
+    omega (arith, counted, long)

@@ -53,6 +53,7 @@ pub fn serve<H: Threads + Wait + Sync, R: Read + Drop, S: Read + Drop, W: Write,
 ) -> u8
     ensures status { result ≤ 4 }
     ensures answer { IfSome (R.remaining source) (λ bytes. AnswersRequest request.now (S.remaining schedule) bytes result (W.contents out.old) (W.contents out.new)) }
+    ensures refused { result ≡ 1 → IfSome (R.remaining source) (λ bytes. IsRefused bytes) }
 {
     match request {
         Request::Program {
@@ -94,6 +95,7 @@ fn serve_program<H: Threads + Wait + Sync, R: Read + Drop, S: Read + Drop, W: Wr
 ) -> u8
     ensures status { result ≤ 4 }
     ensures answer { IfSome (R.remaining source) (λ bytes. Answers task.now (S.remaining schedule) bytes result (W.contents out.old) (W.contents out.new)) }
+    ensures refused { result ≡ 1 → IfSome (R.remaining source) (λ bytes. IsRefused bytes) }
 {
     match read_source(alloc, source) {
         Ok(Source::Text(text)) => work(rt, alloc, task, text.as_str(), schedule, detail, out, err),
@@ -116,6 +118,7 @@ fn work<H: Threads + Wait + Sync, S: Read + Drop, W: Write, E: Write>(
 ) -> u8
     ensures status { result ≤ 4 }
     ensures answer { Answers task.now (S.remaining schedule) text.now result (W.contents out.old) (W.contents out.new) }
+    ensures refused { result ≡ 1 → IsRefused text.now }
 {
     match task {
         Task::Check => check(alloc, text, detail, out, err),
@@ -410,7 +413,7 @@ fn print_timeline<A: Allocator + Copy, W: Write, E: Write>(
 
 /// Says what a fault means.
 fn explain<W: Write, E: Write>(number: u32, out: &mut W, err: &mut E) -> u8
-    ensures { result ≤ 4 }
+    ensures { (result ≡ 0) ⊎ (result ≡ 2) ⊎ (result ≡ 4) }
 {
     match explanation(number) {
         Some(text) => print_text(text.as_bytes(), out, err),
