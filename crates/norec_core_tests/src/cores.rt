@@ -5,7 +5,6 @@ ghost use Rattle.norec_core.specs.Accesses.{IsAnswerTo};
 use norec_core::{Access, Answer, Core, Op, Outcome, Stop};
 use refusing::Refusing;
 use std::alloc::Allocator;
-use std::test::Fail;
 
 // The answer of an access that finds this value in the lock or the word.
 fn answer_to(access: Access, found: u64) -> Answer
@@ -34,13 +33,13 @@ fn step<A: Allocator + Copy>(
 type Row = (Op, u64, Access, Outcome);
 
 // Whether each of these steps is played so. The rows stand in functions, so that no proof but theirs looks at them.
-fn plays<A: Allocator + Copy>(core: &mut Core<A>, rows: &[Row]) -> Result<bool, Stop> {
+fn plays<A: Allocator + Copy>(core: &mut Core<A>, rows: &[Row]) -> bool {
     for row in rows {
-        if step(core, row.0, row.1)? != (row.2, row.3) {
-            return Ok(false);
+        if step(core, row.0, row.1) != Ok((row.2, row.3)) {
+            return false;
         }
     }
-    Ok(true)
+    true
 }
 
 // A read that meets a later commit, reads anew and is written back.
@@ -158,77 +157,113 @@ fn kept() -> &'static [Row] {
     &ROWS
 }
 
-#[test]
-fn steps_are_played(rt: HostRuntime) -> Result<(), Fail> {
-    let mut core = Core::new(rt.alloc());
-    assert!(rt; plays(&mut core, read_again())?);
-    assert!(rt; plays(&mut core, nested())?);
-    assert!(rt; plays(&mut core, last_release())?);
-    assert!(rt; plays(&mut core, last_read())?);
-    assert!(rt; plays(&mut core, kept())?);
-    Ok(())
+// Whether one core plays these in turn.
+fn plays_each<A: Allocator + Copy>(core: &mut Core<A>) -> bool {
+    plays(core, read_again())
+        && plays(core, nested())
+        && plays(core, last_release())
+        && plays(core, last_read())
+        && plays(core, kept())
 }
 
 #[test]
-fn an_abort_goes_back_to_what_was_saved(rt: HostRuntime) -> Result<(), Fail> {
+fn steps_are_played(rt: HostRuntime) {
     let mut core = Core::new(rt.alloc());
-    assert!(rt; plays(&mut core, changed())?);
-    assert!(rt; !core.has_attempt());
-    assert_eq!(rt; core.saved().registers(), [3, 4].as_slice());
-    assert_eq!(rt; core.saved().frames(), 2);
-    assert_eq!(rt; core.saved().place(), 7);
-    Ok(())
+    assert!(rt; plays_each(&mut core));
+}
+
+// Whether there is no attempt, and this is what was saved where the attempt that was aborted began.
+fn is_back<A: Allocator + Copy>(core: &Core<A>) -> bool {
+    let saved = core.saved();
+    let same = saved.registers() == [3, 4].as_slice();
+    !core.has_attempt() && same && saved.frames() == 2 && saved.place() == 7
+}
+
+// Whether a core whose validation fails goes back.
+fn goes_back<A: Allocator + Copy>(core: &mut Core<A>) -> bool {
+    plays(core, changed()) && is_back(core)
 }
 
 #[test]
-fn the_sequence_is_used_up(rt: HostRuntime) -> Result<(), Fail> {
+fn an_abort_goes_back_to_what_was_saved(rt: HostRuntime) {
     let mut core = Core::new(rt.alloc());
-    assert!(rt; plays(&mut core, last_write())?);
-    assert_eq!(rt;
-        core.prepare(Op::Commit, &[], 0, 0),
-        Err(Stop::SequenceUsedUp)
-    );
-    assert_eq!(rt;
-        core.prepare(Op::Irrevocable, &[], 0, 0),
-        Err(Stop::SequenceUsedUp)
-    );
-    assert!(rt; core.has_attempt() && !core.is_kept());
-    assert_eq!(rt;
-        step(&mut core, Op::Read(5), 0)?,
-        (Access::Local, Outcome::Read(9))
-    );
-    Ok(())
+    assert!(rt; goes_back(&mut core));
 }
 
-// Makes these steps, each prepared again where it is refused, and says how many were.
-fn insist<A: Allocator + Copy>(core: &mut Core<A>, rows: &[Row]) -> Result<u64, Stop> {
+// Whether an operation is not prepared, since the sequence is used up.
+fn is_used_up<A: Allocator + Copy>(core: &mut Core<A>, op: Op) -> bool {
+    core.prepare(op, &[], 0, 0) == Err(Stop::SequenceUsedUp)
+}
+
+// A read of what was written, which is in the log.
+fn read_in_place() -> &'static [Row] {
+    static ROWS: [Row; 1] = [(Op::Read(5), 0, Access::Local, Outcome::Read(9))];
+    &ROWS
+}
+
+// Whether the lock is not taken at its last value, and the attempt goes on.
+fn stops_at_the_last<A: Allocator + Copy>(core: &mut Core<A>) -> bool {
+    plays(core, last_write())
+        && is_used_up(core, Op::Commit)
+        && is_used_up(core, Op::Irrevocable)
+        && core.has_attempt()
+        && !core.is_kept()
+        && plays(core, read_in_place())
+}
+
+#[test]
+fn the_sequence_is_used_up(rt: HostRuntime) {
+    let mut core = Core::new(rt.alloc());
+    assert!(rt; stops_at_the_last(&mut core));
+}
+
+// Makes these steps, each prepared again where it is refused, and says how many were; `None` where one is not made.
+fn insist<A: Allocator + Copy>(core: &mut Core<A>, rows: &[Row]) -> Option<u64> {
     let mut refused = 0u64;
     for row in rows {
         if core.prepare(row.0, &[3, 4], 2, 7) == Err(Stop::OutOfMemory) {
             refused = refused.saturating_add(1);
         }
-        step(core, row.0, row.1)?;
+        if step(core, row.0, row.1).is_err() {
+            return None;
+        }
     }
-    Ok(refused)
+    Some(refused)
+}
+
+// Whether steps are made where a growth may be refused: then one is, unless it is still to come, and a transaction follows.
+fn insists<A: Allocator>(core: &mut Core<&Refusing<A>>, alloc: &Refusing<A>) -> bool {
+    let first = insist(core, nested());
+    let second = insist(core, read_again());
+    let wanted = if alloc.is_waiting() { 0 } else { 1 };
+    let most = first.max(second) == Some(wanted);
+    most && first.is_some() && second.is_some() && (alloc.is_waiting() || plays(core, nested()))
+}
+
+// Whether that holds where growth `nth` is refused, and whether this growth is still to come.
+fn refused_at<A: Allocator>(inner: A, nth: u64) -> (bool, bool) {
+    let alloc = Refusing::new(inner, nth);
+    let mut core = Core::new(&alloc);
+    let holds = insists(&mut core, &alloc);
+    (holds, alloc.is_waiting())
+}
+
+// The last growth that is met, where that holds for each.
+fn last_met<A: Allocator + Copy>(inner: A) -> Option<u64> {
+    let mut met = 0;
+    for nth in 1..100u64 {
+        match refused_at(inner, nth) {
+            (false, _) => return None,
+            (true, true) => break,
+            (true, false) => met = nth,
+        }
+    }
+    Some(met)
 }
 
 #[test]
-fn each_growth_is_refused_in_turn(rt: HostRuntime) -> Result<(), Fail> {
-    let mut met = 0;
-    'each: for nth in 1..100u64 {
-        let alloc = Refusing::new(rt.alloc(), nth);
-        let mut core = Core::new(&alloc);
-        let first = insist(&mut core, nested())?;
-        let second = insist(&mut core, read_again())?;
-        assert_eq!(rt; first.max(second) == 1, !alloc.is_waiting());
-        if alloc.is_waiting() {
-            break;
-        }
-        met = nth;
-        assert!(rt; plays(&mut core, nested())?);
-    }
-    assert!(rt; 5 < met);
-    Ok(())
+fn each_growth_is_refused_in_turn(rt: HostRuntime) {
+    assert!(rt; last_met(rt.alloc()) > Some(5));
 }
 
 // Whether a step is told its answer without a growth.
@@ -236,61 +271,113 @@ fn is_told_in_place<B: Allocator>(
     core: &mut Core<&Refusing<B>>,
     alloc: &Refusing<B>,
     row: &Row,
-) -> Result<bool, Stop> {
-    let access = core.prepare(row.0, &[3, 4], 2, 7)?;
+) -> bool {
+    let Ok(access) = core.prepare(row.0, &[3, 4], 2, 7) else {
+        return false;
+    };
     alloc.refuse(1);
     core.told(answer_to(access, row.1));
     let in_place = alloc.is_waiting();
     alloc.refuse(0);
-    Ok(in_place)
+    in_place
+}
+
+// Whether each of these is.
+fn are_told_in_place<B: Allocator>(
+    core: &mut Core<&Refusing<B>>,
+    alloc: &Refusing<B>,
+    rows: &[Row],
+) -> bool {
+    for row in rows {
+        if !is_told_in_place(core, alloc, row) {
+            return false;
+        }
+    }
+    true
+}
+
+// Whether a core takes no memory where it is told an answer.
+fn tells_in_place<A: Allocator>(inner: A) -> bool {
+    let alloc = Refusing::new(inner, 0);
+    let mut core = Core::new(&alloc);
+    are_told_in_place(&mut core, &alloc, nested()) && are_told_in_place(&mut core, &alloc, kept())
 }
 
 #[test]
-fn told_takes_no_memory(rt: HostRuntime) -> Result<(), Fail> {
-    let alloc = Refusing::new(rt.alloc(), 0);
+fn told_takes_no_memory(rt: HostRuntime) {
+    assert!(rt; tells_in_place(rt.alloc()));
+}
+
+// Whether transactions are played in a core, and in the third round without a growth.
+fn stays_roomy<A: Allocator>(core: &mut Core<&Refusing<A>>, alloc: &Refusing<A>) -> bool {
+    for nth in [0, 0, 1] {
+        alloc.refuse(nth);
+        if !plays(core, read_again()) || !plays(core, nested()) {
+            return false;
+        }
+    }
+    alloc.is_waiting()
+}
+
+// The same of a new core.
+fn keeps_room<A: Allocator>(inner: A) -> bool {
+    let alloc = Refusing::new(inner, 0);
     let mut core = Core::new(&alloc);
-    for row in nested() {
-        assert!(rt; is_told_in_place(&mut core, &alloc, row)?);
-    }
-    for row in kept() {
-        assert!(rt; is_told_in_place(&mut core, &alloc, row)?);
-    }
-    Ok(())
+    stays_roomy(&mut core, &alloc)
 }
 
 // After its first transactions a thread that runs such ones takes no more memory.
 #[test]
-fn room_stays(rt: HostRuntime) -> Result<(), Fail> {
-    let alloc = Refusing::new(rt.alloc(), 0);
-    let mut core = Core::new(&alloc);
-    'run: for nth in [0, 0, 1] {
-        alloc.refuse(nth);
-        assert!(rt; plays(&mut core, read_again())?);
-        assert!(rt; plays(&mut core, nested())?);
+fn room_stays(rt: HostRuntime) {
+    assert!(rt; keeps_room(rt.alloc()));
+}
+
+// Whether an operation whose access finds this value is made.
+fn makes<A: Allocator + Copy>(core: &mut Core<A>, op: Op, found: u64) -> bool {
+    step(core, op, found).is_ok()
+}
+
+// Whether each of 1000 words is read and written.
+fn writes_many<A: Allocator + Copy>(core: &mut Core<A>) -> bool {
+    for address in 0..1000u32 {
+        let read = makes(core, Op::Read(address), 5) && makes(core, Op::Read(address), 2);
+        if !read || !makes(core, Op::Write(address, 6), 0) {
+            return false;
+        }
     }
-    assert!(rt; alloc.is_waiting());
-    Ok(())
+    true
+}
+
+// Whether each of them is stored.
+fn stores_many<A: Allocator + Copy>(core: &mut Core<A>) -> bool {
+    for address in 0..1000u32 {
+        let wanted = (Access::StoreWord(address, 6), Outcome::Going);
+        if step(core, Op::Commit, 0) != Ok(wanted) {
+            return false;
+        }
+    }
+    true
+}
+
+// The lock is released after that.
+fn released() -> &'static [Row] {
+    static ROWS: [Row; 1] = [(Op::Commit, 0, Access::StoreLock(4), Outcome::Done)];
+    &ROWS
+}
+
+// Whether a transaction of so many commits.
+fn commits_many<A: Allocator + Copy>(core: &mut Core<A>) -> bool {
+    makes(core, Op::Begin, 2)
+        && writes_many(core)
+        && makes(core, Op::Commit, 2)
+        && stores_many(core)
+        && plays(core, released())
 }
 
 #[test]
-fn large_logs_are_stored(rt: HostRuntime) -> Result<(), Fail> {
+fn large_logs_are_stored(rt: HostRuntime) {
     let mut core = Core::new(rt.alloc());
-    step(&mut core, Op::Begin, 2)?;
-    'write: for address in 0..1000u32 {
-        step(&mut core, Op::Read(address), 5)?;
-        step(&mut core, Op::Read(address), 2)?;
-        step(&mut core, Op::Write(address, 6), 0)?;
-    }
-    step(&mut core, Op::Commit, 2)?;
-    'store: for address in 0..1000u32 {
-        let wanted = (Access::StoreWord(address, 6), Outcome::Going);
-        assert_eq!(rt; step(&mut core, Op::Commit, 0)?, wanted);
-    }
-    assert_eq!(rt;
-        step(&mut core, Op::Commit, 0)?,
-        (Access::StoreLock(4), Outcome::Done)
-    );
-    Ok(())
+    assert!(rt; commits_many(&mut core));
 }
 
 // What comes of a read that is made whole, if it is: it finds this word, and then this lock.
@@ -308,19 +395,16 @@ fn reads<A: Allocator + Copy>(
 
 // Whether reads are made whole in an attempt, where room is there and nothing disturbs them, and leave validation where the
 // lock has moved.
-fn reads_whole<A: Allocator>(
-    core: &mut Core<&Refusing<A>>,
-    alloc: &Refusing<A>,
-) -> Result<bool, Stop> {
+fn reads_whole<A: Allocator>(core: &mut Core<&Refusing<A>>, alloc: &Refusing<A>) -> bool {
     let outside = reads(core, 5, 7, 2);
-    step(core, Op::Begin, 2)?;
+    let begun = makes(core, Op::Begin, 2);
     alloc.refuse(1);
     let refused = reads(core, 5, 7, 2);
     let first = reads(core, 5, 7, 2);
     let moved = reads(core, 6, 7, 4);
     let disturbed = reads(core, 6, 7, 4);
     let made = first == Some(Outcome::Read(7)) && moved == Some(Outcome::Going);
-    Ok(made && outside.is_none() && refused.is_none() && disturbed.is_none())
+    begun && made && outside.is_none() && refused.is_none() && disturbed.is_none()
 }
 
 // Validation after that.
@@ -332,34 +416,32 @@ fn validates() -> &'static [Row] {
     &ROWS
 }
 
-#[test]
-fn reads_are_made_whole(rt: HostRuntime) -> Result<(), Fail> {
-    let alloc = Refusing::new(rt.alloc(), 0);
+// Whether a new core makes reads whole, and then validates.
+fn makes_reads_whole<A: Allocator>(inner: A) -> bool {
+    let alloc = Refusing::new(inner, 0);
     let mut core = Core::new(&alloc);
-    assert!(rt; reads_whole(&mut core, &alloc)?);
-    assert!(rt; plays(&mut core, validates())?);
-    Ok(())
+    reads_whole(&mut core, &alloc) && plays(&mut core, validates())
+}
+
+#[test]
+fn reads_are_made_whole(rt: HostRuntime) {
+    assert!(rt; makes_reads_whole(rt.alloc()));
 }
 
 // Whether a commit of nothing and a write are made at once, and not outside; then neither a commit, which takes the lock, nor a
 // read of what was written.
-fn writes_at_once<A: Allocator + Copy>(core: &mut Core<A>) -> Result<bool, Stop> {
+fn writes_at_once<A: Allocator + Copy>(core: &mut Core<A>) -> bool {
     let outside = core.write(5, 9) || core.commit();
-    step(core, Op::Begin, 2)?;
+    let begun = makes(core, Op::Begin, 2);
     let empty = core.commit() && !core.has_attempt();
-    step(core, Op::Begin, 2)?;
+    let begun_again = makes(core, Op::Begin, 2);
     let written = core.write(5, 9);
     let later = core.commit() || core.prepare_read(5);
-    Ok(!outside && empty && written && !later)
+    begun && begun_again && !outside && empty && written && !later && plays(core, read_in_place())
 }
 
 #[test]
-fn writes_and_commits_are_made_at_once(rt: HostRuntime) -> Result<(), Fail> {
+fn writes_and_commits_are_made_at_once(rt: HostRuntime) {
     let mut core = Core::new(rt.alloc());
-    assert!(rt; writes_at_once(&mut core)?);
-    assert_eq!(rt;
-        step(&mut core, Op::Read(5), 0)?,
-        (Access::Local, Outcome::Read(9))
-    );
-    Ok(())
+    assert!(rt; writes_at_once(&mut core));
 }
