@@ -3,33 +3,54 @@
 use crate::texts::{EACH_NODE, tree};
 use containers::{Copied, Same};
 use refusing::Refusing;
-use std::alloc::AllocError;
-use std::test::Fail;
+use std::alloc::Allocator;
+use syntax::tree::Unit;
 
-#[test]
-fn each_growth_of_a_copy_is_refused_once(rt: HostRuntime) -> Result<(), Fail> {
-    let alloc = Refusing::new(rt.alloc(), 0);
-    let Some(whole) = tree(&alloc, EACH_NODE) else {
-        assert!(rt; false);
-        return Ok(());
-    };
-    let mut met = 0;
+/// Whether a copy of a tree is the same; `None` where memory is refused.
+fn is_copied<A: Allocator + Copy>(alloc: A, whole: &Unit<A>) -> Option<bool> {
+    match whole.copy(alloc) {
+        Ok(copy) => Some(copy.same(whole)),
+        Err(_) => None,
+    }
+}
+
+/// How many growths a copy of a tree takes, each of which was refused once and then made; `None` where a copy is made without one,
+/// or is another tree. The allocator of the tree is the one that refuses.
+fn growths_of<A: Allocator, B: Allocator + Copy>(
+    refusing: &Refusing<A>,
+    alloc: B,
+    whole: &Unit<B>,
+) -> Option<u64> {
     for nth in 1..1000u64 {
-        alloc.refuse(nth);
-        match whole.copy(&alloc) {
-            Ok(copy) => {
-                assert!(rt; alloc.is_waiting());
-                assert!(rt; copy.same(&whole));
-                break;
-            }
-            Err(AllocError) => {
-                met = nth;
-                assert!(rt; whole.copy(&alloc)?.same(&whole));
+        refusing.refuse(nth);
+        match is_copied(alloc, whole) {
+            Some(same) => return (same && refusing.is_waiting()).then_some(nth - 1),
+            None => {
+                if is_copied(alloc, whole) != Some(true) {
+                    return None;
+                }
             }
         }
     }
+    None
+}
+
+/// The same of the tree with each kind of node.
+fn growths_in<A: Allocator, B: Allocator + Copy>(refusing: &Refusing<A>, alloc: B) -> Option<u64> {
+    match tree(alloc, EACH_NODE) {
+        Some(whole) => growths_of(refusing, alloc, &whole),
+        None => None,
+    }
+}
+
+/// The same over an allocator.
+fn growths<A: Allocator>(inner: A) -> Option<u64> {
+    let alloc = Refusing::new(inner, 0);
+    growths_in(&alloc, &alloc)
+}
+
+#[test]
+fn each_growth_of_a_copy_is_refused_once(rt: HostRuntime) {
     // the tree has 25 texts, 22 boxes and 13 lists that hold something
-    assert!(rt; met >= 60);
-    assert!(rt; met < 999);
-    Ok(())
+    assert!(rt; growths(rt.alloc()) >= Some(60));
 }

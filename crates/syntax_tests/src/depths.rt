@@ -3,11 +3,13 @@
 //! transaction's block is a part of it. A program is as deep as the deepest block of a function.
 
 use crate::texts::{EACH_NODE, tree};
-use std::test::Fail;
+use std::alloc::Allocator;
 
-#[test]
-fn depths_of_programs(rt: HostRuntime) -> Result<(), Fail> {
-    let rows = [
+/// A text, and the depth of its tree.
+type Row = (&'static str, usize);
+
+fn rows() -> &'static [Row] {
+    static ROWS: [Row; 30] = [
         ("int g;", 0),
         ("void f();", 0),
         ("void f() {}", 1),
@@ -45,12 +47,29 @@ fn depths_of_programs(rt: HostRuntime) -> Result<(), Fail> {
             6,
         ),
     ];
-    for (text, depth) in rows.iter() {
-        assert_eq!(rt;
-            tree(rt.alloc(), *text).map(|unit| unit.depth()),
-            Some(*depth)
-        );
+    &ROWS
+}
+
+/// The depth of a text's tree.
+fn depth_of<A: Allocator + Copy>(alloc: A, text: &str) -> Option<usize> {
+    match tree(alloc, text) {
+        Some(unit) => Some(unit.depth()),
+        None => None,
     }
-    assert!(rt; tree(rt.alloc(), EACH_NODE).is_some());
-    Ok(())
+}
+
+/// The first of these texts whose tree has another depth.
+fn has_another<A: Allocator + Copy>(alloc: A, rows: &[Row]) -> Option<&'static str> {
+    for (text, depth) in rows {
+        if depth_of(alloc, text) != Some(*depth) {
+            return Some(*text);
+        }
+    }
+    None
+}
+
+#[test]
+fn depths_of_programs(rt: HostRuntime) {
+    assert_eq!(rt; has_another(rt.alloc(), rows()), None);
+    assert!(rt; depth_of(rt.alloc(), EACH_NODE).is_some());
 }

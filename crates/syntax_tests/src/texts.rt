@@ -15,6 +15,8 @@ pub const EACH_NODE: &str =
 
 /// The tree of a text, if it is a program and there is memory for it.
 pub fn tree<A: Allocator + Copy>(alloc: A, text: &str) -> Option<Unit<A>> {
-    let tokens = lex(alloc, text).ok()?;
-    parse(alloc, tokens.as_slice()).ok()
+    match lex(alloc, text) {
+        Ok(tokens) => parse(alloc, tokens.as_slice()).ok(),
+        Err(_) => None,
+    }
 }
