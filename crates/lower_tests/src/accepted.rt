@@ -5,39 +5,73 @@ use lex::lex;
 use lex::token::Span;
 use lower::lower;
 use parse::parse;
+use safety::checked::Safe;
 use safety::safe;
 use separation::{Accepted, accept};
 use std::alloc::Allocator;
-use types::check;
+use syntax::tree::Unit;
+use types::{Typed, check};
+
+// The tree of a text, where it is a program.
+fn unit_of<A: Allocator + Copy>(alloc: A, text: &str) -> Option<Unit<A>> {
+    match lex(alloc, text) {
+        Err(_) => None,
+        Ok(tokens) => match parse(alloc, tokens.as_slice()) {
+            Ok(unit) => Some(unit),
+            Err(_) => None,
+        },
+    }
+}
+
+// The same with its types, where they are right.
+fn typed_of<A: Allocator + Copy>(alloc: A, text: &str) -> Option<Typed<A>> {
+    match unit_of(alloc, text) {
+        None => None,
+        Some(unit) => match check(alloc, unit) {
+            Ok(typed) => Some(typed),
+            Err(_) => None,
+        },
+    }
+}
+
+// The same, where it is safe.
+fn safe_of<A: Allocator + Copy>(alloc: A, text: &str) -> Option<Safe<A>> {
+    match typed_of(alloc, text) {
+        None => None,
+        Some(typed) => match safe(alloc, typed) {
+            Ok(safe) => Some(safe),
+            Err(_) => None,
+        },
+    }
+}
 
 /// The program of a text, where it is accepted.
 pub fn accepted_of<A: Allocator + Copy>(alloc: A, text: &str) -> Option<Accepted<A>> {
-    let Ok(tokens) = lex(alloc, text) else {
-        return None;
-    };
-    let Ok(unit) = parse(alloc, tokens.as_slice()) else {
-        return None;
-    };
-    let Ok(typed) = check(alloc, unit) else {
-        return None;
-    };
-    let Ok(safe) = safe(alloc, typed) else {
-        return None;
-    };
-    match accept(alloc, safe) {
-        Ok(accepted) => Some(accepted),
-        Err(_) => None,
+    match safe_of(alloc, text) {
+        None => None,
+        Some(safe) => match accept(alloc, safe) {
+            Ok(accepted) => Some(accepted),
+            Err(_) => None,
+        },
     }
 }
 
 /// The code of a text, or in its place the number and the place of the fault. A text that is not accepted has the number 1.
 pub fn code_of<A: Allocator + Copy>(alloc: A, text: &str) -> Result<Code<A>, (u32, Option<Span>)> {
-    let Some(accepted) = accepted_of(alloc, text) else {
-        return Err((1, None));
-    };
-    match lower(alloc, &accepted) {
-        Ok(code) => Ok(code),
-        Err(fault) => Err((fault.number(), fault.span())),
+    match accepted_of(alloc, text) {
+        None => Err((1, None)),
+        Some(accepted) => match lower(alloc, &accepted) {
+            Ok(code) => Ok(code),
+            Err(fault) => Err((fault.number(), fault.span())),
+        },
+    }
+}
+
+/// The number and the place of the fault of a text that has no code.
+pub fn fault_of<A: Allocator + Copy>(alloc: A, text: &str) -> Option<(u32, Option<Span>)> {
+    match code_of(alloc, text) {
+        Ok(_) => None,
+        Err(fault) => Some(fault),
     }
 }
 

@@ -1,63 +1,81 @@
 //! The codes of small programs, as they are listed: each was read by eye, so that a change in what is picked is seen.
 
 use crate::accepted::listed;
-use std::test::Fail;
+use std::alloc::Allocator;
 
-/// Programs and the listings of their codes.
-pub const LISTED: [(&str, &str); 11] = [
-    (
-        "int x; void worker(int self) { __transaction_atomic { x = x + 1; } }",
-        "function worker registers 3\n0 begin >6\n1 rd r1 @0\n2 const r2 #1\n3 add.s r1 r1 r2\n4 wr @0 r1\n5 commit\n6 ret\n",
-    ),
-    (
-        "int a[4]; int f(int n) { if (n > 1 && n) return f(n); return 0; } void worker(int self) { for (int i = 0; i < 3; i++) __transaction_relaxed { a[i] += f(i); printf(\"%d!\", a[i]); break; } }",
-        "function f registers 2\n0 const r1 #1\n1 lt.s r1 r1 r0\n2 jz r1 >6\n3 jz r0 >6\n4 call f r1 r0\n5 ret r1\n6 const r1 #0\n7 ret r1\n8 ret\nfunction worker registers 4\n9 const r1 #0\n10 const r1 #0\n11 jump >28\n12 jump >31\n13 jump >26\n14 begin >26\n15 rdx r2 @0 #4 r1\n16 call f r3 r1\n17 add.s r2 r2 r3\n18 wrx @0 #4 r1 r2\n19 irrevocable\n20 rdx r2 @0 #4 r1\n21 print.s r2\n22 print.t #0\n23 commit\n24 jump >12\n25 commit\n26 const r2 #1\n27 add.s r1 r1 r2\n28 const r2 #3\n29 lt.s r2 r1 r2\n30 jnz r2 >14\n31 ret\ntext 0 \"!\"\n",
-    ),
-    (
-        "void worker(int self) { int v = 7; while (!(v != 0)) v = v * 2 - (v ? 1 : self); do { v -= 3; if (v == 4) continue; } while (v > 0 || self == v); return; }",
-        "function worker registers 4\n0 const r1 #0\n1 const r1 #7\n2 jump >11\n3 jump >12\n4 const r2 #2\n5 mul.s r2 r1 r2\n6 jz r1 >9\n7 const r3 #1\n8 jump >10\n9 move r3 r0\n10 sub.s r1 r2 r3\n11 jz r1 >4\n12 jump >15\n13 jump >26\n14 jump >21\n15 const r2 #3\n16 sub.s r1 r1 r2\n17 const r2 #4\n18 eq r2 r1 r2\n19 jz r2 >21\n20 jump >14\n21 const r2 #0\n22 lt.s r2 r2 r1\n23 jnz r2 >15\n24 eq r2 r0 r1\n25 jnz r2 >15\n26 ret\n27 ret\n",
-    ),
-    (
-        "unsigned u[3], w; void worker(int self) { __transaction_atomic { u[self] = -5 >> w; __transaction_atomic { w = ~u[1] % 7u; if (w) __transaction_cancel; } } }",
-        "function worker registers 3\n0 begin >19\n1 check r0 #3\n2 const r1 #5\n3 neg.s r1 r1\n4 rd r2 @3\n5 shr.s r1 r1 r2\n6 wrx @0 #3 r0 r1\n7 begin >18\n8 const r1 #1\n9 rdx r1 @0 #3 r1\n10 not r1 r1\n11 const r2 #7\n12 rem.u r1 r1 r2\n13 wr @3 r1\n14 rd r1 @3\n15 jz r1 >17\n16 cancel\n17 commit\n18 commit\n19 ret\n",
-    ),
-    (
-        "int x; int f(void) { __transaction_atomic { for (;;) { __transaction_atomic { if (x > 3) break; if (x == 2) return x; x++; } } } return 1; } void worker(int self) { if (f() <= self) f(); else f(); }",
-        "function f registers 2\n0 begin >26\n1 jump >24\n2 jump >25\n3 jump >24\n4 begin >24\n5 rd r0 @0\n6 const r1 #3\n7 lt.s r0 r1 r0\n8 jz r0 >11\n9 commit\n10 jump >2\n11 rd r0 @0\n12 const r1 #2\n13 eq r0 r0 r1\n14 jz r0 >19\n15 rd r0 @0\n16 commit\n17 commit\n18 ret r0\n19 rd r0 @0\n20 const r1 #1\n21 add.s r0 r0 r1\n22 wr @0 r0\n23 commit\n24 jump >4\n25 commit\n26 const r0 #1\n27 ret r0\n28 ret\nfunction worker registers 2\n29 call f r1\n30 le.s r1 r1 r0\n31 jz r1 >34\n32 call f r1\n33 jump >35\n34 call f r1\n35 ret\n",
-    ),
-    (
-        "int g(int a, unsigned b, int c) { return a - c; } void worker(int self) { int r = g(1, g(self, 2u, 3), self + self); r = g(r, r, r); }",
-        "function g registers 4\n0 sub.s r3 r0 r2\n1 ret r3\n2 ret\nfunction worker registers 5\n3 const r1 #0\n4 const r2 #1\n5 const r3 #2\n6 const r4 #3\n7 call g r3 r0 r3 r4\n8 add.s r4 r0 r0\n9 call g r1 r2 r3 r4\n10 call g r1 r1 r1 r1\n11 ret\n",
-    ),
-    (
-        "int q[5], n; void worker(int self) { __transaction_atomic { if (n >= 5) __transaction_cancel; q[n] = self; ++n; q[q[0]] *= n; n--; } }",
-        "function worker registers 4\n0 begin >24\n1 rd r1 @5\n2 const r2 #5\n3 le.s r1 r2 r1\n4 jz r1 >6\n5 cancel\n6 rd r1 @5\n7 check r1 #5\n8 wrx @0 #5 r1 r0\n9 rd r1 @5\n10 const r2 #1\n11 add.s r1 r1 r2\n12 wr @5 r1\n13 const r1 #0\n14 rdx r1 @0 #5 r1\n15 rdx r2 @0 #5 r1\n16 rd r3 @5\n17 mul.s r2 r2 r3\n18 wrx @0 #5 r1 r2\n19 rd r1 @5\n20 const r2 #1\n21 sub.s r1 r1 r2\n22 wr @5 r1\n23 commit\n24 ret\n",
-    ),
-    (
-        "void worker(int self) { printf(\"%u of %d%%\\n\", 7u, self); printf(\"\"); printf(\"end\"); }",
-        "function worker registers 2\n0 irrevocable\n1 const r1 #7\n2 print.u r1\n3 print.t #0\n4 print.s r0\n5 print.t #1\n6 irrevocable\n7 irrevocable\n8 print.t #2\n9 ret\ntext 0 \" of \"\ntext 1 \"%\\n\"\ntext 2 \"end\"\n",
-    ),
-    (
-        "unsigned m = 4294967295u; void worker(int self) { unsigned t; __transaction_atomic { t = m; } int k; for (k = 0; k < 3; k++) { if (k == 1) continue; t = t / 3u & (unsigned) k | t ^ 1u; } }",
-        "function worker registers 5\n0 const r1 #0\n1 begin >4\n2 rd r1 @0\n3 commit\n4 const r2 #0\n5 const r2 #0\n6 jump >21\n7 jump >24\n8 jump >19\n9 const r3 #1\n10 eq r3 r2 r3\n11 jz r3 >13\n12 jump >8\n13 const r3 #3\n14 div.u r3 r1 r3\n15 and r3 r3 r2\n16 const r4 #1\n17 xor r4 r1 r4\n18 or r1 r3 r4\n19 const r3 #1\n20 add.s r2 r2 r3\n21 const r3 #3\n22 lt.s r3 r2 r3\n23 jnz r3 >9\n24 ret\n",
-    ),
-    (
-        "void worker(int self) { int a, b = 2, c; { int a = b; b = a; } c = a < b && (b < c || !c); c = -c + +a - ~b; }",
-        "function worker registers 6\n0 const r1 #0\n1 const r2 #0\n2 const r2 #2\n3 const r3 #0\n4 const r4 #0\n5 move r4 r2\n6 move r2 r4\n7 lt.s r4 r1 r2\n8 jz r4 >14\n9 lt.s r4 r2 r3\n10 jnz r4 >12\n11 jnz r3 >14\n12 const r3 #1\n13 jump >15\n14 const r3 #0\n15 neg.s r4 r3\n16 add.s r4 r4 r1\n17 not r5 r2\n18 sub.s r3 r4 r5\n19 ret\n",
-    ),
-    (
-        "void worker(int self) { int a = self & 4, b = 0; while (!(a && b) && (a || self)) { if ((a || b) == 0) a = 1; else b = a && self ? 2 : 3; } }",
-        "function worker registers 3\n0 const r1 #0\n1 const r2 #4\n2 and r1 r0 r2\n3 const r2 #0\n4 const r2 #0\n5 jump >16\n6 jump >20\n7 jnz r1 >11\n8 jnz r2 >11\n9 const r1 #1\n10 jump >16\n11 jz r1 >15\n12 jz r0 >15\n13 const r2 #2\n14 jump >16\n15 const r2 #3\n16 jz r1 >18\n17 jnz r2 >20\n18 jnz r1 >7\n19 jnz r0 >7\n20 ret\n",
-    ),
-];
+/// A program, and the listing of its code.
+pub type Listed = (&'static str, &'static str);
 
-#[test]
-fn small_programs_have_these_codes(rt: HostRuntime) -> Result<(), Fail> {
-    for (text, wanted) in LISTED {
-        match listed(rt.alloc(), text) {
-            Ok(found) => assert_eq!(rt; found.as_str(), wanted, "{text}"),
-            Err(number) => assert!(rt; false, "{text}: {number}"),
+/// The rows stand in a function, so that no proof but its own looks at them.
+pub fn rows() -> &'static [Listed] {
+    static ROWS: [Listed; 11] = [
+        (
+            "int x; void worker(int self) { __transaction_atomic { x = x + 1; } }",
+            "function worker registers 3\n0 begin >6\n1 rd r1 @0\n2 const r2 #1\n3 add.s r1 r1 r2\n4 wr @0 r1\n5 commit\n6 ret\n",
+        ),
+        (
+            "int a[4]; int f(int n) { if (n > 1 && n) return f(n); return 0; } void worker(int self) { for (int i = 0; i < 3; i++) __transaction_relaxed { a[i] += f(i); printf(\"%d!\", a[i]); break; } }",
+            "function f registers 2\n0 const r1 #1\n1 lt.s r1 r1 r0\n2 jz r1 >6\n3 jz r0 >6\n4 call f r1 r0\n5 ret r1\n6 const r1 #0\n7 ret r1\n8 ret\nfunction worker registers 4\n9 const r1 #0\n10 const r1 #0\n11 jump >28\n12 jump >31\n13 jump >26\n14 begin >26\n15 rdx r2 @0 #4 r1\n16 call f r3 r1\n17 add.s r2 r2 r3\n18 wrx @0 #4 r1 r2\n19 irrevocable\n20 rdx r2 @0 #4 r1\n21 print.s r2\n22 print.t #0\n23 commit\n24 jump >12\n25 commit\n26 const r2 #1\n27 add.s r1 r1 r2\n28 const r2 #3\n29 lt.s r2 r1 r2\n30 jnz r2 >14\n31 ret\ntext 0 \"!\"\n",
+        ),
+        (
+            "void worker(int self) { int v = 7; while (!(v != 0)) v = v * 2 - (v ? 1 : self); do { v -= 3; if (v == 4) continue; } while (v > 0 || self == v); return; }",
+            "function worker registers 4\n0 const r1 #0\n1 const r1 #7\n2 jump >11\n3 jump >12\n4 const r2 #2\n5 mul.s r2 r1 r2\n6 jz r1 >9\n7 const r3 #1\n8 jump >10\n9 move r3 r0\n10 sub.s r1 r2 r3\n11 jz r1 >4\n12 jump >15\n13 jump >26\n14 jump >21\n15 const r2 #3\n16 sub.s r1 r1 r2\n17 const r2 #4\n18 eq r2 r1 r2\n19 jz r2 >21\n20 jump >14\n21 const r2 #0\n22 lt.s r2 r2 r1\n23 jnz r2 >15\n24 eq r2 r0 r1\n25 jnz r2 >15\n26 ret\n27 ret\n",
+        ),
+        (
+            "unsigned u[3], w; void worker(int self) { __transaction_atomic { u[self] = -5 >> w; __transaction_atomic { w = ~u[1] % 7u; if (w) __transaction_cancel; } } }",
+            "function worker registers 3\n0 begin >19\n1 check r0 #3\n2 const r1 #5\n3 neg.s r1 r1\n4 rd r2 @3\n5 shr.s r1 r1 r2\n6 wrx @0 #3 r0 r1\n7 begin >18\n8 const r1 #1\n9 rdx r1 @0 #3 r1\n10 not r1 r1\n11 const r2 #7\n12 rem.u r1 r1 r2\n13 wr @3 r1\n14 rd r1 @3\n15 jz r1 >17\n16 cancel\n17 commit\n18 commit\n19 ret\n",
+        ),
+        (
+            "int x; int f(void) { __transaction_atomic { for (;;) { __transaction_atomic { if (x > 3) break; if (x == 2) return x; x++; } } } return 1; } void worker(int self) { if (f() <= self) f(); else f(); }",
+            "function f registers 2\n0 begin >26\n1 jump >24\n2 jump >25\n3 jump >24\n4 begin >24\n5 rd r0 @0\n6 const r1 #3\n7 lt.s r0 r1 r0\n8 jz r0 >11\n9 commit\n10 jump >2\n11 rd r0 @0\n12 const r1 #2\n13 eq r0 r0 r1\n14 jz r0 >19\n15 rd r0 @0\n16 commit\n17 commit\n18 ret r0\n19 rd r0 @0\n20 const r1 #1\n21 add.s r0 r0 r1\n22 wr @0 r0\n23 commit\n24 jump >4\n25 commit\n26 const r0 #1\n27 ret r0\n28 ret\nfunction worker registers 2\n29 call f r1\n30 le.s r1 r1 r0\n31 jz r1 >34\n32 call f r1\n33 jump >35\n34 call f r1\n35 ret\n",
+        ),
+        (
+            "int g(int a, unsigned b, int c) { return a - c; } void worker(int self) { int r = g(1, g(self, 2u, 3), self + self); r = g(r, r, r); }",
+            "function g registers 4\n0 sub.s r3 r0 r2\n1 ret r3\n2 ret\nfunction worker registers 5\n3 const r1 #0\n4 const r2 #1\n5 const r3 #2\n6 const r4 #3\n7 call g r3 r0 r3 r4\n8 add.s r4 r0 r0\n9 call g r1 r2 r3 r4\n10 call g r1 r1 r1 r1\n11 ret\n",
+        ),
+        (
+            "int q[5], n; void worker(int self) { __transaction_atomic { if (n >= 5) __transaction_cancel; q[n] = self; ++n; q[q[0]] *= n; n--; } }",
+            "function worker registers 4\n0 begin >24\n1 rd r1 @5\n2 const r2 #5\n3 le.s r1 r2 r1\n4 jz r1 >6\n5 cancel\n6 rd r1 @5\n7 check r1 #5\n8 wrx @0 #5 r1 r0\n9 rd r1 @5\n10 const r2 #1\n11 add.s r1 r1 r2\n12 wr @5 r1\n13 const r1 #0\n14 rdx r1 @0 #5 r1\n15 rdx r2 @0 #5 r1\n16 rd r3 @5\n17 mul.s r2 r2 r3\n18 wrx @0 #5 r1 r2\n19 rd r1 @5\n20 const r2 #1\n21 sub.s r1 r1 r2\n22 wr @5 r1\n23 commit\n24 ret\n",
+        ),
+        (
+            "void worker(int self) { printf(\"%u of %d%%\\n\", 7u, self); printf(\"\"); printf(\"end\"); }",
+            "function worker registers 2\n0 irrevocable\n1 const r1 #7\n2 print.u r1\n3 print.t #0\n4 print.s r0\n5 print.t #1\n6 irrevocable\n7 irrevocable\n8 print.t #2\n9 ret\ntext 0 \" of \"\ntext 1 \"%\\n\"\ntext 2 \"end\"\n",
+        ),
+        (
+            "unsigned m = 4294967295u; void worker(int self) { unsigned t; __transaction_atomic { t = m; } int k; for (k = 0; k < 3; k++) { if (k == 1) continue; t = t / 3u & (unsigned) k | t ^ 1u; } }",
+            "function worker registers 5\n0 const r1 #0\n1 begin >4\n2 rd r1 @0\n3 commit\n4 const r2 #0\n5 const r2 #0\n6 jump >21\n7 jump >24\n8 jump >19\n9 const r3 #1\n10 eq r3 r2 r3\n11 jz r3 >13\n12 jump >8\n13 const r3 #3\n14 div.u r3 r1 r3\n15 and r3 r3 r2\n16 const r4 #1\n17 xor r4 r1 r4\n18 or r1 r3 r4\n19 const r3 #1\n20 add.s r2 r2 r3\n21 const r3 #3\n22 lt.s r3 r2 r3\n23 jnz r3 >9\n24 ret\n",
+        ),
+        (
+            "void worker(int self) { int a, b = 2, c; { int a = b; b = a; } c = a < b && (b < c || !c); c = -c + +a - ~b; }",
+            "function worker registers 6\n0 const r1 #0\n1 const r2 #0\n2 const r2 #2\n3 const r3 #0\n4 const r4 #0\n5 move r4 r2\n6 move r2 r4\n7 lt.s r4 r1 r2\n8 jz r4 >14\n9 lt.s r4 r2 r3\n10 jnz r4 >12\n11 jnz r3 >14\n12 const r3 #1\n13 jump >15\n14 const r3 #0\n15 neg.s r4 r3\n16 add.s r4 r4 r1\n17 not r5 r2\n18 sub.s r3 r4 r5\n19 ret\n",
+        ),
+        (
+            "void worker(int self) { int a = self & 4, b = 0; while (!(a && b) && (a || self)) { if ((a || b) == 0) a = 1; else b = a && self ? 2 : 3; } }",
+            "function worker registers 3\n0 const r1 #0\n1 const r2 #4\n2 and r1 r0 r2\n3 const r2 #0\n4 const r2 #0\n5 jump >16\n6 jump >20\n7 jnz r1 >11\n8 jnz r2 >11\n9 const r1 #1\n10 jump >16\n11 jz r1 >15\n12 jz r0 >15\n13 const r2 #2\n14 jump >16\n15 const r2 #3\n16 jz r1 >18\n17 jnz r2 >20\n18 jnz r1 >7\n19 jnz r0 >7\n20 ret\n",
+        ),
+    ];
+    &ROWS
+}
+
+// Whether this is the listing of a program's code.
+fn is_listed<A: Allocator + Copy>(alloc: A, text: &str, wanted: &str) -> bool {
+    match listed(alloc, text) {
+        Ok(found) => found.as_str() == wanted,
+        Err(_) => false,
+    }
+}
+
+// The first program that has another one.
+fn has_another<A: Allocator + Copy>(alloc: A, rows: &[Listed]) -> Option<&'static str> {
+    for (text, wanted) in rows {
+        if !is_listed(alloc, text, wanted) {
+            return Some(*text);
         }
     }
-    Ok(())
+    None
+}
+
+#[test]
+fn small_programs_have_these_codes(rt: HostRuntime) {
+    assert_eq!(rt; has_another(rt.alloc(), rows()), None);
 }

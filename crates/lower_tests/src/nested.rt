@@ -1,72 +1,93 @@
 //! Transactions in one another: 16 may be, and the 17th is the fault, at its keyword.
 
-use crate::accepted::code_of;
+use crate::accepted::fault_of;
 use lex::token::Span;
 use std::alloc::{AllocError, Allocator};
-use std::test::Fail;
 
-/// Behind a prefix, a worker in which so many transactions lie in one another.
-fn nested<A: Allocator + Copy>(
+// Appends a text so many times.
+fn push_times<A: Allocator>(to: &mut String<A>, text: &str, times: u32) -> Result<(), AllocError> {
+    for _ in 0..times {
+        to.push_str(text)?;
+    }
+    Ok(())
+}
+
+// Appends a worker in which so many transactions lie in one another.
+fn push_worker<A: Allocator>(to: &mut String<A>, count: u32) -> Result<(), AllocError> {
+    to.push_str("void worker(int self) { ")?;
+    push_times(to, "__transaction_atomic { ", count)?;
+    push_times(to, "} ", count)?;
+    to.push_str("}")
+}
+
+// Appends a function with so many transactions in one another, in branches.
+fn push_branches<A: Allocator>(to: &mut String<A>, count: u32) -> Result<(), AllocError> {
+    to.push_str(" void f(int c) { if (c) while (c) ")?;
+    push_times(to, "{ __transaction_atomic { ", count)?;
+    push_times(to, "} }", count)?;
+    to.push_str(" }")
+}
+
+// Appends a prefix, that worker and that function; the function only where it has transactions.
+fn push_all<A: Allocator>(
+    to: &mut String<A>,
+    before: &str,
+    count: u32,
+    in_branches: u32,
+) -> Result<(), AllocError> {
+    to.push_str(before)?;
+    push_worker(to, count)?;
+    if in_branches == 0 {
+        return Ok(());
+    }
+    push_branches(to, in_branches)
+}
+
+// A text of those.
+fn text_of<A: Allocator + Copy>(
     alloc: A,
     before: &str,
     count: u32,
+    in_branches: u32,
 ) -> Result<String<A>, AllocError> {
     let mut text = String::new(alloc);
-    text.push_str(before)?;
-    text.push_str("void worker(int self) { ")?;
-    for _ in 0..count {
-        text.push_str("__transaction_atomic { ")?;
-    }
-    for _ in 0..count {
-        text.push_str("} ")?;
-    }
-    text.push_str("}")?;
+    push_all(&mut text, before, count, in_branches)?;
     Ok(text)
 }
 
-#[test]
-fn sixteen_may_lie_in_one_another(rt: HostRuntime) -> Result<(), Fail> {
-    let text = nested(rt.alloc(), "", 16)?;
-    assert!(rt; code_of(rt.alloc(), text.as_str()).is_ok());
-    Ok(())
-}
-
-#[test]
-fn the_seventeenth_is_too_deep(rt: HostRuntime) -> Result<(), Fail> {
-    let text = nested(rt.alloc(), "", 17)?;
-    match code_of(rt.alloc(), text.as_str()) {
-        Ok(_) => assert!(rt; false),
-        Err((number, at)) => {
-            assert_eq!(rt; number, 62);
-            assert_eq!(rt;
-                at,
-                Some(Span {
-                    start: 392,
-                    end: 412
-                })
-            );
-        }
+// The number of its fault, and the bytes that it names. One that has code has the number 0, and one that memory is refused 1.
+fn fault_at<A: Allocator + Copy>(
+    alloc: A,
+    before: &str,
+    count: u32,
+    in_branches: u32,
+) -> (u32, Option<Span>) {
+    match text_of(alloc, before, count, in_branches) {
+        Ok(text) => match fault_of(alloc, text.as_str()) {
+            Some(fault) => fault,
+            None => (0, None),
+        },
+        Err(_) => (1, None),
     }
-    Ok(())
 }
 
 #[test]
-fn calls_begin_anew_and_branches_do_not(rt: HostRuntime) -> Result<(), Fail> {
+fn sixteen_may_lie_in_one_another(rt: HostRuntime) {
+    assert!(rt; fault_at(rt.alloc(), "", 16, 0).0 == 0);
+}
+
+#[test]
+fn the_seventeenth_is_too_deep(rt: HostRuntime) {
+    let keyword = Span {
+        start: 392,
+        end: 412,
+    };
+    assert!(rt; fault_at(rt.alloc(), "", 17, 0) == (62, Some(keyword)));
+}
+
+#[test]
+fn calls_begin_anew_and_branches_do_not(rt: HostRuntime) {
     let called = "int x; void f(void) { __transaction_atomic { x = 1; } } ";
-    let text = nested(rt.alloc(), called, 16)?;
-    assert!(rt; code_of(rt.alloc(), text.as_str()).is_ok());
-    let mut text = nested(rt.alloc(), "", 16)?;
-    text.push_str(" void f(int c) { if (c) while (c) ")?;
-    for _ in 0..17u32 {
-        text.push_str("{ __transaction_atomic { ")?;
-    }
-    for _ in 0..17u32 {
-        text.push_str("} }")?;
-    }
-    text.push_str(" }")?;
-    match code_of(rt.alloc(), text.as_str()) {
-        Ok(_) => assert!(rt; false),
-        Err((number, _)) => assert_eq!(rt; number, 62),
-    }
-    Ok(())
+    assert!(rt; fault_at(rt.alloc(), called, 16, 0).0 == 0);
+    assert!(rt; fault_at(rt.alloc(), "", 16, 17).0 == 62);
 }

@@ -6,14 +6,13 @@ ghost use Rattle.std.specs.Prelude.{IfSome};
 ghost use Rattle.atomic_code.specs.Kept.{IsThreadOf};
 
 use crate::accepted::{accepted_of, code_of};
-use crate::examples::EXAMPLES;
-use crate::listed::LISTED;
+use crate::examples::examples;
+use crate::listed::{Listed, rows};
 use atomic_code::{AtomicThread, is_memory};
 use bytecode::Code;
 use meaning::{SourceOutcome, ThreadEnd, run_order};
 use separation::Accepted;
-use std::alloc::{AllocError, Global};
-use std::test::Fail;
+use std::alloc::{AllocError, Allocator};
 use syntax::numbers::{Status, Trap};
 
 fn trap_number(trap: Trap) -> u8 {
@@ -46,7 +45,7 @@ fn code_end(status: Status) -> u8 {
 }
 
 /// Adds a line behind others, where it is not the last one already: where the last one begins then.
-fn add(lines: &mut String, last: usize, line: &str) -> Result<usize, AllocError> {
+fn add<A: Allocator>(lines: &mut String<A>, last: usize, line: &str) -> Result<usize, AllocError> {
     if lines.as_bytes().get(last..) == Some(line.as_bytes()) {
         return Ok(last);
     }
@@ -56,7 +55,10 @@ fn add(lines: &mut String, last: usize, line: &str) -> Result<usize, AllocError>
 }
 
 /// What is seen of thread 3 of four, in a line.
-fn source_line(alloc: Global, outcome: &SourceOutcome) -> Result<String, AllocError> {
+fn source_line<A: Allocator + Copy>(
+    alloc: A,
+    outcome: &SourceOutcome<A>,
+) -> Result<String<A>, AllocError> {
     let memory = outcome.memory.as_slice();
     match outcome.threads.as_slice().get(3) {
         None => Ok(String::new(alloc)),
@@ -68,26 +70,58 @@ fn source_line(alloc: Global, outcome: &SourceOutcome) -> Result<String, AllocEr
 }
 
 /// What is seen of thread 3 of a program within so many ticks, and within 40 transactions.
-fn source_after(alloc: Global, accepted: &Accepted, ticks: u64) -> Result<String, AllocError> {
+fn source_after<A: Allocator + Copy>(
+    alloc: A,
+    accepted: &Accepted<A>,
+    ticks: u64,
+) -> Result<String<A>, AllocError> {
     match run_order(alloc, accepted, 4, &[3u32; 40], ticks) {
         Ok(outcome) => source_line(alloc, &outcome),
         Err(_) => Err(AllocError),
     }
 }
 
-/// What is seen of a program's thread within fewer ticks than these, one line for each change.
-fn source_lines(alloc: Global, accepted: &Accepted, ticks: u64) -> Result<String, AllocError> {
-    let mut lines = String::new(alloc);
+/// Adds what is seen within so many ticks: where the last line begins then.
+fn add_after<A: Allocator + Copy>(
+    alloc: A,
+    accepted: &Accepted<A>,
+    ticks: u64,
+    lines: &mut String<A>,
+    last: usize,
+) -> Result<usize, AllocError> {
+    let line = source_after(alloc, accepted, ticks)?;
+    add(lines, last, line.as_str())
+}
+
+/// Adds what is seen of a program's thread within fewer ticks than these, one line for each change.
+fn add_source<A: Allocator + Copy>(
+    alloc: A,
+    accepted: &Accepted<A>,
+    ticks: u64,
+    lines: &mut String<A>,
+) -> Result<(), AllocError> {
     let mut last = 0;
     for n in 0..ticks {
-        let line = source_after(alloc, accepted, n)?;
-        last = add(&mut lines, last, line.as_str())?;
+        last = add_after(alloc, accepted, n, lines, last)?;
     }
-    Ok(lines)
+    Ok(())
+}
+
+/// These lines.
+fn source_lines<A: Allocator + Copy>(
+    alloc: A,
+    accepted: &Accepted<A>,
+    ticks: u64,
+) -> Option<String<A>> {
+    let mut lines = String::new(alloc);
+    match add_source(alloc, accepted, ticks, &mut lines) {
+        Ok(()) => Some(lines),
+        Err(_) => None,
+    }
 }
 
 /// A thread at its beginning.
-fn begin(alloc: Global, code: &Code) -> Option<AtomicThread>
+fn begin<A: Allocator + Copy>(alloc: A, code: &Code<A>) -> Option<AtomicThread<A>>
     ensures { IfSome result (λ t. IsThreadOf code.now t.kept) }
 {
     match AtomicThread::new(alloc, code, 3) {
@@ -97,7 +131,11 @@ fn begin(alloc: Global, code: &Code) -> Option<AtomicThread>
 }
 
 /// One instruction of a thread, which finds this memory or leaves another there.
-fn step(thread: &mut AtomicThread, code: &Code, memory: &mut Vec<u64>) -> Result<(), AllocError>
+fn step<A: Allocator + Copy>(
+    thread: &mut AtomicThread<A>,
+    code: &Code<A>,
+    memory: &mut Vec<u64, A>,
+) -> Result<(), AllocError>
     requires { IsThreadOf code.now thread.old.kept }
     ensures { IsThreadOf code.now thread.new.kept }
 {
@@ -119,107 +157,173 @@ fn step(thread: &mut AtomicThread, code: &Code, memory: &mut Vec<u64>) -> Result
 }
 
 /// What is seen of a thread over this memory, in a line.
-fn code_line(alloc: Global, thread: &AtomicThread, memory: &[u64]) -> Result<String, AllocError> {
+fn code_line<A: Allocator + Copy>(
+    alloc: A,
+    thread: &AtomicThread<A>,
+    memory: &[u64],
+) -> Result<String<A>, AllocError> {
     let (end, text) = (code_end(thread.status()), thread.output().as_bytes());
     format!(in alloc; "{memory:?} {end} {text:?}\n")
 }
 
+/// Adds it: where the last line begins then.
+fn add_code_line<A: Allocator + Copy>(
+    alloc: A,
+    thread: &AtomicThread<A>,
+    memory: &[u64],
+    lines: &mut String<A>,
+    last: usize,
+) -> Result<usize, AllocError> {
+    let line = code_line(alloc, thread, memory)?;
+    add(lines, last, line.as_str())
+}
+
 /// Adds what is seen of a thread within so many instructions, one line for each change.
-fn carry_on(
-    alloc: Global,
-    thread: &mut AtomicThread,
-    code: &Code,
-    memory: &mut Vec<u64>,
-    lines: &mut String,
+fn carry_on<A: Allocator + Copy>(
+    alloc: A,
+    thread: &mut AtomicThread<A>,
+    code: &Code<A>,
+    memory: &mut Vec<u64, A>,
+    lines: &mut String<A>,
     steps: u32,
 ) -> Result<(), AllocError>
     requires { IsThreadOf code.now thread.old.kept }
 {
     let mut last = 0;
     'steps: for _ in 0..steps {
-        let line = code_line(alloc, thread, memory.as_slice())?;
-        last = add(lines, last, line.as_str())?;
+        last = add_code_line(alloc, thread, memory.as_slice(), lines, last)?;
         step(thread, code, memory)?;
     }
     Ok(())
 }
 
-/// What is seen of a code's thread within so many instructions, one line for each change.
-fn code_lines(alloc: Global, code: &Code, steps: u32) -> Result<String, AllocError> {
-    let mut lines = String::new(alloc);
-    let mut memory = Vec::new(alloc);
-    code.push_initial(&mut memory)?;
+/// The same of a new thread over a memory.
+fn add_thread<A: Allocator + Copy>(
+    alloc: A,
+    code: &Code<A>,
+    memory: &mut Vec<u64, A>,
+    lines: &mut String<A>,
+    steps: u32,
+) -> Result<(), AllocError> {
     match begin(alloc, code) {
         None => Err(AllocError),
-        Some(mut thread) => {
-            carry_on(alloc, &mut thread, code, &mut memory, &mut lines, steps)?;
-            Ok(lines)
-        }
+        Some(mut thread) => carry_on(alloc, &mut thread, code, memory, lines, steps),
+    }
+}
+
+/// The same over the memory that a code begins with.
+fn add_code<A: Allocator + Copy>(
+    alloc: A,
+    code: &Code<A>,
+    lines: &mut String<A>,
+    steps: u32,
+) -> Result<(), AllocError> {
+    let mut memory = Vec::new(alloc);
+    code.push_initial(&mut memory)?;
+    add_thread(alloc, code, &mut memory, lines, steps)
+}
+
+/// What is seen of a code's thread within so many instructions, one line for each change.
+fn code_lines<A: Allocator + Copy>(alloc: A, code: &Code<A>, steps: u32) -> Option<String<A>> {
+    let mut lines = String::new(alloc);
+    match add_code(alloc, code, &mut lines, steps) {
+        Ok(()) => Some(lines),
+        Err(_) => None,
     }
 }
 
 /// What is seen of the thread of an accepted text.
-fn of_source(alloc: Global, text: &str, ticks: u64) -> Option<String> {
+fn of_source<A: Allocator + Copy>(alloc: A, text: &str, ticks: u64) -> Option<String<A>> {
     match accepted_of(alloc, text) {
         None => None,
-        Some(accepted) => source_lines(alloc, &accepted, ticks).ok(),
+        Some(accepted) => source_lines(alloc, &accepted, ticks),
     }
 }
 
 /// What is seen of the thread of its code.
-fn of_code(alloc: Global, text: &str, steps: u32) -> Option<String> {
+fn of_code<A: Allocator + Copy>(alloc: A, text: &str, steps: u32) -> Option<String<A>> {
     match code_of(alloc, text) {
         Err(_) => None,
-        Ok(code) => code_lines(alloc, &code, steps).ok(),
+        Ok(code) => code_lines(alloc, &code, steps),
+    }
+}
+
+/// Whether these are more lines than one.
+fn are_many(lines: &str) -> bool {
+    lines.as_bytes().iter().filter(|byte| **byte == 10).count() > 1
+}
+
+/// Whether this is seen of a text's code within so many instructions.
+fn is_seen<A: Allocator + Copy>(alloc: A, text: &str, steps: u32, wanted: &str) -> bool {
+    match of_code(alloc, text, steps) {
+        Some(code) => code.as_str() == wanted,
+        None => false,
     }
 }
 
 /// Whether more than one thing is seen of a text's thread within so many ticks, and the same of its code's within so many
 /// instructions.
-fn show_the_same(alloc: Global, text: &str, ticks: u64, steps: u32) -> bool {
-    let Some(source) = of_source(alloc, text, ticks) else {
-        return false;
-    };
-    let Some(code) = of_code(alloc, text, steps) else {
-        return false;
-    };
-    let many = source.as_bytes().iter().filter(|byte| **byte == 10).count() > 1;
-    many && source.as_str() == code.as_str()
+fn show_the_same<A: Allocator + Copy>(alloc: A, text: &str, ticks: u64, steps: u32) -> bool {
+    match of_source(alloc, text, ticks) {
+        Some(source) => {
+            are_many(source.as_str()) && is_seen(alloc, text, steps, source.as_str())
+        }
+        None => false,
+    }
+}
+
+/// The first of these texts of which that does not hold.
+fn show_others<A: Allocator + Copy>(
+    alloc: A,
+    texts: &[&'static str],
+    ticks: u64,
+    steps: u32,
+) -> Option<&'static str> {
+    for text in texts {
+        if !show_the_same(alloc, text, ticks, steps) {
+            return Some(*text);
+        }
+    }
+    None
+}
+
+/// The same of texts that stand beside their listings.
+fn listed_show_others<A: Allocator + Copy>(alloc: A, rows: &[Listed]) -> Option<&'static str> {
+    for (text, _) in rows {
+        if !show_the_same(alloc, text, 300, 1000) {
+            return Some(*text);
+        }
+    }
+    None
 }
 
 /// Programs with one way of ending, of printing, of jumping or of leaving loops each.
-const TEXTS: [&str; 9] = [
-    "void worker(int self) { for (int i = 0; i < self; i++) { if (i == 1) continue; printf(\"%d;\", i); } }",
-    "int f(int n) { if (n < 2) return n; printf(\"f\"); return f(n - 1) + f(n - 2); } void worker(int self) { printf(\"%d %u\", f(self + 1), 7u); }",
-    "void worker(int self) { int v = 2147483640; do { v += self; printf(\"%d\\n\", v); } while (1); }",
-    "int g(int n) { return g(n + 1); } void worker(int self) { printf(\"a\"); g(0); printf(\"b\"); }",
-    "void worker(int self) { int k = 3; while (k >= 0) { printf(\"%d\", 6 / k); k--; } }",
-    "void worker(int self) { unsigned u = 1; for (;;) { u = u << self; printf(\"%u \", u); if (u > 100u && !(u == 512u)) break; self = self * 3; } }",
-    "int x; void worker(int self) { printf(\"%d\", self > 2 ? self || 1 / 0 : 0); __transaction_atomic { x = 1; } printf(\"z\"); }",
-    "void worker(int self) { int a = 1, b; b = a > 0 && self; while (1) { if (b) { { int a = 5; b = a - 5; } continue; } break; } printf(\"%d%d\", a, b); }",
-    "void worker(int self) { for (int i = 0; i < 8; i++) { int a = i & 1, b = i & 2, c = i & 4; if (a && b || !(c || b != 0)) printf(\"%d\", i); while ((a || b) && !(c && a)) { a = 0; b = 0; } printf(\"%d%d\", a ? b || c : c && self, (a && (b || c)) == 0 ? 1 : 2); } }",
-];
-
-#[test]
-fn small_programs_show_the_same(rt: HostRuntime) -> Result<(), Fail> {
-    for text in TEXTS {
-        assert!(rt; show_the_same(rt.alloc(), text, 300, 1000), "{text}");
-    }
-    Ok(())
+fn texts() -> &'static [&'static str] {
+    static TEXTS: [&str; 9] = [
+        "void worker(int self) { for (int i = 0; i < self; i++) { if (i == 1) continue; printf(\"%d;\", i); } }",
+        "int f(int n) { if (n < 2) return n; printf(\"f\"); return f(n - 1) + f(n - 2); } void worker(int self) { printf(\"%d %u\", f(self + 1), 7u); }",
+        "void worker(int self) { int v = 2147483640; do { v += self; printf(\"%d\\n\", v); } while (1); }",
+        "int g(int n) { return g(n + 1); } void worker(int self) { printf(\"a\"); g(0); printf(\"b\"); }",
+        "void worker(int self) { int k = 3; while (k >= 0) { printf(\"%d\", 6 / k); k--; } }",
+        "void worker(int self) { unsigned u = 1; for (;;) { u = u << self; printf(\"%u \", u); if (u > 100u && !(u == 512u)) break; self = self * 3; } }",
+        "int x; void worker(int self) { printf(\"%d\", self > 2 ? self || 1 / 0 : 0); __transaction_atomic { x = 1; } printf(\"z\"); }",
+        "void worker(int self) { int a = 1, b; b = a > 0 && self; while (1) { if (b) { { int a = 5; b = a - 5; } continue; } break; } printf(\"%d%d\", a, b); }",
+        "void worker(int self) { for (int i = 0; i < 8; i++) { int a = i & 1, b = i & 2, c = i & 4; if (a && b || !(c || b != 0)) printf(\"%d\", i); while ((a || b) && !(c && a)) { a = 0; b = 0; } printf(\"%d%d\", a ? b || c : c && self, (a && (b || c)) == 0 ? 1 : 2); } }",
+    ];
+    &TEXTS
 }
 
 #[test]
-fn listed_programs_show_the_same(rt: HostRuntime) -> Result<(), Fail> {
-    for (text, _) in LISTED {
-        assert!(rt; show_the_same(rt.alloc(), text, 300, 1000), "{text}");
-    }
-    Ok(())
+fn small_programs_show_the_same(rt: HostRuntime) {
+    assert_eq!(rt; show_others(rt.alloc(), texts(), 300, 1000), None);
 }
 
 #[test]
-fn examples_show_the_same(rt: HostRuntime) -> Result<(), Fail> {
-    for text in EXAMPLES {
-        assert!(rt; show_the_same(rt.alloc(), text, 1500, 5000), "{text}");
-    }
-    Ok(())
+fn listed_programs_show_the_same(rt: HostRuntime) {
+    assert_eq!(rt; listed_show_others(rt.alloc(), rows()), None);
+}
+
+#[test]
+fn examples_show_the_same(rt: HostRuntime) {
+    assert_eq!(rt; show_others(rt.alloc(), examples(), 1500, 5000), None);
 }
