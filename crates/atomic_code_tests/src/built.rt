@@ -6,14 +6,26 @@ use lex::token::{Scalar, Span};
 use std::alloc::{AllocError, Allocator};
 use syntax::tree::{Global, Name};
 
-/// The code of a function that begins at `first`.
-fn function<A: Allocator + Copy>(
+// Parts with nothing in them.
+fn nothing<A: Allocator + Copy>(alloc: A) -> Parts<A> {
+    Parts {
+        functions: Items::new(alloc),
+        instructions: Items::new(alloc),
+        arguments: Items::new(alloc),
+        texts: Items::new(alloc),
+        globals: Items::new(alloc),
+    }
+}
+
+// Appends a function of one parameter that begins at `first`.
+fn push_function<A: Allocator + Copy>(
     alloc: A,
+    parts: &mut Parts<A>,
     name: &str,
     first: u32,
     registers: u32,
-) -> Result<FunctionCode<A>, AllocError> {
-    Ok(FunctionCode {
+) -> Result<(), AllocError> {
+    parts.functions.push(FunctionCode {
         name: Text::from_str(alloc, name)?,
         first,
         registers,
@@ -21,9 +33,18 @@ fn function<A: Allocator + Copy>(
     })
 }
 
-/// The variable `x`.
-fn variable<A: Allocator + Copy>(alloc: A) -> Result<Global<A>, AllocError> {
-    Ok(Global {
+// Appends a text.
+fn push_text<A: Allocator + Copy>(
+    alloc: A,
+    parts: &mut Parts<A>,
+    text: &str,
+) -> Result<(), AllocError> {
+    parts.texts.push(Text::from_str(alloc, text)?)
+}
+
+// Appends the variable `x`.
+fn push_variable<A: Allocator + Copy>(alloc: A, parts: &mut Parts<A>) -> Result<(), AllocError> {
+    parts.globals.push(Global {
         of: Scalar::Int,
         name: Name {
             text: Text::from_str(alloc, "x")?,
@@ -34,33 +55,55 @@ fn variable<A: Allocator + Copy>(alloc: A) -> Result<Global<A>, AllocError> {
     })
 }
 
-/// The function `worker` alone, over a variable `x` and the texts `"\t"` and `\`, with four registers and these instructions.
-fn worker<A: Allocator + Copy>(alloc: A, instructions: &[Instr]) -> Result<Parts<A>, AllocError> {
-    let mut functions = Items::new(alloc);
-    functions.push(function(alloc, "worker", 0, 4)?)?;
-    let mut texts = Items::new(alloc);
-    texts.push(Text::from_str(alloc, "\"\t\"")?)?;
-    texts.push(Text::from_str(alloc, "\\\n")?)?;
-    let mut globals = Items::new(alloc);
-    globals.push(variable(alloc)?)?;
-    Ok(Parts {
-        functions,
-        instructions: Items::from_vec(Vec::from_slice(alloc, instructions)?),
-        arguments: Items::new(alloc),
-        texts,
-        globals,
-    })
+// Appends instructions.
+fn push_instructions<A: Allocator + Copy>(
+    parts: &mut Parts<A>,
+    instructions: &[Instr],
+) -> Result<(), AllocError> {
+    for instr in instructions {
+        parts.instructions.push(*instr)?;
+    }
+    Ok(())
 }
 
-/// `worker`, and `f` with one parameter and three registers behind it, and register 0 to hand over.
+// Appends the function `worker` with four registers, a variable `x`, the texts `"\t"` and `\`, and these instructions.
+fn push_worker<A: Allocator + Copy>(
+    alloc: A,
+    parts: &mut Parts<A>,
+    instructions: &[Instr],
+) -> Result<(), AllocError> {
+    push_function(alloc, parts, "worker", 0, 4)?;
+    push_text(alloc, parts, "\"\t\"")?;
+    push_text(alloc, parts, "\\\n")?;
+    push_variable(alloc, parts)?;
+    push_instructions(parts, instructions)
+}
+
+// Those parts.
+fn worker<A: Allocator + Copy>(alloc: A, instructions: &[Instr]) -> Result<Parts<A>, AllocError> {
+    let mut parts = nothing(alloc);
+    push_worker(alloc, &mut parts, instructions)?;
+    Ok(parts)
+}
+
+// Appends `f` with one parameter and three registers, and register 0 to hand over.
+fn push_second<A: Allocator + Copy>(
+    alloc: A,
+    parts: &mut Parts<A>,
+    second: u32,
+) -> Result<(), AllocError> {
+    push_function(alloc, parts, "f", second, 3)?;
+    parts.arguments.push(0)
+}
+
+// `worker`, and that behind it.
 fn two_functions<A: Allocator + Copy>(
     alloc: A,
     instructions: &[Instr],
     second: u32,
 ) -> Result<Parts<A>, AllocError> {
     let mut parts = worker(alloc, instructions)?;
-    parts.functions.push(function(alloc, "f", second, 3)?)?;
-    parts.arguments.push(0)?;
+    push_second(alloc, &mut parts, second)?;
     Ok(parts)
 }
 

@@ -5,7 +5,6 @@ use crate::driven::spite;
 use bytecode::Instr;
 use refusing::Refusing;
 use std::alloc::Allocator;
-use std::test::Fail;
 use syntax::numbers::Status;
 
 // What thread 7 comes to by four calls where growth `nth` behind its code's is refused, and whether that growth is still to
@@ -28,9 +27,8 @@ fn refused_at<A: Allocator + Copy>(
     }
 }
 
-#[test]
-fn each_growth_may_be_refused(rt: HostRuntime) -> Result<(), Fail> {
-    let instructions = [
+fn instructions() -> &'static [Instr] {
+    static CODE: [Instr; 12] = [
         Instr::Begin(8),
         Instr::Write(0, 0),
         Instr::Begin(6),
@@ -45,23 +43,36 @@ fn each_growth_may_be_refused(rt: HostRuntime) -> Result<(), Fail> {
         // f
         Instr::Return,
     ];
-    let mut met = 0;
+    &CODE
+}
+
+// Whether four calls make all, to the memory that is left and to the end, and none of them is refused where the growth is still to
+// come.
+fn are_right(came: (u32, u64, Status, bool), waits: bool) -> bool {
+    let (made, steps, status, printed) = came;
+    printed && steps == 12 && status == Status::Ended && (made == 4 || !waits)
+}
+
+// How many growths are met, each of which was refused once; `None` where a call goes wrong.
+fn growths<A: Allocator + Copy>(inner: A) -> Option<u64> {
     for nth in 1..60u64 {
-        match refused_at(rt.alloc(), &instructions, nth) {
-            None => assert!(rt; false),
-            // four calls make all: to the memory that is left, and to the end
-            Some(((made, steps, status, printed), waits)) => {
-                assert!(rt; printed);
-                assert_eq!(rt; (steps, status), (12, Status::Ended));
-                if waits {
-                    assert_eq!(rt; made, 4);
-                    break;
+        match refused_at(inner, instructions(), nth) {
+            None => return None,
+            Some((came, waits)) => {
+                if !are_right(came, waits) {
+                    return None;
                 }
-                met = nth;
+                if waits {
+                    return Some(nth - 1);
+                }
             }
         }
     }
+    None
+}
+
+#[test]
+fn each_growth_may_be_refused(rt: HostRuntime) {
     // the first frame; what the begins keep; the caller and its callee's registers; the texts
-    assert!(rt; met >= 9 && met < 59);
-    Ok(())
+    assert!(rt; growths(rt.alloc()) >= Some(9));
 }

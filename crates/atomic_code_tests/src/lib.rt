@@ -3,7 +3,8 @@
 
 #[cfg(test)]
 mod built;
-pub mod driven;
+#[cfg(test)]
+mod driven;
 #[cfg(test)]
 mod growths;
 #[cfg(test)]

@@ -5,7 +5,6 @@ use crate::driven::{pieces, turns};
 use atomic_code::is_memory;
 use bytecode::Instr;
 use std::alloc::Allocator;
-use std::test::Fail;
 use syntax::numbers::Status;
 
 // What thread 5 of a worker of these instructions comes to by so many calls, each of so many instructions.
@@ -21,10 +20,8 @@ fn by_calls<A: Allocator + Copy>(
     }
 }
 
-#[test]
-fn a_transaction_goes_on_in_its_own_memory(rt: HostRuntime) -> Result<(), Fail> {
-    let a = rt.alloc();
-    let instructions = [
+fn adds_in_a_transaction() -> &'static [Instr] {
+    static CODE: [Instr; 12] = [
         Instr::Begin(11),
         Instr::Constant(1, 2),
         Instr::Write(1, 0),
@@ -38,21 +35,37 @@ fn a_transaction_goes_on_in_its_own_memory(rt: HostRuntime) -> Result<(), Fail> 
         Instr::Commit,
         Instr::Return,
     ];
-    let running = Status::Running;
-    assert_eq!(rt; by_calls(a, &instructions, 10, 0), Some((None, 0, running)));
-    assert_eq!(rt;
-        by_calls(a, &instructions, 10, 1),
-        Some((None, 10, running))
-    );
-    assert_eq!(rt;
-        by_calls(a, &instructions, 11, 1),
-        Some((Some(4), 11, running))
-    );
-    assert_eq!(rt;
-        by_calls(a, &instructions, 20, 1),
-        Some((Some(4), 12, Status::Ended))
-    );
-    Ok(())
+    &CODE
+}
+
+// How many calls, of how many instructions each, and what they come to: the word left last, how many instructions, and how the
+// thread is.
+type Calls = (u32, u32, Option<u64>, u64, Status);
+
+fn calls() -> &'static [Calls] {
+    static ROWS: [Calls; 4] = [
+        (10, 0, None, 0, Status::Running),
+        (10, 1, None, 10, Status::Running),
+        (11, 1, Some(4), 11, Status::Running),
+        (20, 1, Some(4), 12, Status::Ended),
+    ];
+    &ROWS
+}
+
+// Whether these calls of that worker come to that.
+fn come_to<A: Allocator + Copy>(alloc: A, rows: &[Calls]) -> bool {
+    for (calls, each, word, steps, status) in rows {
+        let came = by_calls(alloc, adds_in_a_transaction(), *calls, *each);
+        if came != Some((*word, *steps, *status)) {
+            return false;
+        }
+    }
+    true
+}
+
+#[test]
+fn a_transaction_goes_on_in_its_own_memory(rt: HostRuntime) {
+    assert!(rt; come_to(rt.alloc(), calls()));
 }
 
 // What thread 5 of a worker of these instructions comes to by 49 calls, each of which finds what the one before left, and the
@@ -64,10 +77,9 @@ fn by_turns<A: Allocator + Copy>(alloc: A, instructions: &[Instr]) -> Option<(u6
     }
 }
 
-#[test]
-fn each_transaction_finds_the_memory_at_hand(rt: HostRuntime) -> Result<(), Fail> {
-    // x = x + r0, for ever
-    let instructions = [
+// x = x + r0, for ever
+fn adds_for_ever() -> &'static [Instr] {
+    static CODE: [Instr; 6] = [
         Instr::Begin(4),
         Instr::Read(1, 0),
         Instr::AddSigned(1, 1, 0),
@@ -75,9 +87,12 @@ fn each_transaction_finds_the_memory_at_hand(rt: HostRuntime) -> Result<(), Fail
         Instr::Commit,
         Instr::Jump(0),
     ];
-    let running = Some((254, 293, Status::Running));
-    assert_eq!(rt; by_turns(rt.alloc(), &instructions), running);
-    Ok(())
+    &CODE
+}
+
+#[test]
+fn each_transaction_finds_the_memory_at_hand(rt: HostRuntime) {
+    assert!(rt; by_turns(rt.alloc(), adds_for_ever()) == Some((254, 293, Status::Running)));
 }
 
 // Whether these words are a memory of a worker that only returns.
@@ -89,11 +104,10 @@ fn are_memory<A: Allocator + Copy>(alloc: A, words: &[u64]) -> Option<bool> {
 }
 
 #[test]
-fn a_memory_has_a_word_for_each_cell(rt: HostRuntime) -> Result<(), Fail> {
+fn a_memory_has_a_word_for_each_cell(rt: HostRuntime) {
     let a = rt.alloc();
-    assert_eq!(rt; are_memory(a, &[4_294_967_295]), Some(true));
-    assert_eq!(rt; are_memory(a, &[4_294_967_296]), Some(false));
-    assert_eq!(rt; are_memory(a, &[]), Some(false));
-    assert_eq!(rt; are_memory(a, &[0, 0]), Some(false));
-    Ok(())
+    assert!(rt; are_memory(a, &[4_294_967_295]) == Some(true));
+    assert!(rt; are_memory(a, &[4_294_967_296]) == Some(false));
+    assert!(rt; are_memory(a, &[]) == Some(false));
+    assert!(rt; are_memory(a, &[0, 0]) == Some(false));
 }

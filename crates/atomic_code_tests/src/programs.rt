@@ -5,73 +5,79 @@ use crate::driven::{comes_to, turns};
 use atomic_code::End;
 use bytecode::Instr;
 use std::alloc::Allocator;
-use std::test::Fail;
 use syntax::numbers::{Status, Trap};
 
-// What thread 5 of a worker, and of a function that begins at `second`, comes to: how many instructions it makes, how it is over,
-// and whether it has printed this.
-fn of_two<A: Allocator + Copy>(
-    alloc: A,
-    instructions: &[Instr],
-    second: u32,
-    text: &str,
-) -> Option<(u64, Option<u64>, Option<End>, bool)> {
+// What a thread comes to: how many instructions it makes, how it is over, and what it has printed.
+type Came = (u64, Option<End>, &'static str);
+
+// Whether thread 5 of a worker, and of a function that begins at `second`, comes to this.
+fn of_two<A: Allocator + Copy>(alloc: A, instructions: &[Instr], second: u32, came: Came) -> bool {
     match code_of_two(alloc, instructions, second) {
-        None => None,
-        Some(code) => comes_to(alloc, &code, 100, text),
+        None => false,
+        Some(code) => comes_to(alloc, &code, 100, came.2) == Some((came.0, None, came.1, true)),
     }
 }
 
-#[test]
-fn calls_give_values_and_a_65th_frame_traps(rt: HostRuntime) -> Result<(), Fail> {
-    let a = rt.alloc();
-    // r1 = f(r0), and f gives minus its parameter
-    let gives_back = [
+// r1 = f(r0), and f gives minus its parameter
+fn gives_back() -> &'static [Instr] {
+    static CODE: [Instr; 5] = [
         Instr::Call(1, 1, 1, 0),
         Instr::PrintSigned(1),
         Instr::Return,
         Instr::NegateUnsigned(0, 0),
         Instr::ReturnValue(0),
     ];
-    let ended = Some((5, None, Some(End::Ended), true));
-    assert_eq!(rt; of_two(a, &gives_back, 3, "-5"), ended);
-    // f gives 0
-    let gives_none = [
+    &CODE
+}
+
+// f gives 0
+fn gives_none() -> &'static [Instr] {
+    static CODE: [Instr; 5] = [
         Instr::Constant(1, 3),
         Instr::Call(1, 1, 1, 0),
         Instr::PrintSigned(1),
         Instr::Return,
         Instr::Return,
     ];
-    assert_eq!(rt; of_two(a, &gives_none, 4, "0"), ended);
-    // f calls itself
-    let for_ever = [
+    &CODE
+}
+
+// f calls itself
+fn calls_for_ever() -> &'static [Instr] {
+    static CODE: [Instr; 4] = [
         Instr::Call(1, 1, 1, 0),
         Instr::Return,
         Instr::Call(0, 1, 1, 0),
         Instr::Return,
     ];
-    let trapped = Some((64, None, Some(End::Trapped(Trap::Frames)), true));
-    assert_eq!(rt; of_two(a, &for_ever, 2, ""), trapped);
-    Ok(())
-}
-
-// What thread 5 of a worker of these instructions comes to within so many.
-fn of<A: Allocator + Copy>(
-    alloc: A,
-    instructions: &[Instr],
-    most: u32,
-    text: &str,
-) -> Option<(u64, Option<u64>, Option<End>, bool)> {
-    match code_of(alloc, instructions) {
-        None => None,
-        Some(code) => comes_to(alloc, &code, most, text),
-    }
+    &CODE
 }
 
 #[test]
-fn texts_and_numbers_are_printed(rt: HostRuntime) -> Result<(), Fail> {
-    let instructions = [
+fn calls_give_values_and_a_65th_frame_traps(rt: HostRuntime) {
+    let a = rt.alloc();
+    assert!(rt; of_two(a, gives_back(), 3, (5, Some(End::Ended), "-5")));
+    assert!(rt; of_two(a, gives_none(), 4, (5, Some(End::Ended), "0")));
+    assert!(rt;
+        of_two(
+            a,
+            calls_for_ever(),
+            2,
+            (64, Some(End::Trapped(Trap::Frames)), "")
+        )
+    );
+}
+
+// Whether thread 5 of a worker of these instructions comes to this within so many.
+fn of<A: Allocator + Copy>(alloc: A, instructions: &[Instr], most: u32, came: Came) -> bool {
+    match code_of(alloc, instructions) {
+        None => false,
+        Some(code) => comes_to(alloc, &code, most, came.2) == Some((came.0, None, came.1, true)),
+    }
+}
+
+fn prints() -> &'static [Instr] {
+    static CODE: [Instr; 6] = [
         Instr::Constant(1, 4_294_967_295),
         Instr::PrintSigned(1),
         Instr::PrintText(1),
@@ -79,19 +85,18 @@ fn texts_and_numbers_are_printed(rt: HostRuntime) -> Result<(), Fail> {
         Instr::PrintUnsigned(1),
         Instr::ReturnValue(1),
     ];
-    let ended = Some((6, None, Some(End::Ended), true));
-    assert_eq!(rt;
-        of(rt.alloc(), &instructions, 100, "-1\\\n4294967295"),
-        ended
-    );
-    Ok(())
+    &CODE
 }
 
 #[test]
-fn the_sum_of_the_first_thousand(rt: HostRuntime) -> Result<(), Fail> {
-    let a = rt.alloc();
-    // r1: the sum; r2: the number; r3: one
-    let instructions = [
+fn texts_and_numbers_are_printed(rt: HostRuntime) {
+    let came = (6, Some(End::Ended), "-1\\\n4294967295");
+    assert!(rt; of(rt.alloc(), prints(), 100, came));
+}
+
+// r1: the sum; r2: the number; r3: one
+fn sums() -> &'static [Instr] {
+    static CODE: [Instr; 8] = [
         Instr::Constant(2, 1000),
         Instr::Constant(3, 1),
         Instr::JumpZero(2, 6),
@@ -101,11 +106,14 @@ fn the_sum_of_the_first_thousand(rt: HostRuntime) -> Result<(), Fail> {
         Instr::PrintSigned(1),
         Instr::Return,
     ];
-    let ended = Some((4005, None, Some(End::Ended), true));
-    assert_eq!(rt; of(a, &instructions, 4005, "500500"), ended);
-    let goes = Some((4004, None, None, true));
-    assert_eq!(rt; of(a, &instructions, 4004, "500500"), goes);
-    Ok(())
+    &CODE
+}
+
+#[test]
+fn the_sum_of_the_first_thousand(rt: HostRuntime) {
+    let a = rt.alloc();
+    assert!(rt; of(a, sums(), 4005, (4005, Some(End::Ended), "500500")));
+    assert!(rt; of(a, sums(), 4004, (4004, None, "500500")));
 }
 
 // What thread 10 comes to by 20 calls: the word that is left, and how it is.
@@ -116,10 +124,9 @@ fn tenth<A: Allocator + Copy>(alloc: A, instructions: &[Instr]) -> Option<(u64, 
     }
 }
 
-#[test]
-fn fibonacci_numbers_by_calls(rt: HostRuntime) -> Result<(), Fail> {
-    // f(n) adds n to the cell where n < 2, and otherwise calls f(n - 1) and f(n - 2): 89 calls of 7 instructions and 88 of 10
-    let instructions = [
+// f(n) adds n to the cell where n < 2, and otherwise calls f(n - 1) and f(n - 2): 89 calls of 7 instructions and 88 of 10
+fn fibonacci() -> &'static [Instr] {
+    static CODE: [Instr; 20] = [
         Instr::Begin(5),
         Instr::Call(1, 1, 1, 0),
         Instr::Read(1, 0),
@@ -142,9 +149,10 @@ fn fibonacci_numbers_by_calls(rt: HostRuntime) -> Result<(), Fail> {
         Instr::Write(1, 0),
         Instr::Return,
     ];
-    assert_eq!(rt;
-        tenth(rt.alloc(), &instructions),
-        Some((55, 1509, Status::Ended))
-    );
-    Ok(())
+    &CODE
+}
+
+#[test]
+fn fibonacci_numbers_by_calls(rt: HostRuntime) {
+    assert!(rt; tenth(rt.alloc(), fibonacci()) == Some((55, 1509, Status::Ended)));
 }

@@ -4,7 +4,6 @@ use crate::built::code_of;
 use atomic_code::{ThreadEnd, ThreadOutcome, is_memory, thread};
 use bytecode::{Code, Instr};
 use std::alloc::{AllocError, Global};
-use std::test::Fail;
 use syntax::numbers::{Halt, Trap};
 
 /// What a thread leaves in the one cell in its first transaction and in its second, how it is found, and whether it has printed
@@ -49,35 +48,74 @@ fn outcome(
     }
 }
 
-// Two memories of one cell.
-fn memories(alloc: Global, first: u64, second: u64) -> Result<[Vec<u64>; 2], AllocError> {
-    let first = Vec::from_slice(alloc, &[first])?;
-    let second = Vec::from_slice(alloc, &[second])?;
-    Ok([first, second])
+// A memory of one cell.
+fn memory(alloc: Global, word: u64) -> Result<Vec<u64>, AllocError> {
+    Vec::from_slice(alloc, &[word])
 }
 
-// What thread 5 of a worker of these instructions comes to, whose transactions find these words in the one cell.
-fn of(
+// Two of them.
+fn memories(alloc: Global, first: u64, second: u64) -> Option<[Vec<u64>; 2]> {
+    match memory(alloc, first) {
+        Ok(first) => match memory(alloc, second) {
+            Ok(second) => Some([first, second]),
+            Err(_) => None,
+        },
+        Err(_) => None,
+    }
+}
+
+// What thread 5 of a code comes to, whose transactions find these words in the one cell.
+fn of_code(
     alloc: Global,
-    instructions: &[Instr],
+    code: &Code,
     founds: (u64, u64),
     steps: u64,
     text: &str,
 ) -> Option<Shown> {
-    let Ok(founds) = memories(alloc, founds.0, founds.1) else {
-        return None;
-    };
-    match code_of(alloc, instructions) {
+    match memories(alloc, founds.0, founds.1) {
+        Some(founds) => outcome(alloc, code, &founds, steps, text),
         None => None,
-        Some(code) => outcome(alloc, &code, &founds, steps, text),
     }
 }
 
-#[test]
-fn each_transaction_finds_its_memory(rt: HostRuntime) -> Result<(), Fail> {
-    let a = rt.alloc();
-    // x = x + r0, and then a print; for ever
-    let loops = [
+// Words that the transactions of thread 5 find in the one cell, for how many instructions at most it runs, and what it comes to: the
+// words left in its first transaction and in its second, how it is found, and what it has printed.
+type Row = (
+    (u64, u64),
+    u64,
+    Option<u64>,
+    Option<u64>,
+    ThreadEnd,
+    &'static str,
+);
+
+// Whether a code's thread comes to this.
+fn is_so(alloc: Global, code: &Code, row: &Row) -> bool {
+    let (founds, steps, first, second, end, text) = *row;
+    of_code(alloc, code, founds, steps, text) == Some((first, second, end, true))
+}
+
+// Whether it comes to all these.
+fn are_so(alloc: Global, code: &Code, rows: &[Row]) -> bool {
+    for row in rows {
+        if !is_so(alloc, code, row) {
+            return false;
+        }
+    }
+    true
+}
+
+// The same of a worker of these instructions.
+fn comes_to(alloc: Global, instructions: &[Instr], rows: &[Row]) -> bool {
+    match code_of(alloc, instructions) {
+        None => false,
+        Some(code) => are_so(alloc, &code, rows),
+    }
+}
+
+// x = x + r0, and then a print; for ever
+fn loops() -> &'static [Instr] {
+    static CODE: [Instr; 7] = [
         Instr::Begin(4),
         Instr::Read(1, 0),
         Instr::AddSigned(1, 1, 0),
@@ -86,58 +124,108 @@ fn each_transaction_finds_its_memory(rt: HostRuntime) -> Result<(), Fail> {
         Instr::PrintSigned(1),
         Instr::Jump(0),
     ];
-    let spent = ThreadEnd::Stopped(Halt::Spent);
-    let wants = ThreadEnd::Stopped(Halt::Wants);
-    let (first, second) = (Some(6), Some(25));
-    assert_eq!(rt;
-        of(a, &loops, (1, 20), 0, ""),
-        Some((None, None, spent, true))
-    );
-    assert_eq!(rt;
-        of(a, &loops, (1, 20), 4, ""),
-        Some((None, None, spent, true))
-    );
-    assert_eq!(rt;
-        of(a, &loops, (1, 20), 5, ""),
-        Some((first, None, spent, true))
-    );
-    assert_eq!(rt;
-        of(a, &loops, (1, 20), 6, "6"),
-        Some((first, None, spent, true))
-    );
-    assert_eq!(rt;
-        of(a, &loops, (1, 20), 14, "625"),
-        Some((first, second, spent, true))
-    );
-    assert_eq!(rt;
-        of(a, &loops, (1, 20), 15, "625"),
-        Some((first, second, wants, true))
-    );
-    assert_eq!(rt;
-        of(a, &loops, (1, 20), 1000, "625"),
-        Some((first, second, wants, true))
-    );
-    Ok(())
+    &CODE
+}
+
+fn looped() -> &'static [Row] {
+    static ROWS: [Row; 7] = [
+        ((1, 20), 0, None, None, ThreadEnd::Stopped(Halt::Spent), ""),
+        ((1, 20), 4, None, None, ThreadEnd::Stopped(Halt::Spent), ""),
+        (
+            (1, 20),
+            5,
+            Some(6),
+            None,
+            ThreadEnd::Stopped(Halt::Spent),
+            "",
+        ),
+        (
+            (1, 20),
+            6,
+            Some(6),
+            None,
+            ThreadEnd::Stopped(Halt::Spent),
+            "6",
+        ),
+        (
+            (1, 20),
+            14,
+            Some(6),
+            Some(25),
+            ThreadEnd::Stopped(Halt::Spent),
+            "625",
+        ),
+        (
+            (1, 20),
+            15,
+            Some(6),
+            Some(25),
+            ThreadEnd::Stopped(Halt::Wants),
+            "625",
+        ),
+        (
+            (1, 20),
+            1000,
+            Some(6),
+            Some(25),
+            ThreadEnd::Stopped(Halt::Wants),
+            "625",
+        ),
+    ];
+    &ROWS
 }
 
 #[test]
-fn a_thread_ends_or_traps(rt: HostRuntime) -> Result<(), Fail> {
-    let a = rt.alloc();
-    let ends = [Instr::Begin(2), Instr::Commit, Instr::Return];
-    let ended = Some((Some(7), None, ThreadEnd::Ended, true));
-    assert_eq!(rt; of(a, &ends, (7, 8), 100, ""), ended);
-    // traps at a cell that holds 0
-    let traps = [
+fn each_transaction_finds_its_memory(rt: HostRuntime) {
+    assert!(rt; comes_to(rt.alloc(), loops(), looped()));
+}
+
+fn ends() -> &'static [Instr] {
+    static CODE: [Instr; 3] = [Instr::Begin(2), Instr::Commit, Instr::Return];
+    &CODE
+}
+
+fn ended() -> &'static [Row] {
+    static ROWS: [Row; 1] = [((7, 8), 100, Some(7), None, ThreadEnd::Ended, "")];
+    &ROWS
+}
+
+// Traps at a cell that holds 0.
+fn traps() -> &'static [Instr] {
+    static CODE: [Instr; 5] = [
         Instr::Begin(3),
         Instr::Read(1, 0),
         Instr::DivideSigned(1, 0, 1),
         Instr::Commit,
         Instr::Jump(0),
     ];
-    let zero = ThreadEnd::Stopped(Halt::Trapped(Trap::ZeroDivisor));
-    let second = Some((Some(7), Some(0), zero, true));
-    assert_eq!(rt; of(a, &traps, (7, 0), 100, ""), second);
-    let first = Some((Some(0), None, zero, true));
-    assert_eq!(rt; of(a, &traps, (0, 7), 100, ""), first);
-    Ok(())
+    &CODE
+}
+
+fn trapped() -> &'static [Row] {
+    static ROWS: [Row; 2] = [
+        (
+            (7, 0),
+            100,
+            Some(7),
+            Some(0),
+            ThreadEnd::Stopped(Halt::Trapped(Trap::ZeroDivisor)),
+            "",
+        ),
+        (
+            (0, 7),
+            100,
+            Some(0),
+            None,
+            ThreadEnd::Stopped(Halt::Trapped(Trap::ZeroDivisor)),
+            "",
+        ),
+    ];
+    &ROWS
+}
+
+#[test]
+fn a_thread_ends_or_traps(rt: HostRuntime) {
+    assert!(rt; comes_to(rt.alloc(), ends(), ended()));
+    assert!(rt; comes_to(rt.alloc(), traps(), trapped()));
 }
