@@ -8,7 +8,7 @@ examples/ and demands a code of each.
 With --check it writes nothing, and fails where one of the three is not what it would write, or where a document shows what the program
 does not print: a block that begins with `$ txc run examples/NAME.c` has NAME.out under it, any other one that begins with
 `$ txc` is a transcript, README.md shows the output of first.c in a block of its own, and the C that it and GUIDE.md show is that
-of files of examples/.
+of files of examples/, and the schedules that GUIDE.md shows are those of examples/schedules/.
 """
 
 import glob
@@ -23,6 +23,7 @@ LOWER_TESTS = os.path.join(TOP, "crates/lower_tests/src/examples.rt")
 SHOWN = re.compile(r"^```\n(\$ txc [^\n]*\n)(.*?)^```$", re.M | re.S)
 PROGRAM = re.compile(r"^```c\n(.*?)^```$", re.M | re.S)
 RUN = re.compile(r"\$ txc run examples/(\w+)\.c\n")
+SCHEDULE = re.compile(r"^```\n((?:\d+ a?\d+\n)+)```$", re.M)
 
 
 def read(path):
@@ -230,21 +231,32 @@ fn examples_leave_and_print_what_they_should(rt: HostRuntime) -> Result<(), Fail
 
 
 def lower_tests():
-    examples = [f"    {literal(read(name))},\n" for name in names("examples/*.c")]
+    examples = [f"        {literal(read(name))},\n" for name in names("examples/*.c")]
     return f"""//! The programs of examples/, and that each has a code: written by scripts/examples.py.
 
-use crate::accepted::code_of;
-use std::test::Fail;
+use crate::accepted::fault_of;
+use std::alloc::Allocator;
 
-pub const EXAMPLES: [&str; {len(examples)}] = [
-{"".join(examples)}];
+/// The texts stand in a function, so that no proof but its own looks at them.
+pub fn examples() -> &'static [&'static str] {{
+    static TEXTS: [&str; {len(examples)}] = [
+{"".join(examples)}    ];
+    &TEXTS
+}}
+
+// The first of these texts that has no code.
+fn has_none<A: Allocator + Copy>(alloc: A, texts: &[&'static str]) -> Option<&'static str> {{
+    for text in texts {{
+        if fault_of(alloc, text).is_some() {{
+            return Some(*text);
+        }}
+    }}
+    None
+}}
 
 #[test]
-fn each_example_has_code(rt: HostRuntime) -> Result<(), Fail> {{
-    for text in EXAMPLES {{
-        assert!(rt; code_of(rt.alloc(), text).is_ok());
-    }}
-    Ok(())
+fn each_example_has_code(rt: HostRuntime) {{
+    assert_eq!(rt; has_none(rt.alloc(), examples()), None);
 }}
 """
 
@@ -268,6 +280,8 @@ def main():
     programs = {read(name) for name in names("examples/**/*.c")}
     for document in ("README.md", "docs/GUIDE.md"):
         wrong += [f"{document} shows a program that is no example: {text[:60]!r}" for text in PROGRAM.findall(read(document)) if text not in programs]
+    schedules = {read(name) for name in names("examples/schedules/*.txt")}
+    wrong += [f"docs/GUIDE.md shows a schedule that is no example: {text[:60]!r}" for text in SCHEDULE.findall(read("docs/GUIDE.md")) if text not in schedules]
     if f"```\n{read('examples/first.out')}```" not in read("README.md"):
         wrong.append("README.md does not show what first.c prints")
     print("\n".join(wrong) or f"the examples are those of the tests, and {count} transcripts in documents are as they run")
