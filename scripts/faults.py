@@ -4,9 +4,9 @@
   scripts/faults.py           fails where they differ
   scripts/faults.py --write   writes crates/faults/src/explanations.rt, which is what `txc explain` prints, from the page
 
-Each example of the page's first two tables has to stand in crates/serving_tests/src/refusals.rt, with the same number, place and
-words, in TOLD and LONG or in NOT_TOLD_YET and LONG_NOT_TOLD_YET; each number of the page has the words of
-crates/faults/src/table.rt. Prints what differs, and ends in status 1 where something does.
+Each example of the page's first table has to stand in crates/serving_tests/src/refusals.rt, with the same number, place and words,
+in TOLD or LONG; each number of the page has the words of crates/faults/src/table.rt. Prints what differs, and ends in status 1
+where something does.
 """
 
 import os
@@ -112,13 +112,11 @@ def main():
             file.write(explanations(read("docs/FAULTS.md")))
         return 0
     page, code = read("docs/FAULTS.md"), read("crates/serving_tests/src/refusals.rt")
-    parts = re.split(r"^## ", page, flags=re.M)
-    wrong = []
-    for part, tables in (("Told today", ("TOLD", "LONG")), ("Not told yet: sources", ("NOT_TOLD_YET", "LONG_NOT_TOLD_YET"))):
-        told = [row for name in tables for row in tested(code, name)]
-        here = documented(next((it for it in parts if it.startswith(part)), ""))
-        wrong += [f"no test has the example of {row[1]:02} at {row[2]}: {row[0][:80]!r}" for row in here if row not in told]
-        wrong += [f"{part}: the page has no example of {row[1]:02} at {row[2]}: {row[0][:80]!r}" for row in told if row not in here]
+    parts, wrong = re.split(r"^## ", page, flags=re.M), []
+    told = [row for name in ("TOLD", "LONG") for row in tested(code, name)]
+    here = documented(next(it for it in parts if it.startswith("A source is refused")))
+    wrong += [f"no test has the example of {row[1]:02} at {row[2]}: {row[0][:80]!r}" for row in here if row not in told]
+    wrong += [f"the page has no example of {row[1]:02} at {row[2]}: {row[0][:80]!r}" for row in told if row not in here]
     words = {int(number): text for number, text in re.findall(rf"(\d+) => {TEXT}", read("crates/faults/src/table.rt"))}
     shown = {int(number): text for number, text in re.findall(r"^\| (\d\d) \| ([^|]*?) \|", page, re.M)}
     wrong += [f"{number:02}: the page says {shown.get(number)!r}, the program {words.get(number)!r}" for number in sorted({*words, *shown}) if words.get(number) != shown.get(number)]
