@@ -3,8 +3,11 @@
 use command::{Request, UsageFault, command};
 use refusing::Refusing;
 use report::report_text;
-use serving::{OrderFault, list_source, run_in_order, serve, tell_usage};
+use serving::{
+    Detail, OrderFault, cannot_read as tell_unread, list_source, run_in_order, serve, tell_usage,
+};
 use std::alloc::{Allocator, Global};
+use std::fs::File;
 use std::io;
 use std::io::{ErrorKind, Read, Write};
 use std::sync::Wait;
@@ -452,6 +455,26 @@ fn says_why_it_cannot_be_read(rt: HostRuntime) -> Result<(), Fail> {
     let told = b"txc: cannot read a.c (permission denied)\n";
     assert!(rt; cannot_read(&rt, rt.alloc(), &request, told));
     Ok(())
+}
+
+// What is said of a file that the system does not open, and the status; nothing where it is opened.
+fn told_unless_opened(rt: &HostRuntime, alloc: Global, file: &str) -> (u8, Vec<u8>) {
+    let mut err = Vec::new(alloc);
+    let detail = Detail {
+        lines: false,
+        reasons: false,
+    };
+    let status = match File::open(rt, file) {
+        Ok(_) => 0,
+        Err(error) => tell_unread(file, &error, detail, &mut err),
+    };
+    (status, err)
+}
+
+#[test]
+fn says_what_is_not_there(rt: HostRuntime) {
+    let (status, told) = told_unless_opened(&rt, rt.alloc(), "no/such/file.c");
+    assert!(rt; status == 2 && told.as_slice() == b"txc: cannot read no/such/file.c\n");
 }
 
 #[test]

@@ -1,9 +1,6 @@
 //! The program: opens the file that is asked for, runs it and prints the report.
 #![tactic(auto)]
 
-#[cfg(test)]
-mod tests;
-
 use command::{Request, Steps, Task, UsageFault, command};
 use serving::{Detail, cannot_read, serve, tell_usage};
 use std::alloc::Global;
