@@ -123,6 +123,12 @@ def keep(row):
         writer.writerow(row)
 
 
+def wrong_bodies(crate):
+    """How many wrong bodies of a crate the gate tries."""
+    folder = f"{TOP}/crates/{crate}/must-fail"
+    return len([it for it in os.listdir(folder) if it.endswith(".edit")]) if os.path.isdir(folder) else 0
+
+
 def text_of(pid, name):
     try:
         with open(f"/proc/{pid}/{name}", "rb") as file:
@@ -176,9 +182,7 @@ def gate():
         time.sleep(0.2)
     used = resource.getrusage(resource.RUSAGE_CHILDREN)
     for crate in libraries():
-        folder = f"{TOP}/crates/{crate}/must-fail"
-        edits = [it for it in os.listdir(folder) if it.endswith(".edit")] if os.path.isdir(folder) else []
-        row = {"crate": crate, "wrong_bodies": len(edits)}
+        row = {"crate": crate, "wrong_bodies": wrong_bodies(crate)}
         for part in ("check", "tests", "wrong"):
             ticks = sum(it for key, it in taken.items() if key[2] == (crate, part))
             row[f"{part}_s"] = round(ticks / os.sysconf("SC_CLK_TCK"))
@@ -190,16 +194,21 @@ def gate():
 
 
 def table():
-    """The table, from the last value of each part; the memory is the most of the lines that gave these."""
+    """The table, from the last value of each part, of wrong bodies where there are as many still; the memory is the most of the lines that
+    gave these."""
     last, peaks = {}, {}
     if os.path.isfile(CSV):
         with open(CSV, encoding="utf-8", newline="") as file:
             for row in csv.DictReader(file):
                 known = last.setdefault(row["crate"], {})
-                known.update({field: row[field] for field in FIELDS if row[field] != ""})
+                if row["wrong_s"] != "" and int(row["wrong_bodies"]) != wrong_bodies(row["crate"]):
+                    row["wrong_s"] = ""
+                known.update({field: row[field] for field in FIELDS if row[field] != ""}, wrong_bodies=wrong_bodies(row["crate"]))
                 for part in ("check_s", "tests_s", "wrong_s"):
                     if row[part] != "":
                         peaks.setdefault(row["crate"], {})[part] = int(row["peak_mb"])
+    for crate, known in last.items():
+        known.update({} if known["wrong_bodies"] else {"wrong_s": 0}, **({} if has_tests(f"{TOP}/crates/{crate}") else {"tests_s": 0}))
     number = lambda row, field: int(row.get(field) or 0)
     whole = lambda row: sum(number(row, field) for field in ("check_s", "tests_s", "wrong_s"))
     shown = lambda row, field: "not measured" if field not in row else f"{int(row[field]):,}" if int(row[field]) else "–"
