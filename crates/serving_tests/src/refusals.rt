@@ -11,7 +11,7 @@ use std::thread::Threads;
 /// A source, the number of its fault, and what is told behind it.
 type Told = (&'static str, u32, &'static str);
 
-/// The faults that a program can show today.
+/// The faults of sources, each with a short source that has it.
 fn told() -> &'static [Told] {
     static TOLD: [Told; 27] = [
         ("int x$;", 1, "1:6: bad character"),
@@ -213,6 +213,42 @@ fn faults_of_long_sources_are_told(rt: HostRuntime) -> Result<(), Fail> {
         );
     }
     Ok(())
+}
+
+// A worker with so many locals.
+fn with_locals(alloc: Global, count: u32) -> Result<String, AllocError> {
+    let mut text = String::from_str(alloc, "void worker(int self) { ")?;
+    for number in 0..count {
+        text.push_str(format!(in alloc; "int v{number};")?.as_str())?;
+    }
+    text.push_str(" }")?;
+    Ok(text)
+}
+
+// Whether a worker with so many locals is answered by this fault.
+fn is_told_of_locals<H: Threads + Wait + Sync>(
+    rt: &H,
+    alloc: Global,
+    count: u32,
+    number: u32,
+    told: &str,
+) -> bool {
+    match with_locals(alloc, count) {
+        Ok(source) => is_told(rt, alloc, source.as_str().as_bytes(), number, told),
+        Err(_) => false,
+    }
+}
+
+/// Sources for which no code is made.
+#[test]
+fn what_has_no_code_is_told(rt: HostRuntime) {
+    assert!(rt; is_told_of_locals(&rt, rt.alloc(), 65_535, 60, "1:6: too many registers"));
+    let pieces = [
+        ("int x; void f(void) { x = 1; } void worker(int s) { ", 1),
+        ("!!!!!!!!!!!!!!!s;", 34_953),
+        (" }", 1),
+    ];
+    assert!(rt; is_told_of(&rt, rt.alloc(), &pieces, 61, "1:37: too much code"));
 }
 
 /// What is told on a terminal of a source.

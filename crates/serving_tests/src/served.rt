@@ -402,6 +402,8 @@ fn says_what_words_are_wrong(rt: HostRuntime) -> Result<(), Fail> {
     assert!(rt; are_refused(rt.alloc(), &wrong, (2, b"", told)));
     let help = ["txc", "source", "--help"];
     assert!(rt; are_refused(rt.alloc(), &help, (0, b"Runs the source itself", b"")));
+    let refused = (4, b"".as_slice(), b"txc: out of memory\n".as_slice());
+    assert!(rt; is_told_so(rt.alloc(), &UsageFault::OutOfMemory, refused));
     Ok(())
 }
 
