@@ -476,7 +476,8 @@ fn told_unless_opened(rt: &HostRuntime, alloc: Global, file: &str) -> (u8, Vec<u
 #[test]
 fn says_what_is_not_there(rt: HostRuntime) {
     let (status, told) = told_unless_opened(&rt, rt.alloc(), "no/such/file.c");
-    assert!(rt; status == 2 && told.as_slice() == b"txc: cannot read no/such/file.c\n");
+    let wanted = b"txc: cannot read no/such/file.c\n".as_slice();
+    assert!(rt; status == 2 && told.as_slice() == wanted);
 }
 
 #[test]
