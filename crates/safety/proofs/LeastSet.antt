@@ -2,33 +2,33 @@
 use Rattle.std.proofs.Common.{◌≡◌, ℕ, List, [], ◌∷◌, get_or, refl, sym, ap, subst, ◌∙◌, arith, Bool, true, false, IsTrue, Option, Some, None, ◌⊎◌, inl, inr, option_map, unwrap_or}
 use Rattle.safety.specs.Safe.{FunctionSet}
 use Rattle.safety.specs.Links.{Link, IsIn, KeepsTo, IsLeast}
-use Rattle.safety.specs.Sets.{marked}
+use Rattle.safety.specs.Sets.{set_by}
 use Rattle.safety.specs.inner.Graphs.{IsNumbered, IsNumber, HasLinks, IsWay}
-use Rattle.safety.specs.inner.Closing.{IsMarked, IsClosed}
+use Rattle.safety.specs.inner.Closing.{IsMember, IsClosed}
 
-module _ (links : List Link) (numbers : List ℕ → Option ℕ) (callers : List (List ℕ)) (marks : List Bool) (h : IsNumbered numbers callers) (k : HasLinks links numbers callers) (c : IsClosed callers marks) where
+module _ (links : List Link) (numbers : List ℕ → Option ℕ) (callers : List (List ℕ)) (members : List Bool) (h : IsNumbered numbers callers) (k : HasLinks links numbers callers) (c : IsClosed callers members) where
   abbrev set : FunctionSet
-  set = marked numbers marks
+  set = set_by numbers members
 
-  is_in : (x : List ℕ) (i : ℕ) → numbers x ≡ Some i → IsMarked marks i → IsTrue (set x)
-  is_in x i e m = ap (λ o. unwrap_or (option_map (λ n. get_or marks n false) o) false) e ∙ m
+  is_in : (x : List ℕ) (i : ℕ) → numbers x ≡ Some i → IsMember members i → IsTrue (set x)
+  is_in x i e m = ap (λ o. unwrap_or (option_map (λ n. get_or members n false) o) false) e ∙ m
 
-  has_mark : (x : List ℕ) (i : ℕ) → numbers x ≡ Some i → IsTrue (set x) → IsMarked marks i
-  has_mark x i e m = sym (ap (λ o. unwrap_or (option_map (λ n. get_or marks n false) o) false) e) ∙ m
+  is_member : (x : List ℕ) (i : ℕ) → numbers x ≡ Some i → IsTrue (set x) → IsMember members i
+  is_member x i e m = sym (ap (λ o. unwrap_or (option_map (λ n. get_or members n false) o) false) e) ∙ m
 
-  has_number : (o : Option ℕ) → IsTrue (unwrap_or (option_map (λ n. get_or marks n false) o) false) → (i : ℕ) × (o ≡ Some i) × IsMarked marks i
+  has_number : (o : Option ℕ) → IsTrue (unwrap_or (option_map (λ n. get_or members n false) o) false) → (i : ℕ) × (o ≡ Some i) × IsMember members i
   has_number None m = absurd (no m)
     where
       no : false ≡ true → ⊥
       no e = cc
   has_number (Some i) m = (i, refl, m)
 
-  callee_marked : (o : Option (List ℕ)) (j : ℕ) → IsNumber numbers o j → IsIn set o → IsMarked marks j
-  callee_marked None j e m = subst (IsMarked marks) (sym e) c.begun
-  callee_marked (Some x) j e m = has_mark x j e m
+  callee_is_member : (o : Option (List ℕ)) (j : ℕ) → IsNumber numbers o j → IsIn set o → IsMember members j
+  callee_is_member None j e m = subst (IsMember members) (sym e) c.begun
+  callee_is_member (Some x) j e m = is_member x j e m
 
   keeps : KeepsTo links set
-  keeps l there m = (let s = k.complete l there in is_in l.caller s.1 s.2.1 (c.closed s.0 s.1 (callee_marked l.callee s.0 s.2.0 m) s.3))
+  keeps l there m = (let s = k.complete l there in is_in l.caller s.1 s.2.1 (c.closed s.0 s.1 (callee_is_member l.callee s.0 s.2.0 m) s.3))
 
   module _ (other : FunctionSet) (kept : KeepsTo links other) where
     abbrev Known : ℕ → Type 0

@@ -13,10 +13,10 @@ link_of l = record { caller = l.caller.now; callee = option_map (λ f. f.now) l.
 abbrev pub links_of : List OwnLink → List Link
 links_of ls = map link_of ls
 
--- a name is in a set where its number is marked
-abbrev pub marked : (List ℕ → Option ℕ) → List Bool → FunctionSet
-marked numbers marks f = unwrap_or (option_map (λ k. slice_index_or marks k false) (numbers f)) false
+-- a name is in a set where its number is a member
+abbrev pub set_by : (List ℕ → Option ℕ) → List Bool → FunctionSet
+set_by numbers members f = unwrap_or (option_map (λ k. slice_index_or members k false) (numbers f)) false
 
 module _ {A : Type 0} where
   abbrev pub set_of : OwnSet A → FunctionSet
-  set_of s = marked (value_at s.numbers) s.marks.items
+  set_of s = set_by (value_at s.numbers) s.members.items

@@ -11,93 +11,93 @@ use crate::set::{FunctionSet, Link};
 use containers::Items;
 use std::alloc::{AllocError, Allocator};
 
-/// Marks a number and puts it into the queue, where it was not marked yet.
+/// Puts a number into the set and the queue, where it was no member yet.
 fn visit<A: Allocator + Copy>(
-    marks: &mut [bool],
+    members: &mut [bool],
     queue: &mut Items<usize, A>,
     number: usize,
 ) -> Result<(), AllocError>
     ensures { OnOk result
-        (record { marks = marks.new; queue = queue.new }
-        ≡ visited (record { marks = marks.old; queue = queue.old }) number) }
+        (record { members = members.new; queue = queue.new }
+        ≡ visited (record { members = members.old; queue = queue.old }) number) }
 {
-    if number < marks.len() && !marks[number] {
+    if number < members.len() && !members[number] {
         queue.push(number)?;
-        marks[number] = true;
+        members[number] = true;
     }
     Ok(())
 }
 
 /// Visits numbers in order.
 fn visit_all<A: Allocator + Copy>(
-    marks: &mut [bool],
+    members: &mut [bool],
     queue: &mut Items<usize, A>,
     all: &[usize],
 ) -> Result<(), AllocError>
     ensures { OnOk result
-        (record { marks = marks.new; queue = queue.new }
-        ≡ all_visited (record { marks = marks.old; queue = queue.old }) all.now) }
+        (record { members = members.new; queue = queue.new }
+        ≡ all_visited (record { members = members.old; queue = queue.old }) all.now) }
 {
     'each: for one in all {
-        visit(marks, queue, *one)?;
+        visit(members, queue, *one)?;
     }
     Ok(())
 }
 
 /// Visits the callers of each number of the queue, of which there are at most as many as numbers.
 fn close<A: Allocator + Copy>(
-    marks: &mut [bool],
+    members: &mut [bool],
     queue: &mut Items<usize, A>,
     callers: &[Items<usize, A>],
 ) -> Result<(), AllocError>
     requires within { IsWithin callers.now }
-    requires begun { IsClosing callers.now 0 (record { marks = marks.old; queue = queue.old }) }
-    ensures { OnOk result (IsClosed callers.now marks.new) }
+    requires begun { IsClosing callers.now 0 (record { members = members.old; queue = queue.old }) }
+    ensures { OnOk result (IsClosed callers.now members.new) }
 {
     'each: for at in 0..callers.len() {
         if at >= queue.len() {
             return Ok(());
         }
         let next = queue.as_slice()[at];
-        visit_all(marks, queue, callers[next].as_slice())?;
+        visit_all(members, queue, callers[next].as_slice())?;
     }
     Ok(())
 }
 
-/// Marks the numbers to which a way leads from 0, where nothing is marked yet.
+/// Puts the numbers into the set to which a way leads from 0, where there is no member yet.
 fn close_all<A: Allocator + Copy>(
-    marks: &mut [bool],
+    members: &mut [bool],
     queue: &mut Items<usize, A>,
     callers: &[Items<usize, A>],
 ) -> Result<(), AllocError>
     requires within { IsWithin callers.now }
     requires begun { 0 < length callers.now }
-    requires unmarked { marks.old ≡ replicate (length callers.now) false }
+    requires no_members { members.old ≡ replicate (length callers.now) false }
     requires none { queue.old ≡ [] }
-    ensures { OnOk result (IsClosed callers.now marks.new) }
+    ensures { OnOk result (IsClosed callers.now members.new) }
 {
-    visit(marks, queue, 0)?;
-    close(marks, queue, callers)?;
+    visit(members, queue, 0)?;
+    close(members, queue, callers)?;
     Ok(())
 }
 
-/// The marks of the numbers to which a way leads from 0.
+/// Which numbers a way leads to from 0.
 fn reached<A: Allocator + Copy>(
     alloc: A,
     callers: &[Items<usize, A>],
 ) -> Result<Vec<bool, A>, AllocError>
     requires within { IsWithin callers.now }
     requires begun { 0 < length callers.now }
-    ensures { IfOk result (λ marks. IsClosed callers.now marks.items) }
+    ensures { IfOk result (λ members. IsClosed callers.now members.items) }
 {
-    let mut marks = vec![in alloc; false; callers.len()]?;
+    let mut members = vec![in alloc; false; callers.len()]?;
     let mut queue = Items::new(alloc);
-    close_all(marks.as_mut_slice(), &mut queue, callers)?;
-    Ok(marks)
+    close_all(members.as_mut_slice(), &mut queue, callers)?;
+    Ok(members)
 }
 
-/// The least set that keeps to these links. Takes memory for a number of each name, its callers and a mark; the time is
-/// that of finding each name of each link once.
+/// The least set that keeps to these links. Takes memory for a number of each name, its callers and whether it is a
+/// member; the time is that of finding each name of each link once.
 pub fn least<'a, A: Allocator + Copy>(
     alloc: A,
     links: &[Link<'a>],
@@ -105,6 +105,6 @@ pub fn least<'a, A: Allocator + Copy>(
     ensures { IfOk result (λ set. IsLeast (links_of links.now) (set_of set)) }
 {
     let Graph { numbers, callers } = graph_of(alloc, links)?;
-    let marks = reached(alloc, callers.as_slice())?;
-    Ok(FunctionSet { numbers, marks })
+    let members = reached(alloc, callers.as_slice())?;
+    Ok(FunctionSet { numbers, members })
 }

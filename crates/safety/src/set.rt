@@ -17,7 +17,7 @@ pub struct Link<'a> {
 #[derive(Drop)]
 pub struct FunctionSet<'a, A: Allocator = std::alloc::Global> {
     pub(crate) numbers: BTreeMap<&'a str, usize, A>,
-    pub(crate) marks: Vec<bool, A>,
+    pub(crate) members: Vec<bool, A>,
 }
 
 impl<'a, A: Allocator + Copy> FunctionSet<'a, A> {
@@ -26,7 +26,7 @@ impl<'a, A: Allocator + Copy> FunctionSet<'a, A> {
         ensures { result ≡ set_of self.now name.now }
     {
         match self.numbers.get(&name) {
-            Some(number) => self.marks.get(*number).copied().unwrap_or(false),
+            Some(number) => self.members.get(*number).copied().unwrap_or(false),
             None => false,
         }
     }

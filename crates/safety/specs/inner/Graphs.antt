@@ -37,16 +37,16 @@ IsWay callers (j ∷ js) i = Contains (callers_at callers j) i × IsWay callers 
 abbrev pub IsReached : List (List ℕ) → ℕ → Type 0
 IsReached callers i = (js : List ℕ) × IsWay callers js i
 
--- which numbers are marked, and those whose callers are to be marked yet, in order
+-- which numbers are members, and those whose callers are to be members yet, in order
 pub record State : Type 0 where
-  pub marks : List Bool
+  pub members : List Bool
   pub queue : List ℕ
 
--- a number is marked and put into the queue, where it was not marked yet
+-- a number is put into the set and the queue, where it was no member yet
 abbrev pub visited : State → ℕ → State
 visited s i =
-    if slice_index_or s.marks i true then s
-    else record { marks = slice_set s.marks i true; queue = s.queue ++ i ∷ [] }
+    if slice_index_or s.members i true then s
+    else record { members = slice_set s.members i true; queue = s.queue ++ i ∷ [] }
 
 abbrev pub all_visited : State → List ℕ → State
 all_visited s [] = s

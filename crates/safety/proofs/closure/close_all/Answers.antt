@@ -5,5 +5,5 @@ use Rattle.safety.proofs.closure.close_all.Goals as goal
 
 pub close-requires-clause-begun : goal.close-requires-clause-begun
 close-requires-clause-begun g c =
-    let s : State = record { marks = c.visit.new.marks; queue = c.visit.new.queue } in
-    begins c.args.callers.now (length c.args.callers.now) s refl c.requires.begun (c.in_ok-visit.ensures ∙ (λ i. visited (record { marks = c.requires.unmarked i; queue = c.requires.none i }) 0))
+    let s : State = record { members = c.visit.new.members; queue = c.visit.new.queue } in
+    begins c.args.callers.now (length c.args.callers.now) s refl c.requires.begun (c.in_ok-visit.ensures ∙ (λ i. visited (record { members = c.requires.no_members i; queue = c.requires.none i }) 0))

@@ -16,4 +16,4 @@ pub returns : goal.returns
 returns g c =
     let graph = c.in_ok-numbers.field-0 in
     let is : c.as_slice.result.now ≡ graph.callers.items = c.as_slice.ensures.value in
-    is_least (links_of c.args.links.now) (value_at graph.numbers) graph.callers.items c.in_ok-marks.marks.items c.in_ok-numbers.ensures.numbered c.in_ok-numbers.ensures.links (subst (λ cs. IsClosed cs c.in_ok-marks.marks.items) is c.in_ok-marks.ensures)
+    is_least (links_of c.args.links.now) (value_at graph.numbers) graph.callers.items c.in_ok-members.members.items c.in_ok-numbers.ensures.numbered c.in_ok-numbers.ensures.links (subst (λ cs. IsClosed cs c.in_ok-members.members.items) is c.in_ok-members.ensures)
