@@ -7,8 +7,8 @@ use Rattle.std.specs.Str.Parse.{AllDigits, IsNumeral}
 use Rattle.std.proofs.lemmas.Str.{digit_value_digit}
 use Rattle.std.proofs.lemmas.Str.Parse.{digit_from_value}
 use Rattle.replay.specs.declared.line.Line.{Line}
-use Rattle.replay.specs.Schedules.{AreSpaces, Asks, IsBad, Writes, mark}
-use Rattle.replay.specs.inner.Rows.{is_space, is_digit, past, digits_of, behind, is_marked, unmarked, IsCut}
+use Rattle.replay.specs.Schedules.{AreSpaces, Asks, IsBad, Writes, letter}
+use Rattle.replay.specs.inner.Rows.{is_space, is_digit, past, digits_of, behind, has_letter, behind_letter, IsCut}
 
 -- ---- a run at the front
 
@@ -80,24 +80,24 @@ none_after : (spaces : List ℕ) → AreSpaces spaces → prefix_len is_digit sp
 none_after [] all = refl
 none_after (c ∷ cs) all = ap (λ b. cond (is_digit b) (1 + prefix_len is_digit cs) 0) all.0
 
-mark_no_space : (m : Bool) (digits rest : List ℕ) → IsNumeral 10 digits → prefix_len is_space (mark m ++ (digits ++ rest)) ≡ 0
-mark_no_space true digits rest is = refl
-mark_no_space false digits rest is = no_space digits rest is
+letter_no_space : (m : Bool) (digits rest : List ℕ) → IsNumeral 10 digits → prefix_len is_space (letter m ++ (digits ++ rest)) ≡ 0
+letter_no_space true digits rest is = refl
+letter_no_space false digits rest is = no_space digits rest is
 
-marked : (m : Bool) (digits rest : List ℕ) → IsNumeral 10 digits → is_marked (mark m ++ (digits ++ rest)) ≡ m
-marked true digits rest is = refl
-marked false [] rest is = absurd (omega (arith, is.0))
-marked false (c ∷ cs) rest is = let r = digit_from_value c is.1.0 in ne_eqb c 97 (λ e. omega (arith, e, r.1))
+letter_is : (m : Bool) (digits rest : List ℕ) → IsNumeral 10 digits → has_letter (letter m ++ (digits ++ rest)) ≡ m
+letter_is true digits rest is = refl
+letter_is false [] rest is = absurd (omega (arith, is.0))
+letter_is false (c ∷ cs) rest is = let r = digit_from_value c is.1.0 in ne_eqb c 97 (λ e. omega (arith, e, r.1))
 
-unmarked_is : (m : Bool) (digits rest : List ℕ) → IsNumeral 10 digits → unmarked (mark m ++ (digits ++ rest)) ≡ digits ++ rest
-unmarked_is true digits rest is = refl
-unmarked_is false digits rest is = ap (λ b. if b then drop 1 (digits ++ rest) else digits ++ rest) (marked false digits rest is)
+behind_letter_is : (m : Bool) (digits rest : List ℕ) → IsNumeral 10 digits → behind_letter (letter m ++ (digits ++ rest)) ≡ digits ++ rest
+behind_letter_is true digits rest is = refl
+behind_letter_is false digits rest is = ap (λ b. if b then drop 1 (digits ++ rest) else digits ++ rest) (letter_is false digits rest is)
 
-marks : (row : List ℕ) → row ≡ mark (is_marked row) ++ unmarked row
-marks [] = refl
-marks (b ∷ row) = go (b == 97) refl
+letter_and_rest : (row : List ℕ) → row ≡ letter (has_letter row) ++ behind_letter row
+letter_and_rest [] = refl
+letter_and_rest (b ∷ row) = go (b == 97) refl
   where
-    go : (m : Bool) → (b == 97) ≡ m → b ∷ row ≡ mark m ++ (if m then row else b ∷ row)
+    go : (m : Bool) → (b == 97) ≡ m → b ∷ row ≡ letter m ++ (if m then row else b ∷ row)
     go true e = ap (λ c. c ∷ row) (eqb-true b 97 e)
     go false e = refl
 
@@ -124,14 +124,14 @@ pub record Found (row thread : List ℕ) (apart : Bool) (count over : List ℕ) 
 
 pub found : (row thread : List ℕ) (apart accesses : Bool) (count over : List ℕ) → IsCut row thread apart accesses count over → (line : Line) (a : Asks row line) → Found row thread apart count over line a
 found row thread apart accesses count over cut line a =
-    let tail : List ℕ = mark line.accesses ++ (a.count ++ a.after) in
+    let tail : List ℕ = letter line.accesses ++ (a.count ++ a.after) in
     let r0 : past row ≡ a.thread ++ (a.between ++ tail) = ap past a.row_is ∙ dropped is_space a.before (a.thread ++ (a.between ++ tail)) (spaces_pass a.before a.spaces.0) (no_space a.thread (a.between ++ tail) a.thread_is.0) in
     let th : digits_of (past row) ≡ a.thread = ap digits_of r0 ∙ taken is_digit a.thread (a.between ++ tail) (digits_pass a.thread a.thread_is.0.1) (no_digit a.between tail a.spaces.1 a.apart) in
     let r1 : behind (past row) ≡ a.between ++ tail = ap behind r0 ∙ dropped is_digit a.thread (a.between ++ tail) (digits_pass a.thread a.thread_is.0.1) (no_digit a.between tail a.spaces.1 a.apart) in
-    let r2 : past (behind (past row)) ≡ tail = ap past r1 ∙ dropped is_space a.between tail (spaces_pass a.between a.spaces.1) (mark_no_space line.accesses a.count a.after a.count_is.0) in
-    let r3 : unmarked (past (behind (past row))) ≡ a.count ++ a.after = ap unmarked r2 ∙ unmarked_is line.accesses a.count a.after a.count_is.0 in
-    let ct : digits_of (unmarked (past (behind (past row)))) ≡ a.count = ap digits_of r3 ∙ taken is_digit a.count a.after (digits_pass a.count a.count_is.0.1) (none_after a.after a.spaces.2) in
-    let r4 : behind (unmarked (past (behind (past row)))) ≡ a.after = ap behind r3 ∙ dropped is_digit a.count a.after (digits_pass a.count a.count_is.0.1) (none_after a.after a.spaces.2) in
+    let r2 : past (behind (past row)) ≡ tail = ap past r1 ∙ dropped is_space a.between tail (spaces_pass a.between a.spaces.1) (letter_no_space line.accesses a.count a.after a.count_is.0) in
+    let r3 : behind_letter (past (behind (past row))) ≡ a.count ++ a.after = ap behind_letter r2 ∙ behind_letter_is line.accesses a.count a.after a.count_is.0 in
+    let ct : digits_of (behind_letter (past (behind (past row)))) ≡ a.count = ap digits_of r3 ∙ taken is_digit a.count a.after (digits_pass a.count a.count_is.0.1) (none_after a.after a.spaces.2) in
+    let r4 : behind (behind_letter (past (behind (past row)))) ≡ a.after = ap behind r3 ∙ dropped is_digit a.count a.after (digits_pass a.count a.count_is.0.1) (none_after a.after a.spaces.2) in
     let l0 : length (past row) ≡ length a.thread + length (a.between ++ tail) = ap (λ z. length z) r0 ∙ length-append a.thread (a.between ++ tail) in
     let l1 : length (behind (past row)) ≡ length a.between + length tail = ap (λ z. length z) r1 ∙ length-append a.between tail in
     let l2 : length (past (behind (past row))) ≡ length tail = ap (λ z. length z) r2 in
@@ -149,13 +149,13 @@ pub asks : (row thread : List ℕ) (apart accesses : Bool) (count over : List �
 asks row thread apart accesses count over cut spaced none t n is_t is_n =
     let r1 : List ℕ = behind (past row) in
     let r2 : List ℕ = past r1 in
-    let r3 : List ℕ = unmarked r2 in
+    let r3 : List ℕ = behind_letter r2 in
     let r4 : List ℕ = behind r3 in
     let between : List ℕ = take (prefix_len is_space r1) r1 in
     let e0 : row ≡ take (prefix_len is_space row) row ++ past row = sym (take-append-drop (prefix_len is_space row) row) in
     let e1 : past row ≡ thread ++ r1 = sym (take-append-drop (prefix_len is_digit (past row)) (past row)) ∙ ap (λ z. z ++ r1) (sym cut.thread_is) in
     let e2 : r1 ≡ between ++ r2 = sym (take-append-drop (prefix_len is_space r1) r1) in
-    let e3 : r2 ≡ mark accesses ++ r3 = marks r2 ∙ ap (λ m. mark m ++ r3) (sym cut.accesses_is) in
+    let e3 : r2 ≡ letter accesses ++ r3 = letter_and_rest r2 ∙ ap (λ m. letter m ++ r3) (sym cut.accesses_is) in
     let e4 : r3 ≡ count ++ r4 = sym (take-append-drop (prefix_len is_digit r3) r3) ∙ ap (λ z. z ++ r4) (sym cut.count_is) in
     let lens : length r1 ≡ length between + length r2 = ap (λ z. length z) e2 ∙ length-append between r2 in
     let less : length r2 < length r1 = ltb-true (length r2) (length r1) (sym cut.apart_is ∙ spaced) in
@@ -165,7 +165,7 @@ asks row thread apart accesses count over cut spaced none t n is_t is_n =
       between = between;
       count = count;
       after = r4;
-      row_is = e0 ∙ ap (λ z. take (prefix_len is_space row) row ++ z) (e1 ∙ ap (λ z. thread ++ z) (e2 ∙ ap (λ z. between ++ z) (e3 ∙ ap (λ z. mark accesses ++ z) e4)));
+      row_is = e0 ∙ ap (λ z. take (prefix_len is_space row) row ++ z) (e1 ∙ ap (λ z. thread ++ z) (e2 ∙ ap (λ z. between ++ z) (e3 ∙ ap (λ z. letter accesses ++ z) e4)));
       spaces = (are_spaces (take (prefix_len is_space row) row) (front_passes is_space row), are_spaces between (front_passes is_space r1), all_past r4 (sym cut.over_is ∙ none));
       apart = omega (arith, lens, less);
       thread_is = is_t;

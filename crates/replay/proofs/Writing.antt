@@ -9,7 +9,7 @@ use Rattle.std.proofs.lemmas.List.{take_more}
 use Rattle.std.proofs.lemmas.List.Splits.{slice_split_at}
 use Rattle.std.proofs.lemmas.Str.Parse.{digit_from_value}
 use Rattle.replay.specs.declared.line.Line.{Line}
-use Rattle.replay.specs.Schedules.{AreRows, Asks, mark}
+use Rattle.replay.specs.Schedules.{AreRows, Asks, letter}
 use Rattle.replay.specs.inner.Written.{row_of, line_text, IsInBounds}
 
 -- no control character
@@ -24,16 +24,16 @@ digits_plain : (ds : List ℕ) → AllDigits 10 ds → AllByRecursion IsPlain ds
 digits_plain [] all = tt
 digits_plain (c ∷ cs) all = let r = digit_from_value c all.0 in (omega (arith, r.0), digits_plain cs all.1)
 
-mark_plain : (m : Bool) → AllByRecursion IsPlain (mark m)
-mark_plain true = (lit≤ tt, tt)
-mark_plain false = tt
+letter_plain : (m : Bool) → AllByRecursion IsPlain (letter m)
+letter_plain true = (lit≤ tt, tt)
+letter_plain false = tt
 
 row_plain : (line : Line) → IsInBounds line → AllByRecursion IsPlain (row_of line)
 row_plain line fits =
     let thread = decimal_is_IsNumeral line.thread (omega (arith, fits.0)) in
     let count = decimal_is_IsNumeral line.count (omega (arith, fits.1)) in
     let space : AllByRecursion IsPlain (codes " ") = (lit≤ tt, tt) in
-    joined IsPlain (decimal line.thread) (codes " " ++ (mark line.accesses ++ decimal line.count)) (digits_plain (decimal line.thread) thread.0.1) (joined IsPlain (codes " ") (mark line.accesses ++ decimal line.count) space (joined IsPlain (mark line.accesses) (decimal line.count) (mark_plain line.accesses) (digits_plain (decimal line.count) count.0.1)))
+    joined IsPlain (decimal line.thread) (codes " " ++ (letter line.accesses ++ decimal line.count)) (digits_plain (decimal line.thread) thread.0.1) (joined IsPlain (codes " ") (letter line.accesses ++ decimal line.count) space (joined IsPlain (letter line.accesses) (decimal line.count) (letter_plain line.accesses) (digits_plain (decimal line.count) count.0.1)))
 
 plain_at : (xs : List ℕ) → AllByRecursion IsPlain xs → (k d : ℕ) → k < length xs → 32 ≤ get_or xs k d
 plain_at [] all k d h = absurd (omega (arith, h))
@@ -59,7 +59,7 @@ row_asks line fits =
       between = codes " ";
       count = decimal line.count;
       after = [];
-      row_is = ap (λ (z : List ℕ). decimal line.thread ++ (codes " " ++ (mark line.accesses ++ z))) (sym (append-nil (decimal line.count)));
+      row_is = ap (λ (z : List ℕ). decimal line.thread ++ (codes " " ++ (letter line.accesses ++ z))) (sym (append-nil (decimal line.count)));
       spaces = (tt, (refl, tt), tt);
       apart = lit< tt;
       thread_is = (thread.0, thread.1, fits.0);

@@ -15,10 +15,10 @@ AreSpaces row = AllByRecursion (λ b. b ≡ 32) row
 abbrev pub Writes : List ℕ → ℕ → Type 0
 Writes digits n = IsNumeral 10 digits × (digits_value 10 digits ≡ n) × (n < 2 ^ 32)
 
--- what stands before a count
-abbrev pub mark : Bool → List ℕ
-mark true = codes "a"
-mark false = []
+-- the letter before a count, by whether it is one of accesses
+abbrev pub letter : Bool → List ℕ
+letter true = codes "a"
+letter false = []
 
 -- A row asks for steps: a thread's number, spaces, and a count, which an `a` makes one of accesses. Spaces may stand
 -- round the two.
@@ -28,7 +28,7 @@ pub record Asks (row : List ℕ) (line : Line) : Type 0 where
   pub between : List ℕ
   pub count : List ℕ
   pub after : List ℕ
-  pub row_is : row ≡ before ++ (thread ++ (between ++ (mark line.accesses ++ (count ++ after))))
+  pub row_is : row ≡ before ++ (thread ++ (between ++ (letter line.accesses ++ (count ++ after))))
   pub spaces : AreSpaces before × AreSpaces between × AreSpaces after
   pub apart : 0 < length between
   pub thread_is : Writes thread line.thread

@@ -4,7 +4,7 @@ ghost use Rattle.std.specs.Prelude.{◌≡◌, ◌≤◌, ◌<◌, ◌^◌, [], 
 ghost use Rattle.std.specs.List.{prefix_len};
 ghost use Rattle.std.specs.Str.Parse.{AllDigits};
 ghost use Rattle.replay.specs.Schedules.{Writes};
-ghost use Rattle.replay.specs.inner.Rows.{is_space, is_digit, past, digits_of, behind, is_marked, unmarked, IsCut, IsRow};
+ghost use Rattle.replay.specs.inner.Rows.{is_space, is_digit, past, digits_of, behind, has_letter, behind_letter, IsCut, IsRow};
 
 use crate::line::Line;
 
@@ -64,9 +64,9 @@ fn cut(row: &[u8]) -> (&[u8], &[u8])
 }
 
 /// Whether an `a` stands at the front, and what stands behind it.
-fn unmarked(row: &[u8]) -> (bool, &[u8])
-    ensures is { result.0 ≡ is_marked row.now }
-    ensures behind { result.1.now ≡ unmarked row.now }
+fn letter(row: &[u8]) -> (bool, &[u8])
+    ensures is { result.0 ≡ has_letter row.now }
+    ensures behind { result.1.now ≡ behind_letter row.now }
 {
     match row {
         [b'a', behind @ ..] => (true, behind),
@@ -111,7 +111,7 @@ fn cut_row(row: &[u8]) -> Parts<'_>
 {
     let (thread, behind) = cut(past(row));
     let next = past(behind);
-    let (accesses, next_digits) = unmarked(next);
+    let (accesses, next_digits) = letter(next);
     let (count, over) = cut(next_digits);
     Parts {
         thread,

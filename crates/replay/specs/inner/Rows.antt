@@ -24,20 +24,21 @@ abbrev pub behind : List ℕ → List ℕ
 behind row = drop (prefix_len is_digit row) row
 
 -- whether an `a` stands at the front
-abbrev pub is_marked : List ℕ → Bool
-is_marked [] = false
-is_marked (b ∷ row) = b == 97
+abbrev pub has_letter : List ℕ → Bool
+has_letter [] = false
+has_letter (b ∷ row) = b == 97
 
-abbrev pub unmarked : List ℕ → List ℕ
-unmarked row = if is_marked row then drop 1 row else row
+-- what stands behind it
+abbrev pub behind_letter : List ℕ → List ℕ
+behind_letter row = if has_letter row then drop 1 row else row
 
 -- a row as it is cut
 pub record IsCut (row thread : List ℕ) (apart accesses : Bool) (count over : List ℕ) : Type 0 where
   pub thread_is : thread ≡ digits_of (past row)
   pub apart_is : apart ≡ nat_lt (length (past (behind (past row)))) (length (behind (past row)))
-  pub accesses_is : accesses ≡ is_marked (past (behind (past row)))
-  pub count_is : count ≡ digits_of (unmarked (past (behind (past row))))
-  pub over_is : over ≡ past (behind (unmarked (past (behind (past row)))))
+  pub accesses_is : accesses ≡ has_letter (past (behind (past row)))
+  pub count_is : count ≡ digits_of (behind_letter (past (behind (past row))))
+  pub over_is : over ≡ past (behind (behind_letter (past (behind (past row)))))
 
 -- what a row says
 abbrev pub IsRow : List ℕ → Row → Type 0

@@ -1,10 +1,10 @@
 -- Rows that are written for lines.
 use Rattle.std.specs.Prelude.{◌^◌, ◌<◌, ℕ, List, ◌++◌, codes, decimal}
 use Rattle.replay.specs.declared.line.Line.{Line}
-use Rattle.replay.specs.Schedules.{mark}
+use Rattle.replay.specs.Schedules.{letter}
 
 abbrev pub row_of : Line → List ℕ
-row_of line = decimal line.thread ++ (codes " " ++ (mark line.accesses ++ decimal line.count))
+row_of line = decimal line.thread ++ (codes " " ++ (letter line.accesses ++ decimal line.count))
 
 -- a row and its end
 abbrev pub line_text : Line → List ℕ

@@ -2,7 +2,7 @@ use Rattle.std.proofs.Common.{◌≡◌, ◌<◌, length, ap, sym, subst, ◌∙
 use Rattle.std.specs.Str.Parse.{AllDigits}
 use Rattle.std.proofs.lemmas.List.{nil_from_length}
 use Rattle.replay.specs.Schedules.{Writes}
-use Rattle.replay.specs.inner.Rows.{behind, past, unmarked}
+use Rattle.replay.specs.inner.Rows.{behind, past, behind_letter}
 use Rattle.replay.proofs.Rows.{all_past, asks, bad, digits_are, some_left}
 use Rattle.replay.proofs.row.read_row.Goals as goal
 
@@ -32,7 +32,7 @@ returns-in_default c =
     (λ line a f. c.in_default.ensures line.thread (subst (λ d. Writes d line.thread) (sym f.thread_is) a.thread_is))
 
 pub number-requires-2 : goal.number-requires-2
-number-requires-2 c = subst (AllDigits 10) (sym c.cut_row-parts.ensures.count_is) (digits_are (unmarked (past (behind (past c.args.row.now)))))
+number-requires-2 c = subst (AllDigits 10) (sym c.cut_row-parts.ensures.count_is) (digits_are (behind_letter (past (behind (past c.args.row.now)))))
 
 pub returns-in-Some-number : goal.returns-in-Some-number
 returns-in-Some-number c =
