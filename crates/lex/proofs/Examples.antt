@@ -30,9 +30,9 @@ large_octal = refl
 escapes : unescaped (codes "a\\n\\\"") ≡ 97 ∷ 10 ∷ 34 ∷ []
 escapes = refl
 
--- a byte order mark is one character of three bytes
-order_mark : character_len (239 ∷ 187 ∷ 191 ∷ codes "int") ≡ 3
-order_mark = refl
+-- a character of three bytes: U+FEFF, which some editors write first
+three_bytes : character_len (239 ∷ 187 ∷ 191 ∷ codes "int") ≡ 3
+three_bytes = refl
 
 -- the third byte of the second line
 place_line : line_of (codes "a\nb c") 4 ≡ 2
