@@ -98,7 +98,7 @@ fn growths<A: Allocator + Copy>(inner: A, call: Call) -> Option<u64> {
 #[test]
 fn each_growth_may_be_refused(rt: HostRuntime) -> Result<(), Fail> {
     let a = rt.alloc();
-    // names, marks and work
+    // names, arrivals and work
     assert!(rt; growths(a, Call::Validate) >= Some(3));
     // the lists, names and texts
     assert!(rt; growths(a, Call::Copy) >= Some(8));

@@ -73,7 +73,7 @@ pub fn explanation(number: u32) -> Option<&'static str> {
             "fault 42: cancel outside atomic\nWhen: a cancel that stands lexically in no atomic transaction\nPlace: its keyword\nExample: void worker(int self) { __transaction_relaxed { __transaction_cancel; } }\nIt is told at: 1:49\n",
         ),
         43 => Some(
-            "fault 43: transaction_safe on an unsafe function\nWhen: a function that is marked safe, in any of its declarations, and is not\nPlace: its name, where it is defined\nExample: __attribute__((transaction_safe)) void f(void) { printf(\"a\"); } void worker(int self) { }\nIt is told at: 1:40\n",
+            "fault 43: transaction_safe on an unsafe function\nWhen: a function that one of its declarations says is safe, and is not\nPlace: its name, where it is defined\nExample: __attribute__((transaction_safe)) void f(void) { printf(\"a\"); } void worker(int self) { }\nIt is told at: 1:40\n",
         ),
         50 => Some(
             "fault 50: shared access outside a transaction\nWhen: a bare access to a global in `worker`\nPlace: the name\nExample: int x; void worker(int self) { x = 1; }\nIt is told at: 1:32\n",

@@ -61,17 +61,17 @@ fn push_shown<A: Allocator>(shown: &mut Vec<u8, A>, line: &[u8]) -> Result<(), A
     Ok(())
 }
 
-/// Adds a mark for each character; a tab stays where the mark is a space.
-fn push_marks<A: Allocator>(
+/// Adds a caret or a space for each character; a tab stays where a space stands for it.
+fn push_under<A: Allocator>(
     shown: &mut Vec<u8, A>,
     line: &[u8],
-    mark: u8,
+    sign: u8,
 ) -> Result<(), AllocError> {
     'bytes: for byte in line {
-        if *byte == b'\t' && mark == b' ' {
+        if *byte == b'\t' && sign == b' ' {
             shown.push(b'\t')?;
         } else if !is_continuation(*byte) {
-            shown.push(mark)?;
+            shown.push(sign)?;
         }
     }
     Ok(())
@@ -94,11 +94,11 @@ pub fn underlined<A: Allocator>(
     let mut shown = Vec::new(alloc);
     push_shown(&mut shown, &bytes[from..to])?;
     shown.push(b'\n')?;
-    push_marks(&mut shown, &bytes[from..place], b' ')?;
+    push_under(&mut shown, &bytes[from..place], b' ')?;
     if end == place {
         shown.push(b'^')?;
     }
-    push_marks(&mut shown, &bytes[place..end], b'^')?;
+    push_under(&mut shown, &bytes[place..end], b'^')?;
     shown.push(b'\n')?;
     Ok(shown)
 }

@@ -30,7 +30,7 @@ use Rattle.lower.specs.inner.Statements.{in_transaction, looping, print_written,
 use Rattle.lower.proofs.Growing.{needs_more, used_more, holding_more, settled_more, emitted_more, condition_more}
 use Rattle.lower.proofs.GrowingStmts.{fetched_more, stored_same, one_more, pieces_same, first_more, test_more, step_more, written_more}
 
--- what a question mark hands on
+-- what ? hands on
 pub passed_on : {X Y : Type 0} (r : Result X Failure) (s : Result Y Failure) (f : Failure) (m n : ℕ) → IfErr r (λ why. NeedsMore why m) → r ≡ Err f → IsErr s × IsErrAnd s (λ y. y ≡ f) → m ≤ n → IfErr s (λ why. NeedsMore why n)
 passed_on r (Ok y) f m n h e g le = tt
 passed_on r (Err y) f m n h e g le = needs_more y m n le (subst (λ z. NeedsMore z m) (sym g.1) (subst (λ q. IfErr q (λ why. NeedsMore why m)) e h))

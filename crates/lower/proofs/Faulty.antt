@@ -113,7 +113,7 @@ code_fault p (TooManyRegisters at) none h = (none, h)
 code_fault p (TooMuchCode at) none h = (none, h.0, h.1)
 code_fault p (NestedTooDeep at) none h = absurd h
 
--- what a question mark hands on
+-- what ? hands on
 pub handed_on : {X Y : Type 0} (r : Result X LowerFault) (s : Result Y LowerFault) (f : LowerFault) (P Q : LowerFault → Type 0) → IfErr r P → r ≡ Err f → IsErr s × IsErrAnd s (λ y. y ≡ f) → ((e : LowerFault) → P e → Q e) → IfErr s Q
 handed_on r (Ok y) f P Q h e g k = tt
 handed_on r (Err y) f P Q h e g k = k y (subst P (sym g.1) (subst (λ q. IfErr q P) e h))
