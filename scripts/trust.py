@@ -4,9 +4,10 @@
   scripts/trust.py           fails where docs/TRUST.md is out of date
   scripts/trust.py --write   writes its tables anew
 
-A definition must be believed where a public contract speaks by it. So the clauses of each crate's public functions (and the
-`impl Model` blocks of its public types) are read, the names in them are led to the files of `specs/` that their `ghost use`
-lines name, and from there every import is followed. Counted are lines that are neither blank nor a comment.
+A definition must be believed where a public contract speaks by it. So the clauses of each crate's public functions are read (and
+of an `impl Model` the type of its values; how private fields keep a value is the proof's), the names in them are led to the files
+of `specs/` that their `ghost use` lines name, and from there every import is followed. Counted are lines that are neither blank
+nor a comment. Fails where one of these files stands in `specs/inner/`.
 """
 
 import os
@@ -55,14 +56,22 @@ def imports(text, keyword):
     return found
 
 
+def shows_fields(text, name):
+    """Whether a struct of this name has a public field."""
+    found = re.search(rf"(?ms)^pub struct {name}\b.*?^\}}", text)
+    return found is not None and re.search(r"(?m)^    pub \w+:", found[0]) is not None
+
+
 def clauses(text, is_named):
-    """The clauses of the public functions of a file, and of its traits and models."""
+    """The clauses of the public functions of a file, of its traits, and of its models the values."""
     out, lines, in_model, at = [], text.split("\n"), "", 0
     while at < len(lines):
         line = lines[at]
-        if re.match(r"impl\b.*\bModel for\b", line):
+        model = re.match(r"impl\b.*\bModel for (\w+)", line)
+        if model:
+            whole = shows_fields(text, model[1])
             while at < len(lines) and lines[at] != "}":
-                out.append(lines[at])
+                out += [lines[at]] if whole or "ghost Value" in lines[at] else []
                 at += 1
         of_trait = re.match(r"    (unsafe )?fn ", line) and in_model.startswith(("pub trait", "impl")) and (" for " in in_model or "trait" in in_model)
         if re.match(r"(pub (unsafe )?trait|impl)\b", line):
@@ -183,8 +192,7 @@ def tables():
         tail.append(f"In `specs/` and behind no public contract, {sum(count(it) for it in rest):,} lines: " + ", ".join(f"`{it[len('crates/'):]}`" for it in rest) + ".")
         tail.append("")
     if hidden:
-        tail.append("In `specs/inner/` and yet behind a public contract: " + ", ".join(f"`{it[len('crates/'):]}`" for it in hidden) + ".")
-        tail.append("")
+        sys.exit("behind a public contract, and yet in specs/inner/: " + ", ".join(hidden))
     return "\n".join(head + out + tail)
 
 

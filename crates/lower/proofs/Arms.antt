@@ -13,12 +13,12 @@ use Rattle.bytecode.specs.declared.instr.Instr.{Instr}
 use Rattle.bytecode.specs.declared.instr.Instr.TheVariants as own
 use Rattle.lower.specs.declared.held.Held.{Held}
 use Rattle.lowered.specs.Expressions.{arranged}
-use Rattle.lower.specs.inner.Lists.{Lists, used, holding}
-use Rattle.lower.specs.inner.Names.{Callee}
+use Rattle.lower.specs.Lists.{Lists, used, holding}
+use Rattle.lower.specs.Names.{Callee}
 use Rattle.lower.specs.declared.held.Tested.{Tested}
 use Rattle.lower.specs.declared.draft.Draft.{Draft}
-use Rattle.lower.specs.inner.Conditions.{Condition, test_in, going_on, first_of, joined}
-use Rattle.lower.specs.inner.Expressions.{Emitted, AllEmitted, above, answered, chosen, called}
+use Rattle.lower.specs.Conditions.{Condition, test_in, going_on, first_of, joined}
+use Rattle.lower.specs.Expressions.{Emitted, AllEmitted, above, answered, chosen, called}
 use Rattle.syntax.specs.Numbers.{common}
 
 -- a value, and instructions behind it

@@ -9,8 +9,8 @@ use Rattle.bytecode.specs.declared.instr.Instr.{Instr}
 use Rattle.bytecode.specs.declared.instr.Instr.TheVariants as own
 use Rattle.lowered.specs.Expressions.{LocalScope}
 use Rattle.lowered.specs.Statements.{with_local, with_declared}
-use Rattle.lower.specs.inner.Lists.{Lists, used}
-use Rattle.lower.specs.inner.Simples.{Written, nothing_written, and_then, first_written, declarator_written, declared_written}
+use Rattle.lower.specs.Lists.{Lists, used}
+use Rattle.lower.specs.Simples.{Written, nothing_written, and_then, first_written, declarator_written, declared_written}
 use Rattle.lower.proofs.GrowingStmts.{declared_more}
 
 -- a local that is 0, and its first value behind that

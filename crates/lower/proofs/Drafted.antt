@@ -7,7 +7,7 @@ use Rattle.bytecode.specs.declared.instr.Instr.{Instr}
 use Rattle.lower.specs.declared.held.Tested.{Tested}
 use Rattle.lower.specs.declared.draft.Draft.{Draft}
 use Rattle.lower.specs.declared.draft.Draft.TheVariants as draft
-use Rattle.lower.specs.inner.Conditions.{Condition, test_in, jump_if, jump_if_not, completed, turned, led_on, short_jump, going_on, going_back, first_of}
+use Rattle.lower.specs.Conditions.{Condition, test_in, jump_if, jump_if_not, completed, turned, led_on, short_jump, going_on, going_back, first_of}
 
 pub opposite_if : (b : Bool) (r to : ℕ) → jump_if (not b) r to ≡ jump_if_not b r to
 opposite_if true r to = refl

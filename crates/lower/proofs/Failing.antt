@@ -20,13 +20,13 @@ use Rattle.lower.specs.declared.held.Aim.{Aim}
 use Rattle.lower.specs.declared.held.Tested.{Tested}
 use Rattle.lower.specs.declared.held.Exits.{Exits}
 use Rattle.lower.specs.inner.Limits.{NeedsMore}
-use Rattle.lower.specs.inner.Lists.{Lists, used, holding}
-use Rattle.lower.specs.inner.Names.{Callee}
-use Rattle.lower.specs.inner.Expressions.{Emitted, AllEmitted, above, both, computing, answered, settled, called, emitted, condition, both_conditions, conditional, all_emitted}
-use Rattle.lower.specs.inner.Conditions.{Condition, test_in}
+use Rattle.lower.specs.Lists.{Lists, used, holding}
+use Rattle.lower.specs.Names.{Callee}
+use Rattle.lower.specs.Expressions.{Emitted, AllEmitted, above, both, computing, answered, settled, called, emitted, condition, both_conditions, conditional, all_emitted}
+use Rattle.lower.specs.Conditions.{Condition, test_in}
 use Rattle.lower.specs.inner.Aims.{aim_in}
-use Rattle.lower.specs.inner.Simples.{Written, Aimed, nothing_written, one_written, aimed, above_target, fetched, home_or, stored, value_or_one, assigned, adjusted, first_written, declarator_written, start_written}
-use Rattle.lower.specs.inner.Statements.{in_transaction, looping, print_written, tested_back, transacted, for_test, for_step, written, all_written}
+use Rattle.lower.specs.Simples.{Written, Aimed, nothing_written, one_written, aimed, above_target, fetched, home_or, stored, value_or_one, assigned, adjusted, first_written, declarator_written, start_written}
+use Rattle.lower.specs.Statements.{in_transaction, looping, print_written, tested_back, transacted, for_test, for_step, written, all_written}
 use Rattle.lower.proofs.Growing.{needs_more, used_more, holding_more, settled_more, emitted_more, condition_more}
 use Rattle.lower.proofs.GrowingStmts.{fetched_more, stored_same, one_more, pieces_same, first_more, test_more, step_more, written_more}
 

@@ -18,10 +18,10 @@ use Rattle.lower.specs.declared.fault.LowerFault.{LowerFault}
 use Rattle.lower.specs.declared.fault.LowerFault.TheVariants.{OutOfMemory, TooManyRegisters, TooMuchCode, NestedTooDeep}
 use Rattle.lower.specs.Nested.{nested_too_deep}
 use Rattle.lower.specs.Faults.{IsFaultOf, picked_for}
-use Rattle.lower.specs.inner.Lists.{Lists}
+use Rattle.lower.specs.Lists.{Lists}
 use Rattle.lower.specs.inner.Parts.{IsOfDefinition, IsOfItem, IsOfCode}
-use Rattle.lower.specs.inner.Simples.{Written}
-use Rattle.lower.specs.inner.Programs.{Made, no_exits, body_written, nothing_made, function_code, put_before, all_made, made_for, made_of, lowered_code}
+use Rattle.lower.specs.Simples.{Written}
+use Rattle.lower.specs.Programs.{Made, no_exits, body_written, nothing_made, function_code, put_before, all_made, made_for, made_of, lowered_code}
 use Rattle.lower.proofs.Bodies.{definition_made, code_grows, codes_among, front_code, one_more}
 use Rattle.lower.proofs.Files.{items_more}
 use Rattle.lower.proofs.GrowingStmts.{stmts_more}

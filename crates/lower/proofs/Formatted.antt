@@ -6,9 +6,9 @@ use Rattle.lex.specs.declared.token.Scalar.{Scalar}
 use Rattle.lex.specs.declared.token.Scalar.TheVariants.{Int, Unsigned}
 use Rattle.syntax.specs.Formats.{Piece, Literal, Figure, literal, conversion, pieces}
 use Rattle.bytecode.specs.declared.instr.Instr.{Instr}
-use Rattle.lower.specs.inner.Lists.{Lists}
-use Rattle.lower.specs.inner.Simples.{Written, and_then}
-use Rattle.lower.specs.inner.Statements.{pieces_written}
+use Rattle.lower.specs.Lists.{Lists}
+use Rattle.lower.specs.Simples.{Written, and_then}
+use Rattle.lower.specs.Statements.{pieces_written}
 use Rattle.lower.specs.inner.Formats.{joined, text_written, figure_written, IsByteAt, IsNumberAt}
 
 -- the unit at a place

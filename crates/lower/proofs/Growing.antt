@@ -10,10 +10,10 @@ use Rattle.lowered.specs.Expressions.{LocalScope, arranged}
 use Rattle.lower.specs.declared.fault.Failure.{Failure}
 use Rattle.lower.specs.declared.fault.Failure.TheVariants as failure
 use Rattle.lower.specs.inner.Limits.{NeedsMore}
-use Rattle.lower.specs.inner.Lists.{Lists, used, holding}
-use Rattle.lower.specs.inner.Names.{Callee, callee_of}
-use Rattle.lower.specs.inner.Conditions.{Condition, zero_test, zero_tested}
-use Rattle.lower.specs.inner.Expressions.{Emitted, AllEmitted, above, then_one, settled, variable, element, called, tested, emitted, own_condition, condition, all_emitted}
+use Rattle.lower.specs.Lists.{Lists, used, holding}
+use Rattle.lower.specs.Names.{Callee, callee_of}
+use Rattle.lower.specs.Conditions.{Condition, zero_test, zero_tested}
+use Rattle.lower.specs.Expressions.{Emitted, AllEmitted, above, then_one, settled, variable, element, called, tested, emitted, own_condition, condition, all_emitted}
 
 pub needs_more : (e : Failure) (m n : ℕ) → m ≤ n → NeedsMore e m → NeedsMore e n
 needs_more failure.Registers m n h k = omega (arith, h, k)

@@ -12,10 +12,10 @@ use Rattle.lowered.specs.Statements.{with_local, locals_of_start, locals_after}
 use Rattle.lower.specs.declared.held.Target.{Target}
 use Rattle.lower.specs.declared.held.Target.TheVariants as target
 use Rattle.lower.specs.declared.held.Exits.{Exits}
-use Rattle.lower.specs.inner.Lists.{Lists, used}
-use Rattle.lower.specs.inner.Expressions.{Emitted, above, both, emitted, all_emitted, condition}
-use Rattle.lower.specs.inner.Simples.{nothing_written, one_written, variable_target, element_target, aimed, above_target, fetched, home_or, stored, value_or_one, assigned, adjusted, simple_written, first_written, declarator_written, declared_written, start_written}
-use Rattle.lower.specs.inner.Statements.{in_transaction, looping, pieces_written, for_test, for_step, written, all_written}
+use Rattle.lower.specs.Lists.{Lists, used}
+use Rattle.lower.specs.Expressions.{Emitted, above, both, emitted, all_emitted, condition}
+use Rattle.lower.specs.Simples.{nothing_written, one_written, variable_target, element_target, aimed, above_target, fetched, home_or, stored, value_or_one, assigned, adjusted, simple_written, first_written, declarator_written, declared_written, start_written}
+use Rattle.lower.specs.Statements.{in_transaction, looping, pieces_written, for_test, for_step, written, all_written}
 use Rattle.lower.proofs.Growing.{used_more, emitted_more, all_more, condition_more}
 
 pub target_more : (x : Option (ℕ × Scalar)) (g : Option GlobalCells) (from : ℕ) (l : Lists) → l.registers ≤ (variable_target x g from l).lists.registers

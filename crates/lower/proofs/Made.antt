@@ -16,12 +16,12 @@ use Rattle.lowered.specs.Expressions.{LocalScope}
 use Rattle.lowered.specs.Statements.{locals_of_start}
 use Rattle.lower.specs.declared.held.Tested.{Tested}
 use Rattle.lower.specs.declared.held.Exits.{Exits}
-use Rattle.lower.specs.inner.Lists.{Lists}
+use Rattle.lower.specs.Lists.{Lists}
 use Rattle.lower.specs.declared.draft.Draft.{Draft}
-use Rattle.lower.specs.inner.Conditions.{Condition, test_in, going_on}
-use Rattle.lower.specs.inner.Expressions.{condition}
-use Rattle.lower.specs.inner.Simples.{Written, start_written}
-use Rattle.lower.specs.inner.Statements.{tested_back, for_step, for_test, looping, in_transaction, transacted, written, all_written}
+use Rattle.lower.specs.Conditions.{Condition, test_in, going_on}
+use Rattle.lower.specs.Expressions.{condition}
+use Rattle.lower.specs.Simples.{Written, start_written}
+use Rattle.lower.specs.Statements.{tested_back, for_step, for_test, looping, in_transaction, transacted, written, all_written}
 
 -- what was done that gave this code behind another one
 pub record Makes (w : Written) (old new : List Instr) (l : Lists) (to : ℕ) : Type 0 where

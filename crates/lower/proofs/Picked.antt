@@ -14,7 +14,7 @@ use Rattle.bytecode.specs.Valid.{IsValid}
 use Rattle.bytecode.specs.Views.{code_of, function_of, instr_of}
 use Rattle.lowered.specs.Programs.{IsLowered}
 use Rattle.lowered.specs.Laws.{LoweredCodeMeans, MeansItsProgram}
-use Rattle.lower.specs.inner.Programs.{lowered_code}
+use Rattle.lower.specs.Programs.{lowered_code}
 use Rattle.lower.proofs.Bodies.{few_at}
 use Rattle.lower.proofs.stands.Cancelling.{cancels_surely_fit}
 use Rattle.lower.proofs.stands.Functions.{lowered_code_is_lowered}

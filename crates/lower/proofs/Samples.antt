@@ -10,11 +10,11 @@ use Rattle.syntax.specs.declared.tree.Mode.TheVariants.{Atomic, Relaxed}
 use Rattle.syntax.specs.declared.tree.IncDec.TheVariants.{Increment}
 use Rattle.syntax.specs.Tree.{Expr, Exprs, Print, If, While, For, Declares, Break, Name, Variable, Constant, Element, Call, Unary, Parenthesized, Binary, Logical, Assign, Adjust, Stmts, Do, Transaction, Return, Function, Global, Defines, Shares}
 use Rattle.bytecode.specs.Code.{Code, Instr}
-use Rattle.lower.specs.inner.Lists.{Lists}
-use Rattle.lower.specs.inner.Expressions.{emitted}
+use Rattle.lower.specs.Lists.{Lists}
+use Rattle.lower.specs.Expressions.{emitted}
 use Rattle.bytecode.specs.declared.instr.Instr.TheVariants as own
-use Rattle.lower.specs.inner.Statements.{written}
-use Rattle.lower.specs.inner.Programs.{no_exits, lowered_code}
+use Rattle.lower.specs.Statements.{written}
+use Rattle.lower.specs.Programs.{no_exits, lowered_code}
 
 abbrev no_lists : Lists
 no_lists = record { arguments = []; texts = []; registers = 0 }

@@ -7,7 +7,7 @@ use Rattle.bytecode.specs.Code.{FunctionCode}
 use Rattle.lower.specs.declared.fault.LowerFault.{LowerFault}
 use Rattle.lower.specs.declared.fault.LowerFault.TheVariants.{OutOfMemory, TooManyRegisters, TooMuchCode, NestedTooDeep}
 use Rattle.lower.specs.Nested.{nested_too_deep}
-use Rattle.lower.specs.inner.Programs.{made_for, lowered_code}
+use Rattle.lower.specs.Programs.{made_for, lowered_code}
 
 abbrev pub number_of : LowerFault → ℕ
 number_of OutOfMemory = 0

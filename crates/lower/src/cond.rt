@@ -2,7 +2,7 @@
 
 ghost use Rattle.std.specs.Prelude.{◌≡◌, not};
 ghost use Rattle.syntax.specs.Views.{expr_of};
-ghost use Rattle.lower.specs.inner.Conditions as conditions;
+ghost use Rattle.lower.specs.Conditions as conditions;
 
 use crate::held::Tested;
 use std::alloc::Allocator;

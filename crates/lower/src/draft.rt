@@ -3,7 +3,7 @@
 ghost use Rattle.std.specs.Prelude.{◌≡◌, ◌++◌, ◌∷◌, [], ◌+◌, map, not, OnOk, IfOk};
 ghost use Rattle.bytecode.specs.declared.instr.Instr.TheVariants as instr;
 ghost use Rattle.lower.specs.declared.draft.Draft.TheVariants as draft;
-ghost use Rattle.lower.specs.inner.Conditions as conditions;
+ghost use Rattle.lower.specs.Conditions as conditions;
 
 use crate::held::Tested;
 use crate::put::{after, put};

@@ -8,11 +8,11 @@ ghost use Rattle.syntax.specs.Views.{expr_of, exprs_of, parameter_of};
 ghost use Rattle.bytecode.specs.declared.instr.Instr.TheVariants as instr;
 ghost use Rattle.lowered.specs.Expressions.{arranged, named_ones, nameless_ones};
 ghost use Rattle.lower.specs.inner.Limits.{NeedsMore};
-ghost use Rattle.lower.specs.inner.Lists.{lists_of, used, holding};
+ghost use Rattle.lower.specs.Lists.{lists_of, used, holding};
 ghost use Rattle.lower.specs.declared.draft.Draft.TheVariants as draft;
-ghost use Rattle.lower.specs.inner.Conditions as conditions;
-ghost use Rattle.lower.specs.inner.Conditions.{test_in, tested_by};
-ghost use Rattle.lower.specs.inner.Expressions.{constant, variable, settled, answered, called, emitted, condition, both_conditions, conditional, all_emitted};
+ghost use Rattle.lower.specs.Conditions as conditions;
+ghost use Rattle.lower.specs.Conditions.{test_in, tested_by};
+ghost use Rattle.lower.specs.Expressions.{constant, variable, settled, answered, called, emitted, condition, both_conditions, conditional, all_emitted};
 ghost use Rattle.lower.specs.inner.Tables.{callee_in, shared_in};
 ghost use Rattle.lower.specs.inner.Views.{program_in, scope_in};
 

@@ -4,8 +4,8 @@ ghost use Rattle.std.specs.Prelude.{◌≡◌, ◌++◌, ◌∷◌, [], ◌+◌,
 ghost use Rattle.syntax.specs.Views.{function_of, stmts_of, parameter_of};
 ghost use Rattle.lowered.specs.Programs.{parameter_locals};
 ghost use Rattle.lower.specs.inner.Limits.{NeedsMore};
-ghost use Rattle.lower.specs.inner.Lists.{lists_of};
-ghost use Rattle.lower.specs.inner.Programs.{body_written};
+ghost use Rattle.lower.specs.Lists.{lists_of};
+ghost use Rattle.lower.specs.Programs.{body_written};
 ghost use Rattle.lower.specs.inner.Views.{program_in, scope_in};
 
 use crate::fault::Failure;

@@ -9,9 +9,9 @@ ghost use Rattle.bytecode.specs.Views.{code_of, function_of as code_function};
 ghost use Rattle.lowered.specs.Laws.{MeansItsProgram};
 ghost use Rattle.lower.specs.Nested.{nested_too_deep};
 ghost use Rattle.lower.specs.Faults.{IsFaultOf};
-ghost use Rattle.lower.specs.inner.Lists.{lists_of};
+ghost use Rattle.lower.specs.Lists.{lists_of};
 ghost use Rattle.lower.specs.inner.Parts.{IsOfDefinition, IsOfItem, IsOfCode};
-ghost use Rattle.lower.specs.inner.Programs.{body_written, function_code, all_made, lowered_code};
+ghost use Rattle.lower.specs.Programs.{body_written, function_code, all_made, lowered_code};
 ghost use Rattle.lower.specs.inner.Views.{program_in};
 
 use crate::deep::first_too_deep;

@@ -5,9 +5,9 @@ ghost use Rattle.lower.specs.inner.Limits.{NeedsMore};
 ghost use Rattle.syntax.specs.Numbers as numbers;
 ghost use Rattle.bytecode.specs.declared.instr.Instr.TheVariants as instr;
 ghost use Rattle.lower.specs.declared.lists.Lists as declared_lists;
-ghost use Rattle.lower.specs.inner.Lists.{lists_of, used, holding};
-ghost use Rattle.lower.specs.inner.Conditions as conditions;
-ghost use Rattle.lower.specs.inner.Expressions as expressions;
+ghost use Rattle.lower.specs.Lists.{lists_of, used, holding};
+ghost use Rattle.lower.specs.Conditions as conditions;
+ghost use Rattle.lower.specs.Expressions as expressions;
 
 use crate::draft::{Draft, put_test};
 use crate::fault::Failure;

@@ -16,9 +16,9 @@ use Rattle.bytecode.specs.Code.{Code}
 use Rattle.bytecode.specs.Views.{instr_of}
 use Rattle.lowered.specs.Expressions.{Coded, Branching, At, LeadsTo, MayTake, Branches, BothHold, EitherHolds, IsNought, ComparedWithZero, TruthCode, BranchCode, ConditionalCode}
 use Rattle.lower.specs.declared.draft.Draft.TheVariants as draft
-use Rattle.lower.specs.inner.Lists.{Lists, used}
-use Rattle.lower.specs.inner.Conditions.{Condition, test_in, jump_if, jump_if_not, completed, going_on, going_back, turned, by_value, opposite, first_of, joined, is_nought, zero_test, zero_tested}
-use Rattle.lower.specs.inner.Expressions.{Emitted, answered, chosen, tested}
+use Rattle.lower.specs.Lists.{Lists, used}
+use Rattle.lower.specs.Conditions.{Condition, test_in, jump_if, jump_if_not, completed, going_on, going_back, turned, by_value, opposite, first_of, joined, is_nought, zero_test, zero_tested}
+use Rattle.lower.specs.Expressions.{Emitted, answered, chosen, tested}
 use Rattle.lower.proofs.Drafted.{opposite_if, opposite_if_not, whole_are, turned_are, first_and, first_or, completed_length, on_length, back_length, first_length}
 use Rattle.lower.proofs.stands.Standing.{Stand, front, behind, Grows, grows_same, grows_further, grows_used, Fits, fits_before, is_register, given}
 use Rattle.lower.proofs.stands.Emitting.{Emits}

@@ -15,8 +15,8 @@ use Rattle.bytecode.specs.Code.{Code, Instr as Plain}
 use Rattle.bytecode.specs.Views.{instr_of}
 use Rattle.lowered.specs.Expressions as Lowered
 use Rattle.lowered.specs.Expressions.{Coded, MayTake, GivenBy, LocalIs, VariableCode, ElementCode, CastCode, UnaryCode, NotCode, BinaryCode, MovedCode, BranchCode}
-use Rattle.lower.specs.inner.Lists.{Lists, used}
-use Rattle.lower.specs.inner.Expressions.{computing, negating, Emitted, above, one, then_one, in_local, converted_to, negated, complemented, compared, both, settled}
+use Rattle.lower.specs.Lists.{Lists, used}
+use Rattle.lower.specs.Expressions.{computing, negating, Emitted, above, one, then_one, in_local, converted_to, negated, complemented, compared, both, settled}
 use Rattle.lower.proofs.stands.Standing.{Stand, front, behind, Grows, grows_same, grows_further, grows_used, max_left, max_right, Fits, fits_before, is_register, given}
 
 -- operators have the instructions of the relation

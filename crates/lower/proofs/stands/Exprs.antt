@@ -25,10 +25,10 @@ use Rattle.bytecode.specs.declared.instr.Instr.TheVariants as own
 use Rattle.bytecode.specs.Code.{Code, FunctionCode, Instr as Plain}
 use Rattle.bytecode.specs.Views.{args_of, instr_of}
 use Rattle.lowered.specs.Expressions.{LocalScope, IsLike, Coded, Branching, MayTake, GivenBy, VariableCode, ElementAt, BothHold, EitherHolds, CallCode, arranged, ExprCode, OwnTests, ArgsCode, CondCode}
-use Rattle.lower.specs.inner.Lists.{Lists, used, holding}
-use Rattle.lower.specs.inner.Names.{Callee, callee_at, callee_of}
-use Rattle.lower.specs.inner.Conditions.{joined}
-use Rattle.lower.specs.inner.Expressions.{Emitted, AllEmitted, above, then_one, variable, element, called, settled, emitted, own_condition, condition, all_emitted}
+use Rattle.lower.specs.Lists.{Lists, used, holding}
+use Rattle.lower.specs.Names.{Callee, callee_at, callee_of}
+use Rattle.lower.specs.Conditions.{joined}
+use Rattle.lower.specs.Expressions.{Emitted, AllEmitted, above, then_one, variable, element, called, settled, emitted, own_condition, condition, all_emitted}
 use Rattle.lower.proofs.stands.Standing.{Stand, front, behind, front_same, front_more, max_left, Grows, grows_same, grows_further, grows_used, Fits, fits_before, is_register, given}
 use Rattle.lower.proofs.stands.Named.{VariableFound, variable_found, array_found, function_found, known_number, known_array, known_callable}
 use Rattle.lower.proofs.stands.Emitting.{above_free, above_it, Emits, one_emits, in_local_emits, element_emits, cast_emits, negated_emits, complemented_emits, compared_emits, both_emits, settled_emits}

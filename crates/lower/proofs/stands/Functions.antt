@@ -25,11 +25,11 @@ use Rattle.bytecode.specs.Beginning.{worker_among}
 use Rattle.lowered.specs.Expressions.{LocalScope}
 use Rattle.lowered.specs.Programs as Lowered
 use Rattle.lowered.specs.Programs.{parameter_locals, FunctionIsLowered, IsLowered}
-use Rattle.lower.specs.inner.Lists.{Lists}
-use Rattle.lower.specs.inner.Names.{Callee, callee_at, callee_first, callee_from}
-use Rattle.lower.specs.inner.Simples.{Written}
-use Rattle.lower.specs.inner.Statements.{all_written}
-use Rattle.lower.specs.inner.Programs.{no_exits, body_written, Made, function_code, put_before, made_first, all_made, made_of, lowered_code}
+use Rattle.lower.specs.Lists.{Lists}
+use Rattle.lower.specs.Names.{Callee, callee_at, callee_first, callee_from}
+use Rattle.lower.specs.Simples.{Written}
+use Rattle.lower.specs.Statements.{all_written}
+use Rattle.lower.specs.Programs.{no_exits, body_written, Made, function_code, put_before, made_first, all_made, made_of, lowered_code}
 use Rattle.lower.proofs.stands.Standing.{Stand, front, behind, IsFront, front_same, front_front}
 use Rattle.lower.proofs.stands.Exprs.{CalleesStand, DefinedAreCallees}
 use Rattle.lower.proofs.stands.Statements.{stmts_write}

@@ -24,9 +24,9 @@ use Rattle.lowered.specs.Expressions as Lowered
 use Rattle.lowered.specs.Expressions.{LocalScope, Coded, At, MayTake, GivenBy, BinaryCode, ExprCode}
 use Rattle.lowered.specs.Statements.{Target, LocalAt, CellAt, ElementOf, home_of, with_local, with_declared, locals_of_start, VariableTarget, CheckedAt, UncheckedAt, TargetCode, ReadTarget, FetchCode, StoreCode, AssignCode, ChangeCode, OneCode, SimpleCode, FirstValueCode, DeclareCode, StartCode}
 use Rattle.lower.specs.declared.held.Target.{Target as OwnTarget}
-use Rattle.lower.specs.inner.Lists.{Lists, used}
-use Rattle.lower.specs.inner.Expressions.{Emitted, above, both, constant, emitted}
-use Rattle.lower.specs.inner.Simples.{Written, Aimed, variable_target, element_target, above_target, fetched, home_or, then_stored, behind as aimed_then, aimed, value_or_one, assigned, adjusted, simple_written, first_written, declared_written, start_written}
+use Rattle.lower.specs.Lists.{Lists, used}
+use Rattle.lower.specs.Expressions.{Emitted, above, both, constant, emitted}
+use Rattle.lower.specs.Simples.{Written, Aimed, variable_target, element_target, above_target, fetched, home_or, then_stored, behind as aimed_then, aimed, value_or_one, assigned, adjusted, simple_written, first_written, declared_written, start_written}
 use Rattle.lower.proofs.stands.Standing.{Stand, front, behind, Grows, grows_same, grows_further, grows_used, Fits, fits_before, is_register}
 use Rattle.lower.proofs.stands.Named.{VariableFound, variable_found, array_found, known_number, known_array}
 use Rattle.lower.proofs.stands.Emitting.{Emits, one_emits, both_emits}

@@ -6,7 +6,7 @@ use Rattle.bytecode.specs.declared.instr.Instr.{Instr}
 use Rattle.bytecode.specs.Code.{Code}
 use Rattle.bytecode.specs.Views.{instr_of}
 use Rattle.lowered.specs.Expressions.{At, MayTake, GivenBy}
-use Rattle.lower.specs.inner.Lists.{Lists, used}
+use Rattle.lower.specs.Lists.{Lists, used}
 
 -- instructions stand in a code from a place on
 module _ (code : Code) (arguments : List ℕ) where

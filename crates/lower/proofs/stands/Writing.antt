@@ -13,9 +13,9 @@ use Rattle.lowered.specs.Expressions.{Coded, At, MayTake}
 use Rattle.lowered.specs.Statements.{Target, LocalAt, CellAt, ElementOf, home_of, Spares, FetchCode, StoreCode}
 use Rattle.lower.specs.declared.held.Target.{Target as OwnTarget}
 use Rattle.lower.specs.declared.held.Target.TheVariants as target
-use Rattle.lower.specs.inner.Lists.{Lists}
-use Rattle.lower.specs.inner.Expressions.{Emitted}
-use Rattle.lower.specs.inner.Simples.{Written, nothing_written, above_target, fetched, home_or, one_written, stored, and_then, evaluated, then_stored}
+use Rattle.lower.specs.Lists.{Lists}
+use Rattle.lower.specs.Expressions.{Emitted}
+use Rattle.lower.specs.Simples.{Written, nothing_written, above_target, fetched, home_or, one_written, stored, and_then, evaluated, then_stored}
 use Rattle.lower.proofs.stands.Standing.{Stand, front, behind, Grows, grows_same, grows_further, Fits, fits_before}
 use Rattle.lower.proofs.stands.Emitting.{above_free, above_it, Emits, one_emits, in_local_emits}
 

@@ -18,10 +18,10 @@ use Rattle.bytecode.specs.declared.instr.Instr.TheVariants as own
 use Rattle.bytecode.specs.Code.{Code, FunctionCode}
 use Rattle.bytecode.specs.Valid.{cells_of, Takes}
 use Rattle.lowered.specs.Expressions.{LocalScope}
-use Rattle.lower.specs.inner.Lists.{Lists}
-use Rattle.lower.specs.inner.Names.{Callee, callee_at, callee_of}
-use Rattle.lower.specs.inner.Expressions.{Emitted, AllEmitted, above, variable, element, called, settled, emitted, own_condition, condition, all_emitted}
-use Rattle.lower.specs.inner.Conditions.{joined, zero_test}
+use Rattle.lower.specs.Lists.{Lists}
+use Rattle.lower.specs.Names.{Callee, callee_at, callee_of}
+use Rattle.lower.specs.Expressions.{Emitted, AllEmitted, above, variable, element, called, settled, emitted, own_condition, condition, all_emitted}
+use Rattle.lower.specs.Conditions.{joined, zero_test}
 use Rattle.lower.proofs.stands.Standing.{grows_same}
 use Rattle.lower.proofs.stands.Named.{known_number, known_callable, function_found}
 use Rattle.lower.proofs.stands.Exprs.{DefinedAreCallees}

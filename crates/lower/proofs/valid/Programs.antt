@@ -24,11 +24,11 @@ use Rattle.bytecode.specs.Valid.{end_before, Has, IsValidFunction, HasWorker, Is
 use Rattle.bytecode.specs.Views.{instr_of}
 use Rattle.lowered.specs.Expressions.{LocalScope}
 use Rattle.lowered.specs.Programs.{parameter_locals}
-use Rattle.lower.specs.inner.Lists.{Lists}
-use Rattle.lower.specs.inner.Names.{callee_at}
-use Rattle.lower.specs.inner.Simples.{Written}
-use Rattle.lower.specs.inner.Statements.{all_written}
-use Rattle.lower.specs.inner.Programs.{no_exits, body_written, Made, function_code, put_before, made_first, all_made, made_of, lowered_code}
+use Rattle.lower.specs.Lists.{Lists}
+use Rattle.lower.specs.Names.{callee_at}
+use Rattle.lower.specs.Simples.{Written}
+use Rattle.lower.specs.Statements.{all_written}
+use Rattle.lower.specs.Programs.{no_exits, body_written, Made, function_code, put_before, made_first, all_made, made_of, lowered_code}
 use Rattle.lower.proofs.stands.Standing.{Stand, front, behind}
 use Rattle.lower.proofs.stands.Cancelling.{CancelsAreFit}
 use Rattle.lower.proofs.stands.Functions.{callee_is_there, callees_stand, defined_are_callees, parameters_are, GoesOn, on_same, on_further, or_false, names_apart, own_first, Firsts, firsts_from, items_met, all_stand, callable_worker}

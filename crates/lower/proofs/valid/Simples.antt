@@ -22,9 +22,9 @@ use Rattle.lowered.specs.Expressions.{LocalScope}
 use Rattle.lowered.specs.Statements.{with_local}
 use Rattle.lower.specs.declared.held.Target.{Target}
 use Rattle.lower.specs.declared.held.Target.TheVariants as target
-use Rattle.lower.specs.inner.Lists.{Lists, used}
-use Rattle.lower.specs.inner.Expressions.{Emitted, above, both, emitted}
-use Rattle.lower.specs.inner.Simples.{Written, Aimed, aimed_at, variable_target, element_target, above_target, fetched, home_or, one_written, stored, and_then, evaluated, then_stored, behind as aimed_then, aimed, value_or_one, adjusted, simple_written, nothing_written, first_written, declarator_written, declared_written, start_written}
+use Rattle.lower.specs.Lists.{Lists, used}
+use Rattle.lower.specs.Expressions.{Emitted, above, both, emitted}
+use Rattle.lower.specs.Simples.{Written, Aimed, aimed_at, variable_target, element_target, above_target, fetched, home_or, one_written, stored, and_then, evaluated, then_stored, behind as aimed_then, aimed, value_or_one, adjusted, simple_written, nothing_written, first_written, declarator_written, declared_written, start_written}
 use Rattle.lower.proofs.stands.Standing.{Grows, grows_same, grows_further, grows_used, max_right, Fits, fits_before, is_register}
 use Rattle.lower.proofs.stands.Named.{known_number}
 use Rattle.lower.proofs.stands.Exprs.{CalleesStand, DefinedAreCallees}

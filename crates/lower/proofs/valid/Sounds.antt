@@ -19,11 +19,11 @@ use Rattle.bytecode.specs.Valid.{IsWritten, Takes}
 use Rattle.bytecode.specs.Views.{instr_of}
 use Rattle.lowered.specs.Expressions as Lowered
 use Rattle.lowered.specs.Expressions.{named_ones, nameless_ones, arranged}
-use Rattle.lower.specs.inner.Lists.{Lists, used, holding}
-use Rattle.lower.specs.inner.Names.{Callee}
+use Rattle.lower.specs.Lists.{Lists, used, holding}
+use Rattle.lower.specs.Names.{Callee}
 use Rattle.lower.specs.declared.draft.Draft.TheVariants as draft
-use Rattle.lower.specs.inner.Conditions.{Condition, test_in, jump_if, jump_if_not, completed, turned, going_on, going_back, by_value, opposite, first_of, joined, zero_tested}
-use Rattle.lower.specs.inner.Expressions.{computing, negating, Emitted, AllEmitted, above, one, then_one, in_local, converted_to, negated, complemented, compared, both, answered, tested, settled, chosen, followed, called}
+use Rattle.lower.specs.Conditions.{Condition, test_in, jump_if, jump_if_not, completed, turned, going_on, going_back, by_value, opposite, first_of, joined, zero_tested}
+use Rattle.lower.specs.Expressions.{computing, negating, Emitted, AllEmitted, above, one, then_one, in_local, converted_to, negated, complemented, compared, both, answered, tested, settled, chosen, followed, called}
 use Rattle.lower.proofs.Drafted.{whole_are, turned_are, first_and, first_or, completed_length, on_length, back_length, first_length}
 use Rattle.lower.proofs.stands.Standing.{front_same, front_more, Grows, grows_same, grows_further, grows_used, max_left, max_right, Fits, fits_before, is_register}
 use Rattle.lower.proofs.stands.Emitting.{computing_is}

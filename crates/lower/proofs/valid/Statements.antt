@@ -18,11 +18,11 @@ use Rattle.bytecode.specs.Code.{Code, FunctionCode}
 use Rattle.lowered.specs.Expressions.{LocalScope}
 use Rattle.lowered.specs.Statements.{locals_of_start, locals_after}
 use Rattle.lower.specs.declared.held.Exits.{Exits}
-use Rattle.lower.specs.inner.Lists.{Lists}
-use Rattle.lower.specs.inner.Expressions.{AllEmitted, emitted, condition, all_emitted}
-use Rattle.lower.specs.inner.Conditions.{Condition, test_in, going_on}
-use Rattle.lower.specs.inner.Simples.{Written, nothing_written, one_written, and_then, evaluated, start_written}
-use Rattle.lower.specs.inner.Statements.{in_transaction, looping, left_by, branched, branched_twice, tested_back, while_written, do_written, for_written, returned, printing, and_one, pieces_written, print_written, for_test, for_step, written, all_written}
+use Rattle.lower.specs.Lists.{Lists}
+use Rattle.lower.specs.Expressions.{AllEmitted, emitted, condition, all_emitted}
+use Rattle.lower.specs.Conditions.{Condition, test_in, going_on}
+use Rattle.lower.specs.Simples.{Written, nothing_written, one_written, and_then, evaluated, start_written}
+use Rattle.lower.specs.Statements.{in_transaction, looping, left_by, branched, branched_twice, tested_back, while_written, do_written, for_written, returned, printing, and_one, pieces_written, print_written, for_test, for_step, written, all_written}
 use Rattle.lower.proofs.stands.Standing.{Grows, grows_further, front_same, front_more, fits_before}
 use Rattle.lower.proofs.stands.Exprs.{CalleesStand, DefinedAreCallees}
 use Rattle.lower.proofs.stands.Simply.{start_agrees}

@@ -5,9 +5,9 @@ use Rattle.syntax.specs.Formats.{Piece, Figure, literal, pieces}
 use Rattle.bytecode.specs.declared.instr.Instr.TheVariants as own
 use Rattle.lower.specs.declared.print.Unit as U
 use Rattle.lower.specs.declared.print.Unit.TheVariants as unit
-use Rattle.lower.specs.inner.Lists.{Lists}
-use Rattle.lower.specs.inner.Simples.{Written, nothing_written, one_written, and_then}
-use Rattle.lower.specs.inner.Statements.{printing}
+use Rattle.lower.specs.Lists.{Lists}
+use Rattle.lower.specs.Simples.{Written, nothing_written, one_written, and_then}
+use Rattle.lower.specs.Statements.{printing}
 
 -- bytes of literal text before these pieces
 abbrev pub joined : List ℕ → List Piece → List Piece

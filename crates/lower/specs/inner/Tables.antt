@@ -8,7 +8,7 @@ use Rattle.syntax.specs.Names as Source
 use Rattle.types.specs.Slots.{value_at}
 use Rattle.lower.specs.declared.names.Shared.{Shared}
 use Rattle.lower.specs.declared.names.Callee.{Callee as OwnCallee}
-use Rattle.lower.specs.inner.Names.{Callee, callee_of}
+use Rattle.lower.specs.Names.{Callee, callee_of}
 
 -- the number of all cells
 abbrev pub total_cells : List Global → ℕ

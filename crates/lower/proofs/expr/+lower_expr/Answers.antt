@@ -3,16 +3,16 @@ use Rattle.syntax.specs.declared.tree.UnaryOp.TheVariants.{Negate, Not, Compleme
 use Rattle.syntax.specs.Numbers.{operand_type}
 use Rattle.syntax.specs.Views.{expr_of, exprs_of}
 use Rattle.bytecode.specs.declared.instr.Instr.TheVariants as own
-use Rattle.lower.specs.inner.Names.{callee_of}
-use Rattle.lower.specs.inner.Conditions.{Condition}
-use Rattle.lower.specs.inner.Expressions.{Emitted, above, negating, computing, called, settled, element, emitted, condition, all_emitted}
+use Rattle.lower.specs.Names.{callee_of}
+use Rattle.lower.specs.Conditions.{Condition}
+use Rattle.lower.specs.Expressions.{Emitted, above, negating, computing, called, settled, element, emitted, condition, all_emitted}
 use Rattle.syntax.specs.Names.{global_of, cells}
 use Rattle.lower.specs.inner.Tables.{callee_in, shared_in}
 use Rattle.lower.proofs.Arms.{tail_is, tails_are, second_behind, logical_made, chosen_made, called_code, called_lists, called_held, call_is, element_is, unary_is, binary_is, logical_is, conditional_is}
 use denote.Param.Weighed.{most}
 use Rattle.syntax.specs.declared.tree.Expr.{the_lemmas}
 use Rattle.syntax.proofs.tree.Expr.TheLaws.{the_size}
-use Rattle.lower.specs.inner.Lists.{Lists, lists_of}
+use Rattle.lower.specs.Lists.{Lists, lists_of}
 use Rattle.lower.specs.inner.Views.{program_in, scope_in}
 use Rattle.lower.proofs.Failing.{passed_on, binary_first, logical_first, joined_first, call_args, conditional_first, conditional_second, conditional_third}
 use Rattle.lower.specs.inner.Limits.{NeedsMore}

@@ -2,7 +2,7 @@ use Rattle.std.proofs.Common.{◌≡◌, ap, sym, ◌∙◌, subst}
 use Rattle.syntax.specs.Views.{program_of}
 use Rattle.bytecode.specs.Valid.{IsValid}
 use Rattle.bytecode.specs.Views.{code_of}
-use Rattle.lower.specs.inner.Programs.{lowered_code}
+use Rattle.lower.specs.Programs.{lowered_code}
 use Rattle.lower.specs.inner.Views.{program_in}
 use Rattle.lower.proofs.Picked.{picked_is_valid, picked_means}
 use Rattle.lower.proofs.generate.lower.Goals as goal

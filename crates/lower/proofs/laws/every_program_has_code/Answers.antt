@@ -1,4 +1,4 @@
-use Rattle.lower.specs.inner.Programs.{lowered_code}
+use Rattle.lower.specs.Programs.{lowered_code}
 use Rattle.lower.proofs.stands.Cancelling.{safe_cancels_fit}
 use Rattle.lower.proofs.stands.Functions.{lowered_code_is_lowered}
 use Rattle.lower.proofs.laws.every_program_has_code.Goals as goal

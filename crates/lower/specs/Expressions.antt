@@ -15,9 +15,9 @@ use Rattle.bytecode.specs.declared.instr.Instr.{Instr}
 use Rattle.bytecode.specs.declared.instr.Instr.TheVariants as own
 use Rattle.lowered.specs.Expressions.{LocalScope, arranged}
 use Rattle.lower.specs.declared.held.Held.{Held}
-use Rattle.lower.specs.inner.Lists.{Lists, used, holding}
-use Rattle.lower.specs.inner.Names.{Callee, callee_of}
-use Rattle.lower.specs.inner.Conditions.{Condition, test_in, going_on, by_value, opposite, joined, zero_test, zero_tested}
+use Rattle.lower.specs.Lists.{Lists, used, holding}
+use Rattle.lower.specs.Names.{Callee, callee_of}
+use Rattle.lower.specs.Conditions.{Condition, test_in, going_on, by_value, opposite, joined, zero_test, zero_tested}
 
 -- the instruction of an operator: one that asks for more is the other way round
 abbrev pub computing : BinaryOp → Scalar → ℕ → ℕ → ℕ → Instr

@@ -10,10 +10,10 @@ use Rattle.bytecode.specs.declared.instr.Instr.TheVariants as own
 use Rattle.lowered.specs.Expressions.{LocalScope}
 use Rattle.lowered.specs.Statements.{locals_of_start, locals_after}
 use Rattle.lower.specs.declared.held.Exits.{Exits}
-use Rattle.lower.specs.inner.Lists.{Lists}
-use Rattle.lower.specs.inner.Expressions.{Emitted, AllEmitted, emitted, all_emitted, condition}
-use Rattle.lower.specs.inner.Conditions.{Condition, test_in, going_on, going_back}
-use Rattle.lower.specs.inner.Simples.{Written, nothing_written, one_written, and_then, evaluated, simple_written, declared_written, start_written}
+use Rattle.lower.specs.Lists.{Lists}
+use Rattle.lower.specs.Expressions.{Emitted, AllEmitted, emitted, all_emitted, condition}
+use Rattle.lower.specs.Conditions.{Condition, test_in, going_on, going_back}
+use Rattle.lower.specs.Simples.{Written, nothing_written, one_written, and_then, evaluated, simple_written, declared_written, start_written}
 
 -- so many commits, and then an instruction
 abbrev pub left_by : ℕ → Instr → ℕ → Lists → Written

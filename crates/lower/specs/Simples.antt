@@ -10,10 +10,10 @@ use Rattle.bytecode.specs.declared.instr.Instr.{Instr}
 use Rattle.bytecode.specs.declared.instr.Instr.TheVariants as own
 use Rattle.lower.specs.declared.held.Target.{Target}
 use Rattle.lower.specs.declared.held.Target.TheVariants as target
-use Rattle.lower.specs.inner.Lists.{Lists, used}
+use Rattle.lower.specs.Lists.{Lists, used}
 use Rattle.lowered.specs.Expressions.{LocalScope}
 use Rattle.lowered.specs.Statements.{with_local}
-use Rattle.lower.specs.inner.Expressions.{Emitted, above, one, constant, in_local, both, emitted}
+use Rattle.lower.specs.Expressions.{Emitted, above, one, constant, in_local, both, emitted}
 
 -- instructions, the lists after them, and the place behind them
 pub record Written : Type 0 where

@@ -12,7 +12,7 @@ use Rattle.lower.specs.declared.held.Held.{Held}
 use Rattle.lower.specs.declared.held.Tested.{Tested}
 use Rattle.lower.specs.declared.draft.Draft.{Draft}
 use Rattle.lower.specs.declared.draft.Draft.TheVariants as draft
-use Rattle.lower.specs.inner.Lists.{Lists}
+use Rattle.lower.specs.Lists.{Lists}
 
 -- instructions, some of which lead to where the condition holds or to where it does not; the lists after them, the
 -- register of a value, whether the condition holds where that is 0, and the place behind

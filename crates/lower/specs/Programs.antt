@@ -7,10 +7,10 @@ use Rattle.bytecode.specs.declared.instr.Instr.TheVariants as own
 use Rattle.bytecode.specs.Code.{FunctionCode, Code}
 use Rattle.bytecode.specs.Views.{instr_of}
 use Rattle.lower.specs.declared.held.Exits.{Exits}
-use Rattle.lower.specs.inner.Lists.{Lists}
+use Rattle.lower.specs.Lists.{Lists}
 use Rattle.lowered.specs.Programs.{parameter_locals}
-use Rattle.lower.specs.inner.Simples.{Written}
-use Rattle.lower.specs.inner.Statements.{all_written}
+use Rattle.lower.specs.Simples.{Written}
+use Rattle.lower.specs.Statements.{all_written}
 
 abbrev pub no_exits : Exits
 no_exits = record { break_to = 0; continue_to = 0; in_loop = 0; in_function = 0 }
