@@ -84,11 +84,6 @@ pub record ReplaysShown (threads : ℕ) (steps : Steps) (schedule : Option (List
   pub replay : IsReplayOfText threads steps schedule text code made None shown
   pub lines_are : lines ≡ timeline_text code (timeline_of (played code threads made))
 
--- the status tells of a report that was written behind these lines
-abbrev pub PrintsBehind : (lines : List ℕ) → Printed → ℕ → Option (List ℕ) → Option (List ℕ) → Type 0
-PrintsBehind lines shown status old new =
-    (status ≡ 0) ⊎ (status ≡ 3) → (status ≡ exit_status shown) × Appends old new (lines ++ report_text shown)
-
 -- the lines and the report of something that is so
 abbrev pub PrintsTimeline : (List ℕ → Printed → Type 0) → ℕ → Option (List ℕ) → Option (List ℕ) → Type 0
 PrintsTimeline AreSo status old new = (status ≡ 0) ⊎ (status ≡ 3) →

@@ -38,7 +38,7 @@ use Rattle.machine.specs.Answered.{Heard, Replays}
 use Rattle.machine.specs.States.{first_thread}
 use Rattle.machine.specs.Threads.{access}
 use Rattle.machine.specs.Worlds.{Part, World}
-use Rattle.workers.specs.Driving.{EndsBy, Ran, IsRunRefused}
+use Rattle.workers.specs.Driving.{EndsBy, Ran}
 use Rattle.workers.specs.declared.run.RunReport.{RunReport}
 use Rattle.report.specs.Printed.{ThreadShown, Printed}
 use Rattle.report.specs.declared.printed.End.{End}
@@ -46,8 +46,6 @@ use Rattle.report.specs.declared.printed.End.TheVariants as end
 use Rattle.report.specs.Report.{report_text}
 use Rattle.serving.specs.declared.order.OrderFault.{OrderFault}
 use Rattle.serving.specs.declared.order.OrderFault.TheVariants.{Source as OfSource, Order as OfOrder}
-use Rattle.serving.specs.declared.concurrent.ThreadsFault.{ThreadsFault}
-use Rattle.serving.specs.declared.concurrent.ThreadsFault.TheVariants as of_threads
 use Rattle.serving.specs.Shows.{order_shown, at_once_shown, end_at_once, thread_at_once}
 
 -- the tokens of a text spell this program
@@ -165,11 +163,6 @@ abbrev pub IsFaultInOrder : (text : List ℕ) (threads : ℕ) (order : List ℕ)
 IsFaultInOrder text threads order (OfSource fault) = IsFaultOfText text fault
 IsFaultInOrder text threads order (OfOrder fault) = Accepts text × IsFaultOfOrder threads order fault
 
--- what a fault says of a text and of a number of threads
-abbrev pub IsFaultAtOnce : (text : List ℕ) (threads : ℕ) → ThreadsFault → Type 0
-IsFaultAtOnce text threads (of_threads.Source fault) = IsFaultOfText text fault
-IsFaultAtOnce text threads (of_threads.Run fault) = IsRunRefused fault threads
-
 abbrev pub number_of_source : SourceFault → ℕ
 number_of_source OutOfMemory = 0
 number_of_source (Lex fault) = lex.number_of fault
@@ -208,12 +201,8 @@ exit_status shown =
     if list_any (λ (t : ThreadShown). is_stopped t.end) shown.threads then 4
     else if list_any (λ (t : ThreadShown). is_trapped t.end) shown.threads then 3 else 0
 
--- the status tells of a report that was written: the bytes that the writer had, if they are known, and then the report
-abbrev pub PrintsShown : Printed → ℕ → Option (List ℕ) → Option (List ℕ) → Type 0
-PrintsShown shown status old new =
-    (status ≡ 0) ⊎ (status ≡ 3) → (status ≡ exit_status shown) × Appends old new (report_text shown)
-
--- the report of something that is so
+-- the status tells of a report of something that is so: the bytes that the writer had, if they are known, and then the
+-- report
 abbrev pub Prints : (Printed → Type 0) → ℕ → Option (List ℕ) → Option (List ℕ) → Type 0
 Prints IsSo status old new = (status ≡ 0) ⊎ (status ≡ 3) →
     (shown : Printed) × IsSo shown × (status ≡ exit_status shown) × Appends old new (report_text shown)

@@ -58,11 +58,6 @@ abbrev pub shown_globals : List Global → Memory → List Shown
 shown_globals [] ws = []
 shown_globals (g ∷ gs) ws = shown_global g (take (cells g) ws) ∷ shown_globals gs (drop (cells g) ws)
 
--- the words beyond those of these globals
-abbrev pub words_after : List Global → Memory → Memory
-words_after [] ws = ws
-words_after (g ∷ gs) ws = words_after gs (drop (cells g) ws)
-
 -- threads, and the globals of a program in a memory
 abbrev pub program_shown : Program → List ThreadShown → Memory → Printed
 program_shown p threads memory =

@@ -4,3 +4,9 @@ pub mod Told
 pub mod Read
 -- what is shown of a replay's report
 pub mod Replayed
+-- the words beyond those of globals
+pub mod Words
+-- what a status says of a report that was printed
+pub mod Printing
+-- what a fault of running a text's threads says
+pub mod Threads

@@ -6,8 +6,9 @@ ghost use Rattle.serving.specs.Answers.{Answers, AnswersRequest};
 ghost use Rattle.replay.specs.Replays.{played, timeline_of};
 ghost use Rattle.report.specs.Timeline.{timeline_text};
 ghost use Rattle.report.specs.Views.{printed_of};
-ghost use Rattle.serving.specs.Replays.{IsReplayOfText, PrintsBehind, PrintsSchedule, PrintsTimeline, Replays, ReplaysShown, lines_of_seed};
-ghost use Rattle.serving.specs.Runs.{IsRefused, Prints, PrintsListing, PrintsShown, RunsAtOnce, RunsInOrder, SaysAccepted};
+ghost use Rattle.serving.specs.Replays.{IsReplayOfText, PrintsSchedule, PrintsTimeline, Replays, ReplaysShown, lines_of_seed};
+ghost use Rattle.serving.specs.Runs.{IsRefused, Prints, PrintsListing, RunsAtOnce, RunsInOrder, SaysAccepted};
+ghost use Rattle.serving.specs.inner.Printing.{PrintsBehind, PrintsShown};
 
 use crate::compiled::{Compiled, compile};
 use crate::concurrent::{ThreadsFault, run_threads};

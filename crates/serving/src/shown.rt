@@ -5,8 +5,9 @@ ghost use Rattle.syntax.specs.Views.{program_of, item_of, global_of};
 ghost use Rattle.syntax.specs.Names.{globals};
 ghost use Rattle.report.specs.Views.{printed_of, shown_of, thread_of};
 ghost use Rattle.meaning.specs.Outcomes.{thread_end_in};
-ghost use Rattle.serving.specs.Shows.{program_shown, order_end, shown_global, shown_globals, words_after};
+ghost use Rattle.serving.specs.Shows.{program_shown, order_end, shown_global, shown_globals};
 ghost use Rattle.serving.specs.inner.Told.{report_shown};
+ghost use Rattle.serving.specs.inner.Words.{words_beyond};
 
 use containers::{Copied, Items};
 use meaning::{SourceOutcome, ThreadEnd, ThreadReport};
@@ -108,7 +109,7 @@ fn push_globals<'a, A: Allocator + Copy>(
     words: &'a [u64],
 ) -> Result<&'a [u64], AllocError>
     ensures shown { OnOk result (map shown_of shown.new ≡ map shown_of shown.old ++ shown_globals (map global_of globals.now) words.now) }
-    ensures rest { IfOk result (λ r. r.now ≡ words_after (map global_of globals.now) words.now) }
+    ensures rest { IfOk result (λ r. r.now ≡ words_beyond (map global_of globals.now) words.now) }
 {
     let mut rest = words;
     'globals: for global in globals {

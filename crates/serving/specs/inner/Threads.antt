@@ -1,0 +1,11 @@
+-- What a fault of running a text's threads says.
+use Rattle.std.specs.Prelude.{ℕ, List}
+use Rattle.workers.specs.Driving.{IsRunRefused}
+use Rattle.serving.specs.declared.concurrent.ThreadsFault.{ThreadsFault}
+use Rattle.serving.specs.declared.concurrent.ThreadsFault.TheVariants.{Source, Run}
+use Rattle.serving.specs.Runs.{IsFaultOfText}
+
+-- what a fault says of a text and of a number of threads
+abbrev pub IsFaultAtOnce : (text : List ℕ) (threads : ℕ) → ThreadsFault → Type 0
+IsFaultAtOnce text threads (Source fault) = IsFaultOfText text fault
+IsFaultAtOnce text threads (Run fault) = IsRunRefused fault threads
