@@ -9,7 +9,7 @@ use Rattle.std.proofs.lemmas.Map.Text.{btree_map_updates_str}
 use Rattle.std.proofs.lemmas.Slice.Eq.{bytes_eq-Decides}
 use Rattle.syntax.specs.Tree.{Global}
 use Rattle.syntax.specs.Names.{GlobalCells, global_from, cells}
-use Rattle.types.specs.Slots.{value_at}
+use Rattle.types.specs.Maps.{value_at}
 use Rattle.lower.specs.inner.Tables.{total_cells}
 
 -- something is put where there was nothing

@@ -14,7 +14,7 @@ use Rattle.syntax.specs.declared.tree.Function.{Function as OwnFunction}
 use Rattle.syntax.specs.Tree.{Item, Defines, Shares, Function, Stmts, Global}
 use Rattle.syntax.specs.Views.{item_of, function_of, stmts_of}
 use Rattle.syntax.specs.Names.{GlobalCells, defined, definition_of, global_from, cells}
-use Rattle.types.specs.Slots.{value_at}
+use Rattle.types.specs.Maps.{value_at}
 use Rattle.meaning.specs.declared.names.Shared.{Shared}
 use Rattle.meaning.specs.inner.Cells.{total_cells}
 use Rattle.meaning.specs.inner.File.{shared_in}

@@ -7,7 +7,7 @@ use Rattle.std.specs.BTreeMap.{BTreeMap, Updates}
 use Rattle.std.proofs.lemmas.Map.Text.{btree_map_updates_str}
 use Rattle.std.proofs.lemmas.Slice.Eq.{bytes_eq-Decides}
 use Rattle.syntax.specs.Types.{Known}
-use Rattle.types.specs.Slots.{value_at}
+use Rattle.types.specs.Maps.{value_at}
 use Rattle.meaning.specs.declared.names.Symbol.{Symbol}
 use Rattle.meaning.specs.inner.File.{known_of, known_or}
 

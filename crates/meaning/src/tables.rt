@@ -10,7 +10,7 @@ ghost use Rattle.syntax.specs.Views.{global_of, item_of};
 ghost use Rattle.meaning.specs.inner.Cells.{total_cells};
 ghost use Rattle.meaning.specs.inner.File.{known_of, known_or};
 ghost use Rattle.meaning.specs.inner.Tables.{AreNumbers, AreGlobals, AreSymbols, shared_at};
-ghost use Rattle.types.specs.Slots.{value_at};
+ghost use Rattle.types.specs.Maps.{value_at};
 
 use crate::names::{Shared, Symbol, cells_of};
 use crate::program::{Definitions, Globals, Source, Symbols};

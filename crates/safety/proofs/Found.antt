@@ -18,14 +18,14 @@ items_more demands xs i x is h =
     ∙ first_of_two (demands (item_of x)) rest
 
 -- what is found is the first of all, and where nothing is found the rest is all
-module _ {B : Type 0} (fault_in : Option B → Option (ℕ × Span)) (none : fault_in None ≡ None) (some : (b : B) → (at : ℕ × Span) × (fault_in (Some b) ≡ Some at)) where
-  pub found_first : (o : Option B) (here rest all : Option (ℕ × Span)) → is_some o ≡ true → all ≡ option_or here rest → fault_in o ≡ here → fault_in o ≡ all
+module _ {B : Type 0} (unmet_in : Option B → Option (ℕ × Span)) (none : unmet_in None ≡ None) (some : (b : B) → (at : ℕ × Span) × (unmet_in (Some b) ≡ Some at)) where
+  pub found_first : (o : Option B) (here rest all : Option (ℕ × Span)) → is_some o ≡ true → all ≡ option_or here rest → unmet_in o ≡ here → unmet_in o ≡ all
   found_first None here rest all e a h = absurd cc
   found_first (Some b) here rest all e a h = some_is (some b) ∙ sym (a ∙ ap (λ x. option_or x rest) (sym h ∙ some_is (some b)))
     where
-      some_is : (s : (at : ℕ × Span) × (fault_in (Some b) ≡ Some at)) → fault_in (Some b) ≡ Some s.0
+      some_is : (s : (at : ℕ × Span) × (unmet_in (Some b) ≡ Some at)) → unmet_in (Some b) ≡ Some s.0
       some_is s = s.1
 
-  pub found_later : (o : Option B) (here rest all : Option (ℕ × Span)) → is_some o ≡ false → all ≡ option_or here rest → fault_in o ≡ here → rest ≡ all
+  pub found_later : (o : Option B) (here rest all : Option (ℕ × Span)) → is_some o ≡ false → all ≡ option_or here rest → unmet_in o ≡ here → rest ≡ all
   found_later None here rest all e a h = sym (a ∙ ap (λ x. option_or x rest) (sym h ∙ none))
   found_later (Some b) here rest all e a h = absurd cc

@@ -11,7 +11,7 @@ use Rattle.std.specs.Ordering.{nat_cmp}
 use Rattle.std.specs.Cmp.Lexicographic.{slice_cmp}
 use Rattle.std.specs.BTreeMap.{BTreeMap, Updates}
 use Rattle.std.proofs.lemmas.Map.Text.{btree_map_updates_str}
-use Rattle.types.specs.Slots.{value_at}
+use Rattle.types.specs.Maps.{value_at}
 use Rattle.safety.specs.Links.{Link}
 use Rattle.safety.specs.inner.Graphs.{IsNumbered, IsNumber, IsEdge, callers_at, HasLinks, Extends}
 use Rattle.safety.specs.inner.Closing.{IsWithin}

@@ -1,16 +1,15 @@
 -- What the check of safety answers.
 use Rattle.std.specs.Prelude.{◌≡◌, ℕ, Option, Some, None, Result, Ok, Err}
-use Rattle.syntax.specs.Tree.{Span, Program}
+use Rattle.syntax.specs.Tree.{Span}
 use Rattle.syntax.specs.Views.{program_of}
-use Rattle.syntax.specs.Typing.{first_unmet}
 use Rattle.types.specs.declared.typed.Typed.{Typed}
 use Rattle.safety.specs.declared.fault.Violation.{Violation}
 use Rattle.safety.specs.declared.fault.Violation.TheVariants.{UnsafeInAtomic, RelaxedInAtomic, CancelOutsideAtomic, NotSafe}
 use Rattle.safety.specs.declared.fault.SafetyFault.{SafetyFault}
 use Rattle.safety.specs.declared.fault.SafetyFault.TheVariants as fault
 use Rattle.safety.specs.declared.checked.Safe.{Safe}
-use Rattle.safety.specs.Safe.{FunctionSet, TellsSafe, IsSafeProgram}
-use Rattle.safety.specs.Faults.{safety_demands, IsSafetyFault}
+use Rattle.safety.specs.Safe.{IsSafeProgram}
+use Rattle.safety.specs.Faults.{IsSafetyFault}
 
 abbrev pub number_in : Violation → ℕ
 number_in (UnsafeInAtomic at) = 40
@@ -23,15 +22,6 @@ span_in (UnsafeInAtomic at) = at
 span_in (RelaxedInAtomic at) = at
 span_in (CancelOutsideAtomic at) = at
 span_in (NotSafe at) = at
-
--- the number and place of the demand that is not met, as the check says
-abbrev pub fault_in : Option Violation → Option (ℕ × Span)
-fault_in None = None
-fault_in (Some b) = Some (number_in b, span_in b)
-
--- this is the first demand that is not met, for a set that tells the safe functions
-abbrev pub Judges : Program → Option Violation → Type 0
-Judges p found = (safe : FunctionSet) × TellsSafe p safe × (fault_in found ≡ first_unmet (safety_demands p safe))
 
 module _ {A : Type 0} where
   abbrev pub number_of : SafetyFault A → ℕ

@@ -1,7 +1,7 @@
 -- What the program's own links and sets of functions say.
 use Rattle.std.specs.Prelude.{ℕ, List, Option, Bool, false, map, option_map, unwrap_or}
 use Rattle.std.specs.Prelude.{slice_index_or}
-use Rattle.types.specs.Slots.{value_at}
+use Rattle.types.specs.Maps.{value_at}
 use Rattle.safety.specs.declared.set.Link.{Link as OwnLink}
 use Rattle.safety.specs.declared.set.FunctionSet.{FunctionSet as OwnSet}
 use Rattle.safety.specs.Safe.{FunctionSet}

@@ -1,4 +1,6 @@
 -- What the private functions answer; no public contract cites it.
+-- the first demand that is not met
+pub mod Unmet
 -- the links of unsafe functions
 pub mod UnsafeLinks
 -- how many locals have a name

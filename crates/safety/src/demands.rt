@@ -8,7 +8,7 @@ ghost use Rattle.syntax.specs.Typing.{first_unmet};
 ghost use Rattle.safety.specs.Views.{site_of, sites_of_own};
 ghost use Rattle.safety.specs.Sets.{set_of};
 ghost use Rattle.safety.specs.Faults.{demands_at, function_demands, item_demands};
-ghost use Rattle.safety.specs.Answers.{fault_in, Judges};
+ghost use Rattle.safety.specs.inner.Unmet.{unmet_in, Judges};
 ghost use Rattle.safety.specs.inner.Rest.{rest_of, Claims};
 
 use crate::closure::least;
@@ -25,7 +25,7 @@ fn fault_at<'a, A: Allocator + Copy>(
     not_safe: &FunctionSet<'a, A>,
     site: Site<'a>,
 ) -> Option<Violation>
-    ensures { fault_in result
+    ensures { unmet_in result
         ≡ first_unmet (demands_at (rest_of (set_of not_safe.now)) (site_of site.entry) (site_of site.entry).construct) }
 {
     match site.construct {
@@ -48,7 +48,7 @@ fn fault_among<'a, A: Allocator + Copy>(
     not_safe: &FunctionSet<'a, A>,
     sites: &[Site<'a>],
 ) -> Option<Violation>
-    ensures { fault_in result
+    ensures { unmet_in result
         ≡ first_unmet
         (flat_map (λ s. demands_at (rest_of (set_of not_safe.now)) s s.construct) (sites_of_own sites.now)) }
 {
@@ -70,7 +70,7 @@ fn fault_of_function<'a, A: Allocator + Copy>(
 ) -> Result<Option<Violation>, AllocError>
     ensures { (p : Program) → Claims p (set_of claims.now) →
         IfOk result
-        (λ found. fault_in found
+        (λ found. unmet_in found
         ≡ first_unmet (function_demands p (rest_of (set_of not_safe.now)) (function_of f.now))) }
 {
     let name = f.name.text.as_str();
@@ -93,7 +93,7 @@ fn fault_of_item<'a, A: Allocator + Copy>(
 ) -> Result<Option<Violation>, AllocError>
     ensures { (p : Program) → Claims p (set_of claims.now) →
         IfOk result
-        (λ found. fault_in found ≡ first_unmet (item_demands p (rest_of (set_of not_safe.now)) (item_of item.now))) }
+        (λ found. unmet_in found ≡ first_unmet (item_demands p (rest_of (set_of not_safe.now)) (item_of item.now))) }
 {
     match item {
         Item::Function(f) => {
@@ -113,7 +113,7 @@ fn fault_of_items<'a, A: Allocator + Copy>(
 ) -> Result<Option<Violation>, AllocError>
     ensures { (p : Program) → Claims p (set_of claims.now) →
         IfOk result
-        (λ found. fault_in found
+        (λ found. unmet_in found
         ≡ first_unmet (flat_map (item_demands p (rest_of (set_of not_safe.now))) (map item_of items.now))) }
 {
     'each: for item in items {

@@ -2,7 +2,8 @@
 
 ghost use Rattle.std.specs.Prelude.{◌≡◌};
 ghost use Rattle.syntax.specs.Typing.{demand, first_unmet};
-ghost use Rattle.safety.specs.Answers.{number_in, span_in, fault_in, number_of, span_of, typed_of};
+ghost use Rattle.safety.specs.Answers.{number_in, span_in, number_of, span_of, typed_of};
+ghost use Rattle.safety.specs.inner.Unmet.{unmet_in};
 
 use lex::token::Span;
 use std::alloc::Allocator;
@@ -54,7 +55,7 @@ impl Violation {
 
 /// One demand: the fault that names it, where it is not met.
 pub(crate) fn unless_met(met: bool, fault: Violation) -> Option<Violation>
-    ensures { fault_in result ≡ first_unmet (demand (number_in fault) (span_in fault) met) }
+    ensures { unmet_in result ≡ first_unmet (demand (number_in fault) (span_in fault) met) }
 {
     if met { None } else { Some(fault) }
 }

@@ -1,7 +1,7 @@
 //! Functions by number, with the numbers of their callers.
 
 ghost use Rattle.std.specs.Prelude.{◌≡◌, ◌<◌, ◌++◌, ◌∷◌, [], List, length, option_map, slice_set, OnOk, IfOk};
-ghost use Rattle.types.specs.Slots.{value_at};
+ghost use Rattle.types.specs.Maps.{value_at};
 ghost use Rattle.safety.specs.Links as Links;
 ghost use Rattle.safety.specs.Sets.{link_of, links_of};
 ghost use Rattle.safety.specs.inner.Graphs.{IsNumbered, HasLinks, Extends, IsNumber, callers_at};

@@ -1,17 +1,14 @@
 -- What the check of separation answers.
-use Rattle.std.specs.Prelude.{◌≡◌, ℕ, codes, Option, Some, None, Result, Ok, Err}
-use Rattle.syntax.specs.Tree.{Span, Program}
+use Rattle.std.specs.Prelude.{◌≡◌, ℕ, Option, Some, None, Result, Ok, Err}
+use Rattle.syntax.specs.Tree.{Span}
 use Rattle.syntax.specs.Views.{program_of}
-use Rattle.syntax.specs.Typing.{first_unmet}
 use Rattle.safety.specs.declared.checked.Safe.{Safe}
-use Rattle.safety.specs.Sites.{sites_of}
-use Rattle.safety.specs.Safe.{FunctionSet}
 use Rattle.separation.specs.declared.fault.Violation.{Violation}
 use Rattle.separation.specs.declared.fault.Violation.TheVariants.{BareAccess, BareCall}
 use Rattle.separation.specs.declared.fault.SeparationFault.{SeparationFault}
 use Rattle.separation.specs.declared.fault.SeparationFault.TheVariants as fault
 use Rattle.separation.specs.declared.checked.Accepted.{Accepted}
-use Rattle.separation.specs.Touching.{TellsTouching, IsAccepted, separation_demands, IsSeparationFault}
+use Rattle.separation.specs.Touching.{IsAccepted, IsSeparationFault}
 
 abbrev pub number_in : Violation → ℕ
 number_in (BareAccess at) = 50
@@ -20,17 +17,6 @@ number_in (BareCall at) = 51
 abbrev pub span_in : Violation → Span
 span_in (BareAccess at) = at
 span_in (BareCall at) = at
-
--- the number and place of the demand that is not met, as the check says
-abbrev pub fault_in : Option Violation → Option (ℕ × Span)
-fault_in None = None
-fault_in (Some b) = Some (number_in b, span_in b)
-
--- this is the first demand that is not met, for a set that tells the touching functions
-abbrev pub Judges : Program → Option Violation → Type 0
-Judges p found =
-    (touching : FunctionSet) × TellsTouching p touching
-    × (fault_in found ≡ first_unmet (separation_demands touching (sites_of p (codes "worker"))))
 
 module _ {A : Type 0} where
   abbrev pub number_of : SeparationFault A → ℕ

@@ -7,7 +7,7 @@ ghost use Rattle.safety.specs.Sites.{sites_of};
 ghost use Rattle.safety.specs.Views.{site_of, sites_of_own};
 ghost use Rattle.safety.specs.Sets.{set_of};
 ghost use Rattle.separation.specs.Touching.{demands_at, separation_demands};
-ghost use Rattle.separation.specs.Answers.{fault_in, Judges};
+ghost use Rattle.separation.specs.inner.Unmet.{unmet_in, Judges};
 ghost use Rattle.separation.specs.inner.OwnSites.{own_sites};
 
 use crate::fault::{Violation, unless_met};
@@ -21,7 +21,7 @@ fn fault_at<'a, A: Allocator + Copy>(
     touching: &FunctionSet<'a, A>,
     site: Site<'a>,
 ) -> Option<Violation>
-    ensures { fault_in result
+    ensures { unmet_in result
         ≡ first_unmet (demands_at (set_of touching.now) (site_of site.entry) (site_of site.entry).construct) }
 {
     match site.construct {
@@ -39,7 +39,7 @@ fn fault_among<'a, A: Allocator + Copy>(
     touching: &FunctionSet<'a, A>,
     sites: &[Site<'a>],
 ) -> Option<Violation>
-    ensures { fault_in result ≡ first_unmet (separation_demands (set_of touching.now) (sites_of_own sites.now)) }
+    ensures { unmet_in result ≡ first_unmet (separation_demands (set_of touching.now) (sites_of_own sites.now)) }
 {
     'each: for site in sites {
         let found = fault_at(touching, *site);
@@ -57,7 +57,7 @@ fn fault_of_item<'a, A: Allocator + Copy>(
     item: &'a Item<A>,
 ) -> Result<Option<Violation>, AllocError>
     ensures { IfOk result
-        (λ found. fault_in found
+        (λ found. unmet_in found
         ≡ first_unmet (separation_demands (set_of touching.now) (own_sites (item_of item.now) (codes "worker")))) }
 {
     match item {
@@ -79,7 +79,7 @@ fn fault_of_items<'a, A: Allocator + Copy>(
     items: &'a [Item<A>],
 ) -> Result<Option<Violation>, AllocError>
     ensures { IfOk result
-        (λ found. fault_in found
+        (λ found. unmet_in found
         ≡ first_unmet (separation_demands (set_of touching.now) (sites_of (map item_of items.now) (codes "worker")))) }
 {
     'each: for item in items {

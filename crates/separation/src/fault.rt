@@ -2,7 +2,8 @@
 
 ghost use Rattle.std.specs.Prelude.{◌≡◌};
 ghost use Rattle.syntax.specs.Typing.{demand, first_unmet};
-ghost use Rattle.separation.specs.Answers.{number_in, span_in, fault_in, number_of, span_of, safe_of};
+ghost use Rattle.separation.specs.Answers.{number_in, span_in, number_of, span_of, safe_of};
+ghost use Rattle.separation.specs.inner.Unmet.{unmet_in};
 
 use lex::token::Span;
 use safety::checked::Safe;
@@ -43,7 +44,7 @@ impl Violation {
 
 /// One demand: the fault that names it, where it is not met.
 pub(crate) fn unless_met(met: bool, fault: Violation) -> Option<Violation>
-    ensures { fault_in result ≡ first_unmet (demand (number_in fault) (span_in fault) met) }
+    ensures { unmet_in result ≡ first_unmet (demand (number_in fault) (span_in fault) met) }
 {
     if met { None } else { Some(fault) }
 }

@@ -6,7 +6,7 @@ use Rattle.syntax.specs.Types.{file_scope}
 use Rattle.syntax.specs.Typing.{has_name, defined_names}
 use Rattle.types.specs.declared.unit.Found.{Found}
 use Rattle.types.specs.inner.Known.{known_in, count_in}
-use Rattle.types.specs.Slots.{value_at}
+use Rattle.types.specs.Maps.{value_at}
 use Rattle.types.specs.inner.Bodies.{AreBodies}
 use Rattle.types.specs.inner.Found.{IsFound}
 use Rattle.types.specs.Tables.{definitions_from, cells_from}

@@ -5,7 +5,7 @@ use Rattle.std.proofs.Math.Seq.{take-append_seam, drop-append_seam}
 use Rattle.types.specs.declared.table.Slot.{Slot}
 use Rattle.types.specs.declared.table.Local.{Local}
 use Rattle.types.specs.declared.table.Names.{Names}
-use Rattle.types.specs.Slots.{with_slot, under}
+use Rattle.types.specs.inner.Slots.{with_slot, under}
 use Rattle.types.specs.inner.Known.{slot_in, slot_before, count_in, Grows, Agrees, known_in, AreDeclared}
 use Rattle.lex.specs.declared.token.Scalar.{Scalar}
 use Rattle.syntax.specs.Types.{Number, with_number}

@@ -14,7 +14,8 @@ use Rattle.std.proofs.lemmas.Slice.Eq.{bytes_eq-Decides}
 use Rattle.std.proofs.lemmas.Bool.{cases_lt}
 use Rattle.types.specs.declared.table.Slot.{Slot}
 use Rattle.types.specs.declared.table.Local.{Local}
-use Rattle.types.specs.Slots.{value_at, nothing, with_slot, table_of, under, ArePlaced, ArePresent}
+use Rattle.types.specs.Maps.{value_at}
+use Rattle.types.specs.inner.Slots.{nothing, with_slot, table_of, under, ArePlaced, ArePresent}
 
 -- a result is good or bad
 pub by_either : {X Y : Type 0} (r : Result X Y) (P Q G : Type 0) → OnOk r P → OnErr r Q → (P → G) → (Q → G) → G

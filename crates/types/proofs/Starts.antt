@@ -9,7 +9,7 @@ use Rattle.syntax.specs.Types.{Scope}
 use Rattle.syntax.specs.Typing.{knows, scope_of_start}
 use Rattle.types.specs.declared.fault.Failure.{Failure}
 use Rattle.syntax.specs.Typing.{first_unmet, AreTypedDeclarators, IsTypedStart}
-use Rattle.types.specs.Answers.{Tells}
+use Rattle.types.specs.inner.Unmet.{Tells}
 
 module _ {A : Type 0} (known : Scope) where
   pub start_declares : {X : Type 0} (s : B.Start A) (d : Declaration A) (ds : List (Declarator A)) (r : Result X Failure) → s ≡ V.Declare d → ds ≡ d.declarators → Tells r (first_unmet (AreTypedDeclarators known [] d.of (map declarator_of ds))) → Tells r (first_unmet (IsTypedStart known (start_of s)))

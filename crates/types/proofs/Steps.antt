@@ -7,7 +7,8 @@ use Rattle.types.specs.declared.fault.Violation.{Violation}
 use Rattle.types.specs.declared.fault.Failure.{Failure}
 use Rattle.types.specs.declared.fault.Failure.TheVariants.{Violation as Breaks}
 use Rattle.types.specs.declared.fault.Failure.TheVariants as F
-use Rattle.types.specs.Answers.{unmet_in, number_in, span_in, Tells}
+use Rattle.types.specs.Answers.{number_in, span_in}
+use Rattle.types.specs.inner.Unmet.{unmet_in, Tells}
 use Rattle.syntax.specs.Typing.{Demand, first_unmet, demand}
 
 met_step : (b : Bool) (r s t : Option (ℕ × Span)) (f : ℕ × Span) → None ≡ (if b then r else Some f) → (None ≡ r → s ≡ t) → (if b then s else Some f) ≡ t

@@ -1,5 +1,5 @@
 -- What a check answers.
-use Rattle.std.specs.Prelude.{◌≡◌, ℕ, List, Option, Some, None, Result, Ok, Err}
+use Rattle.std.specs.Prelude.{◌≡◌, ℕ, Option, Some, None, Result, Ok, Err}
 use Rattle.syntax.specs.Tree.{Span}
 use Rattle.types.specs.declared.fault.Violation.{Violation}
 use Rattle.syntax.specs.declared.tree.Unit as Own
@@ -7,9 +7,7 @@ use Rattle.syntax.specs.Views.{program_of}
 use Rattle.types.specs.declared.typed.Typed.{Typed}
 use Rattle.types.specs.declared.fault.TypeFault.{TypeFault}
 use Rattle.types.specs.declared.fault.TypeFault.TheVariants as fault
-use Rattle.types.specs.declared.fault.Failure.{Failure}
-use Rattle.types.specs.declared.fault.Failure.TheVariants.{OutOfMemory, Violation as Breaks}
-use Rattle.syntax.specs.Typing.{Demand, first_unmet, Meets}
+use Rattle.syntax.specs.Typing.{first_unmet, Meets}
 use Rattle.types.specs.declared.fault.Violation.TheVariants.{UnknownName, DeclaredTwice, WrongType, WrongCount, NotAssignable, BadLength, OutsideLoop, BadFormat, NoWorker, NotDefined}
 
 abbrev pub number_in : Violation → ℕ
@@ -35,21 +33,6 @@ span_in (OutsideLoop at) = at
 span_in (BadFormat at) = at
 span_in (NoWorker at) = at
 span_in (NotDefined at) = at
-
--- the number and place of the demand that is not met, as the check says
-abbrev pub unmet_in : {X : Type 0} → Result X Violation → Option (ℕ × Span)
-unmet_in (Ok x) = None
-unmet_in (Err fault) = Some (number_in fault, span_in fault)
-
--- a check tells of this violation, the first one, or that there is none; without memory nothing is said
-abbrev pub Tells : {X : Type 0} → Result X Failure → Option (ℕ × Span) → Type 0
-Tells (Ok x) first = None ≡ first
-Tells (Err OutOfMemory) first = Unit {0}
-Tells (Err (Breaks b)) first = Some (number_in b, span_in b) ≡ first
-
--- a check tells of the first demand that is not met
-abbrev pub Answers : {X : Type 0} → Result X Failure → List Demand → Type 0
-Answers r ds = Tells r (first_unmet ds)
 
 module _ {A : Type 0} where
   abbrev pub number_of : TypeFault A → ℕ

@@ -1,7 +1,7 @@
 -- what the call says, and its tables
 pub mod Answers
 pub mod Tables
--- the table of names
-pub mod Slots
+-- what a text stands for in a map
+pub mod Maps
 -- what private functions answer
 pub mod inner

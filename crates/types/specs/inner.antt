@@ -1,5 +1,8 @@
 -- What the private functions answer; no public contract cites it.
+-- the first demand that is not met
+pub mod Unmet
 -- the table of names
+pub mod Slots
 pub mod Scopes
 pub mod Known
 -- what is found out item by item

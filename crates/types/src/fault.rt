@@ -3,7 +3,8 @@
 ghost use Rattle.std.specs.Prelude.{◌≡◌};
 ghost use Rattle.syntax.specs.Typing.{demand, first_unmet};
 ghost use Rattle.types.specs.declared.fault.Failure.TheVariants as Failure;
-ghost use Rattle.types.specs.Answers.{number_in, span_in, unmet_in, Tells, number_of, span_of, unit_of};
+ghost use Rattle.types.specs.Answers.{number_in, span_in, number_of, span_of, unit_of};
+ghost use Rattle.types.specs.inner.Unmet.{unmet_in, Tells};
 
 use lex::token::Span;
 use std::alloc::{AllocError, Allocator};

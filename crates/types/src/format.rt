@@ -6,7 +6,7 @@ ghost use Rattle.syntax.specs.Formats.{is_format, pieces, figures};
 ghost use Rattle.syntax.specs.Typing.{span_of};
 ghost use Rattle.syntax.specs.Types.{type_of};
 ghost use Rattle.syntax.specs.Typing.{first_unmet, demand, HaveTypes, IsTypedPrint};
-ghost use Rattle.types.specs.Answers.{unmet_in};
+ghost use Rattle.types.specs.inner.Unmet.{unmet_in};
 ghost use Rattle.types.specs.inner.Known.{known_in};
 ghost use Rattle.types.specs.inner.Bytes.{is_conversion, figure_of, is_fitting};
 

@@ -7,7 +7,7 @@ ghost use Rattle.syntax.specs.Names.{cells};
 ghost use Rattle.syntax.specs.Types.{file_scope, known_global};
 ghost use Rattle.syntax.specs.Typing.{is_unknown};
 ghost use Rattle.syntax.specs.Typing.{demand, first_unmet, IsLength, HaveCells, AreTypedGlobals};
-ghost use Rattle.types.specs.Answers.{Answers, unmet_in};
+ghost use Rattle.types.specs.inner.Unmet.{Answers, unmet_in};
 ghost use Rattle.types.specs.inner.Known.{known_in, count_in};
 ghost use Rattle.types.specs.inner.Scopes.{known_of};
 ghost use Rattle.types.specs.Tables.{cells_from};

@@ -5,7 +5,7 @@ ghost use Rattle.syntax.specs.Views.{expr_of, declarator_of, start_of};
 ghost use Rattle.syntax.specs.Types.{with_number};
 ghost use Rattle.syntax.specs.Typing.{has_name, knows, scope_of_start};
 ghost use Rattle.syntax.specs.Typing.{demand, demands_of, first_unmet, IsNumber, AreTypedDeclarators, IsTypedStart};
-ghost use Rattle.types.specs.Answers.{Answers, unmet_in};
+ghost use Rattle.types.specs.inner.Unmet.{Answers, unmet_in};
 ghost use Rattle.types.specs.inner.Known.{known_in, count_in, declared_by, AreDeclared, Grows, Agrees};
 
 use crate::expr::check_number;

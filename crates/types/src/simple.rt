@@ -4,7 +4,7 @@ ghost use Rattle.std.specs.Prelude.{◌≡◌};
 ghost use Rattle.syntax.specs.Views.{expr_of, simple_of, name_of};
 ghost use Rattle.syntax.specs.Tree as Tree;
 ghost use Rattle.syntax.specs.Typing.{first_unmet, IsTypedTarget, IsAssignable, IsTypedSimple, may_be_assigned};
-ghost use Rattle.types.specs.Answers.{unmet_in};
+ghost use Rattle.types.specs.inner.Unmet.{unmet_in};
 ghost use Rattle.types.specs.inner.Known.{known_in};
 
 use crate::expr::{check_expr, check_known, check_number, place_of};

@@ -1,6 +1,6 @@
 //! The table of the names that are known at a place.
 
-ghost use Rattle.types.specs.Slots.{ArePlaced, ArePresent};
+ghost use Rattle.types.specs.inner.Slots.{ArePlaced, ArePresent};
 
 use crate::symbol::Symbol;
 use std::alloc::Allocator;

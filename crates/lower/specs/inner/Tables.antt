@@ -5,7 +5,7 @@ use Rattle.std.specs.BTreeMap.{BTreeMap}
 use Rattle.syntax.specs.Tree.{Global, Program}
 use Rattle.syntax.specs.Views.{global_of, parameter_of}
 use Rattle.syntax.specs.Names as Source
-use Rattle.types.specs.Slots.{value_at}
+use Rattle.types.specs.Maps.{value_at}
 use Rattle.lower.specs.declared.names.Shared.{Shared}
 use Rattle.lower.specs.declared.names.Callee.{Callee as OwnCallee}
 use Rattle.lower.specs.Names.{Callee, callee_of}

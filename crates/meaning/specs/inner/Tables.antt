@@ -5,7 +5,7 @@ use Rattle.std.specs.BTreeMap.{BTreeMap}
 use Rattle.syntax.specs.Tree.{Item, Defines, Shares, Program}
 use Rattle.syntax.specs.Names.{GlobalCells, global_of}
 use Rattle.syntax.specs.Types.{Unknown, file_scope}
-use Rattle.types.specs.Slots.{value_at}
+use Rattle.types.specs.Maps.{value_at}
 use Rattle.meaning.specs.declared.names.Shared.{Shared}
 use Rattle.meaning.specs.declared.names.Symbol.{Symbol}
 use Rattle.meaning.specs.inner.File.{shared_in, known_or}

@@ -2,7 +2,7 @@
 use denote.Ref.{Bor}
 use Rattle.std.specs.Prelude.{◌≡◌, ℕ, List, unwrap_or, bytes_eq, count_by}
 use Rattle.std.specs.BTreeMap.{BTreeMap}
-use Rattle.types.specs.Slots.{value_at}
+use Rattle.types.specs.Maps.{value_at}
 
 -- the number that stands for a name in a map, or 0
 abbrev pub count_at : BTreeMap (Bor (List ℕ)) ℕ → List ℕ → ℕ

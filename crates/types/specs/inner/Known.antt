@@ -6,7 +6,7 @@ use Rattle.syntax.specs.Types.{Scope}
 use Rattle.types.specs.declared.table.Slot.{Slot}
 use Rattle.types.specs.declared.table.Names.{Names}
 use Rattle.types.specs.inner.Scopes.{known_of}
-use Rattle.types.specs.Slots.{table_of, under}
+use Rattle.types.specs.inner.Slots.{table_of, under}
 
 module _ {A : Type 0} where
   abbrev pub slot_in : Names A → List ℕ → Slot A

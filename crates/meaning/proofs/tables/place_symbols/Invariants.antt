@@ -1,7 +1,7 @@
 use Rattle.std.proofs.Common.{◌≡◌, ℕ, List, map, drop}
 use Rattle.syntax.specs.Types.{file_scope}
 use Rattle.syntax.specs.Views.{item_of}
-use Rattle.types.specs.Slots.{value_at}
+use Rattle.types.specs.Maps.{value_at}
 use Rattle.meaning.specs.inner.File.{known_or}
 use Rattle.meaning.proofs.tables.place_symbols.Given as goal
 

@@ -1,5 +1,5 @@
 use Rattle.std.proofs.Common.{◌≡◌, subst, sym}
-use Rattle.types.specs.Slots.{value_at}
+use Rattle.types.specs.Maps.{value_at}
 use Rattle.safety.specs.Sets.{links_of}
 use Rattle.safety.specs.inner.Closing.{IsWithin, IsClosed}
 use Rattle.safety.proofs.Graphs.{callers_within}

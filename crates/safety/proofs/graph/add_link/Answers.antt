@@ -1,6 +1,6 @@
 use Rattle.std.proofs.Common.{◌≡◌, ◌++◌, ◌∷◌, [], length, set, vec_len, ap, subst, sym, ◌∙◌, rules}
 use Rattle.std.proofs.lemmas.List.{length-set}
-use Rattle.types.specs.Slots.{value_at}
+use Rattle.types.specs.Maps.{value_at}
 use Rattle.safety.specs.Sets.{link_of}
 use Rattle.safety.specs.inner.Graphs.{callers_at, HasLinks}
 use Rattle.safety.proofs.Graphs.{number_more, callee_within, linked_one, written_back}

@@ -1,5 +1,5 @@
 use Rattle.std.proofs.Common.{take}
-use Rattle.types.specs.Slots.{value_at}
+use Rattle.types.specs.Maps.{value_at}
 use Rattle.safety.specs.Sets.{links_of}
 use Rattle.safety.specs.inner.Graphs.{IsNumbered, HasLinks}
 use Rattle.safety.proofs.graph.graph_of.Given as goal

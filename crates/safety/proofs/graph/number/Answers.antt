@@ -1,5 +1,5 @@
 use Rattle.std.proofs.Common.{◌≡◌, ◌++◌, ◌∷◌, [], ℕ, List, None, Some, cond, bytes_eq, length, vec_len, ap, ◌∙◌, rules}
-use Rattle.types.specs.Slots.{value_at}
+use Rattle.types.specs.Maps.{value_at}
 use Rattle.safety.proofs.Graphs.{put_number, extended, numbered_more, linked_more}
 use Rattle.safety.proofs.graph.number.Goals as goal
 

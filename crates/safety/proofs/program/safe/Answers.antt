@@ -1,6 +1,6 @@
 use Rattle.std.proofs.Common.{None, Some, ap, map, refl, subst, sym, ◌∙◌}
 use Rattle.syntax.specs.Views.{item_of, program_of}
-use Rattle.safety.specs.Answers.{Judges}
+use Rattle.safety.specs.inner.Unmet.{Judges}
 use Rattle.safety.proofs.Judged.{met_is_safe}
 use Rattle.safety.proofs.program.safe.Goals as goal
 

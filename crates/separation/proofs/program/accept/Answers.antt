@@ -1,6 +1,6 @@
 use Rattle.std.proofs.Common.{None, Some, ap, map, refl, subst, sym, ◌∙◌}
 use Rattle.syntax.specs.Views.{item_of, program_of}
-use Rattle.separation.specs.Answers.{Judges}
+use Rattle.separation.specs.inner.Unmet.{Judges}
 use Rattle.separation.proofs.Bare.{accepted}
 use Rattle.separation.proofs.program.accept.Goals as goal
 

@@ -6,7 +6,7 @@ use Rattle.syntax.specs.Views.{global_of, item_of}
 use Rattle.syntax.specs.Names.{cells}
 use Rattle.syntax.specs.Types.{file_scope}
 use Rattle.syntax.specs.Typing.{is_unknown}
-use Rattle.types.specs.Answers.{unmet_in}
+use Rattle.types.specs.inner.Unmet.{unmet_in}
 use Rattle.syntax.specs.Typing.{demand, first_unmet, IsLength, HaveCells, AreTypedGlobals}
 use Rattle.types.specs.inner.Known.{known_in}
 use Rattle.types.specs.Tables.{cells_from}

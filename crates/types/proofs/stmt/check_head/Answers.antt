@@ -2,7 +2,7 @@ use Rattle.std.proofs.Common.{◌∙◌, sym, ap, option_map}
 use Rattle.syntax.specs.Views.{expr_of, simple_of, start_of}
 use Rattle.syntax.specs.Typing.{scope_of_start}
 use Rattle.syntax.specs.Typing.{demands_of, first_unmet, IsNumber, IsTypedSimple, IsTypedStart}
-use Rattle.types.specs.Answers.{unmet_in}
+use Rattle.types.specs.inner.Unmet.{unmet_in}
 use Rattle.types.specs.inner.Known.{known_in}
 use Rattle.types.proofs.Steps.{first_of_three, skip, tell_skip, tell_stop, stop_at, tell_single}
 use Rattle.types.proofs.stmt.check_head.Goals as goal

@@ -3,7 +3,7 @@ use Rattle.syntax.specs.Views.{item_of}
 use Rattle.syntax.specs.Types.{file_scope}
 use Rattle.syntax.specs.Typing.{is_worker}
 use Rattle.syntax.specs.Typing.{demand, AreTypedItems, AreDefined}
-use Rattle.types.specs.Answers.{unmet_in}
+use Rattle.types.specs.inner.Unmet.{unmet_in}
 use Rattle.types.proofs.Steps.{first_of_three, skip, stop_at, tell_skip, tell_stop, tell_single}
 use Rattle.types.proofs.unit.check_program.Goals as goal
 

@@ -2,7 +2,7 @@ use Rattle.std.proofs.Common.{Some, None, ap, ◌-◌, ◌≡◌, arith}
 use Rattle.std.specs.Ordering.{nat_cmp}
 use Rattle.std.specs.Cmp.Lexicographic.{slice_cmp}
 use Rattle.std.specs.BTreeMap.{Updates}
-use Rattle.types.specs.Slots.{value_at}
+use Rattle.types.specs.Maps.{value_at}
 use Rattle.types.proofs.Kept.{by_either}
 use Rattle.safety.specs.inner.Counts.{AreCounted}
 use Rattle.safety.proofs.Counts.{counted_less, counted_last, not_absent}

@@ -1,10 +1,11 @@
 use Rattle.std.proofs.Common.{refl, is_some, true, ap, sym, subst, take, ◌-◌, ◌∷◌, [], arith, ◌∙◌, ◌+◌, ◌≡◌, length, vec_len, rules}
-use Rattle.types.specs.Slots.{with_slot}
+use Rattle.types.specs.inner.Slots.{with_slot}
 use Rattle.types.specs.inner.Known.{slot_in}
 use Rattle.types.specs.declared.symbol.Symbol.TheVariants as symbol
 use Rattle.std.proofs.lemmas.List.Elements.{All-append}
 use Rattle.types.specs.declared.table.Local.{Local}
-use Rattle.types.specs.Slots.{value_at, ArePresent}
+use Rattle.types.specs.Maps.{value_at}
+use Rattle.types.specs.inner.Slots.{ArePresent}
 use Rattle.types.proofs.Kept.{put, placed_more, placed_kept, present_more, present_one, present_kept, popped}
 use Rattle.types.proofs.table.Names.declare.Goals as goal
 

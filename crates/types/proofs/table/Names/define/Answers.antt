@@ -3,7 +3,7 @@ use Rattle.std.specs.Ordering.{nat_cmp}
 use Rattle.std.specs.Cmp.Lexicographic.{slice_cmp}
 use Rattle.std.specs.BTreeMap.{Updates, IsUnchanged}
 use Rattle.types.specs.declared.table.Slot.{Slot}
-use Rattle.types.specs.Slots.{ArePlaced, ArePresent}
+use Rattle.types.specs.inner.Slots.{ArePlaced, ArePresent}
 use Rattle.types.proofs.Kept.{put, by_either, placed_defined, placed_kept, present_more, present_kept, none_is}
 use Rattle.types.proofs.table.Names.define.Goals as goal
 

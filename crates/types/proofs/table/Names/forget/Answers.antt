@@ -3,7 +3,8 @@ use Rattle.std.proofs.Math.Seq.{take-append_seam}
 use Rattle.std.specs.Ordering.{nat_cmp}
 use Rattle.std.specs.Cmp.Lexicographic.{slice_cmp}
 use Rattle.std.specs.BTreeMap.{Updates}
-use Rattle.types.specs.Slots.{value_at, under, table_of, ArePlaced, ArePresent}
+use Rattle.types.specs.Maps.{value_at}
+use Rattle.types.specs.inner.Slots.{under, table_of, ArePlaced, ArePresent}
 use Rattle.types.specs.inner.Known.{slot_in, count_in}
 use Rattle.types.proofs.Kept.{put, newest, one_less_of, by_either, placed_less, present_more, present_less, present_last}
 use Rattle.types.proofs.table.Names.forget.Goals as goal

@@ -1,6 +1,6 @@
 use Rattle.std.proofs.Common.{ap, sym, ◌∙◌, ◌-◌, ◌+◌, ◌<◌, ◌≤◌, ◌≡◌, length, take, arith}
 use Rattle.std.proofs.lemmas.List.{length-take-le}
-use Rattle.types.specs.Slots.{under}
+use Rattle.types.specs.inner.Slots.{under}
 use Rattle.types.specs.inner.Known.{slot_in, slot_before, count_in}
 use Rattle.types.proofs.Kept.{less_step, taken, all_dropped}
 use Rattle.types.proofs.table.Names.leave.Goals as goal

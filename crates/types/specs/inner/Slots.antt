@@ -1,16 +1,11 @@
 -- The table of names, with what each local hides.
 use denote.Ref.{Bor}
-use Rattle.std.specs.Prelude.{◌≡◌, ℕ, ◌≤◌, All, is_some, true, Option, List, [], ◌∷◌, length, drop, unwrap_or, bytes_eq, if◌then◌else◌}
-use Rattle.std.specs.Ordering.{nat_cmp}
-use Rattle.std.specs.Cmp.Lexicographic.{slice_cmp}
-use Rattle.std.specs.BTreeMap.{BTreeMap, get_by}
+use Rattle.std.specs.Prelude.{◌≡◌, ℕ, ◌≤◌, All, is_some, true, List, [], ◌∷◌, length, drop, unwrap_or, bytes_eq, if◌then◌else◌}
+use Rattle.std.specs.BTreeMap.{BTreeMap}
 use Rattle.types.specs.declared.table.Slot.{Slot}
 use Rattle.types.specs.declared.table.Local.{Local}
 use Rattle.types.specs.declared.symbol.Symbol.TheVariants as symbol
-
--- what a text stands for in a map
-abbrev pub value_at : {V : Type 0} → BTreeMap (Bor (List ℕ)) V → List ℕ → Option V
-value_at m x = get_by (λ k. slice_cmp nat_cmp x k.now) m
+use Rattle.types.specs.Maps.{value_at}
 
 module _ {A : Type 0} where
   abbrev pub nothing : Slot A
