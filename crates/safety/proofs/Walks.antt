@@ -18,7 +18,7 @@ use Rattle.syntax.specs.Typing.{names_of, parameter_names}
 use Rattle.safety.specs.declared.site.Site.{Site as OwnSite}
 use Rattle.safety.specs.Sites.{Calls, Prints, Site, names_of_start, Around, site, uses, with_names, in_transaction, expr_sites, exprs_sites, sites_if_any, simple_sites, declarator_sites, mode_site, stmt_sites, stmts_sites}
 use Rattle.safety.specs.Views.{sites_of_own}
-use Rattle.safety.specs.declared.site.Place.{Place}
+use Rattle.safety.specs.declared.site.TransactionsAround.{TransactionsAround}
 use Rattle.safety.specs.inner.Known.{around}
 use Rattle.safety.specs.inner.Walks.{Appends, head_sites}
 use Rattle.safety.proofs.SameNames.{behind, expr_if_any_same, simple_if_any_same, declarators_same, stmt_same, stmts_same}
@@ -95,7 +95,7 @@ module _ {A : Type 0} (w : Around) where
       ∙ (λ i. head_sites (start_of (sym h i).start) (option_map expr_of (sym h i).condition) (option_map simple_of (sym h i).step) w ++ stmt_sites (stmt_of (sym k i)) (with_names (names_of_start (start_of (sym h i).start)) w))
 
 -- names that are declared in order
-module _ (place : Place) where
+module _ (place : TransactionsAround) where
   pub first_sites : (e : Option Tree.Expr) (old new names : List (List ℕ)) → new ≡ old ++ names → sites_if_any expr_sites e (with_names names (around old place)) ≡ sites_if_any expr_sites e (around new place)
   first_sites e old new names is = expr_if_any_same e place.atomic place.in_any (names ++ old) new (behind old new names is)
 
@@ -109,7 +109,7 @@ module _ (place : Place) where
   mode_anywhere Atomic at names = refl
   mode_anywhere Relaxed at names = refl
 
-module _ {A : Type 0} (place : Place) where
+module _ {A : Type 0} (place : TransactionsAround) where
   pub declarators_more : (ds : List (R.Declarator A)) (i : ℕ) (d : R.Declarator A) (old new : List (List ℕ)) → d ≡ get_or ds i d → i < length ds → new ≡ old ++ d.name.text ∷ [] → declarator_sites (map declarator_of (drop i ds)) (around old place) ≡ sites_if_any expr_sites (option_map expr_of d.first) (with_names (d.name.text ∷ []) (around old place)) ++ declarator_sites (map declarator_of (drop (i + 1) ds)) (around new place)
   declarators_more ds i d old new is h names =
       let rest = map declarator_of (drop (i + 1) ds) in

@@ -6,11 +6,11 @@ use Rattle.safety.specs.declared.site.Site.{Site as OwnSite}
 use Rattle.safety.specs.Sites.{Construct, Prints, Relaxes, Cancels, Calls, Uses, Site}
 
 abbrev pub construct_of : OwnConstruct → Construct
-construct_of own.Print = Prints
-construct_of own.Relaxed = Relaxes
-construct_of own.Cancel = Cancels
-construct_of (own.Call f) = Calls f.now
-construct_of (own.Use x) = Uses x.now
+construct_of own.Prints = Prints
+construct_of own.Relaxes = Relaxes
+construct_of own.Cancels = Cancels
+construct_of (own.Calls f) = Calls f.now
+construct_of (own.Uses x) = Uses x.now
 
 abbrev pub site_of : OwnSite → Site
 site_of s = record { construct = construct_of s.construct; at = s.span; atomic = s.atomic; in_any = s.in_any }

@@ -29,17 +29,17 @@ fn fault_at<'a, A: Allocator + Copy>(
         ≡ first_unmet (demands_at (rest_of (set_of not_safe.now)) (site_of site.entry) (site_of site.entry).construct) }
 {
     match site.construct {
-        Construct::Print => unless_met(!site.atomic, Violation::UnsafeInAtomic(site.span)),
-        Construct::Relaxed => unless_met(!site.atomic, Violation::RelaxedInAtomic(site.span)),
-        Construct::Cancel => unless_met(site.atomic, Violation::CancelOutsideAtomic(site.span)),
-        Construct::Call(f) => {
+        Construct::Prints => unless_met(!site.atomic, Violation::UnsafeInAtomic(site.span)),
+        Construct::Relaxes => unless_met(!site.atomic, Violation::RelaxedInAtomic(site.span)),
+        Construct::Cancels => unless_met(site.atomic, Violation::CancelOutsideAtomic(site.span)),
+        Construct::Calls(f) => {
             let unsafe_call = not_safe.contains(f);
             unless_met(
                 !site.atomic || !unsafe_call,
                 Violation::UnsafeInAtomic(site.span),
             )
         }
-        Construct::Use(_) => None,
+        Construct::Uses(_) => None,
     }
 }
 

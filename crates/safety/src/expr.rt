@@ -7,7 +7,7 @@ ghost use Rattle.safety.specs.Sites.{uses, expr_sites, exprs_sites, simple_sites
 ghost use Rattle.safety.specs.inner.Known.{around_in};
 ghost use Rattle.safety.specs.inner.Walks.{Appends};
 
-use crate::site::{Construct, Place, Site};
+use crate::site::{Construct, Site, TransactionsAround};
 use crate::table::Locals;
 use containers::Items;
 use lex::token::Span;
@@ -17,7 +17,7 @@ use syntax::tree::{Expr, Name, Simple};
 /// One site more.
 pub(crate) fn add<'a, A: Allocator + Copy>(
     sites: &mut Items<Site<'a>, A>,
-    place: Place,
+    place: TransactionsAround,
     construct: Construct<'a>,
     span: Span,
 ) -> Result<(), AllocError>
@@ -39,7 +39,7 @@ pub(crate) fn add<'a, A: Allocator + Copy>(
 fn add_use<'a, A: Allocator + Copy>(
     locals: &Locals<'a, A>,
     sites: &mut Items<Site<'a>, A>,
-    place: Place,
+    place: TransactionsAround,
     x: &'a Name<A>,
 ) -> Result<(), AllocError>
     ensures { OnOk result (Appends sites.old sites.new (uses (name_of x.now) (around_in locals.now place))) }
@@ -47,7 +47,7 @@ fn add_use<'a, A: Allocator + Copy>(
     if locals.has(x.text.as_str()) {
         return Ok(());
     }
-    add(sites, place, Construct::Use(x.text.as_str()), x.span)?;
+    add(sites, place, Construct::Uses(x.text.as_str()), x.span)?;
     Ok(())
 }
 
@@ -56,7 +56,7 @@ fn add_use<'a, A: Allocator + Copy>(
 pub(crate) fn add_expr<'a, A: Allocator + Copy>(
     locals: &Locals<'a, A>,
     sites: &mut Items<Site<'a>, A>,
-    place: Place,
+    place: TransactionsAround,
     e: &'a Expr<A>,
 ) -> Result<(), AllocError>
     ensures { OnOk result (Appends sites.old sites.new (expr_sites (expr_of e.now) (around_in locals.now place))) }
@@ -73,7 +73,7 @@ pub(crate) fn add_expr<'a, A: Allocator + Copy>(
             Ok(())
         }
         Expr::Call(f, args, _) => {
-            add(sites, place, Construct::Call(f.text.as_str()), f.span)?;
+            add(sites, place, Construct::Calls(f.text.as_str()), f.span)?;
             add_exprs(locals, sites, place, args.as_slice())?;
             Ok(())
         }
@@ -113,7 +113,7 @@ pub(crate) fn add_expr<'a, A: Allocator + Copy>(
 pub(crate) fn add_exprs<'a, A: Allocator + Copy>(
     locals: &Locals<'a, A>,
     sites: &mut Items<Site<'a>, A>,
-    place: Place,
+    place: TransactionsAround,
     all: &'a [Expr<A>],
 ) -> Result<(), AllocError>
     ensures { OnOk result (Appends sites.old sites.new (exprs_sites (exprs_of all.now) (around_in locals.now place))) }
@@ -128,7 +128,7 @@ pub(crate) fn add_exprs<'a, A: Allocator + Copy>(
 pub(crate) fn add_expr_if_any<'a, A: Allocator + Copy>(
     locals: &Locals<'a, A>,
     sites: &mut Items<Site<'a>, A>,
-    place: Place,
+    place: TransactionsAround,
     e: &'a Option<Expr<A>>,
 ) -> Result<(), AllocError>
     ensures { OnOk result
@@ -148,7 +148,7 @@ pub(crate) fn add_expr_if_any<'a, A: Allocator + Copy>(
 pub(crate) fn add_simple<'a, A: Allocator + Copy>(
     locals: &Locals<'a, A>,
     sites: &mut Items<Site<'a>, A>,
-    place: Place,
+    place: TransactionsAround,
     s: &'a Simple<A>,
 ) -> Result<(), AllocError>
     ensures { OnOk result (Appends sites.old sites.new (simple_sites (simple_of s.now) (around_in locals.now place))) }
@@ -174,7 +174,7 @@ pub(crate) fn add_simple<'a, A: Allocator + Copy>(
 pub(crate) fn add_simple_if_any<'a, A: Allocator + Copy>(
     locals: &Locals<'a, A>,
     sites: &mut Items<Site<'a>, A>,
-    place: Place,
+    place: TransactionsAround,
     s: &'a Option<Simple<A>>,
 ) -> Result<(), AllocError>
     ensures { OnOk result

@@ -66,18 +66,18 @@ fn add_construct<'a, A: Allocator + Copy>(
         (links_of links.new ≡ links_of links.old ++ construct_links caller.now (construct_of construct.entry)) }
 {
     match construct {
-        Construct::Print | Construct::Relaxed => {
+        Construct::Prints | Construct::Relaxes => {
             add_if(links, true, caller)?;
             Ok(())
         }
-        Construct::Call(callee) => {
+        Construct::Calls(callee) => {
             links.push(Link {
                 caller,
                 callee: Some(callee),
             })?;
             Ok(())
         }
-        Construct::Cancel | Construct::Use(_) => Ok(()),
+        Construct::Cancels | Construct::Uses(_) => Ok(()),
     }
 }
 

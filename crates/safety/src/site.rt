@@ -1,4 +1,4 @@
-//! The places of a body of which the rules on transactions speak.
+//! The sites of a body: where the constructs stand of which the rules on transactions speak.
 
 use lex::token::Span;
 
@@ -6,15 +6,15 @@ use lex::token::Span;
 #[derive(Clone, Copy)]
 pub enum Construct<'a> {
     /// A `printf`.
-    Print,
+    Prints,
     /// A relaxed transaction.
-    Relaxed,
+    Relaxes,
     /// A cancel.
-    Cancel,
+    Cancels,
     /// A call of the function of this name.
-    Call(&'a str),
+    Calls(&'a str),
     /// An access to the global of this name.
-    Use(&'a str),
+    Uses(&'a str),
 }
 
 /// A construct in a body. Its span is that of the word or the name that a fault points at.
@@ -32,7 +32,7 @@ pub struct Site<'a> {
 
 /// The transactions that are round a place of a body.
 #[derive(Clone, Copy)]
-pub(crate) struct Place {
+pub(crate) struct TransactionsAround {
     pub(crate) atomic: bool,
     pub(crate) in_any: bool,
 }

@@ -10,7 +10,7 @@ ghost use Rattle.safety.specs.inner.Known.{names_in, around, around_in};
 ghost use Rattle.safety.specs.inner.Walks.{Appends, head_sites};
 
 use crate::expr::{add, add_expr, add_expr_if_any, add_exprs, add_simple, add_simple_if_any};
-use crate::site::{Construct, Place, Site};
+use crate::site::{Construct, Site, TransactionsAround};
 use crate::table::Locals;
 use containers::Items;
 use lex::token::Span;
@@ -21,7 +21,7 @@ use syntax::tree::{Declaration, Declarator, ForHead, Function, Mode, Parameter, 
 fn add_declarator<'a, A: Allocator + Copy>(
     locals: &mut Locals<'a, A>,
     sites: &mut Items<Site<'a>, A>,
-    place: Place,
+    place: TransactionsAround,
     one: &'a Declarator<A>,
 ) -> Result<(), AllocError>
     ensures sites { OnOk result
@@ -39,7 +39,7 @@ fn add_declarator<'a, A: Allocator + Copy>(
 fn add_declarators<'a, A: Allocator + Copy>(
     locals: &mut Locals<'a, A>,
     sites: &mut Items<Site<'a>, A>,
-    place: Place,
+    place: TransactionsAround,
     all: &'a [Declarator<A>],
 ) -> Result<(), AllocError>
     ensures sites { OnOk result
@@ -57,7 +57,7 @@ fn add_declarators<'a, A: Allocator + Copy>(
 fn add_start<'a, A: Allocator + Copy>(
     locals: &mut Locals<'a, A>,
     sites: &mut Items<Site<'a>, A>,
-    place: Place,
+    place: TransactionsAround,
     start: &'a Start<A>,
 ) -> Result<(), AllocError>
     ensures sites { OnOk result
@@ -81,7 +81,7 @@ fn add_start<'a, A: Allocator + Copy>(
 fn add_head<'a, A: Allocator + Copy>(
     locals: &mut Locals<'a, A>,
     sites: &mut Items<Site<'a>, A>,
-    place: Place,
+    place: TransactionsAround,
     head: &'a ForHead<A>,
 ) -> Result<(), AllocError>
     ensures sites { OnOk result
@@ -100,7 +100,7 @@ fn add_head<'a, A: Allocator + Copy>(
 /// A relaxed transaction is a site itself.
 fn add_mode<'a, A: Allocator + Copy>(
     sites: &mut Items<Site<'a>, A>,
-    place: Place,
+    place: TransactionsAround,
     mode: Mode,
     at: Span,
 ) -> Result<(), AllocError>
@@ -109,22 +109,22 @@ fn add_mode<'a, A: Allocator + Copy>(
     match mode {
         Mode::Atomic => Ok(()),
         Mode::Relaxed => {
-            add(sites, place, Construct::Relaxed, at)?;
+            add(sites, place, Construct::Relaxes, at)?;
             Ok(())
         }
     }
 }
 
 /// The place inside a transaction that stands at a place.
-fn inside(mode: Mode, place: Place) -> Place
+fn inside(mode: Mode, place: TransactionsAround) -> TransactionsAround
     ensures { (names : List (List ℕ)) → around names result ≡ in_transaction mode (around names place) }
 {
     match mode {
-        Mode::Atomic => Place {
+        Mode::Atomic => TransactionsAround {
             atomic: true,
             in_any: true,
         },
-        Mode::Relaxed => Place {
+        Mode::Relaxed => TransactionsAround {
             atomic: place.atomic,
             in_any: true,
         },
@@ -136,7 +136,7 @@ fn inside(mode: Mode, place: Place) -> Place
 fn add_stmt<'a, A: Allocator + Copy>(
     locals: &mut Locals<'a, A>,
     sites: &mut Items<Site<'a>, A>,
-    place: Place,
+    place: TransactionsAround,
     stmt: &'a Stmt<A>,
 ) -> Result<(), AllocError>
     ensures sites { OnOk result
@@ -160,7 +160,7 @@ fn add_stmt<'a, A: Allocator + Copy>(
             Ok(())
         }
         Stmt::Print(at, _, _, args) => {
-            add(sites, place, Construct::Print, *at)?;
+            add(sites, place, Construct::Prints, *at)?;
             add_exprs(locals, sites, place, args.as_slice())?;
             Ok(())
         }
@@ -202,7 +202,7 @@ fn add_stmt<'a, A: Allocator + Copy>(
             Ok(())
         }
         Stmt::Cancel(at) => {
-            add(sites, place, Construct::Cancel, *at)?;
+            add(sites, place, Construct::Cancels, *at)?;
             Ok(())
         }
     }
@@ -223,7 +223,7 @@ fn as_declaration<A: Allocator>(stmt: &Stmt<A>) -> Option<&Declaration<A>>
 fn add_block_item<'a, A: Allocator + Copy>(
     locals: &mut Locals<'a, A>,
     sites: &mut Items<Site<'a>, A>,
-    place: Place,
+    place: TransactionsAround,
     stmt: &'a Stmt<A>,
 ) -> Result<(), AllocError>
     ensures sites { OnOk result
@@ -247,7 +247,7 @@ fn add_block_item<'a, A: Allocator + Copy>(
 fn add_block<'a, A: Allocator + Copy>(
     locals: &mut Locals<'a, A>,
     sites: &mut Items<Site<'a>, A>,
-    place: Place,
+    place: TransactionsAround,
     all: &'a [Stmt<A>],
 ) -> Result<(), AllocError>
     ensures sites { OnOk result
@@ -306,7 +306,7 @@ pub fn body_sites<'a, A: Allocator + Copy>(
         Some(body) => {
             let mut locals = Locals::new(alloc);
             add_parameters(&mut locals, f.parameters.as_slice())?;
-            let place = Place {
+            let place = TransactionsAround {
                 atomic: false,
                 in_any: false,
             };

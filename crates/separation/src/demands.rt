@@ -25,12 +25,12 @@ fn fault_at<'a, A: Allocator + Copy>(
         ≡ first_unmet (demands_at (set_of touching.now) (site_of site.entry) (site_of site.entry).construct) }
 {
     match site.construct {
-        Construct::Use(_) => unless_met(site.in_any, Violation::BareAccess(site.span)),
-        Construct::Call(f) => {
+        Construct::Uses(_) => unless_met(site.in_any, Violation::BareAccess(site.span)),
+        Construct::Calls(f) => {
             let touches = touching.contains(f);
             unless_met(site.in_any || !touches, Violation::BareCall(site.span))
         }
-        Construct::Print | Construct::Relaxed | Construct::Cancel => None,
+        Construct::Prints | Construct::Relaxes | Construct::Cancels => None,
     }
 }
 

@@ -24,21 +24,21 @@ fn add_site<'a, A: Allocator + Copy>(
         return Ok(());
     }
     match construct {
-        Construct::Use(_) => {
+        Construct::Uses(_) => {
             links.push(Link {
                 caller,
                 callee: None,
             })?;
             Ok(())
         }
-        Construct::Call(callee) => {
+        Construct::Calls(callee) => {
             links.push(Link {
                 caller,
                 callee: Some(callee),
             })?;
             Ok(())
         }
-        Construct::Print | Construct::Relaxed | Construct::Cancel => Ok(()),
+        Construct::Prints | Construct::Relaxes | Construct::Cancels => Ok(()),
     }
 }
 

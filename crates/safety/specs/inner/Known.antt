@@ -1,11 +1,11 @@
 -- The locals that are known at a place.
 use Rattle.std.specs.Prelude.{ℕ, List, map}
 use Rattle.safety.specs.declared.table.Locals.{Locals}
-use Rattle.safety.specs.declared.site.Place.{Place}
+use Rattle.safety.specs.declared.site.TransactionsAround.{TransactionsAround}
 use Rattle.safety.specs.Sites.{Around}
 
 -- these locals and transactions are round a place
-abbrev pub around : List (List ℕ) → Place → Around
+abbrev pub around : List (List ℕ) → TransactionsAround → Around
 around names place = record { locals = names; atomic = place.atomic; in_any = place.in_any }
 
 module _ {A : Type 0} where
@@ -13,5 +13,5 @@ module _ {A : Type 0} where
   abbrev pub names_in : Locals A → List (List ℕ)
   names_in l = map (λ n. n.now) l.names.items
 
-  abbrev pub around_in : Locals A → Place → Around
+  abbrev pub around_in : Locals A → TransactionsAround → Around
   around_in l place = around (names_in l) place
