@@ -1,4 +1,4 @@
--- a kept thread under the moves of its frames
+-- a thread under the moves of its frames
 mod Moves
 -- memories under writes
 mod Memories

@@ -14,10 +14,10 @@ use Rattle.bytecode.specs.Valid.{IsValid, bounds_of, cells_of}
 use Rattle.bytecode.proofs.Fits.{fits_cells}
 use Rattle.frames.proofs.Keeping.{begins_stay_open}
 use Rattle.frames.specs.Open.{BeginsStayOpen, MayStand, AreRestored, GoesOn, restored, saved_in}
-use Rattle.atomic_code.specs.declared.kept.Step.{Step}
-use Rattle.atomic_code.specs.declared.kept.Step.TheVariants.{Goes, Leaves, Wants}
+use Rattle.atomic_code.specs.declared.kept.Signal.{Signal}
+use Rattle.atomic_code.specs.declared.kept.Signal.TheVariants.{Goes, Leaves, Wants}
 use Rattle.std.specs.Prelude.{Vec}
-use Rattle.atomic_code.specs.Kept.{Kept, cancelled_from, inner_by, transaction_by, open_by, begins_of, AreMemories, HasMemories, Runs}
+use Rattle.atomic_code.specs.Threads.{Thread, cancelled_from, inner_by, transaction_by, open_by, begins_of, AreMemories, HasMemories, Runs}
 use Rattle.atomic_code.specs.Carried.{finding, to_find}
 use Rattle.atomic_code.specs.inner.Making.{Makes, with_memory, made_irrevocable, begun_in, MayPrint}
 use Rattle.atomic_code.proofs.Memories.{written, word_at}
@@ -31,10 +31,10 @@ restored_saved c = ap (λ n. record { place = c.place; registers = c.registers; 
     zero_left = omega arith
 
 -- a thread that runs
-abbrev pub at : Configuration → Option (OpenTransaction Saved) → List ℕ → Kept
+abbrev pub at : Configuration → Option (OpenTransaction Saved) → List ℕ → Thread
 at c o t = record { configuration = c; open_in = o; text = t; status = Running }
 
-abbrev pub over : Configuration → List ℕ → Status → Kept
+abbrev pub over : Configuration → List ℕ → Status → Thread
 over c t s = record { configuration = c; open_in = None; text = t; status = s }
 
 -- the same thread of the meaning, its begins seen from where it was
@@ -238,11 +238,11 @@ module _ (code : Code) (v : IsValid code) (m : Option Memory) where
         }
 
   -- the same, of threads that are said otherwise
-  pub makes_of : {A : Type 0} (k l p q : Kept) (s : Step A) → k ≡ p → l ≡ q → Makes code m p s q → Makes code m k s l
+  pub makes_of : {A : Type 0} (k l p q : Thread) (s : Signal A) → k ≡ p → l ≡ q → Makes code m p s q → Makes code m k s l
   makes_of k l p q s e f h = subst (λ z. Makes code m z s l) (sym e) (subst (λ z. Makes code m p s z) (sym f) h)
 
-pub same_kept : (a b : Kept) → a.configuration ≡ b.configuration → a.open_in ≡ b.open_in → a.text ≡ b.text → a.status ≡ b.status → a ≡ b
-same_kept a b c d e f =
+pub same_thread : (a b : Thread) → a.configuration ≡ b.configuration → a.open_in ≡ b.open_in → a.text ≡ b.text → a.status ≡ b.status → a ≡ b
+same_thread a b c d e f =
     ap (λ z. record { configuration = z; open_in = a.open_in; text = a.text; status = a.status }) c
     ∙ ap (λ z. record { configuration = b.configuration; open_in = z; text = a.text; status = a.status }) d
     ∙ ap (λ z. record { configuration = b.configuration; open_in = b.open_in; text = z; status = a.status }) e

@@ -1,11 +1,11 @@
--- A kept thread under the moves of its frames: its begins stay where they are.
+-- A thread under the moves of its frames: its begins stay where they are.
 use Rattle.std.proofs.Common.{◌≡◌, List, [], ◌∷◌, ◌++◌, Option, None, Some, refl, sym, ◌∙◌, ap, map}
 use Rattle.nesting.specs.Begins.{Saved}
 use Rattle.bytecode.specs.Effects.{after_cancel}
 use Rattle.bytecode.specs.Code.{Code, Configuration, effect}
 use Rattle.bytecode.specs.Sequential.{OpenTransaction, InnerTransaction}
 use Rattle.frames.specs.Open.{AreRestored, restored}
-use Rattle.atomic_code.specs.Kept.{cancelled_from, inner_by, open_by, begins_of}
+use Rattle.atomic_code.specs.Threads.{cancelled_from, inner_by, open_by, begins_of}
 
 module _ {S T : Type 0} where
   -- two functions that agree on the begins say the same of the transactions

@@ -9,8 +9,8 @@ use Rattle.bytecode.specs.Beginning.{beginning}
 use Rattle.bytecode.specs.Valid.{IsValid}
 use Rattle.frames.specs.Open.{MayStand}
 use Rattle.frames.proofs.Keeping.{begins_stay_open}
-use Rattle.atomic_code.specs.declared.kept.Step.TheVariants.{Goes, Leaves, Wants}
-use Rattle.atomic_code.specs.Kept.{Kept, ThreadState, Runs, IsStanding, IsThreadOf}
+use Rattle.atomic_code.specs.declared.kept.Signal.TheVariants.{Goes, Leaves, Wants}
+use Rattle.atomic_code.specs.Threads.{Thread, ThreadState, Runs, IsStanding, IsThreadOf}
 use Rattle.atomic_code.specs.declared.ran.Ran.{Ran}
 use Rattle.atomic_code.specs.Carried.{CarriesOn, BreaksOff, end_by, memory_of}
 use Rattle.atomic_code.specs.inner.Carrying.{ComesTo, Refused}
@@ -26,13 +26,13 @@ unfolding IsThreadOf
 thread_at_first code v c text t h e = runs_at_first code v c text t h e
 
 -- a thread that runs
-pub runs_of : (code : Code) (k : Kept) → k.status ≡ Running → IsThreadOf code k → Runs code k
+pub runs_of : (code : Code) (k : Thread) → k.status ≡ Running → IsThreadOf code k → Runs code k
 unfolding IsThreadOf
 runs_of code k running h = subst (IsStanding code k) running h
 
-pub thread_of : (code : Code) (k : Kept) → IsStanding code k k.status → IsThreadOf code k
+pub is_thread_of : (code : Code) (k : Thread) → IsStanding code k k.status → IsThreadOf code k
 unfolding IsThreadOf
-thread_of code k h = h
+is_thread_of code k h = h
 
 -- a thread without an end runs
 pub runs_by : (s : Status) → None ≡ end_by s → s ≡ Running
@@ -40,7 +40,7 @@ runs_by Running e = refl
 runs_by HasEnded e = absurd (cc)
 runs_by (HasTrapped cause) e = absurd (cc)
 
-module _ {A : Type 0} (code : Code) (f : Memory) (most : ℕ) (k before : Kept) (same : k ≡ before) (made : ℕ) (l : Kept) where
+module _ {A : Type 0} (code : Code) (f : Memory) (most : ℕ) (k before : Thread) (same : k ≡ before) (made : ℕ) (l : Thread) where
   pub carries_on : ComesTo {A = A} code (Some f) most k made Goes l → CarriesOn code f most before made None l
   carries_on h = subst (λ z. CarriesOn code f most z made None l) same (record { few = h.few; does = h.does; goes = h.goes; pauses = h.pauses })
 
@@ -55,13 +55,13 @@ module _ {A : Type 0} (code : Code) (f : Memory) (most : ℕ) (k before : Kept) 
   told_by r left e h x = subst (λ n. CarriesOn code f most before n (memory_of r.left) l) (sym e) (subst (λ o. CarriesOn code f most before made (memory_of o) l) (sym h) x)
 
 -- one that breaks off
-module _ (code : Code) (v : IsValid code) (f : Memory) (most : ℕ) (k : Kept) (made : ℕ) (l : Kept) (h : Refused code (Some f) most k made l) where
-  pub breaks_off : (before after : ThreadState) → k ≡ before.kept → after.kept ≡ l → after.steps ≡ before.steps + made → BreaksOff code f most before after
+module _ (code : Code) (v : IsValid code) (f : Memory) (most : ℕ) (k : Thread) (made : ℕ) (l : Thread) (h : Refused code (Some f) most k made l) where
+  pub breaks_off : (before after : ThreadState) → k ≡ before.thread → after.thread ≡ l → after.steps ≡ before.steps + made → BreaksOff code f most before after
   breaks_off before after same there e = (
     made,
     h.fewer,
     e,
-    subst (λ z. CarriesOn code f made before.kept made None z) (sym there) (subst (λ z. CarriesOn code f made z made None l) same (record {
+    subst (λ z. CarriesOn code f made before.thread made None z) (sym there) (subst (λ z. CarriesOn code f made z made None l) same (record {
       few = omega arith;
       does = h.carried.does;
       goes = λ n below. goes_until code v (Some f) k l made n h.carried (omega arith);

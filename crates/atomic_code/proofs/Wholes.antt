@@ -9,9 +9,9 @@ use Rattle.nesting.specs.Begins.{Saved}
 use Rattle.bytecode.specs.Code.{Code, Configuration, effect}
 use Rattle.bytecode.specs.Beginning.{beginning}
 use Rattle.bytecode.specs.Sequential.{Sequential, next, steps, start, outcome_of, end_of}
-use Rattle.atomic_code.specs.declared.kept.Step.{Step}
-use Rattle.atomic_code.specs.declared.kept.Step.TheVariants.{Goes, Leaves, Wants}
-use Rattle.atomic_code.specs.Kept.{Kept, Runs, IsStanding, meant}
+use Rattle.atomic_code.specs.declared.kept.Signal.{Signal}
+use Rattle.atomic_code.specs.declared.kept.Signal.TheVariants.{Goes, Leaves, Wants}
+use Rattle.atomic_code.specs.Threads.{Thread, Runs, IsStanding, meant}
 use Rattle.atomic_code.specs.Carried.{finding, to_find}
 use Rattle.atomic_code.specs.inner.Making.{HasMemoryAtHand, after_step}
 use Rattle.atomic_code.specs.inner.Carrying.{ComesTo}
@@ -52,7 +52,7 @@ module _ (code : Code) (t : ℕ) (fs : List Memory) (most : ℕ) where
   abbrev first : Sequential Configuration
   first = start (beginning code t) fs
 
-  pub comes_to_first : (k : Kept) → k.configuration ≡ beginning code t → k.open_in ≡ None → k.text ≡ [] → k.status ≡ Running → Runs code k → HasComeTo code t fs most 0 [] k
+  pub comes_to_first : (k : Thread) → k.configuration ≡ beginning code t → k.open_in ≡ None → k.text ≡ [] → k.status ≡ Running → Runs code k → HasComeTo code t fs most 0 [] k
   comes_to_first k c o x s runs = record {
     few = omega arith;
     does = sym (same k c o x s);
@@ -61,10 +61,10 @@ module _ (code : Code) (t : ℕ) (fs : List Memory) (most : ℕ) where
     runs = runs;
   }
     where
-      same : (k : Kept) → k.configuration ≡ beginning code t → k.open_in ≡ None → k.text ≡ [] → k.status ≡ Running → meant code fs [] false k ≡ first
+      same : (k : Thread) → k.configuration ≡ beginning code t → k.open_in ≡ None → k.text ≡ [] → k.status ≡ Running → meant code fs [] false k ≡ first
       same k c o x s = ap (meant code fs [] false) (all k (record { configuration = beginning code t; open_in = None; text = []; status = Running }) c o x s)
         where
-          all : (a b : Kept) → a.configuration ≡ b.configuration → a.open_in ≡ b.open_in → a.text ≡ b.text → a.status ≡ b.status → a ≡ b
+          all : (a b : Thread) → a.configuration ≡ b.configuration → a.open_in ≡ b.open_in → a.text ≡ b.text → a.status ≡ b.status → a ≡ b
           all a b c d e f =
               ap (λ z. record { configuration = z; open_in = a.open_in; text = a.text; status = a.status }) c
               ∙ ap (λ z. record { configuration = b.configuration; open_in = z; text = a.text; status = a.status }) d
@@ -72,10 +72,10 @@ module _ (code : Code) (t : ℕ) (fs : List Memory) (most : ℕ) where
               ∙ ap (λ z. record { configuration = b.configuration; open_in = b.open_in; text = b.text; status = z }) f
 
   -- all instructions are made
-  pub spent : (made : ℕ) (ls : List Memory) (k : Kept) → HasComeTo code t fs most made ls k → made ≡ most → outcome_of (steps (effect code) most first) ≡ record { lefts = ls; text = k.text; end = end_of false Running }
+  pub spent : (made : ℕ) (ls : List Memory) (k : Thread) → HasComeTo code t fs most made ls k → made ≡ most → outcome_of (steps (effect code) most first) ≡ record { lefts = ls; text = k.text; end = end_of false Running }
   spent made ls k h e = finishes code first _ most made h.does h.few (λ lt. absurd (omega arith)) ∙ ap (λ s. record { lefts = ls; text = k.text; end = end_of false s }) h.running
 
-  module _ {A : Type 0} (made : ℕ) (ls : List Memory) (k : Kept) (h : HasComeTo code t fs most made ls k) (more : ℕ) (s : Step A) (l : Kept) (x : ComesTo code (slice_get fs (length ls)) (most - made) k more s l) where
+  module _ {A : Type 0} (made : ℕ) (ls : List Memory) (k : Thread) (h : HasComeTo code t fs most made ls k) (more : ℕ) (s : Signal A) (l : Thread) (x : ComesTo code (slice_get fs (length ls)) (most - made) k more s l) where
     abbrev rest : List Memory
     rest = drop (suc (length ls)) fs
 
@@ -95,7 +95,7 @@ module _ (code : Code) (t : ℕ) (fs : List Memory) (most : ℕ) where
     to e = steps_add (effect code) made more first _ h.does ∙ ap (steps (effect code) more) from ∙ steps_after (effect code) more ls (with_founds (effect code) rest (finding code hand k))
         ∙ ap (after_lefts (effect code) ls) (steps_with (effect code) more rest (finding code hand k) (ap (λ (z : Sequential Configuration). z.wants) x.does ∙ e) ∙ ap (with_founds (effect code) rest) x.does)
 
-  module _ {A : Type 0} (made : ℕ) (ls : List Memory) (k : Kept) (h : HasComeTo code t fs most made ls k) (more : ℕ) (l : Kept) where
+  module _ {A : Type 0} (made : ℕ) (ls : List Memory) (k : Thread) (h : HasComeTo code t fs most made ls k) (more : ℕ) (l : Thread) where
     pub goes_outcome : ComesTo {A = A} code (slice_get fs (length ls)) (most - made) k more Goes l → outcome_of (steps (effect code) most first) ≡ record { lefts = ls; text = l.text; end = end_of false l.status }
     goes_outcome x =
         finishes code first _ most (made + more) (to made ls k h more Goes l x refl) (few_more made ls k h more Goes l x)

@@ -1,5 +1,5 @@
--- what a thread keeps, and the thread of the code's meaning that it is
-pub mod Kept
+-- a thread, and the thread of the code's meaning that it is
+pub mod Threads
 -- a thread that is carried on
 pub mod Carried
 -- what is seen of a whole thread

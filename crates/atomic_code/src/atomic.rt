@@ -3,10 +3,10 @@
 ghost use Rattle.std.specs.Prelude.{◌≡◌, ◌+◌, ◌<◌, ◌^◌, ℕ, IfOk, IfSome, IsSome, None, OnErr};
 ghost use Rattle.syntax.specs.Behaviours.{IsMemory};
 ghost use Rattle.bytecode.specs.Valid.{bounds_of};
-ghost use Rattle.atomic_code.specs.Kept.{IsThreadOf, first_thread};
+ghost use Rattle.atomic_code.specs.Threads.{IsThreadOf, first_thread};
 ghost use Rattle.atomic_code.specs.Carried.{BreaksOff, CarriesOn, end_by, memory_of};
 
-use crate::kept::{KeptThread, Step};
+use crate::kept::{KeptThread, Signal};
 use crate::ran::{End, Ran};
 use bytecode::Code;
 use frames::Frames;
@@ -23,13 +23,13 @@ pub struct AtomicThread<A: Allocator = Global> {
 }
 
 impl<A: Allocator> Model for AtomicThread<A> {
-    ghost use Rattle.atomic_code.specs.Kept.{ThreadState};
+    ghost use Rattle.atomic_code.specs.Threads.{ThreadState};
 
     ghost Value = { ThreadState };
 
     ghost use Rattle.atomic_code.specs.inner.Making as making;
 
-    ghost view = { λ t. record { kept = making.kept t.held; steps = t.steps } };
+    ghost view = { λ t. record { thread = making.thread_of t.held; steps = t.steps } };
 }
 
 // The end of a thread, by how it is.
@@ -63,8 +63,8 @@ impl<A: Allocator + Copy> AtomicThread<A> {
         code: &Code<B>,
         number: u32,
     ) -> Result<AtomicThread<A>, AllocError>
-        ensures thread { IfOk result (λ t. t ≡ record { kept = first_thread code.now number; steps = 0 }) }
-        ensures of { IfOk result (λ t. IsThreadOf code.now t.kept) }
+        ensures thread { IfOk result (λ t. t ≡ record { thread = first_thread code.now number; steps = 0 }) }
+        ensures of { IfOk result (λ t. IsThreadOf code.now t.thread) }
     {
         // The prover learns here that the code is valid.
         let _valid = code.parts();
@@ -93,16 +93,16 @@ impl<A: Allocator + Copy> AtomicThread<A> {
         found: &[u64],
         steps: u64,
     ) -> Result<Ran<A>, AllocError>
-        requires of { IsThreadOf code.now self.old.kept }
+        requires of { IsThreadOf code.now self.old.thread }
         requires found { IsMemory (bounds_of code.now) found.now }
         requires count { self.old.steps + steps < 2 ^ 64 }
-        ensures ok { IfOk result (λ r. CarriesOn code.now found.now steps self.old.kept r.steps (memory_of r.left) self.new.kept) }
+        ensures ok { IfOk result (λ r. CarriesOn code.now found.now steps self.old.thread r.steps (memory_of r.left) self.new.thread) }
         ensures steps { IfOk result (λ r. self.new.steps ≡ self.old.steps + r.steps) }
-        ensures end { IfOk result (λ r. r.end ≡ end_by self.new.kept.status) }
+        ensures end { IfOk result (λ r. r.end ≡ end_by self.new.thread.status) }
         ensures left { IfOk result (λ r. IfSome r.left (λ m. IsMemory (bounds_of code.now) m.items)) }
-        ensures outside { IfOk result (λ r. IsSome r.left → self.new.kept.open_in ≡ None) }
+        ensures outside { IfOk result (λ r. IsSome r.left → self.new.thread.open_in ≡ None) }
         ensures err { OnErr result (BreaksOff code.now found.now steps self.old self.new) }
-        ensures of { IsThreadOf code.now self.new.kept }
+        ensures of { IsThreadOf code.now self.new.thread }
     {
         // The prover learns here that the code is valid.
         let _valid = code.parts();
@@ -117,9 +117,9 @@ impl<A: Allocator + Copy> AtomicThread<A> {
                 self.steps += made;
                 match outcome {
                     Err(refused) => Err(refused),
-                    Ok(Step::Goes) => Ok(ran(made, None, self.held.status)),
-                    Ok(Step::Leaves(memory)) => Ok(ran(made, Some(memory), self.held.status)),
-                    Ok(Step::Wants) => Ok(ran(made, None, self.held.status)),
+                    Ok(Signal::Goes) => Ok(ran(made, None, self.held.status)),
+                    Ok(Signal::Leaves(memory)) => Ok(ran(made, Some(memory), self.held.status)),
+                    Ok(Signal::Wants) => Ok(ran(made, None, self.held.status)),
                 }
             }
         }
@@ -134,14 +134,14 @@ impl<A: Allocator + Copy> AtomicThread<A> {
 
     /// How it is.
     pub fn status(&self) -> Status
-        ensures { result ≡ self.now.kept.status }
+        ensures { result ≡ self.now.thread.status }
     {
         self.held.status
     }
 
     /// What it has printed.
     pub fn output(&self) -> &str
-        ensures { result.now ≡ self.now.kept.text }
+        ensures { result.now ≡ self.now.thread.text }
     {
         self.held.text.as_str()
     }

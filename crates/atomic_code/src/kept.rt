@@ -8,8 +8,8 @@ ghost use Rattle.bytecode.specs.Code.{effect, going, onward, returned, setting};
 ghost use Rattle.bytecode.specs.Valid.{IsValid, bounds_of};
 ghost use Rattle.frames.specs.Open.{CanRestore, IsConfigurationOf, restored};
 ghost use Rattle.frames.specs.Told.{IsCall, IsLocalStep, piece_of};
-ghost use Rattle.atomic_code.specs.Kept.{Runs, cancelled_from};
-ghost use Rattle.atomic_code.specs.inner.Making.{HasMemoryAtHand, Makes, MayPrint, at_hand, kept, saved_by, transaction_of};
+ghost use Rattle.atomic_code.specs.Threads.{Runs, cancelled_from};
+ghost use Rattle.atomic_code.specs.inner.Making.{HasMemoryAtHand, Makes, MayPrint, at_hand, thread_of, saved_by, transaction_of};
 
 use crate::open::{Begun, Open, close_inner, open_inner, open_outermost, set_word, word_in};
 use bytecode::Code;
@@ -26,9 +26,9 @@ pub(crate) struct KeptThread<A: Allocator> {
     pub status: Status,
 }
 
-/// What an instruction comes to.
+/// What an instruction comes to, for whoever carries the thread on.
 #[derive(Drop)]
-pub(crate) enum Step<A: Allocator> {
+pub(crate) enum Signal<A: Allocator> {
     /// The thread goes on, or is over.
     Goes,
 
@@ -75,57 +75,57 @@ fn may_print<A: Allocator>(open_in: &Option<Open<A>>) -> bool
 
 impl<A: Allocator + Copy> KeptThread<A> {
     // A local step.
-    fn work<B: Allocator>(&mut self, code: &Code<B>) -> Step<A>
+    fn work<B: Allocator>(&mut self, code: &Code<B>) -> Signal<A>
         requires valid { IsValid code.now }
         requires running { self.old.status ≡ Running }
-        requires runs { Runs code.now (kept self.old) }
+        requires runs { Runs code.now (thread_of self.old) }
         requires told { IsLocalStep code.now self.old.frames.configuration }
-        ensures { (m : Option Memory) → Makes code.now m (kept self.old) result (kept self.new) }
+        ensures { (m : Option Memory) → Makes code.now m (thread_of self.old) result (thread_of self.new) }
     {
         self.frames.step(code);
-        Step::Goes
+        Signal::Goes
     }
 
-    fn call<B: Allocator>(&mut self, code: &Code<B>) -> Result<Step<A>, AllocError>
+    fn call<B: Allocator>(&mut self, code: &Code<B>) -> Result<Signal<A>, AllocError>
         requires valid { IsValid code.now }
         requires running { self.old.status ≡ Running }
-        requires runs { Runs code.now (kept self.old) }
+        requires runs { Runs code.now (thread_of self.old) }
         requires told { IsCall code.now self.old.frames.configuration }
-        ensures ok { IfOk result (λ s. (m : Option Memory) → Makes code.now m (kept self.old) s (kept self.new)) }
-        ensures err { OnErr result (kept self.new ≡ kept self.old) }
+        ensures ok { IfOk result (λ s. (m : Option Memory) → Makes code.now m (thread_of self.old) s (thread_of self.new)) }
+        ensures err { OnErr result (thread_of self.new ≡ thread_of self.old) }
     {
         self.frames.prepare_call(code)?;
         self.frames.call(code);
-        Ok(Step::Goes)
+        Ok(Signal::Goes)
     }
 
-    fn give_back<B: Allocator>(&mut self, code: &Code<B>, word: u64) -> Step<A>
+    fn give_back<B: Allocator>(&mut self, code: &Code<B>, word: u64) -> Signal<A>
         requires valid { IsValid code.now }
         requires running { self.old.status ≡ Running }
-        requires runs { Runs code.now (kept self.old) }
+        requires runs { Runs code.now (thread_of self.old) }
         requires returns { effect code.now self.old.frames.configuration ≡ returned self.old.frames.configuration.frames word }
         requires caller { 0 < length self.old.frames.configuration.frames }
-        ensures { (m : Option Memory) → Makes code.now m (kept self.old) result (kept self.new) }
+        ensures { (m : Option Memory) → Makes code.now m (thread_of self.old) result (thread_of self.new) }
     {
         self.frames.give_back(code, word);
-        Step::Goes
+        Signal::Goes
     }
 
     // A print stands still in a transaction that was not made irrevocable.
-    fn print<B: Allocator>(&mut self, code: &Code<B>, doing: Doing) -> Result<Step<A>, AllocError>
+    fn print<B: Allocator>(&mut self, code: &Code<B>, doing: Doing) -> Result<Signal<A>, AllocError>
         requires valid { IsValid code.now }
         requires running { self.old.status ≡ Running }
-        requires runs { Runs code.now (kept self.old) }
+        requires runs { Runs code.now (thread_of self.old) }
         requires prints { effect code.now self.old.frames.configuration ≡ Effect.Print (piece_of code.now doing) (onward self.old.frames.configuration) }
-        ensures ok { IfOk result (λ s. (m : Option Memory) → Makes code.now m (kept self.old) s (kept self.new)) }
-        ensures err { OnErr result (kept self.new ≡ kept self.old) }
+        ensures ok { IfOk result (λ s. (m : Option Memory) → Makes code.now m (thread_of self.old) s (thread_of self.new)) }
+        ensures err { OnErr result (thread_of self.new ≡ thread_of self.old) }
     {
         if !may_print(&self.open_in) {
-            return Ok(Step::Goes);
+            return Ok(Signal::Goes);
         }
         push_piece(&mut self.text, code, doing)?;
         self.frames.go_on(code);
-        Ok(Step::Goes)
+        Ok(Signal::Goes)
     }
 
     // An outermost transaction begins where there is none.
@@ -135,25 +135,25 @@ impl<A: Allocator + Copy> KeptThread<A> {
         code: &Code<B>,
         found: Option<&[u64]>,
         to: u32,
-    ) -> Result<Step<A>, AllocError>
+    ) -> Result<Signal<A>, AllocError>
         requires valid { IsValid code.now }
         requires running { self.old.status ≡ Running }
-        requires runs { Runs code.now (kept self.old) }
+        requires runs { Runs code.now (thread_of self.old) }
         requires outside { option_map transaction_of self.old.open_in ≡ None }
         requires found { HasMemoryAtHand (bounds_of code.now) (at_hand (λ m. m.now) found) }
         requires begins { effect code.now self.old.frames.configuration ≡ Effect.Begin (onward self.old.frames.configuration) (going self.old.frames.configuration to) }
-        ensures ok { IfOk result (λ s. Makes code.now (at_hand (λ m. m.now) found.entry) (kept self.old) s (kept self.new)) }
-        ensures err { OnErr result (kept self.new ≡ kept self.old) }
+        ensures ok { IfOk result (λ s. Makes code.now (at_hand (λ m. m.now) found.entry) (thread_of self.old) s (thread_of self.new)) }
+        ensures err { OnErr result (thread_of self.new ≡ thread_of self.old) }
     {
         // The prover names by it where a cancel goes on.
         let _cancelled = to;
         match found {
-            None => Ok(Step::Wants),
+            None => Ok(Signal::Wants),
             Some(memory) => {
                 let outermost = open_outermost(alloc, &self.frames, memory)?;
                 self.open_in = Some(outermost);
                 self.frames.go_on(code);
-                Ok(Step::Goes)
+                Ok(Signal::Goes)
             }
         }
     }
@@ -164,160 +164,160 @@ impl<A: Allocator + Copy> KeptThread<A> {
         code: &Code<B>,
         found: Option<&[u64]>,
         to: u32,
-    ) -> Result<Step<A>, AllocError>
+    ) -> Result<Signal<A>, AllocError>
         requires valid { IsValid code.now }
         requires running { self.old.status ≡ Running }
-        requires runs { Runs code.now (kept self.old) }
+        requires runs { Runs code.now (thread_of self.old) }
         requires found { HasMemoryAtHand (bounds_of code.now) (at_hand (λ m. m.now) found) }
         requires begins { effect code.now self.old.frames.configuration ≡ Effect.Begin (onward self.old.frames.configuration) (going self.old.frames.configuration to) }
-        ensures ok { IfOk result (λ s. Makes code.now (at_hand (λ m. m.now) found.entry) (kept self.old) s (kept self.new)) }
-        ensures err { OnErr result (kept self.new ≡ kept self.old) }
+        ensures ok { IfOk result (λ s. Makes code.now (at_hand (λ m. m.now) found.entry) (thread_of self.old) s (thread_of self.new)) }
+        ensures err { OnErr result (thread_of self.new ≡ thread_of self.old) }
     {
         match &mut self.open_in {
             None => self.begin_outermost(alloc, code, found, to),
             Some(outer) => {
                 open_inner(alloc, &self.frames, outer)?;
                 self.frames.go_on(code);
-                Ok(Step::Goes)
+                Ok(Signal::Goes)
             }
         }
     }
 
     // A shared access stands still outside transactions.
-    fn read<B: Allocator>(&mut self, code: &Code<B>, d: u16, cell: u32) -> Step<A>
+    fn read<B: Allocator>(&mut self, code: &Code<B>, d: u16, cell: u32) -> Signal<A>
         requires valid { IsValid code.now }
         requires running { self.old.status ≡ Running }
-        requires runs { Runs code.now (kept self.old) }
+        requires runs { Runs code.now (thread_of self.old) }
         requires reads { effect code.now self.old.frames.configuration ≡ Effect.Read cell (setting self.old.frames.configuration d) }
         requires there { d < length self.old.frames.configuration.registers }
-        ensures { (m : Option Memory) → Makes code.now m (kept self.old) result (kept self.new) }
+        ensures { (m : Option Memory) → Makes code.now m (thread_of self.old) result (thread_of self.new) }
     {
         match &self.open_in {
-            None => Step::Goes,
+            None => Signal::Goes,
             Some(open) => {
                 let word = word_in(open, cell);
                 self.frames.set(code, d, word);
-                Step::Goes
+                Signal::Goes
             }
         }
     }
 
-    fn write<B: Allocator>(&mut self, code: &Code<B>, cell: u32, word: u64) -> Step<A>
+    fn write<B: Allocator>(&mut self, code: &Code<B>, cell: u32, word: u64) -> Signal<A>
         requires valid { IsValid code.now }
         requires running { self.old.status ≡ Running }
-        requires runs { Runs code.now (kept self.old) }
+        requires runs { Runs code.now (thread_of self.old) }
         requires writes { effect code.now self.old.frames.configuration ≡ Effect.Write cell word (onward self.old.frames.configuration) }
-        ensures { (m : Option Memory) → Makes code.now m (kept self.old) result (kept self.new) }
+        ensures { (m : Option Memory) → Makes code.now m (thread_of self.old) result (thread_of self.new) }
     {
         match &mut self.open_in {
-            None => Step::Goes,
+            None => Signal::Goes,
             Some(open) => {
                 set_word(open, cell, word);
                 self.frames.go_on(code);
-                Step::Goes
+                Signal::Goes
             }
         }
     }
 
-    fn make_irrevocable<B: Allocator>(&mut self, code: &Code<B>) -> Step<A>
+    fn make_irrevocable<B: Allocator>(&mut self, code: &Code<B>) -> Signal<A>
         requires valid { IsValid code.now }
         requires running { self.old.status ≡ Running }
-        requires runs { Runs code.now (kept self.old) }
+        requires runs { Runs code.now (thread_of self.old) }
         requires told { effect code.now self.old.frames.configuration ≡ Effect.Irrevocable (onward self.old.frames.configuration) }
-        ensures { (m : Option Memory) → Makes code.now m (kept self.old) result (kept self.new) }
+        ensures { (m : Option Memory) → Makes code.now m (thread_of self.old) result (thread_of self.new) }
     {
         self.frames.go_on(code);
         match &mut self.open_in {
-            None => Step::Goes,
+            None => Signal::Goes,
             Some(open) => {
                 open.kept = true;
-                Step::Goes
+                Signal::Goes
             }
         }
     }
 
     // A commit stands still outside transactions.
-    fn commit<B: Allocator>(&mut self, code: &Code<B>) -> Step<A>
+    fn commit<B: Allocator>(&mut self, code: &Code<B>) -> Signal<A>
         requires valid { IsValid code.now }
         requires running { self.old.status ≡ Running }
-        requires runs { Runs code.now (kept self.old) }
+        requires runs { Runs code.now (thread_of self.old) }
         requires commits { effect code.now self.old.frames.configuration ≡ Effect.Commit (onward self.old.frames.configuration) }
-        ensures { (m : Option Memory) → Makes code.now m (kept self.old) result (kept self.new) }
+        ensures { (m : Option Memory) → Makes code.now m (thread_of self.old) result (thread_of self.new) }
     {
         match self.open_in.take() {
-            None => Step::Goes,
+            None => Signal::Goes,
             Some(mut open) => {
                 self.frames.go_on(code);
                 match close_inner(&mut open) {
                     Some(_) => {
                         self.open_in = Some(open);
-                        Step::Goes
+                        Signal::Goes
                     }
-                    None => Step::Leaves(open.memory),
+                    None => Signal::Leaves(open.memory),
                 }
             }
         }
     }
 
     // A cancel stands still outside transactions, and where the outermost one was made irrevocable.
-    fn cancel<B: Allocator>(&mut self, code: &Code<B>) -> Step<A>
+    fn cancel<B: Allocator>(&mut self, code: &Code<B>) -> Signal<A>
         requires valid { IsValid code.now }
         requires running { self.old.status ≡ Running }
-        requires runs { Runs code.now (kept self.old) }
+        requires runs { Runs code.now (thread_of self.old) }
         requires cancels { effect code.now self.old.frames.configuration ≡ Effect.Cancel }
-        ensures { (m : Option Memory) → Makes code.now m (kept self.old) result (kept self.new) }
+        ensures { (m : Option Memory) → Makes code.now m (thread_of self.old) result (thread_of self.new) }
     {
         match self.open_in.take() {
-            None => Step::Goes,
+            None => Signal::Goes,
             Some(mut open) => match close_inner(&mut open) {
                 Some(inner) => {
                     go_back(&mut self.frames, code, &inner);
                     open.memory = inner.found;
                     self.open_in = Some(open);
-                    Step::Goes
+                    Signal::Goes
                 }
                 None => {
                     if open.kept {
                         self.open_in = Some(open);
-                        return Step::Goes;
+                        return Signal::Goes;
                     }
                     go_back(&mut self.frames, code, &open.outermost);
-                    Step::Leaves(open.outermost.found)
+                    Signal::Leaves(open.outermost.found)
                 }
             },
         }
     }
 
     // A trap leaves the memory that the outermost transaction found.
-    fn trap<B: Allocator>(&mut self, code: &Code<B>, cause: Trap) -> Step<A>
+    fn trap<B: Allocator>(&mut self, code: &Code<B>, cause: Trap) -> Signal<A>
         requires valid { IsValid code.now }
         requires running { self.old.status ≡ Running }
-        requires runs { Runs code.now (kept self.old) }
+        requires runs { Runs code.now (thread_of self.old) }
         requires traps { effect code.now self.old.frames.configuration ≡ Effect.Traps cause }
-        ensures { (m : Option Memory) → Makes code.now m (kept self.old) result (kept self.new) }
+        ensures { (m : Option Memory) → Makes code.now m (thread_of self.old) result (thread_of self.new) }
     {
         // The prover names the code by it.
         let _code = code;
         self.status = Status::Trapped(cause);
         match self.open_in.take() {
-            None => Step::Goes,
-            Some(open) => Step::Leaves(open.outermost.found),
+            None => Signal::Goes,
+            Some(open) => Signal::Leaves(open.outermost.found),
         }
     }
 
-    fn end<B: Allocator>(&mut self, code: &Code<B>) -> Step<A>
+    fn end<B: Allocator>(&mut self, code: &Code<B>) -> Signal<A>
         requires valid { IsValid code.now }
         requires running { self.old.status ≡ Running }
-        requires runs { Runs code.now (kept self.old) }
+        requires runs { Runs code.now (thread_of self.old) }
         requires ends { effect code.now self.old.frames.configuration ≡ Effect.End }
-        ensures { (m : Option Memory) → Makes code.now m (kept self.old) result (kept self.new) }
+        ensures { (m : Option Memory) → Makes code.now m (thread_of self.old) result (thread_of self.new) }
     {
         // The prover names the code by it.
         let _code = code;
         if self.open_in.is_none() {
             self.status = Status::Ended;
         }
-        Step::Goes
+        Signal::Goes
     }
 
     /// Makes one instruction, with this memory at hand. The error comes only where memory is refused; nothing is changed then.
@@ -326,13 +326,13 @@ impl<A: Allocator + Copy> KeptThread<A> {
         alloc: A,
         code: &Code<B>,
         found: Option<&[u64]>,
-    ) -> Result<Step<A>, AllocError>
+    ) -> Result<Signal<A>, AllocError>
         requires valid { IsValid code.now }
         requires running { self.old.status ≡ Running }
-        requires runs { Runs code.now (kept self.old) }
+        requires runs { Runs code.now (thread_of self.old) }
         requires found { HasMemoryAtHand (bounds_of code.now) (at_hand (λ m. m.now) found) }
-        ensures ok { IfOk result (λ s. Makes code.now (at_hand (λ m. m.now) found.entry) (kept self.old) s (kept self.new)) }
-        ensures err { OnErr result (kept self.new ≡ kept self.old) }
+        ensures ok { IfOk result (λ s. Makes code.now (at_hand (λ m. m.now) found.entry) (thread_of self.old) s (thread_of self.new)) }
+        ensures err { OnErr result (thread_of self.new ≡ thread_of self.old) }
     {
         match self.frames.doing(code) {
             Doing::Local => Ok(self.work(code)),

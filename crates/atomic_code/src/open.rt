@@ -18,7 +18,8 @@ pub(crate) struct Begun<A: Allocator> {
     pub found: Vec<u64, A>,
 }
 
-/// An open outermost transaction, with those inside it in the order of their begins. It is kept once it was made irrevocable.
+/// An open outermost transaction, with those inside it in the order of their begins. It keeps the lock once it was made
+/// irrevocable.
 #[derive(Drop)]
 pub(crate) struct Open<A: Allocator> {
     pub outermost: Begun<A>,
@@ -82,7 +83,7 @@ pub(crate) fn open_inner<A: Allocator + Copy>(
     Ok(())
 }
 
-/// Closes the innermost inner transaction, if there is one: what its begin kept.
+/// Closes the innermost inner transaction, if there is one: what its begin saved.
 pub(crate) fn close_inner<A: Allocator>(transaction: &mut Open<A>) -> Option<Begun<A>>
     ensures some { IfSome result (λ b. transaction_of transaction.old ≡ with_memory (transaction_of transaction.new) (transaction_of transaction.new).mem (inner_of b ∷ (transaction_of transaction.new).inner)) }
     ensures none { IfNone result ((transaction_of transaction.old).inner ≡ []) }

@@ -11,7 +11,7 @@ ghost use Rattle.atomic_code.specs.Whole.{memories_in, outcome_in, thread_end_in
 ghost use Rattle.atomic_code.specs.inner.Making.{at_hand};
 
 use crate::carry::runs;
-use crate::kept::{KeptThread, Step};
+use crate::kept::{KeptThread, Signal};
 use bytecode::Code;
 use frames::Frames;
 use std::alloc::{AllocError, Allocator, Global};
@@ -87,7 +87,7 @@ pub fn thread<A: Allocator + Copy, B: Allocator>(
         made += more;
         match outcome {
             Err(refused) => return Err(refused),
-            Ok(Step::Goes) => {
+            Ok(Signal::Goes) => {
                 let end = end_without_want(held.status);
                 return Ok(ThreadOutcome {
                     lefts,
@@ -95,14 +95,14 @@ pub fn thread<A: Allocator + Copy, B: Allocator>(
                     end,
                 });
             }
-            Ok(Step::Wants) => {
+            Ok(Signal::Wants) => {
                 return Ok(ThreadOutcome {
                     lefts,
                     text: held.text,
                     end: ThreadEnd::Stopped(Halt::Wants),
                 });
             }
-            Ok(Step::Leaves(memory)) => {
+            Ok(Signal::Leaves(memory)) => {
                 lefts.push(memory)?;
                 if !runs(held.status) {
                     let end = end_without_want(held.status);

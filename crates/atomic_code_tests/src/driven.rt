@@ -1,7 +1,7 @@
 //! Threads carried on, and what they come to, as plain values.
 
 ghost use Rattle.std.specs.Prelude.{IfSome};
-ghost use Rattle.atomic_code.specs.Kept.{IsThreadOf};
+ghost use Rattle.atomic_code.specs.Threads.{IsThreadOf};
 
 use atomic_code::{AtomicThread, End, Ran, is_memory};
 use bytecode::Code;
@@ -10,7 +10,7 @@ use syntax::numbers::Status;
 
 /// A thread at its beginning, if memory is there.
 pub fn begin<A: Allocator + Copy>(alloc: A, code: &Code<A>, number: u32) -> Option<AtomicThread<A>>
-    ensures { IfSome result (λ t. IsThreadOf code.now t.kept) }
+    ensures { IfSome result (λ t. IsThreadOf code.now t.thread) }
 {
     match AtomicThread::new(alloc, code, number) {
         Ok(thread) => Some(thread),
@@ -24,7 +24,7 @@ pub fn begin_at_last<A: Allocator + Copy>(
     code: &Code<A>,
     number: u32,
 ) -> Option<AtomicThread<A>>
-    ensures { IfSome result (λ t. IsThreadOf code.now t.kept) }
+    ensures { IfSome result (λ t. IsThreadOf code.now t.thread) }
 {
     match begin(alloc, code, number) {
         Some(thread) => Some(thread),
@@ -48,8 +48,8 @@ pub fn go<A: Allocator + Copy>(
     word: u64,
     steps: u32,
 ) -> Option<(u64, Option<u64>, Option<End>)>
-    requires { IsThreadOf code.now thread.old.kept }
-    ensures { IsThreadOf code.now thread.new.kept }
+    requires { IsThreadOf code.now thread.old.thread }
+    ensures { IsThreadOf code.now thread.new.thread }
 {
     if thread.steps() > 1_000_000_000_000 {
         return None;
@@ -71,8 +71,8 @@ pub fn in_pieces<A: Allocator + Copy>(
     calls: u32,
     each: u32,
 ) -> Option<u64>
-    requires { IsThreadOf code.now thread.old.kept }
-    ensures { IsThreadOf code.now thread.new.kept }
+    requires { IsThreadOf code.now thread.old.thread }
+    ensures { IsThreadOf code.now thread.new.thread }
 {
     let mut word = None;
     'calls: for call in 0..calls {
@@ -90,8 +90,8 @@ pub fn in_turns<A: Allocator + Copy>(
     calls: u32,
     first: u64,
 ) -> u64
-    requires { IsThreadOf code.now thread.old.kept }
-    ensures { IsThreadOf code.now thread.new.kept }
+    requires { IsThreadOf code.now thread.old.thread }
+    ensures { IsThreadOf code.now thread.new.thread }
 {
     let mut word = first;
     'calls: for _ in 0..calls {
@@ -108,8 +108,8 @@ pub fn in_spite<A: Allocator + Copy>(
     code: &Code<A>,
     calls: u32,
 ) -> u32
-    requires { IsThreadOf code.now thread.old.kept }
-    ensures { IsThreadOf code.now thread.new.kept }
+    requires { IsThreadOf code.now thread.old.thread }
+    ensures { IsThreadOf code.now thread.new.thread }
 {
     let mut made: u32 = 0;
     'calls: for _ in 0..calls {

@@ -3,7 +3,7 @@
 //! before it left.
 
 ghost use Rattle.std.specs.Prelude.{IfSome};
-ghost use Rattle.atomic_code.specs.Kept.{IsThreadOf};
+ghost use Rattle.atomic_code.specs.Threads.{IsThreadOf};
 
 use crate::accepted::{accepted_of, code_of};
 use crate::examples::examples;
@@ -122,7 +122,7 @@ fn source_lines<A: Allocator + Copy>(
 
 /// A thread at its beginning.
 fn begin<A: Allocator + Copy>(alloc: A, code: &Code<A>) -> Option<AtomicThread<A>>
-    ensures { IfSome result (λ t. IsThreadOf code.now t.kept) }
+    ensures { IfSome result (λ t. IsThreadOf code.now t.thread) }
 {
     match AtomicThread::new(alloc, code, 3) {
         Ok(thread) => Some(thread),
@@ -136,8 +136,8 @@ fn step<A: Allocator + Copy>(
     code: &Code<A>,
     memory: &mut Vec<u64, A>,
 ) -> Result<(), AllocError>
-    requires { IsThreadOf code.now thread.old.kept }
-    ensures { IsThreadOf code.now thread.new.kept }
+    requires { IsThreadOf code.now thread.old.thread }
+    ensures { IsThreadOf code.now thread.new.thread }
 {
     if thread.steps() > 1_000_000 {
         return Ok(());
@@ -187,7 +187,7 @@ fn carry_on<A: Allocator + Copy>(
     lines: &mut String<A>,
     steps: u32,
 ) -> Result<(), AllocError>
-    requires { IsThreadOf code.now thread.old.kept }
+    requires { IsThreadOf code.now thread.old.thread }
 {
     let mut last = 0;
     'steps: for _ in 0..steps {

@@ -5,10 +5,10 @@ use Rattle.syntax.specs.Behaviours.{Memory}
 use Rattle.bytecode.specs.Code.{Code, effect}
 use Rattle.bytecode.specs.Beginning.{beginning}
 use Rattle.bytecode.specs.Sequential.{start, steps}
-use Rattle.atomic_code.specs.Kept.{Kept, Runs, meant}
+use Rattle.atomic_code.specs.Threads.{Thread, Runs, meant}
 
 -- after so many instructions the thread has left these memories, and stands outside transactions
-pub record HasComeTo (code : Code) (t : ℕ) (founds : List Memory) (most made : ℕ) (lefts : List Memory) (k : Kept)
+pub record HasComeTo (code : Code) (t : ℕ) (founds : List Memory) (most made : ℕ) (lefts : List Memory) (k : Thread)
     : Type 0 where
   pub few : made ≤ most
   pub does : steps (effect code) made (start (beginning code t) founds)

@@ -3,9 +3,9 @@ use Rattle.std.specs.Prelude.{slice_get}
 use Rattle.std.proofs.lemmas.List.{length-map, map-append}
 use Rattle.syntax.specs.Behaviours.{ThreadEnd, Memory}
 use Rattle.bytecode.specs.Valid.{bounds_of}
-use Rattle.atomic_code.specs.declared.kept.Step.TheVariants.{Goes, Leaves, Wants}
+use Rattle.atomic_code.specs.declared.kept.Signal.TheVariants.{Goes, Leaves, Wants}
 use Rattle.atomic_code.specs.Whole.{memories_in, thread_end_in}
-use Rattle.atomic_code.specs.inner.Making.{HasMemoryAtHand, kept}
+use Rattle.atomic_code.specs.inner.Making.{HasMemoryAtHand, thread_of}
 use Rattle.atomic_code.specs.inner.Carrying.{ComesTo}
 use Rattle.atomic_code.specs.inner.Standing.{HasComeTo}
 use Rattle.atomic_code.proofs.Threads.{runs_at_first}
@@ -25,8 +25,8 @@ pub returns-in-Ok-Goes : goal.returns-in-Ok-Goes
 returns-in-Ok-Goes g c =
     let fs = memories_in c.args.founds.now in
     let ls = memories_in c.turns.lefts.items in
-    let k = kept {A = g.row.A.Denot} c.turns.held in
-    let l = kept {A = g.row.A.Denot} c.carry_on-more.new.self in
+    let k = thread_of {A = g.row.A.Denot} c.turns.held in
+    let l = thread_of {A = g.row.A.Denot} c.carry_on-more.new.self in
     let n : c.len.result ≡ length ls = omega (arith, c.len.ensures, length-map c.turns.lefts.items (λ v. v.items)) in
     let x = rw (c.in-Ok-Goes.is, c.in-Ok-Goes.field-0-is) at c.carry_on-more.ensures in
     let y = subst (λ m. ComesTo {A = g.row.A.Denot} c.args.code.now m (c.args.steps - c.turns.made) k c.carry_on-more.result.0 Goes l) (c.memory_at-found.ensures ∙ ap (slice_get fs) n) x in
@@ -37,8 +37,8 @@ pub returns-in-Ok-Wants : goal.returns-in-Ok-Wants
 returns-in-Ok-Wants g c =
     let fs = memories_in c.args.founds.now in
     let ls = memories_in c.turns.lefts.items in
-    let k = kept {A = g.row.A.Denot} c.turns.held in
-    let l = kept {A = g.row.A.Denot} c.carry_on-more.new.self in
+    let k = thread_of {A = g.row.A.Denot} c.turns.held in
+    let l = thread_of {A = g.row.A.Denot} c.carry_on-more.new.self in
     let n : c.len.result ≡ length ls = omega (arith, c.len.ensures, length-map c.turns.lefts.items (λ v. v.items)) in
     let x = rw (c.in-Ok-Wants.is, c.in-Ok-Wants.field-0-is) at c.carry_on-more.ensures in
     let y = subst (λ m. ComesTo {A = g.row.A.Denot} c.args.code.now m (c.args.steps - c.turns.made) k c.carry_on-more.result.0 Wants l) (c.memory_at-found.ensures ∙ ap (slice_get fs) n) x in
@@ -48,8 +48,8 @@ pub returns-then-not-runs : goal.returns-then-not-runs
 returns-then-not-runs g c =
     let fs = memories_in c.args.founds.now in
     let ls = memories_in c.turns.lefts.items in
-    let k = kept {A = g.row.A.Denot} c.turns.held in
-    let l = kept {A = g.row.A.Denot} c.carry_on-more.new.self in
+    let k = thread_of {A = g.row.A.Denot} c.turns.held in
+    let l = thread_of {A = g.row.A.Denot} c.carry_on-more.new.self in
     let left = c.in-Ok-Leaves.memory in
     let n : c.len.result ≡ length ls = omega (arith, c.len.ensures, length-map c.turns.lefts.items (λ v. v.items)) in
     let x = rw (c.in-Ok-Leaves.is, c.in-Ok-Leaves.field-0-is) at c.carry_on-more.ensures in
@@ -63,8 +63,8 @@ pub turns-preserved : goal.turns-preserved
 turns-preserved g c =
     let fs = memories_in c.args.founds.now in
     let ls = memories_in c.turns.lefts.items in
-    let k = kept {A = g.row.A.Denot} c.turns.held in
-    let l = kept {A = g.row.A.Denot} c.carry_on-more.new.self in
+    let k = thread_of {A = g.row.A.Denot} c.turns.held in
+    let l = thread_of {A = g.row.A.Denot} c.carry_on-more.new.self in
     let left = c.in-Ok-Leaves.memory in
     let n : c.len.result ≡ length ls = omega (arith, c.len.ensures, length-map c.turns.lefts.items (λ v. v.items)) in
     let x = rw (c.in-Ok-Leaves.is, c.in-Ok-Leaves.field-0-is) at c.carry_on-more.ensures in
