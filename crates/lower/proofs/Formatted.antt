@@ -9,7 +9,7 @@ use Rattle.bytecode.specs.declared.instr.Instr.{Instr}
 use Rattle.lower.specs.Lists.{Lists}
 use Rattle.lower.specs.Simples.{Written, and_then}
 use Rattle.lower.specs.Statements.{pieces_written}
-use Rattle.lower.specs.inner.Formats.{joined, text_written, figure_written, IsByteAt, IsNumberAt}
+use Rattle.lower.specs.inner.Formats.{joined, text_written, figure_written, IsByteAt, IsFigureAt}
 
 -- the unit at a place
 plain_is : (a : ℕ) (rest : List ℕ) → (a == 37) ≡ false → pieces (a ∷ rest) ≡ literal a (pieces rest)
@@ -45,7 +45,7 @@ module _ (format : List ℕ) (i : ℕ) where
       ∙ percent_is (get_or format i 0) (get_or format (i + 1) 0) (drop (i + 1 + 1) format) percent
       ∙ ap (λ j. conversion (get_or format (i + 1) 0) (pieces (drop j format))) e
 
-  pub signed_at : i + 1 < length format → (get_or format i 0 == 37) ≡ true → (get_or format (i + 1) 0 == 100) ≡ true → IsNumberAt Int format i
+  pub signed_at : i + 1 < length format → (get_or format i 0 == 37) ≡ true → (get_or format (i + 1) 0 == 100) ≡ true → IsFigureAt Int format i
   signed_at h percent d =
       let ps = pieces (drop (i + 2) format) in
       let b = get_or format (i + 1) 0 in
@@ -54,7 +54,7 @@ module _ (format : List ℕ) (i : ℕ) where
         within = omega (arith, h);
       }
 
-  pub unsigned_at : i + 1 < length format → (get_or format i 0 == 37) ≡ true → (get_or format (i + 1) 0 == 100) ≡ false → (get_or format (i + 1) 0 == 117) ≡ true → IsNumberAt Unsigned format i
+  pub unsigned_at : i + 1 < length format → (get_or format i 0 == 37) ≡ true → (get_or format (i + 1) 0 == 100) ≡ false → (get_or format (i + 1) 0 == 117) ≡ true → IsFigureAt Unsigned format i
   unsigned_at h percent d u =
       let ps = pieces (drop (i + 2) format) in
       let b = get_or format (i + 1) 0 in

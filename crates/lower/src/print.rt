@@ -91,7 +91,7 @@ fn put_figure<A: Allocator>(
 /// What stands at a place of a format: a byte of literal text, with the place behind it, or a figure of two bytes.
 enum Unit {
     Byte(u8, usize),
-    Number(Scalar),
+    Figure(Scalar),
 }
 
 /// What stands at a place of a format.
@@ -108,10 +108,10 @@ fn unit_at(format: &[u8], i: usize) -> Unit
     }
     let b = format[i + 1];
     if b == b'd' {
-        return Unit::Number(Scalar::Int);
+        return Unit::Figure(Scalar::Int);
     }
     if b == b'u' {
-        return Unit::Number(Scalar::Unsigned);
+        return Unit::Figure(Scalar::Unsigned);
     }
     Unit::Byte(b, i + 2)
 }
@@ -150,7 +150,7 @@ pub(crate) fn put_pieces<A: Allocator + Copy>(
                 i = next;
                 continue;
             }
-            Unit::Number(of) => {
+            Unit::Figure(of) => {
                 if k >= registers.len() {
                     return put_text(lists, code, bytes, to);
                 }

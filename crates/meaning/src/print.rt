@@ -85,7 +85,7 @@ fn put_figure<A: Allocator>(
 /// What stands at a place of a format: a byte of literal text, with the place behind it, or a figure of two bytes.
 enum Unit {
     Byte(u8, usize),
-    Number(Scalar),
+    Figure(Scalar),
 }
 
 /// What stands at a place of a format.
@@ -102,10 +102,10 @@ fn unit_at(format: &[u8], i: usize) -> Unit
     }
     let b = format[i + 1];
     if b == b'd' {
-        return Unit::Number(Scalar::Int);
+        return Unit::Figure(Scalar::Int);
     }
     if b == b'u' {
-        return Unit::Number(Scalar::Unsigned);
+        return Unit::Figure(Scalar::Unsigned);
     }
     Unit::Byte(b, i + 2)
 }
@@ -129,7 +129,7 @@ pub(crate) fn print_pieces<A: Allocator>(
                 i = next;
                 continue;
             }
-            Unit::Number(t) => {
+            Unit::Figure(t) => {
                 put_figure(m, t, values, k)?;
                 begun = false;
                 k += 1;

@@ -33,10 +33,10 @@ pub record IsByteAt (c next : ℕ) (format : List ℕ) (i : ℕ) : Type 0 where
   pub after : i < next
   pub within : next ≤ length format
 
-pub record IsNumberAt (t : Scalar) (format : List ℕ) (i : ℕ) : Type 0 where
+pub record IsFigureAt (t : Scalar) (format : List ℕ) (i : ℕ) : Type 0 where
   pub is : pieces (drop i format) ≡ Figure t ∷ pieces (drop (i + 2) format)
   pub within : i + 2 ≤ length format
 
 abbrev pub IsAt : U.Unit → List ℕ → ℕ → Type 0
 IsAt (unit.Byte c next) format i = IsByteAt c next format i
-IsAt (unit.Number t) format i = IsNumberAt t format i
+IsAt (unit.Figure t) format i = IsFigureAt t format i

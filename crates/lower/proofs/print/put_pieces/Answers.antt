@@ -34,34 +34,34 @@ pub units-preserved : goal.units-preserved
 units-preserved g c =
     let u = c.units in
     let r = get_or c.args.registers.now u.k 0 in
-    let e = c.in_ok-to-in-Number.ensures in
+    let e = c.in_ok-to-in-Figure.ensures in
     record {
-      within = c.in-Number.ensures.within;
+      within = c.in-Figure.ensures.within;
       taken = omega (arith, u.invariant.taken);
-      code = figure_code c.args.format.now c.args.registers.now u.bytes.items u.i u.k u.to (lists_of u.lists) c.in-Number.of r c.in_ok-to-in-Number.to (lists_of c.put_figure.new.lists) c.new-bytes-in-Number.result.items
-          c.in-Number.ensures.is c.if-k-registers.false refl c.new-bytes-in-Number.ensures.items e.place e.lists u.code.items c.put_figure.new.code.items _ e.code u.invariant.code;
-      lists = figure_lists c.args.format.now c.args.registers.now u.bytes.items u.i u.k u.to (lists_of u.lists) c.in-Number.of r c.in_ok-to-in-Number.to (lists_of c.put_figure.new.lists) c.new-bytes-in-Number.result.items
-          c.in-Number.ensures.is c.if-k-registers.false refl c.new-bytes-in-Number.ensures.items e.place e.lists _ u.invariant.lists;
-      place = figure_place c.args.format.now c.args.registers.now u.bytes.items u.i u.k u.to (lists_of u.lists) c.in-Number.of r c.in_ok-to-in-Number.to (lists_of c.put_figure.new.lists) c.new-bytes-in-Number.result.items
-          c.in-Number.ensures.is c.if-k-registers.false refl c.new-bytes-in-Number.ensures.items e.place e.lists _ u.invariant.place;
+      code = figure_code c.args.format.now c.args.registers.now u.bytes.items u.i u.k u.to (lists_of u.lists) c.in-Figure.of r c.in_ok-to-in-Figure.to (lists_of c.put_figure.new.lists) c.new-bytes-in-Figure.result.items
+          c.in-Figure.ensures.is c.if-k-registers.false refl c.new-bytes-in-Figure.ensures.items e.place e.lists u.code.items c.put_figure.new.code.items _ e.code u.invariant.code;
+      lists = figure_lists c.args.format.now c.args.registers.now u.bytes.items u.i u.k u.to (lists_of u.lists) c.in-Figure.of r c.in_ok-to-in-Figure.to (lists_of c.put_figure.new.lists) c.new-bytes-in-Figure.result.items
+          c.in-Figure.ensures.is c.if-k-registers.false refl c.new-bytes-in-Figure.ensures.items e.place e.lists _ u.invariant.lists;
+      place = figure_place c.args.format.now c.args.registers.now u.bytes.items u.i u.k u.to (lists_of u.lists) c.in-Figure.of r c.in_ok-to-in-Figure.to (lists_of c.put_figure.new.lists) c.new-bytes-in-Figure.result.items
+          c.in-Figure.ensures.is c.if-k-registers.false refl c.new-bytes-in-Figure.ensures.items e.place e.lists _ u.invariant.place;
     }
 
 pub returns-then-k-registers-clause-code : goal.returns-then-k-registers-clause-code
 returns-then-k-registers-clause-code g c =
     let u = c.units in
-    let same = no_register c.args.format.now c.args.registers.now u.bytes.items u.i u.k u.to (lists_of u.lists) c.in-Number.of c.in-Number.ensures.is c.if-k-registers.true in
+    let same = no_register c.args.format.now c.args.registers.now u.bytes.items u.i u.k u.to (lists_of u.lists) c.in-Figure.of c.in-Figure.ensures.is c.if-k-registers.true in
     subst (λ z. OnOk c.put_text.result (c.put_text.new.code.items ≡ z)) (sym (ap (λ (w : Written). u.code.items ++ w.code) same) ∙ u.invariant.code) c.put_text.ensures.code
 
 pub returns-then-k-registers-clause-lists : goal.returns-then-k-registers-clause-lists
 returns-then-k-registers-clause-lists g c =
     let u = c.units in
-    let same = no_register c.args.format.now c.args.registers.now u.bytes.items u.i u.k u.to (lists_of u.lists) c.in-Number.of c.in-Number.ensures.is c.if-k-registers.true in
+    let same = no_register c.args.format.now c.args.registers.now u.bytes.items u.i u.k u.to (lists_of u.lists) c.in-Figure.of c.in-Figure.ensures.is c.if-k-registers.true in
     subst (λ z. OnOk c.put_text.result (lists_of c.put_text.new.lists ≡ z)) (sym (ap (λ (w : Written). w.lists) same) ∙ u.invariant.lists) c.put_text.ensures.lists
 
 pub returns-then-k-registers-clause-place : goal.returns-then-k-registers-clause-place
 returns-then-k-registers-clause-place g c =
     let u = c.units in
-    let same = no_register c.args.format.now c.args.registers.now u.bytes.items u.i u.k u.to (lists_of u.lists) c.in-Number.of c.in-Number.ensures.is c.if-k-registers.true in
+    let same = no_register c.args.format.now c.args.registers.now u.bytes.items u.i u.k u.to (lists_of u.lists) c.in-Figure.of c.in-Figure.ensures.is c.if-k-registers.true in
     subst (λ z. IfOk c.put_text.result (λ to. to ≡ z)) (sym (ap (λ (w : Written). w.to) same) ∙ u.invariant.place) c.put_text.ensures.place
 
 pub returns-clause-code : goal.returns-clause-code

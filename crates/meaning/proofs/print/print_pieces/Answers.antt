@@ -21,7 +21,7 @@ bytes-preserved-in-Byte g c = record {
 
 pub bytes-preserved : goal.bytes-preserved
 bytes-preserved g c = record {
-  within = c.in-Number.ensures.within;
+  within = c.in-Figure.ensures.within;
   taken = omega (arith, c.bytes.invariant.taken);
-  value = figure_goes c.args.format.now c.args.values.now c.bytes.begun c.bytes.i c.bytes.k (state_in c.bytes.m) (print_pieces (pieces c.args.format.now) c.args.values.now (state_in c.args.m.now)) c.in-Number.t (c.bytes.i + 2) (state_in c.put_figure.new.m) c.bytes.invariant.value c.in-Number.ensures.is (c.in_ok-put_figure-in-Number.ensures tt);
+  value = figure_goes c.args.format.now c.args.values.now c.bytes.begun c.bytes.i c.bytes.k (state_in c.bytes.m) (print_pieces (pieces c.args.format.now) c.args.values.now (state_in c.args.m.now)) c.in-Figure.t (c.bytes.i + 2) (state_in c.put_figure.new.m) c.bytes.invariant.value c.in-Figure.ensures.is (c.in_ok-put_figure-in-Figure.ensures tt);
 }
