@@ -18,7 +18,7 @@ use syntax::tree::Unit;
 use workers::{Ending, Finished, RunMemory, RunReport};
 
 /// What the report of a run of all threads at once shows.
-pub fn shown_at_once(
+pub(crate) fn shown_at_once(
     alloc: Global,
     unit: &Unit,
     threads: u32,

@@ -32,7 +32,7 @@ impl Gate for Open {
 
 /// Why the threads of a source do not run.
 #[derive(Clone, Copy, Debug)]
-pub enum ThreadsFault {
+pub(crate) enum ThreadsFault {
     /// The source is refused.
     Source(SourceFault),
     /// The run is.
@@ -40,7 +40,7 @@ pub enum ThreadsFault {
 }
 
 /// Runs all threads of a source's text at once, each with so many steps at most, and gives what their report shows.
-pub fn run_threads<H: Threads + Wait + Sync>(
+pub(crate) fn run_threads<H: Threads + Wait + Sync>(
     rt: &H,
     alloc: Global,
     text: &str,

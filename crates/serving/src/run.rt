@@ -124,7 +124,7 @@ pub(crate) fn read_accepted<A: Allocator + Copy>(
 }
 
 /// Says of a source's text whether its program is accepted.
-pub fn check_source<A: Allocator + Copy>(alloc: A, text: &str) -> Result<(), SourceFault>
+pub(crate) fn check_source<A: Allocator + Copy>(alloc: A, text: &str) -> Result<(), SourceFault>
     ensures ok { OnOk result (Accepts text.now) }
     ensures err { IfErr result (λ f. IsFaultOfText text.now f) }
 {

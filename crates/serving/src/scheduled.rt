@@ -13,7 +13,7 @@ use std::io::{Read, Write};
 use world::WorldFault;
 
 /// The lines of a schedule, or of a seed. What is wrong with them is told, and the error is then the exit status.
-pub fn lines_of<A: Allocator + Copy, S: Read + Drop, E: Write>(
+pub(crate) fn lines_of<A: Allocator + Copy, S: Read + Drop, E: Write>(
     alloc: A,
     threads: u32,
     steps: &Steps,
@@ -52,7 +52,7 @@ fn lines_read<A: Allocator + Copy, S: Read + Drop, E: Write>(
 }
 
 /// The lines of a seed.
-pub fn lines_picked<A: Allocator + Copy, E: Write>(
+pub(crate) fn lines_picked<A: Allocator + Copy, E: Write>(
     alloc: A,
     seed: u32,
     threads: u32,

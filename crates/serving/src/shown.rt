@@ -16,7 +16,7 @@ use std::alloc::{AllocError, Allocator};
 use syntax::tree::{Global, Item, Unit};
 
 /// What the report of threads in an order shows.
-pub fn shown_in_order<A: Allocator + Copy>(
+pub(crate) fn shown_in_order<A: Allocator + Copy>(
     alloc: A,
     unit: &Unit<A>,
     ran: SourceOutcome<A>,
@@ -71,7 +71,7 @@ fn end_in_order(end: ThreadEnd) -> End
 }
 
 /// The globals of a program, with the words of their cells.
-pub fn globals_shown<A: Allocator + Copy>(
+pub(crate) fn globals_shown<A: Allocator + Copy>(
     alloc: A,
     unit: &Unit<A>,
     words: &[u64],

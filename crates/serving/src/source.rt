@@ -13,7 +13,7 @@ const BEYOND_MOST_BYTES: u64 = MOST_BYTES as u64 + 1;
 
 /// What a file holds.
 #[derive(Debug, Drop)]
-pub enum Source<A: Allocator> {
+pub(crate) enum Source<A: Allocator> {
     Text(String<A>),
     NotText,
     TooLong,
@@ -39,7 +39,10 @@ fn source_of<A: Allocator>(bytes: Vec<u8, A>) -> Source<A>
 }
 
 /// Reads a source: all of it, where it is a text.
-pub fn read_source<A: Allocator, R: Read + Drop>(alloc: A, source: R) -> io::Result<Source<A>>
+pub(crate) fn read_source<A: Allocator, R: Read + Drop>(
+    alloc: A,
+    source: R,
+) -> io::Result<Source<A>>
     ensures { IfOk result (λ s. IfSome (R.remaining source) (λ bytes. IsTextOf bytes s)) }
 {
     let bytes = read_bytes(alloc, source)?;
@@ -51,7 +54,7 @@ pub fn read_source<A: Allocator, R: Read + Drop>(alloc: A, source: R) -> io::Res
 }
 
 /// Reads a text to its end. There is none where the bytes are not UTF-8.
-pub fn read_text<A: Allocator, R: Read + Drop>(
+pub(crate) fn read_text<A: Allocator, R: Read + Drop>(
     alloc: A,
     mut reader: R,
 ) -> io::Result<Option<String<A>>>

@@ -9,19 +9,19 @@ use report::{End, Printed, ThreadShown};
 use std::alloc::Allocator;
 
 /// The exit status where all is well: threads ended, a source is accepted, help was told.
-pub const ENDED: u8 = 0;
+pub(crate) const ENDED: u8 = 0;
 
 /// The exit status where the source is refused.
-pub const REFUSED: u8 = 1;
+pub(crate) const REFUSED: u8 = 1;
 
 /// The exit status where the words or a file are of no use.
-pub const UNUSABLE: u8 = 2;
+pub(crate) const UNUSABLE: u8 = 2;
 
 /// The exit status where a thread trapped.
-pub const TRAPPED: u8 = 3;
+pub(crate) const TRAPPED: u8 = 3;
 
 /// The exit status where the program could not do its work: memory or output was refused, or a thread went no further.
-pub const STOPPED: u8 = 4;
+pub(crate) const STOPPED: u8 = 4;
 
 /// Whether a thread has neither ended nor trapped.
 fn is_stopped(end: End) -> bool
@@ -52,7 +52,7 @@ fn has_trapped<A: Allocator>(threads: &[ThreadShown<A>]) -> bool
 }
 
 /// The exit status where a report was printed: by the ends of its threads.
-pub fn status_of<A: Allocator>(printed: &Printed<A>) -> u8
+pub(crate) fn status_of<A: Allocator>(printed: &Printed<A>) -> u8
     ensures { result ≡ exit_status (printed_of printed.now) }
 {
     if has_stopped(printed.threads.as_slice()) {

@@ -47,7 +47,7 @@ pub fn tell_usage<W: Write, E: Write>(fault: &UsageFault, out: &mut W, err: &mut
 }
 
 /// Says why a source is refused.
-pub fn refuse<A: Allocator + Copy, E: Write>(
+pub(crate) fn refuse<A: Allocator + Copy, E: Write>(
     alloc: A,
     text: &str,
     fault: SourceFault,
@@ -85,7 +85,7 @@ fn show_line<A: Allocator + Copy, E: Write>(alloc: A, text: &str, span: Span, er
 }
 
 /// Says that memory was refused.
-pub fn out_of_memory<E: Write>(err: &mut E) -> u8
+pub(crate) fn out_of_memory<E: Write>(err: &mut E) -> u8
     ensures { result ≡ 4 }
 {
     let _ = writeln!(err, "txc: out of memory");
@@ -93,7 +93,7 @@ pub fn out_of_memory<E: Write>(err: &mut E) -> u8
 }
 
 /// Says that the output was refused.
-pub fn cannot_write<E: Write>(err: &mut E) -> u8
+pub(crate) fn cannot_write<E: Write>(err: &mut E) -> u8
     ensures { result ≡ 4 }
 {
     let _ = writeln!(err, "txc: cannot write");
@@ -113,7 +113,7 @@ pub fn cannot_read<E: Write>(file: &str, error: &io::Error, detail: Detail, err:
 }
 
 /// Says why a file's text was not read: memory was refused, or the file cannot be read.
-pub fn not_read<E: Write>(file: &str, error: &io::Error, detail: Detail, err: &mut E) -> u8
+pub(crate) fn not_read<E: Write>(file: &str, error: &io::Error, detail: Detail, err: &mut E) -> u8
     ensures { (result ≡ 2) ⊎ (result ≡ 4) }
 {
     match error.kind() {
@@ -123,7 +123,7 @@ pub fn not_read<E: Write>(file: &str, error: &io::Error, detail: Detail, err: &m
 }
 
 /// Says that a file's text is not UTF-8.
-pub fn not_text<E: Write>(file: &str, err: &mut E) -> u8
+pub(crate) fn not_text<E: Write>(file: &str, err: &mut E) -> u8
     ensures { result ≡ 2 }
 {
     let _ = writeln!(err, "txc: {file} is not UTF-8");
@@ -131,7 +131,7 @@ pub fn not_text<E: Write>(file: &str, err: &mut E) -> u8
 }
 
 /// Says that a source has too many bytes.
-pub fn too_long<E: Write>(err: &mut E) -> u8
+pub(crate) fn too_long<E: Write>(err: &mut E) -> u8
     ensures { result ≡ 1 }
 {
     let _ = writeln!(err, "txc: fault 05 at 1:1: {}", words(5));
@@ -139,7 +139,7 @@ pub fn too_long<E: Write>(err: &mut E) -> u8
 }
 
 /// Says why threads were not run.
-pub fn refuse_run<E: Write>(fault: RunFault, err: &mut E) -> u8
+pub(crate) fn refuse_run<E: Write>(fault: RunFault, err: &mut E) -> u8
     ensures { result ≡ 4 }
 {
     let number = match fault {
@@ -152,7 +152,7 @@ pub fn refuse_run<E: Write>(fault: RunFault, err: &mut E) -> u8
 }
 
 /// Says why nothing was replayed.
-pub fn refuse_replay<E: Write>(fault: WorldFault, err: &mut E) -> u8
+pub(crate) fn refuse_replay<E: Write>(fault: WorldFault, err: &mut E) -> u8
     ensures { result ≡ 4 }
 {
     match fault {
@@ -165,7 +165,7 @@ pub fn refuse_replay<E: Write>(fault: WorldFault, err: &mut E) -> u8
 }
 
 /// Says that a step was not made, where that is of a thread that there is not. A report tells the other reasons.
-pub fn refuse_step<E: Write>(stop: WorldStop, err: &mut E) -> u8
+pub(crate) fn refuse_step<E: Write>(stop: WorldStop, err: &mut E) -> u8
     ensures { result ≡ 4 }
 {
     if stop.reason == StopReason::Stranger {
@@ -175,7 +175,7 @@ pub fn refuse_step<E: Write>(stop: WorldStop, err: &mut E) -> u8
 }
 
 /// Says why a schedule is refused.
-pub fn refuse_schedule<A: Allocator + Copy, E: Write>(
+pub(crate) fn refuse_schedule<A: Allocator + Copy, E: Write>(
     alloc: A,
     text: &str,
     fault: ScheduleFault,
@@ -219,7 +219,7 @@ fn span_of_line(text: &[u8], line: usize) -> Span {
 }
 
 /// Says why an order is refused.
-pub fn refuse_order<E: Write>(fault: MeaningFault, err: &mut E) -> u8
+pub(crate) fn refuse_order<E: Write>(fault: MeaningFault, err: &mut E) -> u8
     ensures { (result ≡ 2) ⊎ (result ≡ 4) }
 {
     match fault {
@@ -232,7 +232,7 @@ pub fn refuse_order<E: Write>(fault: MeaningFault, err: &mut E) -> u8
 }
 
 /// Says that words are of no use.
-pub fn unusable<E: Write>(why: &str, err: &mut E) -> u8
+pub(crate) fn unusable<E: Write>(why: &str, err: &mut E) -> u8
     ensures { result ≡ 2 }
 {
     let _ = writeln!(err, "txc: usage: {why}");
@@ -240,7 +240,7 @@ pub fn unusable<E: Write>(why: &str, err: &mut E) -> u8
 }
 
 /// Writes a text and flushes the writer.
-pub fn print<W: Write>(text: &[u8], out: &mut W) -> io::Result<()>
+pub(crate) fn print<W: Write>(text: &[u8], out: &mut W) -> io::Result<()>
     ensures { OnOk result (Appends (W.contents out.old) (W.contents out.new) text.now) }
 {
     out.write_all(text)?;
