@@ -4,7 +4,7 @@ use Rattle.command.specs.declared.request.Request.{Request}
 use Rattle.command.specs.declared.request.Request.TheVariants.{Program, Explain}
 use Rattle.command.specs.declared.request.Task.{Task}
 use Rattle.command.specs.declared.request.Task.TheVariants.{Check, Listing, Run, Replay, Timeline, PrintSchedule, Source}
-use Rattle.serving.specs.Runs.{Prints, PrintsListing, RunsAtOnce, RunsInOrder, SaysAccepted}
+use Rattle.serving.specs.Runs.{PrintsListing, PrintsReport, RunsAtOnce, RunsInOrder, SaysAccepted}
 use Rattle.serving.specs.Replays.{PrintsSchedule, PrintsTimeline, Replays, ReplaysShown, lines_of_seed}
 
 -- a task with a text: the bytes that the writer had, if they are known, and those that it has then; a replay may have a
@@ -13,15 +13,15 @@ abbrev pub Answers : Task → (schedule : Option (List ℕ)) → (text : List �
     (old new : Option (List ℕ)) → Type 0
 Answers Check schedule text status old new = SaysAccepted text status old new
 Answers Listing schedule text status old new = PrintsListing text status old new
-Answers (Run threads budget) schedule text status old new = Prints (RunsAtOnce threads budget text) status old new
+Answers (Run threads budget) schedule text status old new = PrintsReport (RunsAtOnce threads budget text) status old new
 Answers (Replay threads steps) schedule text status old new =
-    Prints (Replays threads steps schedule text) status old new
+    PrintsReport (Replays threads steps schedule text) status old new
 Answers (Timeline threads steps) schedule text status old new =
     PrintsTimeline (ReplaysShown threads steps schedule text) status old new
 Answers (PrintSchedule threads seed count) schedule text status old new =
     PrintsSchedule (lines_of_seed seed threads count) text status old new
 Answers (Source threads order ticks) schedule text status old new =
-    Prints (RunsInOrder threads ticks order.items text) status old new
+    PrintsReport (RunsInOrder threads ticks order.items text) status old new
 
 -- a request, where these bytes are those of the file
 abbrev pub AnswersRequest : Request → (schedule : Option (List ℕ)) → (bytes : List ℕ) → (status : ℕ) →

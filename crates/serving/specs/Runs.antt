@@ -203,8 +203,8 @@ exit_status shown =
 
 -- the status tells of a report of something that is so: the bytes that the writer had, if they are known, and then the
 -- report
-abbrev pub Prints : (Printed → Type 0) → ℕ → Option (List ℕ) → Option (List ℕ) → Type 0
-Prints IsSo status old new = (status ≡ 0) ⊎ (status ≡ 3) →
+abbrev pub PrintsReport : (Printed → Type 0) → ℕ → Option (List ℕ) → Option (List ℕ) → Type 0
+PrintsReport IsSo status old new = (status ≡ 0) ⊎ (status ≡ 3) →
     (shown : Printed) × IsSo shown × (status ≡ exit_status shown) × Appends old new (report_text shown)
 
 -- the status 0 tells of a source that is accepted, and that this was written

@@ -7,7 +7,7 @@ ghost use Rattle.replay.specs.Replays.{played, timeline_of};
 ghost use Rattle.report.specs.Timeline.{timeline_text};
 ghost use Rattle.report.specs.Views.{printed_of};
 ghost use Rattle.serving.specs.Replays.{IsReplayOfText, PrintsSchedule, PrintsTimeline, Replays, ReplaysShown, lines_of_seed};
-ghost use Rattle.serving.specs.Runs.{IsRefused, Prints, PrintsListing, RunsAtOnce, RunsInOrder, SaysAccepted};
+ghost use Rattle.serving.specs.Runs.{IsRefused, PrintsListing, PrintsReport, RunsAtOnce, RunsInOrder, SaysAccepted};
 ghost use Rattle.serving.specs.inner.Printing.{PrintsBehind, PrintsShown};
 
 use crate::compiled::{Compiled, compile};
@@ -174,7 +174,7 @@ fn run<H: Threads + Wait + Sync, W: Write, E: Write>(
     err: &mut E,
 ) -> u8
     ensures status { result ≤ 4 }
-    ensures report { Prints (RunsAtOnce threads budget text.now) result (W.contents out.old) (W.contents out.new) }
+    ensures report { PrintsReport (RunsAtOnce threads budget text.now) result (W.contents out.old) (W.contents out.new) }
     ensures refused { result ≡ 1 → IsRefused text.now }
 {
     match run_threads(rt, alloc, text, threads, budget) {
@@ -196,7 +196,7 @@ fn replay_source<A: Allocator + Copy, S: Read + Drop, W: Write, E: Write>(
     err: &mut E,
 ) -> u8
     ensures status { result ≤ 4 }
-    ensures report { Prints (Replays threads steps.now (S.remaining schedule) text.now) result (W.contents out.old) (W.contents out.new) }
+    ensures report { PrintsReport (Replays threads steps.now (S.remaining schedule) text.now) result (W.contents out.old) (W.contents out.new) }
     ensures refused { result ≡ 1 → IsRefused text.now }
 {
     match replay_text(alloc, text, threads, steps, schedule, detail, err) {
@@ -310,7 +310,7 @@ fn in_order<A: Allocator + Copy, W: Write, E: Write>(
     err: &mut E,
 ) -> u8
     ensures status { result ≤ 4 }
-    ensures report { Prints (RunsInOrder threads ticks order.now text.now) result (W.contents out.old) (W.contents out.new) }
+    ensures report { PrintsReport (RunsInOrder threads ticks order.now text.now) result (W.contents out.old) (W.contents out.new) }
     ensures refused { result ≡ 1 → IsRefused text.now }
 {
     match run_in_order(alloc, text, threads, order, ticks) {
