@@ -3,11 +3,9 @@
 ghost use Rattle.workers.specs.Workers.{AreWorkersOf, IsWorkerOf};
 
 use crate::hall::{Row, are_turns, leaves, opened, put, take};
-use crate::programs::PRINTS;
+use crate::programs::{code_of, prints};
 use bytecode::Code;
-use lower_tests::accepted::code_of;
 use std::alloc::Global;
-use std::test::Fail;
 use workers::{CloseFault, CloseReason, Hall, Status, Worker};
 
 // Worker 0 up to its won swap, a step at a time, and a thousand steps of worker 1, which waits for the lock in vain.
@@ -122,12 +120,15 @@ fn is_kept_open(alloc: Global, code: &Code) -> bool {
     }
 }
 
+// Both of a code.
+fn is_closed_in_the_end(alloc: Global) -> bool {
+    match code_of(alloc, prints()) {
+        Some(code) => closes_at_last(alloc, &code) && is_kept_open(alloc, &code),
+        None => false,
+    }
+}
+
 #[test]
-fn one_has_the_lock(rt: HostRuntime) -> Result<(), Fail> {
-    let Ok(code) = code_of(rt.alloc(), PRINTS) else {
-        panic!(rt; "no code")
-    };
-    assert!(rt; closes_at_last(rt.alloc(), &code));
-    assert!(rt; is_kept_open(rt.alloc(), &code));
-    Ok(())
+fn one_has_the_lock(rt: HostRuntime) {
+    assert!(rt; is_closed_in_the_end(rt.alloc()));
 }

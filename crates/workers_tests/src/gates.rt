@@ -1,13 +1,11 @@
 //! Gates that hold threads back.
 
-use crate::programs::{ADDS, LOOKS, NOTHING};
+use crate::programs::{adds, code_of, looks, nothing};
 use crate::reports::{all_ended, found, leaves};
 use bytecode::Code;
-use lower_tests::accepted::code_of;
 use std::alloc::Global;
 use std::sync::Wait;
 use std::sync::atomic::{AtomicBool, Ordering};
-use std::test::Fail;
 use std::thread;
 use std::thread::Threads;
 use syntax::numbers::Status;
@@ -87,18 +85,21 @@ fn adds_late<R: Threads + Wait + Sync>(
     }
 }
 
+// The same of either.
+fn either_adds_late<R: Threads + Wait + Sync>(rt: &R, alloc: Global) -> bool {
+    match code_of(alloc, adds()) {
+        Some(code) => adds_late(rt, alloc, &code, 0, 1) && adds_late(rt, alloc, &code, 1, 0),
+        None => false,
+    }
+}
+
 #[test]
-fn one_is_held_while_the_other_adds(rt: HostRuntime) -> Result<(), Fail> {
-    let Ok(code) = code_of(rt.alloc(), ADDS) else {
-        panic!(rt; "no code")
-    };
-    assert!(rt; adds_late(&rt, rt.alloc(), &code, 0, 1));
-    assert!(rt; adds_late(&rt, rt.alloc(), &code, 1, 0));
-    Ok(())
+fn one_is_held_while_the_other_adds(rt: HostRuntime) {
+    assert!(rt; either_adds_late(&rt, rt.alloc()));
 }
 
 // Thread 1 is held at its beginning until thread 0 has ended, and reads what that one wrote.
-fn reads_late<R: Threads + Wait + Sync>(rt: &R, alloc: Global, code: &Code) -> bool {
+fn code_reads_late<R: Threads + Wait + Sync>(rt: &R, alloc: Global, code: &Code) -> bool {
     match run_all(rt, alloc, code, 2, 1000, &made_until(1, 0, 0)) {
         Ok(report) => {
             let right = all_ended(&report, 2) && leaves(&report, 2);
@@ -108,13 +109,16 @@ fn reads_late<R: Threads + Wait + Sync>(rt: &R, alloc: Global, code: &Code) -> b
     }
 }
 
+fn reads_late<R: Threads + Wait + Sync>(rt: &R, alloc: Global) -> bool {
+    match code_of(alloc, looks()) {
+        Some(code) => code_reads_late(rt, alloc, &code),
+        None => false,
+    }
+}
+
 #[test]
-fn what_one_wrote_the_next_reads(rt: HostRuntime) -> Result<(), Fail> {
-    let Ok(code) = code_of(rt.alloc(), LOOKS) else {
-        panic!(rt; "no code")
-    };
-    assert!(rt; reads_late(&rt, rt.alloc(), &code));
-    Ok(())
+fn what_one_wrote_the_next_reads(rt: HostRuntime) {
+    assert!(rt; reads_late(&rt, rt.alloc()));
 }
 
 // Always holds.
@@ -134,20 +138,23 @@ impl Gate for Always {
 }
 
 // Whether thread 0 is held to the end of the gate's patience, and then ends.
-fn is_overheld<R: Threads + Wait + Sync>(rt: &R, alloc: Global, code: &Code) -> bool {
+fn code_is_overheld<R: Threads + Wait + Sync>(rt: &R, alloc: Global, code: &Code) -> bool {
     match run_all(rt, alloc, code, 1, 1000, &Always) {
         Ok(report) => report.overheld.as_slice() == [0u32].as_slice() && all_ended(&report, 1),
         Err(_) => false,
     }
 }
 
+fn is_overheld<R: Threads + Wait + Sync>(rt: &R, alloc: Global) -> bool {
+    match code_of(alloc, nothing()) {
+        Some(code) => code_is_overheld(rt, alloc, &code),
+        None => false,
+    }
+}
+
 #[test]
-fn a_gate_that_always_holds_is_left_behind(rt: HostRuntime) -> Result<(), Fail> {
-    let Ok(code) = code_of(rt.alloc(), NOTHING) else {
-        panic!(rt; "no code")
-    };
-    assert!(rt; is_overheld(&rt, rt.alloc(), &code));
-    Ok(())
+fn a_gate_that_always_holds_is_left_behind(rt: HostRuntime) {
+    assert!(rt; is_overheld(&rt, rt.alloc()));
 }
 
 // Two threads look at their first questions for each other's.
@@ -184,7 +191,7 @@ impl Gate for Meeting {
 }
 
 // Whether two threads add, and both saw each other at their first questions.
-fn meet_at_once<R: Threads + Wait + Sync>(rt: &R, alloc: Global, code: &Code) -> bool {
+fn code_meets_at_once<R: Threads + Wait + Sync>(rt: &R, alloc: Global, code: &Code) -> bool {
     let gate = Meeting {
         first: AtomicBool::new(false),
         second: AtomicBool::new(false),
@@ -200,11 +207,14 @@ fn meet_at_once<R: Threads + Wait + Sync>(rt: &R, alloc: Global, code: &Code) ->
     right && first && second
 }
 
+fn meet_at_once<R: Threads + Wait + Sync>(rt: &R, alloc: Global) -> bool {
+    match code_of(alloc, adds()) {
+        Some(code) => code_meets_at_once(rt, alloc, &code),
+        None => false,
+    }
+}
+
 #[test]
-fn two_threads_run_at_one_time(rt: HostRuntime) -> Result<(), Fail> {
-    let Ok(code) = code_of(rt.alloc(), ADDS) else {
-        panic!(rt; "no code")
-    };
-    assert!(rt; meet_at_once(&rt, rt.alloc(), &code));
-    Ok(())
+fn two_threads_run_at_one_time(rt: HostRuntime) {
+    assert!(rt; meet_at_once(&rt, rt.alloc()));
 }

@@ -4,9 +4,8 @@ ghost use Rattle.std.specs.Prelude.{IfSome};
 ghost use Rattle.workers.specs.Workers.{AreWorkersOf, IsWorkerOf};
 
 use crate::hall::{Left, is_left, leaves, opened, put_both, run, take};
-use crate::programs::LOOKS;
+use crate::programs::{code_of, looks};
 use bytecode::Code;
-use lower_tests::accepted::code_of;
 use norec_core::Stop;
 use refusing::Refusing;
 use std::alloc::{Allocator, Global};
@@ -113,13 +112,13 @@ fn goes_on<A: Allocator + Copy>(alloc: A, code: &Code<A>) -> bool {
 // Whether growth number `nth` was there to be refused, where all went on.
 fn tried(inner: Global, nth: u64) -> Option<bool> {
     let alloc = Refusing::new(inner, 0);
-    match code_of(&alloc, LOOKS) {
-        Ok(code) => {
+    match code_of(&alloc, looks()) {
+        Some(code) => {
             alloc.refuse(nth);
             let right = goes_on(&alloc, &code);
             right.then_some(!alloc.is_waiting())
         }
-        Err(_) => None,
+        None => None,
     }
 }
 

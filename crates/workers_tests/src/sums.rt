@@ -1,12 +1,10 @@
 //! Many threads, and a gate that never holds: no addition is lost, and each run ends as it should.
 
-use crate::programs::{DIVIDES, PRINTS};
+use crate::programs::{adds_often, code_of, divides, prints};
 use crate::reports::{all_ended, found, leaves};
 use bytecode::Code;
-use lower_tests::accepted::code_of;
-use std::alloc::{AllocError, Global};
+use std::alloc::Global;
 use std::sync::Wait;
-use std::test::Fail;
 use std::thread::Threads;
 use syntax::numbers::{Status, Trap};
 use workers::{Gate, RunFault, RunMemory, run_all};
@@ -26,13 +24,6 @@ impl Gate for Never {
     fn ended(&self, thread: u32) {
         let _ = thread;
     }
-}
-
-// A program whose threads each add one so often.
-fn adds(alloc: Global, times: u32) -> Result<String, AllocError> {
-    format!(in alloc;
-        "int x; void worker(int self) {{ int i; for (i = 0; i < {times}; i++) {{ __transaction_atomic {{ x = x + 1; }} }} }}"
-    )
 }
 
 // Whether all threads end, and leave this sum.
@@ -57,41 +48,29 @@ fn adds_up<R: Threads + Wait + Sync>(
     times: u32,
     sum: u64,
 ) -> bool {
-    let Ok(text) = adds(alloc, times) else {
-        return false;
-    };
-    match code_of(alloc, text.as_str()) {
-        Ok(code) => sums_up(
-            rt,
-            alloc,
-            &code,
-            threads,
-            u64::from(threads) * u64::from(times),
-        ),
-        Err(_) => false,
+    match code_of(alloc, (4, 0, &adds_often(times))) {
+        Some(code) => sums_up(rt, alloc, &code, threads, sum),
+        None => false,
     }
 }
 
 // A million commits in all tests together.
 #[test]
-fn no_addition_of_two_threads_is_lost(rt: HostRuntime) -> Result<(), Fail> {
+fn no_addition_of_two_threads_is_lost(rt: HostRuntime) {
     assert!(rt; adds_up(&rt, rt.alloc(), 2, 200_000, 400_000));
-    Ok(())
 }
 
 #[test]
-fn no_addition_of_four_threads_is_lost(rt: HostRuntime) -> Result<(), Fail> {
+fn no_addition_of_four_threads_is_lost(rt: HostRuntime) {
     assert!(rt; adds_up(&rt, rt.alloc(), 4, 100_000, 400_000));
-    Ok(())
 }
 
 #[test]
-fn no_addition_of_8_to_64_threads_is_lost(rt: HostRuntime) -> Result<(), Fail> {
+fn no_addition_of_8_to_64_threads_is_lost(rt: HostRuntime) {
     assert!(rt; adds_up(&rt, rt.alloc(), 8, 15_000, 120_000));
     assert!(rt; adds_up(&rt, rt.alloc(), 16, 3_000, 48_000));
     assert!(rt; adds_up(&rt, rt.alloc(), 32, 600, 19_200));
     assert!(rt; adds_up(&rt, rt.alloc(), 64, 200, 12_800));
-    Ok(())
 }
 
 // Whether two threads without a step leave all as it was.
@@ -117,14 +96,17 @@ fn keeps_the_lock<R: Threads + Wait + Sync>(rt: &R, alloc: Global, code: &Code) 
     }
 }
 
+// Whether runs of both are cut so.
+fn are_cut<R: Threads + Wait + Sync>(rt: &R, alloc: Global) -> bool {
+    match code_of(alloc, prints()) {
+        Some(code) => makes_no_step(rt, alloc, &code) && keeps_the_lock(rt, alloc, &code),
+        None => false,
+    }
+}
+
 #[test]
-fn a_run_is_cut_by_its_budget(rt: HostRuntime) -> Result<(), Fail> {
-    let Ok(code) = code_of(rt.alloc(), PRINTS) else {
-        panic!(rt; "no code")
-    };
-    assert!(rt; makes_no_step(&rt, rt.alloc(), &code));
-    assert!(rt; keeps_the_lock(&rt, rt.alloc(), &code));
-    Ok(())
+fn a_run_is_cut_by_its_budget(rt: HostRuntime) {
+    assert!(rt; are_cut(&rt, rt.alloc()));
 }
 
 // Whether thread 0 traps, and thread 1 ends and leaves 1.
@@ -148,13 +130,18 @@ fn are_refused<R: Threads + Wait + Sync>(rt: &R, alloc: Global, code: &Code, thr
     }
 }
 
+// Whether one of two threads traps, and no thread and 65 of them are refused.
+fn two_may_run<R: Threads + Wait + Sync>(rt: &R, alloc: Global) -> bool {
+    match code_of(alloc, divides()) {
+        Some(code) => {
+            let run = one_traps(rt, alloc, &code);
+            run && are_refused(rt, alloc, &code, 0) && are_refused(rt, alloc, &code, 65)
+        }
+        None => false,
+    }
+}
+
 #[test]
-fn one_traps_and_one_ends(rt: HostRuntime) -> Result<(), Fail> {
-    let Ok(code) = code_of(rt.alloc(), DIVIDES) else {
-        panic!(rt; "no code")
-    };
-    assert!(rt; one_traps(&rt, rt.alloc(), &code));
-    assert!(rt; are_refused(&rt, rt.alloc(), &code, 0));
-    assert!(rt; are_refused(&rt, rt.alloc(), &code, 65));
-    Ok(())
+fn one_traps_and_one_ends(rt: HostRuntime) {
+    assert!(rt; two_may_run(&rt, rt.alloc()));
 }

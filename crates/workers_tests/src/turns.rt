@@ -3,11 +3,9 @@
 ghost use Rattle.workers.specs.Workers.{AreWorkersOf, IsWorkerOf};
 
 use crate::hall::{are_turns, leaves, meet, opened, step_in_each, take};
-use crate::programs::{ADDS, DIVIDES, LOOKS};
+use crate::programs::{adds, code_of, divides, looks};
 use bytecode::Code;
-use lower_tests::accepted::code_of;
 use std::alloc::Global;
-use std::test::Fail;
 use syntax::numbers::Trap;
 use workers::{Hall, HallFault, Status, Worker};
 
@@ -37,18 +35,21 @@ fn reads_it(alloc: Global, code: &Code, meets: bool) -> bool {
     }
 }
 
+// The same, whether they meet or not.
+fn reads_it_anyhow(alloc: Global) -> bool {
+    match code_of(alloc, looks()) {
+        Some(code) => reads_it(alloc, &code, false) && reads_it(alloc, &code, true),
+        None => false,
+    }
+}
+
 #[test]
-fn what_one_wrote_the_next_reads(rt: HostRuntime) -> Result<(), Fail> {
-    let Ok(code) = code_of(rt.alloc(), LOOKS) else {
-        panic!(rt; "no code")
-    };
-    assert!(rt; reads_it(rt.alloc(), &code, false));
-    assert!(rt; reads_it(rt.alloc(), &code, true));
-    Ok(())
+fn what_one_wrote_the_next_reads(rt: HostRuntime) {
+    assert!(rt; reads_it_anyhow(rt.alloc()));
 }
 
 // Worker 0 traps, and stays there.
-fn traps(alloc: Global, code: &Code) -> bool {
+fn code_traps(alloc: Global, code: &Code) -> bool {
     match opened(alloc, code) {
         Ok((hall, mut workers)) => {
             let trapped = Status::Trapped(Trap::ZeroDivisor);
@@ -62,13 +63,16 @@ fn traps(alloc: Global, code: &Code) -> bool {
     }
 }
 
+fn traps(alloc: Global) -> bool {
+    match code_of(alloc, divides()) {
+        Some(code) => code_traps(alloc, &code),
+        None => false,
+    }
+}
+
 #[test]
-fn a_trap_is_told(rt: HostRuntime) -> Result<(), Fail> {
-    let Ok(code) = code_of(rt.alloc(), DIVIDES) else {
-        panic!(rt; "no code")
-    };
-    assert!(rt; traps(rt.alloc(), &code));
-    Ok(())
+fn a_trap_is_told(rt: HostRuntime) {
+    assert!(rt; traps(rt.alloc()));
 }
 
 // A worker of this hall, and one of another.
@@ -117,13 +121,18 @@ fn is_refused(alloc: Global, code: &Code, threads: u32) -> bool {
     }
 }
 
+// Whether two halls are opened, and none of 65 threads and none of no thread.
+fn are_opened(alloc: Global) -> bool {
+    match code_of(alloc, adds()) {
+        Some(code) => {
+            let two = are_two(alloc, &code);
+            two && is_refused(alloc, &code, 65) && is_refused(alloc, &code, 0)
+        }
+        None => false,
+    }
+}
+
 #[test]
-fn halls_are_opened(rt: HostRuntime) -> Result<(), Fail> {
-    let Ok(code) = code_of(rt.alloc(), ADDS) else {
-        panic!(rt; "no code")
-    };
-    assert!(rt; are_two(rt.alloc(), &code));
-    assert!(rt; is_refused(rt.alloc(), &code, 65));
-    assert!(rt; is_refused(rt.alloc(), &code, 0));
-    Ok(())
+fn halls_are_opened(rt: HostRuntime) {
+    assert!(rt; are_opened(rt.alloc()));
 }
