@@ -1,7 +1,8 @@
 //! Tests of `lower`, in a crate of their own: a crate with tests is proved twice.
 #![tactic(auto)]
 
-pub mod accepted;
+#[cfg(test)]
+mod accepted;
 #[cfg(test)]
 mod examples;
 #[cfg(test)]
