@@ -1,7 +1,9 @@
 //! How deep a program may be, and how long.
 
 use crate::parsed::{body_of, fault_of, unit_of};
-use lex::token::Span;
+use lex::lex;
+use lex::token::{Span, Token};
+use parse::parse;
 use std::alloc::{AllocError, Allocator};
 use std::test::Fail;
 
@@ -151,30 +153,29 @@ fn a_block_may_be_long(rt: HostRuntime) -> Result<(), Fail> {
 }
 
 /// One part of a program that may stand in it as often as a text has room for: what stands before and behind it, and how
-/// often it is tried. (A text has 1 MiB at most, and so no room for 100,000 attributes.)
-const LONG: [(&str, &str, usize, &str); 8] = [
-    // statements
-    ("void worker(int self) { ", ";", 100000, "}"),
-    // arguments of a call
-    ("void worker(int self) { f(1", ",1", 100000, "); }"),
-    // declarators of a declaration
-    ("void worker(int self) { int a", ",a", 100000, "; }"),
-    // first values of an array
-    ("int a[1] = {1", ",1", 100000, "};"),
-    // attributes
-    (
-        "[[transaction_safe",
-        ",transaction_safe",
-        60000,
-        "]] void f(void);",
-    ),
-    // parameters
-    ("void f(int", ",int", 100000, ");"),
-    // globals of a declaration
-    ("int a", ",a", 100000, ";"),
-    // items
-    ("", "int a;", 100000, ""),
-];
+/// often it is tried.
+type Part = (&'static str, &'static str, usize, &'static str);
+
+/// The rows stand in a function, so that no proof but its own looks at them.
+fn long() -> &'static [Part] {
+    static ROWS: [Part; 7] = [
+        // statements
+        ("void worker(int self) { ", ";", 100000, "}"),
+        // arguments of a call
+        ("void worker(int self) { f(1", ",1", 100000, "); }"),
+        // declarators of a declaration
+        ("void worker(int self) { int a", ",a", 100000, "; }"),
+        // first values of an array
+        ("int a[1] = {1", ",1", 100000, "};"),
+        // parameters
+        ("void f(int", ",int", 100000, ");"),
+        // globals of a declaration
+        ("int a", ",a", 100000, ";"),
+        // items
+        ("", "int a;", 100000, ""),
+    ];
+    &ROWS
+}
 
 // Whether such a text has no fault.
 fn is_accepted<A: Allocator + Copy>(
@@ -192,8 +193,51 @@ fn is_accepted<A: Allocator + Copy>(
 
 #[test]
 fn no_list_is_too_long(rt: HostRuntime) -> Result<(), Fail> {
-    for (before, one, times, after) in LONG {
+    for row in long() {
+        let (before, one, times, after) = *row;
         assert!(rt; is_accepted(rt.alloc(), before, one, times, after), "{one}");
     }
     Ok(())
+}
+
+// Appends the tokens of a text so many times, which stand where they do in it.
+fn push_tokens<'a, A: Allocator + Copy>(
+    alloc: A,
+    to: &mut Vec<Token<'a>, A>,
+    text: &'a str,
+    times: usize,
+) -> Result<(), AllocError> {
+    let Ok(tokens) = lex(alloc, text) else {
+        return Err(AllocError);
+    };
+    for _ in 0..times {
+        to.extend_from_slice(tokens.as_slice())?;
+    }
+    Ok(())
+}
+
+// The tokens of a function's head with so many attributes and one more.
+fn with_attributes<'a, A: Allocator + Copy>(
+    alloc: A,
+    times: usize,
+) -> Result<Vec<Token<'a>, A>, AllocError> {
+    let mut tokens = Vec::new(alloc);
+    push_tokens(alloc, &mut tokens, "[[transaction_safe", 1)?;
+    push_tokens(alloc, &mut tokens, ",transaction_safe", times)?;
+    push_tokens(alloc, &mut tokens, "]] void f(void);", 1)?;
+    Ok(tokens)
+}
+
+// Whether such tokens have no fault.
+fn are_accepted<A: Allocator + Copy>(alloc: A, times: usize) -> bool {
+    match with_attributes(alloc, times) {
+        Ok(tokens) => parse(alloc, tokens.as_slice()).is_ok(),
+        Err(_) => false,
+    }
+}
+
+/// More attributes than a text has room for.
+#[test]
+fn no_list_of_attributes_is_too_long(rt: HostRuntime) {
+    assert!(rt; are_accepted(rt.alloc(), 100_000));
 }

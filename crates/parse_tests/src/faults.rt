@@ -2,49 +2,59 @@
 
 use crate::parsed::fault_of;
 use lex::token::Span;
-use std::test::Fail;
+use std::alloc::Allocator;
 
 /// A source, its fault's number, and the bytes that it names.
-const ROWS: [(&str, u32, usize, usize); 30] = [
-    // what stands where no program goes on
-    ("int x = ;", 10, 8, 9),
-    ("int = 3;", 10, 4, 5),
-    ("int x; }", 10, 7, 8),
-    ("int x = 1 + 1;", 10, 10, 11),
-    ("int a[] = {1};", 10, 6, 7),
-    ("int a[1] = {};", 10, 12, 13),
-    ("int a[1] = {1,,};", 10, 14, 15),
-    ("int a[1] = 1;", 10, 11, 12),
-    ("void x;", 10, 6, 7),
-    ("signed unsigned x;", 10, 7, 15),
-    ("[[transaction_safe]] int x;", 10, 26, 27),
-    ("[[unknown]] void f(void);", 10, 2, 9),
-    ("[[]] void f(void);", 10, 2, 3),
-    ("void f(int) { }", 10, 12, 13),
-    ("void f(int a,) { }", 10, 13, 14),
-    ("void f(void a);", 10, 12, 13),
-    ("void f(void) { else ; }", 10, 15, 19),
-    ("void f(void) { int a }", 10, 21, 22),
-    ("void f(void) { if (a) int b; }", 10, 22, 25),
-    ("void f(void) { int v = x++; }", 10, 24, 26),
-    ("void f(void) { x++ + 1; }", 10, 19, 20),
-    ("void f(void) { a = b = c; }", 10, 21, 22),
-    ("void f(void) { int v = printf(\"a\"); }", 10, 23, 29),
-    ("void f(void) { (void) f(); }", 10, 16, 20),
-    ("void f(void) { f(,); }", 10, 17, 18),
-    ("void f(void) { for (int a;;) ; ) }", 10, 31, 32),
-    ("void f(void) { printf(a); }", 10, 22, 23),
-    // the end where a program is begun
-    ("int", 12, 3, 3),
-    ("int x", 12, 5, 5),
-    ("void worker(int self) { ", 12, 23, 23),
-];
+type Row = (&'static str, u32, usize, usize);
+
+/// The rows stand in a function, so that no proof but its own looks at them.
+fn rows() -> &'static [Row] {
+    static ROWS: [Row; 30] = [
+        // what stands where no program goes on
+        ("int x = ;", 10, 8, 9),
+        ("int = 3;", 10, 4, 5),
+        ("int x; }", 10, 7, 8),
+        ("int x = 1 + 1;", 10, 10, 11),
+        ("int a[] = {1};", 10, 6, 7),
+        ("int a[1] = {};", 10, 12, 13),
+        ("int a[1] = {1,,};", 10, 14, 15),
+        ("int a[1] = 1;", 10, 11, 12),
+        ("void x;", 10, 6, 7),
+        ("signed unsigned x;", 10, 7, 15),
+        ("[[transaction_safe]] int x;", 10, 26, 27),
+        ("[[unknown]] void f(void);", 10, 2, 9),
+        ("[[]] void f(void);", 10, 2, 3),
+        ("void f(int) { }", 10, 12, 13),
+        ("void f(int a,) { }", 10, 13, 14),
+        ("void f(void a);", 10, 12, 13),
+        ("void f(void) { else ; }", 10, 15, 19),
+        ("void f(void) { int a }", 10, 21, 22),
+        ("void f(void) { if (a) int b; }", 10, 22, 25),
+        ("void f(void) { int v = x++; }", 10, 24, 26),
+        ("void f(void) { x++ + 1; }", 10, 19, 20),
+        ("void f(void) { a = b = c; }", 10, 21, 22),
+        ("void f(void) { int v = printf(\"a\"); }", 10, 23, 29),
+        ("void f(void) { (void) f(); }", 10, 16, 20),
+        ("void f(void) { f(,); }", 10, 17, 18),
+        ("void f(void) { for (int a;;) ; ) }", 10, 31, 32),
+        ("void f(void) { printf(a); }", 10, 22, 23),
+        // the end where a program is begun
+        ("int", 12, 3, 3),
+        ("int x", 12, 5, 5),
+        ("void worker(int self) { ", 12, 23, 23),
+    ];
+    &ROWS
+}
+
+// Whether a source has the fault that its row tells.
+fn is_told<A: Allocator + Copy>(alloc: A, row: &Row) -> bool {
+    let (text, number, start, end) = *row;
+    fault_of(alloc, text) == Some((number, Some(Span { start, end })))
+}
 
 #[test]
-fn each_fault_has_its_place(rt: HostRuntime) -> Result<(), Fail> {
-    for (text, number, start, end) in ROWS {
-        let fault = fault_of(rt.alloc(), text);
-        assert_eq!(rt; fault, Some((number, Some(Span { start, end }))), "{text}");
+fn each_fault_has_its_place(rt: HostRuntime) {
+    for row in rows() {
+        assert!(rt; is_told(rt.alloc(), row), "{}", row.0);
     }
-    Ok(())
 }
