@@ -282,6 +282,17 @@ fn commandless<'a>(alloc: Global) -> Command<'a>
 }
 
 /// A program that was made, with one more command.
+fn with_made<'a>(
+    program: Result<Command<'a>, AllocError>,
+    command: Command<'a>,
+) -> Result<Command<'a>, AllocError>
+    ensures { (app sub : App) → IfOk program.entry (λ p. app_of p ≡ app) → IsMade sub command.entry
+        → IfOk result (λ c. app_of c ≡ with_subcommand app sub.top) }
+{
+    program?.subcommand(command)
+}
+
+/// The same with a command that was to be made.
 fn with_command<'a>(
     program: Result<Command<'a>, AllocError>,
     command: Result<Command<'a>, AllocError>,
@@ -289,7 +300,10 @@ fn with_command<'a>(
     ensures { (app sub : App) → IfOk program.entry (λ p. app_of p ≡ app) → IfOk command.entry (IsMade sub)
         → IfOk result (λ c. app_of c ≡ with_subcommand app sub.top) }
 {
-    program?.subcommand(command?)
+    match command {
+        Ok(command) => with_made(program, command),
+        Err(refused) => Err(refused),
+    }
 }
 
 /// The command line of the program.
