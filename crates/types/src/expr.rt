@@ -15,7 +15,7 @@ use crate::symbol::Symbol;
 use crate::table::Names;
 use lex::token::Span;
 use std::alloc::Allocator;
-use syntax::tree::{Expr, Name};
+use syntax::tree::{Expr, Function, Name};
 
 /// Where an expression stands.
 pub(crate) fn place_of<A: Allocator>(e: &Expr<A>) -> Span
@@ -106,7 +106,7 @@ pub(crate) fn check_known<'a, A: Allocator + Copy>(
 
 /// What is called is a function, and takes so many arguments.
 fn check_symbol<A: Allocator + Copy>(
-    symbol: &Symbol<'_, A>,
+    symbol: &Symbol<'_, Function<A>>,
     count: usize,
     f: Span,
     at: Span,

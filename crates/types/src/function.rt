@@ -76,7 +76,7 @@ fn same_parameters<A: Allocator>(a: &[Parameter<A>], b: &[Parameter<A>]) -> bool
 }
 
 /// Whether a function has the types with which it was declared before, if it was.
-fn agrees<A: Allocator>(symbol: &Symbol<'_, A>, f: &Function<A>) -> bool
+fn agrees<A: Allocator>(symbol: &Symbol<'_, Function<A>>, f: &Function<A>) -> bool
     ensures { result ≡ agrees (function_of f.now) (known_of symbol.now) }
 {
     match symbol {
@@ -99,7 +99,7 @@ fn takes_one_int<A: Allocator>(all: &[Parameter<A>]) -> bool
 }
 
 /// Whether a name stands for a function that gives nothing and takes one `int`.
-pub(crate) fn is_worker<A: Allocator>(symbol: &Symbol<'_, A>) -> bool
+pub(crate) fn is_worker<A: Allocator>(symbol: &Symbol<'_, Function<A>>) -> bool
     ensures { result ≡ is_worker (known_of symbol.now) }
 {
     match symbol {
@@ -109,7 +109,7 @@ pub(crate) fn is_worker<A: Allocator>(symbol: &Symbol<'_, A>) -> bool
 }
 
 /// Whether a name may be declared as a function: no global has it, and no second body stands.
-fn is_free<A: Allocator>(symbol: &Symbol<'_, A>, body: bool, defined: bool) -> bool
+fn is_free<A: Allocator>(symbol: &Symbol<'_, Function<A>>, body: bool, defined: bool) -> bool
     ensures { result ≡ (may_be_function (known_of symbol.now) && (not body || not defined)) }
 {
     symbol.may_be_function() && (!body || !defined)

@@ -18,7 +18,7 @@ use crate::table::Names;
 use containers::Items;
 use lex::token::Span;
 use std::alloc::{AllocError, Allocator};
-use syntax::tree::{First, Global, Item};
+use syntax::tree::{First, Function, Global, Item};
 
 /// The most cells of all globals.
 const MOST_CELLS: u32 = 4096;
@@ -33,7 +33,7 @@ fn cells_of<A: Allocator>(g: &Global<A>) -> u32
     }
 }
 
-fn symbol_of<'a, A: Allocator>(g: &Global<A>) -> Symbol<'a, A>
+fn symbol_of<'a, A: Allocator>(g: &Global<A>) -> Symbol<'a, Function<A>>
     ensures { known_of result ≡ known_global (global_of g.now) }
 {
     match g.length {

@@ -13,6 +13,7 @@ use crate::table::{Local, Names, Slot};
 use lex::token::Scalar;
 use std::alloc::{AllocError, Allocator};
 use std::collections::BTreeMap;
+use syntax::tree::Function;
 
 impl<'a, A: Allocator + Copy> Names<'a, A> {
     /// No names. Takes no memory.
@@ -34,7 +35,7 @@ impl<'a, A: Allocator + Copy> Names<'a, A> {
         self.locals.len()
     }
 
-    fn slot(&self, name: &'a str) -> Slot<'a, A>
+    fn slot(&self, name: &'a str) -> Slot<'a, Function<A>>
         ensures { result ≡ slot_in self.now name.now }
     {
         match self.slots.get(&name) {
@@ -48,7 +49,7 @@ impl<'a, A: Allocator + Copy> Names<'a, A> {
 
     /// What a name is known as.
     #[tactic(auto, unfolding(crate::specs::inner::Known::known_in))]
-    pub(crate) fn look(&self, name: &'a str) -> Symbol<'a, A>
+    pub(crate) fn look(&self, name: &'a str) -> Symbol<'a, Function<A>>
         ensures { known_of result ≡ known_in self.now name.now }
     {
         self.slot(name).symbol
@@ -114,7 +115,11 @@ impl<'a, A: Allocator + Copy> Names<'a, A> {
     }
 
     /// A further name of the file.
-    pub(crate) fn define(&mut self, name: &'a str, symbol: Symbol<'a, A>) -> Result<(), AllocError>
+    pub(crate) fn define(
+        &mut self,
+        name: &'a str,
+        symbol: Symbol<'a, Function<A>>,
+    ) -> Result<(), AllocError>
         requires { count_in self.old ≡ 0 }
         ensures locals { self.new.locals.items ≡ self.old.locals.items }
         ensures slots { OnOk result

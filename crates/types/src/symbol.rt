@@ -1,26 +1,38 @@
 //! What a name is known as.
 
-ghost use Rattle.std.specs.Prelude.{◌≡◌};
+ghost use Rattle.std.specs.Prelude.{◌≡◌, ⊤};
 ghost use Rattle.syntax.specs.Typing.{is_unknown, may_be_number, may_be_array, may_be_function, takes_so_many, gives_nothing};
 ghost use Rattle.syntax.specs.Types.{number_type, element_type, call_type};
 ghost use Rattle.types.specs.inner.Scopes.{known_of};
 
 use lex::token::Scalar;
-use std::alloc::Allocator;
+use std::alloc::{AllocError, Allocator};
 use syntax::tree::Function;
 
-/// What a name is known as.
-#[derive(Clone, Copy)]
-pub(crate) enum Symbol<'a, A: Allocator> {
+/// What a name is known as. The type of functions is a parameter, here and where a symbol is kept: that a symbol can be
+/// copied is dear to prove where it lends a tree, and is proved without one.
+pub(crate) enum Symbol<'a, F> {
     Unknown,
     Number(Scalar),
     Array(Scalar, u32),
 
     /// A function, as it was first declared.
-    Callable(&'a Function<A>),
+    Callable(&'a F),
 }
 
-impl<'a, A: Allocator> Symbol<'a, A> {
+impl<'a, F> Clone for Symbol<'a, F> {
+    ghost is_clone = { λ x y. y ≡ x };
+
+    ghost is_infallible = { λ _. ⊤ };
+
+    fn clone(&self) -> Result<Self, AllocError> {
+        Ok(*self)
+    }
+}
+
+impl<'a, F> Copy for Symbol<'a, F> {}
+
+impl<'a, A: Allocator> Symbol<'a, Function<A>> {
     pub(crate) fn is_unknown(&self) -> bool
         ensures { result ≡ is_unknown (known_of self.now) }
     {

@@ -1,4 +1,5 @@
 -- What is known at a place.
+use Rattle.syntax.specs.declared.tree.Function.{Function}
 use Rattle.syntax.specs.Typing.{has_name}
 use Rattle.syntax.specs.Tree.{Declarator}
 use Rattle.std.specs.Prelude.{[], ◌∷◌, nat_lt, ℕ, List, ◌≡◌, length, take, drop}
@@ -9,7 +10,7 @@ use Rattle.types.specs.inner.Scopes.{known_of}
 use Rattle.types.specs.inner.Slots.{table_of, under}
 
 module _ {A : Type 0} where
-  abbrev pub slot_in : Names A → List ℕ → Slot A
+  abbrev pub slot_in : Names A → List ℕ → Slot (Function A)
   slot_in n = table_of n.slots
 
   unfoldable pub known_in : Names A → Scope
@@ -20,7 +21,7 @@ module _ {A : Type 0} where
   count_in n = length n.locals.items
 
   -- what each name was with so many locals
-  abbrev pub slot_before : ℕ → Names A → List ℕ → Slot A
+  abbrev pub slot_before : ℕ → Names A → List ℕ → Slot (Function A)
   slot_before k n = under (drop k n.locals.items) (slot_in n)
 
   -- there may be further locals; without them it is as it was
