@@ -1,5 +1,6 @@
 -- How the parts of an expression's code are put together, and the clean tree of a node by the parts that are read of it.
-use Rattle.std.proofs.Common.{◌≡◌, ℕ, ◌+◌, List, [], ◌∷◌, ◌++◌, length, Some, sym, ap, ◌∙◌, append_assoc}
+use Rattle.std.proofs.Common.{◌≡◌, ℕ, ◌+◌, List, [], ◌∷◌, ◌++◌, length, Some, None, Result, OnOk, IfOk, IfErr, sym, ap, subst, ◌∙◌, append_assoc}
+use Rattle.lex.specs.declared.token.Scalar.{Scalar}
 use Rattle.lex.specs.declared.token.Span.{Span}
 use Rattle.syntax.specs.declared.tree.UnaryOp.{UnaryOp}
 use Rattle.syntax.specs.declared.tree.BinaryOp.{BinaryOp}
@@ -8,17 +9,19 @@ use Rattle.syntax.specs.declared.tree.Name as N
 use Rattle.syntax.specs.declared.tree.Expr as E
 use Rattle.syntax.specs.Tree as Tree
 use Rattle.syntax.specs.Views.{name_of, expr_of, exprs_of}
-use Rattle.syntax.proofs.Seen.{expr_of_call, expr_of_element, expr_of_unary, expr_of_binary, expr_of_logical, expr_of_conditional}
+use Rattle.syntax.proofs.Seen.{expr_of_call, expr_of_element, expr_of_parenthesized, expr_of_cast, expr_of_unary, expr_of_binary, expr_of_logical, expr_of_conditional}
 use Rattle.bytecode.specs.declared.instr.Instr.{Instr}
 use Rattle.bytecode.specs.declared.instr.Instr.TheVariants as own
 use Rattle.lower.specs.declared.held.Held.{Held}
-use Rattle.lowered.specs.Expressions.{arranged}
+use Rattle.lowered.specs.Expressions.{LocalScope, arranged}
 use Rattle.lower.specs.Lists.{Lists, used, holding}
 use Rattle.lower.specs.Names.{Callee}
 use Rattle.lower.specs.declared.held.Tested.{Tested}
 use Rattle.lower.specs.declared.draft.Draft.{Draft}
-use Rattle.lower.specs.Conditions.{Condition, test_in, going_on, first_of, joined}
-use Rattle.lower.specs.Expressions.{Emitted, AllEmitted, above, answered, chosen, called}
+use Rattle.lower.specs.declared.fault.Failure.{Failure}
+use Rattle.lower.specs.inner.Limits.{NeedsMore}
+use Rattle.lower.specs.Conditions.{Condition, test_in, going_on, first_of, joined, by_value}
+use Rattle.lower.specs.Expressions.{Emitted, AllEmitted, above, answered, chosen, called, emitted, own_condition, condition, tested}
 use Rattle.syntax.specs.Numbers.{common}
 
 -- a value, and instructions behind it
@@ -43,6 +46,34 @@ pub record Gives (e : Emitted) (old new : List Instr) (l : Lists) (h : Held) : T
   pub code : new ≡ old ++ e.code
   pub lists : l ≡ e.lists
   pub held : h ≡ e.held
+
+-- what a call answers: the instructions that it added, the lists, and where the value lies, or why there is none
+pub record Answers (w : Emitted) (old new : List Instr) (l : Lists) (r : Result Held Failure) : Type 0 where
+  pub code : OnOk r (new ≡ old ++ w.code)
+  pub lists : OnOk r (l ≡ w.lists)
+  pub held : IfOk r (λ h. h ≡ w.held)
+  pub fails : IfErr r (λ why. NeedsMore why w.lists.registers)
+
+pub same_answer : (v w : Emitted) (old new : List Instr) (l : Lists) (r : Result Held Failure) → v ≡ w → Answers v old new l r → Answers w old new l r
+same_answer v w old new l r e a = subst (λ (u : Emitted). Answers u old new l r) e a
+
+-- and of a condition
+pub record Tells (c : Condition) (old new : List Draft) (l : Lists) (r : Result Tested Failure) : Type 0 where
+  pub code : OnOk r (new ≡ old ++ c.code)
+  pub lists : OnOk r (l ≡ c.lists)
+  pub tested : IfOk r (λ t. t ≡ test_in c)
+  pub fails : IfErr r (λ why. NeedsMore why c.lists.registers)
+
+pub same_telling : (v w : Condition) (old new : List Draft) (l : Lists) (r : Result Tested Failure) → v ≡ w → Tells v old new l r → Tells w old new l r
+same_telling v w old new l r e a = subst (λ (u : Condition). Tells u old new l r) e a
+
+module _ (p : Tree.Program) (s : LocalScope) (e : Tree.Expr) (from free : ℕ) (l : Lists) where
+  -- what has no condition of its own is tested by its value
+  pub by_its_value : own_condition p s e from free l ≡ None → by_value (emitted p s e from free free l).code (emitted p s e from free free l).lists (emitted p s e from free free l).held ≡ condition p s e from free l
+  by_its_value h = ap (λ o. tested o (emitted p s e from free free l)) (sym h)
+
+  pub by_its_own : (c : Condition) → own_condition p s e from free l ≡ Some c → c ≡ condition p s e from free l
+  by_its_own c h = ap (λ o. tested o (emitted p s e from free free l)) (sym h)
 
 -- two conditions, one behind the other
 module _ (A : Condition) (F : ℕ → Lists → Condition) (op : LogicalOp) (old da : List Draft) (la : Lists) (next : ℕ) (ed : da ≡ old ++ first_of op A) (el : la ≡ A.lists) (en : next ≡ A.to + 1) where
@@ -119,6 +150,12 @@ module _ {A : Type 0} where
 
   pub element_is : (e : E.Expr A) (x : N.Name A) (i i' : E.Expr A) (at : Span) → e ≡ E.Element x i at → i' ≡ i → expr_of e ≡ Tree.Element (name_of x) (expr_of i') at
   element_is e x i i' at is f = ap expr_of is ∙ expr_of_element x i at ∙ ap (λ y. Tree.Element (name_of x) (expr_of y) at) (sym f)
+
+  pub parenthesized_is : (e a a' : E.Expr A) (at : Span) → e ≡ E.Parenthesized a at → a' ≡ a → expr_of e ≡ Tree.Parenthesized (expr_of a') at
+  parenthesized_is e a a' at is f = ap expr_of is ∙ expr_of_parenthesized a at ∙ ap (λ y. Tree.Parenthesized (expr_of y) at) (sym f)
+
+  pub cast_is : (e : E.Expr A) (t : Scalar) (a a' : E.Expr A) (at : Span) → e ≡ E.Cast t a at → a' ≡ a → expr_of e ≡ Tree.Cast t (expr_of a') at
+  cast_is e t a a' at is f = ap expr_of is ∙ expr_of_cast t a at ∙ ap (λ y. Tree.Cast t (expr_of y) at) (sym f)
 
   pub unary_is : (e : E.Expr A) (op op' : UnaryOp) (a a' : E.Expr A) (at : Span) → e ≡ E.Unary op a at → op ≡ op' → a' ≡ a → expr_of e ≡ Tree.Unary op' (expr_of a') at
   unary_is e op op' a a' at is o f = ap expr_of is ∙ expr_of_unary op a at ∙ ap (λ y. Tree.Unary y (expr_of a) at) o ∙ ap (λ y. Tree.Unary op' (expr_of y) at) (sym f)

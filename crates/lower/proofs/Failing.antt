@@ -217,6 +217,40 @@ module _ (p : Program) (scope : LocalScope) (lhs : Tree.Expr) (from free : ℕ) 
           let four : c4 ≡ (((first ++ T.code) ++ O.code) ++ V.code) ++ i ∷ [] = e4 ∙ (λ j. three j ++ computing op (operand_type op (held_is j).of (other_is j).of) (home_is j) (held_is j).register (other_is j).register ∷ []) in
           e5 ∙ (λ j. four j ++ tail_is j) ∙ simp append_assoc
 
+      -- its lists and its place, and the failures of its last parts
+      module _ (n : Lists) (old : Held) (behind : ℕ) (en : n ≡ (fetched a.target a.to later m).lists) (eo : old ≡ (fetched a.target a.to later m).held) (eb : behind ≡ above later old.register) where
+        value_same : value_or_one p scope by old.to behind n ≡ V
+        value_same = λ j. value_or_one p scope by ((eo ∙ ap (λ (u : Emitted). u.held) old_is) j).to ((eb ∙ (λ k. above (later_is k) ((eo ∙ ap (λ (u : Emitted). u.held) old_is) k).register)) j) ((en ∙ ap (λ (u : Emitted). u.lists) old_is) j)
+
+        pub adjusted_third : (value_or_one p scope by old.to behind n).lists.registers ≤ (adjusted p scope op lhs by from free l).lists.registers
+        adjusted_third =
+            let x = used_more (home_or T.target K) V.lists in
+            let y = stored_same T.target M.held.register M.held.to M.lists in
+            let z = ap (λ (u : Emitted). u.lists.registers) value_same in
+            omega (arith, x, y, z)
+
+        module _ (home : ℕ) (n2 : Lists) (eh : home ≡ home_or a.target later) (e2 : n2 ≡ (value_or_one p scope by old.to behind n).lists) where
+          used_same : used home n2 ≡ used (home_or T.target K) V.lists
+          used_same = λ j. used ((eh ∙ (λ k. home_or (ea k).target (later_is k))) j) ((e2 ∙ ap (λ (u : Emitted). u.lists) value_same) j)
+
+          pub adjusted_fourth : (used home n2).registers ≤ (adjusted p scope op lhs by from free l).lists.registers
+          adjusted_fourth =
+              let x = ap (λ (u : Lists). u.registers) used_same in
+              let y = stored_same T.target M.held.register M.held.to M.lists in
+              omega (arith, x, y)
+
+          pub adjusted_lists : (n3 : Lists) → n3 ≡ used home n2 → n3 ≡ (adjusted p scope op lhs by from free l).lists
+          adjusted_lists n3 e3 = e3 ∙ used_same ∙ sym (stored_lists T.target M.held.register M.held.to M.lists)
+
+          pub adjusted_place : (other held : Held) (to : ℕ) → other ≡ (value_or_one p scope by old.to behind n).held →
+              held ≡ record { register = home; of = result_type op (operand_type op old.of other.of); to = other.to + 1 } → ((k : Lists) → to ≡ (stored a.target held.register held.to k).to) → to ≡ (adjusted p scope op lhs by from free l).to
+          adjusted_place other held to ev ed et =
+              let held_is : old ≡ O.held = eo ∙ ap (λ (u : Emitted). u.held) old_is in
+              let other_is : other ≡ V.held = ev ∙ ap (λ (u : Emitted). u.held) value_same in
+              let home_is : home ≡ home_or T.target K = eh ∙ (λ j. home_or (ea j).target (later_is j)) in
+              let made_is : held ≡ M.held = ed ∙ (λ j. record { register = home_is j; of = result_type op (operand_type op (held_is j).of (other_is j).of); to = (other_is j).to + 1 }) in
+              et M.lists ∙ (λ j. (stored (ea j).target (made_is j).register (made_is j).to M.lists).to)
+
 -- the first value of a local
 module _ (p : Program) (s : LocalScope) (i : ℕ) (t : Scalar) (e : Tree.Expr) (o : Option Tree.Expr) (from k : ℕ) (l : Lists) (is : o ≡ Some e) (ek : k ≡ suc i) where
   abbrev Value : Emitted

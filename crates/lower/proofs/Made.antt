@@ -1,15 +1,16 @@
 -- How the parts of a statement's code are put together, and the clean tree of a statement by the parts that are read of it.
-use Rattle.std.proofs.Common.{◌≡◌, ℕ, ◌+◌, List, [], ◌∷◌, ◌++◌, length, map, Option, Some, None, sym, ap, ◌∙◌, append_assoc}
+use Rattle.std.proofs.Common.{◌≡◌, ℕ, ◌+◌, List, [], ◌∷◌, ◌++◌, length, map, Option, Some, None, option_map, sym, ap, ◌∙◌, append_assoc}
 use Rattle.lex.specs.declared.token.Span.{Span}
 use Rattle.syntax.specs.declared.tree.Mode.{Mode}
 use Rattle.syntax.specs.declared.tree.Expr as E
 use Rattle.syntax.specs.declared.tree.Stmt as S
 use Rattle.syntax.specs.declared.tree.Declaration as D
 use Rattle.syntax.specs.declared.tree.Declarator as I
+use Rattle.syntax.specs.declared.tree.ForHead as H
 use Rattle.syntax.specs.Tree as Tree
 use Rattle.syntax.specs.Tree.{Program}
-use Rattle.syntax.specs.Views.{expr_of, exprs_of, declarator_of, stmt_of, stmts_of}
-use Rattle.syntax.proofs.Seen.{stmt_of_declare, stmt_of_block, stmt_of_print, stmt_of_if, stmt_of_if_else, stmt_of_while, stmt_of_do_while, stmt_of_transaction}
+use Rattle.syntax.specs.Views.{expr_of, exprs_of, simple_of, declarator_of, start_of, stmt_of, stmts_of}
+use Rattle.syntax.proofs.Seen.{stmt_of_declare, stmt_of_block, stmt_of_print, stmt_of_if, stmt_of_if_else, stmt_of_while, stmt_of_do_while, stmt_of_for, stmt_of_transaction}
 use Rattle.bytecode.specs.declared.instr.Instr.{Instr}
 use Rattle.bytecode.specs.declared.instr.Instr.TheVariants as own
 use Rattle.lowered.specs.Expressions.{LocalScope}
@@ -204,6 +205,12 @@ module _ {A : Type 0} where
 
   pub do_is : (s : S.Stmt A) (c : E.Expr A) (a a' : S.Stmt A) → s ≡ S.DoWhile a c → a' ≡ a → stmt_of s ≡ Tree.DoWhile (stmt_of a') (expr_of c)
   do_is s c a a' is e = ap stmt_of is ∙ stmt_of_do_while a c ∙ ap (λ y. Tree.DoWhile (stmt_of y) (expr_of c)) (sym e)
+
+  pub for_is : (s : S.Stmt A) (h h' : H.ForHead A) (a a' : S.Stmt A) → s ≡ S.For h a → h' ≡ h → a' ≡ a → stmt_of s ≡ Tree.For (start_of h'.start) (option_map expr_of h'.condition) (option_map simple_of h'.step) (stmt_of a')
+  for_is s h h' a a' is f k =
+      ap stmt_of is ∙ stmt_of_for h a
+      ∙ ap (λ (y : H.ForHead A). Tree.For (start_of y.start) (option_map expr_of y.condition) (option_map simple_of y.step) (stmt_of a)) (sym f)
+      ∙ ap (λ (y : S.Stmt A). Tree.For (start_of h'.start) (option_map expr_of h'.condition) (option_map simple_of h'.step) (stmt_of y)) (sym k)
 
   pub transaction_is : (s : S.Stmt A) (mode : Mode) (ss ss' : List (S.Stmt A)) (at : Span) → s ≡ S.Transaction mode ss at → ss' ≡ ss → stmt_of s ≡ Tree.Transaction mode (stmts_of ss') at
   transaction_is s mode ss ss' at is e = ap stmt_of is ∙ stmt_of_transaction mode ss at ∙ ap (λ y. Tree.Transaction mode (stmts_of y) at) (sym e)

@@ -180,6 +180,21 @@ fn push_nameless<A: Allocator>(
     Ok(())
 }
 
+/// The registers of a call's arguments, as the called function numbers them; how many they are.
+fn push_arranged<A: Allocator>(
+    all: &mut Vec<u16, A>,
+    parameters: &[Parameter<A>],
+    registers: &[u16],
+) -> Result<usize, AllocError>
+    ensures items { OnOk result (all.new.items ≡ all.old.items ++ arranged (map parameter_of parameters.now) registers.now) }
+    ensures count { IfOk result (λ n. n ≡ length (arranged (map parameter_of parameters.now) registers.now)) }
+{
+    let first = all.len();
+    push_named(all, parameters, registers)?;
+    push_nameless(all, parameters, registers)?;
+    Ok(all.len() - first)
+}
+
 /// So many registers are used.
 fn hold<A: Allocator>(lists: &mut Lists<A>, count: usize) -> Result<u16, Failure>
     ensures lists { OnOk result (lists_of lists.new ≡ holding count (lists_of lists.old)) }
@@ -210,9 +225,7 @@ fn hand_over<A: Allocator>(
     if first > 4_294_967_295 {
         return Err(Failure::OutOfMemory);
     }
-    push_named(&mut lists.arguments, parameters, registers)?;
-    push_nameless(&mut lists.arguments, parameters, registers)?;
-    let count = lists.arguments.len() - first;
+    let count = push_arranged(&mut lists.arguments, parameters, registers)?;
     let count = hold(lists, count)?;
     Ok((first as u32, count))
 }

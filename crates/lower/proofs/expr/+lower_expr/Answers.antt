@@ -1,14 +1,15 @@
 use Rattle.std.proofs.Common.{◌≡◌, ℕ, ◌∷◌, [], ◌++◌, ap, sym, subst, ◌∙◌, arith, OnOk, IfOk, Result, Ok, Err, IfErr, refl}
-use Rattle.syntax.specs.declared.tree.UnaryOp.TheVariants.{Negate, Not, Complement}
+use Rattle.syntax.specs.Tree as Tree
+use Rattle.syntax.specs.declared.tree.UnaryOp.TheVariants.{Negate, Keep, Not, Complement}
 use Rattle.syntax.specs.Numbers.{operand_type}
 use Rattle.syntax.specs.Views.{expr_of, exprs_of}
 use Rattle.bytecode.specs.declared.instr.Instr.TheVariants as own
 use Rattle.lower.specs.Names.{callee_of}
-use Rattle.lower.specs.Conditions.{Condition}
-use Rattle.lower.specs.Expressions.{Emitted, above, negating, computing, called, settled, element, emitted, condition, all_emitted}
+use Rattle.lower.specs.Conditions.{Condition, opposite, by_value}
+use Rattle.lower.specs.Expressions.{Emitted, above, negating, computing, called, settled, element, emitted, own_condition, condition, all_emitted}
 use Rattle.syntax.specs.Names.{global_of, cells}
 use Rattle.lower.specs.inner.Tables.{callee_in, shared_in}
-use Rattle.lower.proofs.Arms.{tail_is, tails_are, second_behind, logical_made, chosen_made, called_code, called_lists, called_held, call_is, element_is, unary_is, binary_is, logical_is, conditional_is}
+use Rattle.lower.proofs.Arms.{same_answer, same_telling, by_its_value, by_its_own, parenthesized_is, cast_is, tail_is, tails_are, second_behind, logical_made, chosen_made, called_code, called_lists, called_held, call_is, element_is, unary_is, binary_is, logical_is, conditional_is}
 use denote.Param.Weighed.{most}
 use Rattle.syntax.specs.declared.tree.Expr.{the_lemmas}
 use Rattle.syntax.proofs.tree.Expr.TheLaws.{the_size}
@@ -263,3 +264,82 @@ pub lower_expr-returns-in-Conditional-clause-fails : goal.lower_expr-returns-in-
 lower_expr-returns-in-Conditional-clause-fails g t c =
     let is = conditional_is c.args.e.now c.in-Conditional.c c.in-Conditional.left c.in-Conditional.right c.get-in-Conditional.result.now c.get-in-Conditional-2.result.now c.get-in-Conditional-3.result.now c.in-Conditional.at c.in-Conditional.is c.get-in-Conditional.ensures c.get-in-Conditional-2.ensures c.get-in-Conditional-3.ensures in
     subst (λ x. IfErr c.lower_conditional.result (λ why. NeedsMore why (emitted (program_in c.args.names.now) (scope_in c.args.scope.now) x c.args.from c.args.into c.args.free (lists_of c.args.lists.now)).lists.registers)) (sym is) c.lower_conditional.ensures.fails
+
+pub lower_expr-returns-in-Parenthesized : goal.lower_expr-returns-in-Parenthesized
+lower_expr-returns-in-Parenthesized g t c =
+    let f : Tree.Expr → Emitted = (λ y. emitted (program_in c.args.names.now) (scope_in c.args.scope.now) y c.args.from c.args.into c.args.free (lists_of c.args.lists.now)) in
+    let is = parenthesized_is c.args.e.now c.in-Parenthesized.e c.get-in-Parenthesized.result.now c.in-Parenthesized.field-1 c.in-Parenthesized.is c.get-in-Parenthesized.ensures in
+    let k = same_answer _ _ c.args.code.now.items c.lower_expr-in-Parenthesized.new.code.items (lists_of c.lower_expr-in-Parenthesized.new.lists) c.lower_expr-in-Parenthesized.result (sym (ap f is))
+    (record { code = c.lower_expr-in-Parenthesized.ensures.code; lists = c.lower_expr-in-Parenthesized.ensures.lists; held = c.lower_expr-in-Parenthesized.ensures.held; fails = c.lower_expr-in-Parenthesized.ensures.fails }) in
+    record { code = k.code; lists = k.lists; held = k.held; fails = k.fails }
+
+pub lower_expr-returns-in-Keep : goal.lower_expr-returns-in-Keep
+lower_expr-returns-in-Keep g t c =
+    let f : Tree.Expr → Emitted = (λ y. emitted (program_in c.args.names.now) (scope_in c.args.scope.now) y c.args.from c.args.into c.args.free (lists_of c.args.lists.now)) in
+    let is = unary_is c.args.e.now c.in-Unary.op Keep c.in-Unary.e c.get-in-Keep.result.now c.in-Unary.field-2 c.in-Unary.is c.in-Keep.is c.get-in-Keep.ensures in
+    let k = same_answer _ _ c.args.code.now.items c.lower_expr-in-Keep.new.code.items (lists_of c.lower_expr-in-Keep.new.lists) c.lower_expr-in-Keep.result (sym (ap f is))
+    (record { code = c.lower_expr-in-Keep.ensures.code; lists = c.lower_expr-in-Keep.ensures.lists; held = c.lower_expr-in-Keep.ensures.held; fails = c.lower_expr-in-Keep.ensures.fails }) in
+    record { code = k.code; lists = k.lists; held = k.held; fails = k.fails }
+
+pub lower_condition-returns-in-Parenthesized : goal.lower_condition-returns-in-Parenthesized
+lower_condition-returns-in-Parenthesized g t c =
+    let own = ap (λ y. own_condition (program_in c.args.names.now) (scope_in c.args.scope.now) y c.args.from c.args.free (lists_of c.args.lists.now)) (parenthesized_is c.args.e.now c.in-Parenthesized.e c.get.result.now c.in-Parenthesized.field-1 c.in-Parenthesized.is c.get.ensures) in
+    let k = same_telling (condition (program_in c.args.names.now) (scope_in c.args.scope.now) (expr_of c.get.result.now) c.args.from c.args.free (lists_of c.args.lists.now)) (condition (program_in c.args.names.now) (scope_in c.args.scope.now) (expr_of c.args.e.now) c.args.from c.args.free (lists_of c.args.lists.now)) c.args.drafts.now.items c.lower_condition.new.drafts.items (lists_of c.lower_condition.new.lists) c.lower_condition.result (by_its_own (program_in c.args.names.now) (scope_in c.args.scope.now) (expr_of c.args.e.now) c.args.from c.args.free (lists_of c.args.lists.now) _ own)
+    (record { code = c.lower_condition.ensures.code; lists = c.lower_condition.ensures.lists; tested = c.lower_condition.ensures.tested; fails = c.lower_condition.ensures.fails }) in
+    record { code = k.code; lists = k.lists; tested = k.tested; fails = k.fails }
+
+pub lower_condition-returns-in-Cast : goal.lower_condition-returns-in-Cast
+lower_condition-returns-in-Cast g t c =
+    let own = ap (λ y. own_condition (program_in c.args.names.now) (scope_in c.args.scope.now) y c.args.from c.args.free (lists_of c.args.lists.now)) (cast_is c.args.e.now c.in-Cast.field-0 c.in-Cast.e c.get-in-Cast.result.now c.in-Cast.field-2 c.in-Cast.is c.get-in-Cast.ensures) in
+    let k = same_telling (condition (program_in c.args.names.now) (scope_in c.args.scope.now) (expr_of c.get-in-Cast.result.now) c.args.from c.args.free (lists_of c.args.lists.now)) (condition (program_in c.args.names.now) (scope_in c.args.scope.now) (expr_of c.args.e.now) c.args.from c.args.free (lists_of c.args.lists.now)) c.args.drafts.now.items c.lower_condition-in-Cast.new.drafts.items (lists_of c.lower_condition-in-Cast.new.lists) c.lower_condition-in-Cast.result (by_its_own (program_in c.args.names.now) (scope_in c.args.scope.now) (expr_of c.args.e.now) c.args.from c.args.free (lists_of c.args.lists.now) _ own)
+    (record { code = c.lower_condition-in-Cast.ensures.code; lists = c.lower_condition-in-Cast.ensures.lists; tested = c.lower_condition-in-Cast.ensures.tested; fails = c.lower_condition-in-Cast.ensures.fails }) in
+    record { code = k.code; lists = k.lists; tested = k.tested; fails = k.fails }
+
+pub lower_condition-returns-in-Keep : goal.lower_condition-returns-in-Keep
+lower_condition-returns-in-Keep g t c =
+    let own = ap (λ y. own_condition (program_in c.args.names.now) (scope_in c.args.scope.now) y c.args.from c.args.free (lists_of c.args.lists.now)) (unary_is c.args.e.now c.in-Unary.op Keep c.in-Unary.a c.get-in-Keep.result.now c.in-Unary.field-2 c.in-Unary.is c.in-Keep.is c.get-in-Keep.ensures) in
+    let k = same_telling (condition (program_in c.args.names.now) (scope_in c.args.scope.now) (expr_of c.get-in-Keep.result.now) c.args.from c.args.free (lists_of c.args.lists.now)) (condition (program_in c.args.names.now) (scope_in c.args.scope.now) (expr_of c.args.e.now) c.args.from c.args.free (lists_of c.args.lists.now)) c.args.drafts.now.items c.lower_condition-in-Keep.new.drafts.items (lists_of c.lower_condition-in-Keep.new.lists) c.lower_condition-in-Keep.result (by_its_own (program_in c.args.names.now) (scope_in c.args.scope.now) (expr_of c.args.e.now) c.args.from c.args.free (lists_of c.args.lists.now) _ own)
+    (record { code = c.lower_condition-in-Keep.ensures.code; lists = c.lower_condition-in-Keep.ensures.lists; tested = c.lower_condition-in-Keep.ensures.tested; fails = c.lower_condition-in-Keep.ensures.fails }) in
+    record { code = k.code; lists = k.lists; tested = k.tested; fails = k.fails }
+
+pub lower_condition-returns-in-Not : goal.lower_condition-returns-in-Not
+lower_condition-returns-in-Not g t c =
+    let own = ap (λ y. own_condition (program_in c.args.names.now) (scope_in c.args.scope.now) y c.args.from c.args.free (lists_of c.args.lists.now)) (unary_is c.args.e.now c.in-Unary.op Not c.in-Unary.a c.get-in-Not.result.now c.in-Unary.field-2 c.in-Unary.is c.in-Not.is c.get-in-Not.ensures) in
+    let k = same_telling (opposite (condition (program_in c.args.names.now) (scope_in c.args.scope.now) (expr_of c.get-in-Not.result.now) c.args.from c.args.free (lists_of c.args.lists.now))) (condition (program_in c.args.names.now) (scope_in c.args.scope.now) (expr_of c.args.e.now) c.args.from c.args.free (lists_of c.args.lists.now)) c.args.drafts.now.items c.lower_opposite.new.drafts.items (lists_of c.lower_opposite.new.lists) c.lower_opposite.result (by_its_own (program_in c.args.names.now) (scope_in c.args.scope.now) (expr_of c.args.e.now) c.args.from c.args.free (lists_of c.args.lists.now) _ own)
+    (record { code = c.lower_opposite.ensures.code; lists = c.lower_opposite.ensures.lists; tested = c.lower_opposite.ensures.tested; fails = c.lower_opposite.ensures.fails }) in
+    record { code = k.code; lists = k.lists; tested = k.tested; fails = k.fails }
+
+pub lower_condition-returns-in-Negate : goal.lower_condition-returns-in-Negate
+lower_condition-returns-in-Negate g t c =
+    let own = ap (λ y. own_condition (program_in c.args.names.now) (scope_in c.args.scope.now) y c.args.from c.args.free (lists_of c.args.lists.now)) (unary_is c.args.e.now c.in-Unary.op Negate c.in-Unary.a c.in-Unary.a c.in-Unary.field-2 c.in-Unary.is c.in-Negate.is refl) in
+    let k = same_telling (by_value (emitted (program_in c.args.names.now) (scope_in c.args.scope.now) (expr_of c.args.e.now) c.args.from c.args.free c.args.free (lists_of c.args.lists.now)).code (emitted (program_in c.args.names.now) (scope_in c.args.scope.now) (expr_of c.args.e.now) c.args.from c.args.free c.args.free (lists_of c.args.lists.now)).lists (emitted (program_in c.args.names.now) (scope_in c.args.scope.now) (expr_of c.args.e.now) c.args.from c.args.free c.args.free (lists_of c.args.lists.now)).held) (condition (program_in c.args.names.now) (scope_in c.args.scope.now) (expr_of c.args.e.now) c.args.from c.args.free (lists_of c.args.lists.now)) c.args.drafts.now.items c.lower_value.new.drafts.items (lists_of c.lower_value.new.lists) c.lower_value.result (by_its_value (program_in c.args.names.now) (scope_in c.args.scope.now) (expr_of c.args.e.now) c.args.from c.args.free (lists_of c.args.lists.now) own)
+    (record { code = c.lower_value.ensures.code; lists = c.lower_value.ensures.lists; tested = c.lower_value.ensures.tested; fails = c.lower_value.ensures.fails }) in
+    record { code = k.code; lists = k.lists; tested = k.tested; fails = k.fails }
+
+pub lower_condition-returns-in-Complement : goal.lower_condition-returns-in-Complement
+lower_condition-returns-in-Complement g t c =
+    let own = ap (λ y. own_condition (program_in c.args.names.now) (scope_in c.args.scope.now) y c.args.from c.args.free (lists_of c.args.lists.now)) (unary_is c.args.e.now c.in-Unary.op Complement c.in-Unary.a c.in-Unary.a c.in-Unary.field-2 c.in-Unary.is c.in-Complement.is refl) in
+    let k = same_telling (by_value (emitted (program_in c.args.names.now) (scope_in c.args.scope.now) (expr_of c.args.e.now) c.args.from c.args.free c.args.free (lists_of c.args.lists.now)).code (emitted (program_in c.args.names.now) (scope_in c.args.scope.now) (expr_of c.args.e.now) c.args.from c.args.free c.args.free (lists_of c.args.lists.now)).lists (emitted (program_in c.args.names.now) (scope_in c.args.scope.now) (expr_of c.args.e.now) c.args.from c.args.free c.args.free (lists_of c.args.lists.now)).held) (condition (program_in c.args.names.now) (scope_in c.args.scope.now) (expr_of c.args.e.now) c.args.from c.args.free (lists_of c.args.lists.now)) c.args.drafts.now.items c.lower_value-in-Complement.new.drafts.items (lists_of c.lower_value-in-Complement.new.lists) c.lower_value-in-Complement.result (by_its_value (program_in c.args.names.now) (scope_in c.args.scope.now) (expr_of c.args.e.now) c.args.from c.args.free (lists_of c.args.lists.now) own)
+    (record { code = c.lower_value-in-Complement.ensures.code; lists = c.lower_value-in-Complement.ensures.lists; tested = c.lower_value-in-Complement.ensures.tested; fails = c.lower_value-in-Complement.ensures.fails }) in
+    record { code = k.code; lists = k.lists; tested = k.tested; fails = k.fails }
+
+pub lower_condition-returns-in-Element : goal.lower_condition-returns-in-Element
+lower_condition-returns-in-Element g t c =
+    let own = ap (λ y. own_condition (program_in c.args.names.now) (scope_in c.args.scope.now) y c.args.from c.args.free (lists_of c.args.lists.now)) (element_is c.args.e.now c.in-Element.field-0 c.in-Element.field-1 c.in-Element.field-1 c.in-Element.field-2 c.in-Element.is refl) in
+    let k = same_telling (by_value (emitted (program_in c.args.names.now) (scope_in c.args.scope.now) (expr_of c.args.e.now) c.args.from c.args.free c.args.free (lists_of c.args.lists.now)).code (emitted (program_in c.args.names.now) (scope_in c.args.scope.now) (expr_of c.args.e.now) c.args.from c.args.free c.args.free (lists_of c.args.lists.now)).lists (emitted (program_in c.args.names.now) (scope_in c.args.scope.now) (expr_of c.args.e.now) c.args.from c.args.free c.args.free (lists_of c.args.lists.now)).held) (condition (program_in c.args.names.now) (scope_in c.args.scope.now) (expr_of c.args.e.now) c.args.from c.args.free (lists_of c.args.lists.now)) c.args.drafts.now.items c.lower_value-in-Element.new.drafts.items (lists_of c.lower_value-in-Element.new.lists) c.lower_value-in-Element.result (by_its_value (program_in c.args.names.now) (scope_in c.args.scope.now) (expr_of c.args.e.now) c.args.from c.args.free (lists_of c.args.lists.now) own)
+    (record { code = c.lower_value-in-Element.ensures.code; lists = c.lower_value-in-Element.ensures.lists; tested = c.lower_value-in-Element.ensures.tested; fails = c.lower_value-in-Element.ensures.fails }) in
+    record { code = k.code; lists = k.lists; tested = k.tested; fails = k.fails }
+
+pub lower_condition-returns-in-Call : goal.lower_condition-returns-in-Call
+lower_condition-returns-in-Call g t c =
+    let own = ap (λ y. own_condition (program_in c.args.names.now) (scope_in c.args.scope.now) y c.args.from c.args.free (lists_of c.args.lists.now)) (call_is c.args.e.now c.in-Call.field-0 c.in-Call.field-1 c.in-Call.field-1 c.in-Call.field-2 c.in-Call.is refl) in
+    let k = same_telling (by_value (emitted (program_in c.args.names.now) (scope_in c.args.scope.now) (expr_of c.args.e.now) c.args.from c.args.free c.args.free (lists_of c.args.lists.now)).code (emitted (program_in c.args.names.now) (scope_in c.args.scope.now) (expr_of c.args.e.now) c.args.from c.args.free c.args.free (lists_of c.args.lists.now)).lists (emitted (program_in c.args.names.now) (scope_in c.args.scope.now) (expr_of c.args.e.now) c.args.from c.args.free c.args.free (lists_of c.args.lists.now)).held) (condition (program_in c.args.names.now) (scope_in c.args.scope.now) (expr_of c.args.e.now) c.args.from c.args.free (lists_of c.args.lists.now)) c.args.drafts.now.items c.lower_value-in-Call.new.drafts.items (lists_of c.lower_value-in-Call.new.lists) c.lower_value-in-Call.result (by_its_value (program_in c.args.names.now) (scope_in c.args.scope.now) (expr_of c.args.e.now) c.args.from c.args.free (lists_of c.args.lists.now) own)
+    (record { code = c.lower_value-in-Call.ensures.code; lists = c.lower_value-in-Call.ensures.lists; tested = c.lower_value-in-Call.ensures.tested; fails = c.lower_value-in-Call.ensures.fails }) in
+    record { code = k.code; lists = k.lists; tested = k.tested; fails = k.fails }
+
+pub lower_condition-returns-in-Conditional : goal.lower_condition-returns-in-Conditional
+lower_condition-returns-in-Conditional g t c =
+    let own = ap (λ y. own_condition (program_in c.args.names.now) (scope_in c.args.scope.now) y c.args.from c.args.free (lists_of c.args.lists.now)) (conditional_is c.args.e.now c.in-Conditional.field-0 c.in-Conditional.field-1 c.in-Conditional.field-2 c.in-Conditional.field-0 c.in-Conditional.field-1 c.in-Conditional.field-2 c.in-Conditional.field-3 c.in-Conditional.is refl refl refl) in
+    let k = same_telling (by_value (emitted (program_in c.args.names.now) (scope_in c.args.scope.now) (expr_of c.args.e.now) c.args.from c.args.free c.args.free (lists_of c.args.lists.now)).code (emitted (program_in c.args.names.now) (scope_in c.args.scope.now) (expr_of c.args.e.now) c.args.from c.args.free c.args.free (lists_of c.args.lists.now)).lists (emitted (program_in c.args.names.now) (scope_in c.args.scope.now) (expr_of c.args.e.now) c.args.from c.args.free c.args.free (lists_of c.args.lists.now)).held) (condition (program_in c.args.names.now) (scope_in c.args.scope.now) (expr_of c.args.e.now) c.args.from c.args.free (lists_of c.args.lists.now)) c.args.drafts.now.items c.lower_value-in-Conditional.new.drafts.items (lists_of c.lower_value-in-Conditional.new.lists) c.lower_value-in-Conditional.result (by_its_value (program_in c.args.names.now) (scope_in c.args.scope.now) (expr_of c.args.e.now) c.args.from c.args.free (lists_of c.args.lists.now) own)
+    (record { code = c.lower_value-in-Conditional.ensures.code; lists = c.lower_value-in-Conditional.ensures.lists; tested = c.lower_value-in-Conditional.ensures.tested; fails = c.lower_value-in-Conditional.ensures.fails }) in
+    record { code = k.code; lists = k.lists; tested = k.tested; fails = k.fails }

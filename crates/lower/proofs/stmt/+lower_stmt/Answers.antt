@@ -3,6 +3,7 @@ use denote.Param.Weighed.{most, at_most}
 use Rattle.syntax.specs.declared.tree.Stmt.{the_lemmas}
 use Rattle.syntax.specs.declared.tree.Stmt.TheVariants as own_stmt
 use Rattle.syntax.proofs.tree.Stmt.TheLaws.{the_size}
+use Rattle.syntax.proofs.Seen.{stmt_of_return}
 use Rattle.syntax.specs.Views.{expr_of, simple_of, start_of, stmt_of, stmts_of}
 use Rattle.lowered.specs.Statements.{locals_after}
 use Rattle.lower.specs.Lists.{lists_of}
@@ -13,7 +14,7 @@ use Rattle.lower.specs.inner.Limits.{NeedsMore}
 use Rattle.lower.proofs.Failing.{passed_on, if_test, if_branch, if_else_test, if_else_first, if_else_second, while_body, while_test, do_body, do_test, transaction_body, for_first, for_body, for_next, for_last}
 use Rattle.lower.proofs.Written.{first_within, next_code, next_lists, next_place, next_scope, last_code, last_lists, last_place, last_scope}
 use Rattle.lower.proofs.Leaving.{start_longer, start_left, stmt_longer, stmt_left, stmts_longer, stmts_left}
-use Rattle.lower.proofs.Made.{if_made, if_else_made, while_made, do_made, for_made, transaction_made, declare_is, print_is, block_is, if_is, if_else_is, while_is, do_is, transaction_is}
+use Rattle.lower.proofs.Made.{if_made, if_else_made, while_made, do_made, for_made, transaction_made, declare_is, print_is, block_is, if_is, if_else_is, while_is, do_is, for_is, transaction_is}
 use Rattle.lower.proofs.stmt.+lower_stmt.Goals as goal
 
 holds : {X Y P : Type 0} (r : Result X Y) → P → OnOk r P
@@ -495,3 +496,25 @@ pub lower_if_else-lower_scoped-requires-2 : goal.lower_if_else-lower_scoped-requ
 lower_if_else-lower_scoped-requires-2 g t c κs within =
     let size = simp the_lemmas at (ap (the_size g.row.A g.A.Allocator g.A.laws) c.requires.parts) in
     (omega (arith, size, c.decreases), within)
+
+pub lower_stmt-returns-in-For : goal.lower_stmt-returns-in-For
+lower_stmt-returns-in-For g t c =
+    let is = for_is c.args.s.now c.in-For.head c.get-in-For.result.now c.in-For.body c.get-in-For-2.result.now c.in-For.is c.get-in-For.ensures c.get-in-For-2.ensures in
+    record {
+      scope = subst (λ z. OnOk c.lower_for.result (scope_in c.lower_for.new.scope ≡ locals_after z (scope_in c.args.scope.now))) (sym is) c.lower_for.ensures.scope;
+      code = subst (λ z. OnOk c.lower_for.result (c.lower_for.new.code.items ≡ c.args.code.now.items ++ (written (program_in c.args.names.now) z c.args.exits (scope_in c.args.scope.now) c.args.from (lists_of c.args.lists.now)).code)) (sym is) c.lower_for.ensures.code;
+      lists = subst (λ z. OnOk c.lower_for.result (lists_of c.lower_for.new.lists ≡ (written (program_in c.args.names.now) z c.args.exits (scope_in c.args.scope.now) c.args.from (lists_of c.args.lists.now)).lists)) (sym is) c.lower_for.ensures.lists;
+      place = subst (λ z. IfOk c.lower_for.result (λ to. to ≡ (written (program_in c.args.names.now) z c.args.exits (scope_in c.args.scope.now) c.args.from (lists_of c.args.lists.now)).to)) (sym is) c.lower_for.ensures.place;
+      fails = subst (λ z. IfErr c.lower_for.result (λ why. NeedsMore why (written (program_in c.args.names.now) z c.args.exits (scope_in c.args.scope.now) c.args.from (lists_of c.args.lists.now)).lists.registers)) (sym is) c.lower_for.ensures.fails;
+    }
+
+pub lower_stmt-returns-in-Return : goal.lower_stmt-returns-in-Return
+lower_stmt-returns-in-Return g t c =
+    let is = ap stmt_of c.in-Return.is ∙ stmt_of_return c.in-Return.e c.in-Return.field-1 in
+    record {
+      scope = holds c.lower_return.result (sym (ap (λ s. locals_after s (scope_in c.args.scope.now)) is));
+      code = subst (λ z. OnOk c.lower_return.result (c.lower_return.new.code.items ≡ c.args.code.now.items ++ (written (program_in c.args.names.now) z c.args.exits (scope_in c.args.scope.now) c.args.from (lists_of c.args.lists.now)).code)) (sym is) c.lower_return.ensures.code;
+      lists = subst (λ z. OnOk c.lower_return.result (lists_of c.lower_return.new.lists ≡ (written (program_in c.args.names.now) z c.args.exits (scope_in c.args.scope.now) c.args.from (lists_of c.args.lists.now)).lists)) (sym is) c.lower_return.ensures.lists;
+      place = subst (λ z. IfOk c.lower_return.result (λ to. to ≡ (written (program_in c.args.names.now) z c.args.exits (scope_in c.args.scope.now) c.args.from (lists_of c.args.lists.now)).to)) (sym is) c.lower_return.ensures.place;
+      fails = subst (λ z. IfErr c.lower_return.result (λ why. NeedsMore why (written (program_in c.args.names.now) z c.args.exits (scope_in c.args.scope.now) c.args.from (lists_of c.args.lists.now)).lists.registers)) (sym is) c.lower_return.ensures.fails;
+    }
