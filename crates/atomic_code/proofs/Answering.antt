@@ -1,12 +1,10 @@
 -- What each function of a thread leaves is what the instruction comes to.
-use Rattle.std.proofs.Common.{◌≡◌, ◌<◌, ℕ, Bool, true, false, List, [], ◌∷◌, ◌++◌, Option, None, Some, refl, sym, ◌∙◌, ap, subst, length, slice_index}
+use Rattle.std.proofs.Common.{◌≡◌, ◌<◌, ℕ, false, List, [], ◌∷◌, ◌++◌, Option, None, Some, refl, sym, ◌∙◌, ap, subst, length, slice_index}
 use Rattle.std.specs.Prelude.{Vec, slice_set}
-use Rattle.syntax.specs.declared.numbers.Trap.{Trap}
-use Rattle.syntax.specs.declared.numbers.Status.{Status}
-use Rattle.syntax.specs.declared.numbers.Status.TheVariants.{Running, Ended as HasEnded, Trapped as HasTrapped}
+use Rattle.syntax.specs.declared.numbers.Status.TheVariants.{Running}
 use Rattle.syntax.specs.Behaviours.{Memory, IsMemory}
 use Rattle.nesting.specs.Begins.{Saved}
-use Rattle.bytecode.specs.Effects.Effect.{Pure, Print, Begin, Read, Write, Commit, Cancel, Irrevocable, Traps, End as Ends}
+use Rattle.bytecode.specs.Effects.Effect.{Pure, Print, Begin, Read, Write, Commit, Cancel, Irrevocable}
 use Rattle.bytecode.specs.Code.{Code, Configuration, effect}
 use Rattle.bytecode.specs.Sequential.{OpenTransaction, InnerTransaction}
 use Rattle.bytecode.specs.Valid.{IsValid, bounds_of}
@@ -14,12 +12,12 @@ use Rattle.bytecode.proofs.Fits.{fits_cells}
 use Rattle.frames.proofs.Keeping.{begins_stay_open}
 use Rattle.frames.specs.Open.{CanRestore, IsConfigurationOf, MayStand, restored, saved_in}
 use Rattle.atomic_code.specs.declared.kept.Signal.{Signal}
-use Rattle.atomic_code.specs.declared.kept.Signal.TheVariants.{Goes, Leaves, Wants}
+use Rattle.atomic_code.specs.declared.kept.Signal.TheVariants.{Goes, Leaves}
 use Rattle.atomic_code.specs.Threads.{Thread, AreMemories, Runs, begins_of, cancelled_from}
 use Rattle.atomic_code.specs.inner.Making.{Makes, MayPrint, at_hand, begun_in, made_irrevocable, with_memory}
 use Rattle.atomic_code.proofs.Memories.{sized}
 use Rattle.atomic_code.proofs.Making as making
-use Rattle.atomic_code.proofs.Making.{at, over, same_thread}
+use Rattle.atomic_code.proofs.Making.{at, same_thread}
 
 -- the memory that is at hand
 pub at_some : {M : Type 0} (f : M → Memory) (o : Option M) (x : M) → o ≡ Some x → at_hand f o ≡ Some (f x)
@@ -38,61 +36,21 @@ module _ (code : Code) (v : IsValid code) (k : Thread) (running : k.status ≡ R
         (l : Thread) → l.configuration ≡ d → l.open_in ≡ p → l.text ≡ u → l.status ≡ k.status → Makes code m k s l
     goes o p d u s e h l cl ol tl sl = making.makes_of code v m k l (at c o k.text) (at d p u) s (same_thread k (at c o k.text) refl e refl running) (same_thread l (at d p u) cl ol tl (sl ∙ running)) h
 
-    -- one that is over
-    stops : {A : Type 0} (o : Option (OpenTransaction Saved)) (st : Status) (s : Signal A) → k.open_in ≡ o → Makes code m (at c o k.text) s (over c k.text st) →
-        (l : Thread) → l.configuration ≡ c → l.open_in ≡ None → l.text ≡ k.text → l.status ≡ st → Makes code m k s l
-    stops o st s e h l cl ol tl sl = making.makes_of code v m k l (at c o k.text) (over c k.text st) s (same_thread k (at c o k.text) refl e refl running) (same_thread l (over c k.text st) cl ol tl sl) h
-
     pub goes_pure : {A : Type 0} (l : Thread) → effect code c ≡ Pure l.configuration → l.open_in ≡ k.open_in → l.text ≡ k.text → l.status ≡ k.status → Makes {A = A} code m k Goes l
     goes_pure l e ol tl sl = goes k.open_in k.open_in l.configuration k.text Goes refl (making.pure code v m c k.open_in k.text (runs_at k.open_in refl) l.configuration e) l refl ol tl sl
 
     pub goes_printing : {A : Type 0} (l : Thread) (piece : List ℕ) (d : Configuration) → effect code c ≡ Print piece d → MayPrint k.open_in → l.configuration ≡ d → l.open_in ≡ k.open_in → l.text ≡ k.text ++ piece → l.status ≡ k.status → Makes {A = A} code m k Goes l
     goes_printing l piece d e may cl ol tl sl = goes k.open_in k.open_in d (k.text ++ piece) Goes refl (making.prints code v m c k.open_in k.text (runs_at k.open_in refl) piece d e may) l cl ol tl sl
 
-    pub waits_to_print : {A : Type 0} (piece : List ℕ) (d : Configuration) → effect code c ≡ Print piece d → (MayPrint k.open_in → ⊥) → Makes {A = A} code m k Goes k
-    waits_to_print {A} piece d e may = by k.open_in refl may
-      where
-        unkept : (o : OpenTransaction Saved) (b : Bool) → o.kept ≡ b → (o.kept ≡ true → ⊥) → o.kept ≡ false
-        unkept o true e h = absurd (h e)
-        unkept o false e h = e
-
-        by : (o : Option (OpenTransaction Saved)) → k.open_in ≡ o → (MayPrint o → ⊥) → Makes {A = A} code m k Goes k
-        by None op h = absurd (h tt)
-        by (Some o) op h = goes (Some o) (Some o) c k.text Goes op (making.print_waits code v m c o k.text (runs_at (Some o) op) piece d e (unkept o o.kept refl h)) k refl op refl refl
-
     module _ (none : k.open_in ≡ None) where
       out : Runs code (at c None k.text)
       out = runs_at None none
 
-      still : {A : Type 0} → Makes {A = A} code m (at c None k.text) Goes (at c None k.text) → (l : Thread) → l ≡ k → Makes {A = A} code m k Goes l
-      still {A} h l same = subst (λ z. Makes {A = A} code m k Goes z) (sym same) (goes None None c k.text Goes none h k refl none refl refl)
-
-      pub read_outside : {A : Type 0} (l : Thread) (a : ℕ) (f : ℕ → Configuration) → effect code c ≡ Read a f → l ≡ k → Makes {A = A} code m k Goes l
-      read_outside l a f e same = still (making.read_outside code v m c k.text out a f e) l same
-
-      pub write_outside : {A : Type 0} (l : Thread) (a w : ℕ) (d : Configuration) → effect code c ≡ Write a w d → l ≡ k → Makes {A = A} code m k Goes l
-      write_outside l a w d e same = still (making.write_outside code v m c k.text out a w d e) l same
-
-      pub commit_outside : {A : Type 0} (l : Thread) (d : Configuration) → effect code c ≡ Commit d → l ≡ k → Makes {A = A} code m k Goes l
-      commit_outside l d e same = still (making.commit_outside code v m c k.text out d e) l same
-
-      pub cancel_outside : {A : Type 0} (l : Thread) → effect code c ≡ Cancel → l ≡ k → Makes {A = A} code m k Goes l
-      cancel_outside l e same = still (making.cancel_outside code v m c k.text out e) l same
-
       pub begins_outside : {A : Type 0} (l : Thread) (mem : Memory) (d e : Configuration) → effect code c ≡ Begin d e → m ≡ Some mem → IsMemory (bounds_of code) mem → l.configuration ≡ d → l.open_in ≡ Some (begun_in c mem) → l.text ≡ k.text → l.status ≡ k.status → Makes {A = A} code m k Goes l
       begins_outside l mem d e x h is cl ol tl sl = goes None (Some (begun_in c mem)) d k.text Goes none (making.begins_outside code v m c k.text out mem d e x h is) l cl ol tl sl
 
-      pub wants_outside : {A : Type 0} (l : Thread) (d e : Configuration) → effect code c ≡ Begin d e → m ≡ None → l ≡ k → Makes {A = A} code m k Wants l
-      wants_outside {A} l d e x h same = subst (λ z. Makes {A = A} code m k Wants z) (sym same) (goes None None c k.text Wants none (making.wants_outside code v m c k.text out d e x h) k refl none refl refl)
-
       pub irrevocable_outside : {A : Type 0} (l : Thread) (d : Configuration) → effect code c ≡ Irrevocable d → l.configuration ≡ d → l.open_in ≡ None → l.text ≡ k.text → l.status ≡ k.status → Makes {A = A} code m k Goes l
       irrevocable_outside l d e cl ol tl sl = goes None None d k.text Goes none (making.irrevocable_outside code v m c k.text out d e) l cl ol tl sl
-
-      pub traps_outside : {A : Type 0} (l : Thread) (cause : Trap) → effect code c ≡ Traps cause → l.configuration ≡ c → l.open_in ≡ None → l.text ≡ k.text → l.status ≡ HasTrapped cause → Makes {A = A} code m k Goes l
-      traps_outside l cause e cl ol tl sl = stops None (HasTrapped cause) Goes none (making.traps_outside code v m c k.text out cause e) l cl ol tl sl
-
-      pub ends_outside : {A : Type 0} (l : Thread) → effect code c ≡ Ends → l.configuration ≡ c → l.open_in ≡ None → l.text ≡ k.text → l.status ≡ HasEnded → Makes {A = A} code m k Goes l
-      ends_outside l e cl ol tl sl = stops None HasEnded Goes none (making.ends_outside code v m c k.text out e) l cl ol tl sl
 
     module _ (o : OpenTransaction Saved) (some : k.open_in ≡ Some o) where
       inn : Runs code (at c (Some o) k.text)
@@ -109,12 +67,6 @@ module _ (code : Code) (v : IsValid code) (k : Thread) (running : k.status ≡ R
 
       pub begins_inside : {A : Type 0} (l : Thread) (d e : Configuration) → effect code c ≡ Begin d e → l.configuration ≡ d → l.open_in ≡ Some (with_memory o o.mem (record { cancelled = saved_in c; mem = o.mem } ∷ o.inner)) → l.text ≡ k.text → l.status ≡ k.status → Makes {A = A} code m k Goes l
       begins_inside l d e x cl ol tl sl = goes (Some o) (Some (with_memory o o.mem (record { cancelled = saved_in c; mem = o.mem } ∷ o.inner))) d k.text Goes some (making.begins_inside code v m c o k.text inn d e x) l cl ol tl sl
-
-      pub traps_inside : {A : Type 0} (l : Thread) (cause : Trap) (left : Vec ℕ A) → effect code c ≡ Traps cause → left.items ≡ o.found → l.configuration ≡ c → l.open_in ≡ None → l.text ≡ k.text → l.status ≡ HasTrapped cause → Makes {A = A} code m k (Leaves left) l
-      traps_inside l cause left e h cl ol tl sl = stops (Some o) (HasTrapped cause) (Leaves left) some (making.traps_inside code v m c o k.text inn cause left e h) l cl ol tl sl
-
-      pub ends_inside : {A : Type 0} (l : Thread) → effect code c ≡ Ends → l ≡ k → Makes {A = A} code m k Goes l
-      ends_inside {A} l e same = subst (λ z. Makes {A = A} code m k Goes z) (sym same) (goes (Some o) (Some o) c k.text Goes some (making.ends_inside code v m c o k.text inn e) k refl some refl refl)
 
     -- the innermost of several is closed
     module _ (o : OpenTransaction Saved) (i : InnerTransaction Saved) (some : k.open_in ≡ Some (with_memory o o.mem (i ∷ o.inner))) where
@@ -140,16 +92,6 @@ module _ (code : Code) (v : IsValid code) (k : Thread) (running : k.status ≡ R
 
       pub cancel_outermost : {A : Type 0} (l : Thread) (left : Vec ℕ A) → effect code c ≡ Cancel → o.kept ≡ false → left.items ≡ o.found → l.configuration ≡ cancelled_from code c o.cancelled → l.open_in ≡ None → l.text ≡ k.text → l.status ≡ k.status → Makes {A = A} code m k (Leaves left) l
       cancel_outermost l left e f h cl ol tl sl = goes (Some (with_memory o o.mem [])) None (cancelled_from code c o.cancelled) k.text (Leaves left) whole (making.cancel_outermost code v m c o k.text one left e f h) l cl ol tl sl
-
-      pub cancel_waits : {A : Type 0} (l : Thread) → effect code c ≡ Cancel → o.kept ≡ true → l.configuration ≡ c → l.open_in ≡ Some o → l.text ≡ k.text → l.status ≡ k.status → Makes {A = A} code m k Goes l
-      cancel_waits l e f cl ol tl sl = goes (Some (with_memory o o.mem [])) (Some (with_memory o o.mem [])) c k.text Goes whole (making.cancel_waits code v m c o k.text one e f) l cl (ol ∙ sym some ∙ whole) tl sl
-
-  -- the thread stands where one of the code may
-  pub is_of : IsConfigurationOf code c
-  is_of = (begins_of k.open_in, runs.stands)
-
-  pub few_frames : length c.frames < 64
-  few_frames = runs.stands.few
 
   -- a shared access is to a cell of the memory
   module _ (o : OpenTransaction Saved) (some : k.open_in ≡ Some o) where

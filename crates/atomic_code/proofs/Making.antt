@@ -1,13 +1,11 @@
 -- What each instruction of a thread comes to.
-use Rattle.std.proofs.Common.{◌≡◌, ◌-◌, ℕ, suc, true, false, List, [], ◌∷◌, ◌++◌, Option, None, Some, refl, sym, ◌∙◌, ap, subst, map, length, drop, arith}
+use Rattle.std.proofs.Common.{◌≡◌, ◌-◌, ℕ, suc, false, List, [], ◌∷◌, ◌++◌, Option, None, Some, refl, sym, ◌∙◌, ap, subst, map, length, drop, arith}
 use Rattle.std.specs.Prelude.{slice_index, slice_set}
-use Rattle.syntax.specs.declared.numbers.Trap.{Trap}
-use Rattle.syntax.specs.declared.numbers.Status.{Status}
-use Rattle.syntax.specs.declared.numbers.Status.TheVariants.{Running, Ended as HasEnded, Trapped as HasTrapped}
+use Rattle.syntax.specs.declared.numbers.Status.TheVariants.{Running}
 use Rattle.syntax.specs.Behaviours.{Memory, IsMemory}
 use Rattle.nesting.specs.Begins.{Saved}
 use Rattle.bytecode.specs.Effects.{Effect, FitsCells, after_cancel}
-use Rattle.bytecode.specs.Effects.Effect.{Pure, Print, Begin, Read, Write, Commit, Cancel, Irrevocable, Traps, End as Ends}
+use Rattle.bytecode.specs.Effects.Effect.{Pure, Print, Begin, Read, Write, Commit, Cancel, Irrevocable}
 use Rattle.bytecode.specs.Code.{Code, Configuration, effect}
 use Rattle.bytecode.specs.Sequential.{Sequential, OpenTransaction, InnerTransaction, next, sequential_step, found_next, cancel_step, print_step}
 use Rattle.bytecode.specs.Valid.{IsValid, bounds_of, cells_of}
@@ -15,7 +13,7 @@ use Rattle.bytecode.proofs.Fits.{fits_cells}
 use Rattle.frames.proofs.Keeping.{begins_stay_open}
 use Rattle.frames.specs.Open.{BeginsStayOpen, MayStand, AreRestored, GoesOn, restored, saved_in}
 use Rattle.atomic_code.specs.declared.kept.Signal.{Signal}
-use Rattle.atomic_code.specs.declared.kept.Signal.TheVariants.{Goes, Leaves, Wants}
+use Rattle.atomic_code.specs.declared.kept.Signal.TheVariants.{Goes, Leaves}
 use Rattle.std.specs.Prelude.{Vec}
 use Rattle.atomic_code.specs.Threads.{Thread, cancelled_from, inner_by, transaction_by, open_by, begins_of, AreMemories, HasMemories, Runs}
 use Rattle.atomic_code.specs.Carried.{finding, to_find}
@@ -33,9 +31,6 @@ restored_saved c = ap (λ n. record { place = c.place; registers = c.registers; 
 -- a thread that runs
 abbrev pub at : Configuration → Option (OpenTransaction Saved) → List ℕ → Thread
 at c o t = record { configuration = c; open_in = o; text = t; status = Running }
-
-abbrev pub over : Configuration → List ℕ → Status → Thread
-over c t s = record { configuration = c; open_in = None; text = t; status = s }
 
 -- the same thread of the meaning, its begins seen from where it was
 abbrev state_at : Code → Option Memory → Configuration → Configuration → Option (OpenTransaction Saved) → List ℕ → Sequential Configuration
@@ -76,10 +71,6 @@ module _ (code : Code) (v : IsValid code) (m : Option Memory) where
     goes_by : (x : Effect Configuration) (d : Configuration) → effect code c ≡ x → GoesOn x d → GoesOn (effect code c) d
     goes_by x d e g = subst (λ y. GoesOn y d) (sym e) g
 
-    -- one that stands still
-    pub stays : {A : Type 0} (x : Effect Configuration) → effect code c ≡ x → sequential_step (finding code m (at c o t)) false Running (open_by (cancelled_from code c) o) x ≡ finding code m (at c o t) → Makes {A = A} code m (at c o t) Goes (at c o t)
-    stays x e h = record { makes = by_effect x e ∙ h; of = runs; left = tt }
-
     pub pure : {A : Type 0} (d : Configuration) → effect code c ≡ Pure d → Makes {A = A} code m (at c o t) Goes (at d o t)
     pure d e = moves d o t (goes_by (Pure d) d e refl) refl runs.memories (by_effect (Pure d) e ∙ is o)
       where
@@ -103,43 +94,12 @@ module _ (code : Code) (v : IsValid code) (m : Option Memory) where
         (by_effect c None t runs (Begin d e) x ∙ ap (λ fs. found_next (finding code m (at c None t)) d e fs) (ap (to_find {S = Saved} None) h)
         ∙ ap (λ q. record { configuration = d; inside = Some (record { cancelled = q; found = mem; mem = mem; inner = []; kept = false }); founds = []; lefts = []; text = t; status = Running; wants = false }) (goes_on_at code c d e x))
 
-    pub wants_outside : {A : Type 0} (d e : Configuration) → effect code c ≡ Begin d e → m ≡ None → Makes {A = A} code m (at c None t) Wants (at c None t)
-    wants_outside d e x h = record {
-      makes = by_effect c None t runs (Begin d e) x ∙ ap (λ fs. found_next (finding code m (at c None t)) d e fs) (ap (to_find {S = Saved} None) h) ∙ ap (λ fs. record { configuration = c; inside = None; founds = fs; lefts = []; text = t; status = Running; wants = true }) (ap (to_find {S = Saved} None) h);
-      of = runs;
-      left = h;
-    }
-
     pub irrevocable_outside : {A : Type 0} (d : Configuration) → effect code c ≡ Irrevocable d → Makes {A = A} code m (at c None t) Goes (at d None t)
     irrevocable_outside d e = moves c None t runs d None t (goes_by c None t runs (Irrevocable d) d e refl) refl tt (by_effect c None t runs (Irrevocable d) e)
-
-    pub traps_outside : {A : Type 0} (cause : Trap) → effect code c ≡ Traps cause → Makes {A = A} code m (at c None t) Goes (over c t (HasTrapped cause))
-    traps_outside cause e = record { makes = by_effect c None t runs (Traps cause) e; of = refl; left = tt }
-
-    pub ends_outside : {A : Type 0} → effect code c ≡ Ends → Makes {A = A} code m (at c None t) Goes (over c t HasEnded)
-    ends_outside e = record { makes = by_effect c None t runs Ends e; of = refl; left = tt }
-
-    pub read_outside : {A : Type 0} (a : ℕ) (f : ℕ → Configuration) → effect code c ≡ Read a f → Makes {A = A} code m (at c None t) Goes (at c None t)
-    read_outside a f e = stays c None t runs (Read a f) e refl
-
-    pub write_outside : {A : Type 0} (a w : ℕ) (d : Configuration) → effect code c ≡ Write a w d → Makes {A = A} code m (at c None t) Goes (at c None t)
-    write_outside a w d e = stays c None t runs (Write a w d) e refl
-
-    pub commit_outside : {A : Type 0} (d : Configuration) → effect code c ≡ Commit d → Makes {A = A} code m (at c None t) Goes (at c None t)
-    commit_outside d e = stays c None t runs (Commit d) e refl
-
-    pub cancel_outside : {A : Type 0} → effect code c ≡ Cancel → Makes {A = A} code m (at c None t) Goes (at c None t)
-    cancel_outside e = stays c None t runs Cancel e refl
 
   module _ (c : Configuration) (o : OpenTransaction Saved) (t : List ℕ) (runs : Runs code (at c (Some o) t)) where
     abbrev words : AreMemories (bounds_of code) o
     words = runs.memories
-
-    pub print_waits : {A : Type 0} (piece : List ℕ) (d : Configuration) → effect code c ≡ Print piece d → o.kept ≡ false → Makes {A = A} code m (at c (Some o) t) Goes (at c (Some o) t)
-    print_waits piece d e h = stays c (Some o) t runs (Print piece d) e (ap (λ b. print_step (finding code m (at c (Some o) t)) piece d b) h)
-
-    pub ends_inside : {A : Type 0} → effect code c ≡ Ends → Makes {A = A} code m (at c (Some o) t) Goes (at c (Some o) t)
-    ends_inside e = stays c (Some o) t runs Ends e refl
 
     pub read_inside : {A : Type 0} (a : ℕ) (f : ℕ → Configuration) → effect code c ≡ Read a f → Makes {A = A} code m (at c (Some o) t) Goes (at (f (slice_index o.mem a)) (Some o) t)
     read_inside a f e =
@@ -163,13 +123,6 @@ module _ (code : Code) (v : IsValid code) (m : Option Memory) where
         goes_to c (Some o) t runs d (Some p) t open_one.0 (ap (λ y. y ∷ map (restored d) (begins_of (Some o))) back ∙ ap (λ ys. restored c (saved_in c) ∷ ys) open_one.2) (record { found = words.found; now = words.now; inner = (words.now, words.inner) })
         (by_effect c (Some o) t runs (Begin d e) x
         ∙ ap (λ q. record { configuration = d; inside = Some (record { cancelled = cancelled_from code c o.cancelled; found = o.found; mem = o.mem; inner = record { cancelled = q; mem = o.mem } ∷ map (inner_by (cancelled_from code c)) o.inner; kept = o.kept }); founds = []; lefts = []; text = t; status = Running; wants = false }) (goes_on_at code c d e x))
-
-    pub traps_inside : {A : Type 0} (cause : Trap) (left : Vec ℕ A) → effect code c ≡ Traps cause → left.items ≡ o.found → Makes {A = A} code m (at c (Some o) t) (Leaves left) (over c t (HasTrapped cause))
-    traps_inside cause left e h = record {
-      makes = by_effect c (Some o) t runs (Traps cause) e ∙ ap (λ (l : Memory). record { configuration = c; inside = None; founds = []; lefts = l ∷ []; text = t; status = HasTrapped cause; wants = false }) (sym h);
-      of = refl;
-      left = (subst (IsMemory (bounds_of code)) (sym h) words.found, refl);
-    }
 
   -- the innermost of several
   module _ (c : Configuration) (o : OpenTransaction Saved) (i : InnerTransaction Saved) (is : List (InnerTransaction Saved)) (t : List ℕ) (runs : Runs code (at c (Some (with_memory o o.mem (i ∷ is))) t)) where
@@ -221,9 +174,6 @@ module _ (code : Code) (v : IsValid code) (m : Option Memory) where
           of = record { stands = subst (MayStand code d) tl r.3; memories = tt };
           left = (subst (IsMemory (bounds_of code)) (sym l) both.now, refl);
         }
-
-    pub cancel_waits : {A : Type 0} → effect code c ≡ Cancel → o.kept ≡ true → Makes {A = A} code m (at c (Some alone) t) Goes (at c (Some alone) t)
-    cancel_waits e h = stays c (Some alone) t runs Cancel e (ap (λ b. cancel_step (finding code m (at c (Some alone) t)) (transaction_by (cancelled_from code c) alone) [] b) h)
 
     pub cancel_outermost : {A : Type 0} (left : Vec ℕ A) → effect code c ≡ Cancel → o.kept ≡ false → left.items ≡ o.found → Makes {A = A} code m (at c (Some alone) t) (Leaves left) (at (cancelled_from code c o.cancelled) None t)
     cancel_outermost left e h l =

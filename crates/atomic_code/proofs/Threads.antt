@@ -1,6 +1,5 @@
 -- Threads of a code, at their beginning and later.
-use Rattle.std.proofs.Common.{◌≡◌, ◌+◌, ◌<◌, ◌^◌, ℕ, List, [], Option, None, Some, refl, sym, subst, arith}
-use Rattle.std.specs.Prelude.{Vec}
+use Rattle.std.proofs.Common.{◌≡◌, ◌+◌, ◌<◌, ◌^◌, ℕ, List, [], None, Some, refl, sym, subst, arith}
 use Rattle.syntax.specs.declared.numbers.Status.{Status}
 use Rattle.syntax.specs.declared.numbers.Status.TheVariants.{Running, Ended as HasEnded, Trapped as HasTrapped}
 use Rattle.syntax.specs.Behaviours.{Memory}
@@ -9,11 +8,9 @@ use Rattle.bytecode.specs.Beginning.{beginning}
 use Rattle.bytecode.specs.Valid.{IsValid}
 use Rattle.frames.specs.Open.{MayStand}
 use Rattle.frames.proofs.Keeping.{begins_stay_open}
-use Rattle.atomic_code.specs.declared.kept.Signal.TheVariants.{Goes, Leaves, Wants}
 use Rattle.atomic_code.specs.Threads.{Thread, ThreadState, Runs, IsStanding, IsThreadOf}
-use Rattle.atomic_code.specs.declared.ran.Ran.{Ran}
-use Rattle.atomic_code.specs.Carried.{CarriesOn, BreaksOff, end_by, memory_of}
-use Rattle.atomic_code.specs.inner.Carrying.{ComesTo, Refused}
+use Rattle.atomic_code.specs.Carried.{CarriesOn, BreaksOff, end_by}
+use Rattle.atomic_code.specs.inner.Carrying.{Refused}
 use Rattle.atomic_code.proofs.Carrying.{goes_until}
 
 pub runs_at_first : (code : Code) → IsValid code → (c : Configuration) (text : List ℕ) (t : ℕ) → t < 2 ^ 32 → c ≡ beginning code t →
@@ -39,20 +36,6 @@ pub runs_by : (s : Status) → None ≡ end_by s → s ≡ Running
 runs_by Running e = refl
 runs_by HasEnded e = absurd (cc)
 runs_by (HasTrapped cause) e = absurd (cc)
-
-module _ {A : Type 0} (code : Code) (f : Memory) (most : ℕ) (k before : Thread) (same : k ≡ before) (made : ℕ) (l : Thread) where
-  pub carries_on : ComesTo {A = A} code (Some f) most k made Goes l → CarriesOn code f most before made None l
-  carries_on h = subst (λ z. CarriesOn code f most z made None l) same (record { few = h.few; does = h.does; goes = h.goes; pauses = h.pauses })
-
-  pub carries_on_to : (left : Vec ℕ A) → ComesTo {A = A} code (Some f) most k made (Leaves left) l → CarriesOn code f most before made (Some left.items) l
-  carries_on_to left h = subst (λ z. CarriesOn code f most z made (Some left.items) l) same (record { few = h.few; does = h.does; goes = h.goes; pauses = h.pauses })
-
-  pub never_wants : ComesTo {A = A} code (Some f) most k made Wants l → ⊥
-  never_wants h = (let e = h.left in cc)
-
-  -- what is told of it
-  pub told_by : (r : Ran A) (left : Option (Vec ℕ A)) → r.steps ≡ made → r.left ≡ left → CarriesOn code f most before made (memory_of left) l → CarriesOn code f most before r.steps (memory_of r.left) l
-  told_by r left e h x = subst (λ n. CarriesOn code f most before n (memory_of r.left) l) (sym e) (subst (λ o. CarriesOn code f most before made (memory_of o) l) (sym h) x)
 
 -- one that breaks off
 module _ (code : Code) (v : IsValid code) (f : Memory) (most : ℕ) (k : Thread) (made : ℕ) (l : Thread) (h : Refused code (Some f) most k made l) where

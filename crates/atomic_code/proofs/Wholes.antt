@@ -37,9 +37,6 @@ memory_found bounds [] n h = tt
 memory_found bounds (f ∷ fs) zero h = h.0
 memory_found bounds (f ∷ fs) (suc n) h = memory_found bounds fs n h.1
 
-nothing_is_left : (m : Memory) (ms : List Memory) → [] ≡ m ∷ ms → ⊥
-nothing_is_left m ms e = cc e
-
 -- the outcome after all, where the thread goes no further
 finishes : (code : Code) (s t : Sequential Configuration) (most made : ℕ) → steps (effect code) made s ≡ t → made ≤ most → (made < most → next (effect code) t ≡ t) → outcome_of (steps (effect code) most s) ≡ outcome_of t
 finishes code s t most made e few stays = ap outcome_of (by (most - made) (let h : made + (most - made) ≡ most = omega arith in h))
@@ -70,10 +67,6 @@ module _ (code : Code) (t : ℕ) (fs : List Memory) (most : ℕ) where
               ∙ ap (λ z. record { configuration = b.configuration; open_in = z; text = a.text; status = a.status }) d
               ∙ ap (λ z. record { configuration = b.configuration; open_in = b.open_in; text = z; status = a.status }) e
               ∙ ap (λ z. record { configuration = b.configuration; open_in = b.open_in; text = b.text; status = z }) f
-
-  -- all instructions are made
-  pub spent : (made : ℕ) (ls : List Memory) (k : Thread) → HasComeTo code t fs most made ls k → made ≡ most → outcome_of (steps (effect code) most first) ≡ record { lefts = ls; text = k.text; end = end_of false Running }
-  spent made ls k h e = finishes code first _ most made h.does h.few (λ lt. absurd (omega arith)) ∙ ap (λ s. record { lefts = ls; text = k.text; end = end_of false s }) h.running
 
   module _ {A : Type 0} (made : ℕ) (ls : List Memory) (k : Thread) (h : HasComeTo code t fs most made ls k) (more : ℕ) (s : Signal A) (l : Thread) (x : ComesTo code (slice_get fs (length ls)) (most - made) k more s l) where
     abbrev rest : List Memory
@@ -127,11 +120,3 @@ module _ (code : Code) (t : ℕ) (fs : List Memory) (most : ℕ) where
         running = running;
         runs = subst (IsStanding code l) running x.of;
       }
-
-      -- an instruction was made
-      pub some_made : 0 < more
-      some_made = by more x.does
-        where
-          by : (n : ℕ) → steps (effect code) n (finding code (slice_get fs (length ls)) k) ≡ meant code [] (left.items ∷ []) false l → 0 < n
-          by zero e = absurd (nothing_is_left _ _ (ap (λ (z : Sequential Configuration). z.lefts) e))
-          by (suc n) e = omega arith

@@ -1,8 +1,6 @@
 //! Open transactions.
 
 ghost use Rattle.std.specs.Prelude.{◌≡◌, ◌∷◌, ◌<◌, ◌≤◌, [], List, ℕ, length, IfOk, IfSome, IfNone, OnOk, OnErr, slice_index, slice_set};
-ghost use Rattle.nesting.specs.Begins.{Saved};
-ghost use Rattle.bytecode.specs.Sequential.{InnerTransaction};
 ghost use Rattle.frames.specs.Open.{saved_in};
 ghost use Rattle.atomic_code.specs.inner.Making.{begun_in, inner_of, saved_by, transaction_of, with_memory};
 

@@ -3,7 +3,6 @@ use Rattle.std.proofs.Common.{◌≡◌, ℕ, suc, ◌+◌, ◌-◌, ◌<◌, �
 use Rattle.std.specs.Prelude.{slice_get, replicate, option_map}
 use Rattle.std.specs.Prelude.{get_or, take, map, Result, Ok, Err, IfOk}
 use Rattle.std.proofs.lemmas.Option.{slice_get-get_or, slice_get-map}
-use Rattle.std.proofs.lemmas.List.{length-replicate}
 use Rattle.bytecode.specs.Code.{Code, FunctionCode, Instr}
 use Rattle.bytecode.specs.declared.walk.Arrival.{Arrival}
 use Rattle.bytecode.specs.declared.walk.Arrival.TheVariants.{Unseen, Outside}
@@ -15,18 +14,13 @@ use Rattle.bytecode.proofs.Meets.{visited_gives}
 use Rattle.bytecode.proofs.Walks.{Walked, taken}
 use Rattle.bytecode.proofs.Goes.{goes_on}
 use Rattle.bytecode.proofs.Fails.{goes_nowhere}
-use Rattle.bytecode.proofs.Ends.{place_bounds, starts, starts_well, finishes, all_made, taken_arrival}
+use Rattle.bytecode.proofs.Ends.{place_bounds, starts, finishes, all_made, taken_arrival}
 
 module _ (code : Code) (f : FunctionCode) where
   pub init : (first n : ℕ) (ms0 ms : Arrivals) (work0 work : List ℕ) (b : Bool) → f.first ≡ first → ms0 ≡ replicate n Unseen → work0 ≡ [] → visited first ms0 work0 first Outside ≡ given b ms work → b ≡ true → Walked code f ms work 0
   init first n ms0 ms work0 work b e m w h t =
       let v : visited f.first (replicate n Unseen) [] f.first Outside ≡ Some (ms, work) = rw (e, ← m, ← w, h, t) refl in
       starts code f n ms work (visited_gives f.first (replicate n Unseen) [] f.first Outside (ms, work) refl v)
-
-  pub init_fails : (first n end : ℕ) (ms0 ms : Arrivals) (work0 work : List ℕ) (b : Bool) → f.first ≡ first → ms0 ≡ replicate n Unseen → work0 ≡ [] → visited first ms0 work0 first Outside ≡ given b ms work → b ≡ false → first + n ≡ end → KeepsOpen code f end → ⊥
-  init_fails first n end ms0 ms work0 work b e m w h t long k =
-      let v : visited f.first (replicate n Unseen) [] f.first Outside ≡ None = rw (e, ← m, ← w, h, t) refl in
-      starts_well code f n end [] (rw (length-replicate, e) long) v k
 
   -- a place that is taken lies among the arrivals
   pub takes : (first : ℕ) (ms : Arrivals) (old work : List ℕ) (q made : ℕ) → f.first ≡ first → Walked code f ms old made → old ≡ work ++ q ∷ [] → (first ≤ q) × (q - first < length ms)

@@ -8,10 +8,9 @@ use Rattle.bytecode.specs.Code.{Code, FunctionCode}
 use Rattle.bytecode.specs.Valid.{leads_from, IsReached, at_first, AsksOpen, KeepsOpen}
 use Rattle.bytecode.specs.declared.walk.Arrival.{Arrival}
 use Rattle.bytecode.specs.declared.walk.Arrival.TheVariants.{Unseen, Outside, Inside}
-use Rattle.bytecode.specs.inner.Walking.{Arrivals, arrival_at, visited}
-use Rattle.bytecode.proofs.Tables.{one_chain, IsFound, IsClosed, reached_in_table, one_list_by_table}
+use Rattle.bytecode.specs.inner.Walking.{Arrivals, arrival_at}
+use Rattle.bytecode.proofs.Tables.{one_chain, IsClosed, reached_in_table, one_list_by_table}
 use Rattle.bytecode.proofs.Arrivals.{before, from_on, inside_of, seen, seen_one, seen_within, innermost, table, Visited}
-use Rattle.bytecode.proofs.Meets.{visited_fails}
 use Rattle.bytecode.proofs.Walks.{Walked, closed}
 
 seen_arrival : (o : Option Arrival) (id : Option ℕ) → innermost o ≡ Some id → (m : Arrival) × (o ≡ Some m) × (seen_one m ≡ 1)
@@ -45,9 +44,6 @@ unseen_seen zero = refl
 unseen_seen (suc n) = let h = unseen_seen n in omega (arith, h)
 
 module _ (code : Code) (f : FunctionCode) where
-  none_found : (n : ℕ) → IsFound code f (table f.first (replicate n Unseen))
-  none_found n q id e = cc (e, unseen_table f.first n q)
-
   -- at the beginning
   pub starts : (n : ℕ) (ms : Arrivals) (work : List ℕ) → Visited f.first (replicate n Unseen) [] f.first Outside ms work → Walked code f ms work 0
   starts n ms work v = record {
@@ -66,10 +62,6 @@ module _ (code : Code) (f : FunctionCode) where
     ];
     count = let h = v.count in let z = unseen_seen n in omega (arith, h, z);
   }
-
-  -- the first visit can't fail
-  pub starts_well : (n end : ℕ) (work : List ℕ) → f.first + length (replicate n Unseen) ≡ end → visited f.first (replicate n Unseen) work f.first Outside ≡ None → KeepsOpen code f end → ⊥
-  starts_well n end work long h k = visited_fails code f end (replicate n Unseen) work f.first Outside [] long (none_found n) at_first refl refl h k
 
   -- at the end
   is_closed : (ms : Arrivals) (made : ℕ) → Walked code f ms [] made → IsClosed code f (table f.first ms)

@@ -2,7 +2,7 @@
 
 ghost use Rattle.std.specs.Prelude.{◌≡◌, ◌++◌, map, replicate, IfOk, OnOk};
 ghost use Rattle.syntax.specs.Views.{global_of};
-ghost use Rattle.syntax.specs.Names.{first_word, first_words, initial_from};
+ghost use Rattle.syntax.specs.Names.{first_word, first_words};
 ghost use Rattle.bytecode.specs.Initial.{initial_of};
 ghost use Rattle.bytecode.specs.Valid.{IsValid};
 

@@ -3,7 +3,6 @@
 ghost use Rattle.std.specs.Prelude.{◌≡◌, ◌<◌, ◌≤◌, ◌+◌, IsTrue, ◌↔◌, length, slice_get, map, Some};
 ghost use Rattle.std.specs.List.{AllByRecursion};
 ghost use Rattle.bytecode.specs.Valid.{cells_of, Takes, IsWritten};
-ghost use Rattle.bytecode.specs.Code.{FunctionCode as Plain};
 ghost use Rattle.bytecode.specs.Views.{code_of, function_of, instr_of};
 
 use crate::code::{FunctionCode, Parts};

@@ -2,7 +2,7 @@
 
 ghost use Rattle.std.specs.Prelude.{◌≡◌, ◌≤◌, IfOk, IfErr, Some, None, codes, if◌then◌else◌};
 ghost use Rattle.clap.specs.Words.{first_of, found_of, rows_of};
-ghost use Rattle.command.specs.Asked.{AreSteps, IsNumber, IsOrder, IsTask, AreThreadsGiven, IsOrderGiven};
+ghost use Rattle.command.specs.Asked.{AreSteps, IsNumber, IsTask, AreThreadsGiven, IsOrderGiven};
 ghost use Rattle.command.specs.inner.Refusals.{IsOwn};
 
 use crate::given::{flag_given, number_given, text_given, text_wanted, wrong};

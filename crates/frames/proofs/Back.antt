@@ -20,9 +20,6 @@ other_level n k h = omega arith
 
 -- ---- the frame of a begin is there
 
-abbrev registers_in : Frame → List ℕ
-registers_in f = f.registers
-
 can_restore_top : (f : FunctionCode) (p : ℕ) (rs : List ℕ) (fs : List Frame) (b : ℕ) (s : Saved) → length rs ≡ f.registers → IsSavedAt f (suc (length fs)) b s → CanRestore (standing p rs fs) s
 can_restore_top f p rs fs b s long at = record {
   some = (let l = at.frame in omega arith);

@@ -3,7 +3,7 @@ use Rattle.std.proofs.Common.{◌≡◌, ℕ, suc, List, [], ◌∷◌, Option, 
 use Rattle.std.specs.Prelude.{slice_get, Contains}
 use Rattle.std.proofs.lemmas.List.Elements.{Contains-push, Contains-append_left}
 use Rattle.bytecode.specs.Code.{Code, FunctionCode, Instr}
-use Rattle.bytecode.specs.Valid.{Standing, leads_from, cancel_of, IsReached, at_first, further}
+use Rattle.bytecode.specs.Valid.{leads_from, cancel_of, IsReached, at_first, further}
 use Rattle.frames.proofs.Leading.{Way, way_of, leads_by, leads_so, only, either, first_of}
 
 -- a begin stands at the place
@@ -37,9 +37,6 @@ begin_of (Instr.Call n d args) e = cc e
 begin_of (Instr.Return a) e = cc e
 begin_of (Instr.PrintText n) e = cc e
 begin_of (Instr.PrintNumber u a) e = cc e
-
-begins_of : Standing → List ℕ
-begins_of s = s.1
 
 module _ (code : Code) (f : FunctionCode) where
   reached_on : (q : ℕ) (i : Instr) (w : Way) (bs : List ℕ) (q' : ℕ) (bs' : List ℕ) → IsReached code f q bs → slice_get code.instructions q ≡ Some i → way_of i ≡ w → AreReached code f bs → Contains (leads_by code q bs w) (q', bs') → AreReached code f bs'

@@ -2,8 +2,7 @@
 
 ghost use Rattle.std.specs.Prelude.{◌≡◌, ◌≢◌, ℕ, List, ◌++◌, codes, ◌+◌, ◌<◌, ◌≤◌, ◌^◌, true, length, slice_index, take, MatchOption};
 ghost use Rattle.std.specs.Bool.{MatchBool};
-ghost use Rattle.lex.specs.Bytes.{Only, in_line};
-ghost use Rattle.lex.specs.Pieces.{Closes, Opens, FirstOnLine, IsInclude};
+ghost use Rattle.lex.specs.Pieces.{Closes, FirstOnLine, IsInclude};
 ghost use Rattle.lex.specs.inner.Answers.{Answers};
 
 use crate::bytes::{blanks_len, is_blank, line_len, starts_part};

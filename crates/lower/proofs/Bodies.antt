@@ -29,14 +29,6 @@ pub definition_made : {A : Type 0} (p : Program) (item : OwnItem A) (f : OwnFunc
 definition_made p item f body from l is e =
     ap (λ i. all_made p (item_of i ∷ []) from l) is ∙ ap (λ o. made_first p (function_of f) (option_map stmts_of o) (all_made p []) from l) e
 
-pub prototype_made : {A : Type 0} (p : Program) (item : OwnItem A) (f : OwnFunction A) (from : ℕ) (l : Lists) → item ≡ own.Function f → f.body ≡ None →
-    all_made p (item_of item ∷ []) from l ≡ nothing_made from l
-prototype_made p item f from l is e =
-    ap (λ i. all_made p (item_of i ∷ []) from l) is ∙ ap (λ o. made_first p (function_of f) (option_map stmts_of o) (all_made p []) from l) e
-
-pub globals_made : {A : Type 0} (p : Program) (item : OwnItem A) (gs : List _) (from : ℕ) (l : Lists) → item ≡ own.Globals gs → all_made p (item_of item ∷ []) from l ≡ nothing_made from l
-globals_made p item gs from l is = ap (λ i. all_made p (item_of i ∷ []) from l) is
-
 -- an item, and then the others
 joined : Made → Made → Made
 joined m rest = record { functions = m.functions ++ rest.functions; code = m.code ++ rest.code; lists = rest.lists; to = rest.to }

@@ -150,9 +150,6 @@ module _ (p : Program) (scope : LocalScope) (lhs : Tree.Expr) (from free : ℕ) 
     abbrev T : Aimed
     T = aimed p scope false lhs from free l
 
-    abbrev after_old : Emitted → ℕ
-    after_old old = above (above_target T.target free) old.held.register
-
     old_more : (fetched T.target T.to (above_target T.target free) T.lists).lists.registers ≤ (adjusted p scope op lhs by from free l).lists.registers
     old_more =
         let later = above_target T.target free in

@@ -1,5 +1,5 @@
 -- Why no code is made, from a definition to its item and to the program.
-use Rattle.std.proofs.Common.{◌≡◌, ℕ, ◌<◌, ◌≤◌, List, [], ◌∷◌, ◌++◌, length, map, drop, take, get_or, ◌+◌, refl, sym, ap, ◌∙◌, subst, append-nil, arith, Some, None, Result, Ok, Err, IfErr, IsErr, IsErrAnd}
+use Rattle.std.proofs.Common.{◌≡◌, ℕ, ◌<◌, ◌≤◌, List, [], ◌∷◌, ◌++◌, length, map, drop, take, get_or, ◌+◌, refl, sym, ap, ◌∙◌, subst, append-nil, arith, Some, Result, Ok, Err, IfErr, IsErr, IsErrAnd}
 use Rattle.std.specs.Prelude.{Contains}
 use Rattle.std.proofs.Math.ListN.{get_or-map}
 use Rattle.std.proofs.lemmas.List.{length-map, map-append, take-append-drop}
@@ -16,8 +16,7 @@ use Rattle.bytecode.specs.Views.{instr_of}
 use Rattle.lowered.specs.Programs.{parameter_locals}
 use Rattle.lower.specs.declared.fault.LowerFault.{LowerFault}
 use Rattle.lower.specs.declared.fault.LowerFault.TheVariants.{OutOfMemory, TooManyRegisters, TooMuchCode, NestedTooDeep}
-use Rattle.lower.specs.Nested.{nested_too_deep}
-use Rattle.lower.specs.Faults.{IsFaultOf, picked_for}
+use Rattle.lower.specs.Faults.{picked_for}
 use Rattle.lower.specs.Lists.{Lists}
 use Rattle.lower.specs.inner.Parts.{IsOfDefinition, IsOfItem, IsOfCode}
 use Rattle.lower.specs.Simples.{Written}
@@ -106,12 +105,6 @@ item_fault items i to l x codes done e h is fs inv d t a b k =
     of_one p before (item_of x) after (all_made p (item_of x ∷ []) to l).functions (length (done ++ (all_made p (item_of x ∷ []) to l).code)) e parts (among items i x h is)
     (λ g c. subst (λ xs. Contains xs g) fs (Contains-append_right codes (all_made p (map item_of (drop i items)) to l).functions g (codes_among p items i to l x g h is c)))
     (subst (λ (xs : List Instr). length xs ≤ 1048576) d b) (ap length behind) (omega (arith, grows, whole, n)) k
-
-pub code_fault : (p : Program) (e : LowerFault) → nested_too_deep p ≡ None → IsOfCode p e → IsFaultOf p e
-code_fault p OutOfMemory none h = tt
-code_fault p (TooManyRegisters at) none h = (none, h)
-code_fault p (TooMuchCode at) none h = (none, h.0, h.1)
-code_fault p (NestedTooDeep at) none h = absurd h
 
 -- what ? hands on
 pub handed_on : {X Y : Type 0} (r : Result X LowerFault) (s : Result Y LowerFault) (f : LowerFault) (P Q : LowerFault → Type 0) → IfErr r P → r ≡ Err f → IsErr s × IsErrAnd s (λ y. y ≡ f) → ((e : LowerFault) → P e → Q e) → IfErr s Q

@@ -1,79 +1,13 @@
 -- The code of a format, unit by unit.
-use Rattle.std.proofs.Common.{◌≡◌, ℕ, ◌+◌, ◌<◌, ◌≤◌, List, [], ◌∷◌, ◌++◌, length, drop, get_or, true, false, refl, sym, ap, ◌∙◌, append_assoc, arith}
-use Rattle.std.specs.Prelude.{if◌then◌else◌, ◌==◌}
+use Rattle.std.proofs.Common.{◌≡◌, ℕ, ◌+◌, ◌<◌, ◌≤◌, List, [], ◌∷◌, ◌++◌, length, drop, get_or, refl, sym, ap, ◌∙◌, append_assoc}
 use Rattle.std.proofs.lemmas.List.{drop_more, drop_all}
 use Rattle.lex.specs.declared.token.Scalar.{Scalar}
-use Rattle.lex.specs.declared.token.Scalar.TheVariants.{Int, Unsigned}
-use Rattle.syntax.specs.Formats.{Piece, Literal, Figure, literal, conversion, pieces}
+use Rattle.syntax.specs.Formats.{Piece, Literal, Figure, literal, pieces}
 use Rattle.bytecode.specs.declared.instr.Instr.{Instr}
 use Rattle.lower.specs.Lists.{Lists}
 use Rattle.lower.specs.Simples.{Written, and_then}
 use Rattle.lower.specs.Statements.{pieces_written}
-use Rattle.lower.specs.inner.Formats.{joined, text_written, figure_written, IsByteAt, IsFigureAt}
-
--- the unit at a place
-plain_is : (a : ℕ) (rest : List ℕ) → (a == 37) ≡ false → pieces (a ∷ rest) ≡ literal a (pieces rest)
-plain_is a [] h = refl
-plain_is a (b ∷ rest) h = ap (λ t. if t then conversion b (pieces rest) else literal a (pieces (b ∷ rest))) h
-
-percent_is : (a b : ℕ) (rest : List ℕ) → (a == 37) ≡ true → pieces (a ∷ b ∷ rest) ≡ conversion b (pieces rest)
-percent_is a b rest h = ap (λ t. if t then conversion b (pieces rest) else literal a (pieces (b ∷ rest))) h
-
-module _ (format : List ℕ) (i : ℕ) where
-  pub byte_at : i < length format → (get_or format i 0 == 37) ≡ false → IsByteAt (get_or format i 0) (i + 1) format i
-  byte_at h plain = record {
-    is = ap pieces (drop_more format i 0 h) ∙ plain_is (get_or format i 0) (drop (i + 1) format) plain;
-    after = omega arith;
-    within = omega arith;
-  }
-
-  pub last_at : length format ≡ i + 1 → IsByteAt (get_or format i 0) (i + 1) format i
-  last_at e =
-      let h : i < length format = omega (arith, e) in
-      let none : drop (i + 1) format ≡ [] = drop_all (i + 1) format (omega (arith, e)) in
-      record {
-        is = ap pieces (drop_more format i 0 h) ∙ ap (λ rest. pieces (get_or format i 0 ∷ rest)) none ∙ ap (λ rest. literal (get_or format i 0) (pieces rest)) (sym none);
-        after = omega arith;
-        within = omega (arith, e);
-      }
-
-  percent_at : i + 1 < length format → (get_or format i 0 == 37) ≡ true → pieces (drop i format) ≡ conversion (get_or format (i + 1) 0) (pieces (drop (i + 2) format))
-  percent_at h percent =
-      let k : i < length format = omega (arith, h) in
-      let e : i + 1 + 1 ≡ i + 2 = omega arith in
-      ap pieces (drop_more format i 0 k) ∙ ap (λ rest. pieces (get_or format i 0 ∷ rest)) (drop_more format (i + 1) 0 h)
-      ∙ percent_is (get_or format i 0) (get_or format (i + 1) 0) (drop (i + 1 + 1) format) percent
-      ∙ ap (λ j. conversion (get_or format (i + 1) 0) (pieces (drop j format))) e
-
-  pub signed_at : i + 1 < length format → (get_or format i 0 == 37) ≡ true → (get_or format (i + 1) 0 == 100) ≡ true → IsFigureAt Int format i
-  signed_at h percent d =
-      let ps = pieces (drop (i + 2) format) in
-      let b = get_or format (i + 1) 0 in
-      record {
-        is = percent_at h percent ∙ ap (λ t. if t then Figure Int ∷ ps else (if b == 117 then Figure Unsigned ∷ ps else literal b ps)) d;
-        within = omega (arith, h);
-      }
-
-  pub unsigned_at : i + 1 < length format → (get_or format i 0 == 37) ≡ true → (get_or format (i + 1) 0 == 100) ≡ false → (get_or format (i + 1) 0 == 117) ≡ true → IsFigureAt Unsigned format i
-  unsigned_at h percent d u =
-      let ps = pieces (drop (i + 2) format) in
-      let b = get_or format (i + 1) 0 in
-      record {
-        is = percent_at h percent ∙ ap (λ t. if t then Figure Int ∷ ps else (if b == 117 then Figure Unsigned ∷ ps else literal b ps)) d
-            ∙ ap (λ t. if t then Figure Unsigned ∷ ps else literal b ps) u;
-        within = omega (arith, h);
-      }
-
-  pub other_at : i + 1 < length format → (get_or format i 0 == 37) ≡ true → (get_or format (i + 1) 0 == 100) ≡ false → (get_or format (i + 1) 0 == 117) ≡ false → IsByteAt (get_or format (i + 1) 0) (i + 2) format i
-  other_at h percent d u =
-      let ps = pieces (drop (i + 2) format) in
-      let b = get_or format (i + 1) 0 in
-      record {
-        is = percent_at h percent ∙ ap (λ t. if t then Figure Int ∷ ps else (if b == 117 then Figure Unsigned ∷ ps else literal b ps)) d
-            ∙ ap (λ t. if t then Figure Unsigned ∷ ps else literal b ps) u;
-        after = omega arith;
-        within = omega (arith, h);
-      }
+use Rattle.lower.specs.inner.Formats.{joined, text_written, figure_written}
 
 -- bytes of text before pieces
 joined_more : (cs : List ℕ) (c : ℕ) (ps : List Piece) → joined (cs ++ c ∷ []) ps ≡ joined cs (literal c ps)

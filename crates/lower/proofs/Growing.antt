@@ -1,5 +1,5 @@
 -- What follows needs no fewer registers.
-use Rattle.std.proofs.Common.{ℕ, suc, ◌+◌, ◌≤◌, length, max, Option, Some, None, Bool, true, false, Result, Ok, Err, IfErr, if◌then◌else◌, ◌==◌, arith}
+use Rattle.std.proofs.Common.{ℕ, suc, ◌+◌, ◌≤◌, length, max, Option, Some, None, Bool, true, false, if◌then◌else◌, ◌==◌, arith}
 use Rattle.std.specs.Option.{IfSome}
 use Rattle.lex.specs.declared.token.Scalar.{Scalar}
 use Rattle.syntax.specs.declared.tree.UnaryOp.TheVariants.{Negate, Keep, Not, Complement}
@@ -18,11 +18,6 @@ use Rattle.lower.specs.Expressions.{Emitted, AllEmitted, above, then_one, settle
 pub needs_more : (e : Failure) (m n : ℕ) → m ≤ n → NeedsMore e m → NeedsMore e n
 needs_more failure.Registers m n h k = omega (arith, h, k)
 needs_more failure.OutOfMemory m n h k = tt
-
--- a failure that says less
-pub fails_more : {X : Type 0} (r : Result X Failure) (m n : ℕ) → m ≤ n → IfErr r (λ e. NeedsMore e m) → IfErr r (λ e. NeedsMore e n)
-fails_more (Ok x) m n h k = tt
-fails_more (Err e) m n h k = needs_more e m n h k
 
 max_left : (a b : ℕ) → a ≤ max a b
 max_left a b = grind arith

@@ -35,13 +35,6 @@ pub record Tests (c : Condition) (drafts : List Draft) (l : Lists) (t : Tested) 
   pub lists : l ≡ c.lists
   pub tested : t ≡ test_in c
 
-pub as_made : (v w : Written) (old new : List Instr) (l : Lists) (to : ℕ) → v ≡ w → Makes v old new l to → Makes w old new l to
-as_made v w old new l to e m = record {
-  code = m.code ∙ ap (λ (u : Written). old ++ u.code) e;
-  lists = m.lists ∙ ap (λ (u : Written). u.lists) e;
-  place = m.place ∙ ap (λ (u : Written). u.to) e;
-}
-
 -- code that is made in a list of its own
 alone : (v w : Written) (empty new : List Instr) (l : Lists) (to : ℕ) → empty ≡ [] → v ≡ w → Makes v empty new l to → Makes w [] new l to
 alone v w empty new l to e0 e m = record {

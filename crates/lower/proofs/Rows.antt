@@ -75,9 +75,3 @@ module _ (p : Program) (scope : LocalScope) {A : Type 0} (es : List (OwnExpr A))
 
   pub last_registers : (rs whole : List ℕ) → length es ≤ i → rs ++ (all_emitted p scope (exprs_of (drop i es)) to later l).registers ≡ whole → rs ≡ whole
   last_registers rs whole h inv = sym (append-nil rs) ∙ sym (ap (λ (w : AllEmitted). rs ++ w.registers) (none_left h)) ∙ inv
-
-  pub last_lists : (whole : Lists) → length es ≤ i → (all_emitted p scope (exprs_of (drop i es)) to later l).lists ≡ whole → l ≡ whole
-  last_lists whole h inv = sym (ap (λ (w : AllEmitted). w.lists) (none_left h)) ∙ inv
-
-  pub last_place : (whole : ℕ) → length es ≤ i → (all_emitted p scope (exprs_of (drop i es)) to later l).to ≡ whole → to ≡ whole
-  last_place whole h inv = sym (ap (λ (w : AllEmitted). w.to) (none_left h)) ∙ inv

@@ -5,7 +5,7 @@ ghost use Rattle.lower.specs.inner.Limits.{NeedsMore};
 ghost use Rattle.syntax.specs.Numbers as numbers;
 ghost use Rattle.bytecode.specs.declared.instr.Instr.TheVariants as instr;
 ghost use Rattle.lower.specs.declared.lists.Lists as declared_lists;
-ghost use Rattle.lower.specs.Lists.{lists_of, used, holding};
+ghost use Rattle.lower.specs.Lists.{lists_of, used};
 ghost use Rattle.lower.specs.Conditions as conditions;
 ghost use Rattle.lower.specs.Expressions as expressions;
 

@@ -255,10 +255,6 @@ module _ (p : Program) (call : Caller) (code : Code) (size : ℕ) (frames : List
       (first_follows inner (length scope) t d.first (declare p call t ds) (suc from) c.mid (omega (arith, len3)) c.value a sh text (ls ++ new ∷ []) rs1 after (zeroed scope d.name.text t ls old c.below h) good s
       (λ sh1 text1 ls1 rs2 good1 h1. declare_follows t ds x inner c.mid to c.goes_on a sh1 text1 ls1 rs2 after h1 good1 s go)))
 
-  -- a loop: its turns
-  after_turns : Action (Option End) → Action (Option End) → Action End
-  after_turns turn now = now >>= after_turn (loop turn)
-
   -- where the loop goes on with its next turn
   abbrev Again : ℕ → ℕ → (a : Around) → (Answer End → Outcome) → LocalScope → (head : ℕ) → Action (Option End) → Type 0
   Again N K a after scope head turn =

@@ -138,9 +138,6 @@ module _ (code : Code) where
   pub effect_at : (q : ℕ) (i : Instr) (registers : List ℕ) (frames : List Frame) → At code q i → effect code (configuration q registers frames) ≡ effect_of code (configuration q registers frames) (Some i)
   effect_at q i registers frames h = ap (λ o. effect_of code (configuration q registers frames) o) h
 
-  step_of : (a : Around) (sh : Shared) (text : List ℕ) (c : Configuration) → Effect Configuration → Sequential Configuration
-  step_of a sh text c x = sequential_step (holding a sh text c) (holding a sh text c).wants (holding a sh text c).status (holding a sh text c).inside x
-
   next_pure : (a : Around) (sh : Shared) (text : List ℕ) (c c' : Configuration) → effect code c ≡ Effect.Pure c' → next (effect code) (holding a sh text c) ≡ holding a sh text c'
   next_pure Bare sh text c c' e = ap (λ x. sequential_step (holding Bare sh text c) false Running None x) e
   next_pure (Within h) sh text c c' e = ap (λ x. sequential_step (holding (Within h) sh text c) false Running (holding (Within h) sh text c).inside x) e

@@ -1,11 +1,11 @@
 -- A thread from its start to its end.
-use Rattle.std.proofs.Common.{◌≡◌, ◌≢◌, ℕ, List, [], Option, Some, None, Result, Ok, Err, IfOk, sym, ap, ◌∙◌}
+use Rattle.std.proofs.Common.{◌≡◌, ◌≢◌, ℕ, List, [], Option, Some, None, sym, ap, ◌∙◌}
 use Rattle.std.proofs.Math.Logic.{∥∥₁_elim}
 use Rattle.syntax.specs.Tree.{Program}
 use Rattle.syntax.specs.Names.{Local}
 use Rattle.syntax.specs.declared.numbers.Halt.{Halt}
 use Rattle.syntax.specs.declared.numbers.Halt.TheVariants.{Astray}
-use Rattle.syntax.specs.Behaviours.{Memory, Outcome, Ended, Stopped}
+use Rattle.syntax.specs.Behaviours.{Memory, Ended, Stopped}
 use Rattle.syntax.specs.Actions.{State, Gives, Stops, Outside, lefts_in}
 use Rattle.separation.specs.Touching.{IsAccepted}
 use Rattle.separation.specs.Laws.{NeverAstray}
@@ -32,7 +32,3 @@ module _ (p : Program) (t n : ℕ) (founds : List Memory) (s0 s1 : State) (start
 pub happened : (o : Option Halt) (why : Halt) → o ≡ Some why → Happened o
 happened (Some k) why e = tt
 happened None why e = absurd (cc)
-
-pub if_ok : {X E : Type 0} (f : X → Outcome) (r : Result X E) (a b : Outcome) → b ≡ a → IfOk r (λ x. f x ≡ a) → IfOk r (λ x. f x ≡ b)
-if_ok f (Ok x) a b e h = h ∙ sym e
-if_ok f (Err x) a b e h = h

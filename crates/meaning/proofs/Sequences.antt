@@ -6,7 +6,6 @@ use Rattle.syntax.specs.declared.tree.Stmt as S
 use Rattle.syntax.specs.declared.tree.Declarator as R
 use Rattle.syntax.specs.declared.numbers.Value.{Value}
 use Rattle.syntax.specs.declared.numbers.Halt.{Halt}
-use Rattle.syntax.specs.declared.numbers.Halt.TheVariants.{Spent}
 use Rattle.syntax.specs.Tree.{Program, Scalar}
 use Rattle.syntax.specs.Views.{expr_of, exprs_of, stmt_of, stmts_of, declarator_of}
 use Rattle.syntax.specs.Names.{Local}
@@ -113,10 +112,6 @@ module _ {A : Type 0} (p : Program) (call : Caller) where
   declare_halt t ds i x s now why whole h is inv d =
       sym inv ∙ declare_more t ds i x s h is ∙ halts _ (λ _. declare p call t (map declarator_of (drop (i + 1) ds))) why now d
 
-  pub declare_end : (t : Scalar) (ds : List (R.Declarator A)) (i : ℕ) (s : State) (whole : Answer End) → length ds ≤ i →
-      declare p call t (map declarator_of (drop i ds)) s ≡ whole → whole ≡ Gives Next s
-  declare_end t ds i s whole h inv = sym inv ∙ at_drop_all (λ xs. declare p call t (map declarator_of xs) s) ds i h
-
 -- a stretch that gives something drops the names behind those of before
 pub scoped_gives : (run : Action End) (s now : State) (e : End) (ls : List Local) → run s ≡ Gives e now → take (length s.locals) now.locals ≡ ls → scoped run s ≡ Gives e (record now { locals = ls })
 scoped_gives run s now e ls h k =
@@ -141,9 +136,6 @@ module _ (turn : Action (Option End)) (n k : ℕ) (s now : State) (whole : Answe
   pub turns_spent : (why : Halt) → turns n turn s ≡ whole → n ≡ suc k → tick s ≡ Stops why now → whole ≡ Stops why now
   turns_spent why inv more t = next_turn inv more ∙ halts _ (λ _. turn >>= after_turn (turns k turn)) why now t
 
-  pub turns_none : turns n turn s ≡ whole → n ≡ 0 → whole ≡ Stops Spent s
-  turns_none inv none = sym inv ∙ ap (λ i. turns i turn s) none
-
   module _ (u : Unit {0}) (then_ : State) (inv : turns n turn s ≡ whole) (more : n ≡ suc k) (t : tick s ≡ Gives u then_) where
     ticked : whole ≡ go_on (turn then_) (after_turn (turns k turn))
     ticked = next_turn inv more ∙ after _ (λ _. turn >>= after_turn (turns k turn)) u then_ t
@@ -153,6 +145,3 @@ module _ (turn : Action (Option End)) (n k : ℕ) (s now : State) (whole : Answe
 
     pub turns_ended : (o : Option OwnEnd) (e : OwnEnd) → turn then_ ≡ Gives (option_map end_of o) now → o ≡ Some e → whole ≡ Gives (end_of e) now
     turns_ended o e d some = ticked ∙ after _ (after_turn (turns k turn)) (option_map end_of o) now d ∙ ap (λ x. after_turn (turns k turn) (option_map end_of x) now) some
-
-    pub turns_stopped : (why : Halt) → turn then_ ≡ Stops why now → whole ≡ Stops why now
-    turns_stopped why d = ticked ∙ halts _ (after_turn (turns k turn)) why now d

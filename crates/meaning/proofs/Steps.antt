@@ -130,9 +130,6 @@ module _ (p : Program) (n k : ℕ) (x : List ℕ) (vs : List Value) (s0 s1 : Sta
   pub call_stops : (s2 : State) (why : Halt) → stmts p (calls p k) b.body (record s1 { locals = mine }) ≡ Stops why s2 → calls p n x vs s0 ≡ Stops why s2
   call_stops s2 why h = call_begun ∙ halts _ (λ end. put_locals outer >> result_of b.of end) why s2 h
 
-pub call_halts : (p : Program) (n k : ℕ) (x : List ℕ) (vs : List Value) (s0 s1 : State) (why : Halt) → n ≡ suc k → begun p x vs s0 ≡ Stops why s1 → calls p n x vs s0 ≡ Stops why s1
-call_halts p n k x vs s0 s1 why more d = ap (λ i. calls p i x vs s0) more ∙ invoke_begun p (calls p k) x vs s0 ∙ halts (begun p x vs s0) (call_rest p (calls p k)) why s1 d
-
 -- transactions
 pub transaction_at : (mode : Mode) (run : Action End) (s : State) (before : Context) (r : Answer End) → s.context ≡ before → enter before mode run (record s { context = before }) ≡ r → transaction mode run s ≡ r
 transaction_at mode run s before r is d = ap (λ k. enter k mode run (record s { context = k })) is ∙ d

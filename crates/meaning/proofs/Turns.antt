@@ -39,10 +39,6 @@ last_beyond m ls before l h e =
     ∙ ap (last_left m) (drop-append-le before (memories_in (take n ls)) (l.items ∷ []) few)
     ∙ last_of m (drop before (memories_in (take n ls))) l.items)
 
--- none lies beyond them
-pub none_beyond : {A : Type 0} (m : Memory) (ls : List (Vec ℕ A)) (before : ℕ) → length ls ≤ before → m ≡ last_left m (drop before (memories_in ls))
-none_beyond m ls before h = ap (last_left m) (sym (all_dropped before (memories_in ls) (let a = length-map ls (λ v. v.items) in omega (arith, a, h))))
-
 -- a thread that wants no memory does nothing
 rests : (does : Behaviour) (ticks : ℕ) (end : ThreadEnd) (after now : Progress) → end ≢ Stopped Wants → if_wanting does ticks end after now ≡ now
 rests does ticks Ended after now h = refl
@@ -134,14 +130,6 @@ module _ {A : Type 0} (p : Program) (ticks : ℕ) where
       let own : memories_in s.founds.items ≡ get_or (founds_in xs) t [] = ap found_by at ∙ sym (get_or-map found_by xs t s [] lt) in
       ap (λ fs. record { memory = n; founds = fs }) (map-set found_by xs t y)
       ∙ enters_by (does_in p) ticks t m n (founds_in xs) (found_by y) (subst (λ fs. TakesTurn p ticks t m fs n (found_by y)) own taken)
-
--- an entry, and then those after it
-pub goes_on : (does : Behaviour) (ticks t i : ℕ) (order : List ℕ) (now new : Progress) (whole : Progress) → i < length order → t ≡ get_or order i t → new ≡ entry does ticks t now →
-    entries does ticks (drop i order) now ≡ whole → entries does ticks (drop (i + 1) order) new ≡ whole
-goes_on does ticks t i order now new whole lt at step was =
-    ap (entries does ticks (drop (i + 1) order)) (step ∙ ap (λ u. entry does ticks u now) at)
-    ∙ sym (at_drop_more (λ us. entries does ticks us now) order i t lt)
-    ∙ was
 
 -- what follows where a call is done
 pub on_ok : {T E X Y : Type 0} (r : Result T E) → (X → Y) → OnOk r X → OnOk r Y

@@ -9,7 +9,7 @@ ghost use Rattle.meaning.specs.inner.Calls.{begun, begun_in};
 ghost use Rattle.syntax.specs.Tree as tree;
 ghost use Rattle.syntax.specs.Tree.{Int};
 ghost use Rattle.meaning.specs.inner.Does.{called};
-ghost use Rattle.meaning.specs.inner.Machine.{local_in, end_of, MeansAs, MeansWord, MeansWords, items_in, program_in, state_in};
+ghost use Rattle.meaning.specs.inner.Machine.{end_of, MeansAs, MeansWord, MeansWords, items_in, program_in, state_in};
 
 use crate::arithmetic::convert;
 use crate::expr::eval;

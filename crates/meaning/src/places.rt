@@ -7,7 +7,7 @@ ghost use Rattle.syntax.specs.Tree as tree;
 ghost use Rattle.syntax.specs.Types.{common_of, type_of as type_due, running_scope};
 ghost use Rattle.syntax.specs.Numbers.{converted};
 ghost use Rattle.syntax.specs.Views.{expr_of, name_of};
-ghost use Rattle.meaning.specs.inner.Machine.{MeansSpot, MeansWord, local_in, program_in, state_in};
+ghost use Rattle.meaning.specs.inner.Machine.{MeansSpot, MeansWord, program_in, state_in};
 ghost use Rattle.meaning.specs.inner.Does.{called};
 ghost use Rattle.meaning.specs.inner.Word.{value_of};
 

@@ -7,7 +7,6 @@ use Rattle.norec_core.specs.declared.step.Answer.TheVariants.{Done, Value, Won, 
 use Rattle.norec_core.specs.declared.step.Outcome.TheVariants as outcome
 use Rattle.norec_core.specs.declared.step.Phase.{Phase}
 use Rattle.norec_core.specs.declared.step.Phase.TheVariants.{AtOperation, ReadsLock, ValidatesTime, ValidatesEntry, Stores}
-use Rattle.norec_core.specs.Accesses.{cost, stops}
 use Rattle.norec_core.specs.Attempts.{Attempt, Checkpoint}
 use Rattle.norec_core.specs.Cores.{IsStoring}
 use Rattle.norec_core.specs.Phases.{CoreStep, commit_access, core_access, core_begin, core_commit, core_phase, core_step, core_store, core_swap, entry_access, phase_access, store_access}
@@ -24,14 +23,6 @@ module _ {S : Type 0} (now : S) (a : Attempt S) where
   pub store_keeps : (i : ℕ) (r : Option (ℕ × ℕ)) → (core_store a i r).back ≡ None
   store_keeps i None = refl
   store_keeps i (Some p) = refl
-
-  pub store_goes_on : (r : Option (ℕ × ℕ)) → stops (store_access a.snapshot r) ≡ false
-  store_goes_on None = refl
-  store_goes_on (Some p) = refl
-
-  pub store_costs : (r : Option (ℕ × ℕ)) → cost (store_access a.snapshot r) ≡ 1
-  store_costs None = refl
-  store_costs (Some p) = refl
 
   -- after a swap the commit goes on
   no_store : (from : ℕ) (r : Option (ℕ × ℕ)) → store_access a.snapshot r ≡ Swap from → ⊥

@@ -1,6 +1,5 @@
 -- A read that loads its word and then the lock.
 use Rattle.std.proofs.Common.{◌≡◌, ◌==◌, ℕ, Bool, true, false, cond, Option, None, Some, refl, ap, ◌∙◌}
-use Rattle.std.specs.Prelude.{IsSomeAnd, if◌then◌else◌}
 use Rattle.norec_core.specs.declared.step.Op.TheVariants as op
 use Rattle.norec_core.specs.declared.step.Access.TheVariants.{LoadWord}
 use Rattle.norec_core.specs.declared.step.Answer.TheVariants.{Value}
@@ -11,24 +10,12 @@ use Rattle.norec_core.specs.Attempts.{Attempt}
 use Rattle.norec_core.specs.Cores.{LoadsBoth}
 use Rattle.norec_core.specs.Phases.{CoreStep, on, core_access, core_check, core_phase, core_read, core_step, core_word, phase_access, read_access}
 
--- what is under way, where it was begun
-pub under_way : {X : Type 0} (P : X → Type 0) (begun : Bool) (x : X) → IsSomeAnd (if begun then Some x else None) P → (begun ≡ true) × P x
-under_way P true x h = (refl, h)
-under_way P false x h = absurd h
-
-pub is_under_way : {X : Type 0} (P : X → Type 0) (begun : Bool) (x : X) → begun ≡ true → P x → IsSomeAnd (if begun then Some x else None) P
-is_under_way P true x b h = h
-is_under_way P false x b h = absurd (cc)
-
 module _ {S : Type 0} (now : S) (a : Attempt S) (cell word lock : ℕ) (loads : LoadsBoth a cell) where
   pub loads_word : core_access (Some a) (op.Read cell) ≡ LoadWord cell
   loads_word = ap (λ (q : Phase). phase_access a q (op.Read cell)) loads.0 ∙ ap (read_access cell) loads.2
 
   pub after_word : core_step now (Some a) (op.Read cell) (Value word) ≡ on (record a { phase = ReadsLock word }) outcome.Going
   after_word = ap (λ (q : Phase). core_phase now a q (op.Read cell) (Value word)) loads.0 ∙ ap (λ (w : Option ℕ). core_read a w (Value word)) loads.2 ∙ ap (λ (k : Bool). core_word a k (Value word)) loads.1
-
-  pub after_both : core_step now (core_step now (Some a) (op.Read cell) (Value word)).attempt (op.Read cell) (Value lock) ≡ core_check (record a { phase = ReadsLock word }) (op.Read cell) word (Value lock)
-  after_both = ap (λ (n : CoreStep S). core_step now n.attempt (op.Read cell) (Value lock)) after_word
 
 -- such a step goes back to nothing
 pub check_keeps : {S : Type 0} (a : Attempt S) (cell word lock : ℕ) → (core_check a (op.Read cell) word (Value lock)).back ≡ None

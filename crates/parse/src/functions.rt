@@ -6,7 +6,7 @@ ghost use Rattle.lex.specs.declared.token.Fixed.TheVariants as token;
 ghost use Rattle.lex.specs.declared.token.Keyword.TheVariants as key;
 ghost use Rattle.lex.specs.declared.token.Punctuator.TheVariants as punct;
 ghost use Rattle.syntax.specs.Tree as Tree;
-ghost use Rattle.syntax.specs.Views.{name_of, parameter_of, stmts_of, item_of};
+ghost use Rattle.syntax.specs.Views.{parameter_of, stmts_of, item_of};
 ghost use Rattle.syntax.specs.Grammar.{the_name};
 ghost use Rattle.parse.specs.inner.Reading.{Gives, head};
 ghost use Rattle.parse.specs.inner.Expressions.{says};

@@ -7,7 +7,7 @@ ghost use Rattle.lex.specs.declared.token.Punctuator.TheVariants as punct;
 ghost use Rattle.lex.specs.Tokens.{toks};
 ghost use Rattle.syntax.specs.Tree as Tree;
 ghost use Rattle.syntax.specs.Views.{expr_of, simple_of, declarator_of, declaration_of, start_of};
-ghost use Rattle.syntax.specs.Grammar.{assigning_of, the_assigning, step_of, the_step};
+ghost use Rattle.syntax.specs.Grammar.{assigning_of, the_assigning, the_step};
 ghost use Rattle.parse.specs.inner.Reading.{Gives, head, behind, before, listed, perhaps, unless};
 ghost use Rattle.parse.specs.inner.Expressions.{whole_at};
 ghost use Rattle.parse.specs.inner.Statements.{GivesToken, simple_from, simple, starts_simple, simple_at, declarator, declaration, declaration_at, start};

@@ -1,21 +1,20 @@
 -- The steps that a line names.
-use Rattle.std.proofs.Common.{◌≡◌, ◌≢◌, ◌<◌, ◌≤◌, ◌+◌, ◌-◌, ◌==◌, ◌⊎◌, inl, inr, ℕ, zero, suc, Bool, true, false, cond, List, [], ◌∷◌, ◌++◌, Option, None, Some, length, refl, sym, ◌∙◌, ap, subst, slice_get, drop, arith, append_assoc, append-nil}
-use Rattle.std.specs.Prelude.{option_map, if◌then◌else◌}
+use Rattle.std.proofs.Common.{◌≡◌, ◌≢◌, ◌<◌, ◌≤◌, ◌+◌, ◌-◌, ◌==◌, ◌⊎◌, inl, inr, ℕ, zero, suc, Bool, true, false, cond, List, [], ◌∷◌, ◌++◌, None, Some, length, refl, sym, ◌∙◌, ap, subst, slice_get, drop, arith, append_assoc, append-nil}
+use Rattle.std.specs.Prelude.{if◌then◌else◌}
 use Rattle.std.proofs.lemmas.Bool.Decides.{eqb_tells}
 use Rattle.std.proofs.lemmas.Option.{slice_get_past}
-use Rattle.syntax.specs.declared.numbers.Status.{Status}
 use Rattle.bytecode.specs.Code.{Code, Configuration, effect}
 use Rattle.machine.specs.declared.event.Event.{Event}
-use Rattle.machine.specs.Worlds.{Part, World, run, step}
+use Rattle.machine.specs.Worlds.{World, run, step}
 use Rattle.world.specs.declared.report.Report.{Report}
 use Rattle.world.specs.declared.stop.StopReason.{StopReason}
 use Rattle.world.specs.Reports.{stop_with, threads_of, threads_shown}
-use Rattle.world.specs.Simulations.{IsExplained, IsHolder, Simulation, accesses_in, accesses_of, cost_at, cost_next, event_at, event_next, further, part_of, status_at, world_of}
+use Rattle.world.specs.Simulations.{IsExplained, IsHolder, Simulation, accesses_in, accesses_of, cost_at, cost_next, event_at, event_next, further, part_of, world_of}
 use Rattle.world.specs.Stops.{StopsFor}
 use Rattle.world.proofs.Stepping.{further_more, further_none, next_accesses, next_world, parts_count}
 use Rattle.replay.specs.declared.line.Line.{Line}
 use Rattle.replay.specs.declared.line.TheConstants.{MOST_STEPS}
-use Rattle.replay.specs.Replays.{IsReplay, events_in, events_of, first_world, is_done, is_over, is_over_by, is_cut_off, is_quiet, line_after, lines_left, played, steps_of, steps_with, told_event}
+use Rattle.replay.specs.Replays.{IsReplay, events_in, events_of, first_world, is_done, is_over, is_cut_off, is_quiet, line_after, lines_left, played, steps_of, steps_with, told_event}
 use Rattle.replay.specs.declared.play.Halt.{Halt}
 use Rattle.replay.specs.declared.play.Halt.TheVariants.{Stopped, Refused}
 use Rattle.replay.specs.inner.Playing.{Going, HaltsAt, HaltsIn, HasPlayed, IsCut, Plays}
@@ -125,14 +124,6 @@ over w l e = at (l.count == 0)
     at true = refl
     at false = e
 
--- a thread that is there is over where it does not run
-pub over_is : (s : Simulation) (t : ℕ) (status : Status) → status_at s t ≡ Some status → is_over (part_of s t) ≡ is_over_by status
-over_is s t status e = at (part_of s t) e
-  where
-    at : (o : Option (Part Configuration)) → option_map (λ (p : Part Configuration). p.thread.status) o ≡ Some status → is_over o ≡ is_over_by status
-    at None f = absurd (cc)
-    at (Some p) f = let g : p.thread.status ≡ status = cc in ap is_over_by g
-
 -- no other thread is over
 pub no_stranger : (s : Simulation) (l : Line) → IsExplained s → s.threads ≤ l.thread → is_cut_off (world_of s) l ≡ false
 no_stranger s l k le = at l.accesses
@@ -191,13 +182,6 @@ module _ (code : Code) (threads : ℕ) (lines : List Line) where
           holder = subst (λ (v : Simulation). IsHolder (world_of v) r.holder) are holder;
           stop_is = stop ∙ ap (stop_with (Some (line.thread, reason))) are;
         }
-
--- whether a line is cut off
-pub not_cut_off : (w : World Configuration) (l : Line) → l.accesses ≡ false → false ≡ is_cut_off w l
-not_cut_off w l e = sym (ap (λ (b : Bool). if b then is_over (slice_get w.parts l.thread) else false) e)
-
-pub cut_off_by : (s : Simulation) (l : Line) (status : Status) → status_at s l.thread ≡ Some status → l.accesses ≡ true → is_over_by status ≡ is_cut_off (world_of s) l
-cut_off_by s l status e f = sym (ap (λ (b : Bool). if b then is_over (part_of s l.thread) else false) f ∙ over_is s l.thread status e)
 
 -- a step that was not made cuts its line
 pub halted : (line : Line) (room : ℕ) (halt : Halt) (before now next : Simulation) (events : List (ℕ × ℕ × Event)) → IsCut line room before now → HaltsAt line.thread halt now next events → HaltsIn line room halt before next events

@@ -1,5 +1,5 @@
 -- What is shown of steps, one more at the end.
-use Rattle.std.proofs.Common.{◌≡◌, ◌+◌, ◌<◌, ℕ, List, [], ◌∷◌, ◌++◌, Option, Some, length, take, get_or, refl, sym, ◌∙◌, ap, slice_get, arith, append_assoc, append-nil}
+use Rattle.std.proofs.Common.{◌≡◌, ◌+◌, ◌<◌, ℕ, List, [], ◌∷◌, ◌++◌, Option, Some, length, take, get_or, sym, ◌∙◌, ap, slice_get, arith, append_assoc, append-nil}
 use Rattle.std.proofs.lemmas.List.{take_more}
 use Rattle.bytecode.specs.Code.{Code, Configuration, effect}
 use Rattle.machine.specs.declared.event.StepShown.{StepShown}

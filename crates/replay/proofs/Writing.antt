@@ -1,11 +1,10 @@
 -- Rows that are written for lines are rows that ask for these.
-use Rattle.std.proofs.Common.{◌≡◌, ℕ, zero, suc, ◌+◌, ◌-◌, ◌<◌, ◌≤◌, Bool, true, false, ◌==◌, if◌then◌else◌, List, [], ◌∷◌, ◌++◌, length, take, get_or, map, refl, sym, ap, ap₂, subst, inr, ◌∙◌, arith, append-nil, append_assoc, ne_eqb, lit<, lit≤}
+use Rattle.std.proofs.Common.{◌≡◌, ℕ, zero, suc, ◌-◌, ◌<◌, ◌≤◌, Bool, true, false, ◌==◌, if◌then◌else◌, List, [], ◌∷◌, ◌++◌, length, take, get_or, map, refl, sym, ap, ap₂, subst, inr, ◌∙◌, arith, append-nil, append_assoc, ne_eqb, lit<, lit≤}
 use Rattle.std.specs.Prelude.{codes, decimal, flat_map, slice_index}
 use Rattle.std.specs.List.{All, AllByRecursion, slice_split}
 use Rattle.std.specs.Str.Lines.{lines, lines_of_parts, strip_carriage_return}
 use Rattle.std.specs.Str.Parse.{AllDigits}
 use Rattle.std.proofs.lemmas.Fmt.{decimal_is_IsNumeral}
-use Rattle.std.proofs.lemmas.List.{take_more}
 use Rattle.std.proofs.lemmas.List.Splits.{slice_split_at}
 use Rattle.std.proofs.lemmas.Str.Parse.{digit_from_value}
 use Rattle.replay.specs.declared.line.Line.{Line}
@@ -86,9 +85,3 @@ rows_ask (l ∷ ls) fits = inr (l, ls, refl, row_asks l fits.0, rows_ask ls fits
 pub written : (ls : List Line) (text : List ℕ) → text ≡ flat_map line_text ls → AllByRecursion IsInBounds ls → AreRows (lines text) ls
 written ls text is fits =
     subst (λ (rows : List (List ℕ)). AreRows rows ls) (sym (ap lines is ∙ ap lines_of_parts (split_text ls fits) ∙ parts_are ls fits)) (rows_ask ls fits)
-
--- one more line
-pub one_more : (ls : List Line) (i : ℕ) (l : Line) → l ≡ get_or ls i l → i < length ls → AllByRecursion IsInBounds (take i ls) → IsInBounds l → AllByRecursion IsInBounds (take (i + 1) ls)
-one_more ls i l here less all fits =
-    let more = take_more ls i l less in
-    subst (AllByRecursion IsInBounds) (sym (more ∙ ap (λ (x : Line). take i ls ++ x ∷ []) (sym here))) (joined IsInBounds (take i ls) (l ∷ []) all (fits, tt))

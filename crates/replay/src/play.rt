@@ -3,7 +3,6 @@
 ghost use Rattle.std.specs.Prelude.{◌≡◌, ◌+◌, ◌<◌, ◌≤◌, ◌⊎◌, ◌↔◌, ◌∷◌, ◌++◌, [], true, IfOk, IfErr, OnOk, Some, if◌then◌else◌, length, slice_get};
 ghost use Rattle.world.specs.Reports.{stop_with, threads_of, threads_shown};
 ghost use Rattle.world.specs.Simulations.{IsExplained, IsHolder, cost_at, further, world_of};
-ghost use Rattle.world.specs.Stops.{StopsFor};
 ghost use Rattle.replay.specs.Replays.{IsReplay, events_of, is_cut_off as is_cut_off_spec, is_quiet as is_quiet_spec};
 ghost use Rattle.replay.specs.inner.Playing.{HaltsAt, HaltsIn, Plays};
 

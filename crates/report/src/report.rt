@@ -1,7 +1,7 @@
 //! The text of a report.
 
 ghost use Rattle.std.specs.Prelude.{◌≡◌, ◌++◌, OnOk, IfOk, codes, decimal, flat_map, map};
-ghost use Rattle.report.specs.Report.{event_line, events_text, global_line, memory_text, thread_text, threads_text};
+ghost use Rattle.report.specs.Report.{event_line, global_line, memory_text, thread_text, threads_text};
 ghost use Rattle.report.specs.Report as spec;
 ghost use Rattle.report.specs.Views.{printed_of, shown_of, thread_of};
 

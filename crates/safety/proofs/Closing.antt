@@ -72,10 +72,6 @@ module _ (callers : List (List ℕ)) where
     visited_grows : (k : ℕ) → i < length s.members → IsMember s.members k → IsMember (visited s i).members k
     visited_grows k less h = grows_by (get_or s.members i true) k less h
 
-    size_by : (b : Bool) → length (if b then s else put).members ≡ length s.members
-    size_by true = refl
-    size_by false = length-set s.members i true
-
     more_by : (b : Bool) → (more : List ℕ) × ((if b then s else put).queue ≡ s.queue ++ more)
     more_by true = ([], sym (append-nil s.queue))
     more_by false = (i ∷ [], refl)

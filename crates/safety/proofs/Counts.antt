@@ -74,11 +74,6 @@ not_absent m x h e = let none : count_at m x ≡ 0 = ap (λ o. unwrap_or o 0) e 
 
 -- what is left without the newest, and with one less of some
 module _ {X : Type 0} where
-  pub all_but_last : (all names : List X) (l : X) → all ≡ names ++ l ∷ [] → names ≡ take (length all - 1) all
-  all_but_last all names l is =
-      let size : length all - 1 ≡ length names = (let h = ap length is ∙ length-append names (l ∷ []) in omega (arith, h)) in
-      sym (ap (λ n. take n all) size ∙ ap (take (length names)) is ∙ take-append_seam names (l ∷ []))
-
   take-take : (m k : ℕ) (xs : List X) → m + k ≤ length xs → take m (take (m + k) xs) ≡ take m xs
   take-take m k xs le = sym (take-append-le m (take (m + k) xs) (drop (m + k) xs) (let h = length-take-le (m + k) xs le in omega (arith, h))) ∙ ap (take m) (take-append-drop (m + k) xs)
 

@@ -2,7 +2,7 @@
 use denote.Ref.{Bor}
 use Rattle.std.proofs.Common.{◌≡◌, ℕ, zero, suc, ◌+◌, ◌<◌, List, [], ◌∷◌, ◌++◌, length, length-append, drop, get_or, set, take, refl, sym, ap, subst, ◌∙◌, arith, bytes_eq, Bool, true, false, cond, Option, Some, None, ◌⊎◌, inl, inr}
 use Rattle.std.specs.Prelude.{Contains}
-use Rattle.std.proofs.lemmas.List.{get_or-set_same, get_or-set_other, length-set}
+use Rattle.std.proofs.lemmas.List.{get_or-set_same, get_or-set_other}
 use Rattle.std.proofs.lemmas.List.Elements.{Contains-push, Contains-append_left, Contains-append_cases}
 use Rattle.std.proofs.lemmas.Bool.{cases_eq}
 use Rattle.std.proofs.Math.Seq.{take-append_seam}
@@ -44,9 +44,6 @@ module _ (old new : List ℕ → Option ℕ) (callers : List (List ℕ)) (name :
       by : (b : Bool) → bytes_eq name x ≡ b → new x ≡ Some k
       by true g = absurd (not_none k (sym none ∙ ap old (at_name x g) ∙ e))
       by false g = is x ∙ ap (λ b. cond b (Some (length callers)) (old x)) g ∙ e
-
-  pub named : new name ≡ Some (length callers)
-  named = is name ∙ ap (λ b. cond b (Some (length callers)) (old name)) ((bytes_eq-Decides name name).1 refl)
 
   -- an old number, or the new one
   data Which (x : List ℕ) (k : ℕ) : Type 0 where
@@ -92,13 +89,6 @@ put_number old new name k u x = btree_map_updates_str name.now old new (Some k) 
 
 -- one more link
 module _ (numbers : List ℕ → Option ℕ) (callers all : List (List ℕ)) (l : Link) (j i : ℕ) (is : all ≡ set callers j (callers_at callers j ++ i ∷ [])) (less : j < length callers) where
-  pub numbered_still : IsNumbered numbers callers → IsNumbered numbers all
-  numbered_still h = (let size = ap length is ∙ length-set callers j (callers_at callers j ++ i ∷ []) in record {
-    begun = (let begun = h.begun in omega (arith, begun, size));
-    within = λ x k e. (let w = h.within x k e in (w.0, omega (arith, w.1, size)));
-    distinct = h.distinct;
-  })
-
   here : callers_at all j ≡ callers_at callers j ++ i ∷ []
   here = ap (λ cs. callers_at cs j) is ∙ get_or-set_same callers j (callers_at callers j ++ i ∷ []) [] less
 
@@ -150,24 +140,6 @@ module _ (numbers : List ℕ → Option ℕ) (callers all : List (List ℕ)) (l 
       complete = λ m c. complete_by m (Contains-append_cases links (l ∷ []) m c);
       sound = λ k m c. sound_by k m (edge k m c);
     }
-
--- the graph of no links
-pub no_links : (numbers : List ℕ → Option ℕ) (callers : List (List ℕ)) → ((x : List ℕ) → numbers x ≡ None) → callers ≡ [] ∷ [] → HasLinks [] numbers callers
-no_links numbers callers none is = record {
-  complete = λ l c. absurd (omega (arith, c.1));
-  sound = λ j i c. absurd (nothing j i (subst (λ cs. Contains (callers_at cs j) i) is c));
-}
-  where
-    nothing : (j i : ℕ) → Contains (callers_at ([] ∷ []) j) i → ⊥
-    nothing zero i c = omega (arith, c.1)
-    nothing (suc j) i c = omega (arith, c.1)
-
-pub no_numbers : (numbers : List ℕ → Option ℕ) (callers : List (List ℕ)) → ((x : List ℕ) → numbers x ≡ None) → callers ≡ [] ∷ [] → IsNumbered numbers callers
-no_numbers numbers callers none is = record {
-  begun = (let size = ap length is in omega (arith, size));
-  within = λ x k e. absurd (not_none k (sym (none x) ∙ e));
-  distinct = λ x y k e f. absurd (not_none k (sym (none x) ∙ e));
-}
 
 -- callers are numbers of the graph
 pub callers_within : (links : List Link) (numbers : List ℕ → Option ℕ) (callers : List (List ℕ)) → IsNumbered numbers callers → HasLinks links numbers callers → IsWithin callers

@@ -5,7 +5,7 @@ use Rattle.lex.specs.declared.token.Span.{Span}
 use Rattle.syntax.specs.declared.tree.Mode.TheVariants.{Relaxed}
 use Rattle.syntax.specs.declared.tree.Attribute.TheVariants.{Safe}
 use Rattle.syntax.specs.Tree as Tree
-use Rattle.syntax.specs.Tree.{Evaluate, Call, Stmt, Stmts, Do, Print, Transaction, Cancel, Item, Defines, Program}
+use Rattle.syntax.specs.Tree.{Evaluate, Call, Stmts, Do, Print, Transaction, Cancel, Item, Defines, Program}
 use Rattle.syntax.specs.Typing.{first_unmet}
 use Rattle.syntax.proofs.Rows.{here, called, sets_one, atomic, just, worker_with}
 use Rattle.syntax.proofs.MoreRows.{then_}

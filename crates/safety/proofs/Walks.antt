@@ -9,7 +9,7 @@ use Rattle.syntax.specs.declared.tree.ForHead as H
 use Rattle.syntax.specs.declared.tree.Parameter as P
 use Rattle.syntax.specs.declared.tree.Stmt as S
 use Rattle.syntax.specs.declared.tree.{BinaryOp.BinaryOp, LogicalOp.LogicalOp}
-use Rattle.syntax.proofs.Seen.{expr_of_element, expr_of_call, expr_of_binary, expr_of_logical, expr_of_conditional, stmt_of_declare, stmt_of_block, stmt_of_print, stmt_of_if, stmt_of_if_else, stmt_of_while, stmt_of_do_while, stmt_of_for, stmt_of_transaction}
+use Rattle.syntax.proofs.Seen.{expr_of_element, expr_of_call, expr_of_binary, expr_of_logical, expr_of_conditional, stmt_of_declare, stmt_of_block, stmt_of_print, stmt_of_for, stmt_of_transaction}
 use Rattle.syntax.specs.Tree as Tree
 use Rattle.syntax.specs.Tree.{Span}
 use Rattle.syntax.specs.declared.tree.{Mode.Mode, Mode.TheVariants.Atomic, Mode.TheVariants.Relaxed}
@@ -73,18 +73,6 @@ module _ {A : Type 0} (w : Around) where
 
   pub print_sites : (s : S.Stmt A) (at : Span) (text : List ℕ) (text_at : Span) (es fs : List (E.Expr A)) → s ≡ S.Print at text text_at es → fs ≡ es → stmt_sites (stmt_of s) w ≡ site w Prints at ++ exprs_sites (exprs_of fs) w
   print_sites s at text text_at es fs is h = ap (λ t. stmt_sites t w) (ap stmt_of is ∙ stmt_of_print at text text_at es) ∙ ap (λ us. site w Prints at ++ exprs_sites (exprs_of us) w) (sym h)
-
-  pub if_sites : (s : S.Stmt A) (c : E.Expr A) (a a' : S.Stmt A) (o : Option (S.Stmt A)) → s ≡ S.If c a o → o ≡ None → a' ≡ a → stmt_sites (stmt_of s) w ≡ expr_sites (expr_of c) w ++ stmt_sites (stmt_of a') w
-  if_sites s c a a' o is none h = ap (λ t. stmt_sites t w) (ap stmt_of (is ∙ ap (S.If c a) none) ∙ stmt_of_if c a) ∙ ap (λ t. expr_sites (expr_of c) w ++ stmt_sites (stmt_of t) w) (sym h)
-
-  pub if_else_sites : (s : S.Stmt A) (c : E.Expr A) (a b a' b' : S.Stmt A) (o : Option (S.Stmt A)) → s ≡ S.If c a o → o ≡ Some b → a' ≡ a → b' ≡ b → stmt_sites (stmt_of s) w ≡ expr_sites (expr_of c) w ++ stmt_sites (stmt_of a') w ++ stmt_sites (stmt_of b') w
-  if_else_sites s c a b a' b' o is some h k = ap (λ t. stmt_sites t w) (ap stmt_of (is ∙ ap (S.If c a) some) ∙ stmt_of_if_else c a b) ∙ (λ i. expr_sites (expr_of c) w ++ stmt_sites (stmt_of (sym h i)) w ++ stmt_sites (stmt_of (sym k i)) w)
-
-  pub while_sites : (s : S.Stmt A) (c : E.Expr A) (a a' : S.Stmt A) → s ≡ S.While c a → a' ≡ a → stmt_sites (stmt_of s) w ≡ expr_sites (expr_of c) w ++ stmt_sites (stmt_of a') w
-  while_sites s c a a' is h = ap (λ t. stmt_sites t w) (ap stmt_of is ∙ stmt_of_while c a) ∙ ap (λ t. expr_sites (expr_of c) w ++ stmt_sites (stmt_of t) w) (sym h)
-
-  pub do_while_sites : (s : S.Stmt A) (c : E.Expr A) (a a' : S.Stmt A) → s ≡ S.DoWhile a c → a' ≡ a → stmt_sites (stmt_of s) w ≡ stmt_sites (stmt_of a') w ++ expr_sites (expr_of c) w
-  do_while_sites s c a a' is h = ap (λ t. stmt_sites t w) (ap stmt_of is ∙ stmt_of_do_while a c) ∙ ap (λ t. stmt_sites (stmt_of t) w ++ expr_sites (expr_of c) w) (sym h)
 
   pub transaction_sites : (s : S.Stmt A) (mode : Mode) (ss ts : List (S.Stmt A)) (at : Span) → s ≡ S.Transaction mode ss at → ts ≡ ss → stmt_sites (stmt_of s) w ≡ mode_site mode w at ++ stmts_sites (stmts_of ts) (in_transaction mode w)
   transaction_sites s mode ss ts at is h = ap (λ t. stmt_sites t w) (ap stmt_of is ∙ stmt_of_transaction mode ss at) ∙ ap (λ us. mode_site mode w at ++ stmts_sites (stmts_of us) (in_transaction mode w)) (sym h)

@@ -1,7 +1,7 @@
 //! The links to which the unsafe functions of a program keep, and those of the functions that are declared safe.
 
 ghost use Rattle.std.specs.Prelude.{◌≡◌, ◌++◌, map, OnOk, IfOk};
-ghost use Rattle.syntax.specs.Views.{function_of, item_of};
+ghost use Rattle.syntax.specs.Views.{item_of};
 ghost use Rattle.safety.specs.Faults.{says_safe};
 ghost use Rattle.safety.specs.Views.{construct_of, sites_of_own};
 ghost use Rattle.safety.specs.Sets.{links_of};

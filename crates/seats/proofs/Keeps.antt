@@ -1,5 +1,5 @@
 -- Each access keeps the rule.
-use Rattle.std.proofs.Common.{◌≡◌, ◌≢◌, ℕ, zero, suc, ◌+◌, ◌≤◌, ◌==◌, Bool, true, false, List, [], ◌∷◌, get_or, drop, set, refl, sym, ap, ◌∙◌, subst, Some, arith, add-one, inl, ⊎_elim}
+use Rattle.std.proofs.Common.{◌≡◌, ◌≢◌, ℕ, suc, ◌+◌, ◌≤◌, ◌==◌, Bool, true, false, List, [], ◌∷◌, get_or, drop, set, refl, sym, ap, ◌∙◌, subst, Some, arith, add-one, inl, ⊎_elim}
 use Rattle.std.specs.Prelude.{if◌then◌else◌, nat_lt}
 use Rattle.std.proofs.lemmas.List.{set-get_or}
 use mathlib.Core.Option.{some}
@@ -42,11 +42,6 @@ apart views seat other v w p q once ne e f a b same =
 pub at_most_one : (b : Bool) (n : ℕ) → n ≡ (if b then 1 else 0) → n ≤ 1
 at_most_one true n e = omega arith
 at_most_one false n e = omega arith
-
-get_set : (l : List (List ViewPart)) (i : ℕ) (a b : List ViewPart) → get_elem? l i ≡ some a → get_elem? (set l i b) i ≡ some b
-get_set [] i a b e = absurd (mathlib.Core.Option.some-ne-none a (sym e))
-get_set (x ∷ xs) zero a b e = refl
-get_set (x ∷ xs) (suc i) a b e = get_set xs i a b e
 
 module _ (key : Setup) where
   module _ (words : List ℕ) (views : Views) (rule : IsRuled key words views) (id : ℕ) (p : ViewPart) (at : get_elem? views id ≡ some (p ∷ [])) (k : ℕ) (now : Part Configuration) (x : Access) (pause : paused (effect key.code) k p.part ≡ Some now) (is : access (effect key.code) now.thread ≡ x) (far : is_local x ≡ false) (on : stops x ≡ false) where

@@ -9,7 +9,6 @@ use Rattle.syntax.specs.declared.tree.Mode.TheVariants.{Atomic, Relaxed}
 use Rattle.syntax.specs.declared.numbers.Halt.{Halt}
 use Rattle.syntax.specs.declared.numbers.Halt.TheVariants.{Trapped, Wants, Spent, Astray}
 use Rattle.syntax.specs.declared.numbers.Value.{Value}
-use Rattle.syntax.specs.Tree as Tree
 use Rattle.syntax.specs.Tree.{Expr, Variable, Constant, Element, Call, Parenthesized, Cast, Unary, Binary, Logical, Conditional, Simple, Evaluate, Assign, Adjust, Declarator, Stmt, Empty, Declare, Do, Block, Print, If, IfElse, While, DoWhile, For, Break, Continue, Return, Transaction, Cancel, Program}
 use Rattle.syntax.specs.Names.{Local}
 use Rattle.syntax.specs.Formats.{Piece, Literal, Figure, pieces}
@@ -17,7 +16,7 @@ use Rattle.syntax.specs.Types.{Scope, running_scope}
 use Rattle.syntax.specs.Typing.{scope_after}
 use Rattle.syntax.specs.Behaviours.{Memory}
 use Rattle.syntax.specs.Actions.{Context, Outside, Inside, State, Answer, Gives, Stops, Action, pure, stop, go_on, ◌>>=◌, ◌>>◌, spend, tick, store_at, may_print_at, may_print, print_piece}
-use Rattle.syntax.specs.Meaning.{Spot, InLocal, InCell, assign, print_pieces, End, Next, Breaks, Continues, Returns, Cancels, scoped, after_turn, turns, loop, after_body, Left, left_by, close_inner, close, enter, transaction, op_of, int_one, Caller, expr, spot, changed, assigned, simple, first_value, declare, holds, stepped, return_value, stmt, calls}
+use Rattle.syntax.specs.Meaning.{Spot, InLocal, InCell, assign, print_pieces, End, Next, Breaks, Continues, Returns, Cancels, scoped, after_turn, turns, loop, after_body, Left, left_by, close_inner, close, enter, transaction, op_of, int_one, Caller, expr, spot, changed, assigned, simple, first_value, declare, return_value, stmt, calls}
 use Rattle.syntax.specs.Laws.{WhereGiven, shape, BeginsWithLocals}
 use Rattle.syntax.specs.ScopeLaws.{LocalsExact, ScopeFits, Agrees, declared_by}
 use Rattle.syntax.proofs.Expressions.{LeavesLocals, named_holds, element_holds, expr_holds, exprs_holds, fetch_holds, or_trap_holds, calls_holds}
@@ -164,10 +163,6 @@ enter_same run h Relaxed (Inside Atomic m) s = tt
 transaction_same : (mode : Mode) {run : Action End} → KeepsShape run → KeepsShape (transaction mode run)
 transaction_same mode {run} h = record { keeps = λ s. enter_same run h mode s.context s }
 
--- locals that begin with others are those and further ones
-further : (ls ms : List (List ℕ × Scalar)) → ms ≡ ls → ms ≡ ls ++ []
-further ls ms e = e ∙ sym (append-nil ls)
-
 module _ (p : Program) (call : Caller) (h : (x : List ℕ) (vs : List Value) → LeavesLocals (call x vs)) where
   expr_same : (e : Expr) → KeepsShape (expr p call e)
   expr_same e = leaves_same (expr_holds p call h e)
@@ -199,14 +194,6 @@ module _ (p : Program) (call : Caller) (h : (x : List ℕ) (vs : List Value) →
   first_same : (at : Spot) (o : Option Expr) → KeepsShape (first_value p call at o)
   first_same at None = pure_same tt
   first_same at (Some e) = on_same (expr_same e) (λ v. assign_same at v)
-
-  holds_same : (o : Option Expr) → KeepsShape (holds p call o)
-  holds_same None = pure_same true
-  holds_same (Some e) = on_same (expr_same e) (λ v. pure_same _)
-
-  stepped_same : (o : Option Simple) → KeepsShape (stepped p call o)
-  stepped_same None = pure_same None
-  stepped_same (Some s) = then_same (simple_same s) (pure_same None)
 
   return_same : (o : Option Expr) → KeepsShape (return_value p call o)
   return_same None = pure_same _

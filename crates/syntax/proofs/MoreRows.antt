@@ -8,7 +8,7 @@ use Rattle.syntax.specs.declared.tree.BinaryOp.TheVariants.{Add, Subtract, Equal
 use Rattle.syntax.specs.declared.tree.IncDec.TheVariants.{Increment}
 use Rattle.syntax.specs.declared.numbers.Trap.TheVariants.{OutOfRange, Index, Frames}
 use Rattle.syntax.specs.Tree as Tree
-use Rattle.syntax.specs.Tree.{Name, Expr, Variable, Constant, Element, Call, Unary, Binary, Simple, Evaluate, Assign, Adjust, Declaration, Does, Declares, Stmt, Stmts, Empty, Declare, Do, Block, Print, If, IfElse, While, For, Break, Return, Transaction, Cancel, Function, Global, Item, Defines, Shares, Program}
+use Rattle.syntax.specs.Tree.{Expr, Constant, Element, Call, Unary, Binary, Evaluate, Assign, Adjust, Does, Stmt, Stmts, Declare, Do, Block, Print, If, IfElse, While, For, Break, Cancel, Defines, Shares, Program}
 use Rattle.syntax.specs.declared.numbers.Halt.TheVariants.{Trapped}
 use Rattle.syntax.specs.declared.tree.First.{First}
 use Rattle.syntax.specs.Names.{initial_memory}

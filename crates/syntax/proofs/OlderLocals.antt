@@ -9,7 +9,7 @@ use Rattle.syntax.specs.declared.numbers.Halt.{Halt}
 use Rattle.syntax.specs.declared.numbers.Halt.TheVariants.{Trapped, Wants, Spent, Astray}
 use Rattle.syntax.specs.declared.numbers.Value.{Value}
 use Rattle.syntax.specs.Tree as Tree
-use Rattle.syntax.specs.Tree.{Expr, Exprs, Variable, Constant, Element, Call, Parenthesized, Cast, Unary, Binary, Logical, Conditional, Simple, Evaluate, Assign, Adjust, Declarator, Start, Nothing, Declares, Does, Stmt, Stmts, Empty, Declare, Do, Block, Print, If, IfElse, While, DoWhile, For, Break, Continue, Return, Transaction, Cancel, Program}
+use Rattle.syntax.specs.Tree.{Expr, Variable, Constant, Element, Call, Parenthesized, Cast, Unary, Binary, Logical, Conditional, Simple, Evaluate, Assign, Adjust, Declarator, Start, Nothing, Declares, Does, Stmt, Stmts, Empty, Declare, Do, Block, Print, If, IfElse, While, DoWhile, For, Break, Continue, Return, Transaction, Cancel, Program}
 use Rattle.syntax.specs.Names.{Local, with_word}
 use Rattle.syntax.specs.Formats.{Piece, Literal, Figure, pieces}
 use Rattle.syntax.specs.Behaviours.{Memory}

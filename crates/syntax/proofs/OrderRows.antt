@@ -1,11 +1,11 @@
 -- Small programs, run in an order.
-use Rattle.std.proofs.Common.{◌≡◌, refl, ℕ, List, [], ◌∷◌}
+use Rattle.std.proofs.Common.{◌≡◌, refl, [], ◌∷◌}
 use Rattle.std.specs.Prelude.{codes}
 use Rattle.syntax.specs.Tree as Tree
 use Rattle.syntax.specs.Tree.{While, Block, Program}
-use Rattle.syntax.specs.Behaviours.{Outcome, Ended, Stopped, Spent, Wants}
+use Rattle.syntax.specs.Behaviours.{Ended, Stopped, Spent, Wants}
 use Rattle.syntax.specs.Threads.{thread}
-use Rattle.syntax.specs.Orders.{OrderOutcome, in_order}
+use Rattle.syntax.specs.Orders.{in_order}
 use Rattle.syntax.proofs.Rows.{num, var, set_to, atomic, just, worker_with, global}
 use Rattle.syntax.proofs.MoreRows.{plus}
 

@@ -2,12 +2,12 @@
 use Rattle.std.proofs.Common.{◌≡◌, refl, ℕ, ◌+◌, List, [], ◌∷◌, Option, Some, None}
 use Rattle.std.specs.Prelude.{codes}
 use Rattle.lex.specs.declared.token.Span.{Span}
-use Rattle.lex.specs.declared.token.Scalar.TheVariants.{Int, Unsigned}
+use Rattle.lex.specs.declared.token.Scalar.TheVariants.{Int}
 use Rattle.syntax.specs.declared.tree.BinaryOp.TheVariants.{Add}
 use Rattle.syntax.specs.Tree as Tree
-use Rattle.syntax.specs.Tree.{Name, Expr, Variable, Constant, Element, Call, Binary, Evaluate, Stmt, Stmts, Do, Print, Return, Global, Item, Defines, Shares, Program}
+use Rattle.syntax.specs.Tree.{Name, Expr, Variable, Constant, Element, Call, Binary, Evaluate, Stmts, Do, Print, Return, Global, Item, Defines, Shares, Program}
 use Rattle.syntax.specs.Typing.{Meets, first_unmet}
-use Rattle.syntax.proofs.Rows.{here, called, num, just, worker_with}
+use Rattle.syntax.proofs.Rows.{here, called, just, worker_with}
 
 -- the first fault of a program whose text ends at 99
 abbrev fault : Program → Option (ℕ × Span)

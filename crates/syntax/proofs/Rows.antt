@@ -5,7 +5,7 @@ use Rattle.lex.specs.declared.token.Span.{Span}
 use Rattle.lex.specs.declared.token.Scalar.TheVariants.{Int}
 use Rattle.syntax.specs.declared.tree.Mode.TheVariants.{Atomic}
 use Rattle.syntax.specs.Tree as Tree
-use Rattle.syntax.specs.Tree.{Name, Expr, Variable, Constant, Element, Call, Unary, Binary, Simple, Evaluate, Assign, Adjust, Declaration, Does, Declares, Stmt, Stmts, Empty, Declare, Do, Block, Print, If, IfElse, While, For, Break, Return, Transaction, Cancel, Function, Global, Item, Defines, Shares, Program}
+use Rattle.syntax.specs.Tree.{Name, Expr, Variable, Constant, Assign, Stmt, Stmts, Do, Transaction, Item, Defines, Shares, Program}
 use Rattle.syntax.specs.declared.numbers.Halt.TheVariants.{Wants, Spent}
 use Rattle.syntax.specs.Behaviours.{Ended, Stopped}
 use Rattle.syntax.specs.Threads.{thread}

@@ -3,7 +3,7 @@ use Rattle.std.proofs.Common.{◌≡◌, refl, [], ◌∷◌, Some, None}
 use Rattle.std.specs.Prelude.{codes}
 use Rattle.lex.specs.declared.token.Scalar.TheVariants.{Int}
 use Rattle.syntax.specs.Tree as Tree
-use Rattle.syntax.specs.Tree.{Variable, Element, Call, Conditional, Evaluate, Stmts, Declare, Do, If, Global, Defines, Shares, Program}
+use Rattle.syntax.specs.Tree.{Element, Call, Conditional, Evaluate, Declare, Do, If, Defines, Shares, Program}
 use Rattle.syntax.specs.Behaviours.{Ended}
 use Rattle.syntax.specs.Threads.{thread}
 use Rattle.syntax.specs.Typing.{Meets, IsTypedProgram}

@@ -154,10 +154,6 @@ in_scope p o x = unwrap_or (option_map (λ l. Number l.1) o) (file_scope p x)
 
 module _ (p : Program) where
   -- a name that is typed as a number or an element is a global of that type
-  global_fetched : (x : List ℕ) (o : Option Scalar) (g : Option GlobalCells) (s : State) (rest : GlobalCells → Action Value) → ((c : GlobalCells) (u : State) → g ≡ Some c → GivesType o (rest c u)) → GivesType o (go_on (or_astray g s) rest)
-  global_fetched x o (Some c) s rest h = h c s refl
-  global_fetched x o None s rest h = tt
-
   global_has : (x : List ℕ) (o : Option Scalar) → ((t : Scalar) → o ≡ Some t → shared_type (file_scope p x) ≡ Some t) → (c : GlobalCells) → global_of p x ≡ Some c → HasType o (record { of = c.global.of; word = 0 })
   global_has x o shared c e t f =
       let here : Found (global_of p x) t = found p x t (shared t f) in
@@ -343,9 +339,6 @@ module _ (p : Program) (checked : IsTypedProgram p) where
 
     abbrev at_locals : (e : Expr) (s : State) → WhereGiven (expr p (calls p n) e s) (λ v now. now.locals ≡ s.locals)
     at_locals e s = (expr_holds p (calls p n) (calls_holds p n) e).leaves s
-
-    logical_typed : (o : Option Scalar) (t : Bool) (s : State) → o ≡ Some Int → GivesType o (pure (flag t) s)
-    logical_typed o t s e = λ i f. some_same Int i (sym e ∙ f)
 
     branch_locals : (b : Bool) (x y : Expr) (s : State) → WhereGiven ((if b then expr p (calls p n) x else expr p (calls p n) y) s) (λ v now. now.locals ≡ s.locals)
     branch_locals true x y s = at_locals x s

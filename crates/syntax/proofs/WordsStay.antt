@@ -1,5 +1,5 @@
 -- Words stay words, and memories keep their length.
-use Rattle.std.proofs.Common.{◌≡◌, refl, ◌∙◌, ℕ, zero, suc, ◌+◌, ◌<◌, ◌-◌, ◌^◌, List, [], ◌∷◌, ◌++◌, length, take, Option, Some, None, Bool, true, false, not, Result, Ok, Err, arith}
+use Rattle.std.proofs.Common.{◌≡◌, refl, ◌∙◌, ℕ, zero, suc, ◌<◌, ◌-◌, ◌^◌, List, [], ◌∷◌, ◌++◌, length, take, Option, Some, None, Bool, true, false, not, Result, Ok, Err, arith}
 use Rattle.std.specs.Prelude.{if◌then◌else◌, IfOk, pos, neg_ℤ, slice_index, slice_set, option_map, unwrap_or}
 use Rattle.std.specs.List.{AllByRecursion}
 use Rattle.std.proofs.lemmas.List.{length-set}

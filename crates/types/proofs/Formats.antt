@@ -1,5 +1,5 @@
 -- What a format says, byte by byte.
-use Rattle.std.proofs.Common.{◌≡◌, ℕ, ◌+◌, ◌<◌, List, [], ◌∷◌, length, drop, get_or, Some, None, Bool, true, false, not, ◌&&◌, ◌||◌, refl, sym, ap, ◌∙◌, if◌then◌else◌}
+use Rattle.std.proofs.Common.{◌≡◌, ℕ, ◌+◌, ◌<◌, List, [], ◌∷◌, length, drop, get_or, Some, None, Bool, true, false, not, ◌&&◌, refl, sym, ap, ◌∙◌, if◌then◌else◌}
 use Rattle.std.specs.Prelude.{◌==◌}
 use Rattle.std.proofs.lemmas.List.{at_drop_more}
 use Rattle.syntax.specs.Tree.{Scalar, Int, Unsigned}
@@ -47,9 +47,6 @@ format_is (a ∷ b ∷ rest) = by (a == 37) (format_is rest) (format_is (b ∷ r
 
 -- one byte more
 module _ (cs : List ℕ) (i : ℕ) (c : ℕ) (percent : Bool) (is : c ≡ get_or cs i 0) (less : i < length cs) where
-  pub format_more : is_format_from percent (drop i cs) ≡ ((not percent || is_conversion c) && is_format_from (not percent && (c == 37)) (drop (i + 1) cs))
-  format_more = at_drop_more (is_format_from percent) cs i 0 less ∙ ap (λ b. is_format_from percent (b ∷ drop (i + 1) cs)) (sym is)
-
   pub figures_more : figures_from percent (drop i cs) ≡ with_figure (figure_of percent c) (figures_from (not percent && (c == 37)) (drop (i + 1) cs))
   figures_more = at_drop_more (figures_from percent) cs i 0 less ∙ ap (λ b. figures_from percent (b ∷ drop (i + 1) cs)) (sym is)
 

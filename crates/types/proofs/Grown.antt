@@ -96,9 +96,6 @@ module _ {A : Type 0} where
   pub same_count : (old new : Names A) → Agrees old new → count_in new ≡ count_in old
   same_count old new a = ap length a.locals
 
-  pub agrees_on : (a b c : Names A) → Agrees a b → Agrees b c → Agrees a c
-  agrees_on a b c g h = record { locals = h.locals ∙ g.locals; slots = h.slots ∙ g.slots }
-
   pub agrees_all : (n : Names A) → Agrees n n
   agrees_all n = record { locals = refl; slots = refl }
 

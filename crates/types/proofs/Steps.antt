@@ -11,24 +11,6 @@ use Rattle.types.specs.Answers.{number_in, span_in}
 use Rattle.types.specs.inner.Unmet.{unmet_in, Tells}
 use Rattle.syntax.specs.Typing.{Demand, first_unmet, demand}
 
-met_step : (b : Bool) (r s t : Option (ℕ × Span)) (f : ℕ × Span) → None ≡ (if b then r else Some f) → (None ≡ r → s ≡ t) → (if b then s else Some f) ≡ t
-met_step true r s t f h rest = rest h
-met_step false r s t f h rest = absurd cc
-
-unmet_step : (b : Bool) (r s : Option (ℕ × Span)) (f g : ℕ × Span) → Some g ≡ (if b then r else Some f) → (Some g ≡ r → Some g ≡ s) → Some g ≡ (if b then s else Some f)
-unmet_step true r s f g h rest = rest h
-unmet_step false r s f g h rest = h
-
--- all of the first are met
-pub after_met : (ds es : List Demand) → None ≡ first_unmet ds → first_unmet (ds ++ es) ≡ first_unmet es
-after_met [] es h = refl
-after_met (d ∷ ds) es h = met_step d.met (first_unmet ds) (first_unmet (ds ++ es)) (first_unmet es) (d.number, d.at) h (after_met ds es)
-
--- one of the first is not
-pub at_unmet : (ds es : List Demand) (f : ℕ × Span) → Some f ≡ first_unmet ds → Some f ≡ first_unmet (ds ++ es)
-at_unmet [] es f h = absurd cc
-at_unmet (d ∷ ds) es f h = unmet_step d.met (first_unmet ds) (first_unmet (ds ++ es)) (d.number, d.at) f h (at_unmet ds es f)
-
 -- the first unmet demand of two lists
 pub first_of_two : (ds es : List Demand) → first_unmet (ds ++ es) ≡ option_or (first_unmet ds) (first_unmet es)
 first_of_two [] es = refl
@@ -44,9 +26,6 @@ or_or (Some x) b c = refl
 
 pub first_of_three : (a b c : List Demand) → first_unmet (a ++ b ++ c) ≡ option_or (first_unmet a) (option_or (first_unmet b) (first_unmet c))
 first_of_three a b c = first_of_two (a ++ b) c ∙ ap (λ o. option_or o (first_unmet c)) (first_of_two a b) ∙ or_or (first_unmet a) (first_unmet b) (first_unmet c)
-
-pub first_of_four : (a b c d : List Demand) → first_unmet (a ++ b ++ c ++ d) ≡ option_or (first_unmet a) (option_or (first_unmet b) (option_or (first_unmet c) (first_unmet d)))
-first_of_four a b c d = first_of_three (a ++ b) c d ∙ ap (λ o. option_or o (option_or (first_unmet c) (first_unmet d))) (first_of_two a b) ∙ or_or (first_unmet a) (first_unmet b) (option_or (first_unmet c) (first_unmet d))
 
 -- a `?` that goes on: what is left is all
 pub skip : {X : Type 0} (r : Result X Violation) (x : X) (here rest all : Option (ℕ × Span)) → all ≡ option_or here rest → unmet_in r ≡ here → r ≡ Ok x → all ≡ rest
@@ -86,10 +65,6 @@ tell_stop {X} {Y} r s f here rest all a h e g = subst (λ q. Tells q all) (sym (
 -- what is told of the rest is told of all
 pub tell_rest : {X : Type 0} (s : Result X Failure) (rest all : Option (ℕ × Span)) → all ≡ rest → Tells s rest → Tells s all
 tell_rest s rest all a h = subst (Tells s) (sym a) h
-
--- a single rule, told by a check that may want memory
-pub tell_one : {X Y : Type 0} (r : Result X Violation) (x : X) (s : Result Y Failure) (y : Y) (all : Option (ℕ × Span)) → unmet_in r ≡ all → r ≡ Ok x → s ≡ Ok y → Tells s all
-tell_one r x s y all h e g = subst (λ q. Tells q all) (sym g) (sym (ap unmet_in e) ∙ h)
 
 tell_err : (X Y : Type 0) (f : Failure) (all : Option (ℕ × Span)) → Tells {X = X} (Err f) all → Tells {X = Y} (Err f) all
 tell_err X Y F.OutOfMemory all h = tt

@@ -1,29 +1,21 @@
 -- The demands of a statement by its parts.
-use Rattle.std.proofs.Common.{◌≡◌, ℕ, ◌+◌, ◌<◌, List, [], ◌∷◌, ◌++◌, length, drop, get_or, map, option_map, Option, Some, None, Bool, true, false, not, ◌&&◌, ◌||◌, is_none, refl, sym, ap, ◌∙◌}
+use Rattle.std.proofs.Common.{◌≡◌, ℕ, ◌+◌, ◌<◌, List, [], ◌∷◌, ◌++◌, length, drop, get_or, option_map, Option, Some, None, Bool, true, false, not, ◌&&◌, ◌||◌, is_none, refl, sym, ap, ◌∙◌}
 use Rattle.std.proofs.lemmas.List.{at_drop_more}
 use Rattle.std.specs.Option.{option_or}
 use Rattle.lex.specs.declared.token.Scalar.{Scalar}
 use Rattle.syntax.specs.Tree.{Span, Stmts, Function, Item, Defines}
 use Rattle.syntax.specs.declared.tree.Mode.{Mode}
 use Rattle.syntax.specs.declared.tree.Expr as E
-use Rattle.syntax.specs.declared.tree.Simple as I
-use Rattle.syntax.specs.declared.tree.Declaration as D
 use Rattle.syntax.specs.declared.tree.ForHead as H
 use Rattle.syntax.specs.declared.tree.Stmt as S
-use Rattle.syntax.specs.Views.{expr_of, exprs_of, simple_of, declarator_of, start_of, stmt_of, stmts_of}
+use Rattle.syntax.specs.Views.{expr_of, exprs_of, simple_of, start_of, stmt_of, stmts_of}
 use Rattle.syntax.specs.Types.{Scope, file_scope}
-use Rattle.syntax.specs.Typing.{scope_of_start, scope_after, names_of, returns_right, has_name, may_be_function, agrees, defined_names, with_parameters, parameter_names}
-use Rattle.syntax.proofs.Seen.{stmt_of_declare, stmt_of_do, stmt_of_block, stmt_of_print, stmt_of_if, stmt_of_if_else, stmt_of_while, stmt_of_do_while, stmt_of_for, stmt_of_return, stmt_of_transaction, stmt_of_empty, stmt_of_break, stmt_of_continue, stmt_of_cancel}
-use Rattle.syntax.specs.Typing.{first_unmet, demand, demands_of, IsTyped, IsNumber, GivesNumber, IsTypedSimple, IsTypedStart, IsTypedPrint, IsTypedStmt, AreTypedStmts, AreTypedDeclarators, AreDistinct, IsTypedBody, IsTypedFunction}
+use Rattle.syntax.specs.Typing.{scope_of_start, scope_after, names_of, has_name, may_be_function, agrees, defined_names, with_parameters, parameter_names}
+use Rattle.syntax.proofs.Seen.{stmt_of_block, stmt_of_print, stmt_of_if, stmt_of_if_else, stmt_of_while, stmt_of_do_while, stmt_of_for, stmt_of_transaction}
+use Rattle.syntax.specs.Typing.{first_unmet, demand, demands_of, IsNumber, IsTypedSimple, IsTypedStart, IsTypedPrint, IsTypedStmt, AreTypedStmts, AreDistinct, IsTypedBody, IsTypedFunction}
 use Rattle.types.proofs.Steps.{first_of_two, first_of_three, or_or}
 
 module _ {A : Type 0} (g : Option Scalar) (known : Scope) (ns : List (List ℕ)) (looping : Bool) (s : S.Stmt A) where
-  pub typed_declare : (d : D.Declaration A) → s ≡ S.Declare d → first_unmet (IsTypedStmt g (stmt_of s) known ns looping) ≡ first_unmet (AreTypedDeclarators known ns d.of (map declarator_of d.declarators))
-  typed_declare d is = ap (λ x. first_unmet (IsTypedStmt g x known ns looping)) (ap stmt_of is ∙ stmt_of_declare d)
-
-  pub typed_do : (e : I.Simple A) → s ≡ S.Do e → first_unmet (IsTypedStmt g (stmt_of s) known ns looping) ≡ first_unmet (IsTypedSimple known (simple_of e))
-  typed_do e is = ap (λ x. first_unmet (IsTypedStmt g x known ns looping)) (ap stmt_of is ∙ stmt_of_do e)
-
   pub typed_block : (ss : List (S.Stmt A)) → s ≡ S.Block ss → first_unmet (IsTypedStmt g (stmt_of s) known ns looping) ≡ first_unmet (AreTypedStmts g (stmts_of ss) known [] looping)
   typed_block ss is = ap (λ x. first_unmet (IsTypedStmt g x known ns looping)) (ap stmt_of is ∙ stmt_of_block ss)
 
@@ -67,21 +59,6 @@ module _ {A : Type 0} (g : Option Scalar) (known : Scope) (ns : List (List ℕ))
       ap (λ x. first_unmet (IsTypedStmt g x known ns looping)) (ap stmt_of is ∙ stmt_of_for head a)
       ∙ first_of_two (IsTypedStart known (start_of head.start) ++ demands_of (option_map expr_of head.condition) (IsNumber (scope_of_start (start_of head.start) known)) ++ demands_of (option_map simple_of head.step) (IsTypedSimple (scope_of_start (start_of head.start) known))) (IsTypedStmt g (stmt_of a) (scope_of_start (start_of head.start) known) [] true)
       ∙ ap (λ x. option_or (first_unmet (IsTypedStart known (start_of x.start) ++ demands_of (option_map expr_of x.condition) (IsNumber (scope_of_start (start_of x.start) known)) ++ demands_of (option_map simple_of x.step) (IsTypedSimple (scope_of_start (start_of x.start) known)))) (first_unmet (IsTypedStmt g (stmt_of a) (scope_of_start (start_of x.start) known) [] true))) (sym same)
-
-  pub typed_return : (e : Option (E.Expr A)) (at : Span) → s ≡ S.Return e at → first_unmet (IsTypedStmt g (stmt_of s) known ns looping) ≡ first_unmet (demands_of (option_map expr_of e) (IsTyped known) ++ demand 22 at (returns_right g (option_map expr_of e)) ++ demands_of (option_map expr_of e) (GivesNumber known))
-  typed_return e at is = ap (λ x. first_unmet (IsTypedStmt g x known ns looping)) (ap stmt_of is ∙ stmt_of_return e at)
-
-  pub typed_empty : s ≡ S.Empty → first_unmet (IsTypedStmt g (stmt_of s) known ns looping) ≡ None
-  typed_empty is = ap (λ x. first_unmet (IsTypedStmt g x known ns looping)) (ap stmt_of is ∙ stmt_of_empty A)
-
-  pub typed_cancel : (at : Span) → s ≡ S.Cancel at → first_unmet (IsTypedStmt g (stmt_of s) known ns looping) ≡ None
-  typed_cancel at is = ap (λ x. first_unmet (IsTypedStmt g x known ns looping)) (ap stmt_of is ∙ stmt_of_cancel A at)
-
-  pub typed_break : (at : Span) → s ≡ S.Break at → first_unmet (IsTypedStmt g (stmt_of s) known ns looping) ≡ first_unmet (demand 26 at looping)
-  typed_break at is = ap (λ x. first_unmet (IsTypedStmt g x known ns looping)) (ap stmt_of is ∙ stmt_of_break A at)
-
-  pub typed_continue : (at : Span) → s ≡ S.Continue at → first_unmet (IsTypedStmt g (stmt_of s) known ns looping) ≡ first_unmet (demand 26 at looping)
-  typed_continue at is = ap (λ x. first_unmet (IsTypedStmt g x known ns looping)) (ap stmt_of is ∙ stmt_of_continue A at)
 
 -- one statement more
 module _ {A : Type 0} (g : Option Scalar) (looping : Bool) where

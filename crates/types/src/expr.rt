@@ -4,7 +4,6 @@ ghost use Rattle.std.specs.Prelude.{◌≡◌, ◌++◌};
 ghost use Rattle.syntax.specs.Tree as Tree;
 ghost use Rattle.syntax.specs.Views.{name_of, expr_of, exprs_of};
 ghost use Rattle.syntax.specs.Typing.{is_void, span_of, count, may_be_function, takes_so_many};
-ghost use Rattle.syntax.specs.Types.{type_of};
 ghost use Rattle.syntax.specs.Typing.{first_unmet, demand, IsKnown, IsTyped, IsNumber, GivesNumber, AreNumbers};
 ghost use Rattle.types.specs.inner.Unmet.{unmet_in};
 ghost use Rattle.types.specs.inner.Known.{known_in};

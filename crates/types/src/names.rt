@@ -4,7 +4,7 @@ ghost use Rattle.std.specs.Prelude.{◌≡◌, ◌+◌, ◌-◌, ◌<◌, ◌≤
 ghost use Rattle.lex.specs.declared.token.Scalar.{Scalar};
 ghost use Rattle.syntax.specs.Types.{file_scope};
 ghost use Rattle.types.specs.inner.Scopes.{known_of};
-ghost use Rattle.types.specs.inner.Slots.{nothing, with_slot};
+ghost use Rattle.types.specs.inner.Slots.{with_slot};
 ghost use Rattle.types.specs.inner.Known.{slot_in, known_in, count_in, slot_before};
 ghost use Rattle.types.specs.declared.symbol.Symbol.TheVariants as symbol;
 

@@ -1,8 +1,7 @@
 //! Which simple statements are typed.
 
 ghost use Rattle.std.specs.Prelude.{◌≡◌};
-ghost use Rattle.syntax.specs.Views.{expr_of, simple_of, name_of};
-ghost use Rattle.syntax.specs.Tree as Tree;
+ghost use Rattle.syntax.specs.Views.{expr_of, simple_of};
 ghost use Rattle.syntax.specs.Typing.{first_unmet, IsTypedTarget, IsAssignable, IsTypedSimple, may_be_assigned};
 ghost use Rattle.types.specs.inner.Unmet.{unmet_in};
 ghost use Rattle.types.specs.inner.Known.{known_in};

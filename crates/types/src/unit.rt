@@ -2,15 +2,14 @@
 
 ghost use Rattle.std.specs.Prelude.{◌≡◌, ◌≤◌, ◌++◌, ◌∷◌, [], map, codes, None, IfOk, OnOk};
 ghost use Rattle.syntax.specs.Tree as Tree;
-ghost use Rattle.syntax.specs.Views.{function_of, item_of, program_of};
+ghost use Rattle.syntax.specs.Views.{function_of, item_of};
 ghost use Rattle.syntax.specs.Names.{globals};
 ghost use Rattle.syntax.specs.Types.{file_scope};
-ghost use Rattle.syntax.specs.Typing.{all_cells, is_worker};
+ghost use Rattle.syntax.specs.Typing.{is_worker};
 ghost use Rattle.syntax.specs.Typing.{demand, first_unmet, IsTypedItem, AreTypedItems, AreDefined, Meets};
 ghost use Rattle.types.specs.Answers.{Checks};
 ghost use Rattle.types.specs.inner.Unmet.{Answers, unmet_in};
-ghost use Rattle.types.specs.inner.Known.{known_in, count_in};
-ghost use Rattle.types.specs.inner.Scopes.{known_of};
+ghost use Rattle.types.specs.inner.Known.{known_in};
 ghost use Rattle.types.specs.inner.Bodies.{AreBodies};
 ghost use Rattle.types.specs.inner.Found.{IsFound};
 ghost use Rattle.types.specs.Tables.{definitions_from, cells_from};

@@ -23,9 +23,6 @@ module _ (key : Setup) (number : ℕ) (th : Thread Configuration) (steps accesse
   pub word_makeable : cell < cells_of key.code
   word_makeable = ready_makeable key number th steps accesses m works code same ready r (LoadWord cell) first_is
 
-  pub word_next : IsNext key m (LoadWord cell)
-  word_next = ready_next key number th steps accesses m works code same ready r (LoadWord cell) first_is
-
   module _ (word : ℕ) (w : SeatView) (took : Took m word w) where
     made : Made (LoadWord cell) m (Value word) w
     made = (word, refl, took)

@@ -32,10 +32,6 @@ moved f g Q xs left x ys more y each is leads same n q =
     (λ b. inr (numbered_front g ys y n b))
     (each n q))
 
--- and all have
-pub all_moved : {A B : Type 0} (f : A → ℕ) (g : B → ℕ) (Q : ℕ → Type 0) (xs : List A) (ys : List B) → ((n : ℕ) → Q n → IsNumbered f xs n ⊎ IsNumbered g ys n) → xs ≡ [] → (n : ℕ) → Q n → IsNumbered g ys n
-all_moved f g Q xs ys each none n q = ⊎_elim (λ a. absurd (subst (λ l. IsNumbered f l n) none a)) (λ b. b) (each n q)
-
 from_first : {A : Type 0} (z : TableId) (key : Setup) (from : ℕ) (ws : List (Worker A)) → AreWorkersFrom z key from ws → (n : ℕ) → from ≤ n → n < from + length ws → IsNumbered worker_number ws n
 from_first z key from [] a n le lt = absurd (omega arith)
 from_first z key from (w ∷ ws) a n le lt = at (λ g. from_first z key (suc from) ws a.3 n g (omega arith)) (equal_or n from le)

@@ -1,6 +1,6 @@
 -- What a step leaves of a worker.
-use Rattle.std.proofs.Common.{◌≡◌, ℕ, suc, ◌+◌, ◌<◌, ◌≤◌, ◌^◌, ◌%◌, Bool, true, false, List, [], ◌∷◌, ◌++◌, length, refl, sym, ap, ◌∙◌, subst, Some, slice_get, arith, add-one, add-zero, length-append, append-nil}
-use Rattle.std.specs.Prelude.{Result, Err, ◌↔◌, if◌then◌else◌, MatchBool}
+use Rattle.std.proofs.Common.{◌≡◌, ℕ, suc, ◌+◌, ◌<◌, ◌≤◌, ◌^◌, ◌%◌, Bool, true, false, List, [], ◌∷◌, refl, sym, ap, ◌∙◌, subst, Some, arith, add-one, add-zero, length-append, append-nil}
+use Rattle.std.specs.Prelude.{if◌then◌else◌, MatchBool}
 use Rattle.norec_core.specs.declared.step.Access.{Access}
 use Rattle.norec_core.specs.declared.step.Access.TheVariants.{LoadLock, LoadWord, Local, StoreLock, StoreWord, Swap}
 use Rattle.norec_core.specs.declared.step.Answer.{Answer}
@@ -24,9 +24,7 @@ use Rattle.seats.proofs.Codes.{count_bounds, initial_fits}
 use Rattle.seats.specs.Setup.{Setup, IsPart}
 use Rattle.seats.specs.Rule.{IsMakeable, IsNext, Made, SeatView, Sits, Took, TookAs, more_heard, reply}
 use Rattle.machine.specs.States.{IsWordOf}
-use Rattle.norec_core.specs.declared.step.Stop.{Stop}
-use Rattle.norec_core.specs.declared.step.Stop.TheVariants.{OutOfMemory, SequenceUsedUp}
-use Rattle.workers.specs.Works.{Because, GoesOnFrom, Works}
+use Rattle.workers.specs.Works.{GoesOnFrom, Works}
 
 cost_is : (x : Access) → cost x ≡ (if is_local x then 0 else 1)
 cost_is Local = refl
@@ -223,8 +221,3 @@ module _ (key : Setup) (number : ℕ) (th : Thread Configuration) (steps accesse
     pub not_stepped : (is : Works key number ready steps count m) × GoesOnFrom key.code works.part works.now is.part is.now
     not_stepped = subst (λ (z : Thread Configuration × ℕ). (is : Works key number z.0 steps z.1 m) × GoesOnFrom key.code works.part works.now is.part is.now) (λ i. (sym r i, sym n i))
         (works, record { count = 0; more = []; heard = sym (append-nil works.part.heard); steps = Replays.none; records = ([], sym (append-nil works.now.records)); floor = (refl, refl) })
-
--- why a step was not made, from what the thread says of it
-pub because : (r : Result Access Stop) (e : Stop) (x y : Access) → r ≡ Err e → (r ≡ Err SequenceUsedUp) ↔ (stops x ≡ true) → x ≡ y → Because e y
-because r OutOfMemory x y is used same = tt
-because r SequenceUsedUp x y is used same = ap stops (sym same) ∙ used.0 is

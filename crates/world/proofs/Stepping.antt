@@ -2,7 +2,7 @@
 use Rattle.std.proofs.Common.{◌≡◌, ◌<◌, ◌≤◌, ◌+◌, ◌%◌, ◌^◌, ◌⊎◌, inl, inr, append-nil, ℕ, zero, suc, Bool, true, false, List, [], ◌∷◌, ◌++◌, Option, None, Some, length, refl, sym, ◌∙◌, ap, subst, slice_get, set, replicate, arith, length-append, append_assoc}
 use Rattle.std.specs.Prelude.{option_map, Result, Err, ◌↔◌}
 use Rattle.std.proofs.Math.ListN.{length-set}
-use Rattle.syntax.specs.Behaviours.{Extends, IsMemory}
+use Rattle.syntax.specs.Behaviours.{IsMemory}
 use Rattle.bytecode.proofs.Fits.{fits_cells}
 use Rattle.bytecode.specs.Beginning.{beginning}
 use Rattle.bytecode.specs.Code.{Code, Configuration, effect}
@@ -35,7 +35,7 @@ use Rattle.machine.proofs.runs.Programs.{opaque, opaque_source}
 use Rattle.machine.proofs.single.Locked.{never_aborts}
 use Rattle.machine.proofs.tallies.Spans.{counts_by_meaning}
 use Rattle.world.proofs.Cells.{answer_fits, initial_fits, memory_length, word_fits}
-use Rattle.world.specs.Simulations.{CountsAccesses, IsExplained, IsHolder, Simulation, accesses_in, accesses_of, cost_at, cost_next, event_at, event_next, further, output_at, shown_at, shown_by, shown_next, part_of, status_at, stops_at, stops_next, transactions_of, world_of}
+use Rattle.world.specs.Simulations.{CountsAccesses, IsExplained, IsHolder, Simulation, accesses_in, accesses_of, cost_at, cost_next, event_at, event_next, further, output_at, shown_at, shown_by, shown_next, part_of, status_at, stops_at, stops_next, world_of}
 use Rattle.world.specs.inner.Kept.{AreOfParts, IsMakeable, IsOfPart, IsWorldOf}
 
 module _ (code : Code) where
@@ -190,9 +190,6 @@ module _ (s : Simulation) (lock : ℕ) (words : List ℕ) (threads : List Thread
     pub output_is : output_at s t ≡ Some x.thread.text
     output_is = ap (option_map (λ (p : Part Configuration). p.thread.text)) part.1 ∙ ap (λ (th : Thread Configuration). Some th.text) (sym part.2.thread)
 
-    pub part_is : (p : Part Configuration) × (slice_get w.parts t ≡ Some p) × (x.thread ≡ p.thread)
-    part_is = (part.0, part.1, part.2.thread)
-
     -- the thread after it
     module _ (y : ThreadState) (on : stops a ≡ false) (next : y.thread ≡ (told (effect s.code) x.thread (answer lock words a)).thread) (of : IsThreadOf s.code y.thread) (counted : y.accesses ≡ x.accesses + cost a) where
       q : Part Configuration
@@ -336,9 +333,6 @@ further_none s = λ i. record s { trace = sym (append-nil s.trace) i }
 
 pub further_more : (s : Simulation) (ts us : List ℕ) → further (further s ts) us ≡ further s (ts ++ us)
 further_more s ts us = λ i. record s { trace = append_assoc s.trace ts us i }
-
-pub extends : (s z : Simulation) (us : List ℕ) → z ≡ further s us → IsExplained s → Extends (transactions_of s) (transactions_of z)
-extends s z us e k = subst (λ (v : Simulation). Extends (transactions_of s) (transactions_of v)) (sym e) (k.code.extended us)
 
 -- why a step was not made
 pub used_up_by : {X : Type 0} (r : Result Access Stop) (o : Result X Stop) (why : Stop) (m n : Bool) → r ≡ Err why → o ≡ Err why → (r ≡ Err SequenceUsedUp) ↔ (m ≡ true) → n ≡ m → (o ≡ Err SequenceUsedUp) ↔ (n ≡ true)

@@ -1,8 +1,8 @@
 -- An order of pairs by address: what it tells of them, and what each change leaves.
-use Rattle.std.proofs.Common.{◌≡◌, ◌≢◌, ◌<◌, ◌≤◌, ◌+◌, ◌-◌, ◌/◌, ◌^◌, ◌==◌, ℕ, zero, suc, List, [], ◌∷◌, ◌++◌, Option, None, Some, Ok, Err, ◌⊎◌, inl, inr, refl, sym, ◌∙◌, ap, length, get_or, set, take, min, max, arith, eq-eqb}
+use Rattle.std.proofs.Common.{◌≡◌, ◌≢◌, ◌<◌, ◌≤◌, ◌+◌, ◌-◌, ◌/◌, ◌^◌, ◌==◌, ℕ, zero, suc, List, [], ◌∷◌, ◌++◌, Option, None, Some, Ok, Err, ◌⊎◌, inl, inr, refl, sym, ◌∙◌, ap, length, get_or, set, min, max, arith, eq-eqb}
 use Rattle.std.specs.List.{position, insert, remove}
 use Rattle.std.proofs.lemmas.Bool.{le-ltb, lt-ltb, ne_eqb, cases_eq, cases_lt, cases_order}
-use Rattle.std.proofs.lemmas.List.{get_or-set_same, get_or-set_other, get_or_append_left, get_or_push, length_push, take_at, set-set, set-get_or}
+use Rattle.std.proofs.lemmas.List.{get_or-set_same, get_or_append_left, get_or_push, length_push, set-set, set-get_or}
 use Rattle.std.proofs.lemmas.List.Edits.{length-insert, get_or-insert_below, get_or-insert_at, get_or-insert_above, length-remove, get_or-remove_below, get_or-remove_above}
 use Rattle.std.proofs.lemmas.List.Sums.{position_or_len_is}
 use Rattle.std.proofs.Math.Nat.{pow-suc}
@@ -106,35 +106,13 @@ position_is a ps (Some i) d h =
 
 -- ---- what each change leaves
 
--- another list with the same addresses
-pub order-same : (ps qs order : List (ℕ × ℕ)) → length qs ≡ length ps → ((i : ℕ) → (get_or qs i (0, 0)).0 ≡ (get_or ps i (0, 0)).0) → IsOrderOf ps order → IsOrderOf qs order
-order-same ps qs order n same o = record {
-  rising = o.rising;
-  length_is = o.length_is ∙ sym n;
-  here = λ k l. let p = o.here k l in (omega (arith, p.0), same _ ∙ p.1);
-  there = λ i l. o.there i (omega arith);
-}
-
-pub between-same : (least greatest : ℕ) (ps qs : List (ℕ × ℕ)) → length qs ≡ length ps → ((i : ℕ) → (get_or qs i (0, 0)).0 ≡ (get_or ps i (0, 0)).0) → AreBetween least greatest ps → AreBetween least greatest qs
-between-same least greatest ps qs n same b i l = let h = b i (omega arith) in let e = same i in (omega arith, omega arith)
-
 -- a word replaced
-pub addresses-set : (a v : ℕ) (ps : List (ℕ × ℕ)) (i : ℕ) → IsPlace a ps i → (j : ℕ) → (get_or (set ps i (a, v)) j (0, 0)).0 ≡ (get_or ps j (0, 0)).0
-addresses-set a v ps i h j = at (cases_eq j i)
-  where
-    at : (j ≡ i) ⊎ (j ≢ i) → (get_or (set ps i (a, v)) j (0, 0)).0 ≡ (get_or ps j (0, 0)).0
-    at (inl e) = rw (e, get_or-set_same ps i (a, v) (0, 0) h.0) (sym h.1)
-    at (inr ne) = rw get_or-set_other refl
-
 pub replaced_back : (a v w : ℕ) (ps : List (ℕ × ℕ)) (i : ℕ) → IsPlace a ps i → w ≡ (get_or ps i (0, 0)).1 → set (set ps i (a, v)) i ((get_or (set ps i (a, v)) i (0, 0)).0, w) ≡ ps
 replaced_back a v w ps i h e =
     let f : (a, w) ≡ get_or ps i (0, 0) = ap (λ x. (x, w)) (sym h.1) ∙ ap (λ x. ((get_or ps i (0, 0)).0, x)) e in
     rw (get_or-set_same ps i (a, v) (0, 0) h.0, set-set) (ap (set ps i) f ∙ set-get_or ps i (0, 0))
 
 -- a pair added
-pub added_back : (ps : List (ℕ × ℕ)) (p : ℕ × ℕ) → take (length (ps ++ p ∷ []) - 1) (ps ++ p ∷ []) ≡ ps
-added_back ps p = take_at ps (p ∷ []) (length (ps ++ p ∷ []) - 1) (omega (arith, length_push ps p))
-
 pub between-added : (a v least greatest : ℕ) (ps : List (ℕ × ℕ)) → AreBetween least greatest ps → AreBetween (min least a) (max greatest a) (ps ++ (a, v) ∷ [])
 between-added a v least greatest ps b i l = at (cases_lt i (length ps))
   where

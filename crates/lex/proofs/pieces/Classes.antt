@@ -10,7 +10,7 @@ use Rattle.lex.specs.declared.constant.Base.TheVariants.{Decimal, Octal, Hexadec
 use Rattle.lex.specs.declared.token.Fixed.{Fixed}
 use Rattle.lex.specs.Spelling.{spelling}
 use Rattle.lex.specs.Bytes.{is_white, is_letter, is_digit, is_part, Only}
-use Rattle.lex.specs.Pieces.{IsWhite, IsComment, IsOpen, IsLine, IsDirective, IsString, Constant, Shape}
+use Rattle.lex.specs.Pieces.{IsComment, IsOpen, IsLine, IsDirective, IsString, Constant, Shape}
 use Rattle.lex.specs.Pieces as s
 
 pub data Class : Type 0 where
@@ -134,18 +134,6 @@ pub slash_length : (k : Fixed) → class (spelling k) ≡ slash → length (spel
 slash_length k e = leb-true (length (spelling k)) 2 (passes_at at_slash (λ k. nat_le (length (spelling k)) 2) refl k slash e refl)
 
 -- what a shape is, by the class of its first byte
-pub space_only : (w : List ℕ) (x : Shape w) → shape_class x ≡ space → IsWhite w
-space_only w (s.white h) e = h
-space_only w (s.comment h) e = absurd cc
-space_only w (s.line h) e = absurd cc
-space_only w (s.open_comment h) e = absurd cc
-space_only w (s.directive h) e = absurd cc
-space_only w (s.word h) e = absurd cc
-space_only w (s.constant c) e = absurd cc
-space_only w (s.string i h) e = absurd cc
-space_only w (s.quote h) e = absurd cc
-space_only w (s.fixed m h) e = absurd (no_fixed m space e refl)
-
 pub word_only : (w : List ℕ) (x : Shape w) → shape_class x ≡ letter → Only is_part w
 word_only w (s.white h) e = absurd cc
 word_only w (s.comment h) e = absurd cc

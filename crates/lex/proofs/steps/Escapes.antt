@@ -54,9 +54,6 @@ escaped_char c rest = elim (cases_lt c 128) [
       ap (λ (k : ℕ). encode k ++ unescaped rest) stays ∙ high_escape (encode c) rest (let b = len_utf8_bounds c in let s = length-encode c in omega arith) (encode_high c le)
 ]
 
-pub backslash : (rest : List ℕ) → encode 92 ++ rest ≡ 92 ∷ rest
-backslash rest = rw (encode_ascii 92 (omega arith)) refl
-
 -- ---- one turn
 
 pub escaped_turn : (old new before after whole : List ℕ) (c d : ℕ) (flag : Bool) → flag ≡ true → old ≡ encode c ++ new → d ≡ stands_for c → after ≡ before ++ encode d → before ++ pending flag old ≡ whole → after ++ unescaped new ≡ whole

@@ -21,11 +21,11 @@ use Rattle.bytecode.specs.declared.instr.Instr.{Instr}
 use Rattle.bytecode.specs.declared.instr.Instr.TheVariants as own
 use Rattle.bytecode.specs.Code.{Code, Instr as Plain}
 use Rattle.lowered.specs.Expressions as Lowered
-use Rattle.lowered.specs.Expressions.{LocalScope, Coded, At, MayTake, GivenBy, BinaryCode, ExprCode}
+use Rattle.lowered.specs.Expressions.{LocalScope, Coded, GivenBy, BinaryCode, ExprCode}
 use Rattle.lowered.specs.Statements.{Target, LocalAt, CellAt, ElementOf, home_of, with_local, with_declared, locals_of_start, VariableTarget, CheckedAt, UncheckedAt, TargetCode, ReadTarget, FetchCode, StoreCode, AssignCode, ChangeCode, OneCode, SimpleCode, FirstValueCode, DeclareCode, StartCode}
 use Rattle.lower.specs.declared.held.Target.{Target as OwnTarget}
 use Rattle.lower.specs.Lists.{Lists, used}
-use Rattle.lower.specs.Expressions.{Emitted, above, both, constant, emitted}
+use Rattle.lower.specs.Expressions.{Emitted, above, both, emitted}
 use Rattle.lower.specs.Simples.{Written, Aimed, variable_target, element_target, above_target, fetched, home_or, then_stored, behind as aimed_then, aimed, value_or_one, assigned, adjusted, simple_written, first_written, declared_written, start_written}
 use Rattle.lower.proofs.stands.Standing.{Stand, front, behind, Grows, grows_same, grows_further, grows_used, Fits, fits_before, is_register}
 use Rattle.lower.proofs.stands.Named.{VariableFound, variable_found, array_found, known_number, known_array}
@@ -163,12 +163,6 @@ module _ (p : Program) (code : Code) (arguments : List ℕ) (size : ℕ) (typed 
         let g = aims true lhs ht m from l in
         let result : OwnTarget → Type 0 = λ x. Writes p code arguments size (SimpleCode code size p scope (Assign lhs None e)) from l (aimed_then (with_target a x) (then_stored x (emitted p scope e a.to (home_or x (above_target x (length scope))) (above_target x (length scope)) a.lists))) in
         subst result (sym g.same) (assigned_to lhs e he from l a g.goal g.to_is g.grows g.stands)
-
-    other_emits : (by : Option Expr) → IfSome by (TypedExpr known) → (B : Coded) → ((e : Expr) → by ≡ Some e → B ≡ ExprCode code size p None scope e) → (by ≡ None → B ≡ OneCode code size p) → (from free : ℕ) (l : Lists) →
-        Emits code arguments size B from free l (value_or_one p scope by from free l)
-    other_emits None h B some none from free l = subst (λ C. Emits code arguments size C from free l (constant 1 Int from free l)) (sym (none refl)) (one_emits code arguments size None (λ r. Plain.Constant r 1) (own.Constant free 1) Int from free free l refl (omega arith))
-    other_emits (Some e) h B some none from free l =
-        subst (λ C. Emits code arguments size C from free l (emitted p scope e from free free l)) (sym (some e refl)) (expr_emits p code arguments size typed stand defined known scope agrees None e h from free free l (omega arith))
 
     adjusted_to : (op : BinaryOp) (lhs : Expr) (by : Option Expr) (B : Coded) → ((from free : ℕ) (l : Lists) → Emits code arguments size B from free l (value_or_one p scope by from free l)) → (from : ℕ) (l : Lists) (a : Aimed) (goal : Target) → a.to ≡ from + length a.code → Grows l a.lists → (Fits code arguments size a.lists → Stand code arguments from a.code → Goes false lhs from a.to goal) →
         let later : ℕ = above_target (own_of goal) (length scope) in

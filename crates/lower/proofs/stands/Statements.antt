@@ -20,14 +20,14 @@ use Rattle.bytecode.specs.Code.{Code, Instr as Plain}
 use Rattle.bytecode.specs.Views.{instr_of}
 use Rattle.lowered.specs.Expressions.{LocalScope, At, ExprCode, CondCode, ArgsCode}
 use Rattle.lowered.specs.Statements as Lowered
-use Rattle.lowered.specs.Statements.{StartCode, IfCode, IfElseCode, WhileCode, DoWhileCode, ForCode, PrintCode, TransactionCode, Exits, in_transaction, looping, locals_of_start, locals_after, Leaves, ValueCode, TestCode, HoldsCode, SteppedCode, LiteralCode, PiecesCode, StmtCode, StmtsCode}
+use Rattle.lowered.specs.Statements.{StartCode, IfCode, IfElseCode, WhileCode, DoWhileCode, ForCode, PrintCode, TransactionCode, Exits, in_transaction, looping, locals_of_start, locals_after, Leaves, ValueCode, TestCode, HoldsCode, SteppedCode, PiecesCode, StmtCode, StmtsCode}
 use Rattle.lower.specs.declared.held.Exits.{Exits as OwnExits}
 use Rattle.lower.specs.Lists.{Lists}
 use Rattle.lower.specs.Expressions.{above, emitted, all_emitted, condition}
 use Rattle.lower.specs.Conditions.{Condition, test_in, going_on}
 use Rattle.lower.specs.Simples.{Written, evaluated, start_written}
 use Rattle.lower.specs.Statements as Own
-use Rattle.lower.specs.Statements.{left_by, branched, branched_twice, tested_back, while_written, do_written, for_written, transacted, returned, printing, and_one, pieces_written, print_written, for_test, for_step, written, all_written}
+use Rattle.lower.specs.Statements.{left_by, branched, branched_twice, tested_back, while_written, do_written, for_written, transacted, returned, printing, pieces_written, print_written, for_test, for_step, written, all_written}
 use Rattle.lower.proofs.stands.Standing.{Stand, front, behind, front_same, front_more, Grows, grows_same, grows_further, Fits, fits_before}
 use Rattle.lower.proofs.stands.Exprs.{CalleesStand, DefinedAreCallees, expr_emits, all_emits, cond_decides}
 use Rattle.lower.proofs.stands.Conds.{Decides, on_is, goes_on, back_is, goes_back}

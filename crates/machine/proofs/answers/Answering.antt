@@ -1,5 +1,5 @@
 -- The steps of a world in which each thread's answers are recorded, one thread at a time.
-use Rattle.std.proofs.Common.{◌≡◌, ◌≢◌, ◌<◌, ◌⊎◌, inl, inr, ⊎_elim, arith, ℕ, zero, suc, ◌+◌, Bool, true, false, true≢false, cond, List, [], ◌∷◌, ◌++◌, Option, None, Some, length, replicate, set, refl, sym, ap, ◌∙◌, subst, add-suc, add-zero, append-nil, append_assoc, set-set, slice_get}
+use Rattle.std.proofs.Common.{◌≡◌, ◌≢◌, ◌⊎◌, inl, inr, ℕ, zero, suc, ◌+◌, Bool, true, false, true≢false, cond, List, [], ◌∷◌, ◌++◌, Option, None, Some, set, refl, sym, ap, ◌∙◌, subst, add-suc, add-zero, append-nil, append_assoc, set-set, slice_get}
 use Rattle.std.proofs.lemmas.Bool.Decides.{eqb_tells}
 use Rattle.bytecode.specs.Effects.{Effect}
 use Rattle.norec_core.specs.declared.step.Access.{Access}
@@ -38,10 +38,6 @@ module _ {X : Type 0} where
   if_some true x y e = (refl, e)
   if_some false x y e = absurd (cc)
 
-  pub if_either : (b : Bool) (x z : Option X) (y : X) → cond b x z ≡ Some y → ((b ≡ true) × (x ≡ Some y)) ⊎ ((b ≡ false) × (z ≡ Some y))
-  if_either true x z y e = inl (refl, e)
-  if_either false x z y e = inr (refl, e)
-
   -- these begin with those
   abbrev pub Grows : List X → List X → Type 0
   Grows xs ys = (more : List X) × (ys ≡ xs ++ more)
@@ -64,12 +60,6 @@ module _ {C : Type 0} (code : C → Effect C) where
   -- a local step keeps the records and perhaps adds one
   pub local_grows : (p : Part C) → Grows p.records (local_step code p).records
   local_grows p = added_grows p.records (recorded p.base (told code p.thread Done).completed)
-
-  pub paused_grows : (k : ℕ) (p now : Part C) → paused code k p ≡ Some now → Grows p.records now.records
-  paused_grows zero p now e = let same : p ≡ now = cc in ([], ap (λ (q : Part C). q.records) (sym same) ∙ sym (append-nil p.records))
-  paused_grows (suc k) p now e =
-      let q = if_some (is_local (access code p.thread)) (paused code k (local_step code p)) now e in
-      grows_on p.records (local_step code p).records now.records (local_grows p) (paused_grows k (local_step code p) now q.1)
 
   -- the local steps before an access are determined
   pub paused_once : (k j : ℕ) (t a b : Part C) → paused code k t ≡ Some a → paused code j t ≡ Some b → is_local (access code a.thread) ≡ false → is_local (access code b.thread) ≡ false → a ≡ b

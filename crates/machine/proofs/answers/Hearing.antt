@@ -203,10 +203,6 @@ module _ {C : Type 0} (code : C → Effect C) where
         ∙ ap (λ z. (core_store b i z).attempt) g
 
   module _ (bounds : List ℕ) (t : ℕ) (c0 : C) (h : History) (words : List ℕ) (i : IsHistory bounds h words) (lock' : ℕ) (words' : List ℕ) (r : Part C) (k : StepOk code bounds t c0 h lock' words' r) where
-    held_lock : (h : History) (o : Option ℕ) (u : ℕ) → o ≡ Some u → LockIs h o → h.lock ≡ h.top + 1
-    held_lock h None u e l = absurd (cc)
-    held_lock h (Some v) u e l = l
-
     module _ (l a v : ℕ) (low : l ≤ h.lock) (am : IsAmong (a, v) h.stored) (e : slice_index words a ≡ v) where
       -- another thread has the lock
       by_other : (u : ℕ) → u ≢ t → h.holder ≡ Some u → InHistory k.after words' l a v

@@ -1,6 +1,6 @@
 -- What a kept thread asks of the core, by what is to be done.
 use Rattle.std.proofs.Common.{◌≡◌, ◌<◌, ℕ, Bool, true, false, List, [], ◌∷◌, Option, None, Some, refl, sym, ◌∙◌, ap, subst, length, arith}
-use Rattle.std.specs.Prelude.{IfSome, IsSomeAnd, slice_set}
+use Rattle.std.specs.Prelude.{IfSome, slice_set}
 use Rattle.syntax.specs.declared.numbers.Status.{Status}
 use Rattle.syntax.specs.declared.numbers.Status.TheVariants.{Running, Ended as HasEnded, Trapped as HasTrapped}
 use Rattle.syntax.specs.declared.numbers.Trap.{Trap}
@@ -11,17 +11,16 @@ use Rattle.bytecode.specs.Code.{Code, Configuration, Frame, effect, returned}
 use Rattle.frames.specs.declared.doing.Doing.{Doing}
 use Rattle.frames.specs.declared.doing.Doing.TheVariants as doing
 use Rattle.frames.specs.Open.{restored, saved_in, BeginsStayOpen}
-use Rattle.frames.specs.Told.{Tells, piece_of}
+use Rattle.frames.specs.Told.{Tells}
 use Rattle.norec_core.specs.declared.step.Op.{Op}
 use Rattle.norec_core.specs.declared.step.Op.TheVariants as op
 use Rattle.norec_core.specs.declared.step.Outcome.{Outcome}
 use Rattle.norec_core.specs.declared.step.Access.{Access}
 use Rattle.norec_core.specs.declared.step.Access.TheVariants.{Local}
 use Rattle.norec_core.specs.declared.step.Answer.{Answer}
-use Rattle.norec_core.specs.Accesses.{IsAnswerTo}
 use Rattle.norec_core.specs.Attempts.{Attempt}
 use Rattle.norec_core.specs.Phases.{CoreStep, core_access, core_step}
-use Rattle.norec_core.specs.Cores.{CoreState, IsAnswered, stepped, stepped_by}
+use Rattle.norec_core.specs.Cores.{CoreState, stepped, stepped_by}
 use Rattle.norec_core.proofs.SavedByMaps.{commutes}
 use Rattle.machine.specs.declared.event.Event.{Event}
 use Rattle.machine.specs.Threads.{Thread, access, access_of, outside_access, inside_access, told, op_of}
@@ -142,28 +141,6 @@ module _ (code : Code) (c : Configuration) where
   writes_word x None t o h e = writes_out x o e
   writes_word x (Some a) t o h e = writes x a.kept t o h e
 
-  piece_at : (x : Effect Configuration) (p q : List ℕ) (d : Configuration) → effect code c ≡ x → (x ≡ Print p d → p ≡ q) → effect code c ≡ Print p d → p ≡ q
-  piece_at x p q d e h f = h (sym e ∙ f)
-
-  own_piece : (x : Effect Configuration) (p q : List ℕ) (d e : Configuration) → x ≡ Pure e → x ≡ Print p d → p ≡ q
-  own_piece x p q d e f g = absurd (cc)
-
-  -- the piece that a print shows is that of what is to be done
-  pub piece_told : (x : Doing) (p : List ℕ) (d : Configuration) → Tells code c x → effect code c ≡ Print p d → p ≡ piece_of code x
-  piece_told doing.Local p d h e = own_piece (effect code c) p _ d h.1 h.4 e
-  piece_told (doing.Read r a) p d h e = let f = h.0 in absurd (cc)
-  piece_told (doing.Write a w) p d h e = let f = h.0 in absurd (cc)
-  piece_told (doing.Begin to) p d h e = absurd (cc)
-  piece_told doing.Commit p d h e = absurd (cc)
-  piece_told doing.Cancel p d h e = absurd (cc)
-  piece_told doing.Irrevocable p d h e = absurd (cc)
-  piece_told doing.Call p d h e = own_piece (effect code c) p _ d h.3 h.5 e
-  piece_told (doing.Return w) p d h e = let r = return_is c.frames w h.1 in own_piece (effect code c) p _ d r.0 (h.0 ∙ r.1) e
-  piece_told doing.End p d h e = absurd (cc)
-  piece_told (doing.PrintText n) p d h e = cc
-  piece_told (doing.PrintNumber z) p d h e = cc
-  piece_told (doing.Traps cause) p d h e = absurd (cc)
-
 module _ (code : Code) (k : Kept) (running : k.status ≡ Running) (x : Doing) (t : Tells code k.configuration x) where
   asks_at : (att : Option (Attempt Saved)) → asks_by (shown k) (shown_from k.configuration att) (effect code k.configuration) ≡ op_asked x att k.trapping
   asks_at None = ap (λ (s : Status). asks_outside s (effect code k.configuration)) running ∙ out_told code k.configuration x t
@@ -217,10 +194,6 @@ access_is code k o e = access_asked (shown k) (shown k).attempt (effect code k.c
 pub access_local : (code : Code) (k : Kept) → asks (effect code) (shown k) ≡ None → access (effect code) (shown k) ≡ Local
 access_local code k e = access_none (shown k) (shown k).attempt (effect code k.configuration) e
 
--- the answer is one to what the core was asked
-pub answered : (c : CoreState) (o : Op) (y : Answer) → c.asked ≡ Some o → IsAnswerTo (core_access c.attempt o) y → IsAnswered c y
-answered c o y e h = subst (λ (z : Option Op). IsSomeAnd z (λ q. IsAnswerTo (core_access c.attempt q) y)) (sym e) h
-
 pub stepped_is : (c : CoreState) (o : Op) (y : Answer) → c.asked ≡ Some o → stepped c y ≡ core_step c.saved c.attempt o y
 stepped_is c o y e = ap (λ (z : Option Op). stepped_by c z y) e
 
@@ -243,9 +216,6 @@ module _ (code : Code) (law : BeginsStayOpen code) (k : Kept) (o : Op) (y : Answ
 
   words : IsWordOf (core_access k.core.attempt o) y
   words = subst (λ (z : Access). IsWordOf z y) (access_is code k o asks_some) word
-
-  pub operation_answered : IsAnswerTo (access (effect code) (shown k)) y → IsAnswered k.core y
-  operation_answered h = answered k.core o y core_asked (subst (λ (z : Access). IsAnswerTo z y) (access_is code k o asks_some) h)
 
   pub operation_back : (new : CoreState) (q : Outcome) → CoreTold k y new q → MayGoBack code k.configuration new.saved (back_by (effect code k.configuration) q (restored k.configuration new.saved))
   operation_back new q z =

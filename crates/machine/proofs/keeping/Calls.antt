@@ -1,5 +1,5 @@
 -- What the calls of a thread owe, from what is known of it.
-use Rattle.std.proofs.Common.{◌≡◌, ◌<◌, ◌≤◌, ◌^◌, ℕ, suc, Bool, true, false, List, Option, None, Some, Result, Ok, Err, refl, sym, ◌∙◌, ap, subst, length}
+use Rattle.std.proofs.Common.{◌≡◌, ◌<◌, ◌^◌, ℕ, suc, Bool, true, false, List, Option, None, Some, Result, Ok, Err, refl, sym, ◌∙◌, ap, subst, length}
 use Rattle.std.specs.Prelude.{IfOk, OnOk, is_some}
 use Rattle.syntax.specs.declared.numbers.Status.{Status}
 use Rattle.syntax.specs.declared.numbers.Status.TheVariants.{Running, Ended as HasEnded, Trapped as HasTrapped}
@@ -12,8 +12,7 @@ use Rattle.bytecode.specs.Code.{Code, Configuration, effect}
 use Rattle.frames.specs.declared.doing.Doing.{Doing}
 use Rattle.frames.specs.declared.doing.Doing.TheVariants as doing
 use Rattle.frames.specs.Open.{MayStand, saved_in, BeginsStayOpen}
-use Rattle.frames.specs.Stack.{HasRoom}
-use Rattle.frames.specs.Told.{Tells, IsCall, piece_of}
+use Rattle.frames.specs.Told.{Tells}
 use Rattle.norec_core.specs.declared.step.Op.{Op}
 use Rattle.norec_core.specs.declared.step.Op.TheVariants as op
 use Rattle.norec_core.specs.declared.step.Stop.{Stop}
@@ -34,7 +33,7 @@ use Rattle.machine.specs.Threads.{Thread, access, access_of, outside_access, tol
 use Rattle.machine.specs.Standing.{begins_of, GivesWordsIf, IsThreadOf}
 use Rattle.machine.specs.States.{Ready, IsReady, asks, asks_by, asks_outside, attempt_has_lock}
 use Rattle.machine.specs.inner.Kept.{Kept, shown, shown_from, AreWithin, RunsKept, KeptBy, IsKeptOf, op_by, op_asked}
-use Rattle.machine.proofs.keeping.Asking.{asks_is, access_is, access_local, piece_told}
+use Rattle.machine.proofs.keeping.Asking.{asks_is, access_is}
 use Rattle.machine.proofs.keeping.Seen.{kept_of, thread_of}
 use Rattle.machine.proofs.keeping.Work.{work_over}
 
@@ -104,22 +103,8 @@ module _ (code : Code) (k : Kept) (running : k.status ≡ Running) where
         print = λ z d h. absurd (no_op o asked (print_asks z d h));
       }
 
-  -- the core is not asked
-  pub ready_own : (x : Doing) (rd : Ready) → Tells code c x → op_asked x k.core.attempt k.trapping ≡ None → (IsCall code c → HasRoom code (record { configuration = c; room = rd.call_room })) → length (piece_of code x) ≤ rd.text_room → IsReady code (shown k) rd
-  ready_own x rd t e h le =
-      let asked : asks (effect code) (shown k) ≡ None = asks_is code k running x t ∙ e in
-      record {
-        asked = λ z g. absurd (no_op z g asked);
-        saved = λ g. absurd (no_op op.Begin g asked);
-        call = h;
-        print = λ p d g. subst (λ (z : List ℕ). length z ≤ rd.text_room) (sym (piece_told code c x p d t g)) le;
-      }
-
   pub access_operation : (x : Doing) (o : Op) → Tells code c x → op_asked x k.core.attempt k.trapping ≡ Some o → access (effect code) (shown k) ≡ core_access k.core.attempt o
   access_operation x o t e = access_is code k o (asks_is code k running x t ∙ e)
-
-  pub access_own : (x : Doing) → Tells code c x → op_asked x k.core.attempt k.trapping ≡ None → access (effect code) (shown k) ≡ Local
-  access_own x t e = access_local code k (asks_is code k running x t ∙ e)
 
 -- a thread as its contracts see it, and what it keeps
 module _ (code : Code) (law : BeginsStayOpen code) (k : Kept) (th : Thread Configuration) (is : shown k ≡ th) where

@@ -1,5 +1,5 @@
 -- A commit that swaps the lock and stores, and the load of an outermost begin, make the machine's steps.
-use Rattle.std.proofs.Common.{◌≡◌, ℕ, false, Option, None, Some, refl, sym, ◌∙◌, ap, subst}
+use Rattle.std.proofs.Common.{◌≡◌, ℕ, Option, None, Some, refl, sym, ◌∙◌, ap, subst}
 use Rattle.std.specs.Prelude.{IfSome, IsSomeAnd}
 use Rattle.std.specs.List.{slice_get}
 use Rattle.syntax.specs.declared.numbers.Status.TheVariants.{Running}
@@ -14,11 +14,10 @@ use Rattle.norec_core.specs.declared.step.Answer.{Answer}
 use Rattle.norec_core.specs.declared.step.Answer.TheVariants.{Value}
 use Rattle.norec_core.specs.declared.step.Op.TheVariants as op
 use Rattle.norec_core.specs.declared.step.Outcome.{Outcome}
-use Rattle.norec_core.specs.Accesses.{cost, stops}
 use Rattle.norec_core.specs.Attempts.{Attempt}
 use Rattle.norec_core.specs.Phases.{CoreStep, core_access, core_step, store_access}
 use Rattle.norec_core.specs.Cores.{IsStoring}
-use Rattle.norec_core.proofs.Committing.{begin_keeps, store_access_is, store_costs, store_goes_on, store_is, store_keeps, swap_under}
+use Rattle.norec_core.proofs.Committing.{begin_keeps, store_access_is, store_is, store_keeps, swap_under}
 use Rattle.machine.specs.declared.event.Event.{Event}
 use Rattle.machine.specs.Threads.{access, told}
 use Rattle.machine.specs.States.{IsWordOf, asks}
@@ -50,9 +49,6 @@ module _ (code : Code) (law : BeginsStayOpen code) (k : Kept) (running : k.statu
     swapping : (a : Attempt Saved) × (k.core.attempt ≡ Some a)
     swapping = swap_under k.core.attempt from swaps
 
-    pub swap_access : access (effect code) (shown k) ≡ Swap from
-    swap_access = commit_access_is swapping.0 swapping.1 ∙ swaps
-
     swap_word : (y : Answer) → IsWordOf (core_access k.core.attempt op.Commit) y
     swap_word y = subst (λ (x : Access). IsWordOf x y) (sym swaps) tt
 
@@ -82,15 +78,6 @@ module _ (code : Code) (law : BeginsStayOpen code) (k : Kept) (running : k.statu
 
     core_stores : core_access k.core.attempt op.Commit ≡ store_access b.snapshot (slice_get b.writes place)
     core_stores = ap (λ (z : Option (Attempt Saved)). core_access z op.Commit) storing.1 ∙ store_access_is k.core.saved b place storing.2
-
-    pub store_told : access (effect code) (shown k) ≡ core_access k.core.attempt op.Commit
-    store_told = commit_access_is b storing.1
-
-    pub store_follows : stops (core_access k.core.attempt op.Commit) ≡ false
-    store_follows = ap stops core_stores ∙ store_goes_on k.core.saved b (slice_get b.writes place)
-
-    pub store_cost : cost (core_access k.core.attempt op.Commit) ≡ 1
-    store_cost = ap cost core_stores ∙ store_costs k.core.saved b (slice_get b.writes place)
 
     words_at : (snapshot : ℕ) (r : Option (ℕ × ℕ)) (y : Answer) → IsWordOf (store_access snapshot r) y
     words_at snapshot None y = tt
@@ -136,11 +123,7 @@ module _ (code : Code) (law : BeginsStayOpen code) (k : Kept) (to : ℕ) (runnin
     pub begin_makes : (l : Kept) (r : Outcome) (e : Event) → r ≡ (core_step k.core.saved k.core.attempt op.Begin (Value lock)).outcome → l.core.attempt ≡ (core_step k.core.saved k.core.attempt op.Begin (Value lock)).attempt → Resumes code law k l r e → Makes code (told (effect code) (shown k) (Value lock)) l e
     begin_makes l r e er ea z = core_makes code law k op.Begin (Value lock) running runs begin_asked (λ h. same) tt begin_word l r e er ea (begin_stays l.core.saved) z
 
--- what is under way in the thread that is shown is so in the one that is kept, and the other way round
-pub shown_stores : (c : Configuration) (place : ℕ) (o : Option (Attempt Saved)) → IsSomeAnd o (λ a. IsStoring place a) → IsSomeAnd (shown_from c o) (λ a. IsStoring place a)
-shown_stores c place None h = absurd h
-shown_stores c place (Some a) h = h
-
+-- what is under way in the thread that is shown is so in the one that is kept
 pub kept_stores : (c : Configuration) (place : ℕ) (o : Option (Attempt Saved)) → IsSomeAnd (shown_from c o) (λ a. IsStoring place a) → IsSomeAnd o (λ a. IsStoring place a)
 kept_stores c place None h = absurd h
 kept_stores c place (Some a) h = h

@@ -6,7 +6,7 @@ use Rattle.syntax.specs.declared.numbers.Status.TheVariants.{Running, Ended as H
 use Rattle.syntax.specs.declared.numbers.Trap.{Trap}
 use Rattle.nesting.specs.Begins.{Saved}
 use Rattle.bytecode.specs.Effects.{Effect}
-use Rattle.bytecode.specs.Effects.Effect.{Pure, Print, Read, Write, Commit, Cancel, Irrevocable, Traps, End}
+use Rattle.bytecode.specs.Effects.Effect.{Pure, Print, Irrevocable, Traps, End}
 use Rattle.bytecode.specs.Code.{Code, Configuration, effect}
 use Rattle.frames.specs.Open.{MayStand, AreRestored, GoesOn, restored, BeginsStayOpen}
 use Rattle.norec_core.specs.declared.step.Answer.{Answer}
@@ -126,35 +126,8 @@ module _ (code : Code) (law : BeginsStayOpen code) (k : Kept) (y : Answer) (runn
     outside : (x : Effect Configuration) (n : Next Configuration) → effect code c ≡ x → told_outside (effect code) th Running x y ≡ n → told (effect code) th y ≡ n
     outside x n e h = by_effect x n e (ap (λ (z : Option (Attempt Saved)). told_of (effect code) th (shown_from c z) x y) none ∙ outside_is (effect code) th y running x n h)
 
-    out_still : (l : Kept) (x : Effect Configuration) → effect code c ≡ x → told_outside (effect code) th Running x y ≡ quiet th → l ≡ k → Makes code (told (effect code) th y) l event.Quiet
-    out_still l x e h same =
-        stays l (told (effect code) th y) event.Quiet Running k.trapping (ap (λ (z : Next Configuration). z.thread) (outside x (quiet th) e h) ∙ same_thread th (record th { trapping = k.trapping; status = Running }) refl refl refl refl running) (ap (λ (z : Next Configuration). z.event) (outside x (quiet th) e h))
-        (ap (λ (z : Kept). z.configuration) same) (ap (λ (z : Kept). z.core.attempt) same) (ap (λ (z : Kept). z.trapping) same) (ap (λ (z : Kept). z.text) same) (ap (λ (z : Kept). z.status) same ∙ running) runs
-
-    pub work_read_outside : (l : Kept) (a : ℕ) (g : ℕ → Configuration) → effect code c ≡ Read a g → l ≡ k → Makes code (told (effect code) th y) l event.Quiet
-    work_read_outside l a g e same = out_still l (Read a g) e refl same
-
-    pub work_write_outside : (l : Kept) (a v : ℕ) (d : Configuration) → effect code c ≡ Write a v d → l ≡ k → Makes code (told (effect code) th y) l event.Quiet
-    work_write_outside l a v d e same = out_still l (Write a v d) e refl same
-
-    pub work_commit_outside : (l : Kept) (d : Configuration) → effect code c ≡ Commit d → l ≡ k → Makes code (told (effect code) th y) l event.Quiet
-    work_commit_outside l d e same = out_still l (Commit d) e refl same
-
-    pub work_cancel_outside : (l : Kept) → effect code c ≡ Cancel → l ≡ k → Makes code (told (effect code) th y) l event.Quiet
-    work_cancel_outside l e same = out_still l Cancel e refl same
-
     pub work_irrevocable_outside : (l : Kept) (d : Configuration) → effect code c ≡ Irrevocable d → l.configuration ≡ d → l.core.attempt ≡ k.core.attempt → l.trapping ≡ k.trapping → l.text ≡ k.text → l.status ≡ k.status → Makes code (told (effect code) th y) l event.Quiet
     work_irrevocable_outside l d e cl al tl xl sl = moved l d k.text (told (effect code) th y) (subst (λ (z : Effect Configuration). GoesOn z d) (sym e) refl) (outside (Irrevocable d) _ e refl) cl al tl xl sl
-
-    pub work_traps_outside : (l : Kept) (cause : Trap) → effect code c ≡ Traps cause → l.configuration ≡ c → l.core.attempt ≡ k.core.attempt → l.trapping ≡ k.trapping → l.text ≡ k.text → l.status ≡ HasTrapped cause → Makes code (told (effect code) th y) l (event.Trap cause)
-    work_traps_outside l cause e cl al tl xl sl =
-        let n = outside (Traps cause) _ e refl in
-        stays l (told (effect code) th y) (event.Trap cause) (HasTrapped cause) k.trapping (ap (λ (z : Next Configuration). z.thread) n) (ap (λ (z : Next Configuration). z.event) n) cl al tl xl sl none
-
-    pub work_ends : (l : Kept) → effect code c ≡ End → l.configuration ≡ c → l.core.attempt ≡ k.core.attempt → l.trapping ≡ k.trapping → l.text ≡ k.text → l.status ≡ HasEnded → Makes code (told (effect code) th y) l event.Quiet
-    work_ends l e cl al tl xl sl =
-        let n = outside End _ e refl in
-        stays l (told (effect code) th y) event.Quiet HasEnded k.trapping (ap (λ (z : Next Configuration). z.thread) n) (ap (λ (z : Next Configuration). z.event) n) cl al tl xl sl none
 
 -- a thread that is over
 module _ (code : Code) (k : Kept) (y : Answer) (none : k.core.attempt ≡ None) where

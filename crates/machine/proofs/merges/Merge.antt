@@ -2,7 +2,6 @@
 use Rattle.std.proofs.Common.{◌≡◌, ◌≢◌, ◌<◌, ◌≤◌, ◌+◌, ◌*◌, ◌%◌, ◌==◌, ◌⊎◌, inl, inr, ℕ, Bool, true, false, cond, List, [], ◌∷◌, refl, sym, ◌∙◌, ap, subst, arith}
 use Rattle.std.specs.List.{AllByRecursion}
 use Rattle.std.proofs.lemmas.Bool.{eq-eqb}
-use Rattle.std.proofs.lemmas.Bool.Decides.{eqb_tells}
 use Rattle.machine.specs.inner.Invariant.{HasTaker, History, LeftIs, Ordered, RecordOk, next_snapshot}
 use Rattle.machine.specs.Merges.{Entry, IsSorted, key, key_of, own}
 use Rattle.machine.specs.Worlds.{Record}
@@ -10,13 +9,6 @@ use Rattle.machine.specs.Worlds.{Record}
 -- the thread's own first entry
 own_head : (e : Entry) (es : List Entry) → own e.thread (e ∷ es) ≡ e.item ∷ own e.thread es
 own_head e es = rw (eq-eqb e.thread e.thread refl) refl
-
-own_other : (t : ℕ) (e : Entry) (es : List Entry) → e.thread ≢ t → own t (e ∷ es) ≡ own t es
-own_other t e es ne = at (eqb_tells e.thread t)
-  where
-    at : ((e.thread == t) ≡ true) × (e.thread ≡ t) ⊎ ((e.thread == t) ≡ false) × (e.thread ≢ t) → cond (e.thread == t) (e.item ∷ own t es) (own t es) ≡ own t es
-    at (inl f) = absurd (ne f.1)
-    at (inr f) = rw f.0 refl
 
 own_tail : (P : Record → Type 0) (t : ℕ) (e : Entry) (es : List Entry) → AllByRecursion P (own t (e ∷ es)) → AllByRecursion P (own t es)
 own_tail P t e es all = at (e.thread == t) all

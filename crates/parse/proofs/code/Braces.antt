@@ -16,10 +16,6 @@ expect_not k (t ∷ ts) h = rw h refl
 abbrev pub ended : {A : Type 0} → Fixed → Result (List A × List Tok) Fault → Result (List A × List Tok) Fault
 ended k read = joined (expect k) read >>= λ x. Ok (x.0.0, x.1)
 
--- what stands before a fixed token
-pub before_is : {A : Type 0} (k : Fixed) (P : Parser (List A)) (ts : List Tok) → before k P ts ≡ ended k (P ts)
-before_is k P ts = refl
-
 -- what stands behind a fixed token that was read
 pub behind_is : {A : Type 0} (k : Fixed) (P : Parser A) (ts inner : List Tok) → expect k ts ≡ Ok (tt, inner) → behind k P ts ≡ P inner
 behind_is {A} k P ts inner e = rw e (same (P inner))

@@ -1,6 +1,5 @@
 -- What is read of a statement whose parts were read.
 use Rattle.std.proofs.Common.{◌≡◌, ℕ, true, false, List, Option, Some, None, Ok, Err, refl, option_map}
-use Rattle.lex.specs.declared.token.Fixed.{Fixed}
 use Rattle.lex.specs.declared.token.Fixed.TheVariants.{Keyword, Punctuator}
 use Rattle.lex.specs.declared.token.Keyword.TheVariants as key
 use Rattle.lex.specs.declared.token.Punctuator.TheVariants as punct
@@ -13,7 +12,7 @@ use Rattle.syntax.specs.Tree.{Expr, Simple, Start, Stmt, Print, While, DoWhile, 
 use Rattle.syntax.specs.Views.{exprs_from, stmts_from, expr_of, stmt_of}
 use Rattle.syntax.specs.Grammar.{the_text, mode_keyword}
 use Rattle.syntax.proofs.Seen as seen
-use Rattle.parse.specs.inner.Reading.{Fault, ◌>>=◌, Parser, head, is_next, mapped, take, expect, spot, perhaps, behind, before, unless}
+use Rattle.parse.specs.inner.Reading.{Fault, ◌>>=◌, head, is_next, mapped, take, expect, spot, perhaps, behind, before, unless}
 use Rattle.parse.specs.inner.Expressions.{whole_at, starts_type}
 use Rattle.parse.specs.inner.Statements as read
 use Rattle.parse.proofs.code.Made.{second_is_left}
@@ -23,12 +22,6 @@ pub print_stmt_is : (d : ℕ) (ts t1 t2 t3 r : List Tok) (at : Span) (x : List �
 print_stmt_is d ts t1 t2 t3 r at x es a b c e = rw (a, b, c, e) refl
 
 -- ---- what fails behind a part that was read
-
-pub before_fails : {A : Type 0} (k : Fixed) (P : Parser A) (ts t1 : List Tok) (x : A) (f : Fault) → P ts ≡ Ok (x, t1) → expect k t1 ≡ Err f → before k P ts ≡ Err f
-before_fails k P ts t1 x f a b = rw (a, b) refl
-
-pub before_is : {A : Type 0} (k : Fixed) (P : Parser A) (ts t1 r : List Tok) (x : A) → P ts ≡ Ok (x, t1) → expect k t1 ≡ Ok (tt, r) → before k P ts ≡ Ok (x, r)
-before_is k P ts t1 r x a b = rw (a, b) refl
 
 pub rest_of_head_fails : (d : ℕ) (ts t1 : List Tok) (c : Option Expr) (f : Fault) → before (Punctuator punct.Semicolon) (unless (Punctuator punct.Semicolon) (whole_at d)) ts ≡ Ok (c, t1) → before (Punctuator punct.CloseParen) (unless (Punctuator punct.CloseParen) (read.simple_at d)) t1 ≡ Err f → read.rest_of_head d ts ≡ Err f
 rest_of_head_fails d ts t1 c f a b = rw (a, b) refl

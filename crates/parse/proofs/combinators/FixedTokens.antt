@@ -1,5 +1,5 @@
 -- Tokens with one spelling: keywords and punctuators.
-use Rattle.std.proofs.Common.{◌≡◌, Bool, true, false, cond, not, List, [], ◌∷◌, ◌++◌, Option, Some, None, Err, refl, ap, ◌∙◌}
+use Rattle.std.proofs.Common.{◌≡◌, Bool, true, false, cond, List, [], ◌∷◌, ◌++◌, Option, Some, None, refl, ap}
 use denote.Enum.Bare.{same_true, true_same}
 use Rattle.lex.specs.declared.token.Fixed.{Fixed}
 use Rattle.lex.specs.declared.token.Fixed.TheVariants.{Keyword, Punctuator}
@@ -7,7 +7,7 @@ use Rattle.lex.specs.contracts.token.Keyword as keyword
 use Rattle.lex.specs.contracts.token.Punctuator as punctuator
 use Rattle.lex.specs.Tokens.{Terminal, name, constant, string_literal, fixed, reserved, Tok}
 use Rattle.syntax.specs.Phrases.{Phrase, Seq, One, Begins, same_fixed, is_fixed, the_fixed}
-use Rattle.parse.specs.inner.Reading.{wrong, head, expect, is_other}
+use Rattle.parse.specs.inner.Reading.{head}
 
 same_is : (j k : Fixed) → same_fixed j k ≡ true → j ≡ k
 same_is (Keyword a) (Keyword b) is = ap Keyword (same_true keyword.the_type tt a b is)
@@ -52,15 +52,3 @@ one_head o q = rw o.whole refl
 
 pub seq_head : {A : Type 0} {f : Tok → Option A} {x : A} {M : Phrase} {p : List Tok} (s : Seq (One f x) M p) (q : List Tok) → head (p ++ q) ≡ Some s.first.token
 seq_head s q = rw (s.whole, s.first.whole) refl
-
--- where one fixed token is next, another is refused
-pub other_false : (k j : Fixed) (ts : List Tok) → is_fixed j (fixed k) ≡ false → is_other k (head ts) ≡ false → expect j ts ≡ Err (wrong ts)
-other_false k j [] apart h = absurd cc
-other_false k j (t ∷ ts) apart h =
-    let is : is_fixed k t.terminal ≡ true = was_true (is_fixed k t.terminal) h in
-    let none : is_fixed j t.terminal ≡ false = ap (is_fixed j) (that_fixed k t is) ∙ apart in
-    rw none refl
-  where
-    was_true : (b : Bool) → not b ≡ false → b ≡ true
-    was_true true e = refl
-    was_true false e = absurd cc

@@ -39,9 +39,6 @@ look (t ∷ c) = go (is_fixed (Punctuator punct.Comma) t.terminal) (is_next (Pun
     go true true e f = last t c refl (is_comma t e) f
     go true false e f = more t c refl (is_comma t e) f
 
-not_both : (b : Bool) → b ≡ true → b ≡ false → ⊥
-not_both b p q = cc
-
 no_both : {X : Type 0} (r : Result X Fault) (x : X) (f : Fault) → r ≡ Ok x → r ≡ Err f → ⊥
 no_both r x f p q = cc
 

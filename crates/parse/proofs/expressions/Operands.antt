@@ -19,7 +19,7 @@ use Rattle.syntax.specs.Depth.{expr_depth, deepest}
 use Rattle.syntax.specs.Typing.{span_of}
 use Rattle.syntax.specs.Views.{exprs_from}
 use Rattle.syntax.specs.Phrases.{Phrase, Seq, One, Is, Many, Listed, Begins, Covers, place_of}
-use Rattle.syntax.specs.Grammar.{Number, number_in, the_name, the_unary, precedence, logical_precedence, level, expr, further}
+use Rattle.syntax.specs.Grammar.{Number, number_in, the_name, the_unary, precedence, logical_precedence, expr, further}
 use Rattle.syntax.specs.Grammar as Grammar
 use Rattle.parse.specs.declared.lead.Infix.{Infix}
 use Rattle.parse.specs.declared.lead.Infix.TheVariants.{Computing, Choosing}

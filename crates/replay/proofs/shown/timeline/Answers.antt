@@ -1,4 +1,4 @@
-use Rattle.std.proofs.Common.{◌≡◌, ◌∙◌, ◌++◌, ◌∷◌, [], ℕ, List, ap, get_or, refl, arith}
+use Rattle.std.proofs.Common.{◌∙◌, ◌++◌, ◌∷◌, [], ℕ, List, ap, get_or, refl, arith}
 use Rattle.std.proofs.lemmas.List.{take_all}
 use Rattle.machine.specs.declared.event.StepShown.{StepShown}
 use Rattle.replay.specs.Replays.{played, timeline_of}

@@ -1,5 +1,5 @@
 use Rattle.std.proofs.Common.{◌≡◌, ◌++◌, drop}
-use Rattle.std.specs.Prelude.{codes, flat_map}
+use Rattle.std.specs.Prelude.{flat_map}
 use Rattle.report.specs.Timeline.{step_line, timeline_text}
 use Rattle.report.proofs.timeline.timeline_text.Given as goal
 
