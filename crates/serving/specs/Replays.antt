@@ -42,7 +42,8 @@ AreLinesOf (Schedule file) threads schedule found = IsSchedule schedule found
 AreLinesOf (Seed seed count) threads schedule found = found ≡ lines_of_seed seed threads count
 
 -- What a report shows of a replay: of the steps that the lines name, at most 1,048,576, these were made, up to the
--- first that could not be; these are explained by runs of the program; and the report shows the world that they lead to.
+-- first that could not be; these are explained by runs of the program; and the report shows the world that they lead
+-- to.
 pub record IsReplayOf (p : Program) (code : Code) (threads : ℕ) (found : List Line) (made : List ℕ)
     (stopped : Option WorldStop) (shown : Printed) : Type 0 where
   pub rest : List ℕ

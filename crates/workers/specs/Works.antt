@@ -43,8 +43,8 @@ Grows {X} xs ys = (more : List X) × (ys ≡ xs ++ more)
 
 -- Nothing is lost of what was done, neither answers nor records, those of local steps too; and the steps made in
 -- between lead from the one thread to the other.
-pub record GoesOnFrom (code : Code) (p : ViewPart) (now : Part Configuration) (q : ViewPart) (later : Part Configuration)
-    : Type 0 where
+pub record GoesOnFrom (code : Code) (p : ViewPart) (now : Part Configuration)
+    (q : ViewPart) (later : Part Configuration) : Type 0 where
   pub count : ℕ
   pub more : List Heard
   pub heard : q.heard ≡ p.heard ++ more

@@ -102,7 +102,8 @@ expect m = take (the_fixed m)
 abbrev pub GivesBefore : {X : Type 0} → Fixed → Result (X × Bor (List Token)) Failure →
     Result (X × Bor (List Token)) Failure → Type 0
 GivesBefore k (Ok x) other =
-    IfOk other (λ y. y.0 ≡ x.0) × Gives {Y = Unit {0} × List Tok} (λ y. (tt, toks y.1.now)) other (expect k (toks x.1.now))
+    IfOk other (λ y. y.0 ≡ x.0)
+    × Gives {Y = Unit {0} × List Tok} (λ y. (tt, toks y.1.now)) other (expect k (toks x.1.now))
 GivesBefore k (Err e) other = other ≡ Err e
 
 -- a fixed token, by its place
