@@ -22,8 +22,15 @@ pub data Class : Type 0 where
   slash : Class
   other : Class
 
+-- the class of the first test that a byte passes
+abbrev pub first_class : List ((ℕ → Bool) × Class) → ℕ → Class
+first_class [] b = other
+first_class (c ∷ cs) b = if c.0 b then c.1 else first_class cs b
+
 abbrev pub class_of : ℕ → Class
-class_of b = if is_white b then space else (if is_letter b then letter else (if is_digit b then digit else (if b == 35 then number else (if b == 34 then quotes else (if b == 47 then slash else other)))))
+class_of =
+    first_class ((is_white, space) ∷ (is_letter, letter) ∷ (is_digit, digit)
+    ∷ ((λ b. b == 35), number) ∷ ((λ b. b == 34), quotes) ∷ ((λ b. b == 47), slash) ∷ [])
 
 abbrev pub class : List ℕ → Class
 class w = class_of (slice_index w 0)

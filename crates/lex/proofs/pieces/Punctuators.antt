@@ -1,13 +1,15 @@
 -- The punctuator at the front.
 use Rattle.std.proofs.Common.{◌≡◌, ℕ, zero, suc, ◌<◌, ◌≤◌, Bool, true, false, ◌==◌, if◌then◌else◌, List, [], ◌∷◌, ◌++◌, length, take, drop, slice_index, Option, Some, None, refl, sym, ap, ◌∙◌, arith, subst, eqb-true}
-use Rattle.std.proofs.lemmas.Bool.Decides.{nat_tests}
+use Rattle.std.specs.Str.{bytes_eq}
+use Rattle.std.proofs.lemmas.Slice.Eq.{bytes_eq-Decides}
 use Rattle.std.proofs.lemmas.List.{length-take-le, take-append-drop}
 use Rattle.lex.specs.declared.token.Fixed.{Fixed}
 use Rattle.lex.specs.declared.token.Fixed.TheVariants.{Keyword, Punctuator}
 use Rattle.lex.specs.declared.token.Keyword.TheVariants as key
+use Rattle.lex.specs.declared.token.Punctuator.{Punctuator as Own}
 use Rattle.lex.specs.declared.token.Punctuator.TheVariants as punct
 use Rattle.lex.specs.Spelling.{spelling}
-use Rattle.lex.specs.inner.Punctuators.{one, two, three, sized, punctuator_at, NoOtherPiece}
+use Rattle.lex.specs.inner.Punctuators.{singles, doubles, triples, spelled_so, one, two, three, sized, punctuator_at, NoOtherPiece}
 use Rattle.lex.specs.Pieces.{Shape, Longest, Strange}
 use Rattle.lex.specs.Pieces as s
 use Rattle.lex.proofs.pieces.Runs.{front_byte}
@@ -94,29 +96,30 @@ pub record Spelled (rest : List ℕ) (k : Fixed) (n : ℕ) : Type 0 where
   pub within : n ≤ length rest
   pub front : take n rest ≡ spelling k
 
+by_test : (m : Own) (w : List ℕ) (k : Fixed) (rest : Option Fixed) (t : Bool) → bytes_eq w (spelling (Punctuator m)) ≡ t → (rest ≡ Some k → w ≡ spelling k) → (if t then Some (Punctuator m) else rest) ≡ Some k → w ≡ spelling k
+by_test m w k rest true h later e =
+    let is : Punctuator m ≡ k = cc in
+    (bytes_eq-Decides w (spelling (Punctuator m))).0 h ∙ ap spelling is
+by_test m w k rest false h later e = later e
+
+spelled_is : (ks : List Own) (w : List ℕ) (k : Fixed) → spelled_so ks w ≡ Some k → w ≡ spelling k
+spelled_is [] w k e = absurd cc
+spelled_is (m ∷ ms) w k e = by_test m w k (spelled_so ms w) (bytes_eq w (spelling (Punctuator m))) refl (spelled_is ms w k) e
+
 one_spelled : (rest : List ℕ) (k : Fixed) → one rest ≡ Some k → Spelled rest k 1
 one_spelled [] k e = absurd cc
-one_spelled (a ∷ rest) k e = record { within = omega arith; front = go }
-  where
-    go : a ∷ [] ≡ spelling k
-    go = grind (arith, nat_tests)
+one_spelled (a ∷ rest) k e = record { within = omega arith; front = spelled_is singles (a ∷ []) k e }
 
 two_spelled : (rest : List ℕ) (k : Fixed) → two rest ≡ Some k → Spelled rest k 2
 two_spelled [] k e = absurd cc
 two_spelled (a ∷ []) k e = absurd cc
-two_spelled (a ∷ b ∷ rest) k e = record { within = omega arith; front = go }
-  where
-    go : a ∷ b ∷ [] ≡ spelling k
-    go = grind (arith, nat_tests)
+two_spelled (a ∷ b ∷ rest) k e = record { within = omega arith; front = spelled_is doubles (a ∷ b ∷ []) k e }
 
 three_spelled : (rest : List ℕ) (k : Fixed) → three rest ≡ Some k → Spelled rest k 3
 three_spelled [] k e = absurd cc
 three_spelled (a ∷ []) k e = absurd cc
 three_spelled (a ∷ b ∷ []) k e = absurd cc
-three_spelled (a ∷ b ∷ c ∷ rest) k e = record { within = omega arith; front = go }
-  where
-    go : a ∷ b ∷ c ∷ [] ≡ spelling k
-    go = grind (arith, nat_tests)
+three_spelled (a ∷ b ∷ c ∷ rest) k e = record { within = omega arith; front = spelled_is triples (a ∷ b ∷ c ∷ []) k e }
 
 -- ---- the longest
 
