@@ -3,7 +3,7 @@ use Rattle.std.proofs.Common.{◌≡◌, ◌+◌, ◌≤◌, ℕ, zero, suc, Boo
 use Rattle.syntax.specs.declared.numbers.Status.{Status}
 use Rattle.syntax.specs.declared.numbers.Status.TheVariants.{Running, Ended as HasEnded, Trapped as HasTrapped}
 use Rattle.bytecode.specs.Effects.{Effect}
-use Rattle.bytecode.specs.Effects.Effect.{Pure, Print, Begin, Read, Write, Commit, Cancel, Irrevocable, Traps, End as Ends}
+use Rattle.bytecode.specs.Effects.Effect.{Print, Begin, Commit, Cancel, Traps}
 use Rattle.bytecode.specs.Sequential.{Sequential, OpenTransaction, InnerTransaction, next, steps, sequential_step, found_next, commit_step, cancel_step, print_step}
 use Rattle.atomic_code.specs.Carried.{IsGoing}
 
@@ -23,32 +23,16 @@ module _ {C : Type 0} (code : C → Effect C) where
   -- a thread that goes on after an instruction went on before it
   module _ (s : Sequential C) where
     lefts_before : (w : Bool) (st : Status) (o : Option (OpenTransaction C)) (x : Effect C) → (sequential_step s w st o x).lefts ≡ [] → s.lefts ≡ []
-    lefts_before true st o x e = e
-    lefts_before false HasEnded o x e = e
-    lefts_before false (HasTrapped cause) o x e = e
-    lefts_before false Running None (Pure c) e = e
-    lefts_before false Running None (Print piece c) e = e
     lefts_before false Running None (Begin c d) e = by s.founds e
       where
         by : (ms : List (List ℕ)) → (found_next s c d ms).lefts ≡ [] → s.lefts ≡ []
         by [] e = e
         by (m ∷ ms) e = e
-    lefts_before false Running None (Read a k) e = e
-    lefts_before false Running None (Write a v c) e = e
-    lefts_before false Running None (Commit c) e = e
-    lefts_before false Running None Cancel e = e
-    lefts_before false Running None (Irrevocable c) e = e
-    lefts_before false Running None (Traps cause) e = e
-    lefts_before false Running None Ends e = e
-    lefts_before false Running (Some i) (Pure c) e = e
     lefts_before false Running (Some i) (Print piece c) e = by i.kept e
       where
         by : (b : Bool) → (print_step s piece c b).lefts ≡ [] → s.lefts ≡ []
         by true e = e
         by false e = e
-    lefts_before false Running (Some i) (Begin c d) e = e
-    lefts_before false Running (Some i) (Read a k) e = e
-    lefts_before false Running (Some i) (Write a v c) e = e
     lefts_before false Running (Some i) (Commit c) e = by i.inner e
       where
         by : (is : List (InnerTransaction C)) → (commit_step s i c is).lefts ≡ [] → s.lefts ≡ []
@@ -60,9 +44,8 @@ module _ {C : Type 0} (code : C → Effect C) where
         by [] true e = e
         by [] false e = more_left s.lefts i.found e
         by (l ∷ ls) b e = e
-    lefts_before false Running (Some i) (Irrevocable c) e = e
     lefts_before false Running (Some i) (Traps cause) e = more_left s.lefts i.found e
-    lefts_before false Running (Some i) Ends e = e
+    lefts_before w st o x e = e
 
     wanted : (w : Bool) → s.wants ≡ w → (sequential_step s w s.status s.inside (code s.configuration)).wants ≡ false → s.wants ≡ false
     wanted true e h = h

@@ -4,7 +4,7 @@ use Rattle.syntax.specs.declared.numbers.Status.{Status}
 use Rattle.syntax.specs.declared.numbers.Status.TheVariants.{Running, Ended as HasEnded, Trapped as HasTrapped}
 use Rattle.syntax.specs.Behaviours.{Memory}
 use Rattle.bytecode.specs.Effects.{Effect}
-use Rattle.bytecode.specs.Effects.Effect.{Pure, Print, Begin, Read, Write, Commit, Cancel, Irrevocable, Traps, End as Ends}
+use Rattle.bytecode.specs.Effects.Effect.{Print, Begin, Commit, Cancel, Traps}
 use Rattle.bytecode.specs.Sequential.{Sequential, OpenTransaction, InnerTransaction, next, steps, sequential_step, found_next, commit_step, cancel_step, print_step}
 
 module _ {C : Type 0} (code : C → Effect C) where
@@ -17,32 +17,16 @@ module _ {C : Type 0} (code : C → Effect C) where
     leaving m = append_assoc ls s.lefts (m ∷ [])
 
     left_step : (w : Bool) (st : Status) (o : Option (OpenTransaction C)) (x : Effect C) → sequential_step (after_lefts ls s) w st o x ≡ after_lefts ls (sequential_step s w st o x)
-    left_step true st o x = refl
-    left_step false HasEnded o x = refl
-    left_step false (HasTrapped cause) o x = refl
-    left_step false Running None (Pure c) = refl
-    left_step false Running None (Print piece c) = refl
     left_step false Running None (Begin c d) = by s.founds
       where
         by : (ms : List Memory) → found_next (after_lefts ls s) c d ms ≡ after_lefts ls (found_next s c d ms)
         by [] = refl
         by (m ∷ ms) = refl
-    left_step false Running None (Read a k) = refl
-    left_step false Running None (Write a v c) = refl
-    left_step false Running None (Commit c) = refl
-    left_step false Running None Cancel = refl
-    left_step false Running None (Irrevocable c) = refl
-    left_step false Running None (Traps cause) = refl
-    left_step false Running None Ends = refl
-    left_step false Running (Some i) (Pure c) = refl
     left_step false Running (Some i) (Print piece c) = by i.kept
       where
         by : (b : Bool) → print_step (after_lefts ls s) piece c b ≡ after_lefts ls (print_step s piece c b)
         by true = refl
         by false = refl
-    left_step false Running (Some i) (Begin c d) = refl
-    left_step false Running (Some i) (Read a k) = refl
-    left_step false Running (Some i) (Write a v c) = refl
     left_step false Running (Some i) (Commit c) = by i.inner
       where
         by : (is : List (InnerTransaction C)) → commit_step (after_lefts ls s) i c is ≡ after_lefts ls (commit_step s i c is)
@@ -54,9 +38,8 @@ module _ {C : Type 0} (code : C → Effect C) where
         by [] true = refl
         by [] false = ap (λ l. record { configuration = i.cancelled; inside = None; founds = s.founds; lefts = l; text = s.text; status = s.status; wants = s.wants }) (leaving i.found)
         by (j ∷ is) b = refl
-    left_step false Running (Some i) (Irrevocable c) = refl
     left_step false Running (Some i) (Traps cause) = ap (λ l. record { configuration = s.configuration; inside = None; founds = s.founds; lefts = l; text = s.text; status = HasTrapped cause; wants = s.wants }) (leaving i.found)
-    left_step false Running (Some i) Ends = refl
+    left_step w st o x = refl
 
   pub steps_after : (n : ℕ) (ls : List Memory) (s : Sequential C) → steps code n (after_lefts ls s) ≡ after_lefts ls (steps code n s)
   steps_after zero ls s = refl
@@ -68,32 +51,16 @@ module _ {C : Type 0} (code : C → Effect C) where
 
   module _ (fs : List Memory) (s : Sequential C) where
     found_step : (w : Bool) (st : Status) (o : Option (OpenTransaction C)) (x : Effect C) → s.wants ≡ w → (sequential_step s w st o x).wants ≡ false → sequential_step (with_founds fs s) w st o x ≡ with_founds fs (sequential_step s w st o x)
-    found_step true st o x e h = refl
-    found_step false HasEnded o x e h = refl
-    found_step false (HasTrapped cause) o x e h = refl
-    found_step false Running None (Pure c) e h = refl
-    found_step false Running None (Print piece c) e h = refl
     found_step false Running None (Begin c d) e h = by s.founds h
       where
         by : (ms : List Memory) → (found_next s c d ms).wants ≡ false → found_next (with_founds fs s) c d (ms ++ fs) ≡ with_founds fs (found_next s c d ms)
         by [] h = absurd (cc)
         by (m ∷ ms) h = refl
-    found_step false Running None (Read a k) e h = refl
-    found_step false Running None (Write a v c) e h = refl
-    found_step false Running None (Commit c) e h = refl
-    found_step false Running None Cancel e h = refl
-    found_step false Running None (Irrevocable c) e h = refl
-    found_step false Running None (Traps cause) e h = refl
-    found_step false Running None Ends e h = refl
-    found_step false Running (Some i) (Pure c) e h = refl
     found_step false Running (Some i) (Print piece c) e h = by i.kept
       where
         by : (b : Bool) → print_step (with_founds fs s) piece c b ≡ with_founds fs (print_step s piece c b)
         by true = refl
         by false = refl
-    found_step false Running (Some i) (Begin c d) e h = refl
-    found_step false Running (Some i) (Read a k) e h = refl
-    found_step false Running (Some i) (Write a v c) e h = refl
     found_step false Running (Some i) (Commit c) e h = by i.inner
       where
         by : (is : List (InnerTransaction C)) → commit_step (with_founds fs s) i c is ≡ with_founds fs (commit_step s i c is)
@@ -105,9 +72,7 @@ module _ {C : Type 0} (code : C → Effect C) where
         by [] true = refl
         by [] false = refl
         by (j ∷ is) b = refl
-    found_step false Running (Some i) (Irrevocable c) e h = refl
-    found_step false Running (Some i) (Traps cause) e h = refl
-    found_step false Running (Some i) Ends e h = refl
+    found_step w st o x e h = refl
 
   wanted : (s : Sequential C) (w : Bool) → s.wants ≡ w → (sequential_step s w s.status s.inside (code s.configuration)).wants ≡ false → s.wants ≡ false
   wanted s true e h = h

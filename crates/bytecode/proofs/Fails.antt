@@ -26,51 +26,12 @@ AreBegins code [] = Unit {0}
 AreBegins code (b ∷ bs) = IsBegin (slice_get code.instructions b) × AreBegins code bs
 
 opens_begins : (i : Instr) → way_of i ≡ Opens → IsBegin (Some i)
-opens_begins (Instr.Constant d n) e = cc e
-opens_begins (Instr.Move d a) e = cc e
-opens_begins (Instr.Compute op u d a c) e = cc e
-opens_begins (Instr.Negate u d a) e = cc e
-opens_begins (Instr.Complement d a) e = cc e
-opens_begins (Instr.Jump to) e = cc e
-opens_begins (Instr.JumpZero a to) e = cc e
-opens_begins (Instr.JumpNonzero a to) e = cc e
-opens_begins (Instr.Check j n) e = cc e
-opens_begins (Instr.Read d a) e = cc e
-opens_begins (Instr.ReadAt d a n j) e = cc e
-opens_begins (Instr.Write a r) e = cc e
-opens_begins (Instr.WriteAt a n j r) e = cc e
 opens_begins (Instr.Begin to) e = tt
-opens_begins Instr.Commit e = cc e
-opens_begins Instr.Cancel e = cc e
-opens_begins Instr.Irrevocable e = cc e
-opens_begins (Instr.Call n d args) e = cc e
-opens_begins (Instr.Return a) e = cc e
-opens_begins (Instr.PrintText n) e = cc e
-opens_begins (Instr.PrintNumber u a) e = cc e
+opens_begins i e = cc e
 
 in_cancel : (code : Code) (o : Option Instr) (bs : List ℕ) (q : ℕ) (bs' : List ℕ) → Contains (cancel_of o [] (λ to. (to, bs) ∷ [])) (q, bs') → bs' ≡ bs
-in_cancel code None bs q bs' c = absurd (omega (arith, c.1))
-in_cancel code (Some (Instr.Constant d n)) bs q bs' c = absurd (omega (arith, c.1))
-in_cancel code (Some (Instr.Move d a)) bs q bs' c = absurd (omega (arith, c.1))
-in_cancel code (Some (Instr.Compute op u d a k)) bs q bs' c = absurd (omega (arith, c.1))
-in_cancel code (Some (Instr.Negate u d a)) bs q bs' c = absurd (omega (arith, c.1))
-in_cancel code (Some (Instr.Complement d a)) bs q bs' c = absurd (omega (arith, c.1))
-in_cancel code (Some (Instr.Jump to)) bs q bs' c = absurd (omega (arith, c.1))
-in_cancel code (Some (Instr.JumpZero a to)) bs q bs' c = absurd (omega (arith, c.1))
-in_cancel code (Some (Instr.JumpNonzero a to)) bs q bs' c = absurd (omega (arith, c.1))
-in_cancel code (Some (Instr.Check j n)) bs q bs' c = absurd (omega (arith, c.1))
-in_cancel code (Some (Instr.Read d a)) bs q bs' c = absurd (omega (arith, c.1))
-in_cancel code (Some (Instr.ReadAt d a n j)) bs q bs' c = absurd (omega (arith, c.1))
-in_cancel code (Some (Instr.Write a r)) bs q bs' c = absurd (omega (arith, c.1))
-in_cancel code (Some (Instr.WriteAt a n j r)) bs q bs' c = absurd (omega (arith, c.1))
 in_cancel code (Some (Instr.Begin to)) bs q bs' c = sym (ap (λ p. p.1) (only (to, bs) (q, bs') c))
-in_cancel code (Some Instr.Commit) bs q bs' c = absurd (omega (arith, c.1))
-in_cancel code (Some Instr.Cancel) bs q bs' c = absurd (omega (arith, c.1))
-in_cancel code (Some Instr.Irrevocable) bs q bs' c = absurd (omega (arith, c.1))
-in_cancel code (Some (Instr.Call n d args)) bs q bs' c = absurd (omega (arith, c.1))
-in_cancel code (Some (Instr.Return a)) bs q bs' c = absurd (omega (arith, c.1))
-in_cancel code (Some (Instr.PrintText n)) bs q bs' c = absurd (omega (arith, c.1))
-in_cancel code (Some (Instr.PrintNumber u a)) bs q bs' c = absurd (omega (arith, c.1))
+in_cancel code o bs q bs' c = absurd (omega (arith, c.1))
 
 begins_on : (code : Code) (q : ℕ) (i : Instr) (w : Way) (bs : List ℕ) (q' : ℕ) (bs' : List ℕ) → slice_get code.instructions q ≡ Some i → way_of i ≡ w → AreBegins code bs → Contains (leads_by code q bs w) (q', bs') → AreBegins code bs'
 begins_on code q i On bs q' bs' e w a c = subst (AreBegins code) (ap (λ p. p.1) (only (suc q, bs) (q', bs') c)) a
@@ -123,29 +84,9 @@ module _ (code : Code) (f : FunctionCode) (end : ℕ) (ms : Arrivals) (work : Li
   no_way_back to bs b parent (Some (Inside d)) l t c e h = no_one_way to bs (Inside d) refl l (subst (λ x. IsChain (table f.first ms) x bs) (some_same parent (Some d) (sym t ∙ ap innermost e)) c) h
 
   no_cancel : (bs : List ℕ) (b : ℕ) (parent : Option ℕ) (o : Option Instr) → IsBegin o → slice_get code.instructions b ≡ o → begins ≡ b ∷ bs → way_of i ≡ Cancels → table f.first ms b ≡ Some parent → IsChain (table f.first ms) parent bs → cancelled f.first ms work (arrival_at f.first ms b) (begun o) ≡ None → ⊥
-  no_cancel bs b parent None z e g w t c h = z
-  no_cancel bs b parent (Some (Instr.Constant d n)) z e g w t c h = z
-  no_cancel bs b parent (Some (Instr.Move d a)) z e g w t c h = z
-  no_cancel bs b parent (Some (Instr.Compute op u d a k)) z e g w t c h = z
-  no_cancel bs b parent (Some (Instr.Negate u d a)) z e g w t c h = z
-  no_cancel bs b parent (Some (Instr.Complement d a)) z e g w t c h = z
-  no_cancel bs b parent (Some (Instr.Jump to)) z e g w t c h = z
-  no_cancel bs b parent (Some (Instr.JumpZero a to)) z e g w t c h = z
-  no_cancel bs b parent (Some (Instr.JumpNonzero a to)) z e g w t c h = z
-  no_cancel bs b parent (Some (Instr.Check j n)) z e g w t c h = z
-  no_cancel bs b parent (Some (Instr.Read d a)) z e g w t c h = z
-  no_cancel bs b parent (Some (Instr.ReadAt d a n j)) z e g w t c h = z
-  no_cancel bs b parent (Some (Instr.Write a r)) z e g w t c h = z
-  no_cancel bs b parent (Some (Instr.WriteAt a n j r)) z e g w t c h = z
   no_cancel bs b parent (Some (Instr.Begin to)) z e g w t c h =
       no_way_back to bs b parent (arrival_at f.first ms b) (ap (λ x. leads_by code q x (way_of i)) g ∙ ap (leads_by code q (b ∷ bs)) w ∙ ap (λ x. cancel_of x [] (λ to. (to, bs) ∷ [])) e) t c refl h
-  no_cancel bs b parent (Some Instr.Commit) z e g w t c h = z
-  no_cancel bs b parent (Some Instr.Cancel) z e g w t c h = z
-  no_cancel bs b parent (Some Instr.Irrevocable) z e g w t c h = z
-  no_cancel bs b parent (Some (Instr.Call n d args)) z e g w t c h = z
-  no_cancel bs b parent (Some (Instr.Return a)) z e g w t c h = z
-  no_cancel bs b parent (Some (Instr.PrintText n)) z e g w t c h = z
-  no_cancel bs b parent (Some (Instr.PrintNumber u a)) z e g w t c h = z
+  no_cancel bs b parent o z e g w t c h = z
 
   no_close : (b : ℕ) (bs : List ℕ) → way_of i ≡ Closes → begins ≡ bs → IsChain (table f.first ms) (Some b) bs → reopened f.first ms work (suc q) (arrival_at f.first ms b) ≡ None → ⊥
   no_close b [] w e c h = cc c

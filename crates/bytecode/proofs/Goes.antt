@@ -76,29 +76,9 @@ module _ (code : Code) (f : FunctionCode) (ms : Arrivals) (work : List ℕ) (q m
   back to bs b parent s (Some (Inside d)) a l t c e h = one_way to bs (Inside d) s refl a l (subst (λ x. IsChain (table f.first ms) x bs) (some_same parent (Some d) (sym t ∙ ap innermost e)) c) h
 
   cancelled_back : (bs : List ℕ) (b : ℕ) (parent : Option ℕ) (s : State) (o : Option Instr) → slice_get code.instructions b ≡ o → begins ≡ b ∷ bs → way_of i ≡ Cancels → table f.first ms b ≡ Some parent → IsChain (table f.first ms) parent bs → cancelled f.first ms work (arrival_at f.first ms b) (begun o) ≡ Some s → Walked code f s.0 s.1 (suc made)
-  cancelled_back bs b parent s None e g w t c h = cc h
-  cancelled_back bs b parent s (Some (Instr.Constant d n)) e g w t c h = cc h
-  cancelled_back bs b parent s (Some (Instr.Move d a)) e g w t c h = cc h
-  cancelled_back bs b parent s (Some (Instr.Compute op u d a c')) e g w t c h = cc h
-  cancelled_back bs b parent s (Some (Instr.Negate u d a)) e g w t c h = cc h
-  cancelled_back bs b parent s (Some (Instr.Complement d a)) e g w t c h = cc h
-  cancelled_back bs b parent s (Some (Instr.Jump to)) e g w t c h = cc h
-  cancelled_back bs b parent s (Some (Instr.JumpZero a to)) e g w t c h = cc h
-  cancelled_back bs b parent s (Some (Instr.JumpNonzero a to)) e g w t c h = cc h
-  cancelled_back bs b parent s (Some (Instr.Check j n)) e g w t c h = cc h
-  cancelled_back bs b parent s (Some (Instr.Read d a)) e g w t c h = cc h
-  cancelled_back bs b parent s (Some (Instr.ReadAt d a n j)) e g w t c h = cc h
-  cancelled_back bs b parent s (Some (Instr.Write a r)) e g w t c h = cc h
-  cancelled_back bs b parent s (Some (Instr.WriteAt a n j r)) e g w t c h = cc h
   cancelled_back bs b parent s (Some (Instr.Begin to)) e g w t c h =
       back to bs b parent s (arrival_at f.first ms b) (subst (λ x. asks_by x begins) (sym w) (λ n. cc (g, n))) (ap (λ x. leads_by code q x (way_of i)) g ∙ ap (leads_by code q (b ∷ bs)) w ∙ ap (λ x. cancel_of x [] (λ to. (to, bs) ∷ [])) e) t c refl h
-  cancelled_back bs b parent s (Some Instr.Commit) e g w t c h = cc h
-  cancelled_back bs b parent s (Some Instr.Cancel) e g w t c h = cc h
-  cancelled_back bs b parent s (Some Instr.Irrevocable) e g w t c h = cc h
-  cancelled_back bs b parent s (Some (Instr.Call n d args)) e g w t c h = cc h
-  cancelled_back bs b parent s (Some (Instr.Return a)) e g w t c h = cc h
-  cancelled_back bs b parent s (Some (Instr.PrintText n)) e g w t c h = cc h
-  cancelled_back bs b parent s (Some (Instr.PrintNumber u a)) e g w t c h = cc h
+  cancelled_back bs b parent s o e g w t c h = cc h
 
   closes : (b : ℕ) (bs : List ℕ) (s : State) → way_of i ≡ Closes → begins ≡ bs → IsChain (table f.first ms) (Some b) bs → reopened f.first ms work (suc q) (arrival_at f.first ms b) ≡ Some s → Walked code f s.0 s.1 (suc made)
   closes b [] s w e c h = cc c
@@ -122,15 +102,10 @@ module _ (code : Code) (f : FunctionCode) (ms : Arrivals) (work : List ℕ) (q m
   goes_by (To to) n s one w e h = one_way to begins m s one (subst (λ x. asks_by x begins) (sym w) tt) (ap (leads_by code q begins) w) chain (ap (visited f.first ms work to) e ∙ h)
   goes_by (Both to) n s one w e h = two_ways to s (visited f.first ms work (suc q) m) one w refl (ap (λ x. twice f.first to x (visited f.first ms work (suc q) x)) e ∙ h)
   goes_by Opens n s one w e h = one_way (suc q) (q ∷ begins) (Inside q) s refl (subst (λ x. asks_by x begins) (sym w) tt) (ap (leads_by code q begins) w) (refl, id_of m, at, chain) h
-  goes_by Closes Unseen s one w e h = cc h
-  goes_by Closes Outside s one w e h = cc h
   goes_by Closes (Inside b) s one w e h = closes b begins s w refl (subst (λ x. IsChain (table f.first ms) (id_of x) begins) e chain) h
-  goes_by Cancels Unseen s one w e h = cc h
-  goes_by Cancels Outside s one w e h = cc h
   goes_by Cancels (Inside b) s one w e h = cancels b begins s w refl (subst (λ x. IsChain (table f.first ms) (id_of x) begins) e chain) h
-  goes_by Ends Unseen s one w e h = cc h
   goes_by Ends Outside s one w e h = ends begins s w refl (subst (λ x. IsChain (table f.first ms) (id_of x) begins) e chain) h
-  goes_by Ends (Inside b) s one w e h = cc h
+  goes_by _ n s one w e h = cc h
 
 -- going on from a place that was taken from the work
 pub goes_on : (code : Code) (f : FunctionCode) (ms : Arrivals) (work : List ℕ) (q made : ℕ) (i : Instr) (m : Arrival) (s : State) → Taken code f ms work q made → slice_get code.instructions q ≡ Some i → arrival_at f.first ms q ≡ Some m → seen_one m ≡ 1 → went_by code.instructions f.first ms work q m (way_of i) ≡ Some s → Walked code f s.0 s.1 (suc made)

@@ -8,7 +8,7 @@ use Rattle.syntax.specs.declared.tree.Item.{Item as OwnItem}
 use Rattle.syntax.specs.declared.tree.Item.TheVariants as own
 use Rattle.syntax.specs.declared.tree.Function.{Function as OwnFunction}
 use Rattle.syntax.specs.declared.tree.Stmt.{Stmt as OwnStmt}
-use Rattle.syntax.specs.Tree.{Function, Stmts, Item, Defines, Shares, Program}
+use Rattle.syntax.specs.Tree.{Function, Stmts, Item, Defines, Program}
 use Rattle.syntax.specs.Views.{item_of, function_of, stmts_of}
 use Rattle.bytecode.specs.declared.instr.Instr.{Instr}
 use Rattle.bytecode.specs.Code.{FunctionCode}
@@ -82,9 +82,7 @@ of_one p before (Defines f) after codes n (TooMuchCode at) s c d b m h k =
       omega (arith, h, more),
     )
 of_one p before (Defines f) after codes n (NestedTooDeep at) s c d b m h k = absurd k
-of_one p before (Shares gs) after codes n (TooManyRegisters at) s c d b m h k = absurd k
-of_one p before (Shares gs) after codes n (TooMuchCode at) s c d b m h k = absurd k
-of_one p before (Shares gs) after codes n (NestedTooDeep at) s c d b m h k = absurd k
+of_one p before item after codes n e s c d b m h k = absurd k
 
 pub item_fault : {A : Type 0} (items : List (OwnItem A)) (i to : ℕ) (l : Lists) (x : OwnItem A) (codes : List FunctionCode) (done : List Instr) (e : LowerFault) → i < length items → x ≡ get_or items i x →
     codes ++ (all_made (map item_of items) (map item_of (drop i items)) to l).functions ≡ (made_of (map item_of items)).functions →

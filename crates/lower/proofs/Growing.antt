@@ -113,23 +113,17 @@ module _ (p : Program) (scope : LocalScope) where
         omega (arith, u, v, w, x, y)
 
     own_more : (e : Expr) (from free : ℕ) (l : Lists) → IfSome (own_condition p scope e from free l) (HasMore l)
-    own_more (Variable x) from free l = tt
-    own_more (Constant n t at) from free l = tt
-    own_more (Element x i at) from free l = tt
-    own_more (Call f es at) from free l = tt
     own_more (Parenthesized e at) from free l = by_parts e from free l (own_more e from free l) (emitted_more e from free free l)
     own_more (Cast t e at) from free l = by_parts e from free l (own_more e from free l) (emitted_more e from free free l)
-    own_more (Unary Negate e at) from free l = tt
     own_more (Unary Keep e at) from free l = by_parts e from free l (own_more e from free l) (emitted_more e from free free l)
     own_more (Unary Not e at) from free l = by_parts e from free l (own_more e from free l) (emitted_more e from free free l)
-    own_more (Unary Complement e at) from free l = tt
     own_more (Binary op a b at) from free l = zero_more (zero_test op b) l (condition p scope a from free l) (by_parts a from free l (own_more a from free l) (emitted_more a from free free l))
     own_more (Logical op a b at) from free l =
         let first = condition p scope a from free l in
         let x = by_parts a from free l (own_more a from free l) (emitted_more a from free free l) in
         let y = by_parts b (first.to + 1) free first.lists (own_more b (first.to + 1) free first.lists) (emitted_more b (first.to + 1) free free first.lists) in
         omega (arith, x, y)
-    own_more (Conditional c a b at) from free l = tt
+    own_more e from free l = tt
 
     pub all_more : (es : Exprs) (from free : ℕ) (l : Lists) → l.registers ≤ (all_emitted p scope es from free l).lists.registers
     all_more Exprs.[] from free l = omega arith

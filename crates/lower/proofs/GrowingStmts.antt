@@ -2,7 +2,7 @@
 use Rattle.std.proofs.Common.{◌≡◌, ℕ, suc, ◌+◌, ◌≤◌, List, [], ◌∷◌, ◌++◌, length, Option, Some, None, Bool, true, false, if◌then◌else◌, ◌==◌, refl, arith}
 use Rattle.lex.specs.declared.token.Scalar.{Scalar}
 use Rattle.syntax.specs.declared.tree.BinaryOp.{BinaryOp}
-use Rattle.syntax.specs.Tree.{Expr, Variable, Constant, Element, Call, Parenthesized, Cast, Unary, Binary, Logical, Conditional, Simple, Evaluate, Assign, Adjust, Declarator, Start, Nothing, Declares, Does, Stmt, Stmts, Empty, Declare, Do, Block, Print, If, IfElse, While, DoWhile, For, Break, Continue, Return, Transaction, Cancel, Program}
+use Rattle.syntax.specs.Tree.{Expr, Variable, Element, Simple, Evaluate, Assign, Adjust, Declarator, Start, Nothing, Declares, Does, Stmt, Stmts, Empty, Declare, Do, Block, Print, If, IfElse, While, DoWhile, For, Break, Continue, Return, Transaction, Cancel, Program}
 use Rattle.syntax.specs.Names.{newest, global_of, GlobalCells}
 use Rattle.syntax.specs.Formats.{Piece, Literal, Figure, pieces}
 use Rattle.syntax.specs.Meaning.{op_of}
@@ -52,15 +52,8 @@ pieces_same (Figure t ∷ ps) (r ∷ rs) from l = pieces_same ps rs (from + 1) l
 module _ (p : Program) (scope : LocalScope) where
   pub aimed_more : (check : Bool) (e : Expr) (from free : ℕ) (l : Lists) → l.registers ≤ (aimed p scope check e from free l).lists.registers
   aimed_more check (Variable x) from free l = target_more (newest scope x.text) (global_of p x.text) from l
-  aimed_more check (Constant n t at) from free l = omega arith
   aimed_more check (Element x i at) from free l = element_more check (global_of p x.text) (emitted p scope i from free free l) from l (emitted_more p scope i from free free l)
-  aimed_more check (Call f es at) from free l = omega arith
-  aimed_more check (Parenthesized e at) from free l = omega arith
-  aimed_more check (Cast t e at) from free l = omega arith
-  aimed_more check (Unary op e at) from free l = omega arith
-  aimed_more check (Binary op a b at) from free l = omega arith
-  aimed_more check (Logical op a b at) from free l = omega arith
-  aimed_more check (Conditional c a b at) from free l = omega arith
+  aimed_more check e from free l = omega arith
 
   pub one_more : (by : Option Expr) (from free : ℕ) (l : Lists) → l.registers ≤ (value_or_one p scope by from free l).lists.registers
   one_more None from free l = used_more free l

@@ -8,7 +8,7 @@ use Rattle.lex.specs.declared.token.Scalar.{Scalar}
 use Rattle.lex.specs.declared.token.Scalar.TheVariants.{Int, Unsigned}
 use Rattle.syntax.specs.declared.tree.UnaryOp.TheVariants.{Negate, Keep, Not, Complement}
 use Rattle.syntax.specs.declared.tree.BinaryOp.{BinaryOp}
-use Rattle.syntax.specs.declared.tree.BinaryOp.TheVariants.{Or, Xor, And, Equal, NotEqual, Less, Greater, LessEqual, GreaterEqual, ShiftLeft, ShiftRight, Add, Subtract, Multiply, Divide, Remainder}
+use Rattle.syntax.specs.declared.tree.BinaryOp.TheVariants.{Or, Equal, NotEqual}
 use Rattle.syntax.specs.declared.tree.LogicalOp.TheVariants.{AndThen, OrElse}
 use Rattle.std.specs.List.{AllByRecursion}
 use Rattle.std.specs.Prelude.{unwrap_or}
@@ -59,21 +59,7 @@ binary_same op s t a b h k =
 -- the instruction of an operator computes it
 pub computing_does : (code : Code) (op : BinaryOp) (t : Scalar) (c : Configuration) (d a b : ℕ) → effect_of code c (Some (computing op t d a b)) ≡ or_traps (computed op t (slice_index c.registers a) (slice_index c.registers b)) (setting c d)
 computing_does code Or t c d a b = refl
-computing_does code Xor t c d a b = refl
-computing_does code And t c d a b = refl
-computing_does code Equal t c d a b = refl
-computing_does code NotEqual t c d a b = refl
-computing_does code Less t c d a b = refl
-computing_does code Greater t c d a b = refl
-computing_does code LessEqual t c d a b = refl
-computing_does code GreaterEqual t c d a b = refl
-computing_does code ShiftLeft t c d a b = refl
-computing_does code ShiftRight t c d a b = refl
-computing_does code Add t c d a b = refl
-computing_does code Subtract t c d a b = refl
-computing_does code Multiply t c d a b = refl
-computing_does code Divide t c d a b = refl
-computing_does code Remainder t c d a b = refl
+computing_does code op t c d a b = refl
 
 -- the newest local of a name hangs on names and types alone
 newest_shape : ℕ → List (List ℕ × Scalar) → List ℕ → Option (ℕ × Scalar)
@@ -525,13 +511,7 @@ module _ (p : Program) (call : Caller) (code : Code) (size : ℕ) (frames : List
       own_follows scope (Logical OrElse x y at) N K from met unmet free a sh text ls old after c h good s go =
           either_follows scope (expr p call x) (expr p call y) _ _ (branches_follow scope x _ (expr_follows None scope x) (own_follows scope x)) (branches_follow scope y _ (expr_follows None scope y) (own_follows scope y))
           N K from met unmet free a sh text ls old after c h good s (flag_of a after ls met unmet free old go)
-      own_follows scope (Variable x) N K from met unmet free a sh text ls old after c h good s go = absurd c
-      own_follows scope (Constant n u at) N K from met unmet free a sh text ls old after c h good s go = absurd c
-      own_follows scope (Element x i at) N K from met unmet free a sh text ls old after c h good s go = absurd c
-      own_follows scope (Call f es at) N K from met unmet free a sh text ls old after c h good s go = absurd c
-      own_follows scope (Unary Negate e at) N K from met unmet free a sh text ls old after c h good s go = absurd c
-      own_follows scope (Unary Complement e at) N K from met unmet free a sh text ls old after c h good s go = absurd c
-      own_follows scope (Conditional b x y at) N K from met unmet free a sh text ls old after c h good s go = absurd c
+      own_follows scope e N K from met unmet free a sh text ls old after c h good s go = absurd c
 
       pub args_follow : (scope : LocalScope) (es : Exprs) (N K from to free : ℕ) (args : List ℕ) (a : Around) (sh : Shared) (text : List ℕ) (ls : List Local) (old : List ℕ) (after : Answer (List Value) → Outcome) → ArgsCode code size p scope es from to free args → Holds scope ls size free old → IsGood a sh → IsSeen a after → GoesArgs N K a after ls to free args old → Does N K a sh text ls from old (λ s. after (exprs p call es s))
       args_follow scope Exprs.[] N K from to free args a sh text ls old after c h good s go =

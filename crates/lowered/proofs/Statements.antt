@@ -7,7 +7,7 @@ use Rattle.std.proofs.Common.{◌⊎◌}
 use Rattle.lex.specs.declared.token.Scalar.{Scalar}
 use Rattle.lex.specs.declared.token.Scalar.TheVariants.{Int, Unsigned}
 use Rattle.syntax.specs.declared.tree.BinaryOp.{BinaryOp}
-use Rattle.syntax.specs.Tree.{Expr, Variable, Constant, Element, Call, Parenthesized, Cast, Unary, Binary, Logical, Conditional, Simple, Evaluate, Assign, Adjust, Program}
+use Rattle.syntax.specs.Tree.{Expr, Variable, Constant, Element, Simple, Evaluate, Assign, Adjust, Program}
 use Rattle.syntax.specs.declared.numbers.Trap.TheVariants.{Index}
 use Rattle.syntax.specs.declared.numbers.Value.{Value}
 use Rattle.syntax.specs.Numbers.{number, word_of, binary, is_zero}
@@ -182,14 +182,7 @@ module _ (p : Program) (call : Caller) (code : Code) (size : ℕ) (frames : List
       (variable_spot (newest scope x.text) (global_of p x.text) scope tg from to c.0 c.1 a sh text ls old after h good go)
   spot_follows scope (Element x i at) tg from to c a sh text ls old after h good s go =
       element_spot (global_of p x.text) scope i tg from to c a sh text ls old after h good s go
-  spot_follows scope (Constant n u at) tg from to c a sh text ls old after h good s go = absurd c
-  spot_follows scope (Call f es at) tg from to c a sh text ls old after h good s go = absurd c
-  spot_follows scope (Parenthesized e at) tg from to c a sh text ls old after h good s go = absurd c
-  spot_follows scope (Cast u e at) tg from to c a sh text ls old after h good s go = absurd c
-  spot_follows scope (Unary op e at) tg from to c a sh text ls old after h good s go = absurd c
-  spot_follows scope (Binary op x y at) tg from to c a sh text ls old after h good s go = absurd c
-  spot_follows scope (Logical op x y at) tg from to c a sh text ls old after h good s go = absurd c
-  spot_follows scope (Conditional b x y at) tg from to c a sh text ls old after h good s go = absurd c
+  spot_follows scope e tg from to c a sh text ls old after h good s go = absurd c
 
   -- an element that is read at once, whose index the read checks
   unchecked : {N K : ℕ} (g : GlobalCells) (ri : ℕ) (b : Bool) (k : Value) (scope : LocalScope) (tg : Target) (a : Around) (sh : Shared) (text : List ℕ) (ls : List Local) (after : Answer Spot → Outcome) (q fetched free r : ℕ) (t : Scalar) (old rs : List ℕ) → nat_lt k.word (cells g.global) ≡ b → slice_index rs ri ≡ k.word → FetchCode code size p (ElementOf g ri) q fetched free r t → tg ≡ ElementOf g ri → Holds scope ls size (length scope) rs → IsGood a sh → IsSeen a after → GoesAt N K a after scope tg ls q old → Goes N K a sh text ls q rs (λ s. after ((if b then pure (InCell (g.cell + k.word) g.global.of) else trap Index) s))
@@ -211,15 +204,7 @@ module _ (p : Program) (call : Caller) (code : Code) (size : ℕ) (frames : List
   read_follows : {N K : ℕ} (scope : LocalScope) (e : Expr) (tg : Target) (from to fetched free r : ℕ) (t : Scalar) → ReadTarget code size p scope e from to (length scope) tg → FetchCode code size p tg to fetched free r t → (a : Around) (sh : Shared) (text : List ℕ) (ls : List Local) (old : List ℕ) (after : Answer Spot → Outcome) → Holds scope ls size (length scope) old → IsGood a sh → IsSeen a after → GoesAt N K a after scope tg ls to old → Goes N K a sh text ls from old (λ s. after (spot p call e s))
   read_follows scope (Element x i at) tg from to fetched free r t c d a sh text ls old after h good s go =
       read_element (global_of p x.text) scope i tg from to fetched free r t c d a sh text ls old after h good s go
-  read_follows scope (Variable x) tg from to fetched free r t c d a sh text ls old after h good s go = absurd c
-  read_follows scope (Constant n u at) tg from to fetched free r t c d a sh text ls old after h good s go = absurd c
-  read_follows scope (Call f es at) tg from to fetched free r t c d a sh text ls old after h good s go = absurd c
-  read_follows scope (Parenthesized e at) tg from to fetched free r t c d a sh text ls old after h good s go = absurd c
-  read_follows scope (Cast u e at) tg from to fetched free r t c d a sh text ls old after h good s go = absurd c
-  read_follows scope (Unary op e at) tg from to fetched free r t c d a sh text ls old after h good s go = absurd c
-  read_follows scope (Binary op x y at) tg from to fetched free r t c d a sh text ls old after h good s go = absurd c
-  read_follows scope (Logical op x y at) tg from to fetched free r t c d a sh text ls old after h good s go = absurd c
-  read_follows scope (Conditional b x y at) tg from to fetched free r t c d a sh text ls old after h good s go = absurd c
+  read_follows scope e tg from to fetched free r t c d a sh text ls old after h good s go = absurd c
 
   -- the old value of a target
   fetch_follows : {N K : ℕ} (tg : Target) (at : Spot) (scope : LocalScope) (free : ℕ) (a : Around) (sh : Shared) (text : List ℕ) (ls : List Local) (after : Answer Value → Outcome) (from to r : ℕ) (t : Scalar) (old : List ℕ) → FetchCode code size p tg from to free r t → IsAt scope tg old at → Holds scope ls size free old → IsGood a sh → IsSeen a after → GoesOn p call code size frames N K a after ls to None free r t old → Goes N K a sh text ls from old (λ s. after (fetch at s))

@@ -20,12 +20,9 @@ ticked ps vs c cs (Stops why s) = refl
 
 -- one byte of a literal piece
 pub pushed_continued : (begun : Bool) (c : ℕ) (ps : List Piece) (vs : List Value) (s : State) → continued begun (literal c ps) vs s ≡ go_on (pushed begun c s) (λ u. continued true ps vs)
-pushed_continued true c [] vs s = refl
 pushed_continued true c (Literal cs ∷ ps) vs s = ap (print_pieces ps vs) (wrote s c cs)
-pushed_continued true c (Figure t ∷ ps) vs s = refl
-pushed_continued false c [] vs s = refl
 pushed_continued false c (Literal cs ∷ ps) vs s = ticked ps vs c cs (tick s)
-pushed_continued false c (Figure t ∷ ps) vs s = refl
+pushed_continued begun c ps vs s = refl
 
 -- a figure, with the first of the values
 figure_continued : (begun : Bool) (t : Scalar) (ps : List Piece) (vs : List Value) (s : State) → continued begun (Figure t ∷ ps) vs s ≡ go_on (figure t vs s) (λ u. print_pieces ps (drop 1 vs))

@@ -26,10 +26,7 @@ halts r rest why s e = ap (λ q. go_on q rest) e
 -- an end that is not the next statement's
 pub left_at : (rest : Action End) (e : OwnEnd) (s : State) → (e ≡ end.Next → ⊥) → on_next rest (end_of e) s ≡ Gives (end_of e) s
 left_at rest end.Next s differs = absurd (differs refl)
-left_at rest end.Breaks s differs = refl
-left_at rest end.Continues s differs = refl
-left_at rest (end.Returns w) s differs = refl
-left_at rest end.Cancels s differs = refl
+left_at rest e s differs = refl
 
 joins : (us : List Value) (v : Value) (r : Answer (List Value)) → go_on (go_on r (λ vs. pure (v ∷ vs))) (joined_to us) ≡ go_on r (joined_to (us ++ v ∷ []))
 joins us v (Gives vs s) = ap (λ xs. Gives xs s) (sym (append_assoc us (v ∷ []) vs))

@@ -3,10 +3,10 @@ use Rattle.std.proofs.Common.{◌≡◌, ◌≢◌, ℕ, zero, suc, ◌+◌, ◌
 use Rattle.std.proofs.lemmas.List.{map-append, length-map, at_drop_more, take-append-drop, drop-append-le, length-take-le, replicate-append-replicate, length-replicate, set-get_or, get_or-map, map-set}
 use Rattle.std.proofs.lemmas.Simd.{map-map}
 use Rattle.std.proofs.lemmas.Grind.{common_steps}
-use Rattle.syntax.specs.declared.numbers.Halt.TheVariants.{Trapped, Wants, Spent, Astray}
+use Rattle.syntax.specs.declared.numbers.Halt.TheVariants.{Wants}
 use Rattle.syntax.specs.Tree.{Program}
 use Rattle.syntax.specs.Names.{initial_memory}
-use Rattle.syntax.specs.Behaviours.{Memory, Behaviour, ThreadEnd, Ended, Stopped}
+use Rattle.syntax.specs.Behaviours.{Memory, Behaviour, ThreadEnd, Stopped}
 use Rattle.syntax.specs.Orders.{Progress, last_left, finds, if_wanting, entry, entries, outcomes, in_order}
 use Rattle.syntax.specs.Threads.{thread}
 use Rattle.meaning.specs.declared.outcome.SourceOutcome.{SourceOutcome}
@@ -41,11 +41,8 @@ last_beyond m ls before l h e =
 
 -- a thread that wants no memory does nothing
 rests : (does : Behaviour) (ticks : ℕ) (end : ThreadEnd) (after now : Progress) → end ≢ Stopped Wants → if_wanting does ticks end after now ≡ now
-rests does ticks Ended after now h = refl
 rests does ticks (Stopped Wants) after now h = absurd (h refl)
-rests does ticks (Stopped (Trapped k)) after now h = refl
-rests does ticks (Stopped Spent) after now h = refl
-rests does ticks (Stopped Astray) after now h = refl
+rests does ticks end after now h = refl
 
 -- a turn is an entry of an order
 enters_by : (does : Behaviour) (ticks t : ℕ) (m n : Memory) (all : List (List Memory)) (further : List Memory) → let founds = get_or all t [] in

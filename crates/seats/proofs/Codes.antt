@@ -10,7 +10,7 @@ use Rattle.bytecode.specs.Code.{Code}
 use Rattle.bytecode.specs.Initial.{initial_of}
 use Rattle.bytecode.specs.Valid.{bounds_of, cells_of}
 use Rattle.norec_core.specs.declared.step.Access.{Access}
-use Rattle.norec_core.specs.declared.step.Access.TheVariants.{LoadLock, LoadWord, Local, StoreLock, StoreWord, Swap}
+use Rattle.norec_core.specs.declared.step.Access.TheVariants.{LoadWord, Swap}
 use Rattle.norec_core.specs.declared.step.Answer.TheVariants.{Lost, Won}
 use Rattle.std.specs.Prelude.{Bool, true, false, if◌then◌else◌, ◌==◌}
 use Rattle.machine.specs.Worlds.{answer}
@@ -33,13 +33,10 @@ word_at (suc n) (w ∷ ws) zero is = is.0
 word_at (suc n) (w ∷ ws) (suc a) is = word_at n ws a is.1
 
 pub word_fits : (code : Code) (x : Access) (lock : ℕ) (words : List ℕ) → IsMemory (bounds_of code) words → IsWordOf x (answer lock words x)
-word_fits code Local lock words is = tt
-word_fits code LoadLock lock words is = tt
 word_fits code (LoadWord a) lock words is = word_at (cells_of code) words a is
 word_fits code (Swap from) lock words is = at (lock == from)
   where
     at : (b : Bool) → IsWordOf (Swap from) (if b then Won else Lost lock)
     at true = tt
     at false = tt
-word_fits code (StoreWord a v) lock words is = tt
-word_fits code (StoreLock n) lock words is = tt
+word_fits code x lock words is = tt

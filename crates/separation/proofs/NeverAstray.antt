@@ -12,7 +12,7 @@ use Rattle.syntax.specs.declared.tree.LogicalOp.TheVariants.{AndThen, OrElse}
 use Rattle.syntax.specs.declared.tree.Mode.{Mode}
 use Rattle.syntax.specs.declared.tree.Mode.TheVariants.{Atomic, Relaxed}
 use Rattle.syntax.specs.declared.numbers.Trap.TheVariants.{Index, Frames}
-use Rattle.syntax.specs.declared.numbers.Halt.TheVariants.{Trapped, Wants, Spent, Astray}
+use Rattle.syntax.specs.declared.numbers.Halt.TheVariants.{Astray}
 use Rattle.syntax.specs.declared.numbers.Value.{Value}
 use Rattle.syntax.specs.Tree as Tree
 use Rattle.syntax.specs.Tree.{Name, Expr, Exprs, Variable, Constant, Element, Call, Parenthesized, Cast, Unary, Binary, Logical, Conditional, Simple, Evaluate, Assign, Adjust, Declarator, Start, Nothing, Declares, Does, Stmt, Stmts, Empty, Declare, Do, Block, Print, If, IfElse, While, DoWhile, For, Break, Continue, Return, Transaction, Cancel, Parameter, Function, Program}
@@ -22,7 +22,7 @@ use Rattle.syntax.specs.Formats.{pieces, figures}
 use Rattle.syntax.specs.Types.{Known, Unknown, Number, Array, Callable, Scope, known_function, file_scope, with_number, type_of, running_scope}
 use Rattle.syntax.specs.Typing.{has_name, is_unknown, may_be_number, may_be_array, may_be_function, may_be_assigned, takes_so_many, count, is_void, is_worker, knows, scope_after, names_of, scope_of_start, parameter_names}
 use Rattle.syntax.specs.Behaviours.{Stopped}
-use Rattle.syntax.specs.Actions.{Answer, Gives, Stops, Action, pure}
+use Rattle.syntax.specs.Actions.{Answer, Stops, Action, pure}
 use Rattle.syntax.specs.Meaning.{Spot, InLocal, InCell, End, Next, Breaks, Continues, Returns, Cancels, scoped, op_of, int_one, Caller, spot_from, named, element, expr, exprs, spot, changed, assigned, simple, first_value, declare, start_with, holds, stepped, return_value, stmt, stmts, entered, result_of, invoke, calls}
 use Rattle.syntax.specs.Threads.{outcome_of, first_state, worker_run}
 use Rattle.syntax.specs.Laws.{shape}
@@ -254,14 +254,7 @@ module _ (p : Program) (call : Caller) (called : CallsGo p call) (outer : Option
     target_goes (Variable x) h g m = named_goes x h g m
     target_goes (Element x i at) h g m =
         on_goes (expr_goes i h.1 (back_permitted (uses x a) (expr_sites i a) m)) (λ k _. element_goes x k h.0 h.2 (front_permitted (uses x a) (expr_sites i a) m))
-    target_goes (Constant n t at) h g m = absurd (cc)
-    target_goes (Call f es at) h g m = absurd (cc)
-    target_goes (Parenthesized e at) h g m = absurd (cc)
-    target_goes (Cast t e at) h g m = absurd (cc)
-    target_goes (Unary op e at) h g m = absurd (cc)
-    target_goes (Binary op x y at) h g m = absurd (cc)
-    target_goes (Logical op x y at) h g m = absurd (cc)
-    target_goes (Conditional c x y at) h g m = absurd (cc)
+    target_goes to h g m = absurd (cc)
 
     changed_goes : (at : Spot) {by : Action Value} → SpotFits (mode_of a) at → Goes (mode_of a) ls ls Any by → (op : BinaryOp) → Goes (mode_of a) ls ls Any (changed p call at by op)
     changed_goes at f g op = on_goes (fetch_goes at f) (λ old _. on_goes g (λ v _. on_goes (or_trap_goes (binary op old v)) (λ new _. assign_goes at new f)))
@@ -433,14 +426,9 @@ module _ (p : Program) (accepted : IsAccepted p) where
   calls_go (suc k) w ls x vs result takes e n h = invoke_goes (calls p k) (calls_go k) w ls x vs result takes e n h
 
   worker_types : (k : Known) → IsTrue (is_worker k) → (result : Option Scalar) × (takes : List Scalar) × (k ≡ Callable result takes) × (1 ≡ length takes)
-  worker_types Unknown h = absurd (cc)
-  worker_types (Number t) h = absurd (cc)
-  worker_types (Array t n) h = absurd (cc)
-  worker_types (Callable (Some t) ts) h = absurd (cc)
-  worker_types (Callable None []) h = absurd (cc)
   worker_types (Callable None (t ∷ [])) h = (None, t ∷ [], refl, refl)
   worker_types (Callable None (Int ∷ s ∷ ts)) h = absurd (cc)
-  worker_types (Callable None (Unsigned ∷ s ∷ ts)) h = absurd (cc)
+  worker_types k h = absurd (cc)
 
   worker_goes : (t : ℕ) → Goes None [] [] Any (worker_run p t)
   worker_goes t =
@@ -448,11 +436,8 @@ module _ (p : Program) (accepted : IsAccepted p) where
       then_goes (invoke_goes (calls p 63) (calls_go 63) None [] (codes "worker") (record { of = Unsigned; word = t } ∷ []) worker.0 worker.1 worker.2 worker.3 (worker_permitted p accepted)) tick_goes
 
 not_astray : (r : Answer (Unit {0})) → Fine None [] Any r → (outcome_of r).end ≢ Stopped Astray
-not_astray (Gives u s) h e = cc
 not_astray (Stops Astray s) h e = h
-not_astray (Stops Wants s) h e = cc
-not_astray (Stops Spent s) h e = cc
-not_astray (Stops (Trapped k) s) h e = cc
+not_astray r h e = cc
 
 pub never_astray : NeverAstray
 never_astray p accepted t founds n = not_astray (worker_run p t (first_state founds n)) ((worker_goes p accepted t).goes (first_state founds n) refl refl)

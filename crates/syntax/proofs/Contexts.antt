@@ -2,7 +2,7 @@
 use Rattle.std.proofs.Common.{refl, sym, ap, ◌∙◌, ℕ, zero, suc, List, [], ◌∷◌, ◌++◌, length-append, append_assoc, append-nil, Option, Some, None, arith}
 use Rattle.syntax.specs.declared.tree.Mode.{Mode}
 use Rattle.syntax.specs.declared.tree.Mode.TheVariants.{Atomic, Relaxed}
-use Rattle.syntax.specs.declared.numbers.Halt.TheVariants.{Trapped, Wants, Spent, Astray}
+use Rattle.syntax.specs.declared.numbers.Halt.TheVariants.{Trapped}
 use Rattle.syntax.specs.Names.{Local}
 use Rattle.syntax.specs.Behaviours.{Memory}
 use Rattle.syntax.specs.Actions.{Context, Outside, Inside, State, Answer, Gives, Stops, Action, stop, go_on, ◌>>=◌, spend, tick, load_at, store, may_print_at, write}
@@ -73,9 +73,7 @@ leave_given (suc n) now m founds lefts left = (m ∷ [], left.memory ∷ [], ref
 close_given : (m : Memory) (founds lefts : List Memory) (mine : List Local) (r : Answer End) → Given (Outside (m ∷ founds) lefts) (close founds lefts mine m r)
 close_given m founds lefts mine (Gives end now) = leave_given now.ticks now m founds lefts (left_by mine m end now)
 close_given m founds lefts mine (Stops (Trapped k) now) = tt
-close_given m founds lefts mine (Stops Wants now) = tt
-close_given m founds lefts mine (Stops Spent now) = tt
-close_given m founds lefts mine (Stops Astray now) = tt
+close_given m founds lefts mine r = tt
 
 close_inner_given : (outer : Mode) (m : Memory) (mine : List Local) (r : Answer End) → Given (Inside outer m) (close_inner outer mine m r)
 close_inner_given outer m mine (Gives end now) = refl

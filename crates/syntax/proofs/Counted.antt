@@ -82,9 +82,7 @@ counted_from p q (Stops Astray t) k c = bounded_trans p q t.context k c
 on_counted : {A B : Type 0} (p : Context) (r : Answer A) (rest : A → Action B) → Counted p r → ((a : A) (t : State) → Counted t.context (rest a t)) → Counted p (go_on r rest)
 on_counted p (Gives a t) rest c h = counted_from p t.context (rest a t) c (h a t)
 on_counted p (Stops Wants t) rest c h = c
-on_counted p (Stops (Trapped w) t) rest c h = c
-on_counted p (Stops Spent t) rest c h = c
-on_counted p (Stops Astray t) rest c h = c
+on_counted p r rest c h = c
 
 spend_counted : (n : ℕ) (s : State) → Counted s.context (spend n s)
 spend_counted zero s = bounded_refl s.context
@@ -126,11 +124,8 @@ close_counted mode m founds lefts mine (Stops Spent now) c = omega arith
 close_counted mode m founds lefts mine (Stops Astray now) c = omega arith
 
 close_inner_counted : (outer mode : Mode) (old m : Memory) (mine : List Local) (r : Answer End) → Counted (Inside mode m) r → Counted (Inside outer old) (close_inner outer mine m r)
-close_inner_counted outer mode old m mine (Gives end now) c = tt
-close_inner_counted outer mode old m mine (Stops (Trapped k) now) c = tt
 close_inner_counted outer mode old m mine (Stops Wants now) c = c
-close_inner_counted outer mode old m mine (Stops Spent now) c = tt
-close_inner_counted outer mode old m mine (Stops Astray now) c = tt
+close_inner_counted outer mode old m mine r c = tt
 
 enter_counted : (mode : Mode) (run : Action End) → IsCounted run → (p : Context) (n : ℕ) (ls : List Local) (t : List ℕ) → Counted p (enter p mode run (record { ticks = n; locals = ls; context = p; text = t }))
 enter_counted mode run h (Outside [] lefts) n ls t = omega arith
@@ -157,15 +152,12 @@ counted_kept IsPiece = record {
 }
 
 wants_counted : (founds : List Memory) (r : Answer (Unit {0})) → Counted (Outside founds []) r → (outcome_of r).end ≡ Stopped Wants → length (outcome_of r).lefts ≡ length founds
-wants_counted founds (Gives u s) c e = absurd (cc)
-wants_counted founds (Stops (Trapped k) s) c e = absurd (cc)
-wants_counted founds (Stops Spent s) c e = absurd (cc)
-wants_counted founds (Stops Astray s) c e = absurd (cc)
 wants_counted founds (Stops Wants s) c e = at s.context c
   where
     at : (p : Context) → Wanting (Outside founds []) p → length (lefts_in p) ≡ length founds
     at (Outside f l) w = omega (arith, w)
     at (Inside mode m) w = absurd w
+wants_counted founds r c e = absurd (cc)
 
 lefts_bounded : (founds : List Memory) (p : Context) → Bounded (Outside founds []) p → length (lefts_in p) ≤ length founds
 lefts_bounded founds (Outside f l) b = omega (arith, b)

@@ -4,7 +4,7 @@ use Rattle.std.specs.Prelude.{if◌then◌else◌}
 use Rattle.lex.specs.declared.token.Scalar.{Scalar}
 use Rattle.syntax.specs.declared.tree.Mode.{Mode}
 use Rattle.syntax.specs.declared.tree.Mode.TheVariants.{Atomic, Relaxed}
-use Rattle.syntax.specs.declared.numbers.Halt.TheVariants.{Trapped, Wants, Spent, Astray}
+use Rattle.syntax.specs.declared.numbers.Halt.TheVariants.{Trapped}
 use Rattle.syntax.specs.Tree as Tree
 use Rattle.syntax.specs.Tree.{Simple, Evaluate, Assign, Adjust, Declarator, Stmt, Stmts, Empty, Declare, Do, Block, Print, If, IfElse, While, DoWhile, For, Break, Continue, Return, Transaction, Cancel, Program}
 use Rattle.syntax.specs.Names.{Local}
@@ -148,9 +148,7 @@ leave_ends l c (suc n) founds lefts left now h = h
 close_ends : (l c : Bool) (founds lefts : List Memory) (mine : List Local) (found : Memory) (r : Answer End) → WhereGiven r (λ end now. Fits l true end) → WhereGiven (close founds lefts mine found r) (λ end now. Fits l c end)
 close_ends l c founds lefts mine found (Gives end now) h = leave_ends l c now.ticks founds lefts (left_by mine found end now) now (left_ends l c mine found end now h)
 close_ends l c founds lefts mine found (Stops (Trapped k) now) h = tt
-close_ends l c founds lefts mine found (Stops Wants now) h = tt
-close_ends l c founds lefts mine found (Stops Spent now) h = tt
-close_ends l c founds lefts mine found (Stops Astray now) h = tt
+close_ends l c founds lefts mine found r h = tt
 
 inner_ends : (l c : Bool) (outer : Mode) (mine : List Local) (found : Memory) (r : Answer End) → WhereGiven r (λ end now. Fits l true end) → WhereGiven (close_inner outer mine found r) (λ end now. Fits l c end)
 inner_ends l c outer mine found (Gives end now) h = left_ends l c mine found end now h

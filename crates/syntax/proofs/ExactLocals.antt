@@ -7,9 +7,9 @@ use Rattle.syntax.specs.declared.tree.BinaryOp.{BinaryOp}
 use Rattle.syntax.specs.declared.tree.Mode.{Mode}
 use Rattle.syntax.specs.declared.tree.Mode.TheVariants.{Atomic, Relaxed}
 use Rattle.syntax.specs.declared.numbers.Halt.{Halt}
-use Rattle.syntax.specs.declared.numbers.Halt.TheVariants.{Trapped, Wants, Spent, Astray}
+use Rattle.syntax.specs.declared.numbers.Halt.TheVariants.{Trapped, Spent, Astray}
 use Rattle.syntax.specs.declared.numbers.Value.{Value}
-use Rattle.syntax.specs.Tree.{Expr, Variable, Constant, Element, Call, Parenthesized, Cast, Unary, Binary, Logical, Conditional, Simple, Evaluate, Assign, Adjust, Declarator, Stmt, Empty, Declare, Do, Block, Print, If, IfElse, While, DoWhile, For, Break, Continue, Return, Transaction, Cancel, Program}
+use Rattle.syntax.specs.Tree.{Expr, Variable, Element, Simple, Evaluate, Assign, Adjust, Declarator, Stmt, Empty, Declare, Do, Block, Print, If, IfElse, While, DoWhile, For, Break, Continue, Return, Transaction, Cancel, Program}
 use Rattle.syntax.specs.Names.{Local}
 use Rattle.syntax.specs.Formats.{Piece, Literal, Figure, pieces}
 use Rattle.syntax.specs.Types.{Scope, running_scope}
@@ -145,9 +145,7 @@ leave_same (suc n) mine founds lefts left now h = h
 close_same : (founds lefts : List Memory) (mine : List Local) (found : Memory) (r : Answer End) → WhereGiven r (λ a now. map shape now.locals ≡ map shape mine) → WhereGiven (close founds lefts mine found r) (λ a now. map shape now.locals ≡ map shape mine)
 close_same founds lefts mine found (Gives end now) h = leave_same now.ticks mine founds lefts (left_by mine found end now) now (left_same mine found end now h)
 close_same founds lefts mine found (Stops (Trapped k) now) h = tt
-close_same founds lefts mine found (Stops Wants now) h = tt
-close_same founds lefts mine found (Stops Spent now) h = tt
-close_same founds lefts mine found (Stops Astray now) h = tt
+close_same founds lefts mine found r h = tt
 
 inner_same : (outer : Mode) (mine : List Local) (found : Memory) (r : Answer End) → WhereGiven r (λ a now. map shape now.locals ≡ map shape mine) → WhereGiven (close_inner outer mine found r) (λ a now. map shape now.locals ≡ map shape mine)
 inner_same outer mine found (Gives end now) h = left_same mine found end now h
@@ -170,14 +168,7 @@ module _ (p : Program) (call : Caller) (h : (x : List ℕ) (vs : List Value) →
   spot_same : (e : Expr) → KeepsShape (spot p call e)
   spot_same (Variable x) = leaves_same (named_holds p call h x.text)
   spot_same (Element x i at) = on_same (expr_same i) (λ k. leaves_same (element_holds p call h x.text k))
-  spot_same (Constant n t at) = stop_same Astray
-  spot_same (Call f es at) = stop_same Astray
-  spot_same (Parenthesized e at) = stop_same Astray
-  spot_same (Cast t e at) = stop_same Astray
-  spot_same (Unary op e at) = stop_same Astray
-  spot_same (Binary op a b at) = stop_same Astray
-  spot_same (Logical op a b at) = stop_same Astray
-  spot_same (Conditional c a b at) = stop_same Astray
+  spot_same e = stop_same Astray
 
   changed_same : (at : Spot) {by : Action Value} → KeepsShape by → (op : BinaryOp) → KeepsShape (changed p call at by op)
   changed_same at g op = on_same (leaves_same (fetch_holds at)) (λ old. on_same g (λ v. on_same (leaves_same (or_trap_holds _)) (λ new. assign_same at new)))

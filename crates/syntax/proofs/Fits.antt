@@ -6,7 +6,7 @@ use Rattle.lex.specs.declared.token.Scalar.{Scalar}
 use Rattle.syntax.specs.declared.tree.UnaryOp.{UnaryOp}
 use Rattle.syntax.specs.declared.tree.UnaryOp.TheVariants.{Negate, Keep, Not, Complement}
 use Rattle.syntax.specs.declared.tree.BinaryOp.{BinaryOp}
-use Rattle.syntax.specs.declared.tree.BinaryOp.TheVariants.{Or, Xor, And, Equal, NotEqual, Less, Greater, LessEqual, GreaterEqual, ShiftLeft, ShiftRight, Add, Subtract, Multiply, Divide, Remainder}
+use Rattle.syntax.specs.declared.tree.BinaryOp.TheVariants.{ShiftLeft, ShiftRight}
 use Rattle.syntax.specs.Tree.{Expr, Variable, Constant, Element, Call, Parenthesized, Cast, Unary, Binary, Logical, Conditional, Declarator, Program}
 use Rattle.syntax.specs.Names.{Local, newest_from}
 use Rattle.syntax.specs.Types.{Known, Unknown, Number, Array, Callable, Scope, file_scope, with_number, number_type, element_type, call_type, common_of, unary_type, binary_type, type_of, running_scope}
@@ -46,11 +46,8 @@ element_has_one (Array t n) g h = refl
 element_has_one (Callable r ts) g h = absurd (cc)
 
 call_has_one : (k : Known) → IsTrue (not (is_unknown k)) → IsTrue (may_be_function k) → IsTrue (not (gives_nothing k)) → HasOne (call_type k)
-call_has_one Unknown g h e = absurd (cc)
-call_has_one (Number t) g h e = absurd (cc)
-call_has_one (Array t n) g h e = absurd (cc)
-call_has_one (Callable None ts) g h e = absurd (cc)
 call_has_one (Callable (Some t) ts) g h e = refl
+call_has_one k g h e = absurd (cc)
 
 unary_has_one : (op : UnaryOp) (o : Option Scalar) → HasOne o → HasOne (unary_type op o)
 unary_has_one Negate o h = h
@@ -71,20 +68,7 @@ result_has_one f None o' g h = absurd (cc)
 binary_has_one : (op : BinaryOp) (o o' : Option Scalar) → HasOne o → HasOne o' → HasOne (binary_type op o o')
 binary_has_one ShiftLeft o o' g h = g
 binary_has_one ShiftRight o o' g h = g
-binary_has_one Or o o' g h = result_has_one _ o o' g h
-binary_has_one Xor o o' g h = result_has_one _ o o' g h
-binary_has_one And o o' g h = result_has_one _ o o' g h
-binary_has_one Equal o o' g h = result_has_one _ o o' g h
-binary_has_one NotEqual o o' g h = result_has_one _ o o' g h
-binary_has_one Less o o' g h = result_has_one _ o o' g h
-binary_has_one Greater o o' g h = result_has_one _ o o' g h
-binary_has_one LessEqual o o' g h = result_has_one _ o o' g h
-binary_has_one GreaterEqual o o' g h = result_has_one _ o o' g h
-binary_has_one Add o o' g h = result_has_one _ o o' g h
-binary_has_one Subtract o o' g h = result_has_one _ o o' g h
-binary_has_one Multiply o o' g h = result_has_one _ o o' g h
-binary_has_one Divide o o' g h = result_has_one _ o o' g h
-binary_has_one Remainder o o' g h = result_has_one _ o o' g h
+binary_has_one op o o' g h = result_has_one _ o o' g h
 
 module _ (known : Scope) where
   pub has_type : (e : Expr) → TypedExpr known e → IsTrue (not (is_void known e)) → HasOne (type_of known e)

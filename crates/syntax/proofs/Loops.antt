@@ -18,14 +18,12 @@ module _ (turn : Action (Option End)) (falls : (s : State) → (state_of (turn s
   -- with any number of turns that is at least the ticks
   enough : (n m k : ℕ) (ls : List Local) (c : Context) (t : List ℕ) → k ≤ n → k ≤ m → turns n turn (state k ls c t) ≡ turns m turn (state k ls c t)
   enough zero zero zero ls c t a b = refl
-  enough zero (suc m) zero ls c t a b = refl
-  enough (suc n) zero zero ls c t a b = refl
-  enough (suc n) (suc m) zero ls c t a b = refl
   enough (suc n) (suc m) (suc k) ls c t a b =
       going n m k (turn (state k ls c t)) (falls (state k ls c t)) (omega (arith, a)) (omega (arith, b))
       (λ s d e. enough n m s.ticks s.locals s.context s.text d e)
   enough zero m (suc k) ls c t a b = absurd (omega (arith, a))
   enough (suc n) zero (suc k) ls c t a b = absurd (omega (arith, b))
+  enough n m k ls c t a b = refl
 
   after_same : (n k : ℕ) (r : Answer (Option End)) → (state_of r).ticks ≤ k → k ≤ n → go_on r (after_turn (turns n turn)) ≡ go_on r (after_turn (loop turn))
   after_same n k (Gives None s) f a = enough n s.ticks s.ticks s.locals s.context s.text (omega (arith, f, a)) (omega arith)

@@ -6,10 +6,10 @@ use Rattle.syntax.specs.declared.tree.BinaryOp.{BinaryOp}
 use Rattle.syntax.specs.declared.tree.Mode.{Mode}
 use Rattle.syntax.specs.declared.tree.Mode.TheVariants.{Atomic, Relaxed}
 use Rattle.syntax.specs.declared.numbers.Halt.{Halt}
-use Rattle.syntax.specs.declared.numbers.Halt.TheVariants.{Trapped, Wants, Spent, Astray}
+use Rattle.syntax.specs.declared.numbers.Halt.TheVariants.{Trapped, Spent, Astray}
 use Rattle.syntax.specs.declared.numbers.Value.{Value}
 use Rattle.syntax.specs.Tree as Tree
-use Rattle.syntax.specs.Tree.{Expr, Variable, Constant, Element, Call, Parenthesized, Cast, Unary, Binary, Logical, Conditional, Simple, Evaluate, Assign, Adjust, Declarator, Start, Nothing, Declares, Does, Stmt, Stmts, Empty, Declare, Do, Block, Print, If, IfElse, While, DoWhile, For, Break, Continue, Return, Transaction, Cancel, Program}
+use Rattle.syntax.specs.Tree.{Expr, Variable, Element, Simple, Evaluate, Assign, Adjust, Declarator, Start, Nothing, Declares, Does, Stmt, Stmts, Empty, Declare, Do, Block, Print, If, IfElse, While, DoWhile, For, Break, Continue, Return, Transaction, Cancel, Program}
 use Rattle.syntax.specs.Names.{Local, with_word}
 use Rattle.syntax.specs.Formats.{Piece, Literal, Figure, pieces}
 use Rattle.syntax.specs.Behaviours.{Memory}
@@ -163,9 +163,7 @@ leave_older (suc n) mine founds lefts left now h = h
 close_older : (founds lefts : List Memory) (mine : List Local) (found : Memory) (r : Answer End) → WhereGiven r (λ a now. BeginsWithLocals mine now.locals) → WhereGiven (close founds lefts mine found r) (λ a now. BeginsWithLocals mine now.locals)
 close_older founds lefts mine found (Gives end now) h = leave_older now.ticks mine founds lefts (left_by mine found end now) now (left_older mine found end now h)
 close_older founds lefts mine found (Stops (Trapped k) now) h = tt
-close_older founds lefts mine found (Stops Wants now) h = tt
-close_older founds lefts mine found (Stops Spent now) h = tt
-close_older founds lefts mine found (Stops Astray now) h = tt
+close_older founds lefts mine found r h = tt
 
 inner_older : (outer : Mode) (mine : List Local) (found : Memory) (r : Answer End) → WhereGiven r (λ a now. BeginsWithLocals mine now.locals) → WhereGiven (close_inner outer mine found r) (λ a now. BeginsWithLocals mine now.locals)
 inner_older outer mine found (Gives end now) h = left_older mine found end now h
@@ -188,14 +186,7 @@ module _ (p : Program) (call : Caller) (h : (x : List ℕ) (vs : List Value) →
   spot_older : (e : Expr) → KeepsOlder (spot p call e)
   spot_older (Variable x) = leaves_older (named_holds p call h x.text)
   spot_older (Element x i at) = on_older (expr_older i) (λ k. leaves_older (element_holds p call h x.text k))
-  spot_older (Constant n t at) = stop_older Astray
-  spot_older (Call f es at) = stop_older Astray
-  spot_older (Parenthesized e at) = stop_older Astray
-  spot_older (Cast t e at) = stop_older Astray
-  spot_older (Unary op e at) = stop_older Astray
-  spot_older (Binary op a b at) = stop_older Astray
-  spot_older (Logical op a b at) = stop_older Astray
-  spot_older (Conditional c a b at) = stop_older Astray
+  spot_older e = stop_older Astray
 
   changed_older : (at : Spot) {by : Action Value} → KeepsOlder by → (op : BinaryOp) → KeepsOlder (changed p call at by op)
   changed_older at g op = on_older (leaves_older (fetch_holds at)) (λ old. on_older g (λ v. on_older (leaves_older (or_trap_holds _)) (λ new. assign_older at new)))

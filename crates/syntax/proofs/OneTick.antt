@@ -79,11 +79,8 @@ inside_leaves (Inside mode m) q h o = o
 
 -- without ticks a run shows nothing, and does not trap
 abbrev NoTrap : {A : Type 0} → Answer A → Type 0
-NoTrap (Gives a s) = Unit {0}
 NoTrap (Stops (Trapped k) s) = ⊥
-NoTrap (Stops Wants s) = Unit {0}
-NoTrap (Stops Spent s) = Unit {0}
-NoTrap (Stops Astray s) = Unit {0}
+NoTrap _ = Unit {0}
 
 record IsIdle {A : Type 0} (s : State) (r : Answer A) : Type 0 where
   ticks : (state_of r).ticks ≡ 0
@@ -164,9 +161,7 @@ module _ (program : Program) where
   on_shown : {A B : Type 0} (s : State) (r : Answer A) (rest : A → Action B) → (state_of r).ticks ≡ 0 → Shown s r → ((a : A) (t : State) → t.ticks ≡ 0 → IsIdle t (rest a t)) → ((state_of (go_on r rest)).ticks ≡ 0) × Shown s (go_on r rest)
   on_shown s (Gives a t) rest e x h = ((h a t e).ticks, shown_then_idle s t a (rest a t) x (h a t e))
   on_shown s (Stops (Trapped k) t) rest e x h = (e, x)
-  on_shown s (Stops Wants t) rest e x h = (e, x)
-  on_shown s (Stops Spent t) rest e x h = (e, x)
-  on_shown s (Stops Astray t) rest e x h = (e, x)
+  on_shown s r rest e x h = (e, x)
 
   on_one : {A B : Type 0} (n : ℕ) (r more : Answer A) (rest rest' : A → Action B) → (state_of r).ticks ≤ n → OneMore r more → ((a : A) (t : State) → t.ticks ≡ 0 → IsIdle t (rest' a t)) → ((a : A) (t : State) → t.ticks ≤ n → OneMore (rest a t) (rest' a (later t))) → OneMore (go_on r rest) (go_on more rest')
   on_one n (Gives a t) more rest rest' b e i h = subst (λ x. OneMore (rest a t) (go_on x rest')) (sym e) (h a t b)
@@ -407,16 +402,12 @@ module _ (program : Program) where
       close_falls : (n : ℕ) (r : Answer End) → (state_of r).ticks ≤ n → (state_of (close founds lefts mine found r)).ticks ≤ n
       close_falls n (Gives end now) b = let c : (state_of (leave_at now.ticks now founds lefts (left_by mine found end now))).ticks ≤ now.ticks = leave_falls now.ticks now (left_by mine found end now) refl in omega (arith, b, c)
       close_falls n (Stops (Trapped k) now) b = b
-      close_falls n (Stops Wants now) b = b
-      close_falls n (Stops Spent now) b = b
-      close_falls n (Stops Astray now) b = b
+      close_falls n r b = b
 
       close_side : (f l : List Memory) (r : Answer End) → SameSide (Outside f l) (state_of (close founds lefts mine found r)).context
       close_side f l (Gives end now) = leave_side now.ticks now (left_by mine found end now) f l
       close_side f l (Stops (Trapped k) now) = tt
-      close_side f l (Stops Wants now) = tt
-      close_side f l (Stops Spent now) = tt
-      close_side f l (Stops Astray now) = tt
+      close_side f l r = tt
 
       close_idle : (mode : Mode) (k : ℕ) (ls : List Local) (t : List ℕ) (r : Answer End) → IsIdle (state k ls (Inside mode found) t) r → IsIdle (state k ls (Outside (found ∷ founds) lefts) t) (close founds lefts mine found r)
       close_idle mode k ls t (Gives end now) g = leave_idle k ls t found now.ticks now (left_by mine found end now) g.ticks g.ticks g.text

@@ -2,7 +2,7 @@
 use Rattle.std.proofs.Common.{ℕ, zero, suc, ◌≤◌, List, [], ◌∷◌, ◌++◌, Option, Some, None, arith}
 use Rattle.syntax.specs.declared.tree.Mode.{Mode}
 use Rattle.syntax.specs.declared.tree.Mode.TheVariants.{Atomic, Relaxed}
-use Rattle.syntax.specs.declared.numbers.Halt.TheVariants.{Trapped, Wants, Spent, Astray}
+use Rattle.syntax.specs.declared.numbers.Halt.TheVariants.{Trapped}
 use Rattle.syntax.specs.Names.{Local}
 use Rattle.syntax.specs.Behaviours.{Memory}
 use Rattle.syntax.specs.Actions.{Context, Outside, Inside, State, Answer, Gives, Stops, state_of, Action, stop, go_on, ◌>>=◌, spend, tick, load_at, store_at, may_print_at, write}
@@ -52,9 +52,7 @@ leave_falls n (suc k) now founds lefts left h below = omega (arith, below)
 close_falls : (n : ℕ) (m : Memory) (founds lefts : List Memory) (mine : List Local) (r : Answer End) → (state_of r).ticks ≤ n → (state_of (close founds lefts mine m r)).ticks ≤ n
 close_falls n m founds lefts mine (Gives end now) c = leave_falls n now.ticks now founds lefts (left_by mine m end now) c c
 close_falls n m founds lefts mine (Stops (Trapped k) now) c = c
-close_falls n m founds lefts mine (Stops Wants now) c = c
-close_falls n m founds lefts mine (Stops Spent now) c = c
-close_falls n m founds lefts mine (Stops Astray now) c = c
+close_falls n m founds lefts mine r c = c
 
 close_inner_falls : (n : ℕ) (outer : Mode) (m : Memory) (mine : List Local) (r : Answer End) → (state_of r).ticks ≤ n → (state_of (close_inner outer mine m r)).ticks ≤ n
 close_inner_falls n outer m mine (Gives end now) c = c

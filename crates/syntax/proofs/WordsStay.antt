@@ -14,7 +14,7 @@ use Rattle.syntax.specs.declared.tree.Mode.TheVariants.{Atomic, Relaxed}
 use Rattle.syntax.specs.declared.numbers.Trap.{Trap}
 use Rattle.syntax.specs.declared.numbers.Trap.TheVariants.{Index, Frames}
 use Rattle.syntax.specs.declared.numbers.Halt.{Halt}
-use Rattle.syntax.specs.declared.numbers.Halt.TheVariants.{Trapped, Wants, Spent, Astray}
+use Rattle.syntax.specs.declared.numbers.Halt.TheVariants.{Trapped, Spent, Astray}
 use Rattle.syntax.specs.declared.numbers.Value.{Value}
 use Rattle.syntax.specs.Tree as Tree
 use Rattle.syntax.specs.Tree.{Expr, Exprs, Variable, Constant, Element, Call, Parenthesized, Cast, Unary, Binary, Logical, Conditional, Simple, Evaluate, Assign, Adjust, Declarator, Start, Nothing, Declares, Does, Stmt, Stmts, Empty, Declare, Do, Block, Print, If, IfElse, While, DoWhile, For, Break, Continue, Return, Transaction, Cancel, Parameter, Program}
@@ -267,9 +267,7 @@ module _ (cells : ℕ) where
   close_keeps : (mode : Mode) (founds lefts : List Memory) (mine : List Local) (m : Memory) (r : Answer End) → AreLocals mine → HoldsWords cells m → AllByRecursion (HoldsWords cells) (founds ++ lefts) → WhereGiven r (λ end now. StaysIn (Inside mode m) now.context) → WhereGiven r (λ end now. IsEnd end × HasWords cells now) → WhereGiven (close founds lefts mine m r) (λ end now. IsEnd end × HasWords cells now)
   close_keeps mode founds lefts mine m (Gives end now) h k ms in_ w = leave_keeps now.ticks founds lefts (left_by mine m end now) now (is_left mode mine m end now h k in_ w.0 w.1) ms
   close_keeps mode founds lefts mine m (Stops (Trapped t) now) h k ms in_ w = tt
-  close_keeps mode founds lefts mine m (Stops Wants now) h k ms in_ w = tt
-  close_keeps mode founds lefts mine m (Stops Spent now) h k ms in_ w = tt
-  close_keeps mode founds lefts mine m (Stops Astray now) h k ms in_ w = tt
+  close_keeps mode founds lefts mine m r h k ms in_ w = tt
 
   inner_keeps : (outer mode : Mode) (mine : List Local) (m : Memory) (r : Answer End) → AreLocals mine → HoldsWords cells m → WhereGiven r (λ end now. StaysIn (Inside mode m) now.context) → WhereGiven r (λ end now. IsEnd end × HasWords cells now) → WhereGiven (close_inner outer mine m r) (λ end now. IsEnd end × HasWords cells now)
   inner_keeps outer mode mine m (Gives end now) h k in_ w =
@@ -349,14 +347,7 @@ module _ (cells : ℕ) where
     spot_keeps : (e : Expr) → Keeps IsAny (spot p call e)
     spot_keeps (Variable x) = named_keeps x.text
     spot_keeps (Element x i at) = on IsValue IsAny (expr_keeps i) (λ k _. element_keeps x.text k)
-    spot_keeps (Constant n t at) = stop_keeps IsAny Astray
-    spot_keeps (Call f es at) = stop_keeps IsAny Astray
-    spot_keeps (Parenthesized e at) = stop_keeps IsAny Astray
-    spot_keeps (Cast t e at) = stop_keeps IsAny Astray
-    spot_keeps (Unary op e at) = stop_keeps IsAny Astray
-    spot_keeps (Binary op a b at) = stop_keeps IsAny Astray
-    spot_keeps (Logical op a b at) = stop_keeps IsAny Astray
-    spot_keeps (Conditional c a b at) = stop_keeps IsAny Astray
+    spot_keeps e = stop_keeps IsAny Astray
 
     changed_keeps : (at : Spot) {by : Action Value} → Keeps IsValue by → (op : BinaryOp) → Keeps IsAny (changed p call at by op)
     changed_keeps at k op = on IsValue IsAny (fetch_keeps at) (λ old _. on IsValue IsAny k (λ v _. on IsValue IsAny (or_trap_keeps IsValue (binary op old v) (binary_word op old v)) (λ new _. assign_keeps at new)))

@@ -17,15 +17,11 @@ or_known (Callable r ts) k = Callable r ts
 
 or_unknown : (k : Known) → or_known k Unknown ≡ k
 or_unknown Unknown = refl
-or_unknown (Number t) = refl
-or_unknown (Array t n) = refl
-or_unknown (Callable r ts) = refl
+or_unknown k = refl
 
 or_or_known : (a b c : Known) → or_known (or_known a b) c ≡ or_known a (or_known b c)
 or_or_known Unknown b c = refl
-or_or_known (Number t) b c = refl
-or_or_known (Array t n) b c = refl
-or_or_known (Callable r ts) b c = refl
+or_or_known a b c = refl
 
 pub unknown_is : (k : Known) → is_unknown k ≡ true → k ≡ Unknown
 unknown_is Unknown h = refl

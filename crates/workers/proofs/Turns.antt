@@ -28,11 +28,7 @@ use Rattle.workers.specs.Works.{GoesOnFrom, Works}
 
 cost_is : (x : Access) → cost x ≡ (if is_local x then 0 else 1)
 cost_is Local = refl
-cost_is LoadLock = refl
-cost_is (LoadWord a) = refl
-cost_is (Swap from) = refl
-cost_is (StoreWord a v) = refl
-cost_is (StoreLock n) = refl
+cost_is x = refl
 
 -- an access more can be counted
 pub room_for : (x : Access) (count accesses steps : ℕ) → count ≡ accesses → accesses ≤ steps → steps + 1 < 2 ^ 64 → count + cost x < 2 ^ 64

@@ -11,7 +11,7 @@ use Rattle.bytecode.specs.Code.{Code}
 use Rattle.bytecode.specs.Initial.{initial_of}
 use Rattle.bytecode.specs.Valid.{bounds_of, cells_of}
 use Rattle.norec_core.specs.declared.step.Access.{Access}
-use Rattle.norec_core.specs.declared.step.Access.TheVariants.{LoadLock, LoadWord, Local, StoreLock, StoreWord, Swap}
+use Rattle.norec_core.specs.declared.step.Access.TheVariants.{LoadWord, Swap}
 use Rattle.norec_core.specs.declared.step.Answer.TheVariants.{Lost, Won}
 use Rattle.norec_core.specs.Accesses.{IsAnswerTo}
 use Rattle.machine.specs.Worlds.{answer}
@@ -31,29 +31,22 @@ word_at (suc n) (w ∷ ws) zero is = is.0
 word_at (suc n) (w ∷ ws) (suc a) is = word_at n ws a is.1
 
 pub word_fits : (code : Code) (x : Access) (lock : ℕ) (words : List ℕ) → IsMemory (bounds_of code) words → IsWordOf x (answer lock words x)
-word_fits code Local lock words is = tt
-word_fits code LoadLock lock words is = tt
 word_fits code (LoadWord a) lock words is = word_at (cells_of code) words a is
 word_fits code (Swap from) lock words is = at (lock == from)
   where
     at : (b : Bool) → IsWordOf (Swap from) (if b then Won else Lost lock)
     at true = tt
     at false = tt
-word_fits code (StoreWord a v) lock words is = tt
-word_fits code (StoreLock n) lock words is = tt
+word_fits code x lock words is = tt
 
 -- the answer is one to its access
 pub answer_fits : (x : Access) (lock : ℕ) (words : List ℕ) → IsAnswerTo x (answer lock words x)
-answer_fits Local lock words = tt
-answer_fits LoadLock lock words = tt
-answer_fits (LoadWord a) lock words = tt
 answer_fits (Swap from) lock words = at (eqb_tells lock from)
   where
     at : ((lock == from) ≡ true) × (lock ≡ from) ⊎ ((lock == from) ≡ false) × (lock ≢ from) → IsAnswerTo (Swap from) (if lock == from then Won else Lost lock)
     at (inl f) = subst (λ (b : Bool). IsAnswerTo (Swap from) (if b then Won else Lost lock)) (sym f.0) tt
     at (inr f) = subst (λ (b : Bool). IsAnswerTo (Swap from) (if b then Won else Lost lock)) (sym f.0) f.1
-answer_fits (StoreWord a v) lock words = tt
-answer_fits (StoreLock n) lock words = tt
+answer_fits x lock words = tt
 
 -- a memory of the code has a word for each cell
 pub memory_length : (n : ℕ) (ws : List ℕ) → IsMemory (replicate n (2 ^ 32)) ws → length ws ≡ n

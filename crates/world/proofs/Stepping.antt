@@ -103,11 +103,7 @@ module _ (code : Code) where
 -- a step makes at most one access
 at_most_one : (x : Access) → cost x ≤ 1
 at_most_one Local = omega arith
-at_most_one LoadLock = omega arith
-at_most_one (LoadWord a) = omega arith
-at_most_one (Swap from) = omega arith
-at_most_one (StoreWord a v) = omega arith
-at_most_one (StoreLock n) = omega arith
+at_most_one x = omega arith
 
 module _ (s : Simulation) (lock : ℕ) (words : List ℕ) (threads : List ThreadState) (accesses : ℕ) (k : IsWorldOf s lock words threads accesses) where
   abbrev w : World Configuration

@@ -123,13 +123,10 @@ keyword_parts k e = passes_at at_letter (λ k. list_all is_part (spelling k)) re
 
 -- no token of one spelling begins like anything but a word, a comment or a punctuator
 abbrev pub begins_fixed : Class → Bool
-begins_fixed space = false
 begins_fixed letter = true
-begins_fixed digit = false
-begins_fixed number = false
-begins_fixed quotes = false
 begins_fixed slash = true
 begins_fixed other = true
+begins_fixed _ = false
 
 pub no_fixed : (k : Fixed) (c : Class) → class (spelling k) ≡ c → begins_fixed c ≡ false → ⊥
 no_fixed k c e f =
@@ -142,56 +139,29 @@ slash_length k e = leb-true (length (spelling k)) 2 (passes_at at_slash (λ k. n
 
 -- what a shape is, by the class of its first byte
 pub word_only : (w : List ℕ) (x : Shape w) → shape_class x ≡ letter → Only is_part w
-word_only w (s.white h) e = absurd cc
-word_only w (s.comment h) e = absurd cc
-word_only w (s.line h) e = absurd cc
-word_only w (s.open_comment h) e = absurd cc
-word_only w (s.directive h) e = absurd cc
 word_only w (s.word h) e = h.2
-word_only w (s.constant c) e = absurd cc
-word_only w (s.string i h) e = absurd cc
-word_only w (s.quote h) e = absurd cc
 word_only w (s.fixed m h) e = subst (Only is_part) (sym h) (only_from is_part (spelling m) (keyword_parts m e))
+word_only w x e = absurd cc
 
 pub constant_only : (w : List ℕ) (x : Shape w) → shape_class x ≡ digit → Constant w
-constant_only w (s.white h) e = absurd cc
-constant_only w (s.comment h) e = absurd cc
-constant_only w (s.line h) e = absurd cc
-constant_only w (s.open_comment h) e = absurd cc
-constant_only w (s.directive h) e = absurd cc
-constant_only w (s.word h) e = absurd cc
 constant_only w (s.constant c) e = c
-constant_only w (s.string i h) e = absurd cc
-constant_only w (s.quote h) e = absurd cc
 constant_only w (s.fixed m h) e = absurd (no_fixed m digit e refl)
+constant_only w x e = absurd cc
 
 pub directive_only : (w : List ℕ) (x : Shape w) → shape_class x ≡ number → IsDirective w
-directive_only w (s.white h) e = absurd cc
-directive_only w (s.comment h) e = absurd cc
-directive_only w (s.line h) e = absurd cc
-directive_only w (s.open_comment h) e = absurd cc
 directive_only w (s.directive h) e = h
-directive_only w (s.word h) e = absurd cc
-directive_only w (s.constant c) e = absurd cc
-directive_only w (s.string i h) e = absurd cc
-directive_only w (s.quote h) e = absurd cc
 directive_only w (s.fixed m h) e = absurd (no_fixed m number e refl)
+directive_only w x e = absurd cc
 
 pub data Quoted (w : List ℕ) : Type 0 where
   string : (inner : List ℕ) → IsString w inner → Quoted w
   alone : w ≡ codes "\"" → Quoted w
 
 pub quotes_only : (w : List ℕ) (x : Shape w) → shape_class x ≡ quotes → Quoted w
-quotes_only w (s.white h) e = absurd cc
-quotes_only w (s.comment h) e = absurd cc
-quotes_only w (s.line h) e = absurd cc
-quotes_only w (s.open_comment h) e = absurd cc
-quotes_only w (s.directive h) e = absurd cc
-quotes_only w (s.word h) e = absurd cc
-quotes_only w (s.constant c) e = absurd cc
 quotes_only w (s.string i h) e = string i h
 quotes_only w (s.quote h) e = alone h
 quotes_only w (s.fixed m h) e = absurd (no_fixed m quotes e refl)
+quotes_only w x e = absurd cc
 
 pub data Slashed (w : List ℕ) : Type 0 where
   closed : IsComment w → Slashed w
@@ -200,28 +170,15 @@ pub data Slashed (w : List ℕ) : Type 0 where
   fixed : (k : Fixed) → class (spelling k) ≡ slash → w ≡ spelling k → Slashed w
 
 pub slash_only : (w : List ℕ) (x : Shape w) → shape_class x ≡ slash → Slashed w
-slash_only w (s.white h) e = absurd cc
 slash_only w (s.comment h) e = closed h
 slash_only w (s.line h) e = line h
 slash_only w (s.open_comment h) e = unclosed h
-slash_only w (s.directive h) e = absurd cc
-slash_only w (s.word h) e = absurd cc
-slash_only w (s.constant c) e = absurd cc
-slash_only w (s.string i h) e = absurd cc
-slash_only w (s.quote h) e = absurd cc
 slash_only w (s.fixed m h) e = fixed m e h
+slash_only w x e = absurd cc
 
 pub other_only : (w : List ℕ) (x : Shape w) → shape_class x ≡ other → (k : Fixed) × (w ≡ spelling k)
-other_only w (s.white h) e = absurd cc
-other_only w (s.comment h) e = absurd cc
-other_only w (s.line h) e = absurd cc
-other_only w (s.open_comment h) e = absurd cc
-other_only w (s.directive h) e = absurd cc
-other_only w (s.word h) e = absurd cc
-other_only w (s.constant c) e = absurd cc
-other_only w (s.string i h) e = absurd cc
-other_only w (s.quote h) e = absurd cc
 other_only w (s.fixed m h) e = (m, h)
+other_only w x e = absurd cc
 
 -- the class of what stands at the front is that of the text
 pub front_class : (rest : List ℕ) (n : ℕ) → 0 < n → (x : Shape (take n rest)) → shape_class x ≡ class rest

@@ -78,41 +78,16 @@ clash b t f = cc
 
 one_flaw : (before w after : List ℕ) (at len : ℕ) (f g : LexFault) (x : Flaw before w after at len f) (y : Flaw before w after at len g) → flaw_class x ≡ flaw_class y → f ≡ g
 one_flaw before w after at len x y (misplaced d f) (misplaced d2 f2) same = refl
-one_flaw before w after at len x y (misplaced d f) (glued t2 c2 e2 g2) same = absurd cc
-one_flaw before w after at len x y (misplaced d f) (large c2 e2) same = absurd cc
-one_flaw before w after at len x y (misplaced d f) (unclosed o2) same = absurd cc
-one_flaw before w after at len x y (misplaced d f) (quote q2) same = absurd cc
 one_flaw before w after at len x y (misplaced d f) (unknown d2 f2 i2) same = absurd (f f2)
-one_flaw before w after at len x y (glued t c e g) (misplaced d2 f2) same = absurd cc
 one_flaw before w after at len x y (glued t c e g) (glued t2 c2 e2 g2) same = refl
 one_flaw before w after at len x y (glued t c e g) (large c2 e2) same = absurd (some_none (typed c) e (same_type c c2 ∙ e2))
-one_flaw before w after at len x y (glued t c e g) (unclosed o2) same = absurd cc
-one_flaw before w after at len x y (glued t c e g) (quote q2) same = absurd cc
-one_flaw before w after at len x y (glued t c e g) (unknown d2 f2 i2) same = absurd cc
-one_flaw before w after at len x y (large c e) (misplaced d2 f2) same = absurd cc
 one_flaw before w after at len x y (large c e) (glued t2 c2 e2 g2) same = absurd (some_none (typed c2) e2 (same_type c2 c ∙ e))
 one_flaw before w after at len x y (large c e) (large c2 e2) same = refl
-one_flaw before w after at len x y (large c e) (unclosed o2) same = absurd cc
-one_flaw before w after at len x y (large c e) (quote q2) same = absurd cc
-one_flaw before w after at len x y (large c e) (unknown d2 f2 i2) same = absurd cc
-one_flaw before w after at len x y (unclosed o) (misplaced d2 f2) same = absurd cc
-one_flaw before w after at len x y (unclosed o) (glued t2 c2 e2 g2) same = absurd cc
-one_flaw before w after at len x y (unclosed o) (large c2 e2) same = absurd cc
 one_flaw before w after at len x y (unclosed o) (unclosed o2) same = refl
-one_flaw before w after at len x y (unclosed o) (quote q2) same = absurd cc
-one_flaw before w after at len x y (unclosed o) (unknown d2 f2 i2) same = absurd cc
-one_flaw before w after at len x y (quote q) (misplaced d2 f2) same = absurd cc
-one_flaw before w after at len x y (quote q) (glued t2 c2 e2 g2) same = absurd cc
-one_flaw before w after at len x y (quote q) (large c2 e2) same = absurd cc
-one_flaw before w after at len x y (quote q) (unclosed o2) same = absurd cc
 one_flaw before w after at len x y (quote q) (quote q2) same = refl
-one_flaw before w after at len x y (quote q) (unknown d2 f2 i2) same = absurd cc
 one_flaw before w after at len x y (unknown d f i) (misplaced d2 f2) same = absurd (f2 f)
-one_flaw before w after at len x y (unknown d f i) (glued t2 c2 e2 g2) same = absurd cc
-one_flaw before w after at len x y (unknown d f i) (large c2 e2) same = absurd cc
-one_flaw before w after at len x y (unknown d f i) (unclosed o2) same = absurd cc
-one_flaw before w after at len x y (unknown d f i) (quote q2) same = absurd cc
 one_flaw before w after at len x y (unknown d f i) (unknown d2 f2 i2) same = refl
+one_flaw before w after at len x y _ _ same = absurd cc
 
 found_at : (text : List ℕ) (at n : ℕ) (f : LexFault) → Longest (drop at text) n → (x : Found text at f) → Flaw (take at text) (take n (drop at text)) (drop n (drop at text)) at n f
 found_at text at n f l x = subst (λ (k : ℕ). Flaw (take at text) (take k (drop at text)) (drop k (drop at text)) at k f) (one_length (drop at text) x.len n x.long l) x.flaw

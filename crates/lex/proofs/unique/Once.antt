@@ -13,7 +13,7 @@ use Rattle.lex.specs.Bytes.{Only, starts, is_octal}
 use Rattle.lex.specs.Pieces.{is_digit_of, IsWritten, IsSuffix, Constant, typed, value, value_from, radix, Says, Gap, IsString, IsWord}
 use Rattle.lex.specs.Pieces as s
 use Rattle.lex.specs.Bytes as bytes
-use Rattle.lex.proofs.pieces.Classes.{Class, space, letter, digit, number, quotes, slash, other, class, begins_fixed, no_fixed, constant_first, white_class, letter_class, digit_class, byte_class}
+use Rattle.lex.proofs.pieces.Classes.{Class, space, letter, digit, number, quotes, slash, class, begins_fixed, no_fixed, constant_first, white_class, letter_class, digit_class, byte_class}
 use Rattle.lex.proofs.pieces.Directives.{run_is}
 use Rattle.lex.proofs.pieces.Strings.{inside_same}
 use Rattle.lex.proofs.pieces.Spellings.{one_fixed, reserved_not_fixed, reserved_class, slash_second}
@@ -192,10 +192,7 @@ abbrev pub TokenClass : Class → Type 0
 TokenClass letter = Unit {0}
 TokenClass digit = Unit {0}
 TokenClass quotes = Unit {0}
-TokenClass space = ⊥
-TokenClass number = ⊥
-TokenClass slash = ⊥
-TokenClass other = ⊥
+TokenClass _ = ⊥
 
 pub says_class : (w : List ℕ) (t : Terminal) → Says w t → TokenClass (class w) ⊎ ((k : Fixed) × (w ≡ spelling k))
 says_class w t (s.name h n r) = inl (subst TokenClass (sym (word_class w h)) tt)

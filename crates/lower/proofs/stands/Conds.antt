@@ -5,10 +5,10 @@ use Rattle.std.specs.Option.{IfSome}
 use Rattle.std.proofs.lemmas.List.{length-append, length-map, map-append}
 use Rattle.lex.specs.declared.token.Scalar.TheVariants.{Int}
 use Rattle.syntax.specs.declared.tree.BinaryOp.{BinaryOp}
-use Rattle.syntax.specs.declared.tree.BinaryOp.TheVariants.{Or, Xor, And, Equal, NotEqual, Less, Greater, LessEqual, GreaterEqual, ShiftLeft, ShiftRight, Add, Subtract, Multiply, Divide, Remainder}
+use Rattle.syntax.specs.declared.tree.BinaryOp.TheVariants.{Equal, NotEqual}
 use Rattle.syntax.specs.declared.tree.LogicalOp.{LogicalOp}
 use Rattle.syntax.specs.declared.tree.LogicalOp.TheVariants.{AndThen, OrElse}
-use Rattle.syntax.specs.Tree.{Expr, Variable, Constant, Element, Call, Parenthesized, Cast, Unary, Binary, Logical, Conditional}
+use Rattle.syntax.specs.Tree.{Expr, Constant}
 use Rattle.syntax.specs.Numbers.{common}
 use Rattle.bytecode.specs.declared.instr.Instr.{Instr}
 use Rattle.bytecode.specs.declared.instr.Instr.TheVariants as own
@@ -24,17 +24,8 @@ use Rattle.lower.proofs.stands.Standing.{Stand, front, behind, Grows, grows_same
 use Rattle.lower.proofs.stands.Emitting.{Emits}
 
 nought : (e : Expr) → is_nought e ≡ true → IsNought e
-nought (Variable x) h = absurd (cc)
 nought (Constant zero t at) h = (t, at, refl)
-nought (Constant (suc n) t at) h = absurd (cc)
-nought (Element x i at) h = absurd (cc)
-nought (Call f es at) h = absurd (cc)
-nought (Parenthesized e at) h = absurd (cc)
-nought (Cast t e at) h = absurd (cc)
-nought (Unary op e at) h = absurd (cc)
-nought (Binary op a b at) h = absurd (cc)
-nought (Logical op a b at) h = absurd (cc)
-nought (Conditional c a b at) h = absurd (cc)
+nought e h = absurd (cc)
 
 module _ (code : Code) (arguments : List ℕ) (size : ℕ) where
   -- a condition, and a jump behind it that is taken where it holds, or where it does not
@@ -164,20 +155,7 @@ module _ (code : Code) (arguments : List ℕ) (size : ℕ) where
       by : (n : Bool) → is_nought b ≡ n → IfSome (zero_tested (if n then Some false else None) other) (Decides T from free l)
       by true n = same_decides A T from free l other (λ met unmet t. make met unmet (nought b n, inl (refl, t))) h
       by false n = tt
-  zero_decides Or b A T from free l other h make = tt
-  zero_decides Xor b A T from free l other h make = tt
-  zero_decides And b A T from free l other h make = tt
-  zero_decides Less b A T from free l other h make = tt
-  zero_decides Greater b A T from free l other h make = tt
-  zero_decides LessEqual b A T from free l other h make = tt
-  zero_decides GreaterEqual b A T from free l other h make = tt
-  zero_decides ShiftLeft b A T from free l other h make = tt
-  zero_decides ShiftRight b A T from free l other h make = tt
-  zero_decides Add b A T from free l other h make = tt
-  zero_decides Subtract b A T from free l other h make = tt
-  zero_decides Multiply b A T from free l other h make = tt
-  zero_decides Divide b A T from free l other h make = tt
-  zero_decides Remainder b A T from free l other h make = tt
+  zero_decides op b A T from free l other h make = tt
 
   -- a condition, and the answers behind it
   pub answered_emits : (home : Option ℕ) (T : Branching) (from free into : ℕ) (l : Lists) (c : Condition) → Decides T from free l c → MayTake home free into → Emits code arguments size (TruthCode code size home T) from free l (answered c into)

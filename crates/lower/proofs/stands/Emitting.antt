@@ -6,7 +6,7 @@ use Rattle.std.proofs.lemmas.List.{length-append}
 use Rattle.lex.specs.declared.token.Scalar.{Scalar}
 use Rattle.lex.specs.declared.token.Scalar.TheVariants.{Int, Unsigned}
 use Rattle.syntax.specs.declared.tree.BinaryOp.{BinaryOp}
-use Rattle.syntax.specs.declared.tree.BinaryOp.TheVariants.{Or, Xor, And, Equal, NotEqual, Less, Greater, LessEqual, GreaterEqual, ShiftLeft, ShiftRight, Add, Subtract, Multiply, Divide, Remainder}
+use Rattle.syntax.specs.declared.tree.BinaryOp.TheVariants.{Or, Equal, Less, Greater, LessEqual, GreaterEqual, ShiftLeft, ShiftRight, Add, Subtract, Multiply, Divide, Remainder}
 use Rattle.syntax.specs.Numbers.{operand_type, result_type}
 use Rattle.syntax.specs.Names.{GlobalCells, cells}
 use Rattle.bytecode.specs.declared.instr.Instr.{Instr}
@@ -22,32 +22,18 @@ use Rattle.lower.proofs.stands.Standing.{Stand, front, behind, Grows, grows_same
 -- operators have the instructions of the relation
 pub computing_is : (arguments : List ℕ) (op : BinaryOp) (t : Scalar) (d a b : ℕ) → instr_of arguments (computing op t d a b) ≡ Lowered.computing op t d a b
 computing_is arguments Or t d a b = refl
-computing_is arguments Xor t d a b = refl
-computing_is arguments And t d a b = refl
-computing_is arguments Equal t d a b = refl
-computing_is arguments NotEqual t d a b = refl
 computing_is arguments Less Int d a b = refl
-computing_is arguments Less Unsigned d a b = refl
 computing_is arguments Greater Int d a b = refl
-computing_is arguments Greater Unsigned d a b = refl
 computing_is arguments LessEqual Int d a b = refl
-computing_is arguments LessEqual Unsigned d a b = refl
 computing_is arguments GreaterEqual Int d a b = refl
-computing_is arguments GreaterEqual Unsigned d a b = refl
 computing_is arguments ShiftLeft Int d a b = refl
-computing_is arguments ShiftLeft Unsigned d a b = refl
 computing_is arguments ShiftRight Int d a b = refl
-computing_is arguments ShiftRight Unsigned d a b = refl
 computing_is arguments Add Int d a b = refl
-computing_is arguments Add Unsigned d a b = refl
 computing_is arguments Subtract Int d a b = refl
-computing_is arguments Subtract Unsigned d a b = refl
 computing_is arguments Multiply Int d a b = refl
-computing_is arguments Multiply Unsigned d a b = refl
 computing_is arguments Divide Int d a b = refl
-computing_is arguments Divide Unsigned d a b = refl
 computing_is arguments Remainder Int d a b = refl
-computing_is arguments Remainder Unsigned d a b = refl
+computing_is arguments op t d a b = refl
 
 pub negating_is : (arguments : List ℕ) (t : Scalar) (d a : ℕ) → instr_of arguments (negating t d a) ≡ Plain.Negate t d a
 negating_is arguments Int d a = refl

@@ -8,7 +8,7 @@ use Rattle.lex.specs.declared.token.Scalar.{Scalar}
 use Rattle.lex.specs.declared.token.Scalar.TheVariants.{Int}
 use Rattle.syntax.specs.declared.tree.UnaryOp.TheVariants.{Negate, Keep, Not, Complement}
 use Rattle.syntax.specs.declared.tree.BinaryOp.{BinaryOp}
-use Rattle.syntax.specs.declared.tree.BinaryOp.TheVariants.{Or, Xor, And, Equal, NotEqual, Less, Greater, LessEqual, GreaterEqual, ShiftLeft, ShiftRight, Add, Subtract, Multiply, Divide, Remainder}
+use Rattle.syntax.specs.declared.tree.BinaryOp.TheVariants.{ShiftLeft}
 use Rattle.syntax.specs.declared.tree.LogicalOp.TheVariants.{AndThen, OrElse}
 use Rattle.syntax.specs.Tree.{Name, Expr, Exprs, Variable, Constant, Element, Call, Parenthesized, Cast, Unary, Binary, Logical, Conditional, Stmts, Function, Program}
 use Rattle.syntax.specs.Numbers.{word_of, common, operand_type, result_type}
@@ -51,21 +51,7 @@ handed_over arguments made handed rest e =
 
 binary_of : (op : BinaryOp) (s t : Scalar) → binary_type op (Some s) (Some t) ≡ Some (result_type op (operand_type op s t))
 binary_of ShiftLeft s t = refl
-binary_of ShiftRight s t = refl
-binary_of Or s t = refl
-binary_of Xor s t = refl
-binary_of And s t = refl
-binary_of Equal s t = refl
-binary_of NotEqual s t = refl
-binary_of Less s t = refl
-binary_of Greater s t = refl
-binary_of LessEqual s t = refl
-binary_of GreaterEqual s t = refl
-binary_of Add s t = refl
-binary_of Subtract s t = refl
-binary_of Multiply s t = refl
-binary_of Divide s t = refl
-binary_of Remainder s t = refl
+binary_of op s t = refl
 
 settled_of : (r : ℕ) (e : Emitted) → (settled r e).held.of ≡ e.held.of
 settled_of r e = by (e.held.register == r)
@@ -154,7 +140,6 @@ module _ (p : Program) (code : Code) (arguments : List ℕ) (size : ℕ) (typed 
     type_is (Variable x) h g from into free l =
         let k = known_number (known x.text) h.0 h.1 in
         ap number_type k.1 ∙ ap Some (sym (variable_of (length scope) (newest scope x.text) (global_of p x.text) k.0 (variable_found p scope x.text k.0 (agrees x.text h.0 ∙ k.1)) from into l))
-    type_is (Constant n t at) h g from into free l = refl
     type_is (Element x i at) h g from into free l =
         let k = known_array (known x.text) h.0 h.2 in
         ap element_type k.2 ∙ ap Some (sym (element_of (global_of p x.text) k.0 (array_found p scope x.text k.0 k.1 (agrees x.text h.0 ∙ k.2)) (emitted p scope i from free free l) from into l))
@@ -165,10 +150,8 @@ module _ (p : Program) (code : Code) (arguments : List ℕ) (size : ℕ) (typed 
         let has : call_type (known f.text) ≡ Some (unwrap_or c.definition.0.result Int) = (ap call_type k.2 ∙ call_gives k.0 k.1 gives ∙ ap (λ o. Some (unwrap_or o Int)) (sym (c.result ∙ ap call_type k.2))) in
         has ∙ ap Some (sym (called_of (callee_of p f.text) (callee_at c.number c.definition.0) c.callee (all_emitted p scope es from free l) from into l))
     type_is (Parenthesized e at) h g from into free l = type_is e h g from into free l
-    type_is (Cast t e at) h g from into free l = refl
     type_is (Unary Negate e at) h g from into free l = type_is e h.0 h.1 from free free l
     type_is (Unary Keep e at) h g from into free l = type_is e h.0 h.1 from into free l
-    type_is (Unary Not e at) h g from into free l = refl
     type_is (Unary Complement e at) h g from into free l = type_is e h.0 h.1 from free free l
     type_is (Binary op a b at) h g from into free l =
         let left = emitted p scope a from free free l in
@@ -176,7 +159,6 @@ module _ (p : Program) (code : Code) (arguments : List ℕ) (size : ℕ) (typed 
         ap (λ o. binary_type op o (type_of known b)) (type_is a h.0 h.1 from free free l)
         ∙ ap (λ o. binary_type op (Some left.held.of) o) (type_is b h.2 h.3 left.held.to later later left.lists)
         ∙ binary_of op left.held.of (emitted p scope b left.held.to later later left.lists).held.of
-    type_is (Logical op a b at) h g from into free l = refl
     type_is (Conditional c a b at) h g from into free l =
         let test = condition p scope c from free l in
         let x = emitted p scope a (test.to + 1) into free test.lists in
@@ -184,6 +166,7 @@ module _ (p : Program) (code : Code) (arguments : List ℕ) (size : ℕ) (typed 
         let y = emitted p scope b (first.held.to + 1) into free first.lists in
         ap (λ o. common_of o (type_of known b)) (type_is a h.1 h.2 (test.to + 1) into free test.lists ∙ ap Some (sym (settled_of into x)))
         ∙ ap (λ o. common_of (Some first.held.of) o) (type_is b h.3 h.4 (first.held.to + 1) into free first.lists ∙ ap Some (sym (settled_of into y)))
+    type_is e h g from into free l = refl
 
     call_emits : (home : Option ℕ) (x : List ℕ) (A : (from to free : ℕ) → List ℕ → Type 0) (c : Calls x) (o : Option Callee) → o ≡ Some (callee_at c.number c.definition.0) → (from into free : ℕ) (l : Lists) (args : AllEmitted) → AllEmits A from free l args → MayTake home free into →
         Emits code arguments size (CallCode code size home p x A) from free l (called o args from into l)
@@ -238,19 +221,13 @@ module _ (p : Program) (code : Code) (arguments : List ℕ) (size : ℕ) (typed 
         by (Some x) g t f = inl (in_local_emits code arguments size (length scope) x.0 x.1 from free l f.0)
         by None (Some g) t f = inr refl
         by None None t f = absurd f
-    elsewhere (Constant n t at) h from into free l = inr refl
     elsewhere (Element x i at) h from into free l = inr (element_into (global_of p x.text) (emitted p scope i from free free l) from into l)
     elsewhere (Call f es at) h from into free l = inr (called_into (callee_of p f.text) (all_emitted p scope es from free l) from into l)
     elsewhere (Parenthesized e at) h from into free l = elsewhere e h from into free l
     elsewhere (Cast t e at) h from into free l =
         ⊎_elim (λ g. inl (cast_emits code arguments size t (ExprCode code size p None scope e) from free l (emitted p scope e from into free l) g)) (λ g. inr g) (elsewhere e h from into free l)
-    elsewhere (Unary Negate e at) h from into free l = inr refl
     elsewhere (Unary Keep e at) h from into free l = elsewhere e h.0 from into free l
-    elsewhere (Unary Not e at) h from into free l = inr refl
-    elsewhere (Unary Complement e at) h from into free l = inr refl
-    elsewhere (Binary op a b at) h from into free l = inr refl
-    elsewhere (Logical op a b at) h from into free l = inr refl
-    elsewhere (Conditional c a b at) h from into free l = inr refl
+    elsewhere e h from into free l = inr refl
 
     abbrev Tests : Expr → Branching
     Tests e = CondCode code size p scope e
@@ -324,24 +301,18 @@ module _ (p : Program) (code : Code) (arguments : List ℕ) (size : ℕ) (typed 
           }
 
       own_decides : (e : Expr) → TypedExpr known e → (from free : ℕ) (l : Lists) → IfSome (own_condition p scope e from free l) (Decides code arguments size (Tests e) from free l)
-      own_decides (Variable x) h from free l = tt
-      own_decides (Constant n t at) h from free l = tt
-      own_decides (Element x i at) h from free l = tt
-      own_decides (Call f es at) h from free l = tt
       own_decides (Parenthesized e at) h from free l =
           same_decides code arguments size (Tests e) (Tests (Parenthesized e at)) from free l (condition p scope e from free l) (λ met unmet t. inr (inr t))
           (by_parts e from free l (own_decides e h from free l) (expr_emits None e h from free free l (omega arith)))
       own_decides (Cast t e at) h from free l =
           same_decides code arguments size (Tests e) (Tests (Cast t e at)) from free l (condition p scope e from free l) (λ met unmet t. inr (inr t))
           (by_parts e from free l (own_decides e h from free l) (expr_emits None e h from free free l (omega arith)))
-      own_decides (Unary Negate e at) h from free l = tt
       own_decides (Unary Keep e at) h from free l =
           same_decides code arguments size (Tests e) (Tests (Unary Keep e at)) from free l (condition p scope e from free l) (λ met unmet t. inr (inr t))
           (by_parts e from free l (own_decides e h.0 from free l) (expr_emits None e h.0 from free free l (omega arith)))
       own_decides (Unary Not e at) h from free l =
           opposite_decides code arguments size (Tests e) (Tests (Unary Not e at)) from free l (condition p scope e from free l) (λ met unmet t. inr (inr t))
           (by_parts e from free l (own_decides e h.0 from free l) (expr_emits None e h.0 from free free l (omega arith)))
-      own_decides (Unary Complement e at) h from free l = tt
       own_decides (Binary op a b at) h from free l =
           zero_decides code arguments size op b (Tests a) (Tests (Binary op a b at)) from free l (condition p scope a from free l)
           (by_parts a from free l (own_decides a h.0 from free l) (expr_emits None a h.0 from free free l (omega arith)))
@@ -360,7 +331,7 @@ module _ (p : Program) (code : Code) (arguments : List ℕ) (size : ℕ) (typed 
           (or_decides code arguments size (Tests a) (Tests b) from free l first second
           (by_parts a from free l (own_decides a h.0 from free l) (expr_emits None a h.0 from free free l (omega arith)))
           (by_parts b (first.to + 1) free first.lists (own_decides b h.1 (first.to + 1) free first.lists) (expr_emits None b h.1 (first.to + 1) free free first.lists (omega arith))))
-      own_decides (Conditional c a b at) h from free l = tt
+      own_decides e h from free l = tt
 
       pub all_emits : (es : Exprs) → TypedExprs known es → (from free : ℕ) (l : Lists) → AllEmits (ArgsCode code size p scope es) from free l (all_emitted p scope es from free l)
       all_emits Exprs.[] h from free l = record { to_is = omega arith; grows = grows_same l; stands = λ f st. (refl, refl) }

@@ -6,7 +6,7 @@ use Rattle.lex.specs.declared.token.Span.{Span}
 use Rattle.lex.specs.declared.token.Scalar.{Scalar}
 use Rattle.lex.specs.declared.token.Scalar.TheVariants.{Int}
 use Rattle.syntax.specs.declared.tree.BinaryOp.{BinaryOp}
-use Rattle.syntax.specs.Tree.{Name, Expr, Variable, Constant, Element, Call, Parenthesized, Cast, Unary, Binary, Logical, Conditional, Simple, Evaluate, Assign, Adjust, Declarator, Start, Nothing, Declares, Does, Program}
+use Rattle.syntax.specs.Tree.{Name, Expr, Variable, Constant, Element, Simple, Evaluate, Assign, Adjust, Declarator, Start, Nothing, Declares, Does, Program}
 use Rattle.syntax.specs.Meaning.{op_of}
 use Rattle.syntax.specs.Numbers.{operand_type, result_type}
 use Rattle.syntax.specs.Names.{GlobalCells, cells, newest, global_of}
@@ -112,14 +112,7 @@ module _ (p : Program) (code : Code) (arguments : List ℕ) (size : ℕ) (typed 
         let k = known_array (known x.text) h.0 h.2 in
         element_aims check x i at (global_of p x.text) k.0 refl (array_found p scope x.text k.0 k.1 (agrees x.text h.0 ∙ k.2)) from l (emitted p scope i from (length scope) (length scope) l)
         (expr_emits p code arguments size typed stand defined known scope agrees None i h.1 from (length scope) (length scope) l (omega arith))
-    aims check (Constant n t at) h m from l = absurd (cc)
-    aims check (Call f es at) h m from l = absurd (cc)
-    aims check (Parenthesized e at) h m from l = absurd (cc)
-    aims check (Cast t e at) h m from l = absurd (cc)
-    aims check (Unary op e at) h m from l = absurd (cc)
-    aims check (Binary op a b at) h m from l = absurd (cc)
-    aims check (Logical op a b at) h m from l = absurd (cc)
-    aims check (Conditional c a b at) h m from l = absurd (cc)
+    aims check lhs h m from l = absurd (cc)
 
     -- what finds a target, and then what goes there
     aimed_writes : (check : Bool) (lhs : Expr) (from : ℕ) (l : Lists) (a : Aimed) (goal : Target) → a.to ≡ from + length a.code → Grows l a.lists → (Fits code arguments size a.lists → Stand code arguments from a.code → Goes check lhs from a.to goal) →

@@ -117,17 +117,11 @@ module _ (p : Program) (code : Code) (arguments : List ℕ) (f : FunctionCode) (
           (settled_sound code arguments f end into (first.held.to + 1) first.lists y (expr_sound b h.3 (first.held.to + 1) into free first.lists)) (settled_into into y)
 
       own_sound : (e : Expr) → TypedExpr known e → (from free : ℕ) (l : Lists) → IfSome (own_condition p scope e from free l) (TestSound code arguments f end from l)
-      own_sound (Variable x) h from free l = tt
-      own_sound (Constant n t at) h from free l = tt
-      own_sound (Element x i at) h from free l = tt
-      own_sound (Call g es at) h from free l = tt
       own_sound (Parenthesized e at) h from free l = by_parts e from free l (own_sound e h from free l) (expr_sound e h from free free l)
       own_sound (Cast t e at) h from free l = by_parts e from free l (own_sound e h from free l) (expr_sound e h from free free l)
-      own_sound (Unary Negate e at) h from free l = tt
       own_sound (Unary Keep e at) h from free l = by_parts e from free l (own_sound e h.0 from free l) (expr_sound e h.0 from free free l)
       own_sound (Unary Not e at) h from free l =
           opposite_sound code arguments f end from l (condition p scope e from free l) (by_parts e from free l (own_sound e h.0 from free l) (expr_sound e h.0 from free free l))
-      own_sound (Unary Complement e at) h from free l = tt
       own_sound (Binary op a b at) h from free l =
           zero_sound code arguments f end (zero_test op b) from l (condition p scope a from free l) (by_parts a from free l (own_sound a h.0 from free l) (expr_sound a h.0 from free free l))
       own_sound (Logical op a b at) h from free l =
@@ -135,7 +129,7 @@ module _ (p : Program) (code : Code) (arguments : List ℕ) (f : FunctionCode) (
           joined_sound code arguments f end op from l first (condition p scope b (first.to + 1) free first.lists)
           (by_parts a from free l (own_sound a h.0 from free l) (expr_sound a h.0 from free free l))
           (by_parts b (first.to + 1) free first.lists (own_sound b h.1 (first.to + 1) free first.lists) (expr_sound b h.1 (first.to + 1) free free first.lists))
-      own_sound (Conditional c a b at) h from free l = tt
+      own_sound e h from free l = tt
 
       pub all_sound : (es : Exprs) → TypedExprs known es → (from free : ℕ) (l : Lists) → AllSound code arguments f end from l (all_emitted p scope es from free l)
       all_sound Exprs.[] h from free l = record { to_is = omega arith; grows = grows_same l; held = tt; goods = λ o bs k run. tt }

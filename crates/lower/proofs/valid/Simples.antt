@@ -6,7 +6,7 @@ use Rattle.std.proofs.lemmas.List.{length-append}
 use Rattle.lex.specs.declared.token.Scalar.{Scalar}
 use Rattle.lex.specs.declared.token.Scalar.TheVariants.{Int}
 use Rattle.syntax.specs.declared.tree.BinaryOp.{BinaryOp}
-use Rattle.syntax.specs.Tree.{Expr, Variable, Constant, Element, Call, Parenthesized, Cast, Unary, Binary, Logical, Conditional, Simple, Evaluate, Assign, Adjust, Declarator, Start, Nothing, Declares, Does, Program}
+use Rattle.syntax.specs.Tree.{Expr, Variable, Constant, Element, Simple, Evaluate, Assign, Adjust, Declarator, Start, Nothing, Declares, Does, Program}
 use Rattle.syntax.specs.Meaning.{op_of}
 use Rattle.syntax.specs.Names.{GlobalCells, cells, newest, global_of, globals}
 use Rattle.syntax.specs.Types.{Scope, with_number, running_scope}
@@ -169,14 +169,7 @@ module _ (code : Code) (arguments : List ℕ) (f : FunctionCode) (end : ℕ) whe
           variable_aims (newest scope x.text) (global_of p x.text) (cell_is p code arguments f end typed takes defined shares known scope agrees x k.0 h k.1) from l
       aims check (Element x i at) h m from l =
           element_aims check (global_of p x.text) (cells_are p code arguments f end typed takes defined shares x.text) from l (emitted p scope i from (length scope) (length scope) l) (sound i h.1 from (length scope) (length scope) l)
-      aims check (Constant n t at) h m from l = nowhere_aims from l
-      aims check (Call g es at) h m from l = nowhere_aims from l
-      aims check (Parenthesized e at) h m from l = nowhere_aims from l
-      aims check (Cast t e at) h m from l = nowhere_aims from l
-      aims check (Unary op e at) h m from l = nowhere_aims from l
-      aims check (Binary op a b at) h m from l = nowhere_aims from l
-      aims check (Logical op a b at) h m from l = nowhere_aims from l
-      aims check (Conditional c a b at) h m from l = nowhere_aims from l
+      aims check lhs h m from l = nowhere_aims from l
 
       value_or_one_sound : (by : Option Expr) → IfSome by (TypedExpr known) → (from free : ℕ) (l : Lists) → Sound code arguments f end from l (value_or_one p scope by from free l)
       value_or_one_sound None h from free l = one_sound code arguments f end (own.Constant free 1) from free Int l (λ q bs. (refl, tt)) (λ r s. (r, omega arith))

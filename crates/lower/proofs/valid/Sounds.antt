@@ -7,7 +7,7 @@ use Rattle.std.proofs.lemmas.List.{length-append, length-map, map-append}
 use Rattle.lex.specs.declared.token.Scalar.{Scalar}
 use Rattle.lex.specs.declared.token.Scalar.TheVariants.{Int, Unsigned}
 use Rattle.syntax.specs.declared.tree.BinaryOp.{BinaryOp}
-use Rattle.syntax.specs.declared.tree.BinaryOp.TheVariants.{Or, Xor, And, Equal, NotEqual, Less, Greater, LessEqual, GreaterEqual, ShiftLeft, ShiftRight, Add, Subtract, Multiply, Divide, Remainder}
+use Rattle.syntax.specs.declared.tree.BinaryOp.TheVariants.{Equal, Greater, GreaterEqual}
 use Rattle.syntax.specs.declared.tree.LogicalOp.{LogicalOp}
 use Rattle.syntax.specs.declared.tree.LogicalOp.TheVariants.{AndThen, OrElse}
 use Rattle.syntax.specs.Tree.{Parameter}
@@ -85,22 +85,9 @@ settled_into r e = by (e.held.register == r) refl
 
 module _ (code : Code) (arguments : List ℕ) (f : FunctionCode) (end : ℕ) where
   computing_goes : (op : BinaryOp) (t : Scalar) (d a b : ℕ) → d < f.registers → a < f.registers → b < f.registers → GoesOn code arguments f end (Lowered.computing op t d a b) × IsWritten code f end (Lowered.computing op t d a b)
-  computing_goes Or t d a b x y z = (λ q bs. (refl, tt), (x, y, z))
-  computing_goes Xor t d a b x y z = (λ q bs. (refl, tt), (x, y, z))
-  computing_goes And t d a b x y z = (λ q bs. (refl, tt), (x, y, z))
-  computing_goes Equal t d a b x y z = (λ q bs. (refl, tt), (x, y, z))
-  computing_goes NotEqual t d a b x y z = (λ q bs. (refl, tt), (x, y, z))
-  computing_goes Less t d a b x y z = (λ q bs. (refl, tt), (x, y, z))
   computing_goes Greater t d a b x y z = (λ q bs. (refl, tt), (x, z, y))
-  computing_goes LessEqual t d a b x y z = (λ q bs. (refl, tt), (x, y, z))
   computing_goes GreaterEqual t d a b x y z = (λ q bs. (refl, tt), (x, z, y))
-  computing_goes ShiftLeft t d a b x y z = (λ q bs. (refl, tt), (x, y, z))
-  computing_goes ShiftRight t d a b x y z = (λ q bs. (refl, tt), (x, y, z))
-  computing_goes Add t d a b x y z = (λ q bs. (refl, tt), (x, y, z))
-  computing_goes Subtract t d a b x y z = (λ q bs. (refl, tt), (x, y, z))
-  computing_goes Multiply t d a b x y z = (λ q bs. (refl, tt), (x, y, z))
-  computing_goes Divide t d a b x y z = (λ q bs. (refl, tt), (x, y, z))
-  computing_goes Remainder t d a b x y z = (λ q bs. (refl, tt), (x, y, z))
+  computing_goes op t d a b x y z = (λ q bs. (refl, tt), (x, y, z))
 
   pub size_of : (l : Lists) → Fits code arguments f.registers l → l.registers ≤ f.registers
   size_of l k = k.registers

@@ -267,15 +267,7 @@ module _ {C : Type 0} (code : C → Effect C) (bounds : List ℕ) (fits : FitsCe
       begin : (fs : List (List ℕ)) → (more : List (List ℕ)) × ((found_next r c d fs).lefts ≡ r.lefts ++ more)
       begin [] = ([], sym (append-nil r.lefts))
       begin (f ∷ fs) = ([], sym (append-nil r.lefts))
-  outside_grows r (Pure c) = ([], sym (append-nil r.lefts))
-  outside_grows r (Print piece c) = ([], sym (append-nil r.lefts))
-  outside_grows r (Read a k) = ([], sym (append-nil r.lefts))
-  outside_grows r (Write a v c) = ([], sym (append-nil r.lefts))
-  outside_grows r (Commit c) = ([], sym (append-nil r.lefts))
-  outside_grows r Cancel = ([], sym (append-nil r.lefts))
-  outside_grows r (Irrevocable c) = ([], sym (append-nil r.lefts))
-  outside_grows r (Traps cause) = ([], sym (append-nil r.lefts))
-  outside_grows r End = ([], sym (append-nil r.lefts))
+  outside_grows r x = ([], sym (append-nil r.lefts))
 
   inside_grows : (r : Sequential C) (i : OpenTransaction C) (x : Effect C) → (more : List (List ℕ)) × ((inside_step r i x).lefts ≡ r.lefts ++ more)
   inside_grows r i (Commit c) = commit i.inner
@@ -295,12 +287,7 @@ module _ {C : Type 0} (code : C → Effect C) (bounds : List ℕ) (fits : FitsCe
       print true = ([], sym (append-nil r.lefts))
       print false = ([], sym (append-nil r.lefts))
   inside_grows r i (Traps cause) = (i.found ∷ [], refl)
-  inside_grows r i (Pure c) = ([], sym (append-nil r.lefts))
-  inside_grows r i (Begin c d) = ([], sym (append-nil r.lefts))
-  inside_grows r i (Read a k) = ([], sym (append-nil r.lefts))
-  inside_grows r i (Write a v c) = ([], sym (append-nil r.lefts))
-  inside_grows r i (Irrevocable c) = ([], sym (append-nil r.lefts))
-  inside_grows r i End = ([], sym (append-nil r.lefts))
+  inside_grows r i x = ([], sym (append-nil r.lefts))
 
   sequential_grows : (r : Sequential C) (wants : Bool) (s : Status) (o : Option (OpenTransaction C)) (x : Effect C) → (more : List (List ℕ)) × ((sequential_step r wants s o x).lefts ≡ r.lefts ++ more)
   sequential_grows r true s o x = ([], sym (append-nil r.lefts))
@@ -393,10 +380,7 @@ module _ {C : Type 0} (code : C → Effect C) (bounds : List ℕ) (fits : FitsCe
   out_step n out inn c text lock words founds lefts ls ev size low (Irrevocable e) ex ov le f = further _ (out_solo lock words e text Running) _ _ (once _ _ (Irrevocable e) ex refl) (out e text Running lock words founds lefts ls ev size low ov le f)
   out_step n out inn c text lock words founds lefts ls ev size low (Traps cause) ex ov le f = further _ (out_solo lock words c text (HasTrapped cause)) _ _ (once _ _ (Traps cause) ex refl) (out c text (HasTrapped cause) lock words founds lefts ls ev size low ov le f)
   out_step n out inn c text lock words founds lefts ls ev size low End ex ov le f = further _ (out_solo lock words c text HasEnded) _ _ (once _ _ End ex refl) (out c text HasEnded lock words founds lefts ls ev size low ov le f)
-  out_step n out inn c text lock words founds lefts ls ev size low (Read a k) ex ov le f = out c text Running lock words founds lefts ls ev size low ov le f
-  out_step n out inn c text lock words founds lefts ls ev size low (Write a v e) ex ov le f = out c text Running lock words founds lefts ls ev size low ov le f
-  out_step n out inn c text lock words founds lefts ls ev size low (Commit e) ex ov le f = out c text Running lock words founds lefts ls ev size low ov le f
-  out_step n out inn c text lock words founds lefts ls ev size low Cancel ex ov le f = out c text Running lock words founds lefts ls ev size low ov le f
+  out_step n out inn c text lock words founds lefts ls ev size low x ex ov le f = out c text Running lock words founds lefts ls ev size low ov le f
 
   -- the next instruction of a thread inside
   in_next : (n : ℕ) → OutGoal n → InGoal n → InGoal (suc n)

@@ -4,14 +4,14 @@ use Rattle.std.proofs.lemmas.Bool.{eqb-true}
 use Rattle.std.proofs.lemmas.Bool.Decides.{eqb_tells}
 use Rattle.syntax.specs.declared.numbers.Status.{Status}
 use Rattle.syntax.specs.Behaviours.{IsMemory}
-use Rattle.syntax.specs.declared.numbers.Status.TheVariants.{Running, Ended as HasEnded, Trapped as HasTrapped}
+use Rattle.syntax.specs.declared.numbers.Status.TheVariants.{Running}
 use Rattle.write_log.specs.Overlay.{written}
 use Rattle.bytecode.specs.Effects.{Effect, FitsCells}
-use Rattle.bytecode.specs.Effects.Effect.{Begin, Cancel, Commit, End, Irrevocable, Print, Pure, Read, Traps, Write}
+use Rattle.bytecode.specs.Effects.Effect.{Begin, Cancel, Commit, Irrevocable, Read, Write}
 use Rattle.norec_core.specs.Attempts.{Attempt, Checkpoint}
 use Rattle.norec_core.specs.Phases.{commit_access, entry_access, operation_access, phase_access, read_access, store_access}
 use Rattle.norec_core.specs.declared.step.Access.{Access}
-use Rattle.norec_core.specs.declared.step.Access.TheVariants.{LoadLock, LoadWord, Local, StoreLock, StoreWord, Swap}
+use Rattle.norec_core.specs.declared.step.Access.TheVariants.{Local, StoreLock, Swap}
 use Rattle.norec_core.specs.declared.step.Op.{Op}
 use Rattle.norec_core.specs.declared.step.Phase.{Phase}
 use Rattle.norec_core.specs.declared.step.Phase.TheVariants.{AtOperation, ReadsLock, Stores, ValidatesEntry, ValidatesTime}
@@ -75,26 +75,12 @@ module _ {C : Type 0} (a : Attempt C) (from : ℕ) where
 
 pub outside_swaps : {C : Type 0} (s : Status) (x : Effect C) (from : ℕ) {P : Type 0} → outside_access s x ≡ Swap from → P
 outside_swaps Running (Begin c d) from e = absurd (cc)
-outside_swaps Running (Pure c) from e = absurd (cc)
-outside_swaps Running (Print piece c) from e = absurd (cc)
-outside_swaps Running (Read ad k) from e = absurd (cc)
-outside_swaps Running (Write ad v c) from e = absurd (cc)
-outside_swaps Running (Commit c) from e = absurd (cc)
-outside_swaps Running Cancel from e = absurd (cc)
-outside_swaps Running (Irrevocable c) from e = absurd (cc)
-outside_swaps Running (Traps cause) from e = absurd (cc)
-outside_swaps Running End from e = absurd (cc)
-outside_swaps HasEnded x from e = absurd (cc)
-outside_swaps (HasTrapped cause) x from e = absurd (cc)
+outside_swaps s x from e = absurd (cc)
 
 -- only a swap stops
 stop_swaps : (x : Access) → stops x ≡ true → (from : ℕ) × (x ≡ Swap from) × (from ≡ last_snapshot)
 stop_swaps (Swap from) e = (from, refl, eqb-true from last_snapshot e)
-stop_swaps Local e = absurd (cc)
-stop_swaps LoadLock e = absurd (cc)
-stop_swaps (LoadWord ad) e = absurd (cc)
-stop_swaps (StoreWord ad v) e = absurd (cc)
-stop_swaps (StoreLock n) e = absurd (cc)
+stop_swaps x e = absurd (cc)
 
 -- after a swap the lock is past the value that it swaps from
 swap_up : (lock from : ℕ) → from ≤ lock → from + 1 ≤ lock_after lock (Swap from)

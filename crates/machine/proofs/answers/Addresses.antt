@@ -5,7 +5,7 @@ use Rattle.syntax.specs.declared.numbers.Status.{Status}
 use Rattle.syntax.specs.declared.numbers.Status.TheVariants.{Running, Ended as HasEnded, Trapped as HasTrapped}
 use Rattle.write_log.specs.Overlay.{put, written}
 use Rattle.bytecode.specs.Effects.{Effect, FitsCells}
-use Rattle.bytecode.specs.Effects.Effect.{Begin, Cancel, Commit, End, Irrevocable, Print, Pure, Read, Traps, Write}
+use Rattle.bytecode.specs.Effects.Effect.{Begin, Cancel, Commit, Irrevocable, Print, Read, Traps, Write}
 use Rattle.norec_core.specs.Attempts.{Attempt, Checkpoint}
 use Rattle.norec_core.specs.Phases.{CoreStep, commit_access, core_begin, core_cancel, core_check, core_commit, core_compare, core_operation, core_phase, core_read, core_store, core_swap, core_time, core_word, entry_access, operation_access, phase_access, read_access, store_access}
 use Rattle.norec_core.specs.declared.step.Access.{Access}
@@ -23,13 +23,9 @@ use Rattle.machine.specs.Threads.{Thread, access, access_of, inside_access, op_o
 use Rattle.machine.proofs.parts.Part.{each_append}
 
 abbrev OpFits : ℕ → Op → Type 0
-OpFits cells op.Begin = Unit {0}
 OpFits cells (op.Read ad) = ad < cells
 OpFits cells (op.Write ad v) = ad < cells
-OpFits cells op.Commit = Unit {0}
-OpFits cells op.Cancel = Unit {0}
-OpFits cells op.Irrevocable = Unit {0}
-OpFits cells op.Release = Unit {0}
+OpFits cells _ = Unit {0}
 
 pub all_at : {X : Type 0} (P : X → Type 0) (xs : List X) (i : ℕ) (x : X) → AllByRecursion P xs → slice_get xs i ≡ Some x → P x
 all_at P [] i x all e = absurd (cc)
@@ -56,12 +52,7 @@ module _ {C : Type 0} (cells : ℕ) where
     word_fits : (kept : Bool) (answer : Answer) → LogsFitIf cells (core_word a kept answer).attempt
     word_fits true (Value w) = f
     word_fits false (Value w) = rephased (ReadsLock w)
-    word_fits true Done = f
-    word_fits false Done = f
-    word_fits true Won = f
-    word_fits false Won = f
-    word_fits true (Lost n) = f
-    word_fits false (Lost n) = f
+    word_fits kept answer = f
 
     read_fits : (o : Option ℕ) (answer : Answer) → LogsFitIf cells (core_read a o answer).attempt
     read_fits (Some v) answer = f
@@ -102,15 +93,7 @@ module _ {C : Type 0} (cells : ℕ) where
 
     check_fits : (o : Op) (v : ℕ) (answer : Answer) → OpFits cells o → LogsFitIf cells (core_check a o v answer).attempt
     check_fits (op.Read ad) v (Value lock) fit = either (lock == a.snapshot) _ _ (record { reads = each_append (λ (q : ℕ × ℕ). q.0 < cells) a.reads (ad, v) f.reads fit; writes = f.writes; marks = f.marks }) (rephased ValidatesTime)
-    check_fits (op.Read ad) v Done fit = f
-    check_fits (op.Read ad) v Won fit = f
-    check_fits (op.Read ad) v (Lost n) fit = f
-    check_fits op.Begin v answer fit = f
-    check_fits (op.Write ad w) v answer fit = f
-    check_fits op.Commit v answer fit = f
-    check_fits op.Cancel v answer fit = f
-    check_fits op.Irrevocable v answer fit = f
-    check_fits op.Release v answer fit = f
+    check_fits o v answer fit = f
 
     time_fits : (answer : Answer) → LogsFitIf cells (core_time a answer).attempt
     time_fits (Value lock) = either (lock % 2 == 0) _ _ (rephased (ValidatesEntry lock 0)) f
@@ -121,12 +104,7 @@ module _ {C : Type 0} (cells : ℕ) where
     compare_fits : (time i : ℕ) (o : Option (ℕ × ℕ)) (answer : Answer) → LogsFitIf cells (core_compare a time i o answer).attempt
     compare_fits time i (Some q) (Value w) = either (w == q.1) _ _ (rephased (ValidatesEntry time (suc i))) tt
     compare_fits time i None (Value lock) = either (lock == time) _ _ (record { reads = f.reads; writes = f.writes; marks = f.marks }) (rephased ValidatesTime)
-    compare_fits time i (Some q) Done = f
-    compare_fits time i (Some q) Won = f
-    compare_fits time i (Some q) (Lost n) = f
-    compare_fits time i None Done = f
-    compare_fits time i None Won = f
-    compare_fits time i None (Lost n) = f
+    compare_fits time i o answer = f
 
     phase_fits : (q : Phase) (o : Op) (answer : Answer) → OpFits cells o → LogsFitIf cells (core_phase now a q o answer).attempt
     phase_fits AtOperation o answer fit = operation_fits o answer fit
@@ -134,12 +112,7 @@ module _ {C : Type 0} (cells : ℕ) where
     phase_fits ValidatesTime o answer fit = time_fits answer
     phase_fits (ValidatesEntry time i) o answer fit = compare_fits time i (slice_get a.reads i) answer
     phase_fits (Stores i) op.Commit answer fit = store_fits i (slice_get a.writes i)
-    phase_fits (Stores i) op.Begin answer fit = f
-    phase_fits (Stores i) (op.Read ad) answer fit = f
-    phase_fits (Stores i) (op.Write ad v) answer fit = f
-    phase_fits (Stores i) op.Cancel answer fit = f
-    phase_fits (Stores i) op.Irrevocable answer fit = f
-    phase_fits (Stores i) op.Release answer fit = f
+    phase_fits q o answer fit = f
 
     -- accesses
     read_cell : (ad : ℕ) (o : Option ℕ) → ad < cells → AccessFits cells (read_access ad o)
@@ -192,30 +165,14 @@ module _ {C : Type 0} (code : C → Effect C) (bounds : List ℕ) (fits : FitsCe
   OpIfFits (Some o) = OpFits (length bounds) o
 
   op_fits : (x : Effect C) (kept trapping : Bool) → code th.configuration ≡ x → OpIfFits (op_of x kept trapping)
-  op_fits (Begin c d) kept trapping e = tt
   op_fits (Read ad k) kept trapping e = fits.reads th.configuration ad k e
   op_fits (Write ad v c) kept trapping e = (fits.writes th.configuration c ad v e).0
-  op_fits (Commit c) kept trapping e = tt
-  op_fits Cancel kept trapping e = tt
-  op_fits (Irrevocable c) kept trapping e = tt
   op_fits (Traps cause) true false e = tt
-  op_fits (Traps cause) true true e = tt
-  op_fits (Traps cause) false trapping e = tt
-  op_fits (Pure c) kept trapping e = tt
-  op_fits (Print piece c) kept trapping e = tt
-  op_fits End kept trapping e = tt
+  op_fits x kept trapping e = tt
 
   running_fits : (x : Effect C) (answer : Answer) → LogsFitIf (length bounds) th.attempt → LogsFitIf (length bounds) (told_running code th x answer).thread.attempt
-  running_fits (Pure c) answer f = f
-  running_fits (Print piece c) answer f = f
   running_fits (Begin c d) answer f = begin_fits (length bounds) th.configuration answer
-  running_fits (Irrevocable c) answer f = f
-  running_fits (Traps cause) answer f = f
-  running_fits End answer f = f
-  running_fits (Read ad k) answer f = f
-  running_fits (Write ad v c) answer f = f
-  running_fits (Commit c) answer f = f
-  running_fits Cancel answer f = f
+  running_fits x answer f = f
 
   outside_fits : (s : Status) (x : Effect C) (answer : Answer) → LogsFitIf (length bounds) th.attempt → LogsFitIf (length bounds) (told_outside code th s x answer).thread.attempt
   outside_fits Running x answer f = running_fits x answer f
@@ -227,16 +184,8 @@ module _ {C : Type 0} (code : C → Effect C) (bounds : List ℕ) (fits : FitsCe
   print_fits piece c false f = f
 
   own_fits : (a : Attempt C) (x : Effect C) → LogsFitIf (length bounds) th.attempt → LogsFitIf (length bounds) (own_step th a x).thread.attempt
-  own_fits a (Pure c) f = f
   own_fits a (Print piece c) f = print_fits piece c a.kept f
-  own_fits a (Traps cause) f = f
-  own_fits a (Begin c d) f = f
-  own_fits a (Irrevocable c) f = f
-  own_fits a End f = f
-  own_fits a (Read ad k) f = f
-  own_fits a (Write ad v c) f = f
-  own_fits a (Commit c) f = f
-  own_fits a Cancel f = f
+  own_fits a x f = f
 
   inside_fits : (a : Attempt C) (x : Effect C) (o : Option Op) (answer : Answer) → OpIfFits o → LogsFit (length bounds) a → LogsFitIf (length bounds) th.attempt → LogsFitIf (length bounds) (told_inside code th a x o answer).thread.attempt
   inside_fits a x None answer fit g f = own_fits a x f
@@ -251,17 +200,7 @@ module _ {C : Type 0} (code : C → Effect C) (bounds : List ℕ) (fits : FitsCe
 
   outside_cell : (s : Status) (x : Effect C) → AccessFits (length bounds) (outside_access s x)
   outside_cell Running (Begin c d) = tt
-  outside_cell Running (Pure c) = tt
-  outside_cell Running (Print piece c) = tt
-  outside_cell Running (Read ad k) = tt
-  outside_cell Running (Write ad v c) = tt
-  outside_cell Running (Commit c) = tt
-  outside_cell Running Cancel = tt
-  outside_cell Running (Irrevocable c) = tt
-  outside_cell Running (Traps cause) = tt
-  outside_cell Running End = tt
-  outside_cell HasEnded x = tt
-  outside_cell (HasTrapped cause) x = tt
+  outside_cell s x = tt
 
   inside_cell : (a : Attempt C) (o : Option Op) → OpIfFits o → LogsFit (length bounds) a → AccessFits (length bounds) (inside_access a o)
   inside_cell a None fit g = tt

@@ -3,7 +3,7 @@ use Rattle.std.proofs.Common.{◌≡◌, ◌≢◌, ◌⊎◌, inl, inr, ℕ, ze
 use Rattle.std.proofs.lemmas.Bool.Decides.{eqb_tells}
 use Rattle.bytecode.specs.Effects.{Effect}
 use Rattle.norec_core.specs.declared.step.Access.{Access}
-use Rattle.norec_core.specs.declared.step.Access.TheVariants.{LoadLock, LoadWord, Local, StoreLock, StoreWord, Swap}
+use Rattle.norec_core.specs.declared.step.Access.TheVariants.{Local}
 use Rattle.norec_core.specs.declared.step.Answer.{Answer}
 use Rattle.norec_core.specs.declared.step.Answer.TheVariants.{Done}
 use Rattle.machine.specs.Answered.{Answered, Heard, hearing, is_local, Replays, local_step, paused}
@@ -15,11 +15,7 @@ use Rattle.machine.proofs.steps.Worlds.{get-set_other, get-set_same}
 
 pub local_is : (x : Access) → is_local x ≡ true → x ≡ Local
 local_is Local e = refl
-local_is LoadLock e = absurd (true≢false (sym e))
-local_is (LoadWord a) e = absurd (true≢false (sym e))
-local_is (Swap a) e = absurd (true≢false (sym e))
-local_is (StoreWord a v) e = absurd (true≢false (sym e))
-local_is (StoreLock a) e = absurd (true≢false (sym e))
+local_is x e = absurd (true≢false (sym e))
 
 module _ {X : Type 0} where
   pub set_same : (l : List X) (i : ℕ) (a : X) → slice_get l i ≡ Some a → set l i a ≡ l

@@ -4,7 +4,7 @@ use Rattle.syntax.specs.declared.numbers.Status.{Status}
 use Rattle.syntax.specs.declared.numbers.Status.TheVariants.{Running, Ended as HasEnded, Trapped as HasTrapped}
 use Rattle.write_log.specs.Overlay.{written}
 use Rattle.bytecode.specs.Effects.{Effect}
-use Rattle.bytecode.specs.Effects.Effect.{Begin, Cancel, Commit, End, Irrevocable, Print, Pure, Read, Traps, Write}
+use Rattle.bytecode.specs.Effects.Effect.{Begin, Cancel, Commit, Irrevocable, Print, Read, Write}
 use Rattle.norec_core.specs.Attempts.{Attempt, Checkpoint}
 use Rattle.norec_core.specs.Phases.{CoreStep, core_begin, core_cancel, core_check, core_commit, core_compare, core_operation, core_phase, core_read, core_store, core_swap, core_time, core_word}
 use Rattle.norec_core.specs.declared.step.Access.{Access}
@@ -35,12 +35,7 @@ module _ {C : Type 0} (now : C) (a : Attempt C) where
   word_same : (kept : Bool) (answer : Answer) → Same (core_word a kept answer)
   word_same true (Value w) = refl
   word_same false (Value w) = refl
-  word_same true Done = refl
-  word_same false Done = refl
-  word_same true Won = refl
-  word_same false Won = refl
-  word_same true (Lost n) = refl
-  word_same false (Lost n) = refl
+  word_same kept answer = refl
 
   read_same : (o : Option ℕ) (answer : Answer) → Same (core_read a o answer)
   read_same (Some v) answer = refl
@@ -78,15 +73,7 @@ module _ {C : Type 0} (now : C) (a : Attempt C) where
 
   check_same : (o : Op) (v : ℕ) (answer : Answer) → Same (core_check a o v answer)
   check_same (op.Read ad) v (Value lock) = either (lock == a.snapshot) _ _ refl refl
-  check_same (op.Read ad) v Done = refl
-  check_same (op.Read ad) v Won = refl
-  check_same (op.Read ad) v (Lost n) = refl
-  check_same op.Begin v answer = refl
-  check_same (op.Write ad w) v answer = refl
-  check_same op.Commit v answer = refl
-  check_same op.Cancel v answer = refl
-  check_same op.Irrevocable v answer = refl
-  check_same op.Release v answer = refl
+  check_same o v answer = refl
 
   time_same : (answer : Answer) → Same (core_time a answer)
   time_same (Value lock) = either (lock % 2 == 0) _ _ refl refl
@@ -97,12 +84,7 @@ module _ {C : Type 0} (now : C) (a : Attempt C) where
   compare_same : (time i : ℕ) (o : Option (ℕ × ℕ)) (answer : Answer) → Same (core_compare a time i o answer)
   compare_same time i (Some q) (Value w) = either (w == q.1) _ _ refl tt
   compare_same time i None (Value lock) = either (lock == time) _ _ refl refl
-  compare_same time i (Some q) Done = refl
-  compare_same time i (Some q) Won = refl
-  compare_same time i (Some q) (Lost n) = refl
-  compare_same time i None Done = refl
-  compare_same time i None Won = refl
-  compare_same time i None (Lost n) = refl
+  compare_same time i o answer = refl
 
   phase_same : (q : Phase) (o : Op) (answer : Answer) → Same (core_phase now a q o answer)
   phase_same AtOperation o answer = operation_same o answer
@@ -110,12 +92,7 @@ module _ {C : Type 0} (now : C) (a : Attempt C) where
   phase_same ValidatesTime o answer = time_same answer
   phase_same (ValidatesEntry time i) o answer = compare_same time i (slice_get a.reads i) answer
   phase_same (Stores i) op.Commit answer = store_same i (slice_get a.writes i)
-  phase_same (Stores i) op.Begin answer = refl
-  phase_same (Stores i) (op.Read ad) answer = refl
-  phase_same (Stores i) (op.Write ad v) answer = refl
-  phase_same (Stores i) op.Cancel answer = refl
-  phase_same (Stores i) op.Irrevocable answer = refl
-  phase_same (Stores i) op.Release answer = refl
+  phase_same q o answer = refl
 
 module _ {C : Type 0} (code : C → Effect C) (th : Thread C) where
   print_same : (a : Attempt C) → th.attempt ≡ Some a → (piece : List ℕ) (c : C) (kept : Bool) → FirstIf a.first (print_inside th piece c kept).thread.attempt
@@ -123,16 +100,8 @@ module _ {C : Type 0} (code : C → Effect C) (th : Thread C) where
   print_same a e piece c false = subst (FirstIf a.first) (sym e) refl
 
   own_same : (a : Attempt C) → th.attempt ≡ Some a → (x : Effect C) → FirstIf a.first (own_step th a x).thread.attempt
-  own_same a e (Pure c) = subst (FirstIf a.first) (sym e) refl
   own_same a e (Print piece c) = print_same a e piece c a.kept
-  own_same a e (Traps cause) = subst (FirstIf a.first) (sym e) refl
-  own_same a e (Begin c d) = subst (FirstIf a.first) (sym e) refl
-  own_same a e (Irrevocable c) = subst (FirstIf a.first) (sym e) refl
-  own_same a e End = subst (FirstIf a.first) (sym e) refl
-  own_same a e (Read ad k) = subst (FirstIf a.first) (sym e) refl
-  own_same a e (Write ad v c) = subst (FirstIf a.first) (sym e) refl
-  own_same a e (Commit c) = subst (FirstIf a.first) (sym e) refl
-  own_same a e Cancel = subst (FirstIf a.first) (sym e) refl
+  own_same a e x = subst (FirstIf a.first) (sym e) refl
 
   inside_same : (a : Attempt C) → th.attempt ≡ Some a → (x : Effect C) (o : Option Op) (answer : Answer) → FirstIf a.first (told_inside code th a x o answer).thread.attempt
   inside_same a e x None answer = own_same a e x
@@ -163,15 +132,7 @@ module _ {C : Type 0} (code : C → Effect C) (th : Thread C) where
 
     running_begins : (x : Effect C) → Begins (outside_access Running x) answer (told_running code th x answer).thread.attempt
     running_begins (Begin c d) = begin_first th.configuration answer
-    running_begins (Pure c) = still _
-    running_begins (Print piece c) = still _
-    running_begins (Irrevocable c) = still _
-    running_begins (Traps cause) = still _
-    running_begins End = still _
-    running_begins (Read ad k) = still _
-    running_begins (Write ad v c) = still _
-    running_begins (Commit c) = still _
-    running_begins Cancel = still _
+    running_begins x = still _
 
     outside_begins : (s : Status) (x : Effect C) → Begins (outside_access s x) answer (told_outside code th s x answer).thread.attempt
     outside_begins Running x = running_begins x

@@ -13,7 +13,7 @@ use Rattle.norec_core.specs.Phases.{core_phase, core_store, phase_access, store_
 use Rattle.norec_core.specs.declared.step.Access.{Access}
 use Rattle.norec_core.specs.declared.step.Access.TheVariants.{LoadLock, LoadWord, Local, StoreLock, StoreWord, Swap}
 use Rattle.norec_core.specs.declared.step.Answer.{Answer}
-use Rattle.norec_core.specs.declared.step.Answer.TheVariants.{Done, Lost, Value, Won}
+use Rattle.norec_core.specs.declared.step.Answer.TheVariants.{Lost, Value, Won}
 use Rattle.norec_core.specs.declared.step.Op.TheVariants as op
 use Rattle.norec_core.specs.declared.step.Phase.{Phase}
 use Rattle.norec_core.specs.declared.step.Phase.TheVariants.{AtOperation, ReadsLock, Stores, ValidatesEntry, ValidatesTime}
@@ -53,28 +53,21 @@ answers-more (x ∷ xs) h a new = (a.0, answers-more xs h a.1 new)
 
 -- a lock value answered is the lock's
 pub lock_value_is : (x : Access) (lock : ℕ) (words : List ℕ) (l : ℕ) → lock_value x (answer lock words x) ≡ Some l → l ≡ lock
-lock_value_is Local lock words l e = absurd (cc)
 lock_value_is LoadLock lock words l e = cc
-lock_value_is (LoadWord a) lock words l e = absurd (cc)
 lock_value_is (Swap from) lock words l e = at (eqb_tells lock from) e
   where
     at : (((lock == from) ≡ true) × (lock ≡ from)) ⊎ (((lock == from) ≡ false) × (lock ≢ from)) → lock_value (Swap from) (cond (lock == from) Won (Lost lock)) ≡ Some l → l ≡ lock
     at (inl f) e = let g : Some from ≡ Some l = sym (ap (λ b. lock_value (Swap from) (cond b Won (Lost lock))) f.0) ∙ e in let same = f.1 in cc
     at (inr f) e = let g : Some lock ≡ Some l = sym (ap (λ b. lock_value (Swap from) (cond b Won (Lost lock))) f.0) ∙ e in cc
-lock_value_is (StoreWord a v) lock words l e = absurd (cc)
-lock_value_is (StoreLock n) lock words l e = absurd (cc)
+lock_value_is x lock words l e = absurd (cc)
 
 pub answer_fits : (x : Access) (lock : ℕ) (words : List ℕ) → IsAnswerTo x (answer lock words x)
-answer_fits Local lock words = tt
-answer_fits LoadLock lock words = tt
-answer_fits (LoadWord a) lock words = tt
 answer_fits (Swap from) lock words = at (eqb_tells lock from)
   where
     at : (((lock == from) ≡ true) × (lock ≡ from)) ⊎ (((lock == from) ≡ false) × (lock ≢ from)) → IsAnswerTo (Swap from) (cond (lock == from) Won (Lost lock))
     at (inl f) = rw f.0 tt
     at (inr f) = rw f.0 f.1
-answer_fits (StoreWord a v) lock words = tt
-answer_fits (StoreLock n) lock words = tt
+answer_fits x lock words = tt
 
 -- words
 
@@ -154,12 +147,8 @@ loaded bounds h words l a i le = at (overlaid h.stored (h.mem h.top) a (slice_in
     at (inr e) b = inl (h.top, i.even, omega arith, omega arith, e)
 
 word_answered : (bounds : List ℕ) (h : History) (words : List ℕ) (l : ℕ) (x : Access) → IsHistory bounds h words → l ≤ h.lock → WordIn h words l x (answer h.lock words x)
-word_answered bounds h words l Local i le = tt
-word_answered bounds h words l LoadLock i le = tt
 word_answered bounds h words l (LoadWord a) i le = loaded bounds h words l a i le
-word_answered bounds h words l (Swap from) i le = tt
-word_answered bounds h words l (StoreWord a v) i le = tt
-word_answered bounds h words l (StoreLock n) i le = tt
+word_answered bounds h words l x i le = tt
 
 -- what holds of the answers, by the history
 pub record HearsOk (h : History) (words : List ℕ) (hs : List Heard) : Type 0 where
@@ -301,15 +290,8 @@ module _ {C : Type 0} (code : C → Effect C) where
               other (inr s) = by_other l a v f.0 f.1 f.2 u s.1 g
 
       one_invariant : (l : ℕ) (x : Access) (y : Answer) → WordIn h words l x y → WordIn k.after words' l x y
-      one_invariant l Local y f = tt
-      one_invariant l LoadLock y f = tt
       one_invariant l (LoadWord a) (Value v) f = word_stays l a v f
-      one_invariant l (LoadWord a) Done f = tt
-      one_invariant l (LoadWord a) Won f = tt
-      one_invariant l (LoadWord a) (Lost n) f = tt
-      one_invariant l (Swap from) y f = tt
-      one_invariant l (StoreWord a v) y f = tt
-      one_invariant l (StoreLock n) y f = tt
+      one_invariant l x y f = tt
 
       words_stay : (l : ℕ) (hs : List Heard) → WordsIn h words l hs → WordsIn k.after words' l hs
       words_stay l [] f = tt

@@ -6,9 +6,9 @@ use Rattle.bytecode.specs.Effects.{Effect, FitsCells}
 use Rattle.bytecode.specs.Sequential.{meaning}
 use Rattle.norec_core.specs.Attempts.{Attempt}
 use Rattle.norec_core.specs.declared.step.Access.{Access}
-use Rattle.norec_core.specs.declared.step.Access.TheVariants.{LoadLock, LoadWord, Local, StoreLock, StoreWord, Swap}
+use Rattle.norec_core.specs.declared.step.Access.TheVariants.{LoadWord, Swap}
 use Rattle.norec_core.specs.declared.step.Answer.{Answer}
-use Rattle.norec_core.specs.declared.step.Answer.TheVariants.{Done, Lost, Value, Won}
+use Rattle.norec_core.specs.declared.step.Answer.TheVariants.{Value}
 use Rattle.machine.specs.Answered.{Answered, AnswersOk, HasWord, HaveWords, Heard, IsAmong, NumbersBelow, WordOf, lock_value, next_lock}
 use Rattle.machine.specs.Explained.{HasLock, IsExplainedBy}
 use Rattle.machine.specs.inner.Invariant.{LeftIs, LockIs, Now, RecordOk}
@@ -114,15 +114,8 @@ module _ {C : Type 0} (code : C → Effect C) (init : ℕ → C) (bounds : List 
             inr (t, p.0, b.0, p.1, b.1, subst (IsAmong (a, v)) q.2 f.1)
 
     has_one : (l : ℕ) (x : Access) (y : Answer) → WordIn s.history w.words l x y → WordOf m0 w es l x y
-    has_one l Local y f = tt
-    has_one l LoadLock y f = tt
     has_one l (LoadWord a) (Value v) f = has_word l a v f
-    has_one l (LoadWord a) Done f = tt
-    has_one l (LoadWord a) Won f = tt
-    has_one l (LoadWord a) (Lost n) f = tt
-    has_one l (Swap from) y f = tt
-    has_one l (StoreWord a v) y f = tt
-    has_one l (StoreLock n) y f = tt
+    has_one l x y f = tt
 
     have_words : (l : ℕ) (hs : List Heard) → WordsIn s.history w.words l hs → HaveWords m0 w es l hs
     have_words l [] f = tt

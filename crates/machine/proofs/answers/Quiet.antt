@@ -4,14 +4,14 @@ use Rattle.syntax.specs.declared.numbers.Status.{Status}
 use Rattle.syntax.specs.declared.numbers.Status.TheVariants.{Running, Ended as HasEnded, Trapped as HasTrapped}
 use Rattle.write_log.specs.Overlay.{written}
 use Rattle.bytecode.specs.Effects.{Effect}
-use Rattle.bytecode.specs.Effects.Effect.{Begin, Cancel, Commit, End, Irrevocable, Print, Pure, Read, Traps, Write}
+use Rattle.bytecode.specs.Effects.Effect.{Begin, Cancel, Commit, Irrevocable, Print, Pure, Read, Write}
 use Rattle.norec_core.specs.Attempts.{Attempt, Checkpoint}
 use Rattle.norec_core.specs.Phases.{CoreStep, core_cancel, core_check, core_commit, core_compare, core_operation, core_phase, core_read, core_store, core_word}
 use Rattle.norec_core.specs.declared.step.Answer.TheVariants.{Done}
 use Rattle.norec_core.specs.declared.step.Op.{Op}
 use Rattle.norec_core.specs.declared.step.Op.TheVariants as op
 use Rattle.norec_core.specs.declared.step.Phase.{Phase}
-use Rattle.norec_core.specs.declared.step.Phase.TheVariants.{AtOperation, ReadsLock, Stores, ValidatesEntry, ValidatesTime}
+use Rattle.norec_core.specs.declared.step.Phase.TheVariants.{AtOperation, ReadsLock, Stores, ValidatesEntry}
 use Rattle.machine.specs.Answered.{local_step}
 use Rattle.machine.specs.Threads.{Thread, op_of, own_step, print_inside, told, told_inside, told_of, told_outside, told_running}
 use Rattle.machine.specs.Worlds.{Part, part_after}
@@ -55,12 +55,7 @@ module _ {C : Type 0} (now : C) (a : Attempt C) where
 
   check_quiet : (o : Op) (v : ℕ) → (core_check a o v Done).sets_snapshot ≡ false
   check_quiet op.Begin v = refl
-  check_quiet (op.Read ad) v = refl
-  check_quiet (op.Write ad w) v = refl
-  check_quiet op.Commit v = refl
-  check_quiet op.Cancel v = refl
-  check_quiet op.Irrevocable v = refl
-  check_quiet op.Release v = refl
+  check_quiet o v = refl
 
   compare_quiet : (time i : ℕ) (o : Option (ℕ × ℕ)) → (core_compare a time i o Done).sets_snapshot ≡ false
   compare_quiet time i None = refl
@@ -69,28 +64,14 @@ module _ {C : Type 0} (now : C) (a : Attempt C) where
   phase_quiet : (q : Phase) (o : Op) → (core_phase now a q o Done).sets_snapshot ≡ false
   phase_quiet AtOperation o = operation_quiet o
   phase_quiet (ReadsLock v) o = check_quiet o v
-  phase_quiet ValidatesTime o = refl
   phase_quiet (ValidatesEntry time i) o = compare_quiet time i (slice_get a.reads i)
   phase_quiet (Stores i) op.Commit = store_quiet i (slice_get a.writes i)
-  phase_quiet (Stores i) op.Begin = refl
-  phase_quiet (Stores i) (op.Read ad) = refl
-  phase_quiet (Stores i) (op.Write ad v) = refl
-  phase_quiet (Stores i) op.Cancel = refl
-  phase_quiet (Stores i) op.Irrevocable = refl
-  phase_quiet (Stores i) op.Release = refl
+  phase_quiet q o = refl
 
 module _ {C : Type 0} (code : C → Effect C) (th : Thread C) where
   running_quiet : (x : Effect C) → (told_running code th x Done).sets_snapshot ≡ false
   running_quiet (Pure c) = refl
-  running_quiet (Print piece c) = refl
-  running_quiet (Begin c d) = refl
-  running_quiet (Irrevocable c) = refl
-  running_quiet (Traps cause) = refl
-  running_quiet End = refl
-  running_quiet (Read ad k) = refl
-  running_quiet (Write ad v c) = refl
-  running_quiet (Commit c) = refl
-  running_quiet Cancel = refl
+  running_quiet x = refl
 
   outside_quiet : (s : Status) (x : Effect C) → (told_outside code th s x Done).sets_snapshot ≡ false
   outside_quiet Running x = running_quiet x
@@ -102,16 +83,8 @@ module _ {C : Type 0} (code : C → Effect C) (th : Thread C) where
   print_quiet piece c false = refl
 
   own_quiet : (a : Attempt C) (x : Effect C) → (own_step th a x).sets_snapshot ≡ false
-  own_quiet a (Pure c) = refl
   own_quiet a (Print piece c) = print_quiet piece c a.kept
-  own_quiet a (Traps cause) = refl
-  own_quiet a (Begin c d) = refl
-  own_quiet a (Irrevocable c) = refl
-  own_quiet a End = refl
-  own_quiet a (Read ad k) = refl
-  own_quiet a (Write ad v c) = refl
-  own_quiet a (Commit c) = refl
-  own_quiet a Cancel = refl
+  own_quiet a x = refl
 
   inside_quiet : (a : Attempt C) (x : Effect C) (o : Option Op) → (told_inside code th a x o Done).sets_snapshot ≡ false
   inside_quiet a x None = own_quiet a x

@@ -2,7 +2,7 @@
 use Rattle.std.proofs.Common.{◌≡◌, ◌<◌, ℕ, Bool, true, false, List, [], ◌∷◌, Option, None, Some, refl, sym, ◌∙◌, ap, subst, length, arith}
 use Rattle.std.specs.Prelude.{IfSome, slice_set}
 use Rattle.syntax.specs.declared.numbers.Status.{Status}
-use Rattle.syntax.specs.declared.numbers.Status.TheVariants.{Running, Ended as HasEnded, Trapped as HasTrapped}
+use Rattle.syntax.specs.declared.numbers.Status.TheVariants.{Running}
 use Rattle.syntax.specs.declared.numbers.Trap.{Trap}
 use Rattle.nesting.specs.Begins.{Saved}
 use Rattle.bytecode.specs.Effects.{Effect}
@@ -78,63 +78,33 @@ module _ (code : Code) (c : Configuration) where
   op_told doing.Local k t h = op_own (effect code c) k t (own_local doing.Local h refl)
   op_told (doing.Read d a) k t h = op_at _ k t _ h.0 refl
   op_told (doing.Write a w) k t h = op_at _ k t _ h.0 refl
-  op_told (doing.Begin to) k t h = op_at _ k t _ h refl
-  op_told doing.Commit k t h = op_at _ k t _ h refl
-  op_told doing.Cancel k t h = op_at _ k t _ h refl
-  op_told doing.Irrevocable k t h = op_at _ k t _ h refl
   op_told doing.Call k t h = op_own (effect code c) k t (own_call doing.Call h refl)
   op_told (doing.Return w) k t h = op_own (effect code c) k t (own_return w h)
-  op_told doing.End k t h = op_at _ k t _ h refl
-  op_told (doing.PrintText n) k t h = op_at _ k t _ h refl
-  op_told (doing.PrintNumber z) k t h = op_at _ k t _ h refl
   op_told (doing.Traps cause) k t h = op_at _ k t _ h (op_traps k t cause)
+  op_told x k t h = op_at _ k t _ h refl
 
   pub out_told : (x : Doing) → Tells code c x → asks_outside Running (effect code c) ≡ op_outside x
   out_told doing.Local h = out_own (effect code c) (own_local doing.Local h refl)
   out_told (doing.Read d a) h = out_at _ _ h.0 refl
   out_told (doing.Write a w) h = out_at _ _ h.0 refl
-  out_told (doing.Begin to) h = out_at _ _ h refl
-  out_told doing.Commit h = out_at _ _ h refl
-  out_told doing.Cancel h = out_at _ _ h refl
-  out_told doing.Irrevocable h = out_at _ _ h refl
   out_told doing.Call h = out_own (effect code c) (own_call doing.Call h refl)
   out_told (doing.Return w) h = out_own (effect code c) (own_return w h)
-  out_told doing.End h = out_at _ _ h refl
-  out_told (doing.PrintText n) h = out_at _ _ h refl
-  out_told (doing.PrintNumber z) h = out_at _ _ h refl
-  out_told (doing.Traps cause) h = out_at _ _ h refl
+  out_told x h = out_at _ _ h refl
 
   writes : (x : Doing) (k t : Bool) (o : Op) → Tells code c x → op_by x k t ≡ Some o → WritesWord o
-  writes doing.Local k t o h e = absurd (cc)
   writes (doing.Read d a) k t o h e = let s : op.Read a ≡ o = cc in subst WritesWord s tt
   writes (doing.Write a w) k t o h e = let s : op.Write a w ≡ o = cc in subst WritesWord s h.1
   writes (doing.Begin to) k t o h e = let s : op.Begin ≡ o = cc in subst WritesWord s tt
   writes doing.Commit k t o h e = let s : op.Commit ≡ o = cc in subst WritesWord s tt
   writes doing.Cancel k t o h e = let s : op.Cancel ≡ o = cc in subst WritesWord s tt
   writes doing.Irrevocable k t o h e = let s : op.Irrevocable ≡ o = cc in subst WritesWord s tt
-  writes doing.Call k t o h e = absurd (cc)
-  writes (doing.Return w) k t o h e = absurd (cc)
-  writes doing.End k t o h e = absurd (cc)
-  writes (doing.PrintText n) k t o h e = absurd (cc)
-  writes (doing.PrintNumber z) k t o h e = absurd (cc)
-  writes (doing.Traps cause) true false o h e = absurd (cc)
   writes (doing.Traps cause) true true o h e = let s : op.Release ≡ o = cc in subst WritesWord s tt
   writes (doing.Traps cause) false t o h e = let s : op.Release ≡ o = cc in subst WritesWord s tt
+  writes x k t o h e = absurd (cc)
 
   writes_out : (x : Doing) (o : Op) → op_outside x ≡ Some o → WritesWord o
   writes_out (doing.Begin to) o e = let s : op.Begin ≡ o = cc in subst WritesWord s tt
-  writes_out doing.Local o e = absurd (cc)
-  writes_out (doing.Read d a) o e = absurd (cc)
-  writes_out (doing.Write a w) o e = absurd (cc)
-  writes_out doing.Commit o e = absurd (cc)
-  writes_out doing.Cancel o e = absurd (cc)
-  writes_out doing.Irrevocable o e = absurd (cc)
-  writes_out doing.Call o e = absurd (cc)
-  writes_out (doing.Return w) o e = absurd (cc)
-  writes_out doing.End o e = absurd (cc)
-  writes_out (doing.PrintText n) o e = absurd (cc)
-  writes_out (doing.PrintNumber z) o e = absurd (cc)
-  writes_out (doing.Traps cause) o e = absurd (cc)
+  writes_out x o e = absurd (cc)
 
   -- what is written is a word
   pub writes_word : (x : Doing) (att : Option (Attempt Saved)) (t : Bool) (o : Op) → Tells code c x → op_asked x att t ≡ Some o → WritesWord o
@@ -153,31 +123,11 @@ module _ (code : Code) (k : Kept) (running : k.status ≡ Running) (x : Doing) (
 module _ {C : Type 0} (th : Thread C) where
   outside_asked : (s : Status) (x : Effect C) (o : Op) → asks_outside s x ≡ Some o → outside_access s x ≡ core_access {S = C} None o
   outside_asked Running (Begin c d) o e = let h : op.Begin ≡ o = cc in ap (λ (z : Op). core_access {S = C} None z) h
-  outside_asked Running (Pure c) o e = absurd (cc)
-  outside_asked Running (Print p c) o e = absurd (cc)
-  outside_asked Running (Read a k) o e = absurd (cc)
-  outside_asked Running (Write a v c) o e = absurd (cc)
-  outside_asked Running (Commit c) o e = absurd (cc)
-  outside_asked Running Cancel o e = absurd (cc)
-  outside_asked Running (Irrevocable c) o e = absurd (cc)
-  outside_asked Running (Traps k) o e = absurd (cc)
-  outside_asked Running End o e = absurd (cc)
-  outside_asked HasEnded x o e = absurd (cc)
-  outside_asked (HasTrapped k) x o e = absurd (cc)
+  outside_asked s x o e = absurd (cc)
 
   outside_none : (s : Status) (x : Effect C) → asks_outside s x ≡ None → outside_access s x ≡ Local
   outside_none Running (Begin c d) e = absurd (cc)
-  outside_none Running (Pure c) e = refl
-  outside_none Running (Print p c) e = refl
-  outside_none Running (Read a k) e = refl
-  outside_none Running (Write a v c) e = refl
-  outside_none Running (Commit c) e = refl
-  outside_none Running Cancel e = refl
-  outside_none Running (Irrevocable c) e = refl
-  outside_none Running (Traps k) e = refl
-  outside_none Running End e = refl
-  outside_none HasEnded x e = refl
-  outside_none (HasTrapped k) x e = refl
+  outside_none s x e = refl
 
   pub access_asked : (att : Option (Attempt C)) (x : Effect C) (o : Op) → asks_by th att x ≡ Some o → access_of th att x ≡ core_access att o
   access_asked None x o e = outside_asked th.status x o e

@@ -26,7 +26,7 @@ use Rattle.norec_core.specs.Phases.{core_access}
 use Rattle.norec_core.specs.Cores.{CoreState, is_kept, holds}
 use Rattle.norec_core.specs.Cores.{has_lock as core_has_lock}
 use Rattle.norec_core.specs.declared.step.Phase.{Phase}
-use Rattle.norec_core.specs.declared.step.Phase.TheVariants.{AtOperation, ReadsLock, ValidatesTime, ValidatesEntry, Stores}
+use Rattle.norec_core.specs.declared.step.Phase.TheVariants.{AtOperation}
 use Rattle.machine.specs.Explained.{has_lock}
 use Rattle.machine.specs.declared.event.Event.TheVariants as event
 use Rattle.machine.specs.Threads.{Thread, access, access_of, outside_access, told}
@@ -158,15 +158,8 @@ trapped_over s cause e f = cc
 
 holds_is : (b : Bool) (q : Phase) → holds b q ≡ has_lock b q
 holds_is true AtOperation = refl
-holds_is true (ReadsLock v) = refl
-holds_is true ValidatesTime = refl
-holds_is true (ValidatesEntry t i) = refl
-holds_is true (Stores i) = refl
 holds_is false AtOperation = refl
-holds_is false (ReadsLock v) = refl
-holds_is false ValidatesTime = refl
-holds_is false (ValidatesEntry t i) = refl
-holds_is false (Stores i) = refl
+holds_is b q = refl
 
 -- what a core says of the lock is what the machine's thread does
 pub lock_shown : (c : Configuration) (att : Option (Attempt Saved)) → core_has_lock att ≡ attempt_has_lock (shown_from c att)

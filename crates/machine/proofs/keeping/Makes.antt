@@ -5,7 +5,7 @@ use Rattle.syntax.specs.declared.numbers.Status.{Status}
 use Rattle.syntax.specs.declared.numbers.Status.TheVariants.{Running, Ended as HasEnded, Trapped as HasTrapped}
 use Rattle.nesting.specs.Begins.{Saved}
 use Rattle.bytecode.specs.Effects.{Effect}
-use Rattle.bytecode.specs.Effects.Effect.{Pure, Print, Begin, Read, Write, Commit, Cancel, Irrevocable, Traps, End}
+use Rattle.bytecode.specs.Effects.Effect.{Pure, Print, Begin, Read, Commit, Cancel, End}
 use Rattle.bytecode.specs.Code.{Code, Configuration, effect}
 use Rattle.frames.specs.Open.{MayStand, AreRestored, restored, saved_in, BeginsStayOpen, CanRestore}
 use Rattle.norec_core.specs.declared.step.Op.{Op}
@@ -29,40 +29,19 @@ use Rattle.machine.proofs.keeping.Steps.{Matches, matches, told_asked, core_show
 module _ (x : Effect Configuration) (o : Op) (q : Matches x o) where
   -- only a cancel goes back where it is done
   no_back : (y : Effect Configuration) (b : Configuration) → Matches y o → o ≢ op.Cancel → back_done y b ≡ None
-  no_back (Begin c d) b m h = refl
-  no_back (Read a k) b m h = refl
-  no_back (Write a v c) b m h = refl
-  no_back (Commit c) b m h = refl
   no_back Cancel b m h = absurd (h m)
-  no_back (Irrevocable c) b m h = refl
-  no_back (Traps k) b m h = refl
-  no_back (Pure c) b m h = refl
-  no_back (Print p c) b m h = refl
-  no_back End b m h = refl
+  no_back y b m h = refl
 
   is_back : (y : Effect Configuration) (b : Configuration) → Matches y o → o ≡ op.Cancel → back_done y b ≡ Some b
   is_back Cancel b m h = refl
-  is_back (Begin c d) b m h = absurd (cc)
-  is_back (Read a k) b m h = absurd (cc)
-  is_back (Write a v c) b m h = absurd (cc)
-  is_back (Commit c) b m h = absurd (cc)
-  is_back (Irrevocable c) b m h = absurd (cc)
-  is_back (Traps k) b m h = absurd (cc)
   is_back (Pure c) b m h = absurd m
   is_back (Print p c) b m h = absurd m
   is_back End b m h = absurd m
+  is_back y b m h = absurd (cc)
 
   no_commit : (y : Effect Configuration) (att : Option (Attempt Saved)) (z : Option Completed) → Matches y o → o ≢ op.Commit → event_done y att ≡ done_event y z
-  no_commit (Begin c d) att z m h = refl
-  no_commit (Read a k) att z m h = refl
-  no_commit (Write a v c) att z m h = refl
   no_commit (Commit c) att z m h = absurd (h m)
-  no_commit Cancel att z m h = refl
-  no_commit (Irrevocable c) att z m h = refl
-  no_commit (Traps k) att z m h = refl
-  no_commit (Pure c) att z m h = refl
-  no_commit (Print p c) att z m h = refl
-  no_commit End att z m h = refl
+  no_commit y att z m h = refl
 
   commit_tells : (att : Option (Attempt Saved)) (z : Option Completed) → tells_commit att z → commit_told att ≡ commit_event z
   commit_tells None None h = absurd (h refl)
@@ -71,15 +50,7 @@ module _ (x : Effect Configuration) (o : Op) (q : Matches x o) where
 
   is_commit : (y : Effect Configuration) (att : Option (Attempt Saved)) (z : Option Completed) → Matches y o → tells_commit att z → o ≡ op.Commit → event_done y att ≡ done_event y z
   is_commit (Commit c) att z m t h = commit_tells att z t
-  is_commit Cancel att z m t h = refl
-  is_commit (Begin c d) att z m t h = refl
-  is_commit (Read a k) att z m t h = refl
-  is_commit (Write a v c) att z m t h = refl
-  is_commit (Irrevocable c) att z m t h = refl
-  is_commit (Traps k) att z m t h = refl
-  is_commit (Pure c) att z m t h = refl
-  is_commit (Print p c) att z m t h = refl
-  is_commit End att z m t h = refl
+  is_commit y att z m t h = refl
 
   module _ (c : Configuration) (s : Saved) (ss : List Saved) (n : CoreStep Saved) (kept : Saved) where
     backs_at : (r : Outcome) (b : Option Saved) → n.outcome ≡ r → n.back ≡ b → back_by x r (restored c kept) ≡ if_some (restored c) b → back_by x n.outcome (restored c kept) ≡ if_some (restored c) n.back

@@ -111,22 +111,12 @@ module _ {S : Type 0} (now : S) (a : Attempt S) (w : GivesWords a) where
     compare : (t i : ℕ) (r : Option (ℕ × ℕ)) (z : Answer) → Does now old o (core_compare a t i r z)
     compare t i (Some p) (Value x) = either (x == p.1) _ _ (going (record a { phase = ValidatesEntry t (suc i) }) (in_phase (ValidatesEntry t (suc i)) tt)) dropped_now
     compare t i None (Value lock) = either (lock == t) _ _ (going_snapshot (record a { snapshot = t; phase = AtOperation }) (refl, record { writes = w.writes; marks = w.marks; in_hand = tt })) validates
-    compare t i None Done = stays
-    compare t i None Won = stays
-    compare t i None (Lost n) = stays
-    compare t i (Some p) Done = stays
-    compare t i (Some p) Won = stays
-    compare t i (Some p) (Lost n) = stays
+    compare t i r z = stays
 
   word : (ad : ℕ) (kept : Bool) (z : Answer) → IsWordOf (LoadWord ad) z → Does now old (op.Read ad) (core_word a kept z)
   word ad true (Value v) h = gives (op.Read ad) a v refl h (refl, w)
   word ad false (Value v) h = going (op.Read ad) (record a { phase = ReadsLock v }) (in_phase (op.Read ad) (ReadsLock v) h)
-  word ad true Done h = stays (op.Read ad)
-  word ad false Done h = stays (op.Read ad)
-  word ad true Won h = stays (op.Read ad)
-  word ad false Won h = stays (op.Read ad)
-  word ad true (Lost n) h = stays (op.Read ad)
-  word ad false (Lost n) h = stays (op.Read ad)
+  word ad kept z h = stays (op.Read ad)
 
   read : (ad : ℕ) (r : Option ℕ) (z : Answer) → r ≡ written ad a.writes → IsWordOf (read_access ad r) z → Does now old (op.Read ad) (core_read a r z)
   read ad (Some v) z e h = gives (op.Read ad) a v refl (written_word ad a.writes v w.writes (sym e)) (refl, w)

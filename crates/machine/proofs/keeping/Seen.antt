@@ -96,12 +96,6 @@ restored_saved c = ap (λ n. record { place = c.place; registers = c.registers; 
 module _ {S : Type 0} (now new : S) where
   pub now_unused : (o : Option (Attempt S)) (x : Op) (y : Answer) → x ≢ op.Begin → core_step now o x y ≡ core_step new o x y
   now_unused None op.Begin y ne = absurd (ne refl)
-  now_unused None (op.Read a) y ne = refl
-  now_unused None (op.Write a v) y ne = refl
-  now_unused None op.Commit y ne = refl
-  now_unused None op.Cancel y ne = refl
-  now_unused None op.Irrevocable y ne = refl
-  now_unused None op.Release y ne = refl
   now_unused (Some a) x y ne = at a.phase x ne
     where
       at : (q : Phase) (x : Op) → x ≢ op.Begin → core_phase now a q x y ≡ core_phase new a q x y
@@ -122,6 +116,7 @@ module _ {S : Type 0} (now new : S) where
       at (Stores i) op.Cancel ne = refl
       at (Stores i) op.Irrevocable ne = refl
       at (Stores i) op.Release ne = refl
+  now_unused o x y ne = refl
 
 -- begins that are within are told apart by what they are restored to
 same_drop : {X : Type 0} (fs : List X) (m n : ℕ) → 0 < m → m ≤ suc (length fs) → 0 < n → n ≤ suc (length fs) → drop (suc (length fs) - m) fs ≡ drop (suc (length fs) - n) fs → m ≡ n

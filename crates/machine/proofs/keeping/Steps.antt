@@ -1,7 +1,7 @@
 -- The steps of a kept thread: each shows as the machine's step.
 use Rattle.std.proofs.Common.{◌≡◌, ◌<◌, ◌^◌, ℕ, Bool, true, false, List, [], ◌∷◌, ◌++◌, Option, None, Some, refl, sym, ◌∙◌, ap, subst, map}
 use Rattle.syntax.specs.declared.numbers.Status.{Status}
-use Rattle.syntax.specs.declared.numbers.Status.TheVariants.{Running, Ended as HasEnded, Trapped as HasTrapped}
+use Rattle.syntax.specs.declared.numbers.Status.TheVariants.{Running, Trapped as HasTrapped}
 use Rattle.syntax.specs.declared.numbers.Trap.{Trap}
 use Rattle.nesting.specs.Begins.{Saved}
 use Rattle.bytecode.specs.Effects.{Effect, after_cancel}
@@ -41,17 +41,7 @@ core_shown c s att o y h = at o h ∙ (commutes (restored c)).step s att o y
 module _ {C : Type 0} (f : C → Effect C) (th : Thread C) (y : Answer) where
   outside_asked : (s : Status) (x : Effect C) (o : Op) → asks_outside s x ≡ Some o → told_outside f th s x y ≡ resumed f th x (core_step th.configuration None o y)
   outside_asked Running (Begin c d) o e = let same : op.Begin ≡ o = cc in ap (λ (z : Op). resumed f th (Begin c d) (core_step th.configuration None z y)) same
-  outside_asked Running (Pure c) o e = absurd (cc)
-  outside_asked Running (Print p c) o e = absurd (cc)
-  outside_asked Running (Read a k) o e = absurd (cc)
-  outside_asked Running (Write a v c) o e = absurd (cc)
-  outside_asked Running (Commit c) o e = absurd (cc)
-  outside_asked Running Cancel o e = absurd (cc)
-  outside_asked Running (Irrevocable c) o e = absurd (cc)
-  outside_asked Running (Traps k) o e = absurd (cc)
-  outside_asked Running End o e = absurd (cc)
-  outside_asked HasEnded x o e = absurd (cc)
-  outside_asked (HasTrapped k) x o e = absurd (cc)
+  outside_asked s x o e = absurd (cc)
 
   -- a step that asks the core for an operation
   pub told_asked : (att : Option (Attempt C)) (x : Effect C) (o : Op) → asks_by th att x ≡ Some o → told_of f th att x y ≡ resumed f th x (core_step th.configuration att o y)
@@ -73,32 +63,15 @@ Matches End o = ⊥
 
 module _ {C : Type 0} where
   op_matches : (x : Effect C) (kept trapping : Bool) (o : Op) → op_of x kept trapping ≡ Some o → Matches x o
-  op_matches (Begin c d) k t o e = cc
-  op_matches (Read a g) k t o e = cc
-  op_matches (Write a v c) k t o e = cc
-  op_matches (Commit c) k t o e = cc
-  op_matches Cancel k t o e = cc
-  op_matches (Irrevocable c) k t o e = cc
   op_matches (Traps cause) true false o e = absurd (cc)
-  op_matches (Traps cause) true true o e = cc
-  op_matches (Traps cause) false t o e = cc
   op_matches (Pure c) k t o e = absurd (cc)
   op_matches (Print p c) k t o e = absurd (cc)
   op_matches End k t o e = absurd (cc)
+  op_matches x kept trapping o e = cc
 
   outside_matches : (s : Status) (x : Effect C) (o : Op) → asks_outside s x ≡ Some o → Matches x o
   outside_matches Running (Begin c d) o e = cc
-  outside_matches Running (Pure c) o e = absurd (cc)
-  outside_matches Running (Print p c) o e = absurd (cc)
-  outside_matches Running (Read a k) o e = absurd (cc)
-  outside_matches Running (Write a v c) o e = absurd (cc)
-  outside_matches Running (Commit c) o e = absurd (cc)
-  outside_matches Running Cancel o e = absurd (cc)
-  outside_matches Running (Irrevocable c) o e = absurd (cc)
-  outside_matches Running (Traps k) o e = absurd (cc)
-  outside_matches Running End o e = absurd (cc)
-  outside_matches HasEnded x o e = absurd (cc)
-  outside_matches (HasTrapped k) x o e = absurd (cc)
+  outside_matches s x o e = absurd (cc)
 
   pub matches : (th : Thread C) (att : Option (Attempt C)) (x : Effect C) (o : Op) → asks_by th att x ≡ Some o → Matches x o
   matches th None x o e = outside_matches th.status x o e
@@ -146,27 +119,18 @@ module _ (code : Code) (law : BeginsStayOpen code) where
 
       reading : (x : Effect Configuration) (v : ℕ) → effect code c ≡ x → Matches x o → is_read o ≡ true → v < 2 ^ 32 → n.outcome ≡ outcome.Read v → n.back ≡ None → begins_of n.attempt ≡ ss → GivesWordsIf n.attempt → LeavesTo x
       reading (Read a k) v ex q r lt e f b w = to_at (Read a k) (outcome.Read v) None (k v) Running e f refl refl (on_at (Read a k) n.outcome n.attempt (k v) ex (v, lt, refl) b w)
-      reading (Begin d g) v ex q r lt e f b w = let z : is_read o ≡ false = ap is_read q in absurd (cc)
-      reading (Write a u d) v ex q r lt e f b w = let z : is_read o ≡ false = ap is_read q in absurd (cc)
-      reading (Commit d) v ex q r lt e f b w = let z : is_read o ≡ false = ap is_read q in absurd (cc)
-      reading Cancel v ex q r lt e f b w = let z : is_read o ≡ false = ap is_read q in absurd (cc)
-      reading (Irrevocable d) v ex q r lt e f b w = let z : is_read o ≡ false = ap is_read q in absurd (cc)
-      reading (Traps k) v ex q r lt e f b w = let z : is_read o ≡ false = ap is_read q in absurd (cc)
       reading (Pure d) v ex q r lt e f b w = absurd q
       reading (Print p d) v ex q r lt e f b w = absurd q
       reading End v ex q r lt e f b w = absurd q
+      reading x v ex q r lt e f b w = let z : is_read o ≡ false = ap is_read q in absurd (cc)
 
       working : (x : Effect Configuration) → effect code c ≡ x → Matches x o → is_plain o ≡ true → n.outcome ≡ outcome.Done → n.back ≡ None → begins_of n.attempt ≡ ss → GivesWordsIf n.attempt → LeavesTo x
       working (Write a u d) ex q r e f b w = to_at (Write a u d) outcome.Done None d Running e f refl refl (on_at (Write a u d) n.outcome n.attempt d ex refl b w)
       working (Irrevocable d) ex q r e f b w = to_at (Irrevocable d) outcome.Done None d Running e f refl refl (on_at (Irrevocable d) n.outcome n.attempt d ex refl b w)
-      working (Begin d g) ex q r e f b w = let z : is_plain o ≡ false = ap is_plain q in absurd (cc)
-      working (Read a k) ex q r e f b w = let z : is_plain o ≡ false = ap is_plain q in absurd (cc)
-      working (Commit d) ex q r e f b w = let z : is_plain o ≡ false = ap is_plain q in absurd (cc)
-      working Cancel ex q r e f b w = let z : is_plain o ≡ false = ap is_plain q in absurd (cc)
-      working (Traps k) ex q r e f b w = let z : is_plain o ≡ false = ap is_plain q in absurd (cc)
       working (Pure d) ex q r e f b w = absurd q
       working (Print p d) ex q r e f b w = absurd q
       working End ex q r e f b w = absurd q
+      working x ex q r e f b w = let z : is_plain o ≡ false = ap is_plain q in absurd (cc)
 
       beginning : (x : Effect Configuration) → effect code c ≡ x → Matches x o → o ≡ op.Begin → n.outcome ≡ outcome.Done → n.back ≡ None → begins_of n.attempt ≡ s ∷ ss → GivesWordsIf n.attempt → LeavesTo x
       beginning (Begin d g) ex q r e f b w =
@@ -176,15 +140,10 @@ module _ (code : Code) (law : BeginsStayOpen code) where
           let back : AreRestored c d (saved_in c ∷ ss) = ap (λ (z : Configuration). z ∷ map (restored d) ss) (h.1 ∙ sym (restored_saved c)) ∙ ap (λ (zs : List Configuration). restored c (saved_in c) ∷ zs) h.2 in
           to_at (Begin d g) outcome.Done None d Running e f refl refl
           (runs_at (Begin d g) n.outcome n.attempt d (subst (MayStand code d) (sym all) h.0) (subst (AreRestored c d) (sym all) back) w)
-      beginning (Write a u d) ex q r e f b w = absurd (cc)
-      beginning (Irrevocable d) ex q r e f b w = absurd (cc)
-      beginning (Read a k) ex q r e f b w = absurd (cc)
-      beginning (Commit d) ex q r e f b w = absurd (cc)
-      beginning Cancel ex q r e f b w = absurd (cc)
-      beginning (Traps k) ex q r e f b w = absurd (cc)
       beginning (Pure d) ex q r e f b w = absurd q
       beginning (Print p d) ex q r e f b w = absurd q
       beginning End ex q r e f b w = absurd q
+      beginning x ex q r e f b w = absurd (cc)
 
       committing : (x : Effect Configuration) (t : Saved) → effect code c ≡ x → Matches x o → o ≡ op.Commit → n.outcome ≡ outcome.Done → n.back ≡ None → ss ≡ t ∷ begins_of n.attempt → GivesWordsIf n.attempt → LeavesTo x
       committing (Commit d) t ex q r e f b w =
@@ -192,15 +151,10 @@ module _ (code : Code) (law : BeginsStayOpen code) where
           let rest : h.1 ≡ begins_of n.attempt = let g = h.2 in cc in
           to_at (Commit d) outcome.Done None d Running e f refl refl
           (runs_at (Commit d) n.outcome n.attempt d (subst (MayStand code d) rest h.3) (subst (AreRestored c d) rest h.4) w)
-      committing (Begin d g) t ex q r e f b w = absurd (cc)
-      committing (Write a u d) t ex q r e f b w = absurd (cc)
-      committing (Irrevocable d) t ex q r e f b w = absurd (cc)
-      committing (Read a k) t ex q r e f b w = absurd (cc)
-      committing Cancel t ex q r e f b w = absurd (cc)
-      committing (Traps k) t ex q r e f b w = absurd (cc)
       committing (Pure d) t ex q r e f b w = absurd q
       committing (Print p d) t ex q r e f b w = absurd q
       committing End t ex q r e f b w = absurd q
+      committing x t ex q r e f b w = absurd (cc)
 
       cancelling : (x : Effect Configuration) (t : Saved) → effect code c ≡ x → Matches x o → o ≡ op.Cancel → n.outcome ≡ outcome.Done → n.back ≡ Some t → ss ≡ t ∷ begins_of n.attempt → GivesWordsIf n.attempt → LeavesTo x
       cancelling Cancel t ex q r e f b w =
@@ -211,15 +165,10 @@ module _ (code : Code) (law : BeginsStayOpen code) where
           to_at Cancel outcome.Done (Some t) (to t) Running e f refl refl
           (runs_at Cancel n.outcome n.attempt (to t) (subst (λ (z : Saved). MayStand code (to z) (begins_of n.attempt)) first (subst (MayStand code (to h.0)) rest h.3))
           (subst (λ (z : Saved). AreRestored c (to z) (begins_of n.attempt)) first (subst (AreRestored c (to h.0)) rest h.4)) w)
-      cancelling (Begin d g) t ex q r e f b w = absurd (cc)
-      cancelling (Write a u d) t ex q r e f b w = absurd (cc)
-      cancelling (Irrevocable d) t ex q r e f b w = absurd (cc)
-      cancelling (Read a k) t ex q r e f b w = absurd (cc)
-      cancelling (Commit d) t ex q r e f b w = absurd (cc)
-      cancelling (Traps k) t ex q r e f b w = absurd (cc)
       cancelling (Pure d) t ex q r e f b w = absurd q
       cancelling (Print p d) t ex q r e f b w = absurd q
       cancelling End t ex q r e f b w = absurd q
+      cancelling x t ex q r e f b w = absurd (cc)
 
       dropping : (x : Effect Configuration) (inner : List Saved) (t : Saved) → n.outcome ≡ outcome.Aborted → n.back ≡ Some t → ss ≡ inner ++ t ∷ [] → n.attempt ≡ None → LeavesTo x
       dropping x inner t e f b a =
@@ -229,15 +178,10 @@ module _ (code : Code) (law : BeginsStayOpen code) where
 
       releasing : (x : Effect Configuration) → Matches x o → o ≡ op.Release → n.outcome ≡ outcome.Done → n.back ≡ None → n.attempt ≡ None → LeavesTo x
       releasing (Traps k) q r e f a = to_at (Traps k) outcome.Done None c (HasTrapped k) e f refl refl (subst (λ (z : Option (Attempt Saved)). Leaves code c (Traps k) n.outcome z c (HasTrapped k)) (sym a) (over_at (Traps k) n.outcome k))
-      releasing (Begin d g) q r e f a = absurd (cc)
-      releasing (Write w u d) q r e f a = absurd (cc)
-      releasing (Irrevocable d) q r e f a = absurd (cc)
-      releasing (Read w k) q r e f a = absurd (cc)
-      releasing (Commit d) q r e f a = absurd (cc)
-      releasing Cancel q r e f a = absurd (cc)
       releasing (Pure d) q r e f a = absurd q
       releasing (Print p d) q r e f a = absurd q
       releasing End q r e f a = absurd q
+      releasing x q r e f a = absurd (cc)
 
       pub leaves : (x : Effect Configuration) → effect code c ≡ x → Matches x o → Does s ss o n → LeavesTo x
       leaves x ex q (goes e f b w) = going_on x e f b w

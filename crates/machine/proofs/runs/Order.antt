@@ -114,17 +114,7 @@ module _ {C : Type 0} (code : C → Effect C) where
 
   outside_none : (th : Thread C) (s : Status) (x : Effect C) (ans : Answer) → (told_outside code th s x ans).completed ≡ None
   outside_none th Running (Begin c d) ans = begin_none th.configuration ans
-  outside_none th Running (Pure c) ans = refl
-  outside_none th Running (Print piece c) ans = refl
-  outside_none th Running (Read ad k) ans = refl
-  outside_none th Running (Write ad v c) ans = refl
-  outside_none th Running (Commit c) ans = refl
-  outside_none th Running Cancel ans = refl
-  outside_none th Running (Irrevocable c) ans = refl
-  outside_none th Running (Traps cause) ans = refl
-  outside_none th Running End ans = refl
-  outside_none th HasEnded x ans = refl
-  outside_none th (HasTrapped cause) x ans = refl
+  outside_none th s x ans = refl
 
   module _ (th : Thread C) (a : Attempt C) (e : th.attempt ≡ Some a) where
     same : SameFirst (Some a) th.attempt

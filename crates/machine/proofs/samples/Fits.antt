@@ -9,7 +9,7 @@ use Rattle.bytecode.specs.Sequential.{meaning}
 use Rattle.machine.specs.Serializable.{IsOpaque}
 use Rattle.machine.proofs.runs.Programs.{opaque}
 use Rattle.machine.proofs.samples.Samples.{Instruction, Configuration, begins, effect_of, effects_of, instruction_effect}
-use Rattle.machine.proofs.samples.Samples.Instruction.{Const, Add, Sub, Mul, Div, Jump, Jnz, Read, Write, Open, Close, Undo, Keep, Show, Ret}
+use Rattle.machine.proofs.samples.Samples.Instruction.{Add, Sub, Div, Jnz, Read, Write}
 use Rattle.machine.proofs.samples.Rows.{count_code, copy_code, back_code, div_code, look_code, nested_code, cancel_code, relaxed_code, trap_code, inner_code, inner_cancel_code, two_prints_code, kept_undo_code}
 
 -- the cell is there, and its bound is 2 ^ 32
@@ -60,24 +60,16 @@ module _ (bounds : List ℕ) where
   either false x y g h = h
 
   fitting : (c : Configuration) (i : Instruction) → names_cell bounds i ≡ true → Fitting bounds (instruction_effect c i)
-  fitting c (Const d k) e = tt
   fitting c (Add d a b) e = either (nat_lt (slice_index c.registers a + slice_index c.registers b) (2 ^ 31)) _ _ tt tt
   fitting c (Sub d a b) e = either (nat_lt (slice_index c.registers a) (slice_index c.registers b)) _ _ tt tt
-  fitting c (Mul d a b) e = tt
   fitting c (Div d a b) e = either (slice_index c.registers b == 0) _ _ tt tt
-  fitting c (Jump p) e = tt
   fitting c (Jnz a p) e = either (slice_index c.registers a == 0) _ _ tt tt
   fitting c (Read d a) e = (cell bounds a e).0
   fitting c (Write a r) e =
       let f = cell bounds a e in
       let lt = mod_below (slice_index c.registers r) (2 ^ 32) (omega arith) in
       (f.0, subst (λ (n : ℕ). slice_index c.registers r % 2 ^ 32 < n) (sym f.1) lt)
-  fitting c (Open p) e = tt
-  fitting c Close e = tt
-  fitting c Undo e = tt
-  fitting c Keep e = tt
-  fitting c (Show a) e = tt
-  fitting c Ret e = tt
+  fitting c i e = tt
 
   fitting_code : (code : List Instruction) → names_cells bounds code ≡ true → (c : Configuration) → Fitting bounds (effects_of code c)
   fitting_code code all c = at (slice_get code c.place) refl

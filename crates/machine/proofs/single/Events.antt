@@ -45,13 +45,7 @@ module _ {C : Type 0} where
   done_from (Commit c) completed = commit_from c completed
   done_from Cancel completed = cancelled refl refl
   done_from (Traps cause) completed = trapped cause refl refl
-  done_from (Pure c) completed = silent
-  done_from (Print piece c) completed = silent
-  done_from (Begin c d) completed = silent
-  done_from (Read ad k) completed = silent
-  done_from (Write ad v c) completed = silent
-  done_from (Irrevocable c) completed = silent
-  done_from End completed = silent
+  done_from x completed = silent
 
   from : (x : Effect C) (p : Outcome) (completed : Option Completed) → ComesFrom x p completed (event_of x p completed)
   from x outcome.Going completed = silent
@@ -60,48 +54,25 @@ module _ {C : Type 0} where
   from x outcome.Aborted completed = aborted refl
 
   abort_from : (x : Effect C) (p : Outcome) (completed : Option Completed) (e : Event) → ComesFrom x p completed e → e ≡ event.Abort → p ≡ outcome.Aborted
-  abort_from x p completed e silent f = absurd (cc)
   abort_from x p completed e (aborted g) f = g
-  abort_from x p completed e (committed c g h n) f = absurd (cc)
-  abort_from x p completed e (cancelled g h) f = absurd (cc)
-  abort_from x p completed e (trapped cause g h) f = absurd (cc)
+  abort_from x p completed e _ f = absurd (cc)
 
   commits_from : (x : Effect C) (p : Outcome) (completed : Option Completed) (e : Event) → ComesFrom x p completed e → e ≡ event.Commit → (completed ≡ None → ⊥) × ((c : C) × (x ≡ Commit c))
-  commits_from x p completed e silent f = absurd (cc)
-  commits_from x p completed e (aborted g) f = absurd (cc)
   commits_from x p completed e (committed c g h n) f = (n, (c, g))
-  commits_from x p completed e (cancelled g h) f = absurd (cc)
-  commits_from x p completed e (trapped cause g h) f = absurd (cc)
+  commits_from x p completed e _ f = absurd (cc)
 
   cancel_from : (x : Effect C) (p : Outcome) (completed : Option Completed) (e : Event) → ComesFrom x p completed e → e ≡ event.Cancel → (x ≡ Cancel) × (p ≡ outcome.Done)
-  cancel_from x p completed e silent f = absurd (cc)
-  cancel_from x p completed e (aborted g) f = absurd (cc)
-  cancel_from x p completed e (committed c g h n) f = absurd (cc)
   cancel_from x p completed e (cancelled g h) f = (g, h)
-  cancel_from x p completed e (trapped cause g h) f = absurd (cc)
+  cancel_from x p completed e _ f = absurd (cc)
 
   trap_from : (x : Effect C) (p : Outcome) (completed : Option Completed) (e : Event) (cause : Trap) → ComesFrom x p completed e → e ≡ event.Trap cause → (x ≡ Traps cause) × (p ≡ outcome.Done)
-  trap_from x p completed e cause silent f = absurd (cc)
-  trap_from x p completed e cause (aborted g) f = absurd (cc)
-  trap_from x p completed e cause (committed c g h n) f = absurd (cc)
-  trap_from x p completed e cause (cancelled g h) f = absurd (cc)
   trap_from x p completed e cause (trapped why g h) f = let same : why ≡ cause = cc in (g ∙ ap Traps same, h)
+  trap_from x p completed e cause _ f = absurd (cc)
 
   -- a step leaves a running thread trapped where its instruction traps and is done
   status_from : (p : Outcome) (x : Effect C) (cause : Trap) → status_after p x Running ≡ HasTrapped cause → (x ≡ Traps cause) × (p ≡ outcome.Done)
   status_from outcome.Done (Traps why) cause e = let same : why ≡ cause = cc in (ap Traps same, refl)
-  status_from outcome.Done (Pure c) cause e = absurd (cc)
-  status_from outcome.Done (Print piece c) cause e = absurd (cc)
-  status_from outcome.Done (Begin c d) cause e = absurd (cc)
-  status_from outcome.Done (Read ad k) cause e = absurd (cc)
-  status_from outcome.Done (Write ad v c) cause e = absurd (cc)
-  status_from outcome.Done (Commit c) cause e = absurd (cc)
-  status_from outcome.Done Cancel cause e = absurd (cc)
-  status_from outcome.Done (Irrevocable c) cause e = absurd (cc)
-  status_from outcome.Done End cause e = absurd (cc)
-  status_from outcome.Going x cause e = absurd (cc)
-  status_from (outcome.Read v) x cause e = absurd (cc)
-  status_from outcome.Aborted x cause e = absurd (cc)
+  status_from p x cause e = absurd (cc)
 
   is_commit : (c : C) (completed : Option Completed) → (completed ≡ None → ⊥) → event_of (Commit c) outcome.Done completed ≡ event.Commit
   is_commit c None n = absurd (n refl)
@@ -200,15 +171,7 @@ module _ {C : Type 0} where
     module _ (none : th.attempt ≡ None) where
       no_cancel : (x : Effect C) → Cancels x None → ⊥
       no_cancel Cancel r = r
-      no_cancel (Pure c) r = r
-      no_cancel (Print piece c) r = r
-      no_cancel (Begin c d) r = r
-      no_cancel (Read ad k) r = r
-      no_cancel (Write ad v c) r = r
-      no_cancel (Commit c) r = r
-      no_cancel (Irrevocable c) r = r
-      no_cancel (Traps cause) r = r
-      no_cancel End r = r
+      no_cancel x r = r
 
       still : (x : Effect C) → Cancels x th.attempt → ⊥
       still x r = no_cancel x (subst (Cancels x) none r)

@@ -4,11 +4,11 @@ use Rattle.std.proofs.lemmas.Bool.Decides.{eqb_tells}
 use Rattle.syntax.specs.Behaviours.{IsMemory}
 use Rattle.write_log.specs.Overlay.{written}
 use Rattle.bytecode.specs.Effects.{Effect, FitsCells}
-use Rattle.bytecode.specs.Effects.Effect.{Begin, Cancel, Commit, End, Irrevocable, Print, Pure, Read, Traps, Write}
+use Rattle.bytecode.specs.Effects.Effect.{Begin, Cancel, Commit, Irrevocable, Print, Read, Write}
 use Rattle.norec_core.specs.Attempts.{Attempt, Checkpoint, Completed}
 use Rattle.norec_core.specs.Phases.{CoreStep, core_cancel, core_commit, core_operation, core_phase, core_read, core_store, core_swap, core_word, on}
 use Rattle.norec_core.specs.declared.step.Answer.{Answer}
-use Rattle.norec_core.specs.declared.step.Answer.TheVariants.{Done, Lost, Value, Won}
+use Rattle.norec_core.specs.declared.step.Answer.TheVariants.{Done}
 use Rattle.norec_core.specs.declared.step.Op.{Op}
 use Rattle.norec_core.specs.declared.step.Op.TheVariants as op
 use Rattle.norec_core.specs.declared.step.Outcome.TheVariants as outcome
@@ -49,9 +49,7 @@ module _ {C : Type 0} (code : C → Effect C) (h : History) (th : Thread C) (a :
   word : (kept : Bool) → kept ≡ true → (y : Answer) → Locks (core_word a kept y)
   word false k y = absurd (cc)
   word true k Done = (refl, has)
-  word true k (Value w) = (refl, has)
-  word true k Won = (refl, has)
-  word true k (Lost n) = (refl, has)
+  word kept k y = (refl, has)
 
   read : (o : Option ℕ) (y : Answer) → a.kept ≡ true → Locks (core_read a o y)
   read (Some v) y k = (refl, has)
@@ -81,13 +79,8 @@ module _ {C : Type 0} (code : C → Effect C) (h : History) (th : Thread C) (a :
   operation op.Release y k = (refl, k)
 
   stores : (i : ℕ) (o : Op) (y : Answer) → Locks (core_phase th.configuration a (Stores i) o y)
-  stores i op.Begin y = (refl, has)
-  stores i (op.Read ad) y = (refl, has)
-  stores i (op.Write ad v) y = (refl, has)
   stores i op.Commit y = store i (slice_get a.writes i)
-  stores i op.Cancel y = (refl, has)
-  stores i op.Irrevocable y = (refl, has)
-  stores i op.Release y = (refl, has)
+  stores i o y = (refl, has)
 
   -- validation, and the check of a read's word, are made without the lock
   unlocked : (q : Phase) → a.kept ≡ false → has_lock false q ≡ false → has_lock a.kept q ≡ true → ⊥
@@ -111,16 +104,8 @@ module _ {C : Type 0} (code : C → Effect C) (h : History) (th : Thread C) (a :
   print piece c false = still
 
   own : (x : Effect C) → LocksNext (own_step th a x)
-  own (Pure c) = still
   own (Print piece c) = print piece c a.kept
-  own (Begin c d) = still
-  own (Read ad f) = still
-  own (Write ad v c) = still
-  own (Commit c) = still
-  own Cancel = still
-  own (Irrevocable c) = still
-  own (Traps cause) = still
-  own End = still
+  own x = still
 
   -- a step of a thread that has the lock
   pub locks_on : InHand code h a th.configuration a.phase → (y : Answer) → LocksNext (told code th y)

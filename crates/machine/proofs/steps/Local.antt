@@ -76,13 +76,10 @@ module _ {C : Type 0} (code : C → Effect C) (bounds : List ℕ) (t : ℕ) (c0 
     outside_steps (Pure c) ans e st ex i ord nh s ok lock = outside_goes _ (Pure c) e refl st ex ord nh (λ more. ap (outside c more (lefts_in p.records) p.thread.text) (sym st)) s
     outside_steps (Print piece c) ans e st ex i ord nh s ok lock = outside_goes _ (Print piece c) e refl st ex ord nh (λ more. ap (outside c more (lefts_in p.records) (p.thread.text ++ piece)) (sym st)) s
     outside_steps (Begin d dc) ans e st ex i ord nh s ok lock = rw (lock d dc refl) (begin_step d dc e st ex i ord nh s)
-    outside_steps (Read a k) ans e st ex i ord nh s ok lock = ok
-    outside_steps (Write a v c) ans e st ex i ord nh s ok lock = ok
-    outside_steps (Commit c) ans e st ex i ord nh s ok lock = ok
-    outside_steps Cancel ans e st ex i ord nh s ok lock = ok
     outside_steps (Irrevocable c) ans e st ex i ord nh s ok lock = outside_goes _ (Irrevocable c) e refl st ex ord nh (λ more. ap (outside c more (lefts_in p.records) p.thread.text) (sym st)) s
     outside_steps (Traps cause) ans e st ex i ord nh s ok lock = outside_goes _ (Traps cause) e refl st ex ord nh (λ more. refl) s
     outside_steps End ans e st ex i ord nh s ok lock = outside_goes _ End e refl st ex ord nh (λ more. refl) s
+    outside_steps x ans e st ex i ord nh s ok lock = ok
 
     -- the attempt stands at an instruction
     module _ (a : Attempt C) (e : p.thread.attempt ≡ Some a) (ph : a.phase ≡ AtOperation) (ord : Ordered 0 p.records a.snapshot) (n : AttemptOk code bounds h t c0 p.records p.base p.thread.configuration a p.thread.text p.thread.status) where

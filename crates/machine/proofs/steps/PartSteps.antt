@@ -50,13 +50,10 @@ module _ {C : Type 0} (code : C → Effect C) (bounds : List ℕ) (t : ℕ) (c0 
     running_step (Begin d dc) e st ex ord nh s = from _ (outside_steps code bounds t c0 h words p ok.each ok.complete (Begin d dc) (Value h.lock) e st ex i ord nh s ok (λ d' dc' same. refl))
     running_step (Pure c) e st ex ord nh s = from _ (outside_steps code bounds t c0 h words p ok.each ok.complete (Pure c) Done e st ex i ord nh s ok (λ d dc same. absurd (cc)))
     running_step (Print piece c) e st ex ord nh s = from _ (outside_steps code bounds t c0 h words p ok.each ok.complete (Print piece c) Done e st ex i ord nh s ok (λ d dc same. absurd (cc)))
-    running_step (Read a k) e st ex ord nh s = stays
-    running_step (Write a v c) e st ex ord nh s = stays
-    running_step (Commit c) e st ex ord nh s = stays
-    running_step Cancel e st ex ord nh s = stays
     running_step (Irrevocable c) e st ex ord nh s = from _ (outside_steps code bounds t c0 h words p ok.each ok.complete (Irrevocable c) Done e st ex i ord nh s ok (λ d dc same. absurd (cc)))
     running_step (Traps cause) e st ex ord nh s = from _ (outside_steps code bounds t c0 h words p ok.each ok.complete (Traps cause) Done e st ex i ord nh s ok (λ d dc same. absurd (cc)))
     running_step End e st ex ord nh s = from _ (outside_steps code bounds t c0 h words p ok.each ok.complete End Done e st ex i ord nh s ok (λ d dc same. absurd (cc)))
+    running_step x e st ex ord nh s = stays
 
     outside_step_ok : (status : Status) (x : Effect C) → p.thread.attempt ≡ None → p.thread.status ≡ status → code p.thread.configuration ≡ x → Ordered 0 p.records h.top → h.holder ≢ Some t → ComesTo code c0 p.records p.thread.configuration p.thread.text p.thread.status → After p (outside_access status x) (told_outside code p.thread status x)
     outside_step_ok Running x e st ex ord nh s = running_step x e st ex ord nh s

@@ -26,11 +26,7 @@ use Rattle.machine.proofs.tallies.Tallying.{EndsQuietly, Quiet, QuietAfter, mean
 -- a step without cost is local
 local_of : (x : Access) → cost x ≡ 0 → x ≡ access_.Local
 local_of access_.Local e = refl
-local_of access_.LoadLock e = absurd (cc)
-local_of (access_.LoadWord a) e = absurd (cc)
-local_of (access_.Swap from) e = absurd (cc)
-local_of (access_.StoreWord a v) e = absurd (cc)
-local_of (access_.StoreLock n) e = absurd (cc)
+local_of x e = absurd (cc)
 
 -- an outermost begin under a free lock
 module _ {C : Type 0} (code : C → Effect C) (lock : ℕ) (words : List ℕ) (free : lock % 2 ≡ 0) where

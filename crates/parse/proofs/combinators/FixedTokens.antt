@@ -5,7 +5,7 @@ use Rattle.lex.specs.declared.token.Fixed.{Fixed}
 use Rattle.lex.specs.declared.token.Fixed.TheVariants.{Keyword, Punctuator}
 use Rattle.lex.specs.contracts.token.Keyword as keyword
 use Rattle.lex.specs.contracts.token.Punctuator as punctuator
-use Rattle.lex.specs.Tokens.{Terminal, name, constant, string_literal, fixed, reserved, Tok}
+use Rattle.lex.specs.Tokens.{Terminal, fixed, Tok}
 use Rattle.syntax.specs.Phrases.{Phrase, Seq, One, Begins, same_fixed, is_fixed, the_fixed}
 use Rattle.parse.specs.inner.Reading.{head}
 
@@ -16,15 +16,12 @@ same_is (Keyword a) (Punctuator b) is = absurd cc
 same_is (Punctuator a) (Keyword b) is = absurd cc
 
 fixed_terminal : {A : Type 0} (k : Fixed) (l : Terminal) (x b : A) → cond (is_fixed k l) (Some x) None ≡ Some b → l ≡ fixed k
-fixed_terminal k (name s) x b e = absurd cc
-fixed_terminal k (constant n t) x b e = absurd cc
-fixed_terminal k (string_literal s) x b e = absurd cc
-fixed_terminal k reserved x b e = absurd cc
 fixed_terminal k (fixed j) x b e = go (same_fixed j k) refl e
   where
     go : (c : Bool) → same_fixed j k ≡ c → cond c (Some x) None ≡ Some b → fixed j ≡ fixed k
     go true is h = ap fixed (same_is j k is)
     go false is h = absurd cc
+fixed_terminal k l x b e = absurd cc
 
 -- a token that says what a fixed token says is that token
 pub fixed_is : (k : Fixed) (t : Tok) (b : Unit {0}) → the_fixed k t ≡ Some b → t.terminal ≡ fixed k

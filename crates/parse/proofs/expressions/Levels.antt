@@ -5,11 +5,11 @@ use Rattle.lex.specs.declared.token.Fixed.{Fixed}
 use Rattle.lex.specs.declared.token.Fixed.TheVariants.{Punctuator}
 use Rattle.lex.specs.declared.token.Punctuator.TheVariants as punct
 use Rattle.lex.specs.declared.token.Span.{Span}
-use Rattle.lex.specs.Tokens.{Terminal, name, constant, string_literal, fixed, reserved, Tok}
+use Rattle.lex.specs.Tokens.{Terminal, fixed, Tok}
 use Rattle.syntax.specs.declared.tree.BinaryOp.{BinaryOp}
-use Rattle.syntax.specs.declared.tree.BinaryOp.TheVariants.{Or, Xor, And, Equal, NotEqual, Less, Greater, LessEqual, GreaterEqual, ShiftLeft, ShiftRight, Add, Subtract, Multiply, Divide, Remainder}
+use Rattle.syntax.specs.declared.tree.BinaryOp.TheVariants.{Or}
 use Rattle.syntax.specs.declared.tree.LogicalOp.{LogicalOp}
-use Rattle.syntax.specs.declared.tree.LogicalOp.TheVariants.{AndThen, OrElse}
+use Rattle.syntax.specs.declared.tree.LogicalOp.TheVariants.{AndThen}
 use Rattle.syntax.specs.Tree.{Expr, Variable, Constant, Element, Call, Parenthesized, Cast, Unary, Binary, Logical, Conditional}
 use Rattle.syntax.specs.Depth.{expr_depth}
 use Rattle.syntax.specs.Typing.{span_of}
@@ -35,43 +35,13 @@ use Rattle.parse.proofs.expressions.Operands.{Image, imaged, span_is, span_cover
 
 under : (op : Infix) → infix_precedence op < 11
 under (Computing Or) = lit< tt
-under (Computing Xor) = lit< tt
-under (Computing And) = lit< tt
-under (Computing Equal) = lit< tt
-under (Computing NotEqual) = lit< tt
-under (Computing Less) = lit< tt
-under (Computing Greater) = lit< tt
-under (Computing LessEqual) = lit< tt
-under (Computing GreaterEqual) = lit< tt
-under (Computing ShiftLeft) = lit< tt
-under (Computing ShiftRight) = lit< tt
-under (Computing Add) = lit< tt
-under (Computing Subtract) = lit< tt
-under (Computing Multiply) = lit< tt
-under (Computing Divide) = lit< tt
-under (Computing Remainder) = lit< tt
 under (Choosing AndThen) = lit< tt
-under (Choosing OrElse) = lit< tt
+under op = lit< tt
 
 over : (op : Infix) → 1 ≤ infix_precedence op
 over (Computing Or) = lit≤ tt
-over (Computing Xor) = lit≤ tt
-over (Computing And) = lit≤ tt
-over (Computing Equal) = lit≤ tt
-over (Computing NotEqual) = lit≤ tt
-over (Computing Less) = lit≤ tt
-over (Computing Greater) = lit≤ tt
-over (Computing LessEqual) = lit≤ tt
-over (Computing GreaterEqual) = lit≤ tt
-over (Computing ShiftLeft) = lit≤ tt
-over (Computing ShiftRight) = lit≤ tt
-over (Computing Add) = lit≤ tt
-over (Computing Subtract) = lit≤ tt
-over (Computing Multiply) = lit≤ tt
-over (Computing Divide) = lit≤ tt
-over (Computing Remainder) = lit≤ tt
 over (Choosing AndThen) = lit≤ tt
-over (Choosing OrElse) = lit≤ tt
+over op = lit≤ tt
 
 level_of : (op : Infix) (a b : Expr) → level (infix_node op a b) ≡ infix_precedence op
 level_of (Computing op) a b = refl
@@ -93,16 +63,13 @@ infix_logical None None op e = absurd cc
 
 -- an operator that chooses does not compute
 logical_not_binary : (k : Terminal) (op : LogicalOp) → by_fixed logical_of k ≡ Some op → by_fixed binary_of k ≡ None
-logical_not_binary (name s) op e = refl
-logical_not_binary (constant n t) op e = refl
-logical_not_binary (string_literal s) op e = refl
 logical_not_binary (fixed k) op e = go k e
   where
     go : (k : Fixed) → logical_of k ≡ Some op → binary_of k ≡ None
     go (Punctuator punct.LogicalAnd) e = refl
     go (Punctuator punct.LogicalOr) e = refl
     go _ e = absurd cc
-logical_not_binary reserved op e = refl
+logical_not_binary k op e = refl
 
 joined : (op : Infix) (a b : Expr) (t : Tok) (pa pb : List Tok) → the_infix t ≡ Some op → expr a pa → expr b pb → infix_precedence op ≤ level a → infix_precedence op < level b → expr (infix_node op a b) (pa ++ (t ∷ pb))
 joined (Computing op) a b t pa pb has la lb le lt = (
@@ -170,13 +137,9 @@ split (Logical op a b at) p l low high =
       whole = whole;
     }
 split (Conditional c a b at) p l low high = absurd (let le : 1 ≤ 0 = low in omega arith)
-split (Variable x) p l low high = absurd (let h : 12 < 11 = high in omega arith)
-split (Constant n t at) p l low high = absurd (let h : 12 < 11 = high in omega arith)
-split (Element x i at) p l low high = absurd (let h : 12 < 11 = high in omega arith)
-split (Call f es at) p l low high = absurd (let h : 12 < 11 = high in omega arith)
-split (Parenthesized e at) p l low high = absurd (let h : 12 < 11 = high in omega arith)
 split (Cast t e at) p l low high = absurd (let h : 11 < 11 = high in omega arith)
 split (Unary op e at) p l low high = absurd (let h : 11 < 11 = high in omega arith)
+split e p l low high = absurd (let h : 12 < 11 = high in omega arith)
 
 calm_over : (op : Infix) (a b : Expr) (h : Option Tok) → Calm b h → Calm (infix_node op a b) h
 calm_over (Computing op) a b h c = c

@@ -220,13 +220,10 @@ constant_goes e p o = go o.token.terminal refl o.has
     go reserved is h = absurd cc
 
 constant_is : (k : Terminal) (at : Span) (n : ℕ) (t : Scalar) (v : Span) → number_in k at ≡ Some (record { value = n; of = t; at = v }) → constant_in k at ≡ Some (Constant n t v)
-constant_is (name s) at n t v h = absurd cc
 constant_is (constant i u) at n t v h =
     let same : ◌≡◌ {A = Number} (record { value = i; of = u; at = at }) (record { value = n; of = t; at = v }) = cc in
     ap (λ (z : Number). Some (Constant z.value z.of z.at)) same
-constant_is (string_literal s) at n t v h = absurd cc
-constant_is (fixed k) at n t v h = absurd cc
-constant_is reserved at n t v h = absurd cc
+constant_is k at n t v h = absurd cc
 
 constant_comes : (e : Expr) (p : List Tok) → ConstantL e p → One the_constant e p
 constant_comes (Constant n t at) p o = record { token = o.token; has = constant_is o.token.terminal o.token.span n t at o.has; whole = o.whole }

@@ -6,7 +6,7 @@ use Rattle.lex.specs.declared.token.Keyword.TheVariants as key
 use Rattle.lex.specs.declared.token.Scalar.{Scalar}
 use Rattle.lex.specs.declared.token.Scalar.TheVariants.{Int, Unsigned}
 use Rattle.lex.specs.declared.token.Span.{Span}
-use Rattle.lex.specs.Tokens.{Terminal, name, constant, string_literal, fixed, reserved, Tok}
+use Rattle.lex.specs.Tokens.{Terminal, name, fixed, Tok}
 use Rattle.syntax.specs.Tree.{Name}
 use Rattle.syntax.specs.Phrases.{Phrase, One, Begins, is_fixed, the_fixed}
 use Rattle.syntax.specs.Grammar.{by_fixed, name_in, the_name, optional}
@@ -29,11 +29,8 @@ abbrev pub name_begins : Begins (One the_name) []
 name_begins = record { value = some_name; more = some_name_token ∷ []; spelled = record { token = some_name_token; has = refl; whole = refl } }
 
 name_in_no : (k : Fixed) (l : Terminal) (at : Span) (x : Name) → name_in l at ≡ Some x → is_fixed k l ≡ false
-name_in_no k (name s) at x h = refl
-name_in_no k (constant n t) at x h = refl
-name_in_no k (string_literal s) at x h = refl
 name_in_no k (fixed j) at x h = absurd cc
-name_in_no k reserved at x h = refl
+name_in_no k l at x h = refl
 
 -- a name is no fixed token
 pub name_not_fixed : (k : Fixed) (x : Name) (p q : List Tok) → One the_name x p → is_next k (head (p ++ q)) ≡ false
@@ -119,11 +116,8 @@ word_goes (Keyword key.Unsigned) t w o q is e l =
 word_goes _ t w o q is e l = absurd cc
 
 terminal_goes : (k : Terminal) (t : Tok) (w : Scalar × Bool) (o : Option (Unit {0})) (q : List Tok) → t.terminal ≡ k → by_fixed type_of_fixed k ≡ Some w → LongerL w.1 o q → Grammar.scalar w.0 (t ∷ q)
-terminal_goes (name s) t w o q is e l = absurd cc
-terminal_goes (constant n of) t w o q is e l = absurd cc
-terminal_goes (string_literal s) t w o q is e l = absurd cc
 terminal_goes (fixed k) t w o q is e l = word_goes k t w o q is e l
-terminal_goes reserved t w o q is e l = absurd cc
+terminal_goes k t w o q is e l = absurd cc
 
 words_go : (x : (Scalar × Bool) × Option (Unit {0})) (p : List Tok) → WordsL x p → Grammar.scalar x.0.0 p
 words_go x p s =

@@ -27,15 +27,12 @@ use Rattle.parse.proofs.expressions.Scalars.{some_name, some_name_token}
 -- operators aside: a name at the end takes what stands in brackets and parentheses
 abbrev pub Calm : Expr → Option Tok → Type 0
 Calm (Variable x) h = (is_next (Punctuator punct.OpenBracket) h ≡ false) × (is_next (Punctuator punct.OpenParen) h ≡ false)
-Calm (Constant n t at) h = Unit {0}
-Calm (Element x i at) h = Unit {0}
-Calm (Call f es at) h = Unit {0}
-Calm (Parenthesized e at) h = Unit {0}
 Calm (Cast t e at) h = Calm e h
 Calm (Unary op e at) h = Calm e h
 Calm (Binary op a b at) h = Calm b h
 Calm (Logical op a b at) h = Calm b h
 Calm (Conditional c a b at) h = Calm b h
+Calm _ h = Unit {0}
 
 -- what may follow any expression
 abbrev pub WholeS : Expr → Option Tok → Type 0
@@ -43,15 +40,12 @@ WholeS e h = ((op_at operators 1 h ≡ None) × Calm e h) × (is_next (Punctuato
 
 pub calm_any : (e : Expr) (h : Option Tok) → is_next (Punctuator punct.OpenBracket) h ≡ false → is_next (Punctuator punct.OpenParen) h ≡ false → Calm e h
 calm_any (Variable x) h a b = (a, b)
-calm_any (Constant n t at) h a b = tt
-calm_any (Element x i at) h a b = tt
-calm_any (Call f es at) h a b = tt
-calm_any (Parenthesized e at) h a b = tt
 calm_any (Cast t e at) h a b = calm_any e h a b
 calm_any (Unary op e at) h a b = calm_any e h a b
 calm_any (Binary op x e at) h a b = calm_any e h a b
 calm_any (Logical op x e at) h a b = calm_any e h a b
 calm_any (Conditional c x e at) h a b = calm_any e h a b
+calm_any e h a b = tt
 
 -- `; ) ] , :` and the punctuators of assignments and steps
 abbrev pub is_closing : Fixed → Bool
@@ -153,22 +147,13 @@ step_follows e t by has = go t.terminal refl has
 
 name_kind : (k : Terminal) (at : Span) (x : Name) → name_in k at ≡ Some x → operand_terminal k ≡ kind.Name
 name_kind (name s) at x h = refl
-name_kind (constant n t) at x h = absurd cc
-name_kind (string_literal s) at x h = absurd cc
-name_kind (fixed k) at x h = absurd cc
-name_kind reserved at x h = absurd cc
+name_kind k at x h = absurd cc
 
 number_kind : (k : Terminal) (at : Span) (x : Number) → number_in k at ≡ Some x → operand_terminal k ≡ kind.Constant
-number_kind (name s) at x h = absurd cc
 number_kind (constant n t) at x h = refl
-number_kind (string_literal s) at x h = absurd cc
-number_kind (fixed k) at x h = absurd cc
-number_kind reserved at x h = absurd cc
+number_kind k at x h = absurd cc
 
 unary_kind : (k : Terminal) (op : UnaryOp) → by_fixed unary_of k ≡ Some op → operand_terminal k ≡ kind.Prefix
-unary_kind (name s) op h = absurd cc
-unary_kind (constant n t) op h = absurd cc
-unary_kind (string_literal s) op h = absurd cc
 unary_kind (fixed k) op h = fixed_kind k h
   where
     fixed_kind : (k : Fixed) → unary_of k ≡ Some op → operand_terminal (fixed k) ≡ kind.Prefix
@@ -177,7 +162,7 @@ unary_kind (fixed k) op h = fixed_kind k h
     fixed_kind (Punctuator punct.Not) h = refl
     fixed_kind (Punctuator punct.Complement) h = refl
     fixed_kind _ h = absurd cc
-unary_kind reserved op h = absurd cc
+unary_kind k op h = absurd cc
 
 open_kind : (t : Tok) (x : Unit {0}) → the_fixed (Punctuator punct.OpenParen) t ≡ Some x → operand_terminal t.terminal ≡ kind.Open
 open_kind t x h = ap operand_terminal (fixed_is (Punctuator punct.OpenParen) t x h)
@@ -196,16 +181,10 @@ lead_kind (Logical op a b at) = lead_kind a
 lead_kind (Conditional c a b at) = lead_kind c
 
 lead_some : (e : Expr) → is_operand (lead_kind e) ≡ true
-lead_some (Variable x) = refl
-lead_some (Constant n t at) = refl
-lead_some (Element x i at) = refl
-lead_some (Call f es at) = refl
-lead_some (Parenthesized e at) = refl
-lead_some (Cast t e at) = refl
-lead_some (Unary op e at) = refl
 lead_some (Binary op a b at) = lead_some a
 lead_some (Logical op a b at) = lead_some a
 lead_some (Conditional c a b at) = lead_some c
+lead_some e = refl
 
 pub seq_heads : {L M : Phrase} {p : List Tok} (s : Seq L M p) (q : List Tok) → head (p ++ q) ≡ head (s.front ++ (s.back ++ q))
 seq_heads s q = ap head (ap (λ (z : List Tok). z ++ q) s.whole ∙ append_assoc s.front s.back q)
@@ -275,29 +254,15 @@ start_not_step (Some t) e = go t.terminal e
 
 pub positive : (e : Expr) → 1 ≤ expr_depth e
 positive (Variable x) = omega arith
-positive (Constant n t at) = omega arith
-positive (Element x i at) = omega arith
-positive (Call f es at) = omega arith
-positive (Parenthesized e at) = omega arith
-positive (Cast t e at) = omega arith
-positive (Unary op e at) = omega arith
-positive (Binary op a b at) = omega arith
-positive (Logical op a b at) = omega arith
-positive (Conditional c a b at) = omega arith
+positive e = omega arith
 
 name_place : (k : Terminal) (at : Span) (x : Name) → name_in k at ≡ Some x → x.at ≡ at
 name_place (name s) at x h = let same : record { text = s; at = at } ≡ x = cc in ap (λ (z : Name). z.at) (sym same)
-name_place (constant n t) at x h = absurd cc
-name_place (string_literal s) at x h = absurd cc
-name_place (fixed k) at x h = absurd cc
-name_place reserved at x h = absurd cc
+name_place k at x h = absurd cc
 
 number_place : (k : Terminal) (at : Span) (x : Number) → number_in k at ≡ Some x → x.at ≡ at
-number_place (name s) at x h = absurd cc
 number_place (constant n t) at x h = let same : record { value = n; of = t; at = at } ≡ x = cc in ap (λ (z : Number). z.at) (sym same)
-number_place (string_literal s) at x h = absurd cc
-number_place (fixed k) at x h = absurd cc
-number_place reserved at x h = absurd cc
+number_place k at x h = absurd cc
 
 -- a name stands where its token does
 pub name_covers : (x : Name) (p : List Tok) → One the_name x p → Covers x.at p
@@ -310,11 +275,7 @@ expr_covers (Constant n t at) p l = subst (Covers at) (sym l.whole) (number_plac
 expr_covers (Element x i at) p l = l.0
 expr_covers (Call f es at) p l = l.0
 expr_covers (Parenthesized e at) p l = l.0
-expr_covers (Cast t e at) p l = l.1.0
-expr_covers (Unary op e at) p l = l.1.0
-expr_covers (Binary op a b at) p l = l.1.0
-expr_covers (Logical op a b at) p l = l.1.0
-expr_covers (Conditional c a b at) p l = l.1.0
+expr_covers e p l = l.1.0
 
 -- ---- what goes on
 

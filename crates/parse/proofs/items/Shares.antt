@@ -29,20 +29,14 @@ use Rattle.parse.proofs.items.Headers.{Next, Parted, parted_not, front_head, all
 
 -- a constant that is seen with its place
 with_place : (k : Terminal) (at : Span) (x : ℕ × Scalar) → grammar.value_in k ≡ Some x → value_in k at ≡ Some (x, at)
-with_place (name s) at x h = absurd cc
 with_place (constant n t) at x h = let same : ◌≡◌ {A = ℕ × Scalar} (n, t) x = cc in ap (λ (z : ℕ × Scalar). Some (z, at)) same
-with_place (string_literal s) at x h = absurd cc
-with_place (fixed k) at x h = absurd cc
-with_place reserved at x h = absurd cc
+with_place k at x h = absurd cc
 
 without_place : (k : Terminal) (at : Span) (x : (ℕ × Scalar) × Span) → value_in k at ≡ Some x → (grammar.value_in k ≡ Some x.0) × (at ≡ x.1) × (is_fixed (Punctuator punct.Minus) k ≡ false)
-without_place (name s) at x h = absurd cc
 without_place (constant n t) at x h =
     let same : ◌≡◌ {A = (ℕ × Scalar) × Span} ((n, t), at) x = cc in
     (ap (λ (z : (ℕ × Scalar) × Span). Some z.0) same, ap (λ (z : (ℕ × Scalar) × Span). z.1) same, refl)
-without_place (string_literal s) at x h = absurd cc
-without_place (fixed k) at x h = absurd cc
-without_place reserved at x h = absurd cc
+without_place k at x h = absurd cc
 
 abbrev SignedL : Option Span × ((ℕ × Scalar) × Span) → Phrase
 SignedL = Two (optional (One (place_of (Punctuator punct.Minus)))) (One the_placed_value)

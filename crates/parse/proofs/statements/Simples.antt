@@ -62,11 +62,8 @@ step_fixed _ by e = absurd cc
 
 -- a step's punctuator is no assignment's
 step_not_assigning : (k : Terminal) (by : IncDec) → by_fixed step_of k ≡ Some by → is_some (by_fixed assigning_of k) ≡ false
-step_not_assigning (name s) by e = refl
-step_not_assigning (constant n of) by e = refl
-step_not_assigning (string_literal s) by e = refl
 step_not_assigning (fixed k) by e = step_fixed k by e
-step_not_assigning reserved by e = refl
+step_not_assigning k by e = refl
 
 says_one : {A : Type 0} (f : Tok → Option A) (x : A) (p q : List Tok) → One f x p → says f (head (p ++ q)) ≡ true
 says_one f x p q o = ap (says f) (one_head o q) ∙ ap is_some o.has
