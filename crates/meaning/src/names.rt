@@ -102,14 +102,26 @@ pub(crate) enum Symbol<'p, A: Allocator> {
     Function(&'p Function<A>),
 }
 
+impl<'p, A: Allocator> Symbol<'p, A> {
+    /// The same, lent once more.
+    fn lent(&self) -> Symbol<'p, A>
+        ensures { result ≡ self.now }
+    {
+        match self {
+            Symbol::Unknown => Symbol::Unknown,
+            Symbol::Global(g) => Symbol::Global(*g),
+            Symbol::Function(f) => Symbol::Function(*f),
+        }
+    }
+}
+
 /// What a name is first declared as in the file.
 fn declared<'p, A: Allocator + Copy>(source: &Source<'p, A>, name: &str) -> Symbol<'p, A>
     ensures { known_of result ≡ file_scope (program_in source.now) name.now }
 {
     match source.symbols.get(name) {
-        Some(Symbol::Global(g)) => Symbol::Global(*g),
-        Some(Symbol::Function(f)) => Symbol::Function(*f),
-        Some(Symbol::Unknown) | None => Symbol::Unknown,
+        Some(symbol) => symbol.lent(),
+        None => Symbol::Unknown,
     }
 }
 
