@@ -23,5 +23,5 @@ pub use order::{OrderFault, run_in_order};
 pub use replayed::{Replayed, replay_code};
 pub use request::serve;
 pub use run::SourceFault;
-pub use tell::{Detail, cannot_read, tell_usage};
+pub use tell::{Detail, cannot_read, refuse_run, tell_usage};
 pub use timeline::lines_shown;

@@ -139,7 +139,7 @@ pub(crate) fn too_long<E: Write>(err: &mut E) -> u8
 }
 
 /// Says why threads were not run.
-pub(crate) fn refuse_run<E: Write>(fault: RunFault, err: &mut E) -> u8
+pub fn refuse_run<E: Write>(fault: RunFault, err: &mut E) -> u8
     ensures { result ≡ 4 }
 {
     let number = match fault {

@@ -1,12 +1,14 @@
 //! The examples of docs/FAULTS.md: each is a source, its fault's number, and what standard error says behind the number.
 //! `scripts/faults.py` compares these tables with the document's.
 
-use crate::served::{answers, serve_bytes, tells};
+use crate::served::{Answer, answers, serve_bytes, tells};
 use command::{Request, command};
+use serving::refuse_run;
 use std::alloc::{AllocError, Allocator, Global};
 use std::sync::Wait;
 use std::test::Fail;
 use std::thread::Threads;
+use workers::RunFault;
 
 /// A source, the number of its fault, and what is told behind it.
 type Told = (&'static str, u32, &'static str);
@@ -310,13 +312,48 @@ fn explains_faults(rt: HostRuntime) -> Result<(), Fail> {
     Ok(())
 }
 
-/// A text that is too long is told as such before it is told that it is not UTF-8.
-#[test]
-fn a_long_text_that_is_not_utf8_is_too_long(rt: HostRuntime) -> Result<(), Fail> {
-    let mut source = Vec::new(rt.alloc());
-    for _ in 0..1048577u32 {
+// So many bytes of which none is a character's.
+fn no_characters(alloc: Global, count: u32) -> Result<Vec<u8>, AllocError> {
+    let mut source = Vec::new(alloc);
+    for _ in 0..count {
         source.push(b'\xff')?;
     }
-    assert!(rt; is_told(&rt, rt.alloc(), source.as_slice(), 5, "1:1: file too long"));
-    Ok(())
+    Ok(source)
+}
+
+// Whether a file of so many of them is answered so.
+fn no_text_is_told<H: Threads + Wait + Sync>(
+    rt: &H,
+    alloc: Global,
+    count: u32,
+    wanted: Answer,
+) -> bool {
+    match no_characters(alloc, count) {
+        Ok(source) => tells(rt, alloc, &["txc", "run", "a.c"], source.as_slice(), wanted),
+        Err(_) => false,
+    }
+}
+
+/// A long file is told not to be UTF-8, and one that is too long to be that.
+#[test]
+fn a_long_file_that_is_not_utf8_is_told(rt: HostRuntime) {
+    let no_text = (2, b"".as_slice(), b"txc: a.c is not UTF-8\n".as_slice());
+    assert!(rt; no_text_is_told(&rt, rt.alloc(), 1_048_576, no_text));
+    let told = b"txc: fault 05 at 1:1: file too long\n";
+    let too_long = (1, b"".as_slice(), told.as_slice());
+    assert!(rt; no_text_is_told(&rt, rt.alloc(), 1_048_577, too_long));
+}
+
+// Whether this is told of a run that is refused.
+fn is_told_of_run(alloc: Global, fault: RunFault, told: &[u8]) -> bool {
+    let mut err = Vec::new(alloc);
+    refuse_run(fault, &mut err) == 4 && err.as_slice() == told
+}
+
+/// Why a run is refused that no command line asks for, or that the system gives no thread or no memory.
+#[test]
+fn refused_runs_are_told(rt: HostRuntime) {
+    assert!(rt; is_told_of_run(rt.alloc(), RunFault::Threads, b"txc: fault 72\n"));
+    assert!(rt; is_told_of_run(rt.alloc(), RunFault::NotStarted, b"txc: fault 73\n"));
+    assert!(rt; is_told_of_run(rt.alloc(), RunFault::OutOfMemory, b"txc: out of memory\n"));
 }
