@@ -23,17 +23,17 @@ abbrev pub the_name : Tok → Option Name
 the_name t = name_in t.terminal t.span
 
 -- a constant: its value, its type, and its place
-pub record Number : Type 0 where
+pub record IntegerConstant : Type 0 where
   pub value : ℕ
   pub of : Scalar
   pub at : Span
 
-abbrev pub number_in : Terminal → Span → Option Number
-number_in (Terminal.constant n of) at = Some (record { value = n; of = of; at = at })
-number_in _ at = None
+abbrev pub integer_constant_in : Terminal → Span → Option IntegerConstant
+integer_constant_in (Terminal.constant n of) at = Some (record { value = n; of = of; at = at })
+integer_constant_in _ at = None
 
-abbrev pub the_number : Tok → Option Number
-the_number t = number_in t.terminal t.span
+abbrev pub the_integer_constant : Tok → Option IntegerConstant
+the_integer_constant t = integer_constant_in t.terminal t.span
 
 -- what a string stands for, and its place
 abbrev pub text_in : Terminal → Span → Option (List ℕ × Span)
@@ -171,7 +171,7 @@ named = One the_name
 abbrev mutual
   pub expr : Expr → Phrase
   expr (Variable x) = named x
-  expr (Constant n t at) = One the_number (record { value = n; of = t; at = at })
+  expr (Constant n t at) = One the_integer_constant (record { value = n; of = t; at = at })
   expr (Element x i at) = spanning at (named x ⨾ Sign punct.OpenBracket ⨾ expr i ⨾ Sign punct.CloseBracket)
   expr (Call f es at) = spanning at (named f ⨾ Sign punct.OpenParen ⨾ arguments es ⨾ Sign punct.CloseParen)
   expr (Parenthesized e at) = spanning at (Sign punct.OpenParen ⨾ expr e ⨾ Sign punct.CloseParen)

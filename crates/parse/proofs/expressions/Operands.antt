@@ -19,7 +19,7 @@ use Rattle.syntax.specs.Depth.{expr_depth, deepest}
 use Rattle.syntax.specs.Typing.{span_of}
 use Rattle.syntax.specs.Views.{exprs_from}
 use Rattle.syntax.specs.Phrases.{Phrase, Seq, One, Is, Many, Listed, Begins, Covers, place_of}
-use Rattle.syntax.specs.Grammar.{Number, number_in, the_name, the_unary, precedence, logical_precedence, expr, further}
+use Rattle.syntax.specs.Grammar.{IntegerConstant, integer_constant_in, the_name, the_unary, precedence, logical_precedence, expr, further}
 use Rattle.syntax.specs.Grammar as Grammar
 use Rattle.parse.specs.declared.lead.Infix.{Infix}
 use Rattle.parse.specs.declared.lead.Infix.TheVariants.{Computing, Choosing}
@@ -214,15 +214,15 @@ constant_goes e p o = go o.token.terminal refl o.has
     go (name s) is h = absurd cc
     go (constant n t) is h =
         let same : Constant n t o.token.span ≡ e = cc in
-        subst (λ (z : Expr). ConstantL z p) same (record { token = o.token; has = ap (λ (k : Terminal). number_in k o.token.span) is; whole = o.whole })
+        subst (λ (z : Expr). ConstantL z p) same (record { token = o.token; has = ap (λ (k : Terminal). integer_constant_in k o.token.span) is; whole = o.whole })
     go (string_literal s) is h = absurd cc
     go (fixed k) is h = absurd cc
     go reserved is h = absurd cc
 
-constant_is : (k : Terminal) (at : Span) (n : ℕ) (t : Scalar) (v : Span) → number_in k at ≡ Some (record { value = n; of = t; at = v }) → constant_in k at ≡ Some (Constant n t v)
+constant_is : (k : Terminal) (at : Span) (n : ℕ) (t : Scalar) (v : Span) → integer_constant_in k at ≡ Some (record { value = n; of = t; at = v }) → constant_in k at ≡ Some (Constant n t v)
 constant_is (constant i u) at n t v h =
-    let same : ◌≡◌ {A = Number} (record { value = i; of = u; at = at }) (record { value = n; of = t; at = v }) = cc in
-    ap (λ (z : Number). Some (Constant z.value z.of z.at)) same
+    let same : ◌≡◌ {A = IntegerConstant} (record { value = i; of = u; at = at }) (record { value = n; of = t; at = v }) = cc in
+    ap (λ (z : IntegerConstant). Some (Constant z.value z.of z.at)) same
 constant_is k at n t v h = absurd cc
 
 constant_comes : (e : Expr) (p : List Tok) → ConstantL e p → One the_constant e p

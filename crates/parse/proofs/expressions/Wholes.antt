@@ -13,7 +13,7 @@ use Rattle.syntax.specs.Tree.{Name, Expr, Variable, Constant, Element, Call, Par
 use Rattle.syntax.specs.Depth.{expr_depth}
 use Rattle.syntax.specs.Typing.{span_of}
 use Rattle.syntax.specs.Phrases.{Phrase, Seq, One, Begins, Covers, is_fixed, the_fixed}
-use Rattle.syntax.specs.Grammar.{by_fixed, name_in, the_name, Number, number_in, unary_of, binary_of, logical_of, the_unary, assigning_of, the_assigning, step_of, the_step, level, expr}
+use Rattle.syntax.specs.Grammar.{by_fixed, name_in, the_name, IntegerConstant, integer_constant_in, unary_of, binary_of, logical_of, the_unary, assigning_of, the_assigning, step_of, the_step, level, expr}
 use Rattle.parse.specs.declared.lead.Infix.{Infix}
 use Rattle.parse.specs.declared.lead.Operand.{Operand}
 use Rattle.parse.specs.declared.lead.Operand.TheVariants as kind
@@ -149,7 +149,7 @@ name_kind : (k : Terminal) (at : Span) (x : Name) → name_in k at ≡ Some x �
 name_kind (name s) at x h = refl
 name_kind k at x h = absurd cc
 
-number_kind : (k : Terminal) (at : Span) (x : Number) → number_in k at ≡ Some x → operand_terminal k ≡ kind.Constant
+number_kind : (k : Terminal) (at : Span) (x : IntegerConstant) → integer_constant_in k at ≡ Some x → operand_terminal k ≡ kind.Constant
 number_kind (constant n t) at x h = refl
 number_kind k at x h = absurd cc
 
@@ -260,8 +260,8 @@ name_place : (k : Terminal) (at : Span) (x : Name) → name_in k at ≡ Some x �
 name_place (name s) at x h = let same : record { text = s; at = at } ≡ x = cc in ap (λ (z : Name). z.at) (sym same)
 name_place k at x h = absurd cc
 
-number_place : (k : Terminal) (at : Span) (x : Number) → number_in k at ≡ Some x → x.at ≡ at
-number_place (constant n t) at x h = let same : record { value = n; of = t; at = at } ≡ x = cc in ap (λ (z : Number). z.at) (sym same)
+number_place : (k : Terminal) (at : Span) (x : IntegerConstant) → integer_constant_in k at ≡ Some x → x.at ≡ at
+number_place (constant n t) at x h = let same : record { value = n; of = t; at = at } ≡ x = cc in ap (λ (z : IntegerConstant). z.at) (sym same)
 number_place k at x h = absurd cc
 
 -- a name stands where its token does
@@ -333,7 +333,7 @@ tight_begins t e = go t.terminal refl e
 
     go : (k : Terminal) → t.terminal ≡ k → is_operand (operand_terminal k) ≡ true → Begins TightL (t ∷ [])
     go (name s) is e = record { value = Variable (record { text = s; at = t.span }); more = []; spelled = (record { token = t; has = ap (λ (k : Terminal). name_in k t.span) is; whole = refl }, lit≤ tt) }
-    go (constant n of) is e = record { value = Constant n of t.span; more = []; spelled = (record { token = t; has = ap (λ (k : Terminal). number_in k t.span) is; whole = refl }, lit≤ tt) }
+    go (constant n of) is e = record { value = Constant n of t.span; more = []; spelled = (record { token = t; has = ap (λ (k : Terminal). integer_constant_in k t.span) is; whole = refl }, lit≤ tt) }
     go (string_literal s) is e = absurd cc
     go (fixed k) is e = at_fixed k is e
     go reserved is e = absurd cc
