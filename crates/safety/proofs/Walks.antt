@@ -1,5 +1,6 @@
 -- Sites put one behind another, and the sites of each kind of tree.
-use Rattle.std.proofs.Common.{◌≡◌, refl, ap, sym, ◌∙◌, ℕ, ◌+◌, ◌<◌, List, [], ◌∷◌, ◌++◌, length, map, drop, get_or, append_assoc, Option, Some, None, option_map, unwrap_or}
+use Rattle.std.proofs.Common.{◌≡◌, refl, ap, sym, ◌∙◌, ℕ, ◌+◌, ◌<◌, List, [], ◌∷◌, ◌++◌, length, map, drop, get_or, append_assoc, Option, Some, None, option_map, unwrap_or, Result, Ok, Err}
+use Rattle.std.specs.Result.{OnOk}
 use Rattle.std.proofs.lemmas.List.{append-nil, at_drop_more}
 use Rattle.syntax.specs.declared.tree.Name as N
 use Rattle.syntax.specs.declared.tree.Expr as E
@@ -8,15 +9,20 @@ use Rattle.syntax.specs.declared.tree.Declarator as R
 use Rattle.syntax.specs.declared.tree.ForHead as H
 use Rattle.syntax.specs.declared.tree.Parameter as P
 use Rattle.syntax.specs.declared.tree.Stmt as S
-use Rattle.syntax.specs.declared.tree.{BinaryOp.BinaryOp, LogicalOp.LogicalOp}
-use Rattle.syntax.proofs.Seen.{expr_of_element, expr_of_call, expr_of_binary, expr_of_logical, expr_of_conditional, stmt_of_declare, stmt_of_block, stmt_of_print, stmt_of_for, stmt_of_transaction}
+use Rattle.lex.specs.declared.token.Scalar.{Scalar}
+use Rattle.syntax.specs.declared.tree.Simple as I
+use Rattle.syntax.specs.declared.tree.Stmt.TheOpen.{Stmt-F}
+use Rattle.syntax.specs.declared.tree.Stmt.TheFolds.{fold-roll-Stmt}
+use Rattle.syntax.specs.declared.tree.Stmt.TheVariants as SV
+use Rattle.syntax.specs.declared.tree.{UnaryOp.UnaryOp, BinaryOp.BinaryOp, LogicalOp.LogicalOp}
+use Rattle.syntax.proofs.Seen.{expr_of_variable, expr_of_element, expr_of_call, expr_of_parenthesized, expr_of_cast, expr_of_unary, expr_of_binary, expr_of_logical, expr_of_conditional, stmt_of_declare, stmt_of_block, stmt_of_print, stmt_of_while, stmt_of_do_while, stmt_of_for, stmt_of_return, stmt_of_transaction}
 use Rattle.syntax.specs.Tree as Tree
 use Rattle.syntax.specs.Tree.{Span}
 use Rattle.syntax.specs.declared.tree.{Mode.Mode, Mode.TheVariants.Atomic, Mode.TheVariants.Relaxed}
-use Rattle.syntax.specs.Views.{name_of, expr_of, exprs_of, declarator_of, declaration_of, start_of, simple_of, stmt_of, stmts_of, parameter_of}
+use Rattle.syntax.specs.Views.{name_of, expr_of, exprs_of, declarator_of, declaration_of, start_of, simple_of, stmt_step, stmt_of, stmts_of, parameter_of}
 use Rattle.syntax.specs.Typing.{names_of, parameter_names}
 use Rattle.safety.specs.declared.site.Site.{Site as OwnSite}
-use Rattle.safety.specs.Sites.{Calls, Prints, Site, names_of_start, Around, site, uses, with_names, in_transaction, expr_sites, exprs_sites, sites_if_any, simple_sites, declarator_sites, mode_site, stmt_sites, stmts_sites}
+use Rattle.safety.specs.Sites.{Calls, Cancels, Prints, Site, names_of_start, Around, site, uses, with_names, in_transaction, expr_sites, exprs_sites, sites_if_any, simple_sites, declarator_sites, mode_site, stmt_sites, stmts_sites}
 use Rattle.safety.specs.Views.{sites_of_own}
 use Rattle.safety.specs.declared.site.TransactionsAround.{TransactionsAround}
 use Rattle.safety.specs.inner.Known.{around}
@@ -30,6 +36,11 @@ two o m n a b all is h k = k ∙ ap (λ xs. xs ++ b) h ∙ append_assoc (sites_o
 
 pub same : (o n : List OwnSite) (a all : List Site) → all ≡ a → Appends o n a → Appends o n all
 same o n a all is h = h ∙ ap (λ xs. sites_of_own o ++ xs) (sym is)
+
+-- what holds anyway
+pub held : {T E P : Type 0} (r : Result T E) → P → OnOk r P
+held (Ok x) h = h
+held (Err e) h = tt
 
 -- one step of a loop
 pub next : (o m n : List OwnSite) (a rest now all : List Site) → now ≡ a ++ rest → Appends m n a → sites_of_own m ++ now ≡ sites_of_own o ++ all → sites_of_own n ++ rest ≡ sites_of_own o ++ all
@@ -47,6 +58,18 @@ module _ {X : Type 0} where
   done_of o m rest all none k = sym (append-nil m) ∙ ap (λ xs. m ++ xs) none ∙ k
 
 module _ {A : Type 0} (w : Around) where
+  pub variable_sites : (e : E.Expr A) (x : N.Name A) → e ≡ E.Variable x → expr_sites (expr_of e) w ≡ uses (name_of x) w
+  variable_sites e x is = ap (λ t. expr_sites t w) (ap expr_of is ∙ expr_of_variable x)
+
+  pub parenthesized_sites : (e a b : E.Expr A) (at : Span) → e ≡ E.Parenthesized a at → b ≡ a → expr_sites (expr_of e) w ≡ expr_sites (expr_of b) w
+  parenthesized_sites e a b at is h = ap (λ t. expr_sites t w) (ap expr_of is ∙ expr_of_parenthesized a at) ∙ ap (λ k. expr_sites (expr_of k) w) (sym h)
+
+  pub cast_sites : (e : E.Expr A) (to : Scalar) (a b : E.Expr A) (at : Span) → e ≡ E.Cast to a at → b ≡ a → expr_sites (expr_of e) w ≡ expr_sites (expr_of b) w
+  cast_sites e to a b at is h = ap (λ t. expr_sites t w) (ap expr_of is ∙ expr_of_cast to a at) ∙ ap (λ k. expr_sites (expr_of k) w) (sym h)
+
+  pub unary_sites : (e : E.Expr A) (op : UnaryOp) (a b : E.Expr A) (at : Span) → e ≡ E.Unary op a at → b ≡ a → expr_sites (expr_of e) w ≡ expr_sites (expr_of b) w
+  unary_sites e op a b at is h = ap (λ t. expr_sites t w) (ap expr_of is ∙ expr_of_unary op a at) ∙ ap (λ k. expr_sites (expr_of k) w) (sym h)
+
   pub element_sites : (e : E.Expr A) (x : N.Name A) (i j : E.Expr A) (at : Span) → e ≡ E.Element x i at → j ≡ i → expr_sites (expr_of e) w ≡ uses (name_of x) w ++ expr_sites (expr_of j) w
   element_sites e x i j at is h = ap (λ t. expr_sites t w) (ap expr_of is ∙ expr_of_element x i at) ∙ ap (λ k. uses (name_of x) w ++ expr_sites (expr_of k) w) (sym h)
 
@@ -65,8 +88,23 @@ module _ {A : Type 0} (w : Around) where
   pub exprs_more : (es : List (E.Expr A)) (i : ℕ) (e : E.Expr A) → e ≡ get_or es i e → i < length es → exprs_sites (exprs_of (drop i es)) w ≡ expr_sites (expr_of e) w ++ exprs_sites (exprs_of (drop (i + 1) es)) w
   exprs_more es i e is h = at_drop_more (λ xs. exprs_sites (exprs_of xs) w) es i e h ∙ ap (λ x. expr_sites (expr_of x) w ++ exprs_sites (exprs_of (drop (i + 1) es)) w) (sym is)
 
-  pub declare_sites : (s : S.Stmt A) (d : D.Declaration A) (ds : List (R.Declarator A)) → s ≡ S.Declare d → ds ≡ d.declarators → stmt_sites (stmt_of s) w ≡ declarator_sites (map declarator_of ds) w
-  declare_sites s d ds is h = ap (λ t. stmt_sites t w) (ap stmt_of is ∙ stmt_of_declare d) ∙ ap (λ es. declarator_sites (map declarator_of es) w) (sym h)
+  pub declare_sites : (s : S.Stmt A) (d : D.Declaration A) → s ≡ S.Declare d → stmt_sites (stmt_of s) w ≡ declarator_sites (map declarator_of d.declarators) w
+  declare_sites s d is = ap (λ t. stmt_sites t w) (ap stmt_of is ∙ stmt_of_declare d)
+
+  pub do_sites : (s : S.Stmt A) (d : I.Simple A) → s ≡ S.Do d → stmt_sites (stmt_of s) w ≡ simple_sites (simple_of d) w
+  do_sites s d is = ap (λ t. stmt_sites t w) (ap stmt_of (is ∙ sym (SV.rolls-Do d)) ∙ fold-roll-Stmt A Tree.Stmt stmt_step (Stmt-F.Do d))
+
+  pub while_sites : (s : S.Stmt A) (c : E.Expr A) (a b : S.Stmt A) → s ≡ S.While c a → b ≡ a → stmt_sites (stmt_of s) w ≡ expr_sites (expr_of c) w ++ stmt_sites (stmt_of b) w
+  while_sites s c a b is h = ap (λ t. stmt_sites t w) (ap stmt_of is ∙ stmt_of_while c a) ∙ ap (λ t. expr_sites (expr_of c) w ++ stmt_sites (stmt_of t) w) (sym h)
+
+  pub do_while_sites : (s : S.Stmt A) (a b : S.Stmt A) (c : E.Expr A) (v : Around) → s ≡ S.DoWhile a c → b ≡ a → w ≡ v → stmt_sites (stmt_of s) w ≡ stmt_sites (stmt_of b) w ++ expr_sites (expr_of c) v
+  do_while_sites s a b c v is h k = ap (λ t. stmt_sites t w) (ap stmt_of is ∙ stmt_of_do_while a c) ∙ (λ i. stmt_sites (stmt_of (sym h i)) w ++ expr_sites (expr_of c) (k i))
+
+  pub return_sites : (s : S.Stmt A) (e : Option (E.Expr A)) (at : Span) → s ≡ S.Return e at → stmt_sites (stmt_of s) w ≡ sites_if_any expr_sites (option_map expr_of e) w
+  return_sites s e at is = ap (λ t. stmt_sites t w) (ap stmt_of is ∙ stmt_of_return e at)
+
+  pub cancel_sites : (s : S.Stmt A) (at : Span) → s ≡ S.Cancel at → stmt_sites (stmt_of s) w ≡ site w Cancels at
+  cancel_sites s at is = ap (λ t. stmt_sites t w) (ap stmt_of (is ∙ sym (SV.rolls-Cancel at)) ∙ fold-roll-Stmt A Tree.Stmt stmt_step (Stmt-F.Cancel at))
 
   pub block_sites : (s : S.Stmt A) (ss ts : List (S.Stmt A)) → s ≡ S.Block ss → ts ≡ ss → stmt_sites (stmt_of s) w ≡ stmts_sites (stmts_of ts) w
   block_sites s ss ts is h = ap (λ t. stmt_sites t w) (ap stmt_of is ∙ stmt_of_block ss) ∙ ap (λ us. stmts_sites (stmts_of us) w) (sym h)

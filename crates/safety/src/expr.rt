@@ -62,48 +62,31 @@ pub(crate) fn add_expr<'a, A: Allocator + Copy>(
     ensures { OnOk result (Appends sites.old sites.new (expr_sites (expr_of e.now) (around_in locals.now place))) }
 {
     match e {
-        Expr::Variable(x) => {
-            add_use(locals, sites, place, x)?;
-            Ok(())
-        }
+        Expr::Variable(x) => add_use(locals, sites, place, x),
         Expr::Constant(_, _, _) => Ok(()),
         Expr::Element(x, index, _) => {
             add_use(locals, sites, place, x)?;
-            add_expr(locals, sites, place, index.get())?;
-            Ok(())
+            add_expr(locals, sites, place, index.get())
         }
         Expr::Call(f, args, _) => {
             add(sites, place, Construct::Calls(f.text.as_str()), f.span)?;
-            add_exprs(locals, sites, place, args.as_slice())?;
-            Ok(())
+            add_exprs(locals, sites, place, args.as_slice())
         }
-        Expr::Parenthesized(e, _) => {
-            add_expr(locals, sites, place, e.get())?;
-            Ok(())
-        }
-        Expr::Cast(_, e, _) => {
-            add_expr(locals, sites, place, e.get())?;
-            Ok(())
-        }
-        Expr::Unary(_, e, _) => {
-            add_expr(locals, sites, place, e.get())?;
-            Ok(())
-        }
+        Expr::Parenthesized(e, _) => add_expr(locals, sites, place, e.get()),
+        Expr::Cast(_, e, _) => add_expr(locals, sites, place, e.get()),
+        Expr::Unary(_, e, _) => add_expr(locals, sites, place, e.get()),
         Expr::Binary(_, a, b, _) => {
             add_expr(locals, sites, place, a.get())?;
-            add_expr(locals, sites, place, b.get())?;
-            Ok(())
+            add_expr(locals, sites, place, b.get())
         }
         Expr::Logical(_, a, b, _) => {
             add_expr(locals, sites, place, a.get())?;
-            add_expr(locals, sites, place, b.get())?;
-            Ok(())
+            add_expr(locals, sites, place, b.get())
         }
         Expr::Conditional(c, a, b, _) => {
             add_expr(locals, sites, place, c.get())?;
             add_expr(locals, sites, place, a.get())?;
-            add_expr(locals, sites, place, b.get())?;
-            Ok(())
+            add_expr(locals, sites, place, b.get())
         }
     }
 }
@@ -136,10 +119,7 @@ pub(crate) fn add_expr_if_any<'a, A: Allocator + Copy>(
         (sites_if_any expr_sites (option_map expr_of e.now) (around_in locals.now place))) }
 {
     match e {
-        Some(e) => {
-            add_expr(locals, sites, place, e)?;
-            Ok(())
-        }
+        Some(e) => add_expr(locals, sites, place, e),
         None => Ok(()),
     }
 }
@@ -154,19 +134,12 @@ pub(crate) fn add_simple<'a, A: Allocator + Copy>(
     ensures { OnOk result (Appends sites.old sites.new (simple_sites (simple_of s.now) (around_in locals.now place))) }
 {
     match s {
-        Simple::Evaluate(e) => {
-            add_expr(locals, sites, place, e)?;
-            Ok(())
-        }
+        Simple::Evaluate(e) => add_expr(locals, sites, place, e),
         Simple::Assign(to, _, e) => {
             add_expr(locals, sites, place, to)?;
-            add_expr(locals, sites, place, e)?;
-            Ok(())
+            add_expr(locals, sites, place, e)
         }
-        Simple::Adjust(to, _) => {
-            add_expr(locals, sites, place, to)?;
-            Ok(())
-        }
+        Simple::Adjust(to, _) => add_expr(locals, sites, place, to),
     }
 }
 
@@ -182,10 +155,7 @@ pub(crate) fn add_simple_if_any<'a, A: Allocator + Copy>(
         (sites_if_any simple_sites (option_map simple_of s.now) (around_in locals.now place))) }
 {
     match s {
-        Some(s) => {
-            add_simple(locals, sites, place, s)?;
-            Ok(())
-        }
+        Some(s) => add_simple(locals, sites, place, s),
         None => Ok(()),
     }
 }

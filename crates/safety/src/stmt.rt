@@ -131,6 +131,23 @@ fn inside(mode: Mode, place: TransactionsAround) -> TransactionsAround
     }
 }
 
+/// A declaration that is a statement: its names are forgotten behind it.
+fn add_lone_declaration<'a, A: Allocator + Copy>(
+    locals: &mut Locals<'a, A>,
+    sites: &mut Items<Site<'a>, A>,
+    place: TransactionsAround,
+    one: &'a Declaration<A>,
+) -> Result<(), AllocError>
+    ensures sites { OnOk result
+        (Appends sites.old sites.new (declarator_sites (map declarator_of one.now.declarators) (around_in locals.old place))) }
+    ensures names { OnOk result (names_in locals.new ≡ names_in locals.old) }
+{
+    let outer = locals.len();
+    add_declarators(locals, sites, place, one.declarators.as_slice())?;
+    locals.leave(outer);
+    Ok(())
+}
+
 /// The sites of a statement; the names that it declares are forgotten behind it.
 #[cycle(add_stmt)]
 fn add_stmt<'a, A: Allocator + Copy>(
@@ -145,24 +162,12 @@ fn add_stmt<'a, A: Allocator + Copy>(
 {
     match stmt {
         Stmt::Empty | Stmt::Break(_) | Stmt::Continue(_) => Ok(()),
-        Stmt::Declare(one) => {
-            let outer = locals.len();
-            add_declarators(locals, sites, place, one.declarators.as_slice())?;
-            locals.leave(outer);
-            Ok(())
-        }
-        Stmt::Do(s) => {
-            add_simple(locals, sites, place, s)?;
-            Ok(())
-        }
-        Stmt::Block(body) => {
-            add_block(locals, sites, place, body.as_slice())?;
-            Ok(())
-        }
+        Stmt::Declare(one) => add_lone_declaration(locals, sites, place, one),
+        Stmt::Do(s) => add_simple(locals, sites, place, s),
+        Stmt::Block(body) => add_block(locals, sites, place, body.as_slice()),
         Stmt::Print(at, _, _, args) => {
             add(sites, place, Construct::Prints, *at)?;
-            add_exprs(locals, sites, place, args.as_slice())?;
-            Ok(())
+            add_exprs(locals, sites, place, args.as_slice())
         }
         Stmt::If(c, a, b) => {
             add_expr(locals, sites, place, c)?;
@@ -177,13 +182,11 @@ fn add_stmt<'a, A: Allocator + Copy>(
         }
         Stmt::While(c, body) => {
             add_expr(locals, sites, place, c)?;
-            add_stmt(locals, sites, place, body.get())?;
-            Ok(())
+            add_stmt(locals, sites, place, body.get())
         }
         Stmt::DoWhile(body, c) => {
             add_stmt(locals, sites, place, body.get())?;
-            add_expr(locals, sites, place, c)?;
-            Ok(())
+            add_expr(locals, sites, place, c)
         }
         Stmt::For(head, body) => {
             let outer = locals.len();
@@ -192,19 +195,12 @@ fn add_stmt<'a, A: Allocator + Copy>(
             locals.leave(outer);
             Ok(())
         }
-        Stmt::Return(e, _) => {
-            add_expr_if_any(locals, sites, place, e)?;
-            Ok(())
-        }
+        Stmt::Return(e, _) => add_expr_if_any(locals, sites, place, e),
         Stmt::Transaction(mode, body, at) => {
             add_mode(sites, place, *mode, *at)?;
-            add_block(locals, sites, inside(*mode, place), body.as_slice())?;
-            Ok(())
+            add_block(locals, sites, inside(*mode, place), body.as_slice())
         }
-        Stmt::Cancel(at) => {
-            add(sites, place, Construct::Cancels, *at)?;
-            Ok(())
-        }
+        Stmt::Cancel(at) => add(sites, place, Construct::Cancels, *at),
     }
 }
 

@@ -1,21 +1,22 @@
 use Rattle.std.proofs.Common.{◌++◌, [], ap, sym, refl, ◌∙◌, append_assoc, arith, option_map}
 use denote.Param.Weighed.{most, at_most}
 use Rattle.std.proofs.lemmas.List.{at_drop_all, append-nil}
+use Rattle.std.proofs.lemmas.Result.{on_ok_weaker}
 use Rattle.syntax.specs.Views.{expr_of, simple_of, start_of, stmt_of, stmts_of}
 use Rattle.syntax.specs.Typing.{names_of}
 use Rattle.syntax.specs.declared.tree.Stmt.{the_lemmas}
 use Rattle.syntax.proofs.tree.Stmt.TheLaws.{the_size}
 use Rattle.safety.specs.Sites.{names_of_start, stmts_sites}
-use Rattle.safety.specs.inner.Known.{names_in, around_in}
+use Rattle.safety.specs.inner.Known.{names_in, around, around_in}
 use Rattle.safety.specs.inner.Walks.{head_sites}
 use Rattle.safety.proofs.Counts.{left, room}
-use Rattle.safety.proofs.Walks.{two, same, next, done, declare_sites, block_sites, print_sites, transaction_sites, for_sites, body_behind, stmts_more, mode_anywhere, item_sites, item_names}
+use Rattle.safety.proofs.Walks.{two, same, held, next, done, declare_sites, do_sites, block_sites, print_sites, while_sites, do_while_sites, return_sites, cancel_sites, transaction_sites, for_sites, body_behind, stmts_more, mode_anywhere, item_sites, item_names}
 use Rattle.safety.proofs.stmt.+add_stmt.Goals as goal
 
 pub add_stmt-add_block-requires : goal.add_stmt-add_block-requires
 add_stmt-add_block-requires g t c κs within =
     let size = simp the_lemmas at (ap (the_size g.row.A g.A.Allocator g.A.laws) c.in-Block.is) in
-    let here = ap (most (the_size g.row.A g.A.Allocator g.A.laws)) c.as_slice-in-Block.ensures in
+    let here = ap (most (the_size g.row.A g.A.Allocator g.A.laws)) c.as_slice.ensures in
     (omega (arith, size, here, c.decreases), within)
 
 pub add_stmt-add_block-requires-in-Transaction : goal.add_stmt-add_block-requires-in-Transaction
@@ -24,26 +25,71 @@ add_stmt-add_block-requires-in-Transaction g t c κs within =
     let here = ap (most (the_size g.row.A g.A.Allocator g.A.laws)) c.as_slice-in-Transaction.ensures in
     (omega (arith, size, here, c.decreases), within)
 
-pub add_stmt-leave-requires : goal.add_stmt-leave-requires
-add_stmt-leave-requires g t c = room (names_in c.args.locals.now) (names_in c.add_declarators.new.locals) _ c.len-outer.result c.len-outer.ensures c.in_ok-add_declarators-in-Declare.ensures.names
-
-pub add_stmt-returns-in_ok-add_declarators-in-Declare-clause-sites : goal.add_stmt-returns-in_ok-add_declarators-in-Declare-clause-sites
-add_stmt-returns-in_ok-add_declarators-in-Declare-clause-sites g t c =
+pub add_stmt-returns-in-Declare : goal.add_stmt-returns-in-Declare
+add_stmt-returns-in-Declare g t c =
     let w = around_in c.args.locals.now c.args.place in
-    same c.args.sites.now c.add_declarators.new.sites _ _ (declare_sites w c.args.stmt.now c.in-Declare.one c.as_slice.result.now c.in-Declare.is c.as_slice.ensures) c.in_ok-add_declarators-in-Declare.ensures.sites
+    record {
+      sites = on_ok_weaker c.add_lone_declaration.result (same c.args.sites.now c.add_lone_declaration.new.sites _ _ (declare_sites w c.args.stmt.now c.in-Declare.one c.in-Declare.is)) c.add_lone_declaration.ensures.sites;
+      names = c.add_lone_declaration.ensures.names;
+    }
 
-pub add_stmt-returns-in_ok-add_declarators-in-Declare-clause-names : goal.add_stmt-returns-in_ok-add_declarators-in-Declare-clause-names
-add_stmt-returns-in_ok-add_declarators-in-Declare-clause-names g t c = left (names_in c.args.locals.now) (names_in c.add_declarators.new.locals) (names_in c.leave.new.self) _ c.len-outer.result c.len-outer.ensures c.in_ok-add_declarators-in-Declare.ensures.names c.leave.ensures
-
-pub add_stmt-returns-in_ok-add_block-in-Block-clause-sites : goal.add_stmt-returns-in_ok-add_block-in-Block-clause-sites
-add_stmt-returns-in_ok-add_block-in-Block-clause-sites g t c =
+pub add_stmt-returns-in-Do : goal.add_stmt-returns-in-Do
+add_stmt-returns-in-Do g t c =
     let w = around_in c.args.locals.now c.args.place in
-    same c.args.sites.now c.add_block.new.sites _ _ (block_sites w c.args.stmt.now c.in-Block.body c.as_slice-in-Block.result.now c.in-Block.is c.as_slice-in-Block.ensures) c.in_ok-add_block-in-Block.ensures.sites
+    record {
+      sites = on_ok_weaker c.add_simple.result (same c.args.sites.now c.add_simple.new.sites _ _ (do_sites w c.args.stmt.now c.in-Do.s c.in-Do.is)) c.add_simple.ensures;
+      names = held c.add_simple.result refl;
+    }
 
-pub add_stmt-returns-in_ok-add_exprs-in-Print-clause-sites : goal.add_stmt-returns-in_ok-add_exprs-in-Print-clause-sites
-add_stmt-returns-in_ok-add_exprs-in-Print-clause-sites g t c =
+pub add_stmt-returns-in-Block : goal.add_stmt-returns-in-Block
+add_stmt-returns-in-Block g t c =
     let w = around_in c.args.locals.now c.args.place in
-    two c.args.sites.now c.add.new.sites c.add_exprs.new.sites _ _ _ (print_sites w c.args.stmt.now c.in-Print.at c.in-Print.field-1 c.in-Print.field-2 c.in-Print.args c.as_slice-in-Print.result.now c.in-Print.is c.as_slice-in-Print.ensures) c.in_ok-add-in-Print.ensures c.in_ok-add_exprs-in-Print.ensures
+    record {
+      sites = on_ok_weaker c.add_block.result (same c.args.sites.now c.add_block.new.sites _ _ (block_sites w c.args.stmt.now c.in-Block.body c.as_slice.result.now c.in-Block.is c.as_slice.ensures)) c.add_block.ensures.sites;
+      names = c.add_block.ensures.names;
+    }
+
+pub add_stmt-returns-in_ok-add-in-Print : goal.add_stmt-returns-in_ok-add-in-Print
+add_stmt-returns-in_ok-add-in-Print g t c =
+    let w = around_in c.args.locals.now c.args.place in
+    record {
+      sites = on_ok_weaker c.add_exprs.result (two c.args.sites.now c.add.new.sites c.add_exprs.new.sites _ _ _ (print_sites w c.args.stmt.now c.in-Print.at c.in-Print.field-1 c.in-Print.field-2 c.in-Print.args c.as_slice-in-Print.result.now c.in-Print.is c.as_slice-in-Print.ensures) c.in_ok-add-in-Print.ensures) c.add_exprs.ensures;
+      names = held c.add_exprs.result refl;
+    }
+
+pub add_stmt-returns-in_ok-add_expr-in-While : goal.add_stmt-returns-in_ok-add_expr-in-While
+add_stmt-returns-in_ok-add_expr-in-While g t c =
+    let w = around_in c.args.locals.now c.args.place in
+    record {
+      sites = on_ok_weaker c.add_stmt-in-While.result (two c.args.sites.now c.add_expr-in-While.new.sites c.add_stmt-in-While.new.sites _ _ _ (while_sites w c.args.stmt.now c.in-While.c c.in-While.body c.get-in-While.result.now c.in-While.is c.get-in-While.ensures) c.in_ok-add_expr-in-While.ensures) c.add_stmt-in-While.ensures.sites;
+      names = c.add_stmt-in-While.ensures.names;
+    }
+
+pub add_stmt-returns-in_ok-add_stmt-in-DoWhile : goal.add_stmt-returns-in_ok-add_stmt-in-DoWhile
+add_stmt-returns-in_ok-add_stmt-in-DoWhile g t c =
+    let w = around_in c.args.locals.now c.args.place in
+    let ok = c.in_ok-add_stmt-in-DoWhile.ensures in
+    let v = ap (λ names. around names c.args.place) (sym ok.names) in
+    record {
+      sites = on_ok_weaker c.add_expr-in-DoWhile.result (two c.args.sites.now c.add_stmt-in-DoWhile.new.sites c.add_expr-in-DoWhile.new.sites _ _ _ (do_while_sites w c.args.stmt.now c.in-DoWhile.body c.get-in-DoWhile.result.now c.in-DoWhile.c (around_in c.add_stmt-in-DoWhile.new.locals c.args.place) c.in-DoWhile.is c.get-in-DoWhile.ensures v) ok.sites) c.add_expr-in-DoWhile.ensures;
+      names = held c.add_expr-in-DoWhile.result ok.names;
+    }
+
+pub add_stmt-returns-in-Return : goal.add_stmt-returns-in-Return
+add_stmt-returns-in-Return g t c =
+    let w = around_in c.args.locals.now c.args.place in
+    record {
+      sites = on_ok_weaker c.add_expr_if_any.result (same c.args.sites.now c.add_expr_if_any.new.sites _ _ (return_sites w c.args.stmt.now c.in-Return.e c.in-Return.field-1 c.in-Return.is)) c.add_expr_if_any.ensures;
+      names = held c.add_expr_if_any.result refl;
+    }
+
+pub add_stmt-returns-in-Cancel : goal.add_stmt-returns-in-Cancel
+add_stmt-returns-in-Cancel g t c =
+    let w = around_in c.args.locals.now c.args.place in
+    record {
+      sites = on_ok_weaker c.add-in-Cancel.result (same c.args.sites.now c.add-in-Cancel.new.sites _ _ (cancel_sites w c.args.stmt.now c.in-Cancel.at c.in-Cancel.is)) c.add-in-Cancel.ensures;
+      names = held c.add-in-Cancel.result refl;
+    }
 
 pub add_stmt-returns-in_ok-add_stmt-in-For-clause-sites : goal.add_stmt-returns-in_ok-add_stmt-in-For-clause-sites
 add_stmt-returns-in_ok-add_stmt-in-For-clause-sites g t c =
@@ -59,16 +105,19 @@ add_stmt-returns-in_ok-add_stmt-in-For-clause-sites g t c =
     ∙ ap (λ ss. head_sites (start_of head.start) (option_map expr_of head.condition) (option_map simple_of head.step) w ++ ss) (body_behind c.args.place (stmt_of body) old new names ok.names))
     ok.sites c.in_ok-add_stmt-in-For.ensures.sites
 
-pub add_stmt-returns-in_ok-add_block-in-Transaction-clause-sites : goal.add_stmt-returns-in_ok-add_block-in-Transaction-clause-sites
-add_stmt-returns-in_ok-add_block-in-Transaction-clause-sites g t c =
+pub add_stmt-returns-in_ok-add_mode-in-Transaction : goal.add_stmt-returns-in_ok-add_mode-in-Transaction
+add_stmt-returns-in_ok-add_mode-in-Transaction g t c =
     let names = names_in c.args.locals.now in
     let w = around_in c.args.locals.now c.args.place in
     let mode = c.in-Transaction.mode in
     let ss = stmts_of c.as_slice-in-Transaction.result.now in
-    two c.args.sites.now c.add_mode.new.sites c.add_block-in-Transaction.new.sites _ _ _
-    (transaction_sites w c.args.stmt.now mode c.in-Transaction.body c.as_slice-in-Transaction.result.now c.in-Transaction.at c.in-Transaction.is c.as_slice-in-Transaction.ensures
-    ∙ (λ i. mode_anywhere c.args.place mode c.in-Transaction.at names i ++ stmts_sites ss (sym (c.inside.ensures names) i)))
-    c.in_ok-add_mode-in-Transaction.ensures c.in_ok-add_block-in-Transaction.ensures.sites
+    let is =
+    transaction_sites w c.args.stmt.now mode c.in-Transaction.body c.as_slice-in-Transaction.result.now c.in-Transaction.at c.in-Transaction.is c.as_slice-in-Transaction.ensures
+    ∙ (λ i. mode_anywhere c.args.place mode c.in-Transaction.at names i ++ stmts_sites ss (sym (c.inside.ensures names) i)) in
+    record {
+      sites = on_ok_weaker c.add_block-in-Transaction.result (two c.args.sites.now c.add_mode.new.sites c.add_block-in-Transaction.new.sites _ _ _ is c.in_ok-add_mode-in-Transaction.ensures) c.add_block-in-Transaction.ensures.sites;
+      names = c.add_block-in-Transaction.ensures.names;
+    }
 
 pub add_block_item-returns-in_ok-add_declarators-in-Some-clause-sites : goal.add_block_item-returns-in_ok-add_declarators-in-Some-clause-sites
 add_block_item-returns-in_ok-add_declarators-in-Some-clause-sites g t c =
