@@ -1,5 +1,5 @@
 -- The demands of a statement by its parts.
-use Rattle.std.proofs.Common.{◌≡◌, ℕ, ◌+◌, ◌<◌, List, [], ◌∷◌, ◌++◌, length, drop, get_or, option_map, Option, Some, None, Bool, true, false, not, ◌&&◌, ◌||◌, is_none, refl, sym, ap, ◌∙◌}
+use Rattle.std.proofs.Common.{◌≡◌, ℕ, ◌+◌, ◌<◌, List, [], ◌∷◌, ◌++◌, length, map, drop, get_or, option_map, Option, Some, None, Bool, true, false, not, ◌&&◌, ◌||◌, is_none, refl, sym, ap, ◌∙◌}
 use Rattle.std.proofs.lemmas.List.{at_drop_more}
 use Rattle.std.specs.Option.{option_or}
 use Rattle.lex.specs.declared.token.Scalar.{Scalar}
@@ -7,15 +7,30 @@ use Rattle.syntax.specs.Tree.{Span, Stmts, Function, Item, Defines}
 use Rattle.syntax.specs.declared.tree.Mode.{Mode}
 use Rattle.syntax.specs.declared.tree.Expr as E
 use Rattle.syntax.specs.declared.tree.ForHead as H
+use Rattle.syntax.specs.declared.tree.Declaration as D
+use Rattle.syntax.specs.declared.tree.Simple as I
 use Rattle.syntax.specs.declared.tree.Stmt as S
-use Rattle.syntax.specs.Views.{expr_of, exprs_of, simple_of, start_of, stmt_of, stmts_of}
+use Rattle.syntax.specs.declared.tree.Stmt.TheOpen.{Stmt-F}
+use Rattle.syntax.specs.declared.tree.Stmt.TheFolds.{fold-roll-Stmt}
+use Rattle.syntax.specs.declared.tree.Stmt.TheVariants as SV
+use Rattle.syntax.specs.Tree as Tree
+use Rattle.syntax.specs.Views.{expr_of, exprs_of, simple_of, declarator_of, start_of, stmt_step, stmt_of, stmts_of}
 use Rattle.syntax.specs.Types.{Scope, file_scope}
 use Rattle.syntax.specs.Typing.{scope_of_start, scope_after, names_of, has_name, may_be_function, agrees, defined_names, with_parameters, parameter_names}
-use Rattle.syntax.proofs.Seen.{stmt_of_block, stmt_of_print, stmt_of_if, stmt_of_if_else, stmt_of_while, stmt_of_do_while, stmt_of_for, stmt_of_transaction}
-use Rattle.syntax.specs.Typing.{first_unmet, demand, demands_of, IsNumber, IsTypedSimple, IsTypedStart, IsTypedPrint, IsTypedStmt, AreTypedStmts, AreDistinct, IsTypedBody, IsTypedFunction}
+use Rattle.syntax.proofs.Seen.{stmt_of_declare, stmt_of_block, stmt_of_print, stmt_of_return, stmt_of_if, stmt_of_if_else, stmt_of_while, stmt_of_do_while, stmt_of_for, stmt_of_transaction}
+use Rattle.syntax.specs.Typing.{first_unmet, demand, demands_of, IsNumber, IsTyped, GivesNumber, AreTypedDeclarators, returns_right, IsTypedSimple, IsTypedStart, IsTypedPrint, IsTypedStmt, AreTypedStmts, AreDistinct, IsTypedBody, IsTypedFunction}
 use Rattle.types.proofs.Steps.{first_of_two, first_of_three, or_or}
 
 module _ {A : Type 0} (g : Option Scalar) (known : Scope) (ns : List (List ℕ)) (looping : Bool) (s : S.Stmt A) where
+  pub typed_declare : (d : D.Declaration A) → s ≡ S.Declare d → first_unmet (IsTypedStmt g (stmt_of s) known ns looping) ≡ first_unmet (AreTypedDeclarators known ns d.of (map declarator_of d.declarators))
+  typed_declare d is = ap (λ x. first_unmet (IsTypedStmt g x known ns looping)) (ap stmt_of is ∙ stmt_of_declare d)
+
+  pub typed_do : (d : I.Simple A) → s ≡ S.Do d → first_unmet (IsTypedStmt g (stmt_of s) known ns looping) ≡ first_unmet (IsTypedSimple known (simple_of d))
+  typed_do d is = ap (λ x. first_unmet (IsTypedStmt g x known ns looping)) (ap stmt_of (is ∙ sym (SV.rolls-Do d)) ∙ fold-roll-Stmt A Tree.Stmt stmt_step (Stmt-F.Do d))
+
+  pub typed_return : (e : Option (E.Expr A)) (at : Span) → s ≡ S.Return e at → first_unmet (IsTypedStmt g (stmt_of s) known ns looping) ≡ first_unmet (demands_of (option_map expr_of e) (IsTyped known) ++ demand 22 at (returns_right g (option_map expr_of e)) ++ demands_of (option_map expr_of e) (GivesNumber known))
+  typed_return e at is = ap (λ x. first_unmet (IsTypedStmt g x known ns looping)) (ap stmt_of is ∙ stmt_of_return e at)
+
   pub typed_block : (ss : List (S.Stmt A)) → s ≡ S.Block ss → first_unmet (IsTypedStmt g (stmt_of s) known ns looping) ≡ first_unmet (AreTypedStmts g (stmts_of ss) known [] looping)
   typed_block ss is = ap (λ x. first_unmet (IsTypedStmt g x known ns looping)) (ap stmt_of is ∙ stmt_of_block ss)
 

@@ -10,7 +10,7 @@ use Rattle.syntax.specs.Typing.{first_unmet, IsNumber, IsTypedPrint, IsTypedStmt
 use Rattle.types.specs.inner.Known.{known_in, slot_before, declared_by, AreDeclared, Grows, Agrees}
 use Rattle.types.proofs.Steps.{skip, stop_at, tell_skip, tell_stop, tell_rest, tell_same}
 use Rattle.types.proofs.Grown.{left, grows_on, grows_same, none_declared, agrees_all, same_known, same_declared}
-use Rattle.types.proofs.Stmts.{else_first, stmts_more, typed_block, typed_transaction, typed_print, typed_if, typed_while, typed_do_while, typed_for}
+use Rattle.types.proofs.Stmts.{else_first, stmts_more, typed_declare, typed_do, typed_return, typed_block, typed_transaction, typed_print, typed_if, typed_while, typed_do_while, typed_for}
 use Rattle.types.proofs.BlockItems.{declaration_is, declared_named, nothing_known, nothing_named, on_ok, ok_any}
 use Rattle.types.proofs.stmt.+check_stmts.Goals as goal
 
@@ -173,6 +173,42 @@ check_stmt-returns-in_ok-check_stmt-in-For-clause-same g t c =
     let new = c.check_stmt-in-For.new.names in
     let grown = grows_on old mid new c.in_ok-check_head-in-For.ensures.count c.in_ok-check_head-in-For.ensures.grows (grows_same mid new c.in_ok-check_stmt-in-For.ensures.same) in
     left old new c.leave.new.self grown (c.leave.ensures.locals ∙ ap (λ n. take n new.locals.items) c.len-outer.ensures) (c.leave.ensures.slots ∙ ap (λ n. slot_before n new) c.len-outer.ensures)
+
+pub check_stmt-returns-in-Declare-clause-answer : goal.check_stmt-returns-in-Declare-clause-answer
+check_stmt-returns-in-Declare-clause-answer g t c = λ declared h.
+    let x = c.args.context in
+    tell_rest c.check_lone.result _ _ (typed_declare x.gives (known_in c.args.names.now) declared x.looping c.args.stmt.now c.in-Declare.one c.in-Declare.is) (c.check_lone.ensures.answer declared h)
+
+pub check_stmt-returns-in-Declare-clause-same : goal.check_stmt-returns-in-Declare-clause-same
+check_stmt-returns-in-Declare-clause-same g t c = c.check_lone.ensures.same
+
+pub check_stmt-returns-in-Do-clause-answer : goal.check_stmt-returns-in-Do-clause-answer
+check_stmt-returns-in-Do-clause-answer g t c = λ declared h.
+    let x = c.args.context in
+    tell_rest c.as_failure.result _ _ (typed_do x.gives (known_in c.args.names.now) declared x.looping c.args.stmt.now c.in-Do.s c.in-Do.is ∙ sym c.check_simple.ensures) c.as_failure.ensures
+
+pub check_stmt-returns-in-Do-clause-same : goal.check_stmt-returns-in-Do-clause-same
+check_stmt-returns-in-Do-clause-same g t c = ok_any c.as_failure.result (Agrees c.args.names.now c.args.names.now) (agrees_all c.args.names.now)
+
+pub check_stmt-returns-in-Return-clause-answer : goal.check_stmt-returns-in-Return-clause-answer
+check_stmt-returns-in-Return-clause-answer g t c = λ declared h.
+    let x = c.args.context in
+    tell_rest c.as_failure-in-Return.result _ _ (typed_return x.gives (known_in c.args.names.now) declared x.looping c.args.stmt.now c.in-Return.e c.in-Return.at c.in-Return.is ∙ sym c.check_return.ensures) c.as_failure-in-Return.ensures
+
+pub check_stmt-returns-in-Return-clause-same : goal.check_stmt-returns-in-Return-clause-same
+check_stmt-returns-in-Return-clause-same g t c = ok_any c.as_failure-in-Return.result (Agrees c.args.names.now c.args.names.now) (agrees_all c.args.names.now)
+
+pub check_stmt-returns-in-Block-clause-same : goal.check_stmt-returns-in-Block-clause-same
+check_stmt-returns-in-Block-clause-same g t c = c.check_block.ensures.same
+
+pub check_stmt-returns-in-Transaction-clause-same : goal.check_stmt-returns-in-Transaction-clause-same
+check_stmt-returns-in-Transaction-clause-same g t c = c.check_block-in-Transaction.ensures.same
+
+pub check_stmt-returns-in_ok-check_number-in-While-clause-same : goal.check_stmt-returns-in_ok-check_number-in-While-clause-same
+check_stmt-returns-in_ok-check_number-in-While-clause-same g t c = c.check_stmt-in-While.ensures.same
+
+pub check_stmt-returns-in_ok-check_stmt-in-DoWhile-clause-same : goal.check_stmt-returns-in_ok-check_stmt-in-DoWhile-clause-same
+check_stmt-returns-in_ok-check_stmt-in-DoWhile-clause-same g t c = ok_any c.as_failure-in-DoWhile.result (Agrees c.args.names.now c.check_stmt-in-DoWhile.new.names) c.in_ok-check_stmt-in-DoWhile.ensures.same
 
 pub check_stmts-check_block_item-requires : goal.check_stmts-check_block_item-requires
 check_stmts-check_block_item-requires g t c κs within =

@@ -1,10 +1,11 @@
-use Rattle.std.proofs.Common.{◌∙◌, map, refl, sym, ap, subst, arith, is_some}
-use Rattle.std.proofs.lemmas.List.{take_all}
+use Rattle.std.proofs.Common.{◌∙◌, map, take, refl, sym, ap, subst, arith, is_some}
+use Rattle.std.proofs.lemmas.List.{take_all, at_drop_all}
 use Rattle.std.specs.Map.{lookup}
 use Rattle.std.specs.Ordering.{nat_cmp}
 use Rattle.std.specs.Cmp.Lexicographic.{slice_cmp}
 use Rattle.std.specs.BTreeMap.{is_at}
 use Rattle.syntax.specs.Views.{item_of}
+use Rattle.syntax.specs.Typing.{first_unmet, AreTypedItems}
 use Rattle.types.specs.inner.Found.{IsFound}
 use Rattle.types.proofs.Items.{items_more, items_taken}
 use Rattle.types.proofs.Steps.{tell_skip, tell_stop}
@@ -37,6 +38,9 @@ each-preserved g c =
       subst (IsFound c.check_item.new.found) (sym (items_taken xs i x c.index-items-i.is c.each-test.true)) c.in_ok-check_item.ensures.found,
       sym (tell_skip c.check_item.result _ _ _ _ more c.check_item.ensures.answer c.in_ok-check_item.was) ∙ c.each.invariant.1,
     )
+
+pub returns-clause-answer : goal.returns-clause-answer
+returns-clause-answer g c = sym (at_drop_all (λ xs. first_unmet (AreTypedItems (map item_of (take c.each.i c.args.items.now)) (map item_of xs))) c.args.items.now c.each.i c.each-test.false) ∙ c.each.invariant.1
 
 pub returns-clause-found : goal.returns-clause-found
 returns-clause-found g c = subst (λ xs. IsFound c.each.found (map item_of xs)) (take_all c.each.i c.args.items.now c.each-test.false) c.each.invariant.0
