@@ -2,6 +2,7 @@
 use Rattle.std.proofs.Common.{◌≡◌, ℕ, zero, suc, add-one, ◌+◌, ◌<◌, ◌≤◌, List, [], ◌∷◌, length, drop, Some, refl, sym, ap, subst, arith, inl, inr}
 use Rattle.std.specs.Prelude.{slice_get, ◌↔◌}
 use Rattle.std.proofs.lemmas.Bool.{cases_lt}
+use Rattle.std.proofs.lemmas.List.{at_drop_all}
 use Rattle.bytecode.specs.Code.{Code, FunctionCode}
 use Rattle.bytecode.specs.Valid.{end_before, end_of, Has, IsCovered, IsValid}
 use Rattle.bytecode.specs.inner.Layout.{StartBeforeEnds, AreLaidOut}
@@ -78,3 +79,7 @@ module _ (code : Code) where
   -- where the function before one ends
   pub end_there : (fs : List FunctionCode) (k : ℕ) (f : FunctionCode) → slice_get fs k ≡ Some f → f.first ≡ end_before code (drop k fs)
   end_there fs k f e = ap (end_before code) (sym (split fs k f e))
+
+  -- where the last one ends
+  pub end_last : (fs : List FunctionCode) (k : ℕ) → length fs ≤ k → length code.instructions ≡ end_before code (drop k fs)
+  end_last fs k h = sym (at_drop_all (end_before code) fs k h)

@@ -16,6 +16,18 @@ fn has<A: Allocator>(f: &FunctionCode<A>, r: u16) -> bool
     u32::from(r) < f.registers
 }
 
+fn has_two<A: Allocator>(f: &FunctionCode<A>, a: u16, b: u16) -> bool
+    ensures { IsTrue result ↔ ((a < f.now.registers) × (b < f.now.registers)) }
+{
+    has(f, a) && has(f, b)
+}
+
+fn has_three<A: Allocator>(f: &FunctionCode<A>, a: u16, b: u16, c: u16) -> bool
+    ensures { IsTrue result ↔ ((a < f.now.registers) × (b < f.now.registers) × (c < f.now.registers)) }
+{
+    has(f, a) && has(f, b) && has(f, c)
+}
+
 fn lies<A: Allocator>(f: &FunctionCode<A>, end: usize, to: u32) -> bool
     ensures { IsTrue result ↔ ((f.now.first ≤ to) × (to < end)) }
 {
@@ -64,44 +76,42 @@ pub(crate) fn is_written<A: Allocator>(
             let _value = *value;
             has(f, *d)
         }
-        Instr::Move(d, a) => has(f, *d) && has(f, *a),
-        Instr::AddSigned(d, a, b) => has(f, *d) && has(f, *a) && has(f, *b),
-        Instr::AddUnsigned(d, a, b) => has(f, *d) && has(f, *a) && has(f, *b),
-        Instr::SubtractSigned(d, a, b) => has(f, *d) && has(f, *a) && has(f, *b),
-        Instr::SubtractUnsigned(d, a, b) => has(f, *d) && has(f, *a) && has(f, *b),
-        Instr::MultiplySigned(d, a, b) => has(f, *d) && has(f, *a) && has(f, *b),
-        Instr::MultiplyUnsigned(d, a, b) => has(f, *d) && has(f, *a) && has(f, *b),
-        Instr::DivideSigned(d, a, b) => has(f, *d) && has(f, *a) && has(f, *b),
-        Instr::DivideUnsigned(d, a, b) => has(f, *d) && has(f, *a) && has(f, *b),
-        Instr::RemainderSigned(d, a, b) => has(f, *d) && has(f, *a) && has(f, *b),
-        Instr::RemainderUnsigned(d, a, b) => has(f, *d) && has(f, *a) && has(f, *b),
-        Instr::ShiftLeftSigned(d, a, b) => has(f, *d) && has(f, *a) && has(f, *b),
-        Instr::ShiftLeftUnsigned(d, a, b) => has(f, *d) && has(f, *a) && has(f, *b),
-        Instr::ShiftRightSigned(d, a, b) => has(f, *d) && has(f, *a) && has(f, *b),
-        Instr::ShiftRightUnsigned(d, a, b) => has(f, *d) && has(f, *a) && has(f, *b),
-        Instr::And(d, a, b) => has(f, *d) && has(f, *a) && has(f, *b),
-        Instr::Or(d, a, b) => has(f, *d) && has(f, *a) && has(f, *b),
-        Instr::Xor(d, a, b) => has(f, *d) && has(f, *a) && has(f, *b),
-        Instr::Equal(d, a, b) => has(f, *d) && has(f, *a) && has(f, *b),
-        Instr::NotEqual(d, a, b) => has(f, *d) && has(f, *a) && has(f, *b),
-        Instr::LessSigned(d, a, b) => has(f, *d) && has(f, *a) && has(f, *b),
-        Instr::LessUnsigned(d, a, b) => has(f, *d) && has(f, *a) && has(f, *b),
-        Instr::LessEqualSigned(d, a, b) => has(f, *d) && has(f, *a) && has(f, *b),
-        Instr::LessEqualUnsigned(d, a, b) => has(f, *d) && has(f, *a) && has(f, *b),
-        Instr::NegateSigned(d, a) => has(f, *d) && has(f, *a),
-        Instr::NegateUnsigned(d, a) => has(f, *d) && has(f, *a),
-        Instr::Complement(d, a) => has(f, *d) && has(f, *a),
+        Instr::Move(d, a) => has_two(f, *d, *a),
+        Instr::AddSigned(d, a, b) => has_three(f, *d, *a, *b),
+        Instr::AddUnsigned(d, a, b) => has_three(f, *d, *a, *b),
+        Instr::SubtractSigned(d, a, b) => has_three(f, *d, *a, *b),
+        Instr::SubtractUnsigned(d, a, b) => has_three(f, *d, *a, *b),
+        Instr::MultiplySigned(d, a, b) => has_three(f, *d, *a, *b),
+        Instr::MultiplyUnsigned(d, a, b) => has_three(f, *d, *a, *b),
+        Instr::DivideSigned(d, a, b) => has_three(f, *d, *a, *b),
+        Instr::DivideUnsigned(d, a, b) => has_three(f, *d, *a, *b),
+        Instr::RemainderSigned(d, a, b) => has_three(f, *d, *a, *b),
+        Instr::RemainderUnsigned(d, a, b) => has_three(f, *d, *a, *b),
+        Instr::ShiftLeftSigned(d, a, b) => has_three(f, *d, *a, *b),
+        Instr::ShiftLeftUnsigned(d, a, b) => has_three(f, *d, *a, *b),
+        Instr::ShiftRightSigned(d, a, b) => has_three(f, *d, *a, *b),
+        Instr::ShiftRightUnsigned(d, a, b) => has_three(f, *d, *a, *b),
+        Instr::And(d, a, b) => has_three(f, *d, *a, *b),
+        Instr::Or(d, a, b) => has_three(f, *d, *a, *b),
+        Instr::Xor(d, a, b) => has_three(f, *d, *a, *b),
+        Instr::Equal(d, a, b) => has_three(f, *d, *a, *b),
+        Instr::NotEqual(d, a, b) => has_three(f, *d, *a, *b),
+        Instr::LessSigned(d, a, b) => has_three(f, *d, *a, *b),
+        Instr::LessUnsigned(d, a, b) => has_three(f, *d, *a, *b),
+        Instr::LessEqualSigned(d, a, b) => has_three(f, *d, *a, *b),
+        Instr::LessEqualUnsigned(d, a, b) => has_three(f, *d, *a, *b),
+        Instr::NegateSigned(d, a) => has_two(f, *d, *a),
+        Instr::NegateUnsigned(d, a) => has_two(f, *d, *a),
+        Instr::Complement(d, a) => has_two(f, *d, *a),
         Instr::Jump(to) => lies(f, end, *to),
         Instr::JumpZero(a, to) => has(f, *a) && lies(f, end, *to),
         Instr::JumpNonzero(a, to) => has(f, *a) && lies(f, end, *to),
         Instr::Check(i, _) => has(f, *i),
         Instr::Read(d, cell) => has(f, *d) && reach(cells, *cell, 1),
-        Instr::ReadAt(d, i, cell, cells_there) => has(f, *d)
-            && has(f, *i)
+        Instr::ReadAt(d, i, cell, cells_there) => has_two(f, *d, *i)
             && reach(cells, *cell, *cells_there),
         Instr::Write(a, cell) => has(f, *a) && reach(cells, *cell, 1),
-        Instr::WriteAt(i, a, cell, cells_there) => has(f, *i)
-            && has(f, *a)
+        Instr::WriteAt(i, a, cell, cells_there) => has_two(f, *i, *a)
             && reach(cells, *cell, *cells_there),
         Instr::Begin(cancelled) => lies(f, end, *cancelled),
         Instr::Commit => true,
