@@ -1,5 +1,5 @@
 use Rattle.std.proofs.Common.{ap, sym, refl, arith}
-use denote.Param.Weighed.{most}
+use denote.Param.Weighed.{most, at_most}
 use Rattle.std.proofs.lemmas.List.{at_drop_all}
 use Rattle.std.proofs.lemmas.Result.{on_ok_weaker}
 use Rattle.syntax.specs.Views.{exprs_of}
@@ -9,6 +9,72 @@ use Rattle.safety.specs.Sites.{exprs_sites}
 use Rattle.safety.specs.inner.Known.{around_in}
 use Rattle.safety.proofs.Walks.{two, same, next, done, variable_sites, element_sites, call_sites, parenthesized_sites, cast_sites, unary_sites, binary_sites, logical_sites, conditional_sites, exprs_more}
 use Rattle.safety.proofs.expr.+add_expr.Goals as goal
+
+pub add_expr-add_expr-requires : goal.add_expr-add_expr-requires
+add_expr-add_expr-requires g t c κs within =
+    let size = simp the_lemmas at (ap (the_size g.row.A g.A.Allocator g.A.laws) c.in-Element.is) in
+    let here = ap (the_size g.row.A g.A.Allocator g.A.laws) c.get.ensures in
+    (omega (arith, size, here, c.decreases), within)
+
+pub add_expr-add_expr-requires-in-Parenthesized : goal.add_expr-add_expr-requires-in-Parenthesized
+add_expr-add_expr-requires-in-Parenthesized g t c κs within =
+    let size = simp the_lemmas at (ap (the_size g.row.A g.A.Allocator g.A.laws) c.in-Parenthesized.is) in
+    let here = ap (the_size g.row.A g.A.Allocator g.A.laws) c.get-in-Parenthesized.ensures in
+    (omega (arith, size, here, c.decreases), within)
+
+pub add_expr-add_expr-requires-in-Cast : goal.add_expr-add_expr-requires-in-Cast
+add_expr-add_expr-requires-in-Cast g t c κs within =
+    let size = simp the_lemmas at (ap (the_size g.row.A g.A.Allocator g.A.laws) c.in-Cast.is) in
+    let here = ap (the_size g.row.A g.A.Allocator g.A.laws) c.get-in-Cast.ensures in
+    (omega (arith, size, here, c.decreases), within)
+
+pub add_expr-add_expr-requires-in-Unary : goal.add_expr-add_expr-requires-in-Unary
+add_expr-add_expr-requires-in-Unary g t c κs within =
+    let size = simp the_lemmas at (ap (the_size g.row.A g.A.Allocator g.A.laws) c.in-Unary.is) in
+    let here = ap (the_size g.row.A g.A.Allocator g.A.laws) c.get-in-Unary.ensures in
+    (omega (arith, size, here, c.decreases), within)
+
+pub add_expr-add_expr-requires-in-Binary : goal.add_expr-add_expr-requires-in-Binary
+add_expr-add_expr-requires-in-Binary g t c κs within =
+    let size = simp the_lemmas at (ap (the_size g.row.A g.A.Allocator g.A.laws) c.in-Binary.is) in
+    let here = ap (the_size g.row.A g.A.Allocator g.A.laws) c.get-in-Binary.ensures in
+    (omega (arith, size, here, c.decreases), within)
+
+pub add_expr-add_expr-requires-in-Binary-2 : goal.add_expr-add_expr-requires-in-Binary-2
+add_expr-add_expr-requires-in-Binary-2 g t c κs within =
+    let size = simp the_lemmas at (ap (the_size g.row.A g.A.Allocator g.A.laws) c.in-Binary.is) in
+    let here = ap (the_size g.row.A g.A.Allocator g.A.laws) c.get-in-Binary-2.ensures in
+    (omega (arith, size, here, c.decreases), within)
+
+pub add_expr-add_expr-requires-in-Logical : goal.add_expr-add_expr-requires-in-Logical
+add_expr-add_expr-requires-in-Logical g t c κs within =
+    let size = simp the_lemmas at (ap (the_size g.row.A g.A.Allocator g.A.laws) c.in-Logical.is) in
+    let here = ap (the_size g.row.A g.A.Allocator g.A.laws) c.get-in-Logical.ensures in
+    (omega (arith, size, here, c.decreases), within)
+
+pub add_expr-add_expr-requires-in-Logical-2 : goal.add_expr-add_expr-requires-in-Logical-2
+add_expr-add_expr-requires-in-Logical-2 g t c κs within =
+    let size = simp the_lemmas at (ap (the_size g.row.A g.A.Allocator g.A.laws) c.in-Logical.is) in
+    let here = ap (the_size g.row.A g.A.Allocator g.A.laws) c.get-in-Logical-2.ensures in
+    (omega (arith, size, here, c.decreases), within)
+
+pub add_expr-add_expr-requires-in-Conditional : goal.add_expr-add_expr-requires-in-Conditional
+add_expr-add_expr-requires-in-Conditional g t c κs within =
+    let size = simp the_lemmas at (ap (the_size g.row.A g.A.Allocator g.A.laws) c.in-Conditional.is) in
+    let here = ap (the_size g.row.A g.A.Allocator g.A.laws) c.get-in-Conditional.ensures in
+    (omega (arith, size, here, c.decreases), within)
+
+pub add_expr-add_expr-requires-in-Conditional-2 : goal.add_expr-add_expr-requires-in-Conditional-2
+add_expr-add_expr-requires-in-Conditional-2 g t c κs within =
+    let size = simp the_lemmas at (ap (the_size g.row.A g.A.Allocator g.A.laws) c.in-Conditional.is) in
+    let here = ap (the_size g.row.A g.A.Allocator g.A.laws) c.get-in-Conditional-2.ensures in
+    (omega (arith, size, here, c.decreases), within)
+
+pub add_expr-add_expr-requires-in-Conditional-3 : goal.add_expr-add_expr-requires-in-Conditional-3
+add_expr-add_expr-requires-in-Conditional-3 g t c κs within =
+    let size = simp the_lemmas at (ap (the_size g.row.A g.A.Allocator g.A.laws) c.in-Conditional.is) in
+    let here = ap (the_size g.row.A g.A.Allocator g.A.laws) c.get-in-Conditional-3.ensures in
+    (omega (arith, size, here, c.decreases), within)
 
 pub add_expr-add_exprs-requires : goal.add_expr-add_exprs-requires
 add_expr-add_exprs-requires g t c κs within =
@@ -62,6 +128,13 @@ add_expr-returns-in_ok-add_expr-in-Conditional-2 g t c =
     let is = conditional_sites w c.args.e.now c.in-Conditional.c c.in-Conditional.a c.in-Conditional.b c.get-in-Conditional.result.now c.get-in-Conditional-2.result.now c.get-in-Conditional-3.result.now c.in-Conditional.field-3 c.in-Conditional.is c.get-in-Conditional.ensures c.get-in-Conditional-2.ensures c.get-in-Conditional-3.ensures in
     let first = two c.args.sites.now c.add_expr-in-Conditional.new.sites c.add_expr-in-Conditional-2.new.sites _ _ _ refl c.in_ok-add_expr-in-Conditional.ensures c.in_ok-add_expr-in-Conditional-2.ensures in
     on_ok_weaker c.add_expr-in-Conditional-3.result (two c.args.sites.now c.add_expr-in-Conditional-2.new.sites c.add_expr-in-Conditional-3.new.sites _ _ _ is first) c.add_expr-in-Conditional-3.ensures
+
+pub add_exprs-add_expr-requires : goal.add_exprs-add_expr-requires
+add_exprs-add_expr-requires g t c κs within =
+    let size = the_size g.row.A g.A.Allocator g.A.laws in
+    let below = at_most size c.args.all.now c.each.one-index c.one-item.result c.each-test.true in
+    let here = ap size c.one-item.is in
+    (omega (arith, below, here, c.decreases), within)
 
 pub add_exprs-each-preserved : goal.add_exprs-each-preserved
 add_exprs-each-preserved g t c =

@@ -13,6 +13,30 @@ use Rattle.safety.proofs.Counts.{left, room}
 use Rattle.safety.proofs.Walks.{two, same, held, next, done, declare_sites, do_sites, block_sites, print_sites, while_sites, do_while_sites, return_sites, cancel_sites, transaction_sites, for_sites, body_behind, stmts_more, mode_anywhere, item_sites, item_names}
 use Rattle.safety.proofs.stmt.+add_stmt.Goals as goal
 
+pub add_stmt-add_stmt-requires : goal.add_stmt-add_stmt-requires
+add_stmt-add_stmt-requires g t c κs within =
+    let size = simp the_lemmas at (ap (the_size g.row.A g.A.Allocator g.A.laws) c.in-If.is) in
+    let here = ap (the_size g.row.A g.A.Allocator g.A.laws) c.get.ensures in
+    (omega (arith, size, here, c.decreases), within)
+
+pub add_stmt-add_stmt-requires-in-While : goal.add_stmt-add_stmt-requires-in-While
+add_stmt-add_stmt-requires-in-While g t c κs within =
+    let size = simp the_lemmas at (ap (the_size g.row.A g.A.Allocator g.A.laws) c.in-While.is) in
+    let here = ap (the_size g.row.A g.A.Allocator g.A.laws) c.get-in-While.ensures in
+    (omega (arith, size, here, c.decreases), within)
+
+pub add_stmt-add_stmt-requires-in-DoWhile : goal.add_stmt-add_stmt-requires-in-DoWhile
+add_stmt-add_stmt-requires-in-DoWhile g t c κs within =
+    let size = simp the_lemmas at (ap (the_size g.row.A g.A.Allocator g.A.laws) c.in-DoWhile.is) in
+    let here = ap (the_size g.row.A g.A.Allocator g.A.laws) c.get-in-DoWhile.ensures in
+    (omega (arith, size, here, c.decreases), within)
+
+pub add_stmt-add_stmt-requires-in-For : goal.add_stmt-add_stmt-requires-in-For
+add_stmt-add_stmt-requires-in-For g t c κs within =
+    let size = simp the_lemmas at (ap (the_size g.row.A g.A.Allocator g.A.laws) c.in-For.is) in
+    let here = ap (the_size g.row.A g.A.Allocator g.A.laws) c.get-in-For-2.ensures in
+    (omega (arith, size, here, c.decreases), within)
+
 pub add_stmt-add_block-requires : goal.add_stmt-add_block-requires
 add_stmt-add_block-requires g t c κs within =
     let size = simp the_lemmas at (ap (the_size g.row.A g.A.Allocator g.A.laws) c.in-Block.is) in
