@@ -2,7 +2,7 @@
 
 ghost use Rattle.std.specs.Prelude.{◌≡◌, IfOk};
 
-use crate::copy::{copy_three, copy_two};
+use crate::copy::{both, copy_three, copy_two};
 use crate::tree::{Declaration, Declarator, ForHead, Simple, Start, Stmt};
 use containers::{Boxed, Copied, Items};
 use std::alloc::{AllocError, Allocator};
@@ -71,22 +71,20 @@ impl<A: Allocator + Copy> Stmt<A> {
             Stmt::Do(s) => Ok(Stmt::Do(s.copy(alloc)?)),
             Stmt::Block(body) => Ok(Stmt::Block(copy_stmts(alloc, body.as_slice())?)),
             Stmt::Print(at, text, text_at, args) => {
-                let text = text.copy(alloc)?;
-                let args = args.copy(alloc)?;
+                let (text, args) = copy_two(alloc, text, args)?;
                 Ok(Stmt::Print(*at, text, *text_at, args))
             }
             Stmt::If(c, a, b) => {
-                let c = c.copy(alloc)?;
-                let a = copy_boxed(alloc, a)?;
+                let (c, a) = both(c.copy(alloc), copy_boxed(alloc, a))?;
                 Ok(Stmt::If(c, a, copy_else(alloc, b)?))
             }
             Stmt::While(c, body) => {
-                let c = c.copy(alloc)?;
-                Ok(Stmt::While(c, copy_boxed(alloc, body)?))
+                let (c, body) = both(c.copy(alloc), copy_boxed(alloc, body))?;
+                Ok(Stmt::While(c, body))
             }
             Stmt::DoWhile(body, c) => {
-                let body = copy_boxed(alloc, body)?;
-                Ok(Stmt::DoWhile(body, c.copy(alloc)?))
+                let (c, body) = both(c.copy(alloc), copy_boxed(alloc, body))?;
+                Ok(Stmt::DoWhile(body, c))
             }
             Stmt::For(head, body) => {
                 let head = head.copy(alloc)?;

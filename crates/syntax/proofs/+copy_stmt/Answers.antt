@@ -4,7 +4,7 @@ use denote.Param.Weighed.{most, at_most}
 use Rattle.syntax.specs.declared.tree.Stmt.{the_lemmas}
 use Rattle.syntax.specs.declared.tree.Stmt as S
 use Rattle.syntax.proofs.tree.Stmt.TheLaws.{the_size}
-use Rattle.syntax.proofs.Pushes.{pushed, ap_2, ap_3}
+use Rattle.syntax.proofs.Pushes.{pushed, ap_2, ap_3, made}
 use Rattle.syntax.proofs.+copy_stmt.Goals as goal
 
 pub copy_stmt::copy_stmts-each-preserved : goal.copy_stmt::copy_stmts-each-preserved
@@ -33,6 +33,21 @@ tree::Stmt::copy-copy_stmts-requires-in-Transaction g t c κs within =
     let here = ap (most (the_size g.row.A g.A.Allocator g.A.laws)) c.as_slice-in-Transaction.ensures in
     (omega (arith, size, here, c.decreases), within)
 
+pub tree::Stmt::copy-copy_boxed-requires : goal.tree::Stmt::copy-copy_boxed-requires
+tree::Stmt::copy-copy_boxed-requires g t c κs within =
+    let size = simp the_lemmas at (ap (the_size g.row.A g.A.Allocator g.A.laws) c.in-If.is) in
+    (omega (arith, size, c.decreases), within)
+
+pub tree::Stmt::copy-copy_boxed-requires-in-While : goal.tree::Stmt::copy-copy_boxed-requires-in-While
+tree::Stmt::copy-copy_boxed-requires-in-While g t c κs within =
+    let size = simp the_lemmas at (ap (the_size g.row.A g.A.Allocator g.A.laws) c.in-While.is) in
+    (omega (arith, size, c.decreases), within)
+
+pub tree::Stmt::copy-copy_boxed-requires-in-DoWhile : goal.tree::Stmt::copy-copy_boxed-requires-in-DoWhile
+tree::Stmt::copy-copy_boxed-requires-in-DoWhile g t c κs within =
+    let size = simp the_lemmas at (ap (the_size g.row.A g.A.Allocator g.A.laws) c.in-DoWhile.is) in
+    (omega (arith, size, c.decreases), within)
+
 pub tree::Stmt::copy-copy_boxed-requires-in-For : goal.tree::Stmt::copy-copy_boxed-requires-in-For
 tree::Stmt::copy-copy_boxed-requires-in-For g t c κs within =
     let size = simp the_lemmas at (ap (the_size g.row.A g.A.Allocator g.A.laws) c.in-For.is) in
@@ -44,7 +59,18 @@ tree::Stmt::copy-returns-in_ok-copy_stmts-in-Block g t c =
 
 pub tree::Stmt::copy-returns-in_ok-copy_else-in-If : goal.tree::Stmt::copy-returns-in_ok-copy_else-in-If
 tree::Stmt::copy-returns-in_ok-copy_else-in-If g t c =
-    ap_3 S.If c.in_ok-c-in-If.ensures c.in_ok-a-in-If.ensures c.in_ok-copy_else-in-If.ensures ∙ sym c.in-If.is
+    let copies = c.in_ok-c-in-If.ensures in
+    ap_3 S.If (made c.copy-in-If.result _ _ copies.0 c.copy-in-If.ensures) (made c.copy_boxed.result _ _ copies.1 c.copy_boxed.ensures) c.in_ok-copy_else-in-If.ensures ∙ sym c.in-If.is
+
+pub tree::Stmt::copy-returns-in_ok-c-in-While : goal.tree::Stmt::copy-returns-in_ok-c-in-While
+tree::Stmt::copy-returns-in_ok-c-in-While g t c =
+    let copies = c.in_ok-c-in-While.ensures in
+    ap_2 S.While (made c.copy-in-While.result _ _ copies.0 c.copy-in-While.ensures) (made c.copy_boxed-in-While.result _ _ copies.1 c.copy_boxed-in-While.ensures) ∙ sym c.in-While.is
+
+pub tree::Stmt::copy-returns-in_ok-c-in-DoWhile : goal.tree::Stmt::copy-returns-in_ok-c-in-DoWhile
+tree::Stmt::copy-returns-in_ok-c-in-DoWhile g t c =
+    let copies = c.in_ok-c-in-DoWhile.ensures in
+    ap_2 S.DoWhile (made c.copy_boxed-in-DoWhile.result _ _ copies.1 c.copy_boxed-in-DoWhile.ensures) (made c.copy-in-DoWhile.result _ _ copies.0 c.copy-in-DoWhile.ensures) ∙ sym c.in-DoWhile.is
 
 pub tree::Stmt::copy-returns-in_ok-copy_boxed-in-For : goal.tree::Stmt::copy-returns-in_ok-copy_boxed-in-For
 tree::Stmt::copy-returns-in_ok-copy_boxed-in-For g t c =
