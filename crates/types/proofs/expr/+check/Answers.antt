@@ -10,6 +10,72 @@ use Rattle.types.proofs.Loops.{numbers_more, call_parts, typed_call, typed_binar
 use Rattle.types.proofs.Steps.{skip, stop}
 use Rattle.types.proofs.expr.+check.Goals as goal
 
+pub check_expr-check_element-requires : goal.check_expr-check_element-requires
+check_expr-check_element-requires g t c κs within =
+    let size = simp the_lemmas at (ap (the_size g.row.A g.A.Allocator g.A.laws) c.in-Element.is) in
+    let here = ap (the_size g.row.A g.A.Allocator g.A.laws) c.get.ensures in
+    (omega (arith, size, here, c.decreases), within)
+
+pub check_expr-check_expr-requires : goal.check_expr-check_expr-requires
+check_expr-check_expr-requires g t c κs within =
+    let size = simp the_lemmas at (ap (the_size g.row.A g.A.Allocator g.A.laws) c.in-Parenthesized.is) in
+    let here = ap (the_size g.row.A g.A.Allocator g.A.laws) c.get-in-Parenthesized.ensures in
+    (omega (arith, size, here, c.decreases), within)
+
+pub check_expr-check_number-requires : goal.check_expr-check_number-requires
+check_expr-check_number-requires g t c κs within =
+    let size = simp the_lemmas at (ap (the_size g.row.A g.A.Allocator g.A.laws) c.in-Cast.is) in
+    let here = ap (the_size g.row.A g.A.Allocator g.A.laws) c.get-in-Cast.ensures in
+    (omega (arith, size, here, c.decreases), within)
+
+pub check_expr-check_number-requires-in-Unary : goal.check_expr-check_number-requires-in-Unary
+check_expr-check_number-requires-in-Unary g t c κs within =
+    let size = simp the_lemmas at (ap (the_size g.row.A g.A.Allocator g.A.laws) c.in-Unary.is) in
+    let here = ap (the_size g.row.A g.A.Allocator g.A.laws) c.get-in-Unary.ensures in
+    (omega (arith, size, here, c.decreases), within)
+
+pub check_expr-check_number-requires-in-Binary : goal.check_expr-check_number-requires-in-Binary
+check_expr-check_number-requires-in-Binary g t c κs within =
+    let size = simp the_lemmas at (ap (the_size g.row.A g.A.Allocator g.A.laws) c.in-Binary.is) in
+    let here = ap (the_size g.row.A g.A.Allocator g.A.laws) c.get-in-Binary.ensures in
+    (omega (arith, size, here, c.decreases), within)
+
+pub check_expr-check_number-requires-in-Binary-2 : goal.check_expr-check_number-requires-in-Binary-2
+check_expr-check_number-requires-in-Binary-2 g t c κs within =
+    let size = simp the_lemmas at (ap (the_size g.row.A g.A.Allocator g.A.laws) c.in-Binary.is) in
+    let here = ap (the_size g.row.A g.A.Allocator g.A.laws) c.get-in-Binary-2.ensures in
+    (omega (arith, size, here, c.decreases), within)
+
+pub check_expr-check_number-requires-in-Logical : goal.check_expr-check_number-requires-in-Logical
+check_expr-check_number-requires-in-Logical g t c κs within =
+    let size = simp the_lemmas at (ap (the_size g.row.A g.A.Allocator g.A.laws) c.in-Logical.is) in
+    let here = ap (the_size g.row.A g.A.Allocator g.A.laws) c.get-in-Logical.ensures in
+    (omega (arith, size, here, c.decreases), within)
+
+pub check_expr-check_number-requires-in-Logical-2 : goal.check_expr-check_number-requires-in-Logical-2
+check_expr-check_number-requires-in-Logical-2 g t c κs within =
+    let size = simp the_lemmas at (ap (the_size g.row.A g.A.Allocator g.A.laws) c.in-Logical.is) in
+    let here = ap (the_size g.row.A g.A.Allocator g.A.laws) c.get-in-Logical-2.ensures in
+    (omega (arith, size, here, c.decreases), within)
+
+pub check_expr-check_number-requires-in-Conditional : goal.check_expr-check_number-requires-in-Conditional
+check_expr-check_number-requires-in-Conditional g t c κs within =
+    let size = simp the_lemmas at (ap (the_size g.row.A g.A.Allocator g.A.laws) c.in-Conditional.is) in
+    let here = ap (the_size g.row.A g.A.Allocator g.A.laws) c.get-in-Conditional.ensures in
+    (omega (arith, size, here, c.decreases), within)
+
+pub check_expr-check_number-requires-in-Conditional-2 : goal.check_expr-check_number-requires-in-Conditional-2
+check_expr-check_number-requires-in-Conditional-2 g t c κs within =
+    let size = simp the_lemmas at (ap (the_size g.row.A g.A.Allocator g.A.laws) c.in-Conditional.is) in
+    let here = ap (the_size g.row.A g.A.Allocator g.A.laws) c.get-in-Conditional-2.ensures in
+    (omega (arith, size, here, c.decreases), within)
+
+pub check_expr-check_number-requires-in-Conditional-3 : goal.check_expr-check_number-requires-in-Conditional-3
+check_expr-check_number-requires-in-Conditional-3 g t c κs within =
+    let size = simp the_lemmas at (ap (the_size g.row.A g.A.Allocator g.A.laws) c.in-Conditional.is) in
+    let here = ap (the_size g.row.A g.A.Allocator g.A.laws) c.get-in-Conditional-3.ensures in
+    (omega (arith, size, here, c.decreases), within)
+
 pub check_expr-check_call-requires : goal.check_expr-check_call-requires
 check_expr-check_call-requires g t c κs within =
     let size = simp the_lemmas at (ap (the_size g.row.A g.A.Allocator g.A.laws) c.in-Call.is) in

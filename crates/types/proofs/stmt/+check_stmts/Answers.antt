@@ -27,6 +27,24 @@ check_block-returns-clause-answer g t c =
 pub check_block-returns-clause-same : goal.check_block-returns-clause-same
 check_block-returns-clause-same g t c = left c.args.names.now c.check_stmts.new.names c.leave.new.self c.in_ok-check_stmts.ensures.grows (c.leave.ensures.locals ∙ ap (λ n. take n c.check_stmts.new.names.locals.items) c.len-outer.ensures) (c.leave.ensures.slots ∙ ap (λ n. slot_before n c.check_stmts.new.names) c.len-outer.ensures)
 
+pub check_stmt-check_stmt-requires : goal.check_stmt-check_stmt-requires
+check_stmt-check_stmt-requires g t c κs within =
+    let size = simp the_lemmas at (ap (the_size g.row.A g.A.Allocator g.A.laws) c.in-If.is) in
+    let here = ap (the_size g.row.A g.A.Allocator g.A.laws) c.get.ensures in
+    (omega (arith, size, here, c.decreases), (within, c.requires))
+
+pub check_stmt-check_stmt-requires-in-While : goal.check_stmt-check_stmt-requires-in-While
+check_stmt-check_stmt-requires-in-While g t c κs within =
+    let size = simp the_lemmas at (ap (the_size g.row.A g.A.Allocator g.A.laws) c.in-While.is) in
+    let here = ap (the_size g.row.A g.A.Allocator g.A.laws) c.get-in-While.ensures in
+    (omega (arith, size, here, c.decreases), (within, c.requires))
+
+pub check_stmt-check_stmt-requires-in-DoWhile : goal.check_stmt-check_stmt-requires-in-DoWhile
+check_stmt-check_stmt-requires-in-DoWhile g t c κs within =
+    let size = simp the_lemmas at (ap (the_size g.row.A g.A.Allocator g.A.laws) c.in-DoWhile.is) in
+    let here = ap (the_size g.row.A g.A.Allocator g.A.laws) c.get-in-DoWhile.ensures in
+    (omega (arith, size, here, c.decreases), (within, c.requires))
+
 pub check_stmt-check_block-requires : goal.check_stmt-check_block-requires
 check_stmt-check_block-requires g t c κs within =
     let size = simp the_lemmas at (ap (the_size g.row.A g.A.Allocator g.A.laws) c.in-Block.is) in
