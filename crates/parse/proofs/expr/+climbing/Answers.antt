@@ -17,6 +17,47 @@ use Rattle.lex.specs.declared.token.Fixed.TheVariants.{Punctuator}
 use Rattle.lex.specs.declared.token.Punctuator.TheVariants as punct
 use Rattle.parse.proofs.expr.+climbing.Goals as goal
 
+-- ---- each call goes down
+
+pub opened-whole-requires : goal.opened-whole-requires
+opened-whole-requires g t c κs within = (omega (arith, c.decreases), (within, c.requires))
+
+pub behind-whole-requires : goal.behind-whole-requires
+behind-whole-requires g t c κs within = (omega (arith, c.decreases), (within, c.requires))
+
+pub arguments-whole-requires : goal.arguments-whole-requires
+arguments-whole-requires g t c κs within = (omega (arith, c.decreases), (within, c.requires))
+
+pub named-whole-requires : goal.named-whole-requires
+named-whole-requires g t c κs within = (omega (arith, c.decreases), (within, c.requires))
+
+pub named-arguments-requires : goal.named-arguments-requires
+named-arguments-requires g t c κs within = (omega (arith, c.decreases), (within, c.requires))
+
+pub operand-named-requires : goal.operand-named-requires
+operand-named-requires g t c κs within = (omega (arith, c.decreases), (within, c.requires))
+
+pub operand-opened-requires : goal.operand-opened-requires
+operand-opened-requires g t c κs within = (omega (arith, c.decreases), (within, c.requires))
+
+pub operand-prefixed-requires : goal.operand-prefixed-requires
+operand-prefixed-requires g t c κs within = (omega (arith, c.decreases), (within, c.requires))
+
+pub outcomes-whole-requires : goal.outcomes-whole-requires
+outcomes-whole-requires g t c κs within = (omega (arith, c.decreases), (within, c.requires))
+
+pub outcomes-behind-requires : goal.outcomes-behind-requires
+outcomes-behind-requires g t c κs within = (omega (arith, c.decreases), (within, c.requires))
+
+pub extend-whole-requires : goal.extend-whole-requires
+extend-whole-requires g t c κs within = (omega (arith, c.decreases), (within, c.requires.fits))
+
+pub conditional-outcomes-requires : goal.conditional-outcomes-requires
+conditional-outcomes-requires g t c κs within = (omega (arith, c.decreases), (within, c.requires.fits))
+
+pub climb-operand-requires : goal.climb-operand-requires
+climb-operand-requires g t c κs within = (omega (arith, c.decreases, c.if-depth-eq0.false), (within, omega (arith, c.requires.fits)))
+
 -- ---- a name, and what may follow it
 
 pub named-returns-in_err-args-2-clause-value : goal.named-returns-in_err-args-2-clause-value
