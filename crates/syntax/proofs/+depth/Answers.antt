@@ -1,9 +1,91 @@
-use Rattle.std.proofs.Common.{◌-◌, ◌^◌, min, ap, ◌∙◌, sym, max}
+use Rattle.std.proofs.Common.{◌-◌, ◌^◌, min, ap, ◌∙◌, sym, max, arith}
+use denote.Param.Weighed.{most, at_most}
+use Rattle.syntax.specs.declared.tree.Expr.{the_lemmas}
+use Rattle.syntax.proofs.tree.Expr.TheLaws.{the_size}
 use Rattle.syntax.specs.Depth.{deepest, expr_depth}
 use Rattle.syntax.specs.Views.{expr_of, exprs_of}
 use Rattle.syntax.proofs.Seen.{expr_of_element, expr_of_parenthesized, expr_of_cast, expr_of_unary, expr_of_binary, expr_of_logical, expr_of_conditional}
 use Rattle.syntax.proofs.Depths.{cut_max, read_depth, ord_max_is, cut_more, cut_all, cut_one_more, deepest_more, deepest_all, depth_call}
 use Rattle.syntax.proofs.+depth.Goals as goal
+
+pub depth::deepest_of-depth-requires : goal.depth::deepest_of-depth-requires
+depth::deepest_of-depth-requires g t c κs within =
+    let size = the_size g.row.A g.A.Allocator g.A.laws in
+    let below = at_most size c.args.args.now c.each.arg-index c.arg-item.result c.each-test.true in
+    let here = ap size c.arg-item.is in
+    (omega (arith, below, here, c.decreases), within)
+
+pub tree::Expr::depth-deepest_of-requires : goal.tree::Expr::depth-deepest_of-requires
+tree::Expr::depth-deepest_of-requires g t c κs within =
+    let size = simp the_lemmas at (ap (the_size g.row.A g.A.Allocator g.A.laws) c.in-Call.is) in
+    let here = ap (most (the_size g.row.A g.A.Allocator g.A.laws)) c.as_slice.ensures in
+    (omega (arith, size, here, c.decreases), within)
+
+pub tree::Expr::depth-depth-requires : goal.tree::Expr::depth-depth-requires
+tree::Expr::depth-depth-requires g t c κs within =
+    let size = simp the_lemmas at (ap (the_size g.row.A g.A.Allocator g.A.laws) c.in-Element.is) in
+    let here = ap (the_size g.row.A g.A.Allocator g.A.laws) c.get.ensures in
+    (omega (arith, size, here, c.decreases), within)
+
+pub tree::Expr::depth-depth-requires-in-Parenthesized : goal.tree::Expr::depth-depth-requires-in-Parenthesized
+tree::Expr::depth-depth-requires-in-Parenthesized g t c κs within =
+    let size = simp the_lemmas at (ap (the_size g.row.A g.A.Allocator g.A.laws) c.in-Parenthesized.is) in
+    let here = ap (the_size g.row.A g.A.Allocator g.A.laws) c.get-in-Parenthesized.ensures in
+    (omega (arith, size, here, c.decreases), within)
+
+pub tree::Expr::depth-depth-requires-in-Cast : goal.tree::Expr::depth-depth-requires-in-Cast
+tree::Expr::depth-depth-requires-in-Cast g t c κs within =
+    let size = simp the_lemmas at (ap (the_size g.row.A g.A.Allocator g.A.laws) c.in-Cast.is) in
+    let here = ap (the_size g.row.A g.A.Allocator g.A.laws) c.get-in-Cast.ensures in
+    (omega (arith, size, here, c.decreases), within)
+
+pub tree::Expr::depth-depth-requires-in-Unary : goal.tree::Expr::depth-depth-requires-in-Unary
+tree::Expr::depth-depth-requires-in-Unary g t c κs within =
+    let size = simp the_lemmas at (ap (the_size g.row.A g.A.Allocator g.A.laws) c.in-Unary.is) in
+    let here = ap (the_size g.row.A g.A.Allocator g.A.laws) c.get-in-Unary.ensures in
+    (omega (arith, size, here, c.decreases), within)
+
+pub tree::Expr::depth-depth-requires-in-Binary : goal.tree::Expr::depth-depth-requires-in-Binary
+tree::Expr::depth-depth-requires-in-Binary g t c κs within =
+    let size = simp the_lemmas at (ap (the_size g.row.A g.A.Allocator g.A.laws) c.in-Binary.is) in
+    let here = ap (the_size g.row.A g.A.Allocator g.A.laws) c.get-in-Binary.ensures in
+    (omega (arith, size, here, c.decreases), within)
+
+pub tree::Expr::depth-depth-requires-in-Binary-2 : goal.tree::Expr::depth-depth-requires-in-Binary-2
+tree::Expr::depth-depth-requires-in-Binary-2 g t c κs within =
+    let size = simp the_lemmas at (ap (the_size g.row.A g.A.Allocator g.A.laws) c.in-Binary.is) in
+    let here = ap (the_size g.row.A g.A.Allocator g.A.laws) c.get-in-Binary-2.ensures in
+    (omega (arith, size, here, c.decreases), within)
+
+pub tree::Expr::depth-depth-requires-in-Logical : goal.tree::Expr::depth-depth-requires-in-Logical
+tree::Expr::depth-depth-requires-in-Logical g t c κs within =
+    let size = simp the_lemmas at (ap (the_size g.row.A g.A.Allocator g.A.laws) c.in-Logical.is) in
+    let here = ap (the_size g.row.A g.A.Allocator g.A.laws) c.get-in-Logical.ensures in
+    (omega (arith, size, here, c.decreases), within)
+
+pub tree::Expr::depth-depth-requires-in-Logical-2 : goal.tree::Expr::depth-depth-requires-in-Logical-2
+tree::Expr::depth-depth-requires-in-Logical-2 g t c κs within =
+    let size = simp the_lemmas at (ap (the_size g.row.A g.A.Allocator g.A.laws) c.in-Logical.is) in
+    let here = ap (the_size g.row.A g.A.Allocator g.A.laws) c.get-in-Logical-2.ensures in
+    (omega (arith, size, here, c.decreases), within)
+
+pub tree::Expr::depth-depth-requires-in-Conditional : goal.tree::Expr::depth-depth-requires-in-Conditional
+tree::Expr::depth-depth-requires-in-Conditional g t c κs within =
+    let size = simp the_lemmas at (ap (the_size g.row.A g.A.Allocator g.A.laws) c.in-Conditional.is) in
+    let here = ap (the_size g.row.A g.A.Allocator g.A.laws) c.get-in-Conditional.ensures in
+    (omega (arith, size, here, c.decreases), within)
+
+pub tree::Expr::depth-depth-requires-in-Conditional-2 : goal.tree::Expr::depth-depth-requires-in-Conditional-2
+tree::Expr::depth-depth-requires-in-Conditional-2 g t c κs within =
+    let size = simp the_lemmas at (ap (the_size g.row.A g.A.Allocator g.A.laws) c.in-Conditional.is) in
+    let here = ap (the_size g.row.A g.A.Allocator g.A.laws) c.get-in-Conditional-2.ensures in
+    (omega (arith, size, here, c.decreases), within)
+
+pub tree::Expr::depth-depth-requires-in-Conditional-3 : goal.tree::Expr::depth-depth-requires-in-Conditional-3
+tree::Expr::depth-depth-requires-in-Conditional-3 g t c κs within =
+    let size = simp the_lemmas at (ap (the_size g.row.A g.A.Allocator g.A.laws) c.in-Conditional.is) in
+    let here = ap (the_size g.row.A g.A.Allocator g.A.laws) c.get-in-Conditional-3.ensures in
+    (omega (arith, size, here, c.decreases), within)
 
 pub depth::deepest_of-each-preserved : goal.depth::deepest_of-each-preserved
 depth::deepest_of-each-preserved g t c =
