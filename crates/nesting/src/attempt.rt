@@ -1,6 +1,6 @@
 //! An attempt: its logs and its begins.
 
-ghost use Rattle.std.specs.Prelude.{◌≡◌, ◌+◌, ◌<◌, ◌≤◌, ◌^◌, [], ◌∷◌, ◌++◌, true, false, OnOk, OnErr, OnSome, length, drop};
+ghost use Rattle.std.specs.Prelude.{◌≡◌, ◌+◌, ◌<◌, ◌≤◌, ◌^◌, [], ◌∷◌, ◌++◌, true, false, OnOk, OnErr, OnSome, length, take, drop, vec_len};
 ghost use Rattle.std.specs.List.{slice_get};
 ghost use Rattle.write_log.specs.Overlay.{written, put};
 ghost use Rattle.nesting.specs.Nests.{GainsRoom};
@@ -43,6 +43,24 @@ impl<A: Allocator> Model for Attempt<A> {
     ghost invariant = { λ a. (a.depth ≤ vec_len a.inner) × (a.depth ≤ length a.writes.marks) };
 }
 
+// Makes room for what one more inner begin saves.
+#[inline(always)]
+fn reserve_inner<A: Allocator + Copy>(
+    inner: &mut Vec<Saved<A>, A>,
+    depth: usize,
+    alloc: A,
+) -> Result<(), AllocError>
+    requires open { depth ≤ vec_len inner.old }
+    ensures room { OnOk result (depth < vec_len inner.new) }
+    ensures open { take depth inner.new.items ≡ take depth inner.old.items }
+    ensures more { vec_len inner.old ≤ vec_len inner.new }
+{
+    if inner.len() == depth {
+        inner.push(Saved::new(alloc))?;
+    }
+    Ok(())
+}
+
 impl<A: Allocator + Copy> Attempt<A> {
     /// Nothing is logged, and no begin is open. It takes no memory yet.
     pub fn new(alloc: A) -> Attempt<A>
@@ -76,9 +94,7 @@ impl<A: Allocator + Copy> Attempt<A> {
         ensures err { OnErr result (self.new.aside ≡ self.old.aside) }
         ensures others { GainsRoom (record self.old { aside = self.new.aside }) self.new }
     {
-        if self.inner.len() == self.depth {
-            self.inner.push(Saved::new(self.alloc))?;
-        }
+        reserve_inner(&mut self.inner, self.depth, self.alloc)?;
         self.writes.reserve_one()?;
         self.aside.save(registers, frames, place)
     }
