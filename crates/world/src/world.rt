@@ -154,6 +154,22 @@ impl<A: Allocator + Copy> World<A> {
         })
     }
 
+    // Makes the next step of thread t, where there is such a thread.
+    fn step_any(&mut self, t: u32) -> Result<(), StopReason>
+        ensures ok { OnOk result (self.new ≡ further self.old (t ∷ [])) }
+        ensures err { IfErr result (λ e. (self.new ≡ self.old) × StopsFor self.new t e) }
+        ensures explained { IsExplained self.new }
+    {
+        if t >= self.threads() {
+            return Err(StopReason::Stranger);
+        }
+        match self.step(t) {
+            Ok(_) => Ok(()),
+            Err(Stop::OutOfMemory) => Err(StopReason::OutOfMemory),
+            Err(Stop::SequenceUsedUp) => Err(StopReason::SequenceUsedUp),
+        }
+    }
+
     /// Makes these steps, each the next one of its thread, in order. An error says which step was not made, and why; the
     /// steps before it stand, and the rest may be asked for again.
     pub fn run(&mut self, steps: &[u32]) -> Result<(), WorldStop>
@@ -162,18 +178,11 @@ impl<A: Allocator + Copy> World<A> {
         ensures explained { IsExplained self.new }
         ensures extends { Extends (transactions_of self.old) (transactions_of self.new) }
     {
-        let count = self.threads();
+        // The prover learns here that the world is explained.
+        let _threads = self.threads();
         'steps: for made in 0..steps.len() {
-            let t = steps[made];
-            if t >= count {
-                return Err(stopped(made, StopReason::Stranger));
-            }
-            match self.step(t) {
-                Ok(_) => {}
-                Err(Stop::OutOfMemory) => return Err(stopped(made, StopReason::OutOfMemory)),
-                Err(Stop::SequenceUsedUp) => {
-                    return Err(stopped(made, StopReason::SequenceUsedUp));
-                }
+            if let Err(reason) = self.step_any(steps[made]) {
+                return Err(stopped(made, reason));
             }
         }
         Ok(())
