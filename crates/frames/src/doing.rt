@@ -51,6 +51,20 @@ pub enum Doing {
     Traps(Trap),
 }
 
+// The piece that a print shows, and nothing where none does. The digits of a number stand in the buffer.
+fn piece<'a, A: Allocator>(code: &'a Code<A>, doing: Doing, digits: &'a mut Buffer) -> &'a str
+    ensures { result.now ≡ piece_of code.entry.now doing }
+{
+    match doing {
+        Doing::PrintText(k) => match code.texts().get(k as usize) {
+            Some(text) => text.as_str(),
+            None => "",
+        },
+        Doing::PrintNumber(z) => digits.format(z),
+        _ => "",
+    }
+}
+
 /// Makes room for the piece that a print shows. The error comes only where there is none and the allocator refuses it.
 pub fn prepare_piece<A: Allocator, B: Allocator>(
     text: &mut String<A>,
@@ -61,14 +75,8 @@ pub fn prepare_piece<A: Allocator, B: Allocator>(
     ensures room { OnOk result (string_len text.new + length (piece_of code.now doing) ≤ string_capacity text.new) }
     ensures full { OnErr result (string_capacity text.old < string_len text.old + length (piece_of code.now doing)) }
 {
-    match doing {
-        Doing::PrintText(k) => match code.texts().get(k as usize) {
-            Some(piece) => text.reserve(piece.as_str().len()),
-            None => Ok(()),
-        },
-        Doing::PrintNumber(z) => text.reserve(Buffer::new().format(z).len()),
-        _ => Ok(()),
-    }
+    let mut digits = Buffer::new();
+    text.reserve(piece(code, doing, &mut digits).len())
 }
 
 /// Appends the piece that a print shows. The error comes only where there is no room and the allocator refuses it; the text
@@ -82,12 +90,6 @@ pub fn push_piece<A: Allocator, B: Allocator>(
     ensures err { OnErr result (string_bytes text.new ≡ string_bytes text.old) }
     ensures full { OnErr result (string_capacity text.old < string_len text.old + length (piece_of code.now doing)) }
 {
-    match doing {
-        Doing::PrintText(k) => match code.texts().get(k as usize) {
-            Some(piece) => text.push_str(piece.as_str()),
-            None => Ok(()),
-        },
-        Doing::PrintNumber(z) => text.push_str(Buffer::new().format(z)),
-        _ => Ok(()),
-    }
+    let mut digits = Buffer::new();
+    text.push_str(piece(code, doing, &mut digits))
 }
