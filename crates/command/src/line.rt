@@ -7,6 +7,7 @@ ghost use Rattle.command.specs.Line.{file_rule, flag_rule, fault_rule, text_rule
 
 use clap::{Arg, ArgAction, Command, value_parser};
 use std::alloc::{AllocError, Global};
+use std::mem;
 
 /// The version that `txc --version` prints.
 const VERSION: &str = "0.1.0";
@@ -83,7 +84,13 @@ fn with<'a>(
         → rule_of arg.entry ≡ rule → arg.entry.global ≡ false
         → IfOk result (IsMade (with_rule app rule)) }
 {
-    command?.arg(arg)
+    match command {
+        Ok(command) => command.arg(arg),
+        Err(refused) => {
+            mem::drop(arg);
+            Err(refused)
+        }
+    }
 }
 
 /// Whether more is told.
@@ -289,7 +296,13 @@ fn with_made<'a>(
     ensures { (app sub : App) → IfOk program.entry (λ p. app_of p ≡ app) → IsMade sub command.entry
         → IfOk result (λ c. app_of c ≡ with_subcommand app sub.top) }
 {
-    program?.subcommand(command)
+    match program {
+        Ok(program) => program.subcommand(command),
+        Err(refused) => {
+            mem::drop(command);
+            Err(refused)
+        }
+    }
 }
 
 /// The same with a command that was to be made.
@@ -302,7 +315,10 @@ fn with_command<'a>(
 {
     match command {
         Ok(command) => with_made(program, command),
-        Err(refused) => Err(refused),
+        Err(refused) => {
+            mem::drop(program);
+            Err(refused)
+        }
     }
 }
 
