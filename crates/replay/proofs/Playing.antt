@@ -1,5 +1,5 @@
 -- The steps that a line names.
-use Rattle.std.proofs.Common.{◌≡◌, ◌≢◌, ◌<◌, ◌≤◌, ◌+◌, ◌-◌, ◌==◌, ◌⊎◌, inl, inr, ℕ, zero, suc, Bool, true, false, cond, List, [], ◌∷◌, ◌++◌, None, Some, length, refl, sym, ◌∙◌, ap, subst, slice_get, drop, arith, append_assoc, append-nil}
+use Rattle.std.proofs.Common.{◌≡◌, ◌≢◌, ◌<◌, ◌≤◌, ◌+◌, ◌-◌, ◌==◌, ◌⊎◌, inl, inr, ℕ, zero, suc, Bool, true, false, cond, List, [], ◌∷◌, ◌++◌, Option, None, Some, length, refl, sym, ◌∙◌, ap, subst, slice_get, drop, arith, append_assoc, append-nil}
 use Rattle.std.specs.Prelude.{if◌then◌else◌}
 use Rattle.std.proofs.lemmas.Bool.Decides.{eqb_tells}
 use Rattle.std.proofs.lemmas.Option.{slice_get_past}
@@ -17,7 +17,7 @@ use Rattle.replay.specs.declared.line.TheConstants.{MOST_STEPS}
 use Rattle.replay.specs.Replays.{IsReplay, events_in, events_of, first_world, is_done, is_over, is_cut_off, is_quiet, line_after, lines_left, played, steps_of, steps_with, told_event}
 use Rattle.replay.specs.declared.play.Halt.{Halt}
 use Rattle.replay.specs.declared.play.Halt.TheVariants.{Stopped, Refused}
-use Rattle.replay.specs.inner.Playing.{Going, HaltsAt, HaltsIn, HasPlayed, IsCut, Plays}
+use Rattle.replay.specs.inner.Playing.{ComesTo, Going, HaltsAt, HaltsIn, HasPlayed, IsCut, Plays}
 
 module _ (code : Code) where
   -- a line that is done names nothing
@@ -145,42 +145,50 @@ module _ (code : Code) (threads : ℕ) (lines : List Line) where
         h.named ∙ ap (λ (c : Code). h.made ++ steps_of c room (line ∷ rest) (world_of now)) (sym same) ∙ ap (λ (xs : List ℕ). h.made ++ xs) (p.named rest) ∙ ap (λ (c : Code). h.made ++ (p.made ++ steps_of c left rest (world_of next))) same ∙ sym (append_assoc h.made p.made _);
   }
 
-  module _ {A : Type 0} (r : Report A) (now : Simulation) (explained : IsExplained now) (events : r.events.items ≡ events_of now) (trace : r.trace.items ≡ now.trace) where
-    pub plays_all : (room : ℕ) → HasPlayed code threads lines room [] now → threads_of r.threads.items ≡ threads_shown None now → r.words.items ≡ (world_of now).words → IsHolder (world_of now) r.holder → r.stop ≡ stop_with None now → IsReplay code threads lines r
-    plays_all room h shown words holder stop = record {
-      made = h.made;
-      rest = [];
-      stop = None;
-      named = h.named ∙ ap (λ (xs : List ℕ). h.made ++ xs) (no_lines code room (world_of now));
-      ends = refl;
-      made_is = trace ∙ ap (λ (v : Simulation). v.trace) h.are;
-      explained = subst IsExplained h.are explained;
-      events = events ∙ ap events_of h.are;
-      threads_are = shown ∙ ap (threads_shown None) h.are;
-      words = words ∙ ap (λ (v : Simulation). (world_of v).words) h.are;
-      holder = subst (λ (v : Simulation). IsHolder (world_of v) r.holder) h.are holder;
-      stop_is = stop ∙ ap (stop_with None) h.are;
-    }
+  -- one that was not played to its end
+  pub ends_cut : (room : ℕ) (line : Line) (rest : List Line) (before now : Simulation) (halt : Halt) (reason : StopReason) (events : List (ℕ × ℕ × Event)) → HasPlayed code threads lines room (line ∷ rest) before → HaltsIn line room halt before now events → halt ≡ Stopped reason → ComesTo code threads lines (Some (line.thread, reason)) now × (events ≡ events_of now)
+  ends_cut room line rest before now halt reason events h halts is =
+      let cut = subst (λ (v : Halt). HaltsIn line room v before now events) is halts in
+      ((room, line, rest, before, h, cut.0, cut.1, refl), cut.2)
 
-    pub plays_to : (room : ℕ) (line : Line) (rest : List Line) (before : Simulation) (reason : StopReason) → HasPlayed code threads lines room (line ∷ rest) before → IsCut line room before now → StopsFor now line.thread reason
-        → threads_of r.threads.items ≡ threads_shown (Some (line.thread, reason)) now → r.words.items ≡ (world_of now).words → IsHolder (world_of now) r.holder → r.stop ≡ stop_with (Some (line.thread, reason)) now → IsReplay code threads lines r
-    plays_to room line rest before reason h p stops shown words holder stop =
+  module _ {A : Type 0} (r : Report A) (now : Simulation) (explained : IsExplained now) (events : r.events.items ≡ events_of now) (trace : r.trace.items ≡ now.trace) where
+    pub replays : (stop : Option (ℕ × StopReason)) → ComesTo code threads lines stop now → threads_of r.threads.items ≡ threads_shown stop now → r.words.items ≡ (world_of now).words → IsHolder (world_of now) r.holder → r.stop ≡ stop_with stop now → IsReplay code threads lines r
+    replays None e shown words holder stop =
+        let h = e.1 in
+        record {
+          made = h.made;
+          rest = [];
+          stop = None;
+          named = h.named ∙ ap (λ (xs : List ℕ). h.made ++ xs) (no_lines code e.0 (world_of now));
+          ends = refl;
+          made_is = trace ∙ ap (λ (v : Simulation). v.trace) h.are;
+          explained = subst IsExplained h.are explained;
+          events = events ∙ ap events_of h.are;
+          threads_are = shown ∙ ap (threads_shown None) h.are;
+          words = words ∙ ap (λ (v : Simulation). (world_of v).words) h.are;
+          holder = subst (λ (v : Simulation). IsHolder (world_of v) r.holder) h.are holder;
+          stop_is = stop ∙ ap (stop_with None) h.are;
+        }
+    replays (Some x) e shown words holder stop =
+        let h = e.4 in
+        let p = e.5 in
         let made : List ℕ = h.made ++ p.made in
         let are : now ≡ played code threads made = p.are ∙ ap (λ (v : Simulation). further v p.made) h.are in
-        let same : before.code ≡ code = ap (λ (v : Simulation). v.code) h.are in
+        let same : e.3.code ≡ code = ap (λ (v : Simulation). v.code) h.are in
+        let cut = p.named e.2 in
         record {
           made = made;
-          rest = line.thread ∷ (p.named rest).0;
-          stop = Some (line.thread, reason);
-          named = h.named ∙ ap (λ (c : Code). h.made ++ steps_of c room (line ∷ rest) (world_of before)) (sym same) ∙ ap (λ (xs : List ℕ). h.made ++ xs) (p.named rest).1 ∙ sym (append_assoc h.made p.made _);
-          ends = (((p.named rest).0, refl), subst (λ (v : Simulation). StopsFor v line.thread reason) are stops);
+          rest = x.0 ∷ cut.0;
+          stop = Some x;
+          named = h.named ∙ ap (λ (c : Code). h.made ++ steps_of c e.0 (e.1 ∷ e.2) (world_of e.3)) (sym same) ∙ ap (λ (xs : List ℕ). h.made ++ xs) (cut.1 ∙ ap (λ (t : ℕ). p.made ++ t ∷ cut.0) e.7) ∙ sym (append_assoc h.made p.made _);
+          ends = ((cut.0, refl), subst (λ (v : Simulation). StopsFor v x.0 x.1) are e.6);
           made_is = trace ∙ ap (λ (v : Simulation). v.trace) are;
           explained = subst IsExplained are explained;
           events = events ∙ ap events_of are;
-          threads_are = shown ∙ ap (threads_shown (Some (line.thread, reason))) are;
+          threads_are = shown ∙ ap (threads_shown (Some x)) are;
           words = words ∙ ap (λ (v : Simulation). (world_of v).words) are;
           holder = subst (λ (v : Simulation). IsHolder (world_of v) r.holder) are holder;
-          stop_is = stop ∙ ap (stop_with (Some (line.thread, reason))) are;
+          stop_is = stop ∙ ap (stop_with (Some x)) are;
         }
 
 -- a step that was not made cuts its line

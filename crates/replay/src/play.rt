@@ -1,10 +1,9 @@
 //! Replays: the steps that a schedule names, made one after another.
 
 ghost use Rattle.std.specs.Prelude.{◌≡◌, ◌+◌, ◌<◌, ◌≤◌, ◌⊎◌, ◌↔◌, ◌∷◌, ◌++◌, [], true, IfOk, IfErr, OnOk, Some, if◌then◌else◌, length, slice_get};
-ghost use Rattle.world.specs.Reports.{stop_with, threads_of, threads_shown};
-ghost use Rattle.world.specs.Simulations.{IsExplained, IsHolder, cost_at, further, world_of};
-ghost use Rattle.replay.specs.Replays.{IsReplay, events_of, is_cut_off as is_cut_off_spec, is_quiet as is_quiet_spec};
-ghost use Rattle.replay.specs.inner.Playing.{HaltsAt, HaltsIn, Plays};
+ghost use Rattle.world.specs.Simulations.{IsExplained, cost_at, further, world_of};
+ghost use Rattle.replay.specs.Replays.{IsReplay, events_of, is_cut_off as is_cut_off_spec, is_quiet as is_quiet_spec, played};
+ghost use Rattle.replay.specs.inner.Playing.{ComesTo, HaltsAt, HaltsIn, Plays};
 
 use crate::line::{Line, MOST_STEPS};
 use bytecode::Code;
@@ -132,6 +131,48 @@ fn line_at(lines: &[Line], at: usize) -> Line
     lines[at]
 }
 
+// Makes the steps that lines name, one after another, up to the first one that is not made: that one's thread, and why. The
+// error comes only where the growth of the events is refused.
+fn play_all<A: Allocator + Copy>(
+    world: &mut World<A>,
+    events: &mut Events<A>,
+    lines: &[Line],
+) -> Result<Option<(u32, StopReason)>, AllocError>
+    requires first { world.old ≡ played world.old.code world.old.threads [] }
+    requires events { events.old.items ≡ events_of world.old }
+    ensures ends { IfOk result (λ stop. ComesTo world.old.code world.old.threads lines.now stop world.new) }
+    ensures events { OnOk result (events.new.items ≡ events_of world.new) }
+{
+    let mut room = MOST_STEPS;
+    'lines: for at in 0..lines.len() {
+        let line = line_at(lines, at);
+        match play(world, events, line, room) {
+            Ok(left) => room = left,
+            Err(Halt::Refused) => return Err(AllocError),
+            Err(Halt::Stopped(reason)) => return Ok(Some((line.thread, reason))),
+        }
+    }
+    Ok(None)
+}
+
+// Makes the steps that lines name in a world that has made none, and reports what they leave.
+fn report_played<A: Allocator + Copy>(
+    alloc: A,
+    world: &mut World<A>,
+    lines: &[Line],
+) -> Result<Report<A>, AllocError>
+    requires first { world.old ≡ played world.old.code world.old.threads [] }
+    ensures { IfOk result (λ r. IsReplay world.old.code world.old.threads lines.now r) }
+{
+    let mut events = Vec::new(alloc);
+    let stop = play_all(world, &mut events, lines)?;
+    // The prover learns here that the world is explained.
+    let _threads = world.threads();
+    let mut report = world.report_with(alloc, stop)?;
+    report.events = events;
+    Ok(report)
+}
+
 /// Makes the steps that the lines of a schedule name, one after another, with so many threads of the code, and reports what
 /// they leave. It ends where all are made, after 1,048,576 steps, or at the first step that is not made: that one stands in
 /// the report. `WrongThreads` comes exactly where the number of threads is not 1 to 64, and `OutOfMemory` where the memory of
@@ -149,46 +190,8 @@ pub fn replay<A: Allocator + Copy>(
         Ok(world) => world,
         Err(why) => return Err(why),
     };
-    let mut events = Vec::new(alloc);
-    let mut room = MOST_STEPS;
-    'lines: for at in 0..lines.len() {
-        let line = line_at(lines, at);
-        match play(&mut world, &mut events, line, room) {
-            Ok(left) => room = left,
-            Err(Halt::Refused) => return Err(WorldFault::OutOfMemory),
-            Err(Halt::Stopped(reason)) => {
-                let stop = Some((line.thread, reason));
-                let Ok(report) = reported(alloc, &world, events, stop) else {
-                    return Err(WorldFault::OutOfMemory);
-                };
-                return Ok(report);
-            }
-        }
-    }
-    match reported(alloc, &world, events, None) {
+    match report_played(alloc, &mut world, lines) {
         Ok(report) => Ok(report),
         Err(_) => Err(WorldFault::OutOfMemory),
     }
-}
-
-// The report of a world with its events, and with the step that was not made.
-fn reported<A: Allocator + Copy>(
-    alloc: A,
-    world: &World<A>,
-    events: Events<A>,
-    stop: Option<(u32, StopReason)>,
-) -> Result<Report<A>, AllocError>
-    ensures events { IfOk result (λ r. r.events.items ≡ events.items) }
-    ensures threads { IfOk result (λ r. threads_of r.threads.items ≡ threads_shown stop world.now) }
-    ensures words { IfOk result (λ r. r.words.items ≡ (world_of world.now).words) }
-    ensures holder { IfOk result (λ r. IsHolder (world_of world.now) r.holder) }
-    ensures stop { IfOk result (λ r. r.stop ≡ stop_with stop world.now) }
-    ensures trace { IfOk result (λ r. r.trace.items ≡ world.now.trace) }
-    ensures explained { IsExplained world.now }
-{
-    // The prover learns here that the world is explained.
-    let _threads = world.threads();
-    let mut report = world.report_with(alloc, stop)?;
-    report.events = events;
-    Ok(report)
 }

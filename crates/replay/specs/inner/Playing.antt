@@ -1,7 +1,8 @@
 -- How a line of a schedule is played.
-use Rattle.std.specs.Prelude.{◌≡◌, ℕ, List, ◌∷◌, ◌++◌}
+use Rattle.std.specs.Prelude.{◌≡◌, ℕ, List, [], ◌∷◌, ◌++◌, Option, None, Some}
 use Rattle.bytecode.specs.Code.{Code}
 use Rattle.machine.specs.declared.event.Event.{Event}
+use Rattle.world.specs.declared.stop.StopReason.{StopReason}
 use Rattle.world.specs.Simulations.{Simulation, further, world_of}
 use Rattle.world.specs.Stops.{StopsFor}
 use Rattle.replay.specs.declared.line.Line.{Line}
@@ -50,3 +51,11 @@ pub record HasPlayed (code : Code) (threads : ℕ) (lines : List Line) (room : �
   pub made : List ℕ
   pub are : now ≡ played code threads made
   pub named : steps_of code MOST_STEPS lines (first_world code threads) ≡ made ++ steps_of code room rest (world_of now)
+
+-- where a schedule ends: all its lines were played, or one was cut at a step of its thread that is not made
+abbrev pub ComesTo : Code → ℕ → List Line → Option (ℕ × StopReason) → Simulation → Type 0
+ComesTo code threads lines None now = (room : ℕ) × HasPlayed code threads lines room [] now
+ComesTo code threads lines (Some stop) now =
+    (room : ℕ) × (line : Line) × (rest : List Line) × (before : Simulation)
+    × HasPlayed code threads lines room (line ∷ rest) before × IsCut line room before now
+    × StopsFor now stop.0 stop.1 × (line.thread ≡ stop.0)
