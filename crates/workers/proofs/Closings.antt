@@ -1,5 +1,5 @@
 -- What the workers of a hall add up to when it is closed.
-use Rattle.std.proofs.Common.{drop, ◌≡◌, ◌≢◌, ◌⊎◌, inl, inr, ⊎_elim, ℕ, zero, suc, ◌+◌, ◌<◌, ◌≤◌, true, false, List, [], ◌∷◌, ◌++◌, Some, length, get_or, set, slice_get, refl, sym, ap, ◌∙◌, subst, arith}
+use Rattle.std.proofs.Common.{drop, ◌≡◌, ◌≢◌, ◌⊎◌, inl, inr, ⊎_elim, ℕ, zero, suc, ◌+◌, ◌<◌, ◌≤◌, true, false, List, [], ◌∷◌, ◌++◌, Some, length, length-append, get_or, set, slice_get, refl, sym, ap, ◌∙◌, subst, arith}
 use Rattle.std.specs.Prelude.{Option, nat_lt, unwrap_or}
 use Rattle.std.proofs.lemmas.Option.{slice_get_within}
 use mathlib.Core.Option.{some, some-ne-none, some-injective}
@@ -130,12 +130,19 @@ module _ {A : Type 0} (z : TableId) (key : Setup) where
       subst (λ (v : Worker A). (p : Part Configuration) × (slice_get w.parts v.number ≡ Some p) × (p.thread ≡ v.thread.thread)) (some-injective y x e) (all.0.1.now, t.0, all.0.1.thread_is)
   thread_there w heard (y ∷ ys) all t (suc k) x e = thread_there w heard ys all.1 t.2 k x e
 
+  -- and where the worker's does not have the lock, that one does not
+  free_thread : (parts : List (Part Configuration)) (x : Worker A) (t : ℕ) (p q : Part Configuration) → slice_get parts x.number ≡ Some q → q.thread ≡ x.thread.thread → x.number ≡ t → slice_get parts t ≡ Some p → thread_has_lock x.thread.thread ≡ false → thread_has_lock p.thread ≡ false
+  free_thread parts x t p q at is number here free =
+      let both : Some q ≡ Some p = sym at ∙ ap (slice_get parts) number ∙ here in
+      let same : q ≡ p = ap (λ (o : Option (Part Configuration)). unwrap_or o p) both in
+      ap (λ (r : Part Configuration). thread_has_lock r.thread) (sym same) ∙ ap thread_has_lock is ∙ free
+
   pub closes : (id : ℕ) (m : SeatView) (ws : List (Worker A)) → m.0 ≡ parts_back ws → (all : AreWorkersOf z key ws) → (cells : List ℕ) → Leaves key id m cells → (threads : List (Finished A)) → threads ≡ finished_back ws
       → Closes z key ws all cells threads
   closes id m ws same all cells left threads finished =
       let views = left.1 in
       let rule = left.2 in
-      let at : get_elem? views id ≡ some (parts_back ws) = left.3 ∙ ap some same in
+      let at : get_elem? views id ≡ some (parts_back ws) = subst (λ (v : List ViewPart). get_elem? views id ≡ some v) same left.3 in
       let s = settles rule.world rule.heard rule.answered ws all (λ n. let a = parts_in-at n views id (parts_back ws) at in let o = at_most_one (nat_lt n key.threads) (parts_in n views) (rule.once n) in omega arith) (λ p a. rule.fits id (parts_back ws) p at a) in
       let r = runs (effect key.code) (beginning key.code) (bounds_of key.code) (initial_of key.code) (initial_fits key.code) (fits_cells key.code rule.valid) key.threads (record rule.world { parts = s.parts }) rule.heard s.reached in
       record {
@@ -152,9 +159,7 @@ module _ {A : Type 0} (z : TableId) (key : Setup) where
             let below = slice_get_within s.parts t p e in
             let h = here t (omega arith) in
             let g = thread_there (record rule.world { parts = s.parts }) rule.heard ws all s.there h.0 h.1 h.2 in
-            let is : Some g.0 ≡ Some p = sym g.1 ∙ ap (slice_get s.parts) h.3 ∙ e in
-            let same : g.0 ≡ p = ap (λ (o : Option (Part Configuration)). unwrap_or o p) is in
-            let no : thread_has_lock p.thread ≡ false = ap (λ (q : Part Configuration). thread_has_lock q.thread) (sym same) ∙ ap thread_has_lock g.2 ∙ free h.0 h.1 h.2 in
+            let no = free_thread s.parts h.1 t p g.0 g.1 g.2 h.3 e (free h.0 h.1 h.2) in
             let yes = has_it p a has in
             absurd (not_both (sym yes ∙ no)));
       }
@@ -165,6 +170,27 @@ worker_in {A = A} z key ws xs ys w all e = inside xs (subst (AreWorkersOf z key)
     inside : (xs : List (Worker A)) → AreWorkersOf z key (xs ++ w ∷ ys) → IsWorkerOf z key w
     inside [] a = a.0
     inside (x ∷ xs) a = inside xs a.1
+
+-- there is a word more than there are cells
+pub some_word : (words cells : ℕ) → words ≡ cells + 1 → 0 < words
+some_word words cells e = omega arith
+
+-- there is room for the first one, and for each one that is left
+pub room_first : {X : Type 0} (items : List X) (len workers capacity : ℕ) → items ≡ [] → len ≡ length items → 0 < workers → workers ≤ capacity → len < capacity
+room_first items len workers capacity none e lt le = let n = ap length none in omega arith
+
+pub room_for_one : (threads workers left capacity : ℕ) → workers ≡ left + 1 → threads + workers ≤ capacity → threads < capacity
+room_for_one threads workers left capacity e le = omega arith
+
+pub room_for_all : {X : Type 0} (items : List X) (len workers capacity : ℕ) → items ≡ [] → len ≡ length items → workers ≤ capacity → len + workers ≤ capacity
+room_for_all items len workers capacity none e le = let n = ap length none in omega arith
+
+-- so many are left
+pub one_fewer : {X : Type 0} (xs ys : List X) (x : X) → xs ≡ ys ++ x ∷ [] → length ys < length xs
+one_fewer xs ys x e = let l = ap length e ∙ length-append ys (x ∷ []) in omega arith
+
+pub counts_one_fewer : {X : Type 0} (xs ys : List X) (x : X) (n m : ℕ) → xs ≡ ys ++ x ∷ [] → n ≡ length xs → m ≡ length ys → n ≡ m + 1
+counts_one_fewer xs ys x n m e a b = let l = ap length e ∙ length-append ys (x ∷ []) in omega arith
 
 -- where one more is pushed and one fewer is left, there is room still
 pub room_left : (threads more workers left capacity : ℕ) {capacity' : ℕ} → more ≡ threads + 1 → capacity' ≡ capacity → workers ≡ left + 1 → threads + workers ≤ capacity → more + left ≤ capacity'

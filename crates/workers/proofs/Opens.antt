@@ -29,6 +29,9 @@ some_word n words cells e f = omega arith
 pub is_some : (n count : ℕ) → n ≢ 0 → count ≡ n → 0 < count
 is_some n count some e = omega arith
 
+pub has_thread : (n count : ℕ) → 0 < n → count ≡ n → 0 < count
+has_thread n count some e = omega arith
+
 -- the number of a worker, before the last one and at it, of so many threads
 pub is_below : (n end count : ℕ) → n < end - 1 → end ≡ count → n < count
 is_below n end count lt e = omega arith

@@ -28,18 +28,23 @@ module _ {A : Type 0} where
   memory_is (Words v) cells held ws t h = (t.0, subst (λ (o : Option ℕ). MatchOption o (NoneHolds ws) (λ n. Holds ws n)) t.1 h)
   memory_is (LockHeld n) cells held ws t h = subst (λ (o : Option ℕ). MatchOption o (NoneHolds ws) (λ n. Holds ws n)) t h
 
-  pub ran : (does : Behaviour) (code : Code) (threads all : ℕ) (key : Setup) (same : key.code ≡ code) (count : key.threads ≡ threads) (few : threads ≤ 64) → Means (bounds_of code) (meaning (effect code) (beginning code)) does
-      → (z : TableId) (ws : List (Worker A)) (are : AreWorkersOf z key ws) (cells : List ℕ) (held : Option ℕ) (r : RunReport A) → Closes z key ws are cells r.threads.items → AllHere ws threads → TellsMemory r.memory cells held → MatchOption held (NoneHolds ws) (λ n. Holds ws n)
-      → AreEnded key all ws r.ends.items → Ran does (record { code = code; threads = threads }) all r
-  ran does code threads all key same count few means z ws are cells held r closes here tells holder ended =
-      subst (λ (k : Setup). Ran does k all r) (λ i. record { code = same i; threads = count i }) (record {
-        table = z;
-        workers = ws;
-        are = are;
-        cells = cells;
-        closes = closes;
-        here = subst (AllHere ws) (sym count) here;
-        memory = memory_is r.memory cells held ws tells holder;
-        ends = ended;
-        program = λ es m. explained_source (bounds_of key.code) (initial_of key.code) (initial_fits key.code) (meaning (effect key.code) (beginning key.code)) does (subst (λ (c : Code). Means (bounds_of c) (meaning (effect c) (beginning c)) does) (sym same) means) key.threads (omega arith) closes.world es (closes.runs.each es m);
-      })
+  pub ran : (does : Behaviour) (all : ℕ) (key : Setup) (few : key.threads ≤ 64) → Means (bounds_of key.code) (meaning (effect key.code) (beginning key.code)) does
+      → (z : TableId) (ws : List (Worker A)) (are : AreWorkersOf z key ws) (cells : List ℕ) (held : Option ℕ) (r : RunReport A) → Closes z key ws are cells r.threads.items → AllHere ws key.threads → TellsMemory r.memory cells held → MatchOption held (NoneHolds ws) (λ n. Holds ws n)
+      → AreEnded key all ws r.ends.items → Ran does key all r
+  ran does all key few means z ws are cells held r closes here tells holder ended = record {
+    table = z;
+    workers = ws;
+    are = are;
+    cells = cells;
+    closes = closes;
+    here = here;
+    memory = memory_is r.memory cells held ws tells holder;
+    ends = ended;
+    program = λ es m. explained_source (bounds_of key.code) (initial_of key.code) (initial_fits key.code) (meaning (effect key.code) (beginning key.code)) does means key.threads (omega arith) closes.world es (closes.runs.each es m);
+  }
+
+  -- a run of a hall with this code and so many threads
+  pub ran_of : (does : Behaviour) (code : Code) (threads all : ℕ) (key : Setup) (r : RunReport A) → key.code ≡ code → key.threads ≡ threads → Means (bounds_of code) (meaning (effect code) (beginning code)) does
+      → (Means (bounds_of key.code) (meaning (effect key.code) (beginning key.code)) does → Ran does key all r) → Ran does (record { code = code; threads = threads }) all r
+  ran_of does code threads all key r same count means run =
+      subst (λ (k : Setup). Ran does k all r) (λ i. record { code = same i; threads = count i }) (run (subst (λ (c : Code). Means (bounds_of c) (meaning (effect c) (beginning c)) does) (sym same) means))

@@ -1,10 +1,10 @@
 //! How a hall is opened.
 
-ghost use Rattle.std.specs.Prelude.{◌≡◌, ◌<◌, ◌≤◌, [], vec_len, IfOk, IfErr};
+ghost use Rattle.std.specs.Prelude.{◌≡◌, ◌+◌, ◌<◌, ◌≤◌, ◌∷◌, [], vec_len, IfOk, IfErr, OnOk};
 ghost use Rattle.bytecode.specs.Valid.{IsValid};
 ghost use Rattle.machine.specs.Standing.{IsThreadOf};
 ghost use Rattle.machine.specs.States.{first_thread};
-ghost use Rattle.seats.specs.Views.{first_view};
+ghost use Rattle.seats.specs.Views.{first_part, first_view};
 ghost use Rattle.workers.specs.Workers.{AreWorkersFrom};
 ghost use Rattle.workers.specs.Opening.{IsRefused};
 
@@ -47,37 +47,63 @@ fn worker<A: Allocator + Copy>(
     })
 }
 
+// Adds the worker of a thread to those of the threads before it.
+fn add_worker<A: Allocator + Copy>(
+    all: &mut Vec<Worker<A>, A>,
+    alloc: A,
+    setup: &Setup<A>,
+    number: u32,
+    seat: Seat<(), View>,
+) -> Result<(), AllocError>
+    requires valid { IsValid setup.now.code }
+    requires number { (vec_len all.old ≡ number) × (number < setup.now.threads) }
+    requires seat { seat.me ≡ (first_part setup.now number ∷ [], []) }
+    requires workers { AreWorkersFrom seat.table_id setup.now 0 all.old.items }
+    ensures count { OnOk result (vec_len all.new ≡ number + 1) }
+    ensures workers { OnOk result (AreWorkersFrom seat.table_id setup.now 0 all.new.items) }
+{
+    let one = worker(alloc, number, setup.code(), seat)?;
+    all.push(one)?;
+    Ok(())
+}
+
 // One worker for each thread.
 fn workers<A: Allocator + Copy>(
     words: &Words<A>,
     alloc: A,
     setup: &Setup<A>,
     mut seat: Seat<(), View>,
-) -> Result<Vec<Worker<A>, A>, HallFault>
+) -> Result<Vec<Worker<A>, A>, AllocError>
     requires table { (seat.table_id ≡ words.now.table_id) × (0 < words.now.table_id.words) × (words.now.key ≡ setup.now) × (0 < setup.now.threads) }
     requires valid { IsValid setup.now.code }
     requires seat { seat.me ≡ (first_view setup.now, []) }
     ensures workers { IfOk result (λ v. (vec_len v ≡ setup.now.threads) × AreWorkersFrom words.now.table_id setup.now 0 v.items) }
-    ensures fault { IfErr result (λ e. e ≡ HallFault.OutOfMemory) }
 {
     let mut all = Vec::new(alloc);
     let last = setup.threads() - 1;
     'numbers: for number in 0..last {
         let first = split_first(words, &mut seat);
-        let Ok(one) = worker(alloc, number, setup.code(), first) else {
-            return Err(HallFault::OutOfMemory);
-        };
-        let Ok(()) = all.push(one) else {
-            return Err(HallFault::OutOfMemory);
-        };
+        add_worker(&mut all, alloc, setup, number, first)?;
     }
-    let Ok(one) = worker(alloc, last, setup.code(), seat) else {
-        return Err(HallFault::OutOfMemory);
-    };
-    let Ok(()) = all.push(one) else {
-        return Err(HallFault::OutOfMemory);
-    };
+    add_worker(&mut all, alloc, setup, last, seat)?;
     Ok(all)
+}
+
+// A hall for these threads, of which there is one at least.
+fn opened<A: Allocator + Copy>(
+    alloc: A,
+    code: &Code<A>,
+    threads: u32,
+) -> Result<(Hall<A>, Vec<Worker<A>, A>), AllocError>
+    requires { 0 < threads }
+    ensures setup { IfOk result (λ r. (r.0.setup.code ≡ code.now) × (r.0.setup.threads ≡ threads)) }
+    ensures workers { IfOk result (λ r. (vec_len r.1 ≡ threads) × AreWorkersFrom r.0.table.shared.table_id r.0.setup 0 r.1.items) }
+{
+    let copy = code.copy(alloc)?;
+    let setup = Setup::new(copy, threads);
+    let (table, seat) = seats::open(alloc, &setup)?;
+    let workers = workers(&table.shared, alloc, &setup, seat)?;
+    Ok((Hall { table, setup }, workers))
 }
 
 impl<A: Allocator + Copy> Hall<A> {
@@ -96,17 +122,9 @@ impl<A: Allocator + Copy> Hall<A> {
         if threads == 0 || threads > MOST_THREADS {
             return Err(HallFault::Threads);
         }
-        let Ok(copy) = code.copy(alloc) else {
-            return Err(HallFault::OutOfMemory);
-        };
-        let setup = Setup::new(copy, threads);
-        let Ok((table, seat)) = seats::open(alloc, &setup) else {
-            return Err(HallFault::OutOfMemory);
-        };
-        let workers = match workers(&table.shared, alloc, &setup, seat) {
-            Ok(workers) => workers,
-            Err(_) => return Err(HallFault::OutOfMemory),
-        };
-        Ok((Hall { table, setup }, workers))
+        match opened(alloc, code, threads) {
+            Ok(opened) => Ok(opened),
+            Err(_) => Err(HallFault::OutOfMemory),
+        }
     }
 }

@@ -346,6 +346,57 @@ fn memory(words: Vec<u64>, held: Option<u32>) -> RunMemory
     }
 }
 
+// The report of workers that were driven.
+fn reported(
+    alloc: Global,
+    hall: Hall,
+    budget: u64,
+    driven: Vec<Driven>,
+) -> Result<RunReport, DriveFault>
+    requires driven { AreDrivenOf hall.table.shared.table_id hall.setup budget driven.items }
+    requires here { (n : ℕ) → n < hall.setup.threads → IsNumbered driven_number driven.items n }
+    requires few { hall.setup.threads ≤ 64 }
+    ensures { IfOk result (λ r. (does : Behaviour) → Means (bounds_of hall.setup.code) (code_does hall.setup.code) does → Ran does hall.setup budget r) }
+{
+    let Ok((workers, ends, overheld)) = unpack(alloc, &hall, budget, driven) else {
+        return Err(DriveFault::OutOfMemory);
+    };
+    let held = holder(&workers);
+    let Ok(places) = Vec::with_capacity(alloc, workers.len()) else {
+        return Err(DriveFault::OutOfMemory);
+    };
+    let Ok(cells) = Vec::with_capacity(alloc, hall.table.word_count() - 1) else {
+        return Err(DriveFault::OutOfMemory);
+    };
+    let Outcome { words, threads } = gather(hall, workers, cells, places);
+    Ok(RunReport {
+        memory: memory(words, held),
+        threads,
+        ends,
+        overheld,
+    })
+}
+
+// Drives the workers of a hall, and reports what they leave.
+fn run_workers<R: Threads + Wait + Sync, G: Gate + Sync>(
+    rt: &R,
+    alloc: Global,
+    hall: Hall,
+    workers: Vec<Worker>,
+    budget: u64,
+    gate: &G,
+) -> Result<RunReport, DriveFault>
+    requires workers { AreWorkersOf hall.table.shared.table_id hall.setup workers.items × AreFresh workers.items }
+    requires here { (n : ℕ) → n < hall.setup.threads → IsNumbered worker_number workers.items n }
+    requires few { hall.setup.threads ≤ 64 }
+    ensures { IfOk result (λ r. (does : Behaviour) → Means (bounds_of hall.setup.code) (code_does hall.setup.code) does → Ran does hall.setup budget r) }
+{
+    match drive_all(rt, alloc, &hall, workers, budget, gate) {
+        Ok(driven) => reported(alloc, hall, budget, driven),
+        Err(fault) => Err(fault),
+    }
+}
+
 /// Runs each thread of the code in a thread of the program's own, with so many steps each, and waits until all of them are over,
 /// have made their steps or were stopped. Nothing else here waits. The report is one run of every program that the code means.
 ///
@@ -367,26 +418,9 @@ pub fn run_all<R: Threads + Wait + Sync, G: Gate + Sync>(
         Err(HallFault::Threads) => return Err(RunFault::Threads),
         Err(HallFault::OutOfMemory) => return Err(RunFault::OutOfMemory),
     };
-    let driven = match drive_all(rt, alloc, &hall, workers, budget, gate) {
-        Ok(driven) => driven,
-        Err(DriveFault::OutOfMemory) => return Err(RunFault::OutOfMemory),
-        Err(DriveFault::NotStarted) => return Err(RunFault::NotStarted),
-    };
-    let Ok((workers, ends, overheld)) = unpack(alloc, &hall, budget, driven) else {
-        return Err(RunFault::OutOfMemory);
-    };
-    let held = holder(&workers);
-    let Ok(places) = Vec::with_capacity(alloc, workers.len()) else {
-        return Err(RunFault::OutOfMemory);
-    };
-    let Ok(cells) = Vec::with_capacity(alloc, hall.table.word_count() - 1) else {
-        return Err(RunFault::OutOfMemory);
-    };
-    let Outcome { words, threads } = gather(hall, workers, cells, places);
-    Ok(RunReport {
-        memory: memory(words, held),
-        threads,
-        ends,
-        overheld,
-    })
+    match run_workers(rt, alloc, hall, workers, budget, gate) {
+        Ok(report) => Ok(report),
+        Err(DriveFault::OutOfMemory) => Err(RunFault::OutOfMemory),
+        Err(DriveFault::NotStarted) => Err(RunFault::NotStarted),
+    }
 }

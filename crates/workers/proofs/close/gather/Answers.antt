@@ -1,8 +1,26 @@
-use Rattle.std.proofs.Common.{ap, subst}
+use Rattle.std.proofs.Common.{◌≡◌, ◌≤◌, ◌+◌, ◌∙◌, ap, sym, subst}
+use Rattle.std.specs.Vec.{vec_capacity}
+use Rattle.bytecode.specs.Valid.{cells_of}
 use Rattle.seats.specs.Setup.{Setup}
 use Rattle.seats.specs.Rule.{Leaves}
-use Rattle.workers.proofs.Closings.{closes}
+use Rattle.workers.specs.Workers.{AreWorkersOf}
+use Rattle.workers.proofs.Closings.{closes, some_word}
 use Rattle.workers.proofs.close.gather.Goals as goal
+
+pub join_all-seat-requires-clause-table : goal.join_all-seat-requires-clause-table
+join_all-seat-requires-clause-table g c = some_word _ _ c.args.hall.wide
+
+pub join_all-seat-requires-clause-workers : goal.join_all-seat-requires-clause-workers
+join_all-seat-requires-clause-workers g c = subst (λ (k : Setup). AreWorkersOf c.args.hall.table.shared.table_id k c.args.workers.items) (sym c.args.hall.key) c.requires.workers
+
+pub close-words-requires-clause-table : goal.close-words-requires-clause-table
+close-words-requires-clause-table g c = c.join_all-seat.ensures.0
+
+pub close-words-requires-clause-words : goal.close-words-requires-clause-words
+close-words-requires-clause-words g c = c.args.hall.wide ∙ ap (λ (k : Setup). cells_of k.code + 1) (sym c.args.hall.key)
+
+pub close-words-requires-clause-room : goal.close-words-requires-clause-room
+close-words-requires-clause-room g c = (c.requires.room.0, subst (λ (k : Setup). cells_of k.code ≤ vec_capacity c.args.cells) (sym c.args.hall.key) c.requires.room.1)
 
 pub returns : goal.returns
 returns g c = λ all.

@@ -1,27 +1,25 @@
-use Rattle.std.proofs.Common.{arith}
-use Rattle.workers.specs.Closing.{AllHere}
+use Rattle.std.proofs.Common.{◌≤◌, ◌∙◌, ℕ, sym, subst}
 use Rattle.workers.proofs.Drives.{in_any_order}
-use Rattle.workers.proofs.Numbers.{all_here, numbers_from}
-use Rattle.workers.proofs.Ran.{ran, some_worker}
+use Rattle.workers.proofs.Numbers.{numbers_from}
+use Rattle.workers.proofs.Ran.{ran_of}
 use Rattle.workers.proofs.run.run_all.Goals as goal
 
-pub drive_all-requires-after_bounds : goal.drive_all-requires-after_bounds
-drive_all-requires-after_bounds g c κs within = in_any_order c.in-Ok.opened.0.table.shared.table_id c.in-Ok.opened.0.setup 0 c.in-Ok.opened.1.items (c.in-Ok.ensures.workers.1)
+pub run_workers-requires-clause-workers : goal.run_workers-requires-clause-workers
+run_workers-requires-clause-workers g c κs within =
+    let hall = c.in-Ok.opened.0 in
+    in_any_order hall.table.shared.table_id hall.setup 0 c.in-Ok.opened.1.items c.in-Ok.ensures.workers.1
 
-pub gather-words-requires-clause-some : goal.gather-words-requires-clause-some
-gather-words-requires-clause-some g c =
-    let ok = c.in-Ok-unpack.workers.ok in
-    let count = c.in-Ok.opened.1.ok in
-    let len = c.in-Ok.ensures.workers.0 in
-    let here : AllHere c.in-Ok-unpack.workers.items c.args.threads = all_here c.in-Ok-unpack.workers.items c.args.threads
-    (λ n lt. c.in-Ok-unpack.ensures.2 n (c.in-Ok-drive_all.ensures.1 n (numbers_from c.in-Ok.opened.0.table.shared.table_id c.in-Ok.opened.0.setup c.in-Ok.opened.1.items c.in-Ok.ensures.workers.1 c.args.threads (omega arith) n lt))) in
-    let some = some_worker c.in-Ok-unpack.workers.items c.args.threads c.in-Ok.ensures.setup.2 here in omega arith
+pub run_workers-requires-clause-here : goal.run_workers-requires-clause-here
+run_workers-requires-clause-here g c κs within =
+    let hall = c.in-Ok.opened.0 in
+    let ws = c.in-Ok.opened.1 in
+    let are = c.in-Ok.ensures.workers in
+    numbers_from hall.table.shared.table_id hall.setup ws.items are.1 hall.setup.threads (sym ws.ok.0 ∙ are.0 ∙ sym c.in-Ok.ensures.setup.1)
 
-pub returns-clause-report : goal.returns-clause-report
-returns-clause-report g c = λ does means.
-    let count = c.in-Ok.opened.1.ok in
-    let len = c.in-Ok.ensures.workers.0 in
-    let here : AllHere c.in-Ok-unpack.workers.items c.args.threads = all_here c.in-Ok-unpack.workers.items c.args.threads
-    (λ n lt. c.in-Ok-unpack.ensures.2 n (c.in-Ok-drive_all.ensures.1 n (numbers_from c.in-Ok.opened.0.table.shared.table_id c.in-Ok.opened.0.setup c.in-Ok.opened.1.items c.in-Ok.ensures.workers.1 c.args.threads (omega arith) n lt))) in
-    ran does c.args.code.now c.args.threads c.args.budget c.in-Ok.opened.0.setup c.in-Ok.ensures.setup.0 c.in-Ok.ensures.setup.1 c.in-Ok.ensures.setup.3 means
-    c.in-Ok.opened.0.table.shared.table_id c.in-Ok-unpack.workers.items c.in-Ok-unpack.ensures.0 c.gather-words.result.words.items c.holder-held.result _ (c.gather-words.ensures c.in-Ok-unpack.ensures.0) here c.memory.ensures c.holder-held.ensures c.in-Ok-unpack.ensures.1
+pub run_workers-requires-clause-few : goal.run_workers-requires-clause-few
+run_workers-requires-clause-few g c κs within = subst (λ (n : ℕ). n ≤ 64) (sym c.in-Ok.ensures.setup.1) c.in-Ok.ensures.setup.3
+
+pub returns-in-Ok-run_workers-clause-report : goal.returns-in-Ok-run_workers-clause-report
+returns-in-Ok-run_workers-clause-report g c = λ does means.
+    let setup = c.in-Ok.ensures.setup in
+    ran_of does c.args.code.now c.args.threads c.args.budget c.in-Ok.opened.0.setup c.in-Ok-run_workers.report setup.0 setup.1 means (c.in-Ok-run_workers.ensures does)
