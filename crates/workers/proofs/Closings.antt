@@ -172,8 +172,8 @@ worker_in {A = A} z key ws xs ys w all e = inside xs (subst (AreWorkersOf z key)
     inside (x ∷ xs) a = inside xs a.1
 
 -- there is a word more than there are cells
-pub some_word : (words cells : ℕ) → words ≡ cells + 1 → 0 < words
-some_word words cells e = omega arith
+pub has_word : (words cells : ℕ) → words ≡ cells + 1 → 0 < words
+has_word words cells e = omega arith
 
 -- there is room for the first one, and for each one that is left
 pub room_first : {X : Type 0} (items : List X) (len workers capacity : ℕ) → items ≡ [] → len ≡ length items → 0 < workers → workers ≤ capacity → len < capacity

@@ -1,14 +1,14 @@
-use Rattle.std.proofs.Common.{◌≡◌, ◌≤◌, ◌+◌, ◌∙◌, ap, sym, subst}
+use Rattle.std.proofs.Common.{◌≤◌, ◌+◌, ◌∙◌, ap, sym, subst}
 use Rattle.std.specs.Vec.{vec_capacity}
 use Rattle.bytecode.specs.Valid.{cells_of}
 use Rattle.seats.specs.Setup.{Setup}
 use Rattle.seats.specs.Rule.{Leaves}
 use Rattle.workers.specs.Workers.{AreWorkersOf}
-use Rattle.workers.proofs.Closings.{closes, some_word}
+use Rattle.workers.proofs.Closings.{closes, has_word}
 use Rattle.workers.proofs.close.gather.Goals as goal
 
 pub join_all-seat-requires-clause-table : goal.join_all-seat-requires-clause-table
-join_all-seat-requires-clause-table g c = some_word _ _ c.args.hall.wide
+join_all-seat-requires-clause-table g c = has_word _ _ c.args.hall.wide
 
 pub join_all-seat-requires-clause-workers : goal.join_all-seat-requires-clause-workers
 join_all-seat-requires-clause-workers g c = subst (λ (k : Setup). AreWorkersOf c.args.hall.table.shared.table_id k c.args.workers.items) (sym c.args.hall.key) c.requires.workers

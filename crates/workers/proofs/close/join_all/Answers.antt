@@ -1,4 +1,4 @@
-use Rattle.std.proofs.Common.{rules, ℕ, ◌+◌, sym, ◌≡◌, ◌∙◌, ap, List, [], ◌∷◌, ◌++◌, append_assoc, length, length-append}
+use Rattle.std.proofs.Common.{rules, ◌≡◌, ◌∙◌, ap, List, [], ◌∷◌, ◌++◌, append_assoc}
 use Rattle.workers.specs.declared.worker.Worker.{Worker}
 use Rattle.workers.specs.Workers.{IsWorkerOf}
 use Rattle.seats.specs.Rule.{SeatView}
