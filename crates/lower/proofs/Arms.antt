@@ -7,9 +7,12 @@ use Rattle.syntax.specs.declared.tree.BinaryOp.{BinaryOp}
 use Rattle.syntax.specs.declared.tree.LogicalOp.{LogicalOp}
 use Rattle.syntax.specs.declared.tree.Name as N
 use Rattle.syntax.specs.declared.tree.Expr as E
+use Rattle.syntax.specs.declared.tree.Expr.TheOpen.{Expr-F}
+use Rattle.syntax.specs.declared.tree.Expr.TheFolds.{fold-roll-Expr}
+use Rattle.syntax.specs.declared.tree.Expr.TheVariants as EV
 use Rattle.syntax.specs.Tree as Tree
-use Rattle.syntax.specs.Views.{name_of, expr_of, exprs_of}
-use Rattle.syntax.proofs.Seen.{expr_of_call, expr_of_element, expr_of_parenthesized, expr_of_cast, expr_of_unary, expr_of_binary, expr_of_logical, expr_of_conditional}
+use Rattle.syntax.specs.Views.{name_of, expr_step, expr_of, exprs_of}
+use Rattle.syntax.proofs.Seen.{expr_of_variable, expr_of_call, expr_of_element, expr_of_parenthesized, expr_of_cast, expr_of_unary, expr_of_binary, expr_of_logical, expr_of_conditional}
 use Rattle.bytecode.specs.declared.instr.Instr.{Instr}
 use Rattle.bytecode.specs.declared.instr.Instr.TheVariants as own
 use Rattle.lower.specs.declared.held.Held.{Held}
@@ -57,6 +60,37 @@ pub record Answers (w : Emitted) (old new : List Instr) (l : Lists) (r : Result 
 pub same_answer : (v w : Emitted) (old new : List Instr) (l : Lists) (r : Result Held Failure) → v ≡ w → Answers v old new l r → Answers w old new l r
 same_answer v w old new l r e a = subst (λ (u : Emitted). Answers u old new l r) e a
 
+-- an answer, of which what was done before its last instructions is known by equations
+pub tail_made : (A : Emitted) (T : Held → List Instr) (G : Held → Lists → Lists) (H : Held → Held) (old ca new : List Instr) (la l : Lists) (a : Held) (r : Result Held Failure) → ca ≡ old ++ A.code → la ≡ A.lists → a ≡ A.held →
+    OnOk r (new ≡ ca ++ T a) → OnOk r (l ≡ G a la) → IfOk r (λ h. h ≡ H a) → IfErr r (λ why. NeedsMore why (G a la).registers) →
+    Answers (record { code = A.code ++ T A.held; lists = G A.held A.lists; held = H A.held }) old new l r
+tail_made A T G H old ca new la l a r ec el ea code lists held fails =
+    let same : G a la ≡ G A.held A.lists = (λ j. G (ea j) (el j)) in
+    record {
+      code = subst (λ (z : List Instr). OnOk r (new ≡ z)) (tail_is A T old ca a ec ea) code;
+      lists = subst (λ (z : Lists). OnOk r (l ≡ z)) same lists;
+      held = subst (λ (z : Held). IfOk r (λ h. h ≡ H z)) ea held;
+      fails = subst (λ (z : Lists). IfErr r (λ why. NeedsMore why z.registers)) same fails;
+    }
+
+-- and before the last instruction behind two values
+pub tails_made : (A : Emitted) (F : ℕ → ℕ → Lists → Emitted) (T : Held → Held → List Instr) (into : ℕ) (H : Held → Held → Held) (free : ℕ) (old ca cb new : List Instr) (la lb l : Lists) (a b : Held) (later : ℕ) (r : Result Held Failure) →
+    ca ≡ old ++ A.code → la ≡ A.lists → a ≡ A.held → later ≡ above free a.register → cb ≡ ca ++ (F a.to later la).code → lb ≡ (F a.to later la).lists → b ≡ (F a.to later la).held →
+    OnOk r (new ≡ cb ++ T a b) → OnOk r (l ≡ used into lb) → IfOk r (λ h. h ≡ H a b) → IfErr r (λ why. NeedsMore why (used into lb).registers) →
+    Answers (record { code = (A.code ++ (F A.held.to (above free A.held.register) A.lists).code) ++ T A.held (F A.held.to (above free A.held.register) A.lists).held; lists = used into (F A.held.to (above free A.held.register) A.lists).lists; held = H A.held (F A.held.to (above free A.held.register) A.lists).held }) old new l r
+tails_made A F T into H free old ca cb new la lb l a b later r ec el ea ek eb elb eh code lists held fails =
+    let B = F A.held.to (above free A.held.register) A.lists in
+    let same : F a.to later la ≡ B = (λ j. F (ea j).to ((ek ∙ ap (λ (h : Held). above free h.register) ea) j) (el j)) in
+    let left : lb ≡ B.lists = elb ∙ ap (λ (x : Emitted). x.lists) same in
+    let lies : b ≡ B.held = eh ∙ ap (λ (x : Emitted). x.held) same in
+    let gives : H a b ≡ H A.held B.held = (λ j. H (ea j) (lies j)) in
+    record {
+      code = subst (λ (z : List Instr). OnOk r (new ≡ z)) (tails_are A F T free old ca cb la a b later ec el ea ek eb eh) code;
+      lists = subst (λ (z : Lists). OnOk r (l ≡ used into z)) left lists;
+      held = subst (λ (z : Held). IfOk r (λ h. h ≡ z)) gives held;
+      fails = subst (λ (z : Lists). IfErr r (λ why. NeedsMore why (used into z).registers)) left fails;
+    }
+
 -- and of a condition
 pub record Tells (c : Condition) (old new : List Draft) (l : Lists) (r : Result Tested Failure) : Type 0 where
   pub code : OnOk r (new ≡ old ++ c.code)
@@ -80,11 +114,19 @@ module _ (A : Condition) (F : ℕ → Lists → Condition) (op : LogicalOp) (old
   second_is : F next la ≡ F (A.to + 1) A.lists
   second_is = λ j. F (en j) (el j)
 
-  pub second_behind : da ++ (F next la).code ≡ old ++ (joined op A (F (A.to + 1) A.lists)).code
+  second_behind : da ++ (F next la).code ≡ old ++ (joined op A (F (A.to + 1) A.lists)).code
   second_behind = (λ j. ed j ++ (second_is j).code) ∙ append_assoc old (first_of op A) (F (A.to + 1) A.lists).code
 
   pub joined_code : (db : List Draft) → db ≡ da ++ (F next la).code → db ≡ old ++ (joined op A (F (A.to + 1) A.lists)).code
   joined_code db e = e ∙ second_behind
+
+  pub joined_made : (db : List Draft) (l : Lists) (r : Result Tested Failure) → Tells (F next la) da db l r → Tells (joined op A (F (A.to + 1) A.lists)) old db l r
+  joined_made db l r t = record {
+    code = subst (λ (z : List Draft). OnOk r (db ≡ z)) second_behind t.code;
+    lists = subst (λ (u : Condition). OnOk r (l ≡ u.lists)) second_is t.lists;
+    tested = subst (λ (u : Condition). IfOk r (λ k. k ≡ test_in u)) second_is t.tested;
+    fails = subst (λ (u : Condition). IfErr r (λ why. NeedsMore why u.lists.registers)) second_is t.fails;
+  }
 
   pub joined_test : (t : Tested) → t ≡ test_in (F next la) → t ≡ test_in (F (A.to + 1) A.lists)
   joined_test t e = e ∙ ap test_in second_is
@@ -145,6 +187,12 @@ module _ (f : Callee) (R : AllEmitted) (from into : ℕ) (L : Lists) (la : Lists
   called_held to et = λ j. record { register = into; of = f.of; to = et j + 1 }
 
 module _ {A : Type 0} where
+  pub variable_is : (e : E.Expr A) (x : N.Name A) → e ≡ E.Variable x → expr_of e ≡ Tree.Variable (name_of x)
+  variable_is e x is = ap expr_of is ∙ expr_of_variable x
+
+  pub constant_is : (e : E.Expr A) (n : ℕ) (t : Scalar) (at : Span) → e ≡ E.Constant n t at → expr_of e ≡ Tree.Constant n t at
+  constant_is e n t at is = ap expr_of (is ∙ sym (EV.rolls-Constant n t at)) ∙ fold-roll-Expr A Tree.Expr expr_step (Expr-F.Constant n t at)
+
   pub call_is : (e : E.Expr A) (f : N.Name A) (es es' : List (E.Expr A)) (at : Span) → e ≡ E.Call f es at → es' ≡ es → expr_of e ≡ Tree.Call (name_of f) (exprs_of es') at
   call_is e f es es' at is a = ap expr_of is ∙ expr_of_call f es at ∙ ap (λ y. Tree.Call (name_of f) (exprs_of y) at) (sym a)
 

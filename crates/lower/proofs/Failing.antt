@@ -2,10 +2,12 @@
 use Rattle.std.proofs.Common.{◌≡◌, ℕ, suc, ◌+◌, ◌≤◌, List, [], ◌∷◌, ◌++◌, length, Bool, true, false, if◌then◌else◌, ◌==◌, Option, Some, Result, Ok, Err, IfErr, IsErr, IsErrAnd, refl, sym, ap, subst, ◌∙◌, append_assoc, arith}
 use Rattle.lex.specs.declared.token.Span.{Span}
 use Rattle.lex.specs.declared.token.Scalar.{Scalar}
+use Rattle.syntax.specs.declared.tree.UnaryOp.{UnaryOp}
 use Rattle.syntax.specs.declared.tree.BinaryOp.{BinaryOp}
 use Rattle.syntax.specs.declared.tree.LogicalOp.{LogicalOp}
 use Rattle.syntax.specs.Tree as Tree
 use Rattle.syntax.specs.Tree.{Program}
+use Rattle.syntax.specs.Names.{GlobalCells, global_of}
 use Rattle.syntax.specs.Formats.{Piece}
 use Rattle.bytecode.specs.declared.instr.Instr.{Instr}
 use Rattle.lowered.specs.Expressions.{LocalScope, arranged}
@@ -22,7 +24,7 @@ use Rattle.lower.specs.declared.held.Exits.{Exits}
 use Rattle.lower.specs.inner.Limits.{NeedsMore}
 use Rattle.lower.specs.Lists.{Lists, used, holding}
 use Rattle.lower.specs.Names.{Callee}
-use Rattle.lower.specs.Expressions.{Emitted, AllEmitted, above, both, computing, answered, settled, called, emitted, condition, both_conditions, conditional, all_emitted}
+use Rattle.lower.specs.Expressions.{Emitted, AllEmitted, above, both, computing, answered, settled, element, called, emitted, condition, both_conditions, conditional, all_emitted}
 use Rattle.lower.specs.Conditions.{Condition, test_in}
 use Rattle.lower.specs.inner.Aims.{aim_in}
 use Rattle.lower.specs.Simples.{Written, Aimed, nothing_written, one_written, aimed, above_target, fetched, home_or, stored, value_or_one, assigned, adjusted, first_written, declarator_written, start_written}
@@ -52,6 +54,32 @@ module _ (p : Program) (scope : LocalScope) (from into free : ℕ) (l : Lists) (
       let z = used_more into (emitted p scope b left.held.to later later left.lists).lists in
       let w = ap (λ x. (emitted p scope x from into free l).lists.registers) is in
       omega (arith, y, z, w)
+
+  pub binary_second : (op : BinaryOp) (a b : Tree.Expr) (at : Span) → e ≡ Tree.Binary op a b at → (h : Held) (later : ℕ) (la : Lists) → la ≡ (emitted p scope a from free free l).lists → h ≡ (emitted p scope a from free free l).held → later ≡ above free h.register →
+      (emitted p scope b h.to later later la).lists.registers ≤ (emitted p scope e from into free l).lists.registers
+  binary_second op a b at is h later la el eh ek =
+      let left = emitted p scope a from free free l in
+      let next : later ≡ above free left.held.register = ek ∙ ap (λ (k : Held). above free k.register) eh in
+      let right = emitted p scope b left.held.to (above free left.held.register) (above free left.held.register) left.lists in
+      let same : emitted p scope b h.to later later la ≡ right = (λ j. emitted p scope b (eh j).to (next j) (next j) (el j)) in
+      let y = ap (λ (u : Emitted). u.lists.registers) same in
+      let z = used_more into right.lists in
+      let w = ap (λ x. (emitted p scope x from into free l).lists.registers) is in
+      omega (arith, y, z, w)
+
+  pub cast_first : (t : Scalar) (a : Tree.Expr) (at : Span) → e ≡ Tree.Cast t a at → (emitted p scope a from into free l).lists.registers ≤ (emitted p scope e from into free l).lists.registers
+  cast_first t a at is = let w = ap (λ x. (emitted p scope x from into free l).lists.registers) is in omega (arith, w)
+
+  pub unary_first : (op : UnaryOp) (a : Tree.Expr) (at : Span) → e ≡ Tree.Unary op a at → (emitted p scope a from free free l).lists.registers ≤ (emitted p scope (Tree.Unary op a at) from into free l).lists.registers → (emitted p scope a from free free l).lists.registers ≤ (emitted p scope e from into free l).lists.registers
+  unary_first op a at is more = let w = ap (λ x. (emitted p scope x from into free l).lists.registers) is in omega (arith, more, w)
+
+  pub element_first : (x : Tree.Name) (i : Tree.Expr) (at : Span) (g : GlobalCells) → e ≡ Tree.Element x i at → global_of p x.text ≡ Some g → (emitted p scope i from free free l).lists.registers ≤ (emitted p scope e from into free l).lists.registers
+  element_first x i at g is found =
+      let index = emitted p scope i from free free l in
+      let v = ap (λ o. (element o index from into l).lists.registers) found in
+      let z = used_more into index.lists in
+      let w = ap (λ y. (emitted p scope y from into free l).lists.registers) is in
+      omega (arith, v, z, w)
 
 module _ (p : Program) (scope : LocalScope) (from into free : ℕ) (l : Lists) where
   pub logical_first : (op : LogicalOp) (a b : Tree.Expr) → (condition p scope a from free l).lists.registers ≤ (answered (both_conditions p scope op a b from free l) into).lists.registers
@@ -145,6 +173,44 @@ module _ (p : Program) (scope : LocalScope) (lhs : Tree.Expr) (from free : ℕ) 
       let b = emitted_more p scope e t.to (home_or t.target later) later t.lists in
       let c = stored_same t.target made.held.register made.held.to made.lists in
       omega (arith, b, c)
+
+  -- an assignment, by its parts
+  module _ (e : Tree.Expr) (a : Aim) (later : ℕ) (m : Lists) (home : ℕ) (ea : a ≡ aim_in (aimed p scope true lhs from free l)) (ek : later ≡ above_target a.target free) (em : m ≡ (aimed p scope true lhs from free l).lists) (eh : home ≡ home_or a.target later) where
+    abbrev Place : Aimed
+    Place = aimed p scope true lhs from free l
+
+    abbrev Later : ℕ
+    Later = above_target Place.target free
+
+    abbrev Valued : Emitted
+    Valued = emitted p scope e Place.to (home_or Place.target Later) Later Place.lists
+
+    above_is : later ≡ Later
+    above_is = ek ∙ ap (λ (u : Aim). above_target u.target free) ea
+
+    assigns : emitted p scope e a.to home later m ≡ Valued
+    assigns = λ j. emitted p scope e (ea j).to ((eh ∙ (λ k. home_or (ea k).target (above_is k))) j) (above_is j) (em j)
+
+    pub assigned_second : (emitted p scope e a.to home later m).lists.registers ≤ (assigned p scope lhs e from free l).lists.registers
+    assigned_second =
+        let x = ap (λ (u : Emitted). u.lists.registers) assigns in
+        let y = stored_same Place.target Valued.held.register Valued.held.to Valued.lists in
+        omega (arith, x, y)
+
+    pub assigned_code : (first c1 c2 c3 : List Instr) (held : Held) → c1 ≡ first ++ Place.code → c2 ≡ c1 ++ (emitted p scope e a.to home later m).code → held ≡ (emitted p scope e a.to home later m).held →
+        ((k : Lists) → c3 ≡ c2 ++ (stored a.target held.register held.to k).code) → c3 ≡ first ++ (assigned p scope lhs e from free l).code
+    assigned_code first c1 c2 c3 held e1 e2 ed e3 =
+        let held_is : held ≡ Valued.held = ed ∙ ap (λ (u : Emitted). u.held) assigns in
+        let two : c2 ≡ (first ++ Place.code) ++ Valued.code = e2 ∙ (λ j. e1 j ++ (assigns j).code) in
+        e3 Valued.lists ∙ (λ j. two j ++ (stored (ea j).target (held_is j).register (held_is j).to Valued.lists).code) ∙ simp append_assoc
+
+    pub assigned_lists : (n : Lists) → n ≡ (emitted p scope e a.to home later m).lists → n ≡ (assigned p scope lhs e from free l).lists
+    assigned_lists n en = en ∙ ap (λ (u : Emitted). u.lists) assigns ∙ sym (stored_lists Place.target Valued.held.register Valued.held.to Valued.lists)
+
+    pub assigned_place : (held : Held) (to : ℕ) → held ≡ (emitted p scope e a.to home later m).held → ((k : Lists) → to ≡ (stored a.target held.register held.to k).to) → to ≡ (assigned p scope lhs e from free l).to
+    assigned_place held to ed et =
+        let held_is : held ≡ Valued.held = ed ∙ ap (λ (u : Emitted). u.held) assigns in
+        et Valued.lists ∙ (λ j. (stored (ea j).target (held_is j).register (held_is j).to Valued.lists).to)
 
   module _ (op : BinaryOp) (by : Option Tree.Expr) where
     abbrev T : Aimed

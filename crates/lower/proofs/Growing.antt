@@ -13,7 +13,7 @@ use Rattle.lower.specs.inner.Limits.{NeedsMore}
 use Rattle.lower.specs.Lists.{Lists, used, holding}
 use Rattle.lower.specs.Names.{Callee, callee_of}
 use Rattle.lower.specs.Conditions.{Condition, zero_test, zero_tested}
-use Rattle.lower.specs.Expressions.{Emitted, AllEmitted, above, then_one, settled, variable, element, called, tested, emitted, own_condition, condition, all_emitted}
+use Rattle.lower.specs.Expressions.{Emitted, AllEmitted, above, then_one, compared, settled, variable, element, called, tested, emitted, own_condition, condition, all_emitted}
 
 pub needs_more : (e : Failure) (m n : ℕ) → m ≤ n → NeedsMore e m → NeedsMore e n
 needs_more failure.Registers m n h k = omega (arith, h, k)
@@ -51,6 +51,12 @@ settled_more r e = by (e.held.register == r)
     by : (b : Bool) → e.lists.registers ≤ (if b then e else then_one e (own.Move r e.held.register) r e.held.of).lists.registers
     by true = omega arith
     by false = used_more r e.lists
+
+pub compared_more : (e : Emitted) (into free : ℕ) → e.lists.registers ≤ (compared e into free).lists.registers
+compared_more e into free =
+    let a = used_more (above free e.held.register) e.lists in
+    let b = used_more into (used (above free e.held.register) e.lists) in
+    omega (arith, a, b)
 
 abbrev HasMore : Lists → Condition → Type 0
 HasMore l c = l.registers ≤ c.lists.registers

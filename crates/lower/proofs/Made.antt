@@ -1,24 +1,30 @@
 -- How the parts of a statement's code are put together, and the clean tree of a statement by the parts that are read of it.
-use Rattle.std.proofs.Common.{◌≡◌, ℕ, ◌+◌, List, [], ◌∷◌, ◌++◌, length, map, Option, Some, None, option_map, sym, ap, ◌∙◌, append_assoc}
+use Rattle.std.proofs.Common.{◌≡◌, ℕ, ◌+◌, List, [], ◌∷◌, ◌++◌, length, map, Option, Some, None, option_map, Result, OnOk, IfOk, IfErr, sym, ap, subst, ◌∙◌, append_assoc}
 use Rattle.lex.specs.declared.token.Span.{Span}
 use Rattle.syntax.specs.declared.tree.Mode.{Mode}
 use Rattle.syntax.specs.declared.tree.Expr as E
 use Rattle.syntax.specs.declared.tree.Stmt as S
+use Rattle.syntax.specs.declared.tree.Stmt.TheOpen.{Stmt-F}
+use Rattle.syntax.specs.declared.tree.Stmt.TheFolds.{fold-roll-Stmt}
+use Rattle.syntax.specs.declared.tree.Stmt.TheVariants as SV
+use Rattle.syntax.specs.declared.tree.Simple as J
 use Rattle.syntax.specs.declared.tree.Declaration as D
 use Rattle.syntax.specs.declared.tree.Declarator as I
 use Rattle.syntax.specs.declared.tree.ForHead as H
 use Rattle.syntax.specs.Tree as Tree
 use Rattle.syntax.specs.Tree.{Program}
-use Rattle.syntax.specs.Views.{expr_of, exprs_of, simple_of, declarator_of, start_of, stmt_of, stmts_of}
-use Rattle.syntax.proofs.Seen.{stmt_of_declare, stmt_of_block, stmt_of_print, stmt_of_if, stmt_of_if_else, stmt_of_while, stmt_of_do_while, stmt_of_for, stmt_of_transaction}
+use Rattle.syntax.specs.Views.{expr_of, exprs_of, simple_of, declarator_of, start_of, stmt_step, stmt_of, stmts_of}
+use Rattle.syntax.proofs.Seen.{stmt_of_declare, stmt_of_block, stmt_of_print, stmt_of_if, stmt_of_if_else, stmt_of_while, stmt_of_do_while, stmt_of_for, stmt_of_return, stmt_of_transaction}
 use Rattle.bytecode.specs.declared.instr.Instr.{Instr}
 use Rattle.bytecode.specs.declared.instr.Instr.TheVariants as own
 use Rattle.lowered.specs.Expressions.{LocalScope}
-use Rattle.lowered.specs.Statements.{locals_of_start}
+use Rattle.lowered.specs.Statements.{locals_of_start, locals_after}
 use Rattle.lower.specs.declared.held.Tested.{Tested}
 use Rattle.lower.specs.declared.held.Exits.{Exits}
 use Rattle.lower.specs.Lists.{Lists}
 use Rattle.lower.specs.declared.draft.Draft.{Draft}
+use Rattle.lower.specs.declared.fault.Failure.{Failure}
+use Rattle.lower.specs.inner.Limits.{NeedsMore}
 use Rattle.lower.specs.Conditions.{Condition, test_in, going_on}
 use Rattle.lower.specs.Expressions.{condition}
 use Rattle.lower.specs.Simples.{Written, start_written}
@@ -177,7 +183,25 @@ module _ (p : Program) (x : Exits) (s : LocalScope) (from : ℕ) (l : Lists) (ol
         place = place;
       }
 
+-- what the call that lowers a statement answers: the locals behind the statement, the instructions that it added, the lists and the place behind it, or why there is none
+pub record Lowers (p : Program) (x : Exits) (before : LocalScope) (from : ℕ) (l0 : Lists) (old : List Instr) (s : Tree.Stmt) (after : LocalScope) (new : List Instr) (l : Lists) (r : Result ℕ Failure) : Type 0 where
+  pub scope : OnOk r (after ≡ locals_after s before)
+  pub code : OnOk r (new ≡ old ++ (written p s x before from l0).code)
+  pub lists : OnOk r (l ≡ (written p s x before from l0).lists)
+  pub place : IfOk r (λ to. to ≡ (written p s x before from l0).to)
+  pub fails : IfErr r (λ why. NeedsMore why (written p s x before from l0).lists.registers)
+
+pub same_lowering : (p : Program) (x : Exits) (before : LocalScope) (from : ℕ) (l0 : Lists) (old : List Instr) (s z : Tree.Stmt) (after : LocalScope) (new : List Instr) (l : Lists) (r : Result ℕ Failure) →
+    s ≡ z → Lowers p x before from l0 old z after new l r → Lowers p x before from l0 old s after new l r
+same_lowering p x before from l0 old s z after new l r is a = subst (λ (y : Tree.Stmt). Lowers p x before from l0 old y after new l r) (sym is) a
+
 module _ {A : Type 0} where
+  pub simple_is : (s : S.Stmt A) (i : J.Simple A) → s ≡ S.Do i → stmt_of s ≡ Tree.Do (simple_of i)
+  simple_is s i is = ap stmt_of (is ∙ sym (SV.rolls-Do i)) ∙ fold-roll-Stmt A Tree.Stmt stmt_step (Stmt-F.Do i)
+
+  pub return_is : (s : S.Stmt A) (e : Option (E.Expr A)) (at : Span) → s ≡ S.Return e at → stmt_of s ≡ Tree.Return (option_map expr_of e) at
+  return_is s e at is = ap stmt_of is ∙ stmt_of_return e at
+
   pub declare_is : (s : S.Stmt A) (d : D.Declaration A) (ds : List (I.Declarator A)) → s ≡ S.Declare d → ds ≡ d.declarators → stmt_of s ≡ Tree.Declare (record { of = d.of; declarators = map declarator_of ds })
   declare_is s d ds is e = ap stmt_of is ∙ stmt_of_declare d ∙ ap (λ y. Tree.Declare (record { of = d.of; declarators = map declarator_of y })) (sym e)
 

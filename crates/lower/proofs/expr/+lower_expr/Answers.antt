@@ -1,21 +1,24 @@
-use Rattle.std.proofs.Common.{◌≡◌, ℕ, ◌∷◌, [], ◌++◌, ap, sym, subst, ◌∙◌, arith, OnOk, IfOk, Result, Ok, Err, IfErr, refl}
+use Rattle.std.proofs.Common.{◌≡◌, ℕ, ◌+◌, List, ◌∷◌, [], ◌++◌, Some, option_map, pos, ap, sym, subst, ◌∙◌, arith, OnOk, IfOk, Result, Ok, Err, IfErr, refl}
 use Rattle.syntax.specs.Tree as Tree
 use Rattle.syntax.specs.declared.tree.UnaryOp.TheVariants.{Negate, Keep, Not, Complement}
-use Rattle.syntax.specs.Numbers.{operand_type}
+use Rattle.syntax.specs.Numbers.{operand_type, result_type, word_of}
 use Rattle.syntax.specs.Views.{expr_of, exprs_of}
 use Rattle.bytecode.specs.declared.instr.Instr.TheVariants as own
 use Rattle.lower.specs.Names.{callee_of}
-use Rattle.lower.specs.Conditions.{Condition, opposite, by_value}
-use Rattle.lower.specs.Expressions.{Emitted, above, negating, computing, called, settled, element, emitted, own_condition, condition, all_emitted}
-use Rattle.syntax.specs.Names.{global_of, cells}
+use Rattle.lower.specs.Conditions.{Condition, opposite, by_value, zero_tested}
+use Rattle.lower.specs.Expressions.{Emitted, above, negating, computing, converted_to, constant, variable, called, settled, element, emitted, own_condition, condition, all_emitted}
+use Rattle.lex.specs.declared.token.Scalar.TheVariants.{Int}
+use Rattle.syntax.specs.Names.{global_of, cells, newest}
 use Rattle.lower.specs.inner.Tables.{callee_in, shared_in}
-use Rattle.lower.proofs.Arms.{same_answer, same_telling, by_its_value, by_its_own, parenthesized_is, cast_is, tail_is, tails_are, second_behind, logical_made, chosen_made, called_code, called_lists, called_held, call_is, element_is, unary_is, binary_is, logical_is, conditional_is}
+use Rattle.lower.proofs.Arms.{same_answer, same_telling, by_its_value, by_its_own, tail_made, tails_made, variable_is, constant_is, parenthesized_is, cast_is, joined_made, logical_made, chosen_made, called_code, called_lists, called_held, call_is, element_is, unary_is, binary_is, logical_is, conditional_is}
 use denote.Param.Weighed.{most}
 use Rattle.syntax.specs.declared.tree.Expr.{the_lemmas}
 use Rattle.syntax.proofs.tree.Expr.TheLaws.{the_size}
-use Rattle.lower.specs.Lists.{Lists, lists_of}
+use Rattle.lower.specs.declared.held.Held.{Held}
+use Rattle.lower.specs.Lists.{Lists, lists_of, used}
 use Rattle.lower.specs.inner.Views.{program_in, scope_in}
-use Rattle.lower.proofs.Failing.{passed_on, binary_first, logical_first, joined_first, call_args, conditional_first, conditional_second, conditional_third}
+use Rattle.lower.proofs.Growing.{used_more, compared_more}
+use Rattle.lower.proofs.Failing.{passed_on, binary_first, binary_second, cast_first, unary_first, element_first, logical_first, joined_first, call_args, conditional_first, conditional_second, conditional_third}
 use Rattle.lower.specs.inner.Limits.{NeedsMore}
 use Rattle.lower.proofs.Rows.{first_within, next_code, next_registers, next_lists, next_place, last_code, last_registers}
 use Rattle.lower.proofs.expr.+lower_expr.Goals as goal
@@ -38,17 +41,6 @@ lower_all-returns-clause-code g t c = last_code (program_in c.args.names.now) (s
 pub lower_all-returns-clause-registers : goal.lower_all-returns-clause-registers
 lower_all-returns-clause-registers g t c = last_registers (program_in c.args.names.now) (scope_in c.args.scope.now) c.args.all.now c.each.one-index c.each.to c.each.later (lists_of c.each.lists) _ _ c.each-test.false c.each.invariant.registers
 
-pub lower_expr-returns-in_ok-b-in-Binary-clause-code : goal.lower_expr-returns-in_ok-b-in-Binary-clause-code
-lower_expr-returns-in_ok-b-in-Binary-clause-code g t c =
-    let left = emitted (program_in c.args.names.now) (scope_in c.args.scope.now) (expr_of c.get-in-Binary.result.now) c.args.from c.args.free c.args.free (lists_of c.args.lists.now) in
-    let is = binary_is c.args.e.now c.in-Binary.op c.in-Binary.left c.in-Binary.right c.get-in-Binary.result.now c.get-in-Binary-2.result.now c.in-Binary.field-3 c.in-Binary.is c.get-in-Binary.ensures c.get-in-Binary-2.ensures in
-    subst (λ z. OnOk c.put_both.result (c.put_both.new.code.items ≡ z))
-    (tails_are left (λ to later l. emitted (program_in c.args.names.now) (scope_in c.args.scope.now) (expr_of c.get-in-Binary-2.result.now) to later later l) (λ a b. computing c.in-Binary.op (operand_type c.in-Binary.op a.of b.of) c.args.into a.register b.register ∷ []) c.args.free
-    c.args.code.now.items c.lower_expr-in-Binary.new.code.items c.lower_expr-in-Binary-2.new.code.items (lists_of c.lower_expr-in-Binary.new.lists) c.in_ok-a-in-Binary.a c.in_ok-b-in-Binary.b c.above-later.result
-    c.in_ok-a-in-Binary.ensures.code c.in_ok-a-in-Binary.ensures.lists c.in_ok-a-in-Binary.ensures.held c.above-later.ensures c.in_ok-b-in-Binary.ensures.code c.in_ok-b-in-Binary.ensures.held
-    ∙ sym (ap (λ x. c.args.code.now.items ++ (emitted (program_in c.args.names.now) (scope_in c.args.scope.now) x c.args.from c.args.into c.args.free (lists_of c.args.lists.now)).code) is))
-    c.put_both.ensures.code
-
 pub lower_expr-returns-in_err-a-in-Binary-clause-fails : goal.lower_expr-returns-in_err-a-in-Binary-clause-fails
 lower_expr-returns-in_err-a-in-Binary-clause-fails g t c =
     passed_on c.lower_expr-in-Binary.result c.from_residual-in_err-a-in-Binary.result c.in_err-a-in-Binary.field-0.0 _ _ c.lower_expr-in-Binary.ensures.fails c.in_err-a-in-Binary.was c.from_residual-in_err-a-in-Binary.ensures
@@ -59,88 +51,22 @@ lower_all-returns-in_err-held-clause-fails g t c =
     passed_on c.lower_expr.result c.from_residual.result c.in_err-held.field-0.0 _ _ c.lower_expr.ensures.fails c.in_err-held.was c.from_residual.ensures
     (first_within (program_in c.args.names.now) (scope_in c.args.scope.now) c.args.all.now c.each.one-index c.each.to c.each.later (lists_of c.each.lists) c.one-item.result _ c.each-test.true c.one-item.is c.each.invariant.lists)
 
-pub lower_expr-returns-in_ok-a-in-Negate-clause-code : goal.lower_expr-returns-in_ok-a-in-Negate-clause-code
-lower_expr-returns-in_ok-a-in-Negate-clause-code g t c =
-    let is = unary_is c.args.e.now c.in-Unary.op Negate c.in-Unary.e c.get-in-Negate.result.now c.in-Unary.field-2 c.in-Unary.is c.in-Negate.is c.get-in-Negate.ensures in
-    subst (λ z. OnOk c.put_negated.result (c.put_negated.new.code.items ≡ z))
-    (tail_is (emitted (program_in c.args.names.now) (scope_in c.args.scope.now) (expr_of c.get-in-Negate.result.now) c.args.from c.args.free c.args.free (lists_of c.args.lists.now)) (λ a. negating a.of c.args.into a.register ∷ []) c.args.code.now.items c.lower_expr-in-Negate.new.code.items c.in_ok-a-in-Negate.a c.in_ok-a-in-Negate.ensures.code c.in_ok-a-in-Negate.ensures.held
-    ∙ sym (ap (λ x. c.args.code.now.items ++ (emitted (program_in c.args.names.now) (scope_in c.args.scope.now) x c.args.from c.args.into c.args.free (lists_of c.args.lists.now)).code) is))
-    c.put_negated.ensures.code
-
-pub lower_expr-returns-in_ok-a-in-Not-clause-code : goal.lower_expr-returns-in_ok-a-in-Not-clause-code
-lower_expr-returns-in_ok-a-in-Not-clause-code g t c =
-    let is = unary_is c.args.e.now c.in-Unary.op Not c.in-Unary.e c.get-in-Not.result.now c.in-Unary.field-2 c.in-Unary.is c.in-Not.is c.get-in-Not.ensures in
-    subst (λ z. OnOk c.put_compared.result (c.put_compared.new.code.items ≡ z))
-    (tail_is (emitted (program_in c.args.names.now) (scope_in c.args.scope.now) (expr_of c.get-in-Not.result.now) c.args.from c.args.free c.args.free (lists_of c.args.lists.now)) (λ a. own.Constant (above c.args.free a.register) 0 ∷ own.Equal c.args.into a.register (above c.args.free a.register) ∷ []) c.args.code.now.items c.lower_expr-in-Not.new.code.items c.in_ok-a-in-Not.a c.in_ok-a-in-Not.ensures.code c.in_ok-a-in-Not.ensures.held
-    ∙ sym (ap (λ x. c.args.code.now.items ++ (emitted (program_in c.args.names.now) (scope_in c.args.scope.now) x c.args.from c.args.into c.args.free (lists_of c.args.lists.now)).code) is))
-    c.put_compared.ensures.code
-
-pub lower_expr-returns-in_ok-a-in-Complement-clause-code : goal.lower_expr-returns-in_ok-a-in-Complement-clause-code
-lower_expr-returns-in_ok-a-in-Complement-clause-code g t c =
-    let is = unary_is c.args.e.now c.in-Unary.op Complement c.in-Unary.e c.get-in-Complement.result.now c.in-Unary.field-2 c.in-Unary.is c.in-Complement.is c.get-in-Complement.ensures in
-    subst (λ z. OnOk c.put_complemented.result (c.put_complemented.new.code.items ≡ z))
-    (tail_is (emitted (program_in c.args.names.now) (scope_in c.args.scope.now) (expr_of c.get-in-Complement.result.now) c.args.from c.args.free c.args.free (lists_of c.args.lists.now)) (λ a. own.Complement c.args.into a.register ∷ []) c.args.code.now.items c.lower_expr-in-Complement.new.code.items c.in_ok-a-in-Complement.a c.in_ok-a-in-Complement.ensures.code c.in_ok-a-in-Complement.ensures.held
-    ∙ sym (ap (λ x. c.args.code.now.items ++ (emitted (program_in c.args.names.now) (scope_in c.args.scope.now) x c.args.from c.args.into c.args.free (lists_of c.args.lists.now)).code) is))
-    c.put_complemented.ensures.code
-
-pub lower_expr-returns-in_ok-i-in-Some-clause-code : goal.lower_expr-returns-in_ok-i-in-Some-clause-code
-lower_expr-returns-in_ok-i-in-Some-clause-code g t c =
-    let x = shared_in c.in-Some.g in
-    let i = emitted (program_in c.args.names.now) (scope_in c.args.scope.now) (expr_of c.get.result.now) c.args.from c.args.free c.args.free (lists_of c.args.lists.now) in
-    let is = element_is c.args.e.now c.in-Element.x c.in-Element.index c.get.result.now c.in-Element.field-2 c.in-Element.is c.get.ensures in
-    let found = sym (c.in-Some.ensures.value ∙ ap (global_of (program_in c.args.names.now)) c.as_str-in-Element.ensures) in
-    let whole = ap (λ y. emitted (program_in c.args.names.now) (scope_in c.args.scope.now) y c.args.from c.args.into c.args.free (lists_of c.args.lists.now)) is ∙ ap (λ o. element o i c.args.from c.args.into (lists_of c.args.lists.now)) found in
-    subst (λ z. OnOk c.put_read_at.result (c.put_read_at.new.code.items ≡ z))
-    (tail_is i (λ a. own.ReadAt c.args.into a.register x.cell (cells x.global) ∷ []) c.args.code.now.items c.lower_expr.new.code.items c.in_ok-i-in-Some.i c.in_ok-i-in-Some.ensures.code c.in_ok-i-in-Some.ensures.held
-    ∙ sym (ap (λ (w : Emitted). c.args.code.now.items ++ w.code) whole))
-    c.put_read_at.ensures.code
-
 pub lower_condition-returns-in_err-next-in-Logical-clause-fails : goal.lower_condition-returns-in_err-next-in-Logical-clause-fails
 lower_condition-returns-in_err-next-in-Logical-clause-fails g t c =
     passed_on c.lower_first.result c.from_residual.result c.in_err-next-in-Logical.field-0.0 _ _ c.lower_first.ensures.fails c.in_err-next-in-Logical.was c.from_residual.ensures
     (joined_first (program_in c.args.names.now) (scope_in c.args.scope.now) c.args.from c.args.free (lists_of c.args.lists.now) (expr_of c.args.e.now) c.in-Logical.op (expr_of c.get-in-Logical.result.now) (expr_of c.in-Logical.b) c.in-Logical.field-3 (logical_is c.args.e.now c.in-Logical.op c.in-Logical.a c.in-Logical.b c.get-in-Logical.result.now c.in-Logical.b c.in-Logical.field-3 c.in-Logical.is c.get-in-Logical.ensures refl))
 
-pub lower_condition-returns-in_ok-next-in-Logical-clause-code : goal.lower_condition-returns-in_ok-next-in-Logical-clause-code
-lower_condition-returns-in_ok-next-in-Logical-clause-code g t c =
+pub lower_condition-returns-in_ok-next-in-Logical : goal.lower_condition-returns-in_ok-next-in-Logical
+lower_condition-returns-in_ok-next-in-Logical g t c =
+    let did = c.lower_condition-in-Logical in
+    let next = c.in_ok-next-in-Logical in
     let first = condition (program_in c.args.names.now) (scope_in c.args.scope.now) (expr_of c.get-in-Logical.result.now) c.args.from c.args.free (lists_of c.args.lists.now) in
     let second : ℕ → Lists → Condition = (λ to l. condition (program_in c.args.names.now) (scope_in c.args.scope.now) (expr_of c.get-in-Logical-2.result.now) to c.args.free l) in
     let is = logical_is c.args.e.now c.in-Logical.op c.in-Logical.a c.in-Logical.b c.get-in-Logical.result.now c.get-in-Logical-2.result.now c.in-Logical.field-3 c.in-Logical.is c.get-in-Logical.ensures c.get-in-Logical-2.ensures in
-    subst (λ z. OnOk c.lower_condition-in-Logical.result (c.lower_condition-in-Logical.new.drafts.items ≡ z))
-    (second_behind first second c.in-Logical.op c.args.drafts.now.items c.lower_first.new.drafts.items (lists_of c.lower_first.new.lists) c.in_ok-next-in-Logical.next c.in_ok-next-in-Logical.ensures.code c.in_ok-next-in-Logical.ensures.lists c.in_ok-next-in-Logical.ensures.place
-    ∙ sym (ap (λ x. c.args.drafts.now.items ++ (condition (program_in c.args.names.now) (scope_in c.args.scope.now) x c.args.from c.args.free (lists_of c.args.lists.now)).code) is))
-    c.lower_condition-in-Logical.ensures.code
-
-pub lower_expr-returns-in-Some-called-clause-code : goal.lower_expr-returns-in-Some-called-clause-code
-lower_expr-returns-in-Some-called-clause-code g t c =
-    let args = all_emitted (program_in c.args.names.now) (scope_in c.args.scope.now) (exprs_of c.as_slice-all.result.now) c.args.from c.args.free (lists_of c.args.lists.now) in
-    let is = call_is c.args.e.now c.in-Call.f c.in-Call.args c.as_slice-all.result.now c.in-Call.field-2 c.in-Call.is c.as_slice-all.ensures in
-    let found = sym (c.in-Some-called.ensures ∙ ap (callee_of (program_in c.args.names.now)) c.as_str-in-Call.ensures) in
-    let whole = ap (λ x. emitted (program_in c.args.names.now) (scope_in c.args.scope.now) x c.args.from c.args.into c.args.free (lists_of c.args.lists.now)) is ∙ ap (λ o. called o args c.args.from c.args.into (lists_of c.args.lists.now)) found in
-    subst (λ (w : Emitted). OnOk c.lower_call.result (c.lower_call.new.code.items ≡ c.args.code.now.items ++ w.code)) (sym whole) c.lower_call.ensures.code
-
-pub lower_expr-returns-in-Some-called-clause-lists : goal.lower_expr-returns-in-Some-called-clause-lists
-lower_expr-returns-in-Some-called-clause-lists g t c =
-    let args = all_emitted (program_in c.args.names.now) (scope_in c.args.scope.now) (exprs_of c.as_slice-all.result.now) c.args.from c.args.free (lists_of c.args.lists.now) in
-    let is = call_is c.args.e.now c.in-Call.f c.in-Call.args c.as_slice-all.result.now c.in-Call.field-2 c.in-Call.is c.as_slice-all.ensures in
-    let found = sym (c.in-Some-called.ensures ∙ ap (callee_of (program_in c.args.names.now)) c.as_str-in-Call.ensures) in
-    let whole = ap (λ x. emitted (program_in c.args.names.now) (scope_in c.args.scope.now) x c.args.from c.args.into c.args.free (lists_of c.args.lists.now)) is ∙ ap (λ o. called o args c.args.from c.args.into (lists_of c.args.lists.now)) found in
-    subst (λ (w : Emitted). OnOk c.lower_call.result (lists_of c.lower_call.new.lists ≡ w.lists)) (sym whole) c.lower_call.ensures.lists
-
-pub lower_expr-returns-in-Some-called-clause-held : goal.lower_expr-returns-in-Some-called-clause-held
-lower_expr-returns-in-Some-called-clause-held g t c =
-    let args = all_emitted (program_in c.args.names.now) (scope_in c.args.scope.now) (exprs_of c.as_slice-all.result.now) c.args.from c.args.free (lists_of c.args.lists.now) in
-    let is = call_is c.args.e.now c.in-Call.f c.in-Call.args c.as_slice-all.result.now c.in-Call.field-2 c.in-Call.is c.as_slice-all.ensures in
-    let found = sym (c.in-Some-called.ensures ∙ ap (callee_of (program_in c.args.names.now)) c.as_str-in-Call.ensures) in
-    let whole = ap (λ x. emitted (program_in c.args.names.now) (scope_in c.args.scope.now) x c.args.from c.args.into c.args.free (lists_of c.args.lists.now)) is ∙ ap (λ o. called o args c.args.from c.args.into (lists_of c.args.lists.now)) found in
-    subst (λ (w : Emitted). IfOk c.lower_call.result (λ held. held ≡ w.held)) (sym whole) c.lower_call.ensures.held
-
-pub lower_expr-returns-in-Some-called-clause-fails : goal.lower_expr-returns-in-Some-called-clause-fails
-lower_expr-returns-in-Some-called-clause-fails g t c =
-    let args = all_emitted (program_in c.args.names.now) (scope_in c.args.scope.now) (exprs_of c.as_slice-all.result.now) c.args.from c.args.free (lists_of c.args.lists.now) in
-    let is = call_is c.args.e.now c.in-Call.f c.in-Call.args c.as_slice-all.result.now c.in-Call.field-2 c.in-Call.is c.as_slice-all.ensures in
-    let found = sym (c.in-Some-called.ensures ∙ ap (callee_of (program_in c.args.names.now)) c.as_str-in-Call.ensures) in
-    let whole = ap (λ x. emitted (program_in c.args.names.now) (scope_in c.args.scope.now) x c.args.from c.args.into c.args.free (lists_of c.args.lists.now)) is ∙ ap (λ o. called o args c.args.from c.args.into (lists_of c.args.lists.now)) found in
-    subst (λ (w : Emitted). IfErr c.lower_call.result (λ why. NeedsMore why w.lists.registers)) (sym whole) c.lower_call.ensures.fails
+    let made = joined_made first second c.in-Logical.op c.args.drafts.now.items c.lower_first.new.drafts.items (lists_of c.lower_first.new.lists) next.next next.ensures.code next.ensures.lists next.ensures.place did.new.drafts.items (lists_of did.new.lists) did.result
+    (record { code = did.ensures.code; lists = did.ensures.lists; tested = did.ensures.tested; fails = did.ensures.fails }) in
+    let k = same_telling _ (condition (program_in c.args.names.now) (scope_in c.args.scope.now) (expr_of c.args.e.now) c.args.from c.args.free (lists_of c.args.lists.now)) c.args.drafts.now.items did.new.drafts.items (lists_of did.new.lists) did.result (sym (ap (λ x. condition (program_in c.args.names.now) (scope_in c.args.scope.now) x c.args.from c.args.free (lists_of c.args.lists.now)) is)) made in
+    record { code = k.code; lists = k.lists; tested = k.tested; fails = k.fails }
 
 pub lower_call-returns-clause-code : goal.lower_call-returns-clause-code
 lower_call-returns-clause-code g t c =
@@ -240,31 +166,6 @@ lower_expr-lower_call-requires g t c κs within =
     let here = ap (most (the_size g.row.A g.A.Allocator g.A.laws)) c.as_slice-all.ensures in
     (omega (arith, size, here, c.decreases), (within, c.new-registers.ensures.items))
 
-pub lower_expr-returns-in-Logical-clause-code : goal.lower_expr-returns-in-Logical-clause-code
-lower_expr-returns-in-Logical-clause-code g t c =
-    let is = logical_is c.args.e.now c.in-Logical.op c.in-Logical.left c.in-Logical.right c.get-in-Logical.result.now c.get-in-Logical-2.result.now c.in-Logical.at c.in-Logical.is c.get-in-Logical.ensures c.get-in-Logical-2.ensures in
-    subst (λ x. OnOk c.lower_logical.result (c.lower_logical.new.code.items ≡ c.args.code.now.items ++ (emitted (program_in c.args.names.now) (scope_in c.args.scope.now) x c.args.from c.args.into c.args.free (lists_of c.args.lists.now)).code)) (sym is) c.lower_logical.ensures.code
-
-pub lower_expr-returns-in-Conditional-clause-code : goal.lower_expr-returns-in-Conditional-clause-code
-lower_expr-returns-in-Conditional-clause-code g t c =
-    let is = conditional_is c.args.e.now c.in-Conditional.c c.in-Conditional.left c.in-Conditional.right c.get-in-Conditional.result.now c.get-in-Conditional-2.result.now c.get-in-Conditional-3.result.now c.in-Conditional.at c.in-Conditional.is c.get-in-Conditional.ensures c.get-in-Conditional-2.ensures c.get-in-Conditional-3.ensures in
-    subst (λ x. OnOk c.lower_conditional.result (c.lower_conditional.new.code.items ≡ c.args.code.now.items ++ (emitted (program_in c.args.names.now) (scope_in c.args.scope.now) x c.args.from c.args.into c.args.free (lists_of c.args.lists.now)).code)) (sym is) c.lower_conditional.ensures.code
-
-pub lower_expr-returns-in-Conditional-clause-lists : goal.lower_expr-returns-in-Conditional-clause-lists
-lower_expr-returns-in-Conditional-clause-lists g t c =
-    let is = conditional_is c.args.e.now c.in-Conditional.c c.in-Conditional.left c.in-Conditional.right c.get-in-Conditional.result.now c.get-in-Conditional-2.result.now c.get-in-Conditional-3.result.now c.in-Conditional.at c.in-Conditional.is c.get-in-Conditional.ensures c.get-in-Conditional-2.ensures c.get-in-Conditional-3.ensures in
-    subst (λ x. OnOk c.lower_conditional.result (lists_of c.lower_conditional.new.lists ≡ (emitted (program_in c.args.names.now) (scope_in c.args.scope.now) x c.args.from c.args.into c.args.free (lists_of c.args.lists.now)).lists)) (sym is) c.lower_conditional.ensures.lists
-
-pub lower_expr-returns-in-Conditional-clause-held : goal.lower_expr-returns-in-Conditional-clause-held
-lower_expr-returns-in-Conditional-clause-held g t c =
-    let is = conditional_is c.args.e.now c.in-Conditional.c c.in-Conditional.left c.in-Conditional.right c.get-in-Conditional.result.now c.get-in-Conditional-2.result.now c.get-in-Conditional-3.result.now c.in-Conditional.at c.in-Conditional.is c.get-in-Conditional.ensures c.get-in-Conditional-2.ensures c.get-in-Conditional-3.ensures in
-    subst (λ x. IfOk c.lower_conditional.result (λ held. held ≡ (emitted (program_in c.args.names.now) (scope_in c.args.scope.now) x c.args.from c.args.into c.args.free (lists_of c.args.lists.now)).held)) (sym is) c.lower_conditional.ensures.held
-
-pub lower_expr-returns-in-Conditional-clause-fails : goal.lower_expr-returns-in-Conditional-clause-fails
-lower_expr-returns-in-Conditional-clause-fails g t c =
-    let is = conditional_is c.args.e.now c.in-Conditional.c c.in-Conditional.left c.in-Conditional.right c.get-in-Conditional.result.now c.get-in-Conditional-2.result.now c.get-in-Conditional-3.result.now c.in-Conditional.at c.in-Conditional.is c.get-in-Conditional.ensures c.get-in-Conditional-2.ensures c.get-in-Conditional-3.ensures in
-    subst (λ x. IfErr c.lower_conditional.result (λ why. NeedsMore why (emitted (program_in c.args.names.now) (scope_in c.args.scope.now) x c.args.from c.args.into c.args.free (lists_of c.args.lists.now)).lists.registers)) (sym is) c.lower_conditional.ensures.fails
-
 pub lower_expr-returns-in-Parenthesized : goal.lower_expr-returns-in-Parenthesized
 lower_expr-returns-in-Parenthesized g t c =
     let f : Tree.Expr → Emitted = (λ y. emitted (program_in c.args.names.now) (scope_in c.args.scope.now) y c.args.from c.args.into c.args.free (lists_of c.args.lists.now)) in
@@ -342,4 +243,196 @@ lower_condition-returns-in-Conditional g t c =
     let own = ap (λ y. own_condition (program_in c.args.names.now) (scope_in c.args.scope.now) y c.args.from c.args.free (lists_of c.args.lists.now)) (conditional_is c.args.e.now c.in-Conditional.field-0 c.in-Conditional.field-1 c.in-Conditional.field-2 c.in-Conditional.field-0 c.in-Conditional.field-1 c.in-Conditional.field-2 c.in-Conditional.field-3 c.in-Conditional.is refl refl refl) in
     let k = same_telling (by_value (emitted (program_in c.args.names.now) (scope_in c.args.scope.now) (expr_of c.args.e.now) c.args.from c.args.free c.args.free (lists_of c.args.lists.now)).code (emitted (program_in c.args.names.now) (scope_in c.args.scope.now) (expr_of c.args.e.now) c.args.from c.args.free c.args.free (lists_of c.args.lists.now)).lists (emitted (program_in c.args.names.now) (scope_in c.args.scope.now) (expr_of c.args.e.now) c.args.from c.args.free c.args.free (lists_of c.args.lists.now)).held) (condition (program_in c.args.names.now) (scope_in c.args.scope.now) (expr_of c.args.e.now) c.args.from c.args.free (lists_of c.args.lists.now)) c.args.drafts.now.items c.lower_value-in-Conditional.new.drafts.items (lists_of c.lower_value-in-Conditional.new.lists) c.lower_value-in-Conditional.result (by_its_value (program_in c.args.names.now) (scope_in c.args.scope.now) (expr_of c.args.e.now) c.args.from c.args.free (lists_of c.args.lists.now) own)
     (record { code = c.lower_value-in-Conditional.ensures.code; lists = c.lower_value-in-Conditional.ensures.lists; tested = c.lower_value-in-Conditional.ensures.tested; fails = c.lower_value-in-Conditional.ensures.fails }) in
+    record { code = k.code; lists = k.lists; tested = k.tested; fails = k.fails }
+
+pub lower_expr-returns-in-Variable : goal.lower_expr-returns-in-Variable
+lower_expr-returns-in-Variable g t c =
+    let did = c.lower_variable in
+    let whole : Tree.Expr → Emitted = (λ y. emitted (program_in c.args.names.now) (scope_in c.args.scope.now) y c.args.from c.args.into c.args.free (lists_of c.args.lists.now)) in
+    let is = variable_is c.args.e.now c.in-Variable.x c.in-Variable.is in
+    let named : List ℕ → Emitted = (λ x. variable (newest (scope_in c.args.scope.now) x) (global_of (program_in c.args.names.now) x) c.args.from c.args.into (lists_of c.args.lists.now)) in
+    let all = same_answer (named c.as_str.result.now) (whole (expr_of c.args.e.now)) c.args.code.now.items did.new.code.items (lists_of did.new.lists) did.result (ap named c.as_str.ensures ∙ sym (ap whole is))
+    (record { code = did.ensures.code; lists = did.ensures.lists; held = did.ensures.held; fails = did.ensures.fails }) in
+    record { code = all.code; lists = all.lists; held = all.held; fails = all.fails }
+
+pub lower_expr-returns-in-Constant : goal.lower_expr-returns-in-Constant
+lower_expr-returns-in-Constant g t c =
+    let did = c.put_number in
+    let whole : Tree.Expr → Emitted = (λ y. emitted (program_in c.args.names.now) (scope_in c.args.scope.now) y c.args.from c.args.into c.args.free (lists_of c.args.lists.now)) in
+    let is = constant_is c.args.e.now c.in-Constant.value c.in-Constant.of c.in-Constant.field-2 c.in-Constant.is in
+    let all = same_answer (constant (word_of (pos c.in-Constant.value)) c.in-Constant.of c.args.from c.args.into (lists_of c.args.lists.now)) (whole (expr_of c.args.e.now)) c.args.code.now.items did.new.code.items (lists_of did.new.lists) did.result (sym (ap whole is))
+    (record { code = did.ensures.code; lists = did.ensures.lists; held = did.ensures.held; fails = did.ensures.fails }) in
+    record { code = all.code; lists = all.lists; held = all.held; fails = all.fails }
+
+pub lower_expr-returns-in-None : goal.lower_expr-returns-in-None
+lower_expr-returns-in-None g t c =
+    let did = c.put_constant in
+    let whole : Tree.Expr → Emitted = (λ y. emitted (program_in c.args.names.now) (scope_in c.args.scope.now) y c.args.from c.args.into c.args.free (lists_of c.args.lists.now)) in
+    let is = element_is c.args.e.now c.in-Element.x c.in-Element.index c.in-Element.index c.in-Element.field-2 c.in-Element.is refl in
+    let found = sym (ap (option_map shared_in) c.in-None.is) ∙ c.global.ensures.value ∙ ap (global_of (program_in c.args.names.now)) c.as_str-in-Element.ensures in
+    let index = emitted (program_in c.args.names.now) (scope_in c.args.scope.now) (expr_of c.in-Element.index) c.args.from c.args.free c.args.free (lists_of c.args.lists.now) in
+    let all = same_answer (constant 0 Int c.args.from c.args.into (lists_of c.args.lists.now)) (whole (expr_of c.args.e.now)) c.args.code.now.items did.new.code.items (lists_of did.new.lists) did.result (ap (λ o. element o index c.args.from c.args.into (lists_of c.args.lists.now)) found ∙ sym (ap whole is))
+    (record { code = did.ensures.code; lists = did.ensures.lists; held = did.ensures.held; fails = did.ensures.fails }) in
+    record { code = all.code; lists = all.lists; held = all.held; fails = all.fails }
+
+pub lower_expr-returns-in-None-called : goal.lower_expr-returns-in-None-called
+lower_expr-returns-in-None-called g t c =
+    let did = c.put_constant-in-None-called in
+    let whole : Tree.Expr → Emitted = (λ y. emitted (program_in c.args.names.now) (scope_in c.args.scope.now) y c.args.from c.args.into c.args.free (lists_of c.args.lists.now)) in
+    let is = call_is c.args.e.now c.in-Call.f c.in-Call.args c.in-Call.args c.in-Call.field-2 c.in-Call.is refl in
+    let found = sym (ap (option_map callee_in) c.in-None-called.is) ∙ c.called.ensures ∙ ap (callee_of (program_in c.args.names.now)) c.as_str-in-Call.ensures in
+    let args = all_emitted (program_in c.args.names.now) (scope_in c.args.scope.now) (exprs_of c.in-Call.args) c.args.from c.args.free (lists_of c.args.lists.now) in
+    let all = same_answer (constant 0 Int c.args.from c.args.into (lists_of c.args.lists.now)) (whole (expr_of c.args.e.now)) c.args.code.now.items did.new.code.items (lists_of did.new.lists) did.result (ap (λ o. called o args c.args.from c.args.into (lists_of c.args.lists.now)) found ∙ sym (ap whole is))
+    (record { code = did.ensures.code; lists = did.ensures.lists; held = did.ensures.held; fails = did.ensures.fails }) in
+    record { code = all.code; lists = all.lists; held = all.held; fails = all.fails }
+
+pub lower_expr-returns-in-Some-called : goal.lower_expr-returns-in-Some-called
+lower_expr-returns-in-Some-called g t c =
+    let did = c.lower_call in
+    let whole : Tree.Expr → Emitted = (λ y. emitted (program_in c.args.names.now) (scope_in c.args.scope.now) y c.args.from c.args.into c.args.free (lists_of c.args.lists.now)) in
+    let args = all_emitted (program_in c.args.names.now) (scope_in c.args.scope.now) (exprs_of c.as_slice-all.result.now) c.args.from c.args.free (lists_of c.args.lists.now) in
+    let is = call_is c.args.e.now c.in-Call.f c.in-Call.args c.as_slice-all.result.now c.in-Call.field-2 c.in-Call.is c.as_slice-all.ensures in
+    let found = sym (c.in-Some-called.ensures ∙ ap (callee_of (program_in c.args.names.now)) c.as_str-in-Call.ensures) in
+    let all = same_answer (called (Some (callee_in c.in-Some-called.f)) args c.args.from c.args.into (lists_of c.args.lists.now)) (whole (expr_of c.args.e.now)) c.args.code.now.items did.new.code.items (lists_of did.new.lists) did.result (sym (ap whole is ∙ ap (λ o. called o args c.args.from c.args.into (lists_of c.args.lists.now)) found))
+    (record { code = did.ensures.code; lists = did.ensures.lists; held = did.ensures.held; fails = did.ensures.fails }) in
+    record { code = all.code; lists = all.lists; held = all.held; fails = all.fails }
+
+pub lower_expr-returns-in-Logical : goal.lower_expr-returns-in-Logical
+lower_expr-returns-in-Logical g t c =
+    let did = c.lower_logical in
+    let whole : Tree.Expr → Emitted = (λ y. emitted (program_in c.args.names.now) (scope_in c.args.scope.now) y c.args.from c.args.into c.args.free (lists_of c.args.lists.now)) in
+    let is = logical_is c.args.e.now c.in-Logical.op c.in-Logical.left c.in-Logical.right c.get-in-Logical.result.now c.get-in-Logical-2.result.now c.in-Logical.at c.in-Logical.is c.get-in-Logical.ensures c.get-in-Logical-2.ensures in
+    let all = same_answer _ (whole (expr_of c.args.e.now)) c.args.code.now.items did.new.code.items (lists_of did.new.lists) did.result (sym (ap whole is))
+    (record { code = did.ensures.code; lists = did.ensures.lists; held = did.ensures.held; fails = did.ensures.fails }) in
+    record { code = all.code; lists = all.lists; held = all.held; fails = all.fails }
+
+pub lower_expr-returns-in-Conditional : goal.lower_expr-returns-in-Conditional
+lower_expr-returns-in-Conditional g t c =
+    let did = c.lower_conditional in
+    let whole : Tree.Expr → Emitted = (λ y. emitted (program_in c.args.names.now) (scope_in c.args.scope.now) y c.args.from c.args.into c.args.free (lists_of c.args.lists.now)) in
+    let is = conditional_is c.args.e.now c.in-Conditional.c c.in-Conditional.left c.in-Conditional.right c.get-in-Conditional.result.now c.get-in-Conditional-2.result.now c.get-in-Conditional-3.result.now c.in-Conditional.at c.in-Conditional.is c.get-in-Conditional.ensures c.get-in-Conditional-2.ensures c.get-in-Conditional-3.ensures in
+    let all = same_answer _ (whole (expr_of c.args.e.now)) c.args.code.now.items did.new.code.items (lists_of did.new.lists) did.result (sym (ap whole is))
+    (record { code = did.ensures.code; lists = did.ensures.lists; held = did.ensures.held; fails = did.ensures.fails }) in
+    record { code = all.code; lists = all.lists; held = all.held; fails = all.fails }
+
+pub lower_expr-returns-in_ok-held-in-Cast : goal.lower_expr-returns-in_ok-held-in-Cast
+lower_expr-returns-in_ok-held-in-Cast g t c =
+    let did = c.in_ok-held-in-Cast.ensures in
+    let whole : Tree.Expr → Emitted = (λ y. emitted (program_in c.args.names.now) (scope_in c.args.scope.now) y c.args.from c.args.into c.args.free (lists_of c.args.lists.now)) in
+    let is = cast_is c.args.e.now c.in-Cast.of c.in-Cast.e c.get-in-Cast.result.now c.in-Cast.field-2 c.in-Cast.is c.get-in-Cast.ensures in
+    let as_cast : Held → Held = (λ h. record { register = h.register; of = c.in-Cast.of; to = h.to }) in
+    let all = same_answer (converted_to c.in-Cast.of (whole (expr_of c.get-in-Cast.result.now))) (whole (expr_of c.args.e.now)) c.args.code.now.items c.lower_expr-in-Cast.new.code.items (lists_of c.lower_expr-in-Cast.new.lists) (Ok (as_cast c.in_ok-held-in-Cast.held)) (sym (ap whole is))
+    (record { code = did.code; lists = did.lists; held = ap as_cast did.held; fails = tt }) in
+    record { code = all.code; lists = all.lists; held = all.held; fails = all.fails }
+
+pub lower_expr-returns-in_ok-a-in-Negate : goal.lower_expr-returns-in_ok-a-in-Negate
+lower_expr-returns-in_ok-a-in-Negate g t c =
+    let did = c.put_negated in
+    let a = c.in_ok-a-in-Negate in
+    let whole : Tree.Expr → Emitted = (λ y. emitted (program_in c.args.names.now) (scope_in c.args.scope.now) y c.args.from c.args.into c.args.free (lists_of c.args.lists.now)) in
+    let is = unary_is c.args.e.now c.in-Unary.op Negate c.in-Unary.e c.get-in-Negate.result.now c.in-Unary.field-2 c.in-Unary.is c.in-Negate.is c.get-in-Negate.ensures in
+    let made = tail_made (emitted (program_in c.args.names.now) (scope_in c.args.scope.now) (expr_of c.get-in-Negate.result.now) c.args.from c.args.free c.args.free (lists_of c.args.lists.now)) (λ a. negating a.of c.args.into a.register ∷ []) (λ a l. used c.args.into l) (λ a. record { register = c.args.into; of = a.of; to = a.to + 1 }) c.args.code.now.items c.lower_expr-in-Negate.new.code.items did.new.code.items (lists_of c.lower_expr-in-Negate.new.lists) (lists_of did.new.lists) a.a did.result
+    a.ensures.code a.ensures.lists a.ensures.held did.ensures.code did.ensures.lists did.ensures.held did.ensures.fails in
+    let all = same_answer _ (whole (expr_of c.args.e.now)) c.args.code.now.items did.new.code.items (lists_of did.new.lists) did.result (sym (ap whole is)) made in
+    record { code = all.code; lists = all.lists; held = all.held; fails = all.fails }
+
+pub lower_expr-returns-in_ok-a-in-Complement : goal.lower_expr-returns-in_ok-a-in-Complement
+lower_expr-returns-in_ok-a-in-Complement g t c =
+    let did = c.put_complemented in
+    let a = c.in_ok-a-in-Complement in
+    let whole : Tree.Expr → Emitted = (λ y. emitted (program_in c.args.names.now) (scope_in c.args.scope.now) y c.args.from c.args.into c.args.free (lists_of c.args.lists.now)) in
+    let is = unary_is c.args.e.now c.in-Unary.op Complement c.in-Unary.e c.get-in-Complement.result.now c.in-Unary.field-2 c.in-Unary.is c.in-Complement.is c.get-in-Complement.ensures in
+    let made = tail_made (emitted (program_in c.args.names.now) (scope_in c.args.scope.now) (expr_of c.get-in-Complement.result.now) c.args.from c.args.free c.args.free (lists_of c.args.lists.now)) (λ a. own.Complement c.args.into a.register ∷ []) (λ a l. used c.args.into l) (λ a. record { register = c.args.into; of = a.of; to = a.to + 1 }) c.args.code.now.items c.lower_expr-in-Complement.new.code.items did.new.code.items (lists_of c.lower_expr-in-Complement.new.lists) (lists_of did.new.lists) a.a did.result
+    a.ensures.code a.ensures.lists a.ensures.held did.ensures.code did.ensures.lists did.ensures.held did.ensures.fails in
+    let all = same_answer _ (whole (expr_of c.args.e.now)) c.args.code.now.items did.new.code.items (lists_of did.new.lists) did.result (sym (ap whole is)) made in
+    record { code = all.code; lists = all.lists; held = all.held; fails = all.fails }
+
+pub lower_expr-returns-in_ok-a-in-Not : goal.lower_expr-returns-in_ok-a-in-Not
+lower_expr-returns-in_ok-a-in-Not g t c =
+    let did = c.put_compared in
+    let a = c.in_ok-a-in-Not in
+    let whole : Tree.Expr → Emitted = (λ y. emitted (program_in c.args.names.now) (scope_in c.args.scope.now) y c.args.from c.args.into c.args.free (lists_of c.args.lists.now)) in
+    let is = unary_is c.args.e.now c.in-Unary.op Not c.in-Unary.e c.get-in-Not.result.now c.in-Unary.field-2 c.in-Unary.is c.in-Not.is c.get-in-Not.ensures in
+    let made = tail_made (emitted (program_in c.args.names.now) (scope_in c.args.scope.now) (expr_of c.get-in-Not.result.now) c.args.from c.args.free c.args.free (lists_of c.args.lists.now)) (λ a. own.Constant (above c.args.free a.register) 0 ∷ own.Equal c.args.into a.register (above c.args.free a.register) ∷ []) (λ a l. used c.args.into (used (above c.args.free a.register) l)) (λ a. record { register = c.args.into; of = Int; to = a.to + 2 }) c.args.code.now.items c.lower_expr-in-Not.new.code.items did.new.code.items (lists_of c.lower_expr-in-Not.new.lists) (lists_of did.new.lists) a.a did.result
+    a.ensures.code a.ensures.lists a.ensures.held did.ensures.code did.ensures.lists did.ensures.held did.ensures.fails in
+    let all = same_answer _ (whole (expr_of c.args.e.now)) c.args.code.now.items did.new.code.items (lists_of did.new.lists) did.result (sym (ap whole is)) made in
+    record { code = all.code; lists = all.lists; held = all.held; fails = all.fails }
+
+pub lower_expr-returns-in_ok-i-in-Some : goal.lower_expr-returns-in_ok-i-in-Some
+lower_expr-returns-in_ok-i-in-Some g t c =
+    let did = c.put_read_at in
+    let i = c.in_ok-i-in-Some in
+    let x = shared_in c.in-Some.g in
+    let whole : Tree.Expr → Emitted = (λ y. emitted (program_in c.args.names.now) (scope_in c.args.scope.now) y c.args.from c.args.into c.args.free (lists_of c.args.lists.now)) in
+    let index = emitted (program_in c.args.names.now) (scope_in c.args.scope.now) (expr_of c.get.result.now) c.args.from c.args.free c.args.free (lists_of c.args.lists.now) in
+    let is = element_is c.args.e.now c.in-Element.x c.in-Element.index c.get.result.now c.in-Element.field-2 c.in-Element.is c.get.ensures in
+    let found = sym (c.in-Some.ensures.value ∙ ap (global_of (program_in c.args.names.now)) c.as_str-in-Element.ensures) in
+    let made = tail_made index (λ a. own.ReadAt c.args.into a.register x.cell (cells x.global) ∷ []) (λ a l. used c.args.into l) (λ a. record { register = c.args.into; of = x.global.of; to = a.to + 1 }) c.args.code.now.items c.lower_expr.new.code.items did.new.code.items (lists_of c.lower_expr.new.lists) (lists_of did.new.lists) i.i did.result
+    i.ensures.code i.ensures.lists i.ensures.held did.ensures.code did.ensures.lists did.ensures.held did.ensures.fails in
+    let all = same_answer _ (whole (expr_of c.args.e.now)) c.args.code.now.items did.new.code.items (lists_of did.new.lists) did.result (sym (ap whole is ∙ ap (λ o. element o index c.args.from c.args.into (lists_of c.args.lists.now)) found)) made in
+    record { code = all.code; lists = all.lists; held = all.held; fails = all.fails }
+
+pub lower_expr-returns-in_ok-b-in-Binary : goal.lower_expr-returns-in_ok-b-in-Binary
+lower_expr-returns-in_ok-b-in-Binary g t c =
+    let did = c.put_both in
+    let a = c.in_ok-a-in-Binary in
+    let b = c.in_ok-b-in-Binary in
+    let whole : Tree.Expr → Emitted = (λ y. emitted (program_in c.args.names.now) (scope_in c.args.scope.now) y c.args.from c.args.into c.args.free (lists_of c.args.lists.now)) in
+    let left = emitted (program_in c.args.names.now) (scope_in c.args.scope.now) (expr_of c.get-in-Binary.result.now) c.args.from c.args.free c.args.free (lists_of c.args.lists.now) in
+    let is = binary_is c.args.e.now c.in-Binary.op c.in-Binary.left c.in-Binary.right c.get-in-Binary.result.now c.get-in-Binary-2.result.now c.in-Binary.field-3 c.in-Binary.is c.get-in-Binary.ensures c.get-in-Binary-2.ensures in
+    let made = tails_made left (λ to later l. emitted (program_in c.args.names.now) (scope_in c.args.scope.now) (expr_of c.get-in-Binary-2.result.now) to later later l) (λ a b. computing c.in-Binary.op (operand_type c.in-Binary.op a.of b.of) c.args.into a.register b.register ∷ []) c.args.into
+    (λ a b. record { register = c.args.into; of = result_type c.in-Binary.op (operand_type c.in-Binary.op a.of b.of); to = b.to + 1 }) c.args.free c.args.code.now.items c.lower_expr-in-Binary.new.code.items c.lower_expr-in-Binary-2.new.code.items did.new.code.items (lists_of c.lower_expr-in-Binary.new.lists) (lists_of c.lower_expr-in-Binary-2.new.lists) (lists_of did.new.lists) a.a b.b c.above-later.result did.result
+    a.ensures.code a.ensures.lists a.ensures.held c.above-later.ensures b.ensures.code b.ensures.lists b.ensures.held did.ensures.code did.ensures.lists did.ensures.held did.ensures.fails in
+    let all = same_answer _ (whole (expr_of c.args.e.now)) c.args.code.now.items did.new.code.items (lists_of did.new.lists) did.result (sym (ap whole is)) made in
+    record { code = all.code; lists = all.lists; held = all.held; fails = all.fails }
+
+pub lower_expr-returns-in_err-i-in-Some-clause-fails : goal.lower_expr-returns-in_err-i-in-Some-clause-fails
+lower_expr-returns-in_err-i-in-Some-clause-fails g t c =
+    passed_on c.lower_expr.result c.from_residual.result c.in_err-i-in-Some.field-0.0 _ _ c.lower_expr.ensures.fails c.in_err-i-in-Some.was c.from_residual.ensures
+    (element_first (program_in c.args.names.now) (scope_in c.args.scope.now) c.args.from c.args.into c.args.free (lists_of c.args.lists.now) (expr_of c.args.e.now) _ (expr_of c.get.result.now) c.in-Element.field-2 (shared_in c.in-Some.g) (element_is c.args.e.now c.in-Element.x c.in-Element.index c.get.result.now c.in-Element.field-2 c.in-Element.is c.get.ensures) (sym (c.in-Some.ensures.value ∙ ap (global_of (program_in c.args.names.now)) c.as_str-in-Element.ensures)))
+
+pub lower_expr-returns-in_err-held-in-Cast-clause-fails : goal.lower_expr-returns-in_err-held-in-Cast-clause-fails
+lower_expr-returns-in_err-held-in-Cast-clause-fails g t c =
+    passed_on c.lower_expr-in-Cast.result c.from_residual-in_err-held-in-Cast.result c.in_err-held-in-Cast.field-0.0 _ _ c.lower_expr-in-Cast.ensures.fails c.in_err-held-in-Cast.was c.from_residual-in_err-held-in-Cast.ensures
+    (cast_first (program_in c.args.names.now) (scope_in c.args.scope.now) c.args.from c.args.into c.args.free (lists_of c.args.lists.now) (expr_of c.args.e.now) c.in-Cast.of (expr_of c.get-in-Cast.result.now) c.in-Cast.field-2 (cast_is c.args.e.now c.in-Cast.of c.in-Cast.e c.get-in-Cast.result.now c.in-Cast.field-2 c.in-Cast.is c.get-in-Cast.ensures))
+
+pub lower_expr-returns-in_err-a-in-Negate-clause-fails : goal.lower_expr-returns-in_err-a-in-Negate-clause-fails
+lower_expr-returns-in_err-a-in-Negate-clause-fails g t c =
+    passed_on c.lower_expr-in-Negate.result c.from_residual-in_err-a-in-Negate.result c.in_err-a-in-Negate.field-0.0 _ _ c.lower_expr-in-Negate.ensures.fails c.in_err-a-in-Negate.was c.from_residual-in_err-a-in-Negate.ensures
+    (unary_first (program_in c.args.names.now) (scope_in c.args.scope.now) c.args.from c.args.into c.args.free (lists_of c.args.lists.now) (expr_of c.args.e.now) Negate (expr_of c.get-in-Negate.result.now) c.in-Unary.field-2 (unary_is c.args.e.now c.in-Unary.op Negate c.in-Unary.e c.get-in-Negate.result.now c.in-Unary.field-2 c.in-Unary.is c.in-Negate.is c.get-in-Negate.ensures) (used_more c.args.into (emitted (program_in c.args.names.now) (scope_in c.args.scope.now) (expr_of c.get-in-Negate.result.now) c.args.from c.args.free c.args.free (lists_of c.args.lists.now)).lists))
+
+pub lower_expr-returns-in_err-a-in-Not-clause-fails : goal.lower_expr-returns-in_err-a-in-Not-clause-fails
+lower_expr-returns-in_err-a-in-Not-clause-fails g t c =
+    passed_on c.lower_expr-in-Not.result c.from_residual-in_err-a-in-Not.result c.in_err-a-in-Not.field-0.0 _ _ c.lower_expr-in-Not.ensures.fails c.in_err-a-in-Not.was c.from_residual-in_err-a-in-Not.ensures
+    (unary_first (program_in c.args.names.now) (scope_in c.args.scope.now) c.args.from c.args.into c.args.free (lists_of c.args.lists.now) (expr_of c.args.e.now) Not (expr_of c.get-in-Not.result.now) c.in-Unary.field-2 (unary_is c.args.e.now c.in-Unary.op Not c.in-Unary.e c.get-in-Not.result.now c.in-Unary.field-2 c.in-Unary.is c.in-Not.is c.get-in-Not.ensures) (compared_more (emitted (program_in c.args.names.now) (scope_in c.args.scope.now) (expr_of c.get-in-Not.result.now) c.args.from c.args.free c.args.free (lists_of c.args.lists.now)) c.args.into c.args.free))
+
+pub lower_expr-returns-in_err-a-in-Complement-clause-fails : goal.lower_expr-returns-in_err-a-in-Complement-clause-fails
+lower_expr-returns-in_err-a-in-Complement-clause-fails g t c =
+    passed_on c.lower_expr-in-Complement.result c.from_residual-in_err-a-in-Complement.result c.in_err-a-in-Complement.field-0.0 _ _ c.lower_expr-in-Complement.ensures.fails c.in_err-a-in-Complement.was c.from_residual-in_err-a-in-Complement.ensures
+    (unary_first (program_in c.args.names.now) (scope_in c.args.scope.now) c.args.from c.args.into c.args.free (lists_of c.args.lists.now) (expr_of c.args.e.now) Complement (expr_of c.get-in-Complement.result.now) c.in-Unary.field-2 (unary_is c.args.e.now c.in-Unary.op Complement c.in-Unary.e c.get-in-Complement.result.now c.in-Unary.field-2 c.in-Unary.is c.in-Complement.is c.get-in-Complement.ensures) (used_more c.args.into (emitted (program_in c.args.names.now) (scope_in c.args.scope.now) (expr_of c.get-in-Complement.result.now) c.args.from c.args.free c.args.free (lists_of c.args.lists.now)).lists))
+
+pub lower_expr-returns-in_err-b-in-Binary-clause-fails : goal.lower_expr-returns-in_err-b-in-Binary-clause-fails
+lower_expr-returns-in_err-b-in-Binary-clause-fails g t c =
+    passed_on c.lower_expr-in-Binary-2.result c.from_residual-in_err-b-in-Binary.result c.in_err-b-in-Binary.field-0.0 _ _ c.lower_expr-in-Binary-2.ensures.fails c.in_err-b-in-Binary.was c.from_residual-in_err-b-in-Binary.ensures
+    (binary_second (program_in c.args.names.now) (scope_in c.args.scope.now) c.args.from c.args.into c.args.free (lists_of c.args.lists.now) (expr_of c.args.e.now) c.in-Binary.op (expr_of c.get-in-Binary.result.now) (expr_of c.get-in-Binary-2.result.now) c.in-Binary.field-3 (binary_is c.args.e.now c.in-Binary.op c.in-Binary.left c.in-Binary.right c.get-in-Binary.result.now c.get-in-Binary-2.result.now c.in-Binary.field-3 c.in-Binary.is c.get-in-Binary.ensures c.get-in-Binary-2.ensures) c.in_ok-a-in-Binary.a c.above-later.result (lists_of c.lower_expr-in-Binary.new.lists) c.in_ok-a-in-Binary.ensures.lists c.in_ok-a-in-Binary.ensures.held c.above-later.ensures)
+
+pub lower_condition-returns-in-Variable : goal.lower_condition-returns-in-Variable
+lower_condition-returns-in-Variable g t c =
+    let own = ap (λ y. own_condition (program_in c.args.names.now) (scope_in c.args.scope.now) y c.args.from c.args.free (lists_of c.args.lists.now)) (variable_is c.args.e.now c.in-Variable.field-0 c.in-Variable.is) in
+    let k = same_telling (by_value (emitted (program_in c.args.names.now) (scope_in c.args.scope.now) (expr_of c.args.e.now) c.args.from c.args.free c.args.free (lists_of c.args.lists.now)).code (emitted (program_in c.args.names.now) (scope_in c.args.scope.now) (expr_of c.args.e.now) c.args.from c.args.free c.args.free (lists_of c.args.lists.now)).lists (emitted (program_in c.args.names.now) (scope_in c.args.scope.now) (expr_of c.args.e.now) c.args.from c.args.free c.args.free (lists_of c.args.lists.now)).held) (condition (program_in c.args.names.now) (scope_in c.args.scope.now) (expr_of c.args.e.now) c.args.from c.args.free (lists_of c.args.lists.now)) c.args.drafts.now.items c.lower_value-in-Variable.new.drafts.items (lists_of c.lower_value-in-Variable.new.lists) c.lower_value-in-Variable.result (by_its_value (program_in c.args.names.now) (scope_in c.args.scope.now) (expr_of c.args.e.now) c.args.from c.args.free (lists_of c.args.lists.now) own)
+    (record { code = c.lower_value-in-Variable.ensures.code; lists = c.lower_value-in-Variable.ensures.lists; tested = c.lower_value-in-Variable.ensures.tested; fails = c.lower_value-in-Variable.ensures.fails }) in
+    record { code = k.code; lists = k.lists; tested = k.tested; fails = k.fails }
+
+pub lower_condition-returns-in-Constant : goal.lower_condition-returns-in-Constant
+lower_condition-returns-in-Constant g t c =
+    let own = ap (λ y. own_condition (program_in c.args.names.now) (scope_in c.args.scope.now) y c.args.from c.args.free (lists_of c.args.lists.now)) (constant_is c.args.e.now c.in-Constant.field-0 c.in-Constant.field-1 c.in-Constant.field-2 c.in-Constant.is) in
+    let k = same_telling (by_value (emitted (program_in c.args.names.now) (scope_in c.args.scope.now) (expr_of c.args.e.now) c.args.from c.args.free c.args.free (lists_of c.args.lists.now)).code (emitted (program_in c.args.names.now) (scope_in c.args.scope.now) (expr_of c.args.e.now) c.args.from c.args.free c.args.free (lists_of c.args.lists.now)).lists (emitted (program_in c.args.names.now) (scope_in c.args.scope.now) (expr_of c.args.e.now) c.args.from c.args.free c.args.free (lists_of c.args.lists.now)).held) (condition (program_in c.args.names.now) (scope_in c.args.scope.now) (expr_of c.args.e.now) c.args.from c.args.free (lists_of c.args.lists.now)) c.args.drafts.now.items c.lower_value-in-Constant.new.drafts.items (lists_of c.lower_value-in-Constant.new.lists) c.lower_value-in-Constant.result (by_its_value (program_in c.args.names.now) (scope_in c.args.scope.now) (expr_of c.args.e.now) c.args.from c.args.free (lists_of c.args.lists.now) own)
+    (record { code = c.lower_value-in-Constant.ensures.code; lists = c.lower_value-in-Constant.ensures.lists; tested = c.lower_value-in-Constant.ensures.tested; fails = c.lower_value-in-Constant.ensures.fails }) in
+    record { code = k.code; lists = k.lists; tested = k.tested; fails = k.fails }
+
+pub lower_condition-returns-in-None : goal.lower_condition-returns-in-None
+lower_condition-returns-in-None g t c =
+    let own = ap (λ y. own_condition (program_in c.args.names.now) (scope_in c.args.scope.now) y c.args.from c.args.free (lists_of c.args.lists.now)) (binary_is c.args.e.now c.in-Binary.op c.in-Binary.a c.in-Binary.b c.in-Binary.a c.get-in-Binary.result.now c.in-Binary.field-3 c.in-Binary.is refl c.get-in-Binary.ensures) ∙ ap (λ o. zero_tested o (condition (program_in c.args.names.now) (scope_in c.args.scope.now) (expr_of c.in-Binary.a) c.args.from c.args.free (lists_of c.args.lists.now))) (sym c.zero_test.ensures ∙ c.in-None.is) in
+    let k = same_telling (by_value (emitted (program_in c.args.names.now) (scope_in c.args.scope.now) (expr_of c.args.e.now) c.args.from c.args.free c.args.free (lists_of c.args.lists.now)).code (emitted (program_in c.args.names.now) (scope_in c.args.scope.now) (expr_of c.args.e.now) c.args.from c.args.free c.args.free (lists_of c.args.lists.now)).lists (emitted (program_in c.args.names.now) (scope_in c.args.scope.now) (expr_of c.args.e.now) c.args.from c.args.free c.args.free (lists_of c.args.lists.now)).held) (condition (program_in c.args.names.now) (scope_in c.args.scope.now) (expr_of c.args.e.now) c.args.from c.args.free (lists_of c.args.lists.now)) c.args.drafts.now.items c.lower_value-in-None.new.drafts.items (lists_of c.lower_value-in-None.new.lists) c.lower_value-in-None.result (by_its_value (program_in c.args.names.now) (scope_in c.args.scope.now) (expr_of c.args.e.now) c.args.from c.args.free (lists_of c.args.lists.now) own)
+    (record { code = c.lower_value-in-None.ensures.code; lists = c.lower_value-in-None.ensures.lists; tested = c.lower_value-in-None.ensures.tested; fails = c.lower_value-in-None.ensures.fails }) in
     record { code = k.code; lists = k.lists; tested = k.tested; fails = k.fails }

@@ -1,20 +1,16 @@
-use Rattle.std.proofs.Common.{◌≡◌, ◌++◌, length, ap, sym, subst, ◌∙◌, arith, OnOk, IfOk, IfErr, Result, Ok, Err, option_map}
+use Rattle.std.proofs.Common.{◌++◌, length, refl, ap, ◌∙◌, arith, OnOk, Result, Ok, Err, option_map}
 use denote.Param.Weighed.{most, at_most}
 use Rattle.syntax.specs.declared.tree.Stmt.{the_lemmas}
 use Rattle.syntax.specs.declared.tree.Stmt.TheVariants as own_stmt
 use Rattle.syntax.proofs.tree.Stmt.TheLaws.{the_size}
-use Rattle.syntax.proofs.Seen.{stmt_of_return}
 use Rattle.syntax.specs.Views.{expr_of, simple_of, start_of, stmt_of, stmts_of}
-use Rattle.lowered.specs.Statements.{locals_after}
 use Rattle.lower.specs.Lists.{lists_of}
 use Rattle.lower.specs.Expressions.{condition}
-use Rattle.lower.specs.Statements.{written}
 use Rattle.lower.specs.inner.Views.{program_in, scope_in}
-use Rattle.lower.specs.inner.Limits.{NeedsMore}
 use Rattle.lower.proofs.Failing.{passed_on, if_test, if_branch, if_else_test, if_else_first, if_else_second, while_body, while_test, do_body, do_test, transaction_body, for_first, for_body, for_next, for_last}
 use Rattle.lower.proofs.Written.{first_within, next_code, next_lists, next_place, next_scope, last_code, last_lists, last_place, last_scope}
 use Rattle.lower.proofs.Leaving.{start_longer, start_left, stmt_longer, stmt_left, stmts_longer, stmts_left}
-use Rattle.lower.proofs.Made.{if_made, if_else_made, while_made, do_made, for_made, transaction_made, declare_is, print_is, block_is, if_is, if_else_is, while_is, do_is, for_is, transaction_is}
+use Rattle.lower.proofs.Made.{if_made, if_else_made, while_made, do_made, for_made, transaction_made, same_lowering, simple_is, return_is, declare_is, print_is, block_is, if_is, if_else_is, while_is, do_is, for_is, transaction_is}
 use Rattle.lower.proofs.stmt.+lower_stmt.Goals as goal
 
 holds : {X Y P : Type 0} (r : Result X Y) → P → OnOk r P
@@ -85,66 +81,6 @@ lower_for-returns-clause-place g t c =
     (record { code = c.in_ok-pads.ensures.code; lists = c.in_ok-pads.ensures.lists; place = c.in_ok-pads.ensures.place }) c.in_ok-pads.ensures.scope c.in_ok-pad.ensures c.in_ok-other.ensures c.in_ok-start.ensures c.looping-exits.ensures c.requires
     (record { code = c.in_ok-step_at.ensures.code; lists = c.in_ok-step_at.ensures.lists; place = c.in_ok-step_at.ensures.place }) c.in_ok-step_at.ensures.scope (record { code = c.in_ok-test_at.ensures.code; lists = c.in_ok-test_at.ensures.lists; place = c.in_ok-test_at.ensures.place }) (record { code = c.in_ok-to.ensures.code; lists = c.in_ok-to.ensures.lists; place = c.in_ok-to.ensures.place }) c.in_ok-put_loop.ensures).place
 
-pub lower_stmt-returns-in-Declare-clause-scope : goal.lower_stmt-returns-in-Declare-clause-scope
-lower_stmt-returns-in-Declare-clause-scope g t c =
-    let is = declare_is c.args.s.now c.in-Declare.d c.as_slice.result.now c.in-Declare.is c.as_slice.ensures in
-    subst (λ z. OnOk c.lower_declarators.result (scope_in c.lower_declarators.new.scope ≡ z)) (sym (ap (λ s. locals_after s (scope_in c.args.scope.now)) is)) c.lower_declarators.ensures.scope
-
-pub lower_stmt-returns-in-Declare-clause-code : goal.lower_stmt-returns-in-Declare-clause-code
-lower_stmt-returns-in-Declare-clause-code g t c =
-    let is = declare_is c.args.s.now c.in-Declare.d c.as_slice.result.now c.in-Declare.is c.as_slice.ensures in
-    subst (λ z. OnOk c.lower_declarators.result (c.lower_declarators.new.code.items ≡ z)) (sym (ap (λ s. c.args.code.now.items ++ (written (program_in c.args.names.now) s c.args.exits (scope_in c.args.scope.now) c.args.from (lists_of c.args.lists.now)).code) is)) c.lower_declarators.ensures.code
-
-pub lower_stmt-returns-in-Declare-clause-lists : goal.lower_stmt-returns-in-Declare-clause-lists
-lower_stmt-returns-in-Declare-clause-lists g t c =
-    let is = declare_is c.args.s.now c.in-Declare.d c.as_slice.result.now c.in-Declare.is c.as_slice.ensures in
-    subst (λ z. OnOk c.lower_declarators.result (lists_of c.lower_declarators.new.lists ≡ z)) (sym (ap (λ s. (written (program_in c.args.names.now) s c.args.exits (scope_in c.args.scope.now) c.args.from (lists_of c.args.lists.now)).lists) is)) c.lower_declarators.ensures.lists
-
-pub lower_stmt-returns-in-Declare-clause-place : goal.lower_stmt-returns-in-Declare-clause-place
-lower_stmt-returns-in-Declare-clause-place g t c =
-    let is = declare_is c.args.s.now c.in-Declare.d c.as_slice.result.now c.in-Declare.is c.as_slice.ensures in
-    subst (λ z. IfOk c.lower_declarators.result (λ to. to ≡ z)) (sym (ap (λ s. (written (program_in c.args.names.now) s c.args.exits (scope_in c.args.scope.now) c.args.from (lists_of c.args.lists.now)).to) is)) c.lower_declarators.ensures.place
-
-pub lower_stmt-returns-in-Block-clause-scope : goal.lower_stmt-returns-in-Block-clause-scope
-lower_stmt-returns-in-Block-clause-scope g t c =
-    let is = block_is c.args.s.now c.in-Block.body c.as_slice-in-Block.result.now c.in-Block.is c.as_slice-in-Block.ensures in
-    subst (λ z. OnOk c.lower_block.result (scope_in c.lower_block.new.scope ≡ z)) (sym (ap (λ s. locals_after s (scope_in c.args.scope.now)) is)) c.lower_block.ensures.scope
-
-pub lower_stmt-returns-in-Block-clause-code : goal.lower_stmt-returns-in-Block-clause-code
-lower_stmt-returns-in-Block-clause-code g t c =
-    let is = block_is c.args.s.now c.in-Block.body c.as_slice-in-Block.result.now c.in-Block.is c.as_slice-in-Block.ensures in
-    subst (λ z. OnOk c.lower_block.result (c.lower_block.new.code.items ≡ z)) (sym (ap (λ s. c.args.code.now.items ++ (written (program_in c.args.names.now) s c.args.exits (scope_in c.args.scope.now) c.args.from (lists_of c.args.lists.now)).code) is)) c.lower_block.ensures.code
-
-pub lower_stmt-returns-in-Block-clause-lists : goal.lower_stmt-returns-in-Block-clause-lists
-lower_stmt-returns-in-Block-clause-lists g t c =
-    let is = block_is c.args.s.now c.in-Block.body c.as_slice-in-Block.result.now c.in-Block.is c.as_slice-in-Block.ensures in
-    subst (λ z. OnOk c.lower_block.result (lists_of c.lower_block.new.lists ≡ z)) (sym (ap (λ s. (written (program_in c.args.names.now) s c.args.exits (scope_in c.args.scope.now) c.args.from (lists_of c.args.lists.now)).lists) is)) c.lower_block.ensures.lists
-
-pub lower_stmt-returns-in-Block-clause-place : goal.lower_stmt-returns-in-Block-clause-place
-lower_stmt-returns-in-Block-clause-place g t c =
-    let is = block_is c.args.s.now c.in-Block.body c.as_slice-in-Block.result.now c.in-Block.is c.as_slice-in-Block.ensures in
-    subst (λ z. IfOk c.lower_block.result (λ to. to ≡ z)) (sym (ap (λ s. (written (program_in c.args.names.now) s c.args.exits (scope_in c.args.scope.now) c.args.from (lists_of c.args.lists.now)).to) is)) c.lower_block.ensures.place
-
-pub lower_stmt-returns-in-Print-clause-scope : goal.lower_stmt-returns-in-Print-clause-scope
-lower_stmt-returns-in-Print-clause-scope g t c =
-    let is = print_is c.args.s.now c.in-Print.field-0 c.in-Print.format c.as_str.result.now c.in-Print.field-2 c.in-Print.args c.as_slice-in-Print.result.now c.in-Print.is c.as_str.ensures c.as_slice-in-Print.ensures in
-    holds c.lower_print.result (sym (ap (λ s. locals_after s (scope_in c.args.scope.now)) is))
-
-pub lower_stmt-returns-in-Print-clause-code : goal.lower_stmt-returns-in-Print-clause-code
-lower_stmt-returns-in-Print-clause-code g t c =
-    let is = print_is c.args.s.now c.in-Print.field-0 c.in-Print.format c.as_str.result.now c.in-Print.field-2 c.in-Print.args c.as_slice-in-Print.result.now c.in-Print.is c.as_str.ensures c.as_slice-in-Print.ensures in
-    subst (λ z. OnOk c.lower_print.result (c.lower_print.new.code.items ≡ z)) (sym (ap (λ s. c.args.code.now.items ++ (written (program_in c.args.names.now) s c.args.exits (scope_in c.args.scope.now) c.args.from (lists_of c.args.lists.now)).code) is)) c.lower_print.ensures.code
-
-pub lower_stmt-returns-in-Print-clause-lists : goal.lower_stmt-returns-in-Print-clause-lists
-lower_stmt-returns-in-Print-clause-lists g t c =
-    let is = print_is c.args.s.now c.in-Print.field-0 c.in-Print.format c.as_str.result.now c.in-Print.field-2 c.in-Print.args c.as_slice-in-Print.result.now c.in-Print.is c.as_str.ensures c.as_slice-in-Print.ensures in
-    subst (λ z. OnOk c.lower_print.result (lists_of c.lower_print.new.lists ≡ z)) (sym (ap (λ s. (written (program_in c.args.names.now) s c.args.exits (scope_in c.args.scope.now) c.args.from (lists_of c.args.lists.now)).lists) is)) c.lower_print.ensures.lists
-
-pub lower_stmt-returns-in-Print-clause-place : goal.lower_stmt-returns-in-Print-clause-place
-lower_stmt-returns-in-Print-clause-place g t c =
-    let is = print_is c.args.s.now c.in-Print.field-0 c.in-Print.format c.as_str.result.now c.in-Print.field-2 c.in-Print.args c.as_slice-in-Print.result.now c.in-Print.is c.as_str.ensures c.as_slice-in-Print.ensures in
-    subst (λ z. IfOk c.lower_print.result (λ to. to ≡ z)) (sym (ap (λ s. (written (program_in c.args.names.now) s c.args.exits (scope_in c.args.scope.now) c.args.from (lists_of c.args.lists.now)).to) is)) c.lower_print.ensures.place
-
 pub lower_stmts-body-preserved : goal.lower_stmts-body-preserved
 lower_stmts-body-preserved g t c =
     let e = c.in_ok-to.ensures in
@@ -166,21 +102,6 @@ lower_stmts-returns-clause-lists g t c = last_lists (program_in c.args.names.now
 
 pub lower_stmts-returns-clause-place : goal.lower_stmts-returns-clause-place
 lower_stmts-returns-clause-place g t c = last_place (program_in c.args.names.now) c.args.exits c.args.body.now c.body.s-index c.body.to (scope_in c.body.scope) (lists_of c.body.lists) _ c.body-test.false c.body.invariant.place
-
-pub lower_stmt-returns-in-Declare-clause-fails : goal.lower_stmt-returns-in-Declare-clause-fails
-lower_stmt-returns-in-Declare-clause-fails g t c =
-    let is = declare_is c.args.s.now c.in-Declare.d c.as_slice.result.now c.in-Declare.is c.as_slice.ensures in
-    subst (λ s. IfErr c.lower_declarators.result (λ why. NeedsMore why (written (program_in c.args.names.now) s c.args.exits (scope_in c.args.scope.now) c.args.from (lists_of c.args.lists.now)).lists.registers)) (sym is) c.lower_declarators.ensures.fails
-
-pub lower_stmt-returns-in-Block-clause-fails : goal.lower_stmt-returns-in-Block-clause-fails
-lower_stmt-returns-in-Block-clause-fails g t c =
-    let is = block_is c.args.s.now c.in-Block.body c.as_slice-in-Block.result.now c.in-Block.is c.as_slice-in-Block.ensures in
-    subst (λ s. IfErr c.lower_block.result (λ why. NeedsMore why (written (program_in c.args.names.now) s c.args.exits (scope_in c.args.scope.now) c.args.from (lists_of c.args.lists.now)).lists.registers)) (sym is) c.lower_block.ensures.fails
-
-pub lower_stmt-returns-in-Print-clause-fails : goal.lower_stmt-returns-in-Print-clause-fails
-lower_stmt-returns-in-Print-clause-fails g t c =
-    let is = print_is c.args.s.now c.in-Print.field-0 c.in-Print.format c.as_str.result.now c.in-Print.field-2 c.in-Print.args c.as_slice-in-Print.result.now c.in-Print.is c.as_str.ensures c.as_slice-in-Print.ensures in
-    subst (λ s. IfErr c.lower_print.result (λ why. NeedsMore why (written (program_in c.args.names.now) s c.args.exits (scope_in c.args.scope.now) c.args.from (lists_of c.args.lists.now)).lists.registers)) (sym is) c.lower_print.ensures.fails
 
 pub lower_for-returns-in_err-pads-clause-fails : goal.lower_for-returns-in_err-pads-clause-fails
 lower_for-returns-in_err-pads-clause-fails g t c =
@@ -362,131 +283,6 @@ lower_stmt-lower_transaction-requires g t c κs within =
     let here = ap (most (the_size g.row.A g.A.Allocator g.A.laws)) c.as_slice-all.ensures in
     (omega (arith, size, here, c.decreases), (within, c.new-inner-in-Transaction.ensures.items))
 
-pub lower_stmt-returns-in-None-clause-scope : goal.lower_stmt-returns-in-None-clause-scope
-lower_stmt-returns-in-None-clause-scope g t c =
-    let is = if_is c.args.s.now c.in-If.c c.in-If.then c.get.result.now (c.in-If.is ∙ ap (λ o. own_stmt.If c.in-If.c c.in-If.then o) c.in-None.is) c.get.ensures in
-    subst (λ z. OnOk c.lower_if.result (scope_in c.lower_if.new.scope ≡ locals_after z (scope_in c.args.scope.now))) (sym is) c.lower_if.ensures.scope
-
-pub lower_stmt-returns-in-None-clause-code : goal.lower_stmt-returns-in-None-clause-code
-lower_stmt-returns-in-None-clause-code g t c =
-    let is = if_is c.args.s.now c.in-If.c c.in-If.then c.get.result.now (c.in-If.is ∙ ap (λ o. own_stmt.If c.in-If.c c.in-If.then o) c.in-None.is) c.get.ensures in
-    subst (λ z. OnOk c.lower_if.result (c.lower_if.new.code.items ≡ c.args.code.now.items ++ (written (program_in c.args.names.now) z c.args.exits (scope_in c.args.scope.now) c.args.from (lists_of c.args.lists.now)).code)) (sym is) c.lower_if.ensures.code
-
-pub lower_stmt-returns-in-None-clause-lists : goal.lower_stmt-returns-in-None-clause-lists
-lower_stmt-returns-in-None-clause-lists g t c =
-    let is = if_is c.args.s.now c.in-If.c c.in-If.then c.get.result.now (c.in-If.is ∙ ap (λ o. own_stmt.If c.in-If.c c.in-If.then o) c.in-None.is) c.get.ensures in
-    subst (λ z. OnOk c.lower_if.result (lists_of c.lower_if.new.lists ≡ (written (program_in c.args.names.now) z c.args.exits (scope_in c.args.scope.now) c.args.from (lists_of c.args.lists.now)).lists)) (sym is) c.lower_if.ensures.lists
-
-pub lower_stmt-returns-in-None-clause-place : goal.lower_stmt-returns-in-None-clause-place
-lower_stmt-returns-in-None-clause-place g t c =
-    let is = if_is c.args.s.now c.in-If.c c.in-If.then c.get.result.now (c.in-If.is ∙ ap (λ o. own_stmt.If c.in-If.c c.in-If.then o) c.in-None.is) c.get.ensures in
-    subst (λ z. IfOk c.lower_if.result (λ to. to ≡ (written (program_in c.args.names.now) z c.args.exits (scope_in c.args.scope.now) c.args.from (lists_of c.args.lists.now)).to)) (sym is) c.lower_if.ensures.place
-
-pub lower_stmt-returns-in-None-clause-fails : goal.lower_stmt-returns-in-None-clause-fails
-lower_stmt-returns-in-None-clause-fails g t c =
-    let is = if_is c.args.s.now c.in-If.c c.in-If.then c.get.result.now (c.in-If.is ∙ ap (λ o. own_stmt.If c.in-If.c c.in-If.then o) c.in-None.is) c.get.ensures in
-    subst (λ z. IfErr c.lower_if.result (λ why. NeedsMore why (written (program_in c.args.names.now) z c.args.exits (scope_in c.args.scope.now) c.args.from (lists_of c.args.lists.now)).lists.registers)) (sym is) c.lower_if.ensures.fails
-
-pub lower_stmt-returns-in-Some-clause-scope : goal.lower_stmt-returns-in-Some-clause-scope
-lower_stmt-returns-in-Some-clause-scope g t c =
-    let is = if_else_is c.args.s.now c.in-If.c c.in-If.then c.in-Some.other c.get-in-Some.result.now c.get-in-Some-2.result.now (c.in-If.is ∙ ap (λ o. own_stmt.If c.in-If.c c.in-If.then o) c.in-Some.is) c.get-in-Some.ensures c.get-in-Some-2.ensures in
-    subst (λ z. OnOk c.lower_if_else.result (scope_in c.lower_if_else.new.scope ≡ locals_after z (scope_in c.args.scope.now))) (sym is) c.lower_if_else.ensures.scope
-
-pub lower_stmt-returns-in-Some-clause-code : goal.lower_stmt-returns-in-Some-clause-code
-lower_stmt-returns-in-Some-clause-code g t c =
-    let is = if_else_is c.args.s.now c.in-If.c c.in-If.then c.in-Some.other c.get-in-Some.result.now c.get-in-Some-2.result.now (c.in-If.is ∙ ap (λ o. own_stmt.If c.in-If.c c.in-If.then o) c.in-Some.is) c.get-in-Some.ensures c.get-in-Some-2.ensures in
-    subst (λ z. OnOk c.lower_if_else.result (c.lower_if_else.new.code.items ≡ c.args.code.now.items ++ (written (program_in c.args.names.now) z c.args.exits (scope_in c.args.scope.now) c.args.from (lists_of c.args.lists.now)).code)) (sym is) c.lower_if_else.ensures.code
-
-pub lower_stmt-returns-in-Some-clause-lists : goal.lower_stmt-returns-in-Some-clause-lists
-lower_stmt-returns-in-Some-clause-lists g t c =
-    let is = if_else_is c.args.s.now c.in-If.c c.in-If.then c.in-Some.other c.get-in-Some.result.now c.get-in-Some-2.result.now (c.in-If.is ∙ ap (λ o. own_stmt.If c.in-If.c c.in-If.then o) c.in-Some.is) c.get-in-Some.ensures c.get-in-Some-2.ensures in
-    subst (λ z. OnOk c.lower_if_else.result (lists_of c.lower_if_else.new.lists ≡ (written (program_in c.args.names.now) z c.args.exits (scope_in c.args.scope.now) c.args.from (lists_of c.args.lists.now)).lists)) (sym is) c.lower_if_else.ensures.lists
-
-pub lower_stmt-returns-in-Some-clause-place : goal.lower_stmt-returns-in-Some-clause-place
-lower_stmt-returns-in-Some-clause-place g t c =
-    let is = if_else_is c.args.s.now c.in-If.c c.in-If.then c.in-Some.other c.get-in-Some.result.now c.get-in-Some-2.result.now (c.in-If.is ∙ ap (λ o. own_stmt.If c.in-If.c c.in-If.then o) c.in-Some.is) c.get-in-Some.ensures c.get-in-Some-2.ensures in
-    subst (λ z. IfOk c.lower_if_else.result (λ to. to ≡ (written (program_in c.args.names.now) z c.args.exits (scope_in c.args.scope.now) c.args.from (lists_of c.args.lists.now)).to)) (sym is) c.lower_if_else.ensures.place
-
-pub lower_stmt-returns-in-Some-clause-fails : goal.lower_stmt-returns-in-Some-clause-fails
-lower_stmt-returns-in-Some-clause-fails g t c =
-    let is = if_else_is c.args.s.now c.in-If.c c.in-If.then c.in-Some.other c.get-in-Some.result.now c.get-in-Some-2.result.now (c.in-If.is ∙ ap (λ o. own_stmt.If c.in-If.c c.in-If.then o) c.in-Some.is) c.get-in-Some.ensures c.get-in-Some-2.ensures in
-    subst (λ z. IfErr c.lower_if_else.result (λ why. NeedsMore why (written (program_in c.args.names.now) z c.args.exits (scope_in c.args.scope.now) c.args.from (lists_of c.args.lists.now)).lists.registers)) (sym is) c.lower_if_else.ensures.fails
-
-pub lower_stmt-returns-in-While-clause-scope : goal.lower_stmt-returns-in-While-clause-scope
-lower_stmt-returns-in-While-clause-scope g t c =
-    let is = while_is c.args.s.now c.in-While.c c.in-While.body c.get-in-While.result.now c.in-While.is c.get-in-While.ensures in
-    subst (λ z. OnOk c.lower_while.result (scope_in c.lower_while.new.scope ≡ locals_after z (scope_in c.args.scope.now))) (sym is) c.lower_while.ensures.scope
-
-pub lower_stmt-returns-in-While-clause-code : goal.lower_stmt-returns-in-While-clause-code
-lower_stmt-returns-in-While-clause-code g t c =
-    let is = while_is c.args.s.now c.in-While.c c.in-While.body c.get-in-While.result.now c.in-While.is c.get-in-While.ensures in
-    subst (λ z. OnOk c.lower_while.result (c.lower_while.new.code.items ≡ c.args.code.now.items ++ (written (program_in c.args.names.now) z c.args.exits (scope_in c.args.scope.now) c.args.from (lists_of c.args.lists.now)).code)) (sym is) c.lower_while.ensures.code
-
-pub lower_stmt-returns-in-While-clause-lists : goal.lower_stmt-returns-in-While-clause-lists
-lower_stmt-returns-in-While-clause-lists g t c =
-    let is = while_is c.args.s.now c.in-While.c c.in-While.body c.get-in-While.result.now c.in-While.is c.get-in-While.ensures in
-    subst (λ z. OnOk c.lower_while.result (lists_of c.lower_while.new.lists ≡ (written (program_in c.args.names.now) z c.args.exits (scope_in c.args.scope.now) c.args.from (lists_of c.args.lists.now)).lists)) (sym is) c.lower_while.ensures.lists
-
-pub lower_stmt-returns-in-While-clause-place : goal.lower_stmt-returns-in-While-clause-place
-lower_stmt-returns-in-While-clause-place g t c =
-    let is = while_is c.args.s.now c.in-While.c c.in-While.body c.get-in-While.result.now c.in-While.is c.get-in-While.ensures in
-    subst (λ z. IfOk c.lower_while.result (λ to. to ≡ (written (program_in c.args.names.now) z c.args.exits (scope_in c.args.scope.now) c.args.from (lists_of c.args.lists.now)).to)) (sym is) c.lower_while.ensures.place
-
-pub lower_stmt-returns-in-While-clause-fails : goal.lower_stmt-returns-in-While-clause-fails
-lower_stmt-returns-in-While-clause-fails g t c =
-    let is = while_is c.args.s.now c.in-While.c c.in-While.body c.get-in-While.result.now c.in-While.is c.get-in-While.ensures in
-    subst (λ z. IfErr c.lower_while.result (λ why. NeedsMore why (written (program_in c.args.names.now) z c.args.exits (scope_in c.args.scope.now) c.args.from (lists_of c.args.lists.now)).lists.registers)) (sym is) c.lower_while.ensures.fails
-
-pub lower_stmt-returns-in-DoWhile-clause-scope : goal.lower_stmt-returns-in-DoWhile-clause-scope
-lower_stmt-returns-in-DoWhile-clause-scope g t c =
-    let is = do_is c.args.s.now c.in-DoWhile.c c.in-DoWhile.body c.get-in-DoWhile.result.now c.in-DoWhile.is c.get-in-DoWhile.ensures in
-    subst (λ z. OnOk c.lower_do_while.result (scope_in c.lower_do_while.new.scope ≡ locals_after z (scope_in c.args.scope.now))) (sym is) c.lower_do_while.ensures.scope
-
-pub lower_stmt-returns-in-DoWhile-clause-code : goal.lower_stmt-returns-in-DoWhile-clause-code
-lower_stmt-returns-in-DoWhile-clause-code g t c =
-    let is = do_is c.args.s.now c.in-DoWhile.c c.in-DoWhile.body c.get-in-DoWhile.result.now c.in-DoWhile.is c.get-in-DoWhile.ensures in
-    subst (λ z. OnOk c.lower_do_while.result (c.lower_do_while.new.code.items ≡ c.args.code.now.items ++ (written (program_in c.args.names.now) z c.args.exits (scope_in c.args.scope.now) c.args.from (lists_of c.args.lists.now)).code)) (sym is) c.lower_do_while.ensures.code
-
-pub lower_stmt-returns-in-DoWhile-clause-lists : goal.lower_stmt-returns-in-DoWhile-clause-lists
-lower_stmt-returns-in-DoWhile-clause-lists g t c =
-    let is = do_is c.args.s.now c.in-DoWhile.c c.in-DoWhile.body c.get-in-DoWhile.result.now c.in-DoWhile.is c.get-in-DoWhile.ensures in
-    subst (λ z. OnOk c.lower_do_while.result (lists_of c.lower_do_while.new.lists ≡ (written (program_in c.args.names.now) z c.args.exits (scope_in c.args.scope.now) c.args.from (lists_of c.args.lists.now)).lists)) (sym is) c.lower_do_while.ensures.lists
-
-pub lower_stmt-returns-in-DoWhile-clause-place : goal.lower_stmt-returns-in-DoWhile-clause-place
-lower_stmt-returns-in-DoWhile-clause-place g t c =
-    let is = do_is c.args.s.now c.in-DoWhile.c c.in-DoWhile.body c.get-in-DoWhile.result.now c.in-DoWhile.is c.get-in-DoWhile.ensures in
-    subst (λ z. IfOk c.lower_do_while.result (λ to. to ≡ (written (program_in c.args.names.now) z c.args.exits (scope_in c.args.scope.now) c.args.from (lists_of c.args.lists.now)).to)) (sym is) c.lower_do_while.ensures.place
-
-pub lower_stmt-returns-in-DoWhile-clause-fails : goal.lower_stmt-returns-in-DoWhile-clause-fails
-lower_stmt-returns-in-DoWhile-clause-fails g t c =
-    let is = do_is c.args.s.now c.in-DoWhile.c c.in-DoWhile.body c.get-in-DoWhile.result.now c.in-DoWhile.is c.get-in-DoWhile.ensures in
-    subst (λ z. IfErr c.lower_do_while.result (λ why. NeedsMore why (written (program_in c.args.names.now) z c.args.exits (scope_in c.args.scope.now) c.args.from (lists_of c.args.lists.now)).lists.registers)) (sym is) c.lower_do_while.ensures.fails
-
-pub lower_stmt-returns-in-Transaction-clause-scope : goal.lower_stmt-returns-in-Transaction-clause-scope
-lower_stmt-returns-in-Transaction-clause-scope g t c =
-    let is = transaction_is c.args.s.now c.in-Transaction.field-0 c.in-Transaction.body c.as_slice-all.result.now c.in-Transaction.field-2 c.in-Transaction.is c.as_slice-all.ensures in
-    subst (λ z. OnOk c.lower_transaction.result (scope_in c.lower_transaction.new.scope ≡ locals_after z (scope_in c.args.scope.now))) (sym is) c.lower_transaction.ensures.scope
-
-pub lower_stmt-returns-in-Transaction-clause-code : goal.lower_stmt-returns-in-Transaction-clause-code
-lower_stmt-returns-in-Transaction-clause-code g t c =
-    let is = transaction_is c.args.s.now c.in-Transaction.field-0 c.in-Transaction.body c.as_slice-all.result.now c.in-Transaction.field-2 c.in-Transaction.is c.as_slice-all.ensures in
-    subst (λ z. OnOk c.lower_transaction.result (c.lower_transaction.new.code.items ≡ c.args.code.now.items ++ (written (program_in c.args.names.now) z c.args.exits (scope_in c.args.scope.now) c.args.from (lists_of c.args.lists.now)).code)) (sym is) c.lower_transaction.ensures.code
-
-pub lower_stmt-returns-in-Transaction-clause-lists : goal.lower_stmt-returns-in-Transaction-clause-lists
-lower_stmt-returns-in-Transaction-clause-lists g t c =
-    let is = transaction_is c.args.s.now c.in-Transaction.field-0 c.in-Transaction.body c.as_slice-all.result.now c.in-Transaction.field-2 c.in-Transaction.is c.as_slice-all.ensures in
-    subst (λ z. OnOk c.lower_transaction.result (lists_of c.lower_transaction.new.lists ≡ (written (program_in c.args.names.now) z c.args.exits (scope_in c.args.scope.now) c.args.from (lists_of c.args.lists.now)).lists)) (sym is) c.lower_transaction.ensures.lists
-
-pub lower_stmt-returns-in-Transaction-clause-place : goal.lower_stmt-returns-in-Transaction-clause-place
-lower_stmt-returns-in-Transaction-clause-place g t c =
-    let is = transaction_is c.args.s.now c.in-Transaction.field-0 c.in-Transaction.body c.as_slice-all.result.now c.in-Transaction.field-2 c.in-Transaction.is c.as_slice-all.ensures in
-    subst (λ z. IfOk c.lower_transaction.result (λ to. to ≡ (written (program_in c.args.names.now) z c.args.exits (scope_in c.args.scope.now) c.args.from (lists_of c.args.lists.now)).to)) (sym is) c.lower_transaction.ensures.place
-
-pub lower_stmt-returns-in-Transaction-clause-fails : goal.lower_stmt-returns-in-Transaction-clause-fails
-lower_stmt-returns-in-Transaction-clause-fails g t c =
-    let is = transaction_is c.args.s.now c.in-Transaction.field-0 c.in-Transaction.body c.as_slice-all.result.now c.in-Transaction.field-2 c.in-Transaction.is c.as_slice-all.ensures in
-    subst (λ z. IfErr c.lower_transaction.result (λ why. NeedsMore why (written (program_in c.args.names.now) z c.args.exits (scope_in c.args.scope.now) c.args.from (lists_of c.args.lists.now)).lists.registers)) (sym is) c.lower_transaction.ensures.fails
-
 pub lower_if_else-lower_scoped-requires : goal.lower_if_else-lower_scoped-requires
 lower_if_else-lower_scoped-requires g t c κs within =
     let size = simp the_lemmas at (ap (the_size g.row.A g.A.Allocator g.A.laws) c.requires.parts) in
@@ -497,24 +293,90 @@ lower_if_else-lower_scoped-requires-2 g t c κs within =
     let size = simp the_lemmas at (ap (the_size g.row.A g.A.Allocator g.A.laws) c.requires.parts) in
     (omega (arith, size, c.decreases), within)
 
+pub lower_stmt-returns-in-Declare : goal.lower_stmt-returns-in-Declare
+lower_stmt-returns-in-Declare g t c =
+    let did = c.lower_declarators in
+    let is = declare_is c.args.s.now c.in-Declare.d c.as_slice.result.now c.in-Declare.is c.as_slice.ensures in
+    let all = same_lowering (program_in c.args.names.now) c.args.exits (scope_in c.args.scope.now) c.args.from (lists_of c.args.lists.now) c.args.code.now.items (stmt_of c.args.s.now) _ (scope_in did.new.scope) did.new.code.items (lists_of did.new.lists) did.result is
+    (record { scope = did.ensures.scope; code = did.ensures.code; lists = did.ensures.lists; place = did.ensures.place; fails = did.ensures.fails }) in
+    record { scope = all.scope; code = all.code; lists = all.lists; place = all.place; fails = all.fails }
+
+pub lower_stmt-returns-in-Do : goal.lower_stmt-returns-in-Do
+lower_stmt-returns-in-Do g t c =
+    let did = c.lower_do in
+    let is = simple_is c.args.s.now c.in-Do.s c.in-Do.is in
+    let all = same_lowering (program_in c.args.names.now) c.args.exits (scope_in c.args.scope.now) c.args.from (lists_of c.args.lists.now) c.args.code.now.items (stmt_of c.args.s.now) _ (scope_in c.args.scope.now) did.new.code.items (lists_of did.new.lists) did.result is
+    (record { scope = holds did.result refl; code = did.ensures.code; lists = did.ensures.lists; place = did.ensures.place; fails = did.ensures.fails }) in
+    record { scope = all.scope; code = all.code; lists = all.lists; place = all.place; fails = all.fails }
+
+pub lower_stmt-returns-in-Block : goal.lower_stmt-returns-in-Block
+lower_stmt-returns-in-Block g t c =
+    let did = c.lower_block in
+    let is = block_is c.args.s.now c.in-Block.body c.as_slice-in-Block.result.now c.in-Block.is c.as_slice-in-Block.ensures in
+    let all = same_lowering (program_in c.args.names.now) c.args.exits (scope_in c.args.scope.now) c.args.from (lists_of c.args.lists.now) c.args.code.now.items (stmt_of c.args.s.now) _ (scope_in did.new.scope) did.new.code.items (lists_of did.new.lists) did.result is
+    (record { scope = did.ensures.scope; code = did.ensures.code; lists = did.ensures.lists; place = did.ensures.place; fails = did.ensures.fails }) in
+    record { scope = all.scope; code = all.code; lists = all.lists; place = all.place; fails = all.fails }
+
+pub lower_stmt-returns-in-Print : goal.lower_stmt-returns-in-Print
+lower_stmt-returns-in-Print g t c =
+    let did = c.lower_print in
+    let is = print_is c.args.s.now c.in-Print.field-0 c.in-Print.format c.as_str.result.now c.in-Print.field-2 c.in-Print.args c.as_slice-in-Print.result.now c.in-Print.is c.as_str.ensures c.as_slice-in-Print.ensures in
+    let all = same_lowering (program_in c.args.names.now) c.args.exits (scope_in c.args.scope.now) c.args.from (lists_of c.args.lists.now) c.args.code.now.items (stmt_of c.args.s.now) _ (scope_in c.args.scope.now) did.new.code.items (lists_of did.new.lists) did.result is
+    (record { scope = holds did.result refl; code = did.ensures.code; lists = did.ensures.lists; place = did.ensures.place; fails = did.ensures.fails }) in
+    record { scope = all.scope; code = all.code; lists = all.lists; place = all.place; fails = all.fails }
+
+pub lower_stmt-returns-in-None : goal.lower_stmt-returns-in-None
+lower_stmt-returns-in-None g t c =
+    let did = c.lower_if in
+    let is = if_is c.args.s.now c.in-If.c c.in-If.then c.get.result.now (c.in-If.is ∙ ap (λ o. own_stmt.If c.in-If.c c.in-If.then o) c.in-None.is) c.get.ensures in
+    let all = same_lowering (program_in c.args.names.now) c.args.exits (scope_in c.args.scope.now) c.args.from (lists_of c.args.lists.now) c.args.code.now.items (stmt_of c.args.s.now) _ (scope_in did.new.scope) did.new.code.items (lists_of did.new.lists) did.result is
+    (record { scope = did.ensures.scope; code = did.ensures.code; lists = did.ensures.lists; place = did.ensures.place; fails = did.ensures.fails }) in
+    record { scope = all.scope; code = all.code; lists = all.lists; place = all.place; fails = all.fails }
+
+pub lower_stmt-returns-in-Some : goal.lower_stmt-returns-in-Some
+lower_stmt-returns-in-Some g t c =
+    let did = c.lower_if_else in
+    let is = if_else_is c.args.s.now c.in-If.c c.in-If.then c.in-Some.other c.get-in-Some.result.now c.get-in-Some-2.result.now (c.in-If.is ∙ ap (λ o. own_stmt.If c.in-If.c c.in-If.then o) c.in-Some.is) c.get-in-Some.ensures c.get-in-Some-2.ensures in
+    let all = same_lowering (program_in c.args.names.now) c.args.exits (scope_in c.args.scope.now) c.args.from (lists_of c.args.lists.now) c.args.code.now.items (stmt_of c.args.s.now) _ (scope_in did.new.scope) did.new.code.items (lists_of did.new.lists) did.result is
+    (record { scope = did.ensures.scope; code = did.ensures.code; lists = did.ensures.lists; place = did.ensures.place; fails = did.ensures.fails }) in
+    record { scope = all.scope; code = all.code; lists = all.lists; place = all.place; fails = all.fails }
+
+pub lower_stmt-returns-in-While : goal.lower_stmt-returns-in-While
+lower_stmt-returns-in-While g t c =
+    let did = c.lower_while in
+    let is = while_is c.args.s.now c.in-While.c c.in-While.body c.get-in-While.result.now c.in-While.is c.get-in-While.ensures in
+    let all = same_lowering (program_in c.args.names.now) c.args.exits (scope_in c.args.scope.now) c.args.from (lists_of c.args.lists.now) c.args.code.now.items (stmt_of c.args.s.now) _ (scope_in did.new.scope) did.new.code.items (lists_of did.new.lists) did.result is
+    (record { scope = did.ensures.scope; code = did.ensures.code; lists = did.ensures.lists; place = did.ensures.place; fails = did.ensures.fails }) in
+    record { scope = all.scope; code = all.code; lists = all.lists; place = all.place; fails = all.fails }
+
+pub lower_stmt-returns-in-DoWhile : goal.lower_stmt-returns-in-DoWhile
+lower_stmt-returns-in-DoWhile g t c =
+    let did = c.lower_do_while in
+    let is = do_is c.args.s.now c.in-DoWhile.c c.in-DoWhile.body c.get-in-DoWhile.result.now c.in-DoWhile.is c.get-in-DoWhile.ensures in
+    let all = same_lowering (program_in c.args.names.now) c.args.exits (scope_in c.args.scope.now) c.args.from (lists_of c.args.lists.now) c.args.code.now.items (stmt_of c.args.s.now) _ (scope_in did.new.scope) did.new.code.items (lists_of did.new.lists) did.result is
+    (record { scope = did.ensures.scope; code = did.ensures.code; lists = did.ensures.lists; place = did.ensures.place; fails = did.ensures.fails }) in
+    record { scope = all.scope; code = all.code; lists = all.lists; place = all.place; fails = all.fails }
+
 pub lower_stmt-returns-in-For : goal.lower_stmt-returns-in-For
 lower_stmt-returns-in-For g t c =
+    let did = c.lower_for in
     let is = for_is c.args.s.now c.in-For.head c.get-in-For.result.now c.in-For.body c.get-in-For-2.result.now c.in-For.is c.get-in-For.ensures c.get-in-For-2.ensures in
-    record {
-      scope = subst (λ z. OnOk c.lower_for.result (scope_in c.lower_for.new.scope ≡ locals_after z (scope_in c.args.scope.now))) (sym is) c.lower_for.ensures.scope;
-      code = subst (λ z. OnOk c.lower_for.result (c.lower_for.new.code.items ≡ c.args.code.now.items ++ (written (program_in c.args.names.now) z c.args.exits (scope_in c.args.scope.now) c.args.from (lists_of c.args.lists.now)).code)) (sym is) c.lower_for.ensures.code;
-      lists = subst (λ z. OnOk c.lower_for.result (lists_of c.lower_for.new.lists ≡ (written (program_in c.args.names.now) z c.args.exits (scope_in c.args.scope.now) c.args.from (lists_of c.args.lists.now)).lists)) (sym is) c.lower_for.ensures.lists;
-      place = subst (λ z. IfOk c.lower_for.result (λ to. to ≡ (written (program_in c.args.names.now) z c.args.exits (scope_in c.args.scope.now) c.args.from (lists_of c.args.lists.now)).to)) (sym is) c.lower_for.ensures.place;
-      fails = subst (λ z. IfErr c.lower_for.result (λ why. NeedsMore why (written (program_in c.args.names.now) z c.args.exits (scope_in c.args.scope.now) c.args.from (lists_of c.args.lists.now)).lists.registers)) (sym is) c.lower_for.ensures.fails;
-    }
+    let all = same_lowering (program_in c.args.names.now) c.args.exits (scope_in c.args.scope.now) c.args.from (lists_of c.args.lists.now) c.args.code.now.items (stmt_of c.args.s.now) _ (scope_in did.new.scope) did.new.code.items (lists_of did.new.lists) did.result is
+    (record { scope = did.ensures.scope; code = did.ensures.code; lists = did.ensures.lists; place = did.ensures.place; fails = did.ensures.fails }) in
+    record { scope = all.scope; code = all.code; lists = all.lists; place = all.place; fails = all.fails }
 
 pub lower_stmt-returns-in-Return : goal.lower_stmt-returns-in-Return
 lower_stmt-returns-in-Return g t c =
-    let is = ap stmt_of c.in-Return.is ∙ stmt_of_return c.in-Return.e c.in-Return.field-1 in
-    record {
-      scope = holds c.lower_return.result (sym (ap (λ s. locals_after s (scope_in c.args.scope.now)) is));
-      code = subst (λ z. OnOk c.lower_return.result (c.lower_return.new.code.items ≡ c.args.code.now.items ++ (written (program_in c.args.names.now) z c.args.exits (scope_in c.args.scope.now) c.args.from (lists_of c.args.lists.now)).code)) (sym is) c.lower_return.ensures.code;
-      lists = subst (λ z. OnOk c.lower_return.result (lists_of c.lower_return.new.lists ≡ (written (program_in c.args.names.now) z c.args.exits (scope_in c.args.scope.now) c.args.from (lists_of c.args.lists.now)).lists)) (sym is) c.lower_return.ensures.lists;
-      place = subst (λ z. IfOk c.lower_return.result (λ to. to ≡ (written (program_in c.args.names.now) z c.args.exits (scope_in c.args.scope.now) c.args.from (lists_of c.args.lists.now)).to)) (sym is) c.lower_return.ensures.place;
-      fails = subst (λ z. IfErr c.lower_return.result (λ why. NeedsMore why (written (program_in c.args.names.now) z c.args.exits (scope_in c.args.scope.now) c.args.from (lists_of c.args.lists.now)).lists.registers)) (sym is) c.lower_return.ensures.fails;
-    }
+    let did = c.lower_return in
+    let is = return_is c.args.s.now c.in-Return.e c.in-Return.field-1 c.in-Return.is in
+    let all = same_lowering (program_in c.args.names.now) c.args.exits (scope_in c.args.scope.now) c.args.from (lists_of c.args.lists.now) c.args.code.now.items (stmt_of c.args.s.now) _ (scope_in c.args.scope.now) did.new.code.items (lists_of did.new.lists) did.result is
+    (record { scope = holds did.result refl; code = did.ensures.code; lists = did.ensures.lists; place = did.ensures.place; fails = did.ensures.fails }) in
+    record { scope = all.scope; code = all.code; lists = all.lists; place = all.place; fails = all.fails }
+
+pub lower_stmt-returns-in-Transaction : goal.lower_stmt-returns-in-Transaction
+lower_stmt-returns-in-Transaction g t c =
+    let did = c.lower_transaction in
+    let is = transaction_is c.args.s.now c.in-Transaction.field-0 c.in-Transaction.body c.as_slice-all.result.now c.in-Transaction.field-2 c.in-Transaction.is c.as_slice-all.ensures in
+    let all = same_lowering (program_in c.args.names.now) c.args.exits (scope_in c.args.scope.now) c.args.from (lists_of c.args.lists.now) c.args.code.now.items (stmt_of c.args.s.now) _ (scope_in did.new.scope) did.new.code.items (lists_of did.new.lists) did.result is
+    (record { scope = did.ensures.scope; code = did.ensures.code; lists = did.ensures.lists; place = did.ensures.place; fails = did.ensures.fails }) in
+    record { scope = all.scope; code = all.code; lists = all.lists; place = all.place; fails = all.fails }

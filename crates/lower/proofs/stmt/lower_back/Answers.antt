@@ -1,0 +1,18 @@
+use Rattle.std.proofs.Common.{◌≡◌, ◌+◌, ◌++◌, List, length, ap, ◌∙◌}
+use Rattle.syntax.specs.Views.{expr_of}
+use Rattle.lower.specs.declared.draft.Draft.{Draft}
+use Rattle.lower.specs.declared.held.Tested.{Tested}
+use Rattle.lower.specs.Lists.{lists_of}
+use Rattle.lower.specs.Conditions.{Condition, going_back}
+use Rattle.lower.specs.Expressions.{condition}
+use Rattle.lower.specs.inner.Views.{program_in, scope_in}
+use Rattle.lower.proofs.stmt.lower_back.Goals as goal
+
+pub returns-clause-code : goal.returns-clause-code
+returns-clause-code g c =
+    let test : Condition = condition (program_in c.args.names.now) (scope_in c.args.scope.now) (expr_of c.args.c.now) c.args.from (length (scope_in c.args.scope.now)) (lists_of c.args.lists.now) in
+    let gathered : c.as_slice.result.now ≡ test.code = c.as_slice.ensures.value ∙ c.in_ok-t.ensures.code ∙ ap (λ (xs : List Draft). xs ++ test.code) c.new-drafts.ensures.items in
+    c.in_ok-put_back.ensures.code ∙ (λ j. c.args.code.now.items ++ going_back (gathered j) (c.in_ok-t.ensures.tested j) c.args.back)
+
+pub returns-clause-place : goal.returns-clause-place
+returns-clause-place g c = c.in_ok-put_back.ensures.place ∙ ap (λ (t : Tested). t.to + 1) c.in_ok-t.ensures.tested
