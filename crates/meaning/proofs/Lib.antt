@@ -15,3 +15,4 @@ pub mod Stops
 pub mod Symbols
 pub mod Memories
 pub mod Turns
+pub mod Figures

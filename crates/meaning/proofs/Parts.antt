@@ -1,6 +1,9 @@
 -- The clean tree of a node, by the parts that are read of it.
 use Rattle.std.proofs.Common.{◌≡◌, ℕ, List, Option, Some, None, map, option_map, sym, ap, ◌∙◌}
 use Rattle.lex.specs.declared.token.Span.{Span}
+use Rattle.lex.specs.declared.token.Scalar.{Scalar}
+use Rattle.syntax.specs.declared.tree.UnaryOp.{UnaryOp}
+use Rattle.syntax.specs.declared.tree.BinaryOp.{BinaryOp}
 use Rattle.syntax.specs.declared.tree.LogicalOp.{LogicalOp}
 use Rattle.syntax.specs.declared.tree.Mode.{Mode}
 use Rattle.syntax.specs.declared.tree.Name as N
@@ -11,12 +14,28 @@ use Rattle.syntax.specs.declared.tree.ForHead as H
 use Rattle.syntax.specs.declared.tree.Stmt as S
 use Rattle.syntax.specs.Tree as Tree
 use Rattle.syntax.specs.Views.{name_of, expr_of, exprs_of, simple_of, declarator_of, start_of, stmt_of, stmts_of}
-use Rattle.syntax.proofs.Seen.{expr_of_call, expr_of_logical, expr_of_conditional, stmt_of_declare, stmt_of_block, stmt_of_print, stmt_of_if, stmt_of_if_else, stmt_of_while, stmt_of_do_while, stmt_of_for, stmt_of_return, stmt_of_transaction}
+use Rattle.syntax.proofs.Seen.{expr_of_call, expr_of_element, expr_of_parenthesized, expr_of_cast, expr_of_unary, expr_of_binary, expr_of_logical, expr_of_conditional, stmt_of_declare, stmt_of_block, stmt_of_print, stmt_of_if, stmt_of_if_else, stmt_of_while, stmt_of_do_while, stmt_of_for, stmt_of_return, stmt_of_transaction}
 use Rattle.meaning.specs.inner.Does.{if_of}
 
 module _ {A : Type 0} where
   pub call_is : (e : E.Expr A) (f : N.Name A) (es es' : List (E.Expr A)) (at : Span) → e ≡ E.Call f es at → es' ≡ es → expr_of e ≡ Tree.Call (name_of f) (exprs_of es') at
   call_is e f es es' at is a = ap expr_of is ∙ expr_of_call f es at ∙ ap (λ y. Tree.Call (name_of f) (exprs_of y) at) (sym a)
+
+  pub element_is : (e : E.Expr A) (x : N.Name A) (i i' : E.Expr A) (at : Span) → e ≡ E.Element x i at → i' ≡ i → expr_of e ≡ Tree.Element (name_of x) (expr_of i') at
+  element_is e x i i' at is f = ap expr_of is ∙ expr_of_element x i at ∙ ap (λ y. Tree.Element (name_of x) (expr_of y) at) (sym f)
+
+  pub parenthesized_is : (e a a' : E.Expr A) (at : Span) → e ≡ E.Parenthesized a at → a' ≡ a → expr_of e ≡ Tree.Parenthesized (expr_of a') at
+  parenthesized_is e a a' at is f = ap expr_of is ∙ expr_of_parenthesized a at ∙ ap (λ y. Tree.Parenthesized (expr_of y) at) (sym f)
+
+  pub cast_is : (e : E.Expr A) (t : Scalar) (a a' : E.Expr A) (at : Span) → e ≡ E.Cast t a at → a' ≡ a → expr_of e ≡ Tree.Cast t (expr_of a') at
+  cast_is e t a a' at is f = ap expr_of is ∙ expr_of_cast t a at ∙ ap (λ y. Tree.Cast t (expr_of y) at) (sym f)
+
+  pub unary_is : (e : E.Expr A) (op : UnaryOp) (a a' : E.Expr A) (at : Span) → e ≡ E.Unary op a at → a' ≡ a → expr_of e ≡ Tree.Unary op (expr_of a') at
+  unary_is e op a a' at is f = ap expr_of is ∙ expr_of_unary op a at ∙ ap (λ y. Tree.Unary op (expr_of y) at) (sym f)
+
+  pub binary_is : (e : E.Expr A) (op : BinaryOp) (a b a' b' : E.Expr A) (at : Span) → e ≡ E.Binary op a b at → a' ≡ a → b' ≡ b → expr_of e ≡ Tree.Binary op (expr_of a') (expr_of b') at
+  binary_is e op a b a' b' at is f g =
+      ap expr_of is ∙ expr_of_binary op a b at ∙ ap (λ y. Tree.Binary op (expr_of y) (expr_of b) at) (sym f) ∙ ap (λ y. Tree.Binary op (expr_of a') (expr_of y) at) (sym g)
 
   pub logical_is : (e : E.Expr A) (op : LogicalOp) (a b a' b' : E.Expr A) (at : Span) → e ≡ E.Logical op a b at → a' ≡ a → b' ≡ b → expr_of e ≡ Tree.Logical op (expr_of a') (expr_of b') at
   logical_is e op a b a' b' at is f g =

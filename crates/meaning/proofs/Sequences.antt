@@ -23,6 +23,11 @@ after r rest x s e = ap (λ q. go_on q rest) e
 pub halts : {X Y : Type 0} (r : Answer X) (rest : X → Action Y) (why : Halt) (s : State) → r ≡ Stops why s → go_on r rest ≡ Stops why s
 halts r rest why s e = ap (λ q. go_on q rest) e
 
+-- what goes on twice
+pub twice : {X Y Z : Type 0} (r : Answer X) (f : X → Action Y) (rest : Y → Action Z) → go_on r (λ x. f x >>= rest) ≡ go_on (go_on r f) rest
+twice (Gives x s) f rest = refl
+twice (Stops why s) f rest = refl
+
 -- an end that is not the next statement's
 pub left_at : (rest : Action End) (e : OwnEnd) (s : State) → (e ≡ end.Next → ⊥) → on_next rest (end_of e) s ≡ Gives (end_of e) s
 left_at rest end.Next s differs = absurd (differs refl)

@@ -28,6 +28,10 @@ at_last xs n x h e =
     sym (take-append-drop n xs)
     ∙ ap (λ ys. take n xs ++ ys) (at_drop_more (λ ys. ys) xs n x (omega (arith, h)) ∙ ap (λ y. y ∷ drop (n + 1) xs) (sym e) ∙ ap (λ ys. x ∷ ys) (all_dropped (n + 1) xs (omega (arith, h))))
 
+-- threads that have found none
+pub as_many : {A : Type 0} (threads : List (Standing A)) (count : ℕ) → founds_in threads ≡ replicate count [] → length threads ≡ count
+as_many threads count is = sym (length-map threads (λ (s : Standing _). memories_in s.founds.items)) ∙ ap length is ∙ length-replicate count []
+
 -- the last of the memories beyond the first ones
 pub last_beyond : {A : Type 0} (m : Memory) (ls : List (Vec ℕ A)) (before : ℕ) (l : Vec ℕ A) → before < length ls → l ≡ get_or ls (length ls - 1) l → l.items ≡ last_left m (drop before (memories_in ls))
 last_beyond m ls before l h e =

@@ -1,6 +1,7 @@
 use Rattle.std.proofs.Common.{◌≡◌, ◌∙◌, ◌+◌, ◌-◌, ◌++◌, ◌∷◌, [], Err, suc, refl, sym, ap, map, option_map, take, drop, length, Bool, arith}
 use Rattle.std.specs.Prelude.{if◌then◌else◌, true, false}
-use Rattle.syntax.specs.Numbers.{is_zero}
+use Rattle.syntax.specs.Numbers as numbers
+use Rattle.syntax.specs.Numbers.{converted, is_zero}
 use Rattle.syntax.specs.Tree as tree
 use Rattle.syntax.specs.Views.{declarator_of, expr_of, exprs_of, simple_of, start_of, stmt_of, stmts_of}
 use Rattle.syntax.specs.Depth.{block_depth}
@@ -16,8 +17,8 @@ use Rattle.meaning.specs.inner.Word.{value_of}
 use Rattle.meaning.proofs.Stops.{err_of, stops_as}
 use Rattle.meaning.proofs.Bodies.{weight_less}
 use Rattle.meaning.proofs.Deeper.{block_deep, transaction_deep, argument_deep, statement_deep, declarator_deep}
-use Rattle.meaning.proofs.Parts.{call_is, logical_is, conditional_is, declare_is, block_is, print_is, if_is, while_is, do_while_is, for_is, return_is, transaction_is}
-use Rattle.meaning.proofs.Sequences.{after, halts, stmts_next, stmts_left, stmts_halt, stmts_end, values_next, values_halt, values_end, values_start, declare_next, declare_halt, scoped_gives, scoped_stops, truncated, turns_spent, turns_next, turns_ended}
+use Rattle.meaning.proofs.Parts.{call_is, element_is, parenthesized_is, cast_is, unary_is, binary_is, logical_is, conditional_is, declare_is, block_is, print_is, if_is, while_is, do_while_is, for_is, return_is, transaction_is}
+use Rattle.meaning.proofs.Sequences.{after, halts, twice, stmts_next, stmts_left, stmts_halt, stmts_end, values_next, values_halt, values_end, values_start, declare_next, declare_halt, scoped_gives, scoped_stops, truncated, turns_spent, turns_next, turns_ended}
 use Rattle.meaning.proofs.Steps.{ticks_then, spent_first, changed_gives, adjusted_gives, print_until, call_gives, call_stops, transaction_at, outermost_none, outermost_gives, outermost_stops, nested_astray, nested_gives, nested_stops, found_none, found_first, conditional_gives, branch_gives}
 use Rattle.meaning.proofs.+run.Goals as goal
 use Rattle.meaning.proofs.+run.Goals.{expr::conditional-then-is_zero+in_ok-w, expr::conditional-else-is_zero+in_ok-w-2}
@@ -94,6 +95,70 @@ expr::eval-returns-in-Conditional g t c done =
 pub expr::eval-returns-in-Logical : goal.expr::eval-returns-in-Logical
 expr::eval-returns-in-Logical g t c done =
     ap (λ x. expr (program_in c.args.source.now) (called c.args.source.now c.args.frames) x (state_in c.args.m.now)) (logical_is c.args.e.now c.in-Logical.op c.in-Logical.a c.in-Logical.b c.get-in-Logical.result.now c.get-in-Logical-2.result.now c.in-Logical.field-3 c.in-Logical.is c.get-in-Logical.ensures c.get-in-Logical-2.ensures) ∙ c.logical.ensures c.in-Logical.field-3 done
+
+pub expr::eval-returns-in-Parenthesized : goal.expr::eval-returns-in-Parenthesized
+expr::eval-returns-in-Parenthesized g t c done =
+    ap (λ x. expr (program_in c.args.source.now) (called c.args.source.now c.args.frames) x (state_in c.args.m.now)) (parenthesized_is c.args.e.now c.in-Parenthesized.e c.get-in-Parenthesized.result.now c.in-Parenthesized.field-1 c.in-Parenthesized.is c.get-in-Parenthesized.ensures)
+    ∙ c.eval.ensures done
+
+pub expr::eval-returns-in_ok-at-in-Element : goal.expr::eval-returns-in_ok-at-in-Element
+expr::eval-returns-in_ok-at-in-Element g t c done =
+    ap (λ x. expr (program_in c.args.source.now) (called c.args.source.now c.args.frames) x (state_in c.args.m.now)) (element_is c.args.e.now c.in-Element.x c.in-Element.i c.get.result.now c.in-Element.field-2 c.in-Element.is c.get.ensures)
+    ∙ twice (expr (program_in c.args.source.now) (called c.args.source.now c.args.frames) (expr_of c.get.result.now) (state_in c.args.m.now)) (meaning.element (program_in c.args.source.now) (called c.args.source.now c.args.frames) c.in-Element.x.text) meaning.fetch
+    ∙ after _ meaning.fetch _ (state_in c.element.new.m) (c.in_ok-at-in-Element.ensures tt) ∙ c.fetch.ensures done
+
+pub expr::eval-returns-in_err-at-in-Element : goal.expr::eval-returns-in_err-at-in-Element
+expr::eval-returns-in_err-at-in-Element g t c =
+    let is : c.from_residual.result ≡ Err c.in_err-at-in-Element.field-0.0 = err_of c.from_residual.result c.in_err-at-in-Element.field-0.0 c.from_residual.ensures.1 in
+    stops_as value_of c.from_residual.result c.in_err-at-in-Element.field-0.0 _ c.element.new.m is
+    (λ d. ap (λ x. expr (program_in c.args.source.now) (called c.args.source.now c.args.frames) x (state_in c.args.m.now)) (element_is c.args.e.now c.in-Element.x c.in-Element.i c.get.result.now c.in-Element.field-2 c.in-Element.is c.get.ensures)
+    ∙ twice (expr (program_in c.args.source.now) (called c.args.source.now c.args.frames) (expr_of c.get.result.now) (state_in c.args.m.now)) (meaning.element (program_in c.args.source.now) (called c.args.source.now c.args.frames) c.in-Element.x.text) meaning.fetch
+    ∙ halts _ meaning.fetch _ (state_in c.element.new.m) (c.in_err-at-in-Element.ensures d))
+
+pub expr::eval-returns-in_ok-v-in-Cast : goal.expr::eval-returns-in_ok-v-in-Cast
+expr::eval-returns-in_ok-v-in-Cast g t c done =
+    ap (λ x. expr (program_in c.args.source.now) (called c.args.source.now c.args.frames) x (state_in c.args.m.now)) (cast_is c.args.e.now c.in-Cast.t c.in-Cast.e c.get-in-Cast.result.now c.in-Cast.field-2 c.in-Cast.is c.get-in-Cast.ensures)
+    ∙ after (expr (program_in c.args.source.now) (called c.args.source.now c.args.frames) (expr_of c.get-in-Cast.result.now) (state_in c.args.m.now)) (λ v. act.pure (converted c.in-Cast.t v)) _ (state_in c.eval-in-Cast.new.m) (c.in_ok-v-in-Cast.ensures tt) ∙ ap (λ w. Gives w (state_in c.eval-in-Cast.new.m)) (sym c.convert_word.ensures)
+
+pub expr::eval-returns-in_err-v-in-Cast : goal.expr::eval-returns-in_err-v-in-Cast
+expr::eval-returns-in_err-v-in-Cast g t c =
+    let is : c.from_residual-in_err-v-in-Cast.result ≡ Err c.in_err-v-in-Cast.field-0.0 = err_of c.from_residual-in_err-v-in-Cast.result c.in_err-v-in-Cast.field-0.0 c.from_residual-in_err-v-in-Cast.ensures.1 in
+    stops_as value_of c.from_residual-in_err-v-in-Cast.result c.in_err-v-in-Cast.field-0.0 _ c.eval-in-Cast.new.m is
+    (λ d. ap (λ x. expr (program_in c.args.source.now) (called c.args.source.now c.args.frames) x (state_in c.args.m.now)) (cast_is c.args.e.now c.in-Cast.t c.in-Cast.e c.get-in-Cast.result.now c.in-Cast.field-2 c.in-Cast.is c.get-in-Cast.ensures)
+    ∙ halts (expr (program_in c.args.source.now) (called c.args.source.now c.args.frames) (expr_of c.get-in-Cast.result.now) (state_in c.args.m.now)) (λ v. act.pure (converted c.in-Cast.t v)) _ (state_in c.eval-in-Cast.new.m) (c.in_err-v-in-Cast.ensures d))
+
+pub expr::eval-returns-in_ok-v-in-Unary : goal.expr::eval-returns-in_ok-v-in-Unary
+expr::eval-returns-in_ok-v-in-Unary g t c done =
+    ap (λ x. expr (program_in c.args.source.now) (called c.args.source.now c.args.frames) x (state_in c.args.m.now)) (unary_is c.args.e.now c.in-Unary.op c.in-Unary.e c.get-in-Unary.result.now c.in-Unary.field-2 c.in-Unary.is c.get-in-Unary.ensures)
+    ∙ after (expr (program_in c.args.source.now) (called c.args.source.now c.args.frames) (expr_of c.get-in-Unary.result.now) (state_in c.args.m.now)) (λ v. act.or_trap (numbers.unary c.in-Unary.op v)) _ (state_in c.eval-in-Unary.new.m) (c.in_ok-v-in-Unary.ensures tt) ∙ c.operate_unary.ensures done
+
+pub expr::eval-returns-in_err-v-in-Unary : goal.expr::eval-returns-in_err-v-in-Unary
+expr::eval-returns-in_err-v-in-Unary g t c =
+    let is : c.from_residual-in_err-v-in-Unary.result ≡ Err c.in_err-v-in-Unary.field-0.0 = err_of c.from_residual-in_err-v-in-Unary.result c.in_err-v-in-Unary.field-0.0 c.from_residual-in_err-v-in-Unary.ensures.1 in
+    stops_as value_of c.from_residual-in_err-v-in-Unary.result c.in_err-v-in-Unary.field-0.0 _ c.eval-in-Unary.new.m is
+    (λ d. ap (λ x. expr (program_in c.args.source.now) (called c.args.source.now c.args.frames) x (state_in c.args.m.now)) (unary_is c.args.e.now c.in-Unary.op c.in-Unary.e c.get-in-Unary.result.now c.in-Unary.field-2 c.in-Unary.is c.get-in-Unary.ensures)
+    ∙ halts (expr (program_in c.args.source.now) (called c.args.source.now c.args.frames) (expr_of c.get-in-Unary.result.now) (state_in c.args.m.now)) (λ v. act.or_trap (numbers.unary c.in-Unary.op v)) _ (state_in c.eval-in-Unary.new.m) (c.in_err-v-in-Unary.ensures d))
+
+pub expr::eval-returns-in_ok-w-in-Binary : goal.expr::eval-returns-in_ok-w-in-Binary
+expr::eval-returns-in_ok-w-in-Binary g t c done =
+    ap (λ x. expr (program_in c.args.source.now) (called c.args.source.now c.args.frames) x (state_in c.args.m.now)) (binary_is c.args.e.now c.in-Binary.op c.in-Binary.a c.in-Binary.b c.get-in-Binary.result.now c.get-in-Binary-2.result.now c.in-Binary.field-3 c.in-Binary.is c.get-in-Binary.ensures c.get-in-Binary-2.ensures)
+    ∙ after (expr (program_in c.args.source.now) (called c.args.source.now c.args.frames) (expr_of c.get-in-Binary.result.now) (state_in c.args.m.now)) (λ v s. go_on (expr (program_in c.args.source.now) (called c.args.source.now c.args.frames) (expr_of c.get-in-Binary-2.result.now) s) (λ w. act.or_trap (numbers.binary c.in-Binary.op v w))) _ (state_in c.eval-in-Binary.new.m) (c.in_ok-v-in-Binary.ensures tt)
+    ∙ after (expr (program_in c.args.source.now) (called c.args.source.now c.args.frames) (expr_of c.get-in-Binary-2.result.now) (state_in c.eval-in-Binary.new.m)) (λ w. act.or_trap (numbers.binary c.in-Binary.op (value_of c.in_ok-v-in-Binary.v) w)) _ (state_in c.eval-in-Binary-2.new.m) (c.in_ok-w-in-Binary.ensures tt) ∙ c.operate.ensures done
+
+pub expr::eval-returns-in_err-v-in-Binary : goal.expr::eval-returns-in_err-v-in-Binary
+expr::eval-returns-in_err-v-in-Binary g t c =
+    let is : c.from_residual-in_err-v-in-Binary.result ≡ Err c.in_err-v-in-Binary.field-0.0 = err_of c.from_residual-in_err-v-in-Binary.result c.in_err-v-in-Binary.field-0.0 c.from_residual-in_err-v-in-Binary.ensures.1 in
+    stops_as value_of c.from_residual-in_err-v-in-Binary.result c.in_err-v-in-Binary.field-0.0 _ c.eval-in-Binary.new.m is
+    (λ d. ap (λ x. expr (program_in c.args.source.now) (called c.args.source.now c.args.frames) x (state_in c.args.m.now)) (binary_is c.args.e.now c.in-Binary.op c.in-Binary.a c.in-Binary.b c.get-in-Binary.result.now c.in-Binary.b c.in-Binary.field-3 c.in-Binary.is c.get-in-Binary.ensures refl)
+    ∙ halts (expr (program_in c.args.source.now) (called c.args.source.now c.args.frames) (expr_of c.get-in-Binary.result.now) (state_in c.args.m.now)) (λ v s. go_on (expr (program_in c.args.source.now) (called c.args.source.now c.args.frames) (expr_of c.in-Binary.b) s) (λ w. act.or_trap (numbers.binary c.in-Binary.op v w))) _ (state_in c.eval-in-Binary.new.m) (c.in_err-v-in-Binary.ensures d))
+
+pub expr::eval-returns-in_err-w-in-Binary : goal.expr::eval-returns-in_err-w-in-Binary
+expr::eval-returns-in_err-w-in-Binary g t c =
+    let is : c.from_residual-in_err-w-in-Binary.result ≡ Err c.in_err-w-in-Binary.field-0.0 = err_of c.from_residual-in_err-w-in-Binary.result c.in_err-w-in-Binary.field-0.0 c.from_residual-in_err-w-in-Binary.ensures.1 in
+    stops_as value_of c.from_residual-in_err-w-in-Binary.result c.in_err-w-in-Binary.field-0.0 _ c.eval-in-Binary-2.new.m is
+    (λ d. ap (λ x. expr (program_in c.args.source.now) (called c.args.source.now c.args.frames) x (state_in c.args.m.now)) (binary_is c.args.e.now c.in-Binary.op c.in-Binary.a c.in-Binary.b c.get-in-Binary.result.now c.get-in-Binary-2.result.now c.in-Binary.field-3 c.in-Binary.is c.get-in-Binary.ensures c.get-in-Binary-2.ensures)
+    ∙ after (expr (program_in c.args.source.now) (called c.args.source.now c.args.frames) (expr_of c.get-in-Binary.result.now) (state_in c.args.m.now)) (λ v s. go_on (expr (program_in c.args.source.now) (called c.args.source.now c.args.frames) (expr_of c.get-in-Binary-2.result.now) s) (λ w. act.or_trap (numbers.binary c.in-Binary.op v w))) _ (state_in c.eval-in-Binary.new.m) (c.in_ok-v-in-Binary.ensures tt)
+    ∙ halts (expr (program_in c.args.source.now) (called c.args.source.now c.args.frames) (expr_of c.get-in-Binary-2.result.now) (state_in c.eval-in-Binary.new.m)) (λ w. act.or_trap (numbers.binary c.in-Binary.op (value_of c.in_ok-v-in-Binary.v) w)) _ (state_in c.eval-in-Binary-2.new.m) (c.in_err-w-in-Binary.ensures d))
 
 pub loops::for_scoped-returns : goal.loops::for_scoped-returns
 loops::for_scoped-returns g t c done =
