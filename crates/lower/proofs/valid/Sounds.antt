@@ -7,7 +7,7 @@ use Rattle.std.proofs.lemmas.List.{length-append, length-map, map-append}
 use Rattle.lex.specs.declared.token.Scalar.{Scalar}
 use Rattle.lex.specs.declared.token.Scalar.TheVariants.{Int, Unsigned}
 use Rattle.syntax.specs.declared.tree.BinaryOp.{BinaryOp}
-use Rattle.syntax.specs.declared.tree.BinaryOp.TheVariants.{Equal, Greater, GreaterEqual}
+use Rattle.syntax.specs.declared.tree.BinaryOp.TheVariants.{Greater, GreaterEqual}
 use Rattle.syntax.specs.declared.tree.LogicalOp.{LogicalOp}
 use Rattle.syntax.specs.declared.tree.LogicalOp.TheVariants.{AndThen, OrElse}
 use Rattle.syntax.specs.Tree.{Parameter}
