@@ -2,7 +2,7 @@
 
 ghost use Rattle.norec_core.specs.Accesses.{IsAnswerTo};
 
-use norec_core::{Access, Answer, Core, Op, Outcome, Stop};
+use norec_core::{Access, Answer, Core, Op, Outcome, Saved, Stop};
 use refusing::Refusing;
 use std::alloc::Allocator;
 
@@ -166,28 +166,14 @@ fn plays_each<A: Allocator + Copy>(core: &mut Core<A>) -> bool {
         && plays(core, kept())
 }
 
-#[test]
-fn steps_are_played(rt: HostRuntime) {
-    let mut core = Core::new(rt.alloc());
-    assert!(rt; plays_each(&mut core));
+// Whether this is what was saved where the attempt that was aborted began.
+fn is_first<A: Allocator + Copy>(saved: &Saved<A>) -> bool {
+    saved.registers() == [3, 4].as_slice() && saved.frames() == 2 && saved.place() == 7
 }
 
-// Whether there is no attempt, and this is what was saved where the attempt that was aborted began.
-fn is_back<A: Allocator + Copy>(core: &Core<A>) -> bool {
-    let saved = core.saved();
-    let same = saved.registers() == [3, 4].as_slice();
-    !core.has_attempt() && same && saved.frames() == 2 && saved.place() == 7
-}
-
-// Whether a core whose validation fails goes back.
+// Whether a core whose validation fails goes back to that, and there is no attempt.
 fn goes_back<A: Allocator + Copy>(core: &mut Core<A>) -> bool {
-    plays(core, changed()) && is_back(core)
-}
-
-#[test]
-fn an_abort_goes_back_to_what_was_saved(rt: HostRuntime) {
-    let mut core = Core::new(rt.alloc());
-    assert!(rt; goes_back(&mut core));
+    plays(core, changed()) && !core.has_attempt() && is_first(core.saved())
 }
 
 // Whether an operation is not prepared, since the sequence is used up.
@@ -211,12 +197,6 @@ fn stops_at_the_last<A: Allocator + Copy>(core: &mut Core<A>) -> bool {
         && plays(core, read_in_place())
 }
 
-#[test]
-fn the_sequence_is_used_up(rt: HostRuntime) {
-    let mut core = Core::new(rt.alloc());
-    assert!(rt; stops_at_the_last(&mut core));
-}
-
 // Makes these steps, each prepared again where it is refused, and says how many were; `None` where one is not made.
 fn insist<A: Allocator + Copy>(core: &mut Core<A>, rows: &[Row]) -> Option<u64> {
     let mut refused = 0u64;
@@ -231,65 +211,46 @@ fn insist<A: Allocator + Copy>(core: &mut Core<A>, rows: &[Row]) -> Option<u64> 
     Some(refused)
 }
 
-// Whether steps are made where a growth may be refused: then one is, unless it is still to come, and a transaction follows.
-fn insists<A: Allocator>(core: &mut Core<&Refusing<A>>, alloc: &Refusing<A>) -> bool {
-    let first = insist(core, nested());
-    let second = insist(core, read_again());
-    let wanted = if alloc.is_waiting() { 0 } else { 1 };
-    let most = first.max(second) == Some(wanted);
-    most && first.is_some() && second.is_some() && (alloc.is_waiting() || plays(core, nested()))
-}
-
-// Whether that holds where growth `nth` is refused, and whether this growth is still to come.
-fn refused_at<A: Allocator>(inner: A, nth: u64) -> (bool, bool) {
-    let alloc = Refusing::new(inner, nth);
-    let mut core = Core::new(&alloc);
-    let holds = insists(&mut core, &alloc);
-    (holds, alloc.is_waiting())
-}
-
-// The last growth that is met, where that holds for each.
-fn last_met<A: Allocator + Copy>(inner: A) -> Option<u64> {
-    let mut met = 0;
-    for nth in 1..100u64 {
-        match refused_at(inner, nth) {
-            (false, _) => return None,
-            (true, true) => break,
-            (true, false) => met = nth,
-        }
+// How many steps of one of two transactions were refused, if all of both are made: the most.
+fn insist_twice<A: Allocator + Copy>(core: &mut Core<A>) -> Option<u64> {
+    match (insist(core, nested()), insist(core, read_again())) {
+        (Some(first), Some(second)) => Some(first.max(second)),
+        _ => None,
     }
-    Some(met)
 }
 
-#[test]
-fn each_growth_is_refused_in_turn(rt: HostRuntime) {
-    assert!(rt; last_met(rt.alloc()) > Some(5));
+// Whether steps are made where a growth may be refused: then one is, unless it is still to come, and a transaction follows.
+fn insists<A: Allocator + Copy, B: Allocator>(core: &mut Core<A>, refusing: &Refusing<B>) -> bool {
+    let refused = insist_twice(core);
+    if refusing.is_waiting() {
+        return refused == Some(0);
+    }
+    refused == Some(1) && plays(core, nested())
 }
 
 // Whether a step is told its answer without a growth.
-fn is_told_in_place<B: Allocator>(
-    core: &mut Core<&Refusing<B>>,
-    alloc: &Refusing<B>,
+fn is_told_in_place<A: Allocator + Copy, B: Allocator>(
+    core: &mut Core<A>,
+    refusing: &Refusing<B>,
     row: &Row,
 ) -> bool {
+    refusing.refuse(0);
     let Ok(access) = core.prepare(row.0, &[3, 4], 2, 7) else {
         return false;
     };
-    alloc.refuse(1);
+    refusing.refuse(1);
     core.told(answer_to(access, row.1));
-    let in_place = alloc.is_waiting();
-    alloc.refuse(0);
-    in_place
+    refusing.is_waiting()
 }
 
 // Whether each of these is.
-fn are_told_in_place<B: Allocator>(
-    core: &mut Core<&Refusing<B>>,
-    alloc: &Refusing<B>,
+fn are_told_in_place<A: Allocator + Copy, B: Allocator>(
+    core: &mut Core<A>,
+    refusing: &Refusing<B>,
     rows: &[Row],
 ) -> bool {
     for row in rows {
-        if !is_told_in_place(core, alloc, row) {
+        if !is_told_in_place(core, refusing, row) {
             return false;
         }
     }
@@ -297,39 +258,25 @@ fn are_told_in_place<B: Allocator>(
 }
 
 // Whether a core takes no memory where it is told an answer.
-fn tells_in_place<A: Allocator>(inner: A) -> bool {
-    let alloc = Refusing::new(inner, 0);
-    let mut core = Core::new(&alloc);
-    are_told_in_place(&mut core, &alloc, nested()) && are_told_in_place(&mut core, &alloc, kept())
-}
-
-#[test]
-fn told_takes_no_memory(rt: HostRuntime) {
-    assert!(rt; tells_in_place(rt.alloc()));
+fn tells_in_place<A: Allocator + Copy, B: Allocator>(
+    core: &mut Core<A>,
+    refusing: &Refusing<B>,
+) -> bool {
+    are_told_in_place(core, refusing, nested()) && are_told_in_place(core, refusing, kept())
 }
 
 // Whether transactions are played in a core, and in the third round without a growth.
-fn stays_roomy<A: Allocator>(core: &mut Core<&Refusing<A>>, alloc: &Refusing<A>) -> bool {
+fn stays_roomy<A: Allocator + Copy, B: Allocator>(
+    core: &mut Core<A>,
+    refusing: &Refusing<B>,
+) -> bool {
     for nth in [0, 0, 1] {
-        alloc.refuse(nth);
+        refusing.refuse(nth);
         if !plays(core, read_again()) || !plays(core, nested()) {
             return false;
         }
     }
-    alloc.is_waiting()
-}
-
-// The same of a new core.
-fn keeps_room<A: Allocator>(inner: A) -> bool {
-    let alloc = Refusing::new(inner, 0);
-    let mut core = Core::new(&alloc);
-    stays_roomy(&mut core, &alloc)
-}
-
-// After its first transactions a thread that runs such ones takes no more memory.
-#[test]
-fn room_stays(rt: HostRuntime) {
-    assert!(rt; keeps_room(rt.alloc()));
+    refusing.is_waiting()
 }
 
 // Whether an operation whose access finds this value is made.
@@ -374,12 +321,6 @@ fn commits_many<A: Allocator + Copy>(core: &mut Core<A>) -> bool {
         && plays(core, released())
 }
 
-#[test]
-fn large_logs_are_stored(rt: HostRuntime) {
-    let mut core = Core::new(rt.alloc());
-    assert!(rt; commits_many(&mut core));
-}
-
 // What comes of a read that is made whole, if it is: it finds this word, and then this lock.
 fn reads<A: Allocator + Copy>(
     core: &mut Core<A>,
@@ -393,18 +334,23 @@ fn reads<A: Allocator + Copy>(
     Some(core.take_read(cell, word, lock))
 }
 
-// Whether reads are made whole in an attempt, where room is there and nothing disturbs them, and leave validation where the
-// lock has moved.
-fn reads_whole<A: Allocator>(core: &mut Core<&Refusing<A>>, alloc: &Refusing<A>) -> bool {
+// Whether a read is made whole where nothing disturbs it, leaves validation where the lock has moved, and is not made there.
+fn reads_up_to_validation<A: Allocator + Copy>(core: &mut Core<A>) -> bool {
+    reads(core, 5, 7, 2) == Some(Outcome::Read(7))
+        && reads(core, 6, 7, 4) == Some(Outcome::Going)
+        && reads(core, 6, 7, 4).is_none()
+}
+
+// Whether reads are made whole in an attempt, where room is there.
+fn reads_whole<A: Allocator + Copy, B: Allocator>(
+    core: &mut Core<A>,
+    refusing: &Refusing<B>,
+) -> bool {
     let outside = reads(core, 5, 7, 2);
     let begun = makes(core, Op::Begin, 2);
-    alloc.refuse(1);
+    refusing.refuse(1);
     let refused = reads(core, 5, 7, 2);
-    let first = reads(core, 5, 7, 2);
-    let moved = reads(core, 6, 7, 4);
-    let disturbed = reads(core, 6, 7, 4);
-    let made = first == Some(Outcome::Read(7)) && moved == Some(Outcome::Going);
-    begun && made && outside.is_none() && refused.is_none() && disturbed.is_none()
+    begun && outside.is_none() && refused.is_none() && reads_up_to_validation(core)
 }
 
 // Validation after that.
@@ -416,32 +362,144 @@ fn validates() -> &'static [Row] {
     &ROWS
 }
 
-// Whether a new core makes reads whole, and then validates.
-fn makes_reads_whole<A: Allocator>(inner: A) -> bool {
-    let alloc = Refusing::new(inner, 0);
-    let mut core = Core::new(&alloc);
-    reads_whole(&mut core, &alloc) && plays(&mut core, validates())
+// Whether a core makes reads whole, and then validates.
+fn makes_reads_whole<A: Allocator + Copy, B: Allocator>(
+    core: &mut Core<A>,
+    refusing: &Refusing<B>,
+) -> bool {
+    reads_whole(core, refusing) && plays(core, validates())
+}
+
+// Whether a commit of nothing is made at once, and neither it nor a write is made outside.
+fn commits_at_once<A: Allocator + Copy>(core: &mut Core<A>) -> bool {
+    let outside = core.write(5, 9) || core.commit();
+    let begun = makes(core, Op::Begin, 2);
+    !outside && begun && core.commit() && !core.has_attempt()
+}
+
+// Whether a write is made at once, and then neither a commit, which takes the lock, nor a read of what was written.
+fn writes_at_once<A: Allocator + Copy>(core: &mut Core<A>) -> bool {
+    let begun = makes(core, Op::Begin, 2);
+    let written = core.write(5, 9);
+    let later = core.commit() || core.prepare_read(5);
+    begun && written && !later && plays(core, read_in_place())
+}
+
+// Whether both are.
+fn does_both_at_once<A: Allocator + Copy>(core: &mut Core<A>) -> bool {
+    commits_at_once(core) && writes_at_once(core)
+}
+
+// What a new core plays.
+#[derive(Clone, Copy)]
+enum Play {
+    Steps,
+    Abort,
+    LastValues,
+    Refused,
+    Told,
+    Rounds,
+    LargeLogs,
+    WholeReads,
+    AtOnce,
+}
+
+// Whether a core plays this.
+fn plays_this<A: Allocator + Copy, B: Allocator>(
+    core: &mut Core<A>,
+    refusing: &Refusing<B>,
+    play: Play,
+) -> bool {
+    match play {
+        Play::Steps => plays_each(core),
+        Play::Abort => goes_back(core),
+        Play::LastValues => stops_at_the_last(core),
+        Play::Refused => insists(core, refusing),
+        Play::Told => tells_in_place(core, refusing),
+        Play::Rounds => stays_roomy(core, refusing),
+        Play::LargeLogs => commits_many(core),
+        Play::WholeReads => makes_reads_whole(core, refusing),
+        Play::AtOnce => does_both_at_once(core),
+    }
+}
+
+// The same of a new core.
+fn new_plays<A: Allocator + Copy, B: Allocator>(
+    alloc: A,
+    refusing: &Refusing<B>,
+    play: Play,
+) -> bool {
+    let mut core = Core::new(alloc);
+    plays_this(&mut core, refusing, play)
+}
+
+// The same where growth `nth` is refused, and whether this growth is still to come.
+fn refused_at<A: Allocator>(inner: A, nth: u64, play: Play) -> (bool, bool) {
+    let alloc = Refusing::new(inner, nth);
+    let holds = new_plays(&alloc, &alloc, play);
+    (holds, alloc.is_waiting())
+}
+
+// The same where no growth is.
+fn is_played<A: Allocator>(inner: A, play: Play) -> bool {
+    refused_at(inner, 0, play).0
+}
+
+#[test]
+fn steps_are_played(rt: HostRuntime) {
+    assert!(rt; is_played(rt.alloc(), Play::Steps));
+}
+
+#[test]
+fn an_abort_goes_back_to_what_was_saved(rt: HostRuntime) {
+    assert!(rt; is_played(rt.alloc(), Play::Abort));
+}
+
+#[test]
+fn the_sequence_is_used_up(rt: HostRuntime) {
+    assert!(rt; is_played(rt.alloc(), Play::LastValues));
+}
+
+// The last growth that is met, where that holds for each.
+fn last_met<A: Allocator + Copy>(inner: A) -> Option<u64> {
+    let mut met = 0;
+    for nth in 1..100u64 {
+        match refused_at(inner, nth, Play::Refused) {
+            (false, _) => return None,
+            (true, true) => break,
+            (true, false) => met = nth,
+        }
+    }
+    Some(met)
+}
+
+#[test]
+fn each_growth_is_refused_in_turn(rt: HostRuntime) {
+    assert!(rt; last_met(rt.alloc()) > Some(5));
+}
+
+#[test]
+fn told_takes_no_memory(rt: HostRuntime) {
+    assert!(rt; is_played(rt.alloc(), Play::Told));
+}
+
+// After its first transactions a thread that runs such ones takes no more memory.
+#[test]
+fn room_stays(rt: HostRuntime) {
+    assert!(rt; is_played(rt.alloc(), Play::Rounds));
+}
+
+#[test]
+fn large_logs_are_stored(rt: HostRuntime) {
+    assert!(rt; is_played(rt.alloc(), Play::LargeLogs));
 }
 
 #[test]
 fn reads_are_made_whole(rt: HostRuntime) {
-    assert!(rt; makes_reads_whole(rt.alloc()));
-}
-
-// Whether a commit of nothing and a write are made at once, and not outside; then neither a commit, which takes the lock, nor a
-// read of what was written.
-fn writes_at_once<A: Allocator + Copy>(core: &mut Core<A>) -> bool {
-    let outside = core.write(5, 9) || core.commit();
-    let begun = makes(core, Op::Begin, 2);
-    let empty = core.commit() && !core.has_attempt();
-    let begun_again = makes(core, Op::Begin, 2);
-    let written = core.write(5, 9);
-    let later = core.commit() || core.prepare_read(5);
-    begun && begun_again && !outside && empty && written && !later && plays(core, read_in_place())
+    assert!(rt; is_played(rt.alloc(), Play::WholeReads));
 }
 
 #[test]
 fn writes_and_commits_are_made_at_once(rt: HostRuntime) {
-    let mut core = Core::new(rt.alloc());
-    assert!(rt; writes_at_once(&mut core));
+    assert!(rt; is_played(rt.alloc(), Play::AtOnce));
 }
