@@ -3,8 +3,7 @@
 ghost use Rattle.workers.specs.Workers.{AreWorkersOf, IsWorkerOf};
 
 use crate::hall::{Row, are_turns, leaves, opened, put, take};
-use crate::programs::{code_of, prints};
-use bytecode::Code;
+use crate::programs::prints;
 use std::alloc::Global;
 use workers::{CloseFault, CloseReason, Hall, Status, Worker};
 
@@ -95,8 +94,8 @@ fn loses_one(alloc: Global, hall: Hall, mut workers: Vec<Worker>, right: bool) -
 }
 
 // Worker 0 has the lock: whether the hall is closed at last, after all that.
-fn closes_at_last(alloc: Global, code: &Code) -> bool {
-    match opened(alloc, code) {
+fn closes_at_last(alloc: Global) -> bool {
+    match opened(alloc, prints(), 2) {
         Ok((hall, mut workers)) => {
             let right = are_turns(&hall, &mut workers, up_to_the_lock());
             loses_one(alloc, hall, workers, right)
@@ -113,22 +112,16 @@ fn wants_workers(alloc: Global, hall: Hall) -> bool {
     }
 }
 
-fn is_kept_open(alloc: Global, code: &Code) -> bool {
-    match Hall::open(alloc, code, 64) {
+// The same of a hall of 64.
+fn is_kept_open(alloc: Global) -> bool {
+    match opened(alloc, prints(), 64) {
         Ok((hall, _)) => wants_workers(alloc, hall),
         Err(_) => false,
     }
 }
 
-// Both of a code.
-fn is_closed_in_the_end(alloc: Global) -> bool {
-    match code_of(alloc, prints()) {
-        Some(code) => closes_at_last(alloc, &code) && is_kept_open(alloc, &code),
-        None => false,
-    }
-}
-
 #[test]
 fn one_has_the_lock(rt: HostRuntime) {
-    assert!(rt; is_closed_in_the_end(rt.alloc()));
+    assert!(rt; closes_at_last(rt.alloc()));
+    assert!(rt; is_kept_open(rt.alloc()));
 }

@@ -1,15 +1,14 @@
 //! Gates that hold threads back.
 
-use crate::programs::{adds, code_of, looks, nothing};
-use crate::reports::{all_ended, found, leaves};
-use bytecode::Code;
+use crate::programs::{adds, looks, nothing};
+use crate::reports::{Wanted, runs_as};
 use std::alloc::Global;
 use std::sync::Wait;
 use std::sync::atomic::{AtomicBool, Ordering};
 use std::thread;
 use std::thread::Threads;
 use syntax::numbers::Status;
-use workers::{Gate, RunReport, run_all};
+use workers::Gate;
 
 // Whether a flag is set within so many looks, between which other threads run.
 fn sees(flag: &AtomicBool, looks: u64) -> bool {
@@ -62,58 +61,40 @@ fn made_until(thread: u32, accesses: u64, other: u32) -> Until {
     }
 }
 
-// Whether both threads ended and have added one each, where one had to begin anew: its accesses show that.
-fn have_added(report: &RunReport, held: u32, other: u32) -> bool {
-    if !all_ended(report, 2) || !leaves(report, 2) {
-        return false;
-    }
-    let ended = Status::Ended;
-    found(report, held, "") == Some((ended, 12)) && found(report, other, "") == Some((ended, 6))
-}
-
-// One thread has read x when the other one adds one: it is held until that one has ended.
-fn adds_late<R: Threads + Wait + Sync>(
-    rt: &R,
-    alloc: Global,
-    code: &Code,
-    held: u32,
-    other: u32,
-) -> bool {
-    match run_all(rt, alloc, code, 2, 1000, &made_until(held, 3, other)) {
-        Ok(report) => have_added(&report, held, other),
-        Err(_) => false,
-    }
-}
-
-// The same of either.
-fn either_adds_late<R: Threads + Wait + Sync>(rt: &R, alloc: Global) -> bool {
-    match code_of(alloc, adds()) {
-        Some(code) => adds_late(rt, alloc, &code, 0, 1) && adds_late(rt, alloc, &code, 1, 0),
-        None => false,
-    }
+// One thread has read x when the other one adds one: it is held until that one has ended, and has to begin anew: its accesses
+// show that.
+fn adds_late<R: Threads + Wait + Sync>(rt: &R, alloc: Global, held: u32, other: u32) -> bool {
+    let threads = [(held, "", Status::Ended, 12), (other, "", Status::Ended, 6)];
+    let wanted = Wanted {
+        ended: Some(2),
+        threads: &threads,
+        word: Some(2),
+        overheld: &[],
+    };
+    let gate = made_until(held, 3, other);
+    runs_as(rt, alloc, adds(), 2, 1000, &gate, &wanted) == Ok(true)
 }
 
 #[test]
 fn one_is_held_while_the_other_adds(rt: HostRuntime) {
-    assert!(rt; either_adds_late(&rt, rt.alloc()));
+    assert!(rt; adds_late(&rt, rt.alloc(), 0, 1));
+    assert!(rt; adds_late(&rt, rt.alloc(), 1, 0));
+}
+
+fn read_late() -> &'static Wanted<'static> {
+    static WANTED: Wanted<'static> = Wanted {
+        ended: Some(2),
+        threads: &[(1, "2\n", Status::Ended, 3)],
+        word: Some(2),
+        overheld: &[],
+    };
+    &WANTED
 }
 
 // Thread 1 is held at its beginning until thread 0 has ended, and reads what that one wrote.
-fn code_reads_late<R: Threads + Wait + Sync>(rt: &R, alloc: Global, code: &Code) -> bool {
-    match run_all(rt, alloc, code, 2, 1000, &made_until(1, 0, 0)) {
-        Ok(report) => {
-            let right = all_ended(&report, 2) && leaves(&report, 2);
-            right && found(&report, 1, "2\n") == Some((Status::Ended, 3))
-        }
-        Err(_) => false,
-    }
-}
-
 fn reads_late<R: Threads + Wait + Sync>(rt: &R, alloc: Global) -> bool {
-    match code_of(alloc, looks()) {
-        Some(code) => code_reads_late(rt, alloc, &code),
-        None => false,
-    }
+    let gate = made_until(1, 0, 0);
+    runs_as(rt, alloc, looks(), 2, 1000, &gate, read_late()) == Ok(true)
 }
 
 #[test]
@@ -137,19 +118,19 @@ impl Gate for Always {
     }
 }
 
-// Whether thread 0 is held to the end of the gate's patience, and then ends.
-fn code_is_overheld<R: Threads + Wait + Sync>(rt: &R, alloc: Global, code: &Code) -> bool {
-    match run_all(rt, alloc, code, 1, 1000, &Always) {
-        Ok(report) => report.overheld.as_slice() == [0u32].as_slice() && all_ended(&report, 1),
-        Err(_) => false,
-    }
+fn held_to_the_end() -> &'static Wanted<'static> {
+    static WANTED: Wanted<'static> = Wanted {
+        ended: Some(1),
+        threads: &[],
+        word: Some(0),
+        overheld: &[0],
+    };
+    &WANTED
 }
 
+// Whether thread 0 is held to the end of the gate's patience, and then ends.
 fn is_overheld<R: Threads + Wait + Sync>(rt: &R, alloc: Global) -> bool {
-    match code_of(alloc, nothing()) {
-        Some(code) => code_is_overheld(rt, alloc, &code),
-        None => false,
-    }
+    runs_as(rt, alloc, nothing(), 1, 1000, &Always, held_to_the_end()) == Ok(true)
 }
 
 #[test]
@@ -190,28 +171,28 @@ impl Gate for Meeting {
     }
 }
 
+fn both_added() -> &'static Wanted<'static> {
+    static WANTED: Wanted<'static> = Wanted {
+        ended: Some(2),
+        threads: &[],
+        word: Some(2),
+        overheld: &[],
+    };
+    &WANTED
+}
+
 // Whether two threads add, and both saw each other at their first questions.
-fn code_meets_at_once<R: Threads + Wait + Sync>(rt: &R, alloc: Global, code: &Code) -> bool {
+fn meet_at_once<R: Threads + Wait + Sync>(rt: &R, alloc: Global) -> bool {
     let gate = Meeting {
         first: AtomicBool::new(false),
         second: AtomicBool::new(false),
         first_saw: AtomicBool::new(false),
         second_saw: AtomicBool::new(false),
     };
-    let right = match run_all(rt, alloc, code, 2, 1000, &gate) {
-        Ok(report) => all_ended(&report, 2) && leaves(&report, 2),
-        Err(_) => false,
-    };
+    let right = runs_as(rt, alloc, adds(), 2, 1000, &gate, both_added()) == Ok(true);
     let first = gate.first_saw.load(Ordering::SeqCst);
     let second = gate.second_saw.load(Ordering::SeqCst);
     right && first && second
-}
-
-fn meet_at_once<R: Threads + Wait + Sync>(rt: &R, alloc: Global) -> bool {
-    match code_of(alloc, adds()) {
-        Some(code) => code_meets_at_once(rt, alloc, &code),
-        None => false,
-    }
 }
 
 #[test]

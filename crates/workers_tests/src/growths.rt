@@ -3,13 +3,12 @@
 ghost use Rattle.std.specs.Prelude.{IfSome};
 ghost use Rattle.workers.specs.Workers.{AreWorkersOf, IsWorkerOf};
 
-use crate::hall::{Left, is_left, leaves, opened, put_both, run, take};
+use crate::hall::{Left, is_left, leaves, open, put_both, run, take};
 use crate::programs::{code_of, looks};
 use bytecode::Code;
 use norec_core::Stop;
 use refusing::Refusing;
 use std::alloc::{Allocator, Global};
-use std::test::Fail;
 use workers::{CloseFault, CloseReason, Hall, HallFault, Status, Worker};
 
 // A hall of two workers, by a second call where the first was refused memory.
@@ -19,9 +18,9 @@ fn opened_at_last<A: Allocator + Copy>(
 ) -> Option<(Hall<A>, Vec<Worker<A>, A>)>
     ensures { IfSome result (λ r. AreWorkersOf r.0.table.shared.table_id r.0.setup r.1.items) }
 {
-    match opened(alloc, code) {
+    match open(alloc, code, 2) {
         Ok(hall) => Some(hall),
-        Err(HallFault::OutOfMemory) => match opened(alloc, code) {
+        Err(HallFault::OutOfMemory) => match open(alloc, code, 2) {
             Ok(hall) => Some(hall),
             Err(_) => None,
         },
@@ -109,29 +108,41 @@ fn goes_on<A: Allocator + Copy>(alloc: A, code: &Code<A>) -> bool {
     }
 }
 
-// Whether growth number `nth` was there to be refused, where all went on.
-fn tried(inner: Global, nth: u64) -> Option<bool> {
-    let alloc = Refusing::new(inner, 0);
-    match code_of(&alloc, looks()) {
+// Whether growth number `nth` behind the code's was there to be refused, where all went on.
+fn tried_in<A: Allocator + Copy, B: Allocator>(
+    alloc: A,
+    refusing: &Refusing<B>,
+    nth: u64,
+) -> Option<bool> {
+    match code_of(alloc, looks()) {
         Some(code) => {
-            alloc.refuse(nth);
-            let right = goes_on(&alloc, &code);
-            right.then_some(!alloc.is_waiting())
+            refusing.refuse(nth);
+            let right = goes_on(alloc, &code);
+            right.then_some(!refusing.is_waiting())
         }
         None => None,
     }
 }
 
-#[test]
-fn each_growth_may_be_refused(rt: HostRuntime) -> Result<(), Fail> {
-    let mut met = 0;
+// The same by a new allocator.
+fn tried(inner: Global, nth: u64) -> Option<bool> {
+    let alloc = Refusing::new(inner, 0);
+    tried_in(&alloc, &alloc, nth)
+}
+
+// The last growth that is met, each of which is refused once; `None` where a call does not go on.
+fn last_met(inner: Global) -> Option<u64> {
     for nth in 1..200u64 {
-        match tried(rt.alloc(), nth) {
-            Some(true) => met = nth,
-            Some(false) => break,
-            None => panic!(rt; "a call did not go on"),
+        match tried(inner, nth) {
+            Some(true) => {}
+            Some(false) => return Some(nth - 1),
+            None => return None,
         }
     }
-    assert!(rt; met > 10 && met < 199);
-    Ok(())
+    None
+}
+
+#[test]
+fn each_growth_may_be_refused(rt: HostRuntime) {
+    assert!(rt; last_met(rt.alloc()) > Some(10));
 }

@@ -3,6 +3,7 @@
 ghost use Rattle.std.specs.Prelude.{◌≡◌, IfOk, IfSome};
 ghost use Rattle.workers.specs.Workers.{AreWorkersOf, IsWorkerOf};
 
+use crate::programs::{Program, code_of};
 use bytecode::Code;
 use norec_core::Stop;
 use std::alloc::{AllocError, Allocator};
@@ -14,16 +15,31 @@ const MOST: u64 = 1_000_000;
 /// A run of one worker: the thread, for how many steps at most, how it ends, and how many steps and accesses it then has made.
 pub type Row = (u32, u64, Status, u64, u64);
 
-/// A hall of two workers.
-pub fn opened<A: Allocator + Copy>(
+/// A hall of so many workers of a code.
+pub fn open<A: Allocator + Copy>(
     alloc: A,
     code: &Code<A>,
+    threads: u32,
 ) -> Result<(Hall<A>, Vec<Worker<A>, A>), HallFault>
     ensures { IfOk result (λ r. AreWorkersOf r.0.table.shared.table_id r.0.setup r.1.items) }
 {
-    match Hall::open(alloc, code, 2) {
+    match Hall::open(alloc, code, threads) {
         Ok(opened) => Ok(opened),
         Err(fault) => Err(fault),
+    }
+}
+
+/// A hall of so many workers of a program.
+pub fn opened<A: Allocator + Copy>(
+    alloc: A,
+    program: Program,
+    threads: u32,
+) -> Result<(Hall<A>, Vec<Worker<A>, A>), HallFault>
+    ensures { IfOk result (λ r. AreWorkersOf r.0.table.shared.table_id r.0.setup r.1.items) }
+{
+    match code_of(alloc, program) {
+        Some(code) => open(alloc, &code, threads),
+        None => Err(HallFault::OutOfMemory),
     }
 }
 

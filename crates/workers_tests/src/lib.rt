@@ -7,7 +7,8 @@ mod closing;
 mod gates;
 #[cfg(test)]
 mod growths;
-pub mod hall;
+#[cfg(test)]
+mod hall;
 #[cfg(test)]
 mod programs;
 #[cfg(test)]

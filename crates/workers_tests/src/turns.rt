@@ -2,9 +2,8 @@
 
 ghost use Rattle.workers.specs.Workers.{AreWorkersOf, IsWorkerOf};
 
-use crate::hall::{are_turns, leaves, meet, opened, step_in_each, take};
-use crate::programs::{adds, code_of, divides, looks};
-use bytecode::Code;
+use crate::hall::{Row, are_turns, leaves, meet, opened, step_in_each, take};
+use crate::programs::{adds, divides, looks};
 use std::alloc::Global;
 use syntax::numbers::Trap;
 use workers::{Hall, HallFault, Status, Worker};
@@ -24,8 +23,8 @@ fn go_in_order(hall: &Hall, workers: &mut Vec<Worker>, meets: bool) -> bool
 }
 
 // Whether worker 1 reads what worker 0 wrote.
-fn reads_it(alloc: Global, code: &Code, meets: bool) -> bool {
-    match opened(alloc, code) {
+fn reads_it(alloc: Global, meets: bool) -> bool {
+    match opened(alloc, looks(), 2) {
         Ok((hall, mut workers)) => {
             let right = go_in_order(&hall, &mut workers, meets);
             let closes = leaves(alloc, hall, workers, (2, "", "2\n"));
@@ -35,38 +34,26 @@ fn reads_it(alloc: Global, code: &Code, meets: bool) -> bool {
     }
 }
 
-// The same, whether they meet or not.
-fn reads_it_anyhow(alloc: Global) -> bool {
-    match code_of(alloc, looks()) {
-        Some(code) => reads_it(alloc, &code, false) && reads_it(alloc, &code, true),
-        None => false,
-    }
-}
-
 #[test]
 fn what_one_wrote_the_next_reads(rt: HostRuntime) {
-    assert!(rt; reads_it_anyhow(rt.alloc()));
+    // whether they meet or not
+    assert!(rt; reads_it(rt.alloc(), false));
+    assert!(rt; reads_it(rt.alloc(), true));
 }
 
 // Worker 0 traps, and stays there.
-fn code_traps(alloc: Global, code: &Code) -> bool {
-    match opened(alloc, code) {
-        Ok((hall, mut workers)) => {
-            let trapped = Status::Trapped(Trap::ZeroDivisor);
-            are_turns(
-                &hall,
-                &mut workers,
-                &[(0, 100, trapped, 3, 0), (0, 5, trapped, 3, 0)],
-            )
-        }
-        Err(_) => false,
-    }
+fn trapped() -> &'static [Row] {
+    static ROWS: [Row; 2] = [
+        (0, 100, Status::Trapped(Trap::ZeroDivisor), 3, 0),
+        (0, 5, Status::Trapped(Trap::ZeroDivisor), 3, 0),
+    ];
+    &ROWS
 }
 
 fn traps(alloc: Global) -> bool {
-    match code_of(alloc, divides()) {
-        Some(code) => code_traps(alloc, &code),
-        None => false,
+    match opened(alloc, divides(), 2) {
+        Ok((hall, mut workers)) => are_turns(&hall, &mut workers, trapped()),
+        Err(_) => false,
     }
 }
 
@@ -96,43 +83,35 @@ fn steps(hall: &Hall, workers: &mut Vec<Worker>, other: &Hall, others: &mut Vec<
     }
 }
 
-fn opens_another(alloc: Global, code: &Code, hall: &Hall, workers: &mut Vec<Worker>) -> bool
+fn opens_another(alloc: Global, hall: &Hall, workers: &mut Vec<Worker>) -> bool
     requires { AreWorkersOf hall.now.table.shared.table_id hall.now.setup workers.old.items }
 {
-    match opened(alloc, code) {
+    match opened(alloc, adds(), 2) {
         Ok((other, mut others)) => steps(hall, workers, &other, &mut others),
         Err(_) => false,
     }
 }
 
 // Two halls at one time, and a step in each.
-fn are_two(alloc: Global, code: &Code) -> bool {
-    match opened(alloc, code) {
-        Ok((hall, mut workers)) => opens_another(alloc, code, &hall, &mut workers),
+fn are_two(alloc: Global) -> bool {
+    match opened(alloc, adds(), 2) {
+        Ok((hall, mut workers)) => opens_another(alloc, &hall, &mut workers),
         Err(_) => false,
     }
 }
 
-// Whether a hall of so many threads is refused.
-fn is_refused(alloc: Global, code: &Code, threads: u32) -> bool {
-    match Hall::open(alloc, code, threads) {
-        Ok(_) => false,
-        Err(fault) => fault == HallFault::Threads,
+// Why a hall of so many threads is refused, if it is.
+fn refusal(alloc: Global, threads: u32) -> Option<HallFault> {
+    match opened(alloc, adds(), threads) {
+        Ok(_) => None,
+        Err(fault) => Some(fault),
     }
 }
 
-// Whether two halls are opened, and none of 65 threads and none of no thread.
-fn are_opened(alloc: Global) -> bool {
-    match code_of(alloc, adds()) {
-        Some(code) => {
-            let two = are_two(alloc, &code);
-            two && is_refused(alloc, &code, 65) && is_refused(alloc, &code, 0)
-        }
-        None => false,
-    }
-}
-
+// Two halls are opened, and none of 65 threads and none of no thread.
 #[test]
 fn halls_are_opened(rt: HostRuntime) {
-    assert!(rt; are_opened(rt.alloc()));
+    assert!(rt; are_two(rt.alloc()));
+    assert!(rt; refusal(rt.alloc(), 65) == Some(HallFault::Threads));
+    assert!(rt; refusal(rt.alloc(), 0) == Some(HallFault::Threads));
 }
