@@ -1,61 +1,121 @@
 //! Tables that are opened, shared out among seats and closed.
 
-use crate::built::code;
+use crate::built::setup;
 use refusing::Refusing;
 use seats::{Setup, close, join, meet, open, split_first};
-use std::test::Fail;
+use std::alloc::{Allocator, Global};
 
-#[test]
-fn seats_part_and_join(rt: HostRuntime) -> Result<(), Fail> {
-    let alloc = rt.alloc();
-    let Some(code) = code(alloc, 7, 9) else {
-        panic!(rt; "no code")
-    };
-    let setup = Setup::new(code, 2);
-    let (table, mut all) = open(alloc, &setup)?;
-    let first = split_first(&table.shared, &mut all);
-    join(&table.shared, &mut all, first);
-    let room = Vec::with_capacity(alloc, table.word_count() - 1)?;
-    let cells = close(table, all, room);
-    assert!(rt; cells.as_slice() == [7, 9].as_slice());
-    Ok(())
-}
-
-#[test]
-fn two_meet_while_nobody_has_taken_the_lock(rt: HostRuntime) -> Result<(), Fail> {
-    let alloc = rt.alloc();
-    let Some(code) = code(alloc, 7, 9) else {
-        panic!(rt; "no code")
-    };
-    let setup = Setup::new(code, 2);
-    let (table, mut all) = open(alloc, &setup)?;
-    let mut first = split_first(&table.shared, &mut all);
-    assert!(rt; meet(&table.shared, &mut first, &mut all) == 0);
-    Ok(())
-}
-
-#[test]
-fn each_growth_may_be_refused(rt: HostRuntime) -> Result<(), Fail> {
-    let mut met = 0;
-    for nth in 1..50u64 {
-        let alloc = Refusing::new(rt.alloc(), 0);
-        let Some(code) = code(&alloc, 1, 2) else {
-            panic!(rt; "no code")
-        };
-        let setup = Setup::new(code, 64);
-        alloc.refuse(nth);
-        match open(&alloc, &setup) {
-            Ok(_) => {
-                assert!(rt; alloc.is_waiting());
-                break;
-            }
-            Err(_) => {
-                assert!(rt; !alloc.is_waiting() && open(&alloc, &setup).is_ok());
-                met = nth;
+// What the cells have that a table leaves, whose seats part and join.
+fn left(alloc: Global, setup: &Setup) -> Option<Vec<u64>> {
+    match open(alloc, setup) {
+        Ok((table, mut all)) => {
+            let first = split_first(&table.shared, &mut all);
+            join(&table.shared, &mut all, first);
+            match Vec::with_capacity(alloc, table.word_count() - 1) {
+                Ok(room) => Some(close(table, all, room)),
+                Err(_) => None,
             }
         }
+        Err(_) => None,
     }
+}
+
+// Whether these are the two variables.
+fn leaves(alloc: Global, setup: &Setup, first: u64, second: u64) -> bool {
+    match left(alloc, setup) {
+        Some(cells) => cells.as_slice() == [first, second].as_slice(),
+        None => false,
+    }
+}
+
+// Whether two threads' table leaves what its variables begin with.
+fn leaves_all(alloc: Global) -> bool {
+    match setup(alloc, 7, 9, 2) {
+        Some(setup) => leaves(alloc, &setup, 7, 9),
+        None => false,
+    }
+}
+
+#[test]
+fn seats_part_and_join(rt: HostRuntime) {
+    assert!(rt; leaves_all(rt.alloc()));
+}
+
+// The lock that the first of two threads finds where it meets the other.
+fn met(alloc: Global, setup: &Setup) -> Option<u64> {
+    match open(alloc, setup) {
+        Ok((table, mut all)) => {
+            let mut first = split_first(&table.shared, &mut all);
+            Some(meet(&table.shared, &mut first, &mut all))
+        }
+        Err(_) => None,
+    }
+}
+
+// The same of a new table of two threads.
+fn met_first(alloc: Global) -> Option<u64> {
+    match setup(alloc, 7, 9, 2) {
+        Some(setup) => met(alloc, &setup),
+        None => None,
+    }
+}
+
+#[test]
+fn two_meet_while_nobody_has_taken_the_lock(rt: HostRuntime) {
+    assert!(rt; met_first(rt.alloc()) == Some(0));
+}
+
+fn opens<A: Allocator + Copy>(alloc: A, setup: &Setup<A>) -> bool {
+    open(alloc, setup).is_ok()
+}
+
+// Whether a table is opened where no growth is refused, and by a second call alone where one is; and whether that growth is still
+// to come.
+fn opens_at_last<A: Allocator + Copy, B: Allocator>(
+    alloc: A,
+    refusing: &Refusing<B>,
+    setup: &Setup<A>,
+) -> (bool, bool) {
+    let opened = opens(alloc, setup);
+    let waits = refusing.is_waiting();
+    (opened == waits && (opened || opens(alloc, setup)), waits)
+}
+
+// The same where growth `nth` behind its code's is refused.
+fn refused_in<A: Allocator + Copy, B: Allocator>(
+    alloc: A,
+    refusing: &Refusing<B>,
+    nth: u64,
+) -> Option<(bool, bool)> {
+    match setup(alloc, 1, 2, 64) {
+        Some(setup) => {
+            refusing.refuse(nth);
+            Some(opens_at_last(alloc, refusing, &setup))
+        }
+        None => None,
+    }
+}
+
+// The same by a new allocator.
+fn refused_at(inner: Global, nth: u64) -> Option<(bool, bool)> {
+    let alloc = Refusing::new(inner, 0);
+    refused_in(&alloc, &alloc, nth)
+}
+
+// The last growth that is met, where that holds for each.
+fn last_met(inner: Global) -> Option<u64> {
+    for nth in 1..50u64 {
+        match refused_at(inner, nth) {
+            Some((true, false)) => {}
+            Some((true, true)) => return Some(nth - 1),
+            _ => return None,
+        }
+    }
+    None
+}
+
+#[test]
+fn each_growth_may_be_refused(rt: HostRuntime) {
     // the list of words, and the table's own
-    assert!(rt; met >= 2 && met < 49);
-    Ok(())
+    assert!(rt; last_met(rt.alloc()) >= Some(2));
 }
