@@ -57,76 +57,70 @@ fn push_variable<A: Allocator + Copy>(
     })
 }
 
-// Appends `worker` with these registers and instructions, the two texts and the variable.
+// Appends instructions.
+fn push_instructions<A: Allocator>(
+    to: &mut Items<Instr, A>,
+    instructions: &[Instr],
+) -> Result<(), AllocError> {
+    for instr in instructions {
+        to.push(*instr)?;
+    }
+    Ok(())
+}
+
+/// The function `worker`: its registers and the instructions of the code; and where a function `f` of one register, which takes
+/// register 0, begins among them, if there is one.
+#[derive(Clone, Copy)]
+pub struct Program<'a> {
+    pub registers: u32,
+    pub instructions: &'a [Instr],
+    pub second: Option<u32>,
+}
+
+// Appends `f`, if there is one, and register 0 to hand over.
+fn push_second<A: Allocator + Copy>(
+    alloc: A,
+    parts: &mut Parts<A>,
+    second: Option<u32>,
+) -> Result<(), AllocError> {
+    match second {
+        Some(first) => {
+            push_function(alloc, &mut parts.functions, "f", first, 1)?;
+            parts.arguments.push(0)
+        }
+        None => Ok(()),
+    }
+}
+
+// Appends the functions of a program, its instructions, the two texts and the variable.
 fn fill<A: Allocator + Copy>(
     alloc: A,
     parts: &mut Parts<A>,
-    registers: u32,
-    instructions: &[Instr],
+    program: Program,
 ) -> Result<(), AllocError> {
-    push_function(alloc, &mut parts.functions, "worker", 0, registers)?;
-    for instr in instructions {
-        parts.instructions.push(*instr)?;
-    }
+    push_function(alloc, &mut parts.functions, "worker", 0, program.registers)?;
+    push_second(alloc, parts, program.second)?;
+    push_instructions(&mut parts.instructions, program.instructions)?;
     push_texts(alloc, &mut parts.texts)?;
     push_variable(alloc, &mut parts.globals)
 }
 
-// `worker` alone, over a variable `x` and the texts `"\t"` and `\`, with four registers and these instructions.
-fn worker<A: Allocator + Copy>(alloc: A, instructions: &[Instr]) -> Result<Parts<A>, AllocError> {
+// The parts of a program.
+fn parts_of<A: Allocator + Copy>(alloc: A, program: Program) -> Option<Parts<A>> {
     let mut parts = nothing(alloc);
-    fill(alloc, &mut parts, 4, instructions)?;
-    Ok(parts)
-}
-
-// Appends `f`, which begins at `second`, with one register, and register 0 to hand over.
-fn fill_two<A: Allocator + Copy>(
-    alloc: A,
-    parts: &mut Parts<A>,
-    instructions: &[Instr],
-    second: u32,
-) -> Result<(), AllocError> {
-    fill(alloc, parts, 2, instructions)?;
-    push_function(alloc, &mut parts.functions, "f", second, 1)?;
-    parts.arguments.push(0)
-}
-
-// `worker` with two registers, and `f` behind it.
-fn two_functions<A: Allocator + Copy>(
-    alloc: A,
-    instructions: &[Instr],
-    second: u32,
-) -> Result<Parts<A>, AllocError> {
-    let mut parts = nothing(alloc);
-    fill_two(alloc, &mut parts, instructions, second)?;
-    Ok(parts)
-}
-
-// The code of parts, if they are valid and memory is there.
-fn valid<A: Allocator + Copy>(alloc: A, parts: Parts<A>) -> Option<Code<A>> {
-    match validate(alloc, parts) {
-        Ok(found) => found,
+    match fill(alloc, &mut parts, program) {
+        Ok(()) => Some(parts),
         Err(_) => None,
     }
 }
 
-/// The code of a worker of four registers and these instructions, over the variable `x` and the texts `"\t"` and `\`, if it is
-/// valid and memory is there.
-pub fn code_of<A: Allocator + Copy>(alloc: A, instructions: &[Instr]) -> Option<Code<A>> {
-    match worker(alloc, instructions) {
-        Ok(parts) => valid(alloc, parts),
-        Err(_) => None,
-    }
-}
-
-/// The same of a worker of two registers, and of a function `f` of one register, which takes register 0 and begins at `second`.
-pub fn code_of_two<A: Allocator + Copy>(
-    alloc: A,
-    instructions: &[Instr],
-    second: u32,
-) -> Option<Code<A>> {
-    match two_functions(alloc, instructions, second) {
-        Ok(parts) => valid(alloc, parts),
-        Err(_) => None,
+/// The code of a program, over the variable `x` and the texts `"\t"` and `\`, if it is valid and memory is there.
+pub fn code_of<A: Allocator + Copy>(alloc: A, program: Program) -> Option<Code<A>> {
+    match parts_of(alloc, program) {
+        Some(parts) => match validate(alloc, parts) {
+            Ok(found) => found,
+            Err(_) => None,
+        },
+        None => None,
     }
 }

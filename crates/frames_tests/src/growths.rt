@@ -1,12 +1,11 @@
 //! Each growth refused in turn.
 
-use crate::built::code_of_two;
+use crate::built::{Program, code_of};
 use crate::carried::run;
 use bytecode::{Code, Instr};
 use frames::Doing;
 use refusing::Refusing;
 use std::alloc::Allocator;
-use std::test::Fail;
 
 // Whether thread 7 ends and has printed this, if memory is there.
 fn ends<A: Allocator + Copy>(alloc: A, code: &Code<A>, printed: &str) -> Option<bool> {
@@ -18,48 +17,58 @@ fn ends<A: Allocator + Copy>(alloc: A, code: &Code<A>, printed: &str) -> Option<
     }
 }
 
-// The same where growth `nth` behind its code's is refused, and whether that growth is still to come.
-fn refused_at<A: Allocator + Copy>(
-    inner: A,
-    instructions: &[Instr],
-    nth: u64,
-    printed: &str,
-) -> Option<(Option<bool>, bool)> {
-    let alloc = Refusing::new(inner, 0);
-    match code_of_two(&alloc, instructions, 4) {
-        None => None,
-        Some(code) => {
-            alloc.refuse(nth);
-            let ended = ends(&alloc, &code, printed);
-            Some((ended, alloc.is_waiting()))
-        }
-    }
-}
-
-#[test]
-fn each_growth_may_be_refused(rt: HostRuntime) -> Result<(), Fail> {
-    let instructions = [
+// `f` gives its parameter back.
+fn prints_and_calls() -> Program<'static> {
+    static CODE: [Instr; 5] = [
         Instr::Call(1, 1, 1, 0),
         Instr::PrintText(0),
         Instr::PrintSigned(1),
         Instr::Return,
         Instr::ReturnValue(0),
     ];
-    let mut met = 0;
-    for nth in 1..50u64 {
-        match refused_at(rt.alloc(), &instructions, nth, "\"\t\"7") {
-            None => assert!(rt; false),
-            Some((None, waits)) => {
-                assert!(rt; !waits);
-                met = nth;
-            }
-            Some((Some(ended), waits)) => {
-                assert!(rt; ended && waits);
-                break;
-            }
+    Program {
+        registers: 2,
+        instructions: &CODE,
+        second: Some(4),
+    }
+}
+
+// Whether it does, if memory is there, where growth `nth` behind its code's is refused; and whether that growth is still to come.
+fn refused_in<A: Allocator + Copy, B: Allocator>(
+    alloc: A,
+    refusing: &Refusing<B>,
+    nth: u64,
+) -> Option<(Option<bool>, bool)> {
+    match code_of(alloc, prints_and_calls()) {
+        None => None,
+        Some(code) => {
+            refusing.refuse(nth);
+            let ended = ends(alloc, &code, "\"\t\"7");
+            Some((ended, refusing.is_waiting()))
         }
     }
+}
+
+// The same by a new allocator.
+fn refused_at<A: Allocator>(inner: A, nth: u64) -> Option<(Option<bool>, bool)> {
+    let alloc = Refusing::new(inner, 0);
+    refused_in(&alloc, &alloc, nth)
+}
+
+// The last growth that is met, where memory is refused by each and nothing else goes wrong.
+fn last_met<A: Allocator + Copy>(inner: A) -> Option<u64> {
+    for nth in 1..50u64 {
+        match refused_at(inner, nth) {
+            Some((None, false)) => {}
+            Some((Some(true), true)) => return Some(nth - 1),
+            _ => return None,
+        }
+    }
+    None
+}
+
+#[test]
+fn each_growth_may_be_refused(rt: HostRuntime) {
     // the first frame, the caller and the callee's registers, the text, the registers at the end
-    assert!(rt; met >= 4 && met < 49);
-    Ok(())
+    assert!(rt; last_met(rt.alloc()) >= Some(4));
 }

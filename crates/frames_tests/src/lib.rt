@@ -3,7 +3,8 @@
 
 #[cfg(test)]
 mod built;
-pub mod carried;
+#[cfg(test)]
+mod carried;
 #[cfg(test)]
 mod growths;
 #[cfg(test)]
