@@ -13,7 +13,6 @@ use machine::{Event, Thread};
 use norec_core::{Access, Answer, Stop};
 use refusing::Refusing;
 use std::alloc::{Allocator, Global};
-use std::test::Fail;
 use syntax::numbers::{Status, Trap};
 
 // The most accesses of a thread here.
@@ -73,6 +72,15 @@ fn step<A: Allocator + Copy>(
     }
 }
 
+// Whether a step that was not refused room is this one.
+fn is_made(step: Option<Result<(Access, Event), Stop>>, wanted: Option<(Access, Event)>) -> bool {
+    match step {
+        Some(Ok(made)) => wanted == Some(made),
+        Some(Err(Stop::SequenceUsedUp)) => wanted.is_none(),
+        _ => false,
+    }
+}
+
 // Whether the next step is this one. Where it was refused room it is made again, and counted.
 fn is_next<A: Allocator + Copy>(
     thread: &mut Thread<A>,
@@ -84,15 +92,12 @@ fn is_next<A: Allocator + Copy>(
     ensures { IsThreadOf code.now thread.new.thread }
 {
     let (lock, word, wanted) = row;
-    match step(thread, code, lock, word) {
-        Some(Ok(made)) => wanted == Some(made),
-        Some(Err(Stop::SequenceUsedUp)) => wanted.is_none(),
-        Some(Err(Stop::OutOfMemory)) => {
-            *refused = refused.saturating_add(1);
-            matches!(step(thread, code, lock, word), Some(Ok(made)) if wanted == Some(made))
-        }
-        None => false,
+    let first = step(thread, code, lock, word);
+    if first != Some(Err(Stop::OutOfMemory)) {
+        return is_made(first, wanted);
     }
+    *refused = refused.saturating_add(1);
+    is_made(step(thread, code, lock, word), wanted)
 }
 
 // Whether these are the next steps, and how many of them were refused room first.
@@ -112,6 +117,14 @@ fn plays<A: Allocator + Copy>(thread: &mut Thread<A>, code: &Code<A>, rows: &[Ro
 // How a thread is, what it has printed, and how many accesses it has made. It has not got the lock.
 type Found<'a> = (Status, &'a str, u64);
 
+fn is_found<A: Allocator + Copy>(thread: &Thread<A>, found: Found) -> bool {
+    let (status, output, accesses) = found;
+    thread.status() == status
+        && thread.output() == output
+        && thread.accesses() == accesses
+        && !thread.has_lock()
+}
+
 // How many steps were refused room, if these are the next steps and the thread is then found so.
 fn goes<A: Allocator + Copy>(
     thread: &mut Thread<A>,
@@ -122,26 +135,25 @@ fn goes<A: Allocator + Copy>(
     requires { IsThreadOf code.now thread.old.thread }
 {
     let refused = plays(thread, code, rows);
-    if thread.status() != found.0 || thread.output() != found.1 {
-        return None;
+    if is_found(thread, found) {
+        refused
+    } else {
+        None
     }
-    if thread.accesses() != found.2 || thread.has_lock() {
-        return None;
-    }
-    refused
 }
 
 // The same of a thread of this code, whose growth number `nth` is refused, or none.
-fn begins<'a, B: Allocator>(
-    alloc: &'a Refusing<B>,
-    code: &Code<&'a Refusing<B>>,
+fn begins<A: Allocator + Copy, B: Allocator>(
+    alloc: A,
+    refusing: &Refusing<B>,
+    code: &Code<A>,
     nth: u64,
     rows: &[Row],
     found: Found,
 ) -> Option<u64> {
     match begun(alloc, code) {
         Some(mut thread) => {
-            alloc.refuse(nth);
+            refusing.refuse(nth);
             goes(&mut thread, code, rows, found)
         }
         None => None,
@@ -149,6 +161,21 @@ fn begins<'a, B: Allocator>(
 }
 
 // The same of these instructions.
+fn makes<A: Allocator + Copy, B: Allocator>(
+    alloc: A,
+    refusing: &Refusing<B>,
+    nth: u64,
+    instructions: &[Instr],
+    rows: &[Row],
+    found: Found,
+) -> Option<u64> {
+    match code_of_worker(alloc, 2, instructions) {
+        Some(code) => begins(alloc, refusing, &code, nth, rows, found),
+        None => None,
+    }
+}
+
+// The same by a new allocator.
 fn steps(
     inner: Global,
     nth: u64,
@@ -157,28 +184,50 @@ fn steps(
     found: Found,
 ) -> Option<u64> {
     let alloc = Refusing::new(inner, 0);
-    match code_of_worker(&alloc, 2, instructions) {
-        Some(code) => begins(&alloc, &code, nth, rows, found),
-        None => None,
-    }
+    makes(&alloc, &alloc, nth, instructions, rows, found)
+}
+
+// Whether these are the next steps of these instructions, and the thread is then found so, where no growth is refused.
+fn go(inner: Global, instructions: &[Instr], rows: &[Row], found: Found) -> bool {
+    steps(inner, 0, instructions, rows, found) == Some(0)
 }
 
 #[test]
-fn a_dropped_attempt_begins_again(rt: HostRuntime) -> Result<(), Fail> {
+fn a_dropped_attempt_begins_again(rt: HostRuntime) {
     let found = (Status::Ended, "13", 13);
-    assert!(rt; steps(rt.alloc(), 0, adds_five(), dropped_once(), found) == Some(0));
-    Ok(())
+    assert!(rt; go(rt.alloc(), adds_five(), dropped_once(), found));
 }
 
 #[test]
-fn a_trap_gives_the_lock_back_and_is_the_end(rt: HostRuntime) -> Result<(), Fail> {
+fn a_trap_gives_the_lock_back_and_is_the_end(rt: HostRuntime) {
     let found = (Status::Trapped(Trap::ZeroDivisor), "2", 3);
-    assert!(rt; steps(rt.alloc(), 0, traps(), trapped(), found) == Some(0));
-    Ok(())
+    assert!(rt; go(rt.alloc(), traps(), trapped(), found));
+}
+
+// Reads, in a transaction.
+fn reader() -> &'static [Instr] {
+    static CODE: [Instr; 4] = [
+        Instr::Begin(3),
+        Instr::Read(0, 0),
+        Instr::Commit,
+        Instr::Return,
+    ];
+    &CODE
+}
+
+// Its steps at the last value of the lock.
+fn read_last() -> &'static [Row] {
+    static ROWS: [Row; 4] = [
+        (LAST, 7, Some((Access::LoadLock, Event::Quiet))),
+        (LAST, 7, Some((Access::LoadWord(0), Event::Quiet))),
+        (LAST, 7, Some((Access::LoadLock, Event::Quiet))),
+        (LAST, 7, Some((Access::Local, Event::Commit))),
+    ];
+    &ROWS
 }
 
 // Writes, in a transaction.
-fn writes() -> &'static [Instr] {
+fn writer() -> &'static [Instr] {
     static CODE: [Instr; 4] = [
         Instr::Begin(3),
         Instr::Write(0, 0),
@@ -188,30 +237,29 @@ fn writes() -> &'static [Instr] {
     &CODE
 }
 
-#[test]
-fn a_reader_and_a_last_writer_commit(rt: HostRuntime) -> Result<(), Fail> {
-    let reader = [
-        Instr::Begin(3),
-        Instr::Read(0, 0),
-        Instr::Commit,
-        Instr::Return,
-    ];
-    let rows = [
-        (LAST, 7, Some((Access::LoadLock, Event::Quiet))),
-        (LAST, 7, Some((Access::LoadWord(0), Event::Quiet))),
-        (LAST, 7, Some((Access::LoadLock, Event::Quiet))),
-        (LAST, 7, Some((Access::Local, Event::Commit))),
-    ];
-    assert!(rt; steps(rt.alloc(), 0, &reader, &rows, (Status::Running, "", 3)) == Some(0));
-    let rows = [
+// Its steps, which bring the lock to its last value.
+fn written_last() -> &'static [Row] {
+    static ROWS: [Row; 5] = [
         (LAST - 2, 7, Some((Access::LoadLock, Event::Quiet))),
         (LAST - 2, 7, Some((Access::Local, Event::Quiet))),
         (LAST - 2, 7, Some((Access::Swap(LAST - 2), Event::Quiet))),
         (LAST - 1, 7, Some((Access::StoreWord(0, 0), Event::Quiet))),
         (LAST - 1, 0, Some((Access::StoreLock(LAST), Event::Commit))),
     ];
-    assert!(rt; steps(rt.alloc(), 0, writes(), &rows, (Status::Running, "", 4)) == Some(0));
-    Ok(())
+    &ROWS
+}
+
+#[test]
+fn a_reader_and_a_last_writer_commit(rt: HostRuntime) {
+    assert!(rt; go(rt.alloc(), reader(), read_last(), (Status::Running, "", 3)));
+    assert!(rt;
+        go(
+            rt.alloc(),
+            writer(),
+            written_last(),
+            (Status::Running, "", 4)
+        )
+    );
 }
 
 // Whether the read that stands at the thread's place is made whole, where it finds this word and this lock.
@@ -264,38 +312,38 @@ fn reads_of(inner: Global, instructions: &[Instr]) -> Option<(u64, Option<Doing>
     }
 }
 
-#[test]
-fn a_read_is_made_whole_and_what_follows_is_local(rt: HostRuntime) -> Result<(), Fail> {
-    let reader = [
+// Reads into another register.
+fn reads_aside() -> &'static [Instr] {
+    static CODE: [Instr; 4] = [
         Instr::Begin(3),
         Instr::Read(1, 0),
         Instr::Commit,
         Instr::Return,
     ];
-    assert_eq!(rt; reads_of(rt.alloc(), &reader), Some((1, Some(Doing::End))));
-    let writer = [
+    &CODE
+}
+
+// Writes what it has read.
+fn writes_back() -> &'static [Instr] {
+    static CODE: [Instr; 5] = [
         Instr::Begin(4),
         Instr::Read(1, 0),
         Instr::Write(1, 0),
         Instr::Commit,
         Instr::Return,
     ];
-    assert_eq!(rt;
-        reads_of(rt.alloc(), &writer),
-        Some((1, Some(Doing::Commit)))
-    );
-    Ok(())
+    &CODE
 }
 
 #[test]
-fn nobody_takes_the_lock_at_its_last_value(rt: HostRuntime) -> Result<(), Fail> {
-    let rows = [
-        (LAST, 7, Some((Access::LoadLock, Event::Quiet))),
-        (LAST, 7, Some((Access::Local, Event::Quiet))),
-        (LAST, 7, None),
-        (LAST, 7, None),
-    ];
-    let printer = [
+fn a_read_is_made_whole_and_what_follows_is_local(rt: HostRuntime) {
+    assert!(rt; reads_of(rt.alloc(), reads_aside()) == Some((1, Some(Doing::End))));
+    assert!(rt; reads_of(rt.alloc(), writes_back()) == Some((1, Some(Doing::Commit))));
+}
+
+// Takes the lock to print, in a transaction.
+fn printer() -> &'static [Instr] {
+    static CODE: [Instr; 6] = [
         Instr::Begin(5),
         Instr::Constant(1, 7),
         Instr::Irrevocable,
@@ -303,22 +351,45 @@ fn nobody_takes_the_lock_at_its_last_value(rt: HostRuntime) -> Result<(), Fail> 
         Instr::Commit,
         Instr::Return,
     ];
-    assert!(rt; steps(rt.alloc(), 0, writes(), &rows, (Status::Running, "", 1)) == Some(0));
-    assert!(rt; steps(rt.alloc(), 0, &printer, &rows, (Status::Running, "", 1)) == Some(0));
-    Ok(())
+    &CODE
+}
+
+// The steps of both up to the lock, at its last value.
+fn used_up() -> &'static [Row] {
+    static ROWS: [Row; 4] = [
+        (LAST, 7, Some((Access::LoadLock, Event::Quiet))),
+        (LAST, 7, Some((Access::Local, Event::Quiet))),
+        (LAST, 7, None),
+        (LAST, 7, None),
+    ];
+    &ROWS
 }
 
 #[test]
-fn a_step_that_was_refused_room_is_made_again(rt: HostRuntime) -> Result<(), Fail> {
-    let mut met = 0;
+fn nobody_takes_the_lock_at_its_last_value(rt: HostRuntime) {
+    assert!(rt; go(rt.alloc(), writer(), used_up(), (Status::Running, "", 1)));
+    assert!(rt; go(rt.alloc(), printer(), used_up(), (Status::Running, "", 1)));
+}
+
+// The last growth that is met, each of which is refused once; `None` where a thread does not go on.
+fn last_met(inner: Global) -> Option<u64> {
     for nth in 1..20u64 {
-        let found = (Status::Ended, "13", 13);
-        match steps(rt.alloc(), nth, adds_five(), dropped_once(), found) {
-            Some(1) => met = nth,
-            Some(_) => break,
-            None => panic!(rt; "a thread did not go on"),
+        match steps(
+            inner,
+            nth,
+            adds_five(),
+            dropped_once(),
+            (Status::Ended, "13", 13),
+        ) {
+            Some(1) => {}
+            Some(_) => return Some(nth - 1),
+            None => return None,
         }
     }
-    assert!(rt; met > 2 && met < 19);
-    Ok(())
+    None
+}
+
+#[test]
+fn a_step_that_was_refused_room_is_made_again(rt: HostRuntime) {
+    assert!(rt; last_met(rt.alloc()) > Some(2));
 }
