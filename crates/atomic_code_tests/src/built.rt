@@ -20,13 +20,14 @@ fn nothing<A: Allocator + Copy>(alloc: A) -> Parts<A> {
 // Appends a function of one parameter that begins at `first`.
 fn push_function<A: Allocator + Copy>(
     alloc: A,
-    parts: &mut Parts<A>,
+    to: &mut Items<FunctionCode<A>, A>,
     name: &str,
     first: u32,
     registers: u32,
 ) -> Result<(), AllocError> {
-    parts.functions.push(FunctionCode {
-        name: Text::from_str(alloc, name)?,
+    let name = Text::from_str(alloc, name)?;
+    to.push(FunctionCode {
+        name,
         first,
         registers,
         parameters: 1,
@@ -36,18 +37,22 @@ fn push_function<A: Allocator + Copy>(
 // Appends a text.
 fn push_text<A: Allocator + Copy>(
     alloc: A,
-    parts: &mut Parts<A>,
+    to: &mut Items<Text<A>, A>,
     text: &str,
 ) -> Result<(), AllocError> {
-    parts.texts.push(Text::from_str(alloc, text)?)
+    to.push(Text::from_str(alloc, text)?)
 }
 
 // Appends the variable `x`.
-fn push_variable<A: Allocator + Copy>(alloc: A, parts: &mut Parts<A>) -> Result<(), AllocError> {
-    parts.globals.push(Global {
+fn push_variable<A: Allocator + Copy>(
+    alloc: A,
+    to: &mut Items<Global<A>, A>,
+) -> Result<(), AllocError> {
+    let text = Text::from_str(alloc, "x")?;
+    to.push(Global {
         of: Scalar::Int,
         name: Name {
-            text: Text::from_str(alloc, "x")?,
+            text,
             span: Span { start: 0, end: 0 },
         },
         length: None,
@@ -56,12 +61,12 @@ fn push_variable<A: Allocator + Copy>(alloc: A, parts: &mut Parts<A>) -> Result<
 }
 
 // Appends instructions.
-fn push_instructions<A: Allocator + Copy>(
-    parts: &mut Parts<A>,
+fn push_instructions<A: Allocator>(
+    to: &mut Items<Instr, A>,
     instructions: &[Instr],
 ) -> Result<(), AllocError> {
     for instr in instructions {
-        parts.instructions.push(*instr)?;
+        to.push(*instr)?;
     }
     Ok(())
 }
@@ -72,66 +77,62 @@ fn push_worker<A: Allocator + Copy>(
     parts: &mut Parts<A>,
     instructions: &[Instr],
 ) -> Result<(), AllocError> {
-    push_function(alloc, parts, "worker", 0, 4)?;
-    push_text(alloc, parts, "\"\t\"")?;
-    push_text(alloc, parts, "\\\n")?;
-    push_variable(alloc, parts)?;
-    push_instructions(parts, instructions)
-}
-
-// Those parts.
-fn worker<A: Allocator + Copy>(alloc: A, instructions: &[Instr]) -> Result<Parts<A>, AllocError> {
-    let mut parts = nothing(alloc);
-    push_worker(alloc, &mut parts, instructions)?;
-    Ok(parts)
+    push_function(alloc, &mut parts.functions, "worker", 0, 4)?;
+    push_text(alloc, &mut parts.texts, "\"\t\"")?;
+    push_text(alloc, &mut parts.texts, "\\\n")?;
+    push_variable(alloc, &mut parts.globals)?;
+    push_instructions(&mut parts.instructions, instructions)
 }
 
 // Appends `f` with one parameter and three registers, and register 0 to hand over.
 fn push_second<A: Allocator + Copy>(
     alloc: A,
     parts: &mut Parts<A>,
-    second: u32,
+    first: u32,
 ) -> Result<(), AllocError> {
-    push_function(alloc, parts, "f", second, 3)?;
+    push_function(alloc, &mut parts.functions, "f", first, 3)?;
     parts.arguments.push(0)
 }
 
-// `worker`, and that behind it.
-fn two_functions<A: Allocator + Copy>(
+// Appends both; `f` where it is said where it begins.
+fn fill<A: Allocator + Copy>(
     alloc: A,
+    parts: &mut Parts<A>,
     instructions: &[Instr],
-    second: u32,
-) -> Result<Parts<A>, AllocError> {
-    let mut parts = worker(alloc, instructions)?;
-    push_second(alloc, &mut parts, second)?;
-    Ok(parts)
+    second: Option<u32>,
+) -> Result<(), AllocError> {
+    push_worker(alloc, parts, instructions)?;
+    match second {
+        Some(first) => push_second(alloc, parts, first),
+        None => Ok(()),
+    }
 }
 
-/// The code of parts, if they are valid and memory is there.
-fn valid<A: Allocator + Copy>(alloc: A, parts: Parts<A>) -> Option<Code<A>> {
-    match validate(alloc, parts) {
-        Ok(found) => found,
+// Those parts.
+fn parts_of<A: Allocator + Copy>(
+    alloc: A,
+    instructions: &[Instr],
+    second: Option<u32>,
+) -> Option<Parts<A>> {
+    let mut parts = nothing(alloc);
+    match fill(alloc, &mut parts, instructions, second) {
+        Ok(()) => Some(parts),
         Err(_) => None,
     }
 }
 
-/// The code of a worker of these instructions, over the variable `x` and the texts `"\t"` and `\`, if it is valid and memory is
-/// there.
-pub fn code_of<A: Allocator + Copy>(alloc: A, instructions: &[Instr]) -> Option<Code<A>> {
-    match worker(alloc, instructions) {
-        Ok(parts) => valid(alloc, parts),
-        Err(_) => None,
-    }
-}
-
-/// The same of a worker and of a function `f` of one parameter, which begins at `second`.
-pub fn code_of_two<A: Allocator + Copy>(
+/// The code of a worker of these instructions, over the variable `x` and the texts `"\t"` and `\`, and of a function `f` of one
+/// parameter, where it is said where that begins; if it is valid and memory is there.
+pub fn code_of<A: Allocator + Copy>(
     alloc: A,
     instructions: &[Instr],
-    second: u32,
+    second: Option<u32>,
 ) -> Option<Code<A>> {
-    match two_functions(alloc, instructions, second) {
-        Ok(parts) => valid(alloc, parts),
-        Err(_) => None,
+    match parts_of(alloc, instructions, second) {
+        Some(parts) => match validate(alloc, parts) {
+            Ok(found) => found,
+            Err(_) => None,
+        },
+        None => None,
     }
 }

@@ -3,8 +3,9 @@
 ghost use Rattle.std.specs.Prelude.{IfSome};
 ghost use Rattle.atomic_code.specs.Threads.{IsThreadOf};
 
+use crate::built::code_of;
 use atomic_code::{AtomicThread, End, Ran, is_memory};
-use bytecode::Code;
+use bytecode::{Code, Instr};
 use std::alloc::Allocator;
 use syntax::numbers::Status;
 
@@ -120,20 +121,32 @@ pub fn in_spite<A: Allocator + Copy>(
     made
 }
 
-/// What thread 5 comes to by one call of so many instructions, over a cell that holds 9: how many it made, the word that it left,
-/// how it is over, and whether it has printed this.
-pub fn comes_to<A: Allocator + Copy>(
-    alloc: A,
-    code: &Code<A>,
-    most: u32,
-    text: &str,
-) -> Option<(u64, Option<u64>, Option<End>, bool)> {
+/// How many instructions a thread has made, the word that it left in the cell, how it is over, and whether it has printed what it
+/// should.
+pub type Came = (u64, Option<u64>, Option<End>, bool);
+
+// What thread 5 comes to by one call of so many instructions, over a cell that holds 9, where it should print this.
+fn comes_to<A: Allocator + Copy>(alloc: A, code: &Code<A>, most: u32, text: &str) -> Option<Came> {
     match begin(alloc, code, 5) {
         None => None,
         Some(mut thread) => match go(&mut thread, code, 9, most) {
             None => None,
             Some((steps, left, end)) => Some((steps, left, end, thread.output() == text)),
         },
+    }
+}
+
+/// The same of a code: a worker of these instructions, and a function behind it, where it is said where that begins.
+pub fn code_comes_to<A: Allocator + Copy>(
+    alloc: A,
+    instructions: &[Instr],
+    second: Option<u32>,
+    most: u32,
+    text: &str,
+) -> Option<Came> {
+    match code_of(alloc, instructions, second) {
+        None => None,
+        Some(code) => comes_to(alloc, &code, most, text),
     }
 }
 
@@ -154,8 +167,9 @@ pub fn pieces<A: Allocator + Copy>(
     }
 }
 
-/// What a thread comes to by so many calls, each of which finds what the one before left.
-pub fn turns<A: Allocator + Copy>(
+// What a thread comes to by so many calls, each of which finds what the one before left, and the first one this word: the word
+// that is left last, how many instructions it made, and how it is.
+fn turns<A: Allocator + Copy>(
     alloc: A,
     code: &Code<A>,
     number: u32,
@@ -168,6 +182,21 @@ pub fn turns<A: Allocator + Copy>(
             let word = in_turns(&mut thread, code, calls, first);
             Some((word, thread.steps(), thread.status()))
         }
+    }
+}
+
+/// The same of a code.
+pub fn code_turns<A: Allocator + Copy>(
+    alloc: A,
+    instructions: &[Instr],
+    second: Option<u32>,
+    number: u32,
+    calls: u32,
+    first: u64,
+) -> Option<(u64, u64, Status)> {
+    match code_of(alloc, instructions, second) {
+        None => None,
+        Some(code) => turns(alloc, &code, number, calls, first),
     }
 }
 

@@ -1,6 +1,6 @@
 //! Each growth refused in turn.
 
-use crate::built::code_of_two;
+use crate::built::code_of;
 use crate::driven::spite;
 use bytecode::Instr;
 use refusing::Refusing;
@@ -9,22 +9,32 @@ use syntax::numbers::Status;
 
 // What thread 7 comes to by four calls where growth `nth` behind its code's is refused, and whether that growth is still to
 // come.
-fn refused_at<A: Allocator + Copy>(
+fn refused_in<A: Allocator + Copy, B: Allocator>(
+    alloc: A,
+    refusing: &Refusing<B>,
+    instructions: &[Instr],
+    nth: u64,
+) -> Option<((u32, u64, Status, bool), bool)> {
+    match code_of(alloc, instructions, Some(11)) {
+        None => None,
+        Some(code) => {
+            refusing.refuse(nth);
+            match spite(alloc, &code, 4, "\"\t\"7") {
+                None => None,
+                Some(came) => Some((came, refusing.is_waiting())),
+            }
+        }
+    }
+}
+
+// The same by a new allocator.
+fn refused_at<A: Allocator>(
     inner: A,
     instructions: &[Instr],
     nth: u64,
 ) -> Option<((u32, u64, Status, bool), bool)> {
     let alloc = Refusing::new(inner, 0);
-    match code_of_two(&alloc, instructions, 11) {
-        None => None,
-        Some(code) => {
-            alloc.refuse(nth);
-            match spite(&alloc, &code, 4, "\"\t\"7") {
-                None => None,
-                Some(came) => Some((came, alloc.is_waiting())),
-            }
-        }
-    }
+    refused_in(&alloc, &alloc, instructions, nth)
 }
 
 fn instructions() -> &'static [Instr] {

@@ -1,9 +1,9 @@
 //! A thread carried on in pieces.
 
 use crate::built::code_of;
-use crate::driven::{pieces, turns};
+use crate::driven::{code_turns, pieces};
 use atomic_code::is_memory;
-use bytecode::Instr;
+use bytecode::{Code, Instr};
 use std::alloc::Allocator;
 use syntax::numbers::Status;
 
@@ -14,7 +14,7 @@ fn by_calls<A: Allocator + Copy>(
     calls: u32,
     each: u32,
 ) -> Option<(Option<u64>, u64, Status)> {
-    match code_of(alloc, instructions) {
+    match code_of(alloc, instructions, None) {
         None => None,
         Some(code) => pieces(alloc, &code, calls, each),
     }
@@ -68,15 +68,6 @@ fn a_transaction_goes_on_in_its_own_memory(rt: HostRuntime) {
     assert!(rt; come_to(rt.alloc(), calls()));
 }
 
-// What thread 5 of a worker of these instructions comes to by 49 calls, each of which finds what the one before left, and the
-// first one 9.
-fn by_turns<A: Allocator + Copy>(alloc: A, instructions: &[Instr]) -> Option<(u64, u64, Status)> {
-    match code_of(alloc, instructions) {
-        None => None,
-        Some(code) => turns(alloc, &code, 5, 49, 9),
-    }
-}
-
 // x = x + r0, for ever
 fn adds_for_ever() -> &'static [Instr] {
     static CODE: [Instr; 6] = [
@@ -92,22 +83,32 @@ fn adds_for_ever() -> &'static [Instr] {
 
 #[test]
 fn each_transaction_finds_the_memory_at_hand(rt: HostRuntime) {
-    assert!(rt; by_turns(rt.alloc(), adds_for_ever()) == Some((254, 293, Status::Running)));
+    let found = code_turns(rt.alloc(), adds_for_ever(), None, 5, 49, 9);
+    assert!(rt; found == Some((254, 293, Status::Running)));
 }
 
-// Whether these words are a memory of a worker that only returns.
-fn are_memory<A: Allocator + Copy>(alloc: A, words: &[u64]) -> Option<bool> {
-    match code_of(alloc, &[Instr::Return]) {
-        None => None,
-        Some(code) => Some(is_memory(&code, words)),
+// Whether one word below 2^32 alone is a memory of a code of one cell.
+fn are_memories<A: Allocator>(code: &Code<A>) -> bool {
+    is_memory(code, &[4_294_967_295])
+        && !is_memory(code, &[4_294_967_296])
+        && !is_memory(code, &[])
+        && !is_memory(code, &[0, 0])
+}
+
+fn returns() -> &'static [Instr] {
+    static CODE: [Instr; 1] = [Instr::Return];
+    &CODE
+}
+
+// The same of a worker that only returns.
+fn are_memories_of_one<A: Allocator + Copy>(alloc: A) -> bool {
+    match code_of(alloc, returns(), None) {
+        None => false,
+        Some(code) => are_memories(&code),
     }
 }
 
 #[test]
 fn a_memory_has_a_word_for_each_cell(rt: HostRuntime) {
-    let a = rt.alloc();
-    assert!(rt; are_memory(a, &[4_294_967_295]) == Some(true));
-    assert!(rt; are_memory(a, &[4_294_967_296]) == Some(false));
-    assert!(rt; are_memory(a, &[]) == Some(false));
-    assert!(rt; are_memory(a, &[0, 0]) == Some(false));
+    assert!(rt; are_memories_of_one(rt.alloc()));
 }

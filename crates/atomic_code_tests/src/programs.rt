@@ -1,7 +1,6 @@
 //! Small programs.
 
-use crate::built::{code_of, code_of_two};
-use crate::driven::{comes_to, turns};
+use crate::driven::{code_comes_to, code_turns};
 use atomic_code::End;
 use bytecode::Instr;
 use std::alloc::Allocator;
@@ -10,12 +9,16 @@ use syntax::numbers::{Status, Trap};
 // What a thread comes to: how many instructions it makes, how it is over, and what it has printed.
 type Came = (u64, Option<End>, &'static str);
 
-// Whether thread 5 of a worker, and of a function that begins at `second`, comes to this.
-fn of_two<A: Allocator + Copy>(alloc: A, instructions: &[Instr], second: u32, came: Came) -> bool {
-    match code_of_two(alloc, instructions, second) {
-        None => false,
-        Some(code) => comes_to(alloc, &code, 100, came.2) == Some((came.0, None, came.1, true)),
-    }
+// Whether thread 5 of a worker, and of a function where it is said where that begins, comes to this within so many instructions.
+fn of<A: Allocator + Copy>(
+    alloc: A,
+    instructions: &[Instr],
+    second: Option<u32>,
+    most: u32,
+    came: Came,
+) -> bool {
+    let (steps, end, text) = came;
+    code_comes_to(alloc, instructions, second, most, text) == Some((steps, None, end, true))
 }
 
 // r1 = f(r0), and f gives minus its parameter
@@ -56,24 +59,10 @@ fn calls_for_ever() -> &'static [Instr] {
 #[test]
 fn calls_give_values_and_a_65th_frame_traps(rt: HostRuntime) {
     let a = rt.alloc();
-    assert!(rt; of_two(a, gives_back(), 3, (5, Some(End::Ended), "-5")));
-    assert!(rt; of_two(a, gives_none(), 4, (5, Some(End::Ended), "0")));
-    assert!(rt;
-        of_two(
-            a,
-            calls_for_ever(),
-            2,
-            (64, Some(End::Trapped(Trap::Frames)), "")
-        )
-    );
-}
-
-// Whether thread 5 of a worker of these instructions comes to this within so many.
-fn of<A: Allocator + Copy>(alloc: A, instructions: &[Instr], most: u32, came: Came) -> bool {
-    match code_of(alloc, instructions) {
-        None => false,
-        Some(code) => comes_to(alloc, &code, most, came.2) == Some((came.0, None, came.1, true)),
-    }
+    let trapped = Some(End::Trapped(Trap::Frames));
+    assert!(rt; of(a, gives_back(), Some(3), 100, (5, Some(End::Ended), "-5")));
+    assert!(rt; of(a, gives_none(), Some(4), 100, (5, Some(End::Ended), "0")));
+    assert!(rt; of(a, calls_for_ever(), Some(2), 100, (64, trapped, "")));
 }
 
 fn prints() -> &'static [Instr] {
@@ -91,7 +80,7 @@ fn prints() -> &'static [Instr] {
 #[test]
 fn texts_and_numbers_are_printed(rt: HostRuntime) {
     let came = (6, Some(End::Ended), "-1\\\n4294967295");
-    assert!(rt; of(rt.alloc(), prints(), 100, came));
+    assert!(rt; of(rt.alloc(), prints(), None, 100, came));
 }
 
 // r1: the sum; r2: the number; r3: one
@@ -112,16 +101,8 @@ fn sums() -> &'static [Instr] {
 #[test]
 fn the_sum_of_the_first_thousand(rt: HostRuntime) {
     let a = rt.alloc();
-    assert!(rt; of(a, sums(), 4005, (4005, Some(End::Ended), "500500")));
-    assert!(rt; of(a, sums(), 4004, (4004, None, "500500")));
-}
-
-// What thread 10 comes to by 20 calls: the word that is left, and how it is.
-fn tenth<A: Allocator + Copy>(alloc: A, instructions: &[Instr]) -> Option<(u64, u64, Status)> {
-    match code_of_two(alloc, instructions, 6) {
-        None => None,
-        Some(code) => turns(alloc, &code, 10, 20, 0),
-    }
+    assert!(rt; of(a, sums(), None, 4005, (4005, Some(End::Ended), "500500")));
+    assert!(rt; of(a, sums(), None, 4004, (4004, None, "500500")));
 }
 
 // f(n) adds n to the cell where n < 2, and otherwise calls f(n - 1) and f(n - 2): 89 calls of 7 instructions and 88 of 10
@@ -154,5 +135,6 @@ fn fibonacci() -> &'static [Instr] {
 
 #[test]
 fn fibonacci_numbers_by_calls(rt: HostRuntime) {
-    assert!(rt; tenth(rt.alloc(), fibonacci()) == Some((55, 1509, Status::Ended)));
+    let found = code_turns(rt.alloc(), fibonacci(), Some(6), 10, 20, 0);
+    assert!(rt; found == Some((55, 1509, Status::Ended)));
 }

@@ -1,7 +1,6 @@
 //! Transactions: what they find, leave and give back.
 
-use crate::built::code_of;
-use crate::driven::comes_to;
+use crate::driven::code_comes_to;
 use atomic_code::End;
 use bytecode::Instr;
 use std::alloc::Allocator;
@@ -20,10 +19,7 @@ type Row = (
 // Whether a thread comes to this.
 fn is_so<A: Allocator + Copy>(alloc: A, row: &Row) -> bool {
     let (instructions, steps, left, end, text) = *row;
-    match code_of(alloc, instructions) {
-        None => false,
-        Some(code) => comes_to(alloc, &code, 100, text) == Some((steps, left, end, true)),
-    }
+    code_comes_to(alloc, instructions, None, 100, text) == Some((steps, left, end, true))
 }
 
 // Whether all do.

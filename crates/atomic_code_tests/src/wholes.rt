@@ -107,7 +107,7 @@ fn are_so(alloc: Global, code: &Code, rows: &[Row]) -> bool {
 
 // The same of a worker of these instructions.
 fn comes_to(alloc: Global, instructions: &[Instr], rows: &[Row]) -> bool {
-    match code_of(alloc, instructions) {
+    match code_of(alloc, instructions, None) {
         None => false,
         Some(code) => are_so(alloc, &code, rows),
     }
