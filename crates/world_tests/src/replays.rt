@@ -8,7 +8,6 @@ use machine_tests::rows::traps;
 use norec_core::{Access, Answer};
 use replay::{Line, read_schedule, replay, seeded, timeline};
 use std::alloc::Global;
-use std::test::Fail;
 use syntax::numbers::{Status, Trap};
 use world::{End, StopReason};
 
@@ -50,10 +49,9 @@ fn gives(alloc: Global, instrs: &[Instr], threads: u32, text: &str, wanted: &Wan
     }
 }
 
-#[test]
-fn a_transaction_is_dropped_and_made_again(rt: HostRuntime) -> Result<(), Fail> {
-    let schedule = "0 a1\n1 a1\n0 a1\n1 a1\n0 a1\n1 a1\n0 a1\n1 a1\n0 a1\n1 a1\n0 a2\n1 a9";
-    let wanted = Wanted {
+// Two threads add one, and one of them is dropped once.
+fn dropped_once() -> &'static Wanted<'static> {
+    static WANTED: Wanted<'static> = Wanted {
         events: &[
             (11, 0, Event::Commit),
             (13, 1, Event::Abort),
@@ -64,56 +62,86 @@ fn a_transaction_is_dropped_and_made_again(rt: HostRuntime) -> Result<(), Fail> 
         holder: None,
         stop: None,
     };
-    assert!(rt; gives(rt.alloc(), adds_one(), 2, schedule, &wanted));
-    Ok(())
+    &WANTED
 }
 
 #[test]
-fn a_stranger_ends_a_replay(rt: HostRuntime) -> Result<(), Fail> {
-    let wanted = Wanted {
+fn a_transaction_is_dropped_and_made_again(rt: HostRuntime) {
+    let schedule = "0 a1\n1 a1\n0 a1\n1 a1\n0 a1\n1 a1\n0 a1\n1 a1\n0 a1\n1 a1\n0 a2\n1 a9";
+    assert!(rt; gives(rt.alloc(), adds_one(), 2, schedule, dropped_once()));
+}
+
+// One of two threads adds one, and then a third is named.
+fn met_a_stranger() -> &'static Wanted<'static> {
+    static WANTED: Wanted<'static> = Wanted {
         events: &[(6, 0, Event::Commit)],
         threads: &[(End::Ended, ""), (End::Running, "")],
         words: &[1],
         holder: None,
         stop: Some((1000, StopReason::Stranger)),
     };
-    assert!(rt; gives(rt.alloc(), adds_one(), 2, "0 1000\n7 1\n1 100", &wanted));
-    Ok(())
+    &WANTED
 }
 
 #[test]
-fn a_trap_gives_the_lock_back(rt: HostRuntime) -> Result<(), Fail> {
-    let wanted = Wanted {
+fn a_stranger_ends_a_replay(rt: HostRuntime) {
+    assert!(rt;
+        gives(
+            rt.alloc(),
+            adds_one(),
+            2,
+            "0 1000\n7 1\n1 100",
+            met_a_stranger()
+        )
+    );
+}
+
+// The one thread traps behind its print.
+fn trapped() -> &'static Wanted<'static> {
+    static WANTED: Wanted<'static> = Wanted {
         events: &[(3, 0, Event::Trap(Trap::ZeroDivisor))],
         threads: &[(End::Trapped(Trap::ZeroDivisor), "2")],
         words: &[0],
         holder: None,
         stop: None,
     };
-    assert!(rt; gives(rt.alloc(), traps(), 1, "0 a10", &wanted));
-    Ok(())
+    &WANTED
 }
 
 #[test]
-fn a_replay_ends_with_the_lock_held(rt: HostRuntime) -> Result<(), Fail> {
-    let wanted = Wanted {
+fn a_trap_gives_the_lock_back(rt: HostRuntime) {
+    assert!(rt; gives(rt.alloc(), traps(), 1, "0 a10", trapped()));
+}
+
+// It has the lock before its print.
+fn held() -> &'static Wanted<'static> {
+    static WANTED: Wanted<'static> = Wanted {
         events: &[],
         threads: &[(End::Running, "")],
         words: &[0],
         holder: Some(0),
         stop: None,
     };
-    assert!(rt; gives(rt.alloc(), traps(), 1, "0 a2", &wanted));
-    Ok(())
+    &WANTED
 }
 
-// What four threads leave that add one each, by the steps of a seed.
-fn adds_up(alloc: Global, code: &Code, seed: u64) -> bool {
-    let Ok(lines) = seeded(alloc, seed, 4, 400) else {
-        return false;
-    };
-    match replay(alloc, code, 4, lines.as_slice()) {
+#[test]
+fn a_replay_ends_with_the_lock_held(rt: HostRuntime) {
+    assert!(rt; gives(rt.alloc(), traps(), 1, "0 a2", held()));
+}
+
+// Whether four threads that add one each leave 4 by these lines.
+fn adds_up_by(alloc: Global, code: &Code, lines: &[Line]) -> bool {
+    match replay(alloc, code, 4, lines) {
         Ok(report) => report.holder.is_none() && report.words.as_slice() == [4u64].as_slice(),
+        Err(_) => false,
+    }
+}
+
+// The same by the steps of a seed.
+fn adds_up(alloc: Global, code: &Code, seed: u64) -> bool {
+    match seeded(alloc, seed, 4, 400) {
+        Ok(lines) => adds_up_by(alloc, code, lines.as_slice()),
         Err(_) => false,
     }
 }
@@ -128,13 +156,17 @@ fn all_add_up(alloc: Global, code: &Code) -> bool {
     true
 }
 
+// The same of the code of such threads.
+fn seeds_add_up(alloc: Global) -> bool {
+    match code_of_worker(alloc, 2, adds_one()) {
+        Some(code) => all_add_up(alloc, &code),
+        None => false,
+    }
+}
+
 #[test]
-fn a_seed_adds_all(rt: HostRuntime) -> Result<(), Fail> {
-    let Some(code) = code_of_worker(rt.alloc(), 2, adds_one()) else {
-        panic!(rt; "no code")
-    };
-    assert!(rt; all_add_up(rt.alloc(), &code));
-    Ok(())
+fn a_seed_adds_all(rt: HostRuntime) {
+    assert!(rt; seeds_add_up(rt.alloc()));
 }
 
 // A quiet step of a thread that runs.
@@ -148,32 +180,37 @@ fn quiet(place: u32, access: Access, answer: Answer) -> StepShown {
     }
 }
 
-// Whether this is shown of steps of two threads that add 1 to x.
-fn shows(alloc: Global, steps: &[u32], wanted: &[(u64, u32, StepShown)]) -> bool {
-    let Some(code) = code_of_worker(alloc, 2, adds_one()) else {
-        return false;
-    };
-    match timeline(alloc, &code, 2, steps) {
+// Whether this is shown of steps of two threads.
+fn are_shown(alloc: Global, code: &Code, steps: &[u32], wanted: &[(u64, u32, StepShown)]) -> bool {
+    match timeline(alloc, code, 2, steps) {
         Some(shown) => shown.as_slice() == wanted,
         None => wanted.is_empty(),
     }
 }
 
-#[test]
-fn each_step_is_shown(rt: HostRuntime) -> Result<(), Fail> {
+// The same of two threads that add 1 to x.
+fn shows(alloc: Global, steps: &[u32], wanted: &[(u64, u32, StepShown)]) -> bool {
+    match code_of_worker(alloc, 2, adds_one()) {
+        Some(code) => are_shown(alloc, &code, steps, wanted),
+        None => false,
+    }
+}
+
+// What is shown of the first steps of both.
+fn first_steps() -> [(u64, u32, StepShown); 5] {
     let lock = quiet(0, Access::LoadLock, Answer::Value(0));
-    let word = quiet(1, Access::LoadWord(0), Answer::Value(0));
-    let again = quiet(1, Access::LoadLock, Answer::Value(0));
-    let local = quiet(2, Access::Local, Answer::Done);
-    let wanted = [
+    [
         (1, 0, lock),
-        (2, 0, word),
+        (2, 0, quiet(1, Access::LoadWord(0), Answer::Value(0))),
         (3, 1, lock),
-        (4, 0, again),
-        (4, 0, local),
-    ];
-    assert!(rt; shows(rt.alloc(), [0, 0, 1, 0, 0].as_slice(), wanted.as_slice()));
+        (4, 0, quiet(1, Access::LoadLock, Answer::Value(0))),
+        (4, 0, quiet(2, Access::Local, Answer::Done)),
+    ]
+}
+
+#[test]
+fn each_step_is_shown(rt: HostRuntime) {
+    assert!(rt; shows(rt.alloc(), &[0, 0, 1, 0, 0], &first_steps()));
     // nothing is shown with a step of a thread that there is not
-    assert!(rt; shows(rt.alloc(), [0, 2].as_slice(), [].as_slice()));
-    Ok(())
+    assert!(rt; shows(rt.alloc(), &[0, 2], &[]));
 }

@@ -5,7 +5,6 @@ use machine_tests::codes::code_of_worker;
 use machine_tests::rows::adds_five;
 use refusing::Refusing;
 use std::alloc::{Allocator, Global};
-use std::test::Fail;
 use world::{End, StopReason, World, WorldFault};
 
 // Of two threads that add 5 to x: thread 1 has the word of x when thread 0 changes it. It reads again, and makes 10
@@ -40,81 +39,95 @@ fn reports<A: Allocator + Copy>(alloc: A, world: &World<A>, wanted: &Wanted) -> 
     }
 }
 
-// Whether all these steps of two threads are made, and leave this lock and so many accesses, and what is wanted.
-fn goes<A: Allocator + Copy>(
-    alloc: A,
-    world: &mut World<A>,
-    steps: &[u32],
-    lock: u64,
-    accesses: u64,
-    wanted: &Wanted,
-) -> bool {
-    if stopped(world, steps).is_some() || world.trace() != steps {
-        return false;
-    }
+// What steps leave: the lock, how many accesses were made, and the rest.
+type Left<'a> = (u64, u64, &'a Wanted<'a>);
+
+// Whether a world stands so behind these steps.
+fn stands<A: Allocator + Copy>(world: &World<A>, steps: &[u32], left: Left) -> bool {
+    let (lock, accesses, wanted) = left;
     if world.lock() != lock || world.accesses() != accesses || world.holder() != wanted.holder {
         return false;
     }
-    world.words() == wanted.words && reports(alloc, world, wanted)
+    world.words() == wanted.words && world.trace() == steps
+}
+
+// Whether all these steps of two threads are made, and leave what is wanted.
+fn goes<A: Allocator + Copy>(alloc: A, world: &mut World<A>, steps: &[u32], left: Left) -> bool {
+    stopped(world, steps).is_none() && stands(world, steps, left) && reports(alloc, world, left.2)
 }
 
 // The same of a new world.
-fn leads_to(alloc: Global, steps: &[u32], lock: u64, accesses: u64, wanted: &Wanted) -> bool {
+fn leads_to(alloc: Global, steps: &[u32], left: Left) -> bool {
     match opened(alloc, 2) {
-        Ok(mut world) => goes(alloc, &mut world, steps, lock, accesses, wanted),
+        Ok(mut world) => goes(alloc, &mut world, steps, left),
         Err(_) => false,
     }
 }
 
-#[test]
-fn a_word_is_read_again(rt: HostRuntime) -> Result<(), Fail> {
-    let wanted = Wanted {
+fn read_again() -> &'static Wanted<'static> {
+    static WANTED: Wanted<'static> = Wanted {
         events: &[],
         threads: &[(End::Ended, "5"), (End::Ended, "10")],
         words: &[10],
         holder: None,
         stop: None,
     };
-    assert!(rt; leads_to(rt.alloc(), crossed(), 4, 16, &wanted));
-    Ok(())
+    &WANTED
 }
 
 #[test]
-fn a_thread_has_the_lock(rt: HostRuntime) -> Result<(), Fail> {
-    let wanted = Wanted {
+fn a_word_is_read_again(rt: HostRuntime) {
+    assert!(rt; leads_to(rt.alloc(), crossed(), (4, 16, read_again())));
+}
+
+fn held() -> &'static Wanted<'static> {
+    static WANTED: Wanted<'static> = Wanted {
         events: &[],
         threads: &[(End::Running, ""), (End::Running, "")],
         words: &[0],
         holder: Some(1),
         stop: None,
     };
-    assert!(rt; leads_to(rt.alloc(), &[1, 1, 1, 1, 1, 1, 1], 1, 4, &wanted));
-    Ok(())
+    &WANTED
+}
+
+#[test]
+fn a_thread_has_the_lock(rt: HostRuntime) {
+    assert!(rt; leads_to(rt.alloc(), &[1, 1, 1, 1, 1, 1, 1], (1, 4, held())));
 }
 
 // Whether a stranger's step, the third one, is not made, and those before it are.
+fn stops_at_a_stranger(world: &mut World) -> bool {
+    let stop = stopped(world, &[0, 1, 7, 0]);
+    stop == Some((2, StopReason::Stranger)) && world.trace() == [0u32, 1].as_slice()
+}
+
+// The same of a new world.
 fn meets_a_stranger(alloc: Global) -> bool {
     match opened(alloc, 2) {
-        Ok(mut world) => {
-            let stop = stopped(&mut world, &[0, 1, 7, 0]);
-            stop == Some((2, StopReason::Stranger)) && world.trace() == [0u32, 1].as_slice()
-        }
+        Ok(mut world) => stops_at_a_stranger(&mut world),
         Err(_) => false,
     }
 }
 
 #[test]
-fn a_stranger_makes_no_step(rt: HostRuntime) -> Result<(), Fail> {
+fn a_stranger_makes_no_step(rt: HostRuntime) {
     assert!(rt; meets_a_stranger(rt.alloc()));
-    Ok(())
+}
+
+// Why a world of so many threads is not opened, where it is not.
+fn refusal(alloc: Global, threads: u32) -> Option<WorldFault> {
+    match opened(alloc, threads) {
+        Ok(_) => None,
+        Err(fault) => Some(fault),
+    }
 }
 
 #[test]
-fn there_are_1_to_64_threads(rt: HostRuntime) -> Result<(), Fail> {
-    assert!(rt; opened(rt.alloc(), 0).err() == Some(WorldFault::WrongThreads));
-    assert!(rt; opened(rt.alloc(), 65).err() == Some(WorldFault::WrongThreads));
-    assert!(rt; opened(rt.alloc(), 64).is_ok());
-    Ok(())
+fn there_are_1_to_64_threads(rt: HostRuntime) {
+    assert!(rt; refusal(rt.alloc(), 0) == Some(WorldFault::WrongThreads));
+    assert!(rt; refusal(rt.alloc(), 65) == Some(WorldFault::WrongThreads));
+    assert!(rt; refusal(rt.alloc(), 64).is_none());
 }
 
 // Makes these steps, with one growth refused among them: whether one was, where the world was then left as it stood before that
@@ -141,27 +154,40 @@ fn comes_to_its_end<A: Allocator + Copy>(world: &mut World<A>) -> Option<bool> {
     }
 }
 
-fn tried(inner: Global, nth: u64) -> Option<bool> {
-    let alloc = Refusing::new(inner, 0);
-    match opened(&alloc, 2) {
+// The same of a new world, behind which growth `nth` is refused.
+fn tried_in<A: Allocator + Copy, B: Allocator>(
+    alloc: A,
+    refusing: &Refusing<B>,
+    nth: u64,
+) -> Option<bool> {
+    match opened(alloc, 2) {
         Ok(mut world) => {
-            alloc.refuse(nth);
+            refusing.refuse(nth);
             comes_to_its_end(&mut world)
         }
         Err(_) => None,
     }
 }
 
-#[test]
-fn a_step_that_was_refused_room_is_made_again(rt: HostRuntime) -> Result<(), Fail> {
-    let mut met = 0;
+// The same by a new allocator.
+fn tried(inner: Global, nth: u64) -> Option<bool> {
+    let alloc = Refusing::new(inner, 0);
+    tried_in(&alloc, &alloc, nth)
+}
+
+// The last growth that is met, each of which is refused once; `None` where a world does not go on.
+fn last_met(inner: Global) -> Option<u64> {
     for nth in 1..40u64 {
-        match tried(rt.alloc(), nth) {
-            Some(true) => met = nth,
-            Some(false) => break,
-            None => panic!(rt; "a world did not go on"),
+        match tried(inner, nth) {
+            Some(true) => {}
+            Some(false) => return Some(nth - 1),
+            None => return None,
         }
     }
-    assert!(rt; met > 2 && met < 39);
-    Ok(())
+    None
+}
+
+#[test]
+fn a_step_that_was_refused_room_is_made_again(rt: HostRuntime) {
+    assert!(rt; last_met(rt.alloc()) > Some(2));
 }
