@@ -2,33 +2,33 @@
 
 ghost use Rattle.workers.specs.Workers.{AreWorkersOf, IsWorkerOf};
 
-use crate::hall::{Row, are_turns, leaves, opened, put, take};
+use crate::hall::{Turn, are_turns, leaves, opened, put, take};
 use crate::programs::prints;
 use std::alloc::Global;
 use workers::{CloseFault, CloseReason, Hall, Status, Worker};
 
 // Worker 0 up to its won swap, a step at a time, and a thousand steps of worker 1, which waits for the lock in vain.
-fn up_to_the_lock() -> &'static [Row] {
-    static ROWS: [Row; 7] = [
-        (0, 0, Status::Budget, 0, 0),
-        (0, 1, Status::Budget, 1, 1),
-        (0, 1, Status::Budget, 2, 2),
-        (0, 1, Status::Budget, 3, 3),
-        (0, 3, Status::Budget, 6, 3),
-        (0, 1, Status::Budget, 7, 4),
-        (1, 1000, Status::Budget, 1000, 1000),
+fn up_to_the_lock() -> &'static [Turn] {
+    static TURNS: [Turn; 7] = [
+        Turn::Run(0, 0, Status::Budget, 0, 0),
+        Turn::Run(0, 1, Status::Budget, 1, 1),
+        Turn::Run(0, 1, Status::Budget, 2, 2),
+        Turn::Run(0, 1, Status::Budget, 3, 3),
+        Turn::Run(0, 3, Status::Budget, 6, 3),
+        Turn::Run(0, 1, Status::Budget, 7, 4),
+        Turn::Run(1, 1000, Status::Budget, 1000, 1000),
     ];
-    &ROWS
+    &TURNS
 }
 
 // Then both come to their ends, and stay there.
-fn to_the_ends() -> &'static [Row] {
-    static ROWS: [Row; 3] = [
-        (0, 100, Status::Ended, 13, 6),
-        (1, 100, Status::Ended, 1013, 1006),
-        (0, 0, Status::Ended, 13, 6),
+fn to_the_ends() -> &'static [Turn] {
+    static TURNS: [Turn; 3] = [
+        Turn::Run(0, 100, Status::Ended, 13, 6),
+        Turn::Run(1, 100, Status::Ended, 1013, 1006),
+        Turn::Run(0, 0, Status::Ended, 13, 6),
     ];
-    &ROWS
+    &TURNS
 }
 
 // Whether all was right so far, and this is the reason.

@@ -1,15 +1,14 @@
 //! Each growth refused in turn, after which the same call goes on.
 
 ghost use Rattle.std.specs.Prelude.{IfSome};
-ghost use Rattle.workers.specs.Workers.{AreWorkersOf, IsWorkerOf};
+ghost use Rattle.workers.specs.Workers.{AreWorkersOf};
 
-use crate::hall::{Left, is_left, leaves, open, put_both, run, take};
+use crate::hall::{Left, Turn, are_turns, is_left, leaves, open};
 use crate::programs::{code_of, looks};
 use bytecode::Code;
-use norec_core::Stop;
 use refusing::Refusing;
 use std::alloc::{Allocator, Global};
-use workers::{CloseFault, CloseReason, Hall, HallFault, Status, Worker};
+use workers::{CloseFault, CloseReason, Hall, HallFault, Worker};
 
 // A hall of two workers, by a second call where the first was refused memory.
 fn opened_at_last<A: Allocator + Copy>(
@@ -28,49 +27,10 @@ fn opened_at_last<A: Allocator + Copy>(
     }
 }
 
-// Whether a worker comes to its end, by a second call where the first was refused memory.
-fn ends<A: Allocator + Copy>(hall: &Hall<A>, worker: &mut Worker<A>) -> bool
-    requires { IsWorkerOf hall.now.table.shared.table_id hall.now.setup worker.old }
-    ensures { IsWorkerOf hall.now.table.shared.table_id hall.now.setup worker.new }
-{
-    match run(hall, worker, 100) {
-        Some(Ok(status)) => status == Status::Ended,
-        Some(Err(Stop::OutOfMemory)) => {
-            matches!(run(hall, worker, 100), Some(Ok(Status::Ended)))
-        }
-        _ => false,
-    }
-}
-
-// Whether both workers come to their ends, worker 0 first.
-fn both_end<A: Allocator + Copy>(
-    hall: &Hall<A>,
-    workers: &mut Vec<Worker<A>, A>,
-    mut second: Worker<A>,
-) -> bool
-    requires list { AreWorkersOf hall.now.table.shared.table_id hall.now.setup workers.old.items }
-    requires second { IsWorkerOf hall.now.table.shared.table_id hall.now.setup second }
-    ensures { AreWorkersOf hall.now.table.shared.table_id hall.now.setup workers.new.items }
-{
-    match take(hall, workers) {
-        Some(mut first) => {
-            let one = ends(hall, &mut first);
-            let other = ends(hall, &mut second);
-            let back = put_both(hall, workers, first, second);
-            one && other && back
-        }
-        None => false,
-    }
-}
-
-fn all_end<A: Allocator + Copy>(hall: &Hall<A>, workers: &mut Vec<Worker<A>, A>) -> bool
-    requires { AreWorkersOf hall.now.table.shared.table_id hall.now.setup workers.old.items }
-    ensures { AreWorkersOf hall.now.table.shared.table_id hall.now.setup workers.new.items }
-{
-    match take(hall, workers) {
-        Some(second) => both_end(hall, workers, second),
-        None => false,
-    }
+// Both workers come to their ends, worker 0 first.
+fn to_the_ends() -> &'static [Turn] {
+    static TURNS: [Turn; 2] = [Turn::End(0), Turn::End(1)];
+    &TURNS
 }
 
 // Whether the hall leaves what it should, by a second call where the first was refused memory.
@@ -100,7 +60,7 @@ fn leaves_at_last<A: Allocator + Copy>(
 fn goes_on<A: Allocator + Copy>(alloc: A, code: &Code<A>) -> bool {
     match opened_at_last(alloc, code) {
         Some((hall, mut workers)) => {
-            let right = all_end(&hall, &mut workers);
+            let right = are_turns(&hall, &mut workers, to_the_ends());
             let closes = leaves_at_last(alloc, hall, workers, (2, "", "2\n"));
             right && closes
         }

@@ -12,8 +12,18 @@ use workers::{Hall, HallFault, Outcome, Status, Worker};
 /// The most steps of a worker here, and of one run.
 const MOST: u64 = 1_000_000;
 
-/// A run of one worker: the thread, for how many steps at most, how it ends, and how many steps and accesses it then has made.
-pub type Row = (u32, u64, Status, u64, u64);
+/// What two workers do next.
+#[derive(Clone, Copy)]
+pub enum Turn {
+    /// One of them runs: the thread, for how many steps at most, how the run ends, and how many steps and accesses it then has made.
+    Run(u32, u64, Status, u64, u64),
+
+    /// One of them comes to its end, by a second call where the first was refused memory.
+    End(u32),
+
+    /// They meet.
+    Meet,
+}
 
 /// A hall of so many workers of a code.
 pub fn open<A: Allocator + Copy>(
@@ -87,8 +97,8 @@ pub fn put<A: Allocator + Copy>(
     push(hall, workers, worker).is_ok()
 }
 
-/// So many steps of a worker that has made few so far.
-pub fn run<A: Allocator + Copy>(
+// So many steps of a worker that has made few so far.
+fn run<A: Allocator + Copy>(
     hall: &Hall<A>,
     worker: &mut Worker<A>,
     budget: u64,
@@ -102,40 +112,76 @@ pub fn run<A: Allocator + Copy>(
     Some(worker.run(hall, budget))
 }
 
-// Whether a worker's run is this one.
-fn is_run<A: Allocator + Copy>(hall: &Hall<A>, worker: &mut Worker<A>, row: Row) -> bool
+// Whether a worker comes to its end, by a second call where the first was refused memory.
+fn ends<A: Allocator + Copy>(hall: &Hall<A>, worker: &mut Worker<A>) -> bool
     requires { IsWorkerOf hall.now.table.shared.table_id hall.now.setup worker.old }
     ensures { IsWorkerOf hall.now.table.shared.table_id hall.now.setup worker.new }
 {
-    match run(hall, worker, row.1) {
-        Some(Ok(status)) => {
-            status == row.2 && worker.steps() == row.3 && worker.accesses() == row.4
+    match run(hall, worker, 100) {
+        Some(Ok(status)) => status == Status::Ended,
+        Some(Err(Stop::OutOfMemory)) => {
+            matches!(run(hall, worker, 100), Some(Ok(Status::Ended)))
         }
         _ => false,
     }
 }
 
-// The same of the one of two workers.
-fn is_run_of<A: Allocator + Copy>(
+// Whether a worker's run ends so, and it then has made so many steps and accesses.
+fn is_run<A: Allocator + Copy>(
+    hall: &Hall<A>,
+    worker: &mut Worker<A>,
+    budget: u64,
+    status: Status,
+    steps: u64,
+    accesses: u64,
+) -> bool
+    requires { IsWorkerOf hall.now.table.shared.table_id hall.now.setup worker.old }
+    ensures { IsWorkerOf hall.now.table.shared.table_id hall.now.setup worker.new }
+{
+    match run(hall, worker, budget) {
+        Some(Ok(found)) => {
+            found == status && worker.steps() == steps && worker.accesses() == accesses
+        }
+        _ => false,
+    }
+}
+
+// Whether two workers make a turn.
+fn is_made<A: Allocator + Copy>(
     hall: &Hall<A>,
     first: &mut Worker<A>,
     second: &mut Worker<A>,
-    row: Row,
+    turn: Turn,
 ) -> bool
     requires first { IsWorkerOf hall.now.table.shared.table_id hall.now.setup first.old }
     requires second { IsWorkerOf hall.now.table.shared.table_id hall.now.setup second.old }
     ensures first { IsWorkerOf hall.now.table.shared.table_id hall.now.setup first.new }
     ensures second { IsWorkerOf hall.now.table.shared.table_id hall.now.setup second.new }
 {
-    if row.0 == 0 {
-        is_run(hall, first, row)
-    } else {
-        is_run(hall, second, row)
+    match turn {
+        Turn::Run(thread, budget, status, steps, accesses) => {
+            if thread == 0 {
+                is_run(hall, first, budget, status, steps, accesses)
+            } else {
+                is_run(hall, second, budget, status, steps, accesses)
+            }
+        }
+        Turn::End(thread) => {
+            if thread == 0 {
+                ends(hall, first)
+            } else {
+                ends(hall, second)
+            }
+        }
+        Turn::Meet => {
+            first.meet(hall, second);
+            true
+        }
     }
 }
 
-/// Two more workers at the end of the list, if there was room for them.
-pub fn put_both<A: Allocator + Copy>(
+// Two more workers at the end of the list, if there was room for them.
+fn put_both<A: Allocator + Copy>(
     hall: &Hall<A>,
     workers: &mut Vec<Worker<A>, A>,
     first: Worker<A>,
@@ -151,12 +197,12 @@ pub fn put_both<A: Allocator + Copy>(
     one && other
 }
 
-// Whether the run of worker 0, the second last of the list, or of the last one is this one.
+// Whether worker 0, the second last of the list, and this one, which was the last, make a turn.
 fn is_turn_beside<A: Allocator + Copy>(
     hall: &Hall<A>,
     workers: &mut Vec<Worker<A>, A>,
     mut second: Worker<A>,
-    row: Row,
+    turn: Turn,
 ) -> bool
     requires list { AreWorkersOf hall.now.table.shared.table_id hall.now.setup workers.old.items }
     requires second { IsWorkerOf hall.now.table.shared.table_id hall.now.setup second }
@@ -164,7 +210,7 @@ fn is_turn_beside<A: Allocator + Copy>(
 {
     match take(hall, workers) {
         Some(mut first) => {
-            let right = is_run_of(hall, &mut first, &mut second, row);
+            let right = is_made(hall, &mut first, &mut second, turn);
             let back = put_both(hall, workers, first, second);
             right && back
         }
@@ -172,79 +218,32 @@ fn is_turn_beside<A: Allocator + Copy>(
     }
 }
 
-// Whether the run of the one of two workers is this one.
-fn is_turn<A: Allocator + Copy>(hall: &Hall<A>, workers: &mut Vec<Worker<A>, A>, row: Row) -> bool
+// Whether two workers make a turn.
+fn is_turn<A: Allocator + Copy>(hall: &Hall<A>, workers: &mut Vec<Worker<A>, A>, turn: Turn) -> bool
     requires { AreWorkersOf hall.now.table.shared.table_id hall.now.setup workers.old.items }
     ensures { AreWorkersOf hall.now.table.shared.table_id hall.now.setup workers.new.items }
 {
     match take(hall, workers) {
-        Some(second) => is_turn_beside(hall, workers, second, row),
+        Some(second) => is_turn_beside(hall, workers, second, turn),
         None => false,
     }
 }
 
-/// Whether the runs of two workers, one after another, are these.
+/// Whether two workers make these turns, one after another.
 pub fn are_turns<A: Allocator + Copy>(
     hall: &Hall<A>,
     workers: &mut Vec<Worker<A>, A>,
-    rows: &[Row],
+    turns: &[Turn],
 ) -> bool
     requires { AreWorkersOf hall.now.table.shared.table_id hall.now.setup workers.old.items }
     ensures { AreWorkersOf hall.now.table.shared.table_id hall.now.setup workers.new.items }
 {
-    'rows: for row in rows {
-        if !is_turn(hall, workers, *row) {
+    'turns: for turn in turns {
+        if !is_turn(hall, workers, *turn) {
             return false;
         }
     }
     true
-}
-
-// The last worker of the list meets this one, and both are put back.
-fn meets<A: Allocator + Copy>(
-    hall: &Hall<A>,
-    workers: &mut Vec<Worker<A>, A>,
-    mut second: Worker<A>,
-) -> bool
-    requires list { AreWorkersOf hall.now.table.shared.table_id hall.now.setup workers.old.items }
-    requires second { IsWorkerOf hall.now.table.shared.table_id hall.now.setup second }
-    ensures { AreWorkersOf hall.now.table.shared.table_id hall.now.setup workers.new.items }
-{
-    match take(hall, workers) {
-        Some(mut first) => {
-            first.meet(hall, &mut second);
-            put_both(hall, workers, first, second)
-        }
-        None => false,
-    }
-}
-
-/// The two workers meet.
-pub fn meet<A: Allocator + Copy>(hall: &Hall<A>, workers: &mut Vec<Worker<A>, A>) -> bool
-    requires { AreWorkersOf hall.now.table.shared.table_id hall.now.setup workers.old.items }
-    ensures { AreWorkersOf hall.now.table.shared.table_id hall.now.setup workers.new.items }
-{
-    match take(hall, workers) {
-        Some(second) => meets(hall, workers, second),
-        None => false,
-    }
-}
-
-/// One step of a worker of each of two halls.
-pub fn step_in_each<A: Allocator + Copy>(
-    hall: &Hall<A>,
-    worker: &mut Worker<A>,
-    other: &Hall<A>,
-    theirs: &mut Worker<A>,
-) -> bool
-    requires mine { IsWorkerOf hall.now.table.shared.table_id hall.now.setup worker.old }
-    requires theirs { IsWorkerOf other.now.table.shared.table_id other.now.setup theirs.old }
-    ensures mine { IsWorkerOf hall.now.table.shared.table_id hall.now.setup worker.new }
-    ensures theirs { IsWorkerOf other.now.table.shared.table_id other.now.setup theirs.new }
-{
-    let one = run(hall, worker, 1);
-    let another = run(other, theirs, 1);
-    one.is_some() && another.is_some()
 }
 
 /// What a closed hall leaves: the word of `x`, and what the threads 0 and 1 have printed.

@@ -1,32 +1,37 @@
 //! Workers one after another, in the test's own thread.
 
-ghost use Rattle.workers.specs.Workers.{AreWorkersOf, IsWorkerOf};
+ghost use Rattle.workers.specs.Workers.{AreWorkersOf};
 
-use crate::hall::{Row, are_turns, leaves, meet, opened, step_in_each, take};
+use crate::hall::{Turn, are_turns, leaves, opened};
 use crate::programs::{adds, divides, looks};
 use std::alloc::Global;
 use syntax::numbers::Trap;
 use workers::{Hall, HallFault, Status, Worker};
 
-// Worker 0 to its end and then worker 1, which have met between or not.
-fn go_in_order(hall: &Hall, workers: &mut Vec<Worker>, meets: bool) -> bool
-    requires { AreWorkersOf hall.now.table.shared.table_id hall.now.setup workers.old.items }
-    ensures { AreWorkersOf hall.now.table.shared.table_id hall.now.setup workers.new.items }
-{
-    if !are_turns(hall, workers, &[(0, 100, Status::Ended, 10, 4)]) {
-        return false;
-    }
-    if meets && !meet(hall, workers) {
-        return false;
-    }
-    are_turns(hall, workers, &[(1, 100, Status::Ended, 10, 3)])
+// Worker 0 to its end, and then worker 1.
+fn in_order() -> &'static [Turn] {
+    static TURNS: [Turn; 2] = [
+        Turn::Run(0, 100, Status::Ended, 10, 4),
+        Turn::Run(1, 100, Status::Ended, 10, 3),
+    ];
+    &TURNS
+}
+
+// The same, where they meet between.
+fn in_order_with_a_meeting() -> &'static [Turn] {
+    static TURNS: [Turn; 3] = [
+        Turn::Run(0, 100, Status::Ended, 10, 4),
+        Turn::Meet,
+        Turn::Run(1, 100, Status::Ended, 10, 3),
+    ];
+    &TURNS
 }
 
 // Whether worker 1 reads what worker 0 wrote.
-fn reads_it(alloc: Global, meets: bool) -> bool {
+fn reads_it(alloc: Global, turns: &[Turn]) -> bool {
     match opened(alloc, looks(), 2) {
         Ok((hall, mut workers)) => {
-            let right = go_in_order(&hall, &mut workers, meets);
+            let right = are_turns(&hall, &mut workers, turns);
             let closes = leaves(alloc, hall, workers, (2, "", "2\n"));
             right && closes
         }
@@ -36,18 +41,17 @@ fn reads_it(alloc: Global, meets: bool) -> bool {
 
 #[test]
 fn what_one_wrote_the_next_reads(rt: HostRuntime) {
-    // whether they meet or not
-    assert!(rt; reads_it(rt.alloc(), false));
-    assert!(rt; reads_it(rt.alloc(), true));
+    assert!(rt; reads_it(rt.alloc(), in_order()));
+    assert!(rt; reads_it(rt.alloc(), in_order_with_a_meeting()));
 }
 
 // Worker 0 traps, and stays there.
-fn trapped() -> &'static [Row] {
-    static ROWS: [Row; 2] = [
-        (0, 100, Status::Trapped(Trap::ZeroDivisor), 3, 0),
-        (0, 5, Status::Trapped(Trap::ZeroDivisor), 3, 0),
+fn trapped() -> &'static [Turn] {
+    static TURNS: [Turn; 2] = [
+        Turn::Run(0, 100, Status::Trapped(Trap::ZeroDivisor), 3, 0),
+        Turn::Run(0, 5, Status::Trapped(Trap::ZeroDivisor), 3, 0),
     ];
-    &ROWS
+    &TURNS
 }
 
 fn traps(alloc: Global) -> bool {
@@ -62,37 +66,27 @@ fn a_trap_is_told(rt: HostRuntime) {
     assert!(rt; traps(rt.alloc()));
 }
 
-// A worker of this hall, and one of another.
-fn steps_beside(hall: &Hall, worker: &mut Worker, other: &Hall, others: &mut Vec<Worker>) -> bool
-    requires mine { IsWorkerOf hall.now.table.shared.table_id hall.now.setup worker.old }
-    requires theirs { AreWorkersOf other.now.table.shared.table_id other.now.setup others.old.items }
-{
-    match take(other, others) {
-        Some(mut theirs) => step_in_each(hall, worker, other, &mut theirs),
-        None => false,
-    }
+// A step of worker 1.
+fn one_step() -> &'static [Turn] {
+    static TURNS: [Turn; 1] = [Turn::Run(1, 1, Status::Budget, 1, 1)];
+    &TURNS
 }
 
-fn steps(hall: &Hall, workers: &mut Vec<Worker>, other: &Hall, others: &mut Vec<Worker>) -> bool
-    requires mine { AreWorkersOf hall.now.table.shared.table_id hall.now.setup workers.old.items }
-    requires theirs { AreWorkersOf other.now.table.shared.table_id other.now.setup others.old.items }
-{
-    match take(hall, workers) {
-        Some(mut worker) => steps_beside(hall, &mut worker, other, others),
-        None => false,
-    }
-}
-
+// Whether another hall is opened, and a step is made in each.
 fn opens_another(alloc: Global, hall: &Hall, workers: &mut Vec<Worker>) -> bool
     requires { AreWorkersOf hall.now.table.shared.table_id hall.now.setup workers.old.items }
 {
     match opened(alloc, adds(), 2) {
-        Ok((other, mut others)) => steps(hall, workers, &other, &mut others),
+        Ok((other, mut others)) => {
+            let mine = are_turns(hall, workers, one_step());
+            let theirs = are_turns(&other, &mut others, one_step());
+            mine && theirs
+        }
         Err(_) => false,
     }
 }
 
-// Two halls at one time, and a step in each.
+// Whether there are two halls at one time.
 fn are_two(alloc: Global) -> bool {
     match opened(alloc, adds(), 2) {
         Ok((hall, mut workers)) => opens_another(alloc, &hall, &mut workers),
