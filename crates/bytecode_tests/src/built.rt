@@ -26,19 +26,29 @@ fn nothing<A: Allocator + Copy>(alloc: A) -> Parts<A> {
     }
 }
 
+// Appends a function.
+fn push_function<A: Allocator + Copy>(
+    alloc: A,
+    to: &mut Items<FunctionCode<A>, A>,
+    function: &Function,
+) -> Result<(), AllocError> {
+    let (name, first, registers, parameters) = *function;
+    to.push(FunctionCode {
+        name: Text::from_str(alloc, name)?,
+        first,
+        registers,
+        parameters,
+    })
+}
+
 // Appends functions.
 fn push_functions<A: Allocator + Copy>(
     alloc: A,
     to: &mut Items<FunctionCode<A>, A>,
     functions: &[Function],
 ) -> Result<(), AllocError> {
-    for (name, first, registers, parameters) in functions {
-        to.push(FunctionCode {
-            name: Text::from_str(alloc, name)?,
-            first: *first,
-            registers: *registers,
-            parameters: *parameters,
-        })?;
+    for function in functions {
+        push_function(alloc, to, function)?;
     }
     Ok(())
 }
@@ -51,6 +61,15 @@ fn push_each<T: Copy, A: Allocator>(to: &mut Items<T, A>, each: &[T]) -> Result<
     Ok(())
 }
 
+// Appends a text.
+fn push_text<A: Allocator + Copy>(
+    alloc: A,
+    to: &mut Items<Text<A>, A>,
+    text: &str,
+) -> Result<(), AllocError> {
+    to.push(Text::from_str(alloc, text)?)
+}
+
 // Appends texts.
 fn push_texts<A: Allocator + Copy>(
     alloc: A,
@@ -58,7 +77,7 @@ fn push_texts<A: Allocator + Copy>(
     texts: &[&str],
 ) -> Result<(), AllocError> {
     for text in texts {
-        to.push(Text::from_str(alloc, text)?)?;
+        push_text(alloc, to, text)?;
     }
     Ok(())
 }
@@ -81,20 +100,34 @@ pub fn global<A: Allocator + Copy>(alloc: A, length: Option<u32>) -> Result<Glob
     })
 }
 
-// Appends functions, registers that calls hand over, instructions, texts and the variable `x`.
-fn fill<A: Allocator + Copy>(
+// Appends the variable `x`.
+fn push_variable<A: Allocator + Copy>(
     alloc: A,
-    parts: &mut Parts<A>,
+    to: &mut Items<Global<A>, A>,
+) -> Result<(), AllocError> {
+    to.push(global(alloc, None)?)
+}
+
+// Appends functions, texts and the variable `x`.
+fn push_names<A: Allocator + Copy>(
+    alloc: A,
+    to: &mut Parts<A>,
     functions: &[Function],
-    arguments: &[u16],
-    instructions: &[Instr],
     texts: &[&str],
 ) -> Result<(), AllocError> {
-    push_functions(alloc, &mut parts.functions, functions)?;
-    push_each(&mut parts.arguments, arguments)?;
-    push_each(&mut parts.instructions, instructions)?;
-    push_texts(alloc, &mut parts.texts, texts)?;
-    parts.globals.push(global(alloc, None)?)
+    push_functions(alloc, &mut to.functions, functions)?;
+    push_texts(alloc, &mut to.texts, texts)?;
+    push_variable(alloc, &mut to.globals)
+}
+
+// Appends registers that calls hand over and instructions.
+fn push_code<A: Allocator>(
+    to: &mut Parts<A>,
+    arguments: &[u16],
+    instructions: &[Instr],
+) -> Result<(), AllocError> {
+    push_each(&mut to.arguments, arguments)?;
+    push_each(&mut to.instructions, instructions)
 }
 
 /// These functions, registers that calls hand over, instructions and texts, over a variable `x`.
@@ -106,25 +139,26 @@ pub fn parts_of<A: Allocator + Copy>(
     texts: &[&str],
 ) -> Result<Parts<A>, AllocError> {
     let mut parts = nothing(alloc);
-    fill(alloc, &mut parts, functions, arguments, instructions, texts)?;
+    push_names(alloc, &mut parts, functions, texts)?;
+    push_code(&mut parts, arguments, instructions)?;
+    Ok(parts)
+}
+
+/// A worker that returns at once, over a variable `x` and this global.
+pub fn parts_over<A: Allocator + Copy>(alloc: A, other: Global<A>) -> Result<Parts<A>, AllocError> {
+    let mut parts = parts_of(alloc, &[WORKER], &[], &[Instr::Return], &[])?;
+    parts.globals.push(other)?;
     Ok(parts)
 }
 
 /// What `validate` says of parts: that they are a code or that they are not, and nothing where memory was refused.
 pub fn is_valid<A: Allocator + Copy>(alloc: A, parts: Parts<A>) -> Option<bool> {
-    match validate(alloc, parts) {
-        Ok(Some(_)) => Some(true),
-        Ok(None) => Some(false),
-        Err(_) => None,
-    }
+    validate(alloc, parts).ok().map(|found| found.is_some())
 }
 
 /// The code of parts, if they are valid and memory is there.
 pub fn code_of<A: Allocator + Copy>(alloc: A, parts: Parts<A>) -> Option<Code<A>> {
-    match validate(alloc, parts) {
-        Ok(found) => found,
-        Err(_) => None,
-    }
+    validate(alloc, parts).ok().flatten()
 }
 
 /// The code of these functions, registers that calls hand over, instructions and texts, if it is valid and memory is there.
@@ -157,15 +191,4 @@ pub fn of_functions<A: Allocator + Copy>(
 /// What `validate` says of `worker` with 2 registers and these instructions.
 pub fn of<A: Allocator + Copy>(alloc: A, instructions: &[Instr]) -> Option<bool> {
     of_functions(alloc, &[WORKER], &[], instructions)
-}
-
-/// What `validate` says of `worker`, of `f` with one parameter, which begins at `second`, and of these registers to hand over.
-pub fn of_two<A: Allocator + Copy>(
-    alloc: A,
-    arguments: &[u16],
-    instructions: &[Instr],
-    second: u32,
-) -> Option<bool> {
-    let functions = [WORKER, ("f", second, 1, 1)];
-    of_functions(alloc, &functions, arguments, instructions)
 }

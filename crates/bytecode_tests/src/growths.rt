@@ -24,52 +24,81 @@ const INSTRUCTIONS: [Instr; 5] = [
     Instr::ReturnValue(0),
 ];
 
-// Whether parts are found valid at once, or else when they come back; `None` where they are found not to be.
-fn are_valid_at_once<A: Allocator + Copy>(alloc: A, parts: Parts<A>) -> Option<bool> {
-    match validate(alloc, parts) {
-        Ok(Some(_)) => Some(true),
-        Ok(None) => None,
-        Err(PartsFault::OutOfMemory(parts)) => match is_valid(alloc, parts) {
-            Some(true) => Some(false),
-            _ => None,
-        },
+// That parts which came back are valid, as `false`: they were not found so at once.
+fn are_valid_later<A: Allocator + Copy>(alloc: A, fault: PartsFault<A>) -> Option<bool> {
+    let PartsFault::OutOfMemory(parts) = fault;
+    match is_valid(alloc, parts) {
+        Some(true) => Some(false),
+        _ => None,
     }
 }
 
-// Whether a validation is made where growth `nth` is refused, and whether that growth is still to come.
+// Whether parts are found valid at once, or else when they come back; `None` where they are found not to be.
+fn are_valid_at_once<A: Allocator + Copy>(alloc: A, parts: Parts<A>) -> Option<bool> {
+    match validate(alloc, parts) {
+        Ok(found) => found.map(|_| true),
+        Err(fault) => are_valid_later(alloc, fault),
+    }
+}
+
+// Whether parts are found valid at once where growth `nth` is refused, and whether that growth is still to come. The allocator of the
+// parts is the one that refuses.
+fn validated_where_refused<A: Allocator, B: Allocator + Copy>(
+    refusing: &Refusing<A>,
+    alloc: B,
+    parts: Parts<B>,
+    nth: u64,
+) -> Option<(bool, bool)> {
+    refusing.refuse(nth);
+    match are_valid_at_once(alloc, parts) {
+        None => None,
+        Some(at_once) => Some((at_once, refusing.is_waiting())),
+    }
+}
+
+// The same of the sample over an allocator.
 fn validated<A: Allocator + Copy>(inner: A, nth: u64) -> Option<(bool, bool)> {
     let alloc = Refusing::new(inner, 0);
     match parts_of(&alloc, &FUNCTIONS, &[], &INSTRUCTIONS, &TEXTS) {
         Err(_) => None,
-        Ok(parts) => {
-            alloc.refuse(nth);
-            match are_valid_at_once(&alloc, parts) {
-                None => None,
-                Some(at_once) => Some((at_once, alloc.is_waiting())),
-            }
-        }
+        Ok(parts) => validated_where_refused(&alloc, &alloc, parts, nth),
     }
 }
 
-// Whether a code is copied or listed.
-fn is_made<A: Allocator + Copy>(alloc: A, code: &Code<A>, copies: bool) -> bool {
-    if copies {
-        code.copy(alloc).is_ok()
+// Whether a code is copied.
+fn is_copied<A: Allocator + Copy>(alloc: A, code: &Code<A>) -> bool {
+    code.copy(alloc).is_ok()
+}
+
+// Whether a code is listed.
+fn is_listed<A: Allocator + Copy>(alloc: A, code: &Code<A>) -> bool {
+    listing(alloc, code).is_ok()
+}
+
+// Whether a code is copied or listed where growth `nth` is refused, and whether that growth is still to come. The allocator of the code
+// is the one that refuses.
+fn made_where_refused<A: Allocator, B: Allocator + Copy>(
+    refusing: &Refusing<A>,
+    alloc: B,
+    code: &Code<B>,
+    copies: bool,
+    nth: u64,
+) -> (bool, bool) {
+    refusing.refuse(nth);
+    let is_made = if copies {
+        is_copied(alloc, code)
     } else {
-        listing(alloc, code).is_ok()
-    }
+        is_listed(alloc, code)
+    };
+    (is_made, refusing.is_waiting())
 }
 
-// Whether a copy or a listing is made where growth `nth` is refused, and whether that growth is still to come.
+// The same of the sample over an allocator.
 fn made<A: Allocator + Copy>(inner: A, copies: bool, nth: u64) -> Option<(bool, bool)> {
     let alloc = Refusing::new(inner, 0);
     match code_of_parts(&alloc, &FUNCTIONS, &[], &INSTRUCTIONS, &TEXTS) {
         None => None,
-        Some(code) => {
-            alloc.refuse(nth);
-            let is_made = is_made(&alloc, &code, copies);
-            Some((is_made, alloc.is_waiting()))
-        }
+        Some(code) => Some(made_where_refused(&alloc, &alloc, &code, copies, nth)),
     }
 }
 

@@ -1,11 +1,10 @@
 //! The first word of each cell.
 
-use crate::built::{WORKER, code_of, global, parts_of};
-use bytecode::{Code, Instr, Parts};
+use crate::built::{code_of, global, parts_over};
+use bytecode::{Code, Parts};
 use lex::token::{Scalar, Span};
 use refusing::Refusing;
 use std::alloc::{AllocError, Allocator};
-use std::test::Fail;
 use syntax::tree::{First, Global};
 
 // Appends a first word to a variable's.
@@ -22,19 +21,22 @@ fn push_first<A: Allocator>(
     })
 }
 
-// Appends an array of three cells, of which -1 and 7 are the first words of two.
-fn push_array<A: Allocator + Copy>(alloc: A, to: &mut Parts<A>) -> Result<(), AllocError> {
+// Appends the first words -1 and 7.
+fn push_two<A: Allocator>(to: &mut Global<A>) -> Result<(), AllocError> {
+    push_first(to, true, 1)?;
+    push_first(to, false, 7)
+}
+
+// An array of three cells, of which -1 and 7 are the first words of two.
+fn array<A: Allocator + Copy>(alloc: A) -> Result<Global<A>, AllocError> {
     let mut array = global(alloc, Some(3))?;
-    push_first(&mut array, true, 1)?;
-    push_first(&mut array, false, 7)?;
-    to.globals.push(array)
+    push_two(&mut array)?;
+    Ok(array)
 }
 
 // A worker over a variable and that array.
 fn over_an_array<A: Allocator + Copy>(alloc: A) -> Result<Parts<A>, AllocError> {
-    let mut parts = parts_of(alloc, &[WORKER], &[], &[Instr::Return], &[])?;
-    push_array(alloc, &mut parts)?;
-    Ok(parts)
+    parts_over(alloc, array(alloc)?)
 }
 
 // Its code.
@@ -54,27 +56,40 @@ fn begins_with<A: Allocator + Copy>(alloc: A, code: &Code<A>, wanted: &[u64]) ->
     }
 }
 
-// Whether these are the words where growth `nth` is refused, and whether that growth is still to come.
+// Whether these are the words where growth `nth` is refused, and whether that growth is still to come. The allocator of the code is
+// the one that refuses.
+fn begins_where_refused<A: Allocator, B: Allocator + Copy>(
+    refusing: &Refusing<A>,
+    alloc: B,
+    code: &Code<B>,
+    nth: u64,
+) -> (Option<bool>, bool) {
+    refusing.refuse(nth);
+    let found = begins_with(alloc, code, &[0, 4294967295, 7, 0]);
+    (found, refusing.is_waiting())
+}
+
+// The same over an allocator.
 fn refused_at<A: Allocator + Copy>(inner: A, nth: u64) -> Option<(Option<bool>, bool)> {
     let alloc = Refusing::new(inner, 0);
     match code_over_an_array(&alloc) {
         None => None,
-        Some(code) => {
-            alloc.refuse(nth);
-            let found = begins_with(&alloc, &code, &[0, 4294967295, 7, 0]);
-            Some((found, alloc.is_waiting()))
-        }
+        Some(code) => Some(begins_where_refused(&alloc, &alloc, &code, nth)),
+    }
+}
+
+// Whether the words are there exactly where growth `nth` does not come.
+fn is_right_at<A: Allocator + Copy>(inner: A, nth: u64) -> bool {
+    match refused_at(inner, nth) {
+        None => false,
+        Some((Some(same), _)) => same && nth != 1,
+        Some((None, waits)) => nth > 0 && !waits,
     }
 }
 
 #[test]
-fn each_cell_has_its_first_word(rt: HostRuntime) -> Result<(), Fail> {
+fn each_cell_has_its_first_word(rt: HostRuntime) {
     for nth in 0..20u64 {
-        match refused_at(rt.alloc(), nth) {
-            None => assert!(rt; false),
-            Some((Some(same), _)) => assert!(rt; same && nth != 1),
-            Some((None, waits)) => assert!(rt; nth > 0 && !waits),
-        }
+        assert!(rt; is_right_at(rt.alloc(), nth), "{nth}");
     }
-    Ok(())
 }

@@ -3,18 +3,20 @@
 use crate::built::{Function, TEXTS, WORKER, code_of_parts};
 use bytecode::{Code, Instr, listing};
 use std::alloc::Allocator;
-use std::test::Fail;
 
-// Whether this is a code's listing, if memory is there.
-fn is_listed<A: Allocator + Copy>(alloc: A, code: &Code<A>, wanted: &str) -> Option<bool> {
+// Whether this is a code's listing, and memory is there.
+fn is_listed<A: Allocator + Copy>(alloc: A, code: &Code<A>, wanted: &str) -> bool {
     match listing(alloc, code) {
-        Ok(text) => Some(text.as_str() == wanted),
-        Err(_) => None,
+        Ok(text) => text.as_str() == wanted,
+        Err(_) => false,
     }
 }
 
-// How many functions, instructions, texts and globals a code has.
-fn counts<A: Allocator>(code: &Code<A>) -> (usize, usize, usize, usize) {
+/// How many functions, instructions, texts and globals a code has.
+type Counts = (usize, usize, usize, usize);
+
+// Those of a code.
+fn counts<A: Allocator>(code: &Code<A>) -> Counts {
     (
         code.functions().len(),
         code.parts().instructions.len(),
@@ -23,56 +25,85 @@ fn counts<A: Allocator>(code: &Code<A>) -> (usize, usize, usize, usize) {
     )
 }
 
-// The same of a copy, where this is its listing.
-fn copied<A: Allocator + Copy>(
-    alloc: A,
-    code: &Code<A>,
-    wanted: &str,
-) -> Option<(usize, usize, usize, usize)> {
-    match code.copy(alloc) {
-        Err(_) => None,
-        Ok(copy) => match is_listed(alloc, &copy, wanted) {
-            Some(true) => Some(counts(&copy)),
-            _ => None,
-        },
+// Those of a code with this listing.
+fn counted<A: Allocator + Copy>(alloc: A, code: &Code<A>, wanted: &str) -> Option<Counts> {
+    if is_listed(alloc, code, wanted) {
+        Some(counts(code))
+    } else {
+        None
     }
 }
 
-// How many functions, instructions, texts and globals a copy of these functions' code has, where this is the listing of the code
-// and of the copy.
+// Those of a code's copy with this listing.
+fn copied<A: Allocator + Copy>(alloc: A, code: &Code<A>, wanted: &str) -> Option<Counts> {
+    match code.copy(alloc) {
+        Err(_) => None,
+        Ok(copy) => counted(alloc, &copy, wanted),
+    }
+}
+
+// Those of a code's copy where both have this listing.
+fn listed_twice<A: Allocator + Copy>(alloc: A, code: &Code<A>, wanted: &str) -> Option<Counts> {
+    if is_listed(alloc, code, wanted) {
+        copied(alloc, code, wanted)
+    } else {
+        None
+    }
+}
+
+// The same of these functions' code.
 fn listed<A: Allocator + Copy>(
     alloc: A,
     functions: &[Function],
     instructions: &[Instr],
     texts: &[&str],
     wanted: &str,
-) -> Option<(usize, usize, usize, usize)> {
+) -> Option<Counts> {
     match code_of_parts(alloc, functions, &[1, 0], instructions, texts) {
         None => None,
-        Some(code) => match is_listed(alloc, &code, wanted) {
-            Some(true) => copied(alloc, &code, wanted),
-            _ => None,
-        },
+        Some(code) => listed_twice(alloc, &code, wanted),
     }
+}
+
+/// Functions, instructions and texts, their listing, and the counts of their copy.
+type Row = (
+    &'static [Function<'static>],
+    &'static [Instr],
+    &'static [&'static str],
+    &'static str,
+    Counts,
+);
+
+// Whether the listing and the counts are those of a row.
+fn is_told<A: Allocator + Copy>(alloc: A, row: &Row) -> bool {
+    let (functions, instructions, texts, wanted, counts) = *row;
+    listed(alloc, functions, instructions, texts, wanted) == Some(counts)
 }
 
 const TRANSACTION: &str =
     "function worker registers 2\n0 begin >4\n1 rd r1 @0\n2 wr @0 r1\n3 commit\n4 ret\n";
 
-#[test]
-fn a_transaction_is_listed(rt: HostRuntime) -> Result<(), Fail> {
-    let instructions = [
-        Instr::Begin(4),
-        Instr::Read(1, 0),
-        Instr::Write(1, 0),
-        Instr::Commit,
-        Instr::Return,
-    ];
-    assert_eq!(rt;
-        listed(rt.alloc(), &[WORKER], &instructions, &[], TRANSACTION),
-        Some((1, 5, 0, 1))
+/// The rows stand in functions, so that no proof but theirs looks at them.
+fn transaction() -> &'static Row {
+    static ROW: Row = (
+        &[WORKER],
+        &[
+            Instr::Begin(4),
+            Instr::Read(1, 0),
+            Instr::Write(1, 0),
+            Instr::Commit,
+            Instr::Return,
+        ],
+        &[],
+        TRANSACTION,
+        (1, 5, 0, 1),
     );
-    Ok(())
+    &ROW
+}
+
+#[test]
+fn a_transaction_is_listed(rt: HostRuntime) {
+    assert!(rt; is_told(rt.alloc(), transaction()));
 }
 
 const COMPUTES: [Instr; 16] = [
@@ -194,20 +225,24 @@ text 0 \"\\\"\\t\\\"\"
 text 1 \"\\\\\\n\"
 ";
 
+fn instructions() -> &'static [Row] {
+    static ROWS: [Row; 3] = [
+        (&[WORKER], &COMPUTES, &[], COMPUTES_LISTED, (1, 16, 0, 1)),
+        (&[WORKER], &BITS, &[], BITS_LISTED, (1, 14, 0, 1)),
+        (
+            &[WORKER, ("f", 18, 1, 1)],
+            &LEADS,
+            &TEXTS,
+            LEADS_LISTED,
+            (2, 19, 2, 1),
+        ),
+    ];
+    &ROWS
+}
+
 #[test]
-fn every_instruction_is_listed(rt: HostRuntime) -> Result<(), Fail> {
-    let a = rt.alloc();
-    assert_eq!(rt;
-        listed(a, &[WORKER], &COMPUTES, &[], COMPUTES_LISTED),
-        Some((1, 16, 0, 1))
-    );
-    assert_eq!(rt;
-        listed(a, &[WORKER], &BITS, &[], BITS_LISTED),
-        Some((1, 14, 0, 1))
-    );
-    assert_eq!(rt;
-        listed(a, &[WORKER, ("f", 18, 1, 1)], &LEADS, &TEXTS, LEADS_LISTED),
-        Some((2, 19, 2, 1))
-    );
-    Ok(())
+fn every_instruction_is_listed(rt: HostRuntime) {
+    for row in instructions() {
+        assert!(rt; is_told(rt.alloc(), row), "{}", row.3);
+    }
 }

@@ -1,167 +1,366 @@
 //! Each rule of validity, broken once, beside parts that keep it.
 
-use crate::built::{WORKER, global, is_valid, of, of_functions, of_two, parts_of};
+use crate::built::{Function, WORKER, global, is_valid, of, of_functions, parts_over};
 use bytecode::{Instr, MOST_CELLS, Parts};
 use std::alloc::{AllocError, Allocator};
-use std::test::Fail;
+
+/// What is tried, the functions, the registers that calls hand over, the instructions, and whether they are valid.
+type Row = (
+    &'static str,
+    &'static [Function<'static>],
+    &'static [u16],
+    &'static [Instr],
+    bool,
+);
+
+// The first row of which `validate` says something else.
+fn has_another<A: Allocator + Copy>(alloc: A, rows: &[Row]) -> Option<&'static str> {
+    for (what, functions, arguments, instructions, valid) in rows {
+        if of_functions(alloc, functions, arguments, instructions) != Some(*valid) {
+            return Some(*what);
+        }
+    }
+    None
+}
+
+const ALONE: &[Function<'static>] = &[WORKER];
+
+const END: Instr = Instr::Return;
+
+/// The rows stand in a function, so that no proof but its own looks at them.
+fn operands() -> &'static [Row] {
+    static ROWS: [Row; 10] = [
+        ("a register", ALONE, &[], &[Instr::Read(1, 0), END], true),
+        ("register 2", ALONE, &[], &[Instr::Read(2, 0), END], false),
+        ("cell 1", ALONE, &[], &[Instr::Read(1, 1), END], false),
+        (
+            "two cells of one",
+            ALONE,
+            &[],
+            &[Instr::WriteAt(0, 1, 0, 2), END],
+            false,
+        ),
+        (
+            "cells far behind",
+            ALONE,
+            &[],
+            &[Instr::ReadAt(0, 1, u32::MAX, u32::MAX), END],
+            false,
+        ),
+        (
+            "register 2 returned",
+            ALONE,
+            &[],
+            &[Instr::ReturnValue(2)],
+            false,
+        ),
+        ("a place", ALONE, &[], &[Instr::JumpZero(0, 1), END], true),
+        ("place 2", ALONE, &[], &[Instr::JumpZero(0, 2), END], false),
+        ("a text", ALONE, &[], &[Instr::PrintText(1), END], true),
+        ("text 2", ALONE, &[], &[Instr::PrintText(2), END], false),
+    ];
+    &ROWS
+}
 
 #[test]
-fn registers_places_cells_and_texts_are_there(rt: HostRuntime) -> Result<(), Fail> {
-    let a = rt.alloc();
-    let end = Instr::Return;
-    assert_eq!(rt; of(a, &[Instr::Read(1, 0), end]), Some(true));
-    assert_eq!(rt; of(a, &[Instr::Read(2, 0), end]), Some(false));
-    assert_eq!(rt; of(a, &[Instr::Read(1, 1), end]), Some(false));
-    assert_eq!(rt; of(a, &[Instr::WriteAt(0, 1, 0, 2), end]), Some(false));
-    let far = Instr::ReadAt(0, 1, u32::MAX, u32::MAX);
-    assert_eq!(rt; of(a, &[far, end]), Some(false));
-    assert_eq!(rt; of(a, &[Instr::ReturnValue(2)]), Some(false));
-    assert_eq!(rt; of(a, &[Instr::JumpZero(0, 1), end]), Some(true));
-    assert_eq!(rt; of(a, &[Instr::JumpZero(0, 2), end]), Some(false));
-    assert_eq!(rt; of(a, &[Instr::PrintText(1), end]), Some(true));
-    assert_eq!(rt; of(a, &[Instr::PrintText(2), end]), Some(false));
-    Ok(())
+fn registers_places_cells_and_texts_are_there(rt: HostRuntime) {
+    assert_eq!(rt; has_another(rt.alloc(), operands()), None);
 }
 
 /// Instructions of which one operand is not there: register 2, place 2 or cell 1.
-const NOT_THERE: [Instr; 22] = [
-    Instr::Constant(2, 0),
-    Instr::Move(0, 2),
-    Instr::AddSigned(2, 0, 0),
-    Instr::DivideUnsigned(0, 2, 0),
-    Instr::LessSigned(0, 0, 2),
-    Instr::NegateSigned(2, 0),
-    Instr::NegateUnsigned(0, 2),
-    Instr::Complement(0, 2),
-    Instr::Jump(2),
-    Instr::JumpZero(2, 0),
-    Instr::JumpNonzero(2, 0),
-    Instr::JumpNonzero(0, 2),
-    Instr::Check(2, 1),
-    Instr::ReadAt(2, 0, 0, 1),
-    Instr::ReadAt(0, 2, 0, 1),
-    Instr::Write(2, 0),
-    Instr::Write(0, 1),
-    Instr::WriteAt(2, 0, 0, 1),
-    Instr::WriteAt(0, 2, 0, 1),
-    Instr::Begin(2),
-    Instr::PrintSigned(2),
-    Instr::PrintUnsigned(2),
-];
+fn not_there() -> &'static [Instr] {
+    static NOT_THERE: [Instr; 22] = [
+        Instr::Constant(2, 0),
+        Instr::Move(0, 2),
+        Instr::AddSigned(2, 0, 0),
+        Instr::DivideUnsigned(0, 2, 0),
+        Instr::LessSigned(0, 0, 2),
+        Instr::NegateSigned(2, 0),
+        Instr::NegateUnsigned(0, 2),
+        Instr::Complement(0, 2),
+        Instr::Jump(2),
+        Instr::JumpZero(2, 0),
+        Instr::JumpNonzero(2, 0),
+        Instr::JumpNonzero(0, 2),
+        Instr::Check(2, 1),
+        Instr::ReadAt(2, 0, 0, 1),
+        Instr::ReadAt(0, 2, 0, 1),
+        Instr::Write(2, 0),
+        Instr::Write(0, 1),
+        Instr::WriteAt(2, 0, 0, 1),
+        Instr::WriteAt(0, 2, 0, 1),
+        Instr::Begin(2),
+        Instr::PrintSigned(2),
+        Instr::PrintUnsigned(2),
+    ];
+    &NOT_THERE
+}
+
+// What `validate` says of an instruction behind a return.
+fn of_unreached<A: Allocator + Copy>(alloc: A, instr: Instr) -> Option<bool> {
+    of(alloc, &[Instr::Return, instr])
+}
 
 // what no way comes to names what is there, too
 #[test]
-fn what_no_way_comes_to_is_there(rt: HostRuntime) -> Result<(), Fail> {
-    let a = rt.alloc();
-    let end = Instr::Return;
-    assert_eq!(rt; of(a, &[end, Instr::Move(0, 1)]), Some(true));
-    for instr in NOT_THERE {
-        assert_eq!(rt; of(a, &[end, instr]), Some(false));
+fn what_no_way_comes_to_is_there(rt: HostRuntime) {
+    assert!(rt; of_unreached(rt.alloc(), Instr::Move(0, 1)) == Some(true));
+    for instr in not_there() {
+        assert!(rt; of_unreached(rt.alloc(), *instr) == Some(false));
     }
-    Ok(())
+}
+
+const TWO: &[Function<'static>] = &[WORKER, ("f", 2, 1, 1)];
+
+const CALLED: &[Instr] = &[Instr::Call(1, 1, 1, 0), END, Instr::ReturnValue(0)];
+
+fn calls() -> &'static [Row] {
+    static ROWS: [Row; 6] = [
+        ("a call", TWO, &[1], CALLED, true),
+        ("register 2 handed over", TWO, &[2], CALLED, false),
+        (
+            "fewer arguments in the list than the call counts",
+            TWO,
+            &[],
+            CALLED,
+            false,
+        ),
+        (
+            "no argument",
+            TWO,
+            &[1],
+            &[Instr::Call(1, 0, 1, 0), END, Instr::ReturnValue(0)],
+            false,
+        ),
+        (
+            "function 2",
+            TWO,
+            &[1],
+            &[Instr::Call(1, 1, 2, 0), END, Instr::ReturnValue(0)],
+            false,
+        ),
+        (
+            "an answer to register 2",
+            TWO,
+            &[1],
+            &[Instr::Call(2, 1, 1, 0), END, Instr::ReturnValue(0)],
+            false,
+        ),
+    ];
+    &ROWS
 }
 
 #[test]
-fn calls_name_functions(rt: HostRuntime) -> Result<(), Fail> {
-    let a = rt.alloc();
-    let end = Instr::Return;
-    let called = [Instr::Call(1, 1, 1, 0), end, Instr::ReturnValue(0)];
-    assert_eq!(rt; of_two(a, &[1], &called, 2), Some(true));
-    assert_eq!(rt; of_two(a, &[2], &called, 2), Some(false));
-    // fewer arguments in the list than the call counts
-    assert_eq!(rt; of_two(a, &[], &called, 2), Some(false));
-    let none = [Instr::Call(1, 0, 1, 0), end, Instr::ReturnValue(0)];
-    assert_eq!(rt; of_two(a, &[1], &none, 2), Some(false));
-    let unknown = [Instr::Call(1, 1, 2, 0), end, Instr::ReturnValue(0)];
-    assert_eq!(rt; of_two(a, &[1], &unknown, 2), Some(false));
-    let nowhere = [Instr::Call(2, 1, 1, 0), end, Instr::ReturnValue(0)];
-    assert_eq!(rt; of_two(a, &[1], &nowhere, 2), Some(false));
-    Ok(())
+fn calls_name_functions(rt: HostRuntime) {
+    assert_eq!(rt; has_another(rt.alloc(), calls()), None);
+}
+
+const FROM_ONE: &[Function<'static>] = &[WORKER, ("f", 1, 1, 1)];
+
+fn ways() -> &'static [Row] {
+    static ROWS: [Row; 5] = [
+        ("a move at last", ALONE, &[], &[Instr::Move(0, 1)], false),
+        (
+            "a way behind the code",
+            ALONE,
+            &[],
+            &[Instr::JumpNonzero(0, 0)],
+            false,
+        ),
+        ("a jump to itself", ALONE, &[], &[Instr::Jump(0)], true),
+        (
+            "a way into the next function",
+            FROM_ONE,
+            &[],
+            &[Instr::Move(0, 1), END],
+            false,
+        ),
+        (
+            "a jump into the function before",
+            FROM_ONE,
+            &[],
+            &[END, Instr::Jump(0)],
+            false,
+        ),
+    ];
+    &ROWS
 }
 
 #[test]
-fn ways_stay_in_their_function(rt: HostRuntime) -> Result<(), Fail> {
-    let a = rt.alloc();
-    let end = Instr::Return;
-    assert_eq!(rt; of(a, &[Instr::Move(0, 1)]), Some(false));
-    assert_eq!(rt; of(a, &[Instr::JumpNonzero(0, 0)]), Some(false));
-    assert_eq!(rt; of(a, &[Instr::Jump(0)]), Some(true));
-    // behind the code, before it, and into another function
-    let runs_on = [Instr::Move(0, 1), end];
-    assert_eq!(rt; of_two(a, &[], &runs_on, 1), Some(false));
-    let jumps_back = [end, Instr::Jump(0)];
-    assert_eq!(rt; of_two(a, &[], &jumps_back, 1), Some(false));
-    Ok(())
+fn ways_stay_in_their_function(rt: HostRuntime) {
+    assert_eq!(rt; has_another(rt.alloc(), ways()), None);
+}
+
+const COMMIT: Instr = Instr::Commit;
+
+const CANCEL: Instr = Instr::Cancel;
+
+fn begins() -> &'static [Row] {
+    static ROWS: [Row; 6] = [
+        (
+            "a begin and its commit",
+            ALONE,
+            &[],
+            &[Instr::Begin(2), COMMIT, END],
+            true,
+        ),
+        ("left open", ALONE, &[], &[Instr::Begin(1), END], false),
+        (
+            "closed twice",
+            ALONE,
+            &[],
+            &[Instr::Begin(2), COMMIT, COMMIT, END],
+            false,
+        ),
+        ("a cancel outside", ALONE, &[], &[CANCEL, END], false),
+        (
+            "a begin in a loop",
+            ALONE,
+            &[],
+            &[Instr::Begin(0), Instr::Jump(0)],
+            false,
+        ),
+        (
+            "two ways to a place with other begins",
+            ALONE,
+            &[],
+            &[Instr::JumpZero(0, 2), Instr::Begin(3), COMMIT, END],
+            false,
+        ),
+    ];
+    &ROWS
 }
 
 #[test]
-fn begins_are_paired(rt: HostRuntime) -> Result<(), Fail> {
-    let a = rt.alloc();
-    let (commit, cancel, end) = (Instr::Commit, Instr::Cancel, Instr::Return);
-    assert_eq!(rt; of(a, &[Instr::Begin(2), commit, end]), Some(true));
-    // left open, closed twice, cancelled outside
-    assert_eq!(rt; of(a, &[Instr::Begin(1), end]), Some(false));
-    assert_eq!(rt; of(a, &[Instr::Begin(2), commit, commit, end]), Some(false));
-    assert_eq!(rt; of(a, &[cancel, end]), Some(false));
-    // a begin in a loop, and two ways to a place with other begins
-    assert_eq!(rt; of(a, &[Instr::Begin(0), Instr::Jump(0)]), Some(false));
-    let met = [Instr::JumpZero(0, 2), Instr::Begin(3), commit, end];
-    assert_eq!(rt; of(a, &met), Some(false));
-    Ok(())
+fn begins_are_paired(rt: HostRuntime) {
+    assert_eq!(rt; has_another(rt.alloc(), begins()), None);
+}
+
+fn cancels() -> &'static [Row] {
+    static ROWS: [Row; 4] = [
+        (
+            "to the end",
+            ALONE,
+            &[],
+            &[Instr::Begin(2), CANCEL, END],
+            true,
+        ),
+        (
+            "to the cancel itself",
+            ALONE,
+            &[],
+            &[Instr::Begin(1), CANCEL, END],
+            false,
+        ),
+        (
+            "to the commit of the enclosing begin",
+            ALONE,
+            &[],
+            &[Instr::Begin(5), Instr::Begin(3), CANCEL, COMMIT, END, END],
+            true,
+        ),
+        (
+            "past the commit of the enclosing begin",
+            ALONE,
+            &[],
+            &[Instr::Begin(5), Instr::Begin(5), CANCEL, COMMIT, END, END],
+            false,
+        ),
+    ];
+    &ROWS
 }
 
 // a cancel goes on where its begin says, under the enclosing one
 #[test]
-fn cancels_go_on_under_the_enclosing_begin(rt: HostRuntime) -> Result<(), Fail> {
-    let a = rt.alloc();
-    let (commit, cancel, end) = (Instr::Commit, Instr::Cancel, Instr::Return);
-    assert_eq!(rt; of(a, &[Instr::Begin(2), cancel, end]), Some(true));
-    assert_eq!(rt; of(a, &[Instr::Begin(1), cancel, end]), Some(false));
-    let (five, three) = (Instr::Begin(5), Instr::Begin(3));
-    assert_eq!(rt; of(a, &[five, three, cancel, commit, end, end]), Some(true));
-    assert_eq!(rt; of(a, &[five, five, cancel, commit, end, end]), Some(false));
-    Ok(())
+fn cancels_go_on_under_the_enclosing_begin(rt: HostRuntime) {
+    assert_eq!(rt; has_another(rt.alloc(), cancels()), None);
+}
+
+fn layouts() -> &'static [Row] {
+    static ROWS: [Row; 6] = [
+        ("from 1", FROM_ONE, &[], &[END, END], true),
+        (
+            "both from 0",
+            &[WORKER, ("f", 0, 1, 1)],
+            &[],
+            &[END, END],
+            false,
+        ),
+        ("from the end", TWO, &[], &[END, END], false),
+        (
+            "from behind the end",
+            &[WORKER, ("f", 9, 1, 1)],
+            &[],
+            &[END, END],
+            false,
+        ),
+        (
+            "an instruction before the first one",
+            &[("worker", 1, 2, 1)],
+            &[],
+            &[END, END],
+            false,
+        ),
+        ("no instruction", ALONE, &[], &[], false),
+    ];
+    &ROWS
 }
 
 #[test]
-fn functions_lie_one_after_another(rt: HostRuntime) -> Result<(), Fail> {
-    let a = rt.alloc();
-    let ends = [Instr::Return, Instr::Return];
-    assert_eq!(rt; of_two(a, &[], &ends, 1), Some(true));
-    assert_eq!(rt; of_two(a, &[], &ends, 0), Some(false));
-    assert_eq!(rt; of_two(a, &[], &ends, 2), Some(false));
-    assert_eq!(rt; of_two(a, &[], &ends, 9), Some(false));
-    let late = [("worker", 1, 2, 1)];
-    assert_eq!(rt; of_functions(a, &late, &[], &ends), Some(false));
-    assert_eq!(rt; of(a, &[]), Some(false));
-    Ok(())
+fn functions_lie_one_after_another(rt: HostRuntime) {
+    assert_eq!(rt; has_another(rt.alloc(), layouts()), None);
+}
+
+fn workers() -> &'static [Row] {
+    static ROWS: [Row; 4] = [
+        ("takes none", &[("worker", 0, 2, 0)], &[], &[END], false),
+        ("another name", &[("workers", 0, 2, 1)], &[], &[END], false),
+        (
+            "more parameters than registers",
+            &[("worker", 0, 0, 1)],
+            &[],
+            &[END],
+            false,
+        ),
+        (
+            "two functions of one name",
+            &[WORKER, ("worker", 1, 2, 1)],
+            &[],
+            &[END, END],
+            false,
+        ),
+    ];
+    &ROWS
 }
 
 #[test]
-fn one_worker_takes_its_number(rt: HostRuntime) -> Result<(), Fail> {
-    let a = rt.alloc();
-    let ends = [Instr::Return];
-    let takes_none = [("worker", 0, 2, 0)];
-    assert_eq!(rt; of_functions(a, &takes_none, &[], &ends), Some(false));
-    let others = [("workers", 0, 2, 1)];
-    assert_eq!(rt; of_functions(a, &others, &[], &ends), Some(false));
-    // more parameters than registers
-    let narrow = [("worker", 0, 0, 1)];
-    assert_eq!(rt; of_functions(a, &narrow, &[], &ends), Some(false));
-    // two functions of one name
-    let two = [WORKER, ("worker", 1, 2, 1)];
-    assert_eq!(rt;
-        of_functions(a, &two, &[], &[Instr::Return, Instr::Return]),
-        Some(false)
-    );
-    Ok(())
+fn one_worker_takes_its_number(rt: HostRuntime) {
+    assert_eq!(rt; has_another(rt.alloc(), workers()), None);
+}
+
+fn widths() -> &'static [Row] {
+    static ROWS: [Row; 2] = [
+        (
+            "65,535 registers",
+            &[("worker", 0, 65_535, 1)],
+            &[],
+            &[END],
+            true,
+        ),
+        (
+            "65,536 registers",
+            &[("worker", 0, 65_536, 1)],
+            &[],
+            &[END],
+            false,
+        ),
+    ];
+    &ROWS
 }
 
 // A worker over a variable and an array of that length.
 fn over_an_array<A: Allocator + Copy>(alloc: A, length: u32) -> Result<Parts<A>, AllocError> {
-    let mut parts = parts_of(alloc, &[WORKER], &[], &[Instr::Return], &[])?;
-    parts.globals.push(global(alloc, Some(length))?)?;
-    Ok(parts)
+    parts_over(alloc, global(alloc, Some(length))?)
 }
 
 // What `validate` says of it.
@@ -173,15 +372,9 @@ fn of_array<A: Allocator + Copy>(alloc: A, length: u32) -> Option<bool> {
 }
 
 #[test]
-fn limits_are_kept(rt: HostRuntime) -> Result<(), Fail> {
-    let a = rt.alloc();
-    let ends = [Instr::Return];
-    let widest = [("worker", 0, 65_535, 1)];
-    assert_eq!(rt; of_functions(a, &widest, &[], &ends), Some(true));
-    let wider = [("worker", 0, 65_536, 1)];
-    assert_eq!(rt; of_functions(a, &wider, &[], &ends), Some(false));
+fn limits_are_kept(rt: HostRuntime) {
+    assert_eq!(rt; has_another(rt.alloc(), widths()), None);
     // the variable is one cell
-    assert_eq!(rt; of_array(a, MOST_CELLS as u32 - 1), Some(true));
-    assert_eq!(rt; of_array(a, MOST_CELLS as u32), Some(false));
-    Ok(())
+    assert!(rt; of_array(rt.alloc(), MOST_CELLS as u32 - 1) == Some(true));
+    assert!(rt; of_array(rt.alloc(), MOST_CELLS as u32) == Some(false));
 }
