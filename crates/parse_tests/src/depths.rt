@@ -5,7 +5,10 @@ use lex::lex;
 use lex::token::{Span, Token};
 use parse::parse;
 use std::alloc::{AllocError, Allocator};
-use std::test::Fail;
+use syntax::tree::Stmt;
+
+/// A piece of a text, and how often it stands there.
+type Piece<'a> = (&'a str, usize);
 
 // Appends a text so many times.
 fn push_times<A: Allocator>(
@@ -19,137 +22,137 @@ fn push_times<A: Allocator>(
     Ok(())
 }
 
-// Appends what stands before, a text so many times, what stands between, another as often, and what stands behind.
-fn push_pairs<A: Allocator>(
-    to: &mut String<A>,
-    before: &str,
-    open: &str,
-    between: &str,
-    close: &str,
-    behind: &str,
-    times: usize,
-) -> Result<(), AllocError> {
-    to.push_str(before)?;
-    push_times(to, open, times)?;
-    to.push_str(between)?;
-    push_times(to, close, times)?;
-    to.push_str(behind)
+// Appends pieces.
+fn push_pieces<A: Allocator>(to: &mut String<A>, pieces: &[Piece]) -> Result<(), AllocError> {
+    for (text, times) in pieces {
+        push_times(to, text, *times)?;
+    }
+    Ok(())
 }
 
-// A worker with a declaration whose first value stands in so many pairs of parentheses.
-fn nested<A: Allocator + Copy>(alloc: A, pairs: usize) -> Result<String<A>, AllocError> {
+// The text of pieces.
+fn text_of<A: Allocator + Copy>(alloc: A, pieces: &[Piece]) -> Result<String<A>, AllocError> {
     let mut text = String::new(alloc);
-    let before = "void worker(int self) { int a = ";
-    push_pairs(&mut text, before, "(", "1", ")", "; }", pairs)?;
+    push_pieces(&mut text, pieces)?;
     Ok(text)
-}
-
-// A worker with so many blocks in one another.
-fn blocks<A: Allocator + Copy>(alloc: A, times: usize) -> Result<String<A>, AllocError> {
-    let mut text = String::new(alloc);
-    push_pairs(
-        &mut text,
-        "void worker(int self) { ",
-        "{ ",
-        "",
-        "} ",
-        "}",
-        times,
-    )?;
-    Ok(text)
-}
-
-// A worker with a part, and in it a text so many times.
-fn repeated<A: Allocator + Copy>(
-    alloc: A,
-    before: &str,
-    text: &str,
-    times: usize,
-    after: &str,
-) -> Result<String<A>, AllocError> {
-    let mut all = String::new(alloc);
-    push_pairs(&mut all, before, text, "", "", after, times)?;
-    Ok(all)
 }
 
 // The depth of a text's tree, or the number and the place of its fault.
 fn depth_of<A: Allocator + Copy>(alloc: A, text: &str) -> Result<usize, (u32, Option<Span>)> {
-    match unit_of(alloc, text) {
-        Ok(unit) => Ok(unit.depth()),
-        Err(fault) => Err(fault),
-    }
+    unit_of(alloc, text).map(|unit| unit.depth())
 }
 
-// The same of so many pairs of parentheses.
-fn depth_at<A: Allocator + Copy>(
+// The same of pieces.
+fn depth_in<A: Allocator + Copy>(
     alloc: A,
-    pairs: usize,
+    pieces: &[Piece],
 ) -> Option<Result<usize, (u32, Option<Span>)>> {
-    match nested(alloc, pairs) {
+    match text_of(alloc, pieces) {
         Ok(text) => Some(depth_of(alloc, text.as_str())),
         Err(_) => None,
     }
 }
 
+// The same of a worker with a declaration whose first value stands in so many pairs of parentheses.
+fn depth_at<A: Allocator + Copy>(
+    alloc: A,
+    pairs: usize,
+) -> Option<Result<usize, (u32, Option<Span>)>> {
+    let before = "void worker(int self) { int a = ";
+    depth_in(
+        alloc,
+        &[
+            (before, 1),
+            ("(", pairs),
+            ("1", 1),
+            (")", pairs),
+            ("; }", 1),
+        ],
+    )
+}
+
 #[test]
-fn a_program_may_be_100_deep(rt: HostRuntime) -> Result<(), Fail> {
+fn a_program_may_be_100_deep(rt: HostRuntime) {
     assert!(rt; depth_at(rt.alloc(), 97) == Some(Ok(100)));
     let one = Span {
         start: 130,
         end: 131,
     };
     assert!(rt; depth_at(rt.alloc(), 98) == Some(Err((11, Some(one)))));
-    Ok(())
 }
 
-// The number of a text's fault, or 0.
-fn number_of<A: Allocator + Copy>(alloc: A, text: &str) -> u32 {
+// The number of a text's fault.
+fn number_of<A: Allocator + Copy>(alloc: A, text: &str) -> Option<u32> {
     match fault_of(alloc, text) {
-        Some(fault) => fault.0,
-        None => 0,
+        Some(fault) => Some(fault.0),
+        None => None,
     }
 }
 
-// The same of so many blocks.
-fn number_at<A: Allocator + Copy>(alloc: A, times: usize) -> Option<u32> {
-    match blocks(alloc, times) {
+// The same of pieces, if memory is there.
+fn number_in<A: Allocator + Copy>(alloc: A, pieces: &[Piece]) -> Option<Option<u32>> {
+    match text_of(alloc, pieces) {
         Ok(text) => Some(number_of(alloc, text.as_str())),
         Err(_) => None,
     }
 }
 
-#[test]
-fn blocks_may_be_100_deep(rt: HostRuntime) -> Result<(), Fail> {
-    assert_eq!(rt; number_at(rt.alloc(), 99), Some(0));
-    assert_eq!(rt; number_at(rt.alloc(), 100), Some(11));
-    Ok(())
+// The same of a worker with so many blocks in one another.
+fn number_at<A: Allocator + Copy>(alloc: A, times: usize) -> Option<Option<u32>> {
+    let before = "void worker(int self) { ";
+    number_in(
+        alloc,
+        &[(before, 1), ("{ ", times), ("} ", times), ("}", 1)],
+    )
 }
 
 #[test]
-fn a_long_chain_is_too_deep(rt: HostRuntime) -> Result<(), Fail> {
-    let before = "void worker(int self) { a = 1";
-    let text = repeated(rt.alloc(), before, " + 1", 1000, "; }")?;
-    assert_eq!(rt; number_of(rt.alloc(), text.as_str()), 11);
-    Ok(())
+fn blocks_may_be_100_deep(rt: HostRuntime) {
+    assert!(rt; number_at(rt.alloc(), 99) == Some(None));
+    assert!(rt; number_at(rt.alloc(), 100) == Some(Some(11)));
+}
+
+#[test]
+fn a_long_chain_is_too_deep(rt: HostRuntime) {
+    let chain = [
+        ("void worker(int self) { a = 1", 1),
+        (" + 1", 1000),
+        ("; }", 1),
+    ];
+    assert!(rt; number_in(rt.alloc(), &chain) == Some(Some(11)));
+}
+
+// How many statements a body has.
+fn length_of<A: Allocator>(body: Option<&[Stmt<A>]>) -> Option<usize> {
+    match body {
+        Some(body) => Some(body.len()),
+        None => None,
+    }
 }
 
 // How many statements the one function of a text has.
 fn count_statements<A: Allocator + Copy>(alloc: A, text: &str) -> Option<usize> {
-    match unit_of(alloc, text) {
-        Ok(unit) => match body_of(&unit) {
-            Some(body) => Some(body.len()),
-            None => None,
-        },
+    unit_of(alloc, text)
+        .ok()
+        .and_then(|unit| length_of(body_of(&unit)))
+}
+
+// The same of pieces.
+fn count_statements_in<A: Allocator + Copy>(alloc: A, pieces: &[Piece]) -> Option<usize> {
+    match text_of(alloc, pieces) {
+        Ok(text) => count_statements(alloc, text.as_str()),
         Err(_) => None,
     }
 }
 
 #[test]
-fn a_block_may_be_long(rt: HostRuntime) -> Result<(), Fail> {
-    let before = "void worker(int self) { ";
-    let text = repeated(rt.alloc(), before, "a = b[1]; ", 10000, "}")?;
-    assert_eq!(rt; count_statements(rt.alloc(), text.as_str()), Some(10000));
-    Ok(())
+fn a_block_may_be_long(rt: HostRuntime) {
+    let block = [
+        ("void worker(int self) { ", 1),
+        ("a = b[1]; ", 10000),
+        ("}", 1),
+    ];
+    assert!(rt; count_statements_in(rt.alloc(), &block) == Some(10000));
 }
 
 /// One part of a program that may stand in it as often as a text has room for: what stands before and behind it, and how
@@ -178,59 +181,68 @@ fn long() -> &'static [Part] {
 }
 
 // Whether such a text has no fault.
-fn is_accepted<A: Allocator + Copy>(
-    alloc: A,
-    before: &str,
-    one: &str,
-    times: usize,
-    after: &str,
-) -> bool {
-    match repeated(alloc, before, one, times, after) {
-        Ok(text) => fault_of(alloc, text.as_str()).is_none(),
-        Err(_) => false,
-    }
+fn is_accepted<A: Allocator + Copy>(alloc: A, part: &Part) -> bool {
+    let (before, one, times, after) = *part;
+    number_in(alloc, &[(before, 1), (one, times), (after, 1)]) == Some(None)
 }
 
 #[test]
-fn no_list_is_too_long(rt: HostRuntime) -> Result<(), Fail> {
-    for row in long() {
-        let (before, one, times, after) = *row;
-        assert!(rt; is_accepted(rt.alloc(), before, one, times, after), "{one}");
+fn no_list_is_too_long(rt: HostRuntime) {
+    for part in long() {
+        assert!(rt; is_accepted(rt.alloc(), part), "{}", part.1);
+    }
+}
+
+// Appends tokens so many times.
+fn extend_times<'a, A: Allocator>(
+    to: &mut Vec<Token<'a>, A>,
+    tokens: &[Token<'a>],
+    times: usize,
+) -> Result<(), AllocError> {
+    for _ in 0..times {
+        to.extend_from_slice(tokens)?;
     }
     Ok(())
 }
 
-// Appends the tokens of a text so many times, which stand where they do in it.
+// Appends the tokens of a piece, which stand where they do in it.
 fn push_tokens<'a, A: Allocator + Copy>(
     alloc: A,
     to: &mut Vec<Token<'a>, A>,
-    text: &'a str,
-    times: usize,
+    piece: &Piece<'a>,
 ) -> Result<(), AllocError> {
-    let Ok(tokens) = lex(alloc, text) else {
-        return Err(AllocError);
-    };
-    for _ in 0..times {
-        to.extend_from_slice(tokens.as_slice())?;
+    let (text, times) = *piece;
+    match lex(alloc, text) {
+        Ok(tokens) => extend_times(to, tokens.as_slice(), times),
+        Err(_) => Err(AllocError),
+    }
+}
+
+// Appends the tokens of pieces.
+fn push_all_tokens<'a, A: Allocator + Copy>(
+    alloc: A,
+    to: &mut Vec<Token<'a>, A>,
+    pieces: &[Piece<'a>],
+) -> Result<(), AllocError> {
+    for piece in pieces {
+        push_tokens(alloc, to, piece)?;
     }
     Ok(())
 }
 
-// The tokens of a function's head with so many attributes and one more.
-fn with_attributes<'a, A: Allocator + Copy>(
+// The tokens of pieces.
+fn tokens_of<'a, A: Allocator + Copy>(
     alloc: A,
-    times: usize,
+    pieces: &[Piece<'a>],
 ) -> Result<Vec<Token<'a>, A>, AllocError> {
     let mut tokens = Vec::new(alloc);
-    push_tokens(alloc, &mut tokens, "[[transaction_safe", 1)?;
-    push_tokens(alloc, &mut tokens, ",transaction_safe", times)?;
-    push_tokens(alloc, &mut tokens, "]] void f(void);", 1)?;
+    push_all_tokens(alloc, &mut tokens, pieces)?;
     Ok(tokens)
 }
 
-// Whether such tokens have no fault.
-fn are_accepted<A: Allocator + Copy>(alloc: A, times: usize) -> bool {
-    match with_attributes(alloc, times) {
+// Whether the tokens of pieces have no fault.
+fn are_accepted<A: Allocator + Copy>(alloc: A, pieces: &[Piece]) -> bool {
+    match tokens_of(alloc, pieces) {
         Ok(tokens) => parse(alloc, tokens.as_slice()).is_ok(),
         Err(_) => false,
     }
@@ -239,5 +251,10 @@ fn are_accepted<A: Allocator + Copy>(alloc: A, times: usize) -> bool {
 /// More attributes than a text has room for.
 #[test]
 fn no_list_of_attributes_is_too_long(rt: HostRuntime) {
-    assert!(rt; are_accepted(rt.alloc(), 100_000));
+    let head = [
+        ("[[transaction_safe", 1),
+        (",transaction_safe", 100_000),
+        ("]] void f(void);", 1),
+    ];
+    assert!(rt; are_accepted(rt.alloc(), &head));
 }

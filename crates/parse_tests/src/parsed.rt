@@ -1,19 +1,24 @@
 //! A text's tree, or its first fault.
 
 use lex::lex;
-use lex::token::Span;
+use lex::token::{Span, Token};
 use parse::parse;
 use std::alloc::{AllocError, Allocator};
 use syntax::tree::{Item, Stmt, Unit};
+
+// The tree of tokens, or the number and the place of their fault.
+fn unit_in<A: Allocator + Copy>(
+    alloc: A,
+    tokens: &[Token],
+) -> Result<Unit<A>, (u32, Option<Span>)> {
+    parse(alloc, tokens).map_err(|fault| (fault.number(), fault.span()))
+}
 
 /// The tree of a text, or the number and the place of its fault. One that has no tokens has the number 1.
 pub fn unit_of<A: Allocator + Copy>(alloc: A, text: &str) -> Result<Unit<A>, (u32, Option<Span>)> {
     match lex(alloc, text) {
         Err(_) => Err((1, None)),
-        Ok(tokens) => match parse(alloc, tokens.as_slice()) {
-            Ok(unit) => Ok(unit),
-            Err(fault) => Err((fault.number(), fault.span())),
-        },
+        Ok(tokens) => unit_in(alloc, tokens.as_slice()),
     }
 }
 

@@ -3,7 +3,6 @@
 use crate::parsed::{body_of, unit_of, worker_of};
 use lex::token::{Scalar, Span};
 use std::alloc::Allocator;
-use std::test::Fail;
 use syntax::tree::{Attribute, BinaryOp, Expr, Function, Global, Item, Simple, Stmt, Unit};
 
 /// Statements of a worker that are one `if`, and whether the `else` is that of the inner one.
@@ -19,11 +18,11 @@ fn choices() -> &'static [Choice] {
     &ROWS
 }
 
-// Of a statement that is one `if`, whether its `else` is that of an `if` in it.
-fn is_nearest<A: Allocator>(body: &[Stmt<A>]) -> Option<bool> {
+// Of a body that is one `if`, whether its `else` is that of an `if` in it.
+fn is_nearest<A: Allocator>(body: Option<&[Stmt<A>]>) -> Option<bool> {
     match body {
-        [Stmt::If(_, _, Some(_))] => Some(false),
-        [Stmt::If(_, then, None)] => {
+        Some([Stmt::If(_, _, Some(_))]) => Some(false),
+        Some([Stmt::If(_, then, None)]) => {
             if matches!(then.get(), Stmt::If(_, _, Some(_))) {
                 Some(true)
             } else {
@@ -36,13 +35,9 @@ fn is_nearest<A: Allocator>(body: &[Stmt<A>]) -> Option<bool> {
 
 // The same of a text.
 fn is_nearest_in<A: Allocator + Copy>(alloc: A, text: &str) -> Option<bool> {
-    match unit_of(alloc, text) {
-        Err(_) => None,
-        Ok(unit) => match body_of(&unit) {
-            Some(body) => is_nearest(body),
-            None => None,
-        },
-    }
+    unit_of(alloc, text)
+        .ok()
+        .and_then(|unit| is_nearest(body_of(&unit)))
 }
 
 // Whether that is so of a row.
@@ -80,10 +75,10 @@ fn sums() -> &'static [Sum] {
     &ROWS
 }
 
-// Of a statement that is a value, its outermost operator, and whether the operands are operators' values.
-fn grouped<A: Allocator>(body: &[Stmt<A>]) -> Option<(BinaryOp, bool, bool)> {
+// Of a body that is a value, its outermost operator, and whether the operands are operators' values.
+fn grouped<A: Allocator>(body: Option<&[Stmt<A>]>) -> Option<(BinaryOp, bool, bool)> {
     match body {
-        [Stmt::Do(Simple::Evaluate(Expr::Binary(op, a, b, _)))] => {
+        Some([Stmt::Do(Simple::Evaluate(Expr::Binary(op, a, b, _)))]) => {
             let left = matches!(a.get(), Expr::Binary(_, _, _, _));
             let right = matches!(b.get(), Expr::Binary(_, _, _, _));
             Some((*op, left, right))
@@ -94,13 +89,9 @@ fn grouped<A: Allocator>(body: &[Stmt<A>]) -> Option<(BinaryOp, bool, bool)> {
 
 // The same of a text.
 fn grouped_in<A: Allocator + Copy>(alloc: A, text: &str) -> Option<(BinaryOp, bool, bool)> {
-    match unit_of(alloc, text) {
-        Err(_) => None,
-        Ok(unit) => match body_of(&unit) {
-            Some(body) => grouped(body),
-            None => None,
-        },
-    }
+    unit_of(alloc, text)
+        .ok()
+        .and_then(|unit| grouped(body_of(&unit)))
 }
 
 // Whether a value is grouped as its row tells.
@@ -144,7 +135,7 @@ fn keeps_parameters<A: Allocator>(f: &Function<A>) -> bool {
     }
 }
 
-// Whether this is the tree of the text.
+// Whether the tree's one item is the function of the text.
 fn keeps_function<A: Allocator>(unit: &Unit<A>) -> bool {
     match unit.items.as_slice() {
         [Item::Function(f)] => {
@@ -154,14 +145,17 @@ fn keeps_function<A: Allocator>(unit: &Unit<A>) -> bool {
     }
 }
 
-#[test]
-fn a_function_keeps_its_attributes_and_parameters(rt: HostRuntime) -> Result<(), Fail> {
-    match unit_of(rt.alloc(), DECLARED) {
-        Ok(unit) => assert!(rt; keeps_function(&unit)),
-        Err(_) => assert!(rt; false),
-    }
-    Ok(())
+// Whether the text has this tree.
+fn is_function_kept<A: Allocator + Copy>(alloc: A) -> bool {
+    unit_of(alloc, DECLARED).is_ok_and(|unit| keeps_function(&unit))
 }
+
+#[test]
+fn a_function_keeps_its_attributes_and_parameters(rt: HostRuntime) {
+    assert!(rt; is_function_kept(rt.alloc()));
+}
+
+const GLOBALS: &str = "unsigned a = 7u, b[3] = {1, -2,}; signed c;";
 
 // Whether a global is an `unsigned` with no length, and 7 its first value.
 fn is_seven<A: Allocator>(g: &Global<A>) -> bool {
@@ -211,11 +205,12 @@ fn keeps_values<A: Allocator>(unit: &Unit<A>) -> bool {
     }
 }
 
+// Whether the text has this tree.
+fn are_values_kept<A: Allocator + Copy>(alloc: A) -> bool {
+    unit_of(alloc, GLOBALS).is_ok_and(|unit| keeps_values(&unit))
+}
+
 #[test]
-fn globals_keep_their_lengths_and_values(rt: HostRuntime) -> Result<(), Fail> {
-    match unit_of(rt.alloc(), "unsigned a = 7u, b[3] = {1, -2,}; signed c;") {
-        Ok(unit) => assert!(rt; keeps_values(&unit)),
-        Err(_) => assert!(rt; false),
-    }
-    Ok(())
+fn globals_keep_their_lengths_and_values(rt: HostRuntime) {
+    assert!(rt; are_values_kept(rt.alloc()));
 }
