@@ -3,16 +3,24 @@
 use crate::checked::fault_of;
 use lex::token::Span;
 use std::alloc::{AllocError, Allocator};
-use std::test::Fail;
 
 /// The functions of a chain.
 const LENGTH: u64 = 20000;
+
+/// A prototype of a function of the chain.
+fn add_prototype<A: Allocator + Copy>(
+    text: &mut String<A>,
+    alloc: A,
+    i: u64,
+) -> Result<(), AllocError> {
+    text.push_str(format!(in alloc; "void f{i}(void);")?.as_str())
+}
 
 /// Prototypes of the chain's functions.
 fn add_prototypes<A: Allocator + Copy>(text: &mut String<A>, alloc: A) -> Result<(), AllocError> {
     text.push_str("int x;")?;
     for i in 0..LENGTH {
-        text.push_str(format!(in alloc; "void f{i}(void);")?.as_str())?;
+        add_prototype(text, alloc, i)?;
     }
     Ok(())
 }
@@ -62,36 +70,41 @@ fn meets<A: Allocator + Copy>(alloc: A, chain: &str) -> bool {
     fault_behind(alloc, chain, BARE) == bare && fault_behind(alloc, chain, ENCLOSED) == Some(None)
 }
 
-/// The chain from its first function on.
-fn add_forwards<A: Allocator + Copy>(text: &mut String<A>, alloc: A) -> Result<(), AllocError> {
-    add_prototypes(text, alloc)?;
+/// The chain's functions, from the first or from the last one on.
+fn add_links<A: Allocator + Copy>(
+    text: &mut String<A>,
+    alloc: A,
+    from_last: bool,
+) -> Result<(), AllocError> {
     for i in 0..LENGTH {
-        add_link(text, alloc, i)?;
+        let link = if from_last { LENGTH - 1 - i } else { i };
+        add_link(text, alloc, link)?;
     }
     Ok(())
 }
 
-/// The chain from its last function on.
-fn add_backwards<A: Allocator + Copy>(text: &mut String<A>, alloc: A) -> Result<(), AllocError> {
-    add_prototypes(text, alloc)?;
-    for i in 0..LENGTH {
-        add_link(text, alloc, LENGTH - 1 - i)?;
+/// The chain in one of these orders.
+fn chain<A: Allocator + Copy>(alloc: A, from_last: bool) -> Result<String<A>, AllocError> {
+    let mut text = String::new(alloc);
+    add_prototypes(&mut text, alloc)?;
+    add_links(&mut text, alloc, from_last)?;
+    Ok(text)
+}
+
+/// Whether it meets the rules, and memory is there.
+fn meets_in_order<A: Allocator + Copy>(alloc: A, from_last: bool) -> bool {
+    match chain(alloc, from_last) {
+        Ok(text) => meets(alloc, text.as_str()),
+        Err(_) => false,
     }
-    Ok(())
 }
 
 #[test]
-fn a_chain_from_the_first_function(rt: HostRuntime) -> Result<(), Fail> {
-    let mut text = String::new(rt.alloc());
-    add_forwards(&mut text, rt.alloc())?;
-    assert!(rt; meets(rt.alloc(), text.as_str()));
-    Ok(())
+fn a_chain_from_the_first_function(rt: HostRuntime) {
+    assert!(rt; meets_in_order(rt.alloc(), false));
 }
 
 #[test]
-fn a_chain_from_the_last_function(rt: HostRuntime) -> Result<(), Fail> {
-    let mut text = String::new(rt.alloc());
-    add_backwards(&mut text, rt.alloc())?;
-    assert!(rt; meets(rt.alloc(), text.as_str()));
-    Ok(())
+fn a_chain_from_the_last_function(rt: HostRuntime) {
+    assert!(rt; meets_in_order(rt.alloc(), true));
 }
