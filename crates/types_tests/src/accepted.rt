@@ -2,35 +2,37 @@
 
 use crate::checked::{fault_of, unit_of};
 use std::alloc::Allocator;
-use std::test::Fail;
 use syntax::tree::Unit;
 use types::{Typed, check};
 
-const ROWS: [&str; 10] = [
-    "void worker(int self) { }",
-    "void worker(int); void worker(int self) { }",
-    // a local is known in its own initialiser, also where it hides a global or a function
-    "int a[2]; void worker(int self) { int v = v; int a = a + 1; int worker = worker; }",
-    // a scope inside hides what is outside
-    "void worker(int self) { { int self; } for (int self = 1; self; self++) { int self; } do { int k; } while (self); }",
-    // a `for` has a scope round its body's
-    "int same(int i) { return i; } void worker(int self) { for (int i; i;) { int i; same(i); } }",
-    // a value that is dropped may be none
-    "void f(void) { } void worker(int self) { f(); (f()); printf(\"%%\"); printf(\"\"); }",
-    // the types of figures
-    "unsigned u; void worker(int self) { printf(\"%d%u%d%u\", u < 1, self + u, -self, self ? u : 1); }",
-    "unsigned u; void worker(int self) { printf(\"%d%u%u\", self << u, u >> 1, (unsigned)self); }",
-    // loops in loops, and returns of both kinds
-    "int f(int a) { while (1) { do { break; } while (0); continue; } return a; } void worker(int self) { return; }",
-    "int a[4095] = {1, -2,}, b = 3; void worker(int self) { a[b] = a[a[0]]; b += 1; a[1]++; --b; }",
-];
+/// The rows stand in a function, so that no proof but its own looks at them.
+fn rows() -> &'static [&'static str] {
+    static ROWS: [&str; 10] = [
+        "void worker(int self) { }",
+        "void worker(int); void worker(int self) { }",
+        // a local is known in its own initialiser, also where it hides a global or a function
+        "int a[2]; void worker(int self) { int v = v; int a = a + 1; int worker = worker; }",
+        // a scope inside hides what is outside
+        "void worker(int self) { { int self; } for (int self = 1; self; self++) { int self; } do { int k; } while (self); }",
+        // a `for` has a scope round its body's
+        "int same(int i) { return i; } void worker(int self) { for (int i; i;) { int i; same(i); } }",
+        // a value that is dropped may be none
+        "void f(void) { } void worker(int self) { f(); (f()); printf(\"%%\"); printf(\"\"); }",
+        // the types of figures
+        "unsigned u; void worker(int self) { printf(\"%d%u%d%u\", u < 1, self + u, -self, self ? u : 1); }",
+        "unsigned u; void worker(int self) { printf(\"%d%u%u\", self << u, u >> 1, (unsigned)self); }",
+        // loops in loops, and returns of both kinds
+        "int f(int a) { while (1) { do { break; } while (0); continue; } return a; } void worker(int self) { return; }",
+        "int a[4095] = {1, -2,}, b = 3; void worker(int self) { a[b] = a[a[0]]; b += 1; a[1]++; --b; }",
+    ];
+    &ROWS
+}
 
 #[test]
-fn right_programs_are_accepted(rt: HostRuntime) -> Result<(), Fail> {
-    for text in ROWS {
-        assert_eq!(rt; fault_of(rt.alloc(), text), None, "{text}");
+fn right_programs_are_accepted(rt: HostRuntime) {
+    for text in rows() {
+        assert!(rt; fault_of(rt.alloc(), text) == None, "{text}");
     }
-    Ok(())
 }
 
 // Whether these are the functions and the first cells of the tables, and so many the items.
@@ -45,19 +47,25 @@ fn leaves_tables<A: Allocator + Copy>(
     functions: &[usize],
     cells: &[u32],
 ) -> bool {
-    match check(alloc, unit) {
-        Ok(typed) => has_tables(&typed, functions, cells),
-        Err(_) => false,
+    check(alloc, unit).is_ok_and(|typed| has_tables(&typed, functions, cells))
+}
+
+// The same of a text's tree.
+fn has_tables_of<A: Allocator + Copy>(
+    alloc: A,
+    text: &str,
+    functions: &[usize],
+    cells: &[u32],
+) -> bool {
+    match unit_of(alloc, text) {
+        Some(unit) => leaves_tables(alloc, unit, functions, cells),
+        None => false,
     }
 }
 
 #[test]
-fn the_tables_name_functions_and_cells(rt: HostRuntime) -> Result<(), Fail> {
+fn the_tables_name_functions_and_cells(rt: HostRuntime) {
     let text =
         "int x, a[3]; void f(void); unsigned y; void worker(int self) { } void f(void) { } int z;";
-    match unit_of(rt.alloc(), text) {
-        None => assert!(rt; false),
-        Some(unit) => assert!(rt; leaves_tables(rt.alloc(), unit, &[3, 4], &[0, 1, 4, 5])),
-    }
-    Ok(())
+    assert!(rt; has_tables_of(rt.alloc(), text, &[3, 4], &[0, 1, 4, 5]));
 }

@@ -11,20 +11,21 @@ use types::check;
 pub fn unit_of<A: Allocator + Copy>(alloc: A, text: &str) -> Option<Unit<A>> {
     match lex(alloc, text) {
         Err(_) => None,
-        Ok(tokens) => match parse(alloc, tokens.as_slice()) {
-            Ok(unit) => Some(unit),
-            Err(_) => None,
-        },
+        Ok(tokens) => parse(alloc, tokens.as_slice()).ok(),
     }
+}
+
+// The number and the place of a tree's fault.
+fn fault_in<A: Allocator + Copy>(alloc: A, unit: Unit<A>) -> Option<(u32, Option<Span>)> {
+    check(alloc, unit)
+        .err()
+        .map(|fault| (fault.number(), fault.span()))
 }
 
 /// The number and the place of a text's fault. One that is no program has the number 1.
 pub fn fault_of<A: Allocator + Copy>(alloc: A, text: &str) -> Option<(u32, Option<Span>)> {
     match unit_of(alloc, text) {
         None => Some((1, None)),
-        Some(unit) => match check(alloc, unit) {
-            Ok(_) => None,
-            Err(fault) => Some((fault.number(), fault.span())),
-        },
+        Some(unit) => fault_in(alloc, unit),
     }
 }

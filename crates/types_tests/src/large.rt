@@ -2,9 +2,19 @@
 
 use crate::checked::fault_of;
 use std::alloc::{AllocError, Allocator};
-use std::test::Fail;
 
-/// Adds `before`, the number and `behind`, for each number below `n`.
+/// Adds `before`, the number and `behind`.
+fn add_one<A: Allocator + Copy>(
+    text: &mut String<A>,
+    alloc: A,
+    before: &str,
+    i: usize,
+    behind: &str,
+) -> Result<(), AllocError> {
+    text.push_str(format!(in alloc; "{before}{i}{behind}")?.as_str())
+}
+
+/// The same for each number below `n`.
 fn add_each<A: Allocator + Copy>(
     text: &mut String<A>,
     alloc: A,
@@ -13,88 +23,99 @@ fn add_each<A: Allocator + Copy>(
     behind: &str,
 ) -> Result<(), AllocError> {
     for i in 0..n {
-        text.push_str(before)?;
-        text.push_str(format!(in alloc; "{i}")?.as_str())?;
-        text.push_str(behind)?;
+        add_one(text, alloc, before, i, behind)?;
     }
     Ok(())
 }
 
-/// Adds a beginning, two such rows of so many each, and what stands between and behind them.
-fn add_all<A: Allocator + Copy>(
+/// What stands once, and then the two words round each number.
+type Part = (&'static str, &'static str, &'static str);
+
+/// Adds parts, with so many numbers each.
+fn add_parts<A: Allocator + Copy>(
     text: &mut String<A>,
     alloc: A,
     n: usize,
-    words: [&str; 7],
+    parts: &[Part],
 ) -> Result<(), AllocError> {
-    let [begin, one, one_behind, between, other, other_behind, end] = words;
-    text.push_str(begin)?;
-    add_each(text, alloc, one, n, one_behind)?;
-    text.push_str(between)?;
-    add_each(text, alloc, other, n, other_behind)?;
-    text.push_str(end)
+    for (once, before, behind) in parts {
+        text.push_str(once)?;
+        add_each(text, alloc, before, n, behind)?;
+    }
+    Ok(())
 }
 
-/// The text of these.
+/// The text of parts and an end.
 fn text_of<A: Allocator + Copy>(
     alloc: A,
     n: usize,
-    words: [&str; 7],
+    parts: &[Part],
+    end: &str,
 ) -> Result<String<A>, AllocError> {
     let mut text = String::new(alloc);
-    add_all(&mut text, alloc, n, words)?;
+    add_parts(&mut text, alloc, n, parts)?;
+    text.push_str(end)?;
     Ok(text)
 }
 
-/// Whether such a text is a program without a fault.
-fn is_right<A: Allocator + Copy>(alloc: A, n: usize, words: [&str; 7]) -> bool {
-    match text_of(alloc, n, words) {
+/// How many numbers, the parts and the end.
+type Row = (usize, &'static [Part], &'static str);
+
+/// The rows stand in a function, so that no proof but its own looks at them.
+fn rows() -> &'static [Row] {
+    static ROWS: [Row; 4] = [
+        // globals
+        (
+            4096,
+            &[
+                ("", "int g", ";"),
+                ("void worker(int self) { __transaction_atomic {", "g", "++;"),
+            ],
+            "} }",
+        ),
+        // functions
+        (
+            20000,
+            &[
+                ("", "void f", "(void) { }"),
+                ("void worker(int self) {", "f", "();"),
+            ],
+            "}",
+        ),
+        // locals
+        (
+            20000,
+            &[
+                ("void worker(int self) {", "int v", " = self;"),
+                ("", "v", ";"),
+            ],
+            "}",
+        ),
+        // parameters
+        (
+            10000,
+            &[
+                ("void worker(int self) { } void f(int self", ", int q", ""),
+                (") { f(self", ", q", ""),
+            ],
+            "); }",
+        ),
+    ];
+    &ROWS
+}
+
+/// Whether the text of a row is a program without a fault.
+fn is_right<A: Allocator + Copy>(alloc: A, row: &Row) -> bool {
+    let (n, parts, end) = row;
+    match text_of(alloc, *n, parts, end) {
         Ok(text) => fault_of(alloc, text.as_str()) == None,
         Err(_) => false,
     }
 }
 
 #[test]
-fn no_program_has_too_many_names(rt: HostRuntime) -> Result<(), Fail> {
-    let globals = [
-        "",
-        "int g",
-        ";",
-        "void worker(int self) { __transaction_atomic {",
-        "g",
-        "++;",
-        "} }",
-    ];
-    assert!(rt; is_right(rt.alloc(), 4096, globals));
-    let functions = [
-        "",
-        "void f",
-        "(void) { }",
-        "void worker(int self) {",
-        "f",
-        "();",
-        "}",
-    ];
-    assert!(rt; is_right(rt.alloc(), 20000, functions));
-    let locals = [
-        "void worker(int self) {",
-        "int v",
-        " = self;",
-        "",
-        "v",
-        ";",
-        "}",
-    ];
-    assert!(rt; is_right(rt.alloc(), 20000, locals));
-    let parameters = [
-        "void worker(int self) { } void f(int self",
-        ", int q",
-        "",
-        ") { f(self",
-        ", q",
-        "",
-        "); }",
-    ];
-    assert!(rt; is_right(rt.alloc(), 10000, parameters));
-    Ok(())
+fn no_program_has_too_many_names(rt: HostRuntime) {
+    for row in rows() {
+        assert!(rt; is_right(rt.alloc(), row), "{} names", row.0);
+    }
 }
