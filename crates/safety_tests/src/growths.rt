@@ -4,60 +4,74 @@ use crate::checked::typed_of;
 use refusing::Refusing;
 use safety::{SafetyFault, safe};
 use std::alloc::Allocator;
-use std::test::Fail;
 use types::Typed;
 
 const SAMPLE: &str =
     "int x; [[transaction_safe]] void g(int a); void f(int b) { printf(\"%d\", b); { int c = b, d = c; g(d); } } \
 void g(int a) { x = a; } void worker(int self) { __transaction_atomic { g(self); } f(x); }";
 
-// Whether a program that a fault gives back is safe.
-fn is_safe<A: Allocator + Copy>(alloc: A, fault: SafetyFault<A>) -> bool {
-    safe(alloc, fault.into_typed()).is_ok()
+// Whether a fault is want of memory, and the program that it gives back is safe.
+fn is_safe_again<A: Allocator + Copy>(alloc: A, fault: SafetyFault<A>) -> bool {
+    let number = fault.number();
+    safe(alloc, fault.into_typed()).ok().and(Some(number)) == Some(0)
 }
 
 // Whether a program is safe at once, or else when it is given back; `None` where it has another fault than want of memory.
 fn is_safe_at_once<A: Allocator + Copy>(alloc: A, typed: Typed<A>) -> Option<bool> {
-    match safe(alloc, typed) {
-        Ok(_) => Some(true),
-        Err(fault) => {
-            if fault.number() == 0 && is_safe(alloc, fault) {
-                Some(false)
-            } else {
-                None
-            }
-        }
+    match safe(alloc, typed).err() {
+        None => Some(true),
+        Some(fault) => is_safe_again(alloc, fault).then_some(false),
     }
 }
 
-// The same of the sample where growth `nth` is refused, and whether that growth is still to come.
+// The same where growth `nth` is refused, and whether that growth is still to come. The allocator of the program is the
+// one that refuses.
+fn is_safe_where_refused<A: Allocator, B: Allocator + Copy>(
+    refusing: &Refusing<A>,
+    alloc: B,
+    typed: Typed<B>,
+    nth: u64,
+) -> Option<(bool, bool)> {
+    refusing.refuse(nth);
+    match is_safe_at_once(alloc, typed) {
+        None => None,
+        Some(at_once) => Some((at_once, refusing.is_waiting())),
+    }
+}
+
+// The same of the sample.
+fn refused_in<A: Allocator, B: Allocator + Copy>(
+    refusing: &Refusing<A>,
+    alloc: B,
+    nth: u64,
+) -> Option<(bool, bool)> {
+    match typed_of(alloc, SAMPLE) {
+        None => None,
+        Some(typed) => is_safe_where_refused(refusing, alloc, typed, nth),
+    }
+}
+
+// The same over an allocator.
 fn refused_at<A: Allocator + Copy>(inner: A, nth: u64) -> Option<(bool, bool)> {
     let alloc = Refusing::new(inner, 0);
-    match typed_of(&alloc, SAMPLE) {
-        None => None,
-        Some(typed) => {
-            alloc.refuse(nth);
-            match is_safe_at_once(&alloc, typed) {
-                None => None,
-                Some(at_once) => Some((at_once, alloc.is_waiting())),
-            }
+    refused_in(&alloc, &alloc, nth)
+}
+
+// How many growths the sample takes, each of which was refused once; `None` where one was made in spite of that, or not
+// made at last.
+fn growths<A: Allocator + Copy>(inner: A) -> Option<u64> {
+    let mut met = 0;
+    for nth in 1..200u64 {
+        match refused_at(inner, nth) {
+            Some((true, true)) => return Some(met),
+            Some((false, false)) => met = nth,
+            _ => return None,
         }
     }
+    None
 }
 
 #[test]
-fn each_growth_may_be_refused(rt: HostRuntime) -> Result<(), Fail> {
-    let mut met = 0;
-    for nth in 1..200u64 {
-        match refused_at(rt.alloc(), nth) {
-            None => assert!(rt; false),
-            Some((true, waits)) => {
-                assert!(rt; waits);
-                break;
-            }
-            Some((false, _)) => met = nth,
-        }
-    }
-    assert!(rt; met > 10 && met < 199);
-    Ok(())
+fn each_growth_may_be_refused(rt: HostRuntime) {
+    assert!(rt; growths(rt.alloc()) > Some(10));
 }

@@ -2,65 +2,72 @@
 
 use crate::checked::fault_of;
 use std::alloc::{AllocError, Allocator};
-use std::test::Fail;
+
+/// A prototype of a function.
+fn add_prototype<A: Allocator + Copy>(
+    text: &mut String<A>,
+    alloc: A,
+    i: u64,
+) -> Result<(), AllocError> {
+    text.push_str(format!(in alloc; "void f{i}(void);")?.as_str())
+}
 
 /// Prototypes of `f0` to `f19999`.
 fn add_prototypes<A: Allocator + Copy>(text: &mut String<A>, alloc: A) -> Result<(), AllocError> {
     for i in 0..20000u64 {
-        text.push_str(format!(in alloc; "void f{i}(void);")?.as_str())?;
+        add_prototype(text, alloc, i)?;
     }
     Ok(())
 }
 
-/// A function that calls another one.
-fn add_call<A: Allocator + Copy>(
+/// A function that calls the next one; `f19999` prints.
+fn add_link<A: Allocator + Copy>(text: &mut String<A>, alloc: A, i: u64) -> Result<(), AllocError> {
+    if i < 19999 {
+        let next = i + 1;
+        text.push_str(format!(in alloc; "void f{i}(void) {{ f{next}(); }}")?.as_str())
+    } else {
+        text.push_str("void f19999(void) { printf(\"a\"); }")
+    }
+}
+
+/// The functions, from the first or from the last one on.
+fn add_links<A: Allocator + Copy>(
     text: &mut String<A>,
     alloc: A,
-    caller: u64,
-    callee: u64,
+    from_last: bool,
 ) -> Result<(), AllocError> {
-    text.push_str(format!(in alloc; "void f{caller}(void) {{ f{callee}(); }}")?.as_str())
-}
-
-const ENDS: &str = "void worker(int k) { __transaction_atomic { f0(); } }";
-
-const LAST: &str = "void f19999(void) { printf(\"a\"); }";
-
-/// The chain from its first function on.
-fn add_forwards<A: Allocator + Copy>(text: &mut String<A>, alloc: A) -> Result<(), AllocError> {
-    add_prototypes(text, alloc)?;
-    for i in 0..19999u64 {
-        add_call(text, alloc, i, i + 1)?;
+    for i in 0..20000u64 {
+        let link = if from_last { 19999 - i } else { i };
+        add_link(text, alloc, link)?;
     }
-    text.push_str(LAST)?;
-    text.push_str(ENDS)
-}
-
-/// The chain from its last function on.
-fn add_backwards<A: Allocator + Copy>(text: &mut String<A>, alloc: A) -> Result<(), AllocError> {
-    add_prototypes(text, alloc)?;
-    text.push_str(LAST)?;
-    for i in 0..19999u64 {
-        let caller = 19998 - i;
-        add_call(text, alloc, caller, caller + 1)?;
-    }
-    text.push_str(ENDS)
-}
-
-#[test]
-fn a_chain_from_the_first_function(rt: HostRuntime) -> Result<(), Fail> {
-    let mut text = String::new(rt.alloc());
-    add_forwards(&mut text, rt.alloc())?;
-    let fault = fault_of(rt.alloc(), text.as_str());
-    assert!(rt; matches!(&fault, Some((40, _))));
     Ok(())
 }
 
+const WORKER: &str = "void worker(int k) { __transaction_atomic { f0(); } }";
+
+/// The chain in one of these orders, and the worker.
+fn chain<A: Allocator + Copy>(alloc: A, from_last: bool) -> Result<String<A>, AllocError> {
+    let mut text = String::new(alloc);
+    add_prototypes(&mut text, alloc)?;
+    add_links(&mut text, alloc, from_last)?;
+    text.push_str(WORKER)?;
+    Ok(text)
+}
+
+/// Whether its fault is a call of an unsafe function in an atomic transaction.
+fn is_unsafe<A: Allocator + Copy>(alloc: A, from_last: bool) -> bool {
+    match chain(alloc, from_last) {
+        Ok(text) => matches!(fault_of(alloc, text.as_str()), Some((40, _))),
+        Err(_) => false,
+    }
+}
+
 #[test]
-fn a_chain_from_the_last_function(rt: HostRuntime) -> Result<(), Fail> {
-    let mut text = String::new(rt.alloc());
-    add_backwards(&mut text, rt.alloc())?;
-    let fault = fault_of(rt.alloc(), text.as_str());
-    assert!(rt; matches!(&fault, Some((40, _))));
-    Ok(())
+fn a_chain_from_the_first_function(rt: HostRuntime) {
+    assert!(rt; is_unsafe(rt.alloc(), false));
+}
+
+#[test]
+fn a_chain_from_the_last_function(rt: HostRuntime) {
+    assert!(rt; is_unsafe(rt.alloc(), true));
 }

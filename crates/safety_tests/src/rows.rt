@@ -2,109 +2,118 @@
 
 use crate::checked::fault_of;
 use lex::token::Span;
-use std::test::Fail;
+use std::alloc::Allocator;
 
 /// A source, its fault's number, and the bytes that it names.
-const FAULTS: [(&str, u32, usize, usize); 11] = [
-    (
-        "void worker(int k) { __transaction_atomic { printf(\"a\"); } }",
-        40,
-        44,
-        50,
-    ),
-    (
-        "void worker(int k) { __transaction_atomic { __transaction_relaxed { } } }",
-        41,
-        44,
-        65,
-    ),
-    (
-        "void worker(int k) { __transaction_relaxed { __transaction_cancel; } }",
-        42,
-        45,
-        65,
-    ),
-    (
-        "__attribute__((transaction_safe)) void f(void) { printf(\"a\"); } void worker(int k) { }",
-        43,
-        39,
-        40,
-    ),
-    // an attribute on a prototype behind the definition
-    (
-        "void f(void) { } [[transaction_unsafe]] void f(void); void worker(int k) { __transaction_atomic { f(); } }",
-        40,
-        98,
-        99,
-    ),
-    (
-        "void f(void) { printf(\"a\"); } [[transaction_safe]] void f(void); void worker(int k) { }",
-        43,
-        5,
-        6,
-    ),
-    // safe by one declaration and unsafe by another
-    (
-        "[[transaction_safe]] void f(void); [[transaction_unsafe]] void f(void) { } void worker(int k) { }",
-        43,
-        63,
-        64,
-    ),
-    // recursion through two functions
-    (
-        "void g(void); void f(void) { g(); } void g(void) { f(); printf(\"a\"); } void worker(int k) { __transaction_atomic { f(); } }",
-        40,
-        115,
-        116,
-    ),
-    // unsafe code that nobody reaches
-    (
-        "void worker(int k) { __transaction_atomic { if (0) printf(\"a\"); } }",
-        40,
-        51,
-        57,
-    ),
-    // a cancel in a function that is called from atomic code alone
-    (
-        "void f(void) { __transaction_cancel; } void worker(int k) { __transaction_atomic { f(); } }",
-        42,
-        15,
-        35,
-    ),
-    // 43 comes before the places in the body
-    (
-        "[[transaction_safe]] void f(void) { __transaction_cancel; printf(\"a\"); } void worker(int k) { }",
-        43,
-        26,
-        27,
-    ),
-];
+type Row = (&'static str, u32, usize, usize);
 
-const SAFE: [&str; 6] = [
-    "void worker(int k) { printf(\"a\"); __transaction_relaxed { printf(\"b\"); } }",
-    "int x; void worker(int k) { __transaction_atomic { x = k; __transaction_cancel; } x = 1; }",
-    "void f(int k) { if (k) f(k - 1); } void worker(int k) { __transaction_atomic { f(k); } }",
-    "void g(int); void f(int k) { g(k); } void g(int k) { if (k) f(k - 1); } void worker(int k) { __transaction_atomic { f(k); } }",
-    "[[transaction_safe]] void f(void); void f(void) { __transaction_atomic { } } void worker(int k) { __transaction_atomic { f(); } }",
-    "[[transaction_callable]] void f(void) { printf(\"a\"); } void worker(int k) { f(); if (k) worker(k - 1); }",
-];
+/// The rows stand in a function, so that no proof but its own looks at them.
+fn faults() -> &'static [Row] {
+    static ROWS: [Row; 11] = [
+        (
+            "void worker(int k) { __transaction_atomic { printf(\"a\"); } }",
+            40,
+            44,
+            50,
+        ),
+        (
+            "void worker(int k) { __transaction_atomic { __transaction_relaxed { } } }",
+            41,
+            44,
+            65,
+        ),
+        (
+            "void worker(int k) { __transaction_relaxed { __transaction_cancel; } }",
+            42,
+            45,
+            65,
+        ),
+        (
+            "__attribute__((transaction_safe)) void f(void) { printf(\"a\"); } void worker(int k) { }",
+            43,
+            39,
+            40,
+        ),
+        // an attribute on a prototype behind the definition
+        (
+            "void f(void) { } [[transaction_unsafe]] void f(void); void worker(int k) { __transaction_atomic { f(); } }",
+            40,
+            98,
+            99,
+        ),
+        (
+            "void f(void) { printf(\"a\"); } [[transaction_safe]] void f(void); void worker(int k) { }",
+            43,
+            5,
+            6,
+        ),
+        // safe by one declaration and unsafe by another
+        (
+            "[[transaction_safe]] void f(void); [[transaction_unsafe]] void f(void) { } void worker(int k) { }",
+            43,
+            63,
+            64,
+        ),
+        // recursion through two functions
+        (
+            "void g(void); void f(void) { g(); } void g(void) { f(); printf(\"a\"); } void worker(int k) { __transaction_atomic { f(); } }",
+            40,
+            115,
+            116,
+        ),
+        // unsafe code that nobody reaches
+        (
+            "void worker(int k) { __transaction_atomic { if (0) printf(\"a\"); } }",
+            40,
+            51,
+            57,
+        ),
+        // a cancel in a function that is called from atomic code alone
+        (
+            "void f(void) { __transaction_cancel; } void worker(int k) { __transaction_atomic { f(); } }",
+            42,
+            15,
+            35,
+        ),
+        // 43 comes before the places in the body
+        (
+            "[[transaction_safe]] void f(void) { __transaction_cancel; printf(\"a\"); } void worker(int k) { }",
+            43,
+            26,
+            27,
+        ),
+    ];
+    &ROWS
+}
 
-#[test]
-fn faults_have_a_number_and_a_place(rt: HostRuntime) -> Result<(), Fail> {
-    for (text, number, start, end) in FAULTS {
-        assert_eq!(rt;
-            fault_of(rt.alloc(), text),
-            Some((number, Some(Span { start, end }))),
-            "{text}"
-        );
-    }
-    Ok(())
+fn safe_programs() -> &'static [&'static str] {
+    static ROWS: [&str; 6] = [
+        "void worker(int k) { printf(\"a\"); __transaction_relaxed { printf(\"b\"); } }",
+        "int x; void worker(int k) { __transaction_atomic { x = k; __transaction_cancel; } x = 1; }",
+        "void f(int k) { if (k) f(k - 1); } void worker(int k) { __transaction_atomic { f(k); } }",
+        "void g(int); void f(int k) { g(k); } void g(int k) { if (k) f(k - 1); } void worker(int k) { __transaction_atomic { f(k); } }",
+        "[[transaction_safe]] void f(void); void f(void) { __transaction_atomic { } } void worker(int k) { __transaction_atomic { f(); } }",
+        "[[transaction_callable]] void f(void) { printf(\"a\"); } void worker(int k) { f(); if (k) worker(k - 1); }",
+    ];
+    &ROWS
+}
+
+// Whether a source has the fault that its row tells.
+fn is_told<A: Allocator + Copy>(alloc: A, row: &Row) -> bool {
+    let (text, number, start, end) = *row;
+    fault_of(alloc, text) == Some((number, Some(Span { start, end })))
 }
 
 #[test]
-fn safe_programs_have_none(rt: HostRuntime) -> Result<(), Fail> {
-    for text in SAFE {
-        assert_eq!(rt; fault_of(rt.alloc(), text), None, "{text}");
+fn faults_have_a_number_and_a_place(rt: HostRuntime) {
+    for row in faults() {
+        assert!(rt; is_told(rt.alloc(), row), "{}", row.0);
     }
-    Ok(())
+}
+
+#[test]
+fn safe_programs_have_none(rt: HostRuntime) {
+    for text in safe_programs() {
+        assert!(rt; fault_of(rt.alloc(), text) == None, "{text}");
+    }
 }
