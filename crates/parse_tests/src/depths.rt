@@ -1,11 +1,11 @@
 //! How deep a program may be, and how long.
 
-use crate::parsed::{body_of, fault_of, unit_of};
+use crate::parsed::fault_of;
+use crate::trees::{Shape, has_shape};
 use lex::lex;
 use lex::token::{Span, Token};
 use parse::parse;
 use std::alloc::{AllocError, Allocator};
-use syntax::tree::Stmt;
 
 /// A piece of a text, and how often it stands there.
 type Piece<'a> = (&'a str, usize);
@@ -37,79 +37,65 @@ fn text_of<A: Allocator + Copy>(alloc: A, pieces: &[Piece]) -> Result<String<A>,
     Ok(text)
 }
 
-// The depth of a text's tree, or the number and the place of its fault.
-fn depth_of<A: Allocator + Copy>(alloc: A, text: &str) -> Result<usize, (u32, Option<Span>)> {
-    unit_of(alloc, text).map(|unit| unit.depth())
+// Whether the tree of pieces is what it is to be.
+fn has_shape_in<A: Allocator + Copy>(alloc: A, pieces: &[Piece], shape: Shape) -> bool {
+    match text_of(alloc, pieces) {
+        Ok(text) => has_shape(alloc, text.as_str(), shape),
+        Err(_) => false,
+    }
 }
 
-// The same of pieces.
-fn depth_in<A: Allocator + Copy>(
+// The number and the place of a fault of pieces, if memory is there.
+fn fault_in<A: Allocator + Copy>(
     alloc: A,
     pieces: &[Piece],
-) -> Option<Result<usize, (u32, Option<Span>)>> {
+) -> Option<Option<(u32, Option<Span>)>> {
     match text_of(alloc, pieces) {
-        Ok(text) => Some(depth_of(alloc, text.as_str())),
+        Ok(text) => Some(fault_of(alloc, text.as_str())),
         Err(_) => None,
     }
 }
 
-// The same of a worker with a declaration whose first value stands in so many pairs of parentheses.
-fn depth_at<A: Allocator + Copy>(
-    alloc: A,
-    pairs: usize,
-) -> Option<Result<usize, (u32, Option<Span>)>> {
-    let before = "void worker(int self) { int a = ";
-    depth_in(
-        alloc,
-        &[
-            (before, 1),
-            ("(", pairs),
-            ("1", 1),
-            (")", pairs),
-            ("; }", 1),
-        ],
-    )
+// Whether pieces are too deep.
+fn is_too_deep<A: Allocator + Copy>(alloc: A, pieces: &[Piece]) -> bool {
+    matches!(fault_in(alloc, pieces), Some(Some((11, _))))
+}
+
+// A worker with a declaration whose first value stands in so many pairs of parentheses.
+fn nested(pairs: usize) -> [Piece<'static>; 5] {
+    [
+        ("void worker(int self) { int a = ", 1),
+        ("(", pairs),
+        ("1", 1),
+        (")", pairs),
+        ("; }", 1),
+    ]
 }
 
 #[test]
 fn a_program_may_be_100_deep(rt: HostRuntime) {
-    assert!(rt; depth_at(rt.alloc(), 97) == Some(Ok(100)));
+    assert!(rt; has_shape_in(rt.alloc(), &nested(97), Shape::Depth(100)));
     let one = Span {
         start: 130,
         end: 131,
     };
-    assert!(rt; depth_at(rt.alloc(), 98) == Some(Err((11, Some(one)))));
+    assert!(rt; fault_in(rt.alloc(), &nested(98)) == Some(Some((11, Some(one)))));
 }
 
-// The number of a text's fault.
-fn number_of<A: Allocator + Copy>(alloc: A, text: &str) -> Option<u32> {
-    match fault_of(alloc, text) {
-        Some(fault) => Some(fault.0),
-        None => None,
-    }
-}
-
-// The same of pieces, if memory is there.
-fn number_in<A: Allocator + Copy>(alloc: A, pieces: &[Piece]) -> Option<Option<u32>> {
-    match text_of(alloc, pieces) {
-        Ok(text) => Some(number_of(alloc, text.as_str())),
-        Err(_) => None,
-    }
-}
-
-// The same of a worker with so many blocks in one another.
-fn number_at<A: Allocator + Copy>(alloc: A, times: usize) -> Option<Option<u32>> {
-    let before = "void worker(int self) { ";
-    number_in(
-        alloc,
-        &[(before, 1), ("{ ", times), ("} ", times), ("}", 1)],
-    )
+// A worker with so many blocks in one another.
+fn blocks(times: usize) -> [Piece<'static>; 4] {
+    [
+        ("void worker(int self) { ", 1),
+        ("{ ", times),
+        ("} ", times),
+        ("}", 1),
+    ]
 }
 
 #[test]
 fn blocks_may_be_100_deep(rt: HostRuntime) {
-    assert!(rt; number_at(rt.alloc(), 99) == Some(None));
-    assert!(rt; number_at(rt.alloc(), 100) == Some(Some(11)));
+    assert!(rt; fault_in(rt.alloc(), &blocks(99)) == Some(None));
+    assert!(rt; is_too_deep(rt.alloc(), &blocks(100)));
 }
 
 #[test]
@@ -119,30 +105,7 @@ fn a_long_chain_is_too_deep(rt: HostRuntime) {
         (" + 1", 1000),
         ("; }", 1),
     ];
-    assert!(rt; number_in(rt.alloc(), &chain) == Some(Some(11)));
-}
-
-// How many statements a body has.
-fn length_of<A: Allocator>(body: Option<&[Stmt<A>]>) -> Option<usize> {
-    match body {
-        Some(body) => Some(body.len()),
-        None => None,
-    }
-}
-
-// How many statements the one function of a text has.
-fn count_statements<A: Allocator + Copy>(alloc: A, text: &str) -> Option<usize> {
-    unit_of(alloc, text)
-        .ok()
-        .and_then(|unit| length_of(body_of(&unit)))
-}
-
-// The same of pieces.
-fn count_statements_in<A: Allocator + Copy>(alloc: A, pieces: &[Piece]) -> Option<usize> {
-    match text_of(alloc, pieces) {
-        Ok(text) => count_statements(alloc, text.as_str()),
-        Err(_) => None,
-    }
+    assert!(rt; is_too_deep(rt.alloc(), &chain));
 }
 
 #[test]
@@ -152,7 +115,7 @@ fn a_block_may_be_long(rt: HostRuntime) {
         ("a = b[1]; ", 10000),
         ("}", 1),
     ];
-    assert!(rt; count_statements_in(rt.alloc(), &block) == Some(10000));
+    assert!(rt; has_shape_in(rt.alloc(), &block, Shape::Statements(10000)));
 }
 
 /// One part of a program that may stand in it as often as a text has room for: what stands before and behind it, and how
@@ -183,7 +146,7 @@ fn long() -> &'static [Part] {
 // Whether such a text has no fault.
 fn is_accepted<A: Allocator + Copy>(alloc: A, part: &Part) -> bool {
     let (before, one, times, after) = *part;
-    number_in(alloc, &[(before, 1), (one, times), (after, 1)]) == Some(None)
+    fault_in(alloc, &[(before, 1), (one, times), (after, 1)]) == Some(None)
 }
 
 #[test]
@@ -243,7 +206,7 @@ fn tokens_of<'a, A: Allocator + Copy>(
 // Whether the tokens of pieces have no fault.
 fn are_accepted<A: Allocator + Copy>(alloc: A, pieces: &[Piece]) -> bool {
     match tokens_of(alloc, pieces) {
-        Ok(tokens) => parse(alloc, tokens.as_slice()).is_ok(),
+        Ok(tokens) => parse(alloc, tokens.as_slice()).err().is_none(),
         Err(_) => false,
     }
 }

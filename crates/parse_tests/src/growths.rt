@@ -13,9 +13,9 @@ for (int i = 0; i < 2; i++) { } __transaction_atomic { x += 1; } printf(\"%d\", 
 
 // The number of the fault of tokens.
 fn number_of<A: Allocator + Copy>(alloc: A, tokens: &[Token]) -> Option<u32> {
-    match parse(alloc, tokens) {
-        Ok(_) => None,
-        Err(fault) => Some(fault.number()),
+    match parse(alloc, tokens).err() {
+        None => None,
+        Some(fault) => Some(fault.number()),
     }
 }
 
@@ -31,8 +31,8 @@ fn refused_at<A: Allocator + Copy>(
     (refused, number_of(&alloc, tokens), waits)
 }
 
-// How many growths these tokens take, each of which was refused once; `None` where one was made in spite of that, or not made at
-// last.
+// How many growths these tokens take, each of which was refused once; `None` where one was made in spite of that, or
+// not made at last.
 fn growths_in<A: Allocator + Copy>(inner: A, tokens: &[Token]) -> Option<u64> {
     let mut met = 0;
     for nth in 1..400u64 {

@@ -5,15 +5,49 @@ use lex::token::{Scalar, Span};
 use std::alloc::Allocator;
 use syntax::tree::{Attribute, BinaryOp, Expr, Function, Global, Item, Simple, Stmt, Unit};
 
-/// Statements of a worker that are one `if`, and whether the `else` is that of the inner one.
-type Choice = (&'static str, bool);
+/// What a tree is to be.
+#[derive(Clone, Copy)]
+pub enum Shape {
+    /// So deep.
+    Depth(usize),
+    /// One function with so many statements.
+    Statements(usize),
+    /// One function with one `if`, and whether the `else` in it is that of an inner one.
+    Choice(bool),
+    /// One function with one value: its outermost operator, and whether the left operand is an operator's and whether
+    /// the right one is.
+    Sum(BinaryOp, bool, bool),
+    /// The function of `DECLARED`.
+    Declared,
+    /// The two declarations of `GLOBALS`.
+    Globals,
+}
+
+/// Statements of a worker, and the tree that it is to be.
+type Row = (&'static str, Shape);
 
 /// The rows stand in a function, so that no proof but its own looks at them.
-fn choices() -> &'static [Choice] {
-    static ROWS: [Choice; 3] = [
-        ("if (a) if (b) ; else ;", true),
-        ("if (a) { if (b) ; } else ;", false),
-        ("if (a) do if (b) ; while (c); else ;", false),
+fn choices() -> &'static [Row] {
+    static ROWS: [Row; 3] = [
+        ("if (a) if (b) ; else ;", Shape::Choice(true)),
+        ("if (a) { if (b) ; } else ;", Shape::Choice(false)),
+        ("if (a) do if (b) ; while (c); else ;", Shape::Choice(false)),
+    ];
+    &ROWS
+}
+
+fn sums() -> &'static [Row] {
+    static ROWS: [Row; 10] = [
+        ("a - b - c;", Shape::Sum(BinaryOp::Subtract, true, false)),
+        ("a - b + c;", Shape::Sum(BinaryOp::Add, true, false)),
+        ("a + b * c;", Shape::Sum(BinaryOp::Add, false, true)),
+        ("a * b + c;", Shape::Sum(BinaryOp::Add, true, false)),
+        ("a << b + c;", Shape::Sum(BinaryOp::ShiftLeft, false, true)),
+        ("a < b << c;", Shape::Sum(BinaryOp::Less, false, true)),
+        ("a == b < c;", Shape::Sum(BinaryOp::Equal, false, true)),
+        ("a & b == c;", Shape::Sum(BinaryOp::And, false, true)),
+        ("a ^ b & c;", Shape::Sum(BinaryOp::Xor, false, true)),
+        ("a | b ^ c;", Shape::Sum(BinaryOp::Or, false, true)),
     ];
     &ROWS
 }
@@ -33,48 +67,6 @@ fn is_nearest<A: Allocator>(body: Option<&[Stmt<A>]>) -> Option<bool> {
     }
 }
 
-// The same of a text.
-fn is_nearest_in<A: Allocator + Copy>(alloc: A, text: &str) -> Option<bool> {
-    unit_of(alloc, text)
-        .ok()
-        .and_then(|unit| is_nearest(body_of(&unit)))
-}
-
-// Whether that is so of a row.
-fn is_chosen<A: Allocator + Copy>(alloc: A, row: &Choice) -> bool {
-    let (inner, nearest) = *row;
-    match worker_of(alloc, inner) {
-        Ok(text) => is_nearest_in(alloc, text.as_str()) == Some(nearest),
-        Err(_) => false,
-    }
-}
-
-#[test]
-fn an_else_belongs_to_the_nearest_if(rt: HostRuntime) {
-    for row in choices() {
-        assert!(rt; is_chosen(rt.alloc(), row), "{}", row.0);
-    }
-}
-
-/// A value, its outermost operator, and whether the left operand is an operator's and whether the right one is.
-type Sum = (&'static str, BinaryOp, bool, bool);
-
-fn sums() -> &'static [Sum] {
-    static ROWS: [Sum; 10] = [
-        ("a - b - c;", BinaryOp::Subtract, true, false),
-        ("a - b + c;", BinaryOp::Add, true, false),
-        ("a + b * c;", BinaryOp::Add, false, true),
-        ("a * b + c;", BinaryOp::Add, true, false),
-        ("a << b + c;", BinaryOp::ShiftLeft, false, true),
-        ("a < b << c;", BinaryOp::Less, false, true),
-        ("a == b < c;", BinaryOp::Equal, false, true),
-        ("a & b == c;", BinaryOp::And, false, true),
-        ("a ^ b & c;", BinaryOp::Xor, false, true),
-        ("a | b ^ c;", BinaryOp::Or, false, true),
-    ];
-    &ROWS
-}
-
 // Of a body that is a value, its outermost operator, and whether the operands are operators' values.
 fn grouped<A: Allocator>(body: Option<&[Stmt<A>]>) -> Option<(BinaryOp, bool, bool)> {
     match body {
@@ -84,29 +76,6 @@ fn grouped<A: Allocator>(body: Option<&[Stmt<A>]>) -> Option<(BinaryOp, bool, bo
             Some((*op, left, right))
         }
         _ => None,
-    }
-}
-
-// The same of a text.
-fn grouped_in<A: Allocator + Copy>(alloc: A, text: &str) -> Option<(BinaryOp, bool, bool)> {
-    unit_of(alloc, text)
-        .ok()
-        .and_then(|unit| grouped(body_of(&unit)))
-}
-
-// Whether a value is grouped as its row tells.
-fn is_grouped<A: Allocator + Copy>(alloc: A, row: &Sum) -> bool {
-    let (inner, outer, left, right) = *row;
-    match worker_of(alloc, inner) {
-        Ok(text) => grouped_in(alloc, text.as_str()) == Some((outer, left, right)),
-        Err(_) => false,
-    }
-}
-
-#[test]
-fn operators_group_by_level_and_to_the_left(rt: HostRuntime) {
-    for row in sums() {
-        assert!(rt; is_grouped(rt.alloc(), row), "{}", row.0);
     }
 }
 
@@ -143,16 +112,6 @@ fn keeps_function<A: Allocator>(unit: &Unit<A>) -> bool {
         }
         _ => false,
     }
-}
-
-// Whether the text has this tree.
-fn is_function_kept<A: Allocator + Copy>(alloc: A) -> bool {
-    unit_of(alloc, DECLARED).is_ok_and(|unit| keeps_function(&unit))
-}
-
-#[test]
-fn a_function_keeps_its_attributes_and_parameters(rt: HostRuntime) {
-    assert!(rt; is_function_kept(rt.alloc()));
 }
 
 const GLOBALS: &str = "unsigned a = 7u, b[3] = {1, -2,}; signed c;";
@@ -195,7 +154,7 @@ fn keeps_globals<A: Allocator>(both: &[Global<A>], last: &[Global<A>]) -> bool {
     }
 }
 
-// Whether this is the tree of the text.
+// Whether the tree's items are the two declarations of the text.
 fn keeps_values<A: Allocator>(unit: &Unit<A>) -> bool {
     match unit.items.as_slice() {
         [Item::Globals(both), Item::Globals(last)] => {
@@ -205,12 +164,60 @@ fn keeps_values<A: Allocator>(unit: &Unit<A>) -> bool {
     }
 }
 
-// Whether the text has this tree.
-fn are_values_kept<A: Allocator + Copy>(alloc: A) -> bool {
-    unit_of(alloc, GLOBALS).is_ok_and(|unit| keeps_values(&unit))
+// Whether the one function of a tree has so many statements.
+fn has_statements<A: Allocator>(body: Option<&[Stmt<A>]>, count: usize) -> bool {
+    match body {
+        Some(body) => body.len() == count,
+        None => false,
+    }
+}
+
+// Whether a tree is what it is to be.
+fn is_shaped<A: Allocator>(unit: &Unit<A>, shape: Shape) -> bool {
+    match shape {
+        Shape::Depth(depth) => unit.depth() == depth,
+        Shape::Statements(count) => has_statements(body_of(unit), count),
+        Shape::Choice(nearest) => is_nearest(body_of(unit)) == Some(nearest),
+        Shape::Sum(op, left, right) => grouped(body_of(unit)) == Some((op, left, right)),
+        Shape::Declared => keeps_function(unit),
+        Shape::Globals => keeps_values(unit),
+    }
+}
+
+/// Whether the tree of a text is what it is to be.
+pub fn has_shape<A: Allocator + Copy>(alloc: A, text: &str, shape: Shape) -> bool {
+    unit_of(alloc, text).is_ok_and(|unit| is_shaped(&unit, shape))
+}
+
+// The same of a row.
+fn is_told<A: Allocator + Copy>(alloc: A, row: &Row) -> bool {
+    let (inner, shape) = *row;
+    match worker_of(alloc, inner) {
+        Ok(text) => has_shape(alloc, text.as_str(), shape),
+        Err(_) => false,
+    }
+}
+
+#[test]
+fn an_else_belongs_to_the_nearest_if(rt: HostRuntime) {
+    for row in choices() {
+        assert!(rt; is_told(rt.alloc(), row), "{}", row.0);
+    }
+}
+
+#[test]
+fn operators_group_by_level_and_to_the_left(rt: HostRuntime) {
+    for row in sums() {
+        assert!(rt; is_told(rt.alloc(), row), "{}", row.0);
+    }
+}
+
+#[test]
+fn a_function_keeps_its_attributes_and_parameters(rt: HostRuntime) {
+    assert!(rt; has_shape(rt.alloc(), DECLARED, Shape::Declared));
 }
 
 #[test]
 fn globals_keep_their_lengths_and_values(rt: HostRuntime) {
-    assert!(rt; are_values_kept(rt.alloc()));
+    assert!(rt; has_shape(rt.alloc(), GLOBALS, Shape::Globals));
 }
