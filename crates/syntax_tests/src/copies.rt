@@ -1,6 +1,6 @@
 //! A copy is the same tree, and each growth that it takes may be refused.
 
-use crate::texts::{EACH_NODE, tree};
+use crate::texts::{each_node, tree};
 use containers::{Copied, Same};
 use refusing::Refusing;
 use std::alloc::Allocator;
@@ -8,10 +8,7 @@ use syntax::tree::Unit;
 
 /// Whether a copy of a tree is the same; `None` where memory is refused.
 fn is_copied<A: Allocator + Copy>(alloc: A, whole: &Unit<A>) -> Option<bool> {
-    match whole.copy(alloc) {
-        Ok(copy) => Some(copy.same(whole)),
-        Err(_) => None,
-    }
+    whole.copy(alloc).ok().map(|copy| copy.same(whole))
 }
 
 /// How many growths a copy of a tree takes, each of which was refused once and then made; `None` where a copy is made without one,
@@ -37,10 +34,7 @@ fn growths_of<A: Allocator, B: Allocator + Copy>(
 
 /// The same of the tree with each kind of node.
 fn growths_in<A: Allocator, B: Allocator + Copy>(refusing: &Refusing<A>, alloc: B) -> Option<u64> {
-    match tree(alloc, EACH_NODE) {
-        Some(whole) => growths_of(refusing, alloc, &whole),
-        None => None,
-    }
+    tree(alloc, each_node()).and_then(|whole| growths_of(refusing, alloc, &whole))
 }
 
 /// The same over an allocator.

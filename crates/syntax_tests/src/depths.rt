@@ -2,7 +2,7 @@
 //! other expression or statement, also one in parentheses, a declaration and a block, has one more than its deepest part. A
 //! transaction's block is a part of it. A program is as deep as the deepest block of a function.
 
-use crate::texts::{EACH_NODE, tree};
+use crate::texts::{each_node, tree};
 use std::alloc::Allocator;
 
 /// A text, and the depth of its tree.
@@ -52,10 +52,7 @@ fn rows() -> &'static [Row] {
 
 /// The depth of a text's tree.
 fn depth_of<A: Allocator + Copy>(alloc: A, text: &str) -> Option<usize> {
-    match tree(alloc, text) {
-        Some(unit) => Some(unit.depth()),
-        None => None,
-    }
+    tree(alloc, text).map(|unit| unit.depth())
 }
 
 /// The first of these texts whose tree has another depth.
@@ -71,5 +68,5 @@ fn has_another<A: Allocator + Copy>(alloc: A, rows: &[Row]) -> Option<&'static s
 #[test]
 fn depths_of_programs(rt: HostRuntime) {
     assert_eq!(rt; has_another(rt.alloc(), rows()), None);
-    assert!(rt; depth_of(rt.alloc(), EACH_NODE).is_some());
+    assert!(rt; depth_of(rt.alloc(), each_node()).is_some());
 }

@@ -1,46 +1,42 @@
 //! Trees of one text are the same, and one other place, name, type or node makes them differ.
 
-use crate::texts::{EACH_NODE, tree};
+use crate::texts::{each_node, tree};
 use containers::Same;
 use std::alloc::Allocator;
 use syntax::tree::Unit;
 
 /// Whether a text has this tree; `None` where it has none.
 fn has<A: Allocator + Copy>(alloc: A, one: &Unit<A>, other: &str) -> Option<bool> {
-    match tree(alloc, other) {
-        Some(other) => Some(one.same(&other)),
-        None => None,
-    }
+    tree(alloc, other).map(|other| one.same(&other))
 }
 
 /// Whether two texts have the same tree; `None` where one has none.
 fn are_same<A: Allocator + Copy>(alloc: A, one: &str, other: &str) -> Option<bool> {
-    match tree(alloc, one) {
-        Some(one) => has(alloc, &one, other),
-        None => None,
-    }
+    tree(alloc, one).and_then(|one| has(alloc, &one, other))
 }
 
-/// Two texts.
-type Row = (&'static str, &'static str);
+/// Two texts, and whether their trees are the same.
+type Row = (&'static str, &'static str, bool);
 
 fn rows() -> &'static [Row] {
-    static ROWS: [Row; 7] = [
-        ("int g;", " int g;"),
-        ("int g;", "int h;"),
-        ("int f;", "int f();"),
-        ("int g, h;", "int g; int h;"),
-        ("void f() { break; }", "void f() {  break;}"),
-        ("void f() { x + 1; }", "void f() { x - 1; }"),
-        ("void f() { return; }", "void f() { ; }"),
+    static ROWS: [Row; 8] = [
+        ("int g;", " int g;", false),
+        ("int g;", "int h;", false),
+        ("int f;", "int f();", false),
+        ("int g, h;", "int g; int h;", false),
+        ("void f() { break; }", "void f() {  break;}", false),
+        ("void f() { x + 1; }", "void f() { x - 1; }", false),
+        ("void f() { return; }", "void f() { ; }", false),
+        // a tree keeps neither spaces nor how a type is spelled
+        ("signed g;", "int    g;", true),
     ];
     &ROWS
 }
 
-/// The first text of a row whose trees do not differ.
-fn is_the_same<A: Allocator + Copy>(alloc: A, rows: &[Row]) -> Option<&'static str> {
-    for (one, other) in rows {
-        if are_same(alloc, one, other) != Some(false) {
+/// The first text of a row of which that is not so.
+fn has_another<A: Allocator + Copy>(alloc: A, rows: &[Row]) -> Option<&'static str> {
+    for (one, other, same) in rows {
+        if are_same(alloc, one, other) != Some(*same) {
             return Some(*one);
         }
     }
@@ -49,8 +45,6 @@ fn is_the_same<A: Allocator + Copy>(alloc: A, rows: &[Row]) -> Option<&'static s
 
 #[test]
 fn only_trees_made_alike_are_the_same(rt: HostRuntime) {
-    assert!(rt; are_same(rt.alloc(), EACH_NODE, EACH_NODE) == Some(true));
-    assert_eq!(rt; is_the_same(rt.alloc(), rows()), None);
-    // a tree keeps neither spaces nor how a type is spelled
-    assert!(rt; are_same(rt.alloc(), "signed g;", "int    g;") == Some(true));
+    assert_eq!(rt; has_another(rt.alloc(), rows()), None);
+    assert!(rt; are_same(rt.alloc(), each_node(), each_node()) == Some(true));
 }

@@ -5,13 +5,14 @@ use parse::parse;
 use std::alloc::Allocator;
 use syntax::tree::Unit;
 
-/// A program with each kind of node.
-pub const EACH_NODE: &str =
+/// A program with each kind of node. It stands in a function, so that no proof but its own looks at it.
+pub fn each_node() -> &'static str {
     "int g[2] = {-7}, h; [[transaction_safe]] int f(unsigned); void worker(int self) { \
     int v; ; __transaction_atomic { __transaction_cancel; } __transaction_relaxed { } \
     for (int i = g; i; i--) { break; continue; } for (;;) ; for (v = 1;;) ; \
     if (v) printf(\"a\", v); else while (v) do v += v; while (v); if (v) ; return; \
-    return !(v) && (int) f(v) ? g[v] : 7u + v; }";
+    return !(v) && (int) f(v) ? g[v] : 7u + v; }"
+}
 
 /// The tree of a text, if it is a program and there is memory for it.
 pub fn tree<A: Allocator + Copy>(alloc: A, text: &str) -> Option<Unit<A>> {
