@@ -41,8 +41,8 @@ fn are_valid_at_once<A: Allocator + Copy>(alloc: A, parts: Parts<A>) -> Option<b
     }
 }
 
-// Whether parts are found valid at once where growth `nth` is refused, and whether that growth is still to come. The allocator of the
-// parts is the one that refuses.
+// Whether parts are found valid at once where growth `nth` is refused, and whether that growth is still to come. The
+// allocator of the parts is the one that refuses.
 fn validated_where_refused<A: Allocator, B: Allocator + Copy>(
     refusing: &Refusing<A>,
     alloc: B,
@@ -56,12 +56,15 @@ fn validated_where_refused<A: Allocator, B: Allocator + Copy>(
     }
 }
 
-// The same of the sample over an allocator.
-fn validated<A: Allocator + Copy>(inner: A, nth: u64) -> Option<(bool, bool)> {
-    let alloc = Refusing::new(inner, 0);
-    match parts_of(&alloc, &FUNCTIONS, &[], &INSTRUCTIONS, &TEXTS) {
+// The same of the sample.
+fn validated_in<A: Allocator, B: Allocator + Copy>(
+    refusing: &Refusing<A>,
+    alloc: B,
+    nth: u64,
+) -> Option<(bool, bool)> {
+    match parts_of(alloc, &FUNCTIONS, &[], &INSTRUCTIONS, &TEXTS) {
         Err(_) => None,
-        Ok(parts) => validated_where_refused(&alloc, &alloc, parts, nth),
+        Ok(parts) => validated_where_refused(refusing, alloc, parts, nth),
     }
 }
 
@@ -75,8 +78,8 @@ fn is_listed<A: Allocator + Copy>(alloc: A, code: &Code<A>) -> bool {
     listing(alloc, code).is_ok()
 }
 
-// Whether a code is copied or listed where growth `nth` is refused, and whether that growth is still to come. The allocator of the code
-// is the one that refuses.
+// Whether a code is copied or listed where growth `nth` is refused, and whether that growth is still to come. The
+// allocator of the code is the one that refuses.
 fn made_where_refused<A: Allocator, B: Allocator + Copy>(
     refusing: &Refusing<A>,
     alloc: B,
@@ -93,20 +96,25 @@ fn made_where_refused<A: Allocator, B: Allocator + Copy>(
     (is_made, refusing.is_waiting())
 }
 
-// The same of the sample over an allocator.
-fn made<A: Allocator + Copy>(inner: A, copies: bool, nth: u64) -> Option<(bool, bool)> {
-    let alloc = Refusing::new(inner, 0);
-    match code_of_parts(&alloc, &FUNCTIONS, &[], &INSTRUCTIONS, &TEXTS) {
-        None => None,
-        Some(code) => Some(made_where_refused(&alloc, &alloc, &code, copies, nth)),
-    }
+// The same of the sample.
+fn made_in<A: Allocator, B: Allocator + Copy>(
+    refusing: &Refusing<A>,
+    alloc: B,
+    copies: bool,
+    nth: u64,
+) -> Option<(bool, bool)> {
+    code_of_parts(alloc, &FUNCTIONS, &[], &INSTRUCTIONS, &TEXTS).map(|code| made_where_refused(
+        refusing, alloc, &code, copies, nth,
+    ))
 }
 
+// What a call comes to where growth `nth` is refused: whether it is made, and whether that growth is still to come.
 fn refused_at<A: Allocator + Copy>(inner: A, call: Call, nth: u64) -> Option<(bool, bool)> {
+    let alloc = Refusing::new(inner, 0);
     match call {
-        Call::Validate => validated(inner, nth),
-        Call::Copy => made(inner, true, nth),
-        Call::List => made(inner, false, nth),
+        Call::Validate => validated_in(&alloc, &alloc, nth),
+        Call::Copy => made_in(&alloc, &alloc, true, nth),
+        Call::List => made_in(&alloc, &alloc, false, nth),
     }
 }
 

@@ -56,8 +56,8 @@ fn begins_with<A: Allocator + Copy>(alloc: A, code: &Code<A>, wanted: &[u64]) ->
     }
 }
 
-// Whether these are the words where growth `nth` is refused, and whether that growth is still to come. The allocator of the code is
-// the one that refuses.
+// Whether these are the words where growth `nth` is refused, and whether that growth is still to come. The allocator of
+// the code is the one that refuses.
 fn begins_where_refused<A: Allocator, B: Allocator + Copy>(
     refusing: &Refusing<A>,
     alloc: B,
@@ -69,13 +69,19 @@ fn begins_where_refused<A: Allocator, B: Allocator + Copy>(
     (found, refusing.is_waiting())
 }
 
+// The same of the code over that array.
+fn refused_in<A: Allocator, B: Allocator + Copy>(
+    refusing: &Refusing<A>,
+    alloc: B,
+    nth: u64,
+) -> Option<(Option<bool>, bool)> {
+    code_over_an_array(alloc).map(|code| begins_where_refused(refusing, alloc, &code, nth))
+}
+
 // The same over an allocator.
 fn refused_at<A: Allocator + Copy>(inner: A, nth: u64) -> Option<(Option<bool>, bool)> {
     let alloc = Refusing::new(inner, 0);
-    match code_over_an_array(&alloc) {
-        None => None,
-        Some(code) => Some(begins_where_refused(&alloc, &alloc, &code, nth)),
-    }
+    refused_in(&alloc, &alloc, nth)
 }
 
 // Whether the words are there exactly where growth `nth` does not come.
