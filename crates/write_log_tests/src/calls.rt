@@ -3,11 +3,10 @@
 ghost use Rattle.std.specs.Prelude.{◌≡◌, ◌+◌, ◌<◌, ◌≤◌, OnOk, length};
 
 use refusing::Refusing;
-use std::alloc::{AllocError, Allocator};
+use std::alloc::{AllocError, Allocator, Global};
 use std::marker::Brand;
 use std::mem::size_of;
 use std::sync::ledger::{Blank, Ledger};
-use std::test::Fail;
 use write_log::{Looks, WriteLog};
 
 /// Makes room, at the second call where the first one is refused, and says whether it was.
@@ -35,6 +34,16 @@ fn write<A: Allocator + Copy>(
     Ok(refused)
 }
 
+/// Makes a mark, and says whether the room for it was refused once.
+fn mark<A: Allocator + Copy>(log: &mut WriteLog<A>, depth: usize) -> Result<bool, AllocError>
+    requires { depth ≤ length log.old.marks }
+    ensures { OnOk result (length log.new.marks ≡ depth + 1) }
+{
+    let refused = make_room(log)?;
+    log.mark(depth);
+    Ok(refused)
+}
+
 fn has_pairs<A: Allocator + Copy>(log: &WriteLog<A>, wanted: &[(u32, u64)]) -> bool {
     if log.len() != wanted.len() {
         return false;
@@ -45,6 +54,80 @@ fn has_pairs<A: Allocator + Copy>(log: &WriteLog<A>, wanted: &[(u32, u64)]) -> b
         }
     }
     true
+}
+
+/// Writes these words in turn, and says whether the log then has the wanted pairs.
+fn comes_to(
+    log: &mut WriteLog,
+    words: &[(u32, u64)],
+    wanted: &[(u32, u64)],
+) -> Result<bool, AllocError>
+    ensures { log.new.marks ≡ log.old.marks }
+{
+    'words: for word in words {
+        write(log, word.0, word.1)?;
+    }
+    Ok(has_pairs(log, wanted))
+}
+
+/// Whether an empty log has at the end of a mark what it had where the mark was made.
+fn goes_back(log: &mut WriteLog) -> Result<bool, AllocError> {
+    let first = comes_to(log, &[(3, 1), (5, 2)], &[(3, 1), (5, 2)])?;
+    mark(log, 0)?;
+    let under = comes_to(
+        log,
+        &[(3, 9), (7, 4), (5, 8), (3, 10)],
+        &[(3, 10), (5, 8), (7, 4)],
+    )?;
+    log.back_to(0);
+    Ok(has_pairs(log, &[(3, 1), (5, 2)]) && first && under)
+}
+
+/// Whether that log can be written on, and cleared.
+fn goes_on(log: &mut WriteLog) -> Result<bool, AllocError> {
+    let last = comes_to(log, &[(7, 6)], &[(3, 1), (5, 2), (7, 6)])?;
+    let found = log.get(7) == Some(6) && log.get(4).is_none();
+    log.clear();
+    Ok(has_pairs(log, &[]) && last && found)
+}
+
+#[test]
+fn goes_back_to_a_mark_words_included(rt: HostRuntime) {
+    let mut log = WriteLog::new(rt.alloc());
+    assert!(rt; goes_back(&mut log) == Ok(true));
+    assert!(rt; goes_on(&mut log) == Ok(true));
+}
+
+/// Makes a mark, and writes a word at address 1 in it.
+fn write_in_mark(log: &mut WriteLog, depth: usize, word: u64) -> Result<(), AllocError>
+    requires { depth ≤ length log.old.marks }
+    ensures { OnOk result (length log.new.marks ≡ depth + 1) }
+{
+    mark(log, depth)?;
+    write(log, 1, word)?;
+    Ok(())
+}
+
+/// Whether a second mark in a mark takes the place of the first.
+fn forgets(log: &mut WriteLog) -> Result<bool, AllocError> {
+    write_in_mark(log, 0, 10)?;
+    write_in_mark(log, 1, 11)?;
+    write_in_mark(log, 1, 12)?;
+    log.back_to(1);
+    let word = log.get(1);
+    log.back_to(0);
+    Ok(word == Some(11) && log.get(1).is_none())
+}
+
+#[test]
+fn a_mark_forgets_those_that_lay_in_it(rt: HostRuntime) {
+    let mut log = WriteLog::new(rt.alloc());
+    assert!(rt; forgets(&mut log) == Ok(true));
+}
+
+#[test]
+fn looks_take_no_bytes(rt: HostRuntime) {
+    assert_eq!(rt; size_of::<Looks<Brand>>(), 0);
 }
 
 /// A log as a plain list, searched from its front, with a copy of it for each mark.
@@ -108,6 +191,60 @@ fn write_both(
     Ok(agrees(log, plain, address))
 }
 
+/// Makes a mark in both.
+fn mark_both(log: &mut WriteLog, plain: &mut Plain, depth: usize) -> Result<(), AllocError>
+    requires { depth ≤ length log.old.marks }
+    ensures { OnOk result (length log.new.marks ≡ depth + 1) }
+{
+    mark(log, depth)?;
+    plain.mark(depth)
+}
+
+/// Goes back in both, and says whether they agree.
+fn back_to_both(log: &mut WriteLog, plain: &mut Plain, depth: usize, address: u32) -> bool
+    requires { depth < length log.old.marks }
+    ensures { length log.new.marks ≡ depth }
+{
+    log.back_to(depth);
+    plain.back_to(depth);
+    agrees(log, plain, address)
+}
+
+/// Writes 256 words in both under a mark of this depth, and every fourth at a second address too. Says whether they
+/// agreed after each.
+fn fill_mark(log: &mut WriteLog, plain: &mut Plain, depth: u32) -> Result<bool, AllocError>
+    requires { depth < 16 }
+    ensures { log.new.marks ≡ log.old.marks }
+{
+    let mut agreed = true;
+    'writes: for n in 0..256u32 {
+        let address = (depth * 256 + n) * 1365 % 4096;
+        agreed &= write_both(log, plain, address, n as u64)?;
+        if n % 4 == 0 {
+            agreed &= write_both(log, plain, address / 2, depth as u64)?;
+        }
+    }
+    Ok(agreed)
+}
+
+/// Goes back to the mark of a depth, writes, makes the mark anew and goes back to it. Says whether both agreed all
+/// along.
+fn leave_mark(
+    log: &mut WriteLog,
+    plain: &mut Plain,
+    depth: usize,
+    address: u32,
+) -> Result<bool, AllocError>
+    requires { depth < length log.old.marks }
+    ensures { OnOk result (length log.new.marks ≡ depth) }
+{
+    let back = back_to_both(log, plain, depth, address);
+    let written = write_both(log, plain, address, 7)?;
+    mark_both(log, plain, depth)?;
+    let marked = write_both(log, plain, address, 8)?;
+    Ok(back_to_both(log, plain, depth, address) && back && written && marked)
+}
+
 /// Whether each address is found at the place of its pair, and no other is found.
 fn finds_all<L: Ledger>(log: &WriteLog, plain: &Plain, blank: Blank) -> bool
     requires name { blank.name ≡ L.name }
@@ -123,115 +260,93 @@ fn finds_all<L: Ledger>(log: &WriteLog, plain: &Plain, blank: Blank) -> bool
     log.find(5000, &mut looks).is_none()
 }
 
-#[test]
-fn goes_back_to_a_mark_words_included(rt: HostRuntime) -> Result<(), Fail> {
-    let mut log = WriteLog::new(rt.alloc());
-    write(&mut log, 3, 1)?;
-    write(&mut log, 5, 2)?;
-    make_room(&mut log)?;
-    log.mark(0);
-    write(&mut log, 3, 9)?;
-    write(&mut log, 7, 4)?;
-    write(&mut log, 5, 8)?;
-    write(&mut log, 3, 10)?;
-    assert!(rt; has_pairs(&log, &[(3, 10), (5, 8), (7, 4)]));
-    log.back_to(0);
-    assert!(rt; has_pairs(&log, &[(3, 1), (5, 2)]));
-    write(&mut log, 7, 6)?;
-    assert!(rt; has_pairs(&log, &[(3, 1), (5, 2), (7, 6)]));
-    assert_eq!(rt; log.get(7), Some(6));
-    assert_eq!(rt; log.get(4), None);
-    log.clear();
-    assert!(rt; has_pairs(&log, &[]));
-    Ok(())
+/// The same where nobody counts the looks.
+fn finds_each(log: &WriteLog, plain: &Plain) -> bool {
+    finds_all::<Brand>(log, plain, Blank::new(1))
 }
 
-#[test]
-fn a_mark_forgets_those_that_lay_in_it(rt: HostRuntime) -> Result<(), Fail> {
-    let mut log = WriteLog::new(rt.alloc());
-    make_room(&mut log)?;
-    log.mark(0);
-    write(&mut log, 1, 10)?;
-    make_room(&mut log)?;
-    log.mark(1);
-    write(&mut log, 1, 11)?;
-    make_room(&mut log)?;
-    log.mark(1);
-    write(&mut log, 1, 12)?;
-    log.back_to(1);
-    assert_eq!(rt; log.get(1), Some(11));
-    log.back_to(0);
-    assert_eq!(rt; log.get(1), None);
-    Ok(())
+/// Makes 16 marks in both, each filled, and says whether they agreed all along.
+fn fill_marks(log: &mut WriteLog, plain: &mut Plain) -> Result<bool, AllocError>
+    requires { length log.old.marks ≡ 0 }
+    ensures { OnOk result (length log.new.marks ≡ 16) }
+{
+    let mut agreed = true;
+    'marks: for depth in 0..16u32 {
+        mark_both(log, plain, depth as usize)?;
+        agreed &= fill_mark(log, plain, depth)?;
+    }
+    Ok(agreed)
 }
 
-#[test]
-fn looks_take_no_bytes(rt: HostRuntime) {
-    assert_eq!(rt; size_of::<Looks<Brand>>(), 0);
+/// Leaves 16 marks, the deepest first, and says whether both agreed all along.
+fn leave_marks(log: &mut WriteLog, plain: &mut Plain) -> Result<bool, AllocError>
+    requires { length log.old.marks ≡ 16 }
+{
+    let mut agreed = true;
+    'marks: for n in 0..16u32 {
+        agreed &= leave_mark(log, plain, 15 - n as usize, n * 256)?;
+    }
+    Ok(agreed)
+}
+
+/// Whether both agree while marks are filled and left, and each address is found in between and at the end.
+fn agree(log: &mut WriteLog, plain: &mut Plain) -> Result<bool, AllocError>
+    requires { length log.old.marks ≡ 0 }
+{
+    let filled = fill_marks(log, plain)? && log.len() == 4096;
+    let found = finds_each(log, plain);
+    Ok(leave_marks(log, plain)? && filled && found && finds_each(log, plain))
 }
 
 /// 4,096 addresses in an order of their own, 256 of them under each of 16 marks, and back again.
 #[test]
-fn answers_as_a_plain_list(rt: HostRuntime) -> Result<(), Fail> {
+fn answers_as_a_plain_list(rt: HostRuntime) {
     let mut log = WriteLog::new(rt.alloc());
     let mut plain = Plain {
         pairs: Vec::new(rt.alloc()),
         marks: Vec::new(rt.alloc()),
     };
-    'marks: for depth in 0..16u32 {
-        make_room(&mut log)?;
-        log.mark(depth as usize);
-        plain.mark(depth as usize)?;
-        'writes: for n in 0..256u32 {
-            let address = (depth * 256 + n) * 1365 % 4096;
-            assert!(rt; write_both(&mut log, &mut plain, address, n as u64)?);
-            if n % 4 == 0 {
-                assert!(rt; write_both(&mut log, &mut plain, address / 2, depth as u64)?);
-            }
-        }
+    assert!(rt; agree(&mut log, &mut plain) == Ok(true));
+}
+
+/// Makes calls for which the log grows, and says whether a growth was refused.
+fn grow<A: Allocator + Copy>(log: &mut WriteLog<A>) -> Result<bool, AllocError> {
+    let mut refused = write(log, 30, 1)?;
+    refused |= mark(log, 0)?;
+    refused |= write_to_each(log, 20)?;
+    log.back_to(0);
+    Ok(write(log, 5, 2)? || refused)
+}
+
+/// Writes a word at each address below this one, and says whether a growth was refused.
+fn write_to_each<A: Allocator + Copy>(log: &mut WriteLog<A>, end: u32) -> Result<bool, AllocError>
+    ensures { log.new.marks ≡ log.old.marks }
+{
+    let mut refused = false;
+    'addresses: for address in 0..end {
+        refused |= write(log, address, 9)?;
     }
-    assert_eq!(rt; log.len(), 4096);
-    assert!(rt; finds_all::<Brand>(&log, &plain, Blank::new(1)));
-    'back: for n in 0..16u32 {
-        let depth = 15 - n;
-        log.back_to(depth as usize);
-        plain.back_to(depth as usize);
-        assert!(rt; agrees(&log, &plain, n * 256));
-        assert!(rt; write_both(&mut log, &mut plain, n * 256, 7)?);
-        make_room(&mut log)?;
-        log.mark(depth as usize);
-        plain.mark(depth as usize)?;
-        assert!(rt; write_both(&mut log, &mut plain, n * 256, 8)?);
-        log.back_to(depth as usize);
-        plain.back_to(depth as usize);
-        assert!(rt; agrees(&log, &plain, n * 256));
-    }
-    assert!(rt; finds_all::<Brand>(&log, &plain, Blank::new(1)));
-    Ok(())
+    Ok(refused)
+}
+
+/// Whether the growth is refused and told; none where it is told otherwise, or the log has not the pairs.
+fn refuses(alloc: &Refusing<Global>) -> Option<bool> {
+    let mut log = WriteLog::new(alloc);
+    let refused = grow(&mut log).ok()?;
+    let told = refused != alloc.is_waiting();
+    (told && has_pairs(&log, &[(30, 1), (5, 2)])).then_some(refused)
 }
 
 #[test]
-fn each_growth_is_refused_in_turn(rt: HostRuntime) -> Result<(), Fail> {
+fn each_growth_is_refused_in_turn(rt: HostRuntime) {
     let mut met = 0;
-    'each: for nth in 1..100u64 {
-        let alloc = Refusing::new(rt.alloc(), nth);
-        let mut log = WriteLog::new(&alloc);
-        let mut refused = write(&mut log, 30, 1)?;
-        refused = make_room(&mut log)? || refused;
-        log.mark(0);
-        'writes: for address in 0..20u32 {
-            refused = write(&mut log, address, 9)? || refused;
+    for nth in 1..100u64 {
+        match refuses(&Refusing::new(rt.alloc(), nth)) {
+            Some(true) => met = nth,
+            Some(false) => break,
+            None => panic!(rt; "a refused growth has changed the log, or was not told"),
         }
-        log.back_to(0);
-        refused = write(&mut log, 5, 2)? || refused;
-        assert!(rt; has_pairs(&log, &[(30, 1), (5, 2)]));
-        assert_eq!(rt; refused, !alloc.is_waiting());
-        if alloc.is_waiting() {
-            break;
-        }
-        met = nth;
     }
     // The pairs, their order, the journal and the marks: the first three grow more than once.
     assert!(rt; 7 <= met);
-    Ok(())
 }
