@@ -2,127 +2,295 @@
 
 use super::{Boxed, Copied, Items, Same, Text};
 use refusing::Refusing;
-use std::alloc::{AllocError, Allocator};
+use std::alloc::{AllocError, Allocator, Global};
 use std::test::Fail;
+
+/// Whether all of these were made, and the first is equal to the second and not to the third.
+fn tells_apart<T: PartialEq + Drop>(
+    value: Result<T, AllocError>,
+    same: Result<T, AllocError>,
+    other: Result<T, AllocError>,
+) -> bool {
+    match (value, same, other) {
+        (Ok(value), Ok(same), Ok(other)) => value == same && value != other,
+        _ => false,
+    }
+}
+
+/// Whether a box lends 7, and gives it back.
+fn holds_seven(boxed: Boxed<u32, Global>) -> bool {
+    let lent = *boxed.get() == 7 && *boxed == 7;
+    boxed.into_inner() == 7 && lent
+}
 
 #[test]
 fn a_box_holds_its_value(rt: HostRuntime) -> Result<(), Fail> {
     let boxed = Boxed::new(rt.alloc(), 7u32)?;
-    assert_eq!(rt; *boxed.get(), 7);
-    assert_eq!(rt; *boxed, 7);
-    assert!(rt; boxed == Boxed::new(rt.alloc(), 7)?);
-    assert!(rt; boxed != Boxed::new(rt.alloc(), 8)?);
-    assert_eq!(rt; boxed.into_inner(), 7);
+    assert!(rt; holds_seven(boxed));
     Ok(())
+}
+
+/// Whether boxes are compared by what they hold.
+fn compares_boxes(alloc: Global) -> bool {
+    tells_apart(
+        Boxed::new(alloc, 7u32),
+        Boxed::new(alloc, 7),
+        Boxed::new(alloc, 8),
+    )
+}
+
+/// A list of these numbers.
+fn numbers(alloc: Global, all: &[u32]) -> Result<Items<u32, Global>, AllocError> {
+    let mut items = Items::new(alloc);
+    for number in all {
+        items.push(*number)?;
+    }
+    Ok(items)
+}
+
+/// The items as the digits of a number.
+fn digits(items: &Items<u32, Global>) -> u32 {
+    let mut sum = 0u32;
+    for item in items {
+        sum = sum.saturating_mul(10).saturating_add(*item);
+    }
+    sum
+}
+
+/// Whether a list lends 3 and 1, in each way that it has.
+fn lends_three_and_one(items: &Items<u32, Global>) -> bool {
+    let as_slice = items.as_slice() == [3, 1].as_slice();
+    let one_by_one = digits(items) == 31 && items.iter().count() == 2;
+    as_slice && one_by_one && items.len() == 2 && items[1] == 1
+}
+
+fn has_none(items: &Items<u32, Global>) -> bool {
+    items.is_empty()
+}
+
+/// Whether a list lends 3 and 1, and does so still where it is made anew from its `Vec`.
+fn keeps_three_and_one(items: Items<u32, Global>) -> bool {
+    let lent = lends_three_and_one(&items);
+    let items = Items::from_vec(items.into_vec());
+    lends_three_and_one(&items) && lent
 }
 
 #[test]
 fn items_keep_their_order(rt: HostRuntime) -> Result<(), Fail> {
-    let mut items = Items::new(rt.alloc());
-    assert!(rt; items.is_empty());
-    items.push(3u32)?;
-    items.push(1)?;
-    assert_eq!(rt; items.len(), 2);
-    let items = Items::from_vec(items.into_vec());
-    assert_eq!(rt; items.as_slice(), [3, 1].as_slice());
-    let mut sum = 0u32;
-    for item in &items {
-        sum = sum.saturating_mul(10).saturating_add(*item);
+    assert!(rt; has_none(&Items::new(rt.alloc())));
+    let items = numbers(rt.alloc(), &[3, 1])?;
+    assert!(rt; keeps_three_and_one(items));
+    Ok(())
+}
+
+/// Whether lists are compared item by item.
+fn compares_lists(alloc: Global) -> bool {
+    tells_apart(
+        numbers(alloc, &[3, 1]),
+        numbers(alloc, &[3, 1]),
+        numbers(alloc, &[3]),
+    )
+}
+
+/// A text that a string is moved into.
+fn moved(alloc: Global, text: &str) -> Result<Text<Global>, AllocError> {
+    let text = String::from_str(alloc, text)?;
+    Ok(Text::from_string(text))
+}
+
+/// Whether texts are compared by their bytes.
+fn compares_texts(alloc: Global) -> bool {
+    let text = "x = 2";
+    tells_apart(
+        Text::from_str(alloc, text),
+        Text::from_str(alloc, text),
+        moved(alloc, "y"),
+    )
+}
+
+#[test]
+fn values_are_compared_by_what_they_hold(rt: HostRuntime) {
+    assert!(rt; compares_boxes(rt.alloc()));
+    assert!(rt; compares_lists(rt.alloc()));
+    assert!(rt; compares_texts(rt.alloc()));
+}
+
+/// Whether a text was made that lends this, and begins so.
+fn lends(text: Result<Text<Global>, AllocError>, wanted: &str, begin: &str) -> bool {
+    match text {
+        Ok(text) => text.as_str() == wanted && text.starts_with(begin),
+        Err(_) => false,
     }
-    assert_eq!(rt; sum, 31);
-    assert_eq!(rt; items.iter().count(), 2);
-    assert_eq!(rt; items[1], 1);
-    let mut others = Items::new(rt.alloc());
-    others.push(3u32)?;
-    assert!(rt; items != others);
-    others.push(1)?;
-    assert!(rt; items == others);
-    Ok(())
 }
 
 #[test]
-fn a_text_holds_its_bytes(rt: HostRuntime) -> Result<(), Fail> {
-    let text = Text::from_str(rt.alloc(), "x = 2")?;
-    assert_eq!(rt; text.as_str(), "x = 2");
-    let moved = Text::from_string(String::from_str(rt.alloc(), "y")?);
-    assert_eq!(rt; moved.as_str(), "y");
-    assert!(rt; text.starts_with("x"));
-    assert!(rt; text == Text::from_str(rt.alloc(), "x = 2")?);
-    assert!(rt; text != moved);
-    Ok(())
+fn a_text_holds_its_bytes(rt: HostRuntime) {
+    assert!(rt; lends(Text::from_str(rt.alloc(), "x = 2"), "x = 2", "x"));
+    assert!(rt; lends(moved(rt.alloc(), "y"), "y", ""));
 }
 
-#[test]
-fn a_refused_push_leaves_the_items(rt: HostRuntime) -> Result<(), Fail> {
-    let alloc = Refusing::new(rt.alloc(), 0);
-    let mut items = Items::new(&alloc);
+/// Pushes an item, a second time where it is refused, and says whether it was; none where the list did not stay as it
+/// was.
+fn push_again(items: &mut Items<u32, &Refusing<Global>>, item: u32) -> Option<bool> {
+    if items.push(item) != Err(AllocError) {
+        return Some(false);
+    }
+    let kept = items.len() == item as usize;
+    (kept && items.push(item).is_ok()).then_some(true)
+}
+
+/// Pushes 100 items, the next growth refused before each, and says whether one was.
+fn push_each(items: &mut Items<u32, &Refusing<Global>>, alloc: &Refusing<Global>) -> Option<bool> {
     let mut refused = false;
     for item in 0..100u32 {
         alloc.refuse(1);
-        if items.push(item) == Err(AllocError) {
-            refused = true;
-            assert_eq!(rt; items.len(), item as usize);
-            items.push(item)?;
-        }
+        refused |= push_again(items, item)?;
     }
-    assert!(rt; refused);
-    assert_eq!(rt; items.len(), 100);
-    Ok(())
+    (items.len() == 100).then_some(refused)
+}
+
+/// The same of a new list.
+fn push_each_to_new(alloc: &Refusing<Global>) -> Option<bool> {
+    let mut items = Items::new(alloc);
+    push_each(&mut items, alloc)
 }
 
 #[test]
-fn a_refused_box_or_text_is_made_at_the_next_call(rt: HostRuntime) -> Result<(), Fail> {
-    let alloc = Refusing::new(rt.alloc(), 1);
-    assert!(rt; Boxed::new(&alloc, 7u32).is_err());
-    assert!(rt; !alloc.is_waiting());
-    assert_eq!(rt; *Boxed::new(&alloc, 7u32)?.get(), 7);
-    alloc.refuse(1);
-    assert!(rt; Text::from_str(&alloc, "x").is_err());
-    assert_eq!(rt; Text::from_str(&alloc, "x")?.as_str(), "x");
-    Ok(())
+fn a_refused_push_leaves_the_items(rt: HostRuntime) {
+    let alloc = Refusing::new(rt.alloc(), 0);
+    assert!(rt; push_each_to_new(&alloc) == Some(true));
 }
 
-/// A value that may be missing and holds a text in a box, in a list.
-type Texts<A> = Items<Option<Boxed<Text<A>, A>>, A>;
+/// What the second call has made, where the first was refused.
+fn made_again<T: Drop>(first: Result<T, AllocError>, second: Result<T, AllocError>) -> Option<T> {
+    if first.is_err() { second.ok() } else { None }
+}
+
+/// Whether a box is refused with its one growth, and made at the next call.
+fn makes_a_box_again(alloc: &Refusing<Global>) -> bool {
+    let first = Boxed::new(alloc, 7u32);
+    let waits = alloc.is_waiting();
+    match made_again(first, Boxed::new(alloc, 7u32)) {
+        Some(boxed) => *boxed.get() == 7 && !waits,
+        None => false,
+    }
+}
+
+/// Whether a text is refused with its one growth, and made at the next call.
+fn makes_a_text_again(alloc: &Refusing<Global>) -> bool {
+    match made_again(Text::from_str(alloc, "x"), Text::from_str(alloc, "x")) {
+        Some(text) => text.as_str() == "x",
+        None => false,
+    }
+}
+
+#[test]
+fn a_refused_box_or_text_is_made_at_the_next_call(rt: HostRuntime) {
+    let alloc = Refusing::new(rt.alloc(), 1);
+    assert!(rt; makes_a_box_again(&alloc));
+    alloc.refuse(1);
+    assert!(rt; makes_a_text_again(&alloc));
+}
+
+/// A value that may be missing and holds a text in a box.
+type MaybeText<A> = Option<Boxed<Text<A>, A>>;
+
+/// A text in a box, where there is one.
+fn boxed<A: Allocator + Copy>(alloc: A, text: Option<&str>) -> Result<MaybeText<A>, AllocError> {
+    match text {
+        Some(text) => {
+            let text = Text::from_str(alloc, text)?;
+            Ok(Some(Boxed::new(alloc, text)?))
+        }
+        None => Ok(None),
+    }
+}
+
+type Texts<A> = Items<MaybeText<A>, A>;
 
 /// `first`, nothing and `y`.
 fn texts<A: Allocator + Copy>(alloc: A, first: &str) -> Result<Texts<A>, AllocError> {
     let mut texts = Items::new(alloc);
-    texts.push(Some(Boxed::new(alloc, Text::from_str(alloc, first)?)?))?;
-    texts.push(None)?;
-    texts.push(Some(Boxed::new(alloc, Text::from_str(alloc, "y")?)?))?;
+    for text in [Some(first), None, Some("y")] {
+        texts.push(boxed(alloc, text)?)?;
+    }
     Ok(texts)
 }
 
-#[test]
-fn the_same_is_what_holds_the_same(rt: HostRuntime) -> Result<(), Fail> {
-    let one = texts(rt.alloc(), "x")?;
-    assert!(rt; one.same(&texts(rt.alloc(), "x")?));
-    assert!(rt; !one.same(&texts(rt.alloc(), "z")?));
-    assert!(rt; !one.same(&Items::new(rt.alloc())));
-    Ok(())
+/// Whether two are the same; none where one was not made.
+fn are_same<T: Same + Drop>(
+    one: Result<T, AllocError>,
+    other: Result<T, AllocError>,
+) -> Option<bool> {
+    match (one, other) {
+        (Ok(one), Ok(other)) => Some(one.same(&other)),
+        _ => None,
+    }
+}
+
+/// Whether the list that begins with `x` is the same as this one.
+fn is_same(alloc: Global, other: Result<Texts<Global>, AllocError>) -> Option<bool> {
+    are_same(texts(alloc, "x"), other)
 }
 
 #[test]
-fn each_growth_of_a_copy_is_refused_once(rt: HostRuntime) -> Result<(), Fail> {
-    let alloc = Refusing::new(rt.alloc(), 0);
-    let whole = texts(&alloc, "x")?;
-    let mut met = 0;
+fn the_same_is_what_holds_the_same(rt: HostRuntime) {
+    assert!(rt; is_same(rt.alloc(), texts(rt.alloc(), "x")) == Some(true));
+    assert!(rt; is_same(rt.alloc(), texts(rt.alloc(), "z")) == Some(false));
+    assert!(rt; is_same(rt.alloc(), Ok(Items::new(rt.alloc()))) == Some(false));
+}
+
+/// Whether a copy is the same as the whole; none where it is refused.
+fn copies<T: Copied<A> + Same + Drop, A: Allocator + Copy>(whole: &T, alloc: A) -> Option<bool> {
+    match whole.copy(alloc) {
+        Ok(copy) => Some(copy.same(whole)),
+        Err(AllocError) => None,
+    }
+}
+
+/// Whether a copy is refused, so that the next one is made; none where a copy is not the same.
+fn copies_again<T: Copied<A> + Same + Drop, A: Allocator + Copy>(
+    whole: &T,
+    alloc: A,
+) -> Option<bool> {
+    match copies(whole, alloc) {
+        Some(same) => same.then_some(false),
+        None => (copies(whole, alloc) == Some(true)).then_some(true),
+    }
+}
+
+/// Whether growth `nth` of a copy is refused; none where it is told otherwise, or a copy is not the same.
+fn refuses<'a>(
+    whole: &Texts<&'a Refusing<Global>>,
+    alloc: &'a Refusing<Global>,
+    nth: u64,
+) -> Option<bool> {
+    alloc.refuse(nth);
+    let refused = copies_again(whole, alloc)?;
+    (refused != alloc.is_waiting()).then_some(refused)
+}
+
+/// How many growths of a copy can be refused; none where a copy is not the same.
+fn growths<'a>(whole: &Texts<&'a Refusing<Global>>, alloc: &'a Refusing<Global>) -> Option<u64> {
     for nth in 1..100u64 {
-        alloc.refuse(nth);
-        match whole.copy(&alloc) {
-            Ok(copy) => {
-                assert!(rt; alloc.is_waiting());
-                assert!(rt; copy.same(&whole));
-                break;
-            }
-            Err(AllocError) => {
-                met = nth;
-                assert!(rt; whole.copy(&alloc)?.same(&whole));
-            }
+        if !refuses(whole, alloc, nth)? {
+            return Some(nth - 1);
         }
     }
+    None
+}
+
+/// The same of the list that begins with `x`.
+fn growths_of_texts(alloc: &Refusing<Global>) -> Option<u64> {
+    match texts(alloc, "x") {
+        Ok(whole) => growths(&whole, alloc),
+        Err(_) => None,
+    }
+}
+
+#[test]
+fn each_growth_of_a_copy_is_refused_once(rt: HostRuntime) {
+    let alloc = Refusing::new(rt.alloc(), 0);
     // a list, two boxes and two texts
-    assert_eq!(rt; met, 5);
-    Ok(())
+    assert!(rt; growths_of_texts(&alloc) == Some(5));
 }
