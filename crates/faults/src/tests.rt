@@ -3,11 +3,14 @@
 use crate::{explanation, underlined, words};
 use lex::token::Span;
 use refusing::Refusing;
+use std::alloc::{AllocError, Allocator, Global};
 use std::test::Fail;
 
-#[test]
-fn underlines_spans(rt: HostRuntime) -> Result<(), Fail> {
-    let rows: [(&str, usize, usize, &str); 8] = [
+/// A text, where a span of it starts and ends, and what is shown of it.
+type Row = (&'static str, usize, usize, &'static str);
+
+fn spans() -> &'static [Row] {
+    static ROWS: [Row; 8] = [
         ("int x;\nint yy, x;\n", 11, 13, "int yy, x;\n    ^^\n"),
         // a span that is empty, and one that ends behind its line
         ("int x;", 6, 6, "int x;\n      ^\n"),
@@ -24,46 +27,111 @@ fn underlines_spans(rt: HostRuntime) -> Result<(), Fail> {
         ("a\u{1b}[b\r\n", 3, 4, "a?[b\n   ^\n"),
         ("x\n", 2, 2, "\n^\n"),
     ];
-    for (text, start, end, told) in rows {
-        let shown = underlined(rt.alloc(), text, Span { start, end })?;
-        assert_eq!(rt; shown.as_slice(), told.as_bytes(), "{text:?}");
+    &ROWS
+}
+
+/// Whether a row's span is shown so.
+fn is_shown(alloc: Global, row: &Row) -> bool {
+    let span = Span {
+        start: row.1,
+        end: row.2,
+    };
+    match underlined(alloc, row.0, span) {
+        Ok(shown) => shown.as_slice() == row.3.as_bytes(),
+        Err(_) => false,
     }
-    Ok(())
+}
+
+/// The first of these texts whose span is shown otherwise.
+fn shown_otherwise(alloc: Global, rows: &[Row]) -> Option<&'static str> {
+    for row in rows {
+        if !is_shown(alloc, row) {
+            return Some(row.0);
+        }
+    }
+    None
 }
 
 #[test]
-fn shows_a_part_of_a_long_line(rt: HostRuntime) -> Result<(), Fail> {
-    let mut text = String::new(rt.alloc());
+fn underlines_spans(rt: HostRuntime) {
+    assert_eq!(rt; shown_otherwise(rt.alloc(), spans()), None);
+}
+
+/// A line of 1,000 characters of two bytes each.
+fn long_line(alloc: Global) -> Result<String, AllocError> {
+    let mut text = String::new(alloc);
     for _ in 0..1000u32 {
         text.push_str("\u{e4}")?;
     }
+    Ok(text)
+}
+
+/// What is shown of a character in the middle of the long line.
+fn shown_middle<A: Allocator>(alloc: A, text: &str) -> Result<Vec<u8, A>, AllocError> {
     let span = Span {
         start: 1000,
         end: 1002,
     };
-    let shown = underlined(rt.alloc(), text.as_str(), span)?;
-    assert!(rt; shown.len() < 400);
-    assert!(rt; std::str::from_utf8(shown.as_slice()).is_ok());
-    let mut met = 0;
+    underlined(alloc, text, span)
+}
+
+/// Whether the growth is refused; none where something else is shown than with ample memory.
+fn refuses(alloc: &Refusing<Global>, text: &str, wanted: &[u8]) -> Option<bool> {
+    match shown_middle(alloc, text) {
+        Ok(shown) => (shown.as_slice() == wanted).then_some(false),
+        Err(_) => Some(true),
+    }
+}
+
+/// How many growths can be refused, of less than 49; none where there are more, or something else is shown.
+fn growths(inner: Global, text: &str, wanted: &[u8]) -> Option<u64> {
     for nth in 1..50u64 {
-        let alloc = Refusing::new(rt.alloc(), nth);
-        match underlined(&alloc, text.as_str(), span) {
-            Ok(again) => {
-                assert_eq!(rt; again.as_slice(), shown.as_slice());
-                break;
-            }
-            Err(_) => met = nth,
+        let alloc = Refusing::new(inner, nth);
+        if !refuses(&alloc, text, wanted)? {
+            return Some(nth - 1);
         }
     }
-    assert!(rt; met > 0 && met < 49);
-    Ok(())
+    None
+}
+
+/// Whether this is a text of less than 400 bytes.
+fn is_part(shown: &[u8]) -> bool {
+    shown.len() < 400 && std::str::from_utf8(shown).is_ok()
+}
+
+/// Whether a part of a text is shown, and growths on the way can be refused.
+fn shows_a_part(alloc: Global, text: &str) -> bool {
+    match shown_middle(alloc, text) {
+        Ok(shown) => {
+            is_part(shown.as_slice()) && growths(alloc, text, shown.as_slice()) > Some(0)
+        }
+        Err(_) => false,
+    }
 }
 
 #[test]
-fn explains_each_fault(rt: HostRuntime) -> Result<(), Fail> {
-    for number in 0..100u32 {
-        let is_told = words(number) != "unknown fault";
-        assert_eq!(rt; explanation(number).is_some(), is_told, "{number}");
-    }
+fn shows_a_part_of_a_long_line(rt: HostRuntime) -> Result<(), Fail> {
+    let text = long_line(rt.alloc())?;
+    assert!(rt; shows_a_part(rt.alloc(), text.as_str()));
     Ok(())
+}
+
+/// Whether what a fault means is told just where the fault has words.
+fn is_explained(number: u32) -> bool {
+    explanation(number).is_some() == (words(number) != "unknown fault")
+}
+
+/// The first number below 100 of which that does not hold.
+fn not_explained() -> Option<u32> {
+    for number in 0..100u32 {
+        if !is_explained(number) {
+            return Some(number);
+        }
+    }
+    None
+}
+
+#[test]
+fn explains_each_fault(rt: HostRuntime) {
+    assert_eq!(rt; not_explained(), None);
 }
