@@ -5,110 +5,176 @@ use lex::token::Scalar;
 use machine::Event;
 use refusing::Refusing;
 use report::{End, Printed, Shown, ThreadShown, report_text};
-use std::alloc::{AllocError, Allocator};
-use std::test::Fail;
+use std::alloc::{AllocError, Allocator, Global};
 use syntax::numbers::Trap;
 
+/// How a thread ends, and what it has printed.
+type Thread = (End, &'static [u8]);
+
 /// What is shown of a thread.
-fn thread<A: Allocator + Copy>(
-    alloc: A,
-    end: End,
-    text: &[u8],
-) -> Result<ThreadShown<A>, AllocError> {
-    let text = Items::from_vec(Vec::from_slice(alloc, text)?);
-    Ok(ThreadShown { end, text })
+fn thread<A: Allocator>(alloc: A, row: &Thread) -> Result<ThreadShown<A>, AllocError> {
+    let text = Items::from_vec(Vec::from_slice(alloc, row.1)?);
+    Ok(ThreadShown { end: row.0, text })
 }
 
-/// What is shown of a global.
-fn global<A: Allocator + Copy>(
+/// What is shown of threads.
+fn threads<A: Allocator + Copy>(
     alloc: A,
-    name: &str,
-    of: Scalar,
-    words: &[u64],
-) -> Result<Shown<A>, AllocError> {
-    let name = Text::from_str(alloc, name)?;
-    let words = Items::from_vec(Vec::from_slice(alloc, words)?);
-    Ok(Shown { name, of, words })
+    rows: &[Thread],
+) -> Result<Items<ThreadShown<A>, A>, AllocError> {
+    let mut threads = Items::new(alloc);
+    for row in rows {
+        threads.push(thread(alloc, row)?)?;
+    }
+    Ok(threads)
 }
+
+/// A global's name, the type of its cells, and a word for each of them.
+type Words = (&'static str, Scalar, &'static [u64]);
+
+/// What is shown of a global.
+fn global<A: Allocator + Copy>(alloc: A, row: &Words) -> Result<Shown<A>, AllocError> {
+    let words = Items::from_vec(Vec::from_slice(alloc, row.2)?);
+    Ok(Shown {
+        name: Text::from_str(alloc, row.0)?,
+        of: row.1,
+        words,
+    })
+}
+
+/// What is shown of globals.
+fn globals<A: Allocator + Copy>(
+    alloc: A,
+    rows: &[Words],
+) -> Result<Items<Shown<A>, A>, AllocError> {
+    let mut globals = Items::new(alloc);
+    for row in rows {
+        globals.push(global(alloc, row)?)?;
+    }
+    Ok(globals)
+}
+
+const EVENTS: [(u64, u32, Event); 5] = [
+    (7, 0, Event::Commit),
+    (8, 1, Event::Quiet),
+    (13, 1, Event::Abort),
+    (13, 1, Event::Cancel),
+    (19, 1, Event::Trap(Trap::ShiftCount)),
+];
+
+const THREADS: [Thread; 2] = [
+    (End::Running, b"one\ntwo"),
+    (End::Trapped(Trap::ShiftCount), b"go\n"),
+];
+
+const GLOBALS: [Words; 2] = [
+    ("a", Scalar::Unsigned, &[1, 4294967295]),
+    ("b", Scalar::Int, &[4294967295]),
+];
 
 /// A replay of two threads, with globals of both types.
 fn replayed<A: Allocator + Copy>(alloc: A, holder: Option<u32>) -> Result<Printed<A>, AllocError> {
-    let mut events = Items::new(alloc);
-    events.push((7, 0, Event::Commit))?;
-    events.push((8, 1, Event::Quiet))?;
-    events.push((13, 1, Event::Abort))?;
-    events.push((13, 1, Event::Cancel))?;
-    events.push((19, 1, Event::Trap(Trap::ShiftCount)))?;
-    let mut threads = Items::new(alloc);
-    threads.push(thread(alloc, End::Running, b"one\ntwo")?)?;
-    threads.push(thread(alloc, End::Trapped(Trap::ShiftCount), b"go\n")?)?;
-    let mut globals = Items::new(alloc);
-    globals.push(global(alloc, "a", Scalar::Unsigned, [1, 4294967295].as_slice())?)?;
-    globals.push(global(alloc, "b", Scalar::Int, [4294967295].as_slice())?)?;
+    let events = Items::from_vec(Vec::from_slice(alloc, EVENTS.as_slice())?);
+    let threads = threads(alloc, THREADS.as_slice())?;
     Ok(Printed {
         events: Some(events),
         threads,
-        globals,
+        globals: globals(alloc, GLOBALS.as_slice())?,
         holder,
     })
+}
+
+/// Whether this was made, and its report is this text.
+fn is_reported(alloc: Global, printed: Result<Printed<Global>, AllocError>, wanted: &[u8]) -> bool {
+    match printed {
+        Ok(printed) => is_text(report_text(alloc, &printed), wanted),
+        Err(_) => false,
+    }
+}
+
+fn is_text(text: Result<Vec<u8>, AllocError>, wanted: &[u8]) -> bool {
+    match text {
+        Ok(text) => text.as_slice() == wanted,
+        Err(_) => false,
+    }
 }
 
 const REPLAYED: &[u8] =
     b"== events\n7 0 commit\n13 1 abort\n13 1 cancel\n19 1 trap 5\n== thread 0: running\none\ntwo\n== thread 1: trap 5\ngo\n== memory\na = 1 4294967295\nb = -1\n";
 
-#[test]
-fn shows_a_replay(rt: HostRuntime) -> Result<(), Fail> {
-    let printed = replayed(rt.alloc(), None)?;
-    assert_eq!(rt; report_text(rt.alloc(), &printed)?.as_slice(), REPLAYED);
-    let held = replayed(rt.alloc(), Some(1))?;
-    let text = report_text(rt.alloc(), &held)?;
-    assert!(rt; text.ends_with(b"go\n== memory: lock held by thread 1\n"));
-    Ok(())
-}
+const HELD: &[u8] =
+    b"== events\n7 0 commit\n13 1 abort\n13 1 cancel\n19 1 trap 5\n== thread 0: running\none\ntwo\n== thread 1: trap 5\ngo\n== memory: lock held by thread 1\n";
 
 #[test]
-fn shows_each_end(rt: HostRuntime) -> Result<(), Fail> {
-    let mut threads = Items::new(rt.alloc());
-    for end in [
-        End::Ended,
-        End::OutOfMemory,
-        End::SequenceUsedUp,
-        End::Budget,
-        End::Waits,
-        End::Spent,
-    ] {
-        threads.push(thread(rt.alloc(), end, b"")?)?;
-    }
-    let printed = Printed {
+fn shows_a_replay(rt: HostRuntime) {
+    assert!(rt; is_reported(rt.alloc(), replayed(rt.alloc(), None), REPLAYED));
+    assert!(rt; is_reported(rt.alloc(), replayed(rt.alloc(), Some(1)), HELD));
+}
+
+const ENDS: [Thread; 6] = [
+    (End::Ended, b""),
+    (End::OutOfMemory, b""),
+    (End::SequenceUsedUp, b""),
+    (End::Budget, b""),
+    (End::Waits, b""),
+    (End::Spent, b""),
+];
+
+/// A thread with each of these ends.
+fn ends(alloc: Global) -> Result<Printed<Global>, AllocError> {
+    let threads = threads(alloc, ENDS.as_slice())?;
+    Ok(Printed {
         events: None,
         threads,
-        globals: Items::new(rt.alloc()),
+        globals: Items::new(alloc),
         holder: None,
-    };
-    let text = report_text(rt.alloc(), &printed)?;
-    assert_eq!(rt;
-        text.as_slice(),
-        b"== thread 0: ended\n== thread 1: stop 00\n== thread 2: stop 70\n== thread 3: budget\n== thread 4: waits\n== thread 5: spent\n== memory\n".as_slice()
-    );
-    Ok(())
+    })
+}
+
+const REPORTED_ENDS: &[u8] =
+    b"== thread 0: ended\n== thread 1: stop 00\n== thread 2: stop 70\n== thread 3: budget\n== thread 4: waits\n== thread 5: spent\n== memory\n";
+
+#[test]
+fn shows_each_end(rt: HostRuntime) {
+    assert!(rt; is_reported(rt.alloc(), ends(rt.alloc()), REPORTED_ENDS));
+}
+
+/// Whether growth `nth` of the report is refused; none where it is said not to be, or the report is another one.
+fn refuses<'a>(
+    alloc: &'a Refusing<Global>,
+    printed: &Printed<&'a Refusing<Global>>,
+    nth: u64,
+) -> Option<bool> {
+    alloc.refuse(nth);
+    match report_text(alloc, printed) {
+        Ok(text) => (alloc.is_waiting() && text.as_slice() == REPLAYED).then_some(false),
+        Err(_) => Some(true),
+    }
+}
+
+/// How many growths of the report can be refused, if less than 49; none too where one is not.
+fn growths<'a>(
+    alloc: &'a Refusing<Global>,
+    printed: &Printed<&'a Refusing<Global>>,
+) -> Option<u64> {
+    for nth in 1..50u64 {
+        if !refuses(alloc, printed, nth)? {
+            return Some(nth - 1);
+        }
+    }
+    None
+}
+
+/// The same of the replay's report.
+fn growths_of_replay(alloc: &Refusing<Global>) -> Option<u64> {
+    match replayed(alloc, None) {
+        Ok(printed) => growths(alloc, &printed),
+        Err(_) => None,
+    }
 }
 
 #[test]
-fn each_growth_is_refused_once(rt: HostRuntime) -> Result<(), Fail> {
-    let mut met = 0;
-    for nth in 1..50u64 {
-        let alloc = Refusing::new(rt.alloc(), 0);
-        let printed = replayed(&alloc, None)?;
-        alloc.refuse(nth);
-        match report_text(&alloc, &printed) {
-            Ok(text) => {
-                assert!(rt; alloc.is_waiting());
-                assert_eq!(rt; text.as_slice(), REPLAYED);
-                break;
-            }
-            Err(_) => met = nth,
-        }
-    }
-    assert!(rt; met > 0 && met < 49);
-    Ok(())
+fn each_growth_is_refused_once(rt: HostRuntime) {
+    let alloc = Refusing::new(rt.alloc(), 0);
+    assert!(rt; growths_of_replay(&alloc) > Some(0));
 }
