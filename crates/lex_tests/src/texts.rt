@@ -3,30 +3,53 @@
 use lex::token::{Keyword, Kind, Scalar, Span, Token};
 use lex::{lex, place, unescape};
 use refusing::Refusing;
-use std::alloc::Allocator;
-use std::test::Fail;
+use std::alloc::{Allocator, Global};
+use std::process::Abort;
 
-/// Whether the text is refused with this number and span.
-pub fn is_refused(rt: &HostRuntime, text: &str, number: u32, start: usize, end: usize) -> bool {
-    match lex(rt.alloc(), text) {
+/// A text, the number of its fault, and where the fault's span starts and ends.
+type Refused<'a> = (&'a str, u32, usize, usize);
+
+/// Whether a text is refused so.
+pub fn is_refused(alloc: Global, row: &Refused) -> bool {
+    match lex(alloc, row.0) {
         Ok(_) => false,
-        Err(fault) => fault.number() == number && fault.span() == Some(Span { start, end }),
+        Err(fault) => {
+            let span = Span {
+                start: row.2,
+                end: row.3,
+            };
+            fault.number() == row.1 && fault.span() == Some(span)
+        }
     }
 }
 
+/// Asserts that each of these texts is refused so.
+fn assert_all_refused(rt: &impl Abort, alloc: Global, rows: &[Refused<'static>]) {
+    for row in rows {
+        assert!(rt; is_refused(alloc, row), "{:?}", row.0);
+    }
+}
+
+/// Whether a token stands at a place.
+fn stands_at(token: &Token, place: &(usize, usize)) -> bool {
+    token.span.start == place.0 && token.span.end == place.1
+}
+
 /// Whether the text's tokens stand at these places.
-pub fn stand_at(rt: &HostRuntime, text: &str, places: &[(usize, usize)]) -> bool {
-    match lex(rt.alloc(), text) {
+pub fn stand_at(alloc: Global, text: &str, places: &[(usize, usize)]) -> bool {
+    match lex(alloc, text) {
         Ok(tokens) => {
             tokens.len() == places.len()
-                && tokens.iter().zip(places).all(|(token, place)| token.span.start == place.0
-                    && token.span.end == place.1)
+                && tokens
+                    .iter()
+                    .zip(places)
+                    .all(|(token, place)| stands_at(token, place))
         }
         Err(_) => false,
     }
 }
 
-// Whether these are the tokens of `#include <stdio.h>`, and below it `int x=0x1FU;// c` and `char "a\n"`.
+/// Whether these are the tokens of `#include <stdio.h>`, and below it `int x=0x1FU;// c` and `char "a\n"`.
 fn are_told(tokens: &[Token]) -> bool {
     let int = matches!(
         tokens.get(0),
@@ -66,73 +89,123 @@ fn are_told(tokens: &[Token]) -> bool {
     int && name && constant && char && string && tokens.len() == 7
 }
 
+/// Whether a text's tokens are these.
+fn tells_them(alloc: Global, text: &str) -> bool {
+    match lex(alloc, text) {
+        Ok(tokens) => are_told(tokens.as_slice()),
+        Err(_) => false,
+    }
+}
+
 #[test]
-fn tokens_say_what_they_are(rt: HostRuntime) -> Result<(), Fail> {
+fn tokens_say_what_they_are(rt: HostRuntime) {
     let text = "#include <stdio.h>\nint x=0x1FU;// c\nchar \"a\\n\"";
-    let tokens = lex(rt.alloc(), text)?;
-    assert!(rt; are_told(tokens.as_slice()));
-    Ok(())
+    assert!(rt; tells_them(rt.alloc(), text));
+}
+
+/// A text, and the places of its tokens.
+type Row = (&'static str, &'static [(usize, usize)]);
+
+/// Asserts that the tokens of each of these texts stand at these places.
+fn assert_all_stand(rt: &impl Abort, alloc: Global, rows: &[Row]) {
+    for row in rows {
+        assert!(rt; stand_at(alloc, row.0, row.1), "{:?}", row.0);
+    }
+}
+
+fn punctuators() -> &'static [Row] {
+    static ROWS: [Row; 3] = [
+        ("a>>=b", &[(0, 1), (1, 4), (4, 5)]),
+        ("a>> =b", &[(0, 1), (1, 3), (4, 5), (5, 6)]),
+        ("a+++b", &[(0, 1), (1, 3), (3, 4), (4, 5)]),
+    ];
+    &ROWS
 }
 
 #[test]
 fn the_longest_punctuator_comes_first(rt: HostRuntime) {
-    assert!(rt; stand_at(&rt, "a>>=b", &[(0, 1), (1, 4), (4, 5)]));
-    assert!(rt; stand_at(&rt, "a>> =b", &[(0, 1), (1, 3), (4, 5), (5, 6)]));
-    assert!(rt; stand_at(&rt, "a+++b", &[(0, 1), (1, 3), (3, 4), (4, 5)]));
+    assert_all_stand(&rt, rt.alloc(), punctuators());
+}
+
+fn skipped() -> &'static [Row] {
+    static ROWS: [Row; 2] = [
+        (
+            "/***/a/*/*/b//c\n\t# include /* x\nd",
+            &[(5, 6), (11, 12), (32, 33)],
+        ),
+        ("a//*\nb/**/c", &[(0, 1), (5, 6), (10, 11)]),
+    ];
+    &ROWS
 }
 
 #[test]
 fn comments_and_lines_of_include_are_skipped(rt: HostRuntime) {
-    assert!(rt;
-        stand_at(
-            &rt,
-            "/***/a/*/*/b//c\n\t# include /* x\nd",
-            &[(5, 6), (11, 12), (32, 33)]
-        )
-    );
-    assert!(rt; stand_at(&rt, "a//*\nb/**/c", &[(0, 1), (5, 6), (10, 11)]));
+    assert_all_stand(&rt, rt.alloc(), skipped());
+}
+
+fn bad() -> &'static [Refused<'static>] {
+    static ROWS: [Refused<'static>; 8] = [
+        ("int @", 1, 4, 5),
+        ("08", 1, 1, 2),
+        ("0x", 1, 1, 2),
+        ("1ul", 1, 2, 3),
+        ("1.5", 1, 1, 2),
+        ("\u{feff}int", 1, 0, 3),
+        ("/* c */ #include <a>", 1, 8, 9),
+        ("x #include", 1, 2, 3),
+    ];
+    &ROWS
 }
 
 #[test]
 fn bad_characters(rt: HostRuntime) {
-    assert!(rt; is_refused(&rt, "int @", 1, 4, 5));
-    assert!(rt; is_refused(&rt, "08", 1, 1, 2));
-    assert!(rt; is_refused(&rt, "0x", 1, 1, 2));
-    assert!(rt; is_refused(&rt, "1ul", 1, 2, 3));
-    assert!(rt; is_refused(&rt, "1.5", 1, 1, 2));
-    assert!(rt; is_refused(&rt, "\u{feff}int", 1, 0, 3));
-    assert!(rt; is_refused(&rt, "/* c */ #include <a>", 1, 8, 9));
-    assert!(rt; is_refused(&rt, "x #include", 1, 2, 3));
+    assert_all_refused(&rt, rt.alloc(), bad());
+}
+
+fn too_large() -> &'static [Refused<'static>] {
+    static ROWS: [Refused<'static>; 4] = [
+        ("x = 2147483648;", 2, 4, 14),
+        ("4294967296u", 2, 0, 11),
+        ("0x100000000", 2, 0, 11),
+        ("99999999999x", 2, 0, 11),
+    ];
+    &ROWS
+}
+
+fn largest() -> &'static [Row] {
+    static ROWS: [Row; 1] = [(
+        "2147483647 4294967295U 037777777777 0",
+        &[(0, 10), (11, 22), (23, 35), (36, 37)],
+    )];
+    &ROWS
 }
 
 #[test]
 fn constants_too_large(rt: HostRuntime) {
-    assert!(rt; is_refused(&rt, "x = 2147483648;", 2, 4, 14));
-    assert!(rt; is_refused(&rt, "4294967296u", 2, 0, 11));
-    assert!(rt; is_refused(&rt, "0x100000000", 2, 0, 11));
-    assert!(rt; is_refused(&rt, "99999999999x", 2, 0, 11));
-    assert!(rt;
-        stand_at(
-            &rt,
-            "2147483647 4294967295U 037777777777 0",
-            &[(0, 10), (11, 22), (23, 35), (36, 37)]
-        )
-    );
+    assert_all_refused(&rt, rt.alloc(), too_large());
+    assert_all_stand(&rt, rt.alloc(), largest());
+}
+
+fn open() -> &'static [Refused<'static>] {
+    static ROWS: [Refused<'static>; 8] = [
+        ("a /* b", 3, 2, 6),
+        ("/*/", 3, 0, 3),
+        (" \"a\nb\"", 4, 1, 2),
+        ("\"\\x\"", 4, 0, 1),
+        ("\"a", 4, 0, 1),
+        ("a\n \t#define A 1", 6, 4, 5),
+        ("#includes", 6, 0, 1),
+        ("#", 6, 0, 1),
+    ];
+    &ROWS
 }
 
 #[test]
 fn open_comments_bad_strings_and_directives(rt: HostRuntime) {
-    assert!(rt; is_refused(&rt, "a /* b", 3, 2, 6));
-    assert!(rt; is_refused(&rt, "/*/", 3, 0, 3));
-    assert!(rt; is_refused(&rt, " \"a\nb\"", 4, 1, 2));
-    assert!(rt; is_refused(&rt, "\"\\x\"", 4, 0, 1));
-    assert!(rt; is_refused(&rt, "\"a", 4, 0, 1));
-    assert!(rt; is_refused(&rt, "a\n \t#define A 1", 6, 4, 5));
-    assert!(rt; is_refused(&rt, "#includes", 6, 0, 1));
-    assert!(rt; is_refused(&rt, "#", 6, 0, 1));
+    assert_all_refused(&rt, rt.alloc(), open());
 }
 
-// Whether the text without its escapes is this; none where memory is refused.
+/// Whether the text without its escapes is this; none where memory is refused.
 fn becomes<A: Allocator + Copy>(alloc: A, text: &str, wanted: &str) -> Option<bool> {
     match unescape(alloc, text) {
         Ok(found) => Some(found.as_str() == wanted),
@@ -140,28 +213,35 @@ fn becomes<A: Allocator + Copy>(alloc: A, text: &str, wanted: &str) -> Option<bo
     }
 }
 
+/// Whether memory is refused where an escape is sought, and then not.
+fn is_refused_once(alloc: &Refusing<Global>) -> bool {
+    becomes(alloc, "a", "a").is_none() && becomes(alloc, "a", "a") == Some(true)
+}
+
 #[test]
 fn an_escape_is_one_character(rt: HostRuntime) {
-    assert_eq!(rt;
-        becomes(rt.alloc(), "a\\n\\t\\\\\\\"n\u{e4}", "a\n\t\\\"n\u{e4}"),
-        Some(true)
-    );
+    let found = becomes(rt.alloc(), "a\\n\\t\\\\\\\"n\u{e4}", "a\n\t\\\"n\u{e4}");
+    assert!(rt; found == Some(true));
     let alloc = Refusing::new(rt.alloc(), 1);
-    assert_eq!(rt; becomes(&alloc, "a", "a"), None);
-    assert_eq!(rt; becomes(&alloc, "a", "a"), Some(true));
+    assert!(rt; is_refused_once(&alloc));
 }
 
 #[test]
 fn a_place_is_a_line_and_a_column_in_bytes(rt: HostRuntime) {
     let text = "a\n/* \u{e4} */ b\r\nc";
-    assert_eq!(rt; place(text, 0), (1, 1));
-    assert_eq!(rt; place(text, 1), (1, 2));
-    assert_eq!(rt; place(text, 2), (2, 1));
-    assert_eq!(rt; place(text, 11), (2, 10));
-    assert_eq!(rt; place(text, text.len()), (3, 2));
+    let places = [
+        (0, (1, 1)),
+        (1, (1, 2)),
+        (2, (2, 1)),
+        (11, (2, 10)),
+        (text.len(), (3, 2)),
+    ];
+    for (offset, wanted) in places {
+        assert!(rt; place(text, offset) == wanted, "{offset}");
+    }
 }
 
-// The number of a text's tokens; of its fault the number and the span.
+/// The number of a text's tokens; of its fault the number and the span.
 fn count<A: Allocator + Copy>(alloc: A, text: &str) -> Result<usize, (u32, Option<Span>)> {
     match lex(alloc, text) {
         Ok(tokens) => Ok(tokens.len()),
@@ -169,23 +249,25 @@ fn count<A: Allocator + Copy>(alloc: A, text: &str) -> Result<usize, (u32, Optio
     }
 }
 
+/// Whether growth `nth` is refused as out of memory, so that the next call has the tokens; none where something else
+/// comes.
+fn refuses(inner: Global, nth: u64) -> Option<bool> {
+    let alloc = Refusing::new(inner, nth);
+    let text = "int x; void worker(int self) { x = x + 1; }";
+    match count(&alloc, text) {
+        Ok(_) => alloc.is_waiting().then_some(false),
+        Err(fault) => (fault == (0, None) && count(&alloc, text) == Ok(17)).then_some(true),
+    }
+}
+
 #[test]
 fn a_refused_growth_is_out_of_memory(rt: HostRuntime) {
-    let text = "int x; void worker(int self) { x = x + 1; }";
     let mut met = 0;
     for nth in 1..100u64 {
-        let alloc = Refusing::new(rt.alloc(), nth);
-        match count(&alloc, text) {
-            Ok(_) => {
-                assert!(rt; alloc.is_waiting());
-                break;
-            }
-            Err((number, span)) => {
-                met = nth;
-                assert_eq!(rt; number, 0);
-                assert!(rt; span == None);
-                assert!(rt; count(&alloc, text) == Ok(17));
-            }
+        match refuses(rt.alloc(), nth) {
+            Some(true) => met = nth,
+            Some(false) => break,
+            None => panic!(rt; "another fault, or other tokens"),
         }
     }
     assert!(rt; 0 < met);
