@@ -3,6 +3,7 @@
 
 use command::command;
 use std::alloc::{AllocError, Global};
+use std::process::Abort;
 
 /// What words ask.
 fn told(alloc: Global, words: &[&str]) -> Result<String, AllocError> {
@@ -17,35 +18,32 @@ fn asked(alloc: Global, line: &str) -> Result<String, AllocError> {
 }
 
 /// Whether this is what a line asks.
-fn asks(alloc: Global, line: &str, wanted: &str) -> bool {
+fn asks(alloc: Global, line: &str, wanted: &[u8]) -> bool {
     match asked(alloc, line) {
-        Ok(found) => found.as_str() == wanted,
+        Ok(found) => found.as_bytes() == wanted,
         Err(_) => false,
     }
 }
 
-/// A line, and what it asks.
-type Row = (&'static str, &'static str);
+/// A line, and the bytes of what it asks.
+type Row = (&'static str, &'static [u8]);
 
-/// The first of these lines that asks anything else.
-fn asks_else(alloc: Global, rows: &[Row]) -> Option<&'static str> {
+/// Asserts that each of these lines asks what stands beside it.
+fn assert_all_ask(rt: &impl Abort, alloc: Global, rows: &[Row]) {
     for (line, wanted) in rows {
-        if !asks(alloc, line, wanted) {
-            return Some(*line);
-        }
+        assert!(rt; asks(alloc, line, wanted), "{line}");
     }
-    None
 }
 
 fn runs() -> &'static [Row] {
     static ROWS: [Row; 2] = [
         (
             "txc|run|a.c",
-            r#"Ok(Program { file: "a.c", verbose: false, task: Run { threads: 1, budget: 4294967295 } })"#,
+            br#"Ok(Program { file: "a.c", verbose: false, task: Run { threads: 1, budget: 4294967295 } })"#,
         ),
         (
             "txc|run|--threads|64|--budget=0|a.c",
-            r#"Ok(Program { file: "a.c", verbose: false, task: Run { threads: 64, budget: 0 } })"#,
+            br#"Ok(Program { file: "a.c", verbose: false, task: Run { threads: 64, budget: 0 } })"#,
         ),
     ];
     &ROWS
@@ -53,55 +51,55 @@ fn runs() -> &'static [Row] {
 
 #[test]
 fn reads_runs(rt: HostRuntime) {
-    assert_eq!(rt; asks_else(rt.alloc(), runs()), None);
+    assert_all_ask(&rt, rt.alloc(), runs());
 }
 
 fn words() -> &'static [Row] {
     static ROWS: [Row; 3] = [
         (
             "txc|listing|a.c",
-            r#"Ok(Program { file: "a.c", verbose: false, task: Listing })"#,
+            br#"Ok(Program { file: "a.c", verbose: false, task: Listing })"#,
         ),
         (
             "txc|check|--verbose|b.c",
-            r#"Ok(Program { file: "b.c", verbose: true, task: Check })"#,
+            br#"Ok(Program { file: "b.c", verbose: true, task: Check })"#,
         ),
-        ("txc|explain|40", "Ok(Explain { number: 40 })"),
+        ("txc|explain|40", b"Ok(Explain { number: 40 })"),
     ];
     &ROWS
 }
 
 #[test]
 fn reads_words(rt: HostRuntime) {
-    assert_eq!(rt; asks_else(rt.alloc(), words()), None);
+    assert_all_ask(&rt, rt.alloc(), words());
 }
 
 fn orders() -> &'static [Row] {
     static ROWS: [Row; 6] = [
         (
             "txc|source|--order||--threads|2|a.c",
-            r#"Ok(Program { file: "a.c", verbose: false, task: Source { threads: 2, order: [], ticks: 100000 } })"#,
+            br#"Ok(Program { file: "a.c", verbose: false, task: Source { threads: 2, order: [], ticks: 100000 } })"#,
         ),
         (
             "txc|source|--order|0|--threads|2|a.c",
-            r#"Ok(Program { file: "a.c", verbose: false, task: Source { threads: 2, order: [0], ticks: 100000 } })"#,
+            br#"Ok(Program { file: "a.c", verbose: false, task: Source { threads: 2, order: [0], ticks: 100000 } })"#,
         ),
         (
             "txc|source|--order|0,1,0|--threads|2|a.c",
-            r#"Ok(Program { file: "a.c", verbose: false, task: Source { threads: 2, order: [0, 1, 0], ticks: 100000 } })"#,
+            br#"Ok(Program { file: "a.c", verbose: false, task: Source { threads: 2, order: [0, 1, 0], ticks: 100000 } })"#,
         ),
         (
             "txc|source|--order|4294967295,007|--threads|2|a.c",
-            r#"Ok(Program { file: "a.c", verbose: false, task: Source { threads: 2, order: [4294967295, 7], ticks: 100000 } })"#,
+            br#"Ok(Program { file: "a.c", verbose: false, task: Source { threads: 2, order: [4294967295, 7], ticks: 100000 } })"#,
         ),
         // a thread that there is not is no matter of the words
         (
             "txc|source|--order|2|--threads|2|a.c",
-            r#"Ok(Program { file: "a.c", verbose: false, task: Source { threads: 2, order: [2], ticks: 100000 } })"#,
+            br#"Ok(Program { file: "a.c", verbose: false, task: Source { threads: 2, order: [2], ticks: 100000 } })"#,
         ),
         (
             "txc|source|--ticks=0|--threads=64|--order=1|a.c|--verbose",
-            r#"Ok(Program { file: "a.c", verbose: true, task: Source { threads: 64, order: [1], ticks: 0 } })"#,
+            br#"Ok(Program { file: "a.c", verbose: true, task: Source { threads: 64, order: [1], ticks: 0 } })"#,
         ),
     ];
     &ROWS
@@ -109,7 +107,7 @@ fn orders() -> &'static [Row] {
 
 #[test]
 fn reads_orders(rt: HostRuntime) {
-    assert_eq!(rt; asks_else(rt.alloc(), orders()), None);
+    assert_all_ask(&rt, rt.alloc(), orders());
 }
 
 /// Orders that the program itself refuses.
@@ -117,47 +115,47 @@ fn refused_orders() -> &'static [Row] {
     static ROWS: [Row; 11] = [
         (
             "txc|source|--order=0,,1|a.c",
-            r#"Err(Wrong { text: "txc: usage: bad --order\n" })"#,
+            br#"Err(Wrong { text: "txc: usage: bad --order\n" })"#,
         ),
         (
             "txc|source|--order=,|a.c",
-            r#"Err(Wrong { text: "txc: usage: bad --order\n" })"#,
+            br#"Err(Wrong { text: "txc: usage: bad --order\n" })"#,
         ),
         (
             "txc|source|--order=0,|a.c",
-            r#"Err(Wrong { text: "txc: usage: bad --order\n" })"#,
+            br#"Err(Wrong { text: "txc: usage: bad --order\n" })"#,
         ),
         (
             "txc|source|--order=+1|a.c",
-            r#"Err(Wrong { text: "txc: usage: bad --order\n" })"#,
+            br#"Err(Wrong { text: "txc: usage: bad --order\n" })"#,
         ),
         (
             "txc|source|--order=-1|a.c",
-            r#"Err(Wrong { text: "txc: usage: bad --order\n" })"#,
+            br#"Err(Wrong { text: "txc: usage: bad --order\n" })"#,
         ),
         (
             "txc|source|--order=1 |a.c",
-            r#"Err(Wrong { text: "txc: usage: bad --order\n" })"#,
+            br#"Err(Wrong { text: "txc: usage: bad --order\n" })"#,
         ),
         (
             "txc|source|--order=a|a.c",
-            r#"Err(Wrong { text: "txc: usage: bad --order\n" })"#,
+            br#"Err(Wrong { text: "txc: usage: bad --order\n" })"#,
         ),
         (
             "txc|source|--order=4294967296|a.c",
-            r#"Err(Wrong { text: "txc: usage: bad --order\n" })"#,
+            br#"Err(Wrong { text: "txc: usage: bad --order\n" })"#,
         ),
         (
             "txc|source|--threads=0|--order=0|a.c",
-            r#"Err(Wrong { text: "txc: usage: --threads is 1 to 64\n" })"#,
+            br#"Err(Wrong { text: "txc: usage: --threads is 1 to 64\n" })"#,
         ),
         (
             "txc|source|--threads=65|--order=0|a.c",
-            r#"Err(Wrong { text: "txc: usage: --threads is 1 to 64\n" })"#,
+            br#"Err(Wrong { text: "txc: usage: --threads is 1 to 64\n" })"#,
         ),
         (
             "txc|source|--ticks=1000001|--order=0|a.c",
-            r#"Err(Wrong { text: "txc: usage: --ticks is 0 to 1000000\n" })"#,
+            br#"Err(Wrong { text: "txc: usage: --ticks is 0 to 1000000\n" })"#,
         ),
     ];
     &ROWS
@@ -165,7 +163,7 @@ fn refused_orders() -> &'static [Row] {
 
 #[test]
 fn refuses_orders(rt: HostRuntime) {
-    assert_eq!(rt; asks_else(rt.alloc(), refused_orders()), None);
+    assert_all_ask(&rt, rt.alloc(), refused_orders());
 }
 
 /// Replays, and where their steps come from.
@@ -173,16 +171,16 @@ fn replays() -> &'static [Row] {
     static ROWS: [Row; 3] = [
         (
             "txc|replay|a.c|--schedule|s.txt",
-            r#"Ok(Program { file: "a.c", verbose: false, task: Replay { threads: 1, steps: Schedule { file: "s.txt" } } })"#,
+            br#"Ok(Program { file: "a.c", verbose: false, task: Replay { threads: 1, steps: Schedule { file: "s.txt" } } })"#,
         ),
         // with a schedule the number of steps has no effect
         (
             "txc|replay|--steps=5|--schedule=s|a.c",
-            r#"Ok(Program { file: "a.c", verbose: false, task: Replay { threads: 1, steps: Schedule { file: "s" } } })"#,
+            br#"Ok(Program { file: "a.c", verbose: false, task: Replay { threads: 1, steps: Schedule { file: "s" } } })"#,
         ),
         (
             "txc|replay|--schedule=s|--timeline|a.c",
-            r#"Ok(Program { file: "a.c", verbose: false, task: Timeline { threads: 1, steps: Schedule { file: "s" } } })"#,
+            br#"Ok(Program { file: "a.c", verbose: false, task: Timeline { threads: 1, steps: Schedule { file: "s" } } })"#,
         ),
     ];
     &ROWS
@@ -190,7 +188,7 @@ fn replays() -> &'static [Row] {
 
 #[test]
 fn reads_replays(rt: HostRuntime) {
-    assert_eq!(rt; asks_else(rt.alloc(), replays()), None);
+    assert_all_ask(&rt, rt.alloc(), replays());
 }
 
 /// Replays by a seed.
@@ -198,19 +196,19 @@ fn seeds() -> &'static [Row] {
     static ROWS: [Row; 4] = [
         (
             "txc|replay|--seed|0|a.c",
-            r#"Ok(Program { file: "a.c", verbose: false, task: Replay { threads: 1, steps: Seed { seed: 0, count: 100000 } } })"#,
+            br#"Ok(Program { file: "a.c", verbose: false, task: Replay { threads: 1, steps: Seed { seed: 0, count: 100000 } } })"#,
         ),
         (
             "txc|replay|--threads=64|--seed=4294967295|--steps=0|a.c",
-            r#"Ok(Program { file: "a.c", verbose: false, task: Replay { threads: 64, steps: Seed { seed: 4294967295, count: 0 } } })"#,
+            br#"Ok(Program { file: "a.c", verbose: false, task: Replay { threads: 64, steps: Seed { seed: 4294967295, count: 0 } } })"#,
         ),
         (
             "txc|replay|--threads=2|--steps=1048576|--seed=7|a.c",
-            r#"Ok(Program { file: "a.c", verbose: false, task: Replay { threads: 2, steps: Seed { seed: 7, count: 1048576 } } })"#,
+            br#"Ok(Program { file: "a.c", verbose: false, task: Replay { threads: 2, steps: Seed { seed: 7, count: 1048576 } } })"#,
         ),
         (
             "txc|replay|--print-schedule|--seed=7|a.c",
-            r#"Ok(Program { file: "a.c", verbose: false, task: PrintSchedule { threads: 1, seed: 7, count: 100000 } })"#,
+            br#"Ok(Program { file: "a.c", verbose: false, task: PrintSchedule { threads: 1, seed: 7, count: 100000 } })"#,
         ),
     ];
     &ROWS
@@ -218,7 +216,7 @@ fn seeds() -> &'static [Row] {
 
 #[test]
 fn reads_seeds(rt: HostRuntime) {
-    assert_eq!(rt; asks_else(rt.alloc(), seeds()), None);
+    assert_all_ask(&rt, rt.alloc(), seeds());
 }
 
 /// Replays that the program itself refuses.
@@ -226,39 +224,39 @@ fn refused_replays() -> &'static [Row] {
     static ROWS: [Row; 9] = [
         (
             "txc|replay|a.c|--timeline",
-            r#"Err(Wrong { text: "txc: usage: one of --schedule and --seed\n" })"#,
+            br#"Err(Wrong { text: "txc: usage: one of --schedule and --seed\n" })"#,
         ),
         (
             "txc|replay|a.c|--timeline|--seed=1|--print-schedule",
-            r#"Err(Wrong { text: "txc: usage: one of --print-schedule and --timeline\n" })"#,
+            br#"Err(Wrong { text: "txc: usage: one of --print-schedule and --timeline\n" })"#,
         ),
         (
             "txc|replay|a.c|--threads=2",
-            r#"Err(Wrong { text: "txc: usage: one of --schedule and --seed\n" })"#,
+            br#"Err(Wrong { text: "txc: usage: one of --schedule and --seed\n" })"#,
         ),
         (
             "txc|replay|a.c|--print-schedule",
-            r#"Err(Wrong { text: "txc: usage: one of --schedule and --seed\n" })"#,
+            br#"Err(Wrong { text: "txc: usage: one of --schedule and --seed\n" })"#,
         ),
         (
             "txc|replay|a.c|--print-schedule|--schedule=s",
-            r#"Err(Wrong { text: "txc: usage: --print-schedule wants --seed\n" })"#,
+            br#"Err(Wrong { text: "txc: usage: --print-schedule wants --seed\n" })"#,
         ),
         (
             "txc|replay|a.c|--steps=5",
-            r#"Err(Wrong { text: "txc: usage: one of --schedule and --seed\n" })"#,
+            br#"Err(Wrong { text: "txc: usage: one of --schedule and --seed\n" })"#,
         ),
         (
             "txc|replay|a.c|--schedule=s|--seed=1",
-            r#"Err(Wrong { text: "txc: usage: one of --schedule and --seed\n" })"#,
+            br#"Err(Wrong { text: "txc: usage: one of --schedule and --seed\n" })"#,
         ),
         (
             "txc|replay|a.c|--seed=1|--steps=1048577",
-            r#"Err(Wrong { text: "txc: usage: --steps is 0 to 1048576\n" })"#,
+            br#"Err(Wrong { text: "txc: usage: --steps is 0 to 1048576\n" })"#,
         ),
         (
             "txc|replay|a.c|--seed=1|--threads=65",
-            r#"Err(Wrong { text: "txc: usage: --threads is 1 to 64\n" })"#,
+            br#"Err(Wrong { text: "txc: usage: --threads is 1 to 64\n" })"#,
         ),
     ];
     &ROWS
@@ -266,7 +264,7 @@ fn refused_replays() -> &'static [Row] {
 
 #[test]
 fn refuses_replays(rt: HostRuntime) {
-    assert_eq!(rt; asks_else(rt.alloc(), refused_replays()), None);
+    assert_all_ask(&rt, rt.alloc(), refused_replays());
 }
 
 /// Whether what a line asks begins with this and has this piece.
@@ -277,19 +275,11 @@ fn has(alloc: Global, line: &str, begin: &str, piece: &str) -> bool {
     }
 }
 
-/// The first of these lines of which that does not hold.
-fn has_not(
-    alloc: Global,
-    lines: &[&'static str],
-    begin: &str,
-    piece: &str,
-) -> Option<&'static str> {
+/// Asserts that of each of these lines.
+fn assert_all_have(rt: &impl Abort, alloc: Global, lines: &[&str], begin: &str, piece: &str) {
     for line in lines {
-        if !has(alloc, line, begin, piece) {
-            return Some(*line);
-        }
+        assert!(rt; has(alloc, line, begin, piece), "{line}");
     }
-    None
 }
 
 /// What is no command line of the program.
@@ -313,7 +303,7 @@ fn wrong_lines() -> &'static [&'static str] {
 
 #[test]
 fn refuses_words(rt: HostRuntime) {
-    assert_eq!(rt; has_not(rt.alloc(), wrong_lines(), "Err(Wrong {", ""), None);
+    assert_all_have(&rt, rt.alloc(), wrong_lines(), "Err(Wrong {", "");
 }
 
 /// The begin of what is told where help is asked for.
@@ -334,16 +324,17 @@ fn help_lines() -> &'static [&'static str] {
 
 #[test]
 fn helps(rt: HostRuntime) {
-    assert_eq!(rt; has_not(rt.alloc(), help_lines(), HELP, "Usage: txc"), None);
-    assert_eq!(rt;
-        has_not(rt.alloc(), help_lines(), HELP, r"Example:\n  txc "),
-        None
-    );
-    assert!(rt; has(rt.alloc(), "txc|--help", HELP, ""));
+    assert_all_have(&rt, rt.alloc(), help_lines(), HELP, "Usage: txc");
+    assert_all_have(&rt, rt.alloc(), help_lines(), HELP, r"Example:\n  txc ");
+    assert_all_have(&rt, rt.alloc(), ["txc|--help"].as_slice(), HELP, "");
 }
 
 #[test]
 fn tells_its_version(rt: HostRuntime) {
-    let told = r#"Err(Help { text: "txc 0.1.0\n" })"#;
-    assert!(rt; asks(rt.alloc(), "txc|--version", told));
+    let told = br#"Err(Help { text: "txc 0.1.0\n" })"#;
+    assert_all_ask(
+        &rt,
+        rt.alloc(),
+        [("txc|--version", told.as_slice())].as_slice(),
+    );
 }
