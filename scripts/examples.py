@@ -164,24 +164,26 @@ def told(out):
     printed, memory = rest.split("== memory\n")
     trap = re.fullmatch("== thread 0: (?:ended|trap ([1-5]))", end)[1]
     words = [int(word) % 2**32 for line in memory.splitlines() for word in line.split(" = ")[1].split()]
-    return f"        {trap or 0},\n        {literal(printed)},\n        &{words},\n"
+    return f"            {trap or 0},\n            {literal(printed)},\n            &{words},\n"
 
 
 def meaning_tests():
-    examples = [f"    (\n        {literal(read(name))},\n{told(read(name[:-2] + '.out'))}    ),\n" for name in names("examples/*.c")]
+    examples = [f"        (\n            {literal(read(name))},\n{told(read(name[:-2] + '.out'))}        ),\n" for name in names("examples/*.c")]
     return f"""//! The programs of examples/, each run alone from its tree: written by scripts/examples.py.
 
 use crate::run::accepted_of;
 use meaning::{{SourceOutcome, ThreadEnd, ThreadReport, run_order}};
 use separation::Accepted;
 use std::alloc::Allocator;
-use std::test::Fail;
 
 /// A program, the number of the trap in which it ends or 0, what it prints, and the words of the memory that it leaves.
 type Row = (&'static str, u32, &'static str, &'static [u32]);
 
-const EXAMPLES: [Row; {len(examples)}] = [
-{"".join(examples)}];
+fn examples() -> &'static [Row] {{
+    static EXAMPLES: [Row; {len(examples)}] = [
+{"".join(examples)}    ];
+    &EXAMPLES
+}}
 
 /// Entries enough for the transactions of each program.
 const ALONE: [u32; 20] = [0; 20];
@@ -220,12 +222,19 @@ fn is_so<A: Allocator + Copy>(alloc: A, row: &Row) -> bool {{
     }}
 }}
 
-#[test]
-fn examples_leave_and_print_what_they_should(rt: HostRuntime) -> Result<(), Fail> {{
-    for row in EXAMPLES {{
-        assert!(rt; is_so(rt.alloc(), &row), "{{}}", row.0);
+// The text of the first row that is not so.
+fn first_other<A: Allocator + Copy>(alloc: A, rows: &[Row]) -> Option<&'static str> {{
+    for row in rows {{
+        if !is_so(alloc, row) {{
+            return Some(row.0);
+        }}
     }}
-    Ok(())
+    None
+}}
+
+#[test]
+fn examples_leave_and_print_what_they_should(rt: HostRuntime) {{
+    assert_eq!(rt; first_other(rt.alloc(), examples()), None);
 }}
 """
 

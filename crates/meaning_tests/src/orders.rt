@@ -5,7 +5,6 @@ use meaning::{MeaningFault, SourceOutcome, ThreadEnd, ThreadReport, run_order};
 use refusing::Refusing;
 use separation::Accepted;
 use std::alloc::Allocator;
-use std::test::Fail;
 use syntax::numbers::Trap;
 
 const ADDS: &str = "int x; void worker(int self) { __transaction_atomic { x = x + 1; } }";
@@ -33,7 +32,10 @@ type Row = (
     &'static [u32],
     u64,
     u32,
-    [(&'static str, ThreadEnd); 2],
+    &'static str,
+    ThreadEnd,
+    &'static str,
+    ThreadEnd,
 );
 
 const ENDED: ThreadEnd = ThreadEnd::Ended;
@@ -44,60 +46,67 @@ const SPENT: ThreadEnd = ThreadEnd::Spent;
 
 const DIVIDES: ThreadEnd = ThreadEnd::Trapped(Trap::ZeroDivisor);
 
-const ROWS: [Row; 11] = [
-    (ADDS, 2, &[0, 1], 100, 2, [("", ENDED), ("", ENDED)]),
-    (ADDS, 2, &[0], 100, 1, [("", ENDED), ("", WANTS)]),
-    (ADDS, 2, &[], 100, 0, [("", WANTS), ("", WANTS)]),
-    // an entry of a thread that has ended does nothing
-    (ADDS, 2, &[0, 0, 0], 100, 1, [("", ENDED), ("", WANTS)]),
-    (
-        SAYS,
-        2,
-        &[0, 1, 0, 1],
-        100,
-        300,
-        [("0,3", ENDED), ("1,30", ENDED)],
-    ),
-    (
-        SAYS,
-        2,
-        &[1, 1, 0, 0],
-        100,
-        210,
-        [("20,21", ENDED), ("0,2", ENDED)],
-    ),
-    (SAYS, 2, &[1, 0], 100, 3, [("2", WANTS), ("0", WANTS)]),
-    // ticks that are spent in a transaction leave the memory as it was
-    (LOOPS, 2, &[0, 1], 1000, 0, [("", SPENT), ("", SPENT)]),
-    (LOOPS, 2, &[0], 1000, 0, [("", SPENT), ("", WANTS)]),
-    (UNDOES, 2, &[0, 1, 1], 100, 1, [("", WANTS), ("", DIVIDES)]),
-    // an entry of a thread that has trapped does nothing
-    (
-        UNDOES,
-        2,
-        &[1, 1, 1, 0, 0],
-        100,
-        3,
-        [("", ENDED), ("", DIVIDES)],
-    ),
-];
+fn rows() -> &'static [Row] {
+    static ROWS: [Row; 11] = [
+        (ADDS, 2, &[0, 1], 100, 2, "", ENDED, "", ENDED),
+        (ADDS, 2, &[0], 100, 1, "", ENDED, "", WANTS),
+        (ADDS, 2, &[], 100, 0, "", WANTS, "", WANTS),
+        // an entry of a thread that has ended does nothing
+        (ADDS, 2, &[0, 0, 0], 100, 1, "", ENDED, "", WANTS),
+        (
+            SAYS,
+            2,
+            &[0, 1, 0, 1],
+            100,
+            300,
+            "0,3",
+            ENDED,
+            "1,30",
+            ENDED,
+        ),
+        (
+            SAYS,
+            2,
+            &[1, 1, 0, 0],
+            100,
+            210,
+            "20,21",
+            ENDED,
+            "0,2",
+            ENDED,
+        ),
+        (SAYS, 2, &[1, 0], 100, 3, "2", WANTS, "0", WANTS),
+        // ticks that are spent in a transaction leave the memory as it was
+        (LOOPS, 2, &[0, 1], 1000, 0, "", SPENT, "", SPENT),
+        (LOOPS, 2, &[0], 1000, 0, "", SPENT, "", WANTS),
+        (UNDOES, 2, &[0, 1, 1], 100, 1, "", WANTS, "", DIVIDES),
+        // an entry of a thread that has trapped does nothing
+        (UNDOES, 2, &[1, 1, 1, 0, 0], 100, 3, "", ENDED, "", DIVIDES),
+    ];
+    &ROWS
+}
 
 // Whether a thread has printed this, and ends so.
 fn is_report<A: Allocator>(report: &ThreadReport<A>, printed: &str, end: ThreadEnd) -> bool {
     report.text.as_slice() == printed.as_bytes() && report.end == end
 }
 
-// Whether this is what two threads have done.
-fn have_done<A: Allocator>(outcome: &SourceOutcome<A>, row: &Row) -> bool {
-    let (_, _, _, _, cell, ends) = *row;
-    match outcome.threads.as_slice() {
-        [first, second] => {
-            outcome.memory.as_slice() == [cell].as_slice()
-                && is_report(first, ends[0].0, ends[0].1)
-                && is_report(second, ends[1].0, ends[1].1)
-        }
+// Whether these have printed and end as the row says.
+fn are_reports<A: Allocator>(reports: &[ThreadReport<A>], row: &Row) -> bool {
+    match reports {
+        [first, second] => { is_report(first, row.5, row.6) && is_report(second, row.7, row.8) }
         _ => false,
     }
+}
+
+// Whether a memory is one cell that holds this.
+fn is_cell(memory: &[u32], cell: u32) -> bool {
+    memory.len() == 1 && memory.first().copied() == Some(cell)
+}
+
+// Whether this is what two threads have done.
+fn have_done<A: Allocator>(outcome: &SourceOutcome<A>, row: &Row) -> bool {
+    is_cell(outcome.memory.as_slice(), row.4) && are_reports(outcome.threads.as_slice(), row)
 }
 
 // Whether the threads of a program do what the row says.
@@ -116,24 +125,39 @@ fn is_so<A: Allocator + Copy>(alloc: A, row: &Row) -> bool {
     }
 }
 
-#[test]
-fn threads_run_in_an_order(rt: HostRuntime) -> Result<(), Fail> {
-    for row in ROWS {
-        assert!(rt; is_so(rt.alloc(), &row), "{} in {:?}", row.0, row.2);
+// The text and the order of the first row that is not so.
+fn first_other<A: Allocator + Copy>(
+    alloc: A,
+    rows: &[Row],
+) -> Option<(&'static str, &'static [u32])> {
+    for row in rows {
+        if !is_so(alloc, row) {
+            return Some((row.0, row.2));
+        }
     }
-    Ok(())
+    None
+}
+
+#[test]
+fn threads_run_in_an_order(rt: HostRuntime) {
+    assert_eq!(rt; first_other(rt.alloc(), rows()), None);
 }
 
 /// Threads, an order, and its fault's number.
-const FAULTS: [(u32, &[u32], u32); 6] = [
-    (0, &[], 72),
-    (65, &[], 72),
-    (2, &[0, 2], 55),
-    (1, &[1], 55),
-    (64, &[63, 64], 55),
-    // the number of threads is looked at first
-    (0, &[7], 72),
-];
+type FaultRow = (u32, &'static [u32], u32);
+
+fn faults() -> &'static [FaultRow] {
+    static FAULTS: [FaultRow; 6] = [
+        (0, &[], 72),
+        (65, &[], 72),
+        (2, &[0, 2], 55),
+        (1, &[1], 55),
+        (64, &[63, 64], 55),
+        // the number of threads is looked at first
+        (0, &[7], 72),
+    ];
+    &FAULTS
+}
 
 // How many threads are told of, or the number of the order's fault.
 fn count<A: Allocator + Copy>(
@@ -160,47 +184,50 @@ fn count_adding<A: Allocator + Copy>(
     }
 }
 
-#[test]
-fn a_wrong_order_has_a_fault(rt: HostRuntime) -> Result<(), Fail> {
-    for (threads, order, number) in FAULTS {
-        let found = count_adding(rt.alloc(), threads, order);
-        assert!(rt; found == Some(Err(number)), "{threads}");
+// Whether an order has the fault that the row says.
+fn has_fault<A: Allocator + Copy>(alloc: A, row: &FaultRow) -> bool {
+    count_adding(alloc, row.0, row.1) == Some(Err(row.2))
+}
+
+// The first of these orders that has not its fault.
+fn first_without_fault<A: Allocator + Copy>(alloc: A, rows: &[FaultRow]) -> Option<FaultRow> {
+    for row in rows {
+        if !has_fault(alloc, row) {
+            return Some(*row);
+        }
     }
-    let found = count_adding(rt.alloc(), 64, &[63]);
-    assert!(rt; found == Some(Ok(64)));
-    Ok(())
+    None
+}
+
+#[test]
+fn a_wrong_order_has_a_fault(rt: HostRuntime) {
+    assert_eq!(rt; first_without_fault(rt.alloc(), faults()), None);
+}
+
+#[test]
+fn sixty_four_threads_run(rt: HostRuntime) {
+    assert!(rt; count_adding(rt.alloc(), 64, &[63]) == Some(Ok(64)));
 }
 
 // Whether a run in an order is made, and not refused for want of memory; none where it is made wrong, or has another fault.
 fn is_made<A: Allocator + Copy>(alloc: A, accepted: &Accepted<A>) -> Option<bool> {
     match run_order(alloc, accepted, 2, &[0, 1, 0, 1], 100) {
-        Ok(outcome) => {
-            if outcome.memory.as_slice() == [300].as_slice() {
-                Some(true)
-            } else {
-                None
-            }
-        }
-        Err(fault) => {
-            if fault == MeaningFault::OutOfMemory {
-                Some(false)
-            } else {
-                None
-            }
-        }
+        Ok(outcome) => is_cell(outcome.memory.as_slice(), 300).then_some(true),
+        Err(fault) => (fault == MeaningFault::OutOfMemory).then_some(false),
     }
 }
 
-// The same where growth `n` is refused, and whether that growth is still to come.
-fn refused_at<'a, A: Allocator + Copy>(
-    alloc: &'a Refusing<A>,
-    accepted: &Accepted<&'a Refusing<A>>,
+// The same where growth `n` is refused, and whether that growth is still to come. The allocator is the one that refuses.
+fn refused_at<A: Allocator, B: Allocator + Copy>(
+    refusing: &Refusing<A>,
+    alloc: B,
+    accepted: &Accepted<B>,
     n: u64,
 ) -> Option<(bool, bool)> {
-    alloc.refuse(n);
+    refusing.refuse(n);
     let made = is_made(alloc, accepted);
-    let waiting = alloc.is_waiting();
-    alloc.refuse(0);
+    let waiting = refusing.is_waiting();
+    refusing.refuse(0);
     match made {
         Some(made) => Some((made, waiting)),
         None => None,
@@ -208,12 +235,13 @@ fn refused_at<'a, A: Allocator + Copy>(
 }
 
 // The first growth that is not refused although it is to be.
-fn first_spared<'a, A: Allocator + Copy>(
-    alloc: &'a Refusing<A>,
-    accepted: &Accepted<&'a Refusing<A>>,
+fn first_spared<A: Allocator, B: Allocator + Copy>(
+    refusing: &Refusing<A>,
+    alloc: B,
+    accepted: &Accepted<B>,
 ) -> Option<u64> {
     for n in 1..2000u64 {
-        match refused_at(alloc, accepted, n) {
+        match refused_at(refusing, alloc, accepted, n) {
             Some((true, true)) => return Some(n),
             Some((false, false)) => {}
             _ => return None,
@@ -223,16 +251,23 @@ fn first_spared<'a, A: Allocator + Copy>(
 }
 
 // The same of the text that says.
-fn first_spared_of_saying<A: Allocator + Copy>(inner: A) -> Option<u64> {
-    let alloc = Refusing::new(inner, 0);
-    match accepted_of(&alloc, SAYS) {
-        Some(accepted) => first_spared(&alloc, &accepted),
+fn first_spared_in_saying<A: Allocator, B: Allocator + Copy>(
+    refusing: &Refusing<A>,
+    alloc: B,
+) -> Option<u64> {
+    match accepted_of(alloc, SAYS) {
+        Some(accepted) => first_spared(refusing, alloc, &accepted),
         None => None,
     }
 }
 
+// The same over an allocator.
+fn first_spared_of_saying<A: Allocator>(inner: A) -> Option<u64> {
+    let alloc = Refusing::new(inner, 0);
+    first_spared_in_saying(&alloc, &alloc)
+}
+
 #[test]
-fn each_growth_that_is_refused_is_told(rt: HostRuntime) -> Result<(), Fail> {
+fn each_growth_that_is_refused_is_told(rt: HostRuntime) {
     assert!(rt; first_spared_of_saying(rt.alloc()) > Some(10));
-    Ok(())
 }

@@ -1,9 +1,8 @@
 //! How many ticks each thing takes, and what is left before and behind the last of them.
 
-use crate::run::run;
-use meaning::ThreadEnd;
+use crate::run::{first_left, run};
+use meaning::{ThreadEnd, ThreadOutcome};
 use std::alloc::Allocator;
-use std::test::Fail;
 use syntax::numbers::Trap;
 
 /// A text, the memories to be found, the ticks; how many memories are left, what the last one begins with, what is printed,
@@ -87,135 +86,151 @@ const BRANCH_TAKEN: &str =
 
 const BRANCH_MISSING: &str = "void worker(int self) { if (self) printf(\"a\"); }";
 
-/// Whether a thread does what the row says.
+// Whether a thread has left so many memories, of which the last one begins so.
+fn has_left<A: Allocator>(outcome: &ThreadOutcome<A>, lefts: usize, first: u64) -> bool {
+    outcome.lefts.len() == lefts && first_left(outcome) == (lefts > 0).then_some(first)
+}
+
+// Whether a thread has done what the row says.
+fn has_done<A: Allocator>(outcome: &ThreadOutcome<A>, row: &Row) -> bool {
+    has_left(outcome, row.3, row.4)
+        && outcome.text.as_slice() == row.5.as_bytes()
+        && outcome.end == row.6
+}
+
+// Whether a thread of the row's text does it.
 fn is_so<A: Allocator + Copy>(alloc: A, row: &Row) -> bool {
-    let (text, founds, ticks, lefts, first, printed, end) = *row;
-    let Some(outcome) = run(alloc, text, 0, founds, ticks) else {
-        return false;
-    };
-    let last = match outcome.lefts.last() {
-        Some(memory) => memory.first().copied() == Some(first),
-        None => true,
-    };
-    let same = outcome.text.as_slice() == printed.as_bytes();
-    last && same && outcome.lefts.len() == lefts && outcome.end == end
+    match run(alloc, row.0, 0, row.1, row.2) {
+        Some(outcome) => has_done(&outcome, row),
+        None => false,
+    }
 }
 
-const STATEMENTS: [Row; 22] = [
-    (IDLE, 0, 0, 0, 0, "", SPENT),
-    (IDLE, 0, 1, 0, 0, "", ENDED),
-    (SETS, 1, 0, 0, 0, "", SPENT),
-    (SETS, 0, 1, 0, 0, "", WANTS),
-    (SETS, 1, 2, 0, 0, "", SPENT),
-    (SETS, 1, 3, 1, 1, "", SPENT),
-    (SETS, 1, 4, 1, 1, "", ENDED),
-    (BLOCK, 0, 2, 0, 0, "", SPENT),
-    (BLOCK, 0, 3, 0, 0, "", ENDED),
-    (PIECES, 0, 1, 0, 0, "", SPENT),
-    (PIECES, 0, 2, 0, 0, "a", SPENT),
-    (PIECES, 0, 3, 0, 0, "a7", SPENT),
-    (PIECES, 0, 4, 0, 0, "a7%b", SPENT),
-    (PIECES, 0, 5, 0, 0, "a7%b", ENDED),
-    (NO_PIECE, 0, 1, 0, 0, "", SPENT),
-    (NO_PIECE, 0, 2, 0, 0, "", ENDED),
-    (BRANCH, 0, 3, 0, 0, "b", SPENT),
-    (BRANCH, 0, 4, 0, 0, "b", ENDED),
-    (BRANCH_TAKEN, 0, 3, 0, 0, "a", SPENT),
-    (BRANCH_TAKEN, 0, 4, 0, 0, "a", ENDED),
-    (BRANCH_MISSING, 0, 1, 0, 0, "", SPENT),
-    (BRANCH_MISSING, 0, 2, 0, 0, "", ENDED),
-];
-
-#[test]
-fn statements_take_their_ticks(rt: HostRuntime) -> Result<(), Fail> {
-    for row in STATEMENTS {
-        assert!(rt; is_so(rt.alloc(), &row), "{} with {}", row.0, row.2);
+// The text and the ticks of the first row that is not so.
+fn first_other<A: Allocator + Copy>(alloc: A, rows: &[Row]) -> Option<(&'static str, u64)> {
+    for row in rows {
+        if !is_so(alloc, row) {
+            return Some((row.0, row.2));
+        }
     }
-    Ok(())
+    None
 }
 
-const LOOPS: [Row; 24] = [
-    (FOR, 0, 6, 0, 0, "", SPENT),
-    (FOR, 0, 7, 0, 0, "", ENDED),
-    (WHILE, 0, 4, 0, 0, "", SPENT),
-    (WHILE, 0, 5, 0, 0, "c", SPENT),
-    (WHILE, 0, 6, 0, 0, "c", SPENT),
-    (WHILE, 0, 7, 0, 0, "c", ENDED),
-    (FOR_TESTED, 0, 4, 0, 0, "", SPENT),
-    (FOR_TESTED, 0, 5, 0, 0, "c", SPENT),
-    (FOR_TESTED, 0, 6, 0, 0, "c", SPENT),
-    (FOR_TESTED, 0, 7, 0, 0, "c", ENDED),
-    (DO, 0, 6, 0, 0, "", SPENT),
-    (DO, 0, 7, 0, 0, "", ENDED),
-    (DO_PRINTS, 0, 3, 0, 0, "", SPENT),
-    (DO_PRINTS, 0, 4, 0, 0, "b", SPENT),
-    (DO_PRINTS, 0, 5, 0, 0, "b", ENDED),
-    (BREAKS, 0, 4, 0, 0, "", SPENT),
-    (BREAKS, 0, 5, 0, 0, "", ENDED),
-    (CONTINUES, 0, 14, 0, 0, "0", SPENT),
-    (CONTINUES, 0, 15, 0, 0, "02", SPENT),
-    (CONTINUES, 0, 16, 0, 0, "02", SPENT),
-    (CONTINUES, 0, 17, 0, 0, "02", ENDED),
-    (CONTINUES_DO, 0, 12, 0, 0, "", SPENT),
-    (CONTINUES_DO, 0, 13, 0, 0, "2", SPENT),
-    (CONTINUES_DO, 0, 14, 0, 0, "2", ENDED),
-];
-
-#[test]
-fn loops_take_their_ticks(rt: HostRuntime) -> Result<(), Fail> {
-    for row in LOOPS {
-        assert!(rt; is_so(rt.alloc(), &row), "{} with {}", row.0, row.2);
-    }
-    Ok(())
+fn statements() -> &'static [Row] {
+    static ROWS: [Row; 22] = [
+        (IDLE, 0, 0, 0, 0, "", SPENT),
+        (IDLE, 0, 1, 0, 0, "", ENDED),
+        (SETS, 1, 0, 0, 0, "", SPENT),
+        (SETS, 0, 1, 0, 0, "", WANTS),
+        (SETS, 1, 2, 0, 0, "", SPENT),
+        (SETS, 1, 3, 1, 1, "", SPENT),
+        (SETS, 1, 4, 1, 1, "", ENDED),
+        (BLOCK, 0, 2, 0, 0, "", SPENT),
+        (BLOCK, 0, 3, 0, 0, "", ENDED),
+        (PIECES, 0, 1, 0, 0, "", SPENT),
+        (PIECES, 0, 2, 0, 0, "a", SPENT),
+        (PIECES, 0, 3, 0, 0, "a7", SPENT),
+        (PIECES, 0, 4, 0, 0, "a7%b", SPENT),
+        (PIECES, 0, 5, 0, 0, "a7%b", ENDED),
+        (NO_PIECE, 0, 1, 0, 0, "", SPENT),
+        (NO_PIECE, 0, 2, 0, 0, "", ENDED),
+        (BRANCH, 0, 3, 0, 0, "b", SPENT),
+        (BRANCH, 0, 4, 0, 0, "b", ENDED),
+        (BRANCH_TAKEN, 0, 3, 0, 0, "a", SPENT),
+        (BRANCH_TAKEN, 0, 4, 0, 0, "a", ENDED),
+        (BRANCH_MISSING, 0, 1, 0, 0, "", SPENT),
+        (BRANCH_MISSING, 0, 2, 0, 0, "", ENDED),
+    ];
+    &ROWS
 }
 
-const CALLS: [Row; 14] = [
-    (CALL, 0, 5, 0, 0, "", SPENT),
-    (CALL, 0, 6, 0, 0, "", ENDED),
-    (CALL_PRINTS, 0, 3, 0, 0, "", SPENT),
-    (CALL_PRINTS, 0, 4, 0, 0, "g", SPENT),
-    (CALL_PRINTS, 0, 7, 0, 0, "g", SPENT),
-    (CALL_PRINTS, 0, 8, 0, 0, "gf", SPENT),
-    (CALL_PRINTS, 0, 10, 0, 0, "gf1", SPENT),
-    (CALL_PRINTS, 0, 11, 0, 0, "gf1", ENDED),
-    (TRAPS, 1, 3, 0, 0, "", SPENT),
-    (TRAPS, 1, 4, 1, 0, "", DIVIDES),
-    (TRAPS_OUTSIDE, 0, 1, 0, 0, "", SPENT),
-    (TRAPS_OUTSIDE, 0, 2, 0, 0, "", DIVIDES),
-    (FRAMES, 0, 128, 0, 0, "", SPENT),
-    (FRAMES, 0, 129, 0, 0, "", ThreadEnd::Trapped(Trap::Frames)),
-];
-
 #[test]
-fn calls_and_traps_take_their_ticks(rt: HostRuntime) -> Result<(), Fail> {
-    for row in CALLS {
-        assert!(rt; is_so(rt.alloc(), &row), "{} with {}", row.0, row.2);
-    }
-    Ok(())
+fn statements_take_their_ticks(rt: HostRuntime) {
+    assert_eq!(rt; first_other(rt.alloc(), statements()), None);
 }
 
-const TRANSACTIONS: [Row; 15] = [
-    (CANCELS, 1, 5, 0, 0, "", SPENT),
-    (CANCELS, 1, 6, 1, 0, "", SPENT),
-    (CANCELS, 1, 8, 1, 0, "5", SPENT),
-    (CANCELS, 1, 9, 1, 0, "5", ENDED),
-    (CANCELS_INNER, 1, 5, 0, 0, "", SPENT),
-    (CANCELS_INNER, 1, 6, 1, 1, "", SPENT),
-    (CANCELS_INNER, 1, 7, 1, 1, "", ENDED),
-    (RETURNS, 1, 6, 0, 0, "", SPENT),
-    (RETURNS, 1, 7, 1, 7, "", SPENT),
-    (RETURNS, 1, 8, 1, 7, "7", SPENT),
-    (RETURNS, 1, 9, 1, 7, "7", ENDED),
-    (TWICE, 1, 3, 1, 1, "", SPENT),
-    (TWICE, 1, 4, 1, 1, "", WANTS),
-    (TWICE, 2, 6, 2, 2, "", SPENT),
-    (TWICE, 2, 7, 2, 2, "", ENDED),
-];
+fn loops() -> &'static [Row] {
+    static ROWS: [Row; 24] = [
+        (FOR, 0, 6, 0, 0, "", SPENT),
+        (FOR, 0, 7, 0, 0, "", ENDED),
+        (WHILE, 0, 4, 0, 0, "", SPENT),
+        (WHILE, 0, 5, 0, 0, "c", SPENT),
+        (WHILE, 0, 6, 0, 0, "c", SPENT),
+        (WHILE, 0, 7, 0, 0, "c", ENDED),
+        (FOR_TESTED, 0, 4, 0, 0, "", SPENT),
+        (FOR_TESTED, 0, 5, 0, 0, "c", SPENT),
+        (FOR_TESTED, 0, 6, 0, 0, "c", SPENT),
+        (FOR_TESTED, 0, 7, 0, 0, "c", ENDED),
+        (DO, 0, 6, 0, 0, "", SPENT),
+        (DO, 0, 7, 0, 0, "", ENDED),
+        (DO_PRINTS, 0, 3, 0, 0, "", SPENT),
+        (DO_PRINTS, 0, 4, 0, 0, "b", SPENT),
+        (DO_PRINTS, 0, 5, 0, 0, "b", ENDED),
+        (BREAKS, 0, 4, 0, 0, "", SPENT),
+        (BREAKS, 0, 5, 0, 0, "", ENDED),
+        (CONTINUES, 0, 14, 0, 0, "0", SPENT),
+        (CONTINUES, 0, 15, 0, 0, "02", SPENT),
+        (CONTINUES, 0, 16, 0, 0, "02", SPENT),
+        (CONTINUES, 0, 17, 0, 0, "02", ENDED),
+        (CONTINUES_DO, 0, 12, 0, 0, "", SPENT),
+        (CONTINUES_DO, 0, 13, 0, 0, "2", SPENT),
+        (CONTINUES_DO, 0, 14, 0, 0, "2", ENDED),
+    ];
+    &ROWS
+}
 
 #[test]
-fn transactions_take_their_ticks(rt: HostRuntime) -> Result<(), Fail> {
-    for row in TRANSACTIONS {
-        assert!(rt; is_so(rt.alloc(), &row), "{} with {}", row.0, row.2);
-    }
-    Ok(())
+fn loops_take_their_ticks(rt: HostRuntime) {
+    assert_eq!(rt; first_other(rt.alloc(), loops()), None);
+}
+
+fn calls_and_traps() -> &'static [Row] {
+    static ROWS: [Row; 14] = [
+        (CALL, 0, 5, 0, 0, "", SPENT),
+        (CALL, 0, 6, 0, 0, "", ENDED),
+        (CALL_PRINTS, 0, 3, 0, 0, "", SPENT),
+        (CALL_PRINTS, 0, 4, 0, 0, "g", SPENT),
+        (CALL_PRINTS, 0, 7, 0, 0, "g", SPENT),
+        (CALL_PRINTS, 0, 8, 0, 0, "gf", SPENT),
+        (CALL_PRINTS, 0, 10, 0, 0, "gf1", SPENT),
+        (CALL_PRINTS, 0, 11, 0, 0, "gf1", ENDED),
+        (TRAPS, 1, 3, 0, 0, "", SPENT),
+        (TRAPS, 1, 4, 1, 0, "", DIVIDES),
+        (TRAPS_OUTSIDE, 0, 1, 0, 0, "", SPENT),
+        (TRAPS_OUTSIDE, 0, 2, 0, 0, "", DIVIDES),
+        (FRAMES, 0, 128, 0, 0, "", SPENT),
+        (FRAMES, 0, 129, 0, 0, "", ThreadEnd::Trapped(Trap::Frames)),
+    ];
+    &ROWS
+}
+
+#[test]
+fn calls_and_traps_take_their_ticks(rt: HostRuntime) {
+    assert_eq!(rt; first_other(rt.alloc(), calls_and_traps()), None);
+}
+
+fn transactions() -> &'static [Row] {
+    static ROWS: [Row; 15] = [
+        (CANCELS, 1, 5, 0, 0, "", SPENT),
+        (CANCELS, 1, 6, 1, 0, "", SPENT),
+        (CANCELS, 1, 8, 1, 0, "5", SPENT),
+        (CANCELS, 1, 9, 1, 0, "5", ENDED),
+        (CANCELS_INNER, 1, 5, 0, 0, "", SPENT),
+        (CANCELS_INNER, 1, 6, 1, 1, "", SPENT),
+        (CANCELS_INNER, 1, 7, 1, 1, "", ENDED),
+        (RETURNS, 1, 6, 0, 0, "", SPENT),
+        (RETURNS, 1, 7, 1, 7, "", SPENT),
+        (RETURNS, 1, 8, 1, 7, "7", SPENT),
+        (RETURNS, 1, 9, 1, 7, "7", ENDED),
+        (TWICE, 1, 3, 1, 1, "", SPENT),
+        (TWICE, 1, 4, 1, 1, "", WANTS),
+        (TWICE, 2, 6, 2, 2, "", SPENT),
+        (TWICE, 2, 7, 2, 2, "", ENDED),
+    ];
+    &ROWS
+}
+
+#[test]
+fn transactions_take_their_ticks(rt: HostRuntime) {
+    assert_eq!(rt; first_other(rt.alloc(), transactions()), None);
 }

@@ -8,33 +8,38 @@ use meaning::{ThreadEnd, ThreadOutcome, thread};
 use refusing::Refusing;
 use separation::Accepted;
 use std::alloc::Allocator;
-use std::test::Fail;
 use syntax::numbers::Trap;
 
-const TRAPS: [(&str, Trap); 7] = [
-    (
-        "void worker(int self) { int a = 2147483647; a++; }",
-        Trap::OutOfRange,
-    ),
-    (
-        "void worker(int self) { -(-2147483647 - 1); }",
-        Trap::OutOfRange,
-    ),
-    (
-        "void worker(int self) { (-2147483647 - 1) % -1; }",
-        Trap::OutOfRange,
-    ),
-    ("void worker(int self) { 1 % self; }", Trap::ZeroDivisor),
-    (
-        "int a[3]; void worker(int self) { __transaction_atomic { a[-1] = 0; } }",
-        Trap::Index,
-    ),
-    (
-        "int f(int a) { return f(a + 1); } void worker(int self) { f(0); }",
-        Trap::Frames,
-    ),
-    ("void worker(int self) { 1 << 32; }", Trap::ShiftCount),
-];
+/// A text, and the trap in which its thread ends.
+type TrapRow = (&'static str, Trap);
+
+fn traps() -> &'static [TrapRow] {
+    static TRAPS: [TrapRow; 7] = [
+        (
+            "void worker(int self) { int a = 2147483647; a++; }",
+            Trap::OutOfRange,
+        ),
+        (
+            "void worker(int self) { -(-2147483647 - 1); }",
+            Trap::OutOfRange,
+        ),
+        (
+            "void worker(int self) { (-2147483647 - 1) % -1; }",
+            Trap::OutOfRange,
+        ),
+        ("void worker(int self) { 1 % self; }", Trap::ZeroDivisor),
+        (
+            "int a[3]; void worker(int self) { __transaction_atomic { a[-1] = 0; } }",
+            Trap::Index,
+        ),
+        (
+            "int f(int a) { return f(a + 1); } void worker(int self) { f(0); }",
+            Trap::Frames,
+        ),
+        ("void worker(int self) { 1 << 32; }", Trap::ShiftCount),
+    ];
+    &TRAPS
+}
 
 // How the thread of a text ends.
 fn end_of<A: Allocator + Copy>(alloc: A, text: &str) -> Option<ThreadEnd> {
@@ -44,13 +49,24 @@ fn end_of<A: Allocator + Copy>(alloc: A, text: &str) -> Option<ThreadEnd> {
     }
 }
 
-#[test]
-fn each_trap_has_a_program(rt: HostRuntime) -> Result<(), Fail> {
-    for (text, trap) in TRAPS {
-        let end = end_of(rt.alloc(), text);
-        assert_eq!(rt; end, Some(ThreadEnd::Trapped(trap)), "{text}");
+// Whether the thread of the row's text ends in its trap.
+fn has_trap<A: Allocator + Copy>(alloc: A, row: &TrapRow) -> bool {
+    end_of(alloc, row.0) == Some(ThreadEnd::Trapped(row.1))
+}
+
+// The first text whose thread does not.
+fn first_without_trap<A: Allocator + Copy>(alloc: A, rows: &[TrapRow]) -> Option<&'static str> {
+    for row in rows {
+        if !has_trap(alloc, row) {
+            return Some(row.0);
+        }
     }
-    Ok(())
+    None
+}
+
+#[test]
+fn each_trap_has_a_program(rt: HostRuntime) {
+    assert_eq!(rt; first_without_trap(rt.alloc(), traps()), None);
 }
 
 const WHOLE: &str = "unsigned total; int a[3];
@@ -69,24 +85,29 @@ void worker(int self) {
     do { int t = k; k = t - 1; } while (k != self);
 }";
 
-// Whether a thread has ended, has printed this, and has left three memories, of which these are the words of the last one.
-fn leaves<A: Allocator>(outcome: &ThreadOutcome<A>, printed: &[u8], words: &[u64]) -> bool {
-    let last = match outcome.lefts.last() {
-        Some(memory) => memory.as_slice() == words,
+// Whether a thread has left three memories, of which these are the words of the last one.
+fn has_left<A: Allocator>(outcome: &ThreadOutcome<A>, words: &[u64]) -> bool {
+    match outcome.lefts.last() {
+        Some(memory) => outcome.lefts.len() == 3 && memory.as_slice() == words,
         None => false,
-    };
-    last && outcome.lefts.len() == 3
-        && outcome.end == ThreadEnd::Ended
-        && outcome.text.as_slice() == printed
+    }
+}
+
+// Whether the whole language is run: what is printed, and what is left.
+fn runs_whole<A: Allocator + Copy>(alloc: A) -> bool {
+    match run(alloc, WHOLE, 3, 3, 10000) {
+        Some(outcome) => {
+            has_left(&outcome, &[4294967295, 0, 0, 6])
+                && outcome.end == ThreadEnd::Ended
+                && outcome.text.as_slice() == "3:1 4:0 5:0 ".as_bytes()
+        }
+        None => false,
+    }
 }
 
 #[test]
-fn the_whole_language_runs(rt: HostRuntime) -> Result<(), Fail> {
-    match run(rt.alloc(), WHOLE, 3, 3, 10000) {
-        None => assert!(rt; false),
-        Some(outcome) => assert!(rt; leaves(&outcome, b"3:1 4:0 5:0 ", &[4294967295, 0, 0, 6])),
-    }
-    Ok(())
+fn the_whole_language_runs(rt: HostRuntime) {
+    assert!(rt; runs_whole(rt.alloc()));
 }
 
 // Whether `worker(t)` over these memories ends.
@@ -104,10 +125,11 @@ fn ends<A: Allocator + Copy>(
     }
 }
 
-// The same where growth `n` is refused, and whether that growth is still to come.
-fn refused_at<'a, A: Allocator + Copy>(
-    alloc: &'a Refusing<A>,
-    accepted: &Accepted<&'a Refusing<A>>,
+// The same where growth `n` is refused, and whether that growth is still to come. The allocator is the one that refuses.
+fn refused_at<A: Allocator, B: Allocator + Copy>(
+    refusing: &Refusing<A>,
+    alloc: B,
+    accepted: &Accepted<B>,
     t: u32,
     founds: usize,
     n: u64,
@@ -115,24 +137,25 @@ fn refused_at<'a, A: Allocator + Copy>(
     match zeros(alloc, founds, 4) {
         Err(_) => None,
         Ok(memories) => {
-            alloc.refuse(n);
+            refusing.refuse(n);
             let ended = ends(alloc, accepted, t, memories.as_slice());
-            let waiting = alloc.is_waiting();
-            alloc.refuse(0);
+            let waiting = refusing.is_waiting();
+            refusing.refuse(0);
             Some((ended, waiting))
         }
     }
 }
 
 // The first growth that is not refused although it is to be.
-fn first_spared<'a, A: Allocator + Copy>(
-    alloc: &'a Refusing<A>,
-    accepted: &Accepted<&'a Refusing<A>>,
+fn first_spared<A: Allocator, B: Allocator + Copy>(
+    refusing: &Refusing<A>,
+    alloc: B,
+    accepted: &Accepted<B>,
     t: u32,
     founds: usize,
 ) -> Option<u64> {
     for n in 1..1000u64 {
-        match refused_at(alloc, accepted, t, founds, n) {
+        match refused_at(refusing, alloc, accepted, t, founds, n) {
             Some((true, true)) => return Some(n),
             Some((false, false)) => {}
             _ => return None,
@@ -142,36 +165,46 @@ fn first_spared<'a, A: Allocator + Copy>(
 }
 
 // The same of a text.
-fn first_spared_of<A: Allocator + Copy>(
-    inner: A,
+fn first_spared_in<A: Allocator, B: Allocator + Copy>(
+    refusing: &Refusing<A>,
+    alloc: B,
     text: &str,
     t: u32,
     founds: usize,
 ) -> Option<u64> {
-    let alloc = Refusing::new(inner, 0);
-    match accepted_of(&alloc, text) {
-        Some(accepted) => first_spared(&alloc, &accepted, t, founds),
+    match accepted_of(alloc, text) {
+        Some(accepted) => first_spared(refusing, alloc, &accepted, t, founds),
         None => None,
     }
 }
 
-#[test]
-fn each_growth_that_is_refused_is_told(rt: HostRuntime) -> Result<(), Fail> {
-    assert!(rt; first_spared_of(rt.alloc(), WHOLE, 3, 3) > Some(10));
-    Ok(())
+// The same over an allocator.
+fn first_spared_of<A: Allocator>(inner: A, text: &str, t: u32, founds: usize) -> Option<u64> {
+    let alloc = Refusing::new(inner, 0);
+    first_spared_in(&alloc, &alloc, text, t, founds)
 }
 
-// turns with a block, a local and a branch, ten and a thousand of them
-const TURNS: [&str; 2] = [
-    "int x; void worker(int self) { __transaction_atomic { for (int i = 0; i < 10; i++) { int k = i; if (k & 1) { x = k; } } } }",
-    "int x; void worker(int self) { __transaction_atomic { for (int i = 0; i < 1000; i++) { int k = i; if (k & 1) { x = k; } } } }",
-];
+#[test]
+fn each_growth_that_is_refused_is_told(rt: HostRuntime) {
+    assert!(rt; first_spared_of(rt.alloc(), WHOLE, 3, 3) > Some(10));
+}
+
+// turns with a block, a local and a branch, ten of them
+const FEW_TURNS: &str =
+    "int x; void worker(int self) { __transaction_atomic { for (int i = 0; i < 10; i++) { int k = i; if (k & 1) { x = k; } } } }";
+// a thousand of them
+const MANY_TURNS: &str =
+    "int x; void worker(int self) { __transaction_atomic { for (int i = 0; i < 1000; i++) { int k = i; if (k & 1) { x = k; } } } }";
+
+// Whether many turns are refused no more growths than few.
+fn take_no_more<A: Allocator + Copy>(alloc: A) -> bool {
+    match first_spared_of(alloc, FEW_TURNS, 0, 1) {
+        Some(spared) => first_spared_of(alloc, MANY_TURNS, 0, 1) == Some(spared),
+        None => false,
+    }
+}
 
 #[test]
-fn turns_take_no_memory_of_their_own(rt: HostRuntime) -> Result<(), Fail> {
-    let [few, many] = TURNS;
-    let spared = first_spared_of(rt.alloc(), few, 0, 1);
-    assert!(rt; spared.is_some());
-    assert_eq!(rt; first_spared_of(rt.alloc(), many, 0, 1), spared);
-    Ok(())
+fn turns_take_no_memory_of_their_own(rt: HostRuntime) {
+    assert!(rt; take_no_more(rt.alloc()));
 }
