@@ -39,9 +39,14 @@ def literal(text):
     return '"' + text.replace("\\", "\\\\").replace('"', '\\"').replace("\n", "\\n") + '"'
 
 
-def row(texts, deep=4):
+def data(text):
+    """A literal of bytes."""
+    return "b" + literal(text)
+
+
+def row(literals, deep=4):
     gap = " " * deep
-    return f"{gap}(\n" + "".join(f"{gap}    {literal(text)},\n" for text in texts) + f"{gap}),\n"
+    return f"{gap}(\n" + "".join(f"{gap}    {it},\n" for it in literals) + f"{gap}),\n"
 
 
 def transcript(path):
@@ -54,19 +59,17 @@ def transcript(path):
 
 
 def tests():
-    examples = [row((read(name), read(name[:-2] + ".out")), 8) for name in names("examples/*.c") + names("examples/bench/*.c")]
-    transcripts = [row(transcript(name), 8) for name in names("examples/transcripts/*.txt")]
+    examples = [row([literal(name), data(read(name)), data(read(name[:-2] + ".out"))], 8) for name in names("examples/*.c") + names("examples/bench/*.c")]
+    transcripts = [row([literal(words), *map(data, shown)], 8) for words, *shown in map(transcript, names("examples/transcripts/*.txt"))]
     return f"""//! The programs of examples/, with what each prints, and the transcripts of examples/transcripts/: written by scripts/examples.py.
 
-use crate::served::{{Served, serve_bytes, serve_told}};
-use command::{{Request, command}};
-use std::alloc::{{AllocError, Global}};
+use crate::answers::{{Served, serve_line}};
+use std::alloc::Global;
 use std::sync::Wait;
-use std::test::Fail;
 use std::thread::Threads;
 
-/// A source, and what it prints.
-type Example = (&'static str, &'static str);
+/// A program's file, its source, and what it prints.
+type Example = (&'static str, &'static [u8], &'static [u8]);
 
 /// The rows stand in a function, so that no proof but its own looks at them.
 fn examples() -> &'static [Example] {{
@@ -76,43 +79,35 @@ fn examples() -> &'static [Example] {{
 }}
 
 // Whether a source prints this, and nothing on standard error.
-fn prints<H: Threads + Wait + Sync>(
-    rt: &H,
-    alloc: Global,
-    request: &Request,
-    source: &[u8],
-    out: &[u8],
-) -> bool {{
-    let served = serve_bytes(rt, alloc, request, source);
-    served.out.as_slice() == out && served.err.is_empty()
+fn prints<H: Threads + Wait + Sync>(rt: &H, alloc: Global, source: &[u8], out: &[u8]) -> bool {{
+    match serve_line(rt, alloc, "txc run a.c", source, b"", false) {{
+        Some(served) => served.out.as_slice() == out && served.err.is_empty(),
+        None => false,
+    }}
+}}
+
+// The first program that prints something else.
+fn wrong_example<H: Threads + Wait + Sync>(rt: &H, alloc: Global) -> Option<&'static str> {{
+    for (file, source, out) in examples() {{
+        if !prints(rt, alloc, source, out) {{
+            return Some(*file);
+        }}
+    }}
+    None
 }}
 
 #[test]
-fn examples_print_what_they_should(rt: HostRuntime) -> Result<(), Fail> {{
-    let request = command(rt.alloc(), ["txc", "run", "a.c"].as_slice())?;
-    for (source, out) in examples() {{
-        let right = prints(&rt, rt.alloc(), &request, source.as_bytes(), out.as_bytes());
-        assert!(rt; right, "{{source}}");
-    }}
-    Ok(())
+fn examples_print_what_they_should(rt: HostRuntime) {{
+    assert_eq!(rt; wrong_example(&rt, rt.alloc()), None);
 }}
 
-/// The words, the source, the schedule, and what a terminal shows.
-type Transcript = (&'static str, &'static str, &'static str, &'static str);
+/// The command line, the source, the schedule, and what a terminal shows.
+type Transcript = (&'static str, &'static [u8], &'static [u8], &'static [u8]);
 
 fn transcripts() -> &'static [Transcript] {{
     static ROWS: [Transcript; {len(transcripts)}] = [
 {"".join(transcripts)}    ];
     &ROWS
-}}
-
-// The words of a line.
-fn words_of<'a>(alloc: Global, line: &'a str) -> Result<Vec<&'a str>, AllocError> {{
-    let mut words = Vec::new(alloc);
-    for word in line.split(' ') {{
-        words.push(word)?;
-    }}
-    Ok(words)
 }}
 
 // Whether this is what was served: the output, and behind it the standard error.
@@ -121,39 +116,34 @@ fn shows(served: &Served, shown: &[u8]) -> bool {{
     shown.starts_with(out) && shown.get(out.len()..) == Some(served.err.as_slice())
 }}
 
-// Whether a terminal shows this of words.
+// Whether a terminal shows this of a command line.
 fn is_shown<H: Threads + Wait + Sync>(
     rt: &H,
     alloc: Global,
-    words: &[&str],
+    line: &str,
     source: &[u8],
     schedule: &[u8],
     shown: &[u8],
 ) -> bool {{
-    match command(alloc, words) {{
-        Ok(request) => {{
-            let served = serve_told(rt, alloc, &request, source, schedule, true);
-            shows(&served, shown)
-        }}
-        Err(_) => false,
+    match serve_line(rt, alloc, line, source, schedule, true) {{
+        Some(served) => shows(&served, shown),
+        None => false,
     }}
 }}
 
-#[test]
-fn transcripts_show_what_they_should(rt: HostRuntime) -> Result<(), Fail> {{
+// The first command line of which a terminal shows something else.
+fn wrong_transcript<H: Threads + Wait + Sync>(rt: &H, alloc: Global) -> Option<&'static str> {{
     for (line, source, schedule, shown) in transcripts() {{
-        let words = words_of(rt.alloc(), line)?;
-        let right = is_shown(
-            &rt,
-            rt.alloc(),
-            words.as_slice(),
-            source.as_bytes(),
-            schedule.as_bytes(),
-            shown.as_bytes(),
-        );
-        assert!(rt; right, "{{line}}");
+        if !is_shown(rt, alloc, line, source, schedule, shown) {{
+            return Some(*line);
+        }}
     }}
-    Ok(())
+    None
+}}
+
+#[test]
+fn transcripts_show_what_they_should(rt: HostRuntime) {{
+    assert_eq!(rt; wrong_transcript(&rt, rt.alloc()), None);
 }}
 """
 

@@ -1,278 +1,285 @@
 //! The programs of examples/, with what each prints, and the transcripts of examples/transcripts/: written by scripts/examples.py.
 
-use crate::served::{Served, serve_bytes, serve_told};
-use command::{Request, command};
-use std::alloc::{AllocError, Global};
+use crate::answers::{Served, serve_line};
+use std::alloc::Global;
 use std::sync::Wait;
-use std::test::Fail;
 use std::thread::Threads;
 
-/// A source, and what it prints.
-type Example = (&'static str, &'static str);
+/// A program's file, its source, and what it prints.
+type Example = (&'static str, &'static [u8], &'static [u8]);
 
 /// The rows stand in a function, so that no proof but its own looks at them.
 fn examples() -> &'static [Example] {
     static ROWS: [Example; 17] = [
         (
-            "// A cancel of an inner transaction undoes the inner one alone: who finds no seat in the train takes one in the bus, and what the\n// outer transaction wrote before stays. Each thread books twice.\nint train = 1, bus = 9, asked, by_train, by_bus;\n\nvoid worker(int self) {\n    int i;\n    for (i = 0; i < 2; i++) {\n        __transaction_atomic {\n            int seated = 0;\n            asked = asked + 1;\n            __transaction_atomic {\n                train = train - 1;\n                by_train = by_train + 1;\n                if (train < 0) __transaction_cancel;\n                seated = 1;\n            }\n            if (!seated) {\n                bus = bus - 1;\n                by_bus = by_bus + 1;\n            }\n        }\n    }\n}\n",
-            "== thread 0: ended\n== memory\ntrain = 0\nbus = 8\nasked = 2\nby_train = 1\nby_bus = 1\n",
+            "examples/booking.c",
+            b"// A cancel of an inner transaction undoes the inner one alone: who finds no seat in the train takes one in the bus, and what the\n// outer transaction wrote before stays. Each thread books twice.\nint train = 1, bus = 9, asked, by_train, by_bus;\n\nvoid worker(int self) {\n    int i;\n    for (i = 0; i < 2; i++) {\n        __transaction_atomic {\n            int seated = 0;\n            asked = asked + 1;\n            __transaction_atomic {\n                train = train - 1;\n                by_train = by_train + 1;\n                if (train < 0) __transaction_cancel;\n                seated = 1;\n            }\n            if (!seated) {\n                bus = bus - 1;\n                by_bus = by_bus + 1;\n            }\n        }\n    }\n}\n",
+            b"== thread 0: ended\n== memory\ntrain = 0\nbus = 8\nasked = 2\nby_train = 1\nby_bus = 1\n",
         ),
         (
-            "// Each thread adds one, three times. No addition is lost, whatever the threads do.\nint x;\n\nvoid worker(int self) {\n    int i;\n    for (i = 0; i < 3; i++) {\n        __transaction_atomic { x = x + 1; }\n    }\n}\n",
-            "== thread 0: ended\n== memory\nx = 3\n",
+            "examples/counter.c",
+            b"// Each thread adds one, three times. No addition is lost, whatever the threads do.\nint x;\n\nvoid worker(int self) {\n    int i;\n    for (i = 0; i < 3; i++) {\n        __transaction_atomic { x = x + 1; }\n    }\n}\n",
+            b"== thread 0: ended\n== memory\nx = 3\n",
         ),
         (
-            "int x = 40, y; void worker(int self) { __transaction_atomic { x = x + 2; y = x - 1; } }\n",
-            "== thread 0: ended\n== memory\nx = 42\ny = 41\n",
+            "examples/first.c",
+            b"int x = 40, y; void worker(int self) { __transaction_atomic { x = x + 2; y = x - 1; } }\n",
+            b"== thread 0: ended\n== memory\nx = 42\ny = 41\n",
         ),
         (
-            "// A set of numbers in a table of 16 places, without a lock of its own: each insertion is one step.\nint place[16], count;\n\nint insert(int key) {\n    int at = key * 7 & 15, added = 0;\n    __transaction_atomic {\n        while (place[at] != 0 && place[at] != key) at = at + 1 & 15;\n        if (place[at] == 0) {\n            place[at] = key;\n            count = count + 1;\n            added = 1;\n        }\n    }\n    return added;\n}\n\nvoid worker(int self) {\n    int i, added = 0;\n    for (i = 1; i <= 4; i++) added = added + insert(i * (self + 1));\n    printf(\"%d added\\n\", added);\n}\n",
-            "== thread 0: ended\n4 added\n== memory\nplace = 0 0 0 0 0 3 0 1 0 0 0 0 4 0 2 0\ncount = 4\n",
+            "examples/hashset.c",
+            b"// A set of numbers in a table of 16 places, without a lock of its own: each insertion is one step.\nint place[16], count;\n\nint insert(int key) {\n    int at = key * 7 & 15, added = 0;\n    __transaction_atomic {\n        while (place[at] != 0 && place[at] != key) at = at + 1 & 15;\n        if (place[at] == 0) {\n            place[at] = key;\n            count = count + 1;\n            added = 1;\n        }\n    }\n    return added;\n}\n\nvoid worker(int self) {\n    int i, added = 0;\n    for (i = 1; i <= 4; i++) added = added + insert(i * (self + 1));\n    printf(\"%d added\\n\", added);\n}\n",
+            b"== thread 0: ended\n4 added\n== memory\nplace = 0 0 0 0 0 3 0 1 0 0 0 0 4 0 2 0\ncount = 4\n",
         ),
         (
-            "// A sum that leaves the range of `int` is trap 1: the thread ends, and nothing of the transaction is left.\nint total = 2147483647, entries = 5;\n\nvoid worker(int self) {\n    __transaction_atomic {\n        entries = entries + 1;\n        total = total + 1;\n    }\n}\n",
-            "== thread 0: trap 1\n== memory\ntotal = 2147483647\nentries = 5\n",
+            "examples/overflow.c",
+            b"// A sum that leaves the range of `int` is trap 1: the thread ends, and nothing of the transaction is left.\nint total = 2147483647, entries = 5;\n\nvoid worker(int self) {\n    __transaction_atomic {\n        entries = entries + 1;\n        total = total + 1;\n    }\n}\n",
+            b"== thread 0: trap 1\n== memory\ntotal = 2147483647\nentries = 5\n",
         ),
         (
-            "// Counts the primes below 100 by trial division, and leaves the count in shared memory.\nint primes;\n\nvoid worker(int self) {\n    int n, count = 0;\n    for (n = 2; n < 100; n++) {\n        int d = 2;\n        while (d * d <= n && n % d != 0) d++;\n        if (d * d > n) count++;\n    }\n    __transaction_atomic { primes = count; }\n    printf(\"%d primes\\n\", count);\n}\n",
-            "== thread 0: ended\n25 primes\n== memory\nprimes = 25\n",
+            "examples/primes.c",
+            b"// Counts the primes below 100 by trial division, and leaves the count in shared memory.\nint primes;\n\nvoid worker(int self) {\n    int n, count = 0;\n    for (n = 2; n < 100; n++) {\n        int d = 2;\n        while (d * d <= n && n % d != 0) d++;\n        if (d * d > n) count++;\n    }\n    __transaction_atomic { primes = count; }\n    printf(\"%d primes\\n\", count);\n}\n",
+            b"== thread 0: ended\n25 primes\n== memory\nprimes = 25\n",
         ),
         (
-            "// A bounded queue: one transaction puts or takes, and a cancel undoes what does not fit.\nint slots[4], head, count, refused;\n\nint put(int value) {\n    int done = 0;\n    __transaction_atomic {\n        slots[(head + count) % 4] = value;\n        count++;\n        if (count > 4) __transaction_cancel;\n        done = 1;\n    }\n    return done;\n}\n\nvoid worker(int self) {\n    int i;\n    for (i = 1; i <= 6; i++) {\n        if (!put(i * i)) {\n            __transaction_atomic { refused++; }\n        }\n    }\n    __transaction_relaxed {\n        printf(\"%d waiting, %d refused\\n\", count, refused);\n        while (count > 0) {\n            printf(\"%d \", slots[head]);\n            head = (head + 1) % 4;\n            count--;\n        }\n    }\n    printf(\"\\n\");\n}\n",
-            "== thread 0: ended\n4 waiting, 2 refused\n1 4 9 16 \n== memory\nslots = 1 4 9 16\nhead = 0\ncount = 0\nrefused = 2\n",
+            "examples/queue.c",
+            b"// A bounded queue: one transaction puts or takes, and a cancel undoes what does not fit.\nint slots[4], head, count, refused;\n\nint put(int value) {\n    int done = 0;\n    __transaction_atomic {\n        slots[(head + count) % 4] = value;\n        count++;\n        if (count > 4) __transaction_cancel;\n        done = 1;\n    }\n    return done;\n}\n\nvoid worker(int self) {\n    int i;\n    for (i = 1; i <= 6; i++) {\n        if (!put(i * i)) {\n            __transaction_atomic { refused++; }\n        }\n    }\n    __transaction_relaxed {\n        printf(\"%d waiting, %d refused\\n\", count, refused);\n        while (count > 0) {\n            printf(\"%d \", slots[head]);\n            head = (head + 1) % 4;\n            count--;\n        }\n    }\n    printf(\"\\n\");\n}\n",
+            b"== thread 0: ended\n4 waiting, 2 refused\n1 4 9 16 \n== memory\nslots = 1 4 9 16\nhead = 0\ncount = 0\nrefused = 2\n",
         ),
         (
-            "// Printing can't be undone, so it stands in a relaxed transaction: from its first piece on no other thread can change what is\n// shared, and the numbers on the receipt are those of one moment.\nint sold, left = 10;\n\nvoid worker(int self) {\n    __transaction_relaxed {\n        sold = sold + 1;\n        left = left - 1;\n        printf(\"ticket %d, %d left\\n\", sold, left);\n    }\n}\n",
-            "== thread 0: ended\nticket 1, 9 left\n== memory\nsold = 1\nleft = 9\n",
+            "examples/receipt.c",
+            b"// Printing can't be undone, so it stands in a relaxed transaction: from its first piece on no other thread can change what is\n// shared, and the numbers on the receipt are those of one moment.\nint sold, left = 10;\n\nvoid worker(int self) {\n    __transaction_relaxed {\n        sold = sold + 1;\n        left = left - 1;\n        printf(\"ticket %d, %d left\\n\", sold, left);\n    }\n}\n",
+            b"== thread 0: ended\nticket 1, 9 left\n== memory\nsold = 1\nleft = 9\n",
         ),
         (
-            "// Both accounts change in one step, or neither does.\nint checking = 120, savings = 40;\n\nvoid worker(int self) {\n    __transaction_atomic {\n        checking = checking - 50;\n        savings = savings + 50;\n    }\n    __transaction_atomic {\n        savings = savings + 1;\n    }\n}\n",
-            "== thread 0: ended\n== memory\nchecking = 70\nsavings = 91\n",
+            "examples/transfer.c",
+            b"// Both accounts change in one step, or neither does.\nint checking = 120, savings = 40;\n\nvoid worker(int self) {\n    __transaction_atomic {\n        checking = checking - 50;\n        savings = savings + 50;\n    }\n    __transaction_atomic {\n        savings = savings + 1;\n    }\n}\n",
+            b"== thread 0: ended\n== memory\nchecking = 70\nsavings = 91\n",
         ),
         (
-            "// A cancel undoes all that its transaction wrote: a thread takes 70 from the account, or nothing. It tries twice.\nint balance = 100, refused;\n\nint withdraw(int amount) {\n    int paid = 0;\n    __transaction_atomic {\n        balance = balance - amount;\n        if (balance < 0) __transaction_cancel;\n        paid = 1;\n    }\n    return paid;\n}\n\nvoid worker(int self) {\n    int i;\n    for (i = 0; i < 2; i++) {\n        if (!withdraw(70)) {\n            __transaction_atomic { refused = refused + 1; }\n        }\n    }\n}\n",
-            "== thread 0: ended\n== memory\nbalance = 30\nrefused = 1\n",
+            "examples/withdraw.c",
+            b"// A cancel undoes all that its transaction wrote: a thread takes 70 from the account, or nothing. It tries twice.\nint balance = 100, refused;\n\nint withdraw(int amount) {\n    int paid = 0;\n    __transaction_atomic {\n        balance = balance - amount;\n        if (balance < 0) __transaction_cancel;\n        paid = 1;\n    }\n    return paid;\n}\n\nvoid worker(int self) {\n    int i;\n    for (i = 0; i < 2; i++) {\n        if (!withdraw(70)) {\n            __transaction_atomic { refused = refused + 1; }\n        }\n    }\n}\n",
+            b"== thread 0: ended\n== memory\nbalance = 30\nrefused = 1\n",
         ),
         (
-            "// 64 accounts: 200000 transfers a thread, every 16th step sums them all in a\n// read-only transaction; final memory: wrong = 0 and the accounts sum to 6400\nint account[64], wrong, filled;\nvoid worker(int self)\n{\n  int i, from, to, sum, k;\n  unsigned r = 12345u + self * 977u;\n  __transaction_atomic {\n    if (!filled) {\n      for (k = 0; k < 64; k++)\n        account[k] = 100;\n      filled = 1;\n    }\n  }\n  for (i = 0; i < 200000; i++) {\n    r = r * 1664525u + 1013904223u;\n    from = r >> 8 & 63;\n    to = r >> 16 & 63;\n    __transaction_atomic {\n      account[from] -= 1;\n      account[to] += 1;\n    }\n    if (i % 16 == 0) {\n      __transaction_atomic {\n        sum = 0;\n        for (k = 0; k < 64; k++)\n          sum += account[k];\n      }\n      if (sum != 6400)\n        __transaction_atomic { wrong++; }\n    }\n  }\n}\n",
-            "== thread 0: ended\n== memory\naccount = 127 213 28 53 126 104 169 28 -19 175 35 82 188 59 81 92 133 42 28 134 -34 30 96 80 52 114 29 182 107 60 304 149 136 98 150 150 117 152 170 128 45 111 90 -16 94 130 131 19 141 128 51 71 214 72 168 83 67 47 89 139 81 68 133 96\nwrong = 0\nfilled = 1\n",
+            "examples/bench/bank.c",
+            b"// 64 accounts: 200000 transfers a thread, every 16th step sums them all in a\n// read-only transaction; final memory: wrong = 0 and the accounts sum to 6400\nint account[64], wrong, filled;\nvoid worker(int self)\n{\n  int i, from, to, sum, k;\n  unsigned r = 12345u + self * 977u;\n  __transaction_atomic {\n    if (!filled) {\n      for (k = 0; k < 64; k++)\n        account[k] = 100;\n      filled = 1;\n    }\n  }\n  for (i = 0; i < 200000; i++) {\n    r = r * 1664525u + 1013904223u;\n    from = r >> 8 & 63;\n    to = r >> 16 & 63;\n    __transaction_atomic {\n      account[from] -= 1;\n      account[to] += 1;\n    }\n    if (i % 16 == 0) {\n      __transaction_atomic {\n        sum = 0;\n        for (k = 0; k < 64; k++)\n          sum += account[k];\n      }\n      if (sum != 6400)\n        __transaction_atomic { wrong++; }\n    }\n  }\n}\n",
+            b"== thread 0: ended\n== memory\naccount = 127 213 28 53 126 104 169 28 -19 175 35 82 188 59 81 92 133 42 28 134 -34 30 96 80 52 114 29 182 107 60 304 149 136 98 150 150 117 152 170 128 45 111 90 -16 94 130 131 19 141 128 51 71 214 72 168 83 67 47 89 139 81 68 133 96\nwrong = 0\nfilled = 1\n",
         ),
         (
-            "// one shared counter; final memory: x = 500000 * threads\nint x;\nvoid worker(int self)\n{\n  int i;\n  for (i = 0; i < 500000; i++) {\n    __transaction_atomic { x = x + 1; }\n  }\n}\n",
-            "== thread 0: ended\n== memory\nx = 500000\n",
+            "examples/bench/counter.c",
+            b"// one shared counter; final memory: x = 500000 * threads\nint x;\nvoid worker(int self)\n{\n  int i;\n  for (i = 0; i < 500000; i++) {\n    __transaction_atomic { x = x + 1; }\n  }\n}\n",
+            b"== thread 0: ended\n== memory\nx = 500000\n",
         ),
         (
-            "// each thread writes its own 64 cells, 16 in each transaction, 40000 of them;\n// final memory: each of a thread's cells is 10000\nint a[512];\nvoid worker(int self)\n{\n  int i, k, base = self * 64;\n  for (i = 0; i < 40000; i++) {\n    __transaction_atomic {\n      for (k = 0; k < 16; k++)\n        a[base + i % 4 * 16 + k] += 1;\n    }\n  }\n}\n",
-            "== thread 0: ended\n== memory\na = 10000 10000 10000 10000 10000 10000 10000 10000 10000 10000 10000 10000 10000 10000 10000 10000 10000 10000 10000 10000 10000 10000 10000 10000 10000 10000 10000 10000 10000 10000 10000 10000 10000 10000 10000 10000 10000 10000 10000 10000 10000 10000 10000 10000 10000 10000 10000 10000 10000 10000 10000 10000 10000 10000 10000 10000 10000 10000 10000 10000 10000 10000 10000 10000 0 0 0 0 0 0 0 0 0 0 0 0 0 0 0 0 0 0 0 0 0 0 0 0 0 0 0 0 0 0 0 0 0 0 0 0 0 0 0 0 0 0 0 0 0 0 0 0 0 0 0 0 0 0 0 0 0 0 0 0 0 0 0 0 0 0 0 0 0 0 0 0 0 0 0 0 0 0 0 0 0 0 0 0 0 0 0 0 0 0 0 0 0 0 0 0 0 0 0 0 0 0 0 0 0 0 0 0 0 0 0 0 0 0 0 0 0 0 0 0 0 0 0 0 0 0 0 0 0 0 0 0 0 0 0 0 0 0 0 0 0 0 0 0 0 0 0 0 0 0 0 0 0 0 0 0 0 0 0 0 0 0 0 0 0 0 0 0 0 0 0 0 0 0 0 0 0 0 0 0 0 0 0 0 0 0 0 0 0 0 0 0 0 0 0 0 0 0 0 0 0 0 0 0 0 0 0 0 0 0 0 0 0 0 0 0 0 0 0 0 0 0 0 0 0 0 0 0 0 0 0 0 0 0 0 0 0 0 0 0 0 0 0 0 0 0 0 0 0 0 0 0 0 0 0 0 0 0 0 0 0 0 0 0 0 0 0 0 0 0 0 0 0 0 0 0 0 0 0 0 0 0 0 0 0 0 0 0 0 0 0 0 0 0 0 0 0 0 0 0 0 0 0 0 0 0 0 0 0 0 0 0 0 0 0 0 0 0 0 0 0 0 0 0 0 0 0 0 0 0 0 0 0 0 0 0 0 0 0 0 0 0 0 0 0 0 0 0 0 0 0 0 0 0 0 0 0 0 0 0 0 0 0 0 0 0 0 0 0 0 0 0 0 0 0 0 0 0 0 0 0 0 0 0 0 0 0 0 0 0 0 0 0 0 0 0 0 0 0 0 0 0 0 0 0 0 0 0 0 0 0 0 0 0 0 0 0 0 0 0 0 0 0 0 0 0 0 0 0 0 0 0 0 0 0 0 0 0 0 0 0 0 0 0 0 0 0 0\n",
+            "examples/bench/disjoint.c",
+            b"// each thread writes its own 64 cells, 16 in each transaction, 40000 of them;\n// final memory: each of a thread's cells is 10000\nint a[512];\nvoid worker(int self)\n{\n  int i, k, base = self * 64;\n  for (i = 0; i < 40000; i++) {\n    __transaction_atomic {\n      for (k = 0; k < 16; k++)\n        a[base + i % 4 * 16 + k] += 1;\n    }\n  }\n}\n",
+            b"== thread 0: ended\n== memory\na = 10000 10000 10000 10000 10000 10000 10000 10000 10000 10000 10000 10000 10000 10000 10000 10000 10000 10000 10000 10000 10000 10000 10000 10000 10000 10000 10000 10000 10000 10000 10000 10000 10000 10000 10000 10000 10000 10000 10000 10000 10000 10000 10000 10000 10000 10000 10000 10000 10000 10000 10000 10000 10000 10000 10000 10000 10000 10000 10000 10000 10000 10000 10000 10000 0 0 0 0 0 0 0 0 0 0 0 0 0 0 0 0 0 0 0 0 0 0 0 0 0 0 0 0 0 0 0 0 0 0 0 0 0 0 0 0 0 0 0 0 0 0 0 0 0 0 0 0 0 0 0 0 0 0 0 0 0 0 0 0 0 0 0 0 0 0 0 0 0 0 0 0 0 0 0 0 0 0 0 0 0 0 0 0 0 0 0 0 0 0 0 0 0 0 0 0 0 0 0 0 0 0 0 0 0 0 0 0 0 0 0 0 0 0 0 0 0 0 0 0 0 0 0 0 0 0 0 0 0 0 0 0 0 0 0 0 0 0 0 0 0 0 0 0 0 0 0 0 0 0 0 0 0 0 0 0 0 0 0 0 0 0 0 0 0 0 0 0 0 0 0 0 0 0 0 0 0 0 0 0 0 0 0 0 0 0 0 0 0 0 0 0 0 0 0 0 0 0 0 0 0 0 0 0 0 0 0 0 0 0 0 0 0 0 0 0 0 0 0 0 0 0 0 0 0 0 0 0 0 0 0 0 0 0 0 0 0 0 0 0 0 0 0 0 0 0 0 0 0 0 0 0 0 0 0 0 0 0 0 0 0 0 0 0 0 0 0 0 0 0 0 0 0 0 0 0 0 0 0 0 0 0 0 0 0 0 0 0 0 0 0 0 0 0 0 0 0 0 0 0 0 0 0 0 0 0 0 0 0 0 0 0 0 0 0 0 0 0 0 0 0 0 0 0 0 0 0 0 0 0 0 0 0 0 0 0 0 0 0 0 0 0 0 0 0 0 0 0 0 0 0 0 0 0 0 0 0 0 0 0 0 0 0 0 0 0 0 0 0 0 0 0 0 0 0 0 0 0 0 0 0 0 0 0 0 0 0 0 0 0 0 0 0 0 0 0 0 0 0 0 0 0 0 0 0 0 0 0 0 0 0 0 0 0 0 0 0 0 0 0 0 0 0 0 0 0 0 0 0 0 0 0 0 0 0 0 0 0 0 0 0 0 0 0\n",
         ),
         (
-            "// recursion; text: 196418\nint fib(int n)\n{\n  if (n < 2)\n    return n;\n  return fib(n - 1) + fib(n - 2);\n}\nvoid worker(int self) { printf(\"%d\\n\", fib(27)); }\n",
-            "== thread 0: ended\n196418\n== memory\n",
+            "examples/bench/fib.c",
+            b"// recursion; text: 196418\nint fib(int n)\n{\n  if (n < 2)\n    return n;\n  return fib(n - 1) + fib(n - 2);\n}\nvoid worker(int self) { printf(\"%d\\n\", fib(27)); }\n",
+            b"== thread 0: ended\n196418\n== memory\n",
         ),
         (
-            "// open-addressing hash set of 1024 slots, 70 % lookups, 30 % inserts of keys\n// below 700; 200000 operations a thread; check: count equals the filled slots\nint slot[1024], count, seen;\nvoid worker(int self)\n{\n  int i, k, n, h, found = 0;\n  unsigned r = 5u + self * 104729u;\n  for (i = 0; i < 200000; i++) {\n    r = r * 1664525u + 1013904223u;\n    k = (r >> 8) % 700 + 1;\n    n = (r >> 20) % 10;\n    __transaction_atomic {\n      h = k * 7 & 1023;\n      while (slot[h] != 0 && slot[h] != k)\n        h = h + 1 & 1023;\n      if (slot[h] == k)\n        found++;\n      else if (n < 3) {\n        slot[h] = k;\n        count++;\n      }\n    }\n  }\n  __transaction_atomic {\n    seen = 0;\n    for (i = 0; i < 1024; i++)\n      if (slot[i] != 0)\n        seen++;\n  }\n}\n",
-            "== thread 0: ended\n== memory\nslot = 0 439 0 293 0 147 586 1 440 0 294 0 148 587 2 441 0 295 0 149 588 3 442 0 296 0 150 589 4 443 0 297 0 151 590 5 444 0 298 0 152 591 6 445 0 299 0 153 592 7 446 0 300 0 154 593 8 447 0 301 0 155 594 9 448 0 302 0 156 595 10 449 0 303 0 157 596 11 450 0 304 0 158 597 12 451 0 305 0 159 598 13 452 0 306 0 160 599 14 453 0 307 0 161 600 15 454 0 308 0 162 601 16 455 0 309 0 163 602 17 456 0 310 0 164 603 18 457 0 311 0 165 604 19 458 0 312 0 166 605 20 459 0 313 0 167 606 21 460 0 314 0 168 607 22 461 0 315 0 169 608 23 462 0 316 0 170 609 24 463 0 317 0 171 610 25 464 0 318 0 172 611 26 465 0 319 0 173 612 27 466 0 320 0 174 613 28 467 0 321 0 175 614 29 468 0 322 0 176 615 30 469 0 323 0 177 616 31 470 0 324 0 178 617 32 471 0 325 0 179 618 33 472 0 326 0 180 619 34 473 0 327 0 181 620 35 474 0 328 0 182 621 36 475 0 329 0 183 622 37 476 0 330 0 184 623 38 477 0 331 0 185 624 39 478 0 332 0 186 625 40 479 0 333 0 187 626 41 480 0 334 0 188 627 42 481 0 335 0 189 628 43 482 0 336 0 190 629 44 483 0 337 0 191 630 45 484 0 338 0 192 631 46 485 0 339 0 193 632 47 486 0 340 0 194 633 48 487 0 341 0 195 634 49 488 0 342 0 196 635 50 489 0 343 0 197 636 51 490 0 344 0 198 637 52 491 0 345 0 199 638 53 492 0 346 0 200 639 54 493 0 347 0 201 640 55 494 0 348 0 202 641 56 495 0 349 0 203 642 57 496 0 350 0 204 643 58 497 0 351 0 205 644 59 498 0 352 0 206 645 60 499 0 353 0 207 646 61 500 0 354 0 208 647 62 501 0 355 0 209 648 63 502 0 356 0 210 649 64 503 0 357 0 211 650 65 504 0 358 0 212 651 66 505 0 359 0 213 652 67 506 0 360 0 214 653 68 507 0 361 0 215 654 69 508 0 362 0 216 655 70 509 0 363 0 217 656 71 510 0 364 0 218 657 72 511 0 365 0 219 658 73 512 0 366 0 220 659 74 513 0 367 0 221 660 75 514 0 368 0 222 661 76 515 0 369 0 223 662 77 516 0 370 0 224 663 78 517 0 371 0 225 664 79 518 0 372 0 226 665 80 519 0 373 0 227 666 81 520 0 374 0 228 667 82 521 0 375 0 229 668 83 522 0 376 0 230 669 84 523 0 377 0 231 670 85 524 0 378 0 232 671 86 525 0 379 0 233 672 87 526 0 380 0 234 673 88 527 0 381 0 235 674 89 528 0 382 0 236 675 90 529 0 383 0 237 676 91 530 0 384 0 238 677 92 531 0 385 0 239 678 93 532 0 386 0 240 679 94 533 0 387 0 241 680 95 534 0 388 0 242 681 96 535 0 389 0 243 682 97 536 0 390 0 244 683 98 537 0 391 0 245 684 99 538 0 392 0 246 685 100 539 0 393 0 247 686 101 540 0 394 0 248 687 102 541 0 395 0 249 688 103 542 0 396 0 250 689 104 543 0 397 0 251 690 105 544 0 398 0 252 691 106 545 0 399 0 253 692 107 546 0 400 0 254 693 108 547 0 401 0 255 694 109 548 0 402 0 256 695 110 549 0 403 0 257 696 111 550 0 404 0 258 697 112 551 0 405 0 259 698 113 552 0 406 0 260 699 114 553 0 407 0 261 700 115 554 0 408 0 262 0 116 555 0 409 0 263 0 117 556 0 410 0 264 0 118 557 0 411 0 265 0 119 558 0 412 0 266 0 120 559 0 413 0 267 0 121 560 0 414 0 268 0 122 561 0 415 0 269 0 123 562 0 416 0 270 0 124 563 0 417 0 271 0 125 564 0 418 0 272 0 126 565 0 419 0 273 0 127 566 0 420 0 274 0 128 567 0 421 0 275 0 129 568 0 422 0 276 0 130 569 0 423 0 277 0 131 570 0 424 0 278 0 132 571 0 425 0 279 0 133 572 0 426 0 280 0 134 573 0 427 0 281 0 135 574 0 428 0 282 0 136 575 0 429 0 283 0 137 576 0 430 0 284 0 138 577 0 431 0 285 0 139 578 0 432 0 286 0 140 579 0 433 0 287 0 141 580 0 434 0 288 0 142 581 0 435 0 289 0 143 582 0 436 0 290 0 144 583 0 437 0 291 0 145 584 0 438 0 292 0 146 585\ncount = 700\nseen = 700\n",
+            "examples/bench/hashset.c",
+            b"// open-addressing hash set of 1024 slots, 70 % lookups, 30 % inserts of keys\n// below 700; 200000 operations a thread; check: count equals the filled slots\nint slot[1024], count, seen;\nvoid worker(int self)\n{\n  int i, k, n, h, found = 0;\n  unsigned r = 5u + self * 104729u;\n  for (i = 0; i < 200000; i++) {\n    r = r * 1664525u + 1013904223u;\n    k = (r >> 8) % 700 + 1;\n    n = (r >> 20) % 10;\n    __transaction_atomic {\n      h = k * 7 & 1023;\n      while (slot[h] != 0 && slot[h] != k)\n        h = h + 1 & 1023;\n      if (slot[h] == k)\n        found++;\n      else if (n < 3) {\n        slot[h] = k;\n        count++;\n      }\n    }\n  }\n  __transaction_atomic {\n    seen = 0;\n    for (i = 0; i < 1024; i++)\n      if (slot[i] != 0)\n        seen++;\n  }\n}\n",
+            b"== thread 0: ended\n== memory\nslot = 0 439 0 293 0 147 586 1 440 0 294 0 148 587 2 441 0 295 0 149 588 3 442 0 296 0 150 589 4 443 0 297 0 151 590 5 444 0 298 0 152 591 6 445 0 299 0 153 592 7 446 0 300 0 154 593 8 447 0 301 0 155 594 9 448 0 302 0 156 595 10 449 0 303 0 157 596 11 450 0 304 0 158 597 12 451 0 305 0 159 598 13 452 0 306 0 160 599 14 453 0 307 0 161 600 15 454 0 308 0 162 601 16 455 0 309 0 163 602 17 456 0 310 0 164 603 18 457 0 311 0 165 604 19 458 0 312 0 166 605 20 459 0 313 0 167 606 21 460 0 314 0 168 607 22 461 0 315 0 169 608 23 462 0 316 0 170 609 24 463 0 317 0 171 610 25 464 0 318 0 172 611 26 465 0 319 0 173 612 27 466 0 320 0 174 613 28 467 0 321 0 175 614 29 468 0 322 0 176 615 30 469 0 323 0 177 616 31 470 0 324 0 178 617 32 471 0 325 0 179 618 33 472 0 326 0 180 619 34 473 0 327 0 181 620 35 474 0 328 0 182 621 36 475 0 329 0 183 622 37 476 0 330 0 184 623 38 477 0 331 0 185 624 39 478 0 332 0 186 625 40 479 0 333 0 187 626 41 480 0 334 0 188 627 42 481 0 335 0 189 628 43 482 0 336 0 190 629 44 483 0 337 0 191 630 45 484 0 338 0 192 631 46 485 0 339 0 193 632 47 486 0 340 0 194 633 48 487 0 341 0 195 634 49 488 0 342 0 196 635 50 489 0 343 0 197 636 51 490 0 344 0 198 637 52 491 0 345 0 199 638 53 492 0 346 0 200 639 54 493 0 347 0 201 640 55 494 0 348 0 202 641 56 495 0 349 0 203 642 57 496 0 350 0 204 643 58 497 0 351 0 205 644 59 498 0 352 0 206 645 60 499 0 353 0 207 646 61 500 0 354 0 208 647 62 501 0 355 0 209 648 63 502 0 356 0 210 649 64 503 0 357 0 211 650 65 504 0 358 0 212 651 66 505 0 359 0 213 652 67 506 0 360 0 214 653 68 507 0 361 0 215 654 69 508 0 362 0 216 655 70 509 0 363 0 217 656 71 510 0 364 0 218 657 72 511 0 365 0 219 658 73 512 0 366 0 220 659 74 513 0 367 0 221 660 75 514 0 368 0 222 661 76 515 0 369 0 223 662 77 516 0 370 0 224 663 78 517 0 371 0 225 664 79 518 0 372 0 226 665 80 519 0 373 0 227 666 81 520 0 374 0 228 667 82 521 0 375 0 229 668 83 522 0 376 0 230 669 84 523 0 377 0 231 670 85 524 0 378 0 232 671 86 525 0 379 0 233 672 87 526 0 380 0 234 673 88 527 0 381 0 235 674 89 528 0 382 0 236 675 90 529 0 383 0 237 676 91 530 0 384 0 238 677 92 531 0 385 0 239 678 93 532 0 386 0 240 679 94 533 0 387 0 241 680 95 534 0 388 0 242 681 96 535 0 389 0 243 682 97 536 0 390 0 244 683 98 537 0 391 0 245 684 99 538 0 392 0 246 685 100 539 0 393 0 247 686 101 540 0 394 0 248 687 102 541 0 395 0 249 688 103 542 0 396 0 250 689 104 543 0 397 0 251 690 105 544 0 398 0 252 691 106 545 0 399 0 253 692 107 546 0 400 0 254 693 108 547 0 401 0 255 694 109 548 0 402 0 256 695 110 549 0 403 0 257 696 111 550 0 404 0 258 697 112 551 0 405 0 259 698 113 552 0 406 0 260 699 114 553 0 407 0 261 700 115 554 0 408 0 262 0 116 555 0 409 0 263 0 117 556 0 410 0 264 0 118 557 0 411 0 265 0 119 558 0 412 0 266 0 120 559 0 413 0 267 0 121 560 0 414 0 268 0 122 561 0 415 0 269 0 123 562 0 416 0 270 0 124 563 0 417 0 271 0 125 564 0 418 0 272 0 126 565 0 419 0 273 0 127 566 0 420 0 274 0 128 567 0 421 0 275 0 129 568 0 422 0 276 0 130 569 0 423 0 277 0 131 570 0 424 0 278 0 132 571 0 425 0 279 0 133 572 0 426 0 280 0 134 573 0 427 0 281 0 135 574 0 428 0 282 0 136 575 0 429 0 283 0 137 576 0 430 0 284 0 138 577 0 431 0 285 0 139 578 0 432 0 286 0 140 579 0 433 0 287 0 141 580 0 434 0 288 0 142 581 0 435 0 289 0 143 582 0 436 0 290 0 144 583 0 437 0 291 0 145 584 0 438 0 292 0 146 585\ncount = 700\nseen = 700\n",
         ),
         (
-            "// read-only transactions of 512 reads, 5000 a thread; thread 0 also writes one\n// cell after each; final memory: a[5] = 5000, bad = 0\nint a[512], bad;\nvoid worker(int self)\n{\n  int i, k, s;\n  for (i = 0; i < 5000; i++) {\n    __transaction_atomic {\n      s = 0;\n      for (k = 0; k < 512; k++)\n        s += a[k];\n    }\n    if (s < 0 || s > 5000)\n      __transaction_atomic { bad++; }\n    if (self == 0)\n      __transaction_atomic { a[5] = a[5] + 1; }\n  }\n}\n",
-            "== thread 0: ended\n== memory\na = 0 0 0 0 0 5000 0 0 0 0 0 0 0 0 0 0 0 0 0 0 0 0 0 0 0 0 0 0 0 0 0 0 0 0 0 0 0 0 0 0 0 0 0 0 0 0 0 0 0 0 0 0 0 0 0 0 0 0 0 0 0 0 0 0 0 0 0 0 0 0 0 0 0 0 0 0 0 0 0 0 0 0 0 0 0 0 0 0 0 0 0 0 0 0 0 0 0 0 0 0 0 0 0 0 0 0 0 0 0 0 0 0 0 0 0 0 0 0 0 0 0 0 0 0 0 0 0 0 0 0 0 0 0 0 0 0 0 0 0 0 0 0 0 0 0 0 0 0 0 0 0 0 0 0 0 0 0 0 0 0 0 0 0 0 0 0 0 0 0 0 0 0 0 0 0 0 0 0 0 0 0 0 0 0 0 0 0 0 0 0 0 0 0 0 0 0 0 0 0 0 0 0 0 0 0 0 0 0 0 0 0 0 0 0 0 0 0 0 0 0 0 0 0 0 0 0 0 0 0 0 0 0 0 0 0 0 0 0 0 0 0 0 0 0 0 0 0 0 0 0 0 0 0 0 0 0 0 0 0 0 0 0 0 0 0 0 0 0 0 0 0 0 0 0 0 0 0 0 0 0 0 0 0 0 0 0 0 0 0 0 0 0 0 0 0 0 0 0 0 0 0 0 0 0 0 0 0 0 0 0 0 0 0 0 0 0 0 0 0 0 0 0 0 0 0 0 0 0 0 0 0 0 0 0 0 0 0 0 0 0 0 0 0 0 0 0 0 0 0 0 0 0 0 0 0 0 0 0 0 0 0 0 0 0 0 0 0 0 0 0 0 0 0 0 0 0 0 0 0 0 0 0 0 0 0 0 0 0 0 0 0 0 0 0 0 0 0 0 0 0 0 0 0 0 0 0 0 0 0 0 0 0 0 0 0 0 0 0 0 0 0 0 0 0 0 0 0 0 0 0 0 0 0 0 0 0 0 0 0 0 0 0 0 0 0 0 0 0 0 0 0 0 0 0 0 0 0 0 0 0 0 0 0 0 0 0 0 0 0 0 0 0 0 0 0 0 0 0 0 0 0 0 0 0 0 0 0 0 0 0 0 0 0 0 0 0 0 0 0 0 0 0 0 0 0 0 0 0 0 0 0 0\nbad = 0\n",
+            "examples/bench/longread.c",
+            b"// read-only transactions of 512 reads, 5000 a thread; thread 0 also writes one\n// cell after each; final memory: a[5] = 5000, bad = 0\nint a[512], bad;\nvoid worker(int self)\n{\n  int i, k, s;\n  for (i = 0; i < 5000; i++) {\n    __transaction_atomic {\n      s = 0;\n      for (k = 0; k < 512; k++)\n        s += a[k];\n    }\n    if (s < 0 || s > 5000)\n      __transaction_atomic { bad++; }\n    if (self == 0)\n      __transaction_atomic { a[5] = a[5] + 1; }\n  }\n}\n",
+            b"== thread 0: ended\n== memory\na = 0 0 0 0 0 5000 0 0 0 0 0 0 0 0 0 0 0 0 0 0 0 0 0 0 0 0 0 0 0 0 0 0 0 0 0 0 0 0 0 0 0 0 0 0 0 0 0 0 0 0 0 0 0 0 0 0 0 0 0 0 0 0 0 0 0 0 0 0 0 0 0 0 0 0 0 0 0 0 0 0 0 0 0 0 0 0 0 0 0 0 0 0 0 0 0 0 0 0 0 0 0 0 0 0 0 0 0 0 0 0 0 0 0 0 0 0 0 0 0 0 0 0 0 0 0 0 0 0 0 0 0 0 0 0 0 0 0 0 0 0 0 0 0 0 0 0 0 0 0 0 0 0 0 0 0 0 0 0 0 0 0 0 0 0 0 0 0 0 0 0 0 0 0 0 0 0 0 0 0 0 0 0 0 0 0 0 0 0 0 0 0 0 0 0 0 0 0 0 0 0 0 0 0 0 0 0 0 0 0 0 0 0 0 0 0 0 0 0 0 0 0 0 0 0 0 0 0 0 0 0 0 0 0 0 0 0 0 0 0 0 0 0 0 0 0 0 0 0 0 0 0 0 0 0 0 0 0 0 0 0 0 0 0 0 0 0 0 0 0 0 0 0 0 0 0 0 0 0 0 0 0 0 0 0 0 0 0 0 0 0 0 0 0 0 0 0 0 0 0 0 0 0 0 0 0 0 0 0 0 0 0 0 0 0 0 0 0 0 0 0 0 0 0 0 0 0 0 0 0 0 0 0 0 0 0 0 0 0 0 0 0 0 0 0 0 0 0 0 0 0 0 0 0 0 0 0 0 0 0 0 0 0 0 0 0 0 0 0 0 0 0 0 0 0 0 0 0 0 0 0 0 0 0 0 0 0 0 0 0 0 0 0 0 0 0 0 0 0 0 0 0 0 0 0 0 0 0 0 0 0 0 0 0 0 0 0 0 0 0 0 0 0 0 0 0 0 0 0 0 0 0 0 0 0 0 0 0 0 0 0 0 0 0 0 0 0 0 0 0 0 0 0 0 0 0 0 0 0 0 0 0 0 0 0 0 0 0 0 0 0 0 0 0 0 0 0 0 0 0 0 0 0 0 0 0 0 0 0 0 0 0 0 0 0 0 0 0 0 0 0 0 0 0 0 0 0 0 0 0 0 0 0\nbad = 0\n",
         ),
         (
-            "// no shared data: primes below 200000 by trial division; text: 17984\nvoid worker(int self)\n{\n  int n, d, count = 0;\n  for (n = 2; n < 200000; n++) {\n    int prime = 1;\n    for (d = 2; d * d <= n; d++)\n      if (n % d == 0) {\n        prime = 0;\n        break;\n      }\n    count += prime;\n  }\n  printf(\"%d\\n\", count);\n}\n",
-            "== thread 0: ended\n17984\n== memory\n",
+            "examples/bench/primes.c",
+            b"// no shared data: primes below 200000 by trial division; text: 17984\nvoid worker(int self)\n{\n  int n, d, count = 0;\n  for (n = 2; n < 200000; n++) {\n    int prime = 1;\n    for (d = 2; d * d <= n; d++)\n      if (n % d == 0) {\n        prime = 0;\n        break;\n      }\n    count += prime;\n  }\n  printf(\"%d\\n\", count);\n}\n",
+            b"== thread 0: ended\n17984\n== memory\n",
         ),
     ];
     &ROWS
 }
 
 // Whether a source prints this, and nothing on standard error.
-fn prints<H: Threads + Wait + Sync>(
-    rt: &H,
-    alloc: Global,
-    request: &Request,
-    source: &[u8],
-    out: &[u8],
-) -> bool {
-    let served = serve_bytes(rt, alloc, request, source);
-    served.out.as_slice() == out && served.err.is_empty()
+fn prints<H: Threads + Wait + Sync>(rt: &H, alloc: Global, source: &[u8], out: &[u8]) -> bool {
+    match serve_line(rt, alloc, "txc run a.c", source, b"", false) {
+        Some(served) => served.out.as_slice() == out && served.err.is_empty(),
+        None => false,
+    }
+}
+
+// The first program that prints something else.
+fn wrong_example<H: Threads + Wait + Sync>(rt: &H, alloc: Global) -> Option<&'static str> {
+    for (file, source, out) in examples() {
+        if !prints(rt, alloc, source, out) {
+            return Some(*file);
+        }
+    }
+    None
 }
 
 #[test]
-fn examples_print_what_they_should(rt: HostRuntime) -> Result<(), Fail> {
-    let request = command(rt.alloc(), ["txc", "run", "a.c"].as_slice())?;
-    for (source, out) in examples() {
-        let right = prints(&rt, rt.alloc(), &request, source.as_bytes(), out.as_bytes());
-        assert!(rt; right, "{source}");
-    }
-    Ok(())
+fn examples_print_what_they_should(rt: HostRuntime) {
+    assert_eq!(rt; wrong_example(&rt, rt.alloc()), None);
 }
 
-/// The words, the source, the schedule, and what a terminal shows.
-type Transcript = (&'static str, &'static str, &'static str, &'static str);
+/// The command line, the source, the schedule, and what a terminal shows.
+type Transcript = (&'static str, &'static [u8], &'static [u8], &'static [u8]);
 
 fn transcripts() -> &'static [Transcript] {
     static ROWS: [Transcript; 25] = [
         (
             "txc check examples/queue.c",
-            "// A bounded queue: one transaction puts or takes, and a cancel undoes what does not fit.\nint slots[4], head, count, refused;\n\nint put(int value) {\n    int done = 0;\n    __transaction_atomic {\n        slots[(head + count) % 4] = value;\n        count++;\n        if (count > 4) __transaction_cancel;\n        done = 1;\n    }\n    return done;\n}\n\nvoid worker(int self) {\n    int i;\n    for (i = 1; i <= 6; i++) {\n        if (!put(i * i)) {\n            __transaction_atomic { refused++; }\n        }\n    }\n    __transaction_relaxed {\n        printf(\"%d waiting, %d refused\\n\", count, refused);\n        while (count > 0) {\n            printf(\"%d \", slots[head]);\n            head = (head + 1) % 4;\n            count--;\n        }\n    }\n    printf(\"\\n\");\n}\n",
-            "",
-            "accepted\n",
+            b"// A bounded queue: one transaction puts or takes, and a cancel undoes what does not fit.\nint slots[4], head, count, refused;\n\nint put(int value) {\n    int done = 0;\n    __transaction_atomic {\n        slots[(head + count) % 4] = value;\n        count++;\n        if (count > 4) __transaction_cancel;\n        done = 1;\n    }\n    return done;\n}\n\nvoid worker(int self) {\n    int i;\n    for (i = 1; i <= 6; i++) {\n        if (!put(i * i)) {\n            __transaction_atomic { refused++; }\n        }\n    }\n    __transaction_relaxed {\n        printf(\"%d waiting, %d refused\\n\", count, refused);\n        while (count > 0) {\n            printf(\"%d \", slots[head]);\n            head = (head + 1) % 4;\n            count--;\n        }\n    }\n    printf(\"\\n\");\n}\n",
+            b"",
+            b"accepted\n",
         ),
         (
             "txc check examples/refused/bare.c",
-            "int x;\nvoid worker(int self) { x = 1; }\n",
-            "",
-            "txc: fault 50 at 2:25: shared access outside a transaction\nvoid worker(int self) { x = 1; }\n                        ^\n",
+            b"int x;\nvoid worker(int self) { x = 1; }\n",
+            b"",
+            b"txc: fault 50 at 2:25: shared access outside a transaction\nvoid worker(int self) { x = 1; }\n                        ^\n",
         ),
         (
             "txc check examples/refused/receipt.c",
-            "// The receipt again, in an atomic transaction: a print can not be undone, so this is refused.\nint sold, left = 10;\n\nvoid worker(int self) {\n    __transaction_atomic {\n        sold = sold + 1;\n        left = left - 1;\n        printf(\"ticket %d, %d left\\n\", sold, left);\n    }\n}\n",
-            "",
-            "txc: fault 40 at 8:9: unsafe in atomic\n        printf(\"ticket %d, %d left\\n\", sold, left);\n        ^^^^^^\n",
+            b"// The receipt again, in an atomic transaction: a print can not be undone, so this is refused.\nint sold, left = 10;\n\nvoid worker(int self) {\n    __transaction_atomic {\n        sold = sold + 1;\n        left = left - 1;\n        printf(\"ticket %d, %d left\\n\", sold, left);\n    }\n}\n",
+            b"",
+            b"txc: fault 40 at 8:9: unsafe in atomic\n        printf(\"ticket %d, %d left\\n\", sold, left);\n        ^^^^^^\n",
         ),
         (
             "txc explain 20",
-            "",
-            "",
-            "fault 20: unknown name\nWhen: a name that is not known where it stands\nPlace: the name\nExample: void worker(int self) { __transaction_atomic { z = 1; } }\nIt is told at: 1:48\n",
+            b"",
+            b"",
+            b"fault 20: unknown name\nWhen: a name that is not known where it stands\nPlace: the name\nExample: void worker(int self) { __transaction_atomic { z = 1; } }\nIt is told at: 1:48\n",
         ),
         (
             "txc listing examples/first.c",
-            "int x = 40, y; void worker(int self) { __transaction_atomic { x = x + 2; y = x - 1; } }\n",
-            "",
-            "function worker registers 3\n0 begin >10\n1 rd r1 @0\n2 const r2 #2\n3 add.s r1 r1 r2\n4 wr @0 r1\n5 rd r1 @0\n6 const r2 #1\n7 sub.s r1 r1 r2\n8 wr @1 r1\n9 commit\n10 ret\n",
+            b"int x = 40, y; void worker(int self) { __transaction_atomic { x = x + 2; y = x - 1; } }\n",
+            b"",
+            b"function worker registers 3\n0 begin >10\n1 rd r1 @0\n2 const r2 #2\n3 add.s r1 r1 r2\n4 wr @0 r1\n5 rd r1 @0\n6 const r2 #1\n7 sub.s r1 r1 r2\n8 wr @1 r1\n9 commit\n10 ret\n",
         ),
         (
             "txc replay examples/booking.c --schedule examples/schedules/booking.txt",
-            "// A cancel of an inner transaction undoes the inner one alone: who finds no seat in the train takes one in the bus, and what the\n// outer transaction wrote before stays. Each thread books twice.\nint train = 1, bus = 9, asked, by_train, by_bus;\n\nvoid worker(int self) {\n    int i;\n    for (i = 0; i < 2; i++) {\n        __transaction_atomic {\n            int seated = 0;\n            asked = asked + 1;\n            __transaction_atomic {\n                train = train - 1;\n                by_train = by_train + 1;\n                if (train < 0) __transaction_cancel;\n                seated = 1;\n            }\n            if (!seated) {\n                bus = bus - 1;\n                by_bus = by_bus + 1;\n            }\n        }\n    }\n}\n",
-            "0 a100\n",
-            "== events\n12 0 commit\n19 0 cancel\n28 0 commit\n== thread 0: ended\n== memory\ntrain = 0\nbus = 8\nasked = 2\nby_train = 1\nby_bus = 1\n",
+            b"// A cancel of an inner transaction undoes the inner one alone: who finds no seat in the train takes one in the bus, and what the\n// outer transaction wrote before stays. Each thread books twice.\nint train = 1, bus = 9, asked, by_train, by_bus;\n\nvoid worker(int self) {\n    int i;\n    for (i = 0; i < 2; i++) {\n        __transaction_atomic {\n            int seated = 0;\n            asked = asked + 1;\n            __transaction_atomic {\n                train = train - 1;\n                by_train = by_train + 1;\n                if (train < 0) __transaction_cancel;\n                seated = 1;\n            }\n            if (!seated) {\n                bus = bus - 1;\n                by_bus = by_bus + 1;\n            }\n        }\n    }\n}\n",
+            b"0 a100\n",
+            b"== events\n12 0 commit\n19 0 cancel\n28 0 commit\n== thread 0: ended\n== memory\ntrain = 0\nbus = 8\nasked = 2\nby_train = 1\nby_bus = 1\n",
         ),
         (
             "txc replay examples/counter.c --threads 2 --schedule examples/schedules/counter.txt",
-            "// Each thread adds one, three times. No addition is lost, whatever the threads do.\nint x;\n\nvoid worker(int self) {\n    int i;\n    for (i = 0; i < 3; i++) {\n        __transaction_atomic { x = x + 1; }\n    }\n}\n",
-            "0 a3\n1 a3\n0 a3\n1 a100\n0 a100\n",
-            "== events\n9 0 commit\n12 1 abort\n18 1 commit\n24 1 commit\n30 1 commit\n36 0 commit\n42 0 commit\n== thread 0: ended\n== thread 1: ended\n== memory\nx = 6\n",
+            b"// Each thread adds one, three times. No addition is lost, whatever the threads do.\nint x;\n\nvoid worker(int self) {\n    int i;\n    for (i = 0; i < 3; i++) {\n        __transaction_atomic { x = x + 1; }\n    }\n}\n",
+            b"0 a3\n1 a3\n0 a3\n1 a100\n0 a100\n",
+            b"== events\n9 0 commit\n12 1 abort\n18 1 commit\n24 1 commit\n30 1 commit\n36 0 commit\n42 0 commit\n== thread 0: ended\n== thread 1: ended\n== memory\nx = 6\n",
         ),
         (
             "txc replay examples/counter.c --threads 2 --schedule examples/schedules/abort.txt --timeline",
-            "// Each thread adds one, three times. No addition is lost, whatever the threads do.\nint x;\n\nvoid worker(int self) {\n    int i;\n    for (i = 0; i < 3; i++) {\n        __transaction_atomic { x = x + 1; }\n    }\n}\n",
-            "1 a3\n0 a6\n1 a3\n",
-            "== timeline\n0 1 0 const r1 #0\n0 1 1 const r1 #0\n0 1 2 jump >13\n0 1 13 const r2 #3\n0 1 14 lt.s r2 r1 r2\n0 1 15 jnz r2 >5\n1 1 5 begin >11; load lock = 0\n2 1 6 rd r2 @0; load @0 = 0\n3 1 6 rd r2 @0; load lock = 0\n3 0 0 const r1 #0\n3 0 1 const r1 #0\n3 0 2 jump >13\n3 0 13 const r2 #3\n3 0 14 lt.s r2 r1 r2\n3 0 15 jnz r2 >5\n4 0 5 begin >11; load lock = 0\n5 0 6 rd r2 @0; load @0 = 0\n6 0 6 rd r2 @0; load lock = 0\n6 0 7 const r3 #1\n6 0 8 add.s r2 r2 r3\n6 0 9 wr @0 r2\n7 0 10 commit; swap lock 0: won\n8 0 10 commit; store @0 = 1\n9 0 10 commit; store lock = 2; commit\n9 1 7 const r3 #1\n9 1 8 add.s r2 r2 r3\n9 1 9 wr @0 r2\n10 1 10 commit; swap lock 0: lost, 2\n11 1 10 commit; load lock = 2\n12 1 10 commit; load @0 = 1; abort\n== events\n9 0 commit\n12 1 abort\n== thread 0: running\n== thread 1: running\n== memory\nx = 1\n",
+            b"// Each thread adds one, three times. No addition is lost, whatever the threads do.\nint x;\n\nvoid worker(int self) {\n    int i;\n    for (i = 0; i < 3; i++) {\n        __transaction_atomic { x = x + 1; }\n    }\n}\n",
+            b"1 a3\n0 a6\n1 a3\n",
+            b"== timeline\n0 1 0 const r1 #0\n0 1 1 const r1 #0\n0 1 2 jump >13\n0 1 13 const r2 #3\n0 1 14 lt.s r2 r1 r2\n0 1 15 jnz r2 >5\n1 1 5 begin >11; load lock = 0\n2 1 6 rd r2 @0; load @0 = 0\n3 1 6 rd r2 @0; load lock = 0\n3 0 0 const r1 #0\n3 0 1 const r1 #0\n3 0 2 jump >13\n3 0 13 const r2 #3\n3 0 14 lt.s r2 r1 r2\n3 0 15 jnz r2 >5\n4 0 5 begin >11; load lock = 0\n5 0 6 rd r2 @0; load @0 = 0\n6 0 6 rd r2 @0; load lock = 0\n6 0 7 const r3 #1\n6 0 8 add.s r2 r2 r3\n6 0 9 wr @0 r2\n7 0 10 commit; swap lock 0: won\n8 0 10 commit; store @0 = 1\n9 0 10 commit; store lock = 2; commit\n9 1 7 const r3 #1\n9 1 8 add.s r2 r2 r3\n9 1 9 wr @0 r2\n10 1 10 commit; swap lock 0: lost, 2\n11 1 10 commit; load lock = 2\n12 1 10 commit; load @0 = 1; abort\n== events\n9 0 commit\n12 1 abort\n== thread 0: running\n== thread 1: running\n== memory\nx = 1\n",
         ),
         (
             "txc replay examples/counter.c --threads 2 --seed 10 --steps 30",
-            "// Each thread adds one, three times. No addition is lost, whatever the threads do.\nint x;\n\nvoid worker(int self) {\n    int i;\n    for (i = 0; i < 3; i++) {\n        __transaction_atomic { x = x + 1; }\n    }\n}\n",
-            "",
-            "== events\n9 1 commit\n12 0 abort\n== thread 0: running\n== thread 1: running\n== memory\nx = 1\n",
+            b"// Each thread adds one, three times. No addition is lost, whatever the threads do.\nint x;\n\nvoid worker(int self) {\n    int i;\n    for (i = 0; i < 3; i++) {\n        __transaction_atomic { x = x + 1; }\n    }\n}\n",
+            b"",
+            b"== events\n9 1 commit\n12 0 abort\n== thread 0: running\n== thread 1: running\n== memory\nx = 1\n",
         ),
         (
             "txc replay examples/counter.c --threads 2 --seed 10 --steps 6 --print-schedule",
-            "// Each thread adds one, three times. No addition is lost, whatever the threads do.\nint x;\n\nvoid worker(int self) {\n    int i;\n    for (i = 0; i < 3; i++) {\n        __transaction_atomic { x = x + 1; }\n    }\n}\n",
-            "",
-            "1 1\n1 1\n1 1\n1 1\n0 1\n0 1\n",
+            b"// Each thread adds one, three times. No addition is lost, whatever the threads do.\nint x;\n\nvoid worker(int self) {\n    int i;\n    for (i = 0; i < 3; i++) {\n        __transaction_atomic { x = x + 1; }\n    }\n}\n",
+            b"",
+            b"1 1\n1 1\n1 1\n1 1\n0 1\n0 1\n",
         ),
         (
             "txc replay examples/first.c --seed 1 --steps 17 --timeline",
-            "int x = 40, y; void worker(int self) { __transaction_atomic { x = x + 2; y = x - 1; } }\n",
-            "",
-            "== timeline\n1 0 0 begin >10; load lock = 0\n2 0 1 rd r1 @0; load @0 = 40\n3 0 1 rd r1 @0; load lock = 0\n3 0 2 const r2 #2\n3 0 3 add.s r1 r1 r2\n3 0 4 wr @0 r1\n3 0 5 rd r1 @0\n3 0 6 const r2 #1\n3 0 7 sub.s r1 r1 r2\n3 0 8 wr @1 r1\n4 0 9 commit; swap lock 0: won\n5 0 9 commit; store @0 = 42\n6 0 9 commit; store @1 = 41\n7 0 9 commit; store lock = 2; commit\n7 0 10 ret\n7 0 ended\n7 0 ended\n== events\n7 0 commit\n== thread 0: ended\n== memory\nx = 42\ny = 41\n",
+            b"int x = 40, y; void worker(int self) { __transaction_atomic { x = x + 2; y = x - 1; } }\n",
+            b"",
+            b"== timeline\n1 0 0 begin >10; load lock = 0\n2 0 1 rd r1 @0; load @0 = 40\n3 0 1 rd r1 @0; load lock = 0\n3 0 2 const r2 #2\n3 0 3 add.s r1 r1 r2\n3 0 4 wr @0 r1\n3 0 5 rd r1 @0\n3 0 6 const r2 #1\n3 0 7 sub.s r1 r1 r2\n3 0 8 wr @1 r1\n4 0 9 commit; swap lock 0: won\n5 0 9 commit; store @0 = 42\n6 0 9 commit; store @1 = 41\n7 0 9 commit; store lock = 2; commit\n7 0 10 ret\n7 0 ended\n7 0 ended\n== events\n7 0 commit\n== thread 0: ended\n== memory\nx = 42\ny = 41\n",
         ),
         (
             "txc replay examples/overflow.c --seed 1 --steps 12 --timeline",
-            "// A sum that leaves the range of `int` is trap 1: the thread ends, and nothing of the transaction is left.\nint total = 2147483647, entries = 5;\n\nvoid worker(int self) {\n    __transaction_atomic {\n        entries = entries + 1;\n        total = total + 1;\n    }\n}\n",
-            "",
-            "== timeline\n1 0 0 begin >10; load lock = 0\n2 0 1 rd r1 @1; load @1 = 5\n3 0 1 rd r1 @1; load lock = 0\n3 0 2 const r2 #1\n3 0 3 add.s r1 r1 r2\n3 0 4 wr @1 r1\n4 0 5 rd r1 @0; load @0 = 2147483647\n5 0 5 rd r1 @0; load lock = 0\n5 0 6 const r2 #1\n5 0 7 add.s r1 r1 r2; trap 1\n5 0 trap 1\n5 0 trap 1\n== events\n5 0 trap 1\n== thread 0: trap 1\n== memory\ntotal = 2147483647\nentries = 5\n",
+            b"// A sum that leaves the range of `int` is trap 1: the thread ends, and nothing of the transaction is left.\nint total = 2147483647, entries = 5;\n\nvoid worker(int self) {\n    __transaction_atomic {\n        entries = entries + 1;\n        total = total + 1;\n    }\n}\n",
+            b"",
+            b"== timeline\n1 0 0 begin >10; load lock = 0\n2 0 1 rd r1 @1; load @1 = 5\n3 0 1 rd r1 @1; load lock = 0\n3 0 2 const r2 #1\n3 0 3 add.s r1 r1 r2\n3 0 4 wr @1 r1\n4 0 5 rd r1 @0; load @0 = 2147483647\n5 0 5 rd r1 @0; load lock = 0\n5 0 6 const r2 #1\n5 0 7 add.s r1 r1 r2; trap 1\n5 0 trap 1\n5 0 trap 1\n== events\n5 0 trap 1\n== thread 0: trap 1\n== memory\ntotal = 2147483647\nentries = 5\n",
         ),
         (
             "txc replay examples/receipt.c --threads 2 --schedule examples/schedules/receipt.txt",
-            "// Printing can't be undone, so it stands in a relaxed transaction: from its first piece on no other thread can change what is\n// shared, and the numbers on the receipt are those of one moment.\nint sold, left = 10;\n\nvoid worker(int self) {\n    __transaction_relaxed {\n        sold = sold + 1;\n        left = left - 1;\n        printf(\"ticket %d, %d left\\n\", sold, left);\n    }\n}\n",
-            "1 a5\n0 a100\n1 a100\n",
-            "== events\n14 0 commit\n17 1 abort\n26 1 commit\n== thread 0: ended\nticket 1, 9 left\n== thread 1: ended\nticket 2, 8 left\n== memory\nsold = 2\nleft = 8\n",
+            b"// Printing can't be undone, so it stands in a relaxed transaction: from its first piece on no other thread can change what is\n// shared, and the numbers on the receipt are those of one moment.\nint sold, left = 10;\n\nvoid worker(int self) {\n    __transaction_relaxed {\n        sold = sold + 1;\n        left = left - 1;\n        printf(\"ticket %d, %d left\\n\", sold, left);\n    }\n}\n",
+            b"1 a5\n0 a100\n1 a100\n",
+            b"== events\n14 0 commit\n17 1 abort\n26 1 commit\n== thread 0: ended\nticket 1, 9 left\n== thread 1: ended\nticket 2, 8 left\n== memory\nsold = 2\nleft = 8\n",
         ),
         (
             "txc replay examples/receipt.c --seed 3 --steps 23 --timeline",
-            "// Printing can't be undone, so it stands in a relaxed transaction: from its first piece on no other thread can change what is\n// shared, and the numbers on the receipt are those of one moment.\nint sold, left = 10;\n\nvoid worker(int self) {\n    __transaction_relaxed {\n        sold = sold + 1;\n        left = left - 1;\n        printf(\"ticket %d, %d left\\n\", sold, left);\n    }\n}\n",
-            "",
-            "== timeline\n1 0 0 begin >18; load lock = 0\n2 0 1 rd r1 @0; load @0 = 0\n3 0 1 rd r1 @0; load lock = 0\n3 0 2 const r2 #1\n3 0 3 add.s r1 r1 r2\n3 0 4 wr @0 r1\n4 0 5 rd r1 @1; load @1 = 10\n5 0 5 rd r1 @1; load lock = 0\n5 0 6 const r2 #1\n5 0 7 sub.s r1 r1 r2\n5 0 8 wr @1 r1\n6 0 9 irrevocable; swap lock 0: won\n6 0 10 rd r1 @0\n6 0 11 rd r2 @1\n6 0 12 print.t #0\n6 0 13 print.s r1\n6 0 14 print.t #1\n6 0 15 print.s r2\n6 0 16 print.t #2\n7 0 17 commit; store @0 = 1\n8 0 17 commit; store @1 = 9\n9 0 17 commit; store lock = 2; commit\n9 0 18 ret\n== events\n9 0 commit\n== thread 0: ended\nticket 1, 9 left\n== memory\nsold = 1\nleft = 9\n",
+            b"// Printing can't be undone, so it stands in a relaxed transaction: from its first piece on no other thread can change what is\n// shared, and the numbers on the receipt are those of one moment.\nint sold, left = 10;\n\nvoid worker(int self) {\n    __transaction_relaxed {\n        sold = sold + 1;\n        left = left - 1;\n        printf(\"ticket %d, %d left\\n\", sold, left);\n    }\n}\n",
+            b"",
+            b"== timeline\n1 0 0 begin >18; load lock = 0\n2 0 1 rd r1 @0; load @0 = 0\n3 0 1 rd r1 @0; load lock = 0\n3 0 2 const r2 #1\n3 0 3 add.s r1 r1 r2\n3 0 4 wr @0 r1\n4 0 5 rd r1 @1; load @1 = 10\n5 0 5 rd r1 @1; load lock = 0\n5 0 6 const r2 #1\n5 0 7 sub.s r1 r1 r2\n5 0 8 wr @1 r1\n6 0 9 irrevocable; swap lock 0: won\n6 0 10 rd r1 @0\n6 0 11 rd r2 @1\n6 0 12 print.t #0\n6 0 13 print.s r1\n6 0 14 print.t #1\n6 0 15 print.s r2\n6 0 16 print.t #2\n7 0 17 commit; store @0 = 1\n8 0 17 commit; store @1 = 9\n9 0 17 commit; store lock = 2; commit\n9 0 18 ret\n== events\n9 0 commit\n== thread 0: ended\nticket 1, 9 left\n== memory\nsold = 1\nleft = 9\n",
         ),
         (
             "txc replay examples/transfer.c --threads 2 --schedule examples/schedules/transfer.txt",
-            "// Both accounts change in one step, or neither does.\nint checking = 120, savings = 40;\n\nvoid worker(int self) {\n    __transaction_atomic {\n        checking = checking - 50;\n        savings = savings + 50;\n    }\n    __transaction_atomic {\n        savings = savings + 1;\n    }\n}\n",
-            "0 a7\n1 a5\n",
-            "== events\n== thread 0: running\n== thread 1: running\n== memory: lock held by thread 0\n",
+            b"// Both accounts change in one step, or neither does.\nint checking = 120, savings = 40;\n\nvoid worker(int self) {\n    __transaction_atomic {\n        checking = checking - 50;\n        savings = savings + 50;\n    }\n    __transaction_atomic {\n        savings = savings + 1;\n    }\n}\n",
+            b"0 a7\n1 a5\n",
+            b"== events\n== thread 0: running\n== thread 1: running\n== memory: lock held by thread 0\n",
         ),
         (
             "txc replay examples/withdraw.c --threads 2 --schedule examples/schedules/withdraw.txt",
-            "// A cancel undoes all that its transaction wrote: a thread takes 70 from the account, or nothing. It tries twice.\nint balance = 100, refused;\n\nint withdraw(int amount) {\n    int paid = 0;\n    __transaction_atomic {\n        balance = balance - amount;\n        if (balance < 0) __transaction_cancel;\n        paid = 1;\n    }\n    return paid;\n}\n\nvoid worker(int self) {\n    int i;\n    for (i = 0; i < 2; i++) {\n        if (!withdraw(70)) {\n            __transaction_atomic { refused = refused + 1; }\n        }\n    }\n}\n",
-            "0 a3\n1 a3\n0 a100\n1 a100\n",
-            "== events\n9 0 commit\n12 0 cancel\n18 0 commit\n21 1 abort\n24 1 cancel\n30 1 commit\n33 1 cancel\n39 1 commit\n== thread 0: ended\n== thread 1: ended\n== memory\nbalance = 30\nrefused = 3\n",
+            b"// A cancel undoes all that its transaction wrote: a thread takes 70 from the account, or nothing. It tries twice.\nint balance = 100, refused;\n\nint withdraw(int amount) {\n    int paid = 0;\n    __transaction_atomic {\n        balance = balance - amount;\n        if (balance < 0) __transaction_cancel;\n        paid = 1;\n    }\n    return paid;\n}\n\nvoid worker(int self) {\n    int i;\n    for (i = 0; i < 2; i++) {\n        if (!withdraw(70)) {\n            __transaction_atomic { refused = refused + 1; }\n        }\n    }\n}\n",
+            b"0 a3\n1 a3\n0 a100\n1 a100\n",
+            b"== events\n9 0 commit\n12 0 cancel\n18 0 commit\n21 1 abort\n24 1 cancel\n30 1 commit\n33 1 cancel\n39 1 commit\n== thread 0: ended\n== thread 1: ended\n== memory\nbalance = 30\nrefused = 3\n",
         ),
         (
             "txc run examples/counter.c --threads 4",
-            "// Each thread adds one, three times. No addition is lost, whatever the threads do.\nint x;\n\nvoid worker(int self) {\n    int i;\n    for (i = 0; i < 3; i++) {\n        __transaction_atomic { x = x + 1; }\n    }\n}\n",
-            "",
-            "== thread 0: ended\n== thread 1: ended\n== thread 2: ended\n== thread 3: ended\n== memory\nx = 12\n",
+            b"// Each thread adds one, three times. No addition is lost, whatever the threads do.\nint x;\n\nvoid worker(int self) {\n    int i;\n    for (i = 0; i < 3; i++) {\n        __transaction_atomic { x = x + 1; }\n    }\n}\n",
+            b"",
+            b"== thread 0: ended\n== thread 1: ended\n== thread 2: ended\n== thread 3: ended\n== memory\nx = 12\n",
         ),
         (
             "txc source examples/booking.c --threads 2 --order 1,0,0,1",
-            "// A cancel of an inner transaction undoes the inner one alone: who finds no seat in the train takes one in the bus, and what the\n// outer transaction wrote before stays. Each thread books twice.\nint train = 1, bus = 9, asked, by_train, by_bus;\n\nvoid worker(int self) {\n    int i;\n    for (i = 0; i < 2; i++) {\n        __transaction_atomic {\n            int seated = 0;\n            asked = asked + 1;\n            __transaction_atomic {\n                train = train - 1;\n                by_train = by_train + 1;\n                if (train < 0) __transaction_cancel;\n                seated = 1;\n            }\n            if (!seated) {\n                bus = bus - 1;\n                by_bus = by_bus + 1;\n            }\n        }\n    }\n}\n",
-            "",
-            "== thread 0: ended\n== thread 1: ended\n== memory\ntrain = 0\nbus = 6\nasked = 4\nby_train = 1\nby_bus = 3\n",
+            b"// A cancel of an inner transaction undoes the inner one alone: who finds no seat in the train takes one in the bus, and what the\n// outer transaction wrote before stays. Each thread books twice.\nint train = 1, bus = 9, asked, by_train, by_bus;\n\nvoid worker(int self) {\n    int i;\n    for (i = 0; i < 2; i++) {\n        __transaction_atomic {\n            int seated = 0;\n            asked = asked + 1;\n            __transaction_atomic {\n                train = train - 1;\n                by_train = by_train + 1;\n                if (train < 0) __transaction_cancel;\n                seated = 1;\n            }\n            if (!seated) {\n                bus = bus - 1;\n                by_bus = by_bus + 1;\n            }\n        }\n    }\n}\n",
+            b"",
+            b"== thread 0: ended\n== thread 1: ended\n== memory\ntrain = 0\nbus = 6\nasked = 4\nby_train = 1\nby_bus = 3\n",
         ),
         (
             "txc source examples/counter.c --threads 2 --order 0,1,1,0,0,1",
-            "// Each thread adds one, three times. No addition is lost, whatever the threads do.\nint x;\n\nvoid worker(int self) {\n    int i;\n    for (i = 0; i < 3; i++) {\n        __transaction_atomic { x = x + 1; }\n    }\n}\n",
-            "",
-            "== thread 0: ended\n== thread 1: ended\n== memory\nx = 6\n",
+            b"// Each thread adds one, three times. No addition is lost, whatever the threads do.\nint x;\n\nvoid worker(int self) {\n    int i;\n    for (i = 0; i < 3; i++) {\n        __transaction_atomic { x = x + 1; }\n    }\n}\n",
+            b"",
+            b"== thread 0: ended\n== thread 1: ended\n== memory\nx = 6\n",
         ),
         (
             "txc source examples/counter.c --threads 2 --order 0,1,1",
-            "// Each thread adds one, three times. No addition is lost, whatever the threads do.\nint x;\n\nvoid worker(int self) {\n    int i;\n    for (i = 0; i < 3; i++) {\n        __transaction_atomic { x = x + 1; }\n    }\n}\n",
-            "",
-            "== thread 0: waits\n== thread 1: waits\n== memory\nx = 3\n",
+            b"// Each thread adds one, three times. No addition is lost, whatever the threads do.\nint x;\n\nvoid worker(int self) {\n    int i;\n    for (i = 0; i < 3; i++) {\n        __transaction_atomic { x = x + 1; }\n    }\n}\n",
+            b"",
+            b"== thread 0: waits\n== thread 1: waits\n== memory\nx = 3\n",
         ),
         (
             "txc source examples/hashset.c --threads 2 --order 0,1,0,1,0,1,0,1",
-            "// A set of numbers in a table of 16 places, without a lock of its own: each insertion is one step.\nint place[16], count;\n\nint insert(int key) {\n    int at = key * 7 & 15, added = 0;\n    __transaction_atomic {\n        while (place[at] != 0 && place[at] != key) at = at + 1 & 15;\n        if (place[at] == 0) {\n            place[at] = key;\n            count = count + 1;\n            added = 1;\n        }\n    }\n    return added;\n}\n\nvoid worker(int self) {\n    int i, added = 0;\n    for (i = 1; i <= 4; i++) added = added + insert(i * (self + 1));\n    printf(\"%d added\\n\", added);\n}\n",
-            "",
-            "== thread 0: ended\n2 added\n== thread 1: ended\n4 added\n== memory\nplace = 0 0 0 0 0 3 0 1 8 0 6 0 4 0 2 0\ncount = 6\n",
+            b"// A set of numbers in a table of 16 places, without a lock of its own: each insertion is one step.\nint place[16], count;\n\nint insert(int key) {\n    int at = key * 7 & 15, added = 0;\n    __transaction_atomic {\n        while (place[at] != 0 && place[at] != key) at = at + 1 & 15;\n        if (place[at] == 0) {\n            place[at] = key;\n            count = count + 1;\n            added = 1;\n        }\n    }\n    return added;\n}\n\nvoid worker(int self) {\n    int i, added = 0;\n    for (i = 1; i <= 4; i++) added = added + insert(i * (self + 1));\n    printf(\"%d added\\n\", added);\n}\n",
+            b"",
+            b"== thread 0: ended\n2 added\n== thread 1: ended\n4 added\n== memory\nplace = 0 0 0 0 0 3 0 1 8 0 6 0 4 0 2 0\ncount = 6\n",
         ),
         (
             "txc source examples/queue.c --threads 2 --order 0,0,1,1,1,1,1,1,1,1,1,1,1,0,0,0,0,0",
-            "// A bounded queue: one transaction puts or takes, and a cancel undoes what does not fit.\nint slots[4], head, count, refused;\n\nint put(int value) {\n    int done = 0;\n    __transaction_atomic {\n        slots[(head + count) % 4] = value;\n        count++;\n        if (count > 4) __transaction_cancel;\n        done = 1;\n    }\n    return done;\n}\n\nvoid worker(int self) {\n    int i;\n    for (i = 1; i <= 6; i++) {\n        if (!put(i * i)) {\n            __transaction_atomic { refused++; }\n        }\n    }\n    __transaction_relaxed {\n        printf(\"%d waiting, %d refused\\n\", count, refused);\n        while (count > 0) {\n            printf(\"%d \", slots[head]);\n            head = (head + 1) % 4;\n            count--;\n        }\n    }\n    printf(\"\\n\");\n}\n",
-            "",
-            "== thread 0: ended\n4 waiting, 4 refused\n9 16 25 36 \n== thread 1: ended\n4 waiting, 4 refused\n1 4 1 4 \n== memory\nslots = 9 16 25 36\nhead = 0\ncount = 0\nrefused = 4\n",
+            b"// A bounded queue: one transaction puts or takes, and a cancel undoes what does not fit.\nint slots[4], head, count, refused;\n\nint put(int value) {\n    int done = 0;\n    __transaction_atomic {\n        slots[(head + count) % 4] = value;\n        count++;\n        if (count > 4) __transaction_cancel;\n        done = 1;\n    }\n    return done;\n}\n\nvoid worker(int self) {\n    int i;\n    for (i = 1; i <= 6; i++) {\n        if (!put(i * i)) {\n            __transaction_atomic { refused++; }\n        }\n    }\n    __transaction_relaxed {\n        printf(\"%d waiting, %d refused\\n\", count, refused);\n        while (count > 0) {\n            printf(\"%d \", slots[head]);\n            head = (head + 1) % 4;\n            count--;\n        }\n    }\n    printf(\"\\n\");\n}\n",
+            b"",
+            b"== thread 0: ended\n4 waiting, 4 refused\n9 16 25 36 \n== thread 1: ended\n4 waiting, 4 refused\n1 4 1 4 \n== memory\nslots = 9 16 25 36\nhead = 0\ncount = 0\nrefused = 4\n",
         ),
         (
             "txc source examples/receipt.c --threads 3 --order 2,0,1",
-            "// Printing can't be undone, so it stands in a relaxed transaction: from its first piece on no other thread can change what is\n// shared, and the numbers on the receipt are those of one moment.\nint sold, left = 10;\n\nvoid worker(int self) {\n    __transaction_relaxed {\n        sold = sold + 1;\n        left = left - 1;\n        printf(\"ticket %d, %d left\\n\", sold, left);\n    }\n}\n",
-            "",
-            "== thread 0: ended\nticket 2, 8 left\n== thread 1: ended\nticket 3, 7 left\n== thread 2: ended\nticket 1, 9 left\n== memory\nsold = 3\nleft = 7\n",
+            b"// Printing can't be undone, so it stands in a relaxed transaction: from its first piece on no other thread can change what is\n// shared, and the numbers on the receipt are those of one moment.\nint sold, left = 10;\n\nvoid worker(int self) {\n    __transaction_relaxed {\n        sold = sold + 1;\n        left = left - 1;\n        printf(\"ticket %d, %d left\\n\", sold, left);\n    }\n}\n",
+            b"",
+            b"== thread 0: ended\nticket 2, 8 left\n== thread 1: ended\nticket 3, 7 left\n== thread 2: ended\nticket 1, 9 left\n== memory\nsold = 3\nleft = 7\n",
         ),
         (
             "txc source examples/transfer.c --threads 2 --order 0,1,1,0",
-            "// Both accounts change in one step, or neither does.\nint checking = 120, savings = 40;\n\nvoid worker(int self) {\n    __transaction_atomic {\n        checking = checking - 50;\n        savings = savings + 50;\n    }\n    __transaction_atomic {\n        savings = savings + 1;\n    }\n}\n",
-            "",
-            "== thread 0: ended\n== thread 1: ended\n== memory\nchecking = 20\nsavings = 142\n",
+            b"// Both accounts change in one step, or neither does.\nint checking = 120, savings = 40;\n\nvoid worker(int self) {\n    __transaction_atomic {\n        checking = checking - 50;\n        savings = savings + 50;\n    }\n    __transaction_atomic {\n        savings = savings + 1;\n    }\n}\n",
+            b"",
+            b"== thread 0: ended\n== thread 1: ended\n== memory\nchecking = 20\nsavings = 142\n",
         ),
         (
             "txc source examples/withdraw.c --threads 2 --order 0,1,1,1,1,0,0",
-            "// A cancel undoes all that its transaction wrote: a thread takes 70 from the account, or nothing. It tries twice.\nint balance = 100, refused;\n\nint withdraw(int amount) {\n    int paid = 0;\n    __transaction_atomic {\n        balance = balance - amount;\n        if (balance < 0) __transaction_cancel;\n        paid = 1;\n    }\n    return paid;\n}\n\nvoid worker(int self) {\n    int i;\n    for (i = 0; i < 2; i++) {\n        if (!withdraw(70)) {\n            __transaction_atomic { refused = refused + 1; }\n        }\n    }\n}\n",
-            "",
-            "== thread 0: ended\n== thread 1: ended\n== memory\nbalance = 30\nrefused = 3\n",
+            b"// A cancel undoes all that its transaction wrote: a thread takes 70 from the account, or nothing. It tries twice.\nint balance = 100, refused;\n\nint withdraw(int amount) {\n    int paid = 0;\n    __transaction_atomic {\n        balance = balance - amount;\n        if (balance < 0) __transaction_cancel;\n        paid = 1;\n    }\n    return paid;\n}\n\nvoid worker(int self) {\n    int i;\n    for (i = 0; i < 2; i++) {\n        if (!withdraw(70)) {\n            __transaction_atomic { refused = refused + 1; }\n        }\n    }\n}\n",
+            b"",
+            b"== thread 0: ended\n== thread 1: ended\n== memory\nbalance = 30\nrefused = 3\n",
         ),
     ];
     &ROWS
-}
-
-// The words of a line.
-fn words_of<'a>(alloc: Global, line: &'a str) -> Result<Vec<&'a str>, AllocError> {
-    let mut words = Vec::new(alloc);
-    for word in line.split(' ') {
-        words.push(word)?;
-    }
-    Ok(words)
 }
 
 // Whether this is what was served: the output, and behind it the standard error.
@@ -281,37 +288,32 @@ fn shows(served: &Served, shown: &[u8]) -> bool {
     shown.starts_with(out) && shown.get(out.len()..) == Some(served.err.as_slice())
 }
 
-// Whether a terminal shows this of words.
+// Whether a terminal shows this of a command line.
 fn is_shown<H: Threads + Wait + Sync>(
     rt: &H,
     alloc: Global,
-    words: &[&str],
+    line: &str,
     source: &[u8],
     schedule: &[u8],
     shown: &[u8],
 ) -> bool {
-    match command(alloc, words) {
-        Ok(request) => {
-            let served = serve_told(rt, alloc, &request, source, schedule, true);
-            shows(&served, shown)
-        }
-        Err(_) => false,
+    match serve_line(rt, alloc, line, source, schedule, true) {
+        Some(served) => shows(&served, shown),
+        None => false,
     }
 }
 
-#[test]
-fn transcripts_show_what_they_should(rt: HostRuntime) -> Result<(), Fail> {
+// The first command line of which a terminal shows something else.
+fn wrong_transcript<H: Threads + Wait + Sync>(rt: &H, alloc: Global) -> Option<&'static str> {
     for (line, source, schedule, shown) in transcripts() {
-        let words = words_of(rt.alloc(), line)?;
-        let right = is_shown(
-            &rt,
-            rt.alloc(),
-            words.as_slice(),
-            source.as_bytes(),
-            schedule.as_bytes(),
-            shown.as_bytes(),
-        );
-        assert!(rt; right, "{line}");
+        if !is_shown(rt, alloc, line, source, schedule, shown) {
+            return Some(*line);
+        }
     }
-    Ok(())
+    None
+}
+
+#[test]
+fn transcripts_show_what_they_should(rt: HostRuntime) {
+    assert_eq!(rt; wrong_transcript(&rt, rt.alloc()), None);
 }

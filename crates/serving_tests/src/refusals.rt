@@ -1,12 +1,10 @@
 //! The examples of docs/FAULTS.md: each is a source, its fault's number, and what standard error says behind the number.
 //! `scripts/faults.py` compares these tables with the document's.
 
-use crate::served::{Answer, answers, serve_bytes, tells};
-use command::{Request, command};
+use crate::answers::{Answer, answers, serve_line};
 use serving::refuse_run;
-use std::alloc::{AllocError, Allocator, Global};
+use std::alloc::{AllocError, Global};
 use std::sync::Wait;
-use std::test::Fail;
 use std::thread::Threads;
 use workers::RunFault;
 
@@ -147,16 +145,11 @@ fn told_of_long() -> &'static [ToldOfLong] {
     &LONG
 }
 
-/// The text that pieces make.
-fn joined<A: Allocator + Copy>(
-    alloc: A,
-    pieces: &[(&str, usize)],
-) -> Result<String<A>, AllocError> {
+// The text that pieces make.
+fn joined(alloc: Global, pieces: &[(&str, usize)]) -> Result<String, AllocError> {
     let mut text = String::new(alloc);
     for (piece, times) in pieces {
-        for _ in 0..*times {
-            text.push_str(piece)?;
-        }
+        text.push_str(piece.repeat(alloc, *times)?.as_str())?;
     }
     Ok(text)
 }
@@ -166,7 +159,12 @@ fn line(alloc: Global, number: u32, told: &str) -> Result<String, AllocError> {
     format!(in alloc; "txc: fault {number:02} at {told}\n")
 }
 
-// Whether `txc run` answers a source by a fault with this number, and these words behind it.
+// Whether `txc run` answers a source so.
+fn runs_to<H: Threads + Wait + Sync>(rt: &H, alloc: Global, source: &[u8], wanted: Answer) -> bool {
+    answers(rt, alloc, "txc run a.c", source, b"", false, wanted)
+}
+
+// Whether it answers a source by a fault with this number, and these words behind it.
 fn is_told<H: Threads + Wait + Sync>(
     rt: &H,
     alloc: Global,
@@ -175,21 +173,24 @@ fn is_told<H: Threads + Wait + Sync>(
     told: &str,
 ) -> bool {
     match line(alloc, number, told) {
-        Ok(line) => {
-            let wanted = (1, b"".as_slice(), line.as_str().as_bytes());
-            tells(rt, alloc, &["txc", "run", "a.c"], source, wanted)
-        }
+        Ok(line) => runs_to(rt, alloc, source, (1, b"", line.as_str().as_bytes())),
         Err(_) => false,
     }
 }
 
-#[test]
-fn faults_are_told_with_place_and_words(rt: HostRuntime) -> Result<(), Fail> {
+// The first source of the table that is answered otherwise.
+fn not_told<H: Threads + Wait + Sync>(rt: &H, alloc: Global) -> Option<&'static str> {
     for (source, number, words) in told() {
-        let right = is_told(&rt, rt.alloc(), source.as_bytes(), *number, words);
-        assert!(rt; right, "{source}");
+        if !is_told(rt, alloc, source.as_bytes(), *number, words) {
+            return Some(*source);
+        }
     }
-    Ok(())
+    None
+}
+
+#[test]
+fn faults_are_told_with_place_and_words(rt: HostRuntime) {
+    assert_eq!(rt; not_told(&rt, rt.alloc()), None);
 }
 
 // The same of a source in pieces.
@@ -206,15 +207,19 @@ fn is_told_of<H: Threads + Wait + Sync>(
     }
 }
 
-#[test]
-fn faults_of_long_sources_are_told(rt: HostRuntime) -> Result<(), Fail> {
+// The first fault of a long source that is answered otherwise.
+fn not_told_of_long<H: Threads + Wait + Sync>(rt: &H, alloc: Global) -> Option<u32> {
     for (pieces, number, words) in told_of_long() {
-        assert!(rt;
-            is_told_of(&rt, rt.alloc(), pieces, *number, words),
-            "{number}"
-        );
+        if !is_told_of(rt, alloc, pieces, *number, words) {
+            return Some(*number);
+        }
     }
-    Ok(())
+    None
+}
+
+#[test]
+fn faults_of_long_sources_are_told(rt: HostRuntime) {
+    assert_eq!(rt; not_told_of_long(&rt, rt.alloc()), None);
 }
 
 // A worker with so many locals.
@@ -260,76 +265,41 @@ const UNDERLINED: (&str, &str) = (
 );
 
 #[test]
-fn the_line_follows_on_a_terminal(rt: HostRuntime) -> Result<(), Fail> {
+fn the_line_follows_on_a_terminal(rt: HostRuntime) {
     let (source, told) = UNDERLINED;
     let wanted = (1, b"".as_slice(), told.as_bytes());
-    let check = ["txc", "check", "a.c"];
-    assert!(rt;
-        answers(
-            &rt,
-            rt.alloc(),
-            &check,
-            source.as_bytes(),
-            b"",
-            true,
-            wanted
-        )
-    );
-    let verbose = ["txc", "run", "--verbose", "a.c"];
-    assert!(rt;
-        answers(
-            &rt,
-            rt.alloc(),
-            &verbose,
-            source.as_bytes(),
-            b"",
-            false,
-            wanted
-        )
-    );
-    Ok(())
+    let source = source.as_bytes();
+    assert!(rt; answers(&rt, rt.alloc(), "txc check a.c", source, b"", true, wanted));
+    let verbose = "txc run --verbose a.c";
+    assert!(rt; answers(&rt, rt.alloc(), verbose, source, b"", false, wanted));
 }
 
-// Whether what is explained begins so.
-fn explains<H: Threads + Wait + Sync>(
-    rt: &H,
-    alloc: Global,
-    request: &Request,
-    begins: &[u8],
-) -> bool {
-    let served = serve_bytes(rt, alloc, request, b"");
-    served.status == 0 && served.out.starts_with(begins)
+// Whether what a command line is answered begins so.
+fn explains<H: Threads + Wait + Sync>(rt: &H, alloc: Global, line: &str, begins: &[u8]) -> bool {
+    match serve_line(rt, alloc, line, b"", b"", false) {
+        Some(served) => served.status == 0 && served.out.starts_with(begins),
+        None => false,
+    }
 }
 
 #[test]
-fn explains_faults(rt: HostRuntime) -> Result<(), Fail> {
-    let request = command(rt.alloc(), ["txc", "explain", "20"].as_slice())?;
+fn explains_faults(rt: HostRuntime) {
     let begins = b"fault 20: unknown name\nWhen: ";
-    assert!(rt; explains(&rt, rt.alloc(), &request, begins));
-    let unknown = ["txc", "explain", "07"];
-    let told = b"txc: usage: no fault has this number\n";
-    assert!(rt; tells(&rt, rt.alloc(), &unknown, b"", (2, b"", told)));
-    Ok(())
+    assert!(rt; explains(&rt, rt.alloc(), "txc explain 20", begins));
+    let told = b"txc: usage: no fault has this number\n".as_slice();
+    let unknown = (2, b"".as_slice(), told);
+    assert!(rt; answers(&rt, rt.alloc(), "txc explain 07", b"", b"", false, unknown));
 }
 
-// So many bytes of which none is a character's.
-fn no_characters(alloc: Global, count: u32) -> Result<Vec<u8>, AllocError> {
-    let mut source = Vec::new(alloc);
-    for _ in 0..count {
-        source.push(b'\xff')?;
-    }
-    Ok(source)
-}
-
-// Whether a file of so many of them is answered so.
+// Whether a file of so many bytes, of which none is a character's, is answered so.
 fn no_text_is_told<H: Threads + Wait + Sync>(
     rt: &H,
     alloc: Global,
-    count: u32,
+    count: usize,
     wanted: Answer,
 ) -> bool {
-    match no_characters(alloc, count) {
-        Ok(source) => tells(rt, alloc, &["txc", "run", "a.c"], source.as_slice(), wanted),
+    match b"\xff".as_slice().repeat(alloc, count) {
+        Ok(source) => runs_to(rt, alloc, source.as_slice(), wanted),
         Err(_) => false,
     }
 }

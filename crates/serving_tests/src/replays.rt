@@ -1,47 +1,25 @@
-//! Replays over readers and writers in memory.
+//! Replays of schedules and seeds.
 
-use crate::served::{ADDS, Answer, Broken, Served, answers, is_answer, serve_bytes, serve_told};
-use command::{Request, Steps, Task, command};
+use crate::answers::{
+    Answer, Broken, Row, Served, answers, is_answer, request_of, serve_bytes, serve_line, wrong_row,
+};
+use crate::served::ADDS;
+use command::{Request, Steps, Task};
 use refusing::Refusing;
 use replay::{Line, read_schedule};
 use report::{Printed, report_text};
-use serving::{Compiled, Replayed, compile, lines_shown, replay_code, serve};
+use serving::{Compiled, Replayed, compile, lines_shown, replay_code};
 use std::alloc::{AllocError, Allocator, Global};
 use std::str;
 use std::sync::Wait;
-use std::test::Fail;
 use std::thread::Threads;
-
-/// Whether a replay of a schedule is answered so.
-fn replays<H: Threads + Wait + Sync>(
-    rt: &H,
-    alloc: Global,
-    source: &[u8],
-    threads: &str,
-    schedule: &[u8],
-    wanted: Answer,
-) -> bool {
-    let words = [
-        "txc",
-        "replay",
-        "a.c",
-        "--threads",
-        threads,
-        "--schedule",
-        "s.txt",
-    ];
-    answers(rt, alloc, &words, source, schedule, false, wanted)
-}
-
-/// A source, how many threads run it and a schedule, and what is answered.
-type Row = (&'static [u8], &'static str, &'static [u8], Answer<'static>);
 
 fn schedules() -> &'static [Row] {
     static ROWS: [Row; 20] = [
         // a lost swap, and a validation that fails
         (
+            "txc replay a.c --threads 2 --schedule s.txt",
             b"int x; void worker(int self) { __transaction_atomic { x = x + 1; } }",
-            "2",
             b"0 a1\n1 a1\n0 a1\n1 a1\n0 a1\n1 a1\n0 a1\n1 a1\n0 a1\n1 a1\n0 a2\n1 a9\n",
             (
                 0,
@@ -51,8 +29,8 @@ fn schedules() -> &'static [Row] {
         ),
         // a lost swap, and a validation that passes: the word was stored anew and is the same
         (
+            "txc replay a.c --threads 2 --schedule s.txt",
             b"int x = 5, y; void worker(int self) { __transaction_atomic { if (self == 0) x = 5; else y = x; } }",
-            "2",
             b"1 a3\n0 a5\n1 a8\n",
             (
                 0,
@@ -62,8 +40,8 @@ fn schedules() -> &'static [Row] {
         ),
         // x goes 1, 2, 1 between the reads
         (
+            "txc replay a.c --threads 2 --schedule s.txt",
             b"int x = 1, y, s; void worker(int self) { if (self == 0) { __transaction_atomic { x = 2; } __transaction_atomic { x = 1; y = 7; } } else { __transaction_atomic { s = x * 10 + y; } } }",
-            "2",
             b"1 a3\n0 a10\n1 a11\n",
             (
                 0,
@@ -73,8 +51,8 @@ fn schedules() -> &'static [Row] {
         ),
         // an attempt that will be dropped never divides by the 0 that no memory had
         (
+            "txc replay a.c --threads 2 --schedule s.txt",
             b"int x = 3, y = 3, q; void worker(int self) { if (self == 0) { __transaction_atomic { x = 4; y = 4; } } else { __transaction_atomic { q = 100 / (1 + x - y); } } }",
-            "2",
             b"1 a3\n0 a4\n1 a3\n0 a2\n1 a11\n",
             (
                 0,
@@ -84,8 +62,8 @@ fn schedules() -> &'static [Row] {
         ),
         // a transaction that only reads commits late, and what it read was there
         (
+            "txc replay a.c --threads 2 --schedule s.txt",
             b"int x = 1; void worker(int self) { int v; if (self == 0) { __transaction_atomic { x = 2; } } else { __transaction_atomic { v = x; } printf(\"%d\\n\", v); } }",
-            "2",
             b"1 a3\n0 a5\n1 a1\n",
             (
                 0,
@@ -95,8 +73,8 @@ fn schedules() -> &'static [Row] {
         ),
         // what a cancelled transaction has read is still validated
         (
+            "txc replay a.c --threads 2 --schedule s.txt",
             b"int f, g = 1, h; void worker(int self) { if (self == 0) { __transaction_atomic { f = 1; h = 1; } } else { __transaction_atomic { __transaction_atomic { if (f == 0) { g = 9; __transaction_cancel; } g = 5; } g = g + h; } } }",
-            "2",
             b"1 a5\n0 a6\n1 a13\n",
             (
                 0,
@@ -106,8 +84,8 @@ fn schedules() -> &'static [Row] {
         ),
         // an attempt is dropped before it prints
         (
+            "txc replay a.c --threads 2 --schedule s.txt",
             b"int x; void worker(int self) { __transaction_relaxed { x = x + 1; printf(\"%d\\n\", x); } }",
-            "2",
             b"0 a3\n1 a3\n0 a1\n1 a2\n0 a3\n1 a9\n",
             (
                 0,
@@ -117,8 +95,8 @@ fn schedules() -> &'static [Row] {
         ),
         // a thread that has the lock
         (
+            "txc replay a.c --threads 1 --schedule s.txt",
             b"int x; void worker(int self) { __transaction_relaxed { x = x + 1; printf(\"%d\\n\", x); } }",
-            "1",
             b"0 a5\n",
             (
                 4,
@@ -128,8 +106,8 @@ fn schedules() -> &'static [Row] {
         ),
         // a trap releases the lock and stores nothing
         (
+            "txc replay a.c --threads 1 --schedule s.txt",
             b"int x = 2147483647, y; void worker(int self) { __transaction_relaxed { y = 3; printf(\"go\\n\"); x = x + 1; } }",
-            "1",
             b"0 a10\n",
             (
                 3,
@@ -139,8 +117,8 @@ fn schedules() -> &'static [Row] {
         ),
         // an inner cancel
         (
+            "txc replay a.c --threads 1 --schedule s.txt",
             b"int x = 1, y; void worker(int self) { __transaction_atomic { x = 2; __transaction_atomic { x = 3; y = x; __transaction_cancel; } y = x + y; } }",
-            "1",
             b"0 a20\n",
             (
                 0,
@@ -150,8 +128,8 @@ fn schedules() -> &'static [Row] {
         ),
         // the lock is taken before the first print
         (
+            "txc replay a.c --threads 1 --schedule s.txt",
             b"int x = 4; void worker(int self) { __transaction_relaxed { x = x + 1; printf(\"%d \", x); x = x * 2; printf(\"%d\", x); } }",
-            "1",
             b"0 a20\n",
             (
                 0,
@@ -161,8 +139,8 @@ fn schedules() -> &'static [Row] {
         ),
         // a cancel while the lock is kept
         (
+            "txc replay a.c --threads 1 --schedule s.txt",
             b"int x = 4, y = 7; void worker(int self) { __transaction_relaxed { printf(\"go\"); x = y; __transaction_atomic { y = 1; __transaction_cancel; } } }",
-            "1",
             b"0 a20\n",
             (
                 0,
@@ -172,8 +150,8 @@ fn schedules() -> &'static [Row] {
         ),
         // a stranger: the steps before it stand
         (
+            "txc replay a.c --threads 2 --schedule s.txt",
             b"void worker(int self) { }",
-            "2",
             b"0 1000\n7 1\n1 100\n",
             (
                 4,
@@ -183,8 +161,8 @@ fn schedules() -> &'static [Row] {
         ),
         // a stranger when all threads have ended, or one has trapped
         (
+            "txc replay a.c --threads 1 --schedule s.txt",
             b"void worker(int self) { }",
-            "1",
             b"0 5\n1 a1\n",
             (
                 4,
@@ -193,8 +171,8 @@ fn schedules() -> &'static [Row] {
             ),
         ),
         (
+            "txc replay a.c --threads 1 --schedule s.txt",
             b"void worker(int self) { 1 << 32; }",
-            "1",
             b"0 9\n4294967295 1\n",
             (
                 4,
@@ -204,27 +182,27 @@ fn schedules() -> &'static [Row] {
         ),
         // a stranger of whom no step is asked
         (
+            "txc replay a.c --threads 1 --schedule s.txt",
             b"void worker(int self) { }",
-            "1",
             b"7 0\n0 5\n",
             (0, b"== events\n== thread 0: ended\n== memory\n", b""),
         ),
         // as many steps as a schedule may ask for, none, and no line
         (
+            "txc replay a.c --threads 1 --schedule s.txt",
             b"void worker(int self) { }",
-            "1",
             b"0 1048576\n",
             (0, b"== events\n== thread 0: ended\n== memory\n", b""),
         ),
         (
+            "txc replay a.c --threads 1 --schedule s.txt",
             b"void worker(int self) { }",
-            "1",
             b"0 a0\n",
             (4, b"== events\n== thread 0: running\n== memory\n", b""),
         ),
         (
+            "txc replay a.c --threads 1 --schedule s.txt",
             b"int x; void worker(int self) { __transaction_atomic { x = x + 1; } }",
-            "1",
             b"\n",
             (
                 4,
@@ -234,8 +212,8 @@ fn schedules() -> &'static [Row] {
         ),
         // spaces round the two, leading zeros, blank lines, and CR before LF
         (
+            "txc replay a.c --threads 1 --schedule s.txt",
             b"int x; void worker(int self) { __transaction_atomic { x = x + 1; } }",
-            "1",
             b"  0   a004  \r\n\r\n   \n0 a9",
             (
                 0,
@@ -248,12 +226,8 @@ fn schedules() -> &'static [Row] {
 }
 
 #[test]
-fn replays_schedules(rt: HostRuntime) -> Result<(), Fail> {
-    for (source, threads, schedule, wanted) in schedules() {
-        let right = replays(&rt, rt.alloc(), source, threads, schedule, *wanted);
-        assert!(rt; right, "{source:?} {schedule:?}");
-    }
-    Ok(())
+fn replays_schedules(rt: HostRuntime) {
+    assert_eq!(rt; wrong_row(&rt, rt.alloc(), schedules()), None);
 }
 
 /// A schedule that is refused, what is told of it, and what follows on a terminal.
@@ -305,63 +279,62 @@ fn is_refused<H: Threads + Wait + Sync>(
     told: &[u8],
     shown: &[u8],
 ) -> bool {
-    match command(alloc, &["txc", "replay", "a.c", "--schedule", "s.txt"]) {
-        Ok(request) => {
-            let served = serve_told(rt, alloc, &request, ADDS, schedule, is_terminal);
-            is_refused_so(&served, told, shown)
+    let line = "txc replay a.c --schedule s.txt";
+    match serve_line(rt, alloc, line, ADDS, schedule, is_terminal) {
+        Some(served) => is_refused_so(&served, told, shown),
+        None => false,
+    }
+}
+
+// The first schedule of the table that is not refused so on a terminal, and without what is shown elsewhere.
+fn not_refused<H: Threads + Wait + Sync>(rt: &H, alloc: Global) -> Option<&'static [u8]> {
+    for (schedule, told, shown) in refusals() {
+        if !is_refused(rt, alloc, schedule, true, told, shown)
+            || !is_refused(rt, alloc, schedule, false, told, b"")
+        {
+            return Some(*schedule);
         }
+    }
+    None
+}
+
+#[test]
+fn refuses_schedules(rt: HostRuntime) {
+    assert_eq!(rt; not_refused(&rt, rt.alloc()), None);
+}
+
+/// A source that is refused, and what is answered.
+const BARE: &[u8] = b"int x; void worker(int self) { x = 1; }";
+
+const BARE_ANSWER: Answer<'static> = (
+    1,
+    b"",
+    b"txc: fault 50 at 1:32: shared access outside a transaction\n",
+);
+
+/// A source is refused before its schedule is read.
+#[test]
+fn refuses_a_source_first(rt: HostRuntime) {
+    let line = "txc replay a.c --threads 1 --schedule s.txt";
+    assert!(rt; answers(&rt, rt.alloc(), line, BARE, b"0 x", false, BARE_ANSWER));
+}
+
+// Whether this is told of a schedule that cannot be read.
+fn is_unread<H: Threads + Wait + Sync>(rt: &H, alloc: Global, line: &str, told: &[u8]) -> bool {
+    match request_of(alloc, line) {
+        Ok(request) => is_answer(
+            &serve_bytes(rt, alloc, &request, ADDS, Broken, false),
+            (2, b"", told),
+        ),
         Err(_) => false,
     }
 }
 
 #[test]
-fn refuses_schedules(rt: HostRuntime) -> Result<(), Fail> {
-    for (schedule, told, shown) in refusals() {
-        assert!(rt;
-            is_refused(&rt, rt.alloc(), schedule, true, told, shown),
-            "{schedule:?}"
-        );
-        assert!(rt;
-            is_refused(&rt, rt.alloc(), schedule, false, told, b""),
-            "{schedule:?}"
-        );
-    }
-    Ok(())
-}
-
-/// A source that is refused, and what is told of it.
-const BARE: &[u8] = b"int x; void worker(int self) { x = 1; }";
-
-const BARE_TOLD: &[u8] = b"txc: fault 50 at 1:32: shared access outside a transaction\n";
-
-/// A source is refused before its schedule is read.
-#[test]
-fn refuses_a_source_first(rt: HostRuntime) -> Result<(), Fail> {
-    let wanted = (1, b"".as_slice(), BARE_TOLD);
-    assert!(rt; replays(&rt, rt.alloc(), BARE, "1", b"0 x", wanted));
-    Ok(())
-}
-
-// Whether a schedule that cannot be read is told so.
-fn cannot_read<H: Threads + Wait + Sync>(
-    rt: &H,
-    alloc: Global,
-    request: &Request,
-    told: &[u8],
-) -> bool {
-    let mut out = Vec::new(alloc);
-    let mut err = Vec::new(alloc);
-    let status = serve(rt, alloc, request, ADDS, Broken, &mut out, &mut err, false);
-    status == 2 && out.is_empty() && err.as_slice() == told
-}
-
-#[test]
-fn a_schedule_that_cannot_be_read(rt: HostRuntime) -> Result<(), Fail> {
-    let words = ["txc", "replay", "a.c", "--schedule=s.txt", "--verbose"];
-    let request = command(rt.alloc(), words.as_slice())?;
+fn a_schedule_that_cannot_be_read(rt: HostRuntime) {
+    let line = "txc replay a.c --schedule=s.txt --verbose";
     let told = b"txc: cannot read s.txt (permission denied)\n";
-    assert!(rt; cannot_read(&rt, rt.alloc(), &request, told));
-    Ok(())
+    assert!(rt; is_unread(&rt, rt.alloc(), line, told));
 }
 
 /// The steps of seed 7 for three threads, by PCG-XSH-RR 64/32 as it was published.
@@ -372,17 +345,14 @@ const SEED_7: &[u8] =
 const SHOWS: &[u8] =
     b"int x = 1; void worker(int self) { int i; for (i = 0; i < 2; i++) { int v; __transaction_atomic { v = x; x = x * 3 + self; } printf(\"%d \", v); } }";
 
-// What is answered to words with a source alone.
-fn served<H: Threads + Wait + Sync>(
+// What is served to a command line with a source and no schedule.
+fn serve_alone<H: Threads + Wait + Sync>(
     rt: &H,
     alloc: Global,
-    words: &[&str],
+    line: &str,
     source: &[u8],
 ) -> Option<Served> {
-    match command(alloc, words) {
-        Ok(request) => Some(serve_bytes(rt, alloc, &request, source)),
-        Err(_) => None,
-    }
+    serve_line(rt, alloc, line, source, b"", false)
 }
 
 // Whether a replay of a schedule by three threads is answered as another one was.
@@ -392,109 +362,78 @@ fn is_replayed_alike<H: Threads + Wait + Sync>(
     schedule: &[u8],
     other: &Served,
 ) -> bool {
+    let line = "txc replay a.c --threads 3 --schedule s.txt";
     let wanted = (other.status, other.out.as_slice(), other.err.as_slice());
-    replays(rt, alloc, SHOWS, "3", schedule, wanted)
+    answers(rt, alloc, line, SHOWS, schedule, false, wanted)
 }
 
-// Whether words for a seed are answered with this status, and as a schedule is.
-fn replays_as<H: Threads + Wait + Sync>(
+// The status of the replay that a line asks, where that of a schedule is answered alike.
+fn status_as_of<H: Threads + Wait + Sync>(
     rt: &H,
     alloc: Global,
-    words: &[&str],
-    status: u8,
+    line: &str,
     schedule: &[u8],
-) -> bool {
-    match served(rt, alloc, words, SHOWS) {
-        Some(seeded) => {
-            seeded.status == status
-                && seeded.err.is_empty()
-                && is_replayed_alike(rt, alloc, schedule, &seeded)
-        }
-        None => false,
+) -> Option<u8> {
+    let seeded = serve_alone(rt, alloc, line, SHOWS)?;
+    if seeded.err.is_empty() && is_replayed_alike(rt, alloc, schedule, &seeded) {
+        Some(seeded.status)
+    } else {
+        None
     }
 }
 
-// Whether all threads end by the steps of a seed.
-fn ends<H: Threads + Wait + Sync>(rt: &H, alloc: Global, words: &[&str]) -> bool {
-    match served(rt, alloc, words, SHOWS) {
-        Some(seeded) => seeded.status == 0,
+// The status of what a line is answered.
+fn status_of<H: Threads + Wait + Sync>(rt: &H, alloc: Global, line: &str) -> Option<u8> {
+    match serve_alone(rt, alloc, line, SHOWS) {
+        Some(served) => Some(served.status),
+        None => None,
+    }
+}
+
+#[test]
+fn replays_seeds(rt: HostRuntime) {
+    let first = "txc replay a.c --threads=3 --seed=7 --steps=60";
+    assert!(rt; status_as_of(&rt, rt.alloc(), first, SEED_7) == Some(4));
+    let whole = "txc replay a.c --threads=3 --seed=7";
+    assert!(rt; status_of(&rt, rt.alloc(), whole) == Some(0));
+}
+
+fn printed_schedules() -> &'static [Row] {
+    static ROWS: [Row; 2] = [
+        (
+            "txc replay a.c --threads=3 --seed=7 --steps=5 --print-schedule",
+            SHOWS,
+            b"",
+            (0, b"2 1\n2 1\n1 1\n0 1\n0 1\n", b""),
+        ),
+        (
+            "txc replay a.c --threads=3 --seed=7 --steps=5 --print-schedule",
+            BARE,
+            b"",
+            BARE_ANSWER,
+        ),
+    ];
+    &ROWS
+}
+
+#[test]
+fn prints_schedules(rt: HostRuntime) {
+    assert_eq!(rt; wrong_row(&rt, rt.alloc(), printed_schedules()), None);
+}
+
+// Whether the steps of a seed, which one line replays and the other prints as a schedule, are read back to the same report.
+fn reads_back<H: Threads + Wait + Sync>(rt: &H, alloc: Global, replay: &str, print: &str) -> bool {
+    match serve_alone(rt, alloc, print, SHOWS) {
+        Some(printed) => status_as_of(rt, alloc, replay, printed.out.as_slice()).is_some(),
         None => false,
     }
 }
 
 #[test]
-fn replays_seeds(rt: HostRuntime) -> Result<(), Fail> {
-    let words = [
-        "txc",
-        "replay",
-        "a.c",
-        "--threads=3",
-        "--seed=7",
-        "--steps=60",
-    ];
-    assert!(rt; replays_as(&rt, rt.alloc(), &words, 4, SEED_7));
-    let words = ["txc", "replay", "a.c", "--threads=3", "--seed=7"];
-    assert!(rt; ends(&rt, rt.alloc(), &words));
-    Ok(())
-}
-
-#[test]
-fn prints_schedules(rt: HostRuntime) -> Result<(), Fail> {
-    let words = [
-        "txc",
-        "replay",
-        "a.c",
-        "--threads=3",
-        "--seed=7",
-        "--steps=5",
-        "--print-schedule",
-    ];
-    let printed = (0, b"2 1\n2 1\n1 1\n0 1\n0 1\n".as_slice(), b"".as_slice());
-    assert!(rt; answers(&rt, rt.alloc(), &words, SHOWS, b"", false, printed));
-    let refused = (1, b"".as_slice(), BARE_TOLD);
-    assert!(rt; answers(&rt, rt.alloc(), &words, BARE, b"", false, refused));
-    Ok(())
-}
-
-// Whether what is printed for words is a schedule that is replayed as another replay was.
-fn prints_alike<H: Threads + Wait + Sync>(
-    rt: &H,
-    alloc: Global,
-    words: &[&str],
-    other: &Served,
-) -> bool {
-    match served(rt, alloc, words, SHOWS) {
-        Some(printed) => is_replayed_alike(rt, alloc, printed.out.as_slice(), other),
-        None => false,
-    }
-}
-
-// Whether the steps of a seed, printed as a schedule, are read back to the same report.
-fn reads_back<H: Threads + Wait + Sync>(
-    rt: &H,
-    alloc: Global,
-    replay: &[&str],
-    print: &[&str],
-) -> bool {
-    match served(rt, alloc, replay, SHOWS) {
-        Some(seeded) => prints_alike(rt, alloc, print, &seeded),
-        None => false,
-    }
-}
-
-#[test]
-fn reads_back_what_is_printed(rt: HostRuntime) -> Result<(), Fail> {
-    let replay = ["txc", "replay", "a.c", "--threads=3", "--seed=4294967295"];
-    let print = [
-        "txc",
-        "replay",
-        "a.c",
-        "--threads=3",
-        "--seed=4294967295",
-        "--print-schedule",
-    ];
-    assert!(rt; reads_back(&rt, rt.alloc(), &replay, &print));
-    Ok(())
+fn reads_back_what_is_printed(rt: HostRuntime) {
+    let replay = "txc replay a.c --threads=3 --seed=4294967295";
+    let print = "txc replay a.c --threads=3 --seed=4294967295 --print-schedule";
+    assert!(rt; reads_back(&rt, rt.alloc(), replay, print));
 }
 
 // A request of so many threads and steps.
@@ -508,30 +447,29 @@ fn seeded(alloc: Global, threads: u32, count: u32) -> Result<Request, AllocError
     })
 }
 
-// Whether a request is answered so.
-fn is_served<H: Threads + Wait + Sync>(
+// Whether such a request is answered so.
+fn is_answered<H: Threads + Wait + Sync>(
     rt: &H,
     alloc: Global,
-    request: &Request,
+    threads: u32,
+    count: u32,
     wanted: Answer,
 ) -> bool {
-    let served = serve_bytes(rt, alloc, request, ADDS);
-    is_answer(&served, wanted)
+    let none = b"".as_slice();
+    match seeded(alloc, threads, count) {
+        Ok(request) => is_answer(&serve_bytes(rt, alloc, &request, ADDS, none, false), wanted),
+        Err(_) => false,
+    }
 }
 
 /// What no words ask for, and a caller may all the same.
 #[test]
-fn refuses_requests(rt: HostRuntime) -> Result<(), Fail> {
-    let rows: [(u32, u32, Answer); 3] = [
-        (0, 5, (4, b"", b"txc: fault 72\n")),
-        (65, 5, (4, b"", b"txc: fault 72\n")),
-        (1, 1048577, (2, b"", b"txc: fault 81\n")),
-    ];
-    for (threads, count, wanted) in rows {
-        let request = seeded(rt.alloc(), threads, count)?;
-        assert!(rt; is_served(&rt, rt.alloc(), &request, wanted));
-    }
-    Ok(())
+fn refuses_requests(rt: HostRuntime) {
+    let wrong_threads = (4, b"".as_slice(), b"txc: fault 72\n".as_slice());
+    assert!(rt; is_answered(&rt, rt.alloc(), 0, 5, wrong_threads));
+    assert!(rt; is_answered(&rt, rt.alloc(), 65, 5, wrong_threads));
+    let too_many_steps = (2, b"".as_slice(), b"txc: fault 81\n".as_slice());
+    assert!(rt; is_answered(&rt, rt.alloc(), 1, 1048577, too_many_steps));
 }
 
 /// A loop of transactions, and a print after each.
@@ -545,22 +483,22 @@ fn committer(line: &str) -> Option<&str> {
     Some(thread)
 }
 
-// One more of what commas join.
-fn push_joined(order: &mut String, thread: &str) -> Result<(), AllocError> {
-    if !order.as_str().is_empty() {
-        order.push_str(",")?;
+// One more of the threads that commas join at the end of a command line.
+fn push_thread(line: &mut String, thread: &str) -> Result<(), AllocError> {
+    if !line.as_str().ends_with(' ') {
+        line.push_str(",")?;
     }
-    order.push_str(thread)
+    line.push_str(thread)
 }
 
-/// The threads of the commits that a report tells, joined by commas.
-fn push_order(order: &mut String, report: &str) -> Result<(), AllocError> {
-    for line in report.lines() {
-        if line.starts_with("== thread") {
+// The threads of the commits that a report tells, in their order.
+fn push_order(line: &mut String, report: &str) -> Result<(), AllocError> {
+    for told in report.lines() {
+        if told.starts_with("== thread") {
             break;
         }
-        if let Some(thread) = committer(line) {
-            push_joined(order, thread)?;
+        if let Some(thread) = committer(told) {
+            push_thread(line, thread)?;
         }
     }
     Ok(())
@@ -581,15 +519,9 @@ fn agrees(replayed: &str, ran: &str) -> bool {
     ran.ends_with(left)
 }
 
-// Whether the source, run in an order, agrees with a replay.
-fn runs_alike<H: Threads + Wait + Sync>(
-    rt: &H,
-    alloc: Global,
-    order: &str,
-    replayed: &str,
-) -> bool {
-    let words = ["txc", "source", "a.c", "--threads=4", "--order", order];
-    match served(rt, alloc, &words, COUNTS) {
+// Whether the source, run as a line asks, agrees with a replay.
+fn runs_alike<H: Threads + Wait + Sync>(rt: &H, alloc: Global, line: &str, replayed: &str) -> bool {
+    match serve_alone(rt, alloc, line, COUNTS) {
         Some(ran) => match str::from_utf8(ran.out.as_slice()) {
             Ok(ran) => agrees(replayed, ran),
             Err(_) => false,
@@ -600,14 +532,18 @@ fn runs_alike<H: Threads + Wait + Sync>(
 
 // Whether the source agrees with a replay in the order of its commits.
 fn runs_in_its_order<H: Threads + Wait + Sync>(rt: &H, alloc: Global, replayed: &str) -> bool {
-    let mut order = String::new(alloc);
-    push_order(&mut order, replayed).is_ok() && runs_alike(rt, alloc, order.as_str(), replayed)
+    match String::from_str(alloc, "txc source a.c --threads=4 --order ") {
+        Ok(mut line) => {
+            push_order(&mut line, replayed).is_ok()
+                && runs_alike(rt, alloc, line.as_str(), replayed)
+        }
+        Err(_) => false,
+    }
 }
 
-// The same of the replay of a seed.
-fn runs_as_replayed<H: Threads + Wait + Sync>(rt: &H, alloc: Global, seed: &str) -> bool {
-    let words = ["txc", "replay", "a.c", "--threads=4", seed];
-    match served(rt, alloc, &words, COUNTS) {
+// The same of the replay that a line asks.
+fn runs_as_replayed<H: Threads + Wait + Sync>(rt: &H, alloc: Global, line: &str) -> bool {
+    match serve_alone(rt, alloc, line, COUNTS) {
         Some(replayed) => match str::from_utf8(replayed.out.as_slice()) {
             Ok(replayed) => runs_in_its_order(rt, alloc, replayed),
             Err(_) => false,
@@ -616,14 +552,28 @@ fn runs_as_replayed<H: Threads + Wait + Sync>(rt: &H, alloc: Global, seed: &str)
     }
 }
 
+// The same of the steps of a seed.
+fn runs_as_seeded<H: Threads + Wait + Sync>(rt: &H, alloc: Global, seed: u32) -> bool {
+    match format!(in alloc; "txc replay a.c --threads=4 --seed={seed}") {
+        Ok(line) => runs_as_replayed(rt, alloc, line.as_str()),
+        Err(_) => false,
+    }
+}
+
+// The first seed up to 20 with which they do not agree.
+fn disagreeing_seed<H: Threads + Wait + Sync>(rt: &H, alloc: Global) -> Option<u32> {
+    for seed in 1..21u32 {
+        if !runs_as_seeded(rt, alloc, seed) {
+            return Some(seed);
+        }
+    }
+    None
+}
+
 /// What the source leaves and prints in the order of the commits is what the replay does.
 #[test]
-fn the_source_agrees_in_the_order_of_commits(rt: HostRuntime) -> Result<(), Fail> {
-    for seed in 1..21u32 {
-        let seed = format!(in rt.alloc(); "--seed={seed}")?;
-        assert!(rt; runs_as_replayed(&rt, rt.alloc(), seed.as_str()), "{seed}");
-    }
-    Ok(())
+fn the_source_agrees_in_the_order_of_commits(rt: HostRuntime) {
+    assert_eq!(rt; disagreeing_seed(&rt, rt.alloc()), None);
 }
 
 /// How a replay comes out whose memory may be refused.
@@ -694,26 +644,37 @@ fn replay_with<A: Allocator + Copy>(alloc: A) -> Outcome {
     }
 }
 
-#[test]
-fn each_growth_of_a_replay_is_refused_once(rt: HostRuntime) -> Result<(), Fail> {
+// How a replay comes out where growth `nth` is refused, and whether that growth is still to come. `None` where it was refused, and
+// the replay is not told when it is made again.
+fn refused_at<A: Allocator + Copy>(inner: A, nth: u64) -> Option<(Outcome, bool)> {
+    let alloc = Refusing::new(inner, nth);
+    let outcome = replay_with(&alloc);
+    let is_waiting = alloc.is_waiting();
+    if is_waiting || replay_with(&alloc) == Outcome::Told {
+        Some((outcome, is_waiting))
+    } else {
+        None
+    }
+}
+
+// How many growths a replay makes, each of which was refused once. `None` where one comes out as it should not, or where none kept
+// a step from being made.
+fn growths<A: Allocator + Copy>(inner: A) -> Option<u64> {
     let mut met = 0;
     let mut has_stopped = false;
     for nth in 1..900u64 {
-        let alloc = Refusing::new(rt.alloc(), nth);
-        match replay_with(&alloc) {
-            Outcome::Told if alloc.is_waiting() => break,
-            Outcome::Stopped => has_stopped = true,
-            outcome => {
-                assert!(rt;
-                    outcome == Outcome::Told || outcome == Outcome::Refused(0),
-                    "{nth}"
-                )
-            }
+        match refused_at(inner, nth) {
+            Some((Outcome::Told, true)) if has_stopped => return Some(met),
+            Some((Outcome::Stopped, false)) => has_stopped = true,
+            Some((Outcome::Told, false)) | Some((Outcome::Refused(0), false)) => {}
+            _ => return None,
         }
         met = nth;
-        assert!(rt; replay_with(&alloc) == Outcome::Told);
     }
-    assert!(rt; met > 0 && met < 899);
-    assert!(rt; has_stopped);
-    Ok(())
+    None
+}
+
+#[test]
+fn each_growth_of_a_replay_is_refused_once(rt: HostRuntime) {
+    assert!(rt; growths(rt.alloc()) > Some(0));
 }

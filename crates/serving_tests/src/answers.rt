@@ -1,0 +1,115 @@
+//! What is answered to command lines, over readers and writers in memory.
+
+use command::{Request, UsageFault, command};
+use serving::serve;
+use std::alloc::Global;
+use std::io;
+use std::io::{ErrorKind, Read};
+use std::sync::Wait;
+use std::thread::Threads;
+
+/// What serving a request gives: the status, the output and the standard error.
+#[derive(Drop)]
+pub(crate) struct Served {
+    pub(crate) status: u8,
+    pub(crate) out: Vec<u8>,
+    pub(crate) err: Vec<u8>,
+}
+
+/// What is answered: the status, the output and the standard error.
+pub(crate) type Answer<'a> = (u8, &'a [u8], &'a [u8]);
+
+/// A command line, the source and the schedule of its files, and what is answered.
+pub(crate) type Row = (&'static str, &'static [u8], &'static [u8], Answer<'static>);
+
+/// Whether this is what was served.
+pub(crate) fn is_answer(served: &Served, wanted: Answer) -> bool {
+    served.status == wanted.0
+        && served.out.as_slice() == wanted.1
+        && served.err.as_slice() == wanted.2
+}
+
+/// The request of a command line, in which a space ends each word but the last.
+pub(crate) fn request_of(alloc: Global, line: &str) -> Result<Request, UsageFault> {
+    let words: Vec<&str> = line.split(' ').collect(alloc)?;
+    command(alloc, words.as_slice())
+}
+
+/// Serves a request, to a terminal or not.
+pub(crate) fn serve_bytes<H: Threads + Wait + Sync, R: Read + Drop, S: Read + Drop>(
+    rt: &H,
+    alloc: Global,
+    request: &Request,
+    source: R,
+    schedule: S,
+    is_terminal: bool,
+) -> Served {
+    let mut out = Vec::new(alloc);
+    let mut err = Vec::new(alloc);
+    let status = serve(
+        rt,
+        alloc,
+        request,
+        source,
+        schedule,
+        &mut out,
+        &mut err,
+        is_terminal,
+    );
+    Served { status, out, err }
+}
+
+/// What is served to a command line, on a terminal or not.
+pub(crate) fn serve_line<H: Threads + Wait + Sync>(
+    rt: &H,
+    alloc: Global,
+    line: &str,
+    source: &[u8],
+    schedule: &[u8],
+    is_terminal: bool,
+) -> Option<Served> {
+    match request_of(alloc, line) {
+        Ok(request) => Some(serve_bytes(rt, alloc, &request, source, schedule, is_terminal)),
+        Err(_) => None,
+    }
+}
+
+/// Whether a command line is answered so.
+pub(crate) fn answers<H: Threads + Wait + Sync>(
+    rt: &H,
+    alloc: Global,
+    line: &str,
+    source: &[u8],
+    schedule: &[u8],
+    is_terminal: bool,
+    wanted: Answer,
+) -> bool {
+    match serve_line(rt, alloc, line, source, schedule, is_terminal) {
+        Some(served) => is_answer(&served, wanted),
+        None => false,
+    }
+}
+
+/// The number, from 0, of the first of these rows that is answered otherwise.
+pub(crate) fn wrong_row<H: Threads + Wait + Sync>(
+    rt: &H,
+    alloc: Global,
+    rows: &[Row],
+) -> Option<usize> {
+    for (number, (line, source, schedule, wanted)) in rows.iter().enumerate() {
+        if !answers(rt, alloc, line, source, schedule, false, *wanted) {
+            return Some(number);
+        }
+    }
+    None
+}
+
+/// A reader that gives no byte.
+#[derive(Drop)]
+pub(crate) struct Broken;
+
+impl Read for Broken {
+    fn read(&mut self, _buf: &mut [u8]) -> io::Result<usize> {
+        Err(io::Error::from(ErrorKind::PermissionDenied))
+    }
+}
