@@ -1,4 +1,4 @@
-//! Tests of the parser, in a crate of their own: a crate with tests is proved twice.
+//! Tests of the parser and of the trees of `syntax`, in a crate of their own: a crate with tests is proved twice.
 #![tactic(auto)]
 
 #[cfg(test)]
@@ -7,6 +7,8 @@ mod depths;
 mod faults;
 #[cfg(test)]
 mod growths;
+#[cfg(test)]
+mod of_syntax;
 #[cfg(test)]
 mod parsed;
 #[cfg(test)]

@@ -1,6 +1,6 @@
 //! A copy is the same tree, and each growth that it takes may be refused.
 
-use crate::texts::{each_node, tree};
+use crate::of_syntax::texts::{each_node, tree};
 use containers::{Copied, Same};
 use refusing::Refusing;
 use std::alloc::Allocator;

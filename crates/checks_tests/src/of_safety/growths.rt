@@ -1,40 +1,39 @@
 //! Each growth refused in turn.
 
-use crate::checked::safe_of;
+use crate::stages::typed_of;
 use refusing::Refusing;
-use safety::checked::Safe;
-use separation::{SeparationFault, accept};
+use safety::{SafetyFault, safe};
 use std::alloc::Allocator;
+use types::Typed;
 
 const SAMPLE: &str =
-    "int x, y; void g(int a); void f(int b) { { int c = b, d = c; g(d); } x = b; } \
-void g(int a) { if (a) f(a - 1); y = a; } void worker(int self) { __transaction_atomic { g(self); x = y; } }";
+    "int x; [[transaction_safe]] void g(int a); void f(int b) { printf(\"%d\", b); { int c = b, d = c; g(d); } } \
+void g(int a) { x = a; } void worker(int self) { __transaction_atomic { g(self); } f(x); }";
 
-// Whether a fault is want of memory, and the program that it gives back is accepted.
-fn is_accepted_again<A: Allocator + Copy>(alloc: A, fault: SeparationFault<A>) -> bool {
+// Whether a fault is want of memory, and the program that it gives back is safe.
+fn is_safe_again<A: Allocator + Copy>(alloc: A, fault: SafetyFault<A>) -> bool {
     let number = fault.number();
-    accept(alloc, fault.into_safe()).ok().and(Some(number)) == Some(0)
+    safe(alloc, fault.into_typed()).ok().and(Some(number)) == Some(0)
 }
 
-// Whether a program is accepted at once, or else when it is given back; `None` where it has another fault than want of
-// memory.
-fn is_accepted_at_once<A: Allocator + Copy>(alloc: A, safe: Safe<A>) -> Option<bool> {
-    match accept(alloc, safe).err() {
+// Whether a program is safe at once, or else when it is given back; `None` where it has another fault than want of memory.
+fn is_safe_at_once<A: Allocator + Copy>(alloc: A, typed: Typed<A>) -> Option<bool> {
+    match safe(alloc, typed).err() {
         None => Some(true),
-        Some(fault) => is_accepted_again(alloc, fault).then_some(false),
+        Some(fault) => is_safe_again(alloc, fault).then_some(false),
     }
 }
 
 // The same where growth `nth` is refused, and whether that growth is still to come. The allocator of the program is the
 // one that refuses.
-fn is_accepted_where_refused<A: Allocator, B: Allocator + Copy>(
+fn is_safe_where_refused<A: Allocator, B: Allocator + Copy>(
     refusing: &Refusing<A>,
     alloc: B,
-    safe: Safe<B>,
+    typed: Typed<B>,
     nth: u64,
 ) -> Option<(bool, bool)> {
     refusing.refuse(nth);
-    match is_accepted_at_once(alloc, safe) {
+    match is_safe_at_once(alloc, typed) {
         None => None,
         Some(at_once) => Some((at_once, refusing.is_waiting())),
     }
@@ -46,9 +45,9 @@ fn refused_in<A: Allocator, B: Allocator + Copy>(
     alloc: B,
     nth: u64,
 ) -> Option<(bool, bool)> {
-    match safe_of(alloc, SAMPLE) {
+    match typed_of(alloc, SAMPLE) {
         None => None,
-        Some(safe) => is_accepted_where_refused(refusing, alloc, safe, nth),
+        Some(typed) => is_safe_where_refused(refusing, alloc, typed, nth),
     }
 }
 
@@ -74,5 +73,5 @@ fn growths<A: Allocator + Copy>(inner: A) -> Option<u64> {
 
 #[test]
 fn each_growth_may_be_refused(rt: HostRuntime) {
-    assert!(rt; growths(rt.alloc()) > Some(5));
+    assert!(rt; growths(rt.alloc()) > Some(10));
 }

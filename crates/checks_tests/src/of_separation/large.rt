@@ -1,6 +1,6 @@
 //! Chains of 20,000 functions, in either order of the file.
 
-use crate::checked::fault_of;
+use crate::stages::separation_fault_of;
 use lex::token::Span;
 use std::alloc::{AllocError, Allocator};
 
@@ -57,7 +57,7 @@ fn fault_behind<A: Allocator + Copy>(
     worker: &str,
 ) -> Option<Option<(u32, Option<Span>)>> {
     match joined(alloc, chain, worker) {
-        Ok(text) => Some(fault_of(alloc, text.as_str())),
+        Ok(text) => Some(separation_fault_of(alloc, text.as_str())),
         Err(_) => None,
     }
 }

@@ -1,6 +1,6 @@
 //! Each growth refused in turn.
 
-use crate::checked::unit_of;
+use crate::stages::unit_of;
 use refusing::Refusing;
 use std::alloc::Allocator;
 use syntax::tree::Unit;

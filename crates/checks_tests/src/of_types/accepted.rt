@@ -1,6 +1,6 @@
 //! Programs whose names and types are right, and their tables.
 
-use crate::checked::{fault_of, unit_of};
+use crate::stages::{type_fault_of, unit_of};
 use std::alloc::Allocator;
 use syntax::tree::Unit;
 use types::{Typed, check};
@@ -31,7 +31,7 @@ fn rows() -> &'static [&'static str] {
 #[test]
 fn right_programs_are_accepted(rt: HostRuntime) {
     for text in rows() {
-        assert!(rt; fault_of(rt.alloc(), text) == None, "{text}");
+        assert!(rt; type_fault_of(rt.alloc(), text) == None, "{text}");
     }
 }
 

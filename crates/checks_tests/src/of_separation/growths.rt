@@ -1,39 +1,40 @@
 //! Each growth refused in turn.
 
-use crate::checked::typed_of;
+use crate::stages::safe_of;
 use refusing::Refusing;
-use safety::{SafetyFault, safe};
+use safety::checked::Safe;
+use separation::{SeparationFault, accept};
 use std::alloc::Allocator;
-use types::Typed;
 
 const SAMPLE: &str =
-    "int x; [[transaction_safe]] void g(int a); void f(int b) { printf(\"%d\", b); { int c = b, d = c; g(d); } } \
-void g(int a) { x = a; } void worker(int self) { __transaction_atomic { g(self); } f(x); }";
+    "int x, y; void g(int a); void f(int b) { { int c = b, d = c; g(d); } x = b; } \
+void g(int a) { if (a) f(a - 1); y = a; } void worker(int self) { __transaction_atomic { g(self); x = y; } }";
 
-// Whether a fault is want of memory, and the program that it gives back is safe.
-fn is_safe_again<A: Allocator + Copy>(alloc: A, fault: SafetyFault<A>) -> bool {
+// Whether a fault is want of memory, and the program that it gives back is accepted.
+fn is_accepted_again<A: Allocator + Copy>(alloc: A, fault: SeparationFault<A>) -> bool {
     let number = fault.number();
-    safe(alloc, fault.into_typed()).ok().and(Some(number)) == Some(0)
+    accept(alloc, fault.into_safe()).ok().and(Some(number)) == Some(0)
 }
 
-// Whether a program is safe at once, or else when it is given back; `None` where it has another fault than want of memory.
-fn is_safe_at_once<A: Allocator + Copy>(alloc: A, typed: Typed<A>) -> Option<bool> {
-    match safe(alloc, typed).err() {
+// Whether a program is accepted at once, or else when it is given back; `None` where it has another fault than want of
+// memory.
+fn is_accepted_at_once<A: Allocator + Copy>(alloc: A, safe: Safe<A>) -> Option<bool> {
+    match accept(alloc, safe).err() {
         None => Some(true),
-        Some(fault) => is_safe_again(alloc, fault).then_some(false),
+        Some(fault) => is_accepted_again(alloc, fault).then_some(false),
     }
 }
 
 // The same where growth `nth` is refused, and whether that growth is still to come. The allocator of the program is the
 // one that refuses.
-fn is_safe_where_refused<A: Allocator, B: Allocator + Copy>(
+fn is_accepted_where_refused<A: Allocator, B: Allocator + Copy>(
     refusing: &Refusing<A>,
     alloc: B,
-    typed: Typed<B>,
+    safe: Safe<B>,
     nth: u64,
 ) -> Option<(bool, bool)> {
     refusing.refuse(nth);
-    match is_safe_at_once(alloc, typed) {
+    match is_accepted_at_once(alloc, safe) {
         None => None,
         Some(at_once) => Some((at_once, refusing.is_waiting())),
     }
@@ -45,9 +46,9 @@ fn refused_in<A: Allocator, B: Allocator + Copy>(
     alloc: B,
     nth: u64,
 ) -> Option<(bool, bool)> {
-    match typed_of(alloc, SAMPLE) {
+    match safe_of(alloc, SAMPLE) {
         None => None,
-        Some(typed) => is_safe_where_refused(refusing, alloc, typed, nth),
+        Some(safe) => is_accepted_where_refused(refusing, alloc, safe, nth),
     }
 }
 
@@ -73,5 +74,5 @@ fn growths<A: Allocator + Copy>(inner: A) -> Option<u64> {
 
 #[test]
 fn each_growth_may_be_refused(rt: HostRuntime) {
-    assert!(rt; growths(rt.alloc()) > Some(10));
+    assert!(rt; growths(rt.alloc()) > Some(5));
 }

@@ -2,7 +2,7 @@
 //! other expression or statement, also one in parentheses, a declaration and a block, has one more than its deepest part. A
 //! transaction's block is a part of it. A program is as deep as the deepest block of a function.
 
-use crate::texts::{each_node, tree};
+use crate::of_syntax::texts::{each_node, tree};
 use std::alloc::Allocator;
 
 /// A text, and the depth of its tree.

@@ -1,6 +1,6 @@
 //! Programs with many names: with memory enough, each is checked.
 
-use crate::checked::fault_of;
+use crate::stages::type_fault_of;
 use std::alloc::{AllocError, Allocator};
 
 /// Adds `before`, the number and `behind`.
@@ -108,7 +108,7 @@ fn rows() -> &'static [Row] {
 fn is_right<A: Allocator + Copy>(alloc: A, row: &Row) -> bool {
     let (n, parts, end) = row;
     match text_of(alloc, *n, parts, end) {
-        Ok(text) => fault_of(alloc, text.as_str()) == None,
+        Ok(text) => type_fault_of(alloc, text.as_str()) == None,
         Err(_) => false,
     }
 }

@@ -1,6 +1,6 @@
 //! Trees of one text are the same, and one other place, name, type or node makes them differ.
 
-use crate::texts::{each_node, tree};
+use crate::of_syntax::texts::{each_node, tree};
 use containers::Same;
 use std::alloc::Allocator;
 use syntax::tree::Unit;

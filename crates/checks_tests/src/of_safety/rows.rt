@@ -1,6 +1,6 @@
 //! Faults with their places, and programs without one.
 
-use crate::checked::fault_of;
+use crate::stages::safety_fault_of;
 use lex::token::Span;
 use std::alloc::Allocator;
 
@@ -101,7 +101,7 @@ fn safe_programs() -> &'static [&'static str] {
 // Whether a source has the fault that its row tells.
 fn is_told<A: Allocator + Copy>(alloc: A, row: &Row) -> bool {
     let (text, number, start, end) = *row;
-    fault_of(alloc, text) == Some((number, Some(Span { start, end })))
+    safety_fault_of(alloc, text) == Some((number, Some(Span { start, end })))
 }
 
 #[test]
@@ -114,6 +114,6 @@ fn faults_have_a_number_and_a_place(rt: HostRuntime) {
 #[test]
 fn safe_programs_have_none(rt: HostRuntime) {
     for text in safe_programs() {
-        assert!(rt; fault_of(rt.alloc(), text) == None, "{text}");
+        assert!(rt; safety_fault_of(rt.alloc(), text) == None, "{text}");
     }
 }

@@ -1,6 +1,6 @@
 //! Faults with their places.
 
-use crate::checked::fault_of;
+use crate::stages::type_fault_of;
 use lex::token::Span;
 use std::alloc::Allocator;
 
@@ -217,7 +217,7 @@ fn rows() -> &'static [Row] {
 // Whether a source has the fault that its row tells.
 fn is_told<A: Allocator + Copy>(alloc: A, row: &Row) -> bool {
     let (text, number, start, end) = *row;
-    fault_of(alloc, text) == Some((number, Some(Span { start, end })))
+    type_fault_of(alloc, text) == Some((number, Some(Span { start, end })))
 }
 
 #[test]

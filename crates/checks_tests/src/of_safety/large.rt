@@ -1,6 +1,6 @@
 //! Chains of 20,000 functions, in either order of the file.
 
-use crate::checked::fault_of;
+use crate::stages::safety_fault_of;
 use std::alloc::{AllocError, Allocator};
 
 /// A prototype of a function.
@@ -57,7 +57,7 @@ fn chain<A: Allocator + Copy>(alloc: A, from_last: bool) -> Result<String<A>, Al
 /// Whether its fault is a call of an unsafe function in an atomic transaction.
 fn is_unsafe<A: Allocator + Copy>(alloc: A, from_last: bool) -> bool {
     match chain(alloc, from_last) {
-        Ok(text) => matches!(fault_of(alloc, text.as_str()), Some((40, _))),
+        Ok(text) => matches!(safety_fault_of(alloc, text.as_str()), Some((40, _))),
         Err(_) => false,
     }
 }

@@ -1,0 +1,5 @@
+//! Tests of the check of safety.
+
+mod growths;
+mod large;
+mod rows;

@@ -1,0 +1,5 @@
+//! Tests of the check of separation.
+
+mod growths;
+mod large;
+mod rows;

@@ -1,0 +1,6 @@
+//! Tests of the check of names and types.
+
+mod accepted;
+mod faults;
+mod growths;
+mod large;
