@@ -3,3 +3,5 @@ mod Onward
 -- local steps keep to their function
 pub mod Ways
 pub mod Views
+-- quotients fit 64 bits
+mod Figures
