@@ -1,8 +1,16 @@
-use Rattle.std.proofs.Common.{◌≡◌, ◌<◌, ◌+◌, ◌^◌, ◌∙◌, ℕ, List, [], ◌∷◌, ◌++◌, Some, refl, sym, ap, subst, slice_get, length, arith}
+use mir.Syntax.{w64}
+use mir.Val.{Fits}
+use Rattle.std.proofs.Common.{◌≡◌, ◌<◌, ◌≤◌, ◌+◌, ◌^◌, ◌∙◌, ℕ, List, [], ◌∷◌, ◌++◌, Some, refl, sym, ap, subst, slice_get, length, arith}
 use Rattle.std.proofs.lemmas.Option.{slice_get_read}
 use Rattle.world.specs.Simulations.{IsExplained, Simulation, further, shown_at, stops_at}
 use Rattle.world.proofs.Stepping.{after_is, explained, kept, kept_is, never, of_code, ready_count, ready_counts, ready_shown, ready_fits, ready_makeable, ready_of, ready_word, stepped_now, stops_is, used_up_by}
 use Rattle.world.proofs.world.World.step_shown.Goals as goal
+
+room_for : (len now items cap : ℕ) → len + 1 ≤ cap → len ≡ now → cap < 2 ^ 63 → now ≡ items → items + 1 < 2 ^ 64
+room_for len now items cap o l m k = omega (arith, o, l, m, k)
+
+fits_word : (n : ℕ) → n < 2 ^ 64 → Fits w64 n
+fits_word n h = omega (arith, h)
 
 pub prepare-requires : goal.prepare-requires
 prepare-requires g c =
@@ -62,15 +70,15 @@ pub told-event-requires-clause-count : goal.told-event-requires-clause-count
 told-event-requires-clause-count g c =
     let s : Simulation = record { code = c.self.inside.code; threads = length c.self.inside.threads.items; trace = c.self.inside.trace.items } in
     let here : slice_get c.self.inside.threads.items c.args.t ≡ Some c.index_mut-thread.result.now = slice_get_read c.self.inside.threads.items (length c.self.inside.threads.items) c.args.t c.index_mut-thread.result.now refl (subst (λ (v : Simulation). c.args.t < v.threads) (sym c.self.view_is) c.requires) c.index_mut-thread.ensures.value in
-    let room : length c.self.inside.trace.items + 1 < 2 ^ 64 = (let o = c.in-Ok-reserve.ensures.ok in let l = c.reserve.ensures.len in let m = c.reserve.new.self.small in let k = c.self.inside.trace.ok.0 in omega arith) in
+    let room : length c.self.inside.trace.items + 1 < 2 ^ 64 = room_for _ _ _ _ c.in-Ok-reserve.ensures.ok c.reserve.ensures.len c.reserve.new.self.small c.self.inside.trace.ok.0 in
     ready_count s c.self.inside.lock c.self.inside.words.items c.self.inside.threads.items c.self.inside.accesses c.self.invariant c.args.t c.index_mut-thread.result.now here c.prepare.new.self c.prepare.ensures.thread c.prepare.ensures.accesses c.in-Ok.access c.in-Ok.ensures.access.0 room
 
 pub overflow_add-self : goal.overflow_add-self
 overflow_add-self g c =
     let s : Simulation = record { code = c.self.inside.code; threads = length c.self.inside.threads.items; trace = c.self.inside.trace.items } in
     let here : slice_get c.self.inside.threads.items c.args.t ≡ Some c.index_mut-thread.result.now = slice_get_read c.self.inside.threads.items (length c.self.inside.threads.items) c.args.t c.index_mut-thread.result.now refl (subst (λ (v : Simulation). c.args.t < v.threads) (sym c.self.view_is) c.requires) c.index_mut-thread.ensures.value in
-    let room : length c.self.inside.trace.items + 1 < 2 ^ 64 = (let o = c.in-Ok-reserve.ensures.ok in let l = c.reserve.ensures.len in let m = c.reserve.new.self.small in let k = c.self.inside.trace.ok.0 in omega arith) in
-    let n = ready_counts s c.self.inside.lock c.self.inside.words.items c.self.inside.threads.items c.self.inside.accesses c.self.invariant c.args.t c.index_mut-thread.result.now here c.prepare.new.self c.prepare.ensures.thread c.prepare.ensures.accesses c.in-Ok.access c.in-Ok.ensures.access.0 room c.cost.result c.cost.ensures in omega arith
+    let room : length c.self.inside.trace.items + 1 < 2 ^ 64 = room_for _ _ _ _ c.in-Ok-reserve.ensures.ok c.reserve.ensures.len c.reserve.new.self.small c.self.inside.trace.ok.0 in
+    fits_word _ (ready_counts s c.self.inside.lock c.self.inside.words.items c.self.inside.threads.items c.self.inside.accesses c.self.invariant c.args.t c.index_mut-thread.result.now here c.prepare.new.self c.prepare.ensures.thread c.prepare.ensures.accesses c.in-Ok.access c.in-Ok.ensures.access.0 room c.cost.result c.cost.ensures)
 
 pub invariant_of-self-2 : goal.invariant_of-self-2
 invariant_of-self-2 g c =
