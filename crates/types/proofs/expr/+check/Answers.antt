@@ -1,13 +1,13 @@
 use Rattle.std.proofs.Common.{ap, sym, ◌∙◌, arith}
-use denote.Param.Weighed.{most}
+use denote.Param.Weighed.{most, at_most}
 use Rattle.syntax.specs.Tree as Tree
 use Rattle.syntax.specs.Views.{name_of, expr_of, exprs_of}
 use Rattle.syntax.specs.declared.tree.Expr.{the_lemmas}
 use Rattle.syntax.proofs.tree.Expr.TheLaws.{the_size}
-use Rattle.syntax.specs.Typing.{first_unmet, IsTyped, IsNumber}
+use Rattle.syntax.specs.Typing.{first_unmet, IsTyped, IsNumber, GivesNumber}
 use Rattle.types.specs.inner.Known.{known_in}
 use Rattle.types.proofs.Loops.{numbers_more, call_parts, typed_call, typed_binary, typed_logical, typed_conditional}
-use Rattle.types.proofs.Steps.{skip, stop}
+use Rattle.types.proofs.Steps.{skip, stop, first_of_two}
 use Rattle.types.proofs.expr.+check.Goals as goal
 
 pub check_expr-check_element-requires : goal.check_expr-check_element-requires
@@ -145,3 +145,20 @@ pub check_call-returns-in_err-check_known : goal.check_call-returns-in_err-check
 check_call-returns-in_err-check_known g t c =
     let is = call_parts (known_in c.args.names.now) (name_of c.args.f.now) (exprs_of c.args.args.now) c.args.at in
     stop c.check_known.result _ c.in_err-check_known.field-0.0 _ _ _ is c.check_known.ensures c.in_err-check_known.was c.from_residual.ensures
+
+pub check_number-returns-in_err-check_expr : goal.check_number-returns-in_err-check_expr
+check_number-returns-in_err-check_expr g t c =
+    let is = first_of_two (IsTyped (known_in c.args.names.now) (expr_of c.args.e.now)) (GivesNumber (known_in c.args.names.now) (expr_of c.args.e.now)) in
+    stop c.check_expr.result _ c.in_err-check_expr.field-0.0 _ _ _ is c.check_expr.ensures c.in_err-check_expr.was c.from_residual.ensures
+
+pub check_number-returns : goal.check_number-returns
+check_number-returns g t c =
+    let is = first_of_two (IsTyped (known_in c.args.names.now) (expr_of c.args.e.now)) (GivesNumber (known_in c.args.names.now) (expr_of c.args.e.now)) in
+    c.gives_number.ensures ∙ sym (skip c.check_expr.result _ _ _ _ is c.check_expr.ensures c.in_ok-check_expr.was)
+
+pub check_numbers-check_number-requires : goal.check_numbers-check_number-requires
+check_numbers-check_number-requires g t c κs within =
+    let size = the_size g.row.A g.A.Allocator g.A.laws in
+    let below = at_most size c.args.all.now c.each.one-index c.one-item.result c.each-test.true in
+    let here = ap size c.one-item.is in
+    (omega (arith, below, here, c.decreases), within)
