@@ -1,8 +1,8 @@
 -- The first unmet demand of what is left of a list, from a place on.
-use Rattle.std.proofs.Common.{◌≡◌, ℕ, ◌+◌, ◌<◌, List, [], ◌∷◌, ◌++◌, length, drop, get_or, refl, sym, ap, ◌∙◌, arith}
-use Rattle.std.proofs.lemmas.List.{at_drop_more}
+use Rattle.std.proofs.Common.{◌≡◌, ℕ, ◌+◌, ◌<◌, ◌≤◌, List, [], ◌∷◌, ◌++◌, length, drop, get_or, refl, sym, ap, ◌∙◌, arith}
+use Rattle.std.proofs.lemmas.List.{at_drop_more, at_drop_all}
 use Rattle.std.specs.Option.{option_or}
-use Rattle.std.proofs.Common.{Option}
+use Rattle.std.proofs.Common.{Option, None}
 use Rattle.syntax.specs.declared.tree.Expr as E
 use Rattle.syntax.specs.declared.tree.Name as N
 use Rattle.syntax.specs.declared.tree.Simple as I
@@ -27,6 +27,9 @@ call_parts known x es at =
 module _ {A : Type 0} where
   pub numbers_more : (known : Scope) (es : List (E.Expr A)) (i : ℕ) (e : E.Expr A) → e ≡ get_or es i e → i < length es → first_unmet (AreNumbers known (exprs_of (drop i es))) ≡ option_or (first_unmet (IsNumber known (expr_of e))) (first_unmet (AreNumbers known (exprs_of (drop (i + 1) es))))
   numbers_more known es i e is h = at_drop_more (λ xs. first_unmet (AreNumbers known (exprs_of xs))) es i e h ∙ first_of_two (IsNumber known (expr_of (get_or es i e))) (AreNumbers known (exprs_of (drop (i + 1) es))) ∙ ap (λ x. option_or (first_unmet (IsNumber known (expr_of x))) (first_unmet (AreNumbers known (exprs_of (drop (i + 1) es))))) (sym is)
+
+  pub numbers_all : (known : Scope) (es : List (E.Expr A)) (i : ℕ) → length es ≤ i → first_unmet (AreNumbers known (exprs_of (drop i es))) ≡ None
+  numbers_all known es i h = at_drop_all (λ xs. first_unmet (AreNumbers known (exprs_of xs))) es i h
 
   pub count_of : (es : List (E.Expr A)) → count (exprs_of es) ≡ length es
   count_of [] = refl

@@ -6,7 +6,7 @@ use Rattle.syntax.specs.declared.tree.Expr.{the_lemmas}
 use Rattle.syntax.proofs.tree.Expr.TheLaws.{the_size}
 use Rattle.syntax.specs.Typing.{first_unmet, IsTyped, IsNumber, GivesNumber}
 use Rattle.types.specs.inner.Known.{known_in}
-use Rattle.types.proofs.Loops.{numbers_more, call_parts, typed_call, typed_binary, typed_logical, typed_conditional}
+use Rattle.types.proofs.Loops.{numbers_more, numbers_all, call_parts, typed_call, typed_binary, typed_logical, typed_conditional}
 use Rattle.types.proofs.Steps.{skip, stop, first_of_two}
 use Rattle.types.proofs.expr.+check.Goals as goal
 
@@ -162,3 +162,7 @@ check_numbers-check_number-requires g t c κs within =
     let below = at_most size c.args.all.now c.each.one-index c.one-item.result c.each-test.true in
     let here = ap size c.one-item.is in
     (omega (arith, below, here, c.decreases), within)
+
+pub check_numbers-returns : goal.check_numbers-returns
+check_numbers-returns g t c =
+    sym (numbers_all (known_in c.args.names.now) c.args.all.now c.each.one-index c.each-test.false) ∙ c.each.invariant
