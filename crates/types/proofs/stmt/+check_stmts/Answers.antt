@@ -9,7 +9,7 @@ use Rattle.syntax.specs.Typing.{has_name, knows, scope_after, scope_of_start, na
 use Rattle.syntax.specs.Typing.{first_unmet, IsNumber, IsTypedPrint, IsTypedStmt, AreTypedStmts, AreTypedDeclarators}
 use Rattle.types.specs.inner.Known.{known_in, slot_before, declared_by, AreDeclared, Grows, Agrees}
 use Rattle.types.proofs.Steps.{skip, stop_at, tell_skip, tell_stop, tell_rest, tell_same}
-use Rattle.types.proofs.Grown.{left, grows_on, grows_same, none_declared, agrees_all, same_known, same_declared}
+use Rattle.types.proofs.Grown.{left, grows_none, grows_on, grows_same, none_declared, agrees_all, same_known, same_declared}
 use Rattle.types.proofs.Stmts.{else_first, stmts_more, typed_declare, typed_do, typed_return, typed_block, typed_transaction, typed_print, typed_if, typed_while, typed_do_while, typed_for}
 use Rattle.types.proofs.BlockItems.{declaration_is, declared_named, nothing_known, nothing_named, on_ok, ok_any}
 use Rattle.types.proofs.stmt.+check_stmts.Goals as goal
@@ -242,6 +242,9 @@ check_stmts-returns-in_err-check_block_item-clause-answer g t c = λ declared h.
     let x = c.args.context in
     let p = c.each.invariant.2 declared h in
     tell_stop c.check_block_item.result _ c.in_err-check_block_item.field-0.0 _ _ _ (sym p.2 ∙ stmts_more x.gives x.looping (known_in c.each.names) p.0 c.args.all.now c.each.one-index c.one-item.result c.one-item.is c.each-test.true) (c.check_block_item.ensures.answer p.0 p.1) c.in_err-check_block_item.was c.from_residual.ensures
+
+pub check_stmts-each-init : goal.check_stmts-each-init
+check_stmts-each-init g t c = (omega arith, grows_none c.args.names.now, λ declared h. (declared, h, refl))
 
 pub check_stmts-each-preserved : goal.check_stmts-each-preserved
 check_stmts-each-preserved g t c =
