@@ -4,8 +4,6 @@ use crate::built::of;
 use bytecode::{Instr, MOST_INSTRUCTIONS};
 use std::alloc::{AllocError, Allocator};
 use std::mem::size_of;
-use std::test::Fail;
-use std::time::Instant;
 
 // So many jumps, and a return.
 fn jumps<A: Allocator + Copy>(alloc: A, count: usize) -> Result<Vec<Instr, A>, AllocError> {
@@ -31,14 +29,8 @@ fn an_instruction_takes_at_most_16_bytes(rt: HostRuntime) {
 }
 
 #[test]
-fn the_longest_code_is_valid(rt: HostRuntime) -> Result<(), Fail> {
-    let start = Instant::now(&rt)?;
-    let valid = is_valid_at(rt.alloc(), MOST_INSTRUCTIONS);
-    let seconds = start.elapsed(&rt)?.as_secs();
-    assert_eq!(rt; valid, Some(true));
-    // a million instructions in far less than a second
-    assert!(rt; seconds < 1);
-    Ok(())
+fn the_longest_code_is_valid(rt: HostRuntime) {
+    assert_eq!(rt; is_valid_at(rt.alloc(), MOST_INSTRUCTIONS), Some(true));
 }
 
 #[test]
