@@ -1,7 +1,8 @@
 #!/usr/bin/env python3
 """Measures what the gate costs, crate by crate, and keeps the table of docs/GATE.md.
 
-  scripts/gate_cost.py --gate                   runs `rt ci` once, passes on what it prints, and adds a line for each crate to docs/gate_cost.csv
+  scripts/gate_cost.py --gate [CRATE..]         runs `rt ci` once, of these crates and those below them where some are named, passes on what
+                                                it prints, and adds a line for each crate of which it proved or tried anything to docs/gate_cost.csv
   scripts/gate_cost.py CRATE..                  measures crates one after another in copies, and adds a line for each
   scripts/gate_cost.py --part check CRATE..     one part alone: check, tests or wrong (wrong bodies)
   scripts/gate_cost.py --table                  prints the table, from the last measurement of each part of each crate
@@ -173,23 +174,26 @@ def look(root, taken, most):
         taken[key] = max(taken.get(key, 0), ticks)
 
 
-def gate():
-    """Runs the gate, keeps a line for each crate, and gives the gate's status."""
+def gate(names):
+    """Runs the gate, or its part for some crates, keeps a line for each crate that it worked for, and gives its status."""
     taken, most, start = {}, {}, time.monotonic()
-    run = subprocess.Popen(["rt", "ci"], cwd=TOP, stdin=subprocess.DEVNULL)
+    run = subprocess.Popen(["rt", "ci", *names], cwd=TOP, stdin=subprocess.DEVNULL)
     while run.poll() is None:
         look(run.pid, taken, most)
         time.sleep(0.2)
     used = resource.getrusage(resource.RUSAGE_CHILDREN)
     for crate in libraries():
+        parts = [part for part in ("check", "tests", "wrong") if (crate, part) in most]
         row = {"crate": crate, "wrong_bodies": wrong_bodies(crate)}
-        for part in ("check", "tests", "wrong"):
+        for part in parts:
             ticks = sum(it for key, it in taken.items() if key[2] == (crate, part))
             row[f"{part}_s"] = round(ticks / os.sysconf("SC_CLK_TCK"))
-        row["peak_mb"] = round(max([most.get((crate, part), 0) for part in ("check", "tests", "wrong")]) / 1024)
-        keep(row)
+        if parts:
+            row["peak_mb"] = round(max(most[crate, part] for part in parts) / 1024)
+            keep(row)
     minutes, seconds = round((time.monotonic() - start) / 60), used.ru_utime + used.ru_stime
-    print(f"the gate {'failed' if run.returncode else 'passed'} in {minutes} minutes, with {round(seconds / 60)} of processor")
+    what = f"the gate's part for {' '.join(names)}" if names else "the gate"
+    print(f"{what} {'failed' if run.returncode else 'passed'} in {minutes} minutes, with {round(seconds / 60)} of processor")
     return run.returncode
 
 
@@ -252,8 +256,8 @@ def main():
     unknown = [it for it in given.crates if it not in libraries()]
     if unknown:
         sys.exit(f"crates.txt names no {', '.join(unknown)}")
-    status = gate() if given.gate else 0
-    for crate in given.crates:
+    status = gate(given.crates) if given.gate else 0
+    for crate in () if given.gate else given.crates:
         keep(measured(crate, given.part or ["check", "tests", "wrong"], given.jobs))
     if given.table:
         print(table(), end="")
