@@ -1,5 +1,6 @@
 -- A core as its contracts see it.
 use Rattle.std.specs.Prelude.{◌≡◌, ℕ, Bool, true, false, Option, None, Some, IsSomeAnd}
+use Rattle.std.specs.List.{slice_get}
 use Rattle.write_log.specs.Overlay.{written}
 use Rattle.norec_core.specs.declared.step.Op.{Op}
 use Rattle.norec_core.specs.declared.step.Access.TheVariants.{Local}
@@ -7,7 +8,7 @@ use Rattle.norec_core.specs.declared.step.Answer.{Answer}
 use Rattle.norec_core.specs.declared.step.Answer.TheVariants.{Done}
 use Rattle.norec_core.specs.declared.step.Outcome.TheVariants as outcome
 use Rattle.norec_core.specs.declared.step.Phase.{Phase}
-use Rattle.norec_core.specs.declared.step.Phase.TheVariants.{AtOperation, Stores}
+use Rattle.norec_core.specs.declared.step.Phase.TheVariants.{AtOperation, Stores, ValidatesTime, ValidatesEntry}
 use Rattle.nesting.specs.Begins.{Saved}
 use Rattle.norec_core.specs.Attempts.{Attempt}
 use Rattle.norec_core.specs.Accesses.{IsAnswerTo}
@@ -63,3 +64,27 @@ holds kept _ = kept
 abbrev pub has_lock : Option (Attempt Saved) → Bool
 has_lock None = false
 has_lock (Some a) = holds a.kept a.phase
+
+-- validation loads the lock next, until it is even
+abbrev pub IsWaiting : {S : Type 0} → Attempt S → Type 0
+IsWaiting a = a.phase ≡ ValidatesTime
+
+-- validation at this lock value compares the entry at this place of the read log next, or past the last entry the lock
+abbrev pub IsComparing : {S : Type 0} → (time place : ℕ) → Attempt S → Type 0
+IsComparing time place a = a.phase ≡ ValidatesEntry time place
+
+-- which entry that is, if it is one
+abbrev pub ComparesWith : {S : Type 0} → (time place : ℕ) → Option (ℕ × ℕ) → Attempt S → Type 0
+ComparesWith time place entry a = IsComparing time place a × (slice_get a.reads place ≡ entry)
+
+-- the step with this answer, whichever operation is asked for: the operation goes on, and nothing is gone back to
+pub record GoesOn (c : CoreState) (answer : Answer) (op : Op) (d : CoreState) : Type 0 where
+  pub attempt : d.attempt ≡ (core_step c.saved c.attempt op answer).attempt
+  pub outcome : (core_step c.saved c.attempt op answer).outcome ≡ outcome.Going
+  pub back : (core_step c.saved c.attempt op answer).back ≡ None
+
+-- the step with this answer drops the attempt, and what it goes back to is saved
+pub record IsDropped (c : CoreState) (answer : Answer) (op : Op) (d : CoreState) : Type 0 where
+  pub attempt : d.attempt ≡ (core_step c.saved c.attempt op answer).attempt
+  pub outcome : (core_step c.saved c.attempt op answer).outcome ≡ outcome.Aborted
+  pub back : (core_step c.saved c.attempt op answer).back ≡ Some d.saved

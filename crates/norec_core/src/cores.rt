@@ -1,10 +1,11 @@
 //! The core of a thread: an operation's step is prepared, then told the answer to its access.
 
-ghost use Rattle.std.specs.Prelude.{◌≡◌, ◌≢◌, ◌↔◌, true, false, None, Some, IsTrue, IsSome, IsSomeAnd, IfOk, IfSome, OnOk, OnErr};
+ghost use Rattle.std.specs.Prelude.{◌≡◌, ◌≢◌, ◌↔◌, ◌+◌, ◌^◌, ◌<◌, true, false, None, Some, IsTrue, IsSome, IsSomeAnd, IfOk, IfSome, OnOk, OnErr, OnSome};
 ghost use Rattle.norec_core.specs.Accesses.{stops};
 ghost use Rattle.norec_core.specs.Phases.{core_access, core_step};
-ghost use Rattle.norec_core.specs.Cores.{IsAnswered, IsDoneAtOnce, IsStoring, LoadsBoth, stepped, stepped_twice, is_kept, has_lock};
+ghost use Rattle.norec_core.specs.Cores.{ComparesWith, GoesOn, IsAnswered, IsComparing, IsDoneAtOnce, IsDropped, IsStoring, IsWaiting, LoadsBoth, stepped, stepped_twice, is_kept, has_lock};
 ghost use Rattle.norec_core.specs.declared.step.Answer.{Answer as Reply};
+ghost use Rattle.norec_core.specs.declared.step.Op.{Op as Operation};
 ghost use Rattle.norec_core.specs.declared.step.Answer.TheVariants.{Value};
 
 use super::step::{Access, Answer, Op, Outcome, Stop};
@@ -279,5 +280,86 @@ impl<A: Allocator + Copy> Core<A> {
         ensures { result ≡ has_lock self.now.attempt }
     {
         self.steps.has_begun() && self.steps.has_lock()
+    }
+
+    /// Whether validation loads the lock next, until it is even.
+    #[inline(always)]
+    pub fn is_waiting(&self) -> bool
+        ensures { result ≡ true → IsSomeAnd self.now.attempt (λ a. IsWaiting a) }
+    {
+        self.steps.is_waiting()
+    }
+
+    /// Makes such a step, with the lock's value that was loaded. It takes no memory.
+    #[inline(always)]
+    pub fn waited(&mut self, lock: u64)
+        requires { IsSomeAnd self.old.attempt (λ a. IsWaiting a) }
+        ensures step { (op : Operation) → GoesOn self.old (Value lock) op self.new }
+        ensures asked { self.new.asked ≡ None }
+    {
+        self.asked = None;
+        self.steps.waited(lock);
+    }
+
+    /// Where validation compares an entry next, or past the last one the lock: at which lock value, and the entry's place in the
+    /// read log.
+    #[inline(always)]
+    pub fn comparing(&self) -> Option<(u64, usize)>
+        ensures { IfSome result (λ at. IsSomeAnd self.now.attempt (λ a. IsComparing at.0 at.1 a)) }
+    {
+        self.steps.comparing()
+    }
+
+    /// The entry that is compared next, the cell whose word is loaded and the word that it must have; none past the last entry,
+    /// where the lock is loaded.
+    #[inline(always)]
+    pub fn entry(&self, time: u64, place: usize) -> Option<(u32, u64)>
+        requires { IsSomeAnd self.now.attempt (λ a. IsComparing time place a) }
+        ensures entry { IsSomeAnd self.now.attempt (λ a. ComparesWith time place result a) }
+        ensures next { OnSome result (place + 1 < 2 ^ 64) }
+    {
+        // The prover names by it the lock value.
+        let _time = time;
+        self.steps.entry(place)
+    }
+
+    /// Makes the step that compares this entry, where its word was loaded again. It takes no memory.
+    #[inline(always)]
+    pub fn compared(&mut self, time: u64, place: usize, entry: (u32, u64))
+        requires entry { IsSomeAnd self.old.attempt (λ a. ComparesWith time place (Some entry) a) }
+        requires next { place + 1 < 2 ^ 64 }
+        ensures step { (op : Operation) → GoesOn self.old (Value entry.1) op self.new }
+        ensures asked { self.new.asked ≡ None }
+    {
+        // The prover names by it the word.
+        let _entry = entry;
+        self.asked = None;
+        self.steps.compared(time, place);
+    }
+
+    /// Makes the step that compares this entry, where another word was loaded: the attempt is dropped. It takes no memory.
+    #[inline(always)]
+    pub fn differed(&mut self, time: u64, place: usize, entry: (u32, u64), word: u64)
+        requires entry { IsSomeAnd self.old.attempt (λ a. ComparesWith time place (Some entry) a) }
+        requires differs { word ≢ entry.1 }
+        ensures step { (op : Operation) → IsDropped self.old (Value word) op self.new }
+        ensures asked { self.new.asked ≡ None }
+    {
+        // The prover names by them the entry and the word.
+        let _compared = (time, place, entry, word);
+        self.asked = None;
+        self.steps.differed();
+    }
+
+    /// Makes the step past the last entry, with the lock's value that was loaded: where it is the one at which validation began
+    /// it is the new snapshot, else validation begins again. It takes no memory.
+    #[inline(always)]
+    pub fn validated(&mut self, time: u64, place: usize, lock: u64)
+        requires { IsSomeAnd self.old.attempt (λ a. ComparesWith time place None a) }
+        ensures step { (op : Operation) → GoesOn self.old (Value lock) op self.new }
+        ensures asked { self.new.asked ≡ None }
+    {
+        self.asked = None;
+        self.steps.validated(time, place, lock);
     }
 }

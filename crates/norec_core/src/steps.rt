@@ -1,6 +1,6 @@
 //! The steps of an attempt, phase by phase: the access of each, and what comes of its answer.
 
-ghost use Rattle.std.specs.Prelude.{◌≡◌, ◌≢◌, ◌+◌, ◌^◌, ◌<◌, ◌≤◌, true, false, None, IfSome, OnOk, OnErr, slice_get};
+ghost use Rattle.std.specs.Prelude.{◌≡◌, ◌≢◌, ◌+◌, ◌^◌, ◌<◌, ◌≤◌, true, false, None, IfSome, OnOk, OnErr, OnSome, slice_get};
 ghost use Rattle.write_log.specs.Overlay.{put, written};
 ghost use Rattle.norec_core.specs.Accesses.{stops};
 ghost use Rattle.norec_core.specs.Phases.{core_access, core_step, core_phase, core_operation, core_read, core_commit, core_cancel, core_store, core_check, core_time, core_compare, operation_access, commit_access, entry_access, store_access};
@@ -544,5 +544,92 @@ impl<A: Allocator + Copy> Steps<A> {
             }
         }
         Outcome::Going
+    }
+
+    // Whether validation loads the lock next, until it is even.
+    #[inline(always)]
+    pub(crate) fn is_waiting(&self) -> bool
+        ensures { result ≡ true → (self.now.begun ≡ true) × (self.now.attempt.phase ≡ Phase.ValidatesTime) }
+    {
+        match self.phase {
+            Phase::ValidatesTime => self.begun,
+            _ => false,
+        }
+    }
+
+    // Such a step, with the lock's value.
+    #[inline(always)]
+    pub(crate) fn waited(&mut self, lock: u64)
+        requires begun { self.old.begun ≡ true }
+        requires phase { self.old.attempt.phase ≡ Phase.ValidatesTime }
+        ensures { IsStep (core_time self.old.attempt (Value lock)) Outcome.Going self.new }
+    {
+        if lock % 2 == 1 {
+            return;
+        }
+        self.phase = Phase::ValidatesEntry(lock, 0);
+    }
+
+    // The lock value at which validation compares an entry next, and the entry's place in the read log.
+    #[inline(always)]
+    pub(crate) fn comparing(&self) -> Option<(u64, usize)>
+        ensures { IfSome result (λ at. (self.now.begun ≡ true) × (self.now.attempt.phase ≡ Phase.ValidatesEntry at.0 at.1)) }
+    {
+        match self.phase {
+            Phase::ValidatesEntry(time, place) => {
+                if self.begun {
+                    Some((time, place))
+                } else {
+                    None
+                }
+            }
+            _ => None,
+        }
+    }
+
+    // The entry at a place.
+    #[inline(always)]
+    pub(crate) fn entry(&self, place: usize) -> Option<(u32, u64)>
+        ensures value { result ≡ slice_get self.now.attempt.reads place }
+        ensures next { OnSome result (place + 1 < 2 ^ 64) }
+    {
+        self.logs.read_at(place)
+    }
+
+    // The step in which an entry's word was found again.
+    #[inline(always)]
+    pub(crate) fn compared(&mut self, time: u64, place: usize)
+        requires phase { self.old.attempt.phase ≡ Phase.ValidatesEntry time place }
+        requires next { place + 1 < 2 ^ 64 }
+        ensures begun { self.new.begun ≡ self.old.begun }
+        ensures attempt { self.new.attempt ≡ record self.old.attempt { phase = Phase.ValidatesEntry time (place + 1) } }
+    {
+        let next = place + 1;
+        self.phase = Phase::ValidatesEntry(time, next);
+    }
+
+    // The step in which an entry's word was not found again.
+    #[inline(always)]
+    pub(crate) fn differed(&mut self)
+        ensures begun { self.new.begun ≡ false }
+        ensures aside { self.new.aside ≡ self.old.attempt.saved }
+    {
+        self.logs.abort();
+        self.begun = false;
+    }
+
+    // The step past the last entry, with the lock's value.
+    #[inline(always)]
+    pub(crate) fn validated(&mut self, time: u64, place: usize, lock: u64)
+        requires begun { self.old.begun ≡ true }
+        requires phase { self.old.attempt.phase ≡ Phase.ValidatesEntry time place }
+        ensures { IsStep (core_compare self.old.attempt time place None (Value lock)) Outcome.Going self.new }
+    {
+        if lock == time {
+            self.snapshot = time;
+            self.phase = Phase::AtOperation;
+        } else {
+            self.phase = Phase::ValidatesTime;
+        }
     }
 }

@@ -20,7 +20,7 @@ fn answer_to(access: Access, found: u64) -> Answer
 }
 
 // One step of an operation, whose access finds this value.
-fn step<A: Allocator + Copy>(
+pub(crate) fn step<A: Allocator + Copy>(
     core: &mut Core<A>,
     op: Op,
     found: u64,

@@ -3,3 +3,5 @@
 
 #[cfg(test)]
 mod cores;
+#[cfg(test)]
+mod validation;
