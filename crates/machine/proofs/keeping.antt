@@ -18,3 +18,5 @@ pub mod Advancing
 pub mod Reading
 -- a commit that swaps the lock and stores, and the load of an outermost begin
 pub mod Committing
+-- validation
+pub mod Validating

@@ -10,6 +10,7 @@ use Rattle.bytecode.specs.Code.{Code, Configuration, effect}
 use Rattle.frames.specs.Open.{saved_in}
 use Rattle.frames.specs.Stack.{HasRoom}
 use Rattle.frames.specs.declared.doing.Doing.{Doing}
+use Rattle.frames.specs.declared.doing.Doing.TheVariants as doing
 use Rattle.frames.specs.Told.{IsCall, Tells}
 use Rattle.norec_core.specs.declared.step.Op.{Op}
 use Rattle.norec_core.specs.declared.step.Op.TheVariants as op
@@ -19,7 +20,7 @@ use Rattle.norec_core.specs.declared.step.Answer.{Answer}
 use Rattle.norec_core.specs.declared.step.Answer.TheVariants.{Value}
 use Rattle.norec_core.specs.Attempts.{Attempt}
 use Rattle.norec_core.specs.Accesses.{stops}
-use Rattle.norec_core.specs.Cores.{IsStoring, LoadsBoth}
+use Rattle.norec_core.specs.Cores.{ComparesWith, IsComparing, IsStoring, IsWaiting, LoadsBoth}
 use Rattle.machine.specs.Explained.{has_lock}
 use Rattle.machine.specs.Standing.{IsThreadOf}
 use Rattle.machine.specs.Threads.{Next, Thread, op_of, access, told}
@@ -123,3 +124,38 @@ attempt_has_lock (Some a) = has_lock a.kept a.phase
 
 abbrev pub thread_has_lock : {C : Type 0} → Thread C → Bool
 thread_has_lock th = attempt_has_lock th.attempt
+
+-- operations under which an attempt is validated: a read, a commit, and one that takes the lock to keep it
+abbrev pub IsValidated : Op → Type 0
+IsValidated (op.Read address) = Unit {0}
+IsValidated op.Commit = Unit {0}
+IsValidated op.Irrevocable = Unit {0}
+IsValidated _ = ⊥
+
+-- what is to be done is such an operation
+abbrev pub MayValidate : Doing → Type 0
+MayValidate (doing.Read d address) = Unit {0}
+MayValidate doing.Commit = Unit {0}
+MayValidate doing.Irrevocable = Unit {0}
+MayValidate _ = ⊥
+
+-- the thread runs, stands at such an operation, and its validation loads the lock next, until it is even
+pub record WaitsNext (code : Code) (s : ThreadState) : Type 0 where
+  pub running : s.thread.status ≡ Running
+  pub operation : IsSomeAnd (asks (effect code) s.thread) IsValidated
+  pub waits : IsSomeAnd s.thread.attempt (λ a. IsWaiting a)
+
+-- The thread runs, stands at such an operation, and its validation at this lock value compares the entry at this place
+-- of the read log next, or past the last entry the lock.
+pub record ComparesNext (code : Code) (s : ThreadState) (time place : ℕ) : Type 0 where
+  pub running : s.thread.status ≡ Running
+  pub operation : IsSomeAnd (asks (effect code) s.thread) IsValidated
+  pub compares : IsSomeAnd s.thread.attempt (λ a. IsComparing time place a)
+
+-- which entry that is, if it is one
+abbrev pub ComparesEntry : ThreadState → (time place : ℕ) → Option (ℕ × ℕ) → Type 0
+ComparesEntry s time place entry = IsSomeAnd s.thread.attempt (λ a. ComparesWith time place entry a)
+
+-- what stood at the thread's place to be done stands there still
+abbrev pub StandsStill : Code → ThreadState → ThreadState → Type 0
+StandsStill code s t = (doing : Doing) → StandsAt code s doing → StandsAt code t doing

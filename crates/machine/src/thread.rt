@@ -1,19 +1,21 @@
 //! A thread of the machine.
 
-ghost use Rattle.std.specs.Prelude.{◌≡◌, ◌+◌, ◌<◌, ◌≤◌, ◌^◌, ◌↔◌, ℕ, [], None, Some, true, false, IfOk, IfNone, IfSome, OnOk};
+ghost use Rattle.std.specs.Prelude.{◌≡◌, ◌≢◌, ◌+◌, ◌<◌, ◌≤◌, ◌^◌, ◌↔◌, ℕ, [], None, Some, true, false, IfOk, IfNone, IfSome, OnOk, OnSome};
 ghost use Rattle.bytecode.specs.Beginning.{beginning};
 ghost use Rattle.bytecode.specs.Code.{effect};
 ghost use Rattle.norec_core.specs.Accesses.{IsAnswerTo, cost, stops};
 ghost use Rattle.norec_core.specs.declared.step.Answer.{Answer as Reply};
 ghost use Rattle.norec_core.specs.declared.step.Answer.TheVariants.{Value};
+ghost use Rattle.norec_core.specs.Phases.{entry_access};
 ghost use Rattle.machine.specs.Threads.{access, told as told_spec};
 ghost use Rattle.machine.specs.Standing.{IsThreadOf};
 ghost use Rattle.machine.specs.Answered.{Replays};
-ghost use Rattle.machine.specs.States.{BeginsNext, IsPrepared, IsWordOf, LoadsNext, StandsAt, StoresNext, SwapsNext, first_thread, thread_has_lock, told_twice};
+ghost use Rattle.machine.specs.States.{BeginsNext, ComparesEntry, ComparesNext, IsPrepared, IsWordOf, LoadsNext, StandsAt, StandsStill, StoresNext, SwapsNext, WaitsNext, first_thread, thread_has_lock, told_twice};
 ghost use Rattle.machine.specs.inner.Kept.{cost_if};
 
 use crate::event::Event;
 use crate::kept::KeptThread;
+use crate::validation::is_validated;
 use bytecode::Code;
 use frames::{Doing, Frames};
 use norec_core::{Access, Answer, Core, Stop};
@@ -427,5 +429,148 @@ impl<A: Allocator + Copy> Thread<A> {
         ensures { result ≡ thread_has_lock self.now.thread }
     {
         self.held.core.has_lock()
+    }
+
+    /// Whether the operation that stands at its place is under validation, and loads the lock next, until it is even.
+    #[inline(always)]
+    pub fn is_waiting<B: Allocator>(&self, code: &Code<B>, doing: Doing) -> bool
+        requires of { IsThreadOf code.now self.now.thread }
+        requires stands { StandsAt code.now self.now doing }
+        ensures waits { result ≡ true → WaitsNext code.now self.now }
+        ensures access { result ≡ true → access (effect code.now) self.now.thread ≡ Access.LoadLock }
+    {
+        // The prover learns here that the code is valid.
+        let _valid = code.parts();
+        match self.held.status {
+            Status::Running => is_validated(doing) && self.held.core.is_waiting(),
+            Status::Ended => false,
+            Status::Trapped(_) => false,
+        }
+    }
+
+    /// Makes such a step, with the lock's value that was loaded. It takes no memory.
+    #[inline(always)]
+    pub fn waited<B: Allocator>(&mut self, code: &Code<B>, lock: u64)
+        requires of { IsThreadOf code.now self.old.thread }
+        requires waits { WaitsNext code.now self.old }
+        requires count { self.old.accesses + 1 < 2 ^ 64 }
+        ensures thread { self.new.thread ≡ (told_spec (effect code.now) self.old.thread (Value lock)).thread }
+        ensures of { IsThreadOf code.now self.new.thread }
+        ensures still { StandsStill code.now self.old self.new }
+        ensures accesses { self.new.accesses ≡ self.old.accesses + 1 }
+    {
+        // The prover learns here that the code is valid.
+        let _valid = code.parts();
+        self.accesses += 1;
+        self.held.waited(code, lock);
+    }
+
+    /// Where the operation that stands at its place is under validation, and compares an entry next, or past the last one the
+    /// lock: at which lock value, and the entry's place in the read log.
+    #[inline(always)]
+    pub fn comparing<B: Allocator>(&self, code: &Code<B>, doing: Doing) -> Option<(u64, usize)>
+        requires of { IsThreadOf code.now self.now.thread }
+        requires stands { StandsAt code.now self.now doing }
+        ensures { IfSome result (λ at. ComparesNext code.now self.now at.0 at.1) }
+    {
+        // The prover learns here that the code is valid.
+        let _valid = code.parts();
+        match self.held.status {
+            Status::Running => {
+                if is_validated(doing) {
+                    self.held.core.comparing()
+                } else {
+                    None
+                }
+            }
+            Status::Ended => None,
+            Status::Trapped(_) => None,
+        }
+    }
+
+    /// The entry that is compared next, the cell whose word is loaded and the word that it must have; none past the last entry,
+    /// where the lock is loaded.
+    #[inline(always)]
+    pub fn entry<B: Allocator>(&self, code: &Code<B>, time: u64, place: usize) -> Option<(u32, u64)>
+        requires of { IsThreadOf code.now self.now.thread }
+        requires compares { ComparesNext code.now self.now time place }
+        ensures entry { ComparesEntry self.now time place result }
+        ensures next { OnSome result (place + 1 < 2 ^ 64) }
+        ensures access { access (effect code.now) self.now.thread ≡ entry_access result }
+    {
+        // The prover learns here that the code is valid.
+        let _valid = code.parts();
+        self.held.core.entry(time, place)
+    }
+
+    /// Makes the step that compares this entry, where its word was loaded again. It takes no memory.
+    #[inline(always)]
+    pub fn compared<B: Allocator>(
+        &mut self,
+        code: &Code<B>,
+        time: u64,
+        place: usize,
+        entry: (u32, u64),
+    )
+        requires of { IsThreadOf code.now self.old.thread }
+        requires compares { ComparesNext code.now self.old time place }
+        requires entry { ComparesEntry self.old time place (Some entry) }
+        requires next { place + 1 < 2 ^ 64 }
+        requires word { entry.1 < 2 ^ 32 }
+        requires count { self.old.accesses + 1 < 2 ^ 64 }
+        ensures thread { self.new.thread ≡ (told_spec (effect code.now) self.old.thread (Value entry.1)).thread }
+        ensures of { IsThreadOf code.now self.new.thread }
+        ensures still { StandsStill code.now self.old self.new }
+        ensures accesses { self.new.accesses ≡ self.old.accesses + 1 }
+    {
+        // The prover learns here that the code is valid.
+        let _valid = code.parts();
+        self.accesses += 1;
+        self.held.compared(code, time, place, entry);
+    }
+
+    /// Makes the step that compares this entry, where another word was loaded: the attempt is dropped. It takes no memory.
+    #[inline(always)]
+    pub fn differed<B: Allocator>(
+        &mut self,
+        code: &Code<B>,
+        time: u64,
+        place: usize,
+        entry: (u32, u64),
+        word: u64,
+    )
+        requires of { IsThreadOf code.now self.old.thread }
+        requires compares { ComparesNext code.now self.old time place }
+        requires entry { ComparesEntry self.old time place (Some entry) }
+        requires differs { word ≢ entry.1 }
+        requires word { word < 2 ^ 32 }
+        requires count { self.old.accesses + 1 < 2 ^ 64 }
+        ensures thread { self.new.thread ≡ (told_spec (effect code.now) self.old.thread (Value word)).thread }
+        ensures of { IsThreadOf code.now self.new.thread }
+        ensures accesses { self.new.accesses ≡ self.old.accesses + 1 }
+    {
+        // The prover learns here that the code is valid.
+        let _valid = code.parts();
+        self.accesses += 1;
+        self.held.differed(code, time, place, entry, word);
+    }
+
+    /// Makes the step past the last entry, with the lock's value that was loaded: where it is the one at which validation began
+    /// it is the new snapshot, else validation begins again. It takes no memory.
+    #[inline(always)]
+    pub fn validated<B: Allocator>(&mut self, code: &Code<B>, time: u64, place: usize, lock: u64)
+        requires of { IsThreadOf code.now self.old.thread }
+        requires compares { ComparesNext code.now self.old time place }
+        requires entry { ComparesEntry self.old time place None }
+        requires count { self.old.accesses + 1 < 2 ^ 64 }
+        ensures thread { self.new.thread ≡ (told_spec (effect code.now) self.old.thread (Value lock)).thread }
+        ensures of { IsThreadOf code.now self.new.thread }
+        ensures still { StandsStill code.now self.old self.new }
+        ensures accesses { self.new.accesses ≡ self.old.accesses + 1 }
+    {
+        // The prover learns here that the code is valid.
+        let _valid = code.parts();
+        self.accesses += 1;
+        self.held.validated(code, time, place, lock);
     }
 }

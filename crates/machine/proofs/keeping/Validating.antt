@@ -1,0 +1,93 @@
+-- Validation makes the machine's steps.
+use Rattle.std.proofs.Common.{◌≡◌, ◌<◌, ◌^◌, ℕ, false, Option, None, Some, refl, sym, ◌∙◌, ap, subst}
+use Rattle.std.specs.Prelude.{IfSome, IsSomeAnd}
+use Rattle.syntax.specs.declared.numbers.Status.TheVariants.{Running}
+use Rattle.nesting.specs.Begins.{Saved}
+use Rattle.bytecode.specs.Code.{Code, effect}
+use Rattle.frames.specs.Open.{CanRestore, restored, BeginsStayOpen}
+use Rattle.norec_core.specs.declared.step.Access.{Access}
+use Rattle.norec_core.specs.declared.step.Access.TheVariants.{LoadLock}
+use Rattle.norec_core.specs.declared.step.Answer.{Answer}
+use Rattle.norec_core.specs.declared.step.Answer.TheVariants.{Value}
+use Rattle.norec_core.specs.declared.step.Op.{Op}
+use Rattle.norec_core.specs.declared.step.Op.TheVariants as op
+use Rattle.norec_core.specs.declared.step.Outcome.TheVariants as outcome
+use Rattle.norec_core.specs.Attempts.{Attempt}
+use Rattle.norec_core.specs.Phases.{core_access, core_step, entry_access}
+use Rattle.norec_core.specs.Cores.{ComparesWith, CoreState, GoesOn, IsDropped, IsWaiting}
+use Rattle.norec_core.proofs.Validating.{comparing_access, waiting_access}
+use Rattle.machine.specs.declared.event.Event.TheVariants as event
+use Rattle.machine.specs.Threads.{told}
+use Rattle.machine.specs.States.{IsValidated, IsWordOf, asks}
+use Rattle.machine.specs.inner.Kept.{Kept, Makes, RunsKept, shown}
+use Rattle.machine.proofs.keeping.Makes.{core_makes, may_go_back}
+use Rattle.machine.proofs.keeping.Operations.{WritesWord}
+use Rattle.machine.proofs.keeping.Reading.{some_and}
+
+-- such an operation saves nothing, and writes no word
+no_begin : (o : Op) → IsValidated o → {X : Type 0} → o ≡ op.Begin → X
+no_begin o v e = absurd (subst IsValidated e v)
+
+writes : (o : Op) → IsValidated o → WritesWord o
+writes (op.Read address) v = tt
+writes op.Commit v = tt
+writes op.Irrevocable v = tt
+writes op.Begin v = tt
+writes (op.Write address w) v = absurd v
+writes op.Cancel v = tt
+writes op.Release v = tt
+
+module _ (code : Code) (law : BeginsStayOpen code) (k : Kept) (running : k.status ≡ Running) (runs : RunsKept code k) (operation : IsSomeAnd (asks (effect code) (shown k)) IsValidated) where
+  asked : (o : Op) × (asks (effect code) (shown k) ≡ Some o) × IsValidated o
+  asked = some_and IsValidated (asks (effect code) (shown k)) operation
+
+  abbrev o : Op
+  o = asked.0
+
+  core_waits : IsSomeAnd k.core.attempt (λ a. IsWaiting a) → core_access k.core.attempt o ≡ LoadLock
+  core_waits w =
+      let u = some_and (λ a. IsWaiting a) k.core.attempt w in
+      ap (λ (z : Option (Attempt Saved)). core_access z o) u.1 ∙ waiting_access u.0 o u.2
+
+  core_compares : (time place : ℕ) (entry : Option (ℕ × ℕ)) → IsSomeAnd k.core.attempt (λ a. ComparesWith time place entry a) → core_access k.core.attempt o ≡ entry_access entry
+  core_compares time place entry w =
+      let u = some_and (λ a. ComparesWith time place entry a) k.core.attempt w in
+      ap (λ (z : Option (Attempt Saved)). core_access z o) u.1 ∙ comparing_access u.0 o time place entry u.2
+
+  -- a step after which the operation goes on
+  module _ (y : Answer) (l : Kept) (step : (q : Op) → GoesOn k.core y q l.core) (configuration : l.configuration ≡ k.configuration) (status : l.status ≡ k.status) (trapping : l.trapping ≡ false) (text : l.text ≡ k.text) where
+    goes : (x : Access) → core_access k.core.attempt o ≡ x → IsWordOf x y → Makes code (told (effect code) (shown k) y) l event.Quiet
+    goes x e word =
+        let n = step o in
+        core_makes code law k o y running runs asked.1 (λ h. no_begin o asked.2 h) (writes o asked.2) (subst (λ (z : Access). IsWordOf z y) (sym e) word) l outcome.Going event.Quiet
+        (sym n.outcome) n.attempt (subst (λ (z : Option Saved). IfSome z (λ w. l.core.saved ≡ w)) (sym n.back) tt)
+        (record { configuration = configuration; status = status; trapping = trapping; text = text; event = refl })
+
+    pub waits_makes : IsSomeAnd k.core.attempt (λ a. IsWaiting a) → Makes code (told (effect code) (shown k) y) l event.Quiet
+    waits_makes w = goes LoadLock (core_waits w) tt
+
+    pub compares_makes : (time place : ℕ) (entry : ℕ × ℕ) → IsSomeAnd k.core.attempt (λ a. ComparesWith time place (Some entry) a) → IsWordOf (entry_access (Some entry)) y → Makes code (told (effect code) (shown k) y) l event.Quiet
+    compares_makes time place entry w word = goes (entry_access (Some entry)) (core_compares time place (Some entry) w) word
+
+    pub validates_makes : (time place : ℕ) → IsSomeAnd k.core.attempt (λ a. ComparesWith time place None a) → Makes code (told (effect code) (shown k) y) l event.Quiet
+    validates_makes time place w = goes LoadLock (core_compares time place None w) tt
+
+  -- a step that drops the attempt
+  module _ (time place : ℕ) (entry : ℕ × ℕ) (compares : IsSomeAnd k.core.attempt (λ a. ComparesWith time place (Some entry) a)) (word : ℕ) (fits : word < 2 ^ 32) where
+    drops_word : IsWordOf (core_access k.core.attempt o) (Value word)
+    drops_word = subst (λ (x : Access). IsWordOf x (Value word)) (sym (core_compares time place (Some entry) compares)) fits
+
+    stays : (d : CoreState) (n : IsDropped k.core (Value word) o d) → IfSome (core_step k.core.saved k.core.attempt o (Value word)).back (λ z. d.saved ≡ z)
+    stays d n = subst (λ (z : Option Saved). IfSome z (λ w. d.saved ≡ w)) (sym n.back) refl
+
+    pub drops_back : (d : CoreState) → ((q : Op) → IsDropped k.core (Value word) q d) → CanRestore k.configuration d.saved
+    drops_back d step =
+        let n = step o in
+        (may_go_back code law k o (Value word) running runs asked.1 (λ h. no_begin o asked.2 h) (writes o asked.2) drops_word outcome.Aborted d.saved (sym n.outcome) (stays d n)).0
+
+    pub drops_makes : (l : Kept) → ((q : Op) → IsDropped k.core (Value word) q l.core) → l.configuration ≡ restored k.configuration l.core.saved → l.status ≡ k.status → l.trapping ≡ false → l.text ≡ k.text → Makes code (told (effect code) (shown k) (Value word)) l event.Abort
+    drops_makes l step configuration status trapping text =
+        let n = step o in
+        core_makes code law k o (Value word) running runs asked.1 (λ h. no_begin o asked.2 h) (writes o asked.2) drops_word l outcome.Aborted event.Abort
+        (sym n.outcome) n.attempt (stays l.core n)
+        (record { configuration = configuration; status = status; trapping = trapping; text = text; event = refl })

@@ -1,0 +1,123 @@
+//! Validation as a thread keeps it, step by step.
+
+ghost use Rattle.std.specs.Prelude.{◌≡◌, ◌≢◌, ◌+◌, ◌<◌, ◌^◌, true, None, Some, IsSomeAnd};
+ghost use Rattle.syntax.specs.declared.numbers.Status.TheVariants.{Running};
+ghost use Rattle.bytecode.specs.Code.{effect};
+ghost use Rattle.bytecode.specs.Valid.{IsValid};
+ghost use Rattle.norec_core.specs.declared.step.Answer.TheVariants.{Value};
+ghost use Rattle.norec_core.specs.Cores.{ComparesWith, IsWaiting};
+ghost use Rattle.machine.specs.Threads.{told as told_spec};
+ghost use Rattle.machine.specs.States.{IsValidated, MayValidate, asks};
+ghost use Rattle.machine.specs.inner.Kept.{kept, shown, RunsKept, Makes};
+
+use crate::event::Event;
+use crate::kept::{KeptThread, go_back};
+use bytecode::Code;
+use frames::Doing;
+use std::alloc::Allocator;
+
+// Whether what is to be done is an operation under which an attempt is validated.
+#[inline(always)]
+pub(crate) fn is_validated(doing: Doing) -> bool
+    ensures { result ≡ true → MayValidate doing }
+{
+    match doing {
+        Doing::Read(_, _) => true,
+        Doing::Commit => true,
+        Doing::Irrevocable => true,
+        _ => false,
+    }
+}
+
+impl<A: Allocator + Copy> KeptThread<A> {
+    // A step that waits for an even lock, with the lock's value that was loaded.
+    #[inline(always)]
+    pub(crate) fn waited<B: Allocator>(&mut self, code: &Code<B>, lock: u64)
+        requires valid { IsValid code.now }
+        requires running { self.old.status ≡ Running }
+        requires runs { RunsKept code.now (kept self.old) }
+        requires operation { IsSomeAnd (asks (effect code.now) (shown (kept self.old))) IsValidated }
+        requires waits { IsSomeAnd self.old.core.attempt (λ a. IsWaiting a) }
+        ensures makes { Makes code.now (told_spec (effect code.now) (shown (kept self.old)) (Value lock)) (kept self.new) Event.Quiet }
+        ensures still { self.new.frames.configuration ≡ self.old.frames.configuration }
+    {
+        // The prover names by it the code.
+        let _code = code;
+        self.core.waited(lock);
+        self.trapping = false;
+    }
+
+    // A step that compares this entry, whose word was loaded again.
+    #[inline(always)]
+    pub(crate) fn compared<B: Allocator>(
+        &mut self,
+        code: &Code<B>,
+        time: u64,
+        place: usize,
+        entry: (u32, u64),
+    )
+        requires valid { IsValid code.now }
+        requires running { self.old.status ≡ Running }
+        requires runs { RunsKept code.now (kept self.old) }
+        requires operation { IsSomeAnd (asks (effect code.now) (shown (kept self.old))) IsValidated }
+        requires entry { IsSomeAnd self.old.core.attempt (λ a. ComparesWith time place (Some entry) a) }
+        requires next { place + 1 < 2 ^ 64 }
+        requires word { entry.1 < 2 ^ 32 }
+        ensures makes { Makes code.now (told_spec (effect code.now) (shown (kept self.old)) (Value entry.1)) (kept self.new) Event.Quiet }
+        ensures still { self.new.frames.configuration ≡ self.old.frames.configuration }
+    {
+        // The prover names by it the code.
+        let _code = code;
+        self.core.compared(time, place, entry);
+        self.trapping = false;
+    }
+
+    // A step that compares this entry, where another word was loaded.
+    #[inline(always)]
+    pub(crate) fn differed<B: Allocator>(
+        &mut self,
+        code: &Code<B>,
+        time: u64,
+        place: usize,
+        entry: (u32, u64),
+        word: u64,
+    )
+        requires valid { IsValid code.now }
+        requires running { self.old.status ≡ Running }
+        requires runs { RunsKept code.now (kept self.old) }
+        requires operation { IsSomeAnd (asks (effect code.now) (shown (kept self.old))) IsValidated }
+        requires entry { IsSomeAnd self.old.core.attempt (λ a. ComparesWith time place (Some entry) a) }
+        requires differs { word ≢ entry.1 }
+        requires word { word < 2 ^ 32 }
+        ensures { Makes code.now (told_spec (effect code.now) (shown (kept self.old)) (Value word)) (kept self.new) Event.Abort }
+    {
+        // The prover names by it the code.
+        let _code = code;
+        self.core.differed(time, place, entry, word);
+        self.trapping = false;
+        go_back(&mut self.frames, &self.core);
+    }
+
+    // A step past the last entry, with the lock's value that was loaded.
+    #[inline(always)]
+    pub(crate) fn validated<B: Allocator>(
+        &mut self,
+        code: &Code<B>,
+        time: u64,
+        place: usize,
+        lock: u64,
+    )
+        requires valid { IsValid code.now }
+        requires running { self.old.status ≡ Running }
+        requires runs { RunsKept code.now (kept self.old) }
+        requires operation { IsSomeAnd (asks (effect code.now) (shown (kept self.old))) IsValidated }
+        requires entry { IsSomeAnd self.old.core.attempt (λ a. ComparesWith time place None a) }
+        ensures makes { Makes code.now (told_spec (effect code.now) (shown (kept self.old)) (Value lock)) (kept self.new) Event.Quiet }
+        ensures still { self.new.frames.configuration ≡ self.old.frames.configuration }
+    {
+        // The prover names by it the code.
+        let _code = code;
+        self.core.validated(time, place, lock);
+        self.trapping = false;
+    }
+}
