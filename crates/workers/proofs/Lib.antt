@@ -20,3 +20,5 @@ pub mod Ran
 pub mod Later
 -- both steps of a read
 pub mod Loading
+-- accesses of validation and of a begin that waits
+pub mod Waiting

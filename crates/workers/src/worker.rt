@@ -1,12 +1,12 @@
 //! One thread of the machine, with its seat at the table.
 
-ghost use Rattle.std.specs.Prelude.{◌≡◌, ◌+◌, ◌^◌, ◌<◌, ◌≤◌, ℕ, true, false, OnOk, OnErr, IfErr, IfNone, IfOk, IfSome};
+ghost use Rattle.std.specs.Prelude.{◌≡◌, ◌+◌, ◌%◌, ◌^◌, ◌<◌, ◌≤◌, ℕ, true, false, None, Some, OnOk, OnErr, OnSome, IfErr, IfNone, IfOk, IfSome};
 ghost use Rattle.atomic_table.specs.Seated.{TableId};
 ghost use Rattle.bytecode.specs.Code.{effect};
 ghost use Rattle.bytecode.specs.Valid.{cells_of};
 ghost use Rattle.machine.specs.Threads.{access as access_of};
 ghost use Rattle.machine.specs.Standing.{IsThreadOf};
-ghost use Rattle.machine.specs.States.{StandsAt, StoresNext};
+ghost use Rattle.machine.specs.States.{ComparesEntry, ComparesNext, StandsAt, StandsStill, StoresNext, WaitsNext};
 ghost use Rattle.seats.specs.Setup.{Setup};
 ghost use Rattle.workers.specs.Works.{Because};
 
@@ -18,6 +18,7 @@ use machine::Thread;
 use norec_core::{Access, Stop};
 use seats::{View, Words, load_lock, load_word, make};
 use std::alloc::{Allocator, Global};
+use std::hint::spin_loop;
 use syntax::numbers::{Status as ThreadStatus, Trap};
 
 /// A thread of a hall. Contracts say of it that it is a worker of that hall; it may move to any thread of the program.
@@ -38,6 +39,14 @@ pub enum Status {
     Trapped(Trap),
     /// All steps of the budget were made, and the thread is neither ended nor trapped.
     Budget,
+}
+
+// Tells the processor that this thread waits, where the lock was found taken.
+#[inline(always)]
+fn pause(lock: u64) {
+    if lock % 2 == 1 {
+        spin_loop();
+    }
 }
 
 impl<A: Allocator + Copy> Worker<A> {
@@ -81,6 +90,7 @@ impl<A: Allocator + Copy> Worker<A> {
     }
 
     // One step of the thread.
+    #[inline(never)]
     pub(crate) fn step(&mut self, words: &Words<A>, code: &Code<A>) -> Result<(), Stop>
         requires table { words.now.table_id.words ≡ cells_of code.now + 1 }
         requires code { words.now.key.code ≡ code.now }
@@ -121,25 +131,52 @@ impl<A: Allocator + Copy> Worker<A> {
         true
     }
 
-    // The step of a begin, which loads the lock, where no attempt is under way: whether it was made.
+    // The step of a begin, which loads the lock, where no attempt is under way: the lock's value that was found, if it was made.
+    // Where that is odd the begin stands there still.
     #[inline(always)]
-    fn begin(&mut self, words: &Words<A>, code: &Code<A>, to: u32) -> bool
+    fn load_begin(&mut self, words: &Words<A>, code: &Code<A>, to: u32) -> Option<u64>
         requires table { words.now.table_id.words ≡ cells_of code.now + 1 }
         requires code { words.now.key.code ≡ code.now }
         requires worker { IsWorkerOf words.now.table_id words.now.key self.old }
         requires room { self.old.steps + 1 < 2 ^ 64 }
         requires stands { StandsAt code.now self.old.thread (Doing.Begin to) }
         ensures goes_on { (self.new.number ≡ self.old.number) × StepsOn words.now.table_id words.now.key self.old self.new }
-        ensures made { result ≡ true → self.new.steps ≡ self.old.steps + 1 }
-        ensures not_made { result ≡ false → (self.new.steps ≡ self.old.steps) × StandsAt code.now self.new.thread (Doing.Begin to) }
+        ensures made { OnSome result (self.new.steps ≡ self.old.steps + 1) }
+        ensures again { IfSome result (λ lock. lock % 2 ≡ 1 → StandsAt code.now self.new.thread (Doing.Begin to)) }
+        ensures not_made { IfNone result ((self.new.steps ≡ self.old.steps) × StandsAt code.now self.new.thread (Doing.Begin to)) }
     {
         if !self.thread.prepare_begin(code, to) {
-            return false;
+            return None;
         }
         let lock = load_lock(words, &mut self.seat);
         self.thread.take_begin(code, to, lock);
         self.steps += 1;
-        true
+        Some(lock)
+    }
+
+    // Such steps, one after another, at most so many, until the lock is found even: how many were made.
+    #[inline(always)]
+    fn begin(&mut self, words: &Words<A>, code: &Code<A>, to: u32, most: u64) -> u64
+        requires table { words.now.table_id.words ≡ cells_of code.now + 1 }
+        requires code { words.now.key.code ≡ code.now }
+        requires worker { IsWorkerOf words.now.table_id words.now.key self.old }
+        requires room { self.old.steps + most < 2 ^ 64 }
+        requires stands { StandsAt code.now self.old.thread (Doing.Begin to) }
+        ensures goes_on { (self.new.number ≡ self.old.number) × StepsOn words.now.table_id words.now.key self.old self.new }
+        ensures steps { self.new.steps ≡ self.old.steps + result }
+        ensures few { result ≤ most }
+        ensures none { result ≡ 0 → StandsAt code.now self.new.thread (Doing.Begin to) }
+    {
+        'loads: for made in 0..most {
+            let Some(lock) = self.load_begin(words, code, to) else {
+                return made;
+            };
+            if lock % 2 == 0 {
+                return made + 1;
+            }
+            spin_loop();
+        }
+        most
     }
 
     // The step of a commit that swaps the lock, where that is its next one: whether it was made.
@@ -245,33 +282,129 @@ impl<A: Allocator + Copy> Worker<A> {
     {
         match doing {
             Doing::Read(to, cell) => 2 <= most && self.read(words, code, to, cell),
-            Doing::Begin(to) => self.begin(words, code, to),
+            Doing::Begin(to) => self.begin(words, code, to, most) > 0,
             Doing::Commit => self.commit(words, code, most),
             _ => false,
         }
     }
 
-    // Steps of the thread in which the same is to be done, one by one, at most so many, and one at least.
+    // The step of validation that loads the lock, until it is even.
+    #[inline(always)]
+    fn wait(&mut self, words: &Words<A>, code: &Code<A>)
+        requires table { words.now.table_id.words ≡ cells_of code.now + 1 }
+        requires code { words.now.key.code ≡ code.now }
+        requires worker { IsWorkerOf words.now.table_id words.now.key self.old }
+        requires room { self.old.steps + 1 < 2 ^ 64 }
+        requires waits { WaitsNext code.now self.old.thread }
+        requires access { access_of (effect code.now) self.old.thread.thread ≡ Access.LoadLock }
+        ensures goes_on { (self.new.number ≡ self.old.number) × StepsOn words.now.table_id words.now.key self.old self.new }
+        ensures steps { self.new.steps ≡ self.old.steps + 1 }
+        ensures still { StandsStill code.now self.old.thread self.new.thread }
+    {
+        let lock = load_lock(words, &mut self.seat);
+        self.thread.waited(code, lock);
+        self.steps += 1;
+        pause(lock);
+    }
+
+    // The step of validation that compares this entry: whether its word was loaded again.
+    #[inline(always)]
+    fn compare_word(
+        &mut self,
+        words: &Words<A>,
+        code: &Code<A>,
+        time: u64,
+        place: usize,
+        entry: (u32, u64),
+    ) -> bool
+        requires table { words.now.table_id.words ≡ cells_of code.now + 1 }
+        requires code { words.now.key.code ≡ code.now }
+        requires worker { IsWorkerOf words.now.table_id words.now.key self.old }
+        requires room { self.old.steps + 1 < 2 ^ 64 }
+        requires compares { ComparesNext code.now self.old.thread time place }
+        requires entry { ComparesEntry self.old.thread time place (Some entry) }
+        requires next { place + 1 < 2 ^ 64 }
+        requires access { access_of (effect code.now) self.old.thread.thread ≡ Access.LoadWord entry.0 }
+        ensures goes_on { (self.new.number ≡ self.old.number) × StepsOn words.now.table_id words.now.key self.old self.new }
+        ensures steps { self.new.steps ≡ self.old.steps + 1 }
+        ensures still { result ≡ true → StandsStill code.now self.old.thread self.new.thread }
+    {
+        let (cell, word) = entry;
+        let found = load_word(words, &mut self.seat, cell as usize);
+        self.steps += 1;
+        if found != word {
+            self.thread.differed(code, time, place, entry, found);
+            return false;
+        }
+        self.thread.compared(code, time, place, entry);
+        true
+    }
+
+    // The step of validation past the last entry, which loads the lock.
+    #[inline(always)]
+    fn confirm(&mut self, words: &Words<A>, code: &Code<A>, time: u64, place: usize)
+        requires table { words.now.table_id.words ≡ cells_of code.now + 1 }
+        requires code { words.now.key.code ≡ code.now }
+        requires worker { IsWorkerOf words.now.table_id words.now.key self.old }
+        requires room { self.old.steps + 1 < 2 ^ 64 }
+        requires compares { ComparesNext code.now self.old.thread time place }
+        requires entry { ComparesEntry self.old.thread time place None }
+        requires access { access_of (effect code.now) self.old.thread.thread ≡ Access.LoadLock }
+        ensures goes_on { (self.new.number ≡ self.old.number) × StepsOn words.now.table_id words.now.key self.old self.new }
+        ensures steps { self.new.steps ≡ self.old.steps + 1 }
+        ensures still { StandsStill code.now self.old.thread self.new.thread }
+    {
+        let lock = load_lock(words, &mut self.seat);
+        self.thread.validated(code, time, place, lock);
+        self.steps += 1;
+    }
+
+    // The step of validation at this lock value and place of the read log: whether the attempt goes on.
+    #[inline(always)]
+    fn compare(&mut self, words: &Words<A>, code: &Code<A>, time: u64, place: usize) -> bool
+        requires table { words.now.table_id.words ≡ cells_of code.now + 1 }
+        requires code { words.now.key.code ≡ code.now }
+        requires worker { IsWorkerOf words.now.table_id words.now.key self.old }
+        requires room { self.old.steps + 1 < 2 ^ 64 }
+        requires compares { ComparesNext code.now self.old.thread time place }
+        ensures goes_on { (self.new.number ≡ self.old.number) × StepsOn words.now.table_id words.now.key self.old self.new }
+        ensures steps { self.new.steps ≡ self.old.steps + 1 }
+        ensures still { result ≡ true → StandsStill code.now self.old.thread self.new.thread }
+    {
+        match self.thread.entry(code, time, place) {
+            Some(entry) => self.compare_word(words, code, time, place, entry),
+            None => {
+                self.confirm(words, code, time, place);
+                true
+            }
+        }
+    }
+
+    // Steps of validation, one after another, at most so many, where what is to be done is under it: how many were made.
     #[inline(never)]
-    fn go_through(&mut self, words: &Words<A>, code: &Code<A>, most: u64) -> Result<(), Stop>
+    fn validate(&mut self, words: &Words<A>, code: &Code<A>, doing: Doing, most: u64) -> u64
         requires table { words.now.table_id.words ≡ cells_of code.now + 1 }
         requires code { words.now.key.code ≡ code.now }
         requires worker { IsWorkerOf words.now.table_id words.now.key self.old }
         requires room { self.old.steps + most < 2 ^ 64 }
-        requires some { 0 < most }
+        requires stands { StandsAt code.now self.old.thread doing }
         ensures goes_on { (self.new.number ≡ self.old.number) × StepsOn words.now.table_id words.now.key self.old self.new }
-        ensures steps { (self.old.steps ≤ self.new.steps) × (self.new.steps ≤ self.old.steps + most) }
-        ensures ok { OnOk result (self.old.steps < self.new.steps) }
-        ensures stop { IfErr result (λ e. Because e (access_of (effect code.now) self.new.thread.thread)) }
+        ensures steps { self.new.steps ≡ self.old.steps + result }
+        ensures few { result ≤ most }
     {
-        let doing = self.thread.doing(code);
         'steps: for made in 0..most {
-            let again = self.step_at(words, code, doing)?;
-            if !again {
-                return Ok(());
+            if self.thread.is_waiting(code, doing) {
+                self.wait(words, code);
+                continue;
+            }
+            let Some((time, place)) = self.thread.comparing(code, doing) else {
+                return made;
+            };
+            if !self.compare(words, code, time, place) {
+                return made + 1;
             }
         }
-        Ok(())
+        most
     }
 
     // Steps of the thread in which this is to be done, at most so many, and one at least.
@@ -297,7 +430,10 @@ impl<A: Allocator + Copy> Worker<A> {
         if self.complete(words, code, doing, most) {
             return Ok(());
         }
-        self.go_through(words, code, most)
+        if self.validate(words, code, doing, most) > 0 {
+            return Ok(());
+        }
+        self.step(words, code)
     }
 
     // How its thread is, after all steps of a budget.

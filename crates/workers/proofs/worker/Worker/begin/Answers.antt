@@ -1,43 +1,29 @@
-use Rattle.std.proofs.Common.{◌∙◌, refl, sym, ap, arith}
-use Rattle.bytecode.specs.Code.{effect}
-use Rattle.norec_core.specs.Accesses.{cost}
-use Rattle.norec_core.specs.declared.step.Access.TheVariants.{LoadLock}
-use Rattle.norec_core.specs.declared.step.Answer.TheVariants.{Value}
-use Rattle.machine.specs.Threads.{access}
-use Rattle.workers.proofs.Turns.{not_stepped, ready_next, stepped}
+use Rattle.std.proofs.Common.{◌∙◌, refl, sym, arith, add-zero}
+use Rattle.workers.proofs.Going.{further, stays}
 use Rattle.workers.proofs.worker.Worker.begin.Goals as goal
 
-pub returns-then-not-prepare_begin-clause-goes_on : goal.returns-then-not-prepare_begin-clause-goes_on
-returns-then-not-prepare_begin-clause-goes_on g c = (
-  refl,
-  λ was.
-      let r = not_stepped c.args.words.now.key c.args.self.now.number c.args.self.now.thread.thread c.args.self.now.steps c.args.self.now.thread.accesses c.args.self.now.seat.me was.1 c.args.code.now c.requires.code c.prepare_begin.new.self.thread c.prepare_begin.ensures.thread c.prepare_begin.new.self.accesses c.prepare_begin.ensures.accesses in
-      ((was.0, r.0), r.1),
-)
+pub loads-init : goal.loads-init
+loads-init g c = record {
+  worker = c.requires.worker;
+  steps = sym (add-zero c.args.self.now.steps);
+  number = refl;
+  goes_on = stays c.args.words.now.table_id c.args.words.now.key c.args.self.now;
+  stands = c.requires.stands;
+}
 
-pub load_lock-lock-requires-clause-next : goal.load_lock-lock-requires-clause-next
-load_lock-lock-requires-clause-next g c =
-    let loads = c.prepare_begin.ensures.access c.if-not-prepare_begin.false in
-    ready_next c.args.words.now.key c.args.self.now.number c.args.self.now.thread.thread c.args.self.now.steps c.args.self.now.thread.accesses c.args.self.now.seat.me c.requires.worker.1 c.args.code.now c.requires.code c.prepare_begin.new.self.thread c.prepare_begin.ensures.thread
-    LoadLock (sym loads ∙ ap (access (effect c.args.code.now)) c.prepare_begin.ensures.thread)
+pub returns-in_default-clause-goes_on : goal.returns-in_default-clause-goes_on
+returns-in_default-clause-goes_on g c =
+    (c.load_begin.ensures.goes_on.0 ∙ c.loads.invariant.number, further c.args.words.now.table_id c.args.words.now.key c.args.self.now c.loads.self c.load_begin.new.self c.loads.invariant.goes_on c.load_begin.ensures.goes_on.1)
 
-pub take_begin-requires-clause-count : goal.take_begin-requires-clause-count
-take_begin-requires-clause-count g c =
-    let a = c.prepare_begin.ensures.accesses in
-    let f = c.requires.worker.1.fewer in
-    let r = c.requires.room in
-    omega (arith, a, f, r)
+pub returns-then-lock-eq0-clause-goes_on : goal.returns-then-lock-eq0-clause-goes_on
+returns-then-lock-eq0-clause-goes_on g c =
+    (c.load_begin.ensures.goes_on.0 ∙ c.loads.invariant.number, further c.args.words.now.table_id c.args.words.now.key c.args.self.now c.loads.self c.load_begin.new.self c.loads.invariant.goes_on c.load_begin.ensures.goes_on.1)
 
-pub returns-clause-goes_on : goal.returns-clause-goes_on
-returns-clause-goes_on g c = (
-  refl,
-  λ was.
-      let loads = c.prepare_begin.ensures.access c.if-not-prepare_begin.false in
-      let one = ap cost loads in
-      let a = c.prepare_begin.ensures.accesses in
-      let b = c.take_begin.ensures.accesses in
-      let r = stepped c.args.words.now.key c.args.self.now.number c.args.self.now.thread.thread c.args.self.now.steps c.args.self.now.thread.accesses c.args.self.now.seat.me was.1 c.args.code.now c.requires.code c.prepare_begin.new.self.thread c.prepare_begin.ensures.thread
-      LoadLock (sym loads ∙ ap (access (effect c.args.code.now)) c.prepare_begin.ensures.thread) (Value c.load_lock-lock.result) c.load_lock-lock.new.seat.me (c.load_lock-lock.result, refl, c.load_lock-lock.ensures.took) refl
-      c.take_begin.new.self.thread c.take_begin.ensures.thread c.take_begin.ensures.of c.take_begin.new.self.accesses (omega (arith, one, a, b)) in
-      ((c.load_lock-lock.ensures.seat.0 ∙ was.0, r.0), r.1),
-)
+pub loads-preserved : goal.loads-preserved
+loads-preserved g c = record {
+  worker = (c.load_begin.ensures.goes_on.1 c.loads.invariant.worker).0;
+  steps = (let a = c.in-Some.ensures.made in let b = c.loads.invariant.steps in omega arith);
+  number = c.load_begin.ensures.goes_on.0 ∙ c.loads.invariant.number;
+  goes_on = further c.args.words.now.table_id c.args.words.now.key c.args.self.now c.loads.self c.load_begin.new.self c.loads.invariant.goes_on c.load_begin.ensures.goes_on.1;
+  stands = c.in-Some.ensures.again (let odd = c.if-lock-eq0.false in omega (arith, odd));
+}
