@@ -1,4 +1,4 @@
-use Rattle.std.proofs.Common.{◌≡◌, ◌∙◌, ◌<◌, ◌^◌, ℕ, refl, sym, ap, subst, arith}
+use Rattle.std.proofs.Common.{◌∙◌, ◌<◌, ◌^◌, ℕ, refl, sym, ap, subst, arith}
 use Rattle.bytecode.specs.Code.{effect}
 use Rattle.bytecode.specs.Valid.{cells_of}
 use Rattle.norec_core.specs.declared.step.Answer.TheVariants.{Value}
