@@ -167,12 +167,12 @@ impl<A: Allocator + Copy> Worker<A> {
         ensures few { result ≤ most }
         ensures none { result ≡ 0 → StandsAt code.now self.new.thread (Doing.Begin to) }
     {
-        'loads: for made in 0..most {
+        'loads: for loaded in 0..most {
             let Some(lock) = self.load_begin(words, code, to) else {
-                return made;
+                return loaded;
             };
             if lock % 2 == 0 {
-                return made + 1;
+                return loaded + 1;
             }
             spin_loop();
         }
@@ -392,16 +392,16 @@ impl<A: Allocator + Copy> Worker<A> {
         ensures steps { self.new.steps ≡ self.old.steps + result }
         ensures few { result ≤ most }
     {
-        'steps: for made in 0..most {
+        'steps: for passed in 0..most {
             if self.thread.is_waiting(code, doing) {
                 self.wait(words, code);
                 continue;
             }
             let Some((time, place)) = self.thread.comparing(code, doing) else {
-                return made;
+                return passed;
             };
             if !self.compare(words, code, time, place) {
-                return made + 1;
+                return passed + 1;
             }
         }
         most

@@ -17,3 +17,5 @@ mod reports;
 mod sums;
 #[cfg(test)]
 mod turns;
+#[cfg(test)]
+mod validation;

@@ -106,6 +106,27 @@ pub fn nothing() -> Program<'static> {
     (1, 0, &CODE)
 }
 
+/// Thread 0 reads four times, and the other one writes: `int x; void worker(int self) { int v; if (self == 0) { __transaction_atomic {
+/// v = x; v = x; v = x; v = x; } } else { __transaction_atomic { x = WORD; } } }`
+pub fn reads_again(word: u32) -> [Instr; 14] {
+    [
+        Instr::Constant(1, 0),
+        Instr::JumpNonzero(0, 9),
+        Instr::Begin(8),
+        Instr::Read(1, 0),
+        Instr::Read(1, 0),
+        Instr::Read(1, 0),
+        Instr::Read(1, 0),
+        Instr::Commit,
+        Instr::Jump(13),
+        Instr::Begin(13),
+        Instr::Constant(2, word),
+        Instr::Write(2, 0),
+        Instr::Commit,
+        Instr::Return,
+    ]
+}
+
 // Parts with nothing in them.
 fn no_parts<A: Allocator + Copy>(alloc: A) -> Parts<A> {
     Parts {

@@ -6,7 +6,7 @@ use Rattle.workers.proofs.worker.Worker.validate.Given as goal
 abbrev pub invariant-steps : goal.invariant-steps
 invariant-steps g l = record {
   worker : IsWorkerOf l.words.table_id l.words.key l.self;
-  steps : l.self.steps ≡ l.initial.self.steps + l.made;
+  steps : l.self.steps ≡ l.initial.self.steps + l.passed;
   number : l.self.number ≡ l.initial.self.number;
   goes_on : StepsOn l.words.table_id l.words.key l.initial.self l.self;
   stands : StandsAt l.code l.self.thread l.doing;

@@ -1,0 +1,107 @@
+//! Validation, and begins that wait for the lock, in runs that end amid them.
+
+use crate::hall::{Turn, are_turns, leaves, opened};
+use crate::programs::{Program, adds, reads_again};
+use std::alloc::Global;
+use workers::Status;
+
+// Whether two workers of a program make these turns, and this word is left.
+fn makes(alloc: Global, program: Program, turns: &[Turn], word: u64) -> bool {
+    match opened(alloc, program, 2) {
+        Ok((hall, mut workers)) => {
+            let right = are_turns(&hall, &mut workers, turns);
+            let closes = leaves(alloc, hall, workers, (word, "", ""));
+            right && closes
+        }
+        Err(_) => false,
+    }
+}
+
+// The same where worker 0 reads four times, and worker 1 writes this word.
+fn makes_reading(alloc: Global, written: u32, turns: &[Turn]) -> bool {
+    makes(alloc, (3, 0, &reads_again(written)), turns, written as u64)
+}
+
+// Worker 1 writes the word that is there before the last of the reads: validation finds all three entries unchanged.
+fn goes_on() -> &'static [Turn] {
+    static TURNS: [Turn; 3] = [
+        Turn::Run(0, 9, Status::Budget, 9, 7),
+        Turn::Run(1, 100, Status::Ended, 9, 4),
+        Turn::Run(0, 100, Status::Ended, 21, 16),
+    ];
+    &TURNS
+}
+
+// The same in runs that end after the lock's load, after the second entry, and after the last one.
+fn goes_on_in_pieces() -> &'static [Turn] {
+    static TURNS: [Turn; 6] = [
+        Turn::Run(0, 9, Status::Budget, 9, 7),
+        Turn::Run(1, 100, Status::Ended, 9, 4),
+        Turn::Run(0, 3, Status::Budget, 12, 10),
+        Turn::Run(0, 2, Status::Budget, 14, 12),
+        Turn::Run(0, 1, Status::Budget, 15, 13),
+        Turn::Run(0, 100, Status::Ended, 21, 16),
+    ];
+    &TURNS
+}
+
+// The same where worker 1 has the lock meanwhile: validation waits for its release.
+fn waits() -> &'static [Turn] {
+    static TURNS: [Turn; 5] = [
+        Turn::Run(0, 9, Status::Budget, 9, 7),
+        Turn::Run(1, 6, Status::Budget, 6, 2),
+        Turn::Run(0, 5, Status::Budget, 14, 12),
+        Turn::Run(1, 100, Status::Ended, 9, 4),
+        Turn::Run(0, 100, Status::Ended, 24, 19),
+    ];
+    &TURNS
+}
+
+// Worker 1 has the lock where worker 0 begins, which waits for its release.
+fn begins_late() -> &'static [Turn] {
+    static TURNS: [Turn; 4] = [
+        Turn::Run(1, 6, Status::Budget, 6, 2),
+        Turn::Run(0, 7, Status::Budget, 7, 5),
+        Turn::Run(1, 100, Status::Ended, 9, 4),
+        Turn::Run(0, 100, Status::Ended, 19, 14),
+    ];
+    &TURNS
+}
+
+// Worker 1 writes another word: validation drops the attempt at its first entry.
+fn begins_anew() -> &'static [Turn] {
+    static TURNS: [Turn; 3] = [
+        Turn::Run(0, 9, Status::Budget, 9, 7),
+        Turn::Run(1, 100, Status::Ended, 9, 4),
+        Turn::Run(0, 100, Status::Ended, 25, 20),
+    ];
+    &TURNS
+}
+
+// Both add, and worker 1 between the reads of worker 0 and its commit, which loses its swap.
+fn loses_its_swap() -> &'static [Turn] {
+    static TURNS: [Turn; 3] = [
+        Turn::Run(0, 6, Status::Budget, 6, 3),
+        Turn::Run(1, 100, Status::Ended, 10, 6),
+        Turn::Run(0, 100, Status::Ended, 19, 12),
+    ];
+    &TURNS
+}
+
+#[test]
+fn validation_finds_what_was_read(rt: HostRuntime) {
+    assert!(rt; makes_reading(rt.alloc(), 0, goes_on()));
+    assert!(rt; makes_reading(rt.alloc(), 0, goes_on_in_pieces()));
+}
+
+#[test]
+fn a_lock_that_is_taken_is_waited_for(rt: HostRuntime) {
+    assert!(rt; makes_reading(rt.alloc(), 0, waits()));
+    assert!(rt; makes_reading(rt.alloc(), 0, begins_late()));
+}
+
+#[test]
+fn another_word_drops_the_attempt(rt: HostRuntime) {
+    assert!(rt; makes_reading(rt.alloc(), 1, begins_anew()));
+    assert!(rt; makes(rt.alloc(), adds(), loses_its_swap(), 2));
+}
