@@ -99,6 +99,21 @@ impl<A: Allocator + Copy> Attempt<A> {
         self.aside.save(registers, frames, place)
     }
 
+    /// Sets aside what the next outermost begin saves, which needs no room beside that of the registers. The error comes only where
+    /// these have none and the allocator refuses it.
+    #[inline(always)]
+    pub fn prepare_outermost(
+        &mut self,
+        registers: &[u64],
+        frames: usize,
+        place: u32,
+    ) -> Result<(), AllocError>
+        ensures aside { OnOk result (self.new.aside ≡ record { registers = registers.now; frames = frames; place = place }) }
+        ensures others { GainsRoom (record self.old { aside = self.new.aside }) self.new }
+    {
+        self.aside.save(registers, frames, place)
+    }
+
     /// Makes room for one `log_read`. The error comes only where there is none and the allocator refuses it.
     pub fn prepare_read(&mut self) -> Result<(), AllocError>
         ensures room { OnOk result (0 < self.new.read_room) }

@@ -23,6 +23,7 @@ impl<A: Allocator> Model for Saved<A> {
 }
 
 // Puts these registers in place of those that were there. It takes no memory.
+#[inline(never)]
 fn refill<A: Allocator>(registers: &mut Vec<u64, A>, from: &[u64])
     requires { length from.now ≤ vec_capacity registers.old }
     ensures { registers.new.items ≡ from.now }
@@ -31,6 +32,20 @@ fn refill<A: Allocator>(registers: &mut Vec<u64, A>, from: &[u64])
     for register in from {
         registers.push_reserved(*register);
     }
+}
+
+// The same where memory may be wanted. The error comes only where the registers have no room and the allocator refuses it.
+#[inline(never)]
+fn regrow<A: Allocator>(registers: &mut Vec<u64, A>, from: &[u64]) -> Result<(), AllocError>
+    ensures ok { OnOk result (registers.new.items ≡ from.now) }
+    ensures err { OnErr result (registers.new.items ≡ registers.old.items) }
+{
+    if registers.capacity() < from.len() {
+        let more = from.len().saturating_sub(registers.len());
+        registers.reserve(more)?;
+    }
+    refill(registers, from);
+    Ok(())
 }
 
 impl<A: Allocator + Copy> Saved<A> {
@@ -45,6 +60,7 @@ impl<A: Allocator + Copy> Saved<A> {
 
     // Saves these in place of what was saved. The error comes only where the registers have no room and the allocator
     // refuses it.
+    #[inline(always)]
     pub(crate) fn save(
         &mut self,
         registers: &[u64],
@@ -54,11 +70,12 @@ impl<A: Allocator + Copy> Saved<A> {
         ensures ok { OnOk result (self.new ≡ record { registers = registers.now; frames = frames; place = place }) }
         ensures err { OnErr result (self.new ≡ self.old) }
     {
-        if self.registers.capacity() < registers.len() {
-            let more = registers.len().saturating_sub(self.registers.len());
-            self.registers.reserve(more)?;
+        // A thread mostly saves as many as it saved before.
+        if self.registers.len() == registers.len() {
+            self.registers.as_mut_slice().copy_from_slice(registers);
+        } else {
+            regrow(&mut self.registers, registers)?;
         }
-        refill(&mut self.registers, registers);
         self.frames = frames;
         self.place = place;
         Ok(())

@@ -25,18 +25,20 @@ const LAST_SNAPSHOT: u64 = u64::MAX - 1;
 #[derive(Debug, Drop)]
 pub struct Core<A: Allocator = Global> {
     steps: Steps<A>,
-    asked: Option<Op>,
+    // The operation that was prepared last, and whether its step is still to be told.
+    op: Op,
+    is_asked: bool,
 }
 
 impl<A: Allocator> Model for Core<A> {
     ghost use Rattle.norec_core.specs.Cores.{CoreState};
-    ghost use Rattle.norec_core.specs.inner.Runs.{attempt_of, IsPrepared};
+    ghost use Rattle.norec_core.specs.inner.Runs.{asked_of, attempt_of, IsPrepared};
 
     ghost Value = { CoreState };
 
-    ghost view = { λ c. record { attempt = attempt_of c.steps; asked = c.asked; saved = c.steps.aside } };
+    ghost view = { λ c. record { attempt = attempt_of c.steps; asked = asked_of c.is_asked c.op; saved = c.steps.aside } };
 
-    ghost invariant = { λ c. IsPrepared c.asked c.steps };
+    ghost invariant = { λ c. IsPrepared (asked_of c.is_asked c.op) c.steps };
 }
 
 impl<A: Allocator + Copy> Core<A> {
@@ -47,7 +49,8 @@ impl<A: Allocator + Copy> Core<A> {
     {
         Core {
             steps: Steps::new(alloc),
-            asked: None,
+            op: Op::Release,
+            is_asked: false,
         }
     }
 
@@ -79,7 +82,8 @@ impl<A: Allocator + Copy> Core<A> {
         if self.steps.make_room(op, registers, frames, place).is_err() {
             return Err(Stop::OutOfMemory);
         }
-        self.asked = Some(op);
+        self.op = op;
+        self.is_asked = true;
         Ok(access)
     }
 
@@ -91,9 +95,10 @@ impl<A: Allocator + Copy> Core<A> {
         ensures back { IfSome (stepped self.old answer).back (λ s. self.new.saved ≡ s) }
         ensures asked { self.new.asked ≡ None }
     {
-        match self.asked {
-            Some(op) => self.told_as(op, answer),
-            None => Outcome::Going,
+        if self.is_asked {
+            self.told_as(self.op, answer)
+        } else {
+            Outcome::Going
         }
     }
 
@@ -107,7 +112,7 @@ impl<A: Allocator + Copy> Core<A> {
         ensures back { IfSome (stepped self.old answer).back (λ s. self.new.saved ≡ s) }
         ensures asked { self.new.asked ≡ None }
     {
-        self.asked = None;
+        self.is_asked = false;
         self.steps.told(op, answer)
     }
 
@@ -122,7 +127,8 @@ impl<A: Allocator + Copy> Core<A> {
         if !self.steps.loads_both(cell) || !self.steps.make_read_room() {
             return false;
         }
-        self.asked = Some(Op::Read(cell));
+        self.op = Op::Read(cell);
+        self.is_asked = true;
         true
     }
 
@@ -135,7 +141,7 @@ impl<A: Allocator + Copy> Core<A> {
         ensures outcome { result ≡ (stepped_twice self.old (Op.Read cell) (Value word) (Value lock)).outcome }
         ensures asked { self.new.asked ≡ None }
     {
-        self.asked = None;
+        self.is_asked = false;
         self.steps.take_read(cell, word, lock)
     }
 
@@ -149,7 +155,7 @@ impl<A: Allocator + Copy> Core<A> {
         if !self.steps.is_at_operation() || !self.steps.make_write_room() {
             return false;
         }
-        self.asked = None;
+        self.is_asked = false;
         self.steps.write(cell, word);
         true
     }
@@ -164,7 +170,7 @@ impl<A: Allocator + Copy> Core<A> {
         if !self.steps.is_at_operation() || !self.steps.commits_at_once() {
             return false;
         }
-        self.asked = None;
+        self.is_asked = false;
         self.steps.commit();
         true
     }
@@ -180,8 +186,8 @@ impl<A: Allocator + Copy> Core<A> {
         if self.steps.has_begun() {
             return false;
         }
-        self.asked = None;
-        self.steps.make_begin_room(registers, frames, place)
+        self.is_asked = false;
+        self.steps.set_aside(registers, frames, place)
     }
 
     /// Makes the step of an outermost begin that was prepared, with the lock's value that was loaded. It takes no memory.
@@ -192,7 +198,7 @@ impl<A: Allocator + Copy> Core<A> {
         ensures outcome { result ≡ (core_step self.old.saved self.old.attempt Op.Begin (Value lock)).outcome }
         ensures asked { self.new.asked ≡ None }
     {
-        self.asked = None;
+        self.is_asked = false;
         self.steps.told_begin(Answer::Value(lock))
     }
 
@@ -222,7 +228,7 @@ impl<A: Allocator + Copy> Core<A> {
         ensures back { IfSome (core_step self.old.saved self.old.attempt Op.Commit answer).back (λ s. self.new.saved ≡ s) }
         ensures asked { self.new.asked ≡ None }
     {
-        self.asked = None;
+        self.is_asked = false;
         self.steps.told(Op::Commit, answer)
     }
 
@@ -251,7 +257,7 @@ impl<A: Allocator + Copy> Core<A> {
         ensures outcome { (answer : Reply) → result ≡ (core_step self.old.saved self.old.attempt Op.Commit answer).outcome }
         ensures asked { self.new.asked ≡ None }
     {
-        self.asked = None;
+        self.is_asked = false;
         self.steps.stored(place)
     }
 
@@ -297,7 +303,7 @@ impl<A: Allocator + Copy> Core<A> {
         ensures step { (op : Operation) → GoesOn self.old (Value lock) op self.new }
         ensures asked { self.new.asked ≡ None }
     {
-        self.asked = None;
+        self.is_asked = false;
         self.steps.waited(lock);
     }
 
@@ -333,7 +339,7 @@ impl<A: Allocator + Copy> Core<A> {
     {
         // The prover names by it the word.
         let _entry = entry;
-        self.asked = None;
+        self.is_asked = false;
         self.steps.compared(time, place);
     }
 
@@ -347,7 +353,7 @@ impl<A: Allocator + Copy> Core<A> {
     {
         // The prover names by them the entry and the word.
         let _compared = (time, place, entry, word);
-        self.asked = None;
+        self.is_asked = false;
         self.steps.differed();
     }
 
@@ -359,7 +365,7 @@ impl<A: Allocator + Copy> Core<A> {
         ensures step { (op : Operation) → GoesOn self.old (Value lock) op self.new }
         ensures asked { self.new.asked ≡ None }
     {
-        self.asked = None;
+        self.is_asked = false;
         self.steps.validated(time, place, lock);
     }
 }

@@ -193,13 +193,15 @@ impl<A: Allocator + Copy> Steps<A> {
         self.told_commit(Answer::Done);
     }
 
-    // Makes room for what a begin may add, and sets aside what it saves: whether there is room.
+    // Sets aside what an outermost begin saves: whether there was room.
     #[inline(always)]
-    pub(crate) fn make_begin_room(&mut self, registers: &[u64], frames: usize, place: u32) -> bool
+    pub(crate) fn set_aside(&mut self, registers: &[u64], frames: usize, place: u32) -> bool
         ensures aside { result ≡ true → self.new.aside ≡ record { registers = registers.now; frames = frames; place = place } }
         ensures others { GainsRoom (record self.old { aside = self.new.aside }) self.new }
     {
-        self.logs.prepare_begin(registers, frames, place).is_ok()
+        self.logs
+            .prepare_outermost(registers, frames, place)
+            .is_ok()
     }
 
     // The place in the write log that a commit stores next, where one stores.

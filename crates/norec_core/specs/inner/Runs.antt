@@ -60,6 +60,11 @@ HasRoom (op.Read address) r = 0 < r.read_room
 HasRoom (op.Write address word) r = 0 < r.write_room
 HasRoom _ r = Unit {0}
 
+-- what was prepared, where its step is still to be told
+abbrev pub asked_of : Bool → Op → Option Op
+asked_of false op = None
+asked_of true op = Some op
+
 -- a step was prepared: it has its room, and does not stop
 abbrev pub IsPrepared : Option Op → Run → Type 0
 IsPrepared None r = Unit {0}
