@@ -219,17 +219,19 @@ impl<A: Allocator + Copy> Core<A> {
         }
     }
 
-    /// Makes the next step of a commit, which was not prepared, with the answer to its access. It takes no memory.
+    /// Makes the step of a commit that swaps the lock from this value, which was not prepared, with the swap's answer. It takes no
+    /// memory.
     #[inline(always)]
-    pub fn told_commit(&mut self, answer: Answer) -> Outcome
-        requires { stops (core_access self.old.attempt Op.Commit) ≡ false }
+    pub fn take_swap(&mut self, from: u64, answer: Answer) -> Outcome
+        requires swaps { core_access self.old.attempt Op.Commit ≡ Access.Swap from }
+        requires goes_on { stops (Access.Swap from) ≡ false }
         ensures attempt { self.new.attempt ≡ (core_step self.old.saved self.old.attempt Op.Commit answer).attempt }
         ensures outcome { result ≡ (core_step self.old.saved self.old.attempt Op.Commit answer).outcome }
         ensures back { IfSome (core_step self.old.saved self.old.attempt Op.Commit answer).back (λ s. self.new.saved ≡ s) }
         ensures asked { self.new.asked ≡ None }
     {
         self.is_asked = false;
-        self.steps.told(Op::Commit, answer)
+        self.steps.take_swap(from, answer)
     }
 
     /// The place in the write log that a commit stores next, where one stores; past the last pair it stores the lock.

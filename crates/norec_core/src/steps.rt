@@ -3,11 +3,11 @@
 ghost use Rattle.std.specs.Prelude.{◌≡◌, ◌≢◌, ◌+◌, ◌^◌, ◌<◌, ◌≤◌, true, false, None, IfSome, OnOk, OnErr, OnSome, slice_get};
 ghost use Rattle.write_log.specs.Overlay.{put, written};
 ghost use Rattle.norec_core.specs.Accesses.{stops};
-ghost use Rattle.norec_core.specs.Phases.{core_access, core_step, core_phase, core_operation, core_read, core_commit, core_cancel, core_store, core_check, core_time, core_compare, operation_access, commit_access, entry_access, store_access};
+ghost use Rattle.norec_core.specs.Phases.{core_access, core_step, core_phase, core_operation, core_read, core_commit, core_cancel, core_store, core_swap, core_check, core_time, core_compare, operation_access, commit_access, entry_access, store_access};
 ghost use Rattle.norec_core.specs.Cores.{LoadsBoth, holds};
 ghost use Rattle.norec_core.specs.declared.step.Answer.TheVariants.{Value};
 ghost use Rattle.norec_core.specs.declared.step.Phase.TheVariants.{ReadsLock};
-ghost use Rattle.norec_core.specs.inner.Runs.{attempt_of, IsStep, GainsRoom, HasRoom, CanRelease};
+ghost use Rattle.norec_core.specs.inner.Runs.{attempt_of, IsStep, GainsRoom, HasRoom, CanRelease, SwapsLock};
 
 use super::step::{Access, Answer, Op, Outcome, Phase};
 use nesting::{Attempt, Saved};
@@ -202,6 +202,19 @@ impl<A: Allocator + Copy> Steps<A> {
         self.logs
             .prepare_outermost(registers, frames, place)
             .is_ok()
+    }
+
+    // The step of a commit that swaps the lock from this value, with the swap's answer.
+    #[inline(always)]
+    pub(crate) fn take_swap(&mut self, from: u64, answer: Answer) -> Outcome
+        requires begun { self.old.begun ≡ true }
+        requires swaps { SwapsLock from self.old }
+        requires goes_on { stops (Access.Swap from) ≡ false }
+        ensures { IsStep (core_step self.old.aside (attempt_of self.old) Op.Commit answer) result self.new }
+    {
+        // The prover names by it the lock's value, which is the snapshot.
+        let _from = from;
+        self.swapped(answer)
     }
 
     // The place in the write log that a commit stores next, where one stores.
@@ -423,6 +436,17 @@ impl<A: Allocator + Copy> Steps<A> {
             self.begun = false;
             return Outcome::Done;
         }
+        self.swapped(answer)
+    }
+
+    // A commit has swapped the lock: where the swap was won it stores next, where it was lost it validates.
+    #[inline(always)]
+    fn swapped(&mut self, answer: Answer) -> Outcome
+        requires begun { self.old.begun ≡ true }
+        requires kept { self.old.attempt.kept ≡ false }
+        requires goes_on { stops (Access.Swap self.old.attempt.snapshot) ≡ false }
+        ensures { IsStep (core_swap self.old.attempt (record self.old.attempt { phase = Phase.Stores 0 }) Outcome.Going answer) result self.new }
+    {
         match answer {
             Answer::Won => self.phase = Phase::Stores(0),
             Answer::Lost(_) => self.phase = Phase::ValidatesTime,

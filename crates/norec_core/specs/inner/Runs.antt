@@ -4,12 +4,14 @@ use Rattle.nesting.specs.Begins.{Saved}
 use Rattle.nesting.specs.Nests.{Nest}
 use Rattle.norec_core.specs.declared.step.Op.{Op}
 use Rattle.norec_core.specs.declared.step.Op.TheVariants as op
+use Rattle.norec_core.specs.declared.step.Answer.{Answer}
 use Rattle.norec_core.specs.declared.step.Outcome.{Outcome}
+use Rattle.norec_core.specs.declared.step.Outcome.TheVariants as outcome
 use Rattle.norec_core.specs.declared.step.Phase.{Phase}
 use Rattle.norec_core.specs.declared.step.Phase.TheVariants.{AtOperation, ReadsLock, ValidatesTime, ValidatesEntry, Stores}
 use Rattle.norec_core.specs.Attempts.{Attempt}
 use Rattle.norec_core.specs.Accesses.{stops}
-use Rattle.norec_core.specs.Phases.{CoreStep, core_access}
+use Rattle.norec_core.specs.Phases.{CoreStep, core_access, core_step, core_swap}
 
 -- an attempt, whether it is under way, what was set aside, and for how many inner begins, reads and writes there is
 -- room
@@ -73,6 +75,13 @@ IsPrepared (Some op) r = HasRoom op r × (stops (core_access (attempt_of r) op) 
 -- the lock, kept or taken, has a value left for its release
 abbrev pub CanRelease : ℕ → Type 0
 CanRelease snapshot = snapshot + 4 ≤ 2 ^ 64
+
+-- a commit swaps the lock from this value, which is the snapshot
+pub record SwapsLock (from : ℕ) (r : Run) : Type 0 where
+  pub snapshot : from ≡ r.attempt.snapshot
+  pub kept : r.attempt.kept ≡ false
+  pub step : (answer : Answer) → core_step r.aside (Some r.attempt) op.Commit answer ≡
+      core_swap r.attempt (record r.attempt { phase = Stores 0 }) outcome.Going answer
 
 abbrev pub CanReleaseKept : Bool → ℕ → Type 0
 CanReleaseKept true snapshot = CanRelease snapshot
