@@ -49,6 +49,17 @@ fn pause(lock: u64) {
     }
 }
 
+// How often a worker whose attempt was dropped tells the processor that it waits, before it begins anew.
+const BACKOFF: u32 = 512;
+
+// Leaves the lock and the words to the other threads for a while.
+#[inline(never)]
+fn back_off() {
+    'turns: for _ in 0..BACKOFF {
+        spin_loop();
+    }
+}
+
 impl<A: Allocator + Copy> Worker<A> {
     ghost use Rattle.workers.specs.Workers.{IsWorkerOf, StepsOn, FloorsAt, Reports};
 
@@ -401,6 +412,7 @@ impl<A: Allocator + Copy> Worker<A> {
                 return passed;
             };
             if !self.compare(words, code, time, place) {
+                back_off();
                 return passed + 1;
             }
         }
