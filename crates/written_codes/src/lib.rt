@@ -1,0 +1,10 @@
+//! Test support: codes that are written out as instructions, for the tests of the runtime.
+#![tactic(auto)]
+
+mod built;
+mod samples;
+mod written;
+
+pub use built::code_of;
+pub use samples::{adds_five, traps};
+pub use written::{WrittenCode, WrittenFunction, WrittenVariable, X, over_x, worker};

@@ -1,0 +1,34 @@
+//! Codes that the tests of more than one crate run, each of a `worker` with two registers over a variable `x`.
+
+use bytecode::Instr;
+
+/// Adds 5 to x, and prints what it then is.
+pub fn adds_five() -> &'static [Instr] {
+    static CODE: [Instr; 8] = [
+        Instr::Constant(1, 5),
+        Instr::Begin(7),
+        Instr::Read(0, 0),
+        Instr::AddSigned(0, 0, 1),
+        Instr::Write(0, 0),
+        Instr::Commit,
+        Instr::PrintSigned(0),
+        Instr::Return,
+    ];
+    &CODE
+}
+
+/// Stores 2 with the lock kept, prints, and traps.
+pub fn traps() -> &'static [Instr] {
+    static CODE: [Instr; 9] = [
+        Instr::Begin(8),
+        Instr::Constant(0, 2),
+        Instr::Write(0, 0),
+        Instr::Irrevocable,
+        Instr::PrintSigned(0),
+        Instr::Constant(1, 0),
+        Instr::DivideSigned(0, 0, 1),
+        Instr::Commit,
+        Instr::Return,
+    ];
+    &CODE
+}

@@ -1,0 +1,72 @@
+//! What a code is written as.
+
+use bytecode::Instr;
+
+/// A function of a code. It ends where the next function begins, the last one with the last instruction.
+#[derive(Clone, Copy)]
+pub struct WrittenFunction<'a> {
+    pub name: &'a str,
+
+    /// The place of its first instruction.
+    pub first: u32,
+
+    /// The number of its registers.
+    pub registers: u32,
+
+    /// The number of its parameters, which are the first registers.
+    pub parameters: u32,
+}
+
+/// A variable of type `int`.
+#[derive(Clone, Copy)]
+pub struct WrittenVariable<'a> {
+    pub name: &'a str,
+
+    /// What it is said to begin with; where nothing is said, it begins with 0.
+    pub value: Option<u32>,
+}
+
+/// A code: its functions, their instructions one after another, the registers that calls hand over, the texts that are printed, and
+/// the variables.
+#[derive(Clone, Copy)]
+pub struct WrittenCode<'a> {
+    pub functions: &'a [WrittenFunction<'a>],
+    pub instructions: &'a [Instr],
+    pub arguments: &'a [u16],
+    pub texts: &'a [&'a str],
+    pub variables: &'a [WrittenVariable<'a>],
+}
+
+/// The variable `x`, of which nothing is said to begin with.
+pub const X: WrittenVariable<'static> = WrittenVariable {
+    name: "x",
+    value: None,
+};
+
+/// The function `worker`, the first of a code, with so many registers.
+pub fn worker(registers: u32) -> WrittenFunction<'static> {
+    WrittenFunction {
+        name: "worker",
+        first: 0,
+        registers,
+        parameters: 1,
+    }
+}
+
+/// `worker` alone, with two registers and these instructions, over the variable `x`.
+pub fn over_x(instructions: &[Instr]) -> WrittenCode {
+    static FUNCTIONS: [WrittenFunction<'static>; 1] = [WrittenFunction {
+        name: "worker",
+        first: 0,
+        registers: 2,
+        parameters: 1,
+    }];
+    static VARIABLES: [WrittenVariable<'static>; 1] = [X];
+    WrittenCode {
+        functions: &FUNCTIONS,
+        instructions,
+        arguments: &[],
+        texts: &[],
+        variables: &VARIABLES,
+    }
+}
