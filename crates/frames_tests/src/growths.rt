@@ -1,6 +1,6 @@
 //! Each growth refused in turn.
 
-use crate::built::{Program, code_of};
+use crate::built::code_of_two;
 use crate::carried::run;
 use bytecode::{Code, Instr};
 use frames::Doing;
@@ -18,7 +18,7 @@ fn ends<A: Allocator + Copy>(alloc: A, code: &Code<A>, printed: &str) -> Option<
 }
 
 // `f` gives its parameter back.
-fn prints_and_calls() -> Program<'static> {
+fn prints_and_calls() -> &'static [Instr] {
     static CODE: [Instr; 5] = [
         Instr::Call(1, 1, 1, 0),
         Instr::PrintText(0),
@@ -26,11 +26,7 @@ fn prints_and_calls() -> Program<'static> {
         Instr::Return,
         Instr::ReturnValue(0),
     ];
-    Program {
-        registers: 2,
-        instructions: &CODE,
-        second: Some(4),
-    }
+    &CODE
 }
 
 // Whether it does, if memory is there, where growth `nth` behind its code's is refused; and whether that growth is still to come.
@@ -39,7 +35,7 @@ fn refused_in<A: Allocator + Copy, B: Allocator>(
     refusing: &Refusing<B>,
     nth: u64,
 ) -> Option<(Option<bool>, bool)> {
-    match code_of(alloc, prints_and_calls()) {
+    match code_of_two(alloc, prints_and_calls(), 4) {
         None => None,
         Some(code) => {
             refusing.refuse(nth);

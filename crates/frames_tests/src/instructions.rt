@@ -1,6 +1,6 @@
 //! A code for every instruction, carried out.
 
-use crate::built::{Program, code_of};
+use crate::built::{code_of_two, code_of_worker};
 use crate::carried::run;
 use bytecode::{Code, Instr};
 use frames::Doing;
@@ -29,23 +29,18 @@ fn prints<A: Allocator + Copy>(alloc: A, code: &Code<A>, printed: &str) -> Optio
     }
 }
 
-// The same of a program.
-fn found<A: Allocator + Copy>(alloc: A, program: Program, printed: &str) -> Option<Found> {
-    match code_of(alloc, program) {
+// The same of a code, if there is one.
+fn found<A: Allocator + Copy>(alloc: A, code: Option<Code<A>>, printed: &str) -> Option<Found> {
+    match code {
         Some(code) => prints(alloc, &code, printed),
         None => None,
     }
 }
 
-// What thread 5 comes to in a worker of these instructions and 4 registers, which prints nothing, the local steps that it makes,
-// and its register 1.
+// What thread 5 comes to in a worker of these instructions, which prints nothing, the local steps that it makes, and its
+// register 1.
 fn of<A: Allocator + Copy>(alloc: A, instructions: &[Instr]) -> Option<(Doing, u64, u64)> {
-    let program = Program {
-        registers: 4,
-        instructions,
-        second: None,
-    };
-    match found(alloc, program, "") {
+    match found(alloc, code_of_worker(alloc, instructions), "") {
         Some((doing, made, _, Some(word))) => Some((doing, made, word)),
         _ => None,
     }
@@ -412,7 +407,7 @@ fn cells_and_transactions(rt: HostRuntime) {
     assert!(rt; are_so(rt.alloc(), returns()));
 }
 
-fn prints_three() -> Program<'static> {
+fn prints_three() -> &'static [Instr] {
     static CODE: [Instr; 5] = [
         Instr::Constant(1, 4294967295),
         Instr::PrintSigned(1),
@@ -420,27 +415,19 @@ fn prints_three() -> Program<'static> {
         Instr::PrintUnsigned(1),
         Instr::Return,
     ];
-    Program {
-        registers: 4,
-        instructions: &CODE,
-        second: None,
-    }
+    &CODE
 }
 
 #[test]
 fn texts_and_numbers_are_printed(rt: HostRuntime) {
-    let shown = found(rt.alloc(), prints_three(), "-1\\\n4294967295");
+    let code = code_of_worker(rt.alloc(), prints_three());
+    let shown = found(rt.alloc(), code, "-1\\\n4294967295");
     assert!(rt; shown == Some((Doing::End, 1, Some(5), Some(4294967295))));
 }
 
-// What is found of a worker of two registers, behind which a function begins at this place.
+// What is found of a worker behind which a function begins at this place.
 fn calls<A: Allocator + Copy>(alloc: A, instructions: &[Instr], second: u32) -> Option<Found> {
-    let program = Program {
-        registers: 2,
-        instructions,
-        second: Some(second),
-    };
-    found(alloc, program, "")
+    found(alloc, code_of_two(alloc, instructions, second), "")
 }
 
 // r1 = f(r0), and f gives minus its parameter

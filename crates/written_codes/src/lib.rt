@@ -7,4 +7,6 @@ mod written;
 
 pub use built::code_of;
 pub use samples::{adds_five, traps};
-pub use written::{WrittenCode, WrittenFunction, WrittenVariable, X, over_x, worker};
+pub use written::{
+    TEXTS, WrittenCode, WrittenFunction, WrittenVariable, X, over_x, second, worker,
+};

@@ -43,11 +43,24 @@ pub const X: WrittenVariable<'static> = WrittenVariable {
     value: None,
 };
 
-/// The function `worker`, the first of a code, with so many registers.
+/// Two texts to print: `"\t"` and `\`.
+pub const TEXTS: [&str; 2] = ["\"\t\"", "\\\n"];
+
+/// The function `worker` of one parameter, the first of a code, which has so many registers.
 pub fn worker(registers: u32) -> WrittenFunction<'static> {
     WrittenFunction {
         name: "worker",
         first: 0,
+        registers,
+        parameters: 1,
+    }
+}
+
+/// A function `f` of one parameter, the second of a code, which begins at `first` and has so many registers.
+pub fn second(first: u32, registers: u32) -> WrittenFunction<'static> {
+    WrittenFunction {
+        name: "f",
+        first,
         registers,
         parameters: 1,
     }
