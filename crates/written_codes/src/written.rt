@@ -26,8 +26,8 @@ pub struct WrittenVariable<'a> {
     pub value: Option<u32>,
 }
 
-/// A code: its functions, their instructions one after another, the registers that calls hand over, the texts that are printed, and
-/// the variables.
+/// A code: its functions, their instructions one after another, the registers that calls hand over, each call's together, the
+/// texts that are printed, and the variables.
 #[derive(Clone, Copy)]
 pub struct WrittenCode<'a> {
     pub functions: &'a [WrittenFunction<'a>],
@@ -37,7 +37,7 @@ pub struct WrittenCode<'a> {
     pub variables: &'a [WrittenVariable<'a>],
 }
 
-/// The variable `x`, of which nothing is said to begin with.
+/// The variable `x`, with nothing said of what it begins with.
 pub const X: WrittenVariable<'static> = WrittenVariable {
     name: "x",
     value: None,
