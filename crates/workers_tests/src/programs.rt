@@ -1,10 +1,8 @@
 //! The programs that are run, by their codes: each is the code of the source that stands above it.
 
-use bytecode::{Code, FunctionCode, Instr, Parts, validate};
-use containers::{Items, Text};
-use lex::token::{Scalar, Span};
-use std::alloc::{AllocError, Allocator};
-use syntax::tree::{First, Global, Name};
+use bytecode::{Code, Instr};
+use std::alloc::Allocator;
+use written_codes::{WrittenCode, WrittenVariable, worker};
 
 /// A program of one function over a variable `x`: the function's registers, what `x` begins with, and the instructions.
 pub type Program<'a> = (u32, u32, &'a [Instr]);
@@ -127,107 +125,19 @@ pub fn reads_again(word: u32) -> [Instr; 14] {
     ]
 }
 
-// Parts with nothing in them.
-fn no_parts<A: Allocator + Copy>(alloc: A) -> Parts<A> {
-    Parts {
-        functions: Items::new(alloc),
-        instructions: Items::new(alloc),
-        arguments: Items::new(alloc),
-        texts: Items::new(alloc),
-        globals: Items::new(alloc),
-    }
-}
-
-// Appends the function `worker` with so many registers.
-fn push_worker<A: Allocator + Copy>(
-    alloc: A,
-    parts: &mut Parts<A>,
-    registers: u32,
-) -> Result<(), AllocError> {
-    parts.functions.push(FunctionCode {
-        name: Text::from_str(alloc, "worker")?,
-        first: 0,
-        registers,
-        parameters: 1,
-    })
-}
-
-// What a variable begins with.
-fn first<A: Allocator + Copy>(alloc: A, value: u32) -> Result<Items<First, A>, AllocError> {
-    let mut all = Items::new(alloc);
-    all.push(First {
-        negative: false,
-        value,
-        of: Scalar::Int,
-        span: Span { start: 0, end: 0 },
-    })?;
-    Ok(all)
-}
-
-// Appends the variable `x`.
-fn push_variable<A: Allocator + Copy>(
-    alloc: A,
-    parts: &mut Parts<A>,
-    value: u32,
-) -> Result<(), AllocError> {
-    parts.globals.push(Global {
-        of: Scalar::Int,
-        name: Name {
-            text: Text::from_str(alloc, "x")?,
-            span: Span { start: 0, end: 0 },
-        },
-        length: None,
-        first: first(alloc, value)?,
-    })
-}
-
-// Appends a text.
-fn push_text<A: Allocator + Copy>(
-    alloc: A,
-    parts: &mut Parts<A>,
-    text: &str,
-) -> Result<(), AllocError> {
-    parts.texts.push(Text::from_str(alloc, text)?)
-}
-
-// Appends instructions.
-fn push_instructions<A: Allocator + Copy>(
-    parts: &mut Parts<A>,
-    instructions: &[Instr],
-) -> Result<(), AllocError> {
-    for instr in instructions {
-        parts.instructions.push(*instr)?;
-    }
-    Ok(())
-}
-
-// Appends all that a program has, with a line feed to print.
-fn fill<A: Allocator + Copy>(
-    alloc: A,
-    parts: &mut Parts<A>,
-    program: Program,
-) -> Result<(), AllocError> {
-    let (registers, value, instructions) = program;
-    push_worker(alloc, parts, registers)?;
-    push_variable(alloc, parts, value)?;
-    push_text(alloc, parts, "\n")?;
-    push_instructions(parts, instructions)
-}
-
-// The parts of a program.
-fn parts_of<A: Allocator + Copy>(alloc: A, program: Program) -> Result<Parts<A>, AllocError> {
-    let mut parts = no_parts(alloc);
-    fill(alloc, &mut parts, program)?;
-    Ok(parts)
-}
-
-/// The code of a program, if it is valid and memory is there.
+/// The code of a program, with a line feed to print, if it is valid and memory is there.
 pub fn code_of<A: Allocator + Copy>(alloc: A, program: Program) -> Option<Code<A>> {
-    match parts_of(alloc, program) {
-        Ok(parts) => match validate(alloc, parts) {
-            Ok(found) => found,
-            Err(_) => None,
-        },
-        Err(_) => None,
-    }
+    let (registers, value, instructions) = program;
+    let x = WrittenVariable {
+        name: "x",
+        value: Some(value),
+    };
+    let written = WrittenCode {
+        functions: &[worker(registers)],
+        instructions,
+        arguments: &[],
+        texts: &["\n"],
+        variables: &[x],
+    };
+    written_codes::code_of(alloc, &written)
 }
