@@ -3,13 +3,12 @@
 use crate::reports::{Wanted, is_as};
 use bytecode::{Code, Instr};
 use machine::{Event, StepShown};
-use machine_tests::codes::code_of_worker;
-use machine_tests::rows::traps;
 use norec_core::{Access, Answer};
 use replay::{Line, read_schedule, replay, seeded, timeline};
 use std::alloc::Global;
 use syntax::numbers::{Status, Trap};
 use world::{End, StopReason};
+use written_codes::{code_of, over_x, traps};
 
 // Adds 1 to x.
 fn adds_one() -> &'static [Instr] {
@@ -43,7 +42,7 @@ fn replays_text(alloc: Global, code: &Code, threads: u32, text: &str, wanted: &W
 
 // The same of a worker of these instructions.
 fn gives(alloc: Global, instrs: &[Instr], threads: u32, text: &str, wanted: &Wanted) -> bool {
-    match code_of_worker(alloc, 2, instrs) {
+    match code_of(alloc, &over_x(instrs)) {
         Some(code) => replays_text(alloc, &code, threads, text, wanted),
         None => false,
     }
@@ -158,7 +157,7 @@ fn all_add_up(alloc: Global, code: &Code) -> bool {
 
 // The same of the code of such threads.
 fn seeds_add_up(alloc: Global) -> bool {
-    match code_of_worker(alloc, 2, adds_one()) {
+    match code_of(alloc, &over_x(adds_one())) {
         Some(code) => all_add_up(alloc, &code),
         None => false,
     }
@@ -190,7 +189,7 @@ fn are_shown(alloc: Global, code: &Code, steps: &[u32], wanted: &[(u64, u32, Ste
 
 // The same of two threads that add 1 to x.
 fn shows(alloc: Global, steps: &[u32], wanted: &[(u64, u32, StepShown)]) -> bool {
-    match code_of_worker(alloc, 2, adds_one()) {
+    match code_of(alloc, &over_x(adds_one())) {
         Some(code) => are_shown(alloc, &code, steps, wanted),
         None => false,
     }

@@ -1,11 +1,10 @@
 //! Worlds: steps of two threads, steps that are not made, and each growth refused.
 
 use crate::reports::{Wanted, is_as};
-use machine_tests::codes::code_of_worker;
-use machine_tests::rows::adds_five;
 use refusing::Refusing;
 use std::alloc::{Allocator, Global};
 use world::{End, StopReason, World, WorldFault};
+use written_codes::{adds_five, code_of, over_x};
 
 // Of two threads that add 5 to x: thread 1 has the word of x when thread 0 changes it. It reads again, and makes 10
 // accesses in place of 6.
@@ -18,7 +17,7 @@ fn crossed() -> &'static [u32] {
 
 // A world of so many threads that add, before any step.
 fn opened<A: Allocator + Copy>(alloc: A, threads: u32) -> Result<World<A>, WorldFault> {
-    match code_of_worker(alloc, 2, adds_five()) {
+    match code_of(alloc, &over_x(adds_five())) {
         Some(code) => World::new(alloc, &code, threads),
         None => Err(WorldFault::OutOfMemory),
     }
