@@ -1,7 +1,7 @@
 //! Tests of threads of the machine, in a crate of their own: a crate with tests is proved twice.
 #![tactic(auto)]
 
-pub mod codes;
-pub mod rows;
+#[cfg(test)]
+mod rows;
 #[cfg(test)]
 mod threads;

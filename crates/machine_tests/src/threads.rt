@@ -5,8 +5,7 @@ ghost use Rattle.std.specs.Prelude.{IfSome};
 ghost use Rattle.machine.specs.Standing.{IsThreadOf};
 ghost use Rattle.machine.specs.States.{IsWordOf};
 
-use crate::codes::code_of_worker;
-use crate::rows::{Row, adds_five, dropped_once, trapped, traps};
+use crate::rows::{Row, dropped_once, trapped};
 use bytecode::{Code, Instr};
 use frames::Doing;
 use machine::{Event, Thread};
@@ -14,6 +13,7 @@ use norec_core::{Access, Answer, Stop};
 use refusing::Refusing;
 use std::alloc::{Allocator, Global};
 use syntax::numbers::{Status, Trap};
+use written_codes::{adds_five, code_of, over_x, traps};
 
 // The most accesses of a thread here.
 const MOST: u64 = 1_000_000;
@@ -169,7 +169,7 @@ fn makes<A: Allocator + Copy, B: Allocator>(
     rows: &[Row],
     found: Found,
 ) -> Option<u64> {
-    match code_of_worker(alloc, 2, instructions) {
+    match code_of(alloc, &over_x(instructions)) {
         Some(code) => begins(alloc, refusing, &code, nth, rows, found),
         None => None,
     }
@@ -306,7 +306,7 @@ fn reads_first<A: Allocator + Copy>(alloc: A, code: &Code<A>) -> Option<(u64, Op
 
 // The same of one of these instructions.
 fn reads_of(inner: Global, instructions: &[Instr]) -> Option<(u64, Option<Doing>)> {
-    match code_of_worker(inner, 2, instructions) {
+    match code_of(inner, &over_x(instructions)) {
         Some(code) => reads_first(inner, &code),
         None => None,
     }
