@@ -78,7 +78,7 @@ abbrev pub ComparesWith : {S : Type 0} → (time place : ℕ) → Option (ℕ ×
 ComparesWith time place entry a = IsComparing time place a × (slice_get a.reads place ≡ entry)
 
 -- the step with this answer, whichever operation is asked for: the operation goes on, and nothing is gone back to
-pub record GoesOn (c : CoreState) (answer : Answer) (op : Op) (d : CoreState) : Type 0 where
+pub record IsAskedAgain (c : CoreState) (answer : Answer) (op : Op) (d : CoreState) : Type 0 where
   pub attempt : d.attempt ≡ (core_step c.saved c.attempt op answer).attempt
   pub outcome : (core_step c.saved c.attempt op answer).outcome ≡ outcome.Going
   pub back : (core_step c.saved c.attempt op answer).back ≡ None

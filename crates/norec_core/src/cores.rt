@@ -3,7 +3,7 @@
 ghost use Rattle.std.specs.Prelude.{◌≡◌, ◌≢◌, ◌↔◌, ◌+◌, ◌^◌, ◌<◌, true, false, None, Some, IsTrue, IsSome, IsSomeAnd, IfOk, IfSome, OnOk, OnErr, OnSome};
 ghost use Rattle.norec_core.specs.Accesses.{stops};
 ghost use Rattle.norec_core.specs.Phases.{core_access, core_step};
-ghost use Rattle.norec_core.specs.Cores.{ComparesWith, GoesOn, IsAnswered, IsComparing, IsDoneAtOnce, IsDropped, IsStoring, IsWaiting, LoadsBoth, stepped, stepped_twice, is_kept, has_lock};
+ghost use Rattle.norec_core.specs.Cores.{ComparesWith, IsAnswered, IsAskedAgain, IsComparing, IsDoneAtOnce, IsDropped, IsStoring, IsWaiting, LoadsBoth, stepped, stepped_twice, is_kept, has_lock};
 ghost use Rattle.norec_core.specs.declared.step.Answer.{Answer as Reply};
 ghost use Rattle.norec_core.specs.declared.step.Op.{Op as Operation};
 ghost use Rattle.norec_core.specs.declared.step.Answer.TheVariants.{Value};
@@ -302,7 +302,7 @@ impl<A: Allocator + Copy> Core<A> {
     #[inline(always)]
     pub fn waited(&mut self, lock: u64)
         requires { IsSomeAnd self.old.attempt (λ a. IsWaiting a) }
-        ensures step { (op : Operation) → GoesOn self.old (Value lock) op self.new }
+        ensures step { (op : Operation) → IsAskedAgain self.old (Value lock) op self.new }
         ensures asked { self.new.asked ≡ None }
     {
         self.is_asked = false;
@@ -336,7 +336,7 @@ impl<A: Allocator + Copy> Core<A> {
     pub fn compared(&mut self, time: u64, place: usize, entry: (u32, u64))
         requires entry { IsSomeAnd self.old.attempt (λ a. ComparesWith time place (Some entry) a) }
         requires next { place + 1 < 2 ^ 64 }
-        ensures step { (op : Operation) → GoesOn self.old (Value entry.1) op self.new }
+        ensures step { (op : Operation) → IsAskedAgain self.old (Value entry.1) op self.new }
         ensures asked { self.new.asked ≡ None }
     {
         // The prover names by it the word.
@@ -364,7 +364,7 @@ impl<A: Allocator + Copy> Core<A> {
     #[inline(always)]
     pub fn validated(&mut self, time: u64, place: usize, lock: u64)
         requires { IsSomeAnd self.old.attempt (λ a. ComparesWith time place None a) }
-        ensures step { (op : Operation) → GoesOn self.old (Value lock) op self.new }
+        ensures step { (op : Operation) → IsAskedAgain self.old (Value lock) op self.new }
         ensures asked { self.new.asked ≡ None }
     {
         self.is_asked = false;

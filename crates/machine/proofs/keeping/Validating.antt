@@ -14,7 +14,7 @@ use Rattle.norec_core.specs.declared.step.Op.TheVariants as op
 use Rattle.norec_core.specs.declared.step.Outcome.TheVariants as outcome
 use Rattle.norec_core.specs.Attempts.{Attempt}
 use Rattle.norec_core.specs.Phases.{core_access, core_step, entry_access}
-use Rattle.norec_core.specs.Cores.{ComparesWith, CoreState, GoesOn, IsDropped, IsWaiting}
+use Rattle.norec_core.specs.Cores.{ComparesWith, CoreState, IsAskedAgain, IsDropped, IsWaiting}
 use Rattle.norec_core.proofs.Validating.{comparing_access, waiting_access}
 use Rattle.machine.specs.declared.event.Event.TheVariants as event
 use Rattle.machine.specs.Threads.{told}
@@ -55,7 +55,7 @@ module _ (code : Code) (law : BeginsStayOpen code) (k : Kept) (running : k.statu
       ap (λ (z : Option (Attempt Saved)). core_access z o) u.1 ∙ comparing_access u.0 o time place entry u.2
 
   -- a step after which the operation goes on
-  module _ (y : Answer) (l : Kept) (step : (q : Op) → GoesOn k.core y q l.core) (configuration : l.configuration ≡ k.configuration) (status : l.status ≡ k.status) (trapping : l.trapping ≡ false) (text : l.text ≡ k.text) where
+  module _ (y : Answer) (l : Kept) (step : (q : Op) → IsAskedAgain k.core y q l.core) (configuration : l.configuration ≡ k.configuration) (status : l.status ≡ k.status) (trapping : l.trapping ≡ false) (text : l.text ≡ k.text) where
     goes : (x : Access) → core_access k.core.attempt o ≡ x → IsWordOf x y → Makes code (told (effect code) (shown k) y) l event.Quiet
     goes x e word =
         let n = step o in
