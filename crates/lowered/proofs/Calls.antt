@@ -3,7 +3,7 @@ use Rattle.std.proofs.Common.{◌≡◌, ℕ, zero, suc, ◌+◌, ◌-◌, ◌<�
 use Rattle.std.specs.Prelude.{bytes_eq, codes, slice_get, slice_index, slice_set, map, replicate, if◌then◌else◌, nat_lt, is_some, unwrap_or, option_map}
 use Rattle.std.proofs.lemmas.Slice.Eq.{bytes_eq-Decides}
 use Rattle.std.specs.List.{AllByRecursion}
-use Rattle.std.proofs.lemmas.List.{length-append, length-map, length-replicate, map-append}
+use Rattle.std.proofs.lemmas.List.{get_or-set_same, get_or-set_other, length-set, length-append, length-map, length-replicate, map-append}
 use Rattle.std.proofs.lemmas.Bool.{lt-ltb}
 use Rattle.lex.specs.declared.token.Scalar.{Scalar}
 use Rattle.lex.specs.declared.token.Scalar.TheVariants.{Int, Unsigned}
@@ -22,11 +22,11 @@ use Rattle.bytecode.specs.Effects.{Effect}
 use Rattle.bytecode.specs.Sequential.{start, meaning, sequential_step, outside}
 use Rattle.bytecode.specs.Code.{Code, FunctionCode, Configuration, Frame, Instr, effect, effect_of, called}
 use Rattle.bytecode.specs.Beginning.{worker_among, beginning_in, beginning}
-use Rattle.lowered.specs.Expressions.{LocalScope, At, named_ones, nameless_ones, arranged}
+use Rattle.lowered.specs.Expressions.{LocalScope, At, Layout, named_ones, nameless_ones, arranged}
 use Rattle.lowered.specs.Statements.{locals_at_end}
-use Rattle.lowered.specs.Programs.{parameter_locals, no_exits, FunctionIsLowered, IsLowered}
+use Rattle.lowered.specs.Programs.{parameter_locals, no_exits, ConstantsCode, FunctionIsLowered, IsLowered}
 use Rattle.lowered.proofs.Agreement.{Agrees, NeverAstray, astray, same, fewer, shown, over}
-use Rattle.lowered.proofs.Runs.{Around, Bare, Shared, context_of, holding, state, IsSeen, on_seen, AreWords, IsGood, Holds, configuration, effect_at, goes_by, traps, less, all}
+use Rattle.lowered.proofs.Runs.{Around, Bare, Shared, context_of, holding, state, IsSeen, on_seen, AreWords, IsGood, registers_in, Holds, configuration, effect_at, goes_by, traps, less, all}
 use Rattle.lowered.proofs.Expressions.{CallsFollow, word_same}
 use Rattle.lowered.proofs.Locals.{length_like}
 use Rattle.lowered.proofs.Flow.{word_in, ArrivedAt, HereAt, MoreAt, TurnsFall, stmts_follow}
@@ -133,24 +133,48 @@ named_below (q ∷ qs) (v ∷ vs) i b = named_below_one (is_some q.name) v.word 
 abbrev first_registers : FunctionCode → List ℕ → List ℕ
 first_registers g words = words ++ replicate (g.registers - g.parameters) 0
 
-entered_holds : (g : FunctionCode) (qs : List Parameter) (vs : List Value) (ls : List Local) → Entered qs vs ls → AllByRecursion (λ (v : Value). v.word < 2 ^ 32) vs → g.parameters ≡ length qs → length qs ≤ g.registers → Holds (parameter_locals qs) ls g.registers (length (parameter_locals qs)) (first_registers g (arranged qs (map (λ (v : Value). v.word) vs)))
-entered_holds g qs vs ls h b n fits =
+-- words set in registers from one on, one after another
+abbrev set_from : ℕ → List ℕ → List ℕ → List ℕ
+set_from r [] rs = rs
+set_from r (w ∷ ws) rs = set_from (suc r) ws (slice_set rs r w)
+
+length_set_from : (r : ℕ) (ws rs : List ℕ) → length (set_from r ws rs) ≡ length rs
+length_set_from r [] rs = refl
+length_set_from r (w ∷ ws) rs = length_set_from (suc r) ws (slice_set rs r w) ∙ length-set rs r w
+
+below_set : (r : ℕ) (ws rs : List ℕ) (i : ℕ) → i < r → slice_index (set_from r ws rs) i ≡ slice_index rs i
+below_set r [] rs i h = refl
+below_set r (w ∷ ws) rs i h = below_set (suc r) ws (slice_set rs r w) i (omega (arith, h)) ∙ get_or-set_other rs r i w 0 (λ e. omega (arith, h, e))
+
+is_set : (r : ℕ) (ws rs : List ℕ) (k w i : ℕ) → i ≡ r + k → slice_get ws k ≡ Some w → r + length ws ≤ length rs → slice_index (set_from r ws rs) i ≡ w
+is_set r [] rs k w i at e h = cc e
+is_set r (x ∷ ws) rs zero w i at e h =
+    below_set (suc r) ws (slice_set rs r x) i (omega (arith, at)) ∙ ap (slice_index (slice_set rs r x)) (omega (arith, at)) ∙ get_or-set_same rs r x 0 (omega (arith, h)) ∙ ap (λ o. unwrap_or o 0) e
+is_set r (x ∷ ws) rs (suc k) w i at e h =
+    let len : length (slice_set rs r x) ≡ length rs = length-set rs r x in
+    is_set (suc r) ws (slice_set rs r x) k w i (omega (arith, at)) e (omega (arith, h, len))
+
+entered_holds : (g : FunctionCode) (layout : Layout) (qs : List Parameter) (vs : List Value) (ls : List Local) → Entered qs vs ls → AllByRecursion (λ (v : Value). v.word < 2 ^ 32) vs → g.parameters ≡ length qs → length qs ≤ layout.writable → g.registers ≡ registers_in layout → Holds (parameter_locals qs) ls layout (length (parameter_locals qs)) (set_from layout.writable layout.constants (first_registers g (arranged qs (map (λ (v : Value). v.word) vs))))
+entered_holds g layout qs vs ls h b n fits all =
     let ws : List ℕ = map (λ (v : Value). v.word) vs in
     let zeros : List ℕ = replicate (g.registers - g.parameters) 0 in
+    let old : List ℕ = first_registers g (arranged qs ws) in
     let len : length ls ≡ length (parameter_locals qs) = length_like (parameter_locals qs) ls h.shapes in
     let len2 : length ws ≡ length qs = length-map vs (λ (v : Value). v.word) ∙ h.count in
     let len3 : length ls ≡ length (named_ones qs ws) = sym (length-map ls (λ (l : Local). l.word)) ∙ ap length h.words in
     let parts : length (named_ones qs ws) + length (nameless_ones qs ws) ≡ length qs = length_parts qs ws len2 in
     let whole : length (arranged qs ws) ≡ length qs = length_arranged qs ws len2 in
-    let len4 : length (arranged qs ws ++ zeros) ≡ length (arranged qs ws) + length zeros = length-append (arranged qs ws) zeros in
+    let len4 : length old ≡ length (arranged qs ws) + length zeros = length-append (arranged qs ws) zeros in
     let len5 : length zeros ≡ g.registers - g.parameters = length-replicate (g.registers - g.parameters) 0 in
+    let size_is : length old ≡ registers_in layout = omega (arith, len4, len5, whole, n, fits, all) in
     record {
       like = h.shapes;
       room = omega (arith, len);
       fits = omega (arith, len3, parts, fits);
-      size_is = omega (arith, len4, len5, whole, n, fits);
-      each = λ i l. front_index (arranged qs ws) zeros i (omega (arith, l, len3, parts, whole)) ∙ front_index (named_ones qs ws) (nameless_ones qs ws) i (omega (arith, l, len3)) ∙ ap (λ us. slice_index us i) (sym h.words) ∙ sym (word_listed ls i);
+      size_is = length_set_from layout.writable layout.constants old ∙ size_is;
+      each = λ i l. below_set layout.writable layout.constants old i (omega (arith, l, len3, parts, fits)) ∙ front_index (arranged qs ws) zeros i (omega (arith, l, len3, parts, whole)) ∙ front_index (named_ones qs ws) (nameless_ones qs ws) i (omega (arith, l, len3)) ∙ ap (λ us. slice_index us i) (sym h.words) ∙ sym (word_listed ls i);
       words = λ i. subst (λ w. w < 2 ^ 32) (sym (word_listed ls i ∙ ap (λ us. slice_index us i) h.words)) (named_below qs vs i b);
+      ready = λ k w e. is_set layout.writable layout.constants old k w (layout.writable + k) refl e (omega (arith, size_is));
     }
 
 -- the function of worker's name
@@ -169,8 +193,8 @@ worker_known (f ∷ fs) g e = worker_one (bytes_eq f.name (codes "worker")) f fs
 
 module _ (p : Program) (code : Code) where
   -- turns gain no ticks
-  turns_fall : (k : ℕ) (size : ℕ) (frames : List Frame) (cf : CallsFollow p (calls p k) code size frames) → TurnsFall p (calls p k) code size frames cf
-  turns_fall k size frames cf = record { while_falls = while_falls p k; do_falls = do_falls p k; for_falls = for_falls p k }
+  turns_fall : (k : ℕ) (layout : Layout) (frames : List Frame) (cf : CallsFollow p (calls p k) code layout frames) → TurnsFall p (calls p k) code layout frames cf
+  turns_fall k layout frames cf = record { while_falls = while_falls p k; do_falls = do_falls p k; for_falls = for_falls p k }
 
   -- a function's body, up to its return
   abbrev GoesReturn : ℕ → ℕ → (a : Around) → (Answer Value → Outcome) → List Local → List Frame → Option Scalar → Type 0
@@ -182,24 +206,32 @@ module _ (p : Program) (code : Code) where
   abbrev leaving : List Local → Option Scalar → End → Action Value
   leaving outer u end = put_locals outer >> result_of u end
 
-  body_ends : (N K : ℕ) (size : ℕ) (a : Around) (ls : List Local) (frames : List Frame) (u : Option Scalar) (after : Answer Value → Outcome) (scope later : LocalScope) (last : ℕ) → At code last (Instr.Return None) → IsSeen a after → GoesReturn N K a after ls frames u →
-      (end : End) (sh : Shared) (text : List ℕ) (ls1 : List Local) (rs : List ℕ) (q : ℕ) → IsGood a sh → ArrivedAt p code size no_exits (HereAt p code size later) (MoreAt p code size scope) last end q ls1 rs →
+  body_ends : (N K : ℕ) (layout : Layout) (a : Around) (ls : List Local) (frames : List Frame) (u : Option Scalar) (after : Answer Value → Outcome) (scope later : LocalScope) (last : ℕ) → At code last (Instr.Return None) → IsSeen a after → GoesReturn N K a after ls frames u →
+      (end : End) (sh : Shared) (text : List ℕ) (ls1 : List Local) (rs : List ℕ) (q : ℕ) → IsGood a sh → ArrivedAt p code layout no_exits (HereAt p code layout later) (MoreAt p code layout scope) last end q ls1 rs →
       Agrees (effect code) N K (holding a sh text (configuration code q rs frames)) (λ n. after (go_on (Gives end (state n ls1 (context_of a sh) text)) (leaving ls u)))
-  body_ends N K size a ls frames u after scope later last i s go Next sh text ls1 rs q good arrived =
+  body_ends N K layout a ls frames u after scope later last i s go Next sh text ls1 rs q good arrived =
       go (converted (unwrap_or u Int) (flag false)) sh text rs q None (subst (λ y. At code y (Instr.Return None)) (sym arrived.0) i) refl refl (omega arith) good
-  body_ends N K size a ls frames u after scope later last i s go Breaks sh text ls1 rs q good arrived = astray (effect code) 0 (s.astray _)
-  body_ends N K size a ls frames u after scope later last i s go Continues sh text ls1 rs q good arrived = astray (effect code) 0 (s.astray _)
-  body_ends N K size a ls frames u after scope later last i s go (Returns v) sh text ls1 rs q good arrived =
+  body_ends N K layout a ls frames u after scope later last i s go Breaks sh text ls1 rs q good arrived = astray (effect code) 0 (s.astray _)
+  body_ends N K layout a ls frames u after scope later last i s go Continues sh text ls1 rs q good arrived = astray (effect code) 0 (s.astray _)
+  body_ends N K layout a ls frames u after scope later last i s go (Returns v) sh text ls1 rs q good arrived =
       let same_word : word_of (number v.of v.word) ≡ v.word = word_same v.of v.word arrived.3 in
       go (converted (unwrap_or u Int) v) sh text rs q arrived.0 arrived.1 (arrived.2 ∙ sym same_word) refl (subst (λ w. w < 2 ^ 32) (sym same_word) arrived.3) good
-  body_ends N K size a ls frames u after scope later last i s go Cancels sh text ls1 rs q good arrived = astray (effect code) 0 (s.astray _)
+  body_ends N K layout a ls frames u after scope later last i s go Cancels sh text ls1 rs q good arrived = astray (effect code) 0 (s.astray _)
 
-  body_follows : (k : ℕ) (frames : List Frame) (g : FunctionCode) (f : Function) (body : Stmts) → CallsFollow p (calls p k) code g.registers frames → FunctionIsLowered p code g f body → (N K : ℕ) (vs : List Value) (rs : List ℕ) (o : Option (List Local)) → EnteredSo f.parameters vs o → (length vs ≡ length f.parameters → rs ≡ first_registers g (arranged f.parameters (map (λ (v : Value). v.word) vs))) → AllByRecursion (λ (v : Value). v.word < 2 ^ 32) vs → (a : Around) (sh : Shared) (text : List ℕ) (ls : List Local) (after : Answer Value → Outcome) → IsGood a sh → IsSeen a after → GoesReturn N K a after ls frames f.result → Agrees (effect code) N K (holding a sh text (configuration code g.first rs frames)) (λ n. after (go_on (or_astray o (state n ls (context_of a sh) text)) (λ mine. locals >>= λ outer. put_locals mine >> (stmts p (calls p k) body >>= leaving outer f.result))))
-  body_follows k frames g f body cf c N K vs rs None h e b a sh text ls after good s go = astray (effect code) 0 (s.astray _)
-  body_follows k frames g f body cf c N K vs rs (Some mine) h e b a sh text ls after good s go =
-      stmts_follow p (calls p k) code g.registers frames cf (turns_fall k g.registers frames cf) body N K no_exits (parameter_locals f.parameters) g.first c.last a sh text mine rs (λ q. after (go_on q (leaving ls f.result))) c.runs
-      (subst (λ xs. Holds (parameter_locals f.parameters) mine g.registers (length (parameter_locals f.parameters)) xs) (sym (e h.count)) (entered_holds g f.parameters vs mine h b c.parameters c.fits)) good (on_seen a after (leaving ls f.result) s)
-      (body_ends N K g.registers a ls frames f.result after (parameter_locals f.parameters) (locals_at_end body (parameter_locals f.parameters)) c.last c.returns s go)
+  -- the constants are set
+  constants_run : {N K : ℕ} (ws : List ℕ) (r from to : ℕ) (a : Around) (sh : Shared) (text rs : List ℕ) (frames : List Frame) {does : ℕ → Outcome} → ConstantsCode code r ws from to → Agrees (effect code) N K (holding a sh text (configuration code to (set_from r ws rs) frames)) does → Agrees (effect code) N K (holding a sh text (configuration code from rs frames)) does
+  constants_run {N = N} {K = K} [] r from to a sh text rs frames {does = does} c go = subst (λ q. Agrees (effect code) N K (holding a sh text (configuration code q rs frames)) does) c go
+  constants_run (w ∷ ws) r from to a sh text rs frames c go =
+      goes_by code a sh text (configuration code from rs frames) (configuration code (suc from) (slice_set rs r w) frames) (effect_at code from (Instr.Constant r w) rs frames c.0)
+      (constants_run ws (suc r) (suc from) to a sh text (slice_set rs r w) frames c.1 go)
+
+  body_follows : (k : ℕ) (frames : List Frame) (g : FunctionCode) (f : Function) (body : Stmts) → (c : FunctionIsLowered p code g f body) → CallsFollow p (calls p k) code c.layout frames → (N K : ℕ) (vs : List Value) (rs : List ℕ) (o : Option (List Local)) → EnteredSo f.parameters vs o → (length vs ≡ length f.parameters → rs ≡ first_registers g (arranged f.parameters (map (λ (v : Value). v.word) vs))) → AllByRecursion (λ (v : Value). v.word < 2 ^ 32) vs → (a : Around) (sh : Shared) (text : List ℕ) (ls : List Local) (after : Answer Value → Outcome) → IsGood a sh → IsSeen a after → GoesReturn N K a after ls frames f.result → Agrees (effect code) N K (holding a sh text (configuration code g.first rs frames)) (λ n. after (go_on (or_astray o (state n ls (context_of a sh) text)) (λ mine. locals >>= λ outer. put_locals mine >> (stmts p (calls p k) body >>= leaving outer f.result))))
+  body_follows k frames g f body c cf N K vs rs None h e b a sh text ls after good s go = astray (effect code) 0 (s.astray _)
+  body_follows k frames g f body c cf N K vs rs (Some mine) h e b a sh text ls after good s go =
+      constants_run c.layout.constants c.layout.writable g.first c.begins a sh text rs frames c.sets
+      (stmts_follow p (calls p k) code c.layout frames cf (turns_fall k c.layout frames cf) body N K no_exits (parameter_locals f.parameters) c.begins c.last a sh text mine (set_from c.layout.writable c.layout.constants rs) (λ q. after (go_on q (leaving ls f.result))) c.runs
+      (subst (λ xs. Holds (parameter_locals f.parameters) mine c.layout (length (parameter_locals f.parameters)) (set_from c.layout.writable c.layout.constants xs)) (sym (e h.count)) (entered_holds g c.layout f.parameters vs mine h b c.parameters c.fits c.registers)) good (on_seen a after (leaving ls f.result) s)
+      (body_ends N K c.layout a ls frames f.result after (parameter_locals f.parameters) (locals_at_end body (parameter_locals f.parameters)) c.last c.returns s go))
 
   -- calls, with so many further frames to come
   enters_frame : (frames : List Frame) (q d : ℕ) (rs : List ℕ) (args : List ℕ) (g : FunctionCode) (i : Instr) → length frames < 63 → effect_of code (configuration code q rs frames) (Some i) ≡ called (configuration code q rs frames) d args (Some g) → At code q i → effect code (configuration code q rs frames) ≡ Effect.Pure (configuration code g.first (first_registers g (map (slice_index rs) args)) (record { place = suc q; result = d; registers = rs } ∷ frames))
@@ -212,20 +244,21 @@ module _ (p : Program) (code : Code) where
   returns_word q d rs frames (Some r) rs1 q1 w e = ap (λ w. Effect.Pure (configuration code (suc q) (slice_set rs d w) frames)) e
 
   module _ (lowered : IsLowered p code) where
-    calls_follow : (k : ℕ) (frames : List Frame) (size : ℕ) → k + length frames ≡ 63 → CallsFollow p (calls p k) code size frames
-    calls_follow zero frames size deep N K x vs number q d args g f body a sh text ls rs after at known named defined words below good s go =
+    calls_follow : (k : ℕ) (frames : List Frame) (layout : Layout) → k + length frames ≡ 63 → CallsFollow p (calls p k) code layout frames
+    calls_follow zero frames layout deep N K x vs number q d args g f body a sh text ls rs after at known named defined words below good s go =
         let full : length frames ≡ 63 = omega (arith, deep) in
         traps code a after sh ls text (configuration code q rs frames) Frames s
         (effect_at code q (Instr.Call number d (arranged f.parameters args)) rs frames at ∙ ap (called (configuration code q rs frames) d (arranged f.parameters args)) known
         ∙ ap (λ n. if nat_lt n 63 then Effect.Pure (configuration code g.first (first_registers g (map (slice_index rs) (arranged f.parameters args))) (record { place = suc q; result = d; registers = rs } ∷ frames)) else Effect.Traps Frames) full)
-    calls_follow (suc k) frames size deep N K x vs number q d args g f body a sh text ls rs after at known named defined words below good s go =
+    calls_follow (suc k) frames layout deep N K x vs number q d args g f body a sh text ls rs after at known named defined words below good s go =
         let inner : List Frame = record { place = suc q; result = d; registers = rs } ∷ frames in
         let here : definition_of p g.name ≡ Some (f, body) = ap (definition_of p) named ∙ defined in
+        let c : FunctionIsLowered p code g f body = lowered.each number g f body known here in
         goes_by code a sh text (configuration code q rs frames) (configuration code g.first (first_registers g (map (slice_index rs) (arranged f.parameters args))) inner)
         (enters_frame frames q d rs (arranged f.parameters args) g (Instr.Call number d (arranged f.parameters args)) (omega (arith, deep)) (ap (called (configuration code q rs frames) d (arranged f.parameters args)) known) at)
         (same (effect code) (λ n. after (go_on (or_astray (entered f.parameters vs) (state n ls (context_of a sh) text)) (λ mine. locals >>= λ outer. put_locals mine >> (stmts p (calls p k) body >>= leaving outer f.result))))
         (λ n. ap (λ o. after (go_on (or_astray o (state n ls (context_of a sh) text)) (λ f. or_astray (entered f.0.parameters vs) >>= λ mine. locals >>= λ outer. put_locals mine >> (stmts p (calls p k) f.1 >>= λ end. put_locals outer >> result_of f.0.result end)))) defined)
-        (body_follows k inner g f body (calls_follow k inner g.registers (omega (arith, deep))) (lowered.each number g f body known here) N K vs (first_registers g (map (slice_index rs) (arranged f.parameters args))) (entered f.parameters vs) (all_entered f.parameters vs below) (λ count. ap (first_registers g) (arranged_mapped (slice_index rs) f.parameters args ∙ ap (arranged f.parameters) words)) below a sh text ls after good s
+        (body_follows k inner g f body c (calls_follow k inner c.layout (omega (arith, deep))) N K vs (first_registers g (map (slice_index rs) (arranged f.parameters args))) (entered f.parameters vs) (all_entered f.parameters vs below) (λ count. ap (first_registers g) (arranged_mapped (slice_index rs) f.parameters args ∙ ap (arranged f.parameters) words)) below a sh text ls after good s
         (λ v sh1 text1 rs1 q1 r at1 word of_v below_v good1.
         goes_by code a sh1 text1 (configuration code q1 rs1 inner) (configuration code (suc q) (slice_set rs d v.word) frames)
         (effect_at code q1 (Instr.Return r) rs1 inner at1 ∙ returns_word q d rs frames r rs1 q1 v.word word)
@@ -250,7 +283,8 @@ module _ (p : Program) (code : Code) where
         let after : Answer Value → Outcome = λ q. outcome_of (go_on q (λ v. tick)) in
         let sh : Shared = record { founds = founds; lefts = []; memory = []; kept = false } in
         let here : definition_of p g.name ≡ Some (d.0, d.1) = ap (definition_of p) w.2 ∙ e in
-        body_follows 63 [] g d.0 d.1 (calls_follow 63 [] g.registers (omega arith)) (lowered.each w.0 g d.0 d.1 w.1 here) N K vs (first_registers g (t ∷ [])) (entered d.0.parameters vs) (all_entered d.0.parameters vs (below, tt))
+        let c : FunctionIsLowered p code g d.0 d.1 = lowered.each w.0 g d.0 d.1 w.1 here in
+        body_follows 63 [] g d.0 d.1 c (calls_follow 63 [] c.layout (omega arith)) N K vs (first_registers g (t ∷ [])) (entered d.0.parameters vs) (all_entered d.0.parameters vs (below, tt))
         (λ count. ap (first_registers g) (sym (one_arranged d.0.parameters t count))) (below, tt) Bare sh [] [] after good
         (record { spent = λ t. refl; wants = λ t. refl; trapped = λ k t. refl; astray = λ t. refl })
         (λ v sh1 text1 rs1 q r at word of_v below_v good1. ends (configuration code q rs1 []) sh1.founds sh1.lefts text1 [] sh1.memory sh1.kept (effect_at code q (Instr.Return r) rs1 [] at ∙ returns_end r rs1 q))

@@ -31,9 +31,9 @@ use Rattle.syntax.specs.Numbers.{fitted}
 use Rattle.syntax.proofs.Words.{gives_words, fitted_below, word_below}
 use Rattle.bytecode.specs.Effects.{Effect}
 use Rattle.bytecode.specs.Code.{Code, Configuration, Frame, Instr, effect, effect_of, or_traps, setting}
-use Rattle.lowered.specs.Expressions.{LocalScope, IsLike, At, LeadsTo, Branching, MayTake, computing, arranged, GivenBy, VariableCode, ElementAt, Branches, BothHold, EitherHolds, ComparedWithZero, TruthCode, BranchCode, ConditionalCode, ExprCode, OwnTests, ArgsCode, CondCode}
+use Rattle.lowered.specs.Expressions.{LocalScope, IsLike, At, LeadsTo, Branching, MayTake, computing, arranged, Layout, GivenBy, LiesReady, OperandCode, VariableCode, ElementAt, Branches, BothHold, EitherHolds, ComparedWithZero, TruthCode, BranchCode, ConditionalCode, ExprCode, OwnTests, ArgsCode, CondCode}
 use Rattle.lowered.proofs.Agreement.{Agrees, astray, same, fewer}
-use Rattle.lowered.proofs.Runs.{Around, Bare, Within, Shared, context_of, holding, state, IsSeen, on_seen, IsGood, Holds, Keeps, keeps_all, keeps_more, keeps_set, keeps_on, holds_on, configuration, effect_at, goes, goes_by, reads_by, tick_goes, traps}
+use Rattle.lowered.proofs.Runs.{Around, Bare, Within, Shared, context_of, holding, state, IsSeen, on_seen, IsGood, registers_in, Holds, Keeps, keeps_all, keeps_more, keeps_set, keeps_on, holds_on, configuration, effect_at, goes, goes_by, reads_by, tick_goes, traps}
 
 -- the number that a word below 2^32 stands for has that word
 word_of_either : (b : Bool) (w : ℕ) → w < 2 ^ 32 → word_of (if b then pos w else pos w -ℤ pos (2 ^ 32)) ≡ w
@@ -78,13 +78,13 @@ newest_like x scope ls e = newest_shaped ls 0 x ∙ ap (λ ss. newest_shape 0 ss
 abbrev pub element_in : Option GlobalCells → Value → Action Spot
 element_in o k = or_astray o >>= λ g. if nat_lt k.word (cells g.global) then pure (InCell (g.cell + k.word) g.global.of) else trap Index
 
-module _ (p : Program) (call : Caller) (code : Code) (size : ℕ) (frames : List Frame) where
+module _ (p : Program) (call : Caller) (code : Code) (layout : Layout) (frames : List Frame) where
   -- what is known where an expression's value has come into a register
   pub record Computed (a : Around) (t : Scalar) (r : ℕ) (home : Option ℕ) (free : ℕ) (old : List ℕ) (v : Value) (sh : Shared) (new : List ℕ) : Type 0 where
     pub typed_so : v.of ≡ t
     pub word : v.word < 2 ^ 32
     pub here : slice_index new r ≡ v.word
-    pub keeps : Keeps home free old new
+    pub keeps : Keeps layout home free old new
     pub good : IsGood a sh
 
   -- the thread goes on from there as the source does
@@ -97,8 +97,8 @@ module _ (p : Program) (call : Caller) (code : Code) (size : ℕ) (frames : List
   Does N K a sh text ls from registers does = Agrees (effect code) N K (holding a sh text (configuration code from registers frames)) (λ n. does (state n ls (context_of a sh) text))
 
   -- a word is set in a register
-  arrives : (a : Around) (sh : Shared) (home : Option ℕ) (free r w : ℕ) (t : Scalar) (old rs : List ℕ) → MayTake home free r → r < size → length rs ≡ size → w < 2 ^ 32 → Keeps home free old rs → IsGood a sh → Computed a t r home free old (record { of = t; word = w }) sh (slice_set rs r w)
-  arrives a sh home free r w t old rs f b len h k g = record { typed_so = refl; word = h; here = get_or-set_same rs r w 0 (omega (arith, b, len)); keeps = keeps_set home free old rs r w f k; good = g }
+  arrives : (a : Around) (sh : Shared) (home : Option ℕ) (free r w : ℕ) (t : Scalar) (old rs : List ℕ) → MayTake home free r → r < layout.writable → length rs ≡ registers_in layout → w < 2 ^ 32 → Keeps layout home free old rs → IsGood a sh → Computed a t r home free old (record { of = t; word = w }) sh (slice_set rs r w)
+  arrives a sh home free r w t old rs f b len h k g = record { typed_so = refl; word = h; here = get_or-set_same rs r w 0 (omega (arith, b, len)); keeps = keeps_set layout home free old rs r w f b k; good = g }
 
   -- the end of a stretch under other names
   go_at : {N K : ℕ} (a : Around) (after : Answer Value → Outcome) (ls : List Local) (to to' : ℕ) (home : Option ℕ) (free r : ℕ) (t u : Scalar) (old : List ℕ) → to ≡ to' → t ≡ u → GoesOn N K a after ls to home free r t old → GoesOn N K a after ls to' home free r u old
@@ -106,18 +106,18 @@ module _ (p : Program) (call : Caller) (code : Code) (size : ℕ) (frames : List
       subst (λ x. GoesOn N K a after ls x home free r u old) e (subst (λ y. GoesOn N K a after ls to home free r y old) f go)
 
   -- an instruction that gives a word in a register
-  pub sets : {N K : ℕ} (i : Instr) (u : Scalar) (a : Around) (sh : Shared) (text : List ℕ) (ls : List Local) (after : Answer Value → Outcome) (q to : ℕ) (home : Option ℕ) (free r w : ℕ) (t : Scalar) (old rs : List ℕ) → GivenBy code size home i u q to free r t → effect_of code (configuration code q rs frames) (Some i) ≡ Effect.Pure (setting (configuration code q rs frames) r w) → length rs ≡ size → w < 2 ^ 32 → Keeps home free old rs → IsGood a sh → GoesOn N K a after ls to home free r t old → Does N K a sh text ls q rs (λ s. after (Gives (record { of = u; word = w }) s))
+  pub sets : {N K : ℕ} (i : Instr) (u : Scalar) (a : Around) (sh : Shared) (text : List ℕ) (ls : List Local) (after : Answer Value → Outcome) (q to : ℕ) (home : Option ℕ) (free r w : ℕ) (t : Scalar) (old rs : List ℕ) → GivenBy code layout home i u q to free r t → effect_of code (configuration code q rs frames) (Some i) ≡ Effect.Pure (setting (configuration code q rs frames) r w) → length rs ≡ registers_in layout → w < 2 ^ 32 → Keeps layout home free old rs → IsGood a sh → GoesOn N K a after ls to home free r t old → Does N K a sh text ls q rs (λ s. after (Gives (record { of = u; word = w }) s))
   sets i u a sh text ls after q to home free r w t old rs c e len h k g go =
       goes_by code a sh text (configuration code q rs frames) (setting (configuration code q rs frames) r w) (effect_at code q i rs frames c.instr ∙ e)
       (go_at a after ls to (suc q) home free r t u old c.to_is c.type_is go (record { of = u; word = w }) sh text (slice_set rs r w) (arrives a sh home free r w u old rs c.takes c.register len h k g))
 
   -- an operator's result, or its trap
-  pub results : {N K : ℕ} (i : Instr) (u : Scalar) (a : Around) (sh : Shared) (text : List ℕ) (ls : List Local) (after : Answer Value → Outcome) (q to : ℕ) (home : Option ℕ) (free r : ℕ) (t : Scalar) (old rs : List ℕ) (res : Result ℕ Trap) → GivenBy code size home i u q to free r t → effect_of code (configuration code q rs frames) (Some i) ≡ or_traps res (setting (configuration code q rs frames) r) → IfOk res (λ w. w < 2 ^ 32) → length rs ≡ size → Keeps home free old rs → IsGood a sh → IsSeen a after → GoesOn N K a after ls to home free r t old → Does N K a sh text ls q rs (λ s. after (or_trap (typed u res) s))
+  pub results : {N K : ℕ} (i : Instr) (u : Scalar) (a : Around) (sh : Shared) (text : List ℕ) (ls : List Local) (after : Answer Value → Outcome) (q to : ℕ) (home : Option ℕ) (free r : ℕ) (t : Scalar) (old rs : List ℕ) (res : Result ℕ Trap) → GivenBy code layout home i u q to free r t → effect_of code (configuration code q rs frames) (Some i) ≡ or_traps res (setting (configuration code q rs frames) r) → IfOk res (λ w. w < 2 ^ 32) → length rs ≡ registers_in layout → Keeps layout home free old rs → IsGood a sh → IsSeen a after → GoesOn N K a after ls to home free r t old → Does N K a sh text ls q rs (λ s. after (or_trap (typed u res) s))
   results i u a sh text ls after q to home free r t old rs (Ok w) c e h len k g s go = sets i u a sh text ls after q to home free r w t old rs c e len h k g go
   results i u a sh text ls after q to home free r t old rs (Err x) c e h len k g s go = traps code a after sh ls text (configuration code q rs frames) x s (effect_at code q i rs frames c.instr ∙ e)
 
   -- a shared cell that is read
-  pub reads : {N K : ℕ} (i : Instr) (u : Scalar) (a : Around) (sh : Shared) (text : List ℕ) (ls : List Local) (after : Answer Value → Outcome) (q to : ℕ) (home : Option ℕ) (free r cell : ℕ) (t : Scalar) (old rs : List ℕ) → GivenBy code size home i u q to free r t → effect_of code (configuration code q rs frames) (Some i) ≡ Effect.Read cell (setting (configuration code q rs frames) r) → length rs ≡ size → Keeps home free old rs → IsGood a sh → IsSeen a after → GoesOn N K a after ls to home free r t old → Does N K a sh text ls q rs (λ s. after (fetch (InCell cell u) s))
+  pub reads : {N K : ℕ} (i : Instr) (u : Scalar) (a : Around) (sh : Shared) (text : List ℕ) (ls : List Local) (after : Answer Value → Outcome) (q to : ℕ) (home : Option ℕ) (free r cell : ℕ) (t : Scalar) (old rs : List ℕ) → GivenBy code layout home i u q to free r t → effect_of code (configuration code q rs frames) (Some i) ≡ Effect.Read cell (setting (configuration code q rs frames) r) → length rs ≡ registers_in layout → Keeps layout home free old rs → IsGood a sh → IsSeen a after → GoesOn N K a after ls to home free r t old → Does N K a sh text ls q rs (λ s. after (fetch (InCell cell u) s))
   reads i u Bare sh text ls after q to home free r cell t old rs c e len k g s go = astray (effect code) 0 (s.astray _)
   reads i u (Within h) sh text ls after q to home free r cell t old rs c e len k g s go =
       let w = slice_index sh.memory cell in
@@ -125,7 +125,7 @@ module _ (p : Program) (call : Caller) (code : Code) (size : ℕ) (frames : List
       (go_at (Within h) after ls to (suc q) home free r t u old c.to_is c.type_is go (record { of = u; word = w }) sh text (slice_set rs r w) (arrives (Within h) sh home free r w u old rs c.takes c.register len (g.0 cell) k g))
 
   -- an operator on two values that lie in registers
-  pub operates : {N K : ℕ} (op : BinaryOp) (v w : Value) (ta tb : Scalar) (ra rb : ℕ) (a : Around) (sh : Shared) (text : List ℕ) (ls : List Local) (after : Answer Value → Outcome) (q to : ℕ) (home : Option ℕ) (free r : ℕ) (t : Scalar) (old rs : List ℕ) → v.of ≡ ta → w.of ≡ tb → slice_index rs ra ≡ v.word → slice_index rs rb ≡ w.word → v.word < 2 ^ 32 → w.word < 2 ^ 32 → GivenBy code size home (computing op (operand_type op ta tb) r ra rb) (result_type op (operand_type op ta tb)) q to free r t → length rs ≡ size → Keeps home free old rs → IsGood a sh → IsSeen a after → GoesOn N K a after ls to home free r t old → Does N K a sh text ls q rs (λ s. after (or_trap (binary op v w) s))
+  pub operates : {N K : ℕ} (op : BinaryOp) (v w : Value) (ta tb : Scalar) (ra rb : ℕ) (a : Around) (sh : Shared) (text : List ℕ) (ls : List Local) (after : Answer Value → Outcome) (q to : ℕ) (home : Option ℕ) (free r : ℕ) (t : Scalar) (old rs : List ℕ) → v.of ≡ ta → w.of ≡ tb → slice_index rs ra ≡ v.word → slice_index rs rb ≡ w.word → v.word < 2 ^ 32 → w.word < 2 ^ 32 → GivenBy code layout home (computing op (operand_type op ta tb) r ra rb) (result_type op (operand_type op ta tb)) q to free r t → length rs ≡ registers_in layout → Keeps layout home free old rs → IsGood a sh → IsSeen a after → GoesOn N K a after ls to home free r t old → Does N K a sh text ls q rs (λ s. after (or_trap (binary op v w) s))
   operates op v w ta tb ra rb a sh text ls after q to home free r t old rs of_v of_w left right below_v below_w c len keeps good s go =
       let o : Scalar = operand_type op ta tb in
       let res : Result ℕ Trap = computed op o (slice_index rs ra) (slice_index rs rb) in
@@ -153,19 +153,19 @@ module _ (p : Program) (call : Caller) (code : Code) (size : ℕ) (frames : List
   same_length : (scope : LocalScope) (ls : List Local) → IsLike scope ls → length ls ≡ length scope
   same_length scope ls e = sym (length-map ls shape) ∙ ap length e ∙ length-map scope shape
 
-  variable_runs : {N K : ℕ} (home : Option ℕ) (o : Option (ℕ × Scalar)) (g : Option GlobalCells) (scope : LocalScope) (from to free r : ℕ) (t : Scalar) → VariableCode code size home (length scope) o g from to free r t → (a : Around) (sh : Shared) (text : List ℕ) (ls : List Local) (old : List ℕ) (after : Answer Value → Outcome) → Holds scope ls size free old → IsGood a sh → IsSeen a after → GoesOn N K a after ls to home free r t old → Does N K a sh text ls from old (λ s. after (go_on (spot_in o g s) fetch))
+  variable_runs : {N K : ℕ} (home : Option ℕ) (o : Option (ℕ × Scalar)) (g : Option GlobalCells) (scope : LocalScope) (from to free r : ℕ) (t : Scalar) → VariableCode code layout home (length scope) o g from to free r t → (a : Around) (sh : Shared) (text : List ℕ) (ls : List Local) (old : List ℕ) (after : Answer Value → Outcome) → Holds scope ls layout free old → IsGood a sh → IsSeen a after → GoesOn N K a after ls to home free r t old → Does N K a sh text ls from old (λ s. after (go_on (spot_in o g s) fetch))
   variable_runs home (Some l) g scope from to free r t c a sh text ls old after h good s go =
       let below : l.0 < length ls = subst (λ n. l.0 < n) (sym (same_length scope ls h.like)) c.known in
       go_at a after ls to from home free r t l.1 old c.to_is c.type_is go (record { of = l.1; word = word_at ls l.0 }) sh text old
-      (record { typed_so = refl; word = h.words l.0; here = ap (slice_index old) c.register ∙ h.each l.0 below; keeps = keeps_all home free old; good = good })
+      (record { typed_so = refl; word = h.words l.0; here = ap (slice_index old) c.register ∙ h.each l.0 below; keeps = keeps_all layout home free old; good = good })
   variable_runs home None None scope from to free r t c a sh text ls old after h good s go = absurd c
   variable_runs home None (Some g) scope from to free r t c a sh text ls old after h good s go =
-      reads (Instr.Read r g.cell) g.global.of a sh text ls after from to home free r g.cell t old old c refl h.size_is (keeps_all home free old) good s go
+      reads (Instr.Read r g.cell) g.global.of a sh text ls after from to home free r g.cell t old old c refl h.size_is (keeps_all layout home free old) good s go
 
   -- what an expression's instructions do, wherever they stand
   abbrev pub Follows : Option ℕ → LocalScope → Expr → (N K from to free r : ℕ) → Scalar → Around → Shared → List ℕ → List Local → List ℕ → (Answer Value → Outcome) → Type 0
   Follows home scope e N K from to free r t a sh text ls old after =
-      ExprCode code size p home scope e from to free r t → Holds scope ls size free old → IsGood a sh → IsSeen a after →
+      ExprCode code layout p home scope e from to free r t → Holds scope ls layout free old → IsGood a sh → IsSeen a after →
       GoesOn N K a after ls to home free r t old → Does N K a sh text ls from old (λ s. after (expr p call e s))
 
   abbrev pub AlwaysFollows : Option ℕ → LocalScope → Expr → Type 0
@@ -174,7 +174,7 @@ module _ (p : Program) (call : Caller) (code : Code) (size : ℕ) (frames : List
       Follows home scope e N K from to free r t a sh text ls old after
 
   -- an element that is read, once its index is there
-  indexed : {N K : ℕ} (g : GlobalCells) (ri : ℕ) (b : Bool) (k : Value) (a : Around) (sh : Shared) (text : List ℕ) (ls : List Local) (after : Answer Value → Outcome) (q to : ℕ) (home : Option ℕ) (free r : ℕ) (t : Scalar) (old rs : List ℕ) → nat_lt k.word (cells g.global) ≡ b → slice_index rs ri ≡ k.word → GivenBy code size home (Instr.ReadAt r g.cell (cells g.global) ri) g.global.of q to free r t → length rs ≡ size → Keeps home free old rs → IsGood a sh → IsSeen a after → GoesOn N K a after ls to home free r t old → Does N K a sh text ls q rs (λ s. after (go_on ((if b then pure (InCell (g.cell + k.word) g.global.of) else trap Index) s) fetch))
+  indexed : {N K : ℕ} (g : GlobalCells) (ri : ℕ) (b : Bool) (k : Value) (a : Around) (sh : Shared) (text : List ℕ) (ls : List Local) (after : Answer Value → Outcome) (q to : ℕ) (home : Option ℕ) (free r : ℕ) (t : Scalar) (old rs : List ℕ) → nat_lt k.word (cells g.global) ≡ b → slice_index rs ri ≡ k.word → GivenBy code layout home (Instr.ReadAt r g.cell (cells g.global) ri) g.global.of q to free r t → length rs ≡ registers_in layout → Keeps layout home free old rs → IsGood a sh → IsSeen a after → GoesOn N K a after ls to home free r t old → Does N K a sh text ls q rs (λ s. after (go_on ((if b then pure (InCell (g.cell + k.word) g.global.of) else trap Index) s) fetch))
   indexed g ri true k a sh text ls after q to home free r t old rs e f c len kp good s go =
       reads (Instr.ReadAt r g.cell (cells g.global) ri) g.global.of a sh text ls after q to home free r (g.cell + k.word) t old rs c
       (ap (λ w. if nat_lt w (cells g.global) then Effect.Read (g.cell + w) (setting (configuration code q rs frames) r) else Effect.Traps Index) f
@@ -186,12 +186,12 @@ module _ (p : Program) (call : Caller) (code : Code) (size : ℕ) (frames : List
       ∙ ap (λ w. if nat_lt w (cells g.global) then Effect.Read (g.cell + w) (setting (configuration code q rs frames) r) else Effect.Traps Index) f
       ∙ ap (λ b. if b then Effect.Read (g.cell + k.word) (setting (configuration code q rs frames) r) else Effect.Traps Index) e)
 
-  element_follows : (home : Option ℕ) (o : Option GlobalCells) (scope : LocalScope) (i : Expr) → AlwaysFollows None scope i → (N K from to free r : ℕ) (t : Scalar) (a : Around) (sh : Shared) (text : List ℕ) (ls : List Local) (old : List ℕ) (after : Answer Value → Outcome) → ElementAt code size home o (ExprCode code size p None scope i) from to free r t → Holds scope ls size free old → IsGood a sh → IsSeen a after → GoesOn N K a after ls to home free r t old → Does N K a sh text ls from old (λ s. after (go_on (expr p call i s) (λ k. element_in o k >>= fetch)))
+  element_follows : (home : Option ℕ) (o : Option GlobalCells) (scope : LocalScope) (i : Expr) → AlwaysFollows None scope i → (N K from to free r : ℕ) (t : Scalar) (a : Around) (sh : Shared) (text : List ℕ) (ls : List Local) (old : List ℕ) (after : Answer Value → Outcome) → ElementAt code layout home o (ExprCode code layout p None scope i) from to free r t → Holds scope ls layout free old → IsGood a sh → IsSeen a after → GoesOn N K a after ls to home free r t old → Does N K a sh text ls from old (λ s. after (go_on (expr p call i s) (λ k. element_in o k >>= fetch)))
   element_follows home None scope i ih N K from to free r t a sh text ls old after c h good s go = absurd c
   element_follows home (Some g) scope i ih N K from to free r t a sh text ls old after c h good s go =
       let rest : Value → Action Value = λ k. element_in (Some g) k >>= fetch in
       ih N K from c.mid free c.ri c.ti a sh text ls old (λ q. after (go_on q rest)) c.computes h good (on_seen a after rest s)
-      (λ k sh1 text1 rs1 d. indexed g c.ri (nat_lt k.word (cells g.global)) k a sh1 text1 ls after c.mid to home free r t old rs1 refl d.here c.reads (d.keeps.size ∙ h.size_is) (keeps_more home free old rs1 d.keeps) d.good s go)
+      (λ k sh1 text1 rs1 d. indexed g c.ri (nat_lt k.word (cells g.global)) k a sh1 text1 ls after c.mid to home free r t old rs1 refl d.here c.reads (d.keeps.size ∙ h.size_is) (keeps_more layout home free old rs1 d.keeps) d.good s go)
 
   -- an unconditional jump, and a place that leads on
   pub passes : {N K : ℕ} (a : Around) (sh : Shared) (text : List ℕ) (q to : ℕ) (rs : List ℕ) {does : ℕ → Outcome} → At code q (Instr.Jump to) → Agrees (effect code) N K (holding a sh text (configuration code to rs frames)) does → Agrees (effect code) N K (holding a sh text (configuration code q rs frames)) does
@@ -215,12 +215,12 @@ module _ (p : Program) (call : Caller) (code : Code) (size : ℕ) (frames : List
   -- the two places of a condition: the thread goes on from there with its value, or with the flag that it is
   abbrev pub GoesBoth : ℕ → ℕ → (a : Around) → (Answer Value → Outcome) → List Local → (met unmet free : ℕ) → List ℕ → Type 0
   GoesBoth N K a after ls met unmet free old =
-      (v : Value) (b : Bool) (sh : Shared) (text : List ℕ) (new : List ℕ) → is_zero v ≡ b → v.word < 2 ^ 32 → Keeps None free old new → IsGood a sh →
+      (v : Value) (b : Bool) (sh : Shared) (text : List ℕ) (new : List ℕ) → is_zero v ≡ b → v.word < 2 ^ 32 → Keeps layout None free old new → IsGood a sh →
       Agrees (effect code) N K (holding a sh text (configuration code (if b then unmet else met) new frames)) (λ n. after (Gives v (state n ls (context_of a sh) text)))
 
   abbrev GoesFlag : ℕ → ℕ → (a : Around) → (Answer Value → Outcome) → List Local → (met unmet free : ℕ) → List ℕ → Type 0
   GoesFlag N K a after ls met unmet free old =
-      (b : Bool) (sh : Shared) (text : List ℕ) (new : List ℕ) → Keeps None free old new → IsGood a sh →
+      (b : Bool) (sh : Shared) (text : List ℕ) (new : List ℕ) → Keeps layout None free old new → IsGood a sh →
       Agrees (effect code) N K (holding a sh text (configuration code (if b then unmet else met) new frames)) (λ n. after (Gives (flag (not b)) (state n ls (context_of a sh) text)))
 
   flag_of : {N K : ℕ} (a : Around) (after : Answer Value → Outcome) (ls : List Local) (met unmet free : ℕ) (old : List ℕ) → GoesBoth N K a after ls met unmet free old → GoesFlag N K a after ls met unmet free old
@@ -231,14 +231,14 @@ module _ (p : Program) (call : Caller) (code : Code) (size : ℕ) (frames : List
   abbrev pub BranchingFollows : LocalScope → Action Value → Branching → Type 0
   BranchingFollows scope run tests =
       (N K from met unmet free : ℕ) (a : Around) (sh : Shared) (text : List ℕ) (ls : List Local) (old : List ℕ) (after : Answer Value → Outcome) →
-      tests from met unmet free → Holds scope ls size free old → IsGood a sh → IsSeen a after →
+      tests from met unmet free → Holds scope ls layout free old → IsGood a sh → IsSeen a after →
       GoesBoth N K a after ls met unmet free old → Does N (suc K) a sh text ls from old (λ s. after (run s))
 
   -- the same of one that gives a flag
   abbrev FlagFollows : LocalScope → Action Value → Branching → Type 0
   FlagFollows scope run tests =
       (N K from met unmet free : ℕ) (a : Around) (sh : Shared) (text : List ℕ) (ls : List Local) (old : List ℕ) (after : Answer Value → Outcome) →
-      tests from met unmet free → Holds scope ls size free old → IsGood a sh → IsSeen a after →
+      tests from met unmet free → Holds scope ls layout free old → IsGood a sh → IsSeen a after →
       GoesFlag N K a after ls met unmet free old → Does N (suc K) a sh text ls from old (λ s. after (run s))
 
   zero_jumps : {N K : ℕ} (b : Bool) (w : ℕ) (a : Around) (sh : Shared) (text : List ℕ) (q r there on : ℕ) (rs : List ℕ) (does : ℕ → Outcome) → At code q (Instr.JumpZero r there) → LeadsTo code (suc q) on → slice_index rs r ≡ w → (w == 0) ≡ b → Agrees (effect code) N K (holding a sh text (configuration code (if b then there else on) rs frames)) does → Agrees (effect code) N (suc K) (holding a sh text (configuration code q rs frames)) does
@@ -250,7 +250,7 @@ module _ (p : Program) (call : Caller) (code : Code) (size : ℕ) (frames : List
   nonzero_jumps false w a sh text q r there on rs does at l here e go = jumps (Instr.JumpNonzero r there) (suc q) there false w a sh text q r rs does at refl here e go
 
   -- a condition, by its value or by its operator
-  branches_follow : (scope : LocalScope) (e : Expr) (own : Branching) → AlwaysFollows None scope e → BranchingFollows scope (expr p call e) own → BranchingFollows scope (expr p call e) (Branches code size (ExprCode code size p None scope e) own)
+  branches_follow : (scope : LocalScope) (e : Expr) (own : Branching) → AlwaysFollows None scope e → BranchingFollows scope (expr p call e) own → BranchingFollows scope (expr p call e) (Branches code layout (ExprCode code layout p None scope e) own)
   branches_follow scope e own ih iho N K from met unmet free a sh text ls old after (inl c) h good s go =
       ih N (suc K) from c.mid free c.r c.t a sh text ls old after c.computes h good s
       (λ v sh1 text1 rs1 d. zero_jumps (is_zero v) v.word a sh1 text1 c.mid c.r unmet met rs1 _ c.jumps c.leads d.here refl (go v (is_zero v) sh1 text1 rs1 refl d.word d.keeps d.good))
@@ -270,10 +270,10 @@ module _ (p : Program) (call : Caller) (code : Code) (size : ℕ) (frames : List
       (go b sh text new k g)
 
   -- further on, with the registers of before
-  goes_later : {N K : ℕ} (a : Around) (after : Answer Value → Outcome) (ls : List Local) (met unmet free : ℕ) (old mid : List ℕ) → Keeps None free old mid → GoesFlag N K a after ls met unmet free old → GoesFlag N K a after ls met unmet free mid
-  goes_later a after ls met unmet free old mid k go b sh text new l g = go b sh text new (keeps_on None free free old mid new (omega arith) k l) g
+  goes_later : {N K : ℕ} (a : Around) (after : Answer Value → Outcome) (ls : List Local) (met unmet free : ℕ) (old mid : List ℕ) → Keeps layout None free old mid → GoesFlag N K a after ls met unmet free old → GoesFlag N K a after ls met unmet free mid
+  goes_later a after ls met unmet free old mid k go b sh text new l g = go b sh text new (keeps_on layout None free free old mid new (omega arith) k l) g
 
-  both_follow : (scope : LocalScope) (x y : Action Value) (A B : Branching) → BranchingFollows scope x A → BranchingFollows scope y B → FlagFollows scope (x >>= λ v. (if is_zero v then pure v else y) >>= tested) (BothHold code size A B)
+  both_follow : (scope : LocalScope) (x y : Action Value) (A B : Branching) → BranchingFollows scope x A → BranchingFollows scope y B → FlagFollows scope (x >>= λ v. (if is_zero v then pure v else y) >>= tested) (BothHold code layout A B)
   both_follow scope x y A B ihx ihy N K from met unmet free a sh text ls old after c h good s go =
       let rest : Value → Action Value = λ v. (if is_zero v then pure v else y) >>= tested in
       ihx N K from c.mid unmet free a sh text ls old (λ q. after (go_on q rest)) c.first h good (on_seen a after rest s) first
@@ -285,10 +285,10 @@ module _ (p : Program) (call : Caller) (code : Code) (size : ℕ) (frames : List
       first v false sh1 text1 new e below k g =
           same (effect code) (λ n. after (go_on (y (state n ls (context_of a sh1) text1)) tested)) (λ n. ap (λ z. after (go_on ((if z then pure v else y) (state n ls (context_of a sh1) text1)) tested)) e)
           (fewer (effect code) (omega arith) (omega arith)
-          (ihy N K c.mid met unmet free a sh1 text1 ls new (λ q. after (go_on q tested)) c.second (holds_on scope ls size free free old new (omega arith) h k) g (on_seen a after tested s)
+          (ihy N K c.mid met unmet free a sh1 text1 ls new (λ q. after (go_on q tested)) c.second (holds_on scope ls layout free free old new (omega arith) h k) g (on_seen a after tested s)
           (goes_tested a after ls met unmet free new (goes_later a after ls met unmet free old new k go))))
 
-  either_follows : (scope : LocalScope) (x y : Action Value) (A B : Branching) → BranchingFollows scope x A → BranchingFollows scope y B → FlagFollows scope (x >>= λ v. (if is_zero v then y else pure v) >>= tested) (EitherHolds code size A B)
+  either_follows : (scope : LocalScope) (x y : Action Value) (A B : Branching) → BranchingFollows scope x A → BranchingFollows scope y B → FlagFollows scope (x >>= λ v. (if is_zero v then y else pure v) >>= tested) (EitherHolds code layout A B)
   either_follows scope x y A B ihx ihy N K from met unmet free a sh text ls old after c h good s go =
       let rest : Value → Action Value = λ v. (if is_zero v then y else pure v) >>= tested in
       ihx N K from met c.mid free a sh text ls old (λ q. after (go_on q rest)) c.first h good (on_seen a after rest s) first
@@ -300,7 +300,7 @@ module _ (p : Program) (call : Caller) (code : Code) (size : ℕ) (frames : List
       first v true sh1 text1 new e below k g =
           same (effect code) (λ n. after (go_on (y (state n ls (context_of a sh1) text1)) tested)) (λ n. ap (λ z. after (go_on ((if z then y else pure v) (state n ls (context_of a sh1) text1)) tested)) e)
           (fewer (effect code) (omega arith) (omega arith)
-          (ihy N K c.mid met unmet free a sh1 text1 ls new (λ q. after (go_on q tested)) c.second (holds_on scope ls size free free old new (omega arith) h k) g (on_seen a after tested s)
+          (ihy N K c.mid met unmet free a sh1 text1 ls new (λ q. after (go_on q tested)) c.second (holds_on scope ls layout free free old new (omega arith) h k) g (on_seen a after tested s)
           (goes_tested a after ls met unmet free new (goes_later a after ls met unmet free old new k go))))
 
   -- the other way round
@@ -327,7 +327,7 @@ module _ (p : Program) (call : Caller) (code : Code) (size : ℕ) (frames : List
   zero_equals : (t : Scalar) (at : Span) (v : Value) (s : State) → v.word < 2 ^ 32 → comparing Equal (Constant 0 t at) v s ≡ Gives (flag (is_zero v)) s
   zero_equals t at v s below = ap (λ r. or_trap r s) (binary_same Equal v.of t v.word 0 below (omega arith))
 
-  compared_follows : (scope : LocalScope) (op : BinaryOp) (x y : Expr) (A : Branching) → BranchingFollows scope (expr p call x) A → FlagFollows scope (expr p call x >>= comparing op y) (ComparedWithZero code size op y A)
+  compared_follows : (scope : LocalScope) (op : BinaryOp) (x y : Expr) (A : Branching) → BranchingFollows scope (expr p call x) A → FlagFollows scope (expr p call x >>= comparing op y) (ComparedWithZero code layout op y A)
   compared_follows scope op x y A ih N K from met unmet free a sh text ls old after (nought, inl c) h good s go =
       ih N K from met unmet free a sh text ls old (λ q. after (go_on q (comparing op y))) c.1 h good (on_seen a after (comparing op y) s)
       (goes_same a after ls met unmet free old (comparing op y)
@@ -338,30 +338,30 @@ module _ (p : Program) (call : Caller) (code : Code) (size : ℕ) (frames : List
       (λ v s below. ap (λ z. comparing z y v s) c.0 ∙ ap (λ z. comparing Equal z v s) nought.2 ∙ zero_equals nought.0 nought.1 v s below) go)
 
   -- the flag of a condition in a register
-  truth_follows : (home : Option ℕ) (scope : LocalScope) (run : Action Value) (tests : Branching) → FlagFollows scope run tests → (N K from to free r : ℕ) (t : Scalar) (a : Around) (sh : Shared) (text : List ℕ) (ls : List Local) (old : List ℕ) (after : Answer Value → Outcome) → TruthCode code size home tests from to free r t → Holds scope ls size free old → IsGood a sh → IsSeen a after → GoesOn N K a after ls to home free r t old → Does N K a sh text ls from old (λ s. after (run s))
+  truth_follows : (home : Option ℕ) (scope : LocalScope) (run : Action Value) (tests : Branching) → FlagFollows scope run tests → (N K from to free r : ℕ) (t : Scalar) (a : Around) (sh : Shared) (text : List ℕ) (ls : List Local) (old : List ℕ) (after : Answer Value → Outcome) → TruthCode code layout home tests from to free r t → Holds scope ls layout free old → IsGood a sh → IsSeen a after → GoesOn N K a after ls to home free r t old → Does N K a sh text ls from old (λ s. after (run s))
   truth_follows home scope run tests ih N K from to free r t a sh text ls old after c h good s go =
       fewer (effect code) (omega arith) (omega arith) (ih N K from c.met c.unmet free a sh text ls old after c.decides h good s places)
     where
       places : GoesFlag N K a after ls c.met c.unmet free old
       places true sh1 text1 new k g =
-          sets (Instr.Constant r 0) Int a sh1 text1 ls after c.unmet (suc c.unmet) home free r 0 t old new c.gives_zero refl (k.size ∙ h.size_is) (omega arith) (keeps_more home free old new k) g
+          sets (Instr.Constant r 0) Int a sh1 text1 ls after c.unmet (suc c.unmet) home free r 0 t old new c.gives_zero refl (k.size ∙ h.size_is) (omega arith) (keeps_more layout home free old new k) g
           (λ v sh2 text2 rs2 d. leads a sh2 text2 (suc c.unmet) to rs2 c.zero_leads (go v sh2 text2 rs2 d))
       places false sh1 text1 new k g =
-          sets (Instr.Constant r 1) Int a sh1 text1 ls after c.met (suc c.met) home free r 1 t old new c.gives_one refl (k.size ∙ h.size_is) (omega arith) (keeps_more home free old new k) g
+          sets (Instr.Constant r 1) Int a sh1 text1 ls after c.met (suc c.met) home free r 1 t old new c.gives_one refl (k.size ∙ h.size_is) (omega arith) (keeps_more layout home free old new k) g
           (λ v sh2 text2 rs2 d. leads a sh2 text2 (suc c.met) to rs2 c.one_leads (go v sh2 text2 rs2 d))
 
   -- `?:` once the chosen operand is there
   abbrev choosing : Expr → Value → Action Value
   choosing whole w = locals >>= λ mine. or_astray (type_of (running_scope p mine) whole) >>= λ t. pure (converted t w)
 
-  moved : {N K : ℕ} (whole : Expr) (w : Value) (a : Around) (sh : Shared) (text : List ℕ) (ls : List Local) (after : Answer Value → Outcome) (q to : ℕ) (home : Option ℕ) (free r ra : ℕ) (t : Scalar) (old rs : List ℕ) → GivenBy code size home (Instr.Move r ra) t q to free r t → type_of (running_scope p ls) whole ≡ Some t → slice_index rs ra ≡ w.word → w.word < 2 ^ 32 → length rs ≡ size → Keeps home free old rs → IsGood a sh → GoesOn N K a after ls to home free r t old → Does N K a sh text ls q rs (λ s. after (choosing whole w s))
+  moved : {N K : ℕ} (whole : Expr) (w : Value) (a : Around) (sh : Shared) (text : List ℕ) (ls : List Local) (after : Answer Value → Outcome) (q to : ℕ) (home : Option ℕ) (free r ra : ℕ) (t : Scalar) (old rs : List ℕ) → GivenBy code layout home (Instr.Move r ra) t q to free r t → type_of (running_scope p ls) whole ≡ Some t → slice_index rs ra ≡ w.word → w.word < 2 ^ 32 → length rs ≡ registers_in layout → Keeps layout home free old rs → IsGood a sh → GoesOn N K a after ls to home free r t old → Does N K a sh text ls q rs (λ s. after (choosing whole w s))
   moved whole w a sh text ls after q to home free r ra t old rs c e here below len k g go =
       same (effect code) (λ n. after (Gives (record { of = t; word = slice_index rs ra }) (state n ls (context_of a sh) text)))
       (λ n. ap (λ o. after (go_on (or_astray o (state n ls (context_of a sh) text)) (λ t. pure (converted t w)))) e ∙ ap (λ x. after (Gives (record { of = t; word = x }) (state n ls (context_of a sh) text))) (word_same w.of w.word below ∙ sym here))
       (sets (Instr.Move r ra) t a sh text ls after q to home free r (slice_index rs ra) t old rs c refl len (subst (λ x. x < 2 ^ 32) (sym here) below) k g go)
 
   -- a branch's value, straight or moved
-  branch_follows : (home : Option ℕ) (whole : Expr) (scope : LocalScope) (e : Expr) → ((h : Option ℕ) → AlwaysFollows h scope e) → (N K from to free r : ℕ) (t : Scalar) (a : Around) (sh : Shared) (text : List ℕ) (ls : List Local) (old : List ℕ) (after : Answer Value → Outcome) → BranchCode code size home (λ h. ExprCode code size p h scope e) from to free r t → type_of (running_scope p ls) whole ≡ Some t → Holds scope ls size free old → IsGood a sh → IsSeen a after → GoesOn N K a after ls to home free r t old → Does N K a sh text ls from old (λ s. after (go_on (expr p call e s) (choosing whole)))
+  branch_follows : (home : Option ℕ) (whole : Expr) (scope : LocalScope) (e : Expr) → ((h : Option ℕ) → AlwaysFollows h scope e) → (N K from to free r : ℕ) (t : Scalar) (a : Around) (sh : Shared) (text : List ℕ) (ls : List Local) (old : List ℕ) (after : Answer Value → Outcome) → BranchCode code layout home (λ h. ExprCode code layout p h scope e) from to free r t → type_of (running_scope p ls) whole ≡ Some t → Holds scope ls layout free old → IsGood a sh → IsSeen a after → GoesOn N K a after ls to home free r t old → Does N K a sh text ls from old (λ s. after (go_on (expr p call e s) (choosing whole)))
   branch_follows home whole scope e ih N K from to free r t a sh text ls old after (inl c) is h good s go =
       ih home N K from to free r c.0 a sh text ls old (λ q. after (go_on q (choosing whole))) c.1 h good (on_seen a after (choosing whole) s)
       (λ w sh1 text1 rs1 d.
@@ -370,12 +370,12 @@ module _ (p : Program) (call : Caller) (code : Code) (size : ℕ) (frames : List
       (go (converted t w) sh1 text1 rs1 (record { typed_so = refl; word = word_below (number_of w); here = d.here ∙ sym (word_same w.of w.word d.word); keeps = d.keeps; good = d.good })))
   branch_follows home whole scope e ih N K from to free r t a sh text ls old after (inr c) is h good s go =
       ih None N K from c.mid free c.ra c.ta a sh text ls old (λ q. after (go_on q (choosing whole))) c.computes h good (on_seen a after (choosing whole) s)
-      (λ w sh1 text1 rs1 d. moved whole w a sh1 text1 ls after c.mid to home free r c.ra t old rs1 c.moves is d.here d.word (d.keeps.size ∙ h.size_is) (keeps_more home free old rs1 d.keeps) d.good go)
+      (λ w sh1 text1 rs1 d. moved whole w a sh1 text1 ls after c.mid to home free r c.ra t old rs1 c.moves is d.here d.word (d.keeps.size ∙ h.size_is) (keeps_more layout home free old rs1 d.keeps) d.good go)
 
-  goes_after : {N K : ℕ} (a : Around) (after : Answer Value → Outcome) (ls : List Local) (to : ℕ) (home : Option ℕ) (free r : ℕ) (t : Scalar) (old mid : List ℕ) → Keeps None free old mid → GoesOn N K a after ls to home free r t old → GoesOn N K a after ls to home free r t mid
-  goes_after a after ls to home free r t old mid k go v sh text new d = go v sh text new (record { typed_so = d.typed_so; word = d.word; here = d.here; keeps = keeps_on home free free old mid new (omega arith) k d.keeps; good = d.good })
+  goes_after : {N K : ℕ} (a : Around) (after : Answer Value → Outcome) (ls : List Local) (to : ℕ) (home : Option ℕ) (free r : ℕ) (t : Scalar) (old mid : List ℕ) → Keeps layout None free old mid → GoesOn N K a after ls to home free r t old → GoesOn N K a after ls to home free r t mid
+  goes_after a after ls to home free r t old mid k go v sh text new d = go v sh text new (record { typed_so = d.typed_so; word = d.word; here = d.here; keeps = keeps_on layout home free free old mid new (omega arith) k d.keeps; good = d.good })
 
-  conditional_follows : (home : Option ℕ) (whole : Expr) (scope : LocalScope) (run : Action Value) (x y : Expr) (T : Branching) → BranchingFollows scope run T → ((h : Option ℕ) → AlwaysFollows h scope x) → ((h : Option ℕ) → AlwaysFollows h scope y) → (N K from to free r : ℕ) (t : Scalar) (a : Around) (sh : Shared) (text : List ℕ) (ls : List Local) (old : List ℕ) (after : Answer Value → Outcome) → ConditionalCode code size home T (λ h. ExprCode code size p h scope x) (λ h. ExprCode code size p h scope y) from to free r t → type_of (running_scope p ls) whole ≡ Some t → Holds scope ls size free old → IsGood a sh → IsSeen a after → GoesOn N K a after ls to home free r t old → Does N K a sh text ls from old (λ s. after ((run >>= λ v. (if is_zero v then expr p call y else expr p call x) >>= choosing whole) s))
+  conditional_follows : (home : Option ℕ) (whole : Expr) (scope : LocalScope) (run : Action Value) (x y : Expr) (T : Branching) → BranchingFollows scope run T → ((h : Option ℕ) → AlwaysFollows h scope x) → ((h : Option ℕ) → AlwaysFollows h scope y) → (N K from to free r : ℕ) (t : Scalar) (a : Around) (sh : Shared) (text : List ℕ) (ls : List Local) (old : List ℕ) (after : Answer Value → Outcome) → ConditionalCode code layout home T (λ h. ExprCode code layout p h scope x) (λ h. ExprCode code layout p h scope y) from to free r t → type_of (running_scope p ls) whole ≡ Some t → Holds scope ls layout free old → IsGood a sh → IsSeen a after → GoesOn N K a after ls to home free r t old → Does N K a sh text ls from old (λ s. after ((run >>= λ v. (if is_zero v then expr p call y else expr p call x) >>= choosing whole) s))
   conditional_follows home whole scope run x y T iht ihx ihy N K from to free r t a sh text ls old after c is h good s go =
       let rest : Value → Action Value = λ v. (if is_zero v then expr p call y else expr p call x) >>= choosing whole in
       fewer (effect code) (omega arith) (omega arith)
@@ -384,11 +384,11 @@ module _ (p : Program) (call : Caller) (code : Code) (size : ℕ) (frames : List
       places : GoesBoth N K a (λ q. after (go_on q (λ v. (if is_zero v then expr p call y else expr p call x) >>= choosing whole))) ls c.met c.unmet free old
       places v true sh1 text1 new e below k g =
           same (effect code) (λ n. after (go_on (expr p call y (state n ls (context_of a sh1) text1)) (choosing whole))) (λ n. ap (λ z. after (go_on ((if z then expr p call y else expr p call x) (state n ls (context_of a sh1) text1)) (choosing whole))) e)
-          (branch_follows home whole scope y ihy N K c.unmet c.end free r t a sh1 text1 ls new after c.else_code is (holds_on scope ls size free free old new (omega arith) h k) g s
+          (branch_follows home whole scope y ihy N K c.unmet c.end free r t a sh1 text1 ls new after c.else_code is (holds_on scope ls layout free free old new (omega arith) h k) g s
           (λ w sh2 text2 rs2 d. leads a sh2 text2 c.end to rs2 c.else_leads (goes_after a after ls to home free r t old new k go w sh2 text2 rs2 d)))
       places v false sh1 text1 new e below k g =
           same (effect code) (λ n. after (go_on (expr p call x (state n ls (context_of a sh1) text1)) (choosing whole))) (λ n. ap (λ z. after (go_on ((if z then expr p call y else expr p call x) (state n ls (context_of a sh1) text1)) (choosing whole))) e)
-          (branch_follows home whole scope x ihx N K c.met c.last free r t a sh1 text1 ls new after c.then_code is (holds_on scope ls size free free old new (omega arith) h k) g s
+          (branch_follows home whole scope x ihx N K c.met c.last free r t a sh1 text1 ls new after c.then_code is (holds_on scope ls layout free free old new (omega arith) h k) g s
           (λ w sh2 text2 rs2 d. leads a sh2 text2 c.last to rs2 c.then_leads (goes_after a after ls to home free r t old new k go w sh2 text2 rs2 d)))
 
   -- what a call's code does
@@ -402,10 +402,23 @@ module _ (p : Program) (call : Caller) (code : Code) (size : ℕ) (frames : List
       Agrees (effect code) N K (holding a sh1 text1 (configuration code (suc q) (slice_set rs d v.word) frames)) (λ n. after (Gives v (state n ls (context_of a sh1) text1)))) →
       Agrees (effect code) N K (holding a sh text (configuration code q rs frames)) (λ n. after (call x vs (state n ls (context_of a sh) text)))
 
+  -- a word that lies ready
+  pub lies : {N K : ℕ} (w : ℕ) (u : Scalar) (a : Around) (sh : Shared) (text : List ℕ) (scope : LocalScope) (ls : List Local) (after : Answer Value → Outcome) (from to free r : ℕ) (t : Scalar) (old : List ℕ) → LiesReady code layout w u from to r t → w < 2 ^ 32 → Holds scope ls layout free old → IsGood a sh → GoesOn N K a after ls to None free r t old → Does N K a sh text ls from old (λ s. after (Gives (record { of = u; word = w }) s))
+  lies w u a sh text scope ls after from to free r t old c below h good go =
+      go_at a after ls to from None free r t u old c.to_is c.type_is go (record { of = u; word = w }) sh text old
+      (record { typed_so = refl; word = below; here = ap (slice_index old) c.register ∙ h.ready c.number w c.known; keeps = keeps_all layout None free old; good = good })
+
+  -- the right side of an operator
+  pub operand_follows : (scope : LocalScope) (e : Expr) → AlwaysFollows None scope e → (N K from to free r : ℕ) (t : Scalar) (a : Around) (sh : Shared) (text : List ℕ) (ls : List Local) (old : List ℕ) (after : Answer Value → Outcome) → OperandCode code layout e (ExprCode code layout p None scope e) from to free r t → Holds scope ls layout free old → IsGood a sh → IsSeen a after → GoesOn N K a after ls to None free r t old → Does N K a sh text ls from old (λ s. after (expr p call e s))
+  operand_follows scope (Constant n u at) ih N K from to free r t a sh text ls old after (inl c) h good s go = ih N K from to free r t a sh text ls old after c h good s go
+  operand_follows scope (Constant n u at) ih N K from to free r t a sh text ls old after (inr c) h good s go =
+      lies (word_of (pos n)) u a sh text scope ls after from to free r t old c (word_below (pos n)) h good go
+  operand_follows scope e ih N K from to free r t a sh text ls old after c h good s go = ih N K from to free r t a sh text ls old after c h good s go
+
   -- after the arguments
   abbrev pub GoesArgs : ℕ → ℕ → (a : Around) → (Answer (List Value) → Outcome) → List Local → (to free : ℕ) → (args old : List ℕ) → Type 0
   GoesArgs N K a after ls to free args old =
-      (vs : List Value) (sh : Shared) (text : List ℕ) (new : List ℕ) → map (slice_index new) args ≡ map (λ (v : Value). v.word) vs → AllByRecursion (λ (v : Value). v.word < 2 ^ 32) vs → Keeps None free old new → IsGood a sh →
+      (vs : List Value) (sh : Shared) (text : List ℕ) (new : List ℕ) → map (slice_index new) args ≡ map (λ (v : Value). v.word) vs → AllByRecursion (λ (v : Value). v.word < 2 ^ 32) vs → Keeps layout None free old new → IsGood a sh →
       Agrees (effect code) N K (holding a sh text (configuration code to new frames)) (λ n. after (Gives vs (state n ls (context_of a sh) text)))
 
   module _ (cf : CallsFollow) where
@@ -416,7 +429,7 @@ module _ (p : Program) (call : Caller) (code : Code) (size : ℕ) (frames : List
           (λ n. ap (λ o. after (go_on (spot_from p call x.text o (state n ls (context_of a sh) text)) fetch)) (newest_like x.text scope ls h.like) ∙ ap (λ y. after (go_on y fetch)) (spot_from_is x.text (newest scope x.text) (state n ls (context_of a sh) text)))
           (variable_runs home (newest scope x.text) (global_of p x.text) scope from to free r t c a sh text ls old after h good s go)
       expr_follows home scope (Constant n u at) N K from to free r t a sh text ls old after c h good s go =
-          sets (Instr.Constant r (word_of (pos n))) u a sh text ls after from to home free r (word_of (pos n)) t old old c refl h.size_is (word_below (pos n)) (keeps_all home free old) good go
+          sets (Instr.Constant r (word_of (pos n))) u a sh text ls after from to home free r (word_of (pos n)) t old old c refl h.size_is (word_below (pos n)) (keeps_all layout home free old) good go
       expr_follows home scope (Element x i at) N K from to free r t a sh text ls old after c h good s go =
           element_follows home (global_of p x.text) scope i (expr_follows None scope i) N K from to free r t a sh text ls old after c h good s go
       expr_follows home scope (Call f es at) N K from to free r t a sh text ls old after c h good s go =
@@ -427,7 +440,7 @@ module _ (p : Program) (call : Caller) (code : Code) (size : ℕ) (frames : List
           (cf N K f.text vs c.number c.mid r c.registers_of c.function c.f c.body a sh1 text1 ls rs1 after c.calls.instr c.known c.named c.defined words below good1 s
           (λ v sh2 text2 of_v below_v good2.
           go_at a after ls to (suc c.mid) home free r t (unwrap_or c.f.result Int) old c.calls.to_is c.calls.type_is go v sh2 text2 (slice_set rs1 r v.word)
-          (record { typed_so = of_v; word = below_v; here = get_or-set_same rs1 r v.word 0 (let b = c.calls.register in let len = keeps.size ∙ h.size_is in omega (arith, b, len)); keeps = keeps_set home free old rs1 r v.word c.calls.takes (keeps_more home free old rs1 keeps); good = good2 }))))
+          (record { typed_so = of_v; word = below_v; here = get_or-set_same rs1 r v.word 0 (let b = c.calls.register in let len = keeps.size ∙ h.size_is in omega (arith, b, len)); keeps = keeps_set layout home free old rs1 r v.word c.calls.takes c.calls.register (keeps_more layout home free old rs1 keeps); good = good2 }))))
       expr_follows home scope (Parenthesized e at) N K from to free r t a sh text ls old after c h good s go = expr_follows home scope e N K from to free r t a sh text ls old after c h good s go
       expr_follows home scope (Cast u e at) N K from to free r t a sh text ls old after c h good s go =
           let rest : Value → Action Value = λ v. pure (converted u v) in
@@ -440,7 +453,7 @@ module _ (p : Program) (call : Caller) (code : Code) (size : ℕ) (frames : List
           (λ v sh1 text1 rs1 d.
           same (effect code) (λ n. after (or_trap (typed c.ta (negated c.ta (slice_index rs1 c.ra))) (state n ls (context_of a sh1) text1)))
           (λ n. ap (λ x. after (or_trap x (state n ls (context_of a sh1) text1))) (ap (λ o. typed o (negated o v.word)) d.typed_so ∙ ap (λ w. typed c.ta (negated c.ta w)) (sym d.here)))
-          (results (Instr.Negate c.ta r c.ra) c.ta a sh1 text1 ls after c.mid to home free r t old rs1 (negated c.ta (slice_index rs1 c.ra)) c.operates refl (fitted_below c.ta _) (d.keeps.size ∙ h.size_is) (keeps_more home free old rs1 d.keeps) d.good s go))
+          (results (Instr.Negate c.ta r c.ra) c.ta a sh1 text1 ls after c.mid to home free r t old rs1 (negated c.ta (slice_index rs1 c.ra)) c.operates refl (fitted_below c.ta _) (d.keeps.size ∙ h.size_is) (keeps_more layout home free old rs1 d.keeps) d.good s go))
       expr_follows home scope (Unary Keep e at) N K from to free r t a sh text ls old after c h good s go =
           let rest : Value → Action Value = λ v. or_trap (unary Keep v) in
           expr_follows home scope e N K from to free r t a sh text ls old (λ q. after (go_on q rest)) c h good (on_seen a after rest s) go
@@ -448,62 +461,62 @@ module _ (p : Program) (call : Caller) (code : Code) (size : ℕ) (frames : List
           let rest : Value → Action Value = λ v. or_trap (unary Not v) in
           expr_follows None scope e N K from c.mid free c.ra c.ta a sh text ls old (λ q. after (go_on q rest)) c.computes h good (on_seen a after rest s)
           (λ v sh1 text1 rs1 d.
-          let len : length rs1 ≡ size = d.keeps.size ∙ h.size_is in
+          let len : length rs1 ≡ registers_in layout = d.keeps.size ∙ h.size_is in
           let rs2 : List ℕ = slice_set rs1 c.rz 0 in
           let zero_there : slice_index rs2 c.rz ≡ 0 = get_or-set_same rs1 c.rz 0 0 (let b = c.zeroes.register in omega (arith, b, len)) in
           let value_there : slice_index rs2 c.ra ≡ v.word = get_or-set_other rs1 c.rz c.ra 0 0 (λ e. let x = c.apart in absurd (omega (arith, x, e))) ∙ d.here in
           goes_by code a sh1 text1 (configuration code c.mid rs1 frames) (configuration code (suc c.mid) rs2 frames) (effect_at code c.mid (Instr.Constant c.rz 0) rs1 frames c.zeroes.instr)
           (same (effect code) (λ n. after (or_trap (typed Int (computed Equal Int (slice_index rs2 c.ra) (slice_index rs2 c.rz))) (state n ls (context_of a sh1) text1)))
           (λ n. ap (λ x. after (or_trap (typed Int (Ok x)) (state n ls (context_of a sh1) text1))) (ap (λ x. truth (x == 0)) (sym value_there) ∙ ap (λ y. truth (slice_index rs2 c.ra == y)) (sym zero_there)))
-          (results (Instr.Compute Equal Unsigned r c.ra c.rz) Int a sh1 text1 ls after (suc c.mid) to home free r t old rs2 (computed Equal Int (slice_index rs2 c.ra) (slice_index rs2 c.rz)) c.compares refl (truth_below _) (length-set rs1 c.rz 0 ∙ len) (keeps_more home free old rs2 (keeps_set None free old rs1 c.rz 0 c.zeroes.takes d.keeps)) d.good s go)))
+          (results (Instr.Compute Equal Unsigned r c.ra c.rz) Int a sh1 text1 ls after (suc c.mid) to home free r t old rs2 (computed Equal Int (slice_index rs2 c.ra) (slice_index rs2 c.rz)) c.compares refl (truth_below _) (length-set rs1 c.rz 0 ∙ len) (keeps_more layout home free old rs2 (keeps_set layout None free old rs1 c.rz 0 c.zeroes.takes c.zeroes.register d.keeps)) d.good s go)))
       expr_follows home scope (Unary Complement e at) N K from to free r t a sh text ls old after c h good s go =
           let rest : Value → Action Value = λ v. or_trap (unary Complement v) in
           expr_follows None scope e N K from c.mid free c.ra c.ta a sh text ls old (λ q. after (go_on q rest)) c.computes h good (on_seen a after rest s)
           (λ v sh1 text1 rs1 d.
           same (effect code) (λ n. after (Gives (record { of = c.ta; word = 2 ^ 32 - 1 - slice_index rs1 c.ra }) (state n ls (context_of a sh1) text1)))
           (λ n. ap (λ x. after (Gives x (state n ls (context_of a sh1) text1))) (ap (λ o. record { of = o; word = 2 ^ 32 - 1 - v.word }) d.typed_so ∙ ap (λ w. record { of = c.ta; word = 2 ^ 32 - 1 - w }) (sym d.here)))
-          (sets (Instr.Complement r c.ra) c.ta a sh1 text1 ls after c.mid to home free r (2 ^ 32 - 1 - slice_index rs1 c.ra) t old rs1 c.operates refl (d.keeps.size ∙ h.size_is) (omega arith) (keeps_more home free old rs1 d.keeps) d.good go))
+          (sets (Instr.Complement r c.ra) c.ta a sh1 text1 ls after c.mid to home free r (2 ^ 32 - 1 - slice_index rs1 c.ra) t old rs1 c.operates refl (d.keeps.size ∙ h.size_is) (omega arith) (keeps_more layout home free old rs1 d.keeps) d.good go))
       expr_follows home scope (Binary op x y at) N K from to free r t a sh text ls old after c h good s go =
           let rest : Value → Action Value = λ v. expr p call y >>= λ w. or_trap (binary op v w) in
           expr_follows None scope x N K from c.mid free c.ra c.ta a sh text ls old (λ q. after (go_on q rest)) c.left h good (on_seen a after rest s)
           (λ v sh1 text1 rs1 d.
           let rest1 : Value → Action Value = λ w. or_trap (binary op v w) in
-          expr_follows None scope y N K c.mid c.last c.later c.rb c.tb a sh1 text1 ls rs1 (λ q. after (go_on q rest1)) c.right (holds_on scope ls size free c.later old rs1 c.kept h d.keeps) d.good (on_seen a after rest1 s)
+          operand_follows scope y (expr_follows None scope y) N K c.mid c.last c.later c.rb c.tb a sh1 text1 ls rs1 (λ q. after (go_on q rest1)) c.right (holds_on scope ls layout free c.later old rs1 c.kept h d.keeps) d.good (on_seen a after rest1 s)
           (λ w sh2 text2 rs2 e.
-          let keeps : Keeps None free old rs2 = keeps_on None free c.later old rs1 rs2 c.kept d.keeps e.keeps in
-          operates op v w c.ta c.tb c.ra c.rb a sh2 text2 ls after c.last to home free r t old rs2 d.typed_so e.typed_so (e.keeps.below c.ra c.apart tt ∙ d.here) e.here d.word e.word c.operates (keeps.size ∙ h.size_is) (keeps_more home free old rs2 keeps) e.good s go))
+          let keeps : Keeps layout None free old rs2 = keeps_on layout None free c.later old rs1 rs2 c.kept d.keeps e.keeps in
+          operates op v w c.ta c.tb c.ra c.rb a sh2 text2 ls after c.last to home free r t old rs2 d.typed_so e.typed_so (e.keeps.below c.ra c.apart tt ∙ d.here) e.here d.word e.word c.operates (keeps.size ∙ h.size_is) (keeps_more layout home free old rs2 keeps) e.good s go))
       expr_follows home scope (Logical AndThen x y at) N K from to free r t a sh text ls old after c h good s go =
           truth_follows home scope (expr p call x >>= λ v. (if is_zero v then pure v else expr p call y) >>= tested)
-          (BothHold code size (Branches code size (ExprCode code size p None scope x) (OwnTests code size p scope x)) (Branches code size (ExprCode code size p None scope y) (OwnTests code size p scope y)))
+          (BothHold code layout (Branches code layout (ExprCode code layout p None scope x) (OwnTests code layout p scope x)) (Branches code layout (ExprCode code layout p None scope y) (OwnTests code layout p scope y)))
           (both_follow scope (expr p call x) (expr p call y) _ _ (branches_follow scope x _ (expr_follows None scope x) (own_follows scope x)) (branches_follow scope y _ (expr_follows None scope y) (own_follows scope y)))
           N K from to free r t a sh text ls old after c h good s go
       expr_follows home scope (Logical OrElse x y at) N K from to free r t a sh text ls old after c h good s go =
           truth_follows home scope (expr p call x >>= λ v. (if is_zero v then expr p call y else pure v) >>= tested)
-          (EitherHolds code size (Branches code size (ExprCode code size p None scope x) (OwnTests code size p scope x)) (Branches code size (ExprCode code size p None scope y) (OwnTests code size p scope y)))
+          (EitherHolds code layout (Branches code layout (ExprCode code layout p None scope x) (OwnTests code layout p scope x)) (Branches code layout (ExprCode code layout p None scope y) (OwnTests code layout p scope y)))
           (either_follows scope (expr p call x) (expr p call y) _ _ (branches_follow scope x _ (expr_follows None scope x) (own_follows scope x)) (branches_follow scope y _ (expr_follows None scope y) (own_follows scope y)))
           N K from to free r t a sh text ls old after c h good s go
       expr_follows home scope (Conditional b x y at) N K from to free r t a sh text ls old after c h good s go =
-          conditional_follows home (Conditional b x y at) scope (expr p call b) x y (Branches code size (ExprCode code size p None scope b) (OwnTests code size p scope b))
+          conditional_follows home (Conditional b x y at) scope (expr p call b) x y (Branches code layout (ExprCode code layout p None scope b) (OwnTests code layout p scope b))
           (branches_follow scope b _ (expr_follows None scope b) (own_follows scope b)) (λ k. expr_follows k scope x) (λ k. expr_follows k scope y)
           N K from to free r t a sh text ls old after c.0 (c.1 ls h.like) h good s go
 
       -- conditions that lead on by themselves
-      pub own_follows : (scope : LocalScope) (e : Expr) → BranchingFollows scope (expr p call e) (OwnTests code size p scope e)
+      pub own_follows : (scope : LocalScope) (e : Expr) → BranchingFollows scope (expr p call e) (OwnTests code layout p scope e)
       own_follows scope (Parenthesized e at) N K from met unmet free a sh text ls old after c h good s go =
-          branches_follow scope e (OwnTests code size p scope e) (expr_follows None scope e) (own_follows scope e) N K from met unmet free a sh text ls old after c h good s go
+          branches_follow scope e (OwnTests code layout p scope e) (expr_follows None scope e) (own_follows scope e) N K from met unmet free a sh text ls old after c h good s go
       own_follows scope (Cast u e at) N K from met unmet free a sh text ls old after c h good s go =
           let rest : Value → Action Value = λ v. pure (converted u v) in
-          branches_follow scope e (OwnTests code size p scope e) (expr_follows None scope e) (own_follows scope e) N K from met unmet free a sh text ls old (λ q. after (go_on q rest)) c h good (on_seen a after rest s)
+          branches_follow scope e (OwnTests code layout p scope e) (expr_follows None scope e) (own_follows scope e) N K from met unmet free a sh text ls old (λ q. after (go_on q rest)) c h good (on_seen a after rest s)
           (λ v b sh1 text1 new e below k g. go (converted u v) b sh1 text1 new (ap (λ w. w == 0) (word_same v.of v.word below) ∙ e) (word_below (number_of v)) k g)
       own_follows scope (Unary Keep e at) N K from met unmet free a sh text ls old after c h good s go =
           let rest : Value → Action Value = λ v. or_trap (unary Keep v) in
-          branches_follow scope e (OwnTests code size p scope e) (expr_follows None scope e) (own_follows scope e) N K from met unmet free a sh text ls old (λ q. after (go_on q rest)) c h good (on_seen a after rest s) go
+          branches_follow scope e (OwnTests code layout p scope e) (expr_follows None scope e) (own_follows scope e) N K from met unmet free a sh text ls old (λ q. after (go_on q rest)) c h good (on_seen a after rest s) go
       own_follows scope (Unary Not e at) N K from met unmet free a sh text ls old after c h good s go =
           let rest : Value → Action Value = λ v. or_trap (unary Not v) in
-          branches_follow scope e (OwnTests code size p scope e) (expr_follows None scope e) (own_follows scope e) N K from unmet met free a sh text ls old (λ q. after (go_on q rest)) c h good (on_seen a after rest s)
+          branches_follow scope e (OwnTests code layout p scope e) (expr_follows None scope e) (own_follows scope e) N K from unmet met free a sh text ls old (λ q. after (go_on q rest)) c h good (on_seen a after rest s)
           (goes_swapped a after ls met unmet free old rest (λ v s below. refl) (flag_of a after ls met unmet free old go))
       own_follows scope (Binary op x y at) N K from met unmet free a sh text ls old after c h good s go =
-          compared_follows scope op x y (Branches code size (ExprCode code size p None scope x) (OwnTests code size p scope x)) (branches_follow scope x _ (expr_follows None scope x) (own_follows scope x))
+          compared_follows scope op x y (Branches code layout (ExprCode code layout p None scope x) (OwnTests code layout p scope x)) (branches_follow scope x _ (expr_follows None scope x) (own_follows scope x))
           N K from met unmet free a sh text ls old after c h good s (flag_of a after ls met unmet free old go)
       own_follows scope (Logical AndThen x y at) N K from met unmet free a sh text ls old after c h good s go =
           both_follow scope (expr p call x) (expr p call y) _ _ (branches_follow scope x _ (expr_follows None scope x) (own_follows scope x)) (branches_follow scope y _ (expr_follows None scope y) (own_follows scope y))
@@ -513,18 +526,18 @@ module _ (p : Program) (call : Caller) (code : Code) (size : ℕ) (frames : List
           N K from met unmet free a sh text ls old after c h good s (flag_of a after ls met unmet free old go)
       own_follows scope e N K from met unmet free a sh text ls old after c h good s go = absurd c
 
-      pub args_follow : (scope : LocalScope) (es : Exprs) (N K from to free : ℕ) (args : List ℕ) (a : Around) (sh : Shared) (text : List ℕ) (ls : List Local) (old : List ℕ) (after : Answer (List Value) → Outcome) → ArgsCode code size p scope es from to free args → Holds scope ls size free old → IsGood a sh → IsSeen a after → GoesArgs N K a after ls to free args old → Does N K a sh text ls from old (λ s. after (exprs p call es s))
+      pub args_follow : (scope : LocalScope) (es : Exprs) (N K from to free : ℕ) (args : List ℕ) (a : Around) (sh : Shared) (text : List ℕ) (ls : List Local) (old : List ℕ) (after : Answer (List Value) → Outcome) → ArgsCode code layout p scope es from to free args → Holds scope ls layout free old → IsGood a sh → IsSeen a after → GoesArgs N K a after ls to free args old → Does N K a sh text ls from old (λ s. after (exprs p call es s))
       args_follow scope Exprs.[] N K from to free args a sh text ls old after c h good s go =
-          subst (λ q. Agrees (effect code) N K (holding a sh text (configuration code q old frames)) (λ n. after (Gives [] (state n ls (context_of a sh) text)))) c.0 (go [] sh text old (ap (map (slice_index old)) c.1) tt (keeps_all None free old) good)
+          subst (λ q. Agrees (effect code) N K (holding a sh text (configuration code q old frames)) (λ n. after (Gives [] (state n ls (context_of a sh) text)))) c.0 (go [] sh text old (ap (map (slice_index old)) c.1) tt (keeps_all layout None free old) good)
       args_follow scope (Exprs.◌∷◌ e es) N K from to free args a sh text ls old after c h good s go =
           let rest : Value → Action (List Value) = λ v. exprs p call es >>= λ vs. pure (v ∷ vs) in
           expr_follows None scope e N K from c.mid free c.r c.t a sh text ls old (λ q. after (go_on q rest)) c.computes h good (on_seen a after rest s)
           (λ v sh1 text1 rs1 d.
           let rest1 : List Value → Action (List Value) = λ vs. pure (v ∷ vs) in
-          args_follow scope es N K c.mid to c.later c.others a sh1 text1 ls rs1 (λ q. after (go_on q rest1)) c.goes_on (holds_on scope ls size free c.later old rs1 c.kept h d.keeps) d.good (on_seen a after rest1 s)
+          args_follow scope es N K c.mid to c.later c.others a sh1 text1 ls rs1 (λ q. after (go_on q rest1)) c.goes_on (holds_on scope ls layout free c.later old rs1 c.kept h d.keeps) d.good (on_seen a after rest1 s)
           (λ vs sh2 text2 rs2 words below keeps good2.
-          go (v ∷ vs) sh2 text2 rs2 (ap (map (slice_index rs2)) c.are ∙ ap (λ w. w ∷ map (slice_index rs2) c.others) (keeps.below c.r c.apart tt ∙ d.here) ∙ ap (λ ws. v.word ∷ ws) words) (d.word, below) (keeps_on None free c.later old rs1 rs2 c.kept d.keeps keeps) good2))
+          go (v ∷ vs) sh2 text2 rs2 (ap (map (slice_index rs2)) c.are ∙ ap (λ w. w ∷ map (slice_index rs2) c.others) (keeps.below c.r c.apart tt ∙ d.here) ∙ ap (λ ws. v.word ∷ ws) words) (d.word, below) (keeps_on layout None free c.later old rs1 rs2 c.kept d.keeps keeps) good2))
 
     -- a condition's code
-    pub cond_follows : (scope : LocalScope) (e : Expr) → BranchingFollows scope (expr p call e) (CondCode code size p scope e)
-    cond_follows scope e = branches_follow scope e (OwnTests code size p scope e) (expr_follows None scope e) (own_follows scope e)
+    pub cond_follows : (scope : LocalScope) (e : Expr) → BranchingFollows scope (expr p call e) (CondCode code layout p scope e)
+    cond_follows scope e = branches_follow scope e (OwnTests code layout p scope e) (expr_follows None scope e) (own_follows scope e)

@@ -18,7 +18,7 @@ use Rattle.syntax.specs.Actions.{Outside, Inside, State, Answer, Gives, Stops, A
 use Rattle.syntax.specs.Meaning.{assign, InLocal, End, Next, Breaks, Continues, Returns, Cancels, on_next, scoped, after_turn, loop, after_body, close_inner, close, leave, enter, transaction, Caller, expr, simple, first_value, declare, holds, stepped, start_with, print_pieces, stmt, stmts}
 use Rattle.bytecode.specs.Effects.{Effect}
 use Rattle.bytecode.specs.Code.{Code, Configuration, Frame, Instr, effect}
-use Rattle.lowered.specs.Expressions.{LocalScope, IsLike, At, LeadsTo}
+use Rattle.lowered.specs.Expressions.{LocalScope, IsLike, At, LeadsTo, Layout}
 use Rattle.lowered.specs.Statements.{LocalAt, Exits, in_transaction, looping, with_local, with_declared, locals_of_start, locals_after, locals_at_end, Testing, Leaves, FirstValueCode, DeclareCode, IfCode, IfElseCode, WhileCode, DoWhileCode, HoldsCode, SteppedCode, StartCode, ForCode, PiecesCode, PrintCode, TransactionCode, StmtCode, StmtsCode}
 use Rattle.lowered.proofs.Agreement.{Agrees, astray, same, fewer, none_left}
 use Rattle.lowered.proofs.Runs.{Held, Around, Bare, Within, Shared, context_of, holding, state, IsSeen, on_seen, AreWords, IsGood, Holds, configuration, effect_at, goes, goes_by, seen_spent, tick_goes, tick_counts, inner_held, outermost_held, begins_inner, begins_outermost, wants_one, commits_inner, cancels_inner, leaves_outermost, next_commit, next_cancel}
@@ -37,16 +37,16 @@ use Rattle.lowered.proofs.Turns.{while_turn, do_turn, for_turn, Falls}
 use Rattle.syntax.proofs.Loops.{loop_is_its_turns}
 
 -- the registers hold what a scope knows, and further names declared in it
-pub record HoldsMore (scope : LocalScope) (ls : List Local) (size : ℕ) (registers : List ℕ) : Type 0 where
+pub record HoldsMore (scope : LocalScope) (ls : List Local) (layout : Layout) (registers : List ℕ) : Type 0 where
   pub more : LocalScope
-  pub holds : Holds (scope ++ more) ls size (length (scope ++ more)) registers
+  pub holds : Holds (scope ++ more) ls layout (length (scope ++ more)) registers
 
 abbrev pub Holding : Type 1
 Holding = List Local → List ℕ → Type 0
 
 -- the end of a scope
-pub holds_taken : (scope more : LocalScope) (ls : List Local) (size free : ℕ) (rs : List ℕ) → Holds (scope ++ more) ls size free rs → Holds scope (take (length scope) ls) size (length scope) rs
-holds_taken scope more ls size free rs h =
+pub holds_taken : (scope more : LocalScope) (ls : List Local) (layout : Layout) (free : ℕ) (rs : List ℕ) → Holds (scope ++ more) ls layout free rs → Holds scope (take (length scope) ls) layout (length scope) rs
+holds_taken scope more ls layout free rs h =
     let like : IsLike scope (take (length scope) ls) = shape_taken ls scope more h.like in
     let len : length (take (length scope) ls) ≡ length scope = length_like scope (take (length scope) ls) like in
     let whole : length ls ≡ length (scope ++ more) = length_like (scope ++ more) ls h.like in
@@ -59,6 +59,7 @@ holds_taken scope more ls size free rs h =
       size_is = h.size_is;
       each = λ i l. h.each i (omega (arith, l, len, whole, parts)) ∙ sym (word_taken ls (length scope) i (omega (arith, l, len)));
       words = words_taken ls (length scope) h.words;
+      ready = h.ready;
     }
 
 pub declared_grows : (t : Scalar) (ds : List Declarator) (scope : LocalScope) → (more : LocalScope) × (with_declared t ds scope ≡ scope ++ more)
@@ -96,60 +97,60 @@ abbrev pub word_in : Option ℕ → List ℕ → ℕ
 word_in None rs = 0
 word_in (Some r) rs = slice_index rs r
 
-module _ (p : Program) (code : Code) (size : ℕ) where
+module _ (p : Program) (code : Code) (layout : Layout) where
   -- how the code stands where a statement has come to its end: what its registers hold, and what is next
   abbrev pub ArrivedAt : Exits → (next others : Holding) → (to : ℕ) → End → ℕ → List Local → List ℕ → Type 0
   ArrivedAt x after others to Next q ls rs = (q ≡ to) × after ls rs
-  ArrivedAt x after others to Breaks q ls rs = Leaves code size p q x.in_loop (Instr.Jump x.break_to) × others ls rs
-  ArrivedAt x after others to Continues q ls rs = Leaves code size p q x.in_loop (Instr.Jump x.continue_to) × others ls rs
-  ArrivedAt x after others to (Returns v) q ls rs = (r : Option ℕ) × Leaves code size p q x.in_function (Instr.Return r) × (word_in r rs ≡ v.word) × (v.word < 2 ^ 32)
+  ArrivedAt x after others to Breaks q ls rs = Leaves code layout p q x.in_loop (Instr.Jump x.break_to) × others ls rs
+  ArrivedAt x after others to Continues q ls rs = Leaves code layout p q x.in_loop (Instr.Jump x.continue_to) × others ls rs
+  ArrivedAt x after others to (Returns v) q ls rs = (r : Option ℕ) × Leaves code layout p q x.in_function (Instr.Return r) × (word_in r rs ≡ v.word) × (v.word < 2 ^ 32)
   ArrivedAt x after others to Cancels q ls rs = (x.innermost ≡ Some Atomic) × At code q Instr.Cancel
 
   abbrev pub HereAt : LocalScope → Holding
-  HereAt scope ls rs = Holds scope ls size (length scope) rs
+  HereAt scope ls rs = Holds scope ls layout (length scope) rs
 
   abbrev pub MoreAt : LocalScope → Holding
-  MoreAt scope ls rs = HoldsMore scope ls size rs
+  MoreAt scope ls rs = HoldsMore scope ls layout rs
 
-module _ (p : Program) (call : Caller) (code : Code) (size : ℕ) (frames : List Frame) (cf : CallsFollow p call code size frames) where
+module _ (p : Program) (call : Caller) (code : Code) (layout : Layout) (frames : List Frame) (cf : CallsFollow p call code layout frames) where
   abbrev pub Arrived : Exits → (next others : Holding) → (to : ℕ) → End → ℕ → List Local → List ℕ → Type 0
-  Arrived x after others to end q ls rs = ArrivedAt p code size x after others to end q ls rs
+  Arrived x after others to end q ls rs = ArrivedAt p code layout x after others to end q ls rs
 
   abbrev pub Here : LocalScope → Holding
-  Here scope ls rs = HereAt p code size scope ls rs
+  Here scope ls rs = HereAt p code layout scope ls rs
 
   abbrev pub More : LocalScope → Holding
-  More scope ls rs = MoreAt p code size scope ls rs
+  More scope ls rs = MoreAt p code layout scope ls rs
 
   abbrev pub GoesEnd : ℕ → ℕ → (a : Around) → (Answer End → Outcome) → Exits → (next others : Holding) → (to : ℕ) → Type 0
   GoesEnd N K a after x later others to =
       (end : End) (sh : Shared) (text : List ℕ) (ls : List Local) (rs : List ℕ) (q : ℕ) → IsGood a sh → Arrived x later others to end q ls rs →
-      Goes p call code size frames cf N K a sh text ls q rs (λ s. after (Gives end s))
+      Goes p call code layout frames cf N K a sh text ls q rs (λ s. after (Gives end s))
 
   abbrev pub StmtFollows : Stmt → Type 0
   StmtFollows st =
       (N K : ℕ) (x : Exits) (scope : LocalScope) (from to : ℕ) (a : Around) (sh : Shared) (text : List ℕ) (ls : List Local) (old : List ℕ) (after : Answer End → Outcome) →
-      StmtCode code size p x scope st from to → Here scope ls old → IsGood a sh → IsSeen a after →
-      GoesEnd N K a after x (Here (locals_after st scope)) (Here scope) to → Goes p call code size frames cf N K a sh text ls from old (λ s. after (stmt p call st s))
+      StmtCode code layout p x scope st from to → Here scope ls old → IsGood a sh → IsSeen a after →
+      GoesEnd N K a after x (Here (locals_after st scope)) (Here scope) to → Goes p call code layout frames cf N K a sh text ls from old (λ s. after (stmt p call st s))
 
   abbrev pub StmtsFollow : Stmts → Type 0
   StmtsFollow ss =
       (N K : ℕ) (x : Exits) (scope : LocalScope) (from to : ℕ) (a : Around) (sh : Shared) (text : List ℕ) (ls : List Local) (old : List ℕ) (after : Answer End → Outcome) →
-      StmtsCode code size p x scope ss from to → Here scope ls old → IsGood a sh → IsSeen a after →
-      GoesEnd N K a after x (Here (locals_at_end ss scope)) (More scope) to → Goes p call code size frames cf N K a sh text ls from old (λ s. after (stmts p call ss s))
+      StmtsCode code layout p x scope ss from to → Here scope ls old → IsGood a sh → IsSeen a after →
+      GoesEnd N K a after x (Here (locals_at_end ss scope)) (More scope) to → Goes p call code layout frames cf N K a sh text ls from old (λ s. after (stmts p call ss s))
 
   -- a scope ends
   closing : List Local → End → Action End
   closing outer end = locals >>= λ all. put_locals (take (length outer) all) >> pure end
 
   ends_scope : (x : Exits) (scope later : LocalScope) (end : End) (to q : ℕ) (ls : List Local) (rs : List ℕ) → (more : LocalScope) × (later ≡ scope ++ more) → Arrived x (Here later) (More scope) to end q ls rs → Arrived x (Here scope) (Here scope) to end q (take (length scope) ls) rs
-  ends_scope x scope later Next to q ls rs g a = (a.0, holds_taken scope g.0 ls size (length later) rs (subst (λ y. Holds y ls size (length later) rs) g.1 a.1))
-  ends_scope x scope later Breaks to q ls rs g a = (a.0, holds_taken scope a.1.more ls size (length (scope ++ a.1.more)) rs a.1.holds)
-  ends_scope x scope later Continues to q ls rs g a = (a.0, holds_taken scope a.1.more ls size (length (scope ++ a.1.more)) rs a.1.holds)
+  ends_scope x scope later Next to q ls rs g a = (a.0, holds_taken scope g.0 ls layout (length later) rs (subst (λ y. Holds y ls layout (length later) rs) g.1 a.1))
+  ends_scope x scope later Breaks to q ls rs g a = (a.0, holds_taken scope a.1.more ls layout (length (scope ++ a.1.more)) rs a.1.holds)
+  ends_scope x scope later Continues to q ls rs g a = (a.0, holds_taken scope a.1.more ls layout (length (scope ++ a.1.more)) rs a.1.holds)
   ends_scope x scope later (Returns v) to q ls rs g a = a
   ends_scope x scope later Cancels to q ls rs g a = a
 
-  scoped_follows : (ss : Stmts) → StmtsFollow ss → (N K : ℕ) (x : Exits) (scope : LocalScope) (from to : ℕ) (a : Around) (sh : Shared) (text : List ℕ) (ls : List Local) (old : List ℕ) (after : Answer End → Outcome) → StmtsCode code size p x scope ss from to → Here scope ls old → IsGood a sh → IsSeen a after → GoesEnd N K a after x (Here scope) (Here scope) to → Goes p call code size frames cf N K a sh text ls from old (λ s. after (scoped (stmts p call ss) s))
+  scoped_follows : (ss : Stmts) → StmtsFollow ss → (N K : ℕ) (x : Exits) (scope : LocalScope) (from to : ℕ) (a : Around) (sh : Shared) (text : List ℕ) (ls : List Local) (old : List ℕ) (after : Answer End → Outcome) → StmtsCode code layout p x scope ss from to → Here scope ls old → IsGood a sh → IsSeen a after → GoesEnd N K a after x (Here scope) (Here scope) to → Goes p call code layout frames cf N K a sh text ls from old (λ s. after (scoped (stmts p call ss) s))
   unfolding closing
   scoped_follows ss ih N K x scope from to a sh text ls old after c h good s go =
       ih N K x scope from to a sh text ls old (λ q. after (go_on q (closing ls))) c h good (on_seen a after (closing ls) s)
@@ -161,13 +162,13 @@ module _ (p : Program) (call : Caller) (code : Code) (size : ℕ) (frames : List
 
   -- a branch or a loop's body is a scope of its own
   part_ends : (x : Exits) (scope : LocalScope) (st : Stmt) (end : End) (to q : ℕ) (ls : List Local) (rs : List ℕ) → Arrived x (Here (locals_after st scope)) (Here scope) to end q ls rs → Arrived x (Here scope) (Here scope) to end q (take (length scope) ls) rs
-  part_ends x scope st Next to q ls rs a = (a.0, holds_taken scope (after_grows st scope).0 ls size (length (locals_after st scope)) rs (subst (λ y. Holds y ls size (length (locals_after st scope)) rs) (after_grows st scope).1 a.1))
-  part_ends x scope st Breaks to q ls rs a = (a.0, holds_taken scope [] ls size (length scope) rs (subst (λ y. Holds y ls size (length scope) rs) (sym (append-nil scope)) a.1))
-  part_ends x scope st Continues to q ls rs a = (a.0, holds_taken scope [] ls size (length scope) rs (subst (λ y. Holds y ls size (length scope) rs) (sym (append-nil scope)) a.1))
+  part_ends x scope st Next to q ls rs a = (a.0, holds_taken scope (after_grows st scope).0 ls layout (length (locals_after st scope)) rs (subst (λ y. Holds y ls layout (length (locals_after st scope)) rs) (after_grows st scope).1 a.1))
+  part_ends x scope st Breaks to q ls rs a = (a.0, holds_taken scope [] ls layout (length scope) rs (subst (λ y. Holds y ls layout (length scope) rs) (sym (append-nil scope)) a.1))
+  part_ends x scope st Continues to q ls rs a = (a.0, holds_taken scope [] ls layout (length scope) rs (subst (λ y. Holds y ls layout (length scope) rs) (sym (append-nil scope)) a.1))
   part_ends x scope st (Returns v) to q ls rs a = a
   part_ends x scope st Cancels to q ls rs a = a
 
-  part_follows : (st : Stmt) → StmtFollows st → (N K : ℕ) (x : Exits) (scope : LocalScope) (from to : ℕ) (a : Around) (sh : Shared) (text : List ℕ) (ls : List Local) (old : List ℕ) (after : Answer End → Outcome) → StmtCode code size p x scope st from to → Here scope ls old → IsGood a sh → IsSeen a after → GoesEnd N K a after x (Here scope) (Here scope) to → Goes p call code size frames cf N K a sh text ls from old (λ s. after (scoped (stmt p call st) s))
+  part_follows : (st : Stmt) → StmtFollows st → (N K : ℕ) (x : Exits) (scope : LocalScope) (from to : ℕ) (a : Around) (sh : Shared) (text : List ℕ) (ls : List Local) (old : List ℕ) (after : Answer End → Outcome) → StmtCode code layout p x scope st from to → Here scope ls old → IsGood a sh → IsSeen a after → GoesEnd N K a after x (Here scope) (Here scope) to → Goes p call code layout frames cf N K a sh text ls from old (λ s. after (scoped (stmt p call st) s))
   unfolding closing
   part_follows st ih N K x scope from to a sh text ls old after c h good s go =
       ih N K x scope from to a sh text ls old (λ q. after (go_on q (closing ls))) c h good (on_seen a after (closing ls) s)
@@ -183,20 +184,20 @@ module _ (p : Program) (call : Caller) (code : Code) (size : ℕ) (frames : List
   later_ends x scope mid later Breaks to q ls rs g a = (a.0, more_of scope mid ls rs g a.1)
     where
       more_of : (scope mid : LocalScope) (ls : List Local) (rs : List ℕ) → (more : LocalScope) × (mid ≡ scope ++ more) → More mid ls rs → More scope ls rs
-      more_of scope mid ls rs g h = record { more = g.0 ++ h.more; holds = subst (λ y. Holds y ls size (length y) rs) (ap (λ y. y ++ h.more) g.1 ∙ append_assoc scope g.0 h.more) h.holds }
+      more_of scope mid ls rs g h = record { more = g.0 ++ h.more; holds = subst (λ y. Holds y ls layout (length y) rs) (ap (λ y. y ++ h.more) g.1 ∙ append_assoc scope g.0 h.more) h.holds }
   later_ends x scope mid later Continues to q ls rs g a = (a.0, more_of scope mid ls rs g a.1)
     where
       more_of : (scope mid : LocalScope) (ls : List Local) (rs : List ℕ) → (more : LocalScope) × (mid ≡ scope ++ more) → More mid ls rs → More scope ls rs
-      more_of scope mid ls rs g h = record { more = g.0 ++ h.more; holds = subst (λ y. Holds y ls size (length y) rs) (ap (λ y. y ++ h.more) g.1 ∙ append_assoc scope g.0 h.more) h.holds }
+      more_of scope mid ls rs g h = record { more = g.0 ++ h.more; holds = subst (λ y. Holds y ls layout (length y) rs) (ap (λ y. y ++ h.more) g.1 ∙ append_assoc scope g.0 h.more) h.holds }
   later_ends x scope mid later (Returns v) to q ls rs g a = a
   later_ends x scope mid later Cancels to q ls rs g a = a
 
   no_more : (scope : LocalScope) (ls : List Local) (rs : List ℕ) → Here scope ls rs → More scope ls rs
-  no_more scope ls rs h = record { more = []; holds = subst (λ y. Holds y ls size (length y) rs) (sym (append-nil scope)) h }
+  no_more scope ls rs h = record { more = []; holds = subst (λ y. Holds y ls layout (length y) rs) (sym (append-nil scope)) h }
 
-  sequence : (N K : ℕ) (x : Exits) (st : Stmt) (ss : Stmts) → StmtsFollow ss → (scope : LocalScope) (mid to : ℕ) (a : Around) (after : Answer End → Outcome) → StmtsCode code size p x (locals_after st scope) ss mid to → IsSeen a after → GoesEnd N K a after x (Here (locals_at_end ss (locals_after st scope))) (More scope) to → GoesEnd N K a (λ q. after (go_on q (on_next (stmts p call ss)))) x (Here (locals_after st scope)) (Here scope) mid
+  sequence : (N K : ℕ) (x : Exits) (st : Stmt) (ss : Stmts) → StmtsFollow ss → (scope : LocalScope) (mid to : ℕ) (a : Around) (after : Answer End → Outcome) → StmtsCode code layout p x (locals_after st scope) ss mid to → IsSeen a after → GoesEnd N K a after x (Here (locals_at_end ss (locals_after st scope))) (More scope) to → GoesEnd N K a (λ q. after (go_on q (on_next (stmts p call ss)))) x (Here (locals_after st scope)) (Here scope) mid
   sequence N K x st ss ih scope mid to a after c s go Next sh text ls rs q good arrived =
-      ih N K x (locals_after st scope) q to a sh text ls rs after (subst (λ y. StmtsCode code size p x (locals_after st scope) ss y to) (sym arrived.0) c) arrived.1 good s
+      ih N K x (locals_after st scope) q to a sh text ls rs after (subst (λ y. StmtsCode code layout p x (locals_after st scope) ss y to) (sym arrived.0) c) arrived.1 good s
       (λ end sh1 text1 ls1 rs1 q1 good1 arrived1. go end sh1 text1 ls1 rs1 q1 good1 (later_ends x scope (locals_after st scope) (locals_at_end ss (locals_after st scope)) end to q1 ls1 rs1 (after_grows st scope) arrived1))
   sequence N K x st ss ih scope mid to a after c s go Breaks sh text ls rs q good arrived = go Breaks sh text ls rs q good (arrived.0, no_more scope ls rs arrived.1)
   sequence N K x st ss ih scope mid to a after c s go Continues sh text ls rs q good arrived = go Continues sh text ls rs q good (arrived.0, no_more scope ls rs arrived.1)
@@ -204,7 +205,7 @@ module _ (p : Program) (call : Caller) (code : Code) (size : ℕ) (frames : List
   sequence N K x st ss ih scope mid to a after c s go Cancels sh text ls rs q good arrived = go Cancels sh text ls rs q good arrived
 
   -- a declaration: its register is 0, and then has its first value
-  zeroed : (scope : LocalScope) (x : List ℕ) (t : Scalar) (ls : List Local) (rs : List ℕ) → length scope < size → Here scope ls rs → Here (with_local scope x t) (ls ++ record { name = x; of = t; word = 0 } ∷ []) (slice_set rs (length scope) 0)
+  zeroed : (scope : LocalScope) (x : List ℕ) (t : Scalar) (ls : List Local) (rs : List ℕ) → length scope < layout.writable → Here scope ls rs → Here (with_local scope x t) (ls ++ record { name = x; of = t; word = 0 } ∷ []) (slice_set rs (length scope) 0)
   zeroed scope x t ls rs below h =
       let new : Local = record { name = x; of = t; word = 0 } in
       let len : length ls ≡ length scope = length_like scope ls h.like in
@@ -219,6 +220,7 @@ module _ (p : Program) (call : Caller) (code : Code) (size : ℕ) (frames : List
         size_is = length-set rs (length scope) 0 ∙ h.size_is;
         each = λ i l. each_zeroed scope ls rs new i refl (cases_eq i (length scope)) len (omega (arith, below, size_is)) (λ d. omega (arith, l, len, len2, d)) h.each;
         words = words_new ls new h.words (omega arith);
+        ready = λ k w e. get_or-set_other rs (length scope) (layout.writable + k) 0 0 (λ d. omega (arith, below, d)) ∙ h.ready k w e;
       }
     where
       each_zeroed : (scope : LocalScope) (ls : List Local) (rs : List ℕ) (new : Local) (i : ℕ) → new.word ≡ 0 → (i ≡ length scope) ⊎ (i ≢ length scope) → length ls ≡ length scope → length scope < length rs → (i ≢ length scope → i < length ls) → ((j : ℕ) → j < length ls → slice_index rs j ≡ word_at ls j) → slice_index (slice_set rs (length scope) 0) i ≡ word_at (ls ++ new ∷ []) i
@@ -227,22 +229,22 @@ module _ (p : Program) (call : Caller) (code : Code) (size : ℕ) (frames : List
       each_zeroed scope ls rs new i z (inr e) len b later each = get_or-set_other rs (length scope) i 0 0 e ∙ each i (later e) ∙ sym (word_new ls new i (later e))
 
   -- the first value, and what follows it
-  first_follows : {N K : ℕ} (inner : LocalScope) (i : ℕ) (t : Scalar) (o : Option Expr) (rest : Action End) (from to : ℕ) → i < length inner → FirstValueCode code size p inner (i, t) o from to → (a : Around) (sh : Shared) (text : List ℕ) (ls : List Local) (old : List ℕ) (after : Answer End → Outcome) → Here inner ls old → IsGood a sh → IsSeen a after
-      → ((sh1 : Shared) (text1 : List ℕ) (ls1 : List Local) (rs1 : List ℕ) → IsGood a sh1 → Here inner ls1 rs1 → Goes p call code size frames cf N K a sh1 text1 ls1 to rs1 (λ s. after (rest s)))
-      → Goes p call code size frames cf N K a sh text ls from old (λ s. after ((first_value p call (InLocal i t) o >> rest) s))
+  first_follows : {N K : ℕ} (inner : LocalScope) (i : ℕ) (t : Scalar) (o : Option Expr) (rest : Action End) (from to : ℕ) → i < length inner → FirstValueCode code layout p inner (i, t) o from to → (a : Around) (sh : Shared) (text : List ℕ) (ls : List Local) (old : List ℕ) (after : Answer End → Outcome) → Here inner ls old → IsGood a sh → IsSeen a after
+      → ((sh1 : Shared) (text1 : List ℕ) (ls1 : List Local) (rs1 : List ℕ) → IsGood a sh1 → Here inner ls1 rs1 → Goes p call code layout frames cf N K a sh1 text1 ls1 to rs1 (λ s. after (rest s)))
+      → Goes p call code layout frames cf N K a sh text ls from old (λ s. after ((first_value p call (InLocal i t) o >> rest) s))
   first_follows {N = N} {K = K} inner i t None rest from to below c a sh text ls old after h good s go =
-      subst (λ q. Goes p call code size frames cf N K a sh text ls q old (λ s. after (rest s))) c (go sh text ls old good h)
+      subst (λ q. Goes p call code layout frames cf N K a sh text ls q old (λ s. after (rest s))) c (go sh text ls old good h)
   first_follows {N = N} {K = K} inner i t (Some e) rest from to below c a sh text ls old after h good s go =
       let rest1 : Value → Action (Unit {0}) = λ v. assign (InLocal i t) v in
       let after1 : Answer (Unit {0}) → Outcome = λ q. after (go_on q (λ u. rest)) in
-      expression_follows p call code size frames cf (Some i) inner e N K from c.mid c.value.free c.r c.value.t a sh text ls old (λ q. after1 (go_on q rest1)) c.value.computes (raised inner ls size c.value.free old c.value.room h) good (on_seen a after1 rest1 (on_seen a after (λ u. rest) s))
+      expression_follows p call code layout frames cf (Some i) inner e N K from c.mid c.value.free c.r c.value.t a sh text ls old (λ q. after1 (go_on q rest1)) c.value.computes (raised inner ls layout c.value.free old c.value.room h) good (on_seen a after1 rest1 (on_seen a after (λ u. rest) s))
       (λ v sh1 text1 rs1 d.
-      stores p call code size frames cf (LocalAt (i, t)) (InLocal i t) inner c.value.free a sh1 text1 ls (λ q. after (go_on q (λ e. rest))) c.mid to c.r old rs1 v c.value.room (refl, below) tt c.stores d.keeps d.here d.word h d.good (on_seen a after (λ e. rest) s)
+      stores p call code layout frames cf (LocalAt (i, t)) (InLocal i t) inner c.value.free a sh1 text1 ls (λ q. after (go_on q (λ e. rest))) c.mid to c.r old rs1 v c.value.room (refl, below) tt c.stores d.keeps d.here d.word h d.good (on_seen a after (λ e. rest) s)
       (λ sh2 text2 ls2 rs2 good2 h2. go sh2 text2 ls2 rs2 good2 h2))
 
-  declare_follows : {N K : ℕ} (t : Scalar) (ds : List Declarator) (x : Exits) (scope : LocalScope) (from to : ℕ) → DeclareCode code size p t ds scope from to → (a : Around) (sh : Shared) (text : List ℕ) (ls : List Local) (old : List ℕ) (after : Answer End → Outcome) → Here scope ls old → IsGood a sh → IsSeen a after → GoesNext p call code size frames cf N K a after (with_declared t ds scope) to → Goes p call code size frames cf N K a sh text ls from old (λ s. after (declare p call t ds s))
+  declare_follows : {N K : ℕ} (t : Scalar) (ds : List Declarator) (x : Exits) (scope : LocalScope) (from to : ℕ) → DeclareCode code layout p t ds scope from to → (a : Around) (sh : Shared) (text : List ℕ) (ls : List Local) (old : List ℕ) (after : Answer End → Outcome) → Here scope ls old → IsGood a sh → IsSeen a after → GoesNext p call code layout frames cf N K a after (with_declared t ds scope) to → Goes p call code layout frames cf N K a sh text ls from old (λ s. after (declare p call t ds s))
   declare_follows {N = N} {K = K} t [] x scope from to c a sh text ls old after h good s go =
-      subst (λ q. Goes p call code size frames cf N K a sh text ls q old (λ s. after (Gives Next s))) c (go sh text ls old good h)
+      subst (λ q. Goes p call code layout frames cf N K a sh text ls q old (λ s. after (Gives Next s))) c (go sh text ls old good h)
   declare_follows {N = N} {K = K} t (d ∷ ds) x scope from to c a sh text ls old after h good s go =
       let new : Local = record { name = d.name.text; of = t; word = 0 } in
       let inner : LocalScope = with_local scope d.name.text t in
@@ -259,7 +261,7 @@ module _ (p : Program) (call : Caller) (code : Code) (size : ℕ) (frames : List
   abbrev Again : ℕ → ℕ → (a : Around) → (Answer End → Outcome) → LocalScope → (head : ℕ) → Action (Option End) → Type 0
   Again N K a after scope head turn =
       (sh : Shared) (text : List ℕ) (ls : List Local) (rs : List ℕ) → IsGood a sh → Here scope ls rs →
-      Goes p call code size frames cf N K a sh text ls head rs (λ s. after (loop turn s))
+      Goes p call code layout frames cf N K a sh text ls head rs (λ s. after (loop turn s))
 
   fewer_end : {N K N' K' : ℕ} (a : Around) (after : Answer End → Outcome) (x : Exits) (later others : Holding) (to : ℕ) → N' ≤ N → K' ≤ K → GoesEnd N K a after x later others to → GoesEnd N' K' a after x later others to
   fewer_end a after x later others to b d go end sh text ls rs q good arrived = fewer (effect code) b d (go end sh text ls rs q good arrived)
@@ -267,8 +269,8 @@ module _ (p : Program) (call : Caller) (code : Code) (size : ℕ) (frames : List
   -- where a stretch leads to its end
   leads_end : {N K : ℕ} (a : Around) (after : Answer End → Outcome) (x : Exits) (scope : LocalScope) (last to : ℕ) → LeadsTo code last to → GoesEnd N K a after x (Here scope) (Here scope) to → GoesEnd N K a after x (Here scope) (Here scope) last
   leads_end {N = N} {K = K} a after x scope last to j go Next sh text ls rs q good arrived =
-      subst (λ y. Goes p call code size frames cf N K a sh text ls y rs (λ s. after (Gives Next s))) (sym arrived.0)
-      (leads p call code size frames a sh text last to rs j (go Next sh text ls rs to good (refl, arrived.1)))
+      subst (λ y. Goes p call code layout frames cf N K a sh text ls y rs (λ s. after (Gives Next s))) (sym arrived.0)
+      (leads p call code layout frames a sh text last to rs j (go Next sh text ls rs to good (refl, arrived.1)))
   leads_end a after x scope last to j go Breaks sh text ls rs q good arrived = go Breaks sh text ls rs q good arrived
   leads_end a after x scope last to j go Continues sh text ls rs q good arrived = go Continues sh text ls rs q good arrived
   leads_end a after x scope last to j go (Returns v) sh text ls rs q good arrived = go (Returns v) sh text ls rs q good arrived
@@ -278,10 +280,10 @@ module _ (p : Program) (call : Caller) (code : Code) (size : ℕ) (frames : List
   abbrev TurnFollows : (a : Around) → (Answer End → Outcome) → Exits → LocalScope → (head to : ℕ) → Action (Option End) → Type 0
   TurnFollows a after x scope head to turn =
       (N K M : ℕ) → M ≤ K → K ≤ suc M → (sh : Shared) (text : List ℕ) (ls : List Local) (rs : List ℕ) → Again N M a after scope head turn → Here scope ls rs → IsGood a sh → GoesEnd N K a after x (Here scope) (Here scope) to →
-      Goes p call code size frames cf N K a sh text ls head rs (λ s. after (go_on (turn s) (after_turn (loop turn))))
+      Goes p call code layout frames cf N K a sh text ls head rs (λ s. after (go_on (turn s) (after_turn (loop turn))))
 
   -- a loop: each turn takes a tick and at least one instruction
-  loop_follows : (m N K : ℕ) → N + K ≤ m → (x : Exits) (scope : LocalScope) (turn : Action (Option End)) (head to : ℕ) (a : Around) (sh : Shared) (text : List ℕ) (ls : List Local) (rs : List ℕ) (after : Answer End → Outcome) → Falls turn → TurnFollows a after x scope head to turn → Here scope ls rs → IsGood a sh → IsSeen a after → GoesEnd N K a after x (Here scope) (Here scope) to → Goes p call code size frames cf N K a sh text ls head rs (λ s. after (loop turn s))
+  loop_follows : (m N K : ℕ) → N + K ≤ m → (x : Exits) (scope : LocalScope) (turn : Action (Option End)) (head to : ℕ) (a : Around) (sh : Shared) (text : List ℕ) (ls : List Local) (rs : List ℕ) (after : Answer End → Outcome) → Falls turn → TurnFollows a after x scope head to turn → Here scope ls rs → IsGood a sh → IsSeen a after → GoesEnd N K a after x (Here scope) (Here scope) to → Goes p call code layout frames cf N K a sh text ls head rs (λ s. after (loop turn s))
   loop_follows m zero zero b x scope turn head to a sh text ls rs after f each h good s go =
       none_left (effect code) (seen_spent code a after sh 0 ls text (configuration code head rs frames) s)
   loop_follows zero zero (suc K) b x scope turn head to a sh text ls rs after f each h good s go = absurd (omega (arith, b))
@@ -303,23 +305,23 @@ module _ (p : Program) (call : Caller) (code : Code) (size : ℕ) (frames : List
 
   -- the end of a body whose turn goes on with `rest`
   body_ends : {N K : ℕ} (x : Exits) (scope : LocalScope) (turn : Action (Option End)) (rest : Action (Option End)) (break_to continue_to next_at to last : ℕ) (a : Around) (after : Answer End → Outcome) → LeadsTo code break_to to → LeadsTo code continue_to next_at → LeadsTo code last next_at
-      → ((sh : Shared) (text : List ℕ) (ls : List Local) (rs : List ℕ) → IsGood a sh → Here scope ls rs → Goes p call code size frames cf N K a sh text ls next_at rs (λ s. after (go_on (rest s) (after_turn (loop turn)))))
+      → ((sh : Shared) (text : List ℕ) (ls : List Local) (rs : List ℕ) → IsGood a sh → Here scope ls rs → Goes p call code layout frames cf N K a sh text ls next_at rs (λ s. after (go_on (rest s) (after_turn (loop turn)))))
       → GoesEnd N K a after x (Here scope) (Here scope) to → GoesEnd N K a (λ q. after (go_on (go_on q (after_body rest)) (after_turn (loop turn)))) (looping x break_to continue_to) (Here scope) (Here scope) last
   body_ends {N = N} {K = K} x scope turn rest break_to continue_to next_at to last a after breaks continues goes_on on go Next sh text ls rs q good arrived =
-      subst (λ y. Goes p call code size frames cf N K a sh text ls y rs (λ s. after (go_on (rest s) (after_turn (loop turn))))) (sym arrived.0)
-      (leads p call code size frames a sh text last next_at rs goes_on (on sh text ls rs good arrived.1))
+      subst (λ y. Goes p call code layout frames cf N K a sh text ls y rs (λ s. after (go_on (rest s) (after_turn (loop turn))))) (sym arrived.0)
+      (leads p call code layout frames a sh text last next_at rs goes_on (on sh text ls rs good arrived.1))
   body_ends x scope turn rest break_to continue_to next_at to last a after breaks continues goes_on on go Breaks sh text ls rs q good arrived =
-      passes p call code size frames a sh text q break_to rs arrived.0 (leads p call code size frames a sh text break_to to rs breaks (go Next sh text ls rs to good (refl, arrived.1)))
+      passes p call code layout frames a sh text q break_to rs arrived.0 (leads p call code layout frames a sh text break_to to rs breaks (go Next sh text ls rs to good (refl, arrived.1)))
   body_ends x scope turn rest break_to continue_to next_at to last a after breaks continues goes_on on go Continues sh text ls rs q good arrived =
-      passes p call code size frames a sh text q continue_to rs arrived.0 (leads p call code size frames a sh text continue_to next_at rs continues (on sh text ls rs good arrived.1))
+      passes p call code layout frames a sh text q continue_to rs arrived.0 (leads p call code layout frames a sh text continue_to next_at rs continues (on sh text ls rs good arrived.1))
   body_ends x scope turn rest break_to continue_to next_at to last a after breaks continues goes_on on go (Returns v) sh text ls rs q good arrived = go (Returns v) sh text ls rs q good arrived
   body_ends x scope turn rest break_to continue_to next_at to last a after breaks continues goes_on on go Cancels sh text ls rs q good arrived = go Cancels sh text ls rs q good arrived
 
   -- `while`
-  while_follows : (x : Exits) (scope : LocalScope) (e : Expr) (st : Stmt) → StmtFollows st → (from to : ℕ) (c : WhileCode code size p x scope (Testing code size p scope e) (λ y. StmtCode code size p y scope st) from to) (a : Around) (after : Answer End → Outcome) → IsSeen a after → TurnFollows a after x scope c.test_at to (while_turn p call e st)
+  while_follows : (x : Exits) (scope : LocalScope) (e : Expr) (st : Stmt) → StmtFollows st → (from to : ℕ) (c : WhileCode code layout p x scope (Testing code layout p scope e) (λ y. StmtCode code layout p y scope st) from to) (a : Around) (after : Answer End → Outcome) → IsSeen a after → TurnFollows a after x scope c.test_at to (while_turn p call e st)
   while_follows x scope e st ih from to c a after s N K M less enough sh text ls rs again h good go =
       fewer (effect code) (omega arith) enough
-      (test_follows p call code size frames cf scope e c.test_at c.body_at c.out c.tests a sh text ls rs (λ q. after1 (go_on q branches)) h good (on_seen a after1 branches seen1) places)
+      (test_follows p call code layout frames cf scope e c.test_at c.body_at c.out c.tests a sh text ls rs (λ q. after1 (go_on q branches)) h good (on_seen a after1 branches seen1) places)
     where
       turn : Action (Option End)
       turn = while_turn p call e st
@@ -333,11 +335,11 @@ module _ (p : Program) (call : Caller) (code : Code) (size : ℕ) (frames : List
       seen1 : IsSeen a after1
       seen1 = on_seen a after (after_turn (loop (while_turn p call e st))) s
 
-      places : GoesTest p call code size frames cf N M a (λ q. after1 (go_on q branches)) scope ls c.body_at c.out
+      places : GoesTest p call code layout frames cf N M a (λ q. after1 (go_on q branches)) scope ls c.body_at c.out
       places v true sh1 text1 rs1 z h1 good1 =
           same (effect code) (λ n. after (Gives Next (state n ls (context_of a sh1) text1)))
           (λ n. ap (λ b. after1 ((if b then pure (Some Next) else (scoped (stmt p call st) >>= after_body (pure None))) (state n ls (context_of a sh1) text1))) z)
-          (leads p call code size frames a sh1 text1 c.out to rs1 c.ends (fewer (effect code) (omega arith) less (go Next sh1 text1 ls rs1 to good1 (refl, h1))))
+          (leads p call code layout frames a sh1 text1 c.out to rs1 c.ends (fewer (effect code) (omega arith) less (go Next sh1 text1 ls rs1 to good1 (refl, h1))))
       places v false sh1 text1 rs1 z h1 good1 =
           same (effect code) (λ n. after1 ((scoped (stmt p call st) >>= after_body (pure None)) (state n ls (context_of a sh1) text1)))
           (λ n. ap (λ b. after1 ((if b then pure (Some Next) else (scoped (stmt p call st) >>= after_body (pure None))) (state n ls (context_of a sh1) text1))) z)
@@ -347,13 +349,13 @@ module _ (p : Program) (call : Caller) (code : Code) (size : ℕ) (frames : List
           (fewer_end a after x (Here scope) (Here scope) to (omega arith) less go)))
 
   -- `do` and `while`
-  do_follows : (x : Exits) (scope : LocalScope) (e : Expr) (st : Stmt) → StmtFollows st → (from to : ℕ) (c : DoWhileCode code size p x scope (Testing code size p scope e) (λ y. StmtCode code size p y scope st) from to) (a : Around) (after : Answer End → Outcome) → IsSeen a after → TurnFollows a after x scope c.body_at to (do_turn p call st e)
+  do_follows : (x : Exits) (scope : LocalScope) (e : Expr) (st : Stmt) → StmtFollows st → (from to : ℕ) (c : DoWhileCode code layout p x scope (Testing code layout p scope e) (λ y. StmtCode code layout p y scope st) from to) (a : Around) (after : Answer End → Outcome) → IsSeen a after → TurnFollows a after x scope c.body_at to (do_turn p call st e)
   do_follows x scope e st ih from to c a after s N K M less enough sh text ls rs again h good go =
       part_follows st ih N K (looping x c.break_to c.continue_to) scope c.body_at c.last a sh text ls rs (λ q. after1 (go_on q (after_body rest))) c.body h good (on_seen a after1 (after_body rest) seen1)
       (body_ends x scope (do_turn p call st e) rest c.break_to c.continue_to c.test_at to c.last a after c.breaks c.continues c.goes_on
       (λ sh1 text1 ls1 rs1 good1 h1.
       fewer (effect code) (omega arith) enough
-      (test_follows p call code size frames cf scope e c.test_at c.again_at c.out c.tests a sh1 text1 ls1 rs1 (λ q. after1 (go_on q ends)) h1 good1 (on_seen a after1 ends seen1) (places ls1)))
+      (test_follows p call code layout frames cf scope e c.test_at c.again_at c.out c.tests a sh1 text1 ls1 rs1 (λ q. after1 (go_on q ends)) h1 good1 (on_seen a after1 ends seen1) (places ls1)))
       go)
     where
       ends : Value → Action (Option End)
@@ -368,41 +370,41 @@ module _ (p : Program) (call : Caller) (code : Code) (size : ℕ) (frames : List
       seen1 : IsSeen a after1
       seen1 = on_seen a after (after_turn (loop (do_turn p call st e))) s
 
-      places : (ls : List Local) → GoesTest p call code size frames cf N M a (λ q. after1 (go_on q ends)) scope ls c.again_at c.out
+      places : (ls : List Local) → GoesTest p call code layout frames cf N M a (λ q. after1 (go_on q ends)) scope ls c.again_at c.out
       places ls v true sh1 text1 rs1 z h1 good1 =
           same (effect code) (λ n. after (Gives Next (state n ls (context_of a sh1) text1)))
           (λ n. ap (λ b. after1 (Gives (if b then Some Next else None) (state n ls (context_of a sh1) text1))) z)
-          (leads p call code size frames a sh1 text1 c.out to rs1 c.ends (fewer (effect code) (omega arith) less (go Next sh1 text1 ls rs1 to good1 (refl, h1))))
+          (leads p call code layout frames a sh1 text1 c.out to rs1 c.ends (fewer (effect code) (omega arith) less (go Next sh1 text1 ls rs1 to good1 (refl, h1))))
       places ls v false sh1 text1 rs1 z h1 good1 =
           same (effect code) (λ n. after (loop (do_turn p call st e) (state n ls (context_of a sh1) text1)))
           (λ n. ap (λ b. after1 (Gives (if b then Some Next else None) (state n ls (context_of a sh1) text1))) z)
-          (leads p call code size frames a sh1 text1 c.again_at c.body_at rs1 c.again (again sh1 text1 ls rs1 good1 h1))
+          (leads p call code layout frames a sh1 text1 c.again_at c.body_at rs1 c.again (again sh1 text1 ls rs1 good1 h1))
 
   -- `for`
-  stepped_follows : {N K : ℕ} (scope : LocalScope) (turn : Action (Option End)) (o : Option Simple) (from last head : ℕ) → SteppedCode code size p scope o from last → LeadsTo code last head → (a : Around) (sh : Shared) (text : List ℕ) (ls : List Local) (rs : List ℕ) (after : Answer End → Outcome) → IsSeen a after → Again N K a after scope head turn → Here scope ls rs → IsGood a sh → Goes p call code size frames cf N K a sh text ls from rs (λ s. after (go_on (stepped p call o s) (after_turn (loop turn))))
-  stepped_follows scope turn None from last head c i a sh text ls rs after s again h good = leads p call code size frames a sh text from head rs (subst (λ y. LeadsTo code y head) c i) (again sh text ls rs good h)
+  stepped_follows : {N K : ℕ} (scope : LocalScope) (turn : Action (Option End)) (o : Option Simple) (from last head : ℕ) → SteppedCode code layout p scope o from last → LeadsTo code last head → (a : Around) (sh : Shared) (text : List ℕ) (ls : List Local) (rs : List ℕ) (after : Answer End → Outcome) → IsSeen a after → Again N K a after scope head turn → Here scope ls rs → IsGood a sh → Goes p call code layout frames cf N K a sh text ls from rs (λ s. after (go_on (stepped p call o s) (after_turn (loop turn))))
+  stepped_follows scope turn None from last head c i a sh text ls rs after s again h good = leads p call code layout frames a sh text from head rs (subst (λ y. LeadsTo code y head) c i) (again sh text ls rs good h)
   stepped_follows scope turn (Some st) from last head c i a sh text ls rs after s again h good =
       let after1 : Answer (Option End) → Outcome = λ q. after (go_on q (after_turn (loop turn))) in
-      simple_follows p call code size frames cf scope st from last c a sh text ls rs (λ q. after1 (go_on q (λ e. pure None))) h good (on_seen a after1 (λ e. pure None) (on_seen a after (after_turn (loop turn)) s))
-      (λ sh1 text1 ls1 rs1 good1 h1. leads p call code size frames a sh1 text1 last head rs1 i (again sh1 text1 ls1 rs1 good1 h1))
+      simple_follows p call code layout frames cf scope st from last c a sh text ls rs (λ q. after1 (go_on q (λ e. pure None))) h good (on_seen a after1 (λ e. pure None) (on_seen a after (after_turn (loop turn)) s))
+      (λ sh1 text1 ls1 rs1 good1 h1. leads p call code layout frames a sh1 text1 last head rs1 i (again sh1 text1 ls1 rs1 good1 h1))
 
   -- a condition that may be missing
-  holds_follows : {N K : ℕ} (scope : LocalScope) (o : Option Expr) (rest : Bool → Action (Option End)) (from met out : ℕ) → HoldsCode code size p scope o from met out → (a : Around) (sh : Shared) (text : List ℕ) (ls : List Local) (rs : List ℕ) (after : Answer (Option End) → Outcome) → Here scope ls rs → IsGood a sh → IsSeen a after
-      → ((sh1 : Shared) (text1 : List ℕ) (rs1 : List ℕ) → IsGood a sh1 → Here scope ls rs1 → Goes p call code size frames cf N K a sh1 text1 ls met rs1 (λ s. after (rest true s)))
-      → ((sh1 : Shared) (text1 : List ℕ) (rs1 : List ℕ) → IsGood a sh1 → Here scope ls rs1 → Goes p call code size frames cf N K a sh1 text1 ls out rs1 (λ s. after (rest false s)))
-      → Goes p call code size frames cf N (suc K) a sh text ls from rs (λ s. after ((holds p call o >>= rest) s))
+  holds_follows : {N K : ℕ} (scope : LocalScope) (o : Option Expr) (rest : Bool → Action (Option End)) (from met out : ℕ) → HoldsCode code layout p scope o from met out → (a : Around) (sh : Shared) (text : List ℕ) (ls : List Local) (rs : List ℕ) (after : Answer (Option End) → Outcome) → Here scope ls rs → IsGood a sh → IsSeen a after
+      → ((sh1 : Shared) (text1 : List ℕ) (rs1 : List ℕ) → IsGood a sh1 → Here scope ls rs1 → Goes p call code layout frames cf N K a sh1 text1 ls met rs1 (λ s. after (rest true s)))
+      → ((sh1 : Shared) (text1 : List ℕ) (rs1 : List ℕ) → IsGood a sh1 → Here scope ls rs1 → Goes p call code layout frames cf N K a sh1 text1 ls out rs1 (λ s. after (rest false s)))
+      → Goes p call code layout frames cf N (suc K) a sh text ls from rs (λ s. after ((holds p call o >>= rest) s))
   holds_follows {N = N} {K = K} scope None rest from met out c a sh text ls rs after h good s where_so where_not =
       goes code a sh text (configuration code from rs frames) (configuration code met rs frames) (effect_at code from (Instr.Jump met) rs frames c) (where_so sh text rs good h)
   holds_follows {N = N} {K = K} scope (Some e) rest from met out c a sh text ls rs after h good s where_so where_not =
-      test_follows p call code size frames cf scope e from met out c a sh text ls rs (λ q. after (go_on (go_on q (λ v. pure (not (is_zero v)))) rest)) h good (on_seen a (λ q. after (go_on q rest)) (λ v. pure (not (is_zero v))) (on_seen a after rest s)) places
+      test_follows p call code layout frames cf scope e from met out c a sh text ls rs (λ q. after (go_on (go_on q (λ v. pure (not (is_zero v)))) rest)) h good (on_seen a (λ q. after (go_on q rest)) (λ v. pure (not (is_zero v))) (on_seen a after rest s)) places
     where
-      places : GoesTest p call code size frames cf N K a (λ q. after (go_on (go_on q (λ v. pure (not (is_zero v)))) rest)) scope ls met out
+      places : GoesTest p call code layout frames cf N K a (λ q. after (go_on (go_on q (λ v. pure (not (is_zero v)))) rest)) scope ls met out
       places v true sh1 text1 rs1 z h1 good1 =
           same (effect code) (λ n. after (rest false (state n ls (context_of a sh1) text1))) (λ n. ap (λ b. after (rest (not b) (state n ls (context_of a sh1) text1))) z) (where_not sh1 text1 rs1 good1 h1)
       places v false sh1 text1 rs1 z h1 good1 =
           same (effect code) (λ n. after (rest true (state n ls (context_of a sh1) text1))) (λ n. ap (λ b. after (rest (not b) (state n ls (context_of a sh1) text1))) z) (where_so sh1 text1 rs1 good1 h1)
 
-  for_follows : (x : Exits) (scope : LocalScope) (starts : ℕ → ℕ → Type 0) (o : Option Expr) (step : Option Simple) (st : Stmt) → StmtFollows st → (from to : ℕ) (c : ForCode code size p x scope starts o step (λ y. StmtCode code size p y scope st) from to) (a : Around) (after : Answer End → Outcome) → IsSeen a after → TurnFollows a after x scope c.test_at to (for_turn p call o step st)
+  for_follows : (x : Exits) (scope : LocalScope) (starts : ℕ → ℕ → Type 0) (o : Option Expr) (step : Option Simple) (st : Stmt) → StmtFollows st → (from to : ℕ) (c : ForCode code layout p x scope starts o step (λ y. StmtCode code layout p y scope st) from to) (a : Around) (after : Answer End → Outcome) → IsSeen a after → TurnFollows a after x scope c.test_at to (for_turn p call o step st)
   for_follows x scope starts o step st ih from to c a after s N K M less enough sh text ls rs again h good go =
       let turn : Action (Option End) = for_turn p call o step st in
       let rest : Bool → Action (Option End) = λ more. if more then (scoped (stmt p call st) >>= after_body (stepped p call step)) else pure (Some Next) in
@@ -415,14 +417,14 @@ module _ (p : Program) (call : Caller) (code : Code) (size : ℕ) (frames : List
       (body_ends x scope turn (stepped p call step) c.break_to c.continue_to c.step_at to c.last a after c.breaks c.continues c.goes_on
       (λ sh2 text2 ls2 rs2 good2 h2. stepped_follows scope turn step c.step_at c.stepped c.test_at c.steps c.again a sh2 text2 ls2 rs2 after s again h2 good2)
       (fewer_end a after x (Here scope) (Here scope) to (omega arith) less go)))
-      (λ sh1 text1 rs1 good1 h1. leads p call code size frames a sh1 text1 c.out to rs1 c.ends (fewer (effect code) (omega arith) less (go Next sh1 text1 ls rs1 to good1 (refl, h1)))))
+      (λ sh1 text1 rs1 good1 h1. leads p call code layout frames a sh1 text1 c.out to rs1 c.ends (fewer (effect code) (omega arith) less (go Next sh1 text1 ls rs1 to good1 (refl, h1)))))
 
   -- the head of a `for`
-  start_follows : {N K : ℕ} (st : Start) (x : Exits) (scope : LocalScope) (from to : ℕ) → StartCode code size p scope st from to → (a : Around) (sh : Shared) (text : List ℕ) (ls : List Local) (old : List ℕ) (after : Answer End → Outcome) → Here scope ls old → IsGood a sh → IsSeen a after → GoesNext p call code size frames cf N K a after (locals_of_start st scope) to → Goes p call code size frames cf N K a sh text ls from old (λ s. after (start_with p call st s))
+  start_follows : {N K : ℕ} (st : Start) (x : Exits) (scope : LocalScope) (from to : ℕ) → StartCode code layout p scope st from to → (a : Around) (sh : Shared) (text : List ℕ) (ls : List Local) (old : List ℕ) (after : Answer End → Outcome) → Here scope ls old → IsGood a sh → IsSeen a after → GoesNext p call code layout frames cf N K a after (locals_of_start st scope) to → Goes p call code layout frames cf N K a sh text ls from old (λ s. after (start_with p call st s))
   start_follows {N = N} {K = K} Nothing x scope from to c a sh text ls old after h good s go =
-      subst (λ q. Goes p call code size frames cf N K a sh text ls q old (λ s. after (Gives Next s))) c (go sh text ls old good h)
+      subst (λ q. Goes p call code layout frames cf N K a sh text ls q old (λ s. after (Gives Next s))) c (go sh text ls old good h)
   start_follows (Declares d) x scope from to c a sh text ls old after h good s go = declare_follows d.of d.declarators x scope from to c a sh text ls old after h good s go
-  start_follows (Does st) x scope from to c a sh text ls old after h good s go = simple_follows p call code size frames cf scope st from to c a sh text ls old after h good s go
+  start_follows (Does st) x scope from to c a sh text ls old after h good s go = simple_follows p call code layout frames cf scope st from to c a sh text ls old after h good s go
 
   start_grows : (st : Start) (scope : LocalScope) → (more : LocalScope) × (locals_of_start st scope ≡ scope ++ more)
   start_grows Nothing scope = ([], sym (append-nil scope))
@@ -431,13 +433,13 @@ module _ (p : Program) (call : Caller) (code : Code) (size : ℕ) (frames : List
 
   -- a scope that a run ends with no statements
   shrinks : (x : Exits) (scope later : LocalScope) (end : End) (to q : ℕ) (ls : List Local) (rs : List ℕ) → (more : LocalScope) × (later ≡ scope ++ more) → Arrived x (Here later) (Here later) to end q ls rs → Arrived x (Here scope) (Here scope) to end q (take (length scope) ls) rs
-  shrinks x scope later Next to q ls rs g a = (a.0, holds_taken scope g.0 ls size (length later) rs (subst (λ y. Holds y ls size (length later) rs) g.1 a.1))
-  shrinks x scope later Breaks to q ls rs g a = (a.0, holds_taken scope g.0 ls size (length later) rs (subst (λ y. Holds y ls size (length later) rs) g.1 a.1))
-  shrinks x scope later Continues to q ls rs g a = (a.0, holds_taken scope g.0 ls size (length later) rs (subst (λ y. Holds y ls size (length later) rs) g.1 a.1))
+  shrinks x scope later Next to q ls rs g a = (a.0, holds_taken scope g.0 ls layout (length later) rs (subst (λ y. Holds y ls layout (length later) rs) g.1 a.1))
+  shrinks x scope later Breaks to q ls rs g a = (a.0, holds_taken scope g.0 ls layout (length later) rs (subst (λ y. Holds y ls layout (length later) rs) g.1 a.1))
+  shrinks x scope later Continues to q ls rs g a = (a.0, holds_taken scope g.0 ls layout (length later) rs (subst (λ y. Holds y ls layout (length later) rs) g.1 a.1))
   shrinks x scope later (Returns v) to q ls rs g a = a
   shrinks x scope later Cancels to q ls rs g a = a
 
-  whole_for : (x : Exits) (scope : LocalScope) (start : Start) (o : Option Expr) (step : Option Simple) (st : Stmt) → StmtFollows st → Falls (for_turn p call o step st) → (N K from to : ℕ) (c : ForCode code size p x (locals_of_start start scope) (StartCode code size p scope start) o step (λ y. StmtCode code size p y (locals_of_start start scope) st) from to) (a : Around) (sh : Shared) (text : List ℕ) (ls : List Local) (old : List ℕ) (after : Answer End → Outcome) → Here scope ls old → IsGood a sh → IsSeen a after → GoesEnd N K a after x (Here scope) (Here scope) to → Goes p call code size frames cf N K a sh text ls from old (λ s. after (scoped (start_with p call start >> loop (for_turn p call o step st)) s))
+  whole_for : (x : Exits) (scope : LocalScope) (start : Start) (o : Option Expr) (step : Option Simple) (st : Stmt) → StmtFollows st → Falls (for_turn p call o step st) → (N K from to : ℕ) (c : ForCode code layout p x (locals_of_start start scope) (StartCode code layout p scope start) o step (λ y. StmtCode code layout p y (locals_of_start start scope) st) from to) (a : Around) (sh : Shared) (text : List ℕ) (ls : List Local) (old : List ℕ) (after : Answer End → Outcome) → Here scope ls old → IsGood a sh → IsSeen a after → GoesEnd N K a after x (Here scope) (Here scope) to → Goes p call code layout frames cf N K a sh text ls from old (λ s. after (scoped (start_with p call start >> loop (for_turn p call o step st)) s))
   unfolding closing
   whole_for x scope start o step st ih f N K from to c a sh text ls old after h good s go =
       let inner : LocalScope = locals_of_start start scope in
@@ -446,8 +448,8 @@ module _ (p : Program) (call : Caller) (code : Code) (size : ℕ) (frames : List
       let seen1 : IsSeen a after1 = on_seen a after (closing ls) s in
       start_follows start x scope from c.started c.start_code a sh text ls old (λ q. after1 (go_on q (λ e. loop turn))) h good (on_seen a after1 (λ e. loop turn) seen1)
       (λ sh1 text1 ls1 rs1 good1 h1.
-      leads p call code size frames a sh1 text1 c.started c.test_at rs1 c.enters
-      (loop_follows (N + K) N K (omega arith) x inner turn c.test_at to a sh1 text1 ls1 rs1 after1 f (for_follows x inner (StartCode code size p scope start) o step st ih from to c a after1 seen1) h1 good1 seen1
+      leads p call code layout frames a sh1 text1 c.started c.test_at rs1 c.enters
+      (loop_follows (N + K) N K (omega arith) x inner turn c.test_at to a sh1 text1 ls1 rs1 after1 f (for_follows x inner (StartCode code layout p scope start) o step st ih from to c a after1 seen1) h1 good1 seen1
       (λ end sh2 text2 ls2 rs2 q good2 arrived.
       let len : length ls ≡ length scope = length_like scope ls h.like in
       same (effect code) (λ n. after (Gives end (state n (take (length scope) ls2) (context_of a sh2) text2)))
@@ -460,9 +462,9 @@ module _ (p : Program) (call : Caller) (code : Code) (size : ℕ) (frames : List
   MayPrint (Within k) sh = sh.kept ≡ true
 
   -- the figures' registers, one for each value
-  pieces_follow : {N K : ℕ} (ps : List Piece) (rs : List ℕ) (vs : List Value) (from to : ℕ) → PiecesCode code size p ps rs from to → (a : Around) (sh : Shared) (text : List ℕ) (ls : List Local) (registers : List ℕ) (after : Answer (Unit {0}) → Outcome) → map (slice_index registers) rs ≡ map (λ (v : Value). v.word) vs → MayPrint a sh → IsSeen a after → ((text1 : List ℕ) → Goes p call code size frames cf N K a sh text1 ls to registers (λ s. after (Gives tt s))) → Goes p call code size frames cf N K a sh text ls from registers (λ s. after (print_pieces ps vs s))
+  pieces_follow : {N K : ℕ} (ps : List Piece) (rs : List ℕ) (vs : List Value) (from to : ℕ) → PiecesCode code layout p ps rs from to → (a : Around) (sh : Shared) (text : List ℕ) (ls : List Local) (registers : List ℕ) (after : Answer (Unit {0}) → Outcome) → map (slice_index registers) rs ≡ map (λ (v : Value). v.word) vs → MayPrint a sh → IsSeen a after → ((text1 : List ℕ) → Goes p call code layout frames cf N K a sh text1 ls to registers (λ s. after (Gives tt s))) → Goes p call code layout frames cf N K a sh text ls from registers (λ s. after (print_pieces ps vs s))
   pieces_follow {N = N} {K = K} [] rs vs from to c a sh text ls registers after words may s go =
-      subst (λ q. Goes p call code size frames cf N K a sh text ls q registers (λ s. after (Gives tt s))) c (go text)
+      subst (λ q. Goes p call code layout frames cf N K a sh text ls q registers (λ s. after (Gives tt s))) c (go text)
   pieces_follow (Literal piece ∷ ps) rs vs from to c a sh text ls registers after words may s go =
       prints_piece code a after (print_pieces ps vs) sh ls text piece (configuration code from registers frames) (configuration code (suc from) registers frames) s (may_of a sh may)
       (effect_at code from (Instr.PrintText c.0.number) registers frames c.0.prints ∙ ap (printed (configuration code from registers frames)) c.0.known)
@@ -502,21 +504,21 @@ module _ (p : Program) (call : Caller) (code : Code) (size : ℕ) (frames : List
   abbrev print_rest : List ℕ → Exprs → Action End
   print_rest format es = exprs p call es >>= λ vs. print_pieces (pieces format) vs >> pure Next
 
-  print_goes : {N K : ℕ} (scope : LocalScope) (format : List ℕ) (es : Exprs) (from to : ℕ) (c : PrintCode code size p scope format es from to) (a : Around) (sh : Shared) (text : List ℕ) (ls : List Local) (old : List ℕ) (after : Answer End → Outcome) → ((sh1 : Shared) → IsGood a sh1 → MayPrint a sh1) → Here scope ls old → IsGood a sh → IsSeen a after → GoesNext p call code size frames cf N K a after scope to → Goes p call code size frames cf N K a sh text ls (suc from) old (λ s. after (print_rest format es s))
+  print_goes : {N K : ℕ} (scope : LocalScope) (format : List ℕ) (es : Exprs) (from to : ℕ) (c : PrintCode code layout p scope format es from to) (a : Around) (sh : Shared) (text : List ℕ) (ls : List Local) (old : List ℕ) (after : Answer End → Outcome) → ((sh1 : Shared) → IsGood a sh1 → MayPrint a sh1) → Here scope ls old → IsGood a sh → IsSeen a after → GoesNext p call code layout frames cf N K a after scope to → Goes p call code layout frames cf N K a sh text ls (suc from) old (λ s. after (print_rest format es s))
   print_goes {N = N} {K = K} scope format es from to c a sh text ls old after may h good s go =
       let rest : List Value → Action End = λ vs. print_pieces (pieces format) vs >> pure Next in
-      args_follow p call code size frames cf scope es N K (suc from) c.mid c.free c.rs a sh text ls old (λ q. after (go_on q rest)) c.args (raised scope ls size c.free old c.room h) good (on_seen a after rest s)
+      args_follow p call code layout frames cf scope es N K (suc from) c.mid c.free c.rs a sh text ls old (λ q. after (go_on q rest)) c.args (raised scope ls layout c.free old c.room h) good (on_seen a after rest s)
       (λ vs sh1 text1 rs1 words below keeps good1.
       pieces_follow (pieces format) c.rs vs c.mid to c.prints a sh1 text1 ls rs1 (λ q. after (go_on q (λ u. pure Next))) words (may sh1 good1) (on_seen a after (λ u. pure Next) s)
-      (λ text2. go sh1 text2 ls rs1 good1 (lowered scope ls size c.free old rs1 c.room h keeps)))
+      (λ text2. go sh1 text2 ls rs1 good1 (lowered scope ls layout c.free old rs1 c.room h keeps)))
 
-  print_follows : {N K : ℕ} (scope : LocalScope) (format : List ℕ) (es : Exprs) (from to : ℕ) (c : PrintCode code size p scope format es from to) (a : Around) (sh : Shared) (text : List ℕ) (ls : List Local) (old : List ℕ) (after : Answer End → Outcome) → Here scope ls old → IsGood a sh → IsSeen a after → GoesNext p call code size frames cf N K a after scope to → Goes p call code size frames cf N K a sh text ls from old (λ s. after (go_on (may_print s) (λ u. print_rest format es)))
+  print_follows : {N K : ℕ} (scope : LocalScope) (format : List ℕ) (es : Exprs) (from to : ℕ) (c : PrintCode code layout p scope format es from to) (a : Around) (sh : Shared) (text : List ℕ) (ls : List Local) (old : List ℕ) (after : Answer End → Outcome) → Here scope ls old → IsGood a sh → IsSeen a after → GoesNext p call code layout frames cf N K a after scope to → Goes p call code layout frames cf N K a sh text ls from old (λ s. after (go_on (may_print s) (λ u. print_rest format es)))
   print_follows scope format es from to c Bare sh text ls old after h good s go =
       irrevocable_bare code sh text (configuration code from old frames) (configuration code (suc from) old frames) (effect_at code from Instr.Irrevocable old frames c.irrevocable)
       (print_goes scope format es from to c Bare sh text ls old after (λ sh1 g. tt) h good s go)
   print_follows scope format es from to c (Within k) sh text ls old after h good s go = inside_print k sh good go s (prints_inside k.mode)
     where
-      inside_print : {N K : ℕ} (k : Held) (sh : Shared) → IsGood (Within k) sh → GoesNext p call code size frames cf N K (Within k) after scope to → IsSeen (Within k) after → (((m : Memory) (s : State) → may_print_at (Inside k.mode m) s ≡ Gives tt s) × (k.mode ≡ Atomic → ⊥)) ⊎ ((m : Memory) (s : State) → may_print_at (Inside k.mode m) s ≡ Stops Astray s) → Goes p call code size frames cf N K (Within k) sh text ls from old (λ s. after (go_on (may_print s) (λ u. print_rest format es)))
+      inside_print : {N K : ℕ} (k : Held) (sh : Shared) → IsGood (Within k) sh → GoesNext p call code layout frames cf N K (Within k) after scope to → IsSeen (Within k) after → (((m : Memory) (s : State) → may_print_at (Inside k.mode m) s ≡ Gives tt s) × (k.mode ≡ Atomic → ⊥)) ⊎ ((m : Memory) (s : State) → may_print_at (Inside k.mode m) s ≡ Stops Astray s) → Goes p call code layout frames cf N K (Within k) sh text ls from old (λ s. after (go_on (may_print s) (λ u. print_rest format es)))
       inside_print k sh good go s (inr e) =
           same (effect code) (λ n. after (Stops Astray (state n ls (Inside k.mode sh.memory) text))) (λ n. ap (λ q. after (go_on q (λ u. print_rest format es))) (e sh.memory (state n ls (Inside k.mode sh.memory) text)))
           (astray (effect code) 0 (s.astray _))
@@ -530,7 +532,7 @@ module _ (p : Program) (call : Caller) (code : Code) (size : ℕ) (frames : List
 
   -- what a transaction's code needs: the body from the place behind its begin
   abbrev BodyCode : LocalScope → Stmts → Exits → (from to : ℕ) → Type 0
-  BodyCode scope ss x from to = StmtsCode code size p x scope ss from to
+  BodyCode scope ss x from to = StmtsCode code layout p x scope ss from to
 
   some_mode : Option Mode → Mode
   some_mode None = Atomic
@@ -541,12 +543,12 @@ module _ (p : Program) (call : Caller) (code : Code) (size : ℕ) (frames : List
   atomic_of mode e = ap some_mode e
 
   -- an outermost transaction is left by a commit
-  bare_commits : {N K : ℕ} (end : End) (mode : Mode) (found : Memory) (founds lefts : List Memory) (to : ℕ) (sh : Shared) (text : List ℕ) (ls : List Local) (old rs : List ℕ) (q : ℕ) (after : Answer End → Outcome) → At code q Instr.Commit → IsSeen Bare after → AllByRecursion AreWords founds → Goes p call code size frames cf N K Bare (record { founds = founds; lefts = lefts ++ sh.memory ∷ []; memory = sh.memory; kept = sh.kept }) text ls (suc q) rs (λ s. after (Gives end s)) → Agrees (effect code) N K (holding (Within (outermost_held code mode (configuration code to old frames) found founds lefts)) sh text (configuration code q rs frames)) (λ n. after (leave founds lefts (record { end = end; locals = ls; memory = sh.memory }) (state n ls (Inside mode sh.memory) text)))
+  bare_commits : {N K : ℕ} (end : End) (mode : Mode) (found : Memory) (founds lefts : List Memory) (to : ℕ) (sh : Shared) (text : List ℕ) (ls : List Local) (old rs : List ℕ) (q : ℕ) (after : Answer End → Outcome) → At code q Instr.Commit → IsSeen Bare after → AllByRecursion AreWords founds → Goes p call code layout frames cf N K Bare (record { founds = founds; lefts = lefts ++ sh.memory ∷ []; memory = sh.memory; kept = sh.kept }) text ls (suc q) rs (λ s. after (Gives end s)) → Agrees (effect code) N K (holding (Within (outermost_held code mode (configuration code to old frames) found founds lefts)) sh text (configuration code q rs frames)) (λ n. after (leave founds lefts (record { end = end; locals = ls; memory = sh.memory }) (state n ls (Inside mode sh.memory) text)))
   bare_commits end mode found founds lefts to sh text ls old rs q after i s g go =
       leaves_outermost code after (Gives end) mode found sh.memory founds lefts sh text ls ls (configuration code q rs frames) (configuration code (suc q) rs frames) (configuration code to old frames)
       (next_commit code mode found founds lefts sh text (configuration code q rs frames) (configuration code (suc q) rs frames) (configuration code to old frames) (effect_at code q Instr.Commit rs frames i)) s go
 
-  bare_ends : {N K : ℕ} (mode : Mode) (x : Exits) (scope : LocalScope) (ss : Stmts) (from to : ℕ) (c : TransactionCode code size p mode x (BodyCode scope ss) from to) (found : Memory) (founds lefts : List Memory) (ls : List Local) (old : List ℕ) (after : Answer End → Outcome) → Here scope ls old → IsSeen Bare after → AllByRecursion AreWords founds → GoesEnd N K Bare after x (Here scope) (Here scope) to → GoesEnd N K (Within (outermost_held code mode (configuration code to old frames) found founds lefts)) (λ q. after (close founds lefts ls found q)) (in_transaction mode x) (Here scope) (Here scope) c.last
+  bare_ends : {N K : ℕ} (mode : Mode) (x : Exits) (scope : LocalScope) (ss : Stmts) (from to : ℕ) (c : TransactionCode code layout p mode x (BodyCode scope ss) from to) (found : Memory) (founds lefts : List Memory) (ls : List Local) (old : List ℕ) (after : Answer End → Outcome) → Here scope ls old → IsSeen Bare after → AllByRecursion AreWords founds → GoesEnd N K Bare after x (Here scope) (Here scope) to → GoesEnd N K (Within (outermost_held code mode (configuration code to old frames) found founds lefts)) (λ q. after (close founds lefts ls found q)) (in_transaction mode x) (Here scope) (Here scope) c.last
   bare_ends mode x scope ss from to c found founds lefts ls old after h s g go Next sh text ls1 rs q good arrived =
       bare_commits Next mode found founds lefts to sh text ls1 old rs q after (subst (λ y. At code y Instr.Commit) (sym arrived.0) c.commits) s g
       (go Next (record { founds = founds; lefts = lefts ++ sh.memory ∷ []; memory = sh.memory; kept = sh.kept }) text ls1 rs (suc q) g (ap suc arrived.0 ∙ sym c.to_is, arrived.1))
@@ -561,7 +563,7 @@ module _ (p : Program) (call : Caller) (code : Code) (size : ℕ) (frames : List
       (next_cancel code mode found founds lefts sh text (configuration code q rs frames) (configuration code to old frames) (effect_at code q Instr.Cancel rs frames arrived.1) (good.1 (atomic_of mode arrived.0)).0) s
       (go Next (record { founds = founds; lefts = lefts ++ found ∷ []; memory = sh.memory; kept = sh.kept }) text ls old to g (refl, h))
 
-  bare_transaction : (mode : Mode) (ss : Stmts) → StmtsFollow ss → (N K : ℕ) (x : Exits) (scope : LocalScope) (from to : ℕ) (founds lefts : List Memory) (memory : Memory) (kept : Bool) (text : List ℕ) (ls : List Local) (old : List ℕ) (after : Answer End → Outcome) → TransactionCode code size p mode x (BodyCode scope ss) from to → Here scope ls old → AllByRecursion AreWords founds → IsSeen Bare after → GoesEnd N K Bare after x (Here scope) (Here scope) to → Goes p call code size frames cf N K Bare (record { founds = founds; lefts = lefts; memory = memory; kept = kept }) text ls from old (λ s. after (go_on (tick s) (λ u. transaction mode (scoped (stmts p call ss)))))
+  bare_transaction : (mode : Mode) (ss : Stmts) → StmtsFollow ss → (N K : ℕ) (x : Exits) (scope : LocalScope) (from to : ℕ) (founds lefts : List Memory) (memory : Memory) (kept : Bool) (text : List ℕ) (ls : List Local) (old : List ℕ) (after : Answer End → Outcome) → TransactionCode code layout p mode x (BodyCode scope ss) from to → Here scope ls old → AllByRecursion AreWords founds → IsSeen Bare after → GoesEnd N K Bare after x (Here scope) (Here scope) to → Goes p call code layout frames cf N K Bare (record { founds = founds; lefts = lefts; memory = memory; kept = kept }) text ls from old (λ s. after (go_on (tick s) (λ u. transaction mode (scoped (stmts p call ss)))))
   bare_transaction mode ss ih N K x scope from to [] lefts memory kept text ls old after c h g s go =
       same (effect code) (λ n. after (go_on (tick (state n ls (Outside [] lefts) text)) (λ u. stop Wants))) (wanted mode (scoped (stmts p call ss)) lefts text ls after)
       (wants_one code after lefts memory kept text ls (configuration code from old frames) (configuration code (suc from) old frames) (configuration code to old frames) s (effect_at code from (Instr.Begin to) old frames c.begins))
@@ -591,7 +593,7 @@ module _ (p : Program) (call : Caller) (code : Code) (size : ℕ) (frames : List
   good_out : (h : Held) (mode : Mode) (sh sh1 : Shared) (m : Memory) (d : Configuration) → IsGood (Within h) sh → IsGood (Within (inner_held code h mode m d)) sh1 → IsGood (Within h) sh1
   good_out h mode sh sh1 m d g g1 = (g1.0, (λ e. ((g1.1 e).0, (g.1 e).1)), g1.2)
 
-  inner_ends : {N K : ℕ} (k : Held) (mode : Mode) (x : Exits) (scope : LocalScope) (ss : Stmts) (from to : ℕ) (c : TransactionCode code size p mode x (BodyCode scope ss) from to) (sh : Shared) (ls : List Local) (old : List ℕ) (after : Answer End → Outcome) → Here scope ls old → IsGood (Within k) sh → GoesEnd N K (Within k) after x (Here scope) (Here scope) to → GoesEnd N K (Within (inner_held code k mode sh.memory (configuration code to old frames))) (λ q. after (close_inner k.mode ls sh.memory q)) (in_transaction mode x) (Here scope) (Here scope) c.last
+  inner_ends : {N K : ℕ} (k : Held) (mode : Mode) (x : Exits) (scope : LocalScope) (ss : Stmts) (from to : ℕ) (c : TransactionCode code layout p mode x (BodyCode scope ss) from to) (sh : Shared) (ls : List Local) (old : List ℕ) (after : Answer End → Outcome) → Here scope ls old → IsGood (Within k) sh → GoesEnd N K (Within k) after x (Here scope) (Here scope) to → GoesEnd N K (Within (inner_held code k mode sh.memory (configuration code to old frames))) (λ q. after (close_inner k.mode ls sh.memory q)) (in_transaction mode x) (Here scope) (Here scope) c.last
   inner_ends k mode x scope ss from to c sh ls old after h g go Next sh1 text ls1 rs q good arrived =
       commits_inner code k sh1 text mode sh.memory (configuration code q rs frames) (configuration code (suc q) rs frames) (configuration code to old frames) (effect_at code q Instr.Commit rs frames (subst (λ y. At code y Instr.Commit) (sym arrived.0) c.commits))
       (go Next sh1 text ls1 rs (suc q) (good_out k mode sh sh1 sh.memory (configuration code to old frames) g good) (ap suc arrived.0 ∙ sym c.to_is, arrived.1))
@@ -608,7 +610,7 @@ module _ (p : Program) (call : Caller) (code : Code) (size : ℕ) (frames : List
       cancels_inner code k sh1 text mode sh.memory (configuration code q rs frames) (configuration code to old frames) (effect_at code q Instr.Cancel rs frames arrived.1)
       (go Next (record sh1 { memory = sh.memory }) text ls old to (g.0, (λ e. ((good.1 e).0, (g.1 e).1)), good.2) (refl, h))
 
-  inner_transaction : (mode : Mode) (ss : Stmts) → StmtsFollow ss → (N K : ℕ) (x : Exits) (scope : LocalScope) (from to : ℕ) (k : Held) (sh : Shared) (text : List ℕ) (ls : List Local) (old : List ℕ) (after : Answer End → Outcome) → (((m : Memory) (run : Action End) (s : State) → enter (Inside k.mode m) mode run s ≡ close_inner k.mode s.locals m (run (record s { context = Inside mode m }))) × (k.mode ≡ Atomic → mode ≡ Atomic)) ⊎ ((m : Memory) (run : Action End) (s : State) → enter (Inside k.mode m) mode run s ≡ Stops Astray s) → TransactionCode code size p mode x (BodyCode scope ss) from to → Here scope ls old → IsGood (Within k) sh → IsSeen (Within k) after → GoesEnd N K (Within k) after x (Here scope) (Here scope) to → Goes p call code size frames cf N K (Within k) sh text ls from old (λ s. after (transaction mode (scoped (stmts p call ss)) s))
+  inner_transaction : (mode : Mode) (ss : Stmts) → StmtsFollow ss → (N K : ℕ) (x : Exits) (scope : LocalScope) (from to : ℕ) (k : Held) (sh : Shared) (text : List ℕ) (ls : List Local) (old : List ℕ) (after : Answer End → Outcome) → (((m : Memory) (run : Action End) (s : State) → enter (Inside k.mode m) mode run s ≡ close_inner k.mode s.locals m (run (record s { context = Inside mode m }))) × (k.mode ≡ Atomic → mode ≡ Atomic)) ⊎ ((m : Memory) (run : Action End) (s : State) → enter (Inside k.mode m) mode run s ≡ Stops Astray s) → TransactionCode code layout p mode x (BodyCode scope ss) from to → Here scope ls old → IsGood (Within k) sh → IsSeen (Within k) after → GoesEnd N K (Within k) after x (Here scope) (Here scope) to → Goes p call code layout frames cf N K (Within k) sh text ls from old (λ s. after (transaction mode (scoped (stmts p call ss)) s))
   inner_transaction mode ss ih N K x scope from to k sh text ls old after (inl e) c h g s go =
       let run : Action End = scoped (stmts p call ss) in
       let held : Held = inner_held code k mode sh.memory (configuration code to old frames) in
@@ -623,7 +625,7 @@ module _ (p : Program) (call : Caller) (code : Code) (size : ℕ) (frames : List
       same (effect code) (λ n. after (Stops Astray (state n ls (Inside k.mode sh.memory) text))) (λ n. ap after (e sh.memory run (state n ls (Inside k.mode sh.memory) text)))
       (astray (effect code) 0 (s.astray _))
 
-  transaction_follows : (mode : Mode) (ss : Stmts) → StmtsFollow ss → (N K : ℕ) (x : Exits) (scope : LocalScope) (from to : ℕ) (a : Around) (sh : Shared) (text : List ℕ) (ls : List Local) (old : List ℕ) (after : Answer End → Outcome) → TransactionCode code size p mode x (BodyCode scope ss) from to → Here scope ls old → IsGood a sh → IsSeen a after → GoesEnd N K a after x (Here scope) (Here scope) to → Goes p call code size frames cf N K a sh text ls from old (λ s. after (go_on (tick s) (λ u. transaction mode (scoped (stmts p call ss)))))
+  transaction_follows : (mode : Mode) (ss : Stmts) → StmtsFollow ss → (N K : ℕ) (x : Exits) (scope : LocalScope) (from to : ℕ) (a : Around) (sh : Shared) (text : List ℕ) (ls : List Local) (old : List ℕ) (after : Answer End → Outcome) → TransactionCode code layout p mode x (BodyCode scope ss) from to → Here scope ls old → IsGood a sh → IsSeen a after → GoesEnd N K a after x (Here scope) (Here scope) to → Goes p call code layout frames cf N K a sh text ls from old (λ s. after (go_on (tick s) (λ u. transaction mode (scoped (stmts p call ss)))))
   transaction_follows mode ss ih N K x scope from to Bare sh text ls old after c h g s go =
       bare_transaction mode ss ih N K x scope from to sh.founds sh.lefts sh.memory sh.kept text ls old after c h g s go
   transaction_follows mode ss ih N K x scope from to (Within k) sh text ls old after c h g s go =
@@ -631,33 +633,33 @@ module _ (p : Program) (call : Caller) (code : Code) (size : ℕ) (frames : List
       (inner_transaction mode ss ih N K x scope from to k sh text ls old after (enters k.mode mode) c h g s go)
 
   -- `if` and `else`
-  if_follows : {N K : ℕ} (x : Exits) (scope : LocalScope) (e : Expr) (st : Stmt) → StmtFollows st → (from to : ℕ) (c : IfCode code size p scope (Testing code size p scope e) (StmtCode code size p x scope st) from to) (a : Around) (sh : Shared) (text : List ℕ) (ls : List Local) (old : List ℕ) (after : Answer End → Outcome) → Here scope ls old → IsGood a sh → IsSeen a after → GoesEnd N K a after x (Here scope) (Here scope) to → Goes p call code size frames cf N K a sh text ls from old (λ s. after ((expr p call e >>= λ v. if is_zero v then pure Next else scoped (stmt p call st)) s))
+  if_follows : {N K : ℕ} (x : Exits) (scope : LocalScope) (e : Expr) (st : Stmt) → StmtFollows st → (from to : ℕ) (c : IfCode code layout p scope (Testing code layout p scope e) (StmtCode code layout p x scope st) from to) (a : Around) (sh : Shared) (text : List ℕ) (ls : List Local) (old : List ℕ) (after : Answer End → Outcome) → Here scope ls old → IsGood a sh → IsSeen a after → GoesEnd N K a after x (Here scope) (Here scope) to → Goes p call code layout frames cf N K a sh text ls from old (λ s. after ((expr p call e >>= λ v. if is_zero v then pure Next else scoped (stmt p call st)) s))
   if_follows {N = N} {K = K} x scope e st ih from to c a sh text ls old after h good s go =
       fewer (effect code) (omega arith) (omega arith)
-      (test_follows p call code size frames cf scope e from c.met c.unmet c.tests a sh text ls old (λ q. after (go_on q rest)) h good (on_seen a after rest s) places)
+      (test_follows p call code layout frames cf scope e from c.met c.unmet c.tests a sh text ls old (λ q. after (go_on q rest)) h good (on_seen a after rest s) places)
     where
       rest : Value → Action End
       rest v = if is_zero v then pure Next else scoped (stmt p call st)
 
-      places : GoesTest p call code size frames cf N K a (λ q. after (go_on q rest)) scope ls c.met c.unmet
+      places : GoesTest p call code layout frames cf N K a (λ q. after (go_on q rest)) scope ls c.met c.unmet
       places v true sh1 text1 rs1 z h1 good1 =
           same (effect code) (λ n. after (Gives Next (state n ls (context_of a sh1) text1)))
           (λ n. ap (λ b. after ((if b then pure Next else scoped (stmt p call st)) (state n ls (context_of a sh1) text1))) z)
-          (leads p call code size frames a sh1 text1 c.unmet to rs1 c.else_leads (go Next sh1 text1 ls rs1 to good1 (refl, h1)))
+          (leads p call code layout frames a sh1 text1 c.unmet to rs1 c.else_leads (go Next sh1 text1 ls rs1 to good1 (refl, h1)))
       places v false sh1 text1 rs1 z h1 good1 =
           same (effect code) (λ n. after (scoped (stmt p call st) (state n ls (context_of a sh1) text1)))
           (λ n. ap (λ b. after ((if b then pure Next else scoped (stmt p call st)) (state n ls (context_of a sh1) text1))) z)
           (part_follows st ih N K x scope c.met c.last a sh1 text1 ls rs1 after c.then_code h1 good1 s (leads_end a after x scope c.last to c.then_leads go))
 
-  else_follows : {N K : ℕ} (x : Exits) (scope : LocalScope) (e : Expr) (st su : Stmt) → StmtFollows st → StmtFollows su → (from to : ℕ) (c : IfElseCode code size p scope (Testing code size p scope e) (StmtCode code size p x scope st) (StmtCode code size p x scope su) from to) (a : Around) (sh : Shared) (text : List ℕ) (ls : List Local) (old : List ℕ) (after : Answer End → Outcome) → Here scope ls old → IsGood a sh → IsSeen a after → GoesEnd N K a after x (Here scope) (Here scope) to → Goes p call code size frames cf N K a sh text ls from old (λ s. after ((expr p call e >>= λ v. if is_zero v then scoped (stmt p call su) else scoped (stmt p call st)) s))
+  else_follows : {N K : ℕ} (x : Exits) (scope : LocalScope) (e : Expr) (st su : Stmt) → StmtFollows st → StmtFollows su → (from to : ℕ) (c : IfElseCode code layout p scope (Testing code layout p scope e) (StmtCode code layout p x scope st) (StmtCode code layout p x scope su) from to) (a : Around) (sh : Shared) (text : List ℕ) (ls : List Local) (old : List ℕ) (after : Answer End → Outcome) → Here scope ls old → IsGood a sh → IsSeen a after → GoesEnd N K a after x (Here scope) (Here scope) to → Goes p call code layout frames cf N K a sh text ls from old (λ s. after ((expr p call e >>= λ v. if is_zero v then scoped (stmt p call su) else scoped (stmt p call st)) s))
   else_follows {N = N} {K = K} x scope e st su iht ihu from to c a sh text ls old after h good s go =
       fewer (effect code) (omega arith) (omega arith)
-      (test_follows p call code size frames cf scope e from c.met c.unmet c.tests a sh text ls old (λ q. after (go_on q rest)) h good (on_seen a after rest s) places)
+      (test_follows p call code layout frames cf scope e from c.met c.unmet c.tests a sh text ls old (λ q. after (go_on q rest)) h good (on_seen a after rest s) places)
     where
       rest : Value → Action End
       rest v = if is_zero v then scoped (stmt p call su) else scoped (stmt p call st)
 
-      places : GoesTest p call code size frames cf N K a (λ q. after (go_on q rest)) scope ls c.met c.unmet
+      places : GoesTest p call code layout frames cf N K a (λ q. after (go_on q rest)) scope ls c.met c.unmet
       places v true sh1 text1 rs1 z h1 good1 =
           same (effect code) (λ n. after (scoped (stmt p call su) (state n ls (context_of a sh1) text1)))
           (λ n. ap (λ b. after ((if b then scoped (stmt p call su) else scoped (stmt p call st)) (state n ls (context_of a sh1) text1))) z)
@@ -674,7 +676,7 @@ module _ (p : Program) (call : Caller) (code : Code) (size : ℕ) (frames : List
     pub for_falls : (c : Option Expr) (step : Option Simple) (st : Stmt) → Falls (for_turn p call c step st)
 
   module _ (fall : TurnsFall) where
-    timed : (run : Action End) (N K from : ℕ) (a : Around) (sh : Shared) (text : List ℕ) (ls : List Local) (old : List ℕ) (after : Answer End → Outcome) → IsSeen a after → Goes p call code size frames cf N K a sh text ls from old (λ s. after (run s)) → Goes p call code size frames cf N K a sh text ls from old (λ s. after (go_on (tick s) (λ u. run)))
+    timed : (run : Action End) (N K from : ℕ) (a : Around) (sh : Shared) (text : List ℕ) (ls : List Local) (old : List ℕ) (after : Answer End → Outcome) → IsSeen a after → Goes p call code layout frames cf N K a sh text ls from old (λ s. after (run s)) → Goes p call code layout frames cf N K a sh text ls from old (λ s. after (go_on (tick s) (λ u. run)))
     timed run N K from a sh text ls old after s go = tick_goes code a after run sh ls text (configuration code from old frames) s go
 
     mutual
@@ -686,7 +688,7 @@ module _ (p : Program) (call : Caller) (code : Code) (size : ℕ) (frames : List
           (declare_follows d.of d.declarators x scope from to c a sh text ls old after h good s (λ sh1 text1 ls1 rs1 good1 h1. go Next sh1 text1 ls1 rs1 to good1 (refl, h1)))
       stmt_follows (Do st) N K x scope from to a sh text ls old after c h good s go =
           timed (simple p call st) N K from a sh text ls old after s
-          (simple_follows p call code size frames cf scope st from to c a sh text ls old after h good s (λ sh1 text1 ls1 rs1 good1 h1. go Next sh1 text1 ls1 rs1 to good1 (refl, h1)))
+          (simple_follows p call code layout frames cf scope st from to c a sh text ls old after h good s (λ sh1 text1 ls1 rs1 good1 h1. go Next sh1 text1 ls1 rs1 to good1 (refl, h1)))
       stmt_follows (Block ss) N K x scope from to a sh text ls old after c h good s go =
           timed (scoped (stmts p call ss)) N K from a sh text ls old after s
           (scoped_follows ss (stmts_follow ss) N K x scope from to a sh text ls old after c h good s go)
@@ -701,11 +703,11 @@ module _ (p : Program) (call : Caller) (code : Code) (size : ℕ) (frames : List
           (else_follows x scope e st su (stmt_follows st) (stmt_follows su) from to c a sh text ls old after h good s go)
       stmt_follows (While e st) N K x scope from to a sh text ls old after c h good s go =
           timed (loop (while_turn p call e st)) N K from a sh text ls old after s
-          (leads p call code size frames a sh text from c.test_at old c.enters
+          (leads p call code layout frames a sh text from c.test_at old c.enters
           (loop_follows (N + K) N K (omega arith) x scope (while_turn p call e st) c.test_at to a sh text ls old after (fall.while_falls e st) (while_follows x scope e st (stmt_follows st) from to c a after s) h good s go))
       stmt_follows (DoWhile st e) N K x scope from to a sh text ls old after c h good s go =
           timed (loop (do_turn p call st e)) N K from a sh text ls old after s
-          (leads p call code size frames a sh text from c.body_at old c.enters
+          (leads p call code layout frames a sh text from c.body_at old c.enters
           (loop_follows (N + K) N K (omega arith) x scope (do_turn p call st e) c.body_at to a sh text ls old after (fall.do_falls st e) (do_follows x scope e st (stmt_follows st) from to c a after s) h good s go))
       stmt_follows (For b e d st) N K x scope from to a sh text ls old after c h good s go =
           timed (scoped (start_with p call b >> loop (for_turn p call e d st))) N K from a sh text ls old after s
@@ -719,7 +721,7 @@ module _ (p : Program) (call : Caller) (code : Code) (size : ℕ) (frames : List
       stmt_follows (Return (Some e) at) N K x scope from to a sh text ls old after c h good s go =
           let rest : Value → Action End = λ v. pure (Returns v) in
           timed (expr p call e >>= rest) N K from a sh text ls old after s
-          (value_follows p call code size frames cf scope e from c.0 c.1 c.2 a sh text ls old (λ q. after (go_on q rest)) h good (on_seen a after rest s)
+          (value_follows p call code layout frames cf scope e from c.0 c.1 c.2 a sh text ls old (λ q. after (go_on q rest)) h good (on_seen a after rest s)
           (λ v sh1 text1 rs1 b here h1 good1. go (Returns v) sh1 text1 ls rs1 c.0 good1 (Some c.1, c.3, here, b)))
       stmt_follows (Transaction mode ss at) N K x scope from to a sh text ls old after c h good s go =
           transaction_follows mode ss (stmts_follow ss) N K x scope from to a sh text ls old after c h good s go

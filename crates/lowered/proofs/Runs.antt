@@ -1,6 +1,6 @@
 -- A thread of a code that stands where a run of the source stands, and one instruction of it.
-use Rattle.std.proofs.Common.{◌≡◌, ◌≢◌, inl, inr, Option, ℕ, suc, ◌<◌, ◌≤◌, ◌^◌, Bool, true, false, List, [], ◌∷◌, ◌++◌, length, Some, None, refl, ap, ◌∙◌, arith}
-use Rattle.std.specs.Prelude.{slice_index, slice_set}
+use Rattle.std.proofs.Common.{◌≡◌, ◌≢◌, inl, inr, Option, ℕ, suc, ◌+◌, ◌<◌, ◌≤◌, ◌^◌, Bool, true, false, List, [], ◌∷◌, ◌++◌, length, Some, None, refl, ap, ◌∙◌, arith}
+use Rattle.std.specs.Prelude.{slice_get, slice_index, slice_set}
 use Rattle.std.specs.List.{AllByRecursion}
 use Rattle.std.proofs.lemmas.List.{get_or-set_other, length-set}
 use Rattle.syntax.specs.declared.tree.Mode.{Mode}
@@ -14,7 +14,7 @@ use Rattle.syntax.specs.Actions.{Context, Outside, Inside, State, Answer, Stops,
 use Rattle.bytecode.specs.Effects.{Effect}
 use Rattle.bytecode.specs.Sequential.{Sequential, InnerTransaction, next, outcome_of, sequential_step, cancel_step, print_step, outside}
 use Rattle.bytecode.specs.Code.{Code, Configuration, Frame, Instr, effect, effect_of}
-use Rattle.lowered.specs.Expressions.{LocalScope, IsLike, At, MayTake}
+use Rattle.lowered.specs.Expressions.{LocalScope, IsLike, At, MayTake, Layout}
 use Rattle.lowered.proofs.Agreement.{Agrees, quiet, ticked, shown, over, fewer}
 
 -- the transactions round a run: what of them no instruction inside changes
@@ -77,57 +77,74 @@ abbrev pub IsGood : Around → Shared → Type 0
 IsGood Bare sh = AllByRecursion AreWords sh.founds
 IsGood (Within h) sh = AreWords sh.memory × (h.outer ≡ Atomic → (sh.kept ≡ false) × (h.mode ≡ Atomic)) × (h.must ≡ true → sh.kept ≡ true)
 
--- the registers hold the locals
-pub record Holds (scope : LocalScope) (ls : List Local) (size free : ℕ) (registers : List ℕ) : Type 0 where
+-- how many registers a function has
+abbrev pub registers_in : Layout → ℕ
+registers_in layout = layout.writable + length layout.constants
+
+-- the constants lie in the registers behind those that are written
+abbrev pub LieReady : Layout → List ℕ → Type 0
+LieReady layout registers = (k w : ℕ) → slice_get layout.constants k ≡ Some w → slice_index registers (layout.writable + k) ≡ w
+
+-- the registers hold the locals and the constants
+pub record Holds (scope : LocalScope) (ls : List Local) (layout : Layout) (free : ℕ) (registers : List ℕ) : Type 0 where
   pub like : IsLike scope ls
   pub room : length ls ≤ free
-  pub fits : length ls ≤ size
-  pub size_is : length registers ≡ size
+  pub fits : length ls ≤ layout.writable
+  pub size_is : length registers ≡ registers_in layout
   pub each : (i : ℕ) → i < length ls → slice_index registers i ≡ word_at ls i
   pub words : (i : ℕ) → word_at ls i < 2 ^ 32
+  pub ready : LieReady layout registers
 
 -- what a value's home leaves as it was
 abbrev pub IsSpared : Option ℕ → ℕ → Type 0
 IsSpared None i = Unit {0}
 IsSpared (Some home) i = i ≢ home
 
--- the registers below one are as they were, but for a value's home
-pub record Keeps (home : Option ℕ) (free : ℕ) (old new : List ℕ) : Type 0 where
+-- the registers below one are as they were, but for a value's home, and so are those behind all that are written
+pub record Keeps (layout : Layout) (home : Option ℕ) (free : ℕ) (old new : List ℕ) : Type 0 where
   pub size : length new ≡ length old
   pub below : (i : ℕ) → i < free → IsSpared home i → slice_index new i ≡ slice_index old i
+  pub behind : (i : ℕ) → layout.writable ≤ i → slice_index new i ≡ slice_index old i
 
-pub keeps_all : (home : Option ℕ) (free : ℕ) (rs : List ℕ) → Keeps home free rs rs
-keeps_all home free rs = record { size = refl; below = λ i h s. refl }
+pub keeps_all : (layout : Layout) (home : Option ℕ) (free : ℕ) (rs : List ℕ) → Keeps layout home free rs rs
+keeps_all layout home free rs = record { size = refl; below = λ i h s. refl; behind = λ i h. refl }
 
 -- with no home nothing below is written
-pub keeps_more : (home : Option ℕ) (free : ℕ) (old new : List ℕ) → Keeps None free old new → Keeps home free old new
-keeps_more home free old new k = record { size = k.size; below = λ i h s. k.below i h tt }
+pub keeps_more : (layout : Layout) (home : Option ℕ) (free : ℕ) (old new : List ℕ) → Keeps layout None free old new → Keeps layout home free old new
+keeps_more layout home free old new k = record { size = k.size; below = λ i h s. k.below i h tt; behind = k.behind }
 
 apart : (home : Option ℕ) (free d i : ℕ) → MayTake home free d → i < free → IsSpared home i → i ≢ d
 apart None free d i h b s e = omega (arith, h, b, e)
 apart (Some home) free d i (inl h) b s e = omega (arith, h, b, e)
 apart (Some home) free d i (inr h) b s e = s (e ∙ h)
 
-pub keeps_set : (home : Option ℕ) (free : ℕ) (old new : List ℕ) (d w : ℕ) → MayTake home free d → Keeps home free old new → Keeps home free old (slice_set new d w)
-keeps_set home free old new d w h k = record {
+pub keeps_set : (layout : Layout) (home : Option ℕ) (free : ℕ) (old new : List ℕ) (d w : ℕ) → MayTake home free d → d < layout.writable → Keeps layout home free old new → Keeps layout home free old (slice_set new d w)
+keeps_set layout home free old new d w h l k = record {
   size = length-set new d w ∙ k.size;
   below = λ i b s. get_or-set_other new d i w 0 (apart home free d i h b s) ∙ k.below i b s;
+  behind = λ i b. get_or-set_other new d i w 0 (λ e. omega (arith, b, l, e)) ∙ k.behind i b;
 }
 
-pub keeps_on : (home : Option ℕ) (free later : ℕ) (old mid new : List ℕ) → free ≤ later → Keeps None free old mid → Keeps home later mid new → Keeps home free old new
-keeps_on home free later old mid new h k l = record {
+pub keeps_on : (layout : Layout) (home : Option ℕ) (free later : ℕ) (old mid new : List ℕ) → free ≤ later → Keeps layout None free old mid → Keeps layout home later mid new → Keeps layout home free old new
+keeps_on layout home free later old mid new h k l = record {
   size = l.size ∙ k.size;
   below = λ i b s. l.below i (omega (arith, b, h)) s ∙ k.below i b tt;
+  behind = λ i b. l.behind i b ∙ k.behind i b;
 }
 
-pub holds_on : (scope : LocalScope) (ls : List Local) (size free later : ℕ) (old new : List ℕ) → free ≤ later → Holds scope ls size free old → Keeps None free old new → Holds scope ls size later new
-holds_on scope ls size free later old new b h k = record {
+-- the constants lie there still
+pub ready_kept : (layout : Layout) (home : Option ℕ) (free : ℕ) (old new : List ℕ) → LieReady layout old → Keeps layout home free old new → LieReady layout new
+ready_kept layout home free old new h k i w e = k.behind (layout.writable + i) (omega arith) ∙ h i w e
+
+pub holds_on : (scope : LocalScope) (ls : List Local) (layout : Layout) (free later : ℕ) (old new : List ℕ) → free ≤ later → Holds scope ls layout free old → Keeps layout None free old new → Holds scope ls layout later new
+holds_on scope ls layout free later old new b h k = record {
   like = h.like;
   room = let r = h.room in omega (arith, r, b);
   fits = h.fits;
   size_is = k.size ∙ h.size_is;
   each = λ i l. let r = h.room in k.below i (omega (arith, l, r)) tt ∙ h.each i l;
   words = h.words;
+  ready = ready_kept layout None free old new h.ready k;
 }
 
 module _ (code : Code) where

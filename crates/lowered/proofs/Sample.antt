@@ -47,17 +47,18 @@ abbrev program : Program
 program = Shares (x ∷ []) ∷ Defines worker ∷ []
 
 abbrev function : FunctionCode
-function = record { name = codes "worker"; first = 0; registers = 3; parameters = 1 }
+function = record { name = codes "worker"; first = 0; registers = 5; parameters = 1 }
 
--- i is computed into its own register, and the loop tests at its bottom
+-- i is computed into its own register, the loop tests at its bottom, and its 3 and its 1 lie ready
 abbrev code : Code
 code = record {
   functions = function ∷ [];
   instructions =
-      Instr.Constant 1 0 ∷ Instr.Constant 1 0 ∷ Instr.Jump 10
-      ∷ Instr.Begin 8 ∷ Instr.Read 2 0 ∷ Instr.Compute Add Int 2 2 1 ∷ Instr.Write 0 2 ∷ Instr.Commit
-      ∷ Instr.Constant 2 1 ∷ Instr.Compute Add Int 1 1 2
-      ∷ Instr.Constant 2 3 ∷ Instr.Compute Less Int 2 1 2 ∷ Instr.JumpNonzero 2 3
+      Instr.Constant 3 3 ∷ Instr.Constant 4 1
+      ∷ Instr.Constant 1 0 ∷ Instr.Constant 1 0 ∷ Instr.Jump 11
+      ∷ Instr.Begin 10 ∷ Instr.Read 2 0 ∷ Instr.Compute Add Int 2 2 1 ∷ Instr.Write 0 2 ∷ Instr.Commit
+      ∷ Instr.Compute Add Int 1 1 4
+      ∷ Instr.Compute Less Int 2 1 3 ∷ Instr.JumpNonzero 2 5
       ∷ Instr.Return None ∷ [];
   texts = [];
   globals = x ∷ [];
@@ -65,18 +66,22 @@ code = record {
 
 worker_is_lowered : FunctionIsLowered program code function worker body
 worker_is_lowered = record {
+  layout = record { writable = 3; constants = 3 ∷ 1 ∷ [] };
+  begins = 2;
   last = 13;
   parameters = refl;
   fits = omega arith;
+  registers = refl;
+  sets = (refl, (refl, refl));
   returns = refl;
   runs = (
-    2,
+    4,
     record {
       below = omega arith;
       zeroes = refl;
-      mid = 2;
+      mid = 4;
       value = record {
-        mid = 2;
+        mid = 4;
         r = 1;
         value = record {
           free = 2;
@@ -91,12 +96,12 @@ worker_is_lowered = record {
     (
       13,
       record {
-        test_at = 10;
-        body_at = 3;
+        test_at = 11;
+        body_at = 5;
         out = 13;
-        last = 10;
+        last = 11;
         break_to = 13;
-        continue_to = 10;
+        continue_to = 11;
         enters = inr refl;
         tests = record {
           free = 2;
@@ -106,17 +111,17 @@ worker_is_lowered = record {
             r = 2;
             t = Int;
             computes = record {
-              mid = 10;
+              mid = 11;
               last = 11;
               later = 2;
               ra = 1;
-              rb = 2;
+              rb = 3;
               ta = Int;
               tb = Int;
               left = record { known = omega arith; to_is = refl; register = refl; type_is = refl };
               kept = omega arith;
               apart = omega arith;
-              right = record { to_is = refl; takes = omega arith; register = omega arith; type_is = refl; instr = refl };
+              right = inr (record { number = 0; known = refl; to_is = refl; register = refl; type_is = refl });
               operates = record { to_is = refl; takes = omega arith; register = omega arith; type_is = refl; instr = refl };
             };
             jumps = refl;
@@ -125,19 +130,19 @@ worker_is_lowered = record {
         };
         ends = inl refl;
         body = (
-          8,
+          10,
           record {
-            last = 7;
+            last = 9;
             begins = refl;
             commits = refl;
             to_is = refl;
             runs = (
-              7,
+              9,
               record {
                 target = CellAt (record { global = x; cell = 0 });
-                mid = 4;
-                fetched = 5;
-                last = 5;
+                mid = 6;
+                fetched = 7;
+                last = 7;
                 later = 2;
                 after = 3;
                 ro = 2;
@@ -160,16 +165,16 @@ worker_is_lowered = record {
             );
           },
           (
-            10,
+            11,
             record {
               target = LocalAt (1, Int);
-              mid = 8;
-              fetched = 8;
-              last = 9;
+              mid = 10;
+              fetched = 10;
+              last = 10;
               later = 2;
               after = 2;
               ro = 1;
-              rb = 2;
+              rb = 4;
               r = 1;
               of = Int;
               tb = Int;
@@ -180,7 +185,7 @@ worker_is_lowered = record {
               fetches = (refl, refl, refl);
               kept = omega arith;
               apart = omega arith;
-              changes = record { to_is = refl; takes = omega arith; register = omega arith; type_is = refl; instr = refl };
+              changes = inr (record { number = 1; known = refl; to_is = refl; register = refl; type_is = refl });
               operates = record { to_is = refl; takes = inr refl; register = omega arith; type_is = refl; instr = refl };
               stores = inr (refl, refl);
             },

@@ -1,6 +1,7 @@
 -- Which instructions stand for an expression: by cases on the tree. A code may choose its registers: below `free` stand
--- the locals and what is still needed, and what an expression writes lies at or above it, or is the value's home.
-use Rattle.std.specs.Prelude.{◌≡◌, ◌⊎◌, ℕ, suc, ◌<◌, ◌≤◌, pos, List, [], ◌∷◌, ◌++◌, length, map, Option, Some, None, is_some, unwrap_or, slice_get, if◌then◌else◌}
+-- the locals and what is still needed, and what an expression writes lies at or above it, or is the value's home. Behind
+-- all registers that are written may lie constants.
+use Rattle.std.specs.Prelude.{◌≡◌, ◌⊎◌, ℕ, suc, ◌<◌, ◌≤◌, ◌+◌, pos, List, [], ◌∷◌, ◌++◌, length, map, Option, Some, None, is_some, unwrap_or, slice_get, if◌then◌else◌}
 use Rattle.lex.specs.declared.token.Span.{Span}
 use Rattle.lex.specs.declared.token.Scalar.{Scalar}
 use Rattle.lex.specs.declared.token.Scalar.TheVariants.{Int, Unsigned}
@@ -67,16 +68,22 @@ nameless_ones qs rs = []
 abbrev pub arranged : List Parameter → List ℕ → List ℕ
 arranged qs rs = named_ones qs rs ++ nameless_ones qs rs
 
+-- how a function uses its registers: those below `writable` are its locals' and its values', and those from there on hold
+-- these words from its beginning to its end
+pub record Layout : Type 0 where
+  pub writable : ℕ
+  pub constants : List ℕ
+
 -- a constant 0, with which a comparison asks whether the other side holds
 abbrev pub IsNought : Expr → Type 0
 IsNought e = (t : Scalar) × (at : Span) × (e ≡ Constant 0 t at)
 
-module _ (code : Code) (registers : ℕ) where
+module _ (code : Code) (layout : Layout) where
   -- one instruction that gives a value
   pub record GivenBy (home : Option ℕ) (i : Instr) (u : Scalar) (from to free r : ℕ) (t : Scalar) : Type 0 where
     pub to_is : to ≡ suc from
     pub takes : MayTake home free r
-    pub register : r < registers
+    pub register : r < layout.writable
     pub type_is : t ≡ u
     pub instr : At code from i
 
@@ -86,6 +93,19 @@ module _ (code : Code) (registers : ℕ) where
     pub to_is : to ≡ from
     pub register : r ≡ l.0
     pub type_is : t ≡ l.1
+
+  -- a word lies in a register from the function's beginning on
+  pub record LiesReady (w : ℕ) (u : Scalar) (from to r : ℕ) (t : Scalar) : Type 0 where
+    pub number : ℕ
+    pub known : slice_get layout.constants number ≡ Some w
+    pub to_is : to ≡ from
+    pub register : r ≡ layout.writable + number
+    pub type_is : t ≡ u
+
+  -- the right side of an operator: its value is computed, or it is a constant that lies ready
+  abbrev pub OperandCode : Expr → Coded → Coded
+  OperandCode (Constant n u at) e from to free r t = e from to free r t ⊎ LiesReady (word_of (pos n)) u from to r t
+  OperandCode e' e from to free r t = e from to free r t
 
   abbrev pub VariableCode : Option ℕ → (locals : ℕ) → Option (ℕ × Scalar) → Option GlobalCells → Coded
   VariableCode home locals (Some l) g from to free r t = LocalIs locals l from to r t
@@ -254,7 +274,8 @@ module _ (code : Code) (registers : ℕ) where
       ExprCode home scope (Unary Not e at) = NotCode home (ExprCode None scope e)
       ExprCode home scope (Unary Complement e at) = λ from to free r t.
           UnaryCode home (λ ta ra. Instr.Complement r ra) (ExprCode None scope e) from to free r t
-      ExprCode home scope (Binary op a b at) = BinaryCode home op (ExprCode None scope a) (ExprCode None scope b)
+      ExprCode home scope (Binary op a b at) =
+          BinaryCode home op (ExprCode None scope a) (OperandCode b (ExprCode None scope b))
       ExprCode home scope (Logical AndThen a b at) =
           TruthCode home (BothHold (Branches (ExprCode None scope a) (OwnTests scope a))
           (Branches (ExprCode None scope b) (OwnTests scope b)))

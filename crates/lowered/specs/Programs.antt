@@ -1,10 +1,10 @@
 -- Which code stands for a program.
-use Rattle.std.specs.Prelude.{◌≡◌, ℕ, ◌≤◌, List, [], ◌∷◌, ◌++◌, length, Some, None, unwrap_or, option_map, slice_get}
+use Rattle.std.specs.Prelude.{◌≡◌, ℕ, suc, ◌≤◌, ◌+◌, List, [], ◌∷◌, ◌++◌, length, Some, None, unwrap_or, option_map, slice_get}
 use Rattle.syntax.specs.Tree.{Parameter, Stmts, Function, Program}
 use Rattle.syntax.specs.Names.{globals, definition_of}
 use Rattle.bytecode.specs.Code.{Instr, FunctionCode, Code}
 use Rattle.bytecode.specs.Beginning.{worker_among}
-use Rattle.lowered.specs.Expressions.{LocalScope, At}
+use Rattle.lowered.specs.Expressions.{LocalScope, Layout, At}
 use Rattle.lowered.specs.Statements.{Exits, StmtsCode}
 
 -- the locals that a function begins with: its parameters, where they have names
@@ -17,12 +17,21 @@ parameter_locals (q ∷ qs) =
 abbrev pub no_exits : Exits
 no_exits = record { break_to = 0; continue_to = 0; in_loop = 0; in_function = 0; innermost = None }
 
--- the code of a function: its body, and a return where that runs off its end
+-- words are set in registers from one on, one after another
+abbrev pub ConstantsCode : Code → ℕ → List ℕ → (from to : ℕ) → Type 0
+ConstantsCode code r [] from to = to ≡ from
+ConstantsCode code r (w ∷ ws) from to = At code from (Instr.Constant r w) × ConstantsCode code (suc r) ws (suc from) to
+
+-- the code of a function: its constants, its body, and a return where that runs off its end
 pub record FunctionIsLowered (p : Program) (code : Code) (g : FunctionCode) (f : Function) (body : Stmts) : Type 0 where
+  pub layout : Layout
+  pub begins : ℕ
   pub last : ℕ
   pub parameters : g.parameters ≡ length f.parameters
-  pub fits : length f.parameters ≤ g.registers
-  pub runs : StmtsCode code g.registers p no_exits (parameter_locals f.parameters) body g.first last
+  pub fits : length f.parameters ≤ layout.writable
+  pub registers : g.registers ≡ layout.writable + length layout.constants
+  pub sets : ConstantsCode code layout.writable layout.constants g.first begins
+  pub runs : StmtsCode code layout p no_exits (parameter_locals f.parameters) body begins last
   pub returns : At code last (Instr.Return None)
 
 -- the code of a program: each function's code is that of the definition of its name, one is worker's, and its globals

@@ -11,7 +11,7 @@ use Rattle.syntax.specs.Formats.{Piece, Literal, Figure, pieces}
 use Rattle.syntax.specs.Numbers.{operand_type, result_type}
 use Rattle.syntax.specs.Names.{newest, global_of, cells, GlobalCells}
 use Rattle.bytecode.specs.Code.{Instr, Code}
-use Rattle.lowered.specs.Expressions.{LocalScope, At, LeadsTo, Coded, Branching, computing, GivenBy, ExprCode, CondCode, ArgsCode}
+use Rattle.lowered.specs.Expressions.{LocalScope, Layout, At, LeadsTo, Coded, Branching, computing, GivenBy, LiesReady, OperandCode, ExprCode, CondCode, ArgsCode}
 
 -- where an assignment goes: a local's register, a cell, or an element whose index lies in a register
 pub data Target : Type 0 where
@@ -71,12 +71,12 @@ abbrev pub locals_at_end : Stmts → LocalScope → LocalScope
 locals_at_end Stmts.[] scope = scope
 locals_at_end (Stmts.◌∷◌ s ss) scope = locals_at_end ss (locals_after s scope)
 
-module _ (code : Code) (registers : ℕ) (p : Program) where
+module _ (code : Code) (layout : Layout) (p : Program) where
   abbrev pub Coding : Option ℕ → LocalScope → Expr → Coded
-  Coding home scope e = ExprCode code registers p home scope e
+  Coding home scope e = ExprCode code layout p home scope e
 
   abbrev pub Testing : LocalScope → Expr → Branching
-  Testing scope e = CondCode code registers p scope e
+  Testing scope e = CondCode code layout p scope e
 
   -- so many commits, and then an instruction
   abbrev pub Leaves : ℕ → ℕ → Instr → Type 0
@@ -140,9 +140,9 @@ module _ (code : Code) (registers : ℕ) (p : Program) where
   abbrev pub FetchCode : Target → Coded
   FetchCode (LocalAt l) from to free r t = (to ≡ from) × (r ≡ l.0) × (t ≡ l.1)
   FetchCode (CellAt g) from to free r t =
-      GivenBy code registers None (Instr.Read r g.cell) g.global.of from to free r t
+      GivenBy code layout None (Instr.Read r g.cell) g.global.of from to free r t
   FetchCode (ElementOf g ri) from to free r t =
-      GivenBy code registers None (Instr.ReadAt r g.cell (cells g.global) ri) g.global.of from to free r t
+      GivenBy code layout None (Instr.ReadAt r g.cell (cells g.global) ri) g.global.of from to free r t
 
   -- a value goes to its target, or lies there already
   abbrev pub StoreCode : Target → (r from to : ℕ) → Type 0
@@ -184,17 +184,22 @@ module _ (code : Code) (registers : ℕ) (p : Program) where
     pub kept : later ≤ after
     pub apart : ro < after
     pub changes : by fetched last after rb tb
-    pub operates : GivenBy code registers (home_of target) (computing op (operand_type op of tb) r ro rb)
+    pub operates : GivenBy code layout (home_of target) (computing op (operand_type op of tb) r ro rb)
         (result_type op (operand_type op of tb)) last (suc last) later r t
     pub stores : StoreCode target r (suc last) to
 
+  -- the right side of an operator, and the 1 that is added or subtracted
+  abbrev pub Operand : LocalScope → Expr → Coded
+  Operand scope e = OperandCode code layout e (Coding None scope e)
+
   abbrev pub OneCode : Coded
-  OneCode from to free r t = GivenBy code registers None (Instr.Constant r 1) Int from to free r t
+  OneCode from to free r t =
+      GivenBy code layout None (Instr.Constant r 1) Int from to free r t ⊎ LiesReady code layout 1 Int from to r t
 
   abbrev pub SimpleCode : LocalScope → Simple → (from to : ℕ) → Type 0
   SimpleCode scope (Evaluate e) from to = (r : ℕ) × ValueCode scope (Coding None scope e) from to r
   SimpleCode scope (Assign lhs None e) from to = AssignCode scope lhs (λ home. Coding home scope e) from to
-  SimpleCode scope (Assign lhs (Some op) e) from to = ChangeCode scope lhs op (Coding None scope e) from to
+  SimpleCode scope (Assign lhs (Some op) e) from to = ChangeCode scope lhs op (Operand scope e) from to
   SimpleCode scope (Adjust lhs by) from to = ChangeCode scope lhs (op_of by) OneCode from to
 
   -- the first value of the local in a register, in its own scope
@@ -212,7 +217,7 @@ module _ (code : Code) (registers : ℕ) (p : Program) where
   -- a local's register is 0, and then has its first value
   pub record DeclaratorCode (scope inner : LocalScope) (t : Scalar) (first : Option Expr) (rest : ℕ → Type 0)
       (from : ℕ) : Type 0 where
-    pub below : length scope < registers
+    pub below : length scope < layout.writable
     pub zeroes : At code from (Instr.Constant (length scope) 0)
     pub mid : ℕ
     pub value : FirstValueCode inner (length scope, t) first (suc from) mid
@@ -333,7 +338,7 @@ module _ (code : Code) (registers : ℕ) (p : Program) where
     pub room : length scope ≤ free
     pub mid : ℕ
     pub rs : List ℕ
-    pub args : ArgsCode code registers p scope es (suc from) mid free rs
+    pub args : ArgsCode code layout p scope es (suc from) mid free rs
     pub prints : PiecesCode (pieces format) rs mid to
 
   pub record TransactionCode (mode : Mode) (x : Exits) (body : Exits → ℕ → ℕ → Type 0) (from to : ℕ) : Type 0 where
