@@ -24,12 +24,12 @@ use Rattle.lower.specs.declared.held.Exits.{Exits}
 use Rattle.lower.specs.inner.Limits.{NeedsMore}
 use Rattle.lower.specs.Lists.{Lists, used, holding}
 use Rattle.lower.specs.Names.{Callee}
-use Rattle.lower.specs.Expressions.{Emitted, AllEmitted, above, both, computing, answered, settled, element, called, emitted, condition, both_conditions, conditional, all_emitted}
+use Rattle.lower.specs.Expressions.{Emitted, AllEmitted, above, both, computing, answered, settled, element, called, emitted, operand, condition, both_conditions, conditional, all_emitted}
 use Rattle.lower.specs.Conditions.{Condition, test_in}
 use Rattle.lower.specs.inner.Aims.{aim_in}
 use Rattle.lower.specs.Simples.{Written, Aimed, nothing_written, one_written, aimed, above_target, fetched, home_or, stored, value_or_one, assigned, adjusted, first_written, declarator_written, start_written}
 use Rattle.lower.specs.Statements.{in_transaction, looping, print_written, tested_back, transacted, for_test, for_step, written, all_written}
-use Rattle.lower.proofs.Growing.{needs_more, used_more, holding_more, settled_more, emitted_more, condition_more}
+use Rattle.lower.proofs.Growing.{needs_more, used_more, holding_more, settled_more, emitted_more, operand_more, condition_more}
 use Rattle.lower.proofs.GrowingStmts.{fetched_more, stored_same, one_more, pieces_same, first_more, test_more, step_more, written_more}
 
 -- what ? hands on
@@ -50,18 +50,18 @@ module _ (p : Program) (scope : LocalScope) (from into free : ℕ) (l : Lists) (
   binary_first op a b at is =
       let left = emitted p scope a from free free l in
       let later = above free left.held.register in
-      let y = emitted_more p scope b left.held.to later later left.lists in
-      let z = used_more into (emitted p scope b left.held.to later later left.lists).lists in
+      let y = operand_more p scope b left.held.to later left.lists in
+      let z = used_more into (operand p scope b left.held.to later left.lists).lists in
       let w = ap (λ x. (emitted p scope x from into free l).lists.registers) is in
       omega (arith, y, z, w)
 
   pub binary_second : (op : BinaryOp) (a b : Tree.Expr) (at : Span) → e ≡ Tree.Binary op a b at → (h : Held) (later : ℕ) (la : Lists) → la ≡ (emitted p scope a from free free l).lists → h ≡ (emitted p scope a from free free l).held → later ≡ above free h.register →
-      (emitted p scope b h.to later later la).lists.registers ≤ (emitted p scope e from into free l).lists.registers
+      (operand p scope b h.to later la).lists.registers ≤ (emitted p scope e from into free l).lists.registers
   binary_second op a b at is h later la el eh ek =
       let left = emitted p scope a from free free l in
       let next : later ≡ above free left.held.register = ek ∙ ap (λ (k : Held). above free k.register) eh in
-      let right = emitted p scope b left.held.to (above free left.held.register) (above free left.held.register) left.lists in
-      let same : emitted p scope b h.to later later la ≡ right = (λ j. emitted p scope b (eh j).to (next j) (next j) (el j)) in
+      let right = operand p scope b left.held.to (above free left.held.register) left.lists in
+      let same : operand p scope b h.to later la ≡ right = (λ j. operand p scope b (eh j).to (next j) (el j)) in
       let y = ap (λ (u : Emitted). u.lists.registers) same in
       let z = used_more into right.lists in
       let w = ap (λ x. (emitted p scope x from into free l).lists.registers) is in

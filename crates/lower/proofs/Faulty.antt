@@ -20,14 +20,18 @@ use Rattle.lower.specs.Faults.{picked_for}
 use Rattle.lower.specs.Lists.{Lists}
 use Rattle.lower.specs.inner.Parts.{IsOfDefinition, IsOfItem, IsOfCode}
 use Rattle.lower.specs.Simples.{Written}
-use Rattle.lower.specs.Programs.{Made, no_exits, body_written, nothing_made, function_code, put_before, all_made, made_for, made_of, lowered_code}
+use Rattle.lower.specs.Programs.{Made, no_exits, body_written, nothing_ready, nothing_made, function_code, put_before, all_made, made_for, made_of, lowered_code}
+use Rattle.lower.proofs.Better.{body_more}
 use Rattle.lower.proofs.Bodies.{definition_made, code_grows, codes_among, front_code, one_more}
 use Rattle.lower.proofs.Files.{items_more}
 use Rattle.lower.proofs.GrowingStmts.{stmts_more}
 
 -- a function needs its parameters' registers at least
 pub parameters_fit : (p : Program) (f : Function) (body : Stmts) (from : ℕ) (l : Lists) → length f.parameters ≤ (body_written p f body from l).lists.registers
-parameters_fit p f body from l = stmts_more p body no_exits (parameter_locals f.parameters) from (record l { registers = length f.parameters })
+parameters_fit p f body from l =
+    let a = stmts_more p body no_exits (parameter_locals f.parameters) from (record l { registers = length f.parameters; layout = nothing_ready }) in
+    let b = body_more p f body from l in
+    omega (arith, a, b)
 
 of_definition : (f : Function) (from n : ℕ) (w : Written) (e : LowerFault) → IsOfDefinition f w.lists.registers n e → IsOfItem (Defines f) (function_code f from w ∷ []) n e
 of_definition f from n w OutOfMemory h = tt

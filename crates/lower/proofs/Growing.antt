@@ -10,10 +10,11 @@ use Rattle.lowered.specs.Expressions.{LocalScope, arranged}
 use Rattle.lower.specs.declared.fault.Failure.{Failure}
 use Rattle.lower.specs.declared.fault.Failure.TheVariants as failure
 use Rattle.lower.specs.inner.Limits.{NeedsMore}
+use Rattle.lower.specs.declared.held.Held.{Held}
 use Rattle.lower.specs.Lists.{Lists, used, holding}
 use Rattle.lower.specs.Names.{Callee, callee_of}
 use Rattle.lower.specs.Conditions.{Condition, zero_test, zero_tested}
-use Rattle.lower.specs.Expressions.{Emitted, AllEmitted, above, then_one, compared, settled, variable, element, called, tested, emitted, own_condition, condition, all_emitted}
+use Rattle.lower.specs.Expressions.{Emitted, AllEmitted, above, then_one, compared, settled, constant_ready, ready_or, variable, element, called, tested, emitted, operand, own_condition, condition, all_emitted}
 
 pub needs_more : (e : Failure) (m n : ℕ) → m ≤ n → NeedsMore e m → NeedsMore e n
 needs_more failure.Registers m n h k = omega (arith, h, k)
@@ -58,6 +59,10 @@ compared_more e into free =
     let b = used_more into (used (above free e.held.register) e.lists) in
     omega (arith, a, b)
 
+pub ready_more : (o : Option Held) (l : Lists) (e : Emitted) → l.registers ≤ e.lists.registers → l.registers ≤ (ready_or o l e).lists.registers
+ready_more None l e h = h
+ready_more (Some held) l e h = omega arith
+
 abbrev HasMore : Lists → Condition → Type 0
 HasMore l c = l.registers ≤ c.lists.registers
 
@@ -97,8 +102,10 @@ module _ (p : Program) (scope : LocalScope) where
         let left = emitted p scope a from free free l in
         let later = above free left.held.register in
         let x = emitted_more a from free free l in
-        let y = emitted_more b left.held.to later later left.lists in
-        let z = used_more into (emitted p scope b left.held.to later later left.lists).lists in
+        let found = constant_ready left.lists.layout b left.held.to in
+        let computed = emitted p scope b left.held.to later later left.lists in
+        let y = ready_more found left.lists computed (emitted_more b left.held.to later later left.lists) in
+        let z = used_more into (ready_or found left.lists computed).lists in
         omega (arith, x, y, z)
     emitted_more (Logical op a b at) from into free l =
         let first = condition p scope a from free l in
@@ -138,6 +145,9 @@ module _ (p : Program) (scope : LocalScope) where
         let a = emitted_more e from free free l in
         let b = all_more es first.held.to (above free first.held.register) first.lists in
         omega (arith, a, b)
+
+  pub operand_more : (e : Expr) (from free : ℕ) (l : Lists) → l.registers ≤ (operand p scope e from free l).lists.registers
+  operand_more e from free l = ready_more (constant_ready l.layout e from) l (emitted p scope e from free free l) (emitted_more e from free free l)
 
   pub condition_more : (e : Expr) (from free : ℕ) (l : Lists) → l.registers ≤ (condition p scope e from free l).lists.registers
   condition_more e from free l = by_parts e from free l (own_more e from free l) (emitted_more e from free free l)

@@ -1,6 +1,7 @@
 -- What follows in a body needs no fewer registers.
 use Rattle.std.proofs.Common.{◌≡◌, ℕ, suc, ◌+◌, ◌≤◌, List, [], ◌∷◌, ◌++◌, length, Option, Some, None, Bool, true, false, if◌then◌else◌, ◌==◌, refl, arith}
 use Rattle.lex.specs.declared.token.Scalar.{Scalar}
+use Rattle.lex.specs.declared.token.Scalar.TheVariants.{Int}
 use Rattle.syntax.specs.declared.tree.BinaryOp.{BinaryOp}
 use Rattle.syntax.specs.Tree.{Expr, Variable, Element, Simple, Evaluate, Assign, Adjust, Declarator, Start, Nothing, Declares, Does, Stmt, Stmts, Empty, Declare, Do, Block, Print, If, IfElse, While, DoWhile, For, Break, Continue, Return, Transaction, Cancel, Program}
 use Rattle.syntax.specs.Names.{newest, global_of, GlobalCells}
@@ -13,10 +14,10 @@ use Rattle.lower.specs.declared.held.Target.{Target}
 use Rattle.lower.specs.declared.held.Target.TheVariants as target
 use Rattle.lower.specs.declared.held.Exits.{Exits}
 use Rattle.lower.specs.Lists.{Lists, used}
-use Rattle.lower.specs.Expressions.{Emitted, above, both, emitted, all_emitted, condition}
+use Rattle.lower.specs.Expressions.{Emitted, above, both, constant, ready, emitted, all_emitted, condition}
 use Rattle.lower.specs.Simples.{nothing_written, one_written, variable_target, element_target, aimed, above_target, fetched, home_or, stored, value_or_one, assigned, adjusted, simple_written, first_written, declarator_written, declared_written, start_written}
 use Rattle.lower.specs.Statements.{in_transaction, looping, pieces_written, for_test, for_step, written, all_written}
-use Rattle.lower.proofs.Growing.{used_more, emitted_more, all_more, condition_more}
+use Rattle.lower.proofs.Growing.{used_more, ready_more, emitted_more, operand_more, all_more, condition_more}
 
 pub target_more : (x : Option (ℕ × Scalar)) (g : Option GlobalCells) (from : ℕ) (l : Lists) → l.registers ≤ (variable_target x g from l).lists.registers
 target_more (Some x) g from l = used_more x.0 l
@@ -56,8 +57,8 @@ module _ (p : Program) (scope : LocalScope) where
   aimed_more check e from free l = omega arith
 
   pub one_more : (by : Option Expr) (from free : ℕ) (l : Lists) → l.registers ≤ (value_or_one p scope by from free l).lists.registers
-  one_more None from free l = used_more free l
-  one_more (Some e) from free l = emitted_more p scope e from free free l
+  one_more None from free l = ready_more (ready l.layout 1 Int from) l (constant 1 Int from free l) (used_more free l)
+  one_more (Some e) from free l = operand_more p scope e from free l
 
   -- a value, and where it goes
   pub assigned_more : (lhs e : Expr) (from free : ℕ) (l : Lists) → l.registers ≤ (assigned p scope lhs e from free l).lists.registers

@@ -18,6 +18,14 @@ mod Written
 mod Growing
 mod GrowingStmts
 mod Failing
+-- a body that finds constants ready needs no more registers
+mod LeanerExprs
+mod Leaner
+-- what follows makes the lists longer
+mod LongerExprs
+mod Longer
+-- a body as it stands, or one that finds constants ready
+mod Better
 -- functions and items one after another
 mod Bodies
 mod Faulty

@@ -14,10 +14,10 @@ use Rattle.lower.specs.Lists.{Lists}
 use Rattle.lower.specs.Expressions.{emitted}
 use Rattle.bytecode.specs.declared.instr.Instr.TheVariants as own
 use Rattle.lower.specs.Statements.{written}
-use Rattle.lower.specs.Programs.{no_exits, lowered_code}
+use Rattle.lower.specs.Programs.{no_exits, nothing_ready, lowered_code}
 
 abbrev no_lists : Lists
-no_lists = record { arguments = []; texts = []; registers = 0 }
+no_lists = record { arguments = []; texts = []; registers = 0; layout = nothing_ready }
 
 abbrev no_span : Span
 no_span = record { start = 0; end = 0 }
@@ -50,7 +50,7 @@ abbrev ones : ℕ → Expr
 ones zero = num 1
 ones (suc n) = Binary Add (ones n) (num 1) no_span
 
-four_registers : (emitted [] [] (ones 89) 0 2 2 (record { arguments = []; texts = []; registers = 2 })).lists.registers ≡ 4
+four_registers : (emitted [] [] (ones 89) 0 2 2 (record { arguments = []; texts = []; registers = 2; layout = nothing_ready })).lists.registers ≡ 4
 four_registers = refl
 
 -- int a[4]; int f(int n) { if (n > 1 && n) return f(n); return 0; }
@@ -85,16 +85,18 @@ of_f =
 
 of_worker : List Instr
 of_worker =
-    -- 9: i = 0, and then pads
-    Instr.Constant 1 0 ∷ Instr.Constant 1 0 ∷ Instr.Jump 28 ∷ Instr.Jump 31 ∷ Instr.Jump 26
-    -- 14: a[i] += f(i)
-    ∷ Instr.Begin 26 ∷ Instr.ReadAt 2 0 4 1 ∷ Instr.Call 0 3 (1 ∷ []) ∷ Instr.Compute Add Int 2 2 3 ∷ Instr.WriteAt 0 4 1 2
-    -- 19: the number, and a text
+    -- 9: 3 and 1, with which the loop computes
+    Instr.Constant 4 3 ∷ Instr.Constant 5 1
+    -- 11: i = 0, and then pads
+    ∷ Instr.Constant 1 0 ∷ Instr.Constant 1 0 ∷ Instr.Jump 29 ∷ Instr.Jump 31 ∷ Instr.Jump 28
+    -- 16: a[i] += f(i)
+    ∷ Instr.Begin 28 ∷ Instr.ReadAt 2 0 4 1 ∷ Instr.Call 0 3 (1 ∷ []) ∷ Instr.Compute Add Int 2 2 3 ∷ Instr.WriteAt 0 4 1 2
+    -- 21: the number, and a text
     ∷ Instr.Irrevocable ∷ Instr.ReadAt 2 0 4 1 ∷ Instr.PrintNumber Int 2 ∷ Instr.PrintText 0
-    -- 23: a break, and what stands behind it
-    ∷ Instr.Commit ∷ Instr.Jump 12 ∷ Instr.Commit
-    -- 26: i++, and i < 3
-    ∷ Instr.Constant 2 1 ∷ Instr.Compute Add Int 1 1 2 ∷ Instr.Constant 2 3 ∷ Instr.Compute Less Int 2 1 2 ∷ Instr.JumpNonzero 2 14 ∷ Instr.Return None ∷ []
+    -- 25: a break, and what stands behind it
+    ∷ Instr.Commit ∷ Instr.Jump 14 ∷ Instr.Commit
+    -- 28: i++, and i < 3
+    ∷ Instr.Compute Add Int 1 1 5 ∷ Instr.Compute Less Int 2 1 4 ∷ Instr.JumpNonzero 2 16 ∷ Instr.Return None ∷ []
 
 second_code : second.instructions ≡ of_f ++ of_worker
 unfolding of_f of_worker

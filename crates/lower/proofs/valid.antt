@@ -1,5 +1,7 @@
 -- instructions that are in order where they stand
 pub mod Goods
+-- lists that become those of a finished code
+pub mod Fitting
 -- the parts of an expression
 pub mod Sounds
 -- where the cells of shared variables are

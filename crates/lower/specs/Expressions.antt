@@ -1,7 +1,7 @@
 -- The instructions that are picked for an expression. Each part is told its first place and gives the place behind
 -- it, so that jumps over it need no further pass. A result that is computed comes into the register `into`, and
 -- registers from `free` on may be written.
-use Rattle.std.specs.Prelude.{ℕ, suc, pos, ◌+◌, List, [], ◌∷◌, ◌++◌, length, Option, Some, None, max, if◌then◌else◌, ◌==◌}
+use Rattle.std.specs.Prelude.{ℕ, suc, pos, ◌+◌, List, [], ◌∷◌, ◌++◌, length, Option, Some, None, option_map, max, if◌then◌else◌, ◌==◌}
 use Rattle.lex.specs.declared.token.Scalar.{Scalar}
 use Rattle.lex.specs.declared.token.Scalar.TheVariants.{Int, Unsigned}
 use Rattle.syntax.specs.declared.tree.UnaryOp.TheVariants.{Negate, Keep, Not, Complement}
@@ -13,7 +13,8 @@ use Rattle.syntax.specs.Numbers.{word_of, common, operand_type, result_type}
 use Rattle.syntax.specs.Names.{newest, global_of, cells, GlobalCells}
 use Rattle.bytecode.specs.declared.instr.Instr.{Instr}
 use Rattle.bytecode.specs.declared.instr.Instr.TheVariants as own
-use Rattle.lowered.specs.Expressions.{LocalScope, arranged}
+use Rattle.bytecode.specs.declared.limits.TheConstants.{MOST_REGISTERS}
+use Rattle.lowered.specs.Expressions.{LocalScope, Layout, arranged}
 use Rattle.lower.specs.declared.held.Held.{Held}
 use Rattle.lower.specs.Lists.{Lists, used, holding}
 use Rattle.lower.specs.Names.{Callee, callee_of}
@@ -83,6 +84,25 @@ then_one e i r t = record {
 
 abbrev pub constant : ℕ → Scalar → (from into : ℕ) → Lists → Emitted
 constant n t from into l = one (own.Constant into n) from into t l
+
+-- the register in which a word lies ready, where these words do from this register on, as far as registers have numbers
+abbrev pub ready_from : ℕ → List ℕ → ℕ → Option ℕ
+ready_from r [] w = None
+ready_from r (x ∷ xs) w = if x == w then Some r else if r == MOST_REGISTERS then None else ready_from (suc r) xs w
+
+abbrev pub ready : Layout → (w : ℕ) → Scalar → (from : ℕ) → Option Held
+ready layout w t from =
+    option_map (λ r. record { register = r; of = t; to = from }) (ready_from layout.writable layout.constants w)
+
+-- a constant that lies ready, as the right side of an operator
+abbrev pub constant_ready : Layout → Expr → ℕ → Option Held
+constant_ready layout (Constant n t at) from = ready layout (word_of (pos n)) t from
+constant_ready layout e from = None
+
+-- a value that lies ready, or else one that is computed
+abbrev pub ready_or : Option Held → Lists → Emitted → Emitted
+ready_or None l e = e
+ready_or (Some held) l e = record { code = []; lists = l; held = held }
 
 -- a local's own register
 abbrev pub in_local : ℕ → Scalar → ℕ → Lists → Emitted
@@ -199,7 +219,8 @@ module _ (p : Program) (scope : LocalScope) where
     emitted (Binary op a b at) from into free l =
         let left = emitted a from free free l in
         let later = above free left.held.register in
-        both op left (emitted b left.held.to later later left.lists) into
+        let computed = emitted b left.held.to later later left.lists in
+        both op left (ready_or (constant_ready left.lists.layout b left.held.to) left.lists computed) into
     emitted (Logical op a b at) from into free l =
         answered
         (joining op (λ to m. tested (own_condition a to free m) (emitted a to free free m))
@@ -233,6 +254,10 @@ module _ (p : Program) (scope : LocalScope) where
     all_emitted (Exprs.◌∷◌ e es) from free l =
         let first = emitted e from free free l in
         followed first (all_emitted es first.held.to (above free first.held.register) first.lists)
+
+  -- the right side of an operator
+  abbrev pub operand : Expr → (from free : ℕ) → Lists → Emitted
+  operand e from free l = ready_or (constant_ready l.layout e from) l (emitted e from free free l)
 
   abbrev pub condition : Expr → (from free : ℕ) → Lists → Condition
   condition e from free l = tested (own_condition e from free l) (emitted e from free free l)

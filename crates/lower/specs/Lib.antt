@@ -8,6 +8,8 @@ pub mod Conditions
 pub mod Expressions
 pub mod Simples
 pub mod Statements
+-- the constants with which loops compute
+pub mod Loops
 -- the code that is picked for a program
 pub mod Programs
 -- why no code is given

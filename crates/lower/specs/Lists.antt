@@ -1,12 +1,15 @@
 -- The lists of a code as it is made, but that of its instructions.
 use Rattle.std.specs.Prelude.{ℕ, suc, List, max}
+use Rattle.lowered.specs.Expressions.{Layout}
 use Rattle.lower.specs.declared.lists.Lists.{Lists as OwnLists}
 
--- the arguments of its calls, its texts, and the number of registers that its function needs as far as it is made
+-- the arguments of its calls, its texts, the number of registers that its function needs as far as it is made, and the
+-- constants that lie ready in that function
 pub record Lists : Type 0 where
   pub arguments : List ℕ
   pub texts : List (List ℕ)
   pub registers : ℕ
+  pub layout : Layout
 
 -- a register is used
 abbrev pub used : ℕ → Lists → Lists
@@ -18,4 +21,9 @@ holding n l = record l { registers = max l.registers n }
 
 module _ {A : Type 0} where
   abbrev pub lists_of : OwnLists A → Lists
-  lists_of l = record { arguments = l.arguments.items; texts = l.texts.items; registers = l.registers }
+  lists_of l = record {
+    arguments = l.arguments.items;
+    texts = l.texts.items;
+    registers = l.registers;
+    layout = record { writable = l.writable; constants = l.constants.items };
+  }

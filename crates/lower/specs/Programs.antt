@@ -1,5 +1,5 @@
 -- The instructions that are picked for functions and programs.
-use Rattle.std.specs.Prelude.{ℕ, ◌+◌, List, [], ◌∷◌, ◌++◌, length, map, Option, Some, None}
+use Rattle.std.specs.Prelude.{ℕ, suc, ◌+◌, nat_le, if◌then◌else◌, List, [], ◌∷◌, ◌++◌, length, map, Option, Some, None}
 use Rattle.syntax.specs.Tree.{Function, Stmts, Defines, Shares, Program}
 use Rattle.syntax.specs.Names.{globals}
 use Rattle.bytecode.specs.declared.instr.Instr.{Instr}
@@ -8,19 +8,54 @@ use Rattle.bytecode.specs.Code.{FunctionCode, Code}
 use Rattle.bytecode.specs.Views.{instr_of}
 use Rattle.lower.specs.declared.held.Exits.{Exits}
 use Rattle.lower.specs.Lists.{Lists}
+use Rattle.bytecode.specs.declared.limits.TheConstants.{MOST_REGISTERS}
+use Rattle.lowered.specs.Expressions.{Layout}
 use Rattle.lowered.specs.Programs.{parameter_locals}
 use Rattle.lower.specs.Simples.{Written}
+use Rattle.lower.specs.Loops.{in_loops}
 use Rattle.lower.specs.Statements.{all_written}
 
 abbrev pub no_exits : Exits
 no_exits = record { break_to = 0; continue_to = 0; in_loop = 0; in_function = 0 }
 
--- a function's body, and a return where that runs off its end
+-- a function's body with these constants, and a return where that runs off its end
+abbrev pub body_with : Layout → Program → Function → Stmts → ℕ → Lists → Written
+body_with layout p f body from l =
+    let first = record l { registers = length f.parameters; layout = layout } in
+    let made = all_written p body no_exits (parameter_locals f.parameters) from first in
+    record { code = made.code ++ own.Return ∷ []; lists = made.lists; to = made.to + 1 }
+
+abbrev pub nothing_ready : Layout
+nothing_ready = record { writable = 0; constants = [] }
+
+-- words are set in registers from one on
+abbrev pub all_set : ℕ → List ℕ → List Instr
+all_set r [] = []
+all_set r (w ∷ ws) = own.Constant r w ∷ all_set (suc r) ws
+
+-- a body that finds these constants ready, and in front of it the instructions that set them
+abbrev pub body_ready : Layout → Program → Function → Stmts → ℕ → Lists → Written
+body_ready layout p f body from l =
+    let made = body_with layout p f body (from + length layout.constants) l in
+    record {
+      code = all_set layout.writable layout.constants ++ made.code;
+      lists = record made.lists { registers = layout.writable + length layout.constants };
+      to = made.to;
+    }
+
+-- a body as it stands, where its loops compute with no constants or a function may not have so many registers; or else one
+-- that finds them ready, in registers behind all those of the body as it stands
+abbrev pub body_better : Program → Function → Stmts → ℕ → Lists → (plain : Written) → (constants : List ℕ) → Written
+body_better p f body from l plain [] = plain
+body_better p f body from l plain (w ∷ ws) =
+    if nat_le (plain.lists.registers + length (w ∷ ws)) MOST_REGISTERS
+    then body_ready (record { writable = plain.lists.registers; constants = w ∷ ws }) p f body from l
+    else plain
+
 abbrev pub body_written : Program → Function → Stmts → ℕ → Lists → Written
 body_written p f body from l =
-    let n = length f.parameters in
-    let made = all_written p body no_exits (parameter_locals f.parameters) from (record l { registers = n }) in
-    record { code = made.code ++ own.Return ∷ []; lists = made.lists; to = made.to + 1 }
+    let plain = body_with nothing_ready p f body from l in
+    body_better p f body from l plain (in_loops from plain.code)
 
 -- the codes of functions, and the lists after them
 pub record Made : Type 0 where
@@ -54,7 +89,7 @@ all_made p (Defines f ∷ items) from l = made_first p f f.body (all_made p item
 
 -- the codes of the functions that these first items of a program define
 abbrev pub made_for : Program → Program → Made
-made_for p items = all_made p items 0 (record { arguments = []; texts = []; registers = 0 })
+made_for p items = all_made p items 0 (record { arguments = []; texts = []; registers = 0; layout = nothing_ready })
 
 abbrev pub made_of : Program → Made
 made_of p = made_for p p

@@ -13,7 +13,7 @@ use Rattle.lower.specs.declared.held.Target.TheVariants as target
 use Rattle.lower.specs.Lists.{Lists, used}
 use Rattle.lowered.specs.Expressions.{LocalScope}
 use Rattle.lowered.specs.Statements.{with_local}
-use Rattle.lower.specs.Expressions.{Emitted, above, one, constant, in_local, both, emitted}
+use Rattle.lower.specs.Expressions.{Emitted, above, one, constant, ready, ready_or, in_local, both, emitted, operand}
 
 -- instructions, the lists after them, and the place behind them
 pub record Written : Type 0 where
@@ -97,6 +97,10 @@ then_stored t e = and_then (evaluated e) (stored t e.held.register e.held.to e.l
 abbrev pub behind : Aimed → Written → Written
 behind t w = record { code = t.code ++ w.code; lists = w.lists; to = w.to }
 
+-- the 1 that is added or subtracted
+abbrev pub emitted_one : (from free : ℕ) → Lists → Emitted
+emitted_one from free l = ready_or (ready l.layout 1 Int from) l (constant 1 Int from free l)
+
 module _ (p : Program) (scope : LocalScope) where
   -- where an assignment goes, with the test of an index or without it
   abbrev pub aimed : Bool → Expr → (from free : ℕ) → Lists → Aimed
@@ -105,10 +109,10 @@ module _ (p : Program) (scope : LocalScope) where
       element_target check (global_of p x.text) (emitted p scope i from free free l) from l
   aimed check e from free l = aimed_at target.Nowhere from l
 
-  -- a value, or else 1
+  -- the right side of an operator: a value, or else 1
   abbrev pub value_or_one : Option Expr → (from free : ℕ) → Lists → Emitted
-  value_or_one None from free l = constant 1 Int from free l
-  value_or_one (Some e) from free l = emitted p scope e from free free l
+  value_or_one None from free l = emitted_one from free l
+  value_or_one (Some e) from free l = operand p scope e from free l
 
   abbrev pub assigned : Expr → Expr → (from free : ℕ) → Lists → Written
   assigned lhs e from free l =

@@ -12,7 +12,7 @@ ghost use Rattle.lower.specs.Lists.{lists_of, used, holding};
 ghost use Rattle.lower.specs.declared.draft.Draft.TheVariants as draft;
 ghost use Rattle.lower.specs.Conditions as conditions;
 ghost use Rattle.lower.specs.Conditions.{test_in, tested_by};
-ghost use Rattle.lower.specs.Expressions.{constant, variable, settled, answered, called, emitted, condition, both_conditions, conditional, all_emitted};
+ghost use Rattle.lower.specs.Expressions.{constant, variable, settled, answered, called, emitted, operand, condition, both_conditions, conditional, all_emitted};
 ghost use Rattle.lower.specs.inner.Tables.{callee_in, shared_in};
 ghost use Rattle.lower.specs.inner.Views.{program_in, scope_in};
 
@@ -27,6 +27,7 @@ use crate::put::{
     above, after, put, put_answers, put_both, put_chosen, put_compared, put_complemented,
     put_constant, put_negated, settle, take,
 };
+use crate::ready::constant_ready;
 use crate::scope::Scope;
 use bytecode::Instr;
 use lex::token::{Scalar, Span};
@@ -333,7 +334,7 @@ pub(crate) fn lower_expr<A: Allocator + Copy>(
         Expr::Binary(op, left, right, _) => {
             let a = lower_expr(names, scope, lists, code, left.get(), from, free, free)?;
             let later = above(free, a.register);
-            let b = lower_expr(names, scope, lists, code, right.get(), a.to, later, later)?;
+            let b = lower_operand(names, scope, lists, code, right.get(), a.to, later)?;
             put_both(lists, code, *op, a, b, into)
         }
         Expr::Logical(op, left, right, at) => {
@@ -376,6 +377,28 @@ pub(crate) fn lower_expr<A: Allocator + Copy>(
                 free,
             )
         }
+    }
+}
+
+/// The right side of an operator: it is computed, or it is a constant that lies ready.
+#[cycle(lower_expr)]
+pub(crate) fn lower_operand<A: Allocator + Copy>(
+    names: &Names<'_, A>,
+    scope: &Scope<'_, A>,
+    lists: &mut Lists<A>,
+    code: &mut Vec<Instr, A>,
+    e: &Expr<A>,
+    from: u32,
+    free: usize,
+) -> Result<Held, Failure>
+    ensures code { OnOk result (code.new.items ≡ code.old.items ++ (operand (program_in names.now) (scope_in scope.now) (expr_of e.now) from free (lists_of lists.old)).code) }
+    ensures lists { OnOk result (lists_of lists.new ≡ (operand (program_in names.now) (scope_in scope.now) (expr_of e.now) from free (lists_of lists.old)).lists) }
+    ensures held { IfOk result (λ held. held ≡ (operand (program_in names.now) (scope_in scope.now) (expr_of e.now) from free (lists_of lists.old)).held) }
+    ensures fails { IfErr result (λ why. NeedsMore why ((operand (program_in names.now) (scope_in scope.now) (expr_of e.now) from free (lists_of lists.old)).lists).registers) }
+{
+    match constant_ready(lists, e, from) {
+        Some(held) => Ok(held),
+        None => lower_expr(names, scope, lists, code, e, from, free, free),
     }
 }
 

@@ -1,18 +1,21 @@
 //! The code of functions.
 
-ghost use Rattle.std.specs.Prelude.{◌≡◌, ◌++◌, ◌∷◌, [], ◌+◌, ◌≤◌, map, length, OnOk, IfOk, IfErr};
+ghost use Rattle.std.specs.Prelude.{◌≡◌, ◌++◌, ◌∷◌, [], ◌+◌, ◌≤◌, not, ◌&&◌, ◌==◌, nat_le, map, length, take, drop, OnOk, IfOk, IfErr};
 ghost use Rattle.syntax.specs.Views.{function_of, stmts_of, parameter_of};
 ghost use Rattle.lowered.specs.Programs.{parameter_locals};
 ghost use Rattle.lower.specs.inner.Limits.{NeedsMore};
 ghost use Rattle.lower.specs.Lists.{lists_of};
-ghost use Rattle.lower.specs.Programs.{body_written};
+ghost use Rattle.lower.specs.Loops as loops;
+ghost use Rattle.lower.specs.Programs.{body_ready, body_with, body_written, nothing_ready};
 ghost use Rattle.lower.specs.inner.Views.{program_in, scope_in};
 
 use crate::fault::Failure;
 use crate::held::Exits;
 use crate::lists::Lists;
+use crate::loops::in_loops;
 use crate::program::Names;
 use crate::put::{after, put};
+use crate::ready::set_all;
 use crate::scope::Scope;
 use crate::stmt::lower_stmts;
 use bytecode::Instr;
@@ -38,8 +41,8 @@ fn parameter_locals<'p, A: Allocator + Copy>(
     Ok(scope)
 }
 
-/// A function's instructions: its body, and a return where that runs off its end; the place behind them.
-pub(crate) fn lower_function<'p, A: Allocator + Copy>(
+/// A function's body with the constants that lie ready, and a return where that runs off its end; the place behind them.
+fn lower_body<'p, A: Allocator + Copy>(
     names: &Names<'p, A>,
     lists: &mut Lists<A>,
     code: &mut Vec<Instr, A>,
@@ -48,10 +51,10 @@ pub(crate) fn lower_function<'p, A: Allocator + Copy>(
     from: u32,
 ) -> Result<u32, Failure>
     requires { length f.now.parameters ≤ 65535 }
-    ensures code { OnOk result (code.new.items ≡ code.old.items ++ (body_written (program_in names.now) (function_of f.now) (stmts_of body.now) from (lists_of lists.old)).code) }
-    ensures lists { OnOk result (lists_of lists.new ≡ (body_written (program_in names.now) (function_of f.now) (stmts_of body.now) from (lists_of lists.old)).lists) }
-    ensures place { IfOk result (λ p. p ≡ (body_written (program_in names.now) (function_of f.now) (stmts_of body.now) from (lists_of lists.old)).to) }
-    ensures fails { IfErr result (λ why. NeedsMore why (body_written (program_in names.now) (function_of f.now) (stmts_of body.now) from (lists_of lists.old)).lists.registers) }
+    ensures code { OnOk result (code.new.items ≡ code.old.items ++ (body_with (lists_of lists.old).layout (program_in names.now) (function_of f.now) (stmts_of body.now) from (lists_of lists.old)).code) }
+    ensures lists { OnOk result (lists_of lists.new ≡ (body_with (lists_of lists.old).layout (program_in names.now) (function_of f.now) (stmts_of body.now) from (lists_of lists.old)).lists) }
+    ensures place { IfOk result (λ p. p ≡ (body_with (lists_of lists.old).layout (program_in names.now) (function_of f.now) (stmts_of body.now) from (lists_of lists.old)).to) }
+    ensures fails { IfErr result (λ why. NeedsMore why (body_with (lists_of lists.old).layout (program_in names.now) (function_of f.now) (stmts_of body.now) from (lists_of lists.old)).lists.registers) }
 {
     let parameters = f.parameters.as_slice();
     lists.registers = parameters.len() as u32;
@@ -66,4 +69,126 @@ pub(crate) fn lower_function<'p, A: Allocator + Copy>(
     put(code, Instr::Return)?;
     let to = after(last, 1)?;
     Ok(to)
+}
+
+/// The lengths of a code's lists.
+#[derive(Clone, Copy)]
+struct Lengths {
+    code: usize,
+    arguments: usize,
+    texts: usize,
+}
+
+/// Cuts lists to these lengths.
+fn cut_to<A: Allocator>(lists: &mut Lists<A>, code: &mut Vec<Instr, A>, lengths: Lengths)
+    requires { (lengths.code ≤ length code.old.items) × (lengths.arguments ≤ length lists.old.arguments.items) × (lengths.texts ≤ length lists.old.texts.items) }
+    ensures code { code.new.items ≡ take lengths.code code.old.items }
+    ensures lists { lists_of lists.new ≡ record (lists_of lists.old) { arguments = take lengths.arguments lists.old.arguments.items; texts = take lengths.texts lists.old.texts.items } }
+{
+    code.truncate(lengths.code);
+    lists.arguments.truncate(lengths.arguments);
+    lists.texts.truncate(lengths.texts);
+}
+
+/// A function's body as it stands; the place behind it.
+fn lower_plain<'p, A: Allocator + Copy>(
+    names: &Names<'p, A>,
+    lists: &mut Lists<A>,
+    code: &mut Vec<Instr, A>,
+    f: &'p Function<A>,
+    body: &'p [Stmt<A>],
+    from: u32,
+) -> Result<u32, Failure>
+    requires { length f.now.parameters ≤ 65535 }
+    ensures code { OnOk result (code.new.items ≡ code.old.items ++ (body_with nothing_ready (program_in names.now) (function_of f.now) (stmts_of body.now) from (lists_of lists.old)).code) }
+    ensures lists { OnOk result (lists_of lists.new ≡ (body_with nothing_ready (program_in names.now) (function_of f.now) (stmts_of body.now) from (lists_of lists.old)).lists) }
+    ensures place { IfOk result (λ p. p ≡ (body_with nothing_ready (program_in names.now) (function_of f.now) (stmts_of body.now) from (lists_of lists.old)).to) }
+    ensures fails { IfErr result (λ why. NeedsMore why (body_with nothing_ready (program_in names.now) (function_of f.now) (stmts_of body.now) from (lists_of lists.old)).lists.registers) }
+{
+    lists.writable = 0;
+    lists.constants.clear();
+    lower_body(names, lists, code, f, body, from)
+}
+
+/// A function's body that finds these constants ready, and in front of it the instructions that set them in registers from this
+/// one on; the place behind it.
+fn lower_ready<'p, A: Allocator + Copy>(
+    names: &Names<'p, A>,
+    lists: &mut Lists<A>,
+    code: &mut Vec<Instr, A>,
+    f: &'p Function<A>,
+    body: &'p [Stmt<A>],
+    from: u32,
+    writable: u16,
+    constants: Vec<u32, A>,
+) -> Result<u32, Failure>
+    requires parameters { length f.now.parameters ≤ 65535 }
+    requires room { writable + length constants.items ≤ 65535 }
+    ensures code { OnOk result (code.new.items ≡ code.old.items ++ (body_ready (record { writable = writable; constants = constants.items }) (program_in names.now) (function_of f.now) (stmts_of body.now) from (lists_of lists.old)).code) }
+    ensures lists { OnOk result (lists_of lists.new ≡ (body_ready (record { writable = writable; constants = constants.items }) (program_in names.now) (function_of f.now) (stmts_of body.now) from (lists_of lists.old)).lists) }
+    ensures place { IfOk result (λ p. p ≡ (body_ready (record { writable = writable; constants = constants.items }) (program_in names.now) (function_of f.now) (stmts_of body.now) from (lists_of lists.old)).to) }
+    ensures fails { IfErr result (λ why. NeedsMore why (body_with (record { writable = writable; constants = constants.items }) (program_in names.now) (function_of f.now) (stmts_of body.now) (from + length constants.items) (lists_of lists.old)).lists.registers) }
+{
+    let count = constants.len() as u32;
+    if from > 4_294_967_295 - count {
+        return Err(Failure::OutOfMemory);
+    }
+    set_all(code, writable, constants.as_slice())?;
+    lists.writable = writable;
+    lists.constants = constants;
+    let to = lower_body(names, lists, code, f, body, from + count)?;
+    lists.registers = u32::from(writable) + count;
+    Ok(to)
+}
+
+/// The constants of the loops among instructions that stand behind so many others, from this place on.
+fn in_loops_behind<A: Allocator>(
+    alloc: A,
+    code: &[Instr],
+    others: usize,
+    from: u32,
+) -> Result<Vec<u32, A>, AllocError>
+    requires { others ≤ length code.now }
+    ensures { IfOk result (λ v. v.items ≡ loops.in_loops from (drop others code.now)) }
+{
+    in_loops(alloc, &code[others..], from)
+}
+
+/// Whether a body that needs so many registers is made once more with these constants ready: there are some, and a function may
+/// have so many registers.
+fn is_better(registers: u32, constants: &[u32]) -> bool
+    ensures { result ≡ (not (length constants.now == 0) && nat_le (registers + length constants.now) 65535) }
+{
+    !constants.is_empty() && registers as usize + constants.len() <= 65_535
+}
+
+/// A function's instructions; the place behind them. Its body is made as it stands, and where its loops compute with constants
+/// once more, with these in registers behind its own, where they are set once.
+pub(crate) fn lower_function<'p, A: Allocator + Copy>(
+    names: &Names<'p, A>,
+    lists: &mut Lists<A>,
+    code: &mut Vec<Instr, A>,
+    f: &'p Function<A>,
+    body: &'p [Stmt<A>],
+    from: u32,
+) -> Result<u32, Failure>
+    requires { length f.now.parameters ≤ 65535 }
+    ensures code { OnOk result (code.new.items ≡ code.old.items ++ (body_written (program_in names.now) (function_of f.now) (stmts_of body.now) from (lists_of lists.old)).code) }
+    ensures lists { OnOk result (lists_of lists.new ≡ (body_written (program_in names.now) (function_of f.now) (stmts_of body.now) from (lists_of lists.old)).lists) }
+    ensures place { IfOk result (λ p. p ≡ (body_written (program_in names.now) (function_of f.now) (stmts_of body.now) from (lists_of lists.old)).to) }
+    ensures fails { IfErr result (λ why. NeedsMore why (body_written (program_in names.now) (function_of f.now) (stmts_of body.now) from (lists_of lists.old)).lists.registers) }
+{
+    let lengths = Lengths {
+        code: code.len(),
+        arguments: lists.arguments.len(),
+        texts: lists.texts.len(),
+    };
+    let to = lower_plain(names, lists, code, f, body, from)?;
+    let constants = in_loops_behind(names.alloc, code.as_slice(), lengths.code, from)?;
+    if !is_better(lists.registers, constants.as_slice()) {
+        return Ok(to);
+    }
+    let writable = lists.registers as u16;
+    cut_to(lists, code, lengths);
+    lower_ready(names, lists, code, f, body, from, writable, constants)
 }

@@ -155,6 +155,8 @@ fn lower_parts<'p, A: Allocator + Copy>(names: &Names<'p, A>) -> Result<Parts<A>
             arguments: Vec::new(names.alloc),
             texts: Vec::new(names.alloc),
             registers: 0,
+            writable: 0,
+            constants: Vec::new(names.alloc),
         },
         globals: Vec::new(names.alloc),
         to: 0,
@@ -162,11 +164,12 @@ fn lower_parts<'p, A: Allocator + Copy>(names: &Names<'p, A>) -> Result<Parts<A>
     'items: for item in names.unit.items.as_slice() {
         lower_item(names, &mut making, item)?;
     }
+    let lists = making.lists;
     Ok(Parts {
         functions: Items::from_vec(making.functions),
         instructions: Items::from_vec(making.code),
-        arguments: Items::from_vec(making.lists.arguments),
-        texts: Items::from_vec(making.lists.texts),
+        arguments: Items::from_vec(lists.arguments),
+        texts: Items::from_vec(lists.texts),
         globals: Items::from_vec(making.globals),
     })
 }

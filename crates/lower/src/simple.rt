@@ -10,18 +10,19 @@ ghost use Rattle.lower.specs.declared.held.Target.TheVariants as target;
 ghost use Rattle.lower.specs.inner.Limits.{NeedsMore};
 ghost use Rattle.lower.specs.Lists.{lists_of, Lists as Plain};
 ghost use Rattle.lower.specs.Simples as simples;
-ghost use Rattle.lower.specs.Simples.{aimed, variable_target, fetched, stored, assigned, adjusted, simple_written, first_written, declarator_written, declared_written, start_written};
+ghost use Rattle.lower.specs.Simples.{emitted_one, aimed, variable_target, fetched, stored, assigned, adjusted, simple_written, first_written, declarator_written, declared_written, start_written};
 ghost use Rattle.lower.specs.inner.Tables.{shared_in};
 ghost use Rattle.lower.specs.inner.Aims.{aim_in};
 ghost use Rattle.lower.specs.inner.Views.{program_in, scope_in};
 
-use crate::expr::{lower_expr, put_read_at};
+use crate::expr::{lower_expr, lower_operand, put_read_at};
 use crate::fault::Failure;
 use crate::held::{Aim, Held, Target};
 use crate::lists::Lists;
 use crate::names::{Shared, cells_of, global};
 use crate::program::Names;
 use crate::put::{above, after, put, put_both, put_constant, take};
+use crate::ready::ready;
 use crate::scope::Scope;
 use bytecode::Instr;
 use lex::token::Scalar;
@@ -235,9 +236,27 @@ fn lower_change<A: Allocator + Copy>(
     let later = above_target(aim.target, free);
     let old = fetch(lists, code, aim.target, aim.to, later)?;
     let behind = above(later, old.register);
-    let other = lower_expr(names, scope, lists, code, value, old.to, behind, behind)?;
+    let other = lower_operand(names, scope, lists, code, value, old.to, behind)?;
     let held = put_both(lists, code, op, old, other, home_or(aim.target, later))?;
     Ok(store(code, aim.target, held.register, held.to)?)
+}
+
+/// The 1 that is added or subtracted.
+fn lower_one<A: Allocator>(
+    lists: &mut Lists<A>,
+    code: &mut Vec<Instr, A>,
+    from: u32,
+    free: usize,
+) -> Result<Held, Failure>
+    ensures code { OnOk result (code.new.items ≡ code.old.items ++ (emitted_one from free (lists_of lists.old)).code) }
+    ensures lists { OnOk result (lists_of lists.new ≡ (emitted_one from free (lists_of lists.old)).lists) }
+    ensures held { IfOk result (λ held. held ≡ (emitted_one from free (lists_of lists.old)).held) }
+    ensures fails { IfErr result (λ why. NeedsMore why (emitted_one from free (lists_of lists.old)).lists.registers) }
+{
+    match ready(lists, 1, Scalar::Int, from) {
+        Some(held) => Ok(held),
+        None => put_constant(lists, code, 1, Scalar::Int, from, free),
+    }
 }
 
 /// `to++` and `to--`
@@ -260,7 +279,7 @@ fn lower_adjust<A: Allocator + Copy>(
     let later = above_target(aim.target, free);
     let old = fetch(lists, code, aim.target, aim.to, later)?;
     let behind = above(later, old.register);
-    let other = put_constant(lists, code, 1, Scalar::Int, old.to, behind)?;
+    let other = lower_one(lists, code, old.to, behind)?;
     let held = put_both(lists, code, op, old, other, home_or(aim.target, later))?;
     Ok(store(code, aim.target, held.register, held.to)?)
 }

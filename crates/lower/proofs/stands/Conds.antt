@@ -14,7 +14,7 @@ use Rattle.bytecode.specs.declared.instr.Instr.{Instr}
 use Rattle.bytecode.specs.declared.instr.Instr.TheVariants as own
 use Rattle.bytecode.specs.Code.{Code}
 use Rattle.bytecode.specs.Views.{instr_of}
-use Rattle.lowered.specs.Expressions.{Coded, Branching, At, LeadsTo, MayTake, Branches, BothHold, EitherHolds, IsNought, ComparedWithZero, TruthCode, BranchCode, ConditionalCode}
+use Rattle.lowered.specs.Expressions.{Coded, Layout, Branching, At, LeadsTo, MayTake, Branches, BothHold, EitherHolds, IsNought, ComparedWithZero, TruthCode, BranchCode, ConditionalCode}
 use Rattle.lower.specs.declared.draft.Draft.TheVariants as draft
 use Rattle.lower.specs.Lists.{Lists, used}
 use Rattle.lower.specs.Conditions.{Condition, test_in, jump_if, jump_if_not, completed, going_on, going_back, turned, by_value, opposite, first_of, joined, is_nought, zero_test, zero_tested}
@@ -27,17 +27,17 @@ nought : (e : Expr) → is_nought e ≡ true → IsNought e
 nought (Constant zero t at) h = (t, at, refl)
 nought e h = absurd (cc)
 
-module _ (code : Code) (arguments : List ℕ) (size : ℕ) where
+module _ (code : Code) (arguments : List ℕ) (layout : Layout) where
   -- a condition, and a jump behind it that is taken where it holds, or where it does not
   pub record Decides (T : Branching) (from free : ℕ) (l : Lists) (c : Condition) : Type 0 where
     pub to_is : c.to ≡ from + length c.code
     pub grows : Grows l c.lists
-    pub holds : Fits code arguments size c.lists → (there on : ℕ) → Stand code arguments from (map (completed there on) c.code) →
+    pub holds : Fits code arguments layout c.lists → (there on : ℕ) → Stand code arguments from (map (completed there on) c.code) →
         At code c.to (instr_of arguments (jump_if c.at_zero c.register there)) → LeadsTo code (suc c.to) on → T from there on free
-    pub fails : Fits code arguments size c.lists → (there on : ℕ) → Stand code arguments from (map (completed on there) c.code) →
+    pub fails : Fits code arguments layout c.lists → (there on : ℕ) → Stand code arguments from (map (completed on there) c.code) →
         At code c.to (instr_of arguments (jump_if_not c.at_zero c.register there)) → LeadsTo code (suc c.to) on → T from on there free
 
-  value_decides : (A : Coded) (B : Branching) (from free : ℕ) (l : Lists) (e : Emitted) → Emits code arguments size A from free l e → Decides (Branches code size A B) from free l (by_value e.code e.lists e.held)
+  value_decides : (A : Coded) (B : Branching) (from free : ℕ) (l : Lists) (e : Emitted) → Emits code arguments layout A from free l e → Decides (Branches code layout A B) from free l (by_value e.code e.lists e.held)
   value_decides A B from free l e h = record {
     to_is = let x = h.to_is in let y : length (map draft.Whole e.code) ≡ length e.code = length-map e.code draft.Whole in omega (arith, x, y);
     grows = h.grows;
@@ -75,13 +75,13 @@ module _ (code : Code) (arguments : List ℕ) (size : ℕ) where
     pub back_is : (met : ℕ) → c.to + 1 ≡ from + length (going_back c.code (test_in c) met)
     back_is met = let x = h.to_is in let y = back_length c.code (test_in c) met in omega (arith, x, y)
 
-    pub goes_on : Fits code arguments size c.lists → (unmet : ℕ) → Stand code arguments from (going_on c.code (test_in c) unmet) → T from (c.to + 1) unmet free
+    pub goes_on : Fits code arguments layout c.lists → (unmet : ℕ) → Stand code arguments from (going_on c.code (test_in c) unmet) → T from (c.to + 1) unmet free
     goes_on f unmet st =
         let own_code : List Instr = map (completed (c.to + 1) unmet) c.code in
         let jump : Instr = jump_if_not c.at_zero c.register unmet in
         h.fails f unmet (c.to + 1) (front code arguments from own_code (jump ∷ []) st) (behind code arguments from c.to own_code (jump ∷ []) (at_jump (c.to + 1) unmet) st).0 (inl (omega arith))
 
-    pub goes_back : Fits code arguments size c.lists → (met : ℕ) → Stand code arguments from (going_back c.code (test_in c) met) → T from met (c.to + 1) free
+    pub goes_back : Fits code arguments layout c.lists → (met : ℕ) → Stand code arguments from (going_back c.code (test_in c) met) → T from met (c.to + 1) free
     goes_back f met st =
         let own_code : List Instr = map (completed met (c.to + 1)) c.code in
         let jump : Instr = jump_if c.at_zero c.register met in
@@ -95,8 +95,8 @@ module _ (code : Code) (arguments : List ℕ) (size : ℕ) where
         let u : length (first_of op a ++ b.code) ≡ length (first_of op a) + length b.code = length-append (first_of op a) b.code in
         omega (arith, x, y, z, u)
 
-    abbrev first_fits : Fits code arguments size b.lists → Fits code arguments size a.lists
-    first_fits f = fits_before code arguments size a.lists b.lists g.grows f
+    abbrev first_fits : Fits code arguments layout b.lists → Fits code arguments layout a.lists
+    first_fits f = fits_before code arguments layout a.lists b.lists g.grows f
 
     and_parts : (m u : ℕ) → Stand code arguments from (map (completed m u) (first_of AndThen a ++ b.code)) → Stand code arguments from (going_on a.code (test_in a) u) × Stand code arguments (a.to + 1) (map (completed m u) b.code)
     and_parts m u st =
@@ -112,7 +112,7 @@ module _ (code : Code) (arguments : List ℕ) (size : ℕ) where
         let both = subst (Stand code arguments from) (map-append (completed m u) (first_of OrElse a) b.code ∙ (λ j. first_or m u a j ++ two)) st in
         (front code arguments from one two both, behind code arguments from (a.to + 1) one two (back_is A from free l a h m) both)
 
-    pub and_decides : Decides (BothHold code size A B) from free l (joined AndThen a b)
+    pub and_decides : Decides (BothHold code layout A B) from free l (joined AndThen a b)
     and_decides = record {
       to_is = joined_to_is AndThen;
       grows = grows_further l a.lists b.lists h.grows g.grows;
@@ -124,7 +124,7 @@ module _ (code : Code) (arguments : List ℕ) (size : ℕ) where
           record { mid = a.to + 1; first = goes_on A from free l a h (first_fits f) there parts.0; second = g.fails f there on parts.1 at leads };
     }
 
-    pub or_decides : Decides (EitherHolds code size A B) from free l (joined OrElse a b)
+    pub or_decides : Decides (EitherHolds code layout A B) from free l (joined OrElse a b)
     or_decides = record {
       to_is = joined_to_is OrElse;
       grows = grows_further l a.lists b.lists h.grows g.grows;
@@ -137,14 +137,14 @@ module _ (code : Code) (arguments : List ℕ) (size : ℕ) where
     }
 
   -- a condition by its operator, or else by its value
-  pub tested_decides : (A : Coded) (B : Branching) (from free : ℕ) (l : Lists) (o : Option Condition) (e : Emitted) → IfSome o (Decides (Branches code size A B) from free l) → Emits code arguments size A from free l e →
-      Decides (Branches code size A B) from free l (tested o e)
+  pub tested_decides : (A : Coded) (B : Branching) (from free : ℕ) (l : Lists) (o : Option Condition) (e : Emitted) → IfSome o (Decides (Branches code layout A B) from free l) → Emits code arguments layout A from free l e →
+      Decides (Branches code layout A B) from free l (tested o e)
   tested_decides A B from free l None e h g = value_decides A B from free l e g
   tested_decides A B from free l (Some c) e h g = h
 
   -- a comparison with 0
   pub zero_decides : (op : BinaryOp) (b : Expr) (A : Branching) (T : Branching) (from free : ℕ) (l : Lists) (other : Condition) → Decides A from free l other →
-      ((met unmet : ℕ) → ComparedWithZero code size op b A from met unmet free → T from met unmet free) → IfSome (zero_tested (zero_test op b) other) (Decides T from free l)
+      ((met unmet : ℕ) → ComparedWithZero code layout op b A from met unmet free → T from met unmet free) → IfSome (zero_tested (zero_test op b) other) (Decides T from free l)
   zero_decides Equal b A T from free l other h make = by (is_nought b) refl
     where
       by : (n : Bool) → is_nought b ≡ n → IfSome (zero_tested (if n then Some true else None) other) (Decides T from free l)
@@ -158,7 +158,7 @@ module _ (code : Code) (arguments : List ℕ) (size : ℕ) where
   zero_decides op b A T from free l other h make = tt
 
   -- a condition, and the answers behind it
-  pub answered_emits : (home : Option ℕ) (T : Branching) (from free into : ℕ) (l : Lists) (c : Condition) → Decides T from free l c → MayTake home free into → Emits code arguments size (TruthCode code size home T) from free l (answered c into)
+  pub answered_emits : (home : Option ℕ) (T : Branching) (from free into : ℕ) (l : Lists) (c : Condition) → Decides T from free l c → MayTake home free into → Emits code arguments layout (TruthCode code layout home T) from free l (answered c into)
   answered_emits home T from free into l c h m =
       let head : List Instr = going_on c.code (test_in c) (c.to + 3) in
       let long : Instr = own.Constant into 1 in
@@ -172,14 +172,14 @@ module _ (code : Code) (arguments : List ℕ) (size : ℕ) where
         stands = λ f st.
             let first = front code arguments from head tail st in
             let rest = behind code arguments from (c.to + 1) head tail next st in
-            let register = is_register code arguments size c.lists into f in
+            let register = is_register code arguments layout c.lists into f in
             record {
               met = c.to + 1;
               unmet = c.to + 3;
-              decides = goes_on T from free l c h (fits_before code arguments size c.lists (used into c.lists) (grows_used c.lists c.lists into (grows_same c.lists)) f) (c.to + 3) first;
-              gives_one = given code arguments size home long Int (c.to + 1) (suc (c.to + 1)) free into refl m register rest.0;
+              decides = goes_on T from free l c h (fits_before code arguments layout c.lists (used into c.lists) (grows_used c.lists c.lists into (grows_same c.lists)) f) (c.to + 3) first;
+              gives_one = given code arguments layout home long Int (c.to + 1) (suc (c.to + 1)) free into refl m register rest.0;
               one_leads = inr rest.1.0;
-              gives_zero = given code arguments size home short Int (c.to + 3) (suc (c.to + 3)) free into refl m register (subst (λ q. At code q (instr_of arguments short)) (omega arith) rest.1.1.0);
+              gives_zero = given code arguments layout home short Int (c.to + 3) (suc (c.to + 3)) free into refl m register (subst (λ q. At code q (instr_of arguments short)) (omega arith) rest.1.1.0);
               zero_leads = inl (omega arith);
             };
       }
@@ -187,9 +187,9 @@ module _ (code : Code) (arguments : List ℕ) (size : ℕ) where
   -- a condition, and one of two values
   pub chosen_emits : (home : Option ℕ) (T : Branching) (A B : Option ℕ → Coded) (from into free : ℕ) (l : Lists) (c : Condition) (a b : Emitted) →
       let t = common a.held.of b.held.of in
-      Decides T from free l c → Emits code arguments size (λ from to free r t'. BranchCode code size home A from to free into t) (c.to + 1) free c.lists a
-      → Emits code arguments size (λ from to free r t'. BranchCode code size home B from to free into t) (a.held.to + 1) free a.lists b →
-      Emits code arguments size (ConditionalCode code size home T A B) from free l (chosen c a b into)
+      Decides T from free l c → Emits code arguments layout (λ from to free r t'. BranchCode code layout home A from to free into t) (c.to + 1) free c.lists a
+      → Emits code arguments layout (λ from to free r t'. BranchCode code layout home B from to free into t) (a.held.to + 1) free a.lists b →
+      Emits code arguments layout (ConditionalCode code layout home T A B) from free l (chosen c a b into)
   chosen_emits home T A B from into free l c a b h g k =
       let test : List Instr = going_on c.code (test_in c) (a.held.to + 1) in
       let skip : Instr = own.Jump b.held.to in
@@ -203,13 +203,13 @@ module _ (code : Code) (arguments : List ℕ) (size : ℕ) where
         stands = λ f st.
             let first = front code arguments from head (skip ∷ b.code) st in
             let rest = behind code arguments from a.held.to head (skip ∷ b.code) last_is st in
-            let fa = fits_before code arguments size a.lists b.lists k.grows f in
+            let fa = fits_before code arguments layout a.lists b.lists k.grows f in
             record {
               met = c.to + 1;
               unmet = a.held.to + 1;
               last = a.held.to;
               end = b.held.to;
-              tests = goes_on T from free l c h (fits_before code arguments size c.lists a.lists g.grows fa) (a.held.to + 1) (front code arguments from test a.code first);
+              tests = goes_on T from free l c h (fits_before code arguments layout c.lists a.lists g.grows fa) (a.held.to + 1) (front code arguments from test a.code first);
               then_code = g.stands fa (behind code arguments from (c.to + 1) test a.code next first);
               then_leads = inr rest.0;
               else_code = k.stands f (subst (λ q. Stand code arguments q b.code) (omega arith) rest.1);

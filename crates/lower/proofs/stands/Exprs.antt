@@ -1,6 +1,6 @@
 -- What is emitted for an expression of a typed program stands for it, and what is picked for a condition decides it.
 use Rattle.std.proofs.Common.{◌≡◌, refl, sym, ap, subst, ◌∙◌, ℕ, pos, ◌+◌, List, [], ◌∷◌, ◌++◌, append_assoc, length, take, drop, arith, Option, Some, None, Bool, true, false, ◌⊎◌, inl, inr, ⊎_elim, not, IsTrue}
-use Rattle.std.specs.Prelude.{if◌then◌else◌, ◌==◌, unwrap_or, slice_get}
+use Rattle.std.specs.Prelude.{if◌then◌else◌, ◌==◌, unwrap_or, option_map, slice_get}
 use Rattle.std.specs.Option.{IfSome}
 use Rattle.std.proofs.lemmas.List.{length-append}
 use Rattle.std.proofs.Math.Seq.{drop-append_seam, take-append_seam}
@@ -24,14 +24,14 @@ use Rattle.bytecode.specs.declared.instr.Instr.{Instr}
 use Rattle.bytecode.specs.declared.instr.Instr.TheVariants as own
 use Rattle.bytecode.specs.Code.{Code, FunctionCode, Instr as Plain}
 use Rattle.bytecode.specs.Views.{args_of, instr_of}
-use Rattle.lowered.specs.Expressions.{LocalScope, IsLike, Coded, Branching, MayTake, GivenBy, VariableCode, ElementAt, BothHold, EitherHolds, CallCode, arranged, ExprCode, OwnTests, ArgsCode, CondCode}
+use Rattle.lowered.specs.Expressions.{LocalScope, Layout, IsLike, Coded, Branching, MayTake, GivenBy, VariableCode, ElementAt, BothHold, EitherHolds, CallCode, arranged, OperandCode, ExprCode, OwnTests, ArgsCode, CondCode}
 use Rattle.lower.specs.Lists.{Lists, used, holding}
 use Rattle.lower.specs.Names.{Callee, callee_at, callee_of}
 use Rattle.lower.specs.Conditions.{joined}
-use Rattle.lower.specs.Expressions.{Emitted, AllEmitted, above, then_one, variable, element, called, settled, emitted, own_condition, condition, all_emitted}
+use Rattle.lower.specs.Expressions.{Emitted, AllEmitted, above, then_one, ready_from, constant_ready, ready_or, variable, element, called, settled, emitted, own_condition, condition, all_emitted}
 use Rattle.lower.proofs.stands.Standing.{Stand, front, behind, front_same, front_more, max_left, Grows, grows_same, grows_further, grows_used, Fits, fits_before, is_register, given}
 use Rattle.lower.proofs.stands.Named.{VariableFound, variable_found, array_found, function_found, known_number, known_array, known_callable}
-use Rattle.lower.proofs.stands.Emitting.{above_free, above_it, Emits, one_emits, in_local_emits, element_emits, cast_emits, negated_emits, complemented_emits, compared_emits, both_emits, settled_emits}
+use Rattle.lower.proofs.stands.Emitting.{above_free, above_it, Emits, one_emits, in_local_emits, element_emits, cast_emits, negated_emits, complemented_emits, compared_emits, operand_emits, both_emits, settled_emits}
 use Rattle.lower.proofs.stands.Conds.{Decides, same_decides, opposite_decides, and_decides, or_decides, tested_decides, zero_decides, answered_emits, chosen_emits}
 
 -- a callee's number is that of a function of its name
@@ -88,24 +88,24 @@ call_gives (Some t) takes h = refl
 result_of : (f : Function) (result : Option Scalar) (takes : List Scalar) → known_function f ≡ Callable result takes → f.result ≡ result
 result_of f result takes e = ap call_type e
 
-module _ (p : Program) (code : Code) (arguments : List ℕ) (size : ℕ) (typed : IsTypedProgram p) (stand : CalleesStand p code) (defined : DefinedAreCallees p) where
+module _ (p : Program) (code : Code) (arguments : List ℕ) (layout : Layout) (typed : IsTypedProgram p) (stand : CalleesStand p code) (defined : DefinedAreCallees p) where
   -- the values of a call's arguments
   pub record AllEmits (A : (from to free : ℕ) → List ℕ → Type 0) (from free : ℕ) (l : Lists) (e : AllEmitted) : Type 0 where
     pub to_is : e.to ≡ from + length e.code
     pub grows : Grows l e.lists
-    pub stands : Fits code arguments size e.lists → Stand code arguments from e.code → A from e.to free e.registers
+    pub stands : Fits code arguments layout e.lists → Stand code arguments from e.code → A from e.to free e.registers
 
   module _ (known : Scope) (scope : LocalScope) (agrees : Agrees known (running_scope p scope)) where
     variable_emits : (home : Option ℕ) (o : Option (ℕ × Scalar)) (g : Option GlobalCells) (t : Scalar) → VariableFound (length scope) o g t → (from into free : ℕ) (l : Lists) → MayTake home free into →
-        Emits code arguments size (VariableCode code size home (length scope) o g) from free l (variable o g from into l)
-    variable_emits home (Some x) g t h from into free l m = in_local_emits code arguments size (length scope) x.0 x.1 from free l h.0
-    variable_emits home None (Some g) t h from into free l m = one_emits code arguments size home (λ r. Plain.Read r g.cell) (own.Read into g.cell) g.global.of from free into l refl m
+        Emits code arguments layout (VariableCode code layout home (length scope) o g) from free l (variable o g from into l)
+    variable_emits home (Some x) g t h from into free l m = in_local_emits code arguments layout (length scope) x.0 x.1 from free l h.0
+    variable_emits home None (Some g) t h from into free l m = one_emits code arguments layout home (λ r. Plain.Read r g.cell) (own.Read into g.cell) g.global.of from free into l refl m
     variable_emits home None None t h from into free l m = absurd h
 
-    element_at_emits : (home : Option ℕ) (A : Coded) (g : Option GlobalCells) (t : Scalar) → Found g t → (from into free : ℕ) (l : Lists) (e : Emitted) → Emits code arguments size A from free l e → MayTake home free into →
-        Emits code arguments size (ElementAt code size home g A) from free l (element g e from into l)
+    element_at_emits : (home : Option ℕ) (A : Coded) (g : Option GlobalCells) (t : Scalar) → Found g t → (from into free : ℕ) (l : Lists) (e : Emitted) → Emits code arguments layout A from free l e → MayTake home free into →
+        Emits code arguments layout (ElementAt code layout home g A) from free l (element g e from into l)
     element_at_emits home A None t f from into free l e h m = absurd (cc f.1)
-    element_at_emits home A (Some g) t f from into free l e h m = element_emits code arguments size home g A from free into l e h m
+    element_at_emits home A (Some g) t f from into free l e h m = element_emits code arguments layout home g A from free into l e h m
 
     -- the callee of a call
     record Calls (x : List ℕ) : Type 0 where
@@ -135,6 +135,14 @@ module _ (p : Program) (code : Code) (arguments : List ℕ) (size : ℕ) (typed 
           result = result_of d.0.0 k.0 k.1 d.2 ∙ sym (ap call_type k.2);
         }
 
+    operand_is : (own : Layout) (b : Expr) (from : ℕ) (l : Lists) (e : Emitted) → type_of known b ≡ Some e.held.of → type_of known b ≡ Some (ready_or (constant_ready own b from) l e).held.of
+    operand_is own (Constant n t at) from l e h = by (ready_from own.writable own.constants (word_of (pos n)))
+      where
+        by : (o : Option ℕ) → Some t ≡ Some (ready_or (option_map (λ r. record { register = r; of = t; to = from }) o) l e).held.of
+        by None = h
+        by (Some r) = refl
+    operand_is own b from l e h = h
+
     -- the type of what is emitted is the expression's
     pub type_is : (e : Expr) → TypedExpr known e → Gives known e → (from into free : ℕ) (l : Lists) → type_of known e ≡ Some (emitted p scope e from into free l).held.of
     type_is (Variable x) h g from into free l =
@@ -156,9 +164,11 @@ module _ (p : Program) (code : Code) (arguments : List ℕ) (size : ℕ) (typed 
     type_is (Binary op a b at) h g from into free l =
         let left = emitted p scope a from free free l in
         let later : ℕ = above free left.held.register in
+        let found = constant_ready left.lists.layout b left.held.to in
+        let computed = emitted p scope b left.held.to later later left.lists in
         ap (λ o. binary_type op o (type_of known b)) (type_is a h.0 h.1 from free free l)
-        ∙ ap (λ o. binary_type op (Some left.held.of) o) (type_is b h.2 h.3 left.held.to later later left.lists)
-        ∙ binary_of op left.held.of (emitted p scope b left.held.to later later left.lists).held.of
+        ∙ ap (λ o. binary_type op (Some left.held.of) o) (operand_is left.lists.layout b left.held.to left.lists computed (type_is b h.2 h.3 left.held.to later later left.lists))
+        ∙ binary_of op left.held.of (ready_or found left.lists computed).held.of
     type_is (Conditional c a b at) h g from into free l =
         let test = condition p scope c from free l in
         let x = emitted p scope a (test.to + 1) into free test.lists in
@@ -169,11 +179,11 @@ module _ (p : Program) (code : Code) (arguments : List ℕ) (size : ℕ) (typed 
     type_is e h g from into free l = refl
 
     call_emits : (home : Option ℕ) (x : List ℕ) (A : (from to free : ℕ) → List ℕ → Type 0) (c : Calls x) (o : Option Callee) → o ≡ Some (callee_at c.number c.definition.0) → (from into free : ℕ) (l : Lists) (args : AllEmitted) → AllEmits A from free l args → MayTake home free into →
-        Emits code arguments size (CallCode code size home p x A) from free l (called o args from into l)
+        Emits code arguments layout (CallCode code layout home p x A) from free l (called o args from into l)
     call_emits home x A c None e from into free l args h m = absurd (cc)
-    call_emits home x A c (Some d) e from into free l args h m = subst (λ k. Emits code arguments size (CallCode code size home p x A) from free l (called (Some k) args from into l)) (sym (ap (λ o. unwrap_or o d) e)) whole
+    call_emits home x A c (Some d) e from into free l args h m = subst (λ k. Emits code arguments layout (CallCode code layout home p x A) from free l (called (Some k) args from into l)) (sym (ap (λ o. unwrap_or o d) e)) whole
       where
-        whole : Emits code arguments size (CallCode code size home p x A) from free l (called (Some (callee_at c.number c.definition.0)) args from into l)
+        whole : Emits code arguments layout (CallCode code layout home p x A) from free l (called (Some (callee_at c.number c.definition.0)) args from into l)
         whole =
             let f : Function = c.definition.0 in
             let made : List ℕ = args.lists.arguments in
@@ -181,8 +191,8 @@ module _ (p : Program) (code : Code) (arguments : List ℕ) (size : ℕ) (typed 
             let i : Instr = own.Call into (length handed) c.number (length made) in
             let more : Lists = record args.lists { arguments = made ++ handed } in
             let lists : Lists = holding (length handed) more in
-            let grows_more : Grows args.lists more = record { arguments = front_more made handed; texts = front_same args.lists.texts; registers = omega arith } in
-            let grows_lists : Grows more lists = record { arguments = front_same (made ++ handed); texts = front_same args.lists.texts; registers = max_left args.lists.registers (length handed) } in
+            let grows_more : Grows args.lists more = record { arguments = front_more made handed; texts = front_same args.lists.texts; registers = omega arith; layout = refl } in
+            let grows_lists : Grows more lists = record { arguments = front_same (made ++ handed); texts = front_same args.lists.texts; registers = max_left args.lists.registers (length handed); layout = refl } in
             let all : Grows args.lists (used into lists) = grows_used args.lists lists into (grows_further args.lists more lists grows_more grows_lists) in
             record {
               to_is = let a = h.to_is in let b : length (args.code ++ i ∷ []) ≡ length args.code + 1 = length-append args.code (i ∷ []) in omega (arith, a, b);
@@ -190,7 +200,7 @@ module _ (p : Program) (code : Code) (arguments : List ℕ) (size : ℕ) (typed 
               stands = λ g st.
                   let at = (behind code arguments from args.to args.code (i ∷ []) h.to_is st).0 in
                   let same : instr_of arguments i ≡ Plain.Call c.number into handed = ap (λ xs. Plain.Call c.number into xs) (handed_over arguments made handed g.arguments.0 g.arguments.1) in
-                  let own_one = given code arguments size home i (unwrap_or f.result Int) args.to (args.to + 1) free into (omega arith) m (is_register code arguments size lists into g) at in
+                  let own_one = given code arguments layout home i (unwrap_or f.result Int) args.to (args.to + 1) free into (omega arith) m (is_register code arguments layout lists into g) at in
                   record {
                     mid = args.to;
                     number = c.number;
@@ -198,8 +208,8 @@ module _ (p : Program) (code : Code) (arguments : List ℕ) (size : ℕ) (typed 
                     f = f;
                     body = c.definition.1;
                     registers_of = args.registers;
-                    gives_args = h.stands (fits_before code arguments size args.lists (used into lists) all g) (front code arguments from args.code (i ∷ []) st);
-                    calls = subst (λ j. GivenBy code size home j (unwrap_or f.result Int) args.to (args.to + 1) free into (unwrap_or f.result Int)) same own_one;
+                    gives_args = h.stands (fits_before code arguments layout args.lists (used into lists) all g) (front code arguments from args.code (i ∷ []) st);
+                    calls = subst (λ j. GivenBy code layout home j (unwrap_or f.result Int) args.to (args.to + 1) free into (unwrap_or f.result Int)) same own_one;
                     known = c.stands;
                     named = c.named;
                     defined = c.defines;
@@ -211,71 +221,73 @@ module _ (p : Program) (code : Code) (arguments : List ℕ) (size : ℕ) (typed 
 
     -- a value that did not come into the register that was asked for lies in a local's own
     elsewhere : (e : Expr) → TypedExpr known e → (from into free : ℕ) (l : Lists) →
-        Emits code arguments size (ExprCode code size p None scope e) from free l (emitted p scope e from into free l) ⊎ ((emitted p scope e from into free l).held.register ≡ into)
+        Emits code arguments layout (ExprCode code layout p None scope e) from free l (emitted p scope e from into free l) ⊎ ((emitted p scope e from into free l).held.register ≡ into)
     elsewhere (Variable x) h from into free l =
         let k = known_number (known x.text) h.0 h.1 in
         by (newest scope x.text) (global_of p x.text) k.0 (variable_found p scope x.text k.0 (agrees x.text h.0 ∙ k.1))
       where
         by : (o : Option (ℕ × Scalar)) (g : Option GlobalCells) (t : Scalar) → VariableFound (length scope) o g t →
-            Emits code arguments size (VariableCode code size None (length scope) o g) from free l (variable o g from into l) ⊎ ((variable o g from into l).held.register ≡ into)
-        by (Some x) g t f = inl (in_local_emits code arguments size (length scope) x.0 x.1 from free l f.0)
+            Emits code arguments layout (VariableCode code layout None (length scope) o g) from free l (variable o g from into l) ⊎ ((variable o g from into l).held.register ≡ into)
+        by (Some x) g t f = inl (in_local_emits code arguments layout (length scope) x.0 x.1 from free l f.0)
         by None (Some g) t f = inr refl
         by None None t f = absurd f
     elsewhere (Element x i at) h from into free l = inr (element_into (global_of p x.text) (emitted p scope i from free free l) from into l)
     elsewhere (Call f es at) h from into free l = inr (called_into (callee_of p f.text) (all_emitted p scope es from free l) from into l)
     elsewhere (Parenthesized e at) h from into free l = elsewhere e h from into free l
     elsewhere (Cast t e at) h from into free l =
-        ⊎_elim (λ g. inl (cast_emits code arguments size t (ExprCode code size p None scope e) from free l (emitted p scope e from into free l) g)) (λ g. inr g) (elsewhere e h from into free l)
+        ⊎_elim (λ g. inl (cast_emits code arguments layout t (ExprCode code layout p None scope e) from free l (emitted p scope e from into free l) g)) (λ g. inr g) (elsewhere e h from into free l)
     elsewhere (Unary Keep e at) h from into free l = elsewhere e h.0 from into free l
     elsewhere e h from into free l = inr refl
 
     abbrev Tests : Expr → Branching
-    Tests e = CondCode code size p scope e
+    Tests e = CondCode code layout p scope e
 
-    by_parts : (e : Expr) (from free : ℕ) (l : Lists) → IfSome (own_condition p scope e from free l) (Decides code arguments size (Tests e) from free l) → Emits code arguments size (ExprCode code size p None scope e) from free l (emitted p scope e from free free l) →
-        Decides code arguments size (Tests e) from free l (condition p scope e from free l)
-    by_parts e from free l h g = tested_decides code arguments size (ExprCode code size p None scope e) (OwnTests code size p scope e) from free l (own_condition p scope e from free l) (emitted p scope e from free free l) h g
+    by_parts : (e : Expr) (from free : ℕ) (l : Lists) → IfSome (own_condition p scope e from free l) (Decides code arguments layout (Tests e) from free l) → Emits code arguments layout (ExprCode code layout p None scope e) from free l (emitted p scope e from free free l) →
+        Decides code arguments layout (Tests e) from free l (condition p scope e from free l)
+    by_parts e from free l h g = tested_decides code arguments layout (ExprCode code layout p None scope e) (OwnTests code layout p scope e) from free l (own_condition p scope e from free l) (emitted p scope e from free free l) h g
 
     mutual
       pub expr_emits : (home : Option ℕ) (e : Expr) → TypedExpr known e → (from into free : ℕ) (l : Lists) → MayTake home free into →
-          Emits code arguments size (ExprCode code size p home scope e) from free l (emitted p scope e from into free l)
+          Emits code arguments layout (ExprCode code layout p home scope e) from free l (emitted p scope e from into free l)
       expr_emits home (Variable x) h from into free l m =
           let k = known_number (known x.text) h.0 h.1 in
           variable_emits home (newest scope x.text) (global_of p x.text) k.0 (variable_found p scope x.text k.0 (agrees x.text h.0 ∙ k.1)) from into free l m
-      expr_emits home (Constant n t at) h from into free l m = one_emits code arguments size home (λ r. Plain.Constant r (word_of (pos n))) (own.Constant into (word_of (pos n))) t from free into l refl m
+      expr_emits home (Constant n t at) h from into free l m = one_emits code arguments layout home (λ r. Plain.Constant r (word_of (pos n))) (own.Constant into (word_of (pos n))) t from free into l refl m
       expr_emits home (Element x i at) h from into free l m =
           let k = known_array (known x.text) h.0 h.2 in
-          element_at_emits home (ExprCode code size p None scope i) (global_of p x.text) k.0 (array_found p scope x.text k.0 k.1 (agrees x.text h.0 ∙ k.2)) from into free l (emitted p scope i from free free l)
+          element_at_emits home (ExprCode code layout p None scope i) (global_of p x.text) k.0 (array_found p scope x.text k.0 k.1 (agrees x.text h.0 ∙ k.2)) from into free l (emitted p scope i from free free l)
           (expr_emits None i h.1 from free free l (omega arith)) m
       expr_emits home (Call f es at) h from into free l m =
           let c = calls f h.0 h.2 in
-          call_emits home f.text (ArgsCode code size p scope es) c (callee_of p f.text) c.callee from into free l (all_emitted p scope es from free l) (all_emits es h.1 from free l) m
+          call_emits home f.text (ArgsCode code layout p scope es) c (callee_of p f.text) c.callee from into free l (all_emitted p scope es from free l) (all_emits es h.1 from free l) m
       expr_emits home (Parenthesized e at) h from into free l m = expr_emits home e h from into free l m
-      expr_emits home (Cast t e at) h from into free l m = cast_emits code arguments size t (ExprCode code size p home scope e) from free l (emitted p scope e from into free l) (expr_emits home e h from into free l m)
+      expr_emits home (Cast t e at) h from into free l m = cast_emits code arguments layout t (ExprCode code layout p home scope e) from free l (emitted p scope e from into free l) (expr_emits home e h from into free l m)
       expr_emits home (Unary Negate e at) h from into free l m =
-          negated_emits code arguments size home (ExprCode code size p None scope e) from free into l (emitted p scope e from free free l) (expr_emits None e h.0 from free free l (omega arith)) m
+          negated_emits code arguments layout home (ExprCode code layout p None scope e) from free into l (emitted p scope e from free free l) (expr_emits None e h.0 from free free l (omega arith)) m
       expr_emits home (Unary Keep e at) h from into free l m = expr_emits home e h.0 from into free l m
       expr_emits home (Unary Not e at) h from into free l m =
-          compared_emits code arguments size home (ExprCode code size p None scope e) from free into l (emitted p scope e from free free l) (expr_emits None e h.0 from free free l (omega arith)) m
+          compared_emits code arguments layout home (ExprCode code layout p None scope e) from free into l (emitted p scope e from free free l) (expr_emits None e h.0 from free free l (omega arith)) m
       expr_emits home (Unary Complement e at) h from into free l m =
-          complemented_emits code arguments size home (ExprCode code size p None scope e) from free into l (emitted p scope e from free free l) (expr_emits None e h.0 from free free l (omega arith)) m
+          complemented_emits code arguments layout home (ExprCode code layout p None scope e) from free into l (emitted p scope e from free free l) (expr_emits None e h.0 from free free l (omega arith)) m
       expr_emits home (Binary op a b at) h from into free l m =
           let left = emitted p scope a from free free l in
           let later : ℕ = above free left.held.register in
-          both_emits code arguments size home op (ExprCode code size p None scope a) (ExprCode code size p None scope b) from free into l left (emitted p scope b left.held.to later later left.lists)
-          (expr_emits None a h.0 from free free l (omega arith)) (expr_emits None b h.2 left.held.to later later left.lists (omega arith)) m
+          let computed = emitted p scope b left.held.to later later left.lists in
+          both_emits code arguments layout home op (ExprCode code layout p None scope a) (OperandCode code layout b (ExprCode code layout p None scope b)) from free into l left (ready_or (constant_ready left.lists.layout b left.held.to) left.lists computed)
+          (expr_emits None a h.0 from free free l (omega arith))
+          (operand_emits code arguments layout b (ExprCode code layout p None scope b) left.held.to later left.lists computed (expr_emits None b h.2 left.held.to later later left.lists (omega arith))) m
       expr_emits home (Logical AndThen a b at) h from into free l m =
           let first = condition p scope a from free l in
           let second = condition p scope b (first.to + 1) free first.lists in
-          answered_emits code arguments size home (BothHold code size (Tests a) (Tests b)) from free into l (joined AndThen first second)
-          (and_decides code arguments size (Tests a) (Tests b) from free l first second
+          answered_emits code arguments layout home (BothHold code layout (Tests a) (Tests b)) from free into l (joined AndThen first second)
+          (and_decides code arguments layout (Tests a) (Tests b) from free l first second
           (by_parts a from free l (own_decides a h.0 from free l) (expr_emits None a h.0 from free free l (omega arith)))
           (by_parts b (first.to + 1) free first.lists (own_decides b h.1 (first.to + 1) free first.lists) (expr_emits None b h.1 (first.to + 1) free free first.lists (omega arith)))) m
       expr_emits home (Logical OrElse a b at) h from into free l m =
           let first = condition p scope a from free l in
           let second = condition p scope b (first.to + 1) free first.lists in
-          answered_emits code arguments size home (EitherHolds code size (Tests a) (Tests b)) from free into l (joined OrElse first second)
-          (or_decides code arguments size (Tests a) (Tests b) from free l first second
+          answered_emits code arguments layout home (EitherHolds code layout (Tests a) (Tests b)) from free into l (joined OrElse first second)
+          (or_decides code arguments layout (Tests a) (Tests b) from free l first second
           (by_parts a from free l (own_decides a h.0 from free l) (expr_emits None a h.0 from free free l (omega arith)))
           (by_parts b (first.to + 1) free first.lists (own_decides b h.1 (first.to + 1) free first.lists) (expr_emits None b h.1 (first.to + 1) free free first.lists (omega arith)))) m
       expr_emits home (Conditional c a b at) h from into free l m =
@@ -285,10 +297,10 @@ module _ (p : Program) (code : Code) (arguments : List ℕ) (size : ℕ) (typed 
           let y = emitted p scope b (first.held.to + 1) into free first.lists in
           let second = settled into y in
           let t : Scalar = common first.held.of second.held.of in
-          let whole = chosen_emits code arguments size home (Tests c) (λ k. ExprCode code size p k scope a) (λ k. ExprCode code size p k scope b) from into free l test first second
+          let whole = chosen_emits code arguments layout home (Tests c) (λ k. ExprCode code layout p k scope a) (λ k. ExprCode code layout p k scope b) from into free l test first second
           (by_parts c from free l (own_decides c h.0 from free l) (expr_emits None c h.0 from free free l (omega arith)))
-          (settled_emits code arguments size home (λ k. ExprCode code size p k scope a) (test.to + 1) into free test.lists x (expr_emits home a h.1 (test.to + 1) into free test.lists m) (elsewhere a h.1 (test.to + 1) into free test.lists) m t)
-          (settled_emits code arguments size home (λ k. ExprCode code size p k scope b) (first.held.to + 1) into free first.lists y (expr_emits home b h.3 (first.held.to + 1) into free first.lists m) (elsewhere b h.3 (first.held.to + 1) into free first.lists) m t) in
+          (settled_emits code arguments layout home (λ k. ExprCode code layout p k scope a) (test.to + 1) into free test.lists x (expr_emits home a h.1 (test.to + 1) into free test.lists m) (elsewhere a h.1 (test.to + 1) into free test.lists) m t)
+          (settled_emits code arguments layout home (λ k. ExprCode code layout p k scope b) (first.held.to + 1) into free first.lists y (expr_emits home b h.3 (first.held.to + 1) into free first.lists m) (elsewhere b h.3 (first.held.to + 1) into free first.lists) m t) in
           record {
             to_is = whole.to_is;
             grows = whole.grows;
@@ -300,40 +312,40 @@ module _ (p : Program) (code : Code) (arguments : List ℕ) (size : ℕ) (typed 
             );
           }
 
-      own_decides : (e : Expr) → TypedExpr known e → (from free : ℕ) (l : Lists) → IfSome (own_condition p scope e from free l) (Decides code arguments size (Tests e) from free l)
+      own_decides : (e : Expr) → TypedExpr known e → (from free : ℕ) (l : Lists) → IfSome (own_condition p scope e from free l) (Decides code arguments layout (Tests e) from free l)
       own_decides (Parenthesized e at) h from free l =
-          same_decides code arguments size (Tests e) (Tests (Parenthesized e at)) from free l (condition p scope e from free l) (λ met unmet t. inr (inr t))
+          same_decides code arguments layout (Tests e) (Tests (Parenthesized e at)) from free l (condition p scope e from free l) (λ met unmet t. inr (inr t))
           (by_parts e from free l (own_decides e h from free l) (expr_emits None e h from free free l (omega arith)))
       own_decides (Cast t e at) h from free l =
-          same_decides code arguments size (Tests e) (Tests (Cast t e at)) from free l (condition p scope e from free l) (λ met unmet t. inr (inr t))
+          same_decides code arguments layout (Tests e) (Tests (Cast t e at)) from free l (condition p scope e from free l) (λ met unmet t. inr (inr t))
           (by_parts e from free l (own_decides e h from free l) (expr_emits None e h from free free l (omega arith)))
       own_decides (Unary Keep e at) h from free l =
-          same_decides code arguments size (Tests e) (Tests (Unary Keep e at)) from free l (condition p scope e from free l) (λ met unmet t. inr (inr t))
+          same_decides code arguments layout (Tests e) (Tests (Unary Keep e at)) from free l (condition p scope e from free l) (λ met unmet t. inr (inr t))
           (by_parts e from free l (own_decides e h.0 from free l) (expr_emits None e h.0 from free free l (omega arith)))
       own_decides (Unary Not e at) h from free l =
-          opposite_decides code arguments size (Tests e) (Tests (Unary Not e at)) from free l (condition p scope e from free l) (λ met unmet t. inr (inr t))
+          opposite_decides code arguments layout (Tests e) (Tests (Unary Not e at)) from free l (condition p scope e from free l) (λ met unmet t. inr (inr t))
           (by_parts e from free l (own_decides e h.0 from free l) (expr_emits None e h.0 from free free l (omega arith)))
       own_decides (Binary op a b at) h from free l =
-          zero_decides code arguments size op b (Tests a) (Tests (Binary op a b at)) from free l (condition p scope a from free l)
+          zero_decides code arguments layout op b (Tests a) (Tests (Binary op a b at)) from free l (condition p scope a from free l)
           (by_parts a from free l (own_decides a h.0 from free l) (expr_emits None a h.0 from free free l (omega arith)))
           (λ met unmet t. inr (inr t))
       own_decides (Logical AndThen a b at) h from free l =
           let first = condition p scope a from free l in
           let second = condition p scope b (first.to + 1) free first.lists in
-          same_decides code arguments size (BothHold code size (Tests a) (Tests b)) (Tests (Logical AndThen a b at)) from free l (joined AndThen first second) (λ met unmet t. inr (inr t))
-          (and_decides code arguments size (Tests a) (Tests b) from free l first second
+          same_decides code arguments layout (BothHold code layout (Tests a) (Tests b)) (Tests (Logical AndThen a b at)) from free l (joined AndThen first second) (λ met unmet t. inr (inr t))
+          (and_decides code arguments layout (Tests a) (Tests b) from free l first second
           (by_parts a from free l (own_decides a h.0 from free l) (expr_emits None a h.0 from free free l (omega arith)))
           (by_parts b (first.to + 1) free first.lists (own_decides b h.1 (first.to + 1) free first.lists) (expr_emits None b h.1 (first.to + 1) free free first.lists (omega arith))))
       own_decides (Logical OrElse a b at) h from free l =
           let first = condition p scope a from free l in
           let second = condition p scope b (first.to + 1) free first.lists in
-          same_decides code arguments size (EitherHolds code size (Tests a) (Tests b)) (Tests (Logical OrElse a b at)) from free l (joined OrElse first second) (λ met unmet t. inr (inr t))
-          (or_decides code arguments size (Tests a) (Tests b) from free l first second
+          same_decides code arguments layout (EitherHolds code layout (Tests a) (Tests b)) (Tests (Logical OrElse a b at)) from free l (joined OrElse first second) (λ met unmet t. inr (inr t))
+          (or_decides code arguments layout (Tests a) (Tests b) from free l first second
           (by_parts a from free l (own_decides a h.0 from free l) (expr_emits None a h.0 from free free l (omega arith)))
           (by_parts b (first.to + 1) free first.lists (own_decides b h.1 (first.to + 1) free first.lists) (expr_emits None b h.1 (first.to + 1) free free first.lists (omega arith))))
       own_decides e h from free l = tt
 
-      pub all_emits : (es : Exprs) → TypedExprs known es → (from free : ℕ) (l : Lists) → AllEmits (ArgsCode code size p scope es) from free l (all_emitted p scope es from free l)
+      pub all_emits : (es : Exprs) → TypedExprs known es → (from free : ℕ) (l : Lists) → AllEmits (ArgsCode code layout p scope es) from free l (all_emitted p scope es from free l)
       all_emits Exprs.[] h from free l = record { to_is = omega arith; grows = grows_same l; stands = λ f st. (refl, refl) }
       all_emits (Exprs.◌∷◌ e es) h from free l =
           let first = emitted p scope e from free free l in
@@ -350,7 +362,7 @@ module _ (p : Program) (code : Code) (arguments : List ℕ) (size : ℕ) (typed 
               r = first.held.register;
               t = first.held.of;
               others = rest.registers;
-              computes = one.stands (fits_before code arguments size first.lists rest.lists others.grows f) (front code arguments from first.code rest.code st);
+              computes = one.stands (fits_before code arguments layout first.lists rest.lists others.grows f) (front code arguments from first.code rest.code st);
               kept = above_free free first.held.register;
               apart = above_it free first.held.register;
               goes_on = others.stands f (behind code arguments from first.held.to first.code rest.code one.to_is st);
@@ -358,5 +370,5 @@ module _ (p : Program) (code : Code) (arguments : List ℕ) (size : ℕ) (typed 
             };
           }
 
-    pub cond_decides : (e : Expr) → TypedExpr known e → (from free : ℕ) (l : Lists) → Decides code arguments size (CondCode code size p scope e) from free l (condition p scope e from free l)
+    pub cond_decides : (e : Expr) → TypedExpr known e → (from free : ℕ) (l : Lists) → Decides code arguments layout (CondCode code layout p scope e) from free l (condition p scope e from free l)
     cond_decides e h from free l = by_parts e from free l (own_decides e h from free l) (expr_emits None e h from free free l (omega arith))

@@ -1,6 +1,6 @@
 -- The code that is picked for a typed and safe program stands for it.
-use Rattle.std.proofs.Common.{◌≡◌, refl, sym, ap, subst, ◌∙◌, ℕ, zero, suc, ◌+◌, List, [], ◌∷◌, ◌++◌, append_assoc, length, map, replicate, arith, Option, Some, None, Bool, true, false, ◌&&◌, ◌||◌, not, IsTrue}
-use Rattle.std.specs.Prelude.{if◌then◌else◌, bytes_eq, codes, unwrap_or, option_map, slice_get, is_none}
+use Rattle.std.proofs.Common.{◌≡◌, refl, sym, ap, subst, ◌∙◌, ℕ, zero, suc, ◌+◌, ◌≤◌, List, [], ◌∷◌, ◌++◌, append_assoc, length, map, replicate, arith, Option, Some, None, Bool, true, false, ◌&&◌, ◌||◌, not, IsTrue}
+use Rattle.std.specs.Prelude.{if◌then◌else◌, nat_le, bytes_eq, codes, unwrap_or, option_map, slice_get, is_none}
 use Rattle.std.proofs.lemmas.List.{length-append, length-replicate}
 use Rattle.std.proofs.lemmas.Slice.Eq.{bytes_eq-Decides}
 use Rattle.lex.specs.declared.token.Scalar.{Scalar}
@@ -19,19 +19,24 @@ use Rattle.syntax.proofs.ValueTypes.{rest_met}
 use Rattle.syntax.proofs.Called.{called_are_defined, bodies_are_typed, worker_known, shapes_of, entered_shapes, all_enter}
 use Rattle.bytecode.specs.declared.instr.Instr.{Instr}
 use Rattle.bytecode.specs.declared.instr.Instr.TheVariants as own
-use Rattle.bytecode.specs.Code.{Code, FunctionCode}
+use Rattle.bytecode.specs.declared.limits.TheConstants.{MOST_REGISTERS}
+use Rattle.bytecode.specs.Code.{Code, FunctionCode, Instr as Plain}
 use Rattle.bytecode.specs.Views.{instr_of}
 use Rattle.bytecode.specs.Beginning.{worker_among}
-use Rattle.lowered.specs.Expressions.{LocalScope}
+use Rattle.lowered.specs.Expressions.{LocalScope, Layout, At}
+use Rattle.lowered.specs.Statements.{StmtsCode}
 use Rattle.lowered.specs.Programs as Lowered
 use Rattle.lowered.specs.Programs.{parameter_locals, FunctionIsLowered, IsLowered}
 use Rattle.lower.specs.Lists.{Lists}
 use Rattle.lower.specs.Names.{Callee, callee_at, callee_first, callee_from}
 use Rattle.lower.specs.Simples.{Written}
 use Rattle.lower.specs.Statements.{all_written}
-use Rattle.lower.specs.Programs.{no_exits, body_written, Made, function_code, put_before, made_first, all_made, made_of, lowered_code}
-use Rattle.lower.proofs.stands.Standing.{Stand, front, behind, IsFront, front_same, front_front}
+use Rattle.lower.specs.Loops.{in_loops}
+use Rattle.lower.specs.Programs.{no_exits, body_with, nothing_ready, all_set, body_ready, body_better, body_written, Made, function_code, put_before, made_first, all_made, made_of, lowered_code}
+use Rattle.lower.proofs.stands.Standing.{Stand, front, behind, IsFront, front_same, front_front, IsReadyIn, nothing_is_found, all_are_found}
 use Rattle.lower.proofs.stands.Exprs.{CalleesStand, DefinedAreCallees}
+use Rattle.lower.proofs.Leaner.{body_leaner}
+use Rattle.lower.proofs.stands.Writing.{Writes}
 use Rattle.lower.proofs.stands.Statements.{stmts_write}
 use Rattle.lower.proofs.stands.Cancelling.{CancelsAreFit}
 
@@ -87,7 +92,7 @@ callee_is_there p n (Defines f ∷ items) from l x c e = by f.body (λ h. callee
 
 pub callees_stand : (p : Program) → CalleesStand p (lowered_code p)
 callees_stand p x c e =
-    let r = callee_is_there p 0 p 0 (record { arguments = []; texts = []; registers = 0 }) x c e in
+    let r = callee_is_there p 0 p 0 (record { arguments = []; texts = []; registers = 0; layout = nothing_ready }) x c e in
     let same : r.number ≡ c.number = (let k = r.is in omega (arith, k)) in
     (r.function, subst (λ n. slice_get (made_of p).functions n ≡ Some r.function) same r.there, r.named)
 
@@ -114,6 +119,22 @@ on_same l = record { arguments = front_same l.arguments; texts = front_same l.te
 pub on_further : (l m n : Lists) → GoesOn l m → GoesOn m n → GoesOn l n
 on_further l m n h g = record { arguments = front_front l.arguments m.arguments n.arguments h.arguments g.arguments; texts = front_front l.texts m.texts n.texts h.texts g.texts }
 
+pub sets_length : (r : ℕ) (ws : List ℕ) → length (all_set r ws) ≡ length ws
+sets_length r [] = refl
+sets_length r (w ∷ ws) = ap suc (sets_length (suc r) ws)
+
+-- all instructions of a code stand in it
+at_front : (arguments : List ℕ) (before : List Instr) (i : Instr) (after : List Instr) → slice_get (map (instr_of arguments) (before ++ i ∷ after)) (length before) ≡ Some (instr_of arguments i)
+at_front arguments [] i after = refl
+at_front arguments (j ∷ before) i after = at_front arguments before i after
+
+pub all_stand : (code : Code) (arguments : List ℕ) (before is : List Instr) → code.instructions ≡ map (instr_of arguments) (before ++ is) → Stand code arguments (length before) is
+all_stand code arguments before [] e = tt
+all_stand code arguments before (i ∷ is) e =
+    let longer : length (before ++ i ∷ []) ≡ suc (length before) = (let h : length (before ++ i ∷ []) ≡ length before + 1 = length-append before (i ∷ []) in omega (arith, h)) in
+    let rest = all_stand code arguments (before ++ i ∷ []) is (e ∙ ap (λ xs. map (instr_of arguments) xs) (sym (append_assoc before (i ∷ []) is))) in
+    (ap (λ xs. slice_get xs (length before)) e ∙ at_front arguments before i is, subst (λ q. Stand code arguments q is) longer rest)
+
 module _ (p : Program) (typed : IsTypedProgram p) (cancels : CancelsAreFit p) where
   abbrev code : Code
   code = lowered_code p
@@ -126,8 +147,17 @@ module _ (p : Program) (typed : IsTypedProgram p) (cancels : CancelsAreFit p) wh
     goes_on : GoesOn l w.lists
     stands : GoesOn w.lists final → Stand code final.arguments from w.code → FunctionIsLowered p code (function_code f from w) f body
 
-  body_stands : (f : Function) (body : Stmts) → definition_of p f.name.text ≡ Some (f, body) → (from : ℕ) (l : Lists) → BodyStands f body from l (body_written p f body from l)
-  body_stands f body e from l =
+  -- a body with its return, by what lies ready
+  record BodyRuns (found : Layout) (f : Function) (body : Stmts) (from : ℕ) (l : Lists) (w : Written) : Type 0 where
+    last : ℕ
+    to_is : w.to ≡ from + length w.code
+    goes_on : GoesOn l w.lists
+    named : length f.parameters ≤ w.lists.registers
+    stands : (layout : Layout) → IsReadyIn layout found → w.lists.registers ≤ layout.writable → GoesOn w.lists final → Stand code final.arguments from w.code →
+        StmtsCode code layout p Lowered.no_exits (parameter_locals f.parameters) body from last × At code last (Plain.Return None)
+
+  body_runs : (found : Layout) (f : Function) (body : Stmts) → definition_of p f.name.text ≡ Some (f, body) → (from : ℕ) (l : Lists) → BodyRuns found f body from l (body_with found p f body from l)
+  body_runs found f body e from l =
       let n : ℕ = length f.parameters in
       let scope : LocalScope = parameter_locals f.parameters in
       let t = bodies_are_typed p typed f.name.text (f, body) e in
@@ -135,22 +165,85 @@ module _ (p : Program) (typed : IsTypedProgram p) (cancels : CancelsAreFit p) wh
       let vs : List Value = replicate n (record { of = Int; word = 0 }) in
       let enters = all_enter f.parameters vs (length-replicate n (record { of = Int; word = 0 })) in
       let agrees : Agrees known (running_scope p scope) = agrees_by_shape p known scope (subst (λ m. Agrees known (scope_in p m)) (entered_shapes f.parameters vs enters.0 enters.1 ∙ sym (parameters_are f.parameters)) (shape_agrees p known enters.0 (t.fits vs enters.0 enters.1))) in
-      let first : Lists = record l { registers = n } in
+      let first : Lists = record l { registers = n; layout = found } in
       let made = all_written p body no_exits scope from first in
-      let w = stmts_write p code final.arguments made.lists.registers typed (callees_stand p) (defined_are_callees p) body known false scope no_exits Lowered.no_exits agrees
+      let writes : (layout : Layout) → Writes p code final.arguments layout (StmtsCode code layout p Lowered.no_exits scope body) from first made = (λ layout.
+      stmts_write p code final.arguments layout typed (callees_stand p) (defined_are_callees p) body known false scope no_exits Lowered.no_exits agrees
       (record { break_to = refl; continue_to = refl; in_loop = refl; in_function = refl })
-      (stmts_parts f.result body known (parameter_names f.parameters) false t.body) (cancels f.name.text (f, body) e) from first in
+      (stmts_parts f.result body known (parameter_names f.parameters) false t.body) (cancels f.name.text (f, body) e) from first) in
+      let w = writes found in
       record {
+        last = made.to;
         to_is = let a = w.to_is in let u : length (made.code ++ own.Return ∷ []) ≡ length made.code + 1 = length-append made.code (own.Return ∷ []) in omega (arith, a, u);
         goes_on = record { arguments = w.grows.arguments; texts = w.grows.texts };
-        stands = λ g st. record {
-          last = made.to;
-          parameters = refl;
-          fits = w.grows.registers;
-          runs = w.stands (record { arguments = g.arguments; texts = g.texts; registers = omega arith }) (front code final.arguments from made.code (own.Return ∷ []) st);
-          returns = (behind code final.arguments from made.to made.code (own.Return ∷ []) w.to_is st).0;
-        };
+        named = w.grows.registers;
+        stands = λ layout ready room g st. (
+          (writes layout).stands (record { arguments = g.arguments; texts = g.texts; registers = room; ready = subst (IsReadyIn layout) (sym w.grows.layout) ready }) (front code final.arguments from made.code (own.Return ∷ []) st),
+          (behind code final.arguments from made.to made.code (own.Return ∷ []) w.to_is st).0,
+        );
       }
+
+  plain_stands : (f : Function) (body : Stmts) (from : ℕ) (l : Lists) (w : Written) → BodyRuns nothing_ready f body from l w → BodyStands f body from l w
+  plain_stands f body from l w b = record {
+    to_is = b.to_is;
+    goes_on = b.goes_on;
+    stands = λ g st.
+        let layout : Layout = record { writable = w.lists.registers; constants = [] } in
+        let runs = b.stands layout (nothing_is_found layout) (omega arith) g st in
+        record { layout = layout; begins = from; last = b.last; parameters = refl; fits = b.named; registers = omega arith; sets = refl; runs = runs.0; returns = runs.1 };
+  }
+
+  sets_stand : (r : ℕ) (ws : List ℕ) (from : ℕ) → Stand code final.arguments from (all_set r ws) → Lowered.ConstantsCode code r ws from (from + length ws)
+  sets_stand r [] from st = omega arith
+  sets_stand r (w ∷ ws) from st = (st.0, subst (λ q. Lowered.ConstantsCode code (suc r) ws (suc from) q) (omega arith) (sets_stand (suc r) ws (suc from) st.1))
+
+  -- a body behind the instructions that set its constants
+  ready_stands : (layout : Layout) (f : Function) (body : Stmts) → definition_of p f.name.text ≡ Some (f, body) → (from : ℕ) (l : Lists) → length f.parameters ≤ layout.writable →
+      (body_with layout p f body (from + length layout.constants) l).lists.registers ≤ layout.writable → BodyStands f body from l (body_ready layout p f body from l)
+  ready_stands layout f body e from l named room =
+      let begins : ℕ = from + length layout.constants in
+      let made = body_with layout p f body begins l in
+      let sets : List Instr = all_set layout.writable layout.constants in
+      let b = body_runs layout f body e begins l in
+      let many = sets_length layout.writable layout.constants in
+      let begins_is : begins ≡ from + length sets = omega (arith, many) in
+      record {
+        to_is = let a = b.to_is in let u : length (sets ++ made.code) ≡ length sets + length made.code = length-append sets made.code in omega (arith, a, many, u);
+        goes_on = record { arguments = b.goes_on.arguments; texts = b.goes_on.texts };
+        stands = λ g st.
+            let runs = b.stands layout (all_are_found layout) room (record { arguments = g.arguments; texts = g.texts }) (behind code final.arguments from begins sets made.code begins_is st) in
+            record {
+              layout = layout;
+              begins = begins;
+              last = b.last;
+              parameters = refl;
+              fits = named;
+              registers = refl;
+              sets = sets_stand layout.writable layout.constants from (front code final.arguments from sets made.code st);
+              runs = runs.0;
+              returns = runs.1;
+            };
+      }
+
+  body_stands : (f : Function) (body : Stmts) → definition_of p f.name.text ≡ Some (f, body) → (from : ℕ) (l : Lists) → BodyStands f body from l (body_written p f body from l)
+  body_stands f body e from l = by (in_loops from plain.code)
+    where
+      plain : Written
+      plain = body_with nothing_ready p f body from l
+
+      runs : BodyRuns nothing_ready f body from l plain
+      runs = body_runs nothing_ready f body e from l
+
+      by_room : (layout : Layout) → plain.lists.registers ≡ layout.writable → (b : Bool) → BodyStands f body from l (if b then body_ready layout p f body from l else plain)
+      by_room layout same true =
+          let named = runs.named in
+          let leaner = body_leaner p f body layout from (from + length layout.constants) l l in
+          ready_stands layout f body e from l (omega (arith, same, named)) (omega (arith, same, leaner))
+      by_room layout same false = plain_stands f body from l plain runs
+
+      by : (ws : List ℕ) → BodyStands f body from l (body_better p f body from l plain ws)
+      by [] = plain_stands f body from l plain runs
+      by (w ∷ ws) = by_room (record { writable = plain.lists.registers; constants = w ∷ ws }) refl (nat_le (plain.lists.registers + length (w ∷ ws)) MOST_REGISTERS)
 
   -- each definition among these items is the first one of its name in the program
   abbrev pub Firsts : Program → Type 0
@@ -247,21 +340,9 @@ module _ (p : Program) (typed : IsTypedProgram p) (cancels : CancelsAreFit p) wh
           let w = body_written p f body from l in
           one_more_stands f body (first body refl) from l w (all_made p items w.to w.lists) (body_stands f body (first body refl) from l) (others w.to w.lists)
 
-  -- all instructions of the code stand in it
-  at_front : (before : List Instr) (i : Instr) (after : List Instr) → slice_get (map (instr_of final.arguments) (before ++ i ∷ after)) (length before) ≡ Some (instr_of final.arguments i)
-  at_front [] i after = refl
-  at_front (j ∷ before) i after = at_front before i after
-
-  pub all_stand : (before is : List Instr) → code.instructions ≡ map (instr_of final.arguments) (before ++ is) → Stand code final.arguments (length before) is
-  all_stand before [] e = tt
-  all_stand before (i ∷ is) e =
-      let longer : length (before ++ i ∷ []) ≡ suc (length before) = (let h : length (before ++ i ∷ []) ≡ length before + 1 = length-append before (i ∷ []) in omega (arith, h)) in
-      let rest = all_stand (before ++ i ∷ []) is (e ∙ ap (λ xs. map (instr_of final.arguments) xs) (sym (append_assoc before (i ∷ []) is))) in
-      (ap (λ xs. slice_get xs (length before)) e ∙ at_front before i is, subst (λ q. Stand code final.arguments q is) longer rest)
-
   each_is_one : (number : ℕ) (g : FunctionCode) → slice_get code.functions number ≡ Some g → IsOne g
   each_is_one number g e =
-      (made_stands p (firsts_from [] p items_met (λ x n. refl)) 0 (record { arguments = []; texts = []; registers = 0 })).stands (on_same final) (all_stand [] (made_of p).code refl) number g e
+      (made_stands p (firsts_from [] p items_met (λ x n. refl)) 0 (record { arguments = []; texts = []; registers = 0; layout = nothing_ready })).stands (on_same final) (all_stand code final.arguments [] (made_of p).code refl) number g e
 
   some_same : (a b : Function × Stmts) → Some a ≡ Some b → a ≡ b
   some_same a b e = ap (λ o. unwrap_or o a) e

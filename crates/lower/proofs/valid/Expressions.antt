@@ -20,13 +20,13 @@ use Rattle.bytecode.specs.Valid.{cells_of, Takes}
 use Rattle.lowered.specs.Expressions.{LocalScope}
 use Rattle.lower.specs.Lists.{Lists}
 use Rattle.lower.specs.Names.{Callee, callee_at, callee_of}
-use Rattle.lower.specs.Expressions.{Emitted, AllEmitted, above, variable, element, called, settled, emitted, own_condition, condition, all_emitted}
+use Rattle.lower.specs.Expressions.{Emitted, AllEmitted, above, constant_ready, ready_or, variable, element, called, settled, emitted, own_condition, condition, all_emitted}
 use Rattle.lower.specs.Conditions.{joined, zero_test}
 use Rattle.lower.proofs.stands.Standing.{grows_same}
 use Rattle.lower.proofs.stands.Named.{known_number, known_callable, function_found}
 use Rattle.lower.proofs.stands.Exprs.{DefinedAreCallees}
 use Rattle.lower.proofs.stands.Statements.{registers_are}
-use Rattle.lower.proofs.valid.Sounds.{settled_into, Sound, TestSound, AllSound, one_sound, in_local_sound, then_sound, cast_sound, negated_sound, complemented_sound, compared_sound, both_sound, opposite_sound, joined_sound, tested_sound, zero_sound, answered_sound, settled_sound, chosen_sound, followed_sound, called_sound}
+use Rattle.lower.proofs.valid.Sounds.{settled_into, Sound, TestSound, AllSound, one_sound, in_local_sound, then_sound, cast_sound, negated_sound, complemented_sound, compared_sound, operand_sound, both_sound, opposite_sound, joined_sound, tested_sound, zero_sound, answered_sound, settled_sound, chosen_sound, followed_sound, called_sound}
 use Rattle.lower.proofs.valid.Shared.{cells_lie, variable_has_one}
 
 -- a callee's number is that of a function of so many parameters
@@ -98,7 +98,9 @@ module _ (p : Program) (code : Code) (arguments : List ℕ) (f : FunctionCode) (
       expr_sound (Binary op a b at) h from into free l =
           let left = emitted p scope a from free free l in
           let later : ℕ = above free left.held.register in
-          both_sound code arguments f end op into from l left (emitted p scope b left.held.to later later left.lists) (expr_sound a h.0 from free free l) (expr_sound b h.2 left.held.to later later left.lists)
+          let computed = emitted p scope b left.held.to later later left.lists in
+          both_sound code arguments f end op into from l left (ready_or (constant_ready left.lists.layout b left.held.to) left.lists computed) (expr_sound a h.0 from free free l)
+          (operand_sound code arguments f end b left.held.to left.lists computed (expr_sound b h.2 left.held.to later later left.lists))
       expr_sound (Logical op a b at) h from into free l =
           let first = condition p scope a from free l in
           let second = condition p scope b (first.to + 1) free first.lists in

@@ -14,7 +14,8 @@ use Rattle.lower.specs.declared.held.Exits.{Exits}
 use Rattle.lower.specs.Lists.{Lists}
 use Rattle.lower.specs.Simples.{Written, one_written, and_then}
 use Rattle.lower.specs.Statements.{in_transaction, left_by, transacted}
-use Rattle.lower.proofs.stands.Standing.{Stand, front, behind, Grows, grows_same, grows_further, Fits, fits_before}
+use Rattle.lower.proofs.stands.Standing.{Stand, front, behind, Grows, grows_same, grows_further}
+use Rattle.lower.proofs.valid.Fitting.{Fits, fits_before}
 use Rattle.lower.proofs.valid.Goods.{IsGood, AreGood, good_append, Meets, Runs}
 use Rattle.lower.proofs.valid.Simples.{Flat}
 

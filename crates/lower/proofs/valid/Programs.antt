@@ -1,6 +1,6 @@
 -- The code that is picked for a typed and safe program is valid within the limits.
-use Rattle.std.proofs.Common.{◌≡◌, refl, sym, ap, subst, ◌∙◌, ℕ, zero, suc, ◌+◌, ◌≤◌, ◌<◌, List, [], ◌∷◌, ◌++◌, length, map, replicate, drop, arith, Option, Some, None, Bool, true, false, ◌&&◌, ◌||◌, not, IsTrue, ◌⊎◌, inl, inr}
-use Rattle.std.specs.Prelude.{bytes_eq, codes, unwrap_or, slice_get, is_none, option_map}
+use Rattle.std.proofs.Common.{◌≡◌, refl, sym, ap, subst, ◌∙◌, ℕ, zero, suc, ◌+◌, ◌^◌, ◌≤◌, ◌<◌, List, [], ◌∷◌, ◌++◌, length, map, replicate, drop, arith, Option, Some, None, Bool, true, false, ◌&&◌, ◌||◌, not, IsTrue, ◌⊎◌, inl, inr}
+use Rattle.std.specs.Prelude.{if◌then◌else◌, nat_le, bytes_eq, codes, unwrap_or, slice_get, is_none, option_map}
 use Rattle.std.proofs.lemmas.List.{length-append, length-replicate, length-map}
 use Rattle.std.proofs.lemmas.Bool.{cases_lt}
 use Rattle.std.proofs.lemmas.Slice.Eq.{bytes_eq-Decides}
@@ -8,7 +8,7 @@ use Rattle.lex.specs.declared.token.Scalar.{Scalar}
 use Rattle.lex.specs.declared.token.Scalar.TheVariants.{Int}
 use Rattle.syntax.specs.Tree.{Stmts, Function, Defines, Shares, Program}
 use Rattle.syntax.specs.declared.numbers.Value.{Value}
-use Rattle.syntax.specs.Names.{definition_of}
+use Rattle.syntax.specs.Names.{globals, definition_of}
 use Rattle.syntax.specs.Types.{Scope, Known, Callable, file_scope, running_scope, known_function}
 use Rattle.syntax.specs.Typing.{demand, may_be_function, has_name, defined_names, parameter_names, agrees, is_worker, same_types, AreDistinct, AreTypedItems, IsTypedBody, IsTypedFunction, IsTypedProgram}
 use Rattle.syntax.specs.ScopeLaws.{Agrees, body_scope}
@@ -18,24 +18,29 @@ use Rattle.syntax.proofs.Fits.{scope_in, agrees_by_shape, shape_agrees}
 use Rattle.syntax.proofs.ValueTypes.{rest_met}
 use Rattle.syntax.proofs.Called.{called_are_defined, bodies_are_typed, worker_known, entered_shapes, all_enter}
 use Rattle.bytecode.specs.declared.limits.TheConstants.{MOST_INSTRUCTIONS, MOST_REGISTERS}
+use Rattle.bytecode.specs.declared.instr.Instr.{Instr}
 use Rattle.bytecode.specs.declared.instr.Instr.TheVariants as own
-use Rattle.bytecode.specs.Code.{Code, FunctionCode}
-use Rattle.bytecode.specs.Valid.{end_before, Has, IsValidFunction, HasWorker, IsValid}
+use Rattle.bytecode.specs.Code.{Code, FunctionCode, Instr as Plain}
+use Rattle.bytecode.specs.Valid.{IsWritten, end_before, Has, IsValidFunction, HasWorker, IsValid}
 use Rattle.bytecode.specs.Views.{instr_of}
-use Rattle.lowered.specs.Expressions.{LocalScope}
+use Rattle.lowered.specs.Expressions.{LocalScope, Layout}
 use Rattle.lowered.specs.Programs.{parameter_locals}
 use Rattle.lower.specs.Lists.{Lists}
 use Rattle.lower.specs.Names.{callee_at}
 use Rattle.lower.specs.Simples.{Written}
 use Rattle.lower.specs.Statements.{all_written}
-use Rattle.lower.specs.Programs.{no_exits, body_written, Made, function_code, put_before, made_first, all_made, made_of, lowered_code}
-use Rattle.lower.proofs.stands.Standing.{Stand, front, behind}
+use Rattle.lower.specs.Loops.{Looped, is_more, one_more, looped_by, looped_from, in_loops}
+use Rattle.lower.specs.Programs.{no_exits, body_with, nothing_ready, all_set, body_ready, body_better, body_written, Made, function_code, put_before, made_first, all_made, made_of, lowered_code}
+use Rattle.lower.proofs.Leaner.{body_leaner}
+use Rattle.lower.proofs.stands.Standing.{Stand, front, behind, IsFront, front_same}
 use Rattle.lower.proofs.stands.Cancelling.{CancelsAreFit}
-use Rattle.lower.proofs.stands.Functions.{callee_is_there, callees_stand, defined_are_callees, parameters_are, GoesOn, on_same, on_further, or_false, names_apart, own_first, Firsts, firsts_from, items_met, all_stand, callable_worker}
-use Rattle.lower.proofs.valid.Goods.{AreGood, good_append}
+use Rattle.lower.proofs.stands.Functions.{callee_is_there, defined_are_callees, parameters_are, GoesOn, on_same, on_further, or_false, names_apart, own_first, Firsts, firsts_from, items_met, all_stand, callable_worker, sets_length}
+use Rattle.lower.proofs.valid.Fitting.{AreFoundBelow, nothing_below, all_below, Fits}
+use Rattle.lower.proofs.valid.Goods.{AreGood, good_append, Runs, good_on}
+use Rattle.lower.proofs.valid.Sounds.{AreBelow, below_append}
 use Rattle.lower.proofs.valid.Shared.{cells_fit}
 use Rattle.lower.proofs.valid.Expressions.{CalleesTake}
-use Rattle.lower.proofs.valid.Parts.{are_front, are_behind, Exiting}
+use Rattle.lower.proofs.valid.Parts.{Are, are_front, are_behind, level_at, Exiting}
 use Rattle.lower.proofs.valid.Statements.{stmts_part}
 use Rattle.lower.proofs.valid.Ways.{opened, are_opened, all_written as are_all_written, keeps_open}
 
@@ -45,7 +50,7 @@ pub record IsWithinLimits (code : Code) : Type 0 where
   pub instructions : length code.instructions ≤ MOST_INSTRUCTIONS
 
 abbrev none_made : Lists
-none_made = record { arguments = []; texts = []; registers = 0 }
+none_made = record { arguments = []; texts = []; registers = 0; layout = nothing_ready }
 
 pub callees_take : (p : Program) → CalleesTake p (lowered_code p)
 callees_take p x c e =
@@ -90,6 +95,77 @@ new_name earlier items f body e h p typed cancels =
     own_first p typed cancels f body (may_be_function (file_scope earlier f.name.text)) (has_name (defined_names earlier) f.name.text) e
     (is_met 21 f.name.at met (met_before (demand 21 f.name.at met) type one))
 
+module _ (code : Code) (arguments : List ℕ) (g : FunctionCode) (end : ℕ) (open_at : ℕ → List ℕ) where
+  -- the constants of loops are words
+  more_words : (at r w : ℕ) (looped : Looped) → w < 2 ^ 32 → AreBelow (2 ^ 32) looped.constants → AreBelow (2 ^ 32) (one_more at r w looped).constants
+  more_words at r w looped low h = by (is_more at r w looped)
+    where
+      by : (b : Bool) → AreBelow (2 ^ 32) (if b then record looped { constants = looped.constants ++ w ∷ [] } else looped).constants
+      by true = below_append (2 ^ 32) looped.constants (w ∷ []) h (low, tt)
+      by false = h
+
+  words_by : (i : Instr) (at : ℕ) (looped : Looped) → IsWritten code g end (instr_of arguments i) → AreBelow (2 ^ 32) looped.constants → AreBelow (2 ^ 32) (looped_by i at looped).constants
+  words_by (own.Constant r w) at looped written h = more_words at r w looped written.1 h
+  words_by i at looped written h = h
+
+  looped_words : (is : List Instr) (at q : ℕ) → AreGood code arguments g end open_at q is → AreBelow (2 ^ 32) (in_loops at is)
+  looped_words [] at q h = tt
+  looped_words (i ∷ is) at q h = words_by i at (looped_from (suc at) is) h.0.written (looped_words is (suc at) (suc q) h.1)
+
+  sets_good : (from to : ℕ) → Runs code arguments g end open_at from to [] → (r : ℕ) (ws : List ℕ) (q : ℕ) → r + length ws ≤ g.registers → AreBelow (2 ^ 32) ws → from ≤ q → q + length ws ≤ to → AreGood code arguments g end open_at q (all_set r ws)
+  sets_good from to run r [] q room words low high = tt
+  sets_good from to run r (w ∷ ws) q room words low high = (
+    good_on code arguments g end open_at from to [] run (Plain.Constant r w) (λ q bs. (refl, tt)) (omega (arith, room), words.0) q low (omega (arith, high)),
+    sets_good from to run (suc r) ws (suc q) (omega (arith, room)) words.1 (omega (arith, low)) (omega (arith, high)),
+  )
+
+-- a body with its return is in order in a function that ends behind it
+module _ (p : Program) (typed : IsTypedProgram p) (cancels : CancelsAreFit p) (code : Code) (arguments : List ℕ) (takes : CalleesTake p code) (shares : code.globals ≡ globals p) (g : FunctionCode) where
+  record BodyGood (layout : Layout) (f : Function) (from : ℕ) (l : Lists) (w : Written) : Type 0 where
+    to_is : w.to ≡ from + length w.code
+    some : from < w.to
+    goes_on : GoesOn l w.lists
+    named : length f.parameters ≤ w.lists.registers
+    opens : List (List ℕ)
+    enters : (open_at : ℕ → List ℕ) → Are open_at from opens → open_at from ≡ []
+    goods : (open_at : ℕ → List ℕ) → Are open_at from opens → g.first ≤ from → w.lists.registers ≤ g.registers → AreFoundBelow g.registers layout → IsFront w.lists.arguments arguments → IsFront w.lists.texts code.texts → Stand code arguments from w.code →
+        AreGood code arguments g w.to open_at from w.code
+
+  body_good : (layout : Layout) (f : Function) (body : Stmts) → definition_of p f.name.text ≡ Some (f, body) → (from : ℕ) (l : Lists) → BodyGood layout f from l (body_with layout p f body from l)
+  body_good layout f body e from l =
+      let n : ℕ = length f.parameters in
+      let scope : LocalScope = parameter_locals f.parameters in
+      let t = bodies_are_typed p typed f.name.text (f, body) e in
+      let known : Scope = body_scope t.earlier f in
+      let vs : List Value = replicate n (record { of = Int; word = 0 }) in
+      let enters = all_enter f.parameters vs (length-replicate n (record { of = Int; word = 0 })) in
+      let agrees : Agrees known (running_scope p scope) = agrees_by_shape p known scope (subst (λ m. Agrees known (scope_in p m)) (entered_shapes f.parameters vs enters.0 enters.1 ∙ sym (parameters_are f.parameters)) (shape_agrees p known enters.0 (t.fits vs enters.0 enters.1))) in
+      let first : Lists = record l { registers = n; layout = layout } in
+      let made = all_written p body no_exits scope from first in
+      let end : ℕ = made.to + 1 in
+      let part = stmts_part code arguments g end p typed takes (defined_are_callees p) shares body known false scope no_exits None agrees
+      (stmts_parts f.result body known (parameter_names f.parameters) false t.body) (cancels f.name.text (f, body) e) [] from first in
+      let a = part.to_is in
+      let b = part.many in
+      let u : length (made.code ++ own.Return ∷ []) ≡ length made.code + 1 = length-append made.code (own.Return ∷ []) in
+      let last_list : List (List ℕ) = [] ∷ [] in
+      let opens_is : made.to ≡ from + length part.opens = omega (arith, a, b) in
+      record {
+        to_is = omega (arith, a, u);
+        some = omega (arith, a);
+        goes_on = record { arguments = part.grows.arguments; texts = part.grows.texts };
+        named = part.grows.registers;
+        opens = part.opens ++ last_list;
+        enters = λ o are. part.enters o (are_front o from part.opens last_list are) (are_behind o from made.to part.opens last_list opens_is are).0;
+        goods = λ o are low few ready handed texts st.
+            let at_end = (are_behind o from made.to part.opens last_list opens_is are).0 in
+            let exits : Exiting code arguments g end [] no_exits false None o = (record { in_function = refl; in_loop = λ t. absurd (cc); breaks = λ t. absurd (cc); continues = λ t. absurd (cc); cancels = λ t. absurd (cc) }) in
+            let fits : Fits code arguments g.registers made.lists = (record { arguments = handed; texts = texts; registers = few; ready = subst (AreFoundBelow g.registers) (sym part.grows.layout) ready }) in
+            good_append code arguments g end o from made.to made.code (own.Return ∷ []) a
+            (part.goods o fits (front code arguments from made.code (own.Return ∷ []) st) low (omega arith) (are_front o from part.opens last_list are) at_end exits)
+            (record { begins = []; are = at_end; written = tt; asks = refl; leads = tt }, tt);
+      }
+
 module _ (p : Program) (typed : IsTypedProgram p) (cancels : CancelsAreFit p) where
   abbrev code : Code
   code = lowered_code p
@@ -104,51 +180,103 @@ module _ (p : Program) (typed : IsTypedProgram p) (cancels : CancelsAreFit p) wh
     goes_on : GoesOn l w.lists
     valid : GoesOn w.lists final → Stand code final.arguments from w.code → w.lists.registers ≤ MOST_REGISTERS → IsValidFunction code (function_code f from w) w.to
 
-  body_valid : (f : Function) (body : Stmts) → definition_of p f.name.text ≡ Some (f, body) → (from : ℕ) (l : Lists) → BodyValid f from l (body_written p f body from l)
-  body_valid f body e from l =
-      let n : ℕ = length f.parameters in
-      let scope : LocalScope = parameter_locals f.parameters in
-      let t = bodies_are_typed p typed f.name.text (f, body) e in
-      let known : Scope = body_scope t.earlier f in
-      let vs : List Value = replicate n (record { of = Int; word = 0 }) in
-      let enters = all_enter f.parameters vs (length-replicate n (record { of = Int; word = 0 })) in
-      let agrees : Agrees known (running_scope p scope) = agrees_by_shape p known scope (subst (λ m. Agrees known (scope_in p m)) (entered_shapes f.parameters vs enters.0 enters.1 ∙ sym (parameters_are f.parameters)) (shape_agrees p known enters.0 (t.fits vs enters.0 enters.1))) in
-      let first : Lists = record l { registers = n } in
-      let made = all_written p body no_exits scope from first in
-      let w = body_written p f body from l in
+  plain_valid : (f : Function) (body : Stmts) → definition_of p f.name.text ≡ Some (f, body) → (from : ℕ) (l : Lists) → BodyValid f from l (body_with nothing_ready p f body from l)
+  plain_valid f body e from l =
+      let w = body_with nothing_ready p f body from l in
       let g : FunctionCode = function_code f from w in
-      let part = stmts_part code final.arguments g w.to p typed (callees_stand p) (callees_take p) (defined_are_callees p) refl body known false scope no_exits None agrees
-      (stmts_parts f.result body known (parameter_names f.parameters) false t.body) (cancels f.name.text (f, body) e) [] from first in
-      let a = part.to_is in
-      let b = part.many in
-      let u : length (made.code ++ own.Return ∷ []) ≡ length made.code + 1 = length-append made.code (own.Return ∷ []) in
-      let last_list : List (List ℕ) = [] ∷ [] in
-      let opens : List (List ℕ) = part.opens ++ last_list in
-      let open_at : ℕ → List ℕ = opened opens from in
-      let are = are_opened opens from in
-      let opens_is : made.to ≡ from + length part.opens = omega (arith, a, b) in
-      let before = are_front open_at from part.opens last_list are in
-      let at_end = (are_behind open_at from made.to part.opens last_list opens_is are).0 in
-      let exits : Exiting code final.arguments g w.to [] no_exits false None open_at = (record { in_function = refl; in_loop = λ t. absurd (cc); breaks = λ t. absurd (cc); continues = λ t. absurd (cc); cancels = λ t. absurd (cc) }) in
-      let end_is : w.to ≡ from + length w.code = omega (arith, a, u) in
-      let some : from < w.to = omega (arith, a) in
+      let b = body_good p typed cancels code final.arguments (callees_take p) refl g nothing_ready f body e from l in
+      let open_at : ℕ → List ℕ = opened b.opens from in
+      let are = are_opened b.opens from in
+      let starts = b.enters open_at are in
+      record {
+        to_is = b.to_is;
+        some = b.some;
+        goes_on = b.goes_on;
+        valid = λ goes st few.
+            let goods = b.goods open_at are (omega arith) (omega arith) (nothing_below g.registers) goes.arguments goes.texts st in
+            record {
+              named = b.named;
+              few = few;
+              starts = b.some;
+              written = are_all_written code final.arguments g w.to open_at w.code goods st b.to_is starts b.some;
+              ways = keeps_open code final.arguments g w.to open_at w.code goods st b.to_is starts b.some;
+            };
+      }
+
+  -- the constants of a body's loops are words, as the body shows in a code of its own
+  loops_are_words : (f : Function) (body : Stmts) → definition_of p f.name.text ≡ Some (f, body) → (from : ℕ) (l : Lists) → AreBelow (2 ^ 32) (in_loops from (body_with nothing_ready p f body from l).code)
+  loops_are_words f body e from l =
+      let w = body_with nothing_ready p f body from l in
+      let before : List Instr = replicate from own.Return in
+      let alone : Code = record code { instructions = map (instr_of w.lists.arguments) (before ++ w.code); texts = w.lists.texts } in
+      let g : FunctionCode = function_code f from w in
+      let b = body_good p typed cancels alone w.lists.arguments (callees_take p) refl g nothing_ready f body e from l in
+      let open_at : ℕ → List ℕ = opened b.opens from in
+      let many : length before ≡ from = length-replicate from own.Return in
+      let st : Stand alone w.lists.arguments from w.code = subst (λ q. Stand alone w.lists.arguments q w.code) many (all_stand alone w.lists.arguments before w.code refl) in
+      looped_words alone w.lists.arguments g w.to open_at w.code from from
+      (b.goods open_at (are_opened b.opens from) (omega arith) (omega arith) (nothing_below g.registers) (front_same w.lists.arguments) (front_same w.lists.texts) st)
+
+  -- a body behind the instructions that set its constants
+  ready_valid : (layout : Layout) (f : Function) (body : Stmts) → definition_of p f.name.text ≡ Some (f, body) → (from : ℕ) (l : Lists) →
+      (body_with layout p f body (from + length layout.constants) l).lists.registers ≤ layout.writable → AreBelow (2 ^ 32) layout.constants → BodyValid f from l (body_ready layout p f body from l)
+  ready_valid layout f body e from l room words =
+      let n : ℕ = length layout.constants in
+      let begins : ℕ = from + n in
+      let made = body_with layout p f body begins l in
+      let sets : List Instr = all_set layout.writable layout.constants in
+      let w = body_ready layout p f body from l in
+      let g : FunctionCode = function_code f from w in
+      let b = body_good p typed cancels code final.arguments (callees_take p) refl g layout f body e begins l in
+      let flat : List (List ℕ) = replicate n [] in
+      let many = sets_length layout.writable layout.constants in
+      let flat_many : length flat ≡ n = length-replicate n [] in
+      let open_at : ℕ → List ℕ = opened (flat ++ b.opens) from in
+      let are = are_opened (flat ++ b.opens) from in
+      let behind_sets = are_behind open_at from begins flat b.opens (omega (arith, flat_many)) are in
+      let level = level_at open_at n from begins [] refl (are_front open_at from flat b.opens are) (b.enters open_at behind_sets) in
+      let starts = level from (omega arith) (omega arith) in
+      let sets_is : begins ≡ from + length sets = omega (arith, many) in
+      let a = b.to_is in
+      let last = b.some in
+      let u : length (sets ++ made.code) ≡ length sets + length made.code = length-append sets made.code in
+      let end_is : w.to ≡ from + length w.code = omega (arith, a, u, many) in
+      let some : from < w.to = omega (arith, last) in
       record {
         to_is = end_is;
         some = some;
-        goes_on = record { arguments = part.grows.arguments; texts = part.grows.texts };
+        goes_on = record { arguments = b.goes_on.arguments; texts = b.goes_on.texts };
         valid = λ goes st few.
+            let named = b.named in
+            let run : Runs code final.arguments g w.to open_at from begins [] = (record { first = omega arith; last = last; level = level }) in
             let goods : AreGood code final.arguments g w.to open_at from w.code =
-            good_append code final.arguments g w.to open_at from made.to made.code (own.Return ∷ []) a
-            (part.goods open_at (record { arguments = goes.arguments; texts = goes.texts; registers = omega arith }) (front code final.arguments from made.code (own.Return ∷ []) st) (omega arith) (omega arith) before at_end exits)
-            (record { begins = []; are = at_end; written = tt; asks = refl; leads = tt }, tt) in
+            good_append code final.arguments g w.to open_at from begins sets made.code sets_is
+            (sets_good code final.arguments g w.to open_at from begins run layout.writable layout.constants from (omega arith) words (omega arith) (omega arith))
+            (b.goods open_at behind_sets (omega arith) (omega (arith, room)) (all_below layout) goes.arguments goes.texts (behind code final.arguments from begins sets made.code sets_is st)) in
             record {
-              named = part.grows.registers;
+              named = omega (arith, named, room);
               few = few;
               starts = some;
-              written = are_all_written code final.arguments g w.to open_at w.code goods st end_is (part.enters open_at before at_end) some;
-              ways = keeps_open code final.arguments g w.to open_at w.code goods st end_is (part.enters open_at before at_end) some;
+              written = are_all_written code final.arguments g w.to open_at w.code goods st end_is starts some;
+              ways = keeps_open code final.arguments g w.to open_at w.code goods st end_is starts some;
             };
       }
+
+  body_valid : (f : Function) (body : Stmts) → definition_of p f.name.text ≡ Some (f, body) → (from : ℕ) (l : Lists) → BodyValid f from l (body_written p f body from l)
+  body_valid f body e from l = by (in_loops from plain.code) (loops_are_words f body e from l)
+    where
+      plain : Written
+      plain = body_with nothing_ready p f body from l
+
+      by_room : (layout : Layout) → plain.lists.registers ≡ layout.writable → AreBelow (2 ^ 32) layout.constants → (b : Bool) → BodyValid f from l (if b then body_ready layout p f body from l else plain)
+      by_room layout same words true =
+          let leaner = body_leaner p f body layout from (from + length layout.constants) l l in
+          ready_valid layout f body e from l (omega (arith, same, leaner)) words
+      by_room layout same words false = plain_valid f body e from l
+
+      by : (ws : List ℕ) → AreBelow (2 ^ 32) ws → BodyValid f from l (body_better p f body from l plain ws)
+      by [] words = plain_valid f body e from l
+      by (w ∷ ws) words = by_room (record { writable = plain.lists.registers; constants = w ∷ ws }) refl words (nat_le (plain.lists.registers + length (w ∷ ws)) MOST_REGISTERS)
 
   -- a place is one of a function's
   abbrev Covers : List FunctionCode → ℕ → Type 0
@@ -276,7 +404,7 @@ module _ (p : Program) (typed : IsTypedProgram p) (cancels : CancelsAreFit p) wh
 
   pub lowered_is_valid : IsWithinLimits code → IsValid code
   lowered_is_valid within = record {
-    each = whole.valid ends (on_same final) (all_stand p typed cancels [] (made_of p).code refl) within.registers;
+    each = whole.valid ends (on_same final) (all_stand code final.arguments [] (made_of p).code refl) within.registers;
     distinct = distinct_from [] p (items_met p typed cancels) 0 none_made;
     covered = λ q low. whole.covers ends q (omega arith) (let e = ends in omega (arith, low, e));
     few = within.instructions;

@@ -23,14 +23,15 @@ use Rattle.lowered.specs.Statements.{with_local}
 use Rattle.lower.specs.declared.held.Target.{Target}
 use Rattle.lower.specs.declared.held.Target.TheVariants as target
 use Rattle.lower.specs.Lists.{Lists, used}
-use Rattle.lower.specs.Expressions.{Emitted, above, both, emitted}
+use Rattle.lower.specs.Expressions.{Emitted, above, constant, both, emitted}
 use Rattle.lower.specs.Simples.{Written, Aimed, aimed_at, variable_target, element_target, above_target, fetched, home_or, one_written, stored, and_then, evaluated, then_stored, behind as aimed_then, aimed, value_or_one, adjusted, simple_written, nothing_written, first_written, declarator_written, declared_written, start_written}
-use Rattle.lower.proofs.stands.Standing.{Grows, grows_same, grows_further, grows_used, max_right, Fits, fits_before, is_register}
+use Rattle.lower.proofs.stands.Standing.{Grows, grows_same, grows_further, grows_used, max_right}
 use Rattle.lower.proofs.stands.Named.{known_number}
-use Rattle.lower.proofs.stands.Exprs.{CalleesStand, DefinedAreCallees}
+use Rattle.lower.proofs.stands.Exprs.{DefinedAreCallees}
 use Rattle.lower.proofs.stands.Simply.{one_more_agrees}
+use Rattle.lower.proofs.valid.Fitting.{Fits, fits_before, is_register}
 use Rattle.lower.proofs.valid.Goods.{GoesOn, AreGood, good_append, good_on, Runs, within}
-use Rattle.lower.proofs.valid.Sounds.{Sound, in_size, one_sound, in_local_sound, both_sound}
+use Rattle.lower.proofs.valid.Sounds.{Sound, OperandSound, in_size, one_sound, in_local_sound, ready_or_sound, operand_sound, both_sound}
 use Rattle.lower.proofs.valid.Expressions.{CalleesTake, cells_are, cell_is, expr_sound}
 
 module _ (code : Code) (arguments : List ℕ) (f : FunctionCode) (end : ℕ) where
@@ -158,7 +159,7 @@ module _ (code : Code) (arguments : List ℕ) (f : FunctionCode) (end : ℕ) whe
             (s.goods o bs k (within code arguments f end o from (e.held.to + 0) from e.held.to bs run (omega arith) (omega arith))) tt;
       }
 
-  module _ (p : Program) (typed : IsTypedProgram p) (stand : CalleesStand p code) (takes : CalleesTake p code) (defined : DefinedAreCallees p) (shares : code.globals ≡ globals p) where
+  module _ (p : Program) (typed : IsTypedProgram p) (takes : CalleesTake p code) (defined : DefinedAreCallees p) (shares : code.globals ≡ globals p) where
     module _ (known : Scope) (scope : LocalScope) (agrees : Agrees known (running_scope p scope)) where
       sound : (e : Expr) → TypedExpr known e → (from into free : ℕ) (l : Lists) → Sound code arguments f end from l (emitted p scope e from into free l)
       sound e h from into free l = expr_sound p code arguments f end typed takes defined shares known scope agrees e h from into free l
@@ -171,9 +172,10 @@ module _ (code : Code) (arguments : List ℕ) (f : FunctionCode) (end : ℕ) whe
           element_aims check (global_of p x.text) (cells_are p code arguments f end typed takes defined shares x.text) from l (emitted p scope i from (length scope) (length scope) l) (sound i h.1 from (length scope) (length scope) l)
       aims check lhs h m from l = nowhere_aims from l
 
-      value_or_one_sound : (by : Option Expr) → IfSome by (TypedExpr known) → (from free : ℕ) (l : Lists) → Sound code arguments f end from l (value_or_one p scope by from free l)
-      value_or_one_sound None h from free l = one_sound code arguments f end (own.Constant free 1) from free Int l (λ q bs. (refl, tt)) (λ r s. (r, omega arith))
-      value_or_one_sound (Some e) h from free l = sound e h from free free l
+      value_or_one_sound : (by : Option Expr) → IfSome by (TypedExpr known) → (from free : ℕ) (l : Lists) → OperandSound code arguments f end from l (value_or_one p scope by from free l)
+      value_or_one_sound None h from free l =
+          ready_or_sound code arguments f end 1 Int from l (constant 1 Int from free l) (one_sound code arguments f end (own.Constant free 1) from free Int l (λ q bs. (refl, tt)) (λ r s. (r, omega arith)))
+      value_or_one_sound (Some e) h from free l = operand_sound code arguments f end e from l (emitted p scope e from free free l) (sound e h from free free l)
 
       adjusted_flat : (op : BinaryOp) (lhs : Expr) (by : Option Expr) → TypedTarget known lhs → IfSome by (TypedExpr known) → IsTrue (may_be_assigned known lhs) → (from : ℕ) (l : Lists) → Flat from l (adjusted p scope op lhs by from (length scope) l)
       adjusted_flat op lhs by ht hb m from l =
@@ -208,7 +210,7 @@ module _ (code : Code) (arguments : List ℕ) (f : FunctionCode) (end : ℕ) whe
         let i : ℕ = length scope in
         let x : List ℕ = d.name.text in
         let inner = with_local scope x t in
-        let ahead = one_more_agrees p code arguments f.registers typed stand defined known scope x t agrees in
+        let ahead = one_more_agrees p known scope x t agrees in
         let known' = with_number x t known in
         let here : i < (used i l).registers = (let m = max_right l.registers (suc i) in omega (arith, m)) in
         let first = first_written p inner i t d.first (from + 1) (used i l) in

@@ -1,6 +1,6 @@
 -- The parts of an expression, as they are picked, are in order.
-use Rattle.std.proofs.Common.{◌≡◌, refl, sym, ap, subst, ◌∙◌, ℕ, suc, ◌+◌, ◌≤◌, ◌<◌, List, [], ◌∷◌, ◌++◌, length, map, arith, Option, Some, None, Bool, true, false, eqb-true}
-use Rattle.std.specs.Prelude.{if◌then◌else◌, ◌==◌, is_some}
+use Rattle.std.proofs.Common.{◌≡◌, refl, sym, ap, subst, ◌∙◌, ℕ, suc, pos, ◌+◌, ◌≤◌, ◌<◌, List, [], ◌∷◌, ◌++◌, length, map, arith, Option, Some, None, Bool, true, false, eqb-true}
+use Rattle.std.specs.Prelude.{if◌then◌else◌, ◌==◌, is_some, option_map}
 use Rattle.std.specs.List.{AllByRecursion}
 use Rattle.std.specs.Option.{IfSome}
 use Rattle.std.proofs.lemmas.List.{length-append, length-map, map-append}
@@ -10,8 +10,8 @@ use Rattle.syntax.specs.declared.tree.BinaryOp.{BinaryOp}
 use Rattle.syntax.specs.declared.tree.BinaryOp.TheVariants.{Greater, GreaterEqual}
 use Rattle.syntax.specs.declared.tree.LogicalOp.{LogicalOp}
 use Rattle.syntax.specs.declared.tree.LogicalOp.TheVariants.{AndThen, OrElse}
-use Rattle.syntax.specs.Tree.{Parameter}
-use Rattle.syntax.specs.Numbers.{operand_type}
+use Rattle.syntax.specs.Tree.{Parameter, Expr, Constant}
+use Rattle.syntax.specs.Numbers.{word_of, operand_type}
 use Rattle.bytecode.specs.declared.instr.Instr.{Instr}
 use Rattle.bytecode.specs.declared.instr.Instr.TheVariants as own
 use Rattle.bytecode.specs.Code.{Code, FunctionCode, Instr as Plain}
@@ -23,11 +23,12 @@ use Rattle.lower.specs.Lists.{Lists, used, holding}
 use Rattle.lower.specs.Names.{Callee}
 use Rattle.lower.specs.declared.draft.Draft.TheVariants as draft
 use Rattle.lower.specs.Conditions.{Condition, test_in, jump_if, jump_if_not, completed, turned, going_on, going_back, by_value, opposite, first_of, joined, zero_tested}
-use Rattle.lower.specs.Expressions.{computing, negating, Emitted, AllEmitted, above, one, then_one, in_local, converted_to, negated, complemented, compared, both, answered, tested, settled, chosen, followed, called}
+use Rattle.lower.specs.Expressions.{computing, negating, Emitted, AllEmitted, above, one, then_one, ready_from, ready, constant_ready, ready_or, in_local, converted_to, negated, complemented, compared, both, answered, tested, settled, chosen, followed, called}
 use Rattle.lower.proofs.Drafted.{whole_are, turned_are, first_and, first_or, completed_length, on_length, back_length, first_length}
-use Rattle.lower.proofs.stands.Standing.{front_same, front_more, Grows, grows_same, grows_further, grows_used, max_left, max_right, Fits, fits_before, is_register}
+use Rattle.lower.proofs.stands.Standing.{front_same, front_more, Grows, grows_same, grows_further, grows_used, max_left, max_right}
 use Rattle.lower.proofs.stands.Emitting.{computing_is}
 use Rattle.lower.proofs.stands.Exprs.{handed_over}
+use Rattle.lower.proofs.valid.Fitting.{Fits, fits_before, is_register}
 use Rattle.lower.proofs.valid.Goods.{GoesOn, IsGood, AreGood, good_append, Meets, Runs, within, meets_in, good_on, good_jump, good_zero, good_nonzero}
 
 -- registers that are below a number
@@ -38,7 +39,7 @@ pub below_more : (n m : ℕ) (rs : List ℕ) → n ≤ m → AreBelow n rs → A
 below_more n m [] e h = tt
 below_more n m (r ∷ rs) e h = (let x = h.0 in omega (arith, e, x), below_more n m rs e h.1)
 
-below_append : (n : ℕ) (rs ss : List ℕ) → AreBelow n rs → AreBelow n ss → AreBelow n (rs ++ ss)
+pub below_append : (n : ℕ) (rs ss : List ℕ) → AreBelow n rs → AreBelow n ss → AreBelow n (rs ++ ss)
 below_append n [] ss h g = g
 below_append n (r ∷ rs) ss h g = (h.0, below_append n rs ss h.1 g)
 
@@ -169,7 +170,28 @@ module _ (code : Code) (arguments : List ℕ) (f : FunctionCode) (end : ℕ) whe
             );
       }
 
-  pub both_sound : (op : BinaryOp) (into from : ℕ) (l : Lists) (a b : Emitted) → Sound from l a → Sound a.held.to a.lists b → Sound from l (both op a b into)
+  -- the right side of an operator, which may lie ready
+  pub record OperandSound (from : ℕ) (l : Lists) (e : Emitted) : Type 0 where
+    pub to_is : e.held.to ≡ from + length e.code
+    pub grows : Grows l e.lists
+    pub held : Fits code arguments f.registers e.lists → e.held.register < f.registers
+    pub goods : (open_at : ℕ → List ℕ) (bs : List ℕ) → Fits code arguments f.registers e.lists → Runs code arguments f end open_at from e.held.to bs → AreGood code arguments f end open_at from e.code
+
+  computed_sound : (from : ℕ) (l : Lists) (e : Emitted) → Sound from l e → OperandSound from l e
+  computed_sound from l e h = record { to_is = h.to_is; grows = h.grows; held = λ k. in_size e.held.register e.lists h.held k; goods = h.goods }
+
+  pub ready_or_sound : (w : ℕ) (t : Scalar) (from : ℕ) (l : Lists) (e : Emitted) → Sound from l e → OperandSound from l (ready_or (ready l.layout w t from) l e)
+  ready_or_sound w t from l e h = by (ready_from l.layout.writable l.layout.constants w) refl
+    where
+      by : (o : Option ℕ) → ready_from l.layout.writable l.layout.constants w ≡ o → OperandSound from l (ready_or (option_map (λ r. record { register = r; of = t; to = from }) o) l e)
+      by None n = computed_sound from l e h
+      by (Some r) n = record { to_is = omega arith; grows = grows_same l; held = λ k. k.ready w r n; goods = λ o bs k run. tt }
+
+  pub operand_sound : (b : Expr) (from : ℕ) (l : Lists) (e : Emitted) → Sound from l e → OperandSound from l (ready_or (constant_ready l.layout b from) l e)
+  operand_sound (Constant n t at) from l e h = ready_or_sound (word_of (pos n)) t from l e h
+  operand_sound b from l e h = computed_sound from l e h
+
+  pub both_sound : (op : BinaryOp) (into from : ℕ) (l : Lists) (a b : Emitted) → Sound from l a → OperandSound a.held.to a.lists b → Sound from l (both op a b into)
   both_sound op into from l a b h g =
       let t : Scalar = operand_type op a.held.of b.held.of in
       let i : Instr = computing op t into a.held.register b.held.register in
@@ -184,7 +206,7 @@ module _ (code : Code) (arguments : List ℕ) (f : FunctionCode) (end : ℕ) whe
         goods = λ o bs k run.
             let inner = fits_before code arguments f.registers b.lists (used into b.lists) (grows_used b.lists b.lists into (grows_same b.lists)) k in
             let first = fits_before code arguments f.registers a.lists b.lists g.grows inner in
-            let goes = computing_goes op t into a.held.register b.held.register (is_register code arguments f.registers b.lists into k) (in_size a.held.register a.lists h.held first) (in_size b.held.register b.lists g.held inner) in
+            let goes = computing_goes op t into a.held.register b.held.register (is_register code arguments f.registers b.lists into k) (in_size a.held.register a.lists h.held first) (g.held inner) in
             good_append code arguments f end o from b.held.to (a.code ++ b.code) (i ∷ []) last_is
             (good_append code arguments f end o from a.held.to a.code b.code h.to_is
             (h.goods o bs first (within code arguments f end o from (b.held.to + 1) from a.held.to bs run (omega arith) (omega (arith, y))))
@@ -384,8 +406,8 @@ module _ (code : Code) (arguments : List ℕ) (f : FunctionCode) (end : ℕ) whe
       let i : Instr = own.Call into (length handed) c.number (length made) in
       let more : Lists = record args.lists { arguments = made ++ handed } in
       let lists : Lists = holding (length handed) more in
-      let grows_more : Grows args.lists more = record { arguments = front_more made handed; texts = front_same args.lists.texts; registers = omega arith } in
-      let grows_lists : Grows more lists = record { arguments = front_same (made ++ handed); texts = front_same args.lists.texts; registers = max_left args.lists.registers (length handed) } in
+      let grows_more : Grows args.lists more = record { arguments = front_more made handed; texts = front_same args.lists.texts; registers = omega arith; layout = refl } in
+      let grows_lists : Grows more lists = record { arguments = front_same (made ++ handed); texts = front_same args.lists.texts; registers = max_left args.lists.registers (length handed); layout = refl } in
       let all : Grows args.lists (used into lists) = grows_used args.lists lists into (grows_further args.lists more lists grows_more grows_lists) in
       let to_is = h.to_is in
       record {

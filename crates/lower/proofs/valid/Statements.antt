@@ -23,10 +23,11 @@ use Rattle.lower.specs.Expressions.{AllEmitted, emitted, condition, all_emitted}
 use Rattle.lower.specs.Conditions.{Condition, test_in, going_on}
 use Rattle.lower.specs.Simples.{Written, nothing_written, one_written, and_then, evaluated, start_written}
 use Rattle.lower.specs.Statements.{in_transaction, looping, left_by, branched, branched_twice, tested_back, while_written, do_written, for_written, returned, printing, and_one, pieces_written, print_written, for_test, for_step, written, all_written}
-use Rattle.lower.proofs.stands.Standing.{Grows, grows_further, front_same, front_more, fits_before}
-use Rattle.lower.proofs.stands.Exprs.{CalleesStand, DefinedAreCallees}
+use Rattle.lower.proofs.stands.Standing.{Grows, grows_further, front_same, front_more}
+use Rattle.lower.proofs.stands.Exprs.{DefinedAreCallees}
 use Rattle.lower.proofs.stands.Simply.{start_agrees}
 use Rattle.lower.proofs.stands.Statements.{CancelsFit, AllCancelsFit, after_agrees}
+use Rattle.lower.proofs.valid.Fitting.{fits_before}
 use Rattle.lower.proofs.valid.Goods.{Meets, AreGood, within, good_on}
 use Rattle.lower.proofs.valid.Sounds.{Sound, TestSound, AreBelow, in_size, test_on_is, test_back_is, going_on_good, going_back_good}
 use Rattle.lower.proofs.valid.Expressions.{CalleesTake, expr_sound, all_sound, test_sound}
@@ -58,7 +59,7 @@ module _ (code : Code) (arguments : List ℕ) (f : FunctionCode) (end : ℕ) whe
       let more : Lists = record l { texts = l.texts ++ text ∷ [] } in
       let g = pieces_flat ps rs (from + 1) more h in
       let rest = pieces_written ps rs (from + 1) more in
-      let first : Grows l more = record { arguments = front_same l.arguments; texts = front_more l.texts (text ∷ []); registers = omega arith } in
+      let first : Grows l more = record { arguments = front_same l.arguments; texts = front_more l.texts (text ∷ []); registers = omega arith; layout = refl } in
       let y = g.to_is in
       record {
         to_is = omega (arith, y);
@@ -261,7 +262,7 @@ module _ (code : Code) (arguments : List ℕ) (f : FunctionCode) (end : ℕ) whe
         ((omega (arith, first, v, y), omega (arith, last, u, z)), at_step),
       ))
 
-  module _ (p : Program) (typed : IsTypedProgram p) (stand : CalleesStand p code) (takes : CalleesTake p code) (defined : DefinedAreCallees p) (shares : code.globals ≡ globals p) where
+  module _ (p : Program) (typed : IsTypedProgram p) (takes : CalleesTake p code) (defined : DefinedAreCallees p) (shares : code.globals ≡ globals p) where
     module _ (known : Scope) (scope : LocalScope) (agrees : Agrees known (running_scope p scope)) where
       sound : (e : Expr) → TypedExpr known e → (from free : ℕ) (l : Lists) → Sound code arguments f end from l (emitted p scope e from free free l)
       sound e h from free l = expr_sound p code arguments f end typed takes defined shares known scope agrees e h from free free l
@@ -278,7 +279,7 @@ module _ (code : Code) (arguments : List ℕ) (f : FunctionCode) (end : ℕ) whe
 
       step_flat : (step : Option Simple) → IfSome step (TypedSimple known) → (from : ℕ) (l : Lists) → Flat code arguments f end from l (for_step p scope step from l)
       step_flat None h from l = nothing_flat code arguments f end from l
-      step_flat (Some s) h from l = simple_flat code arguments f end p typed stand takes defined shares known scope agrees s h from l
+      step_flat (Some s) h from l = simple_flat code arguments f end p typed takes defined shares known scope agrees s h from l
 
       print_flat : (format : List ℕ) (es : Exprs) → TypedExprs known es → (from : ℕ) (l : Lists) → Flat code arguments f end from l (print_written (all_emitted p scope es (from + 1) (length scope) l) (pieces format))
       print_flat format es h from l =
@@ -305,9 +306,9 @@ module _ (code : Code) (arguments : List ℕ) (f : FunctionCode) (end : ℕ) whe
           Part code arguments f end (Exiting code arguments f end bs x loops m) bs from l (written p s x scope from l)
       stmt_part Empty known loops scope x m agrees h c bs from l = flat_part code arguments f end (Exiting code arguments f end bs x loops m) bs from l (nothing_written from l) (nothing_flat code arguments f end from l)
       stmt_part (Declare d) known loops scope x m agrees h c bs from l =
-          flat_part code arguments f end (Exiting code arguments f end bs x loops m) bs from l (written p (Declare d) x scope from l) (declared_flat code arguments f end p typed stand takes defined shares d.of d.declarators known scope agrees h from l)
+          flat_part code arguments f end (Exiting code arguments f end bs x loops m) bs from l (written p (Declare d) x scope from l) (declared_flat code arguments f end p typed takes defined shares d.of d.declarators known scope agrees h from l)
       stmt_part (Do s) known loops scope x m agrees h c bs from l =
-          flat_part code arguments f end (Exiting code arguments f end bs x loops m) bs from l (written p (Do s) x scope from l) (simple_flat code arguments f end p typed stand takes defined shares known scope agrees s h from l)
+          flat_part code arguments f end (Exiting code arguments f end bs x loops m) bs from l (written p (Do s) x scope from l) (simple_flat code arguments f end p typed takes defined shares known scope agrees s h from l)
       stmt_part (Block ss) known loops scope x m agrees h c bs from l = stmts_part ss known loops scope x m agrees h c bs from l
       stmt_part (Print at format format_at es) known loops scope x m agrees h c bs from l =
           flat_part code arguments f end (Exiting code arguments f end bs x loops m) bs from l (written p (Print at format format_at es) x scope from l) (print_flat known scope agrees format es h.0 from l)
@@ -331,12 +332,12 @@ module _ (code : Code) (arguments : List ℕ) (f : FunctionCode) (end : ℕ) whe
       stmt_part (For start e step a) known loops scope x m agrees h c bs from l =
           let inner = locals_of_start start scope in
           let known' = scope_of_start start known in
-          let ahead = start_agrees p code arguments f.registers typed stand defined start known scope agrees in
+          let ahead = start_agrees p start known scope agrees in
           let first = start_written p start scope from l in
           let body = written p a (looping x (first.to + 1) (first.to + 2)) inner (first.to + 3) first.lists in
           let next = for_step p inner step body.to body.lists in
           for_part bs x loops m from l first body next (for_test p inner e (first.to + 3) next.to next.lists)
-          (start_flat code arguments f end p typed stand takes defined shares start known scope agrees h.0 from l)
+          (start_flat code arguments f end p typed takes defined shares start known scope agrees h.0 from l)
           (stmt_part a known' true inner (looping x (first.to + 1) (first.to + 2)) m ahead h.3 c bs (first.to + 3) first.lists)
           (step_flat known' inner ahead step h.2 body.to body.lists)
           (for_test_part known' inner ahead bs e h.1 (first.to + 3) next.to next.lists)
@@ -362,4 +363,4 @@ module _ (code : Code) (arguments : List ℕ) (f : FunctionCode) (end : ℕ) whe
           let first = written p s x scope from l in
           then_part code arguments f end (Exiting code arguments f end bs x loops m) bs from first.to l first (all_written p ss x (locals_after s scope) first.to first.lists) refl
           (stmt_part s known loops scope x m agrees h.0 c.0 bs from l)
-          (stmts_part ss (Typing.scope_after s known) loops (locals_after s scope) x m (after_agrees p code arguments f.registers typed stand defined s known scope agrees) h.1 c.1 bs first.to first.lists)
+          (stmts_part ss (Typing.scope_after s known) loops (locals_after s scope) x m (after_agrees p s known scope agrees) h.1 c.1 bs first.to first.lists)

@@ -6,7 +6,7 @@ use Rattle.syntax.specs.Views.{expr_of, exprs_of}
 use Rattle.bytecode.specs.declared.instr.Instr.TheVariants as own
 use Rattle.lower.specs.Names.{callee_of}
 use Rattle.lower.specs.Conditions.{Condition, opposite, by_value, zero_tested}
-use Rattle.lower.specs.Expressions.{Emitted, above, negating, computing, converted_to, constant, variable, called, settled, element, emitted, own_condition, condition, all_emitted}
+use Rattle.lower.specs.Expressions.{Emitted, above, negating, computing, converted_to, constant, variable, called, settled, element, emitted, operand, own_condition, condition, all_emitted}
 use Rattle.lex.specs.declared.token.Scalar.TheVariants.{Int}
 use Rattle.syntax.specs.Names.{global_of, cells, newest}
 use Rattle.lower.specs.inner.Tables.{callee_in, shared_in}
@@ -380,8 +380,8 @@ lower_expr-returns-in_ok-b-in-Binary g t c =
     let whole : Tree.Expr → Emitted = (λ y. emitted (program_in c.args.names.now) (scope_in c.args.scope.now) y c.args.from c.args.into c.args.free (lists_of c.args.lists.now)) in
     let left = emitted (program_in c.args.names.now) (scope_in c.args.scope.now) (expr_of c.get-in-Binary.result.now) c.args.from c.args.free c.args.free (lists_of c.args.lists.now) in
     let is = binary_is c.args.e.now c.in-Binary.op c.in-Binary.left c.in-Binary.right c.get-in-Binary.result.now c.get-in-Binary-2.result.now c.in-Binary.field-3 c.in-Binary.is c.get-in-Binary.ensures c.get-in-Binary-2.ensures in
-    let made = tails_made left (λ to later l. emitted (program_in c.args.names.now) (scope_in c.args.scope.now) (expr_of c.get-in-Binary-2.result.now) to later later l) (λ a b. computing c.in-Binary.op (operand_type c.in-Binary.op a.of b.of) c.args.into a.register b.register ∷ []) c.args.into
-    (λ a b. record { register = c.args.into; of = result_type c.in-Binary.op (operand_type c.in-Binary.op a.of b.of); to = b.to + 1 }) c.args.free c.args.code.now.items c.lower_expr-in-Binary.new.code.items c.lower_expr-in-Binary-2.new.code.items did.new.code.items (lists_of c.lower_expr-in-Binary.new.lists) (lists_of c.lower_expr-in-Binary-2.new.lists) (lists_of did.new.lists) a.a b.b c.above-later.result did.result
+    let made = tails_made left (λ to later l. operand (program_in c.args.names.now) (scope_in c.args.scope.now) (expr_of c.get-in-Binary-2.result.now) to later l) (λ a b. computing c.in-Binary.op (operand_type c.in-Binary.op a.of b.of) c.args.into a.register b.register ∷ []) c.args.into
+    (λ a b. record { register = c.args.into; of = result_type c.in-Binary.op (operand_type c.in-Binary.op a.of b.of); to = b.to + 1 }) c.args.free c.args.code.now.items c.lower_expr-in-Binary.new.code.items c.lower_operand.new.code.items did.new.code.items (lists_of c.lower_expr-in-Binary.new.lists) (lists_of c.lower_operand.new.lists) (lists_of did.new.lists) a.a b.b c.above-later.result did.result
     a.ensures.code a.ensures.lists a.ensures.held c.above-later.ensures b.ensures.code b.ensures.lists b.ensures.held did.ensures.code did.ensures.lists did.ensures.held did.ensures.fails in
     let all = same_answer _ (whole (expr_of c.args.e.now)) c.args.code.now.items did.new.code.items (lists_of did.new.lists) did.result (sym (ap whole is)) made in
     record { code = all.code; lists = all.lists; held = all.held; fails = all.fails }
@@ -413,7 +413,7 @@ lower_expr-returns-in_err-a-in-Complement-clause-fails g t c =
 
 pub lower_expr-returns-in_err-b-in-Binary-clause-fails : goal.lower_expr-returns-in_err-b-in-Binary-clause-fails
 lower_expr-returns-in_err-b-in-Binary-clause-fails g t c =
-    passed_on c.lower_expr-in-Binary-2.result c.from_residual-in_err-b-in-Binary.result c.in_err-b-in-Binary.field-0.0 _ _ c.lower_expr-in-Binary-2.ensures.fails c.in_err-b-in-Binary.was c.from_residual-in_err-b-in-Binary.ensures
+    passed_on c.lower_operand.result c.from_residual-in_err-b-in-Binary.result c.in_err-b-in-Binary.field-0.0 _ _ c.lower_operand.ensures.fails c.in_err-b-in-Binary.was c.from_residual-in_err-b-in-Binary.ensures
     (binary_second (program_in c.args.names.now) (scope_in c.args.scope.now) c.args.from c.args.into c.args.free (lists_of c.args.lists.now) (expr_of c.args.e.now) c.in-Binary.op (expr_of c.get-in-Binary.result.now) (expr_of c.get-in-Binary-2.result.now) c.in-Binary.field-3 (binary_is c.args.e.now c.in-Binary.op c.in-Binary.left c.in-Binary.right c.get-in-Binary.result.now c.get-in-Binary-2.result.now c.in-Binary.field-3 c.in-Binary.is c.get-in-Binary.ensures c.get-in-Binary-2.ensures) c.in_ok-a-in-Binary.a c.above-later.result (lists_of c.lower_expr-in-Binary.new.lists) c.in_ok-a-in-Binary.ensures.lists c.in_ok-a-in-Binary.ensures.held c.above-later.ensures)
 
 pub lower_condition-returns-in-Variable : goal.lower_condition-returns-in-Variable

@@ -1,44 +1,177 @@
-use Rattle.std.proofs.Common.{◌≡◌, ◌++◌, ◌∷◌, [], ◌+◌, map, length, ap, sym, ◌∙◌, append_assoc, arith}
-use Rattle.std.proofs.lemmas.List.{length-map}
-use Rattle.syntax.specs.Views.{stmts_of, parameter_of}
-use Rattle.bytecode.specs.declared.instr.Instr.TheVariants as instr
-use Rattle.lowered.specs.Programs.{parameter_locals}
-use Rattle.lower.specs.Lists.{lists_of}
+use Rattle.std.proofs.Common.{◌≡◌, ℕ, ◌+◌, List, ◌++◌, length, not, ◌&&◌, nat_le, ◌==◌, OnOk, IfOk, sym, ap, ◌∙◌, subst, arith}
+use Rattle.std.proofs.lemmas.List.{length-append}
+use Rattle.syntax.specs.Views.{function_of, stmts_of}
+use Rattle.bytecode.specs.declared.instr.Instr.{Instr}
+use Rattle.lowered.specs.Expressions.{Layout}
+use Rattle.lower.specs.Lists.{Lists, lists_of}
+use Rattle.lower.specs.Loops.{in_loops}
 use Rattle.lower.specs.Simples.{Written}
-use Rattle.lower.specs.inner.Views.{program_in, scope_in}
-use Rattle.lower.proofs.Bodies.{same_body}
+use Rattle.lower.specs.Programs.{body_with, body_written, nothing_ready}
+use Rattle.lower.specs.inner.Views.{program_in}
+use Rattle.lower.proofs.Better.{still_fails, arguments_fit, texts_fit, stays_plain, gets_better, body_more, has_room, behind_others, in_front}
 use Rattle.lower.proofs.Failing.{passed_on}
+use Rattle.lower.proofs.Leaner.{body_leaner}
 use Rattle.lower.proofs.function.lower_function.Goals as goal
+
+pub returns-in_err-to-clause-fails : goal.returns-in_err-to-clause-fails
+returns-in_err-to-clause-fails g c =
+    let p = program_in c.args.names.now in
+    let f = function_of c.args.f.now in
+    let body = stmts_of c.args.body.now in
+    let l = lists_of c.args.lists.now in
+    passed_on c.lower_plain.result c.from_residual.result c.in_err-to.field-0.0 _ _ c.lower_plain.ensures.fails c.in_err-to.was c.from_residual.ensures (body_more p f body c.args.from l)
+
+pub in_loops_behind-requires : goal.in_loops_behind-requires
+in_loops_behind-requires g c =
+    let o = c.args.code.now.ok.0 in
+    let n = ap length (c.as_slice.ensures.value ∙ c.in_ok-to.ensures.code) ∙ length-append c.args.code.now.items _ in
+    omega (arith, n, o, c.len.ensures)
+
+pub returns-then-not-is_better-clause-code : goal.returns-then-not-is_better-clause-code
+returns-then-not-is_better-clause-code g c =
+    let p = program_in c.args.names.now in
+    let f = function_of c.args.f.now in
+    let body = stmts_of c.args.body.now in
+    let l = lists_of c.args.lists.now in
+    let o = c.args.code.now.ok.0 in
+    let n : c.len.result ≡ length c.args.code.now.items = omega (arith, o, c.len.ensures) in
+    let plain = body_with nothing_ready p f body c.args.from l in
+    let ws = c.in_ok-constants.constants.items in
+    let are : ws ≡ in_loops c.args.from plain.code =
+    c.in_ok-constants.ensures ∙ ap (λ (is : List Instr). in_loops c.args.from is) (behind_others c.lower_plain.new.code.items c.as_slice.result.now c.args.code.now.items plain.code c.len.result n c.as_slice.ensures.value c.in_ok-to.ensures.code) in
+    let test = ap (λ (xs : List ℕ). not (length xs == 0) && nat_le (c.lower_plain.new.lists.registers + length xs) 65535) (sym c.as_slice-2.ensures.value) ∙ sym c.is_better.ensures in
+    let is = stays_plain p f body c.args.from l (lists_of c.lower_plain.new.lists) ws c.in_ok-to.ensures.lists are (test ∙ c.if-not-is_better.true) in
+    c.in_ok-to.ensures.code ∙ ap (λ (w : Written). c.args.code.now.items ++ w.code) (sym is)
+
+pub returns-then-not-is_better-clause-lists : goal.returns-then-not-is_better-clause-lists
+returns-then-not-is_better-clause-lists g c =
+    let p = program_in c.args.names.now in
+    let f = function_of c.args.f.now in
+    let body = stmts_of c.args.body.now in
+    let l = lists_of c.args.lists.now in
+    let o = c.args.code.now.ok.0 in
+    let n : c.len.result ≡ length c.args.code.now.items = omega (arith, o, c.len.ensures) in
+    let plain = body_with nothing_ready p f body c.args.from l in
+    let ws = c.in_ok-constants.constants.items in
+    let are : ws ≡ in_loops c.args.from plain.code =
+    c.in_ok-constants.ensures ∙ ap (λ (is : List Instr). in_loops c.args.from is) (behind_others c.lower_plain.new.code.items c.as_slice.result.now c.args.code.now.items plain.code c.len.result n c.as_slice.ensures.value c.in_ok-to.ensures.code) in
+    let test = ap (λ (xs : List ℕ). not (length xs == 0) && nat_le (c.lower_plain.new.lists.registers + length xs) 65535) (sym c.as_slice-2.ensures.value) ∙ sym c.is_better.ensures in
+    let is = stays_plain p f body c.args.from l (lists_of c.lower_plain.new.lists) ws c.in_ok-to.ensures.lists are (test ∙ c.if-not-is_better.true) in
+    c.in_ok-to.ensures.lists ∙ ap (λ (w : Written). w.lists) (sym is)
+
+pub returns-then-not-is_better-clause-place : goal.returns-then-not-is_better-clause-place
+returns-then-not-is_better-clause-place g c =
+    let p = program_in c.args.names.now in
+    let f = function_of c.args.f.now in
+    let body = stmts_of c.args.body.now in
+    let l = lists_of c.args.lists.now in
+    let o = c.args.code.now.ok.0 in
+    let n : c.len.result ≡ length c.args.code.now.items = omega (arith, o, c.len.ensures) in
+    let plain = body_with nothing_ready p f body c.args.from l in
+    let ws = c.in_ok-constants.constants.items in
+    let are : ws ≡ in_loops c.args.from plain.code =
+    c.in_ok-constants.ensures ∙ ap (λ (is : List Instr). in_loops c.args.from is) (behind_others c.lower_plain.new.code.items c.as_slice.result.now c.args.code.now.items plain.code c.len.result n c.as_slice.ensures.value c.in_ok-to.ensures.code) in
+    let test = ap (λ (xs : List ℕ). not (length xs == 0) && nat_le (c.lower_plain.new.lists.registers + length xs) 65535) (sym c.as_slice-2.ensures.value) ∙ sym c.is_better.ensures in
+    let is = stays_plain p f body c.args.from l (lists_of c.lower_plain.new.lists) ws c.in_ok-to.ensures.lists are (test ∙ c.if-not-is_better.true) in
+    c.in_ok-to.ensures.place ∙ ap (λ (w : Written). w.to) (sym is)
+
+pub overflow_cast-writable : goal.overflow_cast-writable
+overflow_cast-writable g c =
+    let room = has_room c.lower_plain.new.lists.registers c.as_slice-2.result.now (sym c.is_better.ensures ∙ c.if-not-is_better.false) in
+    omega (arith, room)
+
+pub cut_to-requires : goal.cut_to-requires
+cut_to-requires g c =
+    let p = program_in c.args.names.now in
+    let f = function_of c.args.f.now in
+    let body = stmts_of c.args.body.now in
+    let l = lists_of c.args.lists.now in
+    let o = c.args.code.now.ok.0 in
+    let o2 = c.args.lists.now.arguments.ok.0 in
+    let o3 = c.args.lists.now.texts.ok.0 in
+    let n = ap length c.in_ok-to.ensures.code ∙ length-append c.args.code.now.items _ in
+    let a = arguments_fit p f body c.args.from l in
+    let b = ap (λ (m : Lists). length m.arguments) c.in_ok-to.ensures.lists in
+    let t = texts_fit p f body c.args.from l in
+    let u = ap (λ (m : Lists). length m.texts) c.in_ok-to.ensures.lists in
+    (omega (arith, n, o, c.len.ensures), omega (arith, a, b, o2, c.len-2.ensures), omega (arith, t, u, o3, c.len-3.ensures))
+
+pub lower_ready-requires-clause-room : goal.lower_ready-requires-clause-room
+lower_ready-requires-clause-room g c =
+    let room = has_room c.lower_plain.new.lists.registers c.as_slice-2.result.now (sym c.is_better.ensures ∙ c.if-not-is_better.false) in
+    let n = ap length c.as_slice-2.ensures.value in
+    omega (arith, room, n)
 
 pub returns-clause-code : goal.returns-clause-code
 returns-clause-code g c =
-    let ps = c.as_slice-parameters.ensures in
-    let s : scope_in c.in_ok-scope.scope ≡ parameter_locals (map parameter_of c.args.f.now.parameters) = c.in_ok-scope.ensures ∙ ap (λ xs. parameter_locals (map parameter_of xs)) ps in
-    let n : length c.as_slice-parameters.result.now ≡ length (map parameter_of c.args.f.now.parameters) = ap length ps ∙ sym (length-map c.args.f.now.parameters parameter_of) in
-    let w = same_body (program_in c.args.names.now) (stmts_of c.args.body.now) c.args.from (lists_of c.args.lists.now) _ _ _ _ s n in
-    c.in_ok-put.ensures ∙ ap (λ xs. xs ++ instr.Return ∷ []) (c.in_ok-last.ensures.code ∙ ap (λ (m : Written). c.args.code.now.items ++ m.code) w) ∙ append_assoc c.args.code.now.items _ (instr.Return ∷ [])
+    let p = program_in c.args.names.now in
+    let f = function_of c.args.f.now in
+    let body = stmts_of c.args.body.now in
+    let l = lists_of c.args.lists.now in
+    let o = c.args.code.now.ok.0 in
+    let n : c.len.result ≡ length c.args.code.now.items = omega (arith, o, c.len.ensures) in
+    let plain = body_with nothing_ready p f body c.args.from l in
+    let ws = c.in_ok-constants.constants.items in
+    let are : ws ≡ in_loops c.args.from plain.code =
+    c.in_ok-constants.ensures ∙ ap (λ (is : List Instr). in_loops c.args.from is) (behind_others c.lower_plain.new.code.items c.as_slice.result.now c.args.code.now.items plain.code c.len.result n c.as_slice.ensures.value c.in_ok-to.ensures.code) in
+    let test = ap (λ (xs : List ℕ). not (length xs == 0) && nat_le (c.lower_plain.new.lists.registers + length xs) 65535) (sym c.as_slice-2.ensures.value) ∙ sym c.is_better.ensures in
+    let o2 = c.args.lists.now.arguments.ok.0 in
+    let n2 : c.len-2.result ≡ length c.args.lists.now.arguments.items = omega (arith, o2, c.len-2.ensures) in
+    let o3 = c.args.lists.now.texts.ok.0 in
+    let n3 : c.len-3.result ≡ length c.args.lists.now.texts.items = omega (arith, o3, c.len-3.ensures) in
+    let is = gets_better p f body c.args.from l (lists_of c.lower_plain.new.lists) ws c.in_ok-to.ensures.lists are (test ∙ c.if-not-is_better.false) (lists_of c.cut_to.new.lists) c.len-2.result c.len-3.result n2 n3 c.cut_to.ensures.lists in
+    let before = c.cut_to.ensures.code ∙ in_front c.lower_plain.new.code.items c.args.code.now.items plain.code c.len.result n c.in_ok-to.ensures.code in
+    subst (λ (xs : List Instr). OnOk c.lower_ready.result (c.lower_ready.new.code.items ≡ xs ++ (body_written p f body c.args.from l).code)) before
+    (subst (λ (w : Written). OnOk c.lower_ready.result (c.lower_ready.new.code.items ≡ c.cut_to.new.code.items ++ w.code)) is c.lower_ready.ensures.code)
 
 pub returns-clause-lists : goal.returns-clause-lists
 returns-clause-lists g c =
-    let ps = c.as_slice-parameters.ensures in
-    let s : scope_in c.in_ok-scope.scope ≡ parameter_locals (map parameter_of c.args.f.now.parameters) = c.in_ok-scope.ensures ∙ ap (λ xs. parameter_locals (map parameter_of xs)) ps in
-    let n : length c.as_slice-parameters.result.now ≡ length (map parameter_of c.args.f.now.parameters) = ap length ps ∙ sym (length-map c.args.f.now.parameters parameter_of) in
-    let w = same_body (program_in c.args.names.now) (stmts_of c.args.body.now) c.args.from (lists_of c.args.lists.now) _ _ _ _ s n in
-    c.in_ok-last.ensures.lists ∙ ap (λ (m : Written). m.lists) w
+    let p = program_in c.args.names.now in
+    let f = function_of c.args.f.now in
+    let body = stmts_of c.args.body.now in
+    let l = lists_of c.args.lists.now in
+    let o = c.args.code.now.ok.0 in
+    let n : c.len.result ≡ length c.args.code.now.items = omega (arith, o, c.len.ensures) in
+    let plain = body_with nothing_ready p f body c.args.from l in
+    let ws = c.in_ok-constants.constants.items in
+    let are : ws ≡ in_loops c.args.from plain.code =
+    c.in_ok-constants.ensures ∙ ap (λ (is : List Instr). in_loops c.args.from is) (behind_others c.lower_plain.new.code.items c.as_slice.result.now c.args.code.now.items plain.code c.len.result n c.as_slice.ensures.value c.in_ok-to.ensures.code) in
+    let test = ap (λ (xs : List ℕ). not (length xs == 0) && nat_le (c.lower_plain.new.lists.registers + length xs) 65535) (sym c.as_slice-2.ensures.value) ∙ sym c.is_better.ensures in
+    let o2 = c.args.lists.now.arguments.ok.0 in
+    let n2 : c.len-2.result ≡ length c.args.lists.now.arguments.items = omega (arith, o2, c.len-2.ensures) in
+    let o3 = c.args.lists.now.texts.ok.0 in
+    let n3 : c.len-3.result ≡ length c.args.lists.now.texts.items = omega (arith, o3, c.len-3.ensures) in
+    let is = gets_better p f body c.args.from l (lists_of c.lower_plain.new.lists) ws c.in_ok-to.ensures.lists are (test ∙ c.if-not-is_better.false) (lists_of c.cut_to.new.lists) c.len-2.result c.len-3.result n2 n3 c.cut_to.ensures.lists in
+    subst (λ (w : Written). OnOk c.lower_ready.result (lists_of c.lower_ready.new.lists ≡ w.lists)) is c.lower_ready.ensures.lists
 
 pub returns-clause-place : goal.returns-clause-place
 returns-clause-place g c =
-    let ps = c.as_slice-parameters.ensures in
-    let s : scope_in c.in_ok-scope.scope ≡ parameter_locals (map parameter_of c.args.f.now.parameters) = c.in_ok-scope.ensures ∙ ap (λ xs. parameter_locals (map parameter_of xs)) ps in
-    let n : length c.as_slice-parameters.result.now ≡ length (map parameter_of c.args.f.now.parameters) = ap length ps ∙ sym (length-map c.args.f.now.parameters parameter_of) in
-    let w = same_body (program_in c.args.names.now) (stmts_of c.args.body.now) c.args.from (lists_of c.args.lists.now) _ _ _ _ s n in
-    c.in_ok-to.ensures ∙ ap (λ k. k + 1) (c.in_ok-last.ensures.place ∙ ap (λ (m : Written). m.to) w)
+    let p = program_in c.args.names.now in
+    let f = function_of c.args.f.now in
+    let body = stmts_of c.args.body.now in
+    let l = lists_of c.args.lists.now in
+    let o = c.args.code.now.ok.0 in
+    let n : c.len.result ≡ length c.args.code.now.items = omega (arith, o, c.len.ensures) in
+    let plain = body_with nothing_ready p f body c.args.from l in
+    let ws = c.in_ok-constants.constants.items in
+    let are : ws ≡ in_loops c.args.from plain.code =
+    c.in_ok-constants.ensures ∙ ap (λ (is : List Instr). in_loops c.args.from is) (behind_others c.lower_plain.new.code.items c.as_slice.result.now c.args.code.now.items plain.code c.len.result n c.as_slice.ensures.value c.in_ok-to.ensures.code) in
+    let test = ap (λ (xs : List ℕ). not (length xs == 0) && nat_le (c.lower_plain.new.lists.registers + length xs) 65535) (sym c.as_slice-2.ensures.value) ∙ sym c.is_better.ensures in
+    let o2 = c.args.lists.now.arguments.ok.0 in
+    let n2 : c.len-2.result ≡ length c.args.lists.now.arguments.items = omega (arith, o2, c.len-2.ensures) in
+    let o3 = c.args.lists.now.texts.ok.0 in
+    let n3 : c.len-3.result ≡ length c.args.lists.now.texts.items = omega (arith, o3, c.len-3.ensures) in
+    let is = gets_better p f body c.args.from l (lists_of c.lower_plain.new.lists) ws c.in_ok-to.ensures.lists are (test ∙ c.if-not-is_better.false) (lists_of c.cut_to.new.lists) c.len-2.result c.len-3.result n2 n3 c.cut_to.ensures.lists in
+    subst (λ (w : Written). IfOk c.lower_ready.result (λ to. to ≡ w.to)) is c.lower_ready.ensures.place
 
-pub returns-in_err-last-clause-fails : goal.returns-in_err-last-clause-fails
-returns-in_err-last-clause-fails g c =
-    let ps = c.as_slice-parameters.ensures in
-    let s : scope_in c.in_ok-scope.scope ≡ parameter_locals (map parameter_of c.args.f.now.parameters) = c.in_ok-scope.ensures ∙ ap (λ xs. parameter_locals (map parameter_of xs)) ps in
-    let n : length c.as_slice-parameters.result.now ≡ length (map parameter_of c.args.f.now.parameters) = ap length ps ∙ sym (length-map c.args.f.now.parameters parameter_of) in
-    let w = same_body (program_in c.args.names.now) (stmts_of c.args.body.now) c.args.from (lists_of c.args.lists.now) _ _ _ _ s n in
-    let e = ap (λ (m : Written). m.lists.registers) w in
-    passed_on c.lower_stmts.result c.from_residual-in_err-last.result c.in_err-last.field-0.0 _ _ c.lower_stmts.ensures.fails c.in_err-last.was c.from_residual-in_err-last.ensures (omega (arith, e))
+pub returns-clause-fails : goal.returns-clause-fails
+returns-clause-fails g c =
+    let p = program_in c.args.names.now in
+    let f = function_of c.args.f.now in
+    let body = stmts_of c.args.body.now in
+    let l = lists_of c.args.lists.now in
+    let ws = c.in_ok-constants.constants.items in
+    let layout : Layout = record { writable = c.lower_plain.new.lists.registers; constants = ws } in
+    let leaner = body_leaner p f body layout c.args.from (c.args.from + length ws) l (lists_of c.cut_to.new.lists) in
+    let more = body_more p f body c.args.from l in
+    still_fails c.lower_ready.result _ _ (omega (arith, leaner, more)) c.lower_ready.ensures.fails

@@ -19,12 +19,12 @@ items-init g c =
     let p = program_in c.args.names.now in
     let short : length c.new-2.result.items ≡ 0 = ap length c.new-2.ensures.items in
     record {
-      functions = λ j. map code_function (c.new.ensures.items j) ++ (all_made p p 0 (record { arguments = c.new-3.ensures.items j; texts = c.new-4.ensures.items j; registers = 0 })).functions;
-      code = λ j. c.new-2.ensures.items j ++ (all_made p p 0 (record { arguments = c.new-3.ensures.items j; texts = c.new-4.ensures.items j; registers = 0 })).code;
-      lists = λ j. (all_made p p 0 (record { arguments = c.new-3.ensures.items j; texts = c.new-4.ensures.items j; registers = 0 })).lists;
-      globals = λ j. map global_of (c.new-5.ensures.items j) ++ globals p;
+      functions = λ j. map code_function (c.new.ensures.items j) ++ (all_made p p 0 (record { arguments = c.new-3.ensures.items j; texts = c.new-4.ensures.items j; registers = 0; layout = record { writable = 0; constants = c.new-5.ensures.items j } })).functions;
+      code = λ j. c.new-2.ensures.items j ++ (all_made p p 0 (record { arguments = c.new-3.ensures.items j; texts = c.new-4.ensures.items j; registers = 0; layout = record { writable = 0; constants = c.new-5.ensures.items j } })).code;
+      lists = λ j. (all_made p p 0 (record { arguments = c.new-3.ensures.items j; texts = c.new-4.ensures.items j; registers = 0; layout = record { writable = 0; constants = c.new-5.ensures.items j } })).lists;
+      globals = λ j. map global_of (c.new-6.ensures.items j) ++ globals p;
       front_code = c.new-2.ensures.items;
-      front_lists = λ j. record { arguments = c.new-3.ensures.items j; texts = c.new-4.ensures.items j; registers = 0 };
+      front_lists = λ j. record { arguments = c.new-3.ensures.items j; texts = c.new-4.ensures.items j; registers = 0; layout = record { writable = 0; constants = c.new-5.ensures.items j } };
       front_to = refl;
       few = subst (λ xs. AllByRecursion (λ (f : FunctionCode). f.registers ≤ 65535) (map code_function xs)) (sym c.new.ensures.items) tt;
       short = omega (arith, short);
