@@ -37,29 +37,35 @@ fn push_local<A: Allocator + Copy>(
     text.push_str(format!(in alloc; "int v{number};")?.as_str())
 }
 
-// Appends so many.
+// Appends a worker of so many and what stands behind them.
 fn push_locals<A: Allocator + Copy>(
     alloc: A,
     text: &mut String<A>,
     count: u32,
+    behind: &str,
 ) -> Result<(), AllocError> {
     text.push_str("void worker(int self) { ")?;
     for i in 100_000..100_000 + count as u64 {
         push_local(alloc, text, i)?;
     }
+    text.push_str(behind)?;
     text.push_str(" }")
 }
 
-/// A worker with a parameter and so many locals.
-fn with_locals<A: Allocator + Copy>(alloc: A, count: u32) -> Result<String<A>, AllocError> {
+/// A worker with a parameter and so many locals, and what stands behind them.
+fn with_locals<A: Allocator + Copy>(
+    alloc: A,
+    count: u32,
+    behind: &str,
+) -> Result<String<A>, AllocError> {
     let mut text = String::new(alloc);
-    push_locals(alloc, &mut text, count)?;
+    push_locals(alloc, &mut text, count, behind)?;
     Ok(text)
 }
 
 // The sizes of its code.
-fn sizes_with_locals<A: Allocator + Copy>(alloc: A, count: u32) -> Option<Sizes> {
-    match with_locals(alloc, count) {
+fn sizes_with_locals<A: Allocator + Copy>(alloc: A, count: u32, behind: &str) -> Option<Sizes> {
+    match with_locals(alloc, count, behind) {
         Ok(text) => sizes_of(alloc, text.as_str()),
         Err(_) => None,
     }
@@ -67,7 +73,7 @@ fn sizes_with_locals<A: Allocator + Copy>(alloc: A, count: u32) -> Option<Sizes>
 
 // Its fault.
 fn fault_with_locals<A: Allocator + Copy>(alloc: A, count: u32) -> Option<(u32, Option<Span>)> {
-    match with_locals(alloc, count) {
+    match with_locals(alloc, count, "") {
         Ok(text) => fault_of(alloc, text.as_str()),
         Err(_) => None,
     }
@@ -88,7 +94,15 @@ fn is_so_wide(sizes: Option<Sizes>, least: u32, most: u32) -> bool {
 
 #[test]
 fn a_function_may_have_so_many_registers(rt: HostRuntime) {
-    assert!(rt; is_so_wide(sizes_with_locals(rt.alloc(), 65_534), 65_535, 65_535));
+    assert!(rt; is_so_wide(sizes_with_locals(rt.alloc(), 65_534, ""), 65_535, 65_535));
+}
+
+// Two constants lie ready in the last two registers that a function may have, and with a local more there is no room for them.
+#[test]
+fn constants_lie_ready_where_there_is_room(rt: HostRuntime) {
+    let turns = " while (self < 7) self = self + 3;";
+    assert!(rt; is_so_wide(sizes_with_locals(rt.alloc(), 65_531, turns), 65_535, 65_535));
+    assert!(rt; is_so_wide(sizes_with_locals(rt.alloc(), 65_532, turns), 65_534, 65_534));
 }
 
 #[test]

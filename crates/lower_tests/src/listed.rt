@@ -8,18 +8,18 @@ pub type Listed = (&'static str, &'static str);
 
 /// The rows stand in a function, so that no proof but its own looks at them.
 pub fn rows() -> &'static [Listed] {
-    static ROWS: [Listed; 11] = [
+    static ROWS: [Listed; 12] = [
         (
             "int x; void worker(int self) { __transaction_atomic { x = x + 1; } }",
             "function worker registers 3\n0 begin >6\n1 rd r1 @0\n2 const r2 #1\n3 add.s r1 r1 r2\n4 wr @0 r1\n5 commit\n6 ret\n",
         ),
         (
             "int a[4]; int f(int n) { if (n > 1 && n) return f(n); return 0; } void worker(int self) { for (int i = 0; i < 3; i++) __transaction_relaxed { a[i] += f(i); printf(\"%d!\", a[i]); break; } }",
-            "function f registers 2\n0 const r1 #1\n1 lt.s r1 r1 r0\n2 jz r1 >6\n3 jz r0 >6\n4 call f r1 r0\n5 ret r1\n6 const r1 #0\n7 ret r1\n8 ret\nfunction worker registers 4\n9 const r1 #0\n10 const r1 #0\n11 jump >28\n12 jump >31\n13 jump >26\n14 begin >26\n15 rdx r2 @0 #4 r1\n16 call f r3 r1\n17 add.s r2 r2 r3\n18 wrx @0 #4 r1 r2\n19 irrevocable\n20 rdx r2 @0 #4 r1\n21 print.s r2\n22 print.t #0\n23 commit\n24 jump >12\n25 commit\n26 const r2 #1\n27 add.s r1 r1 r2\n28 const r2 #3\n29 lt.s r2 r1 r2\n30 jnz r2 >14\n31 ret\ntext 0 \"!\"\n",
+            "function f registers 2\n0 const r1 #1\n1 lt.s r1 r1 r0\n2 jz r1 >6\n3 jz r0 >6\n4 call f r1 r0\n5 ret r1\n6 const r1 #0\n7 ret r1\n8 ret\nfunction worker registers 6\n9 const r4 #3\n10 const r5 #1\n11 const r1 #0\n12 const r1 #0\n13 jump >29\n14 jump >31\n15 jump >28\n16 begin >28\n17 rdx r2 @0 #4 r1\n18 call f r3 r1\n19 add.s r2 r2 r3\n20 wrx @0 #4 r1 r2\n21 irrevocable\n22 rdx r2 @0 #4 r1\n23 print.s r2\n24 print.t #0\n25 commit\n26 jump >14\n27 commit\n28 add.s r1 r1 r5\n29 lt.s r2 r1 r4\n30 jnz r2 >16\n31 ret\ntext 0 \"!\"\n",
         ),
         (
             "void worker(int self) { int v = 7; while (!(v != 0)) v = v * 2 - (v ? 1 : self); do { v -= 3; if (v == 4) continue; } while (v > 0 || self == v); return; }",
-            "function worker registers 4\n0 const r1 #0\n1 const r1 #7\n2 jump >11\n3 jump >12\n4 const r2 #2\n5 mul.s r2 r1 r2\n6 jz r1 >9\n7 const r3 #1\n8 jump >10\n9 move r3 r0\n10 sub.s r1 r2 r3\n11 jz r1 >4\n12 jump >15\n13 jump >26\n14 jump >21\n15 const r2 #3\n16 sub.s r1 r1 r2\n17 const r2 #4\n18 eq r2 r1 r2\n19 jz r2 >21\n20 jump >14\n21 const r2 #0\n22 lt.s r2 r2 r1\n23 jnz r2 >15\n24 eq r2 r0 r1\n25 jnz r2 >15\n26 ret\n27 ret\n",
+            "function worker registers 8\n0 const r4 #0\n1 const r5 #4\n2 const r6 #3\n3 const r7 #2\n4 const r1 #0\n5 const r1 #7\n6 jump >14\n7 jump >15\n8 mul.s r2 r1 r7\n9 jz r1 >12\n10 const r3 #1\n11 jump >13\n12 move r3 r0\n13 sub.s r1 r2 r3\n14 jz r1 >8\n15 jump >18\n16 jump >26\n17 jump >22\n18 sub.s r1 r1 r6\n19 eq r2 r1 r5\n20 jz r2 >22\n21 jump >17\n22 lt.s r2 r4 r1\n23 jnz r2 >18\n24 eq r2 r0 r1\n25 jnz r2 >18\n26 ret\n27 ret\n",
         ),
         (
             "unsigned u[3], w; void worker(int self) { __transaction_atomic { u[self] = -5 >> w; __transaction_atomic { w = ~u[1] % 7u; if (w) __transaction_cancel; } } }",
@@ -27,7 +27,7 @@ pub fn rows() -> &'static [Listed] {
         ),
         (
             "int x; int f(void) { __transaction_atomic { for (;;) { __transaction_atomic { if (x > 3) break; if (x == 2) return x; x++; } } } return 1; } void worker(int self) { if (f() <= self) f(); else f(); }",
-            "function f registers 2\n0 begin >26\n1 jump >24\n2 jump >25\n3 jump >24\n4 begin >24\n5 rd r0 @0\n6 const r1 #3\n7 lt.s r0 r1 r0\n8 jz r0 >11\n9 commit\n10 jump >2\n11 rd r0 @0\n12 const r1 #2\n13 eq r0 r0 r1\n14 jz r0 >19\n15 rd r0 @0\n16 commit\n17 commit\n18 ret r0\n19 rd r0 @0\n20 const r1 #1\n21 add.s r0 r0 r1\n22 wr @0 r0\n23 commit\n24 jump >4\n25 commit\n26 const r0 #1\n27 ret r0\n28 ret\nfunction worker registers 2\n29 call f r1\n30 le.s r1 r1 r0\n31 jz r1 >34\n32 call f r1\n33 jump >35\n34 call f r1\n35 ret\n",
+            "function f registers 5\n0 const r2 #1\n1 const r3 #2\n2 const r4 #3\n3 begin >26\n4 jump >24\n5 jump >25\n6 jump >24\n7 begin >24\n8 rd r0 @0\n9 lt.s r0 r4 r0\n10 jz r0 >13\n11 commit\n12 jump >5\n13 rd r0 @0\n14 eq r0 r0 r3\n15 jz r0 >20\n16 rd r0 @0\n17 commit\n18 commit\n19 ret r0\n20 rd r0 @0\n21 add.s r0 r0 r2\n22 wr @0 r0\n23 commit\n24 jump >7\n25 commit\n26 const r0 #1\n27 ret r0\n28 ret\nfunction worker registers 2\n29 call f r1\n30 le.s r1 r1 r0\n31 jz r1 >34\n32 call f r1\n33 jump >35\n34 call f r1\n35 ret\n",
         ),
         (
             "int g(int a, unsigned b, int c) { return a - c; } void worker(int self) { int r = g(1, g(self, 2u, 3), self + self); r = g(r, r, r); }",
@@ -43,7 +43,7 @@ pub fn rows() -> &'static [Listed] {
         ),
         (
             "unsigned m = 4294967295u; void worker(int self) { unsigned t; __transaction_atomic { t = m; } int k; for (k = 0; k < 3; k++) { if (k == 1) continue; t = t / 3u & (unsigned) k | t ^ 1u; } }",
-            "function worker registers 5\n0 const r1 #0\n1 begin >4\n2 rd r1 @0\n3 commit\n4 const r2 #0\n5 const r2 #0\n6 jump >21\n7 jump >24\n8 jump >19\n9 const r3 #1\n10 eq r3 r2 r3\n11 jz r3 >13\n12 jump >8\n13 const r3 #3\n14 div.u r3 r1 r3\n15 and r3 r3 r2\n16 const r4 #1\n17 xor r4 r1 r4\n18 or r1 r3 r4\n19 const r3 #1\n20 add.s r2 r2 r3\n21 const r3 #3\n22 lt.s r3 r2 r3\n23 jnz r3 >9\n24 ret\n",
+            "function worker registers 7\n0 const r5 #3\n1 const r6 #1\n2 const r1 #0\n3 begin >6\n4 rd r1 @0\n5 commit\n6 const r2 #0\n7 const r2 #0\n8 jump >19\n9 jump >21\n10 jump >18\n11 eq r3 r2 r6\n12 jz r3 >14\n13 jump >10\n14 div.u r3 r1 r5\n15 and r3 r3 r2\n16 xor r4 r1 r6\n17 or r1 r3 r4\n18 add.s r2 r2 r6\n19 lt.s r3 r2 r5\n20 jnz r3 >11\n21 ret\n",
         ),
         (
             "void worker(int self) { int a, b = 2, c; { int a = b; b = a; } c = a < b && (b < c || !c); c = -c + +a - ~b; }",
@@ -52,6 +52,10 @@ pub fn rows() -> &'static [Listed] {
         (
             "void worker(int self) { int a = self & 4, b = 0; while (!(a && b) && (a || self)) { if ((a || b) == 0) a = 1; else b = a && self ? 2 : 3; } }",
             "function worker registers 3\n0 const r1 #0\n1 const r2 #4\n2 and r1 r0 r2\n3 const r2 #0\n4 const r2 #0\n5 jump >16\n6 jump >20\n7 jnz r1 >11\n8 jnz r2 >11\n9 const r1 #1\n10 jump >16\n11 jz r1 >15\n12 jz r0 >15\n13 const r2 #2\n14 jump >16\n15 const r2 #3\n16 jz r1 >18\n17 jnz r2 >20\n18 jnz r1 >7\n19 jnz r0 >7\n20 ret\n",
+        ),
+        (
+            "void worker(int n) { do n = n + 1 + 2 + 3 + 4 + 5 + 6 + 7 + 8 + 9 + 10 + 11 + 12 + 13 + 14 + 15 + 16 + 17; while (!n); }",
+            "function worker registers 19\n0 const r3 #17\n1 const r4 #16\n2 const r5 #15\n3 const r6 #14\n4 const r7 #13\n5 const r8 #12\n6 const r9 #11\n7 const r10 #10\n8 const r11 #9\n9 const r12 #8\n10 const r13 #7\n11 const r14 #6\n12 const r15 #5\n13 const r16 #4\n14 const r17 #3\n15 const r18 #2\n16 jump >19\n17 jump >38\n18 jump >37\n19 const r1 #1\n20 add.s r1 r0 r1\n21 add.s r1 r1 r18\n22 add.s r1 r1 r17\n23 add.s r1 r1 r16\n24 add.s r1 r1 r15\n25 add.s r1 r1 r14\n26 add.s r1 r1 r13\n27 add.s r1 r1 r12\n28 add.s r1 r1 r11\n29 add.s r1 r1 r10\n30 add.s r1 r1 r9\n31 add.s r1 r1 r8\n32 add.s r1 r1 r7\n33 add.s r1 r1 r6\n34 add.s r1 r1 r5\n35 add.s r1 r1 r4\n36 add.s r0 r1 r3\n37 jz r0 >19\n38 ret\n",
         ),
     ];
     &ROWS
