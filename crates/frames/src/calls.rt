@@ -1,13 +1,11 @@
-//! What a call names, and what a return gives.
+//! What a call names.
 
-ghost use Rattle.std.specs.Prelude.{◌≡◌, ℕ, List, IfSome, IfNone, Some, None, length, slice_get};
-ghost use Rattle.bytecode.specs.Code.{Frame, Instr as PlainInstr, effect, returned};
+ghost use Rattle.std.specs.Prelude.{◌≡◌, ℕ, IfSome, IfNone, Some, None, slice_get};
+ghost use Rattle.bytecode.specs.Code.{Instr as PlainInstr};
 ghost use Rattle.bytecode.specs.Valid.{Has};
 ghost use Rattle.bytecode.specs.Views.{function_of};
-ghost use Rattle.local_steps.specs.Local.{AreWords, StandsIn, standing};
 ghost use Rattle.frames.specs.Stack.{callee_of};
 
-use crate::told::at;
 use bytecode::{Code, FunctionCode, Instr};
 use std::alloc::Allocator;
 
@@ -36,24 +34,6 @@ pub(crate) fn called_at<A: Allocator>(code: &Code<A>, place: u32) -> Option<Call
                 }),
                 None => None,
             },
-            _ => None,
-        },
-        None => None,
-    }
-}
-
-/// The word that the return at a place gives, if one stands there.
-#[inline(always)]
-pub(crate) fn given_at<A: Allocator>(code: &Code<A>, place: usize, registers: &[u64]) -> Option<u64>
-    requires stands { StandsIn code.now place (length registers.now) }
-    requires words { AreWords registers.now }
-    ensures { IfSome result (λ w. (fs : List Frame) → effect code.now (standing place registers.now fs) ≡ returned fs w) }
-{
-    let parts = code.parts();
-    match parts.instructions.as_slice().get(place) {
-        Some(instr) => match instr {
-            Instr::Return => Some(0),
-            Instr::ReturnValue(a) => Some(at(registers, *a)),
             _ => None,
         },
         None => None,

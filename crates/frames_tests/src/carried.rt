@@ -68,6 +68,24 @@ fn carry_out<A: Allocator + Copy>(
     Ok(true)
 }
 
+// Makes the call or the return that stands here, if one does: whether it did. There may be no room for a call.
+fn pass<A: Allocator + Copy>(frames: &mut Frames<A>, code: &Code<A>, doing: Doing) -> bool
+    requires of { IsConfigurationOf code.now frames.old.configuration }
+    requires told { Tells code.now frames.old.configuration doing }
+    ensures { IsConfigurationOf code.now frames.new.configuration }
+{
+    // The prover learns here that the code is valid.
+    let _parts = code.parts();
+    match doing {
+        Doing::Call => frames.enter(code),
+        Doing::Return(word) => {
+            frames.give_back(code, word);
+            true
+        }
+        _ => false,
+    }
+}
+
 // Local steps, at most 1,000, and the call or the return that stands there then: how many they were, and whether there was one.
 fn go_once<A: Allocator + Copy>(frames: &mut Frames<A>, code: &Code<A>) -> (u64, bool)
     requires { IsConfigurationOf code.now frames.old.configuration }
@@ -75,8 +93,11 @@ fn go_once<A: Allocator + Copy>(frames: &mut Frames<A>, code: &Code<A>) -> (u64,
 {
     // The prover learns here that the code is valid.
     let _parts = code.parts();
-    let made = frames.advance(code, 1000);
-    (made, frames.pass(code))
+    let (made, paused) = frames.advance(code, 1000);
+    match paused {
+        Some(doing) => (made, pass(frames, code, doing)),
+        None => (made, false),
+    }
 }
 
 // Steps in the frames, as far as they go: how many they were.

@@ -1,3 +1,5 @@
+-- what is known of a value, if there is one
+pub mod Known
 -- one local step more
 mod Onward
 -- local steps keep to their function
