@@ -393,16 +393,17 @@ impl<A: Allocator + Copy> Worker<A> {
 
     // Steps of validation, one after another, at most so many, where what is to be done is under it: how many were made.
     #[inline(never)]
-    fn validate(&mut self, words: &Words<A>, code: &Code<A>, doing: Doing, most: u64) -> u64
+    fn validate(&mut self, words: &Words<A>, code: &Code<A>, most: u64) -> u64
         requires table { words.now.table_id.words ≡ cells_of code.now + 1 }
         requires code { words.now.key.code ≡ code.now }
         requires worker { IsWorkerOf words.now.table_id words.now.key self.old }
         requires room { self.old.steps + most < 2 ^ 64 }
-        requires stands { StandsAt code.now self.old.thread doing }
         ensures goes_on { (self.new.number ≡ self.old.number) × StepsOn words.now.table_id words.now.key self.old self.new }
         ensures steps { self.new.steps ≡ self.old.steps + result }
         ensures few { result ≤ most }
     {
+        // Asked here and not handed over, so that whoever calls keeps it in the processor's registers.
+        let doing = self.thread.doing(code);
         'steps: for passed in 0..most {
             if self.thread.is_waiting(code, doing) {
                 self.wait(words, code);
@@ -442,7 +443,7 @@ impl<A: Allocator + Copy> Worker<A> {
         if self.complete(words, code, doing, most) {
             return Ok(());
         }
-        if self.validate(words, code, doing, most) > 0 {
+        if self.validate(words, code, most) > 0 {
             return Ok(());
         }
         self.step(words, code)

@@ -8,7 +8,7 @@ steps-init g c = record {
   steps = sym (add-zero c.args.self.now.steps);
   number = refl;
   goes_on = stays c.args.words.now.table_id c.args.words.now.key c.args.self.now;
-  stands = c.requires.stands;
+  stands = c.doing-doing.ensures;
 }
 
 pub steps-preserved-then-is_waiting : goal.steps-preserved-then-is_waiting
@@ -17,7 +17,7 @@ steps-preserved-then-is_waiting g c = record {
   steps = (let a = c.wait.ensures.steps in let b = c.steps.invariant.steps in omega arith);
   number = c.wait.ensures.goes_on.0 ∙ c.steps.invariant.number;
   goes_on = further c.args.words.now.table_id c.args.words.now.key c.args.self.now c.steps.self c.wait.new.self c.steps.invariant.goes_on c.wait.ensures.goes_on.1;
-  stands = c.wait.ensures.still c.args.doing c.steps.invariant.stands;
+  stands = c.wait.ensures.still c.doing-doing.result c.steps.invariant.stands;
 }
 
 pub returns-then-not-compare-clause-goes_on : goal.returns-then-not-compare-clause-goes_on
@@ -30,5 +30,5 @@ steps-preserved g c = record {
   steps = (let a = c.compare.ensures.steps in let b = c.steps.invariant.steps in omega arith);
   number = c.compare.ensures.goes_on.0 ∙ c.steps.invariant.number;
   goes_on = further c.args.words.now.table_id c.args.words.now.key c.args.self.now c.steps.self c.compare.new.self c.steps.invariant.goes_on c.compare.ensures.goes_on.1;
-  stands = c.compare.ensures.still c.if-not-compare.false c.args.doing c.steps.invariant.stands;
+  stands = c.compare.ensures.still c.if-not-compare.false c.doing-doing.result c.steps.invariant.stands;
 }
