@@ -255,6 +255,7 @@ impl<A: Allocator + Copy> Attempt<A> {
     }
 
     /// The word last written at an address, if any.
+    #[inline(always)]
     pub fn written(&self, address: u32) -> Option<u64>
         ensures { result ≡ written address self.now.writes }
     {

@@ -283,6 +283,7 @@ impl<A: Allocator + Copy> Core<A> {
     {
         self.steps.has_begun() && self.steps.is_kept()
     }
+
     /// Whether an attempt is under way that has the lock: it keeps it, or its commit stores.
     pub fn has_lock(&self) -> bool
         ensures { result ≡ has_lock self.now.attempt }

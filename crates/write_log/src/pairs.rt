@@ -41,6 +41,7 @@ impl<A: Allocator> Model for Pairs<A> {
 }
 
 /// Where the order has an address, or where it would be inserted.
+#[inline(never)]
 fn search<L: Ledger>(
     order: &[(u32, usize)],
     address: u32,
@@ -141,7 +142,8 @@ impl<A: Allocator + Copy> Pairs<A> {
         reserve_one(&mut self.order)
     }
 
-    /// The place of an address, if any.
+    /// The place of an address, if any. Outside of all addresses it is a test, and no call.
+    #[inline(always)]
     pub fn find<L: Ledger>(&self, address: u32, looks: &mut Looks<L>) -> Option<usize>
         ensures found { IsFound address self.now.pairs result }
         ensures looks { IsWithinDigits (length self.now.pairs) looks.old looks.new }
