@@ -37,7 +37,7 @@ impl<A: Allocator> Model for Attempt<A> {
 
     ghost Value = { Nest };
 
-    ghost view = { λ a. record { begins = record { saved = a.outermost; inner = checkpoints [] (take a.depth a.inner.items) a.writes.marks }; aside = a.aside; reads = a.reads.pairs; writes = a.writes.pairs; kept = a.kept; begin_room = min a.writes.room (vec_len a.inner - a.depth); read_room = a.reads.room; write_room = a.writes.room } };
+    ghost view = { λ a. record { begins = record { saved = a.outermost; inner = checkpoints [] (take a.depth a.inner.items) a.writes.marks }; aside = a.aside; reads = a.reads.pairs; writes = a.writes.pairs; kept = a.kept; begin_room = min a.writes.room (vec_len a.inner - a.depth); read_room = a.reads.room; write_room = a.writes.put_room } };
 
     // Each open inner begin has its list and its mark. Marks past those are of inner transactions that have committed.
     ghost invariant = { λ a. (a.depth ≤ vec_len a.inner) × (a.depth ≤ length a.writes.marks) };
@@ -124,11 +124,15 @@ impl<A: Allocator + Copy> Attempt<A> {
     }
 
     /// Makes room for one `write`. The error comes only where there is none and the allocator refuses it.
+    #[inline(always)]
     pub fn prepare_write(&mut self) -> Result<(), AllocError>
         ensures room { OnOk result (0 < self.new.write_room) }
         ensures others { GainsRoom self.old self.new }
         ensures full { OnErr result (self.old.write_room ≡ 0) }
     {
+        if self.writes.has_put_room() {
+            return Ok(());
+        }
         self.writes.reserve_one()
     }
 

@@ -1,6 +1,6 @@
 //! The pairs of a write log in order of first write, with their order by address.
 
-ghost use Rattle.std.specs.Prelude.{◌≡◌, true, ◌+◌, ◌<◌, ◌≤◌, ◌^◌, [], OnOk, OnErr, length, vec_len, vec_capacity};
+ghost use Rattle.std.specs.Prelude.{◌≡◌, true, false, ◌+◌, ◌<◌, ◌≤◌, ◌^◌, [], OnOk, OnErr, length, vec_len, vec_capacity};
 ghost use Rattle.std.specs.List.{slice_get, insert};
 ghost use Rattle.write_log.specs.Overlay.{put, IsDistinct};
 ghost use Rattle.write_log.specs.inner.Order.{IsAbove, IsRising, IsSearched, IsFound, IsWithinDigits};
@@ -142,6 +142,15 @@ impl<A: Allocator + Copy> Pairs<A> {
         reserve_one(&mut self.order)
     }
 
+    /// Whether there is room for one more pair.
+    #[inline(always)]
+    pub fn has_room(&self) -> bool
+        ensures room { result ≡ true → 0 < self.now.room }
+        ensures none { result ≡ false → self.now.room ≡ 0 }
+    {
+        self.list.len() < self.list.capacity() && self.order.len() < self.order.capacity()
+    }
+
     /// The place of an address, if any. Outside of all addresses it is a test, and no call.
     #[inline(always)]
     pub fn find<L: Ledger>(&self, address: u32, looks: &mut Looks<L>) -> Option<usize>
@@ -167,6 +176,7 @@ impl<A: Allocator + Copy> Pairs<A> {
     }
 
     /// Writes a word at an address, and answers what that changed. An address above all others needs no search.
+    #[inline(always)]
     pub fn put(&mut self, address: u32, word: u64) -> Change
         requires { 0 < self.old.room }
         ensures pairs { self.new.pairs ≡ put address word self.old.pairs }

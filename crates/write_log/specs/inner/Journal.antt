@@ -1,5 +1,5 @@
 -- What puts have changed, the first change first, and what undoing it leaves.
-use Rattle.std.specs.Prelude.{◌<◌, ◌≤◌, ◌-◌, ℕ, List, [], ◌∷◌, length, take, drop, slice_index, slice_index_or, slice_set}
+use Rattle.std.specs.Prelude.{◌<◌, ◌≤◌, ◌-◌, min, ℕ, List, [], ◌∷◌, length, take, drop, slice_index, slice_index_or, slice_set}
 use Rattle.write_log.specs.declared.pairs.Change.{Change}
 use Rattle.write_log.specs.declared.pairs.Change.TheVariants.{Added, Replaced}
 
@@ -31,3 +31,8 @@ pub record IsJournalOf (pairs : List (ℕ × ℕ)) (journal : List Change) (mark
   pub rising : (i j : ℕ) → i ≤ j → j < length marks → slice_index marks i ≤ slice_index marks j
   pub within : (i : ℕ) → i < length marks → slice_index marks i ≤ length journal
   pub undoes : (i : ℕ) → i < length marks → CanUndoAll (drop (slice_index marks i) journal) pairs
+
+-- for how many puts there is room: one for each pair and, while there is a mark, for each change
+abbrev pub room_by : List ℕ → ℕ → ℕ → ℕ
+room_by [] pairs changes = pairs
+room_by (m ∷ ms) pairs changes = min pairs changes
