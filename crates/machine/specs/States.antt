@@ -26,10 +26,11 @@ use Rattle.machine.specs.Standing.{IsThreadOf}
 use Rattle.machine.specs.Threads.{Next, Thread, op_of, access, told}
 
 -- what was made ready for a step: the operation that the core was asked for, what a begin then saves, and the
--- room for a call and for a print
+-- room for a read's entry, for a call and for a print
 pub record Ready : Type 0 where
   pub asked : Option Op
   pub saved : Saved
+  pub read_room : ℕ
   pub call_room : ℕ
   pub text_room : ℕ
 
@@ -71,7 +72,7 @@ abbrev pub StandsAt : Code → ThreadState → Doing → Type 0
 StandsAt code s doing = s.thread.status ≡ Running → Tells code s.thread.configuration doing
 
 -- The thread runs, and its next two steps are a read's: a load of this cell's word and, whatever word it finds, one
--- of the lock. All is ready for their answers.
+-- of the lock. There is room for its entry.
 pub record LoadsNext (code : Code) (s : ThreadState) (cell : ℕ) : Type 0 where
   pub running : s.thread.status ≡ Running
   pub loads : IsSomeAnd s.thread.attempt (λ a. LoadsBoth a cell)
@@ -79,7 +80,7 @@ pub record LoadsNext (code : Code) (s : ThreadState) (cell : ℕ) : Type 0 where
   pub lock : (word : ℕ) → word < 2 ^ 32 →
       access (effect code) (told (effect code) s.thread (Value word)).thread ≡ LoadLock
   pub between : (word : ℕ) → word < 2 ^ 32 → IsThreadOf code (told (effect code) s.thread (Value word)).thread
-  pub asked : s.ready.asked ≡ Some (op.Read cell)
+  pub room : 0 < s.ready.read_room
 
 -- The thread runs, and its next step is the load of an outermost begin. What the begin saves is ready.
 pub record BeginsNext (code : Code) (s : ThreadState) : Type 0 where

@@ -18,6 +18,7 @@ pub record CoreState : Type 0 where
   pub attempt : Option (Attempt Saved)  -- the one under way, if any
   pub asked : Option Op  -- what was prepared and is not told its answer yet
   pub saved : Saved  -- what the begin that was prepared saves, or what the last cancel or abort goes back to
+  pub read_room : ℕ  -- for how many more entries of the read log there is room
 
 -- an operation was prepared, and the answer is one to its access
 abbrev pub IsAnswered : CoreState → Answer → Type 0

@@ -36,7 +36,7 @@ impl<A: Allocator> Model for Core<A> {
 
     ghost Value = { CoreState };
 
-    ghost view = { λ c. record { attempt = attempt_of c.steps; asked = asked_of c.is_asked c.op; saved = c.steps.aside } };
+    ghost view = { λ c. record { attempt = attempt_of c.steps; asked = asked_of c.is_asked c.op; saved = c.steps.aside; read_room = c.steps.read_room } };
 
     ghost invariant = { λ c. IsPrepared (asked_of c.is_asked c.op) c.steps };
 }
@@ -72,7 +72,7 @@ impl<A: Allocator + Copy> Core<A> {
         ensures saved { op ≡ Op.Begin → OnOk result (self.new.saved ≡ record { registers = registers.now; frames = frames; place = place }) }
         ensures same { op ≢ Op.Begin → self.new.saved ≡ self.old.saved }
         ensures attempt { self.new.attempt ≡ self.old.attempt }
-        ensures err { OnErr result (self.new ≡ self.old) }
+        ensures err { OnErr result ((self.new.asked ≡ self.old.asked) × (self.new.saved ≡ self.old.saved)) }
         ensures used_up { (result ≡ Err Stop.SequenceUsedUp) ↔ (stops (core_access self.old.attempt op) ≡ true) }
     {
         let access = self.steps.access(op);
@@ -121,22 +121,17 @@ impl<A: Allocator + Copy> Core<A> {
     #[inline(always)]
     pub fn prepare_read(&mut self, cell: u32) -> bool
         ensures loads { result ≡ true → IsSomeAnd self.old.attempt (λ a. LoadsBoth a cell) }
-        ensures asked { result ≡ true → self.new.asked ≡ Some (Op.Read cell) }
+        ensures room { result ≡ true → 0 < self.new.read_room }
         ensures attempt { self.new.attempt ≡ self.old.attempt }
     {
-        if !self.steps.loads_both(cell) || !self.steps.make_read_room() {
-            return false;
-        }
-        self.op = Op::Read(cell);
-        self.is_asked = true;
-        true
+        self.steps.loads_both(cell) && self.steps.make_read_room()
     }
 
     /// Makes both steps of a read that were prepared, with the word and the lock's value that were loaded. It takes no memory.
     #[inline(always)]
     pub fn take_read(&mut self, cell: u32, word: u64, lock: u64) -> Outcome
         requires loads { IsSomeAnd self.old.attempt (λ a. LoadsBoth a cell) }
-        requires asked { self.old.asked ≡ Some (Op.Read cell) }
+        requires room { 0 < self.old.read_room }
         ensures attempt { self.new.attempt ≡ (stepped_twice self.old (Op.Read cell) (Value word) (Value lock)).attempt }
         ensures outcome { result ≡ (stepped_twice self.old (Op.Read cell) (Value word) (Value lock)).outcome }
         ensures asked { self.new.asked ≡ None }

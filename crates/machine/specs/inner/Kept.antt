@@ -48,6 +48,7 @@ abbrev pub ready : {A : Type 0} → KeptThread A → Ready
 ready t = record {
   asked = t.core.asked;
   saved = t.core.saved;
+  read_room = t.core.read_room;
   call_room = t.frames.room;
   text_room = string_capacity t.text - string_len t.text;
 }
