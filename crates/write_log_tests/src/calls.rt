@@ -12,6 +12,7 @@ use write_log::{Looks, WriteLog};
 /// Makes room, at the second call where the first one is refused, and says whether it was.
 fn make_room<A: Allocator + Copy>(log: &mut WriteLog<A>) -> Result<bool, AllocError>
     ensures ok { OnOk result (0 < log.new.room) }
+    ensures put_ok { OnOk result (0 < log.new.put_room) }
     ensures marks { log.new.marks ≡ log.old.marks }
 {
     if log.reserve_one().is_ok() {
