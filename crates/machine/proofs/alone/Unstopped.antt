@@ -7,7 +7,7 @@ use Rattle.syntax.specs.Behaviours.{IsMemory}
 use Rattle.syntax.specs.declared.numbers.Status.TheVariants.{Running}
 use Rattle.write_log.specs.Overlay.{written}
 use Rattle.bytecode.specs.Effects.{Effect, FitsCells}
-use Rattle.bytecode.specs.Effects.Effect.{Begin, Cancel, Commit, Irrevocable, Read, Write}
+use Rattle.bytecode.specs.Effects.Effect.{Begin}
 use Rattle.norec_core.specs.Attempts.{Attempt, Checkpoint}
 use Rattle.norec_core.specs.Phases.{commit_access, entry_access, operation_access, phase_access, read_access, store_access}
 use Rattle.norec_core.specs.declared.step.Access.{Access}

@@ -4,7 +4,7 @@ use Rattle.syntax.specs.declared.numbers.Status.{Status}
 use Rattle.syntax.specs.declared.numbers.Status.TheVariants.{Running, Ended as HasEnded, Trapped as HasTrapped}
 use Rattle.write_log.specs.Overlay.{written}
 use Rattle.bytecode.specs.Effects.{Effect}
-use Rattle.bytecode.specs.Effects.Effect.{Begin, Cancel, Commit, Irrevocable, Print, Read, Write}
+use Rattle.bytecode.specs.Effects.Effect.{Begin, Print}
 use Rattle.norec_core.specs.Attempts.{Attempt, Checkpoint}
 use Rattle.norec_core.specs.Phases.{CoreStep, core_begin, core_cancel, core_check, core_commit, core_compare, core_operation, core_phase, core_read, core_store, core_swap, core_time, core_word}
 use Rattle.norec_core.specs.declared.step.Access.{Access}

@@ -5,7 +5,7 @@ use Rattle.syntax.specs.declared.numbers.Status.{Status}
 use Rattle.syntax.specs.declared.numbers.Status.TheVariants.{Running, Ended as HasEnded, Trapped as HasTrapped}
 use Rattle.nesting.specs.Begins.{Saved}
 use Rattle.bytecode.specs.Effects.{Effect}
-use Rattle.bytecode.specs.Effects.Effect.{Pure, Print, Begin, Read, Commit, Cancel, End}
+use Rattle.bytecode.specs.Effects.Effect.{Pure, Print, Commit, Cancel, End}
 use Rattle.bytecode.specs.Code.{Code, Configuration, effect}
 use Rattle.frames.specs.Open.{MayStand, AreRestored, restored, saved_in, BeginsStayOpen, CanRestore}
 use Rattle.norec_core.specs.declared.step.Op.{Op}

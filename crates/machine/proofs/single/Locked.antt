@@ -4,7 +4,7 @@ use Rattle.std.proofs.lemmas.Bool.Decides.{eqb_tells}
 use Rattle.syntax.specs.Behaviours.{IsMemory}
 use Rattle.write_log.specs.Overlay.{written}
 use Rattle.bytecode.specs.Effects.{Effect, FitsCells}
-use Rattle.bytecode.specs.Effects.Effect.{Begin, Cancel, Commit, Irrevocable, Print, Read, Write}
+use Rattle.bytecode.specs.Effects.Effect.{Print}
 use Rattle.norec_core.specs.Attempts.{Attempt, Checkpoint, Completed}
 use Rattle.norec_core.specs.Phases.{CoreStep, core_cancel, core_commit, core_operation, core_phase, core_read, core_store, core_swap, core_word, on}
 use Rattle.norec_core.specs.declared.step.Answer.{Answer}
