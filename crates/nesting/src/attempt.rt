@@ -1,6 +1,6 @@
 //! An attempt: its logs and its begins.
 
-ghost use Rattle.std.specs.Prelude.{◌≡◌, ◌+◌, ◌<◌, ◌≤◌, ◌^◌, [], ◌∷◌, ◌++◌, true, false, OnOk, OnErr, OnSome, length, take, drop, vec_len};
+ghost use Rattle.std.specs.Prelude.{◌≡◌, ◌+◌, ◌<◌, ◌≤◌, ◌^◌, [], ◌∷◌, ◌++◌, true, false, if◌then◌else◌, OnOk, OnErr, OnSome, length, take, drop, vec_len};
 ghost use Rattle.std.specs.List.{slice_get};
 ghost use Rattle.write_log.specs.Overlay.{written, put};
 ghost use Rattle.nesting.specs.Nests.{GainsRoom};
@@ -21,23 +21,25 @@ use write_log::WriteLog;
 pub struct Attempt<A: Allocator = Global> {
     reads: ReadLog<A>,
     writes: WriteLog<A>,
-    outermost: Saved<A>,
+    // What the outermost begin saved and what was set aside; where they are turned, the other way round.
+    one: Saved<A>,
+    other: Saved<A>,
+    turned: bool,
     // The first `depth` are what the open inner begins saved, the outermost one first. The others are room.
     inner: Vec<Saved<A>, A>,
     depth: usize,
-    aside: Saved<A>,
     kept: bool,
     alloc: A,
 }
 
 impl<A: Allocator> Model for Attempt<A> {
-    ghost use Rattle.std.specs.Prelude.{◌-◌, ◌≤◌, min, [], take, length, vec_len};
+    ghost use Rattle.std.specs.Prelude.{◌-◌, ◌≤◌, if◌then◌else◌, min, [], take, length, vec_len};
     ghost use Rattle.nesting.specs.Nests.{Nest};
     ghost use Rattle.nesting.specs.inner.Checkpoints.{checkpoints};
 
     ghost Value = { Nest };
 
-    ghost view = { λ a. record { begins = record { saved = a.outermost; inner = checkpoints [] (take a.depth a.inner.items) a.writes.marks }; aside = a.aside; reads = a.reads.pairs; writes = a.writes.pairs; kept = a.kept; begin_room = min a.writes.room (vec_len a.inner - a.depth); read_room = a.reads.room; write_room = a.writes.put_room } };
+    ghost view = { λ a. record { begins = record { saved = if a.turned then a.other else a.one; inner = checkpoints [] (take a.depth a.inner.items) a.writes.marks }; aside = if a.turned then a.one else a.other; reads = a.reads.pairs; writes = a.writes.pairs; kept = a.kept; begin_room = min a.writes.room (vec_len a.inner - a.depth); read_room = a.reads.room; write_room = a.writes.put_room } };
 
     // Each open inner begin has its list and its mark. Marks past those are of inner transactions that have committed.
     ghost invariant = { λ a. (a.depth ≤ vec_len a.inner) × (a.depth ≤ length a.writes.marks) };
@@ -61,6 +63,25 @@ fn reserve_inner<A: Allocator + Copy>(
     Ok(())
 }
 
+// Swaps what lies there with what was set aside.
+#[inline(always)]
+fn swap_aside<A: Allocator>(
+    there: &mut Saved<A>,
+    one: &mut Saved<A>,
+    other: &mut Saved<A>,
+    turned: bool,
+)
+    ensures there { there.new ≡ (if turned then one.old else other.old) }
+    ensures aside { (if turned then one.new else other.new) ≡ there.old }
+    ensures saved { (if turned then other.new else one.new) ≡ (if turned then other.old else one.old) }
+{
+    if turned {
+        mem::swap(there, one);
+    } else {
+        mem::swap(there, other);
+    }
+}
+
 impl<A: Allocator + Copy> Attempt<A> {
     /// Nothing is logged, and no begin is open. It takes no memory yet.
     pub fn new(alloc: A) -> Attempt<A>
@@ -72,10 +93,11 @@ impl<A: Allocator + Copy> Attempt<A> {
         Attempt {
             reads: ReadLog::new(alloc),
             writes: WriteLog::new(alloc),
-            outermost: Saved::new(alloc),
+            one: Saved::new(alloc),
+            other: Saved::new(alloc),
+            turned: false,
             inner: Vec::new(alloc),
             depth: 0,
-            aside: Saved::new(alloc),
             kept: false,
             alloc,
         }
@@ -96,7 +118,11 @@ impl<A: Allocator + Copy> Attempt<A> {
     {
         reserve_inner(&mut self.inner, self.depth, self.alloc)?;
         self.writes.reserve_one()?;
-        self.aside.save(registers, frames, place)
+        if self.turned {
+            self.one.save(registers, frames, place)
+        } else {
+            self.other.save(registers, frames, place)
+        }
     }
 
     /// Sets aside what the next outermost begin saves, which needs no room beside that of the registers. The error comes only where
@@ -111,7 +137,11 @@ impl<A: Allocator + Copy> Attempt<A> {
         ensures aside { OnOk result (self.new.aside ≡ record { registers = registers.now; frames = frames; place = place }) }
         ensures others { GainsRoom (record self.old { aside = self.new.aside }) self.new }
     {
-        self.aside.save(registers, frames, place)
+        if self.turned {
+            self.one.save(registers, frames, place)
+        } else {
+            self.other.save(registers, frames, place)
+        }
     }
 
     /// Makes room for one `log_read`. The error comes only where there is none and the allocator refuses it.
@@ -146,7 +176,7 @@ impl<A: Allocator + Copy> Attempt<A> {
         ensures read_room { self.new.read_room ≡ self.old.read_room + length self.old.reads }
         ensures write_room { self.old.write_room ≤ self.new.write_room }
     {
-        mem::swap(&mut self.outermost, &mut self.aside);
+        self.turned = !self.turned;
         self.depth = 0;
         self.reads.clear();
         self.writes.clear();
@@ -163,7 +193,12 @@ impl<A: Allocator + Copy> Attempt<A> {
         ensures kept { self.new.kept ≡ self.old.kept }
     {
         self.writes.mark(self.depth);
-        mem::swap(&mut self.inner[self.depth], &mut self.aside);
+        swap_aside(
+            &mut self.inner[self.depth],
+            &mut self.one,
+            &mut self.other,
+            self.turned,
+        );
         self.depth += 1;
     }
 
@@ -190,7 +225,12 @@ impl<A: Allocator + Copy> Attempt<A> {
     {
         let innermost = self.depth - 1;
         self.writes.back_to(innermost);
-        mem::swap(&mut self.inner[innermost], &mut self.aside);
+        swap_aside(
+            &mut self.inner[innermost],
+            &mut self.one,
+            &mut self.other,
+            self.turned,
+        );
         self.depth = innermost;
     }
 
@@ -202,7 +242,8 @@ impl<A: Allocator + Copy> Attempt<A> {
         ensures writes { self.new.writes ≡ self.old.writes }
         ensures kept { self.new.kept ≡ self.old.kept }
     {
-        mem::swap(&mut self.aside, &mut self.outermost);
+        let turned = !self.turned;
+        self.turned = turned;
     }
 
     /// Logs what was found at an address, which counts shared cells.
@@ -255,7 +296,7 @@ impl<A: Allocator + Copy> Attempt<A> {
     pub fn aside(&self) -> &Saved<A>
         ensures { result.now ≡ self.now.aside }
     {
-        &self.aside
+        if self.turned { &self.one } else { &self.other }
     }
 
     /// The word last written at an address, if any.
