@@ -19,20 +19,22 @@ use std::marker::Model;
 pub(crate) struct Steps<A: Allocator> {
     logs: Attempt<A>,
     begun: bool,
+    // Where true, an attempt stands at an operation without the lock. It may be false there too.
+    plain: bool,
     first: u64,
     snapshot: u64,
     phase: Phase,
 }
 
 impl<A: Allocator> Model for Steps<A> {
-    ghost use Rattle.std.specs.Prelude.{◌≡◌, ◌%◌};
-    ghost use Rattle.norec_core.specs.inner.Runs.{Run, attempt_by, IsStanding};
+    ghost use Rattle.std.specs.Prelude.{◌≡◌, ◌%◌, true};
+    ghost use Rattle.norec_core.specs.inner.Runs.{Run, attempt_by, IsPlain, IsStanding};
 
     ghost Value = { Run };
 
     ghost view = { λ s. record { begun = s.begun; attempt = attempt_by s.logs s.first s.snapshot s.phase; aside = s.logs.aside; begin_room = s.logs.begin_room; read_room = s.logs.read_room; write_room = s.logs.write_room } };
 
-    ghost invariant = { λ s. (s.snapshot % 2 ≡ 0) × IsStanding s.phase s.logs.kept s.snapshot };
+    ghost invariant = { λ s. (s.snapshot % 2 ≡ 0) × IsStanding s.phase s.logs.kept s.snapshot × (s.plain ≡ true → IsPlain s.begun s.logs.kept s.phase) };
 }
 
 impl<A: Allocator + Copy> Steps<A> {
@@ -43,6 +45,7 @@ impl<A: Allocator + Copy> Steps<A> {
         Steps {
             logs: Attempt::new(alloc),
             begun: false,
+            plain: false,
             first: 0,
             snapshot: 0,
             phase: Phase::AtOperation,
@@ -106,13 +109,7 @@ impl<A: Allocator + Copy> Steps<A> {
     pub(crate) fn loads_both(&self, cell: u32) -> bool
         ensures { result ≡ true → (self.now.begun ≡ true) × LoadsBoth self.now.attempt cell }
     {
-        if !self.begun || self.logs.is_kept() {
-            return false;
-        }
-        match self.phase {
-            Phase::AtOperation => self.logs.written(cell).is_none(),
-            _ => false,
-        }
+        self.plain && self.logs.written(cell).is_none()
     }
 
     // Makes room for a read's entry: whether there is.
@@ -136,6 +133,7 @@ impl<A: Allocator + Copy> Steps<A> {
             self.logs.log_read(cell, word);
             return Outcome::Read(word);
         }
+        self.plain = false;
         self.phase = Phase::ValidatesTime;
         Outcome::Going
     }
@@ -145,10 +143,22 @@ impl<A: Allocator + Copy> Steps<A> {
     pub(crate) fn is_at_operation(&self) -> bool
         ensures { result ≡ true → (self.now.begun ≡ true) × (self.now.attempt.phase ≡ Phase.AtOperation) }
     {
-        match self.phase {
-            Phase::AtOperation => self.begun,
-            _ => false,
-        }
+        self.plain
+            || match self.phase {
+                Phase::AtOperation => self.begun,
+                _ => false,
+            }
+    }
+
+    // The attempt is no longer under way.
+    #[inline(always)]
+    fn end(&mut self)
+        ensures begun { self.new.begun ≡ false }
+        ensures attempt { self.new.attempt ≡ self.old.attempt }
+        ensures aside { self.new.aside ≡ self.old.aside }
+    {
+        self.begun = false;
+        self.plain = false;
     }
 
     // Makes room for a write: whether there is.
@@ -352,6 +362,7 @@ impl<A: Allocator + Copy> Steps<A> {
             if lock % 2 == 0 {
                 self.logs.begin();
                 self.begun = true;
+                self.plain = true;
                 self.first = lock;
                 self.snapshot = lock;
                 self.phase = Phase::AtOperation;
@@ -394,7 +405,7 @@ impl<A: Allocator + Copy> Steps<A> {
             Op::Commit => return self.told_commit(answer),
             Op::Cancel => return self.told_cancel(),
             Op::Irrevocable => return self.told_irrevocable(answer),
-            Op::Release => self.begun = false,
+            Op::Release => self.end(),
         }
         Outcome::Done
     }
@@ -413,6 +424,7 @@ impl<A: Allocator + Copy> Steps<A> {
             if unlogged {
                 return Outcome::Read(word);
             }
+            self.plain = false;
             self.phase = Phase::ReadsLock(word);
         }
         Outcome::Going
@@ -433,7 +445,7 @@ impl<A: Allocator + Copy> Steps<A> {
             return self.told_store(0);
         }
         if self.logs.write_at(0).is_none() {
-            self.begun = false;
+            self.end();
             return Outcome::Done;
         }
         self.swapped(answer)
@@ -447,6 +459,7 @@ impl<A: Allocator + Copy> Steps<A> {
         requires goes_on { stops (Access.Swap self.old.attempt.snapshot) ≡ false }
         ensures { IsStep (core_swap self.old.attempt (record self.old.attempt { phase = Phase.Stores 0 }) Outcome.Going answer) result self.new }
     {
+        self.plain = false;
         match answer {
             Answer::Won => self.phase = Phase::Stores(0),
             Answer::Lost(_) => self.phase = Phase::ValidatesTime,
@@ -469,7 +482,7 @@ impl<A: Allocator + Copy> Steps<A> {
             return Outcome::Going;
         }
         self.logs.abort();
-        self.begun = false;
+        self.end();
         Outcome::Done
     }
 
@@ -485,10 +498,12 @@ impl<A: Allocator + Copy> Steps<A> {
         }
         match answer {
             Answer::Won => {
+                self.plain = false;
                 self.logs.keep();
                 Outcome::Done
             }
             Answer::Lost(_) => {
+                self.plain = false;
                 self.phase = Phase::ValidatesTime;
                 Outcome::Going
             }
@@ -496,11 +511,12 @@ impl<A: Allocator + Copy> Steps<A> {
         }
     }
 
-    // The word at a place of the write log, or past the last one the lock, was stored.
+    // The word at a place of the write log, or past the last one the lock, was stored. What has the lock is not plain.
     #[inline(always)]
     fn told_store(&mut self, place: usize) -> Outcome
         requires begun { self.old.begun ≡ true }
         requires lock { CanRelease self.old.attempt.snapshot }
+        requires has { holds self.old.attempt.kept self.old.attempt.phase ≡ true }
         ensures { IsStep (core_store self.old.attempt place (slice_get self.old.attempt.writes place)) result self.new }
     {
         if self.logs.write_at(place).is_some() {
@@ -522,6 +538,7 @@ impl<A: Allocator + Copy> Steps<A> {
         if let Answer::Value(lock) = answer {
             if lock == self.snapshot {
                 self.logs.log_read(address, word);
+                self.plain = true;
                 self.phase = Phase::AtOperation;
                 return Outcome::Read(word);
             }
@@ -564,6 +581,7 @@ impl<A: Allocator + Copy> Steps<A> {
                 }
                 None if found == time => {
                     self.snapshot = time;
+                    self.plain = true;
                     self.phase = Phase::AtOperation;
                 }
                 None => self.phase = Phase::ValidatesTime,
@@ -641,7 +659,7 @@ impl<A: Allocator + Copy> Steps<A> {
         ensures aside { self.new.aside ≡ self.old.attempt.saved }
     {
         self.logs.abort();
-        self.begun = false;
+        self.end();
     }
 
     // The step past the last entry, with the lock's value.
@@ -653,6 +671,7 @@ impl<A: Allocator + Copy> Steps<A> {
     {
         if lock == time {
             self.snapshot = time;
+            self.plain = true;
             self.phase = Phase::AtOperation;
         } else {
             self.phase = Phase::ValidatesTime;

@@ -87,6 +87,10 @@ abbrev pub CanReleaseKept : Bool → ℕ → Type 0
 CanReleaseKept true snapshot = CanRelease snapshot
 CanReleaseKept false snapshot = Unit {0}
 
+-- an attempt stands at an operation without the lock
+abbrev pub IsPlain : (begun kept : Bool) → Phase → Type 0
+IsPlain begun kept phase = (begun ≡ true) × (kept ≡ false) × (phase ≡ AtOperation)
+
 -- by phase: what has the lock can release it; what validates does not have it, and validates at an even lock
 abbrev pub IsStanding : Phase → Bool → ℕ → Type 0
 IsStanding AtOperation kept snapshot = CanReleaseKept kept snapshot
