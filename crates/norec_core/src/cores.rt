@@ -202,7 +202,10 @@ impl<A: Allocator + Copy> Core<A> {
     pub fn swaps_from(&self) -> Option<u64>
         ensures { IfSome result (λ from. (core_access self.now.attempt Op.Commit ≡ Access.Swap from) × (stops (Access.Swap from) ≡ false)) }
     {
-        match self.steps.access(Op::Commit) {
+        if !self.steps.is_at_operation() {
+            return None;
+        }
+        match self.steps.commit_access() {
             Access::Swap(from) => {
                 if from == LAST_SNAPSHOT {
                     None

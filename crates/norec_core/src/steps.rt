@@ -299,7 +299,7 @@ impl<A: Allocator + Copy> Steps<A> {
     }
 
     #[inline(always)]
-    fn commit_access(&self) -> Access
+    pub(crate) fn commit_access(&self) -> Access
         requires { self.now.attempt.phase ≡ Phase.AtOperation }
         ensures { result ≡ commit_access self.now.attempt self.now.attempt.inner self.now.attempt.kept self.now.attempt.writes }
     {
