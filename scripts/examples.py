@@ -1,5 +1,5 @@
 #!/usr/bin/env python3
-"""Writes crates/serving_tests/src/examples.rt. It runs each program of examples/ and examples/bench/ and compares what it prints with
+"""Writes crates/serving_replays_tests/src/examples.rt. It runs each program of examples/ and examples/bench/ and compares what it prints with
 the file of the same name that ends in .out; and it runs each transcript of examples/transcripts/, a file whose first line is a command line, `$ txc ..`,
 and which has under it what a terminal then shows. And it writes crates/meaning_tests/src/examples.rt, which runs each program of
 examples/ from its tree and compares with the same file, and crates/lower_tests/src/examples.rt, which lists the programs of
@@ -17,7 +17,7 @@ import re
 import sys
 
 TOP = os.path.dirname(os.path.dirname(os.path.abspath(__file__)))
-TESTS = os.path.join(TOP, "crates/serving_tests/src/examples.rt")
+TESTS = os.path.join(TOP, "crates/serving_replays_tests/src/examples.rt")
 MEANING_TESTS = os.path.join(TOP, "crates/meaning_tests/src/examples.rt")
 LOWER_TESTS = os.path.join(TOP, "crates/lower_tests/src/examples.rt")
 SHOWN = re.compile(r"^```\n(\$ txc [^\n]*\n)(.*?)^```$", re.M | re.S)
@@ -63,7 +63,7 @@ def tests():
     transcripts = [row([literal(words), *map(data, shown)], 8) for words, *shown in map(transcript, names("examples/transcripts/*.txt"))]
     return f"""//! The programs of examples/, with what each prints, and the transcripts of examples/transcripts/: written by scripts/examples.py.
 
-use crate::answers::{{Served, serve_line}};
+use serving_in_memory::{{Served, serve_line}};
 use std::alloc::Global;
 use std::sync::Wait;
 use std::thread::Threads;

@@ -2,12 +2,6 @@
 #![tactic(auto)]
 
 #[cfg(test)]
-mod answers;
-#[cfg(test)]
-mod examples;
-#[cfg(test)]
 mod refusals;
-#[cfg(test)]
-mod replays;
 #[cfg(test)]
 mod served;

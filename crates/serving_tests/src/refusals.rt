@@ -1,8 +1,8 @@
 //! The examples of docs/FAULTS.md: each is a source, its fault's number, and what standard error says behind the number.
 //! `scripts/faults.py` compares these tables with the document's.
 
-use crate::answers::{Answer, answers, serve_line};
 use serving::refuse_run;
+use serving_in_memory::{Answer, answers, serve_line};
 use std::alloc::{AllocError, Global};
 use std::sync::Wait;
 use std::thread::Threads;

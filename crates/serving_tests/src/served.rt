@@ -1,11 +1,13 @@
 //! Runs, orders and listings of sources, and what is said of files and words.
 
-use crate::answers::{Answer, Broken, Row, answers, is_answer, request_of, serve_bytes, wrong_row};
 use command::{Request, UsageFault};
 use refusing::Refusing;
 use report::report_text;
 use serving::{
     Detail, OrderFault, cannot_read as tell_unread, list_source, run_in_order, serve, tell_usage,
+};
+use serving_in_memory::{
+    ADDS, Answer, Broken, Row, answers, is_answer, request_of, serve_bytes, wrong_row,
 };
 use std::alloc::{Allocator, Global};
 use std::fs::File;
@@ -171,10 +173,6 @@ fn checked() -> &'static [Row] {
 fn says_what_is_accepted(rt: HostRuntime) {
     assert_eq!(rt; wrong_row(&rt, rt.alloc(), checked()), None);
 }
-
-/// Two threads that each add one.
-pub(crate) const ADDS: &[u8] =
-    b"int x; void worker(int self) { __transaction_atomic { x = x + 1; } }";
 
 /// A transaction that never ends.
 const TURNS: &[u8] = b"int x; void worker(int self) { __transaction_atomic { while (1) { } } }";

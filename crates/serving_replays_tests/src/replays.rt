@@ -1,14 +1,14 @@
 //! Replays of schedules and seeds.
 
-use crate::answers::{
-    Answer, Broken, Row, Served, answers, is_answer, request_of, serve_bytes, serve_line, wrong_row,
-};
-use crate::served::ADDS;
 use command::{Request, Steps, Task};
 use refusing::Refusing;
 use replay::{Line, read_schedule};
 use report::{Printed, report_text};
 use serving::{Compiled, Replayed, compile, lines_shown, replay_code};
+use serving_in_memory::{
+    ADDS, Answer, Broken, Row, Served, answers, is_answer, request_of, serve_bytes, serve_line,
+    wrong_row,
+};
 use std::alloc::{AllocError, Allocator, Global};
 use std::str;
 use std::sync::Wait;

@@ -1,6 +1,6 @@
 //! The programs of examples/, with what each prints, and the transcripts of examples/transcripts/: written by scripts/examples.py.
 
-use crate::answers::{Served, serve_line};
+use serving_in_memory::{Served, serve_line};
 use std::alloc::Global;
 use std::sync::Wait;
 use std::thread::Threads;

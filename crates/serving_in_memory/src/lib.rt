@@ -1,4 +1,5 @@
-//! What is answered to command lines, over readers and writers in memory.
+//! Test support: what is answered to command lines, over readers and writers in memory.
+#![tactic(auto)]
 
 use command::{Request, UsageFault, command};
 use serving::serve;
@@ -8,35 +9,38 @@ use std::io::{ErrorKind, Read};
 use std::sync::Wait;
 use std::thread::Threads;
 
+/// Two threads that each add one.
+pub const ADDS: &[u8] = b"int x; void worker(int self) { __transaction_atomic { x = x + 1; } }";
+
 /// What serving a request gives: the status, the output and the standard error.
 #[derive(Drop)]
-pub(crate) struct Served {
-    pub(crate) status: u8,
-    pub(crate) out: Vec<u8>,
-    pub(crate) err: Vec<u8>,
+pub struct Served {
+    pub status: u8,
+    pub out: Vec<u8>,
+    pub err: Vec<u8>,
 }
 
 /// What is answered: the status, the output and the standard error.
-pub(crate) type Answer<'a> = (u8, &'a [u8], &'a [u8]);
+pub type Answer<'a> = (u8, &'a [u8], &'a [u8]);
 
 /// A command line, the source and the schedule of its files, and what is answered.
-pub(crate) type Row = (&'static str, &'static [u8], &'static [u8], Answer<'static>);
+pub type Row = (&'static str, &'static [u8], &'static [u8], Answer<'static>);
 
 /// Whether this is what was served.
-pub(crate) fn is_answer(served: &Served, wanted: Answer) -> bool {
+pub fn is_answer(served: &Served, wanted: Answer) -> bool {
     served.status == wanted.0
         && served.out.as_slice() == wanted.1
         && served.err.as_slice() == wanted.2
 }
 
 /// The request of a command line, in which a space ends each word but the last.
-pub(crate) fn request_of(alloc: Global, line: &str) -> Result<Request, UsageFault> {
+pub fn request_of(alloc: Global, line: &str) -> Result<Request, UsageFault> {
     let words: Vec<&str> = line.split(' ').collect(alloc)?;
     command(alloc, words.as_slice())
 }
 
 /// Serves a request, to a terminal or not.
-pub(crate) fn serve_bytes<H: Threads + Wait + Sync, R: Read + Drop, S: Read + Drop>(
+pub fn serve_bytes<H: Threads + Wait + Sync, R: Read + Drop, S: Read + Drop>(
     rt: &H,
     alloc: Global,
     request: &Request,
@@ -60,7 +64,7 @@ pub(crate) fn serve_bytes<H: Threads + Wait + Sync, R: Read + Drop, S: Read + Dr
 }
 
 /// What is served to a command line, on a terminal or not.
-pub(crate) fn serve_line<H: Threads + Wait + Sync>(
+pub fn serve_line<H: Threads + Wait + Sync>(
     rt: &H,
     alloc: Global,
     line: &str,
@@ -75,7 +79,7 @@ pub(crate) fn serve_line<H: Threads + Wait + Sync>(
 }
 
 /// Whether a command line is answered so.
-pub(crate) fn answers<H: Threads + Wait + Sync>(
+pub fn answers<H: Threads + Wait + Sync>(
     rt: &H,
     alloc: Global,
     line: &str,
@@ -91,11 +95,7 @@ pub(crate) fn answers<H: Threads + Wait + Sync>(
 }
 
 /// The number, from 0, of the first of these rows that is answered otherwise.
-pub(crate) fn wrong_row<H: Threads + Wait + Sync>(
-    rt: &H,
-    alloc: Global,
-    rows: &[Row],
-) -> Option<usize> {
+pub fn wrong_row<H: Threads + Wait + Sync>(rt: &H, alloc: Global, rows: &[Row]) -> Option<usize> {
     for (number, (line, source, schedule, wanted)) in rows.iter().enumerate() {
         if !answers(rt, alloc, line, source, schedule, false, *wanted) {
             return Some(number);
@@ -106,7 +106,7 @@ pub(crate) fn wrong_row<H: Threads + Wait + Sync>(
 
 /// A reader that gives no byte.
 #[derive(Drop)]
-pub(crate) struct Broken;
+pub struct Broken;
 
 impl Read for Broken {
     fn read(&mut self, _buf: &mut [u8]) -> io::Result<usize> {
