@@ -241,11 +241,8 @@ impl<A: Allocator + Copy> Thread<A> {
         let _valid = code.parts();
         // The prover names by it where the word goes.
         let _to = to;
-        match self.held.status {
-            Status::Running => self.held.core.prepare_read(cell),
-            Status::Ended => false,
-            Status::Trapped(_) => false,
-        }
+        // A thread that is over has no attempt.
+        self.held.core.prepare_read(cell)
     }
 
     /// Makes both steps of such a read, with the word and the lock's value that were loaded. It takes no memory.

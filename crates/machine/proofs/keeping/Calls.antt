@@ -1,6 +1,6 @@
 -- What the calls of a thread owe, from what is known of it.
 use Rattle.std.proofs.Common.{◌≡◌, ◌<◌, ◌^◌, ℕ, suc, Bool, true, false, List, Option, None, Some, Result, Ok, Err, refl, sym, ◌∙◌, ap, subst, length}
-use Rattle.std.specs.Prelude.{IfOk, OnOk, is_some}
+use Rattle.std.specs.Prelude.{IfOk, IsSomeAnd, OnOk, is_some}
 use Rattle.syntax.specs.declared.numbers.Status.{Status}
 use Rattle.syntax.specs.declared.numbers.Status.TheVariants.{Running, Ended as HasEnded, Trapped as HasTrapped}
 use Rattle.syntax.specs.declared.numbers.Trap.{Trap}
@@ -110,6 +110,15 @@ module _ (code : Code) (k : Kept) (running : k.status ≡ Running) where
 module _ (code : Code) (law : BeginsStayOpen code) (k : Kept) (th : Thread Configuration) (is : shown k ≡ th) where
   pub runs_of : AreWithin k.configuration (begins_of k.core.attempt) → k.status ≡ Running → IsThreadOf code th → RunsKept code k
   runs_of w s t = subst (KeptBy code k) s (kept_of code law k w (subst (IsThreadOf code) (sym is) t))
+
+  running_by : (P : Attempt Saved → Type 0) → IsSomeAnd k.core.attempt P → (s : Status) → KeptBy code k s → s ≡ Running
+  running_by P some Running h = refl
+  running_by P some HasEnded h = absurd (subst (λ (o : Option (Attempt Saved)). IsSomeAnd o P) h some)
+  running_by P some (HasTrapped cause) h = absurd (subst (λ (o : Option (Attempt Saved)). IsSomeAnd o P) h some)
+
+  -- with an attempt it runs
+  pub runs_inside : AreWithin k.configuration (begins_of k.core.attempt) → IsThreadOf code th → (P : Attempt Saved → Type 0) → IsSomeAnd k.core.attempt P → k.status ≡ Running
+  runs_inside w t P some = running_by P some k.status (kept_of code law k w (subst (IsThreadOf code) (sym is) t))
 
   none_by : (s : Status) → (s ≡ Running → ⊥) → KeptBy code k s → k.core.attempt ≡ None
   none_by Running ne h = absurd (ne refl)
