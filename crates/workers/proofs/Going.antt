@@ -1,5 +1,5 @@
 -- What a worker does goes on from what it did.
-use Rattle.std.proofs.Common.{◌+◌, List, [], ◌++◌, refl, sym, ap, ◌∙◌, append-nil, append_assoc}
+use Rattle.std.proofs.Common.{◌≡◌, ◌≤◌, ℕ, ◌+◌, List, [], ◌++◌, refl, sym, ap, ◌∙◌, subst, arith, add-zero, append-nil, append_assoc}
 use Rattle.atomic_table.specs.Seated.{TableId}
 use Rattle.machine.specs.Answered.{Replays}
 use Rattle.bytecode.specs.Code.{Configuration}
@@ -10,7 +10,7 @@ use Rattle.seats.specs.Setup.{Setup}
 use Rattle.workers.specs.declared.worker.Worker.{Worker}
 use Rattle.seats.specs.Views.{ViewPart}
 use Rattle.workers.specs.Works.{Grows, GoesOnFrom}
-use Rattle.workers.specs.Workers.{StepsOn}
+use Rattle.workers.specs.Workers.{CanStep, IsWorkerAt, StepsBy, StepsOn}
 
 begins_on : {A : Type 0} (xs ys zs : List A) → Grows xs ys → Grows ys zs → Grows xs zs
 begins_on xs ys zs g h = (g.0 ++ h.0, h.1 ∙ ap (λ l. l ++ h.0) g.1 ∙ append_assoc xs g.0 h.0)
@@ -37,3 +37,39 @@ module _ {A : Type 0} (z : TableId) (key : Setup) where
       let x = f was in
       let y = g x.0 in
       (y.0, goes_further key.code was.1.part x.0.1.part y.0.1.part was.1.now x.0.1.now y.0.1.now x.1 y.1)
+
+  -- the same by steps that are not yet counted
+  pub by_same : (a b : Worker A) → b.number ≡ a.number → b.steps ≡ a.steps → ((steps : ℕ) (was : IsWorkerAt z key steps a) → (is : IsWorkerAt z key steps b) × GoesOnFrom key.code was.1.part was.1.now is.1.part is.1.now) → StepsBy z key 0 a b
+  by_same a b number kept f = (
+    number,
+    kept,
+    λ steps was. subst (λ (n : ℕ). (is : IsWorkerAt z key n b) × GoesOnFrom key.code was.1.part was.1.now is.1.part is.1.now) (sym (add-zero steps)) (f steps was),
+  )
+
+  pub by_none : (a : Worker A) → StepsBy z key 0 a a
+  by_none a = by_same a a refl refl (λ steps was. (was, goes_nowhere key.code was.1.part was.1.now))
+
+  pub by_more : (m n k : ℕ) (a b c : Worker A) → m + n ≡ k → StepsBy z key m a b → StepsBy z key n b c → StepsBy z key k a c
+  by_more m n k a b c e f g = (
+    g.0 ∙ f.0,
+    g.1 ∙ f.1,
+    λ steps was.
+        let x = f.2 steps was in
+        let y = g.2 (steps + m) x.0 in
+        subst (λ (i : ℕ). (is : IsWorkerAt z key i c) × GoesOnFrom key.code was.1.part was.1.now is.1.part is.1.now) (omega (arith, e))
+        (y.0, goes_further key.code was.1.part x.0.1.part y.0.1.part was.1.now x.0.1.now y.0.1.now x.1 y.1),
+  )
+
+  -- after k of n steps m more can be made
+  pub can_after : (n k m : ℕ) (a b : Worker A) → k + m ≤ n → CanStep z key n a → StepsBy z key k a b → CanStep z key m b
+  can_after n k m a b few can by = (can.0 + k, (by.2 can.0 can.1).0, let room = can.2 in omega (arith, few, room))
+
+  pub can_fewer : (n m : ℕ) (a : Worker A) → m ≤ n → CanStep z key n a → CanStep z key m a
+  can_fewer n m a few can = (can.0, can.1, let room = can.2 in omega (arith, few, room))
+
+  -- once they are counted
+  pub counted : (n k : ℕ) (a b : Worker A) → a.steps + n ≡ k → StepsBy z key n a b → (b.number ≡ a.number) × StepsOn z key a (record b { steps = k })
+  counted n k a b e f = (
+    f.0,
+    λ was. subst (λ (i : ℕ). (is : IsWorkerAt z key i b) × GoesOnFrom key.code was.1.part was.1.now is.1.part is.1.now) e (f.2 a.steps was),
+  )

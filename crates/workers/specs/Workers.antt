@@ -1,5 +1,5 @@
 -- Workers of a hall.
-use Rattle.std.specs.Prelude.{◌≡◌, ℕ, suc, List, [], ◌∷◌}
+use Rattle.std.specs.Prelude.{◌≡◌, ◌+◌, ◌<◌, ◌^◌, ℕ, suc, List, [], ◌∷◌}
 use Rattle.syntax.specs.declared.numbers.Status.{Status as ThreadStatus}
 use Rattle.syntax.specs.declared.numbers.Status.TheVariants as thread
 use Rattle.atomic_table.specs.Seated.{TableId}
@@ -11,13 +11,27 @@ use Rattle.workers.specs.Works.{Works, GoesOnFrom, MeetsAt}
 
 -- A is the allocator
 module _ {A : Type 0} where
+  -- the worker has made so many steps, whatever number of them it keeps
+  abbrev pub IsWorkerAt : TableId → Setup → ℕ → Worker A → Type 0
+  IsWorkerAt z key n w = (w.seat.table_id ≡ z) × Works key w.number w.thread.thread n w.thread.accesses w.seat.me
+
   abbrev pub IsWorkerOf : TableId → Setup → Worker A → Type 0
-  IsWorkerOf z key w = (w.seat.table_id ≡ z) × Works key w.number w.thread.thread w.steps w.thread.accesses w.seat.me
+  IsWorkerOf z key w = IsWorkerAt z key w.steps w
 
   -- whatever is known of the worker before, after the call as much is known, and it goes on from there
   abbrev pub StepsOn : TableId → Setup → Worker A → Worker A → Type 0
   StepsOn z key a b = (was : IsWorkerOf z key a) →
       (is : IsWorkerOf z key b) × GoesOnFrom key.code was.1.part was.1.now is.1.part is.1.now
+
+  -- a worker of the table that has made some number of steps, to which n more can be counted
+  abbrev pub CanStep : TableId → Setup → ℕ → Worker A → Type 0
+  CanStep z key n w = (steps : ℕ) × IsWorkerAt z key steps w × (steps + n < 2 ^ 64)
+
+  -- the same as `StepsOn`, by n steps that are not yet counted
+  abbrev pub StepsBy : TableId → Setup → ℕ → Worker A → Worker A → Type 0
+  StepsBy z key n a b =
+      (b.number ≡ a.number) × (b.steps ≡ a.steps) × ((steps : ℕ) (was : IsWorkerAt z key steps a) →
+      (is : IsWorkerAt z key (steps + n) b) × GoesOnFrom key.code was.1.part was.1.now is.1.part is.1.now)
 
   abbrev pub FloorsAt : TableId → Setup → ℕ → Worker A → Worker A → Type 0
   FloorsAt z key n a b = (was : IsWorkerOf z key a) →

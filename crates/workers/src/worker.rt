@@ -61,47 +61,57 @@ fn back_off() {
 }
 
 impl<A: Allocator + Copy> Worker<A> {
-    ghost use Rattle.workers.specs.Workers.{IsWorkerOf, StepsOn, FloorsAt, Reports};
+    ghost use Rattle.workers.specs.Workers.{CanStep, IsWorkerOf, StepsBy, StepsOn, FloorsAt, Reports};
 
-    // Local steps of the thread, at most so many: where they are fewer what is to be done then.
+    // Steps are counted where `step` and `run` end, and not by what they call.
+
+    // Local steps of the thread, at most so many: how many were made, and where they are fewer what is to be done then.
     #[inline(always)]
-    fn advance(&mut self, code: &Code<A>, most: u64) -> Option<Doing>
+    fn advance(&mut self, code: &Code<A>, most: u64) -> (u64, Option<Doing>)
         requires of { IsThreadOf code.now self.old.thread.thread }
-        requires room { self.old.steps + most < 2 ^ 64 }
-        ensures number { self.new.number ≡ self.old.number }
-        ensures goes_on { (z : TableId) (key : Setup) → key.code ≡ code.now → StepsOn z key self.old self.new }
-        ensures steps { (self.old.steps ≤ self.new.steps) × (self.new.steps ≤ self.old.steps + most) }
-        ensures all { IfNone result (self.new.steps ≡ self.old.steps + most) }
-        ensures stands { IfSome result (λ doing. (self.new.steps < self.old.steps + most) × StandsAt code.now self.new.thread doing) }
+        ensures goes_on { (z : TableId) (key : Setup) → key.code ≡ code.now → StepsBy z key result.0 self.old self.new }
+        ensures few { result.0 ≤ most }
+        ensures all { IfNone result.1 (result.0 ≡ most) }
+        ensures stands { IfSome result.1 (λ doing. (result.0 < most) × StandsAt code.now self.new.thread doing) }
     {
-        let (made, doing) = self.thread.advance(code, most);
-        self.steps += made;
-        doing
+        self.thread.advance(code, most)
     }
 
-    // One step of the thread, in which this is to be done: whether the same is to be done in the next one.
+    // One step of the thread, in which this is to be done.
     #[inline(always)]
-    fn step_at(&mut self, words: &Words<A>, code: &Code<A>, doing: Doing) -> Result<bool, Stop>
+    fn step_at(&mut self, words: &Words<A>, code: &Code<A>, doing: Doing) -> Result<(), Stop>
         requires table { words.now.table_id.words ≡ cells_of code.now + 1 }
         requires code { words.now.key.code ≡ code.now }
-        requires worker { IsWorkerOf words.now.table_id words.now.key self.old }
-        requires room { self.old.steps + 1 < 2 ^ 64 }
+        requires worker { CanStep words.now.table_id words.now.key 1 self.old }
         requires stands { StandsAt code.now self.old.thread doing }
-        ensures goes_on { (self.new.number ≡ self.old.number) × StepsOn words.now.table_id words.now.key self.old self.new }
-        ensures ok { OnOk result (self.new.steps ≡ self.old.steps + 1) }
-        ensures err { OnErr result (self.new.steps ≡ self.old.steps) }
+        ensures ok { OnOk result (StepsBy words.now.table_id words.now.key 1 self.old self.new) }
+        ensures err { OnErr result (StepsBy words.now.table_id words.now.key 0 self.old self.new) }
         ensures stop { IfErr result (λ e. Because e (access_of (effect code.now) self.new.thread.thread)) }
-        ensures again { IfOk result (λ again. again ≡ true → StandsAt code.now self.new.thread doing) }
     {
-        let access = self.thread.prepare_at(code, doing)?;
+        let access = match self.thread.prepare_at(code, doing) {
+            Ok(access) => access,
+            Err(stop) => return Err(stop),
+        };
         let answer = make(words, &mut self.seat, access);
-        let (_, again) = self.thread.told_at(code, doing, answer);
-        self.steps += 1;
-        Ok(again)
+        let _told = self.thread.told_at(code, doing, answer);
+        Ok(())
     }
 
     // One step of the thread.
     #[inline(never)]
+    fn step_on(&mut self, words: &Words<A>, code: &Code<A>) -> Result<(), Stop>
+        requires table { words.now.table_id.words ≡ cells_of code.now + 1 }
+        requires code { words.now.key.code ≡ code.now }
+        requires worker { CanStep words.now.table_id words.now.key 1 self.old }
+        ensures ok { OnOk result (StepsBy words.now.table_id words.now.key 1 self.old self.new) }
+        ensures err { OnErr result (StepsBy words.now.table_id words.now.key 0 self.old self.new) }
+        ensures stop { IfErr result (λ e. Because e (access_of (effect code.now) self.new.thread.thread)) }
+    {
+        let doing = self.thread.doing(code);
+        self.step_at(words, code, doing)
+    }
+
+    // One step of the thread, counted.
     pub(crate) fn step(&mut self, words: &Words<A>, code: &Code<A>) -> Result<(), Stop>
         requires table { words.now.table_id.words ≡ cells_of code.now + 1 }
         requires code { words.now.key.code ≡ code.now }
@@ -112,34 +122,34 @@ impl<A: Allocator + Copy> Worker<A> {
         ensures err { OnErr result (self.new.steps ≡ self.old.steps) }
         ensures stop { IfErr result (λ e. Because e (access_of (effect code.now) self.new.thread.thread)) }
     {
-        let doing = self.thread.doing(code);
-        match self.step_at(words, code, doing) {
-            Ok(_) => Ok(()),
+        match self.step_on(words, code) {
+            Ok(()) => {
+                self.steps += 1;
+                Ok(())
+            }
             Err(stop) => Err(stop),
         }
     }
 
-    // Both steps of the read of this cell that stands at its place, where it loads the cell's word and then the lock: whether they
-    // were made.
+    // Both steps of the read of this cell that stands at its place, where it loads the cell's word and then the lock: how many were
+    // made, two or none.
     #[inline(always)]
-    fn read(&mut self, words: &Words<A>, code: &Code<A>, to: u16, cell: u32) -> bool
+    fn read(&mut self, words: &Words<A>, code: &Code<A>, to: u16, cell: u32) -> u64
         requires table { words.now.table_id.words ≡ cells_of code.now + 1 }
         requires code { words.now.key.code ≡ code.now }
-        requires worker { IsWorkerOf words.now.table_id words.now.key self.old }
-        requires room { self.old.steps + 2 < 2 ^ 64 }
+        requires worker { CanStep words.now.table_id words.now.key 2 self.old }
         requires stands { StandsAt code.now self.old.thread (Doing.Read to cell) }
-        ensures goes_on { (self.new.number ≡ self.old.number) × StepsOn words.now.table_id words.now.key self.old self.new }
-        ensures made { result ≡ true → self.new.steps ≡ self.old.steps + 2 }
-        ensures not_made { result ≡ false → (self.new.steps ≡ self.old.steps) × StandsAt code.now self.new.thread (Doing.Read to cell) }
+        ensures goes_on { StepsBy words.now.table_id words.now.key result self.old self.new }
+        ensures few { result ≤ 2 }
+        ensures none { result ≡ 0 → StandsAt code.now self.new.thread (Doing.Read to cell) }
     {
         if !self.thread.prepare_read(code, to, cell) {
-            return false;
+            return 0;
         }
         let word = load_word(words, &mut self.seat, cell as usize);
         let lock = load_lock(words, &mut self.seat);
         self.thread.take_read(code, to, cell, word, lock);
-        self.steps += 2;
-        true
+        2
     }
 
     // The step of a begin, which loads the lock, where no attempt is under way: the lock's value that was found, if it was made.
@@ -148,20 +158,18 @@ impl<A: Allocator + Copy> Worker<A> {
     fn load_begin(&mut self, words: &Words<A>, code: &Code<A>, to: u32) -> Option<u64>
         requires table { words.now.table_id.words ≡ cells_of code.now + 1 }
         requires code { words.now.key.code ≡ code.now }
-        requires worker { IsWorkerOf words.now.table_id words.now.key self.old }
-        requires room { self.old.steps + 1 < 2 ^ 64 }
+        requires worker { CanStep words.now.table_id words.now.key 1 self.old }
         requires stands { StandsAt code.now self.old.thread (Doing.Begin to) }
-        ensures goes_on { (self.new.number ≡ self.old.number) × StepsOn words.now.table_id words.now.key self.old self.new }
-        ensures made { OnSome result (self.new.steps ≡ self.old.steps + 1) }
+        ensures made { OnSome result (StepsBy words.now.table_id words.now.key 1 self.old self.new) }
         ensures again { IfSome result (λ lock. lock % 2 ≡ 1 → StandsAt code.now self.new.thread (Doing.Begin to)) }
-        ensures not_made { IfNone result ((self.new.steps ≡ self.old.steps) × StandsAt code.now self.new.thread (Doing.Begin to)) }
+        ensures not_made { IfNone result (StepsBy words.now.table_id words.now.key 0 self.old self.new) }
+        ensures still { IfNone result (StandsAt code.now self.new.thread (Doing.Begin to)) }
     {
         if !self.thread.prepare_begin(code, to) {
             return None;
         }
         let lock = load_lock(words, &mut self.seat);
         self.thread.take_begin(code, to, lock);
-        self.steps += 1;
         Some(lock)
     }
 
@@ -170,11 +178,9 @@ impl<A: Allocator + Copy> Worker<A> {
     fn begin(&mut self, words: &Words<A>, code: &Code<A>, to: u32, most: u64) -> u64
         requires table { words.now.table_id.words ≡ cells_of code.now + 1 }
         requires code { words.now.key.code ≡ code.now }
-        requires worker { IsWorkerOf words.now.table_id words.now.key self.old }
-        requires room { self.old.steps + most < 2 ^ 64 }
+        requires worker { CanStep words.now.table_id words.now.key most self.old }
         requires stands { StandsAt code.now self.old.thread (Doing.Begin to) }
-        ensures goes_on { (self.new.number ≡ self.old.number) × StepsOn words.now.table_id words.now.key self.old self.new }
-        ensures steps { self.new.steps ≡ self.old.steps + result }
+        ensures goes_on { StepsBy words.now.table_id words.now.key result self.old self.new }
         ensures few { result ≤ most }
         ensures none { result ≡ 0 → StandsAt code.now self.new.thread (Doing.Begin to) }
     {
@@ -195,12 +201,10 @@ impl<A: Allocator + Copy> Worker<A> {
     fn swap(&mut self, words: &Words<A>, code: &Code<A>) -> bool
         requires table { words.now.table_id.words ≡ cells_of code.now + 1 }
         requires code { words.now.key.code ≡ code.now }
-        requires worker { IsWorkerOf words.now.table_id words.now.key self.old }
-        requires room { self.old.steps + 1 < 2 ^ 64 }
+        requires worker { CanStep words.now.table_id words.now.key 1 self.old }
         requires stands { StandsAt code.now self.old.thread Doing.Commit }
-        ensures goes_on { (self.new.number ≡ self.old.number) × StepsOn words.now.table_id words.now.key self.old self.new }
-        ensures made { result ≡ true → self.new.steps ≡ self.old.steps + 1 }
-        ensures not_made { result ≡ false → self.new.steps ≡ self.old.steps }
+        ensures made { result ≡ true → StepsBy words.now.table_id words.now.key 1 self.old self.new }
+        ensures not_made { result ≡ false → StepsBy words.now.table_id words.now.key 0 self.old self.new }
         ensures stands { StandsAt code.now self.new.thread Doing.Commit }
     {
         let Some(from) = self.thread.swaps_from(code) else {
@@ -208,7 +212,6 @@ impl<A: Allocator + Copy> Worker<A> {
         };
         let answer = make(words, &mut self.seat, Access::Swap(from));
         self.thread.take_swap(code, from, answer);
-        self.steps += 1;
         true
     }
 
@@ -218,19 +221,15 @@ impl<A: Allocator + Copy> Worker<A> {
     fn store(&mut self, words: &Words<A>, code: &Code<A>, place: usize) -> bool
         requires table { words.now.table_id.words ≡ cells_of code.now + 1 }
         requires code { words.now.key.code ≡ code.now }
-        requires worker { IsWorkerOf words.now.table_id words.now.key self.old }
-        requires room { self.old.steps + 1 < 2 ^ 64 }
+        requires worker { CanStep words.now.table_id words.now.key 1 self.old }
         requires stands { StandsAt code.now self.old.thread Doing.Commit }
         requires stores { StoresNext self.old.thread place }
-        ensures goes_on { (self.new.number ≡ self.old.number) × StepsOn words.now.table_id words.now.key self.old self.new }
-        ensures steps { self.new.steps ≡ self.old.steps + 1 }
+        ensures goes_on { StepsBy words.now.table_id words.now.key 1 self.old self.new }
         ensures again { result ≡ true → StandsAt code.now self.new.thread Doing.Commit }
     {
         let access = self.thread.store_access(code, place);
         let _answer = make(words, &mut self.seat, access);
-        let again = self.thread.stored(code, place);
-        self.steps += 1;
-        again
+        self.thread.stored(code, place)
     }
 
     // Such steps, one after another, at most so many: how many were made.
@@ -238,11 +237,9 @@ impl<A: Allocator + Copy> Worker<A> {
     fn store_all(&mut self, words: &Words<A>, code: &Code<A>, most: u64) -> u64
         requires table { words.now.table_id.words ≡ cells_of code.now + 1 }
         requires code { words.now.key.code ≡ code.now }
-        requires worker { IsWorkerOf words.now.table_id words.now.key self.old }
-        requires room { self.old.steps + most < 2 ^ 64 }
+        requires worker { CanStep words.now.table_id words.now.key most self.old }
         requires stands { StandsAt code.now self.old.thread Doing.Commit }
-        ensures goes_on { (self.new.number ≡ self.old.number) × StepsOn words.now.table_id words.now.key self.old self.new }
-        ensures steps { self.new.steps ≡ self.old.steps + result }
+        ensures goes_on { StepsBy words.now.table_id words.now.key result self.old self.new }
         ensures few { result ≤ most }
         ensures none { result ≡ 0 → StandsAt code.now self.new.thread Doing.Commit }
     {
@@ -257,45 +254,47 @@ impl<A: Allocator + Copy> Worker<A> {
         most
     }
 
-    // The swap of a commit and what follows it, at most so many steps, where it goes on with the swap or stores: whether any were
-    // made.
+    // The swap of a commit and what follows it, at most so many steps, where it goes on with the swap or stores: how many were made.
     #[inline(always)]
-    fn commit(&mut self, words: &Words<A>, code: &Code<A>, most: u64) -> bool
+    fn commit(&mut self, words: &Words<A>, code: &Code<A>, most: u64) -> u64
         requires table { words.now.table_id.words ≡ cells_of code.now + 1 }
         requires code { words.now.key.code ≡ code.now }
-        requires worker { IsWorkerOf words.now.table_id words.now.key self.old }
-        requires room { self.old.steps + most < 2 ^ 64 }
+        requires worker { CanStep words.now.table_id words.now.key most self.old }
         requires some { 0 < most }
         requires stands { StandsAt code.now self.old.thread Doing.Commit }
-        ensures goes_on { (self.new.number ≡ self.old.number) × StepsOn words.now.table_id words.now.key self.old self.new }
-        ensures made { result ≡ true → (self.old.steps < self.new.steps) × (self.new.steps ≤ self.old.steps + most) }
-        ensures not_made { result ≡ false → (self.new.steps ≡ self.old.steps) × StandsAt code.now self.new.thread Doing.Commit }
+        ensures goes_on { StepsBy words.now.table_id words.now.key result self.old self.new }
+        ensures few { result ≤ most }
+        ensures none { result ≡ 0 → StandsAt code.now self.new.thread Doing.Commit }
     {
         if !self.swap(words, code) {
-            return self.store_all(words, code, most) > 0;
+            return self.store_all(words, code, most);
         }
-        let _stored = self.store_all(words, code, most - 1);
-        true
+        let stored = self.store_all(words, code, most - 1);
+        stored + 1
     }
 
-    // Steps of what is to be done, at most so many, where a function of its own makes them: whether any were made.
+    // Steps of what is to be done, at most so many, where a function of its own makes them: how many were made.
     #[inline(always)]
-    fn complete(&mut self, words: &Words<A>, code: &Code<A>, doing: Doing, most: u64) -> bool
+    fn complete(&mut self, words: &Words<A>, code: &Code<A>, doing: Doing, most: u64) -> u64
         requires table { words.now.table_id.words ≡ cells_of code.now + 1 }
         requires code { words.now.key.code ≡ code.now }
-        requires worker { IsWorkerOf words.now.table_id words.now.key self.old }
-        requires room { self.old.steps + most < 2 ^ 64 }
+        requires worker { CanStep words.now.table_id words.now.key most self.old }
         requires some { 0 < most }
         requires stands { StandsAt code.now self.old.thread doing }
-        ensures goes_on { (self.new.number ≡ self.old.number) × StepsOn words.now.table_id words.now.key self.old self.new }
-        ensures made { result ≡ true → (self.old.steps < self.new.steps) × (self.new.steps ≤ self.old.steps + most) }
-        ensures not_made { result ≡ false → (self.new.steps ≡ self.old.steps) × StandsAt code.now self.new.thread doing }
+        ensures goes_on { StepsBy words.now.table_id words.now.key result self.old self.new }
+        ensures few { result ≤ most }
+        ensures none { result ≡ 0 → StandsAt code.now self.new.thread doing }
     {
         match doing {
-            Doing::Read(to, cell) => 2 <= most && self.read(words, code, to, cell),
-            Doing::Begin(to) => self.begin(words, code, to, most) > 0,
+            Doing::Read(to, cell) => {
+                if most < 2 {
+                    return 0;
+                }
+                self.read(words, code, to, cell)
+            }
+            Doing::Begin(to) => self.begin(words, code, to, most),
             Doing::Commit => self.commit(words, code, most),
-            _ => false,
+            _ => 0,
         }
     }
 
@@ -304,17 +303,14 @@ impl<A: Allocator + Copy> Worker<A> {
     fn wait(&mut self, words: &Words<A>, code: &Code<A>)
         requires table { words.now.table_id.words ≡ cells_of code.now + 1 }
         requires code { words.now.key.code ≡ code.now }
-        requires worker { IsWorkerOf words.now.table_id words.now.key self.old }
-        requires room { self.old.steps + 1 < 2 ^ 64 }
+        requires worker { CanStep words.now.table_id words.now.key 1 self.old }
         requires waits { WaitsNext code.now self.old.thread }
         requires access { access_of (effect code.now) self.old.thread.thread ≡ Access.LoadLock }
-        ensures goes_on { (self.new.number ≡ self.old.number) × StepsOn words.now.table_id words.now.key self.old self.new }
-        ensures steps { self.new.steps ≡ self.old.steps + 1 }
+        ensures goes_on { StepsBy words.now.table_id words.now.key 1 self.old self.new }
         ensures still { StandsStill code.now self.old.thread self.new.thread }
     {
         let lock = load_lock(words, &mut self.seat);
         self.thread.waited(code, lock);
-        self.steps += 1;
         pause(lock);
     }
 
@@ -330,19 +326,16 @@ impl<A: Allocator + Copy> Worker<A> {
     ) -> bool
         requires table { words.now.table_id.words ≡ cells_of code.now + 1 }
         requires code { words.now.key.code ≡ code.now }
-        requires worker { IsWorkerOf words.now.table_id words.now.key self.old }
-        requires room { self.old.steps + 1 < 2 ^ 64 }
+        requires worker { CanStep words.now.table_id words.now.key 1 self.old }
         requires compares { ComparesNext code.now self.old.thread time place }
         requires entry { ComparesEntry self.old.thread time place (Some entry) }
         requires next { place + 1 < 2 ^ 64 }
         requires access { access_of (effect code.now) self.old.thread.thread ≡ Access.LoadWord entry.0 }
-        ensures goes_on { (self.new.number ≡ self.old.number) × StepsOn words.now.table_id words.now.key self.old self.new }
-        ensures steps { self.new.steps ≡ self.old.steps + 1 }
+        ensures goes_on { StepsBy words.now.table_id words.now.key 1 self.old self.new }
         ensures still { result ≡ true → StandsStill code.now self.old.thread self.new.thread }
     {
         let (cell, word) = entry;
         let found = load_word(words, &mut self.seat, cell as usize);
-        self.steps += 1;
         if found != word {
             self.thread.differed(code, time, place, entry, found);
             return false;
@@ -356,18 +349,15 @@ impl<A: Allocator + Copy> Worker<A> {
     fn confirm(&mut self, words: &Words<A>, code: &Code<A>, time: u64, place: usize)
         requires table { words.now.table_id.words ≡ cells_of code.now + 1 }
         requires code { words.now.key.code ≡ code.now }
-        requires worker { IsWorkerOf words.now.table_id words.now.key self.old }
-        requires room { self.old.steps + 1 < 2 ^ 64 }
+        requires worker { CanStep words.now.table_id words.now.key 1 self.old }
         requires compares { ComparesNext code.now self.old.thread time place }
         requires entry { ComparesEntry self.old.thread time place None }
         requires access { access_of (effect code.now) self.old.thread.thread ≡ Access.LoadLock }
-        ensures goes_on { (self.new.number ≡ self.old.number) × StepsOn words.now.table_id words.now.key self.old self.new }
-        ensures steps { self.new.steps ≡ self.old.steps + 1 }
+        ensures goes_on { StepsBy words.now.table_id words.now.key 1 self.old self.new }
         ensures still { StandsStill code.now self.old.thread self.new.thread }
     {
         let lock = load_lock(words, &mut self.seat);
         self.thread.validated(code, time, place, lock);
-        self.steps += 1;
     }
 
     // The step of validation at this lock value and place of the read log: whether the attempt goes on.
@@ -375,11 +365,9 @@ impl<A: Allocator + Copy> Worker<A> {
     fn compare(&mut self, words: &Words<A>, code: &Code<A>, time: u64, place: usize) -> bool
         requires table { words.now.table_id.words ≡ cells_of code.now + 1 }
         requires code { words.now.key.code ≡ code.now }
-        requires worker { IsWorkerOf words.now.table_id words.now.key self.old }
-        requires room { self.old.steps + 1 < 2 ^ 64 }
+        requires worker { CanStep words.now.table_id words.now.key 1 self.old }
         requires compares { ComparesNext code.now self.old.thread time place }
-        ensures goes_on { (self.new.number ≡ self.old.number) × StepsOn words.now.table_id words.now.key self.old self.new }
-        ensures steps { self.new.steps ≡ self.old.steps + 1 }
+        ensures goes_on { StepsBy words.now.table_id words.now.key 1 self.old self.new }
         ensures still { result ≡ true → StandsStill code.now self.old.thread self.new.thread }
     {
         match self.thread.entry(code, time, place) {
@@ -396,10 +384,8 @@ impl<A: Allocator + Copy> Worker<A> {
     fn validate(&mut self, words: &Words<A>, code: &Code<A>, most: u64) -> u64
         requires table { words.now.table_id.words ≡ cells_of code.now + 1 }
         requires code { words.now.key.code ≡ code.now }
-        requires worker { IsWorkerOf words.now.table_id words.now.key self.old }
-        requires room { self.old.steps + most < 2 ^ 64 }
-        ensures goes_on { (self.new.number ≡ self.old.number) × StepsOn words.now.table_id words.now.key self.old self.new }
-        ensures steps { self.new.steps ≡ self.old.steps + result }
+        requires worker { CanStep words.now.table_id words.now.key most self.old }
+        ensures goes_on { StepsBy words.now.table_id words.now.key result self.old self.new }
         ensures few { result ≤ most }
     {
         // Asked here and not handed over, so that whoever calls keeps it in the processor's registers.
@@ -420,7 +406,7 @@ impl<A: Allocator + Copy> Worker<A> {
         most
     }
 
-    // Steps of the thread in which this is to be done, at most so many, and one at least.
+    // Steps of the thread in which this is to be done, at most so many, and one at least: how many were made.
     #[inline(always)]
     fn operate(
         &mut self,
@@ -428,36 +414,73 @@ impl<A: Allocator + Copy> Worker<A> {
         code: &Code<A>,
         doing: Doing,
         most: u64,
-    ) -> Result<(), Stop>
+    ) -> Result<u64, Stop>
         requires table { words.now.table_id.words ≡ cells_of code.now + 1 }
         requires code { words.now.key.code ≡ code.now }
-        requires worker { IsWorkerOf words.now.table_id words.now.key self.old }
-        requires room { self.old.steps + most < 2 ^ 64 }
+        requires worker { CanStep words.now.table_id words.now.key most self.old }
         requires some { 0 < most }
         requires stands { StandsAt code.now self.old.thread doing }
-        ensures goes_on { (self.new.number ≡ self.old.number) × StepsOn words.now.table_id words.now.key self.old self.new }
-        ensures steps { (self.old.steps ≤ self.new.steps) × (self.new.steps ≤ self.old.steps + most) }
-        ensures ok { OnOk result (self.old.steps < self.new.steps) }
+        ensures ok { IfOk result (λ made. (0 < made) × (made ≤ most) × StepsBy words.now.table_id words.now.key made self.old self.new) }
+        ensures err { OnErr result (StepsBy words.now.table_id words.now.key 0 self.old self.new) }
         ensures stop { IfErr result (λ e. Because e (access_of (effect code.now) self.new.thread.thread)) }
     {
-        if self.complete(words, code, doing, most) {
-            return Ok(());
+        let made = self.complete(words, code, doing, most);
+        if made > 0 {
+            return Ok(made);
         }
-        if self.validate(words, code, most) > 0 {
-            return Ok(());
+        let passed = self.validate(words, code, most);
+        if passed > 0 {
+            return Ok(passed);
         }
-        self.step(words, code)
+        match self.step_on(words, code) {
+            Ok(()) => Ok(1),
+            Err(stop) => Err(stop),
+        }
     }
 
     // How its thread is, after all steps of a budget.
-    fn reported(&self) -> Status
-        ensures { Reports result self.now.thread.thread.status self.now.steps self.now.steps }
+    fn reported(&self, budget: u64) -> Status
+        ensures { Reports result self.now.thread.thread.status budget budget }
     {
+        // The prover names by it the budget.
+        let _budget = budget;
         match self.thread.status() {
             ThreadStatus::Running => Status::Budget,
             ThreadStatus::Ended => Status::Ended,
             ThreadStatus::Trapped(cause) => Status::Trapped(cause),
         }
+    }
+
+    // `run`, whose steps are not yet counted: how many they were, and how it ended.
+    #[inline(always)]
+    fn run_on(&mut self, hall: &Hall<A>, budget: u64) -> (u64, Result<Status, Stop>)
+        requires worker { IsWorkerOf hall.now.table.shared.table_id hall.now.setup self.old }
+        requires room { self.old.steps + budget < 2 ^ 64 }
+        ensures goes_on { StepsBy hall.now.table.shared.table_id hall.now.setup result.0 self.old self.new }
+        ensures few { result.0 ≤ budget }
+        ensures status { IfOk result.1 (λ s. Reports s self.new.thread.thread.status budget result.0) }
+        ensures stop { IfErr result.1 (λ e. Because e (access_of (effect hall.now.setup.code) self.new.thread.thread)) }
+    {
+        let mut left = budget;
+        'turns: while left > 0 {
+            match self.thread.status() {
+                ThreadStatus::Running => {}
+                ThreadStatus::Ended => return (budget - left, Ok(Status::Ended)),
+                ThreadStatus::Trapped(cause) => {
+                    return (budget - left, Ok(Status::Trapped(cause)));
+                }
+            }
+            let (rested, doing) = self.advance(hall.setup.code(), left);
+            left -= rested;
+            let Some(doing) = doing else {
+                return (budget, Ok(self.reported(budget)));
+            };
+            match self.operate(&hall.table.shared, hall.setup.code(), doing, left) {
+                Ok(made) => left -= made,
+                Err(stop) => return (budget - left, Err(stop)),
+            }
+        }
+        (budget, Ok(self.reported(budget)))
     }
 
     /// Makes `budget` steps of the machine, or fewer where the thread is over or a step stops. An access to the lock or to a
@@ -474,24 +497,9 @@ impl<A: Allocator + Copy> Worker<A> {
         ensures status { IfOk result (λ s. Reports s self.new.thread.thread.status (self.old.steps + budget) self.new.steps) }
         ensures stop { IfErr result (λ e. Because e (access_of (effect hall.now.setup.code) self.new.thread.thread)) }
     {
-        let end = self.steps + budget;
-        'turns: while self.steps < end {
-            match self.thread.status() {
-                ThreadStatus::Running => {}
-                ThreadStatus::Ended => return Ok(Status::Ended),
-                ThreadStatus::Trapped(cause) => return Ok(Status::Trapped(cause)),
-            }
-            let Some(doing) = self.advance(hall.setup.code(), end - self.steps) else {
-                return Ok(self.reported());
-            };
-            self.operate(
-                &hall.table.shared,
-                hall.setup.code(),
-                doing,
-                end - self.steps,
-            )?;
-        }
-        Ok(self.reported())
+        let (made, ended) = self.run_on(hall, budget);
+        self.steps += made;
+        ended
     }
 
     /// From now on neither thread is answered a lock value below what either was answered so far, nor one that is not above

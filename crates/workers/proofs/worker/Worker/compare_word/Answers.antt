@@ -8,36 +8,38 @@ use Rattle.workers.proofs.worker.Worker.compare_word.Goals as goal
 
 pub load_word-found-requires-clause-table : goal.load_word-found-requires-clause-table
 load_word-found-requires-clause-table g c =
-    let cell = cell_fits c.args.words.now.key c.args.self.now.number c.args.self.now.thread.thread c.args.self.now.steps c.args.self.now.thread.accesses c.args.self.now.seat.me c.requires.worker.1 c.args.code.now c.requires.code c.args.entry.0 c.requires.access in
+    let cell = cell_fits c.args.words.now.key c.args.self.now.number c.args.self.now.thread.thread c.requires.worker.0 c.args.self.now.thread.accesses c.args.self.now.seat.me c.requires.worker.1.1 c.args.code.now c.requires.code c.args.entry.0 c.requires.access in
     let same = ap cells_of c.requires.code in
     let all = c.requires.table in
-    (c.requires.worker.0, omega (arith, cell, same, all))
+    (c.requires.worker.1.0, omega (arith, cell, same, all))
 
 pub load_word-found-requires-clause-next : goal.load_word-found-requires-clause-next
-load_word-found-requires-clause-next g c = word_is_next c.args.words.now.key c.args.self.now.number c.args.self.now.thread.thread c.args.self.now.steps c.args.self.now.thread.accesses c.args.self.now.seat.me c.requires.worker.1 c.args.code.now c.requires.code c.args.entry.0 c.requires.access
+load_word-found-requires-clause-next g c = word_is_next c.args.words.now.key c.args.self.now.number c.args.self.now.thread.thread c.requires.worker.0 c.args.self.now.thread.accesses c.args.self.now.seat.me c.requires.worker.1.1 c.args.code.now c.requires.code c.args.entry.0 c.requires.access
 
 pub differed-requires-clause-word : goal.differed-requires-clause-word
 differed-requires-clause-word g c =
-    loaded_fits c.args.words.now.key c.args.self.now.number c.args.self.now.thread.thread c.args.self.now.steps c.args.self.now.thread.accesses c.args.self.now.seat.me c.requires.worker.1 c.args.code.now c.requires.code c.args.entry.0 c.requires.access c.load_word-found.result c.load_word-found.new.seat.me c.load_word-found.ensures.took
+    loaded_fits c.args.words.now.key c.args.self.now.number c.args.self.now.thread.thread c.requires.worker.0 c.args.self.now.thread.accesses c.args.self.now.seat.me c.requires.worker.1.1 c.args.code.now c.requires.code c.args.entry.0 c.requires.access c.load_word-found.result c.load_word-found.new.seat.me c.load_word-found.ensures.took
 
 pub returns-then-found-word-clause-goes_on : goal.returns-then-found-word-clause-goes_on
 returns-then-found-word-clause-goes_on g c = (
   refl,
-  λ was.
-      let r = word_loaded c.args.words.now.key c.args.self.now.number c.args.self.now.thread.thread c.args.self.now.steps c.args.self.now.thread.accesses c.args.self.now.seat.me was.1 c.args.code.now c.requires.code c.args.entry.0 c.requires.access
+  refl,
+  λ steps was.
+      let r = word_loaded c.args.words.now.key c.args.self.now.number c.args.self.now.thread.thread steps c.args.self.now.thread.accesses c.args.self.now.seat.me was.1 c.args.code.now c.requires.code c.args.entry.0 c.requires.access
       c.load_word-found.result c.load_word-found.new.seat.me c.load_word-found.ensures.took c.differed.new.self.thread c.differed.ensures.thread c.differed.ensures.of _ c.differed.new.self.accesses refl c.differed.ensures.accesses in
       ((c.load_word-found.ensures.seat.0 ∙ was.0, r.0), r.1),
 )
 
 pub compared-requires-clause-word : goal.compared-requires-clause-word
 compared-requires-clause-word g c =
-    subst (λ (n : ℕ). n < 2 ^ 32) c.if-found-word.false (loaded_fits c.args.words.now.key c.args.self.now.number c.args.self.now.thread.thread c.args.self.now.steps c.args.self.now.thread.accesses c.args.self.now.seat.me c.requires.worker.1 c.args.code.now c.requires.code c.args.entry.0 c.requires.access c.load_word-found.result c.load_word-found.new.seat.me c.load_word-found.ensures.took)
+    subst (λ (n : ℕ). n < 2 ^ 32) c.if-found-word.false (loaded_fits c.args.words.now.key c.args.self.now.number c.args.self.now.thread.thread c.requires.worker.0 c.args.self.now.thread.accesses c.args.self.now.seat.me c.requires.worker.1.1 c.args.code.now c.requires.code c.args.entry.0 c.requires.access c.load_word-found.result c.load_word-found.new.seat.me c.load_word-found.ensures.took)
 
 pub returns-clause-goes_on : goal.returns-clause-goes_on
 returns-clause-goes_on g c = (
   refl,
-  λ was.
-      let r = word_loaded c.args.words.now.key c.args.self.now.number c.args.self.now.thread.thread c.args.self.now.steps c.args.self.now.thread.accesses c.args.self.now.seat.me was.1 c.args.code.now c.requires.code c.args.entry.0 c.requires.access
+  refl,
+  λ steps was.
+      let r = word_loaded c.args.words.now.key c.args.self.now.number c.args.self.now.thread.thread steps c.args.self.now.thread.accesses c.args.self.now.seat.me was.1 c.args.code.now c.requires.code c.args.entry.0 c.requires.access
       c.load_word-found.result c.load_word-found.new.seat.me c.load_word-found.ensures.took c.compared.new.self.thread (c.compared.ensures.thread ∙ ap (λ (n : ℕ). (told (effect c.args.code.now) c.args.self.now.thread.thread (Value n)).thread) (sym c.if-found-word.false)) c.compared.ensures.of _ c.compared.new.self.accesses refl c.compared.ensures.accesses in
       ((c.load_word-found.ensures.seat.0 ∙ was.0, r.0), r.1),
 )

@@ -1,14 +1,12 @@
-use Rattle.std.proofs.Common.{◌≡◌, ◌+◌}
+use Rattle.std.proofs.Common.{◌-◌}
 use Rattle.frames.specs.declared.doing.Doing.TheVariants as doing
-use Rattle.workers.specs.Workers.{IsWorkerOf, StepsOn}
+use Rattle.workers.specs.Workers.{CanStep, StepsBy}
 use Rattle.machine.specs.States.{StandsAt}
 use Rattle.workers.proofs.worker.Worker.store_all.Given as goal
 
 abbrev pub invariant-stores : goal.invariant-stores
 invariant-stores g l = record {
-  worker : IsWorkerOf l.words.table_id l.words.key l.self;
-  steps : l.self.steps ≡ l.initial.self.steps + l.made;
-  number : l.self.number ≡ l.initial.self.number;
-  goes_on : StepsOn l.words.table_id l.words.key l.initial.self l.self;
+  can : CanStep l.words.table_id l.words.key (l.most - l.made) l.self;
+  goes_on : StepsBy l.words.table_id l.words.key l.made l.initial.self l.self;
   stands : StandsAt l.code l.self.thread doing.Commit;
 }

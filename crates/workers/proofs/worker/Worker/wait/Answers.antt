@@ -3,13 +3,14 @@ use Rattle.workers.proofs.Waiting.{lock_is_next, lock_loaded}
 use Rattle.workers.proofs.worker.Worker.wait.Goals as goal
 
 pub load_lock-lock-requires-clause-next : goal.load_lock-lock-requires-clause-next
-load_lock-lock-requires-clause-next g c = lock_is_next c.args.words.now.key c.args.self.now.number c.args.self.now.thread.thread c.args.self.now.steps c.args.self.now.thread.accesses c.args.self.now.seat.me c.requires.worker.1 c.args.code.now c.requires.code c.requires.access
+load_lock-lock-requires-clause-next g c = lock_is_next c.args.words.now.key c.args.self.now.number c.args.self.now.thread.thread c.requires.worker.0 c.args.self.now.thread.accesses c.args.self.now.seat.me c.requires.worker.1.1 c.args.code.now c.requires.code c.requires.access
 
 pub returns-clause-goes_on : goal.returns-clause-goes_on
 returns-clause-goes_on g c = (
   refl,
-  λ was.
-      let r = lock_loaded c.args.words.now.key c.args.self.now.number c.args.self.now.thread.thread c.args.self.now.steps c.args.self.now.thread.accesses c.args.self.now.seat.me was.1 c.args.code.now c.requires.code c.requires.access
+  refl,
+  λ steps was.
+      let r = lock_loaded c.args.words.now.key c.args.self.now.number c.args.self.now.thread.thread steps c.args.self.now.thread.accesses c.args.self.now.seat.me was.1 c.args.code.now c.requires.code c.requires.access
       c.load_lock-lock.result c.load_lock-lock.new.seat.me c.load_lock-lock.ensures.took c.waited.new.self.thread c.waited.ensures.thread c.waited.ensures.of _ c.waited.new.self.accesses refl c.waited.ensures.accesses in
       ((c.load_lock-lock.ensures.seat.0 ∙ was.0, r.0), r.1),
 )
