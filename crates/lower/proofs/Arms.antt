@@ -15,17 +15,17 @@ use Rattle.syntax.specs.Views.{name_of, expr_step, expr_of, exprs_of}
 use Rattle.syntax.proofs.Seen.{expr_of_variable, expr_of_call, expr_of_element, expr_of_parenthesized, expr_of_cast, expr_of_unary, expr_of_binary, expr_of_logical, expr_of_conditional}
 use Rattle.bytecode.specs.declared.instr.Instr.{Instr}
 use Rattle.bytecode.specs.declared.instr.Instr.TheVariants as own
-use Rattle.lower.specs.declared.held.Held.{Held}
 use Rattle.lowered.specs.Expressions.{LocalScope, arranged}
-use Rattle.lower.specs.Lists.{Lists, used, holding}
-use Rattle.lower.specs.Names.{Callee}
-use Rattle.lower.specs.declared.held.Tested.{Tested}
-use Rattle.lower.specs.declared.draft.Draft.{Draft}
+use Rattle.syntax.specs.Numbers.{common}
+use Rattle.picked.specs.declared.held.Held.{Held}
+use Rattle.picked.specs.Lists.{Lists, used, holding}
+use Rattle.picked.specs.Names.{Callee}
+use Rattle.picked.specs.declared.held.Tested.{Tested}
+use Rattle.picked.specs.declared.draft.Draft.{Draft}
+use Rattle.picked.specs.Conditions.{Condition, test_in, going_on, first_of, joined, by_value}
+use Rattle.picked.specs.Expressions.{Emitted, AllEmitted, above, answered, chosen, called, emitted, own_condition, condition, tested}
 use Rattle.lower.specs.declared.fault.Failure.{Failure}
 use Rattle.lower.specs.inner.Limits.{NeedsMore}
-use Rattle.lower.specs.Conditions.{Condition, test_in, going_on, first_of, joined, by_value}
-use Rattle.lower.specs.Expressions.{Emitted, AllEmitted, above, answered, chosen, called, emitted, own_condition, condition, tested}
-use Rattle.syntax.specs.Numbers.{common}
 
 -- a value, and instructions behind it
 pub tail_is : (A : Emitted) (T : Held → List Instr) (old ca : List Instr) (a : Held) → ca ≡ old ++ A.code → a ≡ A.held → ca ++ T a ≡ old ++ (A.code ++ T A.held)

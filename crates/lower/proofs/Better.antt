@@ -9,15 +9,15 @@ use Rattle.bytecode.specs.declared.instr.Instr.{Instr}
 use Rattle.bytecode.specs.declared.limits.TheConstants.{MOST_REGISTERS}
 use Rattle.lowered.specs.Expressions.{Layout}
 use Rattle.lowered.specs.Programs.{parameter_locals}
+use Rattle.picked.specs.Lists.{Lists}
+use Rattle.picked.specs.Simples.{Written}
+use Rattle.picked.specs.Loops.{in_loops}
+use Rattle.picked.specs.Programs.{no_exits, body_with, body_ready, body_better, body_written, nothing_ready}
+use Rattle.picked.proofs.Longer.{stmts_longer}
+use Rattle.picked.proofs.stands.Standing.{Grows, IsFront}
 use Rattle.lower.specs.declared.fault.Failure.{Failure}
 use Rattle.lower.specs.inner.Limits.{NeedsMore}
-use Rattle.lower.specs.Lists.{Lists}
-use Rattle.lower.specs.Simples.{Written}
-use Rattle.lower.specs.Loops.{in_loops}
-use Rattle.lower.specs.Programs.{no_exits, body_with, body_ready, body_better, body_written, nothing_ready}
-use Rattle.lower.proofs.Growing.{needs_more}
-use Rattle.lower.proofs.Longer.{stmts_longer}
-use Rattle.lower.proofs.stands.Standing.{Grows, IsFront}
+use Rattle.lower.proofs.Needing.{needs_more}
 
 pub still_fails : {X : Type 0} (r : Result X Failure) (m n : ℕ) → m ≤ n → IfErr r (λ why. NeedsMore why m) → IfErr r (λ why. NeedsMore why n)
 still_fails (Ok x) m n h k = tt

@@ -13,9 +13,9 @@ use Rattle.syntax.specs.Views.{item_of, function_of, stmts_of}
 use Rattle.bytecode.specs.declared.instr.Instr.{Instr}
 use Rattle.bytecode.specs.Code.{FunctionCode}
 use Rattle.lowered.specs.Expressions.{LocalScope}
-use Rattle.lower.specs.Lists.{Lists}
-use Rattle.lower.specs.Statements.{all_written}
-use Rattle.lower.specs.Programs.{no_exits, body_written, Made, nothing_made, function_code, put_before, made_first, all_made, made_for}
+use Rattle.picked.specs.Lists.{Lists}
+use Rattle.picked.specs.Statements.{all_written}
+use Rattle.picked.specs.Programs.{no_exits, body_written, Made, nothing_made, function_code, put_before, made_first, all_made, made_for}
 use Rattle.lower.proofs.Files.{items_more}
 
 -- a body in equal scopes, with equal numbers of registers

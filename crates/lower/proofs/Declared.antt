@@ -9,9 +9,9 @@ use Rattle.bytecode.specs.declared.instr.Instr.{Instr}
 use Rattle.bytecode.specs.declared.instr.Instr.TheVariants as own
 use Rattle.lowered.specs.Expressions.{LocalScope}
 use Rattle.lowered.specs.Statements.{with_local, with_declared}
-use Rattle.lower.specs.Lists.{Lists, used}
-use Rattle.lower.specs.Simples.{Written, nothing_written, and_then, first_written, declarator_written, declared_written}
-use Rattle.lower.proofs.GrowingStmts.{declared_more}
+use Rattle.picked.specs.Lists.{Lists, used}
+use Rattle.picked.specs.Simples.{Written, nothing_written, and_then, first_written, declarator_written, declared_written}
+use Rattle.picked.proofs.GrowingStmts.{declared_more}
 
 -- a local that is 0, and its first value behind that
 module _ (p : Program) (t : Scalar) (d : Declarator) (scope scope' : LocalScope) (i from next : ℕ) (l l' : Lists)

@@ -12,25 +12,26 @@ use Rattle.syntax.specs.Formats.{Piece}
 use Rattle.bytecode.specs.declared.instr.Instr.{Instr}
 use Rattle.lowered.specs.Expressions.{LocalScope, arranged}
 use Rattle.lowered.specs.Statements.{with_local, locals_of_start}
-use Rattle.lower.specs.declared.fault.Failure.{Failure}
 use Rattle.bytecode.specs.declared.instr.Instr.TheVariants as own
 use Rattle.syntax.specs.Numbers.{operand_type, result_type}
-use Rattle.lower.specs.declared.held.Target.{Target}
-use Rattle.lower.specs.declared.held.Target.TheVariants as target
-use Rattle.lower.specs.declared.held.Held.{Held}
-use Rattle.lower.specs.declared.held.Aim.{Aim}
-use Rattle.lower.specs.declared.held.Tested.{Tested}
-use Rattle.lower.specs.declared.held.Exits.{Exits}
+use Rattle.picked.specs.declared.held.Target.{Target}
+use Rattle.picked.specs.declared.held.Target.TheVariants as target
+use Rattle.picked.specs.declared.held.Held.{Held}
+use Rattle.picked.specs.declared.held.Tested.{Tested}
+use Rattle.picked.specs.declared.held.Exits.{Exits}
+use Rattle.picked.specs.Lists.{Lists, used, holding}
+use Rattle.picked.specs.Names.{Callee}
+use Rattle.picked.specs.Expressions.{Emitted, AllEmitted, above, both, computing, answered, settled, element, called, emitted, operand, condition, both_conditions, conditional, all_emitted}
+use Rattle.picked.specs.Conditions.{Condition, test_in}
+use Rattle.picked.specs.Simples.{Written, Aimed, nothing_written, one_written, aimed, above_target, fetched, home_or, stored, value_or_one, assigned, adjusted, first_written, declarator_written, start_written}
+use Rattle.picked.specs.Statements.{in_transaction, looping, print_written, tested_back, transacted, for_test, for_step, written, all_written}
+use Rattle.picked.proofs.Growing.{used_more, holding_more, settled_more, emitted_more, operand_more, condition_more}
+use Rattle.picked.proofs.GrowingStmts.{fetched_more, stored_same, one_more, pieces_same, first_more, test_more, step_more, written_more}
+use Rattle.lower.specs.declared.fault.Failure.{Failure}
+use Rattle.lower.specs.declared.aim.Aim.{Aim}
 use Rattle.lower.specs.inner.Limits.{NeedsMore}
-use Rattle.lower.specs.Lists.{Lists, used, holding}
-use Rattle.lower.specs.Names.{Callee}
-use Rattle.lower.specs.Expressions.{Emitted, AllEmitted, above, both, computing, answered, settled, element, called, emitted, operand, condition, both_conditions, conditional, all_emitted}
-use Rattle.lower.specs.Conditions.{Condition, test_in}
 use Rattle.lower.specs.inner.Aims.{aim_in}
-use Rattle.lower.specs.Simples.{Written, Aimed, nothing_written, one_written, aimed, above_target, fetched, home_or, stored, value_or_one, assigned, adjusted, first_written, declarator_written, start_written}
-use Rattle.lower.specs.Statements.{in_transaction, looping, print_written, tested_back, transacted, for_test, for_step, written, all_written}
-use Rattle.lower.proofs.Growing.{needs_more, used_more, holding_more, settled_more, emitted_more, operand_more, condition_more}
-use Rattle.lower.proofs.GrowingStmts.{fetched_more, stored_same, one_more, pieces_same, first_more, test_more, step_more, written_more}
+use Rattle.lower.proofs.Needing.{needs_more}
 
 -- what ? hands on
 pub passed_on : {X Y : Type 0} (r : Result X Failure) (s : Result Y Failure) (f : Failure) (m n : ℕ) → IfErr r (λ why. NeedsMore why m) → r ≡ Err f → IsErr s × IsErrAnd s (λ y. y ≡ f) → m ≤ n → IfErr s (λ why. NeedsMore why n)

@@ -1,5 +1,5 @@
 -- Why no code is made, from a definition to its item and to the program.
-use Rattle.std.proofs.Common.{◌≡◌, ℕ, ◌<◌, ◌≤◌, List, [], ◌∷◌, ◌++◌, length, map, drop, take, get_or, ◌+◌, refl, sym, ap, ◌∙◌, subst, append-nil, arith, Some, Result, Ok, Err, IfErr, IsErr, IsErrAnd}
+use Rattle.std.proofs.Common.{◌≡◌, ℕ, ◌<◌, ◌≤◌, List, [], ◌∷◌, ◌++◌, length, map, drop, take, get_or, ◌+◌, refl, sym, ap, ◌∙◌, subst, append-nil, arith, Some, None, Result, Ok, Err, IfErr, IsErr, IsErrAnd}
 use Rattle.std.specs.Prelude.{Contains}
 use Rattle.std.proofs.Math.ListN.{get_or-map}
 use Rattle.std.proofs.lemmas.List.{length-map, map-append, take-append-drop}
@@ -14,17 +14,18 @@ use Rattle.bytecode.specs.declared.instr.Instr.{Instr}
 use Rattle.bytecode.specs.Code.{FunctionCode}
 use Rattle.bytecode.specs.Views.{instr_of}
 use Rattle.lowered.specs.Programs.{parameter_locals}
+use Rattle.picked.specs.Lists.{Lists}
+use Rattle.picked.specs.Simples.{Written}
+use Rattle.picked.specs.Programs.{Made, no_exits, body_written, nothing_ready, nothing_made, function_code, put_before, all_made, made_for, made_of, picked_code}
+use Rattle.picked.proofs.GrowingStmts.{stmts_more}
 use Rattle.lower.specs.declared.fault.LowerFault.{LowerFault}
 use Rattle.lower.specs.declared.fault.LowerFault.TheVariants.{OutOfMemory, TooManyRegisters, TooMuchCode, NestedTooDeep}
-use Rattle.lower.specs.Faults.{picked_for}
-use Rattle.lower.specs.Lists.{Lists}
+use Rattle.lower.specs.Nested.{nested_too_deep}
+use Rattle.lower.specs.Faults.{picked_for, IsFaultOf}
 use Rattle.lower.specs.inner.Parts.{IsOfDefinition, IsOfItem, IsOfCode}
-use Rattle.lower.specs.Simples.{Written}
-use Rattle.lower.specs.Programs.{Made, no_exits, body_written, nothing_ready, nothing_made, function_code, put_before, all_made, made_for, made_of, lowered_code}
 use Rattle.lower.proofs.Better.{body_more}
 use Rattle.lower.proofs.Bodies.{definition_made, code_grows, codes_among, front_code, one_more}
 use Rattle.lower.proofs.Files.{items_more}
-use Rattle.lower.proofs.GrowingStmts.{stmts_more}
 
 -- a function needs its parameters' registers at least
 pub parameters_fit : (p : Program) (f : Function) (body : Stmts) (from : ℕ) (l : Lists) → length f.parameters ≤ (body_written p f body from l).lists.registers
@@ -60,8 +61,8 @@ among items i x h is =
     let low : i < length (map item_of items) = omega (arith, n, h) in
     subst (Contains (map item_of items)) (get_or-map item_of items i x ∙ ap item_of (sym is)) (Contains-get_or (map item_of items) i (item_of x) low)
 
-of_one : (p before : Program) (item : Item) (after : Program) (codes : List FunctionCode) (n : ℕ) (e : LowerFault) → p ≡ before ++ item ∷ after → Contains p item → ((g : FunctionCode) → Contains codes g → Contains (lowered_code p).functions g) →
-    picked_for p before ≤ 1048576 → n ≡ picked_for p (before ++ item ∷ []) → n ≤ length (lowered_code p).instructions → IsOfItem item codes n e → IsOfCode p e
+of_one : (p before : Program) (item : Item) (after : Program) (codes : List FunctionCode) (n : ℕ) (e : LowerFault) → p ≡ before ++ item ∷ after → Contains p item → ((g : FunctionCode) → Contains codes g → Contains (picked_code p).functions g) →
+    picked_for p before ≤ 1048576 → n ≡ picked_for p (before ++ item ∷ []) → n ≤ length (picked_code p).instructions → IsOfItem item codes n e → IsOfCode p e
 of_one p before item after codes n OutOfMemory s c d b m h k = tt
 of_one p before (Defines f) after codes n (TooManyRegisters at) s c d b m h k = record {
   function = f;
@@ -112,3 +113,10 @@ item_fault items i to l x codes done e h is fs inv d t a b k =
 pub handed_on : {X Y : Type 0} (r : Result X LowerFault) (s : Result Y LowerFault) (f : LowerFault) (P Q : LowerFault → Type 0) → IfErr r P → r ≡ Err f → IsErr s × IsErrAnd s (λ y. y ≡ f) → ((e : LowerFault) → P e → Q e) → IfErr s Q
 handed_on r (Ok y) f P Q h e g k = tt
 handed_on r (Err y) f P Q h e g k = k y (subst P (sym g.1) (subst (λ q. IfErr q P) e h))
+
+-- where no transaction lies too deep
+pub of_program : (p : Program) (e : LowerFault) → nested_too_deep p ≡ None → IsOfCode p e → IsFaultOf p e
+of_program p OutOfMemory n h = tt
+of_program p (TooManyRegisters at) n h = (n, h)
+of_program p (TooMuchCode at) n h = (n, h.0, h.1)
+of_program p (NestedTooDeep at) n h = absurd h

@@ -6,7 +6,7 @@ use Rattle.syntax.specs.declared.tree.Item.TheVariants as own
 use Rattle.syntax.specs.declared.tree.Function.{Function as OwnFunction}
 use Rattle.syntax.specs.Views.{item_of, function_of, stmts_of}
 use Rattle.syntax.specs.Tree.{Item, Function, Stmts, Global}
-use Rattle.lower.specs.Names.{Callee, callee_at, callee_first, callee_from}
+use Rattle.picked.specs.Names.{Callee, callee_at, callee_first, callee_from}
 use Rattle.lower.specs.inner.Tables.{total_cells}
 
 -- a function of the items that are left, opened at the first of them

@@ -4,9 +4,9 @@ use Rattle.std.proofs.lemmas.List.{drop_more, drop_all}
 use Rattle.lex.specs.declared.token.Scalar.{Scalar}
 use Rattle.syntax.specs.Formats.{Piece, Literal, Figure, literal, pieces}
 use Rattle.bytecode.specs.declared.instr.Instr.{Instr}
-use Rattle.lower.specs.Lists.{Lists}
-use Rattle.lower.specs.Simples.{Written, and_then}
-use Rattle.lower.specs.Statements.{pieces_written}
+use Rattle.picked.specs.Lists.{Lists}
+use Rattle.picked.specs.Simples.{Written, and_then}
+use Rattle.picked.specs.Statements.{pieces_written}
 use Rattle.lower.specs.inner.Formats.{joined, text_written, figure_written}
 
 -- bytes of text before pieces

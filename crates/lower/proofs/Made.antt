@@ -19,16 +19,16 @@ use Rattle.bytecode.specs.declared.instr.Instr.{Instr}
 use Rattle.bytecode.specs.declared.instr.Instr.TheVariants as own
 use Rattle.lowered.specs.Expressions.{LocalScope}
 use Rattle.lowered.specs.Statements.{locals_of_start, locals_after}
-use Rattle.lower.specs.declared.held.Tested.{Tested}
-use Rattle.lower.specs.declared.held.Exits.{Exits}
-use Rattle.lower.specs.Lists.{Lists}
-use Rattle.lower.specs.declared.draft.Draft.{Draft}
+use Rattle.picked.specs.declared.held.Tested.{Tested}
+use Rattle.picked.specs.declared.held.Exits.{Exits}
+use Rattle.picked.specs.Lists.{Lists}
+use Rattle.picked.specs.declared.draft.Draft.{Draft}
+use Rattle.picked.specs.Conditions.{Condition, test_in, going_on}
+use Rattle.picked.specs.Expressions.{condition}
+use Rattle.picked.specs.Simples.{Written, start_written}
+use Rattle.picked.specs.Statements.{tested_back, for_step, for_test, looping, in_transaction, transacted, written, all_written}
 use Rattle.lower.specs.declared.fault.Failure.{Failure}
 use Rattle.lower.specs.inner.Limits.{NeedsMore}
-use Rattle.lower.specs.Conditions.{Condition, test_in, going_on}
-use Rattle.lower.specs.Expressions.{condition}
-use Rattle.lower.specs.Simples.{Written, start_written}
-use Rattle.lower.specs.Statements.{tested_back, for_step, for_test, looping, in_transaction, transacted, written, all_written}
 
 -- what was done that gave this code behind another one
 pub record Makes (w : Written) (old new : List Instr) (l : Lists) (to : ℕ) : Type 0 where

@@ -6,10 +6,10 @@ use Rattle.syntax.specs.Tree.{Program}
 use Rattle.syntax.specs.Views.{expr_of, exprs_of}
 use Rattle.bytecode.specs.declared.instr.Instr.{Instr}
 use Rattle.lowered.specs.Expressions.{LocalScope}
-use Rattle.lower.specs.declared.held.Held.{Held}
-use Rattle.lower.specs.Lists.{Lists}
-use Rattle.lower.proofs.Growing.{all_more}
-use Rattle.lower.specs.Expressions.{Emitted, AllEmitted, above, followed, none_emitted, emitted, all_emitted}
+use Rattle.picked.specs.declared.held.Held.{Held}
+use Rattle.picked.specs.Lists.{Lists}
+use Rattle.picked.specs.Expressions.{Emitted, AllEmitted, above, followed, none_emitted, emitted, all_emitted}
+use Rattle.picked.proofs.Growing.{all_more}
 
 module _ (p : Program) (scope : LocalScope) {A : Type 0} (es : List (OwnExpr A)) (i to later : ℕ) (l : Lists) where
   row : ℕ → ℕ → ℕ → Lists → AllEmitted

@@ -7,11 +7,11 @@ use Rattle.syntax.specs.Views.{stmt_of, stmts_of}
 use Rattle.bytecode.specs.declared.instr.Instr.{Instr}
 use Rattle.lowered.specs.Expressions.{LocalScope}
 use Rattle.lowered.specs.Statements.{locals_after, locals_at_end}
-use Rattle.lower.specs.declared.held.Exits.{Exits}
-use Rattle.lower.specs.Lists.{Lists}
-use Rattle.lower.specs.Simples.{Written, nothing_written, and_then}
-use Rattle.lower.specs.Statements.{written, all_written}
-use Rattle.lower.proofs.GrowingStmts.{stmts_more}
+use Rattle.picked.specs.declared.held.Exits.{Exits}
+use Rattle.picked.specs.Lists.{Lists}
+use Rattle.picked.specs.Simples.{Written, nothing_written, and_then}
+use Rattle.picked.specs.Statements.{written, all_written}
+use Rattle.picked.proofs.GrowingStmts.{stmts_more}
 
 module _ (p : Program) (exits : Exits) {A : Type 0} (ys : List (OwnStmt A)) (i to : ℕ) (scope : LocalScope) (l : Lists) where
   row : ℕ → LocalScope → ℕ → Lists → Written

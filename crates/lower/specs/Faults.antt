@@ -4,10 +4,10 @@ use Rattle.lex.specs.declared.token.Span.{Span}
 use Rattle.syntax.specs.Tree.{Function, Defines, Program}
 use Rattle.bytecode.specs.declared.limits.TheConstants.{MOST_INSTRUCTIONS, MOST_REGISTERS}
 use Rattle.bytecode.specs.Code.{FunctionCode}
+use Rattle.picked.specs.Programs.{made_for, picked_code}
 use Rattle.lower.specs.declared.fault.LowerFault.{LowerFault}
 use Rattle.lower.specs.declared.fault.LowerFault.TheVariants.{OutOfMemory, TooManyRegisters, TooMuchCode, NestedTooDeep}
 use Rattle.lower.specs.Nested.{nested_too_deep}
-use Rattle.lower.specs.Programs.{made_for, lowered_code}
 
 abbrev pub number_of : LowerFault → ℕ
 number_of OutOfMemory = 0
@@ -27,13 +27,13 @@ pub record NeedsTooMany (p : Program) (at : Span) : Type 0 where
   pub is_of : Contains p (Defines function)
   pub is_at : at ≡ function.name.at
   pub code : FunctionCode
-  pub is_picked : Contains (lowered_code p).functions code
+  pub is_picked : Contains (picked_code p).functions code
   pub is_named : code.name ≡ function.name.text
   pub needs : MOST_REGISTERS < code.registers
 
 -- more instructions are picked for the program than a code may have
 abbrev pub IsTooMuch : Program → Type 0
-IsTooMuch p = MOST_INSTRUCTIONS < length (lowered_code p).instructions
+IsTooMuch p = MOST_INSTRUCTIONS < length (picked_code p).instructions
 
 -- how many instructions are picked for these first items of the program
 abbrev pub picked_for : Program → Program → ℕ

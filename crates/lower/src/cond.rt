@@ -2,9 +2,9 @@
 
 ghost use Rattle.std.specs.Prelude.{◌≡◌, not};
 ghost use Rattle.syntax.specs.Views.{expr_of};
-ghost use Rattle.lower.specs.Conditions as conditions;
+ghost use Rattle.picked.specs.Conditions as conditions;
 
-use crate::held::Tested;
+use picked::held::Tested;
 use std::alloc::Allocator;
 use syntax::tree::{BinaryOp, Expr};
 

@@ -2,27 +2,15 @@
 
 ghost use Rattle.std.specs.Prelude.{◌≡◌, ◌++◌, ◌∷◌, [], ◌+◌, map, not, OnOk, IfOk};
 ghost use Rattle.bytecode.specs.declared.instr.Instr.TheVariants as instr;
-ghost use Rattle.lower.specs.declared.draft.Draft.TheVariants as draft;
-ghost use Rattle.lower.specs.Conditions as conditions;
+ghost use Rattle.picked.specs.declared.draft.Draft.TheVariants as draft;
+ghost use Rattle.picked.specs.Conditions as conditions;
 
-use crate::held::Tested;
 use crate::put::{after, put};
 use bytecode::Instr;
+use picked::draft::Draft;
+use picked::held::Tested;
 use std::alloc::{AllocError, Allocator};
 use syntax::tree::LogicalOp;
-
-/// An instruction of a condition, as long as it is not known where the condition leads.
-#[derive(Clone, Copy)]
-pub(crate) enum Draft {
-    /// An instruction that is as it will be.
-    Whole(Instr),
-
-    /// A jump to where the condition holds, taken where this register is 0, or else where it is not.
-    ToMet(bool, u16),
-
-    /// A jump to where the condition does not hold, likewise.
-    ToUnmet(bool, u16),
-}
 
 /// The jump that is taken where a register is 0, or else where it is not.
 pub(crate) fn jump_if(at_zero: bool, register: u16, to: u32) -> Instr

@@ -3,14 +3,13 @@
 ghost use Rattle.std.specs.Prelude.{◌≡◌, ◌++◌, ◌∷◌, [], ◌+◌, ◌≤◌, not, ◌&&◌, ◌==◌, nat_le, map, length, take, drop, OnOk, IfOk, IfErr};
 ghost use Rattle.syntax.specs.Views.{function_of, stmts_of, parameter_of};
 ghost use Rattle.lowered.specs.Programs.{parameter_locals};
+ghost use Rattle.picked.specs.Loops as loops;
+ghost use Rattle.picked.specs.Programs.{body_ready, body_with, body_written, nothing_ready};
 ghost use Rattle.lower.specs.inner.Limits.{NeedsMore};
-ghost use Rattle.lower.specs.Lists.{lists_of};
-ghost use Rattle.lower.specs.Loops as loops;
-ghost use Rattle.lower.specs.Programs.{body_ready, body_with, body_written, nothing_ready};
+ghost use Rattle.lower.specs.inner.Lists.{lists_of};
 ghost use Rattle.lower.specs.inner.Views.{program_in, scope_in};
 
 use crate::fault::Failure;
-use crate::held::Exits;
 use crate::lists::Lists;
 use crate::loops::in_loops;
 use crate::program::Names;
@@ -19,6 +18,7 @@ use crate::ready::set_all;
 use crate::scope::Scope;
 use crate::stmt::lower_stmts;
 use bytecode::Instr;
+use picked::held::Exits;
 use std::alloc::{AllocError, Allocator};
 use syntax::tree::{Function, Parameter, Stmt};
 

@@ -7,11 +7,11 @@ ghost use Rattle.syntax.specs.Views.{program_of, item_of, function_of, global_of
 ghost use Rattle.bytecode.specs.Valid.{HasWorker};
 ghost use Rattle.bytecode.specs.Views.{code_of, function_of as code_function};
 ghost use Rattle.lowered.specs.Laws.{MeansItsProgram};
+ghost use Rattle.picked.specs.Programs.{body_written, function_code, all_made, picked_code};
 ghost use Rattle.lower.specs.Nested.{nested_too_deep};
 ghost use Rattle.lower.specs.Faults.{IsFaultOf};
-ghost use Rattle.lower.specs.Lists.{lists_of};
+ghost use Rattle.lower.specs.inner.Lists.{lists_of};
 ghost use Rattle.lower.specs.inner.Parts.{IsOfDefinition, IsOfItem, IsOfCode};
-ghost use Rattle.lower.specs.Programs.{body_written, function_code, all_made, lowered_code};
 ghost use Rattle.lower.specs.inner.Views.{program_in};
 
 use crate::deep::first_too_deep;
@@ -23,6 +23,7 @@ use crate::tables::names;
 use bytecode::{Code, FunctionCode, Instr, Parts};
 use containers::{Copied, Items};
 use lowered::laws::lowered_code_means;
+use picked::laws::{picked_code_is_valid, picked_code_stands};
 use separation::Accepted;
 use separation::laws::never_astray;
 use std::alloc::{AllocError, Allocator};
@@ -143,7 +144,7 @@ fn lower_item<'p, A: Allocator + Copy>(
 
 /// The parts of a program's code.
 fn lower_parts<'p, A: Allocator + Copy>(names: &Names<'p, A>) -> Result<Parts<A>, LowerFault>
-    ensures code { IfOk result (λ parts. code_of parts ≡ lowered_code (program_in names.now)) }
+    ensures code { IfOk result (λ parts. code_of parts ≡ picked_code (program_in names.now)) }
     ensures few { IfOk result (λ parts. AllByRecursion (λ f. f.registers ≤ 65535) (map code_function parts.functions)) }
     ensures short { IfOk result (λ parts. length parts.instructions ≤ 1048576) }
     ensures fault { IfErr result (IsOfCode (program_in names.now)) }
@@ -185,6 +186,8 @@ pub fn lower<A: Allocator + Copy>(alloc: A, accepted: &Accepted<A>) -> Result<Co
     ensures shallow { IfOk result (λ code. nested_too_deep (program_of accepted.now.safe.typed.unit) ≡ None) }
     ensures fault { IfErr result (IsFaultOf (program_of accepted.now.safe.typed.unit)) }
 {
+    picked_code_stands();
+    picked_code_is_valid();
     lowered_code_means();
     never_astray();
     let typed = accepted.safe().typed();

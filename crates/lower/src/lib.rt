@@ -1,6 +1,10 @@
 //! Code generation: from an accepted program to register code that means it.
+//!
+//! The code is that of `picked`: each function's contract names the definition there that it makes. That this code is valid and
+//! means the program are laws of `picked` and `lowered`.
 #![tactic(auto)]
 
+mod aim;
 mod cond;
 mod deep;
 mod draft;
@@ -8,8 +12,6 @@ mod expr;
 mod fault;
 mod function;
 mod generate;
-mod held;
-pub mod laws;
 mod lists;
 mod loops;
 mod names;

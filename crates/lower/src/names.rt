@@ -3,7 +3,7 @@
 ghost use Rattle.std.specs.Prelude.{◌≡◌, ◌≤◌, option_map, IfSome};
 ghost use Rattle.syntax.specs.Names as Source;
 ghost use Rattle.syntax.specs.Views.{global_of};
-ghost use Rattle.lower.specs.Names as Named;
+ghost use Rattle.picked.specs.Names as Named;
 ghost use Rattle.lower.specs.inner.Tables.{shared_in, callee_in};
 ghost use Rattle.lower.specs.inner.Views.{program_in};
 

@@ -3,9 +3,9 @@
 ghost use Rattle.std.specs.Prelude.{◌≡◌, ◌++◌, ◌∷◌, [], ◌+◌, ◌<◌, length, OnOk, IfOk};
 ghost use Rattle.syntax.specs.Formats.{pieces};
 ghost use Rattle.bytecode.specs.declared.instr.Instr.TheVariants as instr;
-ghost use Rattle.lower.specs.Lists.{lists_of};
-ghost use Rattle.lower.specs.Statements as statements;
-ghost use Rattle.lower.specs.Statements.{pieces_written};
+ghost use Rattle.picked.specs.Statements as statements;
+ghost use Rattle.picked.specs.Statements.{pieces_written};
+ghost use Rattle.lower.specs.inner.Lists.{lists_of};
 ghost use Rattle.lower.specs.inner.Formats.{IsAt, text_written, figure_written};
 
 use crate::lists::Lists;

@@ -1,20 +1,22 @@
 //! Single instructions: which one an operator is, and how one is put behind the others.
 
 ghost use Rattle.std.specs.Prelude.{◌≡◌, [], ◌∷◌, ◌++◌, ◌<◌, ◌≤◌, ◌+◌, max, suc, length, OnOk, IfOk, IfErr};
-ghost use Rattle.lower.specs.inner.Limits.{NeedsMore};
 ghost use Rattle.syntax.specs.Numbers as numbers;
 ghost use Rattle.bytecode.specs.declared.instr.Instr.TheVariants as instr;
+ghost use Rattle.picked.specs.Lists.{used};
+ghost use Rattle.picked.specs.Conditions as conditions;
+ghost use Rattle.picked.specs.Expressions as expressions;
+ghost use Rattle.lower.specs.inner.Limits.{NeedsMore};
 ghost use Rattle.lower.specs.declared.lists.Lists as declared_lists;
-ghost use Rattle.lower.specs.Lists.{lists_of, used};
-ghost use Rattle.lower.specs.Conditions as conditions;
-ghost use Rattle.lower.specs.Expressions as expressions;
+ghost use Rattle.lower.specs.inner.Lists.{lists_of};
 
-use crate::draft::{Draft, put_test};
+use crate::draft::put_test;
 use crate::fault::Failure;
-use crate::held::{Held, Tested};
 use crate::lists::Lists;
 use bytecode::Instr;
 use lex::token::Scalar;
+use picked::draft::Draft;
+use picked::held::{Held, Tested};
 use std::alloc::{AllocError, Allocator};
 use syntax::tree::BinaryOp;
 

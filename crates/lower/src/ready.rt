@@ -2,15 +2,15 @@
 
 ghost use Rattle.std.specs.Prelude.{◌≡◌, ◌++◌, ◌+◌, ◌≤◌, length, OnOk};
 ghost use Rattle.syntax.specs.Views.{expr_of};
-ghost use Rattle.lower.specs.Lists.{lists_of};
-ghost use Rattle.lower.specs.Expressions as expressions;
-ghost use Rattle.lower.specs.Programs as programs;
+ghost use Rattle.picked.specs.Expressions as expressions;
+ghost use Rattle.picked.specs.Programs as programs;
+ghost use Rattle.lower.specs.inner.Lists.{lists_of};
 
-use crate::held::Held;
 use crate::lists::Lists;
 use crate::put::put;
 use bytecode::Instr;
 use lex::token::Scalar;
+use picked::held::Held;
 use std::alloc::{AllocError, Allocator};
 use syntax::tree::Expr;
 

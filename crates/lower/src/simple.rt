@@ -6,18 +6,19 @@ ghost use Rattle.syntax.specs.Views.{expr_of, simple_of, declarator_of, start_of
 ghost use Rattle.syntax.specs.Meaning.{op_of};
 ghost use Rattle.bytecode.specs.declared.instr.Instr.TheVariants as instr;
 ghost use Rattle.lowered.specs.Statements.{with_local, with_declared, locals_of_start};
-ghost use Rattle.lower.specs.declared.held.Target.TheVariants as target;
+ghost use Rattle.picked.specs.declared.held.Target.TheVariants as target;
+ghost use Rattle.picked.specs.Lists.{Lists as Plain};
+ghost use Rattle.picked.specs.Simples as simples;
+ghost use Rattle.picked.specs.Simples.{emitted_one, aimed, variable_target, fetched, stored, assigned, adjusted, simple_written, first_written, declarator_written, declared_written, start_written};
 ghost use Rattle.lower.specs.inner.Limits.{NeedsMore};
-ghost use Rattle.lower.specs.Lists.{lists_of, Lists as Plain};
-ghost use Rattle.lower.specs.Simples as simples;
-ghost use Rattle.lower.specs.Simples.{emitted_one, aimed, variable_target, fetched, stored, assigned, adjusted, simple_written, first_written, declarator_written, declared_written, start_written};
+ghost use Rattle.lower.specs.inner.Lists.{lists_of};
 ghost use Rattle.lower.specs.inner.Tables.{shared_in};
 ghost use Rattle.lower.specs.inner.Aims.{aim_in};
 ghost use Rattle.lower.specs.inner.Views.{program_in, scope_in};
 
+use crate::aim::Aim;
 use crate::expr::{lower_expr, lower_operand, put_read_at};
 use crate::fault::Failure;
-use crate::held::{Aim, Held, Target};
 use crate::lists::Lists;
 use crate::names::{Shared, cells_of, global};
 use crate::program::Names;
@@ -26,6 +27,7 @@ use crate::ready::ready;
 use crate::scope::Scope;
 use bytecode::Instr;
 use lex::token::Scalar;
+use picked::held::{Held, Target};
 use std::alloc::{AllocError, Allocator};
 use syntax::tree::{BinaryOp, Declarator, Expr, IncDec, Simple, Start};
 

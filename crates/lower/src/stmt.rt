@@ -8,20 +8,19 @@ ghost use Rattle.syntax.specs.Views.{expr_of, exprs_of, simple_of, start_of, stm
 ghost use Rattle.syntax.specs.Formats.{pieces};
 ghost use Rattle.bytecode.specs.declared.instr.Instr.TheVariants as instr;
 ghost use Rattle.lowered.specs.Statements.{locals_after, locals_at_end};
+ghost use Rattle.picked.specs.Expressions.{all_emitted, condition};
+ghost use Rattle.picked.specs.Conditions as conditions;
+ghost use Rattle.picked.specs.Conditions.{test_in};
+ghost use Rattle.picked.specs.Statements as statements;
+ghost use Rattle.picked.specs.Simples.{simple_written};
+ghost use Rattle.picked.specs.Statements.{print_written, tested_back, for_test, for_step, return_written, transacted, written, all_written};
 ghost use Rattle.lower.specs.inner.Limits.{NeedsMore};
-ghost use Rattle.lower.specs.Lists.{lists_of};
-ghost use Rattle.lower.specs.Expressions.{all_emitted, condition};
-ghost use Rattle.lower.specs.Conditions as conditions;
-ghost use Rattle.lower.specs.Conditions.{test_in};
-ghost use Rattle.lower.specs.Statements as statements;
-ghost use Rattle.lower.specs.Simples.{simple_written};
-ghost use Rattle.lower.specs.Statements.{print_written, tested_back, for_test, for_step, return_written, transacted, written, all_written};
+ghost use Rattle.lower.specs.inner.Lists.{lists_of};
 ghost use Rattle.lower.specs.inner.Views.{program_in, scope_in};
 
-use crate::draft::{Draft, put_back, put_test};
+use crate::draft::{put_back, put_test};
 use crate::expr::{lower_all, lower_condition, lower_expr};
 use crate::fault::Failure;
-use crate::held::{Exits, Tested};
 use crate::lists::Lists;
 use crate::print::put_pieces;
 use crate::program::Names;
@@ -29,6 +28,8 @@ use crate::put::{after, append, put};
 use crate::scope::Scope;
 use crate::simple::{lower_declarators, lower_simple, lower_start};
 use bytecode::Instr;
+use picked::draft::Draft;
+use picked::held::{Exits, Tested};
 use std::alloc::{AllocError, Allocator};
 use syntax::tree::{Expr, ForHead, Simple, Stmt};
 

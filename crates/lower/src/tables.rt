@@ -6,7 +6,7 @@ ghost use Rattle.syntax.specs.Tree as tree;
 ghost use Rattle.syntax.specs.Names as Source;
 ghost use Rattle.syntax.specs.Names.{GlobalCells, globals};
 ghost use Rattle.syntax.specs.Views.{global_of, function_of, item_of};
-ghost use Rattle.lower.specs.Names as Named;
+ghost use Rattle.picked.specs.Names as Named;
 ghost use Rattle.lower.specs.inner.Tables.{total_cells, shared_at, callee_in, called_at, AreGlobals, AreCallees};
 
 use crate::names::{Callee, Shared, cells_of};

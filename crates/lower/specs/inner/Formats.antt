@@ -3,11 +3,11 @@ use Rattle.std.specs.Prelude.{◌≡◌, ℕ, ◌+◌, ◌<◌, ◌≤◌, List,
 use Rattle.lex.specs.declared.token.Scalar.{Scalar}
 use Rattle.syntax.specs.Formats.{Piece, Figure, literal, pieces}
 use Rattle.bytecode.specs.declared.instr.Instr.TheVariants as own
+use Rattle.picked.specs.Lists.{Lists}
+use Rattle.picked.specs.Simples.{Written, nothing_written, one_written, and_then}
+use Rattle.picked.specs.Statements.{printing}
 use Rattle.lower.specs.declared.print.Unit as U
 use Rattle.lower.specs.declared.print.Unit.TheVariants as unit
-use Rattle.lower.specs.Lists.{Lists}
-use Rattle.lower.specs.Simples.{Written, nothing_written, one_written, and_then}
-use Rattle.lower.specs.Statements.{printing}
 
 -- bytes of literal text before these pieces
 abbrev pub joined : List ℕ → List Piece → List Piece

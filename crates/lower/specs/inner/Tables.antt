@@ -6,9 +6,9 @@ use Rattle.syntax.specs.Tree.{Global, Program}
 use Rattle.syntax.specs.Views.{global_of, parameter_of}
 use Rattle.syntax.specs.Names as Source
 use Rattle.types.specs.Maps.{value_at}
+use Rattle.picked.specs.Names.{Callee, callee_of}
 use Rattle.lower.specs.declared.names.Shared.{Shared}
 use Rattle.lower.specs.declared.names.Callee.{Callee as OwnCallee}
-use Rattle.lower.specs.Names.{Callee, callee_of}
 
 -- the number of all cells
 abbrev pub total_cells : List Global → ℕ

@@ -1,5 +1,5 @@
 use Rattle.std.proofs.Common.{◌≡◌, ◌++◌, map, take}
-use Rattle.lower.specs.Conditions.{completed}
+use Rattle.picked.specs.Conditions.{completed}
 use Rattle.lower.proofs.draft.complete.Given as goal
 
 abbrev pub invariant-each : goal.invariant-each

@@ -1,5 +1,5 @@
 use Rattle.std.proofs.Common.{◌≡◌, ◌++◌, map, take}
-use Rattle.lower.specs.declared.draft.Draft.TheVariants as draft
+use Rattle.picked.specs.declared.draft.Draft.TheVariants as draft
 use Rattle.lower.proofs.draft.keep.Given as goal
 
 abbrev pub invariant-each : goal.invariant-each

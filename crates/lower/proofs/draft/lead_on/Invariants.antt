@@ -1,5 +1,5 @@
 use Rattle.std.proofs.Common.{◌≡◌, ◌++◌, map, take}
-use Rattle.lower.specs.Conditions.{led_on}
+use Rattle.picked.specs.Conditions.{led_on}
 use Rattle.lower.proofs.draft.lead_on.Given as goal
 
 abbrev pub invariant-each : goal.invariant-each

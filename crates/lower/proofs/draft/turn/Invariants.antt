@@ -1,5 +1,5 @@
 use Rattle.std.proofs.Common.{◌≡◌, ◌++◌, map, take}
-use Rattle.lower.specs.Conditions.{turned}
+use Rattle.picked.specs.Conditions.{turned}
 use Rattle.lower.proofs.draft.turn.Given as goal
 
 abbrev pub invariant-each : goal.invariant-each

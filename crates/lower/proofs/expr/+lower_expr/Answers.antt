@@ -4,22 +4,23 @@ use Rattle.syntax.specs.declared.tree.UnaryOp.TheVariants.{Negate, Keep, Not, Co
 use Rattle.syntax.specs.Numbers.{operand_type, result_type, word_of}
 use Rattle.syntax.specs.Views.{expr_of, exprs_of}
 use Rattle.bytecode.specs.declared.instr.Instr.TheVariants as own
-use Rattle.lower.specs.Names.{callee_of}
-use Rattle.lower.specs.Conditions.{Condition, opposite, by_value, zero_tested}
-use Rattle.lower.specs.Expressions.{Emitted, above, negating, computing, converted_to, constant, variable, called, settled, element, emitted, operand, own_condition, condition, all_emitted}
 use Rattle.lex.specs.declared.token.Scalar.TheVariants.{Int}
 use Rattle.syntax.specs.Names.{global_of, cells, newest}
-use Rattle.lower.specs.inner.Tables.{callee_in, shared_in}
-use Rattle.lower.proofs.Arms.{same_answer, same_telling, by_its_value, by_its_own, tail_made, tails_made, variable_is, constant_is, parenthesized_is, cast_is, joined_made, logical_made, chosen_made, called_code, called_lists, called_held, call_is, element_is, unary_is, binary_is, logical_is, conditional_is}
 use denote.Param.Weighed.{most}
 use Rattle.syntax.specs.declared.tree.Expr.{the_lemmas}
 use Rattle.syntax.proofs.tree.Expr.TheLaws.{the_size}
-use Rattle.lower.specs.declared.held.Held.{Held}
-use Rattle.lower.specs.Lists.{Lists, lists_of, used}
+use Rattle.picked.specs.Names.{callee_of}
+use Rattle.picked.specs.Conditions.{Condition, opposite, by_value, zero_tested}
+use Rattle.picked.specs.Expressions.{Emitted, above, negating, computing, converted_to, constant, variable, called, settled, element, emitted, operand, own_condition, condition, all_emitted}
+use Rattle.picked.specs.declared.held.Held.{Held}
+use Rattle.picked.specs.Lists.{Lists, used}
+use Rattle.picked.proofs.Growing.{used_more, compared_more}
+use Rattle.lower.specs.inner.Tables.{callee_in, shared_in}
+use Rattle.lower.specs.inner.Lists.{lists_of}
 use Rattle.lower.specs.inner.Views.{program_in, scope_in}
-use Rattle.lower.proofs.Growing.{used_more, compared_more}
-use Rattle.lower.proofs.Failing.{passed_on, binary_first, binary_second, cast_first, unary_first, element_first, logical_first, joined_first, call_args, conditional_first, conditional_second, conditional_third}
 use Rattle.lower.specs.inner.Limits.{NeedsMore}
+use Rattle.lower.proofs.Arms.{same_answer, same_telling, by_its_value, by_its_own, tail_made, tails_made, variable_is, constant_is, parenthesized_is, cast_is, joined_made, logical_made, chosen_made, called_code, called_lists, called_held, call_is, element_is, unary_is, binary_is, logical_is, conditional_is}
+use Rattle.lower.proofs.Failing.{passed_on, binary_first, binary_second, cast_first, unary_first, element_first, logical_first, joined_first, call_args, conditional_first, conditional_second, conditional_third}
 use Rattle.lower.proofs.Rows.{first_within, next_code, next_registers, next_lists, next_place, last_code, last_registers}
 use Rattle.lower.proofs.expr.+lower_expr.Goals as goal
 

@@ -1,7 +1,7 @@
 use Rattle.std.proofs.Common.{◌≡◌, ◌++◌, drop}
 use Rattle.syntax.specs.Views.{exprs_of}
-use Rattle.lower.specs.Lists.{lists_of}
-use Rattle.lower.specs.Expressions.{all_emitted}
+use Rattle.picked.specs.Expressions.{all_emitted}
+use Rattle.lower.specs.inner.Lists.{lists_of}
 use Rattle.lower.specs.inner.Views.{program_in, scope_in}
 use Rattle.lower.proofs.expr.+lower_expr.Given as goal
 

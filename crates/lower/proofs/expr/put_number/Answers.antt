@@ -1,7 +1,7 @@
 use Rattle.std.proofs.Common.{◌≡◌, subst, sym, arith, OnOk, ◌++◌}
 use Rattle.syntax.proofs.Words.{word_of_word}
-use Rattle.lower.specs.Lists.{lists_of}
-use Rattle.lower.specs.Expressions.{constant}
+use Rattle.picked.specs.Expressions.{constant}
+use Rattle.lower.specs.inner.Lists.{lists_of}
 use Rattle.lower.proofs.expr.put_number.Goals as goal
 
 pub returns-clause-code : goal.returns-clause-code

@@ -3,8 +3,8 @@ use Rattle.std.proofs.lemmas.List.{length-map}
 use Rattle.syntax.specs.Views.{stmts_of, parameter_of}
 use Rattle.bytecode.specs.declared.instr.Instr.TheVariants as instr
 use Rattle.lowered.specs.Programs.{parameter_locals}
-use Rattle.lower.specs.Lists.{lists_of}
-use Rattle.lower.specs.Simples.{Written}
+use Rattle.picked.specs.Simples.{Written}
+use Rattle.lower.specs.inner.Lists.{lists_of}
 use Rattle.lower.specs.inner.Views.{program_in, scope_in}
 use Rattle.lower.proofs.Bodies.{same_body}
 use Rattle.lower.proofs.Failing.{passed_on}

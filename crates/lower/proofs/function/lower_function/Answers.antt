@@ -3,14 +3,15 @@ use Rattle.std.proofs.lemmas.List.{length-append}
 use Rattle.syntax.specs.Views.{function_of, stmts_of}
 use Rattle.bytecode.specs.declared.instr.Instr.{Instr}
 use Rattle.lowered.specs.Expressions.{Layout}
-use Rattle.lower.specs.Lists.{Lists, lists_of}
-use Rattle.lower.specs.Loops.{in_loops}
-use Rattle.lower.specs.Simples.{Written}
-use Rattle.lower.specs.Programs.{body_with, body_written, nothing_ready}
+use Rattle.picked.specs.Lists.{Lists}
+use Rattle.picked.specs.Loops.{in_loops}
+use Rattle.picked.specs.Simples.{Written}
+use Rattle.picked.specs.Programs.{body_with, body_written, nothing_ready}
+use Rattle.picked.proofs.Leaner.{body_leaner}
+use Rattle.lower.specs.inner.Lists.{lists_of}
 use Rattle.lower.specs.inner.Views.{program_in}
 use Rattle.lower.proofs.Better.{still_fails, arguments_fit, texts_fit, stays_plain, gets_better, body_more, has_room, behind_others, in_front}
 use Rattle.lower.proofs.Failing.{passed_on}
-use Rattle.lower.proofs.Leaner.{body_leaner}
 use Rattle.lower.proofs.function.lower_function.Goals as goal
 
 pub returns-in_err-to-clause-fails : goal.returns-in_err-to-clause-fails

@@ -1,10 +1,14 @@
-use Rattle.std.proofs.Common.{◌≡◌, ap, sym, ◌∙◌, subst}
-use Rattle.syntax.specs.Views.{program_of}
+use Rattle.std.proofs.Common.{◌≡◌, map, None, ap, sym, ◌∙◌, subst}
+use Rattle.syntax.specs.Views.{item_of, program_of}
 use Rattle.bytecode.specs.Valid.{IsValid}
 use Rattle.bytecode.specs.Views.{code_of}
-use Rattle.lower.specs.Programs.{lowered_code}
+use Rattle.picked.specs.Programs.{picked_code}
+use Rattle.lower.specs.Nested.{items_too_deep, nested_too_deep}
+use Rattle.lower.specs.Faults.{IsFaultOf}
+use Rattle.lower.specs.inner.Parts.{IsOfCode}
 use Rattle.lower.specs.inner.Views.{program_in}
-use Rattle.lower.proofs.Picked.{picked_is_valid, picked_means}
+use Rattle.lower.proofs.Faulty.{handed_on, of_program}
+use Rattle.lower.proofs.Whole.{parts_are_valid, code_means}
 use Rattle.lower.proofs.generate.lower.Goals as goal
 
 pub from_valid-requires : goal.from_valid-requires
@@ -13,8 +17,8 @@ from_valid-requires g c =
     let a : program_in c.in-Ok.names ≡ program_of c.typed-typed.result.now.unit = λ j. program_of (c.in-Ok.ensures j) in
     let b : program_of c.typed-typed.result.now.unit ≡ program_of c.safe.result.now.typed.unit = λ j. program_of ((c.typed-typed.ensures j).unit) in
     let d : program_of c.safe.result.now.typed.unit ≡ p = λ j. program_of ((c.safe.ensures j).typed.unit) in
-    let is : code_of c.in_ok-parts.parts ≡ lowered_code p = c.in_ok-parts.ensures.code ∙ ap lowered_code (a ∙ b ∙ d) in
-    picked_is_valid p c.args.accepted.now.safe.typed.typed c.args.accepted.now.safe.safe c.in_ok-parts.parts is c.in_ok-parts.ensures.few c.in_ok-parts.ensures.short
+    let is : code_of c.in_ok-parts.parts ≡ picked_code p = c.in_ok-parts.ensures.code ∙ ap picked_code (a ∙ b ∙ d) in
+    parts_are_valid p c.args.accepted.now.safe.typed.typed c.args.accepted.now.safe.safe c.picked_code_is_valid.ensures c.in_ok-parts.parts is c.in_ok-parts.ensures.few c.in_ok-parts.ensures.short
 
 pub returns-clause-means : goal.returns-clause-means
 returns-clause-means g c =
@@ -22,8 +26,8 @@ returns-clause-means g c =
     let a : program_in c.in-Ok.names ≡ program_of c.typed-typed.result.now.unit = λ j. program_of (c.in-Ok.ensures j) in
     let b : program_of c.typed-typed.result.now.unit ≡ program_of c.safe.result.now.typed.unit = λ j. program_of ((c.typed-typed.ensures j).unit) in
     let d : program_of c.safe.result.now.typed.unit ≡ p = λ j. program_of ((c.safe.ensures j).typed.unit) in
-    let is : c.from_valid.result ≡ lowered_code p = c.from_valid.ensures ∙ c.in_ok-parts.ensures.code ∙ ap lowered_code (a ∙ b ∙ d) in
-    picked_means p c.args.accepted.now.safe.typed.typed c.args.accepted.now.safe.safe c.lowered_code_means.ensures c.never_astray.ensures c.args.accepted.now.accepted c.from_valid.result is
+    let is : c.from_valid.result ≡ picked_code p = c.from_valid.ensures ∙ c.in_ok-parts.ensures.code ∙ ap picked_code (a ∙ b ∙ d) in
+    code_means p c.args.accepted.now.safe.typed.typed c.args.accepted.now.safe.safe c.picked_code_stands.ensures c.lowered_code_means.ensures c.never_astray.ensures c.args.accepted.now.accepted c.from_valid.result is
 
 pub returns-clause-worker : goal.returns-clause-worker
 returns-clause-worker g c =
@@ -31,8 +35,19 @@ returns-clause-worker g c =
     let a : program_in c.in-Ok.names ≡ program_of c.typed-typed.result.now.unit = λ j. program_of (c.in-Ok.ensures j) in
     let b : program_of c.typed-typed.result.now.unit ≡ program_of c.safe.result.now.typed.unit = λ j. program_of ((c.typed-typed.ensures j).unit) in
     let d : program_of c.safe.result.now.typed.unit ≡ p = λ j. program_of ((c.safe.ensures j).typed.unit) in
-    let is : code_of c.in_ok-parts.parts ≡ lowered_code p = c.in_ok-parts.ensures.code ∙ ap lowered_code (a ∙ b ∙ d) in
+    let is : code_of c.in_ok-parts.parts ≡ picked_code p = c.in_ok-parts.ensures.code ∙ ap picked_code (a ∙ b ∙ d) in
     let valid : IsValid c.from_valid.result =
     subst IsValid (sym c.from_valid.ensures)
-    (picked_is_valid p c.args.accepted.now.safe.typed.typed c.args.accepted.now.safe.safe c.in_ok-parts.parts is c.in_ok-parts.ensures.few c.in_ok-parts.ensures.short) in
+    (parts_are_valid p c.args.accepted.now.safe.typed.typed c.args.accepted.now.safe.safe c.picked_code_is_valid.ensures c.in_ok-parts.parts is c.in_ok-parts.ensures.few c.in_ok-parts.ensures.short) in
     valid.worker
+
+pub returns-in_err-parts-clause-fault : goal.returns-in_err-parts-clause-fault
+returns-in_err-parts-clause-fault g c =
+    let p = program_of c.args.accepted.now.safe.typed.unit in
+    let a : program_in c.in-Ok.names ≡ program_of c.typed-typed.result.now.unit = λ j. program_of (c.in-Ok.ensures j) in
+    let b : program_of c.typed-typed.result.now.unit ≡ program_of c.safe.result.now.typed.unit = λ j. program_of ((c.typed-typed.ensures j).unit) in
+    let d : program_of c.safe.result.now.typed.unit ≡ p = λ j. program_of ((c.safe.ensures j).typed.unit) in
+    let items : map item_of c.as_slice.result.now ≡ p = (λ j. map item_of (c.as_slice.ensures j)) ∙ (λ j. program_of (c.unit.ensures j)) ∙ b ∙ d in
+    let shallow : nested_too_deep p ≡ None = sym (ap (λ xs. items_too_deep xs 16) items) ∙ sym c.first_too_deep.ensures ∙ c.in-None.is in
+    handed_on c.lower_parts.result c.from_residual.result c.in_err-parts.field-0.0 (IsOfCode (program_in c.in-Ok.names)) (IsFaultOf p) c.lower_parts.ensures.fault c.in_err-parts.was c.from_residual.ensures
+    (λ e h. of_program p e shallow (subst (λ x. IsOfCode x e) (a ∙ b ∙ d) h))

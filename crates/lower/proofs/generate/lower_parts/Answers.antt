@@ -5,9 +5,10 @@ use Rattle.syntax.specs.Names.{globals, shared_by}
 use Rattle.syntax.specs.Views.{item_of, global_of}
 use Rattle.bytecode.specs.Code.{FunctionCode}
 use Rattle.bytecode.specs.Views.{instr_of, function_of as code_function}
-use Rattle.lower.specs.Lists.{Lists, lists_of}
+use Rattle.picked.specs.Lists.{Lists}
+use Rattle.picked.specs.Programs.{all_made, made_of}
+use Rattle.lower.specs.inner.Lists.{lists_of}
 use Rattle.lower.specs.inner.Parts.{IsOfItem, IsOfCode}
-use Rattle.lower.specs.Programs.{all_made, made_of}
 use Rattle.lower.specs.inner.Views.{program_in}
 use Rattle.lower.proofs.Bodies.{next_functions, next_code, next_lists, last_functions, last_code, last_lists, front_code, front_lists, front_to}
 use Rattle.lower.proofs.Files.{items_more}

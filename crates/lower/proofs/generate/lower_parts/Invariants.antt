@@ -3,8 +3,8 @@ use Rattle.std.specs.List.{AllByRecursion}
 use Rattle.syntax.specs.Names.{globals}
 use Rattle.syntax.specs.Views.{item_of, global_of}
 use Rattle.bytecode.specs.Views.{function_of}
-use Rattle.lower.specs.Lists.{lists_of}
-use Rattle.lower.specs.Programs.{all_made, made_for, made_of}
+use Rattle.picked.specs.Programs.{all_made, made_for, made_of}
+use Rattle.lower.specs.inner.Lists.{lists_of}
 use Rattle.lower.specs.inner.Views.{program_in}
 use Rattle.lower.proofs.generate.lower_parts.Given as goal
 

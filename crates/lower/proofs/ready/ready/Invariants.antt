@@ -1,5 +1,5 @@
 use Rattle.std.proofs.Common.{◌≡◌, drop}
-use Rattle.lower.specs.Expressions.{ready_from}
+use Rattle.picked.specs.Expressions.{ready_from}
 use Rattle.lower.proofs.ready.ready.Given as goal
 
 -- none of the constants that were passed is the word

@@ -1,5 +1,5 @@
 use Rattle.std.proofs.Common.{◌≡◌, ◌+◌, ◌++◌, drop}
-use Rattle.lower.specs.Programs.{all_set}
+use Rattle.picked.specs.Programs.{all_set}
 use Rattle.lower.proofs.ready.set_all.Given as goal
 
 -- what is set and what is to come are all

@@ -3,9 +3,10 @@ use Rattle.lex.specs.declared.token.Scalar.{Scalar}
 use Rattle.syntax.specs.Tree as Tree
 use Rattle.syntax.specs.Names.{GlobalCells, global_of, newest}
 use Rattle.syntax.specs.Views.{expr_of}
-use Rattle.lower.specs.Expressions.{emitted}
-use Rattle.lower.specs.Lists.{Lists, lists_of}
-use Rattle.lower.specs.Simples.{Aimed, aimed, element_target, variable_target}
+use Rattle.picked.specs.Expressions.{emitted}
+use Rattle.picked.specs.Lists.{Lists}
+use Rattle.picked.specs.Simples.{Aimed, aimed, element_target, variable_target}
+use Rattle.lower.specs.inner.Lists.{lists_of}
 use Rattle.lower.specs.inner.Aims.{aim_in}
 use Rattle.lower.specs.inner.Limits.{NeedsMore}
 use Rattle.lower.specs.inner.Tables.{shared_in}

@@ -1,5 +1,5 @@
 use Rattle.syntax.specs.Views.{expr_of}
-use Rattle.lower.specs.Lists.{lists_of}
+use Rattle.lower.specs.inner.Lists.{lists_of}
 use Rattle.lower.specs.inner.Views.{program_in, scope_in}
 use Rattle.lower.proofs.Failing.{passed_on, assigned_first, assigned_second, assigned_code, assigned_lists, assigned_place}
 use Rattle.lower.proofs.simple.lower_assign.Goals as goal

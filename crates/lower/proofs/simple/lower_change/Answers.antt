@@ -1,6 +1,6 @@
 use Rattle.std.proofs.Common.{Some}
 use Rattle.syntax.specs.Views.{expr_of}
-use Rattle.lower.specs.Lists.{lists_of}
+use Rattle.lower.specs.inner.Lists.{lists_of}
 use Rattle.lower.specs.inner.Views.{program_in, scope_in}
 use Rattle.lower.proofs.Failing.{passed_on, adjusted_first, adjusted_second, adjusted_third, adjusted_fourth, adjusted_code, adjusted_lists, adjusted_place}
 use Rattle.lower.proofs.simple.lower_change.Goals as goal

@@ -1,10 +1,11 @@
 use Rattle.std.proofs.Common.{◌≡◌, ap, subst, ◌∙◌, OnOk, IfOk, IfErr, Result, Ok, Err}
 use Rattle.syntax.specs.Views.{declarator_of}
 use Rattle.lowered.specs.Statements.{with_local}
-use Rattle.lower.specs.Lists.{used, lists_of}
+use Rattle.picked.specs.Lists.{used}
+use Rattle.picked.specs.Lists.{Lists}
+use Rattle.lower.specs.inner.Lists.{lists_of}
 use Rattle.lower.specs.inner.Views.{program_in, scope_in}
 use Rattle.lower.specs.inner.Limits.{NeedsMore}
-use Rattle.lower.specs.Lists.{Lists}
 use Rattle.lower.proofs.Failing.{passed_on, declarator_first}
 use Rattle.lower.proofs.Declared.{declarator_code, declarator_lists, declarator_place}
 use Rattle.lower.proofs.simple.lower_declarator.Goals as goal

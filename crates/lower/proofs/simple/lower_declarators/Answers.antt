@@ -1,4 +1,4 @@
-use Rattle.lower.specs.Lists.{lists_of}
+use Rattle.lower.specs.inner.Lists.{lists_of}
 use Rattle.lower.specs.inner.Views.{program_in, scope_in}
 use Rattle.lower.proofs.Failing.{passed_on}
 use Rattle.lower.proofs.Declared.{first_within, next_code, next_lists, next_place, next_scope, last_code, last_lists, last_place, last_scope}

@@ -1,8 +1,8 @@
 use Rattle.std.proofs.Common.{◌≡◌, ◌++◌, drop, map}
 use Rattle.syntax.specs.Views.{declarator_of}
 use Rattle.lowered.specs.Statements.{with_declared}
-use Rattle.lower.specs.Lists.{lists_of}
-use Rattle.lower.specs.Simples.{declared_written}
+use Rattle.picked.specs.Simples.{declared_written}
+use Rattle.lower.specs.inner.Lists.{lists_of}
 use Rattle.lower.specs.inner.Views.{program_in, scope_in}
 use Rattle.lower.proofs.simple.lower_declarators.Given as goal
 

@@ -1,6 +1,6 @@
 use Rattle.std.proofs.Common.{ap, arith, option_map}
 use Rattle.syntax.specs.Views.{expr_of}
-use Rattle.lower.specs.Lists.{lists_of}
+use Rattle.lower.specs.inner.Lists.{lists_of}
 use Rattle.lower.specs.inner.Views.{program_in, scope_in}
 use Rattle.lower.proofs.Failing.{passed_on, value_fails, value_code, value_lists}
 use Rattle.lower.proofs.simple.lower_first.Goals as goal

@@ -1,9 +1,9 @@
 use Rattle.std.proofs.Common.{◌≡◌, ◌++◌, ap, sym, subst, ◌∙◌, OnOk, IfOk, IfErr}
 use Rattle.syntax.specs.declared.tree.Simple.TheVariants as simple
 use Rattle.syntax.specs.Views.{simple_of}
+use Rattle.picked.specs.Simples.{simple_written}
 use Rattle.lower.specs.inner.Limits.{NeedsMore}
-use Rattle.lower.specs.Lists.{lists_of}
-use Rattle.lower.specs.Simples.{simple_written}
+use Rattle.lower.specs.inner.Lists.{lists_of}
 use Rattle.lower.specs.inner.Views.{program_in, scope_in}
 use Rattle.lower.proofs.simple.lower_simple.Goals as goal
 

@@ -1,9 +1,9 @@
 use Rattle.std.proofs.Common.{◌≡◌, ◌++◌, ap, sym, subst, OnOk, IfOk, IfErr, map}
 use Rattle.syntax.specs.Views.{declarator_of, simple_of, start_of}
 use Rattle.lowered.specs.Statements.{locals_of_start, with_declared}
+use Rattle.picked.specs.Simples.{declared_written, simple_written, start_written}
 use Rattle.lower.specs.inner.Limits.{NeedsMore}
-use Rattle.lower.specs.Lists.{lists_of}
-use Rattle.lower.specs.Simples.{declared_written, simple_written, start_written}
+use Rattle.lower.specs.inner.Lists.{lists_of}
 use Rattle.lower.specs.inner.Views.{program_in, scope_in}
 use Rattle.lower.proofs.simple.lower_start.Goals as goal
 

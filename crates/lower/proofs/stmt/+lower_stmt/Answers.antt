@@ -4,8 +4,8 @@ use Rattle.syntax.specs.declared.tree.Stmt.{the_lemmas}
 use Rattle.syntax.specs.declared.tree.Stmt.TheVariants as own_stmt
 use Rattle.syntax.proofs.tree.Stmt.TheLaws.{the_size}
 use Rattle.syntax.specs.Views.{expr_of, simple_of, start_of, stmt_of, stmts_of}
-use Rattle.lower.specs.Lists.{lists_of}
-use Rattle.lower.specs.Expressions.{condition}
+use Rattle.picked.specs.Expressions.{condition}
+use Rattle.lower.specs.inner.Lists.{lists_of}
 use Rattle.lower.specs.inner.Views.{program_in, scope_in}
 use Rattle.lower.proofs.Failing.{passed_on, if_test, if_branch, if_else_test, if_else_first, if_else_second, while_body, while_test, do_body, do_test, transaction_body, for_first, for_body, for_next, for_last}
 use Rattle.lower.proofs.Written.{first_within, next_code, next_lists, next_place, next_scope, last_code, last_lists, last_place, last_scope}

@@ -1,8 +1,8 @@
 use Rattle.std.proofs.Common.{◌≡◌, ◌++◌, drop}
 use Rattle.syntax.specs.Views.{stmts_of}
 use Rattle.lowered.specs.Statements.{locals_at_end}
-use Rattle.lower.specs.Lists.{lists_of}
-use Rattle.lower.specs.Statements.{all_written}
+use Rattle.picked.specs.Statements.{all_written}
+use Rattle.lower.specs.inner.Lists.{lists_of}
 use Rattle.lower.specs.inner.Views.{program_in, scope_in}
 use Rattle.lower.proofs.stmt.+lower_stmt.Given as goal
 

@@ -1,10 +1,10 @@
 use Rattle.std.proofs.Common.{◌≡◌, ◌+◌, ◌++◌, List, length, ap, ◌∙◌}
 use Rattle.syntax.specs.Views.{expr_of}
-use Rattle.lower.specs.declared.draft.Draft.{Draft}
-use Rattle.lower.specs.declared.held.Tested.{Tested}
-use Rattle.lower.specs.Lists.{lists_of}
-use Rattle.lower.specs.Conditions.{Condition, going_back}
-use Rattle.lower.specs.Expressions.{condition}
+use Rattle.picked.specs.declared.draft.Draft.{Draft}
+use Rattle.picked.specs.declared.held.Tested.{Tested}
+use Rattle.picked.specs.Conditions.{Condition, going_back}
+use Rattle.picked.specs.Expressions.{condition}
+use Rattle.lower.specs.inner.Lists.{lists_of}
 use Rattle.lower.specs.inner.Views.{program_in, scope_in}
 use Rattle.lower.proofs.stmt.lower_back.Goals as goal
 

@@ -1,6 +1,6 @@
 use Rattle.syntax.specs.Views.{exprs_of}
 use Rattle.syntax.specs.Formats.{pieces}
-use Rattle.lower.specs.Lists.{lists_of}
+use Rattle.lower.specs.inner.Lists.{lists_of}
 use Rattle.lower.specs.inner.Views.{program_in, scope_in}
 use Rattle.lower.proofs.Failing.{passed_on, print_args}
 use Rattle.lower.proofs.stmt.lower_print.Goals as goal

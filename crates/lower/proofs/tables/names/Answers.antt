@@ -2,7 +2,7 @@ use Rattle.std.proofs.Common.{◌∙◌, map, sym, ap, subst, arith}
 use Rattle.syntax.specs.Names.{globals, global_of}
 use Rattle.syntax.specs.Typing.{IsTypedProgram}
 use Rattle.syntax.specs.Views.{item_of, program_of}
-use Rattle.lower.specs.Names.{callee_of}
+use Rattle.picked.specs.Names.{callee_of}
 use Rattle.lower.specs.inner.Tables.{total_cells}
 use Rattle.lower.proofs.CellsFit.{cells_few}
 use Rattle.lower.proofs.tables.names.Goals as goal

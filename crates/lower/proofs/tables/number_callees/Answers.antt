@@ -1,7 +1,7 @@
 use Rattle.std.proofs.Common.{ℕ, List, ◌∙◌, ◌+◌, ◌∷◌, map, drop, sym, ap, arith}
 use Rattle.std.specs.Option.{option_or}
 use Rattle.syntax.specs.Views.{item_of}
-use Rattle.lower.specs.Names.{callee_from}
+use Rattle.picked.specs.Names.{callee_from}
 use Rattle.lower.specs.inner.Tables.{called_at}
 use Rattle.lower.proofs.Files.{items_more, defined_here, not_defined_here}
 use Rattle.lower.proofs.tables.number_callees.Goals as goal

@@ -1,0 +1,131 @@
+-- What follows only makes the lists longer, and keeps what lies ready: of expressions.
+use Rattle.std.proofs.Common.{ℕ, ◌+◌, List, ◌++◌, length, Option, Some, None, Bool, true, false, if◌then◌else◌, ◌==◌, refl, arith}
+use Rattle.std.specs.Option.{IfSome}
+use Rattle.lex.specs.declared.token.Scalar.{Scalar}
+use Rattle.syntax.specs.declared.tree.UnaryOp.TheVariants.{Negate, Keep, Not, Complement}
+use Rattle.syntax.specs.Tree.{Expr, Exprs, Variable, Constant, Element, Call, Parenthesized, Cast, Unary, Binary, Logical, Conditional, Program}
+use Rattle.syntax.specs.Names.{newest, global_of, GlobalCells}
+use Rattle.bytecode.specs.declared.instr.Instr.TheVariants as own
+use Rattle.lowered.specs.Expressions.{LocalScope, arranged}
+use Rattle.picked.specs.declared.held.Held.{Held}
+use Rattle.picked.specs.Lists.{Lists, used, holding}
+use Rattle.picked.specs.Names.{Callee, callee_of}
+use Rattle.picked.specs.Conditions.{Condition, zero_test, zero_tested}
+use Rattle.picked.specs.Expressions.{Emitted, AllEmitted, above, then_one, compared, settled, constant_ready, ready_or, variable, element, called, tested, emitted, operand, own_condition, condition, all_emitted}
+use Rattle.picked.proofs.stands.Standing.{Grows, grows_same, grows_further, grows_used, front_same, front_more, max_left}
+
+pub used_longer : (r : ℕ) (l : Lists) → Grows l (used r l)
+used_longer r l = grows_used l l r (grows_same l)
+
+pub ready_longer : (o : Option Held) (l : Lists) (e : Emitted) → Grows l e.lists → Grows l (ready_or o l e).lists
+ready_longer None l e h = h
+ready_longer (Some held) l e h = grows_same l
+
+variable_longer : (x : Option (ℕ × Scalar)) (g : Option GlobalCells) (from into : ℕ) (l : Lists) → Grows l (variable x g from into l).lists
+variable_longer (Some x) g from into l = used_longer x.0 l
+variable_longer None (Some g) from into l = used_longer into l
+variable_longer None None from into l = used_longer into l
+
+element_longer : (g : Option GlobalCells) (i : Emitted) (from into : ℕ) (l : Lists) → Grows l i.lists → Grows l (element g i from into l).lists
+element_longer (Some g) i from into l h = grows_used l i.lists into h
+element_longer None i from into l h = used_longer into l
+
+handed_longer : (handed : List ℕ) (into : ℕ) (l m : Lists) → Grows l m → Grows l (used into (holding (length handed) (record m { arguments = m.arguments ++ handed })))
+handed_longer handed into l m h =
+    let more : Lists = record m { arguments = m.arguments ++ handed } in
+    let lists : Lists = holding (length handed) more in
+    let a : Grows m more = record { arguments = front_more m.arguments handed; texts = front_same m.texts; registers = omega arith; layout = refl } in
+    let b : Grows more lists = record { arguments = front_same more.arguments; texts = front_same m.texts; registers = max_left m.registers (length handed); layout = refl } in
+    grows_used l lists into (grows_further l m lists h (grows_further m more lists a b))
+
+called_longer : (f : Option Callee) (args : AllEmitted) (from into : ℕ) (l : Lists) → Grows l args.lists → Grows l (called f args from into l).lists
+called_longer None args from into l h = used_longer into l
+called_longer (Some f) args from into l h = handed_longer (arranged f.parameters args.registers) into l args.lists h
+
+settled_longer : (r : ℕ) (e : Emitted) (l : Lists) → Grows l e.lists → Grows l (settled r e).lists
+settled_longer r e l h = by (e.held.register == r)
+  where
+    by : (b : Bool) → Grows l (if b then e else then_one e (own.Move r e.held.register) r e.held.of).lists
+    by true = h
+    by false = grows_used l e.lists r h
+
+compared_longer : (e : Emitted) (into free : ℕ) (l : Lists) → Grows l e.lists → Grows l (compared e into free).lists
+compared_longer e into free l h =
+    let zero_in = above free e.held.register in grows_used l (used zero_in e.lists) into (grows_used l e.lists zero_in h)
+
+abbrev IsLonger : Lists → Condition → Type 0
+IsLonger l c = Grows l c.lists
+
+tested_longer : (l : Lists) (o : Option Condition) (e : Emitted) → IfSome o (IsLonger l) → Grows l e.lists → Grows l (tested o e).lists
+tested_longer l None e h k = k
+tested_longer l (Some c) e h k = h
+
+zero_longer : (o : Option Bool) (l : Lists) (other : Condition) → Grows l other.lists → IfSome (zero_tested o other) (IsLonger l)
+zero_longer None l other h = tt
+zero_longer (Some true) l other h = h
+zero_longer (Some false) l other h = h
+
+module _ (p : Program) (scope : LocalScope) where
+  by_parts : (e : Expr) (from free : ℕ) (l : Lists) → IfSome (own_condition p scope e from free l) (IsLonger l) → Grows l (emitted p scope e from free free l).lists → Grows l (condition p scope e from free l).lists
+  by_parts e from free l h k = tested_longer l (own_condition p scope e from free l) (emitted p scope e from free free l) h k
+
+  mutual
+    pub emitted_longer : (e : Expr) (from into free : ℕ) (l : Lists) → Grows l (emitted p scope e from into free l).lists
+    emitted_longer (Variable x) from into free l = variable_longer (newest scope x.text) (global_of p x.text) from into l
+    emitted_longer (Constant n t at) from into free l = used_longer into l
+    emitted_longer (Element x i at) from into free l = element_longer (global_of p x.text) (emitted p scope i from free free l) from into l (emitted_longer i from free free l)
+    emitted_longer (Call f es at) from into free l = called_longer (callee_of p f.text) (all_emitted p scope es from free l) from into l (all_longer es from free l)
+    emitted_longer (Parenthesized e at) from into free l = emitted_longer e from into free l
+    emitted_longer (Cast t e at) from into free l = emitted_longer e from into free l
+    emitted_longer (Unary Negate e at) from into free l = grows_used l (emitted p scope e from free free l).lists into (emitted_longer e from free free l)
+    emitted_longer (Unary Keep e at) from into free l = emitted_longer e from into free l
+    emitted_longer (Unary Not e at) from into free l = compared_longer (emitted p scope e from free free l) into free l (emitted_longer e from free free l)
+    emitted_longer (Unary Complement e at) from into free l = grows_used l (emitted p scope e from free free l).lists into (emitted_longer e from free free l)
+    emitted_longer (Binary op a b at) from into free l =
+        let left = emitted p scope a from free free l in
+        let later = above free left.held.register in
+        let other = operand p scope b left.held.to later left.lists in
+        let y = ready_longer (constant_ready left.lists.layout b left.held.to) left.lists (emitted p scope b left.held.to later later left.lists) (emitted_longer b left.held.to later later left.lists) in
+        grows_used l other.lists into (grows_further l left.lists other.lists (emitted_longer a from free free l) y)
+    emitted_longer (Logical op a b at) from into free l =
+        let first = condition p scope a from free l in
+        let second = condition p scope b (first.to + 1) free first.lists in
+        let x = by_parts a from free l (own_longer a from free l) (emitted_longer a from free free l) in
+        let y = by_parts b (first.to + 1) free first.lists (own_longer b (first.to + 1) free first.lists) (emitted_longer b (first.to + 1) free free first.lists) in
+        grows_used l second.lists into (grows_further l first.lists second.lists x y)
+    emitted_longer (Conditional c a b at) from into free l =
+        let test = condition p scope c from free l in
+        let made = emitted p scope a (test.to + 1) into free test.lists in
+        let first = settled into made in
+        let second = emitted p scope b (first.held.to + 1) into free first.lists in
+        let u = by_parts c from free l (own_longer c from free l) (emitted_longer c from free free l) in
+        let v = settled_longer into made test.lists (emitted_longer a (test.to + 1) into free test.lists) in
+        let w = settled_longer into second first.lists (emitted_longer b (first.held.to + 1) into free first.lists) in
+        grows_further l test.lists (settled into second).lists u (grows_further test.lists first.lists (settled into second).lists v w)
+
+    own_longer : (e : Expr) (from free : ℕ) (l : Lists) → IfSome (own_condition p scope e from free l) (IsLonger l)
+    own_longer (Parenthesized e at) from free l = by_parts e from free l (own_longer e from free l) (emitted_longer e from free free l)
+    own_longer (Cast t e at) from free l = by_parts e from free l (own_longer e from free l) (emitted_longer e from free free l)
+    own_longer (Unary Keep e at) from free l = by_parts e from free l (own_longer e from free l) (emitted_longer e from free free l)
+    own_longer (Unary Not e at) from free l = by_parts e from free l (own_longer e from free l) (emitted_longer e from free free l)
+    own_longer (Binary op a b at) from free l = zero_longer (zero_test op b) l (condition p scope a from free l) (by_parts a from free l (own_longer a from free l) (emitted_longer a from free free l))
+    own_longer (Logical op a b at) from free l =
+        let first = condition p scope a from free l in
+        let second = condition p scope b (first.to + 1) free first.lists in
+        let x = by_parts a from free l (own_longer a from free l) (emitted_longer a from free free l) in
+        let y = by_parts b (first.to + 1) free first.lists (own_longer b (first.to + 1) free first.lists) (emitted_longer b (first.to + 1) free free first.lists) in
+        grows_further l first.lists second.lists x y
+    own_longer e from free l = tt
+
+    pub all_longer : (es : Exprs) (from free : ℕ) (l : Lists) → Grows l (all_emitted p scope es from free l).lists
+    all_longer Exprs.[] from free l = grows_same l
+    all_longer (Exprs.◌∷◌ e es) from free l =
+        let first = emitted p scope e from free free l in
+        let rest = all_emitted p scope es first.held.to (above free first.held.register) first.lists in
+        grows_further l first.lists rest.lists (emitted_longer e from free free l) (all_longer es first.held.to (above free first.held.register) first.lists)
+
+  pub condition_longer : (e : Expr) (from free : ℕ) (l : Lists) → Grows l (condition p scope e from free l).lists
+  condition_longer e from free l = by_parts e from free l (own_longer e from free l) (emitted_longer e from free free l)
+
+  pub operand_longer : (e : Expr) (from free : ℕ) (l : Lists) → Grows l (operand p scope e from free l).lists
+  operand_longer e from free l = ready_longer (constant_ready l.layout e from) l (emitted p scope e from free free l) (emitted_longer e from free free l)

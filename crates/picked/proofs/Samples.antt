@@ -1,0 +1,108 @@
+-- The code that is picked for small programs.
+use Rattle.std.proofs.Common.{◌≡◌, ℕ, zero, suc, List, [], ◌∷◌, ◌++◌, Some, None, refl}
+use Rattle.std.specs.Prelude.{codes}
+use Rattle.lex.specs.declared.token.Span.{Span}
+use Rattle.syntax.specs.declared.tree.BinaryOp.TheVariants.{Less, Greater, Add, NotEqual}
+use Rattle.syntax.specs.declared.tree.UnaryOp.TheVariants.{Not}
+use Rattle.lex.specs.declared.token.Scalar.TheVariants.{Int}
+use Rattle.syntax.specs.declared.tree.LogicalOp.TheVariants.{AndThen}
+use Rattle.syntax.specs.declared.tree.Mode.TheVariants.{Atomic, Relaxed}
+use Rattle.syntax.specs.declared.tree.IncDec.TheVariants.{Increment}
+use Rattle.syntax.specs.Tree.{Expr, Exprs, Print, If, While, For, Declares, Break, Name, Variable, Constant, Element, Call, Unary, Parenthesized, Binary, Logical, Assign, Adjust, Stmts, Do, Transaction, Return, Function, Global, Defines, Shares}
+use Rattle.bytecode.specs.Code.{Code, Instr}
+use Rattle.picked.specs.Lists.{Lists}
+use Rattle.picked.specs.Expressions.{emitted}
+use Rattle.bytecode.specs.declared.instr.Instr.TheVariants as own
+use Rattle.picked.specs.Statements.{written}
+use Rattle.picked.specs.Programs.{no_exits, nothing_ready, picked_code}
+
+abbrev no_lists : Lists
+no_lists = record { arguments = []; texts = []; registers = 0; layout = nothing_ready }
+
+abbrev no_span : Span
+no_span = record { start = 0; end = 0 }
+
+abbrev named : List ℕ → Name
+named text = record { text = text; at = no_span }
+
+abbrev var : List ℕ → Expr
+var x = Variable (named x)
+
+abbrev num : ℕ → Expr
+num n = Constant n Int no_span
+
+abbrev body : Stmts → Function
+body ss = record { attributes = []; result = None; name = named (codes "worker"); parameters = record { of = Int; name = Some (named (codes "self")) } ∷ []; body = Some ss }
+
+abbrev x : Global
+x = record { of = Int; name = named (codes "x"); length = None; first = [] }
+
+abbrev a : Global
+a = record { of = Int; name = named (codes "a"); length = Some (4, no_span); first = [] }
+
+-- int x; void worker(int self) { __transaction_atomic { x = x + 1; } }
+first_code : (picked_code (Shares (x ∷ []) ∷ Defines (body (Stmts.◌∷◌ (Transaction Atomic (Stmts.◌∷◌ (Do (Assign (var (codes "x")) None (Binary Add (var (codes "x")) (num 1) no_span))) Stmts.[]) no_span) Stmts.[])) ∷ [])).instructions ≡
+    Instr.Begin 6 ∷ (Instr.Read 1 0 ∷ (Instr.Constant 2 1 ∷ (Instr.Compute Add Int 1 1 2 ∷ (Instr.Write 0 1 ∷ (Instr.Commit ∷ (Instr.Return None ∷ []))))))
+first_code = refl
+
+-- 90 ones, added from left to right behind two locals, need four registers
+abbrev ones : ℕ → Expr
+ones zero = num 1
+ones (suc n) = Binary Add (ones n) (num 1) no_span
+
+four_registers : (emitted [] [] (ones 89) 0 2 2 (record { arguments = []; texts = []; registers = 2; layout = nothing_ready })).lists.registers ≡ 4
+four_registers = refl
+
+-- int a[4]; int f(int n) { if (n > 1 && n) return f(n); return 0; }
+-- void worker(int self) { for (int i = 0; i < 3; i++) __transaction_relaxed { a[i] += f(i); printf("%d!", a[i]); break; } }
+abbrev f : Function
+f = record {
+  attributes = [];
+  result = Some Int;
+  name = named (codes "f");
+  parameters = record { of = Int; name = Some (named (codes "n")) } ∷ [];
+  body = Some (Stmts.◌∷◌ (If (Logical AndThen (Binary Greater (var (codes "n")) (num 1) no_span) (var (codes "n")) no_span) (Return (Some (Call (named (codes "f")) (Exprs.◌∷◌ (var (codes "n")) Exprs.[]) no_span)) no_span)) (Stmts.◌∷◌ (Return (Some (num 0)) no_span) Stmts.[]));
+}
+
+abbrev element : Expr
+element = Element (named (codes "a")) (var (codes "i")) no_span
+
+abbrev turn : Stmts
+turn = Stmts.◌∷◌ (Do (Assign element (Some Add) (Call (named (codes "f")) (Exprs.◌∷◌ (var (codes "i")) Exprs.[]) no_span))) (Stmts.◌∷◌ (Print no_span (codes "%d!") no_span (Exprs.◌∷◌ element Exprs.[])) (Stmts.◌∷◌ (Break no_span) Stmts.[]))
+
+abbrev counting : Stmts
+counting = Stmts.◌∷◌ (For (Declares (record { of = Int; declarators = record { name = named (codes "i"); first = Some (num 0) } ∷ [] })) (Some (Binary Less (var (codes "i")) (num 3) no_span)) (Some (Adjust (var (codes "i")) Increment)) (Transaction Relaxed turn no_span)) Stmts.[]
+
+abbrev second : Code
+second = picked_code (Shares (a ∷ []) ∷ Defines f ∷ Defines (body counting) ∷ [])
+
+of_f : List Instr
+of_f =
+    -- 0: n > 1, and then n
+    Instr.Constant 1 1 ∷ Instr.Compute Less Int 1 1 0 ∷ Instr.JumpZero 1 6 ∷ Instr.JumpZero 0 6
+    -- 4: the branch
+    ∷ Instr.Call 0 1 (0 ∷ []) ∷ Instr.Return (Some 1) ∷ Instr.Constant 1 0 ∷ Instr.Return (Some 1) ∷ Instr.Return None ∷ []
+
+of_worker : List Instr
+of_worker =
+    -- 9: 3 and 1, with which the loop computes
+    Instr.Constant 4 3 ∷ Instr.Constant 5 1
+    -- 11: i = 0, and then pads
+    ∷ Instr.Constant 1 0 ∷ Instr.Constant 1 0 ∷ Instr.Jump 29 ∷ Instr.Jump 31 ∷ Instr.Jump 28
+    -- 16: a[i] += f(i)
+    ∷ Instr.Begin 28 ∷ Instr.ReadAt 2 0 4 1 ∷ Instr.Call 0 3 (1 ∷ []) ∷ Instr.Compute Add Int 2 2 3 ∷ Instr.WriteAt 0 4 1 2
+    -- 21: the number, and a text
+    ∷ Instr.Irrevocable ∷ Instr.ReadAt 2 0 4 1 ∷ Instr.PrintNumber Int 2 ∷ Instr.PrintText 0
+    -- 25: a break, and what stands behind it
+    ∷ Instr.Commit ∷ Instr.Jump 14 ∷ Instr.Commit
+    -- 28: i++, and i < 3
+    ∷ Instr.Compute Add Int 1 1 5 ∷ Instr.Compute Less Int 2 1 4 ∷ Instr.JumpNonzero 2 16 ∷ Instr.Return None ∷ []
+
+second_code : second.instructions ≡ of_f ++ of_worker
+unfolding of_f of_worker
+second_code = refl
+
+-- while (!(v != 0)) v = 5;
+waiting : (written [] (While (Unary Not (Parenthesized (Binary NotEqual (var (codes "v")) (num 0) no_span) no_span) no_span) (Do (Assign (var (codes "v")) None (num 5)))) no_exits (record { name = codes "v"; of = Int; word = 0 } ∷ []) 7 no_lists).code ≡
+    own.Jump 10 ∷ own.Jump 11 ∷ own.Constant 0 5 ∷ own.JumpZero 0 9 ∷ []
+waiting = refl

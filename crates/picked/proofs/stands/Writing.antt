@@ -1,0 +1,100 @@
+-- What is picked for an assignment goes to its target, part by part.
+use Rattle.std.proofs.Common.{◌≡◌, refl, sym, ap, ℕ, suc, ◌+◌, ◌≤◌, List, ◌++◌, length, arith, Some, None, Bool, true, false, inl, inr, eqb-true}
+use Rattle.std.specs.Prelude.{if◌then◌else◌, ◌==◌}
+use Rattle.std.proofs.lemmas.List.{length-append}
+use Rattle.lex.specs.declared.token.Scalar.{Scalar}
+use Rattle.syntax.specs.Tree.{Program}
+use Rattle.syntax.specs.Names.{cells}
+use Rattle.bytecode.specs.declared.instr.Instr.{Instr}
+use Rattle.bytecode.specs.declared.instr.Instr.TheVariants as own
+use Rattle.bytecode.specs.Code.{Code, Instr as Plain}
+use Rattle.bytecode.specs.Views.{instr_of}
+use Rattle.lowered.specs.Expressions.{Coded, Layout, At, MayTake}
+use Rattle.lowered.specs.Statements.{Target, LocalAt, CellAt, ElementOf, home_of, Spares, FetchCode, StoreCode}
+use Rattle.picked.specs.declared.held.Target.{Target as OwnTarget}
+use Rattle.picked.specs.declared.held.Target.TheVariants as target
+use Rattle.picked.specs.Lists.{Lists}
+use Rattle.picked.specs.Expressions.{Emitted}
+use Rattle.picked.specs.Simples.{Written, nothing_written, above_target, fetched, home_or, one_written, stored, and_then, evaluated, then_stored}
+use Rattle.picked.proofs.stands.Standing.{Stand, front, behind, Grows, grows_same, grows_further, Fits, fits_before}
+use Rattle.picked.proofs.stands.Emitting.{above_free, above_it, Emits, one_emits, in_local_emits}
+
+-- a target as the generator keeps it
+abbrev pub own_of : Target → OwnTarget
+own_of (LocalAt l) = target.Local l.0 l.1
+own_of (CellAt g) = target.Cell g.cell g.global.of
+own_of (ElementOf g ri) = target.Element ri g.cell (cells g.global) g.global.of
+
+pub spares : (t : Target) (free : ℕ) → Spares t (above_target (own_of t) free)
+spares (LocalAt l) free = tt
+spares (CellAt g) free = tt
+spares (ElementOf g ri) free = above_it free ri
+
+pub target_above : (t : Target) (free : ℕ) → free ≤ above_target (own_of t) free
+target_above (LocalAt l) free = omega arith
+target_above (CellAt g) free = omega arith
+target_above (ElementOf g ri) free = above_free free ri
+
+pub may_take_home : (t : Target) (free : ℕ) → MayTake (home_of t) free (home_or (own_of t) free)
+may_take_home (LocalAt l) free = inr refl
+may_take_home (CellAt g) free = omega arith
+may_take_home (ElementOf g ri) free = omega arith
+
+module _ (p : Program) (code : Code) (arguments : List ℕ) (layout : Layout) where
+  -- what is written from a place on stands for a part
+  pub record Writes (A : ℕ → ℕ → Type 0) (from : ℕ) (l : Lists) (w : Written) : Type 0 where
+    pub to_is : w.to ≡ from + length w.code
+    pub grows : Grows l w.lists
+    pub stands : Fits code arguments layout w.lists → Stand code arguments from w.code → A from w.to
+
+  pub nothing_writes : (from : ℕ) (l : Lists) → Writes (λ from to. to ≡ from) from l (nothing_written from l)
+  nothing_writes from l = record { to_is = omega arith; grows = grows_same l; stands = λ f st. refl }
+
+  pub one_writes : (A : ℕ → ℕ → Type 0) (i : Instr) (from : ℕ) (l : Lists) → (At code from (instr_of arguments i) → A from (from + 1)) → Writes A from l (one_written i from l)
+  one_writes A i from l make = record { to_is = omega arith; grows = grows_same l; stands = λ f st. make st.0 }
+
+  -- one part behind another
+  pub then_writes : (A B C : ℕ → ℕ → Type 0) (from : ℕ) (l : Lists) (a b : Written) → Writes A from l a → Writes B a.to a.lists b → (A from a.to → B a.to b.to → C from b.to) → Writes C from l (and_then a b)
+  then_writes A B C from l a b h g make = record {
+    to_is = let x = h.to_is in let y = g.to_is in let u : length (a.code ++ b.code) ≡ length a.code + length b.code = length-append a.code b.code in omega (arith, x, y, u);
+    grows = grows_further l a.lists b.lists h.grows g.grows;
+    stands = λ f st.
+        make (h.stands (fits_before code arguments layout a.lists b.lists g.grows f) (front code arguments from a.code b.code st))
+        (g.stands f (behind code arguments from a.to a.code b.code h.to_is st));
+  }
+
+  pub evaluated_writes : (A : Coded) (from free : ℕ) (l : Lists) (e : Emitted) → Emits code arguments layout A from free l e →
+      Writes (λ from to. A from to free e.held.register e.held.of) from l (evaluated e)
+  evaluated_writes A from free l e h = record { to_is = h.to_is; grows = h.grows; stands = h.stands }
+
+  pub fetched_emits : (t : Target) (from free : ℕ) (l : Lists) → Emits code arguments layout (FetchCode code layout p t) from free l (fetched (own_of t) from free l)
+  fetched_emits (LocalAt x) from free l =
+      let h = in_local_emits code arguments layout (suc x.0) x.0 x.1 from free l (omega arith) in
+      record { to_is = h.to_is; grows = h.grows; stands = λ f st. (refl, refl, refl) }
+  fetched_emits (CellAt g) from free l = one_emits code arguments layout None (λ r. Plain.Read r g.cell) (own.Read free g.cell) g.global.of from free free l refl (omega arith)
+  fetched_emits (ElementOf g ri) from free l =
+      one_emits code arguments layout None (λ r. Plain.ReadAt r g.cell (cells g.global) ri) (own.ReadAt free ri g.cell (cells g.global)) g.global.of from free free l refl (omega arith)
+
+  pub stored_writes : (t : Target) (r from : ℕ) (l : Lists) → Writes (λ from to. StoreCode code layout p t r from to) from l (stored (own_of t) r from l)
+  stored_writes (LocalAt x) r from l = by (r == x.0) refl
+    where
+      by : (b : Bool) → (r == x.0) ≡ b → Writes (λ from to. StoreCode code layout p (LocalAt x) r from to) from l (if b then nothing_written from l else one_written (own.Move x.0 r) from l)
+      by true n = record { to_is = omega arith; grows = grows_same l; stands = λ f st. inr (refl, ap Some (sym (eqb-true r x.0 n))) }
+      by false n = one_writes (λ from to. StoreCode code layout p (LocalAt x) r from to) (own.Move x.0 r) from l (λ at. inl (omega arith, at))
+  stored_writes (CellAt g) r from l = one_writes (λ from to. StoreCode code layout p (CellAt g) r from to) (own.Write r g.cell) from l (λ at. inl (omega arith, at))
+  stored_writes (ElementOf g ri) r from l =
+      one_writes (λ from to. StoreCode code layout p (ElementOf g ri) r from to) (own.WriteAt ri r g.cell (cells g.global)) from l (λ at. inl (omega arith, at))
+
+  -- a value, and where it is put
+  pub record ValueStored (A : Coded) (free : ℕ) (t : Target) (from to : ℕ) : Type 0 where
+    pub mid : ℕ
+    pub r : ℕ
+    pub of : Scalar
+    pub value : A from mid free r of
+    pub stores : StoreCode code layout p t r mid to
+
+  pub then_stored_writes : (A : Coded) (t : Target) (from free : ℕ) (l : Lists) (e : Emitted) → Emits code arguments layout A from free l e → Writes (ValueStored A free t) from l (then_stored (own_of t) e)
+  then_stored_writes A t from free l e h =
+      then_writes (λ from to. A from to free e.held.register e.held.of) (λ from to. StoreCode code layout p t e.held.register from to) (ValueStored A free t) from l (evaluated e) (stored (own_of t) e.held.register e.held.to e.lists)
+      (evaluated_writes A from free l e h) (stored_writes t e.held.register e.held.to e.lists)
+      (λ v s. record { mid = e.held.to; r = e.held.register; of = e.held.of; value = v; stores = s })

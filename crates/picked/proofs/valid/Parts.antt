@@ -1,0 +1,237 @@
+-- Parts of a body, with the begins that are open at each of their places, and how they are put together.
+use Rattle.std.proofs.Common.{◌≡◌, refl, sym, ap, subst, ◌∙◌, ℕ, zero, suc, ◌+◌, ◌-◌, ◌≤◌, ◌<◌, List, [], ◌∷◌, ◌++◌, length, replicate, drop, arith, Option, Some, Bool, IsTrue}
+use Rattle.std.specs.List.{AllByRecursion}
+use Rattle.std.proofs.lemmas.List.{length-append, length-replicate}
+use Rattle.syntax.specs.declared.tree.Mode.{Mode}
+use Rattle.syntax.specs.declared.tree.Mode.TheVariants.{Atomic}
+use Rattle.bytecode.specs.declared.instr.Instr.{Instr}
+use Rattle.bytecode.specs.declared.instr.Instr.TheVariants as own
+use Rattle.bytecode.specs.Code.{Code, FunctionCode, Instr as Plain}
+use Rattle.bytecode.specs.Valid.{cancel_of}
+use Rattle.bytecode.specs.Views.{instr_of}
+use Rattle.lowered.specs.Expressions.{At}
+use Rattle.picked.specs.declared.held.Exits.{Exits}
+use Rattle.picked.specs.Lists.{Lists}
+use Rattle.picked.specs.Simples.{Written, one_written, and_then}
+use Rattle.picked.specs.Statements.{in_transaction, left_by, transacted}
+use Rattle.picked.proofs.stands.Standing.{Stand, front, behind, Grows, grows_same, grows_further}
+use Rattle.picked.proofs.valid.Fitting.{Fits, fits_before}
+use Rattle.picked.proofs.valid.Goods.{IsGood, AreGood, good_append, Meets, Runs}
+use Rattle.picked.proofs.valid.Simples.{Flat}
+
+-- these begins are open at a place and those behind it
+module _ (open_at : ℕ → List ℕ) where
+  abbrev pub Are : ℕ → List (List ℕ) → Type 0
+  Are q [] = Unit {0}
+  Are q (bs ∷ rest) = (open_at q ≡ bs) × Are (suc q) rest
+
+  pub are_front : (q : ℕ) (a b : List (List ℕ)) → Are q (a ++ b) → Are q a
+  are_front q [] b h = tt
+  are_front q (bs ∷ a) b h = (h.0, are_front (suc q) a b h.1)
+
+  pub are_behind : (q to : ℕ) (a b : List (List ℕ)) → to ≡ q + length a → Are q (a ++ b) → Are to b
+  are_behind q to [] b e h = let f : q ≡ to = omega (arith, e) in subst (λ n. Are n b) f h
+  are_behind q to (bs ∷ a) b e h = let f : to ≡ suc q + length a = omega (arith, e) in are_behind (suc q) to a b f h.1
+
+  level : (n k q : ℕ) (bs : List ℕ) → k ≤ n → Are q (replicate n bs) → open_at (q + n) ≡ bs → open_at (q + k) ≡ bs
+  level zero zero q bs low h e = e
+  level zero (suc k) q bs low h e = absurd (omega (arith, low))
+  level (suc n) zero q bs low h e = let same : q ≡ q + 0 = omega arith in subst (λ m. open_at m ≡ bs) same h.0
+  level (suc n) (suc k) q bs low h e =
+      let there : q + suc n ≡ suc q + n = omega arith in
+      let here : suc q + k ≡ q + suc k = omega arith in
+      subst (λ m. open_at m ≡ bs) here (level n k (suc q) bs (omega (arith, low)) h.1 (subst (λ m. open_at m ≡ bs) there e))
+
+  pub level_at : (n q to : ℕ) (bs : List ℕ) → to ≡ q + n → Are q (replicate n bs) → open_at to ≡ bs → (r : ℕ) → q ≤ r → r ≤ to → open_at r ≡ bs
+  level_at n q to bs same h e r low high =
+      let k : ℕ = r - q in
+      let at : q + k ≡ r = omega (arith, low) in
+      subst (λ m. open_at m ≡ bs) at (level n k q bs (omega (arith, same, low, high)) h (subst (λ m. open_at m ≡ bs) same e))
+
+-- the open begins in front of so many commits and what follows them
+abbrev pub lowering : ℕ → List ℕ → List (List ℕ)
+lowering zero bs = bs ∷ []
+lowering (suc n) bs = bs ∷ lowering n (drop 1 bs)
+
+lowering_many : (n : ℕ) (bs : List ℕ) → length (lowering n bs) ≡ suc n
+lowering_many zero bs = refl
+lowering_many (suc n) bs = ap suc (lowering_many n (drop 1 bs))
+
+module _ (code : Code) (arguments : List ℕ) (f : FunctionCode) (end : ℕ) where
+  -- where control goes from a place where these begins are open
+  pub record Exiting (bs : List ℕ) (x : Exits) (loops : Bool) (innermost : Option Mode) (open_at : ℕ → List ℕ) : Type 0 where
+    pub in_function : length bs ≡ x.in_function
+    pub in_loop : IsTrue loops → x.in_loop ≤ length bs
+    pub breaks : IsTrue loops → Meets code arguments f end open_at (x.break_to, drop x.in_loop bs)
+    pub continues : IsTrue loops → Meets code arguments f end open_at (x.continue_to, drop x.in_loop bs)
+    pub cancels : innermost ≡ Some Atomic → (b : ℕ) × (rest : List ℕ) × (to : ℕ) × (bs ≡ b ∷ rest) × At code b (Plain.Begin to) × Meets code arguments f end open_at (to, rest)
+
+  -- what is written from a place on is in order, where those begins are open that should be
+  pub record Part (P : (ℕ → List ℕ) → Type 0) (bs : List ℕ) (from : ℕ) (l : Lists) (w : Written) : Type 0 where
+    pub to_is : w.to ≡ from + length w.code
+    pub grows : Grows l w.lists
+    pub opens : List (List ℕ)
+    pub many : length opens ≡ length w.code
+    pub enters : (open_at : ℕ → List ℕ) → Are open_at from opens → open_at w.to ≡ bs → open_at from ≡ bs
+    pub goods : (open_at : ℕ → List ℕ) → Fits code arguments f.registers w.lists → Stand code arguments from w.code → f.first ≤ from → w.to < end → Are open_at from opens → open_at w.to ≡ bs → P open_at →
+        AreGood code arguments f end open_at from w.code
+
+  -- what is in order where the begins are open throughout, and in what is known
+  pub level_part : (P : (ℕ → List ℕ) → Type 0) (bs : List ℕ) (from : ℕ) (l : Lists) (w : Written) → w.to ≡ from + length w.code → Grows l w.lists →
+      ((open_at : ℕ → List ℕ) → Fits code arguments f.registers w.lists → P open_at → Runs code arguments f end open_at from w.to bs → AreGood code arguments f end open_at from w.code) → Part P bs from l w
+  level_part P bs from l w to_is grows good =
+      let n : ℕ = length w.code in
+      record {
+        to_is = to_is;
+        grows = grows;
+        opens = replicate n bs;
+        many = length-replicate n bs;
+        enters = λ o are e. level_at o n from w.to bs to_is are e from (omega arith) (omega (arith, to_is));
+        goods = λ o k st first last are e holds. good o k holds (record { first = first; last = last; level = level_at o n from w.to bs to_is are e });
+      }
+
+  pub flat_part : (P : (ℕ → List ℕ) → Type 0) (bs : List ℕ) (from : ℕ) (l : Lists) (w : Written) → Flat code arguments f end from l w → Part P bs from l w
+  flat_part P bs from l w h = level_part P bs from l w h.to_is h.grows (λ o k holds run. h.goods o bs k run)
+
+  -- a part is in order where more is known
+  abbrev pub knowing : (P Q : (ℕ → List ℕ) → Type 0) (bs : List ℕ) (from : ℕ) (l : Lists) (w : Written) (h : Part P bs from l w) → ((open_at : ℕ → List ℕ) → f.first ≤ from → w.to < end → Are open_at from h.opens → open_at w.to ≡ bs → Q open_at → P open_at) → Part Q bs from l w
+  knowing P Q bs from l w h know = record {
+    to_is = h.to_is;
+    grows = h.grows;
+    opens = h.opens;
+    many = h.many;
+    enters = h.enters;
+    goods = λ o k st first last are e holds. h.goods o k st first last are e (know o first last are e holds);
+  }
+
+  abbrev pub given : (P Q : (ℕ → List ℕ) → Type 0) (bs : List ℕ) (from : ℕ) (l : Lists) (w : Written) → Part P bs from l w → ((open_at : ℕ → List ℕ) → Q open_at → P open_at) → Part Q bs from l w
+  given P Q bs from l w h know = knowing P Q bs from l w h (λ o first last are e holds. know o holds)
+
+  -- one part behind another
+  abbrev pub then_part : (P : (ℕ → List ℕ) → Type 0) (bs : List ℕ) (from mid : ℕ) (l : Lists) (a b : Written) → a.to ≡ mid → Part P bs from l a → Part P bs mid a.lists b → Part P bs from l (and_then a b)
+  then_part P bs from mid l a b same h g =
+      let x = h.to_is in
+      let y = g.to_is in
+      let m = h.many in
+      let n = g.many in
+      let mid_is : mid ≡ from + length a.code = omega (arith, same, x) in
+      let opens_is : mid ≡ from + length h.opens = omega (arith, mid_is, m) in
+      record {
+        to_is = let u : length (a.code ++ b.code) ≡ length a.code + length b.code = length-append a.code b.code in omega (arith, mid_is, y, u);
+        grows = grows_further l a.lists b.lists h.grows g.grows;
+        opens = h.opens ++ g.opens;
+        many =
+            let u : length (a.code ++ b.code) ≡ length a.code + length b.code = length-append a.code b.code in
+            let v : length (h.opens ++ g.opens) ≡ length h.opens + length g.opens = length-append h.opens g.opens in
+            omega (arith, m, n, u, v);
+        enters = λ o are e.
+            let there = g.enters o (are_behind o from mid h.opens g.opens opens_is are) e in
+            h.enters o (are_front o from h.opens g.opens are) (subst (λ q. o q ≡ bs) (sym same) there);
+        goods = λ o k st first last are e holds.
+            let are_b = are_behind o from mid h.opens g.opens opens_is are in
+            let there = g.enters o are_b e in
+            good_append code arguments f end o from mid a.code b.code mid_is
+            (h.goods o (fits_before code arguments f.registers a.lists b.lists g.grows k) (front code arguments from a.code b.code st) first (omega (arith, same, y, last)) (are_front o from h.opens g.opens are) (subst (λ q. o q ≡ bs) (sym same) there) holds)
+            (g.goods o k (behind code arguments from mid a.code b.code mid_is st) (omega (arith, mid_is, first)) last are_b e holds);
+      }
+
+  -- one instruction
+  abbrev pub one_part : (P : (ℕ → List ℕ) → Type 0) (bs : List ℕ) (i : Instr) (from : ℕ) (l : Lists) →
+      ((open_at : ℕ → List ℕ) → Fits code arguments f.registers l → f.first ≤ from → from + 1 < end → open_at from ≡ bs → open_at (from + 1) ≡ bs → P open_at → IsGood code arguments f end open_at from (instr_of arguments i)) → Part P bs from l (one_written i from l)
+  one_part P bs i from l make = record {
+    to_is = omega arith;
+    grows = grows_same l;
+    opens = bs ∷ [];
+    many = refl;
+    enters = λ o are e. are.0;
+    goods = λ o k st first last are e holds. (make o k first last are.0 e holds, tt);
+  }
+
+  abbrev pub jump_part : (P : (ℕ → List ℕ) → Type 0) (bs : List ℕ) (there from : ℕ) (l : Lists) → ((open_at : ℕ → List ℕ) → P open_at → Meets code arguments f end open_at (there, bs)) → Part P bs from l (one_written (own.Jump there) from l)
+  jump_part P bs there from l meets =
+      one_part P bs (own.Jump there) from l (λ o k first last are e holds. let m = meets o holds in record { begins = bs; are = are; written = m.0; asks = tt; leads = (m, tt) })
+
+  -- so many commits, and then an instruction
+  lowered_first : (open_at : ℕ → List ℕ) (n q : ℕ) (bs : List ℕ) → Are open_at q (lowering n bs) → open_at q ≡ bs
+  lowered_first o zero q bs h = h.0
+  lowered_first o (suc n) q bs h = h.0
+
+  left_good : (open_at : ℕ → List ℕ) (n q : ℕ) (bs : List ℕ) (i : Instr) → n ≤ length bs → Are open_at q (lowering n bs) → f.first ≤ q → q + n < end → ((r : ℕ) → open_at r ≡ drop n bs → IsGood code arguments f end open_at r (instr_of arguments i)) →
+      AreGood code arguments f end open_at q (replicate n own.Commit ++ i ∷ [])
+  left_good o zero q bs i low are first last make = (make q are.0, tt)
+  left_good o (suc n) q [] i low are first last make = absurd (omega (arith, low))
+  left_good o (suc n) q (b ∷ bs) i low are first last make = (
+    record { begins = b ∷ bs; are = are.0; written = tt; asks = λ e. cc e; leads = (((omega (arith, first), omega (arith, last)), lowered_first o n (suc q) bs are.1), tt) },
+    left_good o n (suc q) bs i (omega (arith, low)) are.1 (omega (arith, first)) (omega (arith, last)) make,
+  )
+
+  pub left_part : (P : (ℕ → List ℕ) → Type 0) (bs : List ℕ) (n : ℕ) (i : Instr) (from : ℕ) (l : Lists) → ((open_at : ℕ → List ℕ) → P open_at → n ≤ length bs) →
+      ((open_at : ℕ → List ℕ) → Fits code arguments f.registers l → P open_at → (r : ℕ) → open_at r ≡ drop n bs → IsGood code arguments f end open_at r (instr_of arguments i)) → Part P bs from l (left_by n i from l)
+  left_part P bs n i from l low make =
+      let a : length (replicate n own.Commit ++ i ∷ []) ≡ length (replicate n own.Commit) + 1 = length-append (replicate n own.Commit) (i ∷ []) in
+      let b : length (replicate n own.Commit) ≡ n = length-replicate n own.Commit in
+      let c = lowering_many n bs in
+      record {
+        to_is = omega (arith, a, b);
+        grows = grows_same l;
+        opens = lowering n bs;
+        many = omega (arith, a, b, c);
+        enters = λ o are e. lowered_first o n from bs are;
+        goods = λ o k st first last are e holds. left_good o n from bs i (low o holds) are first (omega (arith, last)) (make o k holds);
+      }
+
+  pub cancel_part : (bs : List ℕ) (x : Exits) (loops : Bool) (innermost : Option Mode) → innermost ≡ Some Atomic → (from : ℕ) (l : Lists) → Part (Exiting bs x loops innermost) bs from l (one_written own.Cancel from l)
+  cancel_part bs x loops innermost inside from l =
+      one_part (Exiting bs x loops innermost) bs own.Cancel from l
+      (λ o k first last are e exits.
+      let c = exits.cancels inside in
+      record {
+        begins = c.0 ∷ c.1;
+        are = are ∙ c.3;
+        written = tt;
+        asks = λ h. cc h;
+        leads = subst (λ s. AllByRecursion (Meets code arguments f end o) (cancel_of s [] (λ to. (to, c.1) ∷ []))) (sym c.4) (c.5, tt);
+      })
+
+  -- a transaction
+  pub transaction_part : (bs : List ℕ) (x : Exits) (loops : Bool) (innermost : Option Mode) (mode : Mode) (from : ℕ) (l : Lists) (a : Written) → Part (Exiting (from ∷ bs) (in_transaction x) loops (Some mode)) (from ∷ bs) (from + 1) l a → Part (Exiting bs x loops innermost) bs from l (transacted a)
+  transaction_part bs x loops innermost mode from l a h =
+      let begin : Instr = own.Begin (a.to + 1) in
+      let last_begins : List (List ℕ) = (from ∷ bs) ∷ [] in
+      let y = h.to_is in
+      let m = h.many in
+      let last_is : a.to ≡ from + length (begin ∷ a.code) = omega (arith, y) in
+      let opens_is : a.to ≡ from + length (bs ∷ h.opens) = omega (arith, y, m) in
+      let one_more : suc from ≡ from + 1 = omega arith in
+      record {
+        to_is = let u : length (begin ∷ a.code ++ own.Commit ∷ []) ≡ length (begin ∷ a.code) + 1 = length-append (begin ∷ a.code) (own.Commit ∷ []) in omega (arith, last_is, u);
+        grows = h.grows;
+        opens = bs ∷ h.opens ++ last_begins;
+        many =
+            let u : length (begin ∷ a.code ++ own.Commit ∷ []) ≡ length (begin ∷ a.code) + 1 = length-append (begin ∷ a.code) (own.Commit ∷ []) in
+            let v : length (bs ∷ h.opens ++ last_begins) ≡ length (bs ∷ h.opens) + 1 = length-append (bs ∷ h.opens) last_begins in
+            omega (arith, m, u, v);
+        enters = λ o are e. are.0;
+        goods = λ o k st first last are e exits.
+            let own_stand = front code arguments from (begin ∷ a.code) (own.Commit ∷ []) st in
+            let inner = are_front o from (bs ∷ h.opens) last_begins are in
+            let at_end = (are_behind o from a.to (bs ∷ h.opens) last_begins opens_is are).0 in
+            let inner_are = subst (λ q. Are o q h.opens) one_more inner.1 in
+            let start = h.enters o inner_are at_end in
+            let out : Meets code arguments f end o (a.to + 1, bs) = ((omega (arith, first, y), last), e) in
+            let function_is = exits.in_function in
+            let deeper : suc x.in_loop ≡ x.in_loop + 1 = omega arith in
+            let inner_exits : Exiting (from ∷ bs) (in_transaction x) loops (Some mode) o = (record {
+              in_function = omega (arith, function_is);
+              in_loop = λ t. let i = exits.in_loop t in omega (arith, i);
+              breaks = λ t. subst (λ n. Meets code arguments f end o (x.break_to, drop n (from ∷ bs))) deeper (exits.breaks t);
+              continues = λ t. subst (λ n. Meets code arguments f end o (x.continue_to, drop n (from ∷ bs))) deeper (exits.continues t);
+              cancels = λ t. (from, bs, a.to + 1, refl, own_stand.0, out);
+            }) in
+            good_append code arguments f end o from a.to (begin ∷ a.code) (own.Commit ∷ []) last_is (
+              record { begins = bs; are = are.0; written = out.0; asks = tt; leads = (((omega (arith, first), omega (arith, last, y)), subst (λ q. o q ≡ from ∷ bs) (sym one_more) start), tt) },
+              subst (λ q. AreGood code arguments f end o q a.code) (sym one_more)
+                  (h.goods o k (subst (λ q. Stand code arguments q a.code) one_more own_stand.1) (omega (arith, first)) (omega (arith, last)) inner_are at_end inner_exits),
+            )
+            (record { begins = from ∷ bs; are = at_end; written = tt; asks = λ t. cc t; leads = (((omega (arith, first, y), omega (arith, last)), let same : a.to + 1 ≡ suc a.to = omega arith in subst (λ q. o q ≡ bs) same e), tt) }, tt);
+      }

@@ -1,0 +1,235 @@
+-- What is picked for assignments and declarations of a typed program is in order.
+use Rattle.std.proofs.Common.{◌≡◌, refl, subst, ℕ, suc, ◌+◌, ◌≤◌, ◌<◌, List, [], ◌∷◌, ◌++◌, length, arith, Option, Some, None, Bool, true, false, IsTrue}
+use Rattle.std.specs.Prelude.{if◌then◌else◌, ◌==◌}
+use Rattle.std.specs.Option.{IfSome}
+use Rattle.std.proofs.lemmas.List.{length-append}
+use Rattle.lex.specs.declared.token.Scalar.{Scalar}
+use Rattle.lex.specs.declared.token.Scalar.TheVariants.{Int}
+use Rattle.syntax.specs.declared.tree.BinaryOp.{BinaryOp}
+use Rattle.syntax.specs.Tree.{Expr, Variable, Element, Simple, Evaluate, Assign, Adjust, Declarator, Start, Nothing, Declares, Does, Program}
+use Rattle.syntax.specs.Meaning.{op_of}
+use Rattle.syntax.specs.Names.{GlobalCells, cells, newest, global_of, globals}
+use Rattle.syntax.specs.Types.{Scope, with_number, running_scope}
+use Rattle.syntax.specs.Typing.{IsTypedProgram, may_be_assigned}
+use Rattle.syntax.specs.ScopeLaws.{Agrees}
+use Rattle.syntax.proofs.TypedParts.{TypedExpr, TypedTarget, TypedSimple, TypedDeclarators, TypedStart}
+use Rattle.bytecode.specs.declared.instr.Instr.{Instr}
+use Rattle.bytecode.specs.declared.instr.Instr.TheVariants as own
+use Rattle.bytecode.specs.Code.{Code, FunctionCode}
+use Rattle.bytecode.specs.Valid.{cells_of, IsWritten}
+use Rattle.bytecode.specs.Views.{instr_of}
+use Rattle.lowered.specs.Expressions.{LocalScope}
+use Rattle.lowered.specs.Statements.{with_local}
+use Rattle.picked.specs.declared.held.Target.{Target}
+use Rattle.picked.specs.declared.held.Target.TheVariants as target
+use Rattle.picked.specs.Lists.{Lists, used}
+use Rattle.picked.specs.Expressions.{Emitted, above, constant, both, emitted}
+use Rattle.picked.specs.Simples.{Written, Aimed, aimed_at, variable_target, element_target, above_target, fetched, home_or, one_written, stored, and_then, evaluated, then_stored, behind as aimed_then, aimed, value_or_one, adjusted, simple_written, nothing_written, first_written, declarator_written, declared_written, start_written}
+use Rattle.picked.proofs.stands.Standing.{Grows, grows_same, grows_further, grows_used, max_right}
+use Rattle.picked.proofs.stands.Named.{known_number}
+use Rattle.picked.proofs.stands.Exprs.{DefinedAreCallees}
+use Rattle.picked.proofs.stands.Simply.{one_more_agrees}
+use Rattle.picked.proofs.valid.Fitting.{Fits, fits_before, is_register}
+use Rattle.picked.proofs.valid.Goods.{GoesOn, AreGood, good_append, good_on, Runs, within}
+use Rattle.picked.proofs.valid.Sounds.{Sound, OperandSound, in_size, one_sound, in_local_sound, ready_or_sound, operand_sound, both_sound}
+use Rattle.picked.proofs.valid.Expressions.{CalleesTake, cells_are, cell_is, expr_sound}
+
+module _ (code : Code) (arguments : List ℕ) (f : FunctionCode) (end : ℕ) where
+  -- what is written from a place on is in order where the same begins are open at each of its places
+  pub record Flat (from : ℕ) (l : Lists) (w : Written) : Type 0 where
+    pub to_is : w.to ≡ from + length w.code
+    pub grows : Grows l w.lists
+    pub goods : (open_at : ℕ → List ℕ) (bs : List ℕ) → Fits code arguments f.registers w.lists → Runs code arguments f end open_at from w.to bs → AreGood code arguments f end open_at from w.code
+
+  pub nothing_flat : (from : ℕ) (l : Lists) → Flat from l (nothing_written from l)
+  nothing_flat from l = record { to_is = omega arith; grows = grows_same l; goods = λ o bs k run. tt }
+
+  pub one_flat : (i : Instr) (from : ℕ) (l : Lists) → GoesOn code arguments f end (instr_of arguments i) → (Fits code arguments f.registers l → IsWritten code f end (instr_of arguments i)) → Flat from l (one_written i from l)
+  one_flat i from l way w = record {
+    to_is = omega arith;
+    grows = grows_same l;
+    goods = λ o bs k run. (good_on code arguments f end o from (from + 1) bs run (instr_of arguments i) way (w k) from (omega arith) (omega arith), tt);
+  }
+
+  pub then_flat : (from : ℕ) (l : Lists) (a b : Written) → Flat from l a → Flat a.to a.lists b → Flat from l (and_then a b)
+  then_flat from l a b h g =
+      let x = h.to_is in
+      let y = g.to_is in
+      record {
+        to_is = let u : length (a.code ++ b.code) ≡ length a.code + length b.code = length-append a.code b.code in omega (arith, x, y, u);
+        grows = grows_further l a.lists b.lists h.grows g.grows;
+        goods = λ o bs k run.
+            good_append code arguments f end o from a.to a.code b.code h.to_is
+            (h.goods o bs (fits_before code arguments f.registers a.lists b.lists g.grows k) (within code arguments f end o from b.to from a.to bs run (omega arith) (omega (arith, y))))
+            (g.goods o bs k (within code arguments f end o from b.to a.to b.to bs run (omega (arith, x)) (omega arith)));
+      }
+
+  pub evaluated_flat : (from : ℕ) (l : Lists) (e : Emitted) → Sound code arguments f end from l e → Flat from l (evaluated e)
+  evaluated_flat from l e h = record { to_is = h.to_is; grows = h.grows; goods = h.goods }
+
+  -- a target whose register is below a number
+  abbrev pub IsIn : ℕ → Target → Type 0
+  IsIn n (target.Local i t) = i < n
+  IsIn n (target.Cell c t) = c + 1 ≤ cells_of code
+  IsIn n (target.Element i c k t) = (i < n) × (c + k ≤ cells_of code)
+  IsIn n target.Nowhere = Unit {0}
+
+  in_more : (n m : ℕ) (t : Target) → n ≤ m → IsIn n t → IsIn m t
+  in_more n m (target.Local i t) e h = omega (arith, e, h)
+  in_more n m (target.Cell c t) e h = h
+  in_more n m (target.Element i c k t) e h = (let x = h.0 in omega (arith, e, x), h.1)
+  in_more n m target.Nowhere e h = tt
+
+  fetched_sound : (t : Target) (from free : ℕ) (l : Lists) → IsIn l.registers t → Sound code arguments f end from l (fetched t from free l)
+  fetched_sound (target.Local i t) from free l h = in_local_sound code arguments f end i t from l
+  fetched_sound (target.Cell c t) from free l h = one_sound code arguments f end (own.Read free c) from free t l (λ q bs. (refl, tt)) (λ r s. (r, h))
+  fetched_sound (target.Element i c n t) from free l h = one_sound code arguments f end (own.ReadAt free i c n) from free t l (λ q bs. (refl, tt)) (λ r s. (r, let x = h.0 in omega (arith, x, s), h.1))
+  fetched_sound target.Nowhere from free l h = one_sound code arguments f end (own.Constant free 0) from free Int l (λ q bs. (refl, tt)) (λ r s. (r, omega arith))
+
+  stored_flat : (t : Target) (r from : ℕ) (l : Lists) → r < l.registers → IsIn l.registers t → Flat from l (stored t r from l)
+  stored_flat (target.Local i t) r from l k h = by (r == i)
+    where
+      by : (b : Bool) → Flat from l (if b then nothing_written from l else one_written (own.Move i r) from l)
+      by true = nothing_flat from l
+      by false = one_flat (own.Move i r) from l (λ q bs. (refl, tt)) (λ fits. (in_size code arguments f end i l h fits, in_size code arguments f end r l k fits))
+  stored_flat (target.Cell c t) r from l k h = one_flat (own.Write r c) from l (λ q bs. (refl, tt)) (λ fits. (in_size code arguments f end r l k fits, h))
+  stored_flat (target.Element i c n t) r from l k h = one_flat (own.WriteAt i r c n) from l (λ q bs. (refl, tt)) (λ fits. (in_size code arguments f end i l h.0 fits, in_size code arguments f end r l k fits, h.1))
+  stored_flat target.Nowhere r from l k h = nothing_flat from l
+
+  pub then_stored_flat : (t : Target) (from : ℕ) (l : Lists) (e : Emitted) → Sound code arguments f end from l e → IsIn l.registers t → Flat from l (then_stored t e)
+  then_stored_flat t from l e h i =
+      then_flat from l (evaluated e) (stored t e.held.register e.held.to e.lists) (evaluated_flat from l e h)
+      (stored_flat t e.held.register e.held.to e.lists h.held (in_more l.registers e.lists.registers t h.grows.registers i))
+
+  -- what finds a target
+  record Aims (from : ℕ) (l : Lists) (a : Aimed) : Type 0 where
+    to_is : a.to ≡ from + length a.code
+    grows : Grows l a.lists
+    aim : IsIn a.lists.registers a.target
+    goods : (open_at : ℕ → List ℕ) (bs : List ℕ) → Fits code arguments f.registers a.lists → Runs code arguments f end open_at from a.to bs → AreGood code arguments f end open_at from a.code
+
+  aimed_flat : (from : ℕ) (l : Lists) (a : Aimed) (w : Written) → Aims from l a → Flat a.to a.lists w → Flat from l (aimed_then a w)
+  aimed_flat from l a w h g =
+      let x = h.to_is in
+      let y = g.to_is in
+      record {
+        to_is = let u : length (a.code ++ w.code) ≡ length a.code + length w.code = length-append a.code w.code in omega (arith, x, y, u);
+        grows = grows_further l a.lists w.lists h.grows g.grows;
+        goods = λ o bs k run.
+            good_append code arguments f end o from a.to a.code w.code h.to_is
+            (h.goods o bs (fits_before code arguments f.registers a.lists w.lists g.grows k) (within code arguments f end o from w.to from a.to bs run (omega arith) (omega (arith, y))))
+            (g.goods o bs k (within code arguments f end o from w.to a.to w.to bs run (omega (arith, x)) (omega arith)));
+      }
+
+  nowhere_aims : (from : ℕ) (l : Lists) → Aims from l (aimed_at target.Nowhere from l)
+  nowhere_aims from l = record { to_is = omega arith; grows = grows_same l; aim = tt; goods = λ o bs k run. tt }
+
+  variable_aims : (o : Option (ℕ × Scalar)) (g : Option GlobalCells) → (o ≡ None → (c : GlobalCells) → g ≡ Some c → c.cell + 1 ≤ cells_of code) → (from : ℕ) (l : Lists) → Aims from l (variable_target o g from l)
+  variable_aims (Some x) g h from l = record {
+    to_is = omega arith;
+    grows = grows_used l l x.0 (grows_same l);
+    aim = let m = max_right l.registers (suc x.0) in omega (arith, m);
+    goods = λ o bs k run. tt;
+  }
+  variable_aims None (Some c) h from l = record { to_is = omega arith; grows = grows_same l; aim = h refl c refl; goods = λ o bs k run. tt }
+  variable_aims None None h from l = nowhere_aims from l
+
+  element_aims : (check : Bool) (g : Option GlobalCells) → ((c : GlobalCells) → g ≡ Some c → c.cell + cells c.global ≤ cells_of code) → (from : ℕ) (l : Lists) (e : Emitted) → Sound code arguments f end from l e → Aims from l (element_target check g e from l)
+  element_aims check None h from l e s = nowhere_aims from l
+  element_aims true (Some c) h from l e s =
+      let test : Instr = own.Check e.held.register (cells c.global) in
+      let x = s.to_is in
+      record {
+        to_is = let b : length (e.code ++ test ∷ []) ≡ length e.code + 1 = length-append e.code (test ∷ []) in omega (arith, x, b);
+        grows = s.grows;
+        aim = (s.held, h c refl);
+        goods = λ o bs k run.
+            good_append code arguments f end o from e.held.to e.code (test ∷ []) s.to_is
+            (s.goods o bs k (within code arguments f end o from (e.held.to + 1) from e.held.to bs run (omega arith) (omega arith)))
+            (good_on code arguments f end o from (e.held.to + 1) bs run (instr_of arguments test) (λ q bs. (refl, tt)) (in_size code arguments f end e.held.register e.lists s.held k) e.held.to (omega (arith, x)) (omega arith), tt);
+      }
+  element_aims false (Some c) h from l e s =
+      let x = s.to_is in
+      record {
+        to_is = let b : length (e.code ++ []) ≡ length e.code + 0 = length-append e.code [] in omega (arith, x, b);
+        grows = s.grows;
+        aim = (s.held, h c refl);
+        goods = λ o bs k run.
+            good_append code arguments f end o from e.held.to e.code [] s.to_is
+            (s.goods o bs k (within code arguments f end o from (e.held.to + 0) from e.held.to bs run (omega arith) (omega arith))) tt;
+      }
+
+  module _ (p : Program) (typed : IsTypedProgram p) (takes : CalleesTake p code) (defined : DefinedAreCallees p) (shares : code.globals ≡ globals p) where
+    module _ (known : Scope) (scope : LocalScope) (agrees : Agrees known (running_scope p scope)) where
+      sound : (e : Expr) → TypedExpr known e → (from into free : ℕ) (l : Lists) → Sound code arguments f end from l (emitted p scope e from into free l)
+      sound e h from into free l = expr_sound p code arguments f end typed takes defined shares known scope agrees e h from into free l
+
+      aims : (check : Bool) (lhs : Expr) → TypedTarget known lhs → IsTrue (may_be_assigned known lhs) → (from : ℕ) (l : Lists) → Aims from l (aimed p scope check lhs from (length scope) l)
+      aims check (Variable x) h m from l =
+          let k = known_number (known x.text) h m in
+          variable_aims (newest scope x.text) (global_of p x.text) (cell_is p code arguments f end typed takes defined shares known scope agrees x k.0 h k.1) from l
+      aims check (Element x i at) h m from l =
+          element_aims check (global_of p x.text) (cells_are p code arguments f end typed takes defined shares x.text) from l (emitted p scope i from (length scope) (length scope) l) (sound i h.1 from (length scope) (length scope) l)
+      aims check lhs h m from l = nowhere_aims from l
+
+      value_or_one_sound : (by : Option Expr) → IfSome by (TypedExpr known) → (from free : ℕ) (l : Lists) → OperandSound code arguments f end from l (value_or_one p scope by from free l)
+      value_or_one_sound None h from free l =
+          ready_or_sound code arguments f end 1 Int from l (constant 1 Int from free l) (one_sound code arguments f end (own.Constant free 1) from free Int l (λ q bs. (refl, tt)) (λ r s. (r, omega arith)))
+      value_or_one_sound (Some e) h from free l = operand_sound code arguments f end e from l (emitted p scope e from free free l) (sound e h from free free l)
+
+      adjusted_flat : (op : BinaryOp) (lhs : Expr) (by : Option Expr) → TypedTarget known lhs → IfSome by (TypedExpr known) → IsTrue (may_be_assigned known lhs) → (from : ℕ) (l : Lists) → Flat from l (adjusted p scope op lhs by from (length scope) l)
+      adjusted_flat op lhs by ht hb m from l =
+          let a = aimed p scope false lhs from (length scope) l in
+          let g = aims false lhs ht m from l in
+          let later : ℕ = above_target a.target (length scope) in
+          let old = fetched a.target a.to later a.lists in
+          let other = value_or_one p scope by old.held.to (above later old.held.register) old.lists in
+          let into : ℕ = home_or a.target later in
+          aimed_flat from l a (then_stored a.target (both op old other into)) g
+          (then_stored_flat a.target a.to a.lists (both op old other into)
+          (both_sound code arguments f end op into a.to a.lists old other (fetched_sound a.target a.to later a.lists g.aim) (value_or_one_sound by hb old.held.to (above later old.held.register) old.lists)) g.aim)
+
+      pub simple_flat : (s : Simple) → TypedSimple known s → (from : ℕ) (l : Lists) → Flat from l (simple_written p scope s from (length scope) l)
+      simple_flat (Evaluate e) h from l = evaluated_flat from l (emitted p scope e from (length scope) (length scope) l) (sound e h from (length scope) (length scope) l)
+      simple_flat (Assign lhs None e) h from l =
+          let a = aimed p scope true lhs from (length scope) l in
+          let g = aims true lhs h.0 h.2 from l in
+          let later : ℕ = above_target a.target (length scope) in
+          let v = emitted p scope e a.to (home_or a.target later) later a.lists in
+          aimed_flat from l a (then_stored a.target v) g (then_stored_flat a.target a.to a.lists v (sound e h.1 a.to (home_or a.target later) later a.lists) g.aim)
+      simple_flat (Assign lhs (Some op) e) h from l = adjusted_flat op lhs (Some e) h.0 h.1 h.2 from l
+      simple_flat (Adjust lhs by) h from l = adjusted_flat (op_of by) lhs None h.0 tt h.1 from l
+
+    first_flat : (known : Scope) (scope : LocalScope) → Agrees known (running_scope p scope) → (i : ℕ) (t : Scalar) (first : Option Expr) → IfSome first (TypedExpr known) → (from : ℕ) (l : Lists) → i < l.registers → Flat from l (first_written p scope i t first from l)
+    first_flat known scope agrees i t None h from l k = nothing_flat from l
+    first_flat known scope agrees i t (Some e) h from l k = then_stored_flat (target.Local i t) from l (emitted p scope e from i (suc i) l) (sound known scope agrees e h from i (suc i) l) k
+
+    pub declared_flat : (t : Scalar) (ds : List Declarator) (known : Scope) (scope : LocalScope) → Agrees known (running_scope p scope) → TypedDeclarators known t ds → (from : ℕ) (l : Lists) → Flat from l (declared_written p t ds scope from l)
+    declared_flat t [] known scope agrees h from l = nothing_flat from l
+    declared_flat t (d ∷ ds) known scope agrees h from l =
+        let i : ℕ = length scope in
+        let x : List ℕ = d.name.text in
+        let inner = with_local scope x t in
+        let ahead = one_more_agrees p known scope x t agrees in
+        let known' = with_number x t known in
+        let here : i < (used i l).registers = (let m = max_right l.registers (suc i) in omega (arith, m)) in
+        let first = first_written p inner i t d.first (from + 1) (used i l) in
+        let g = first_flat known' inner ahead i t d.first h.0 (from + 1) (used i l) here in
+        let own_growth : Grows l (used i l) = grows_used l l i (grows_same l) in
+        let one = declarator_written p t d scope from l in
+        let y = g.to_is in
+        let one_is : Flat from l one = (record {
+          to_is = omega (arith, y);
+          grows = grows_further l (used i l) first.lists own_growth g.grows;
+          goods = λ o bs k run.
+              let fits = fits_before code arguments f.registers (used i l) first.lists g.grows k in (
+                good_on code arguments f end o from first.to bs run (instr_of arguments (own.Constant i 0)) (λ q bs. (refl, tt)) (is_register code arguments f.registers l i fits, omega arith) from (omega arith) (omega (arith, y)),
+                subst (λ q. AreGood code arguments f end o q first.code) (omega arith) (g.goods o bs k (within code arguments f end o from first.to (from + 1) first.to bs run (omega arith) (omega arith))),
+              );
+        }) in
+        then_flat from l one (declared_written p t ds inner one.to one.lists) one_is (declared_flat t ds known' inner ahead h.1 one.to one.lists)
+
+    pub start_flat : (s : Start) (known : Scope) (scope : LocalScope) → Agrees known (running_scope p scope) → TypedStart known s → (from : ℕ) (l : Lists) → Flat from l (start_written p s scope from l)
+    start_flat Nothing known scope agrees h from l = nothing_flat from l
+    start_flat (Declares d) known scope agrees h from l = declared_flat d.of d.declarators known scope agrees h from l
+    start_flat (Does s) known scope agrees h from l = simple_flat known scope agrees s h from l

@@ -1,0 +1,107 @@
+-- The instructions that are picked for a condition: a value and a jump, for which `!` and comparisons with 0 only say
+-- when it is taken, and for `&&` and `||` a first condition with its jump before it.
+use Rattle.std.specs.Prelude.{ℕ, zero, ◌+◌, List, [], ◌∷◌, ◌++◌, map, Bool, true, false, not, if◌then◌else◌, Option, Some, None}
+use Rattle.syntax.specs.declared.tree.BinaryOp.{BinaryOp}
+use Rattle.syntax.specs.declared.tree.BinaryOp.TheVariants.{Equal, NotEqual}
+use Rattle.syntax.specs.declared.tree.LogicalOp.{LogicalOp}
+use Rattle.syntax.specs.declared.tree.LogicalOp.TheVariants.{AndThen, OrElse}
+use Rattle.syntax.specs.Tree.{Expr, Constant}
+use Rattle.bytecode.specs.declared.instr.Instr.{Instr}
+use Rattle.bytecode.specs.declared.instr.Instr.TheVariants as own
+use Rattle.picked.specs.declared.held.Held.{Held}
+use Rattle.picked.specs.declared.held.Tested.{Tested}
+use Rattle.picked.specs.declared.draft.Draft.{Draft}
+use Rattle.picked.specs.declared.draft.Draft.TheVariants as draft
+use Rattle.picked.specs.Lists.{Lists}
+
+-- instructions, some of which lead to where the condition holds or to where it does not; the lists after them, the
+-- register of a value, whether the condition holds where that is 0, and the place behind
+pub record Condition : Type 0 where
+  pub code : List Draft
+  pub lists : Lists
+  pub register : ℕ
+  pub at_zero : Bool
+  pub to : ℕ
+
+abbrev pub test_in : Condition → Tested
+test_in c = record { register = c.register; at_zero = c.at_zero; to = c.to }
+
+-- a jump that is taken where a register is 0, or where it is not, and the opposite one
+abbrev pub jump_if : Bool → ℕ → ℕ → Instr
+jump_if true r to = own.JumpZero r to
+jump_if false r to = own.JumpNonzero r to
+
+abbrev pub jump_if_not : Bool → ℕ → ℕ → Instr
+jump_if_not true r to = own.JumpNonzero r to
+jump_if_not false r to = own.JumpZero r to
+
+-- the instruction, once it is known where the condition leads
+abbrev pub completed : (met unmet : ℕ) → Draft → Instr
+completed met unmet (draft.Whole i) = i
+completed met unmet (draft.ToMet at_zero r) = jump_if at_zero r met
+completed met unmet (draft.ToUnmet at_zero r) = jump_if at_zero r unmet
+
+-- the same of the opposite condition
+abbrev pub turned : Draft → Draft
+turned (draft.Whole i) = draft.Whole i
+turned (draft.ToMet at_zero r) = draft.ToUnmet at_zero r
+turned (draft.ToUnmet at_zero r) = draft.ToMet at_zero r
+
+-- of the first condition of `&&` and `||`, where it is known where the second one begins
+abbrev pub led_on : LogicalOp → ℕ → Draft → Draft
+led_on AndThen next (draft.Whole i) = draft.Whole i
+led_on AndThen next (draft.ToMet at_zero r) = draft.Whole (jump_if at_zero r next)
+led_on AndThen next (draft.ToUnmet at_zero r) = draft.ToUnmet at_zero r
+led_on OrElse next (draft.Whole i) = draft.Whole i
+led_on OrElse next (draft.ToMet at_zero r) = draft.ToMet at_zero r
+led_on OrElse next (draft.ToUnmet at_zero r) = draft.Whole (jump_if at_zero r next)
+
+-- its jump past the second one
+abbrev pub short_jump : LogicalOp → Tested → Draft
+short_jump AndThen t = draft.ToUnmet (not t.at_zero) t.register
+short_jump OrElse t = draft.ToMet t.at_zero t.register
+
+-- a condition with its jump: behind it stands what is done where it holds, or where it does not
+abbrev pub going_on : List Draft → Tested → (unmet : ℕ) → List Instr
+going_on code t unmet = map (completed (t.to + 1) unmet) code ++ jump_if_not t.at_zero t.register unmet ∷ []
+
+abbrev pub going_back : List Draft → Tested → (met : ℕ) → List Instr
+going_back code t met = map (completed met (t.to + 1)) code ++ jump_if t.at_zero t.register met ∷ []
+
+-- the test of a value
+abbrev pub tested_by : Held → Tested
+tested_by h = record { register = h.register; at_zero = false; to = h.to }
+
+abbrev pub by_value : List Instr → Lists → Held → Condition
+by_value code l held = record {
+  code = map draft.Whole code;
+  lists = l;
+  register = held.register;
+  at_zero = false;
+  to = held.to;
+}
+
+abbrev pub opposite : Condition → Condition
+opposite c = record c { code = map turned c.code; at_zero = not c.at_zero }
+
+-- a first condition and its jump
+abbrev pub first_of : LogicalOp → Condition → List Draft
+first_of op a = map (led_on op (a.to + 1)) a.code ++ short_jump op (test_in a) ∷ []
+
+abbrev pub joined : LogicalOp → (a b : Condition) → Condition
+joined op a b = record b { code = first_of op a ++ b.code }
+
+abbrev pub is_nought : Expr → Bool
+is_nought (Constant zero t at) = true
+is_nought e = false
+
+-- a comparison with 0: whether it holds where the other side is 0
+abbrev pub zero_test : BinaryOp → Expr → Option Bool
+zero_test Equal b = if is_nought b then Some true else None
+zero_test NotEqual b = if is_nought b then Some false else None
+zero_test op b = None
+
+abbrev pub zero_tested : Option Bool → Condition → Option Condition
+zero_tested None other = None
+zero_tested (Some true) other = Some (opposite other)
+zero_tested (Some false) other = Some other

@@ -1,0 +1,275 @@
+-- The instructions that are picked for an expression. Each part is told its first place and gives the place behind
+-- it, so that jumps over it need no further pass. A result that is computed comes into the register `into`, and
+-- registers from `free` on may be written.
+use Rattle.std.specs.Prelude.{ℕ, suc, pos, ◌+◌, List, [], ◌∷◌, ◌++◌, length, Option, Some, None, option_map, max, if◌then◌else◌, ◌==◌}
+use Rattle.lex.specs.declared.token.Scalar.{Scalar}
+use Rattle.lex.specs.declared.token.Scalar.TheVariants.{Int, Unsigned}
+use Rattle.syntax.specs.declared.tree.UnaryOp.TheVariants.{Negate, Keep, Not, Complement}
+use Rattle.syntax.specs.declared.tree.BinaryOp.{BinaryOp}
+use Rattle.syntax.specs.declared.tree.BinaryOp.TheVariants.{Or, Xor, And, Equal, NotEqual, Less, Greater, LessEqual, GreaterEqual, ShiftLeft, ShiftRight, Add, Subtract, Multiply, Divide, Remainder}
+use Rattle.syntax.specs.declared.tree.LogicalOp.{LogicalOp}
+use Rattle.syntax.specs.Tree.{Expr, Exprs, Variable, Constant, Element, Call, Parenthesized, Cast, Unary, Binary, Logical, Conditional, Program}
+use Rattle.syntax.specs.Numbers.{word_of, common, operand_type, result_type}
+use Rattle.syntax.specs.Names.{newest, global_of, cells, GlobalCells}
+use Rattle.bytecode.specs.declared.instr.Instr.{Instr}
+use Rattle.bytecode.specs.declared.instr.Instr.TheVariants as own
+use Rattle.bytecode.specs.declared.limits.TheConstants.{MOST_REGISTERS}
+use Rattle.lowered.specs.Expressions.{LocalScope, Layout, arranged}
+use Rattle.picked.specs.declared.held.Held.{Held}
+use Rattle.picked.specs.Lists.{Lists, used, holding}
+use Rattle.picked.specs.Names.{Callee, callee_of}
+use Rattle.picked.specs.Conditions.{Condition, test_in, going_on, by_value, opposite, joined, zero_test, zero_tested}
+
+-- the instruction of an operator: one that asks for more is the other way round
+abbrev pub computing : BinaryOp → Scalar → ℕ → ℕ → ℕ → Instr
+computing Add Int d a b = own.AddSigned d a b
+computing Add Unsigned d a b = own.AddUnsigned d a b
+computing Subtract Int d a b = own.SubtractSigned d a b
+computing Subtract Unsigned d a b = own.SubtractUnsigned d a b
+computing Multiply Int d a b = own.MultiplySigned d a b
+computing Multiply Unsigned d a b = own.MultiplyUnsigned d a b
+computing Divide Int d a b = own.DivideSigned d a b
+computing Divide Unsigned d a b = own.DivideUnsigned d a b
+computing Remainder Int d a b = own.RemainderSigned d a b
+computing Remainder Unsigned d a b = own.RemainderUnsigned d a b
+computing ShiftLeft Int d a b = own.ShiftLeftSigned d a b
+computing ShiftLeft Unsigned d a b = own.ShiftLeftUnsigned d a b
+computing ShiftRight Int d a b = own.ShiftRightSigned d a b
+computing ShiftRight Unsigned d a b = own.ShiftRightUnsigned d a b
+computing And t d a b = own.And d a b
+computing Or t d a b = own.Or d a b
+computing Xor t d a b = own.Xor d a b
+computing Equal t d a b = own.Equal d a b
+computing NotEqual t d a b = own.NotEqual d a b
+computing Less Int d a b = own.LessSigned d a b
+computing Less Unsigned d a b = own.LessUnsigned d a b
+computing Greater Int d a b = own.LessSigned d b a
+computing Greater Unsigned d a b = own.LessUnsigned d b a
+computing LessEqual Int d a b = own.LessEqualSigned d a b
+computing LessEqual Unsigned d a b = own.LessEqualUnsigned d a b
+computing GreaterEqual Int d a b = own.LessEqualSigned d b a
+computing GreaterEqual Unsigned d a b = own.LessEqualUnsigned d b a
+
+abbrev pub negating : Scalar → ℕ → ℕ → Instr
+negating Int d a = own.NegateSigned d a
+negating Unsigned d a = own.NegateUnsigned d a
+
+-- instructions, the lists after them, and where the value lies behind them
+pub record Emitted : Type 0 where
+  pub code : List Instr
+  pub lists : Lists
+  pub held : Held
+
+-- and the registers of several values
+pub record AllEmitted : Type 0 where
+  pub code : List Instr
+  pub lists : Lists
+  pub registers : List ℕ
+  pub to : ℕ
+
+-- the first free register above a value's
+abbrev pub above : ℕ → ℕ → ℕ
+above free r = max free (suc r)
+
+-- one instruction that writes a register
+abbrev pub one : Instr → (from r : ℕ) → Scalar → Lists → Emitted
+one i from r t l = record { code = i ∷ []; lists = used r l; held = record { register = r; of = t; to = from + 1 } }
+
+abbrev pub then_one : Emitted → Instr → ℕ → Scalar → Emitted
+then_one e i r t = record {
+  code = e.code ++ i ∷ [];
+  lists = used r e.lists;
+  held = record { register = r; of = t; to = e.held.to + 1 };
+}
+
+abbrev pub constant : ℕ → Scalar → (from into : ℕ) → Lists → Emitted
+constant n t from into l = one (own.Constant into n) from into t l
+
+-- the register in which a word lies ready, where these words do from this register on, as far as registers have numbers
+abbrev pub ready_from : ℕ → List ℕ → ℕ → Option ℕ
+ready_from r [] w = None
+ready_from r (x ∷ xs) w = if x == w then Some r else if r == MOST_REGISTERS then None else ready_from (suc r) xs w
+
+abbrev pub ready : Layout → (w : ℕ) → Scalar → (from : ℕ) → Option Held
+ready layout w t from =
+    option_map (λ r. record { register = r; of = t; to = from }) (ready_from layout.writable layout.constants w)
+
+-- a constant that lies ready, as the right side of an operator
+abbrev pub constant_ready : Layout → Expr → ℕ → Option Held
+constant_ready layout (Constant n t at) from = ready layout (word_of (pos n)) t from
+constant_ready layout e from = None
+
+-- a value that lies ready, or else one that is computed
+abbrev pub ready_or : Option Held → Lists → Emitted → Emitted
+ready_or None l e = e
+ready_or (Some held) l e = record { code = []; lists = l; held = held }
+
+-- a local's own register
+abbrev pub in_local : ℕ → Scalar → ℕ → Lists → Emitted
+in_local i t from l = record { code = []; lists = used i l; held = record { register = i; of = t; to = from } }
+
+abbrev pub variable : Option (ℕ × Scalar) → Option GlobalCells → (from into : ℕ) → Lists → Emitted
+variable (Some x) g from into l = in_local x.0 x.1 from l
+variable None (Some g) from into l = one (own.Read into g.cell) from into g.global.of l
+variable None None from into l = constant 0 Int from into l
+
+abbrev pub element : Option GlobalCells → Emitted → (from into : ℕ) → Lists → Emitted
+element (Some g) i from into l =
+    then_one i (own.ReadAt into i.held.register g.cell (cells g.global)) into g.global.of
+element None i from into l = constant 0 Int from into l
+
+abbrev pub converted_to : Scalar → Emitted → Emitted
+converted_to t e = record e { held = record { register = e.held.register; of = t; to = e.held.to } }
+
+abbrev pub negated : Emitted → ℕ → Emitted
+negated e into = then_one e (negating e.held.of into e.held.register) into e.held.of
+
+abbrev pub complemented : Emitted → ℕ → Emitted
+complemented e into = then_one e (own.Complement into e.held.register) into e.held.of
+
+-- `!`: whether it is 0
+abbrev pub compared : Emitted → (into free : ℕ) → Emitted
+compared e into free =
+    let zero_in = above free e.held.register in
+    record {
+      code = e.code ++ own.Constant zero_in 0 ∷ own.Equal into e.held.register zero_in ∷ [];
+      lists = used into (used zero_in e.lists);
+      held = record { register = into; of = Int; to = e.held.to + 2 };
+    }
+
+abbrev pub both : BinaryOp → Emitted → Emitted → ℕ → Emitted
+both op a b into =
+    let t = operand_type op a.held.of b.held.of in
+    record {
+      code = a.code ++ b.code ++ computing op t into a.held.register b.held.register ∷ [];
+      lists = used into b.lists;
+      held = record { register = into; of = result_type op t; to = b.held.to + 1 };
+    }
+
+-- the int 1 where a condition holds, and 0 where it does not
+abbrev pub answered : Condition → ℕ → Emitted
+answered c into =
+    let last = c.to in
+    record {
+      code =
+          going_on c.code (test_in c) (last + 3)
+          ++ own.Constant into 1 ∷ own.Jump (last + 4) ∷ own.Constant into 0 ∷ [];
+      lists = used into c.lists;
+      held = record { register = into; of = Int; to = last + 4 };
+    }
+
+-- a value in this very register
+abbrev pub settled : ℕ → Emitted → Emitted
+settled r e = if e.held.register == r then e else then_one e (own.Move r e.held.register) r e.held.of
+
+-- a condition, and one of two values that lie in one register
+abbrev pub chosen : Condition → Emitted → Emitted → ℕ → Emitted
+chosen c a b into = record {
+  code = going_on c.code (test_in c) (a.held.to + 1) ++ a.code ++ own.Jump b.held.to ∷ b.code;
+  lists = b.lists;
+  held = record { register = into; of = common a.held.of b.held.of; to = b.held.to };
+}
+
+-- a condition as its operator has it, or else by its value
+abbrev pub tested : Option Condition → Emitted → Condition
+tested None e = by_value e.code e.lists e.held
+tested (Some c) e = c
+
+-- two conditions, one behind the other
+abbrev pub joining : LogicalOp → (first second : ℕ → Lists → Condition) → ℕ → Lists → Condition
+joining op first second from l = let a = first from l in joined op a (second (a.to + 1) a.lists)
+
+abbrev pub none_emitted : ℕ → Lists → AllEmitted
+none_emitted from l = record { code = []; lists = l; registers = []; to = from }
+
+abbrev pub followed : Emitted → AllEmitted → AllEmitted
+followed e es = record {
+  code = e.code ++ es.code;
+  lists = es.lists;
+  registers = e.held.register ∷ es.registers;
+  to = es.to;
+}
+
+-- a call: its arguments' registers go into the code's list of arguments
+abbrev pub called : Option Callee → AllEmitted → (from into : ℕ) → Lists → Emitted
+called None args from into l = constant 0 Int from into l
+called (Some f) args from into l =
+    let made = args.lists.arguments in
+    let handed = arranged f.parameters args.registers in
+    record {
+      code = args.code ++ own.Call into (length handed) f.number (length made) ∷ [];
+      lists = used into (holding (length handed) (record args.lists { arguments = made ++ handed }));
+      held = record { register = into; of = f.of; to = args.to + 1 };
+    }
+
+module _ (p : Program) (scope : LocalScope) where
+  abbrev mutual
+    pub emitted : Expr → (from into free : ℕ) → Lists → Emitted
+    emitted (Variable x) from into free l = variable (newest scope x.text) (global_of p x.text) from into l
+    emitted (Constant n t at) from into free l = constant (word_of (pos n)) t from into l
+    emitted (Element x i at) from into free l =
+        element (global_of p x.text) (emitted i from free free l) from into l
+    emitted (Call f es at) from into free l = called (callee_of p f.text) (all_emitted es from free l) from into l
+    emitted (Parenthesized e at) from into free l = emitted e from into free l
+    emitted (Cast t e at) from into free l = converted_to t (emitted e from into free l)
+    emitted (Unary Negate e at) from into free l = negated (emitted e from free free l) into
+    emitted (Unary Keep e at) from into free l = emitted e from into free l
+    emitted (Unary Not e at) from into free l = compared (emitted e from free free l) into free
+    emitted (Unary Complement e at) from into free l = complemented (emitted e from free free l) into
+    emitted (Binary op a b at) from into free l =
+        let left = emitted a from free free l in
+        let later = above free left.held.register in
+        let computed = emitted b left.held.to later later left.lists in
+        both op left (ready_or (constant_ready left.lists.layout b left.held.to) left.lists computed) into
+    emitted (Logical op a b at) from into free l =
+        answered
+        (joining op (λ to m. tested (own_condition a to free m) (emitted a to free free m))
+        (λ to m. tested (own_condition b to free m) (emitted b to free free m)) from l)
+        into
+    emitted (Conditional c a b at) from into free l =
+        let test = tested (own_condition c from free l) (emitted c from free free l) in
+        let first = settled into (emitted a (test.to + 1) into free test.lists) in
+        chosen test first (settled into (emitted b (first.held.to + 1) into free first.lists)) into
+
+    -- a condition whose operator says how it is tested
+    pub own_condition : Expr → (from free : ℕ) → Lists → Option Condition
+    own_condition (Parenthesized e at) from free l =
+        Some (tested (own_condition e from free l) (emitted e from free free l))
+    own_condition (Cast t e at) from free l =
+        Some (tested (own_condition e from free l) (emitted e from free free l))
+    own_condition (Unary Keep e at) from free l =
+        Some (tested (own_condition e from free l) (emitted e from free free l))
+    own_condition (Unary Not e at) from free l =
+        Some (opposite (tested (own_condition e from free l) (emitted e from free free l)))
+    own_condition (Binary op a b at) from free l =
+        zero_tested (zero_test op b) (tested (own_condition a from free l) (emitted a from free free l))
+    own_condition (Logical op a b at) from free l = Some
+        (joining op (λ to m. tested (own_condition a to free m) (emitted a to free free m))
+        (λ to m. tested (own_condition b to free m) (emitted b to free free m)) from l)
+    own_condition e from free l = None
+
+    -- values from left to right, each in a register of its own
+    pub all_emitted : Exprs → (from free : ℕ) → Lists → AllEmitted
+    all_emitted Exprs.[] from free l = none_emitted from l
+    all_emitted (Exprs.◌∷◌ e es) from free l =
+        let first = emitted e from free free l in
+        followed first (all_emitted es first.held.to (above free first.held.register) first.lists)
+
+  -- the right side of an operator
+  abbrev pub operand : Expr → (from free : ℕ) → Lists → Emitted
+  operand e from free l = ready_or (constant_ready l.layout e from) l (emitted e from free free l)
+
+  abbrev pub condition : Expr → (from free : ℕ) → Lists → Condition
+  condition e from free l = tested (own_condition e from free l) (emitted e from free free l)
+
+  -- both conditions of `&&` and `||`
+  abbrev pub both_conditions : LogicalOp → (a b : Expr) → (from free : ℕ) → Lists → Condition
+  both_conditions op a b from free l =
+      joining op (λ to m. condition a to free m) (λ to m. condition b to free m) from l
+
+  -- `c ? a : b`
+  abbrev pub conditional : (c a b : Expr) → (from into free : ℕ) → Lists → Emitted
+  conditional c a b from into free l =
+      let test = condition c from free l in
+      let first = settled into (emitted a (test.to + 1) into free test.lists) in
+      chosen test first (settled into (emitted b (first.held.to + 1) into free first.lists)) into

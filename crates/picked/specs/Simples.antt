@@ -1,0 +1,160 @@
+-- The instructions that are picked for assignments and declarations.
+use Rattle.std.specs.Prelude.{ℕ, suc, ◌+◌, List, [], ◌∷◌, ◌++◌, length, Option, Some, None, Bool, true, false, if◌then◌else◌, ◌==◌}
+use Rattle.lex.specs.declared.token.Scalar.{Scalar}
+use Rattle.lex.specs.declared.token.Scalar.TheVariants.{Int}
+use Rattle.syntax.specs.declared.tree.BinaryOp.{BinaryOp}
+use Rattle.syntax.specs.Tree.{Expr, Variable, Element, Simple, Evaluate, Assign, Adjust, Declarator, Start, Nothing, Declares, Does, Program}
+use Rattle.syntax.specs.Names.{newest, global_of, cells, GlobalCells}
+use Rattle.syntax.specs.Meaning.{op_of}
+use Rattle.bytecode.specs.declared.instr.Instr.{Instr}
+use Rattle.bytecode.specs.declared.instr.Instr.TheVariants as own
+use Rattle.picked.specs.declared.held.Target.{Target}
+use Rattle.picked.specs.declared.held.Target.TheVariants as target
+use Rattle.picked.specs.Lists.{Lists, used}
+use Rattle.lowered.specs.Expressions.{LocalScope}
+use Rattle.lowered.specs.Statements.{with_local}
+use Rattle.picked.specs.Expressions.{Emitted, above, one, constant, ready, ready_or, in_local, both, emitted, operand}
+
+-- instructions, the lists after them, and the place behind them
+pub record Written : Type 0 where
+  pub code : List Instr
+  pub lists : Lists
+  pub to : ℕ
+
+-- instructions that find out where an assignment goes
+pub record Aimed : Type 0 where
+  pub code : List Instr
+  pub lists : Lists
+  pub target : Target
+  pub to : ℕ
+
+abbrev pub nothing_written : ℕ → Lists → Written
+nothing_written from l = record { code = []; lists = l; to = from }
+
+abbrev pub aimed_at : Target → ℕ → Lists → Aimed
+aimed_at t from l = record { code = []; lists = l; target = t; to = from }
+
+abbrev pub variable_target : Option (ℕ × Scalar) → Option GlobalCells → ℕ → Lists → Aimed
+variable_target (Some x) g from l = aimed_at (target.Local x.0 x.1) from (used x.0 l)
+variable_target None (Some g) from l = aimed_at (target.Cell g.cell g.global.of) from l
+variable_target None None from l = aimed_at target.Nowhere from l
+
+-- an element's index is computed first, and tested where nothing is read there at once
+abbrev pub checked_by : Bool → ℕ → ℕ → List Instr
+checked_by true i n = own.Check i n ∷ []
+checked_by false i n = []
+
+abbrev pub checks : Bool → ℕ
+checks true = 1
+checks false = 0
+
+abbrev pub element_target : Bool → Option GlobalCells → Emitted → ℕ → Lists → Aimed
+element_target check None i from l = aimed_at target.Nowhere from l
+element_target check (Some g) i from l = record {
+  code = i.code ++ checked_by check i.held.register (cells g.global);
+  lists = i.lists;
+  target = target.Element i.held.register g.cell (cells g.global) g.global.of;
+  to = i.held.to + checks check;
+}
+
+-- the first register that a target leaves
+abbrev pub above_target : Target → ℕ → ℕ
+above_target (target.Element i cell n t) free = above free i
+above_target t free = free
+
+-- the old value
+abbrev pub fetched : Target → (from free : ℕ) → Lists → Emitted
+fetched (target.Local i t) from free l = in_local i t from l
+fetched (target.Cell c t) from free l = one (own.Read free c) from free t l
+fetched (target.Element i c n t) from free l = one (own.ReadAt free i c n) from free t l
+fetched target.Nowhere from free l = constant 0 Int from free l
+
+-- the register that the value takes: a local's own, or else a free one
+abbrev pub home_or : Target → ℕ → ℕ
+home_or (target.Local i t) free = i
+home_or t free = free
+
+abbrev pub one_written : Instr → ℕ → Lists → Written
+one_written i from l = record { code = i ∷ []; lists = l; to = from + 1 }
+
+-- a value goes to its target, where it does not lie there already
+abbrev pub stored : Target → ℕ → ℕ → Lists → Written
+stored (target.Local i t) a from l = if a == i then nothing_written from l else one_written (own.Move i a) from l
+stored (target.Cell c t) a from l = one_written (own.Write a c) from l
+stored (target.Element i c n t) a from l = one_written (own.WriteAt i a c n) from l
+stored target.Nowhere a from l = nothing_written from l
+
+-- one after another
+abbrev pub and_then : Written → Written → Written
+and_then a b = record { code = a.code ++ b.code; lists = b.lists; to = b.to }
+
+abbrev pub evaluated : Emitted → Written
+evaluated e = record { code = e.code; lists = e.lists; to = e.held.to }
+
+abbrev pub then_stored : Target → Emitted → Written
+then_stored t e = and_then (evaluated e) (stored t e.held.register e.held.to e.lists)
+
+abbrev pub behind : Aimed → Written → Written
+behind t w = record { code = t.code ++ w.code; lists = w.lists; to = w.to }
+
+-- the 1 that is added or subtracted
+abbrev pub emitted_one : (from free : ℕ) → Lists → Emitted
+emitted_one from free l = ready_or (ready l.layout 1 Int from) l (constant 1 Int from free l)
+
+module _ (p : Program) (scope : LocalScope) where
+  -- where an assignment goes, with the test of an index or without it
+  abbrev pub aimed : Bool → Expr → (from free : ℕ) → Lists → Aimed
+  aimed check (Variable x) from free l = variable_target (newest scope x.text) (global_of p x.text) from l
+  aimed check (Element x i at) from free l =
+      element_target check (global_of p x.text) (emitted p scope i from free free l) from l
+  aimed check e from free l = aimed_at target.Nowhere from l
+
+  -- the right side of an operator: a value, or else 1
+  abbrev pub value_or_one : Option Expr → (from free : ℕ) → Lists → Emitted
+  value_or_one None from free l = emitted_one from free l
+  value_or_one (Some e) from free l = operand p scope e from free l
+
+  abbrev pub assigned : Expr → Expr → (from free : ℕ) → Lists → Written
+  assigned lhs e from free l =
+      let t = aimed true lhs from free l in
+      let later = above_target t.target free in
+      behind t (then_stored t.target (emitted p scope e t.to (home_or t.target later) later t.lists))
+
+  -- the old value, another one, the operator on both, and the result in the old one's place
+  abbrev pub adjusted : BinaryOp → Expr → Option Expr → (from free : ℕ) → Lists → Written
+  adjusted op lhs by from free l =
+      let t = aimed false lhs from free l in
+      let later = above_target t.target free in
+      let old = fetched t.target t.to later t.lists in
+      let other = value_or_one by old.held.to (above later old.held.register) old.lists in
+      behind t (then_stored t.target (both op old other (home_or t.target later)))
+
+  abbrev pub simple_written : Simple → (from free : ℕ) → Lists → Written
+  simple_written (Evaluate e) from free l = evaluated (emitted p scope e from free free l)
+  simple_written (Assign lhs None e) from free l = assigned lhs e from free l
+  simple_written (Assign lhs (Some op) e) from free l = adjusted op lhs (Some e) from free l
+  simple_written (Adjust lhs by) from free l = adjusted (op_of by) lhs None from free l
+
+-- the first value of the local in this register, behind which the registers are free
+abbrev pub first_written : Program → LocalScope → ℕ → Scalar → Option Expr → ℕ → Lists → Written
+first_written p scope i t None from l = nothing_written from l
+first_written p scope i t (Some e) from l =
+    then_stored (target.Local i t) (emitted p scope e from i (suc i) l)
+
+-- a declared local is 0 and then has its first value
+abbrev pub declarator_written : Program → Scalar → Declarator → LocalScope → ℕ → Lists → Written
+declarator_written p t d scope from l =
+    let i = length scope in
+    let first = first_written p (with_local scope d.name.text t) i t d.first (from + 1) (used i l) in
+    record { code = own.Constant i 0 ∷ first.code; lists = first.lists; to = first.to }
+
+abbrev pub declared_written : Program → Scalar → List Declarator → LocalScope → ℕ → Lists → Written
+declared_written p t [] scope from l = nothing_written from l
+declared_written p t (d ∷ ds) scope from l =
+    let one = declarator_written p t d scope from l in
+    and_then one (declared_written p t ds (with_local scope d.name.text t) one.to one.lists)
+
+abbrev pub start_written : Program → Start → LocalScope → ℕ → Lists → Written
+start_written p Nothing scope from l = nothing_written from l
+start_written p (Declares d) scope from l = declared_written p d.of d.declarators scope from l
+start_written p (Does s) scope from l = simple_written p scope s from (length scope) l
