@@ -20,6 +20,3 @@ pub use copied::Copied;
 pub use items::Items;
 pub use same::Same;
 pub use text::Text;
-
-#[cfg(test)]
-mod tests;

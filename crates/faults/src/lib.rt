@@ -8,6 +8,3 @@ mod table;
 pub use explanations::explanation;
 pub use line::underlined;
 pub use table::words;
-
-#[cfg(test)]
-mod tests;

@@ -1,6 +1,6 @@
-//! Each call once with ample memory, and each growth refused once.
+//! What boxes, lists and texts hold: each call once with ample memory, and each growth refused once.
 
-use super::{Boxed, Copied, Items, Same, Text};
+use containers::{Boxed, Copied, Items, Same, Text};
 use refusing::Refusing;
 use std::alloc::{AllocError, Allocator, Global};
 use std::test::Fail;

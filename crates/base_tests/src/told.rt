@@ -1,6 +1,6 @@
 //! What is told of faults.
 
-use crate::{explanation, underlined, words};
+use faults::{explanation, underlined, words};
 use lex::token::Span;
 use refusing::Refusing;
 use std::alloc::{AllocError, Allocator, Global};

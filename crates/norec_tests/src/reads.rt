@@ -1,0 +1,71 @@
+//! The read log: pairs in their order, and each growth refused.
+
+use read_log::ReadLog;
+use refusing::Refusing;
+use std::alloc::{AllocError, Global};
+
+/// Pushes a pair, with room that is asked for a second time where it is refused, and says whether it was; none
+/// where the log has not as many pairs before as the address says, or room is refused again.
+fn insist(log: &mut ReadLog<&Refusing<Global>>, address: u32) -> Option<bool> {
+    let refused = log.reserve_one().is_err();
+    let kept = log.len() == address as usize;
+    if log.reserve_one().is_err() {
+        return None;
+    }
+    log.push(address, 9);
+    kept.then_some(refused)
+}
+
+/// Pushes the pairs of 20 addresses, and says whether room was refused.
+fn insist_on_each(log: &mut ReadLog<&Refusing<Global>>) -> Option<bool> {
+    let mut refused = false;
+    for address in 0..20u32 {
+        refused |= insist(log, address)?;
+    }
+    Some(refused)
+}
+
+/// Whether the growth is one of `reserve_one`, and refused; none where another call grows, or a pair is lost.
+fn refuses(alloc: &Refusing<Global>) -> Option<bool> {
+    let mut log = ReadLog::new(alloc);
+    let refused = insist_on_each(&mut log)?;
+    let ends = log.get(0) == Some((0, 9)) && log.get(19) == Some((19, 9));
+    (ends && log.len() == 20 && refused != alloc.is_waiting()).then_some(refused)
+}
+
+#[test]
+fn each_growth_is_refused_in_turn(rt: HostRuntime) {
+    let mut met = 0;
+    for nth in 1..100u64 {
+        match refuses(&Refusing::new(rt.alloc(), nth)) {
+            Some(true) => met = nth,
+            Some(false) => break,
+            None => panic!(rt; "a pair was lost, or a refused growth was not told"),
+        }
+    }
+    assert!(rt; 0 < met);
+}
+
+/// Pushes a pair, with room for it.
+fn push(log: &mut ReadLog, address: u32, word: u64) -> Result<(), AllocError> {
+    log.reserve_one()?;
+    log.push(address, word);
+    Ok(())
+}
+
+/// Whether an empty log keeps two pairs of one address in their order, and none when it is cleared.
+fn keeps_order(log: &mut ReadLog) -> Result<bool, AllocError> {
+    push(log, 5, 7)?;
+    push(log, 5, 8)?;
+    let first = log.get(0) == Some((5, 7));
+    let last = log.get(1) == Some((5, 8)) && log.get(2).is_none();
+    let both = log.len() == 2;
+    log.clear();
+    Ok(first && last && both && log.len() == 0)
+}
+
+#[test]
+fn keeps_each_pair_in_order(rt: HostRuntime) {
+    let mut log = ReadLog::new(rt.alloc());
+    assert!(rt; keeps_order(&mut log) == Ok(true));
+}
