@@ -58,6 +58,23 @@ conditional-outcomes-requires g t c κs within = (omega (arith, c.decreases), (w
 pub climb-operand-requires : goal.climb-operand-requires
 climb-operand-requires g t c κs within = (omega (arith, c.decreases, c.if-depth-eq0.false), (within, omega (arith, c.requires.fits)))
 
+pub opened-climb-requires : goal.opened-climb-requires
+opened-climb-requires g t c κs within = (omega (arith, c.decreases), (within, (c.requires, omega arith)))
+
+pub prefixed-climb-requires : goal.prefixed-climb-requires
+prefixed-climb-requires g t c κs within = (omega (arith, c.decreases), (within, (c.requires, omega arith)))
+
+pub climb-climb-requires : goal.climb-climb-requires
+climb-climb-requires g t c κs within =
+    (omega (arith, c.decreases, c.if-depth-eq0.false), (within, (omega (arith, c.requires.fits), omega arith)))
+
+pub whole-climb-requires : goal.whole-climb-requires
+whole-climb-requires g t c κs within = (omega (arith, c.decreases), (within, (c.requires, omega arith)))
+
+pub whole-conditional-requires : goal.whole-conditional-requires
+whole-conditional-requires g t c κs within =
+    (omega (arith, c.decreases, c.if-depth-eq0.false), (within, (omega (arith, c.requires), (c.in_ok-condition.ensures.deep, omega (arith, c.in_ok-condition.ensures.within, c.if-depth-eq0.false)))))
+
 -- ---- a name, and what may follow it
 
 pub named-returns-in_err-args-2-clause-value : goal.named-returns-in_err-args-2-clause-value
