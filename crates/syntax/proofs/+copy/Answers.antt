@@ -1,4 +1,5 @@
 use Rattle.std.proofs.Common.{◌≡◌, ap, arith, sym, ◌∙◌}
+use denote.Param.Weighed.{most, at_most}
 use Rattle.syntax.specs.declared.tree.Expr.{the_lemmas}
 use Rattle.syntax.proofs.tree.Expr.TheLaws.{the_size}
 use Rattle.std.specs.Result.{IfOk}
@@ -9,6 +10,19 @@ use Rattle.syntax.proofs.+copy.Goals as goal
 pub copy::copy_exprs-each-preserved : goal.copy::copy_exprs-each-preserved
 copy::copy_exprs-each-preserved g t c =
     pushed c.args.args.now c.each.copies c.push.new.self c.each.arg-index _ c.arg-item.result c.each.invariant c.in_ok-push.ensures.ok c.in_ok-copy.ensures c.arg-item.is c.each-test.true
+
+pub copy::copy_exprs-copy-requires : goal.copy::copy_exprs-copy-requires
+copy::copy_exprs-copy-requires g t c κs within =
+    let size = the_size g.row.A g.A.Allocator g.A.laws in
+    let below = at_most size c.args.args.now c.each.arg-index c.arg-item.result c.each-test.true in
+    let here = ap size c.arg-item.is in
+    (omega (arith, below, here, c.decreases), within)
+
+pub tree::Expr::copy-copy_exprs-requires : goal.tree::Expr::copy-copy_exprs-requires
+tree::Expr::copy-copy_exprs-requires g t c κs within =
+    let size = simp the_lemmas at (ap (the_size g.row.A g.A.Allocator g.A.laws) c.in-Call.is) in
+    let here = ap (most (the_size g.row.A g.A.Allocator g.A.laws)) c.as_slice.ensures in
+    (omega (arith, size, here, c.decreases), within)
 
 pub tree::Expr::copy-copy_boxed-requires : goal.tree::Expr::copy-copy_boxed-requires
 tree::Expr::copy-copy_boxed-requires g t c κs within =
