@@ -49,6 +49,9 @@ add_stmt-add_block-requires-in-Transaction g t c κs within =
     let here = ap (most (the_size g.row.A g.A.Allocator g.A.laws)) c.as_slice-in-Transaction.ensures in
     (omega (arith, size, here, c.decreases), within)
 
+pub add_block_item-add_stmt-requires : goal.add_block_item-add_stmt-requires
+add_block_item-add_stmt-requires g t c κs within = (omega (arith, c.decreases), within)
+
 pub add_stmt-returns-in-Declare : goal.add_stmt-returns-in-Declare
 add_stmt-returns-in-Declare g t c =
     let w = around_in c.args.locals.now c.args.place in

@@ -1,5 +1,6 @@
 use Rattle.std.proofs.Common.{◌≡◌, ◌+◌, ◌∙◌, ◌∷◌, ◌++◌, [], None, map, take, drop, sum_by, refl, sym, ap, arith, append_assoc, append-nil}
 use Rattle.std.specs.Prelude.{nat_le}
+use Rattle.std.proofs.lemmas.List.{take_all}
 use Rattle.std.proofs.lemmas.List.Sums.{sum_by-append, sum_by-cons}
 use Rattle.syntax.specs.Tree.{Shares}
 use Rattle.syntax.specs.Views.{global_of, item_of}
@@ -71,3 +72,21 @@ each-preserved g c =
           ∙ sym (skip c.check_global.result _ _ _ _ (globals_more gs i x c.index-all-i.is c.each-test.true e c.each.taken) (c.check_global.ensures ∙ ap (λ k. first_unmet (demand 21 x.name.span (is_unknown (k x.name.text)) ++ IsLength x.length ++ HaveCells (drop n x.first) ++ demand 25 x.name.span (nat_le (c.each.taken + n) 4096))) inv.1) c.in_ok-check_global.was)
           ∙ inv.5,
     )
+
+pub returns-clause-none : goal.returns-clause-none
+returns-clause-none g c = c.each.invariant.0
+
+pub returns-clause-known : goal.returns-clause-known
+returns-clause-known g c =
+    c.each.invariant.1 ∙ ap (λ gs. file_scope (map item_of c.args.earlier.now ++ Shares (map global_of gs) ∷ [])) (take_all c.each.i c.args.all.now c.each-test.false)
+
+pub returns-clause-cells : goal.returns-clause-cells
+returns-clause-cells g c =
+    c.each.invariant.2 ∙ ap (λ gs. c.args.first_cells.now ++ cells_from c.args.taken.now (map global_of gs)) (take_all c.each.i c.args.all.now c.each-test.false)
+
+pub returns-clause-taken : goal.returns-clause-taken
+returns-clause-taken g c =
+    c.each.invariant.3 ∙ ap (λ gs. c.args.taken.now + sum_by cells (map global_of gs)) (take_all c.each.i c.args.all.now c.each-test.false)
+
+pub returns-clause-few : goal.returns-clause-few
+returns-clause-few g c = c.each.invariant.4
