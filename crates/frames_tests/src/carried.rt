@@ -6,6 +6,7 @@ ghost use Rattle.frames.specs.Told.{Tells};
 
 use bytecode::Code;
 use frames::{Doing, Frames, push_piece};
+use local_steps::NoAccess;
 use std::alloc::{AllocError, Allocator};
 
 // The word of a cell.
@@ -93,7 +94,7 @@ fn go_once<A: Allocator + Copy>(frames: &mut Frames<A>, code: &Code<A>) -> (u64,
 {
     // The prover learns here that the code is valid.
     let _parts = code.parts();
-    let (made, paused) = frames.advance(code, 1000);
+    let (made, paused) = frames.advance(code, &mut NoAccess, 1000);
     match paused {
         Some(doing) => (made, pass(frames, code, doing)),
         None => (made, false),

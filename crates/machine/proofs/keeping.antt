@@ -16,6 +16,8 @@ pub mod Calls
 pub mod Advancing
 -- a read that loads its word and then the lock
 pub mod Reading
+-- steps of a thread that runs, with what loads for its reads
+pub mod Inside
 -- a commit that swaps the lock and stores, and the load of an outermost begin
 pub mod Committing
 -- validation

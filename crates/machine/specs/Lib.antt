@@ -32,5 +32,7 @@ pub mod Frames
 pub mod Standing
 -- a thread as its contracts see it
 pub mod States
+-- loads for the reads of a thread
+pub mod Loads
 -- what the proofs need, and no contract
 pub mod inner

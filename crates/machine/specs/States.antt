@@ -15,14 +15,13 @@ use Rattle.frames.specs.Told.{IsCall, Tells}
 use Rattle.norec_core.specs.declared.step.Op.{Op}
 use Rattle.norec_core.specs.declared.step.Op.TheVariants as op
 use Rattle.norec_core.specs.declared.step.Access.{Access}
-use Rattle.norec_core.specs.declared.step.Access.TheVariants.{LoadLock, LoadWord, Swap}
+use Rattle.norec_core.specs.declared.step.Access.TheVariants.{LoadWord, Swap}
 use Rattle.norec_core.specs.declared.step.Answer.{Answer}
 use Rattle.norec_core.specs.declared.step.Answer.TheVariants.{Value}
 use Rattle.norec_core.specs.Attempts.{Attempt}
 use Rattle.norec_core.specs.Accesses.{stops}
-use Rattle.norec_core.specs.Cores.{ComparesWith, IsComparing, IsStoring, IsWaiting, LoadsBoth}
+use Rattle.norec_core.specs.Cores.{ComparesWith, IsComparing, IsStoring, IsWaiting}
 use Rattle.machine.specs.Explained.{has_lock}
-use Rattle.machine.specs.Standing.{IsThreadOf}
 use Rattle.machine.specs.Threads.{Next, Thread, op_of, access, told}
 
 -- what was made ready for a step: the operation that the core was asked for, what a begin then saves, and the
@@ -70,17 +69,6 @@ pub record IsPrepared (code : Code) (s : ThreadState) : Type 0 where
 -- where the thread runs, this is what stands at its place to be done
 abbrev pub StandsAt : Code → ThreadState → Doing → Type 0
 StandsAt code s doing = s.thread.status ≡ Running → Tells code s.thread.configuration doing
-
--- The thread runs, and its next two steps are a read's: a load of this cell's word and, whatever word it finds, one
--- of the lock. There is room for its entry.
-pub record LoadsNext (code : Code) (s : ThreadState) (cell : ℕ) : Type 0 where
-  pub running : s.thread.status ≡ Running
-  pub loads : IsSomeAnd s.thread.attempt (λ a. LoadsBoth a cell)
-  pub word : access (effect code) s.thread ≡ LoadWord cell
-  pub lock : (word : ℕ) → word < 2 ^ 32 →
-      access (effect code) (told (effect code) s.thread (Value word)).thread ≡ LoadLock
-  pub between : (word : ℕ) → word < 2 ^ 32 → IsThreadOf code (told (effect code) s.thread (Value word)).thread
-  pub room : 0 < s.ready.read_room
 
 -- The thread runs, and its next step is the load of an outermost begin. What the begin saves is ready.
 pub record BeginsNext (code : Code) (s : ThreadState) : Type 0 where

@@ -2,3 +2,5 @@
 pub mod Invariant
 -- a thread as code keeps it
 pub mod Kept
+-- the same with what loads for its reads
+pub mod Inside

@@ -9,12 +9,13 @@ ghost use Rattle.norec_core.specs.declared.step.Answer.TheVariants.{Value};
 ghost use Rattle.norec_core.specs.Phases.{entry_access};
 ghost use Rattle.machine.specs.Threads.{access, told as told_spec};
 ghost use Rattle.machine.specs.Standing.{IsThreadOf};
-ghost use Rattle.machine.specs.Answered.{Replays};
-ghost use Rattle.machine.specs.States.{BeginsNext, ComparesEntry, ComparesNext, IsPrepared, IsWordOf, LoadsNext, StandsAt, StandsStill, StoresNext, SwapsNext, WaitsNext, first_thread, thread_has_lock, told_twice};
+ghost use Rattle.machine.specs.Loads.{counted};
+ghost use Rattle.machine.specs.States.{BeginsNext, ComparesEntry, ComparesNext, IsPrepared, IsWordOf, StandsAt, StandsStill, StoresNext, SwapsNext, WaitsNext, first_thread, thread_has_lock};
 ghost use Rattle.machine.specs.inner.Kept.{cost_if};
 
 use crate::event::Event;
 use crate::kept::KeptThread;
+use crate::loads::Loads;
 use crate::validation::is_validated;
 use bytecode::Code;
 use frames::{Doing, Frames};
@@ -107,25 +108,37 @@ impl<A: Allocator + Copy> Thread<A> {
         }
     }
 
-    /// Makes local steps, at most so many: those in its registers and frames, calls and returns too, writes in a transaction, and
-    /// commits that make no access. It ends before the first instruction that does something else, or that wants memory which is
-    /// refused: how many steps it made, and where they are fewer what stands there to be done.
+    /// Makes local steps, at most so many steps: those in its registers and frames, calls and returns too, writes in a transaction, and
+    /// commits that make no access; and between them the two steps of each read at which nothing disturbs it, with what is loaded
+    /// for it. It ends before the first instruction that does something else, or that wants memory which is refused: how many steps
+    /// it made, and where they are fewer what stands there to be done.
     #[inline(always)]
-    pub fn advance<B: Allocator>(&mut self, code: &Code<B>, most: u64) -> (u64, Option<Doing>)
-        requires { IsThreadOf code.now self.old.thread }
-        ensures steps { Replays (effect code.now) self.old.thread result.0 [] self.new.thread }
+    pub fn advance<B: Allocator, L: Loads>(
+        &mut self,
+        code: &Code<B>,
+        loads: &mut L,
+        most: u64,
+    ) -> (u64, Option<Doing>)
+        requires of { IsThreadOf code.now self.old.thread }
+        requires can { L.can_step code.now loads.old (counted self.old) most }
+        ensures leads { L.leads code.now loads.old (counted self.old) result.0 loads.new (counted self.new) }
         ensures count { result.0 ≤ most }
         ensures all { IfNone result.1 (result.0 ≡ most) }
         ensures stands { IfSome result.1 (λ doing. (result.0 < most) × StandsAt code.now self.new doing) }
         ensures of { IsThreadOf code.now self.new.thread }
-        ensures accesses { self.new.accesses ≡ self.old.accesses }
     {
         // The prover learns here that the code is valid.
         let _valid = code.parts();
         match self.held.status {
-            Status::Running => self.held.advance(code, most),
-            Status::Ended => (0, idle(most)),
-            Status::Trapped(_) => (0, idle(most)),
+            Status::Running => self.held.advance(code, loads, &mut self.accesses, most),
+            Status::Ended => {
+                loads.stays();
+                (0, idle(most))
+            }
+            Status::Trapped(_) => {
+                loads.stays();
+                (0, idle(most))
+            }
         }
     }
 
@@ -225,49 +238,6 @@ impl<A: Allocator + Copy> Thread<A> {
             Status::Ended => (Event::Quiet, false),
             Status::Trapped(_) => (Event::Quiet, false),
         }
-    }
-
-    /// Whether the read of this cell that stands at its place is made by two steps, a load of the cell's word and then one of
-    /// the lock, whatever word is found. Where it is, room is made for the read's entry; where that is refused it is false too.
-    #[inline(always)]
-    pub fn prepare_read<B: Allocator>(&mut self, code: &Code<B>, to: u16, cell: u32) -> bool
-        requires of { IsThreadOf code.now self.old.thread }
-        requires stands { StandsAt code.now self.old (Doing.Read to cell) }
-        ensures thread { self.new.thread ≡ self.old.thread }
-        ensures accesses { self.new.accesses ≡ self.old.accesses }
-        ensures loads { result ≡ true → LoadsNext code.now self.new cell }
-    {
-        // The prover learns here that the code is valid.
-        let _valid = code.parts();
-        // The prover names by it where the word goes.
-        let _to = to;
-        // A thread that is over has no attempt.
-        self.held.core.prepare_read(cell)
-    }
-
-    /// Makes both steps of such a read, with the word and the lock's value that were loaded. It takes no memory.
-    #[inline(always)]
-    pub fn take_read<B: Allocator>(
-        &mut self,
-        code: &Code<B>,
-        to: u16,
-        cell: u32,
-        word: u64,
-        lock: u64,
-    )
-        requires of { IsThreadOf code.now self.old.thread }
-        requires stands { StandsAt code.now self.old (Doing.Read to cell) }
-        requires loads { LoadsNext code.now self.old cell }
-        requires word { word < 2 ^ 32 }
-        requires count { self.old.accesses + 2 < 2 ^ 64 }
-        ensures thread { self.new.thread ≡ (told_twice code.now self.old.thread word lock).thread }
-        ensures of { IsThreadOf code.now self.new.thread }
-        ensures accesses { self.new.accesses ≡ self.old.accesses + 2 }
-    {
-        // The prover learns here that the code is valid.
-        let _valid = code.parts();
-        self.accesses += 2;
-        let _event = self.held.take_read(code, to, cell, word, lock);
     }
 
     /// Prepares the load of the begin that stands at its place, where no attempt is under way: whether it did. It does not where

@@ -1,14 +1,14 @@
 //! Threads: played steps, the last values of the lock, and each growth refused.
 
 ghost use Rattle.norec_core.specs.Accesses.{IsAnswerTo};
-ghost use Rattle.std.specs.Prelude.{IfSome};
+ghost use Rattle.std.specs.Prelude.{◌+◌, ◌<◌, ◌≤◌, ◌^◌, IfSome};
 ghost use Rattle.machine.specs.Standing.{IsThreadOf};
 ghost use Rattle.machine.specs.States.{IsWordOf};
 
 use crate::rows::{Row, dropped_once, trapped};
 use bytecode::{Code, Instr};
 use frames::Doing;
-use machine::{Event, Thread};
+use machine::{Event, Loads, Thread};
 use norec_core::{Access, Answer, Stop};
 use refusing::Refusing;
 use std::alloc::{Allocator, Global};
@@ -262,52 +262,62 @@ fn a_reader_and_a_last_writer_commit(rt: HostRuntime) {
     );
 }
 
-// Whether the read that stands at the thread's place is made whole, where it finds this word and this lock.
-fn reads<A: Allocator + Copy>(thread: &mut Thread<A>, code: &Code<A>, word: u32, lock: u64) -> bool
-    requires { IsThreadOf code.now thread.old.thread }
-    ensures { IsThreadOf code.now thread.new.thread }
-{
-    if thread.accesses() > MOST {
-        return false;
-    }
-    match thread.doing(code) {
-        Doing::Read(to, cell) => {
-            if !thread.prepare_read(code, to, cell) {
-                return false;
-            }
-            thread.take_read(code, to, cell, u64::from(word), lock);
-            true
-        }
-        _ => false,
-    }
+// This word in each cell, and the lock at this value.
+#[derive(Drop)]
+struct Uniform {
+    word: u32,
+    lock: u64,
 }
 
-// What stands there after a begin at the lock value 2, a whole read of 7, and all local steps, and how many these are.
+impl Loads for Uniform {
+    ghost leads = { λ code s from n t at. at.accesses ≤ from.accesses + n };
+
+    ghost can_step = { λ code s from m. from.accesses + m < 2 ^ 64 };
+
+    fn load(&mut self, cell: u32) -> (u64, u64) {
+        // Any cell.
+        let _cell = cell;
+        (u64::from(self.word), self.lock)
+    }
+
+    fn stays(&self) {}
+
+    fn goes_on(&self) {}
+}
+
+// What stands there after a begin at the lock value 2, and as many steps as go on from there, where 7 and this lock are found; and
+// how many these are.
 fn reads_on<A: Allocator + Copy>(
     thread: &mut Thread<A>,
     code: &Code<A>,
+    lock: u64,
 ) -> Option<(u64, Option<Doing>)>
     requires { IsThreadOf code.now thread.old.thread }
 {
     let begins = step(thread, code, 2, 0);
-    if begins.is_some() && reads(thread, code, 7, 2) {
-        return Some(thread.advance(code, MOST));
+    if begins.is_none() || thread.accesses() > MOST {
+        return None;
     }
-    None
+    let mut found = Uniform { word: 7, lock };
+    Some(thread.advance(code, &mut found, MOST))
 }
 
 // The same of a new thread.
-fn reads_first<A: Allocator + Copy>(alloc: A, code: &Code<A>) -> Option<(u64, Option<Doing>)> {
+fn reads_first<A: Allocator + Copy>(
+    alloc: A,
+    code: &Code<A>,
+    lock: u64,
+) -> Option<(u64, Option<Doing>)> {
     match begun(alloc, code) {
-        Some(mut thread) => reads_on(&mut thread, code),
+        Some(mut thread) => reads_on(&mut thread, code, lock),
         None => None,
     }
 }
 
 // The same of one of these instructions.
-fn reads_of(inner: Global, instructions: &[Instr]) -> Option<(u64, Option<Doing>)> {
+fn reads_of(inner: Global, instructions: &[Instr], lock: u64) -> Option<(u64, Option<Doing>)> {
     match code_of(inner, &over_x(instructions)) {
-        Some(code) => reads_first(inner, &code),
+        Some(code) => reads_first(inner, &code, lock),
         None => None,
     }
 }
@@ -337,8 +347,13 @@ fn writes_back() -> &'static [Instr] {
 
 #[test]
 fn a_read_is_made_whole_and_what_follows_is_local(rt: HostRuntime) {
-    assert!(rt; reads_of(rt.alloc(), reads_aside()) == Some((1, Some(Doing::End))));
-    assert!(rt; reads_of(rt.alloc(), writes_back()) == Some((1, Some(Doing::Commit))));
+    assert!(rt; reads_of(rt.alloc(), reads_aside(), 2) == Some((3, Some(Doing::End))));
+    assert!(rt; reads_of(rt.alloc(), writes_back(), 2) == Some((3, Some(Doing::Commit))));
+}
+
+#[test]
+fn a_read_that_finds_another_lock_stands_there_still(rt: HostRuntime) {
+    assert!(rt; reads_of(rt.alloc(), reads_aside(), 4) == Some((2, Some(Doing::Read(1, 0)))));
 }
 
 // Takes the lock to print, in a transaction.

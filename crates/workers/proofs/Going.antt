@@ -15,7 +15,7 @@ use Rattle.workers.specs.Workers.{CanStep, IsWorkerAt, StepsBy, StepsOn}
 begins_on : {A : Type 0} (xs ys zs : List A) → Grows xs ys → Grows ys zs → Grows xs zs
 begins_on xs ys zs g h = (g.0 ++ h.0, h.1 ∙ ap (λ l. l ++ h.0) g.1 ∙ append_assoc xs g.0 h.0)
 
-goes_nowhere : (code : Code) (p : ViewPart) (now : Part Configuration) → GoesOnFrom code p now p now
+pub goes_nowhere : (code : Code) (p : ViewPart) (now : Part Configuration) → GoesOnFrom code p now p now
 goes_nowhere code p now = record { count = 0; more = []; heard = sym (append-nil p.heard); steps = Replays.none; records = ([], sym (append-nil now.records)); floor = (refl, refl) }
 
 pub goes_further : (code : Code) (p q r : ViewPart) (a b c : Part Configuration) → GoesOnFrom code p a q b → GoesOnFrom code q b r c → GoesOnFrom code p a r c

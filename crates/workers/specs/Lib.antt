@@ -8,3 +8,5 @@ pub mod Opening
 pub mod Closing
 -- workers after their loops, and what a run of all threads reports
 pub mod Driving
+-- what only private functions and proofs speak of
+pub mod inner

@@ -7,6 +7,7 @@
 mod close;
 mod hall;
 pub mod laws;
+mod loads;
 mod open;
 mod run;
 mod worker;

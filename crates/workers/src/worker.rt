@@ -11,6 +11,7 @@ ghost use Rattle.seats.specs.Setup.{Setup};
 ghost use Rattle.workers.specs.Works.{Because};
 
 use crate::hall::Hall;
+use crate::loads::SeatLoads;
 use atomic_table::Seat;
 use bytecode::Code;
 use frames::Doing;
@@ -65,16 +66,23 @@ impl<A: Allocator + Copy> Worker<A> {
 
     // Steps are counted where `step` and `run` end, and not by what they call.
 
-    // Local steps of the thread, at most so many: how many were made, and where they are fewer what is to be done then.
+    // Local steps of the thread, and reads between them, at most so many steps: how many were made, and where they are fewer what is to
+    // be done then.
     #[inline(always)]
-    fn advance(&mut self, code: &Code<A>, most: u64) -> (u64, Option<Doing>)
-        requires of { IsThreadOf code.now self.old.thread.thread }
-        ensures goes_on { (z : TableId) (key : Setup) → key.code ≡ code.now → StepsBy z key result.0 self.old self.new }
+    fn advance(&mut self, words: &Words<A>, code: &Code<A>, most: u64) -> (u64, Option<Doing>)
+        requires table { words.now.table_id.words ≡ cells_of code.now + 1 }
+        requires code { words.now.key.code ≡ code.now }
+        requires worker { CanStep words.now.table_id words.now.key most self.old }
+        ensures goes_on { StepsBy words.now.table_id words.now.key result.0 self.old self.new }
         ensures few { result.0 ≤ most }
         ensures all { IfNone result.1 (result.0 ≡ most) }
         ensures stands { IfSome result.1 (λ doing. (result.0 < most) × StandsAt code.now self.new.thread doing) }
     {
-        self.thread.advance(code, most)
+        let mut loads = SeatLoads {
+            words,
+            seat: &mut self.seat,
+        };
+        self.thread.advance(code, &mut loads, most)
     }
 
     // One step of the thread, in which this is to be done.
@@ -129,27 +137,6 @@ impl<A: Allocator + Copy> Worker<A> {
             }
             Err(stop) => Err(stop),
         }
-    }
-
-    // Both steps of the read of this cell that stands at its place, where it loads the cell's word and then the lock: how many were
-    // made, two or none.
-    #[inline(always)]
-    fn read(&mut self, words: &Words<A>, code: &Code<A>, to: u16, cell: u32) -> u64
-        requires table { words.now.table_id.words ≡ cells_of code.now + 1 }
-        requires code { words.now.key.code ≡ code.now }
-        requires worker { CanStep words.now.table_id words.now.key 2 self.old }
-        requires stands { StandsAt code.now self.old.thread (Doing.Read to cell) }
-        ensures goes_on { StepsBy words.now.table_id words.now.key result self.old self.new }
-        ensures few { result ≤ 2 }
-        ensures none { result ≡ 0 → StandsAt code.now self.new.thread (Doing.Read to cell) }
-    {
-        if !self.thread.prepare_read(code, to, cell) {
-            return 0;
-        }
-        let word = load_word(words, &mut self.seat, cell as usize);
-        let lock = load_lock(words, &mut self.seat);
-        self.thread.take_read(code, to, cell, word, lock);
-        2
     }
 
     // The step of a begin, which loads the lock, where no attempt is under way: the lock's value that was found, if it was made.
@@ -286,12 +273,6 @@ impl<A: Allocator + Copy> Worker<A> {
         ensures none { result ≡ 0 → StandsAt code.now self.new.thread doing }
     {
         match doing {
-            Doing::Read(to, cell) => {
-                if most < 2 {
-                    return 0;
-                }
-                self.read(words, code, to, cell)
-            }
             Doing::Begin(to) => self.begin(words, code, to, most),
             Doing::Commit => self.commit(words, code, most),
             _ => 0,
@@ -470,7 +451,7 @@ impl<A: Allocator + Copy> Worker<A> {
                     return (budget - left, Ok(Status::Trapped(cause)));
                 }
             }
-            let (rested, doing) = self.advance(hall.setup.code(), left);
+            let (rested, doing) = self.advance(&hall.table.shared, hall.setup.code(), left);
             left -= rested;
             let Some(doing) = doing else {
                 return (budget, Ok(self.reported(budget)));

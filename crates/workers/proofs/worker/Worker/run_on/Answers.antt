@@ -17,13 +17,16 @@ pub returns-in_default-clause-goes_on : goal.returns-in_default-clause-goes_on
 returns-in_default-clause-goes_on g c =
     let all = subst (λ (d : Option Doing). IfNone d (c.advance-rested.result.0 ≡ c.turns.left)) c.in_default.is c.advance-rested.ensures.all in
     let few = c.turns.invariant.few in
-    by_more c.args.hall.now.table.shared.table_id c.args.hall.now.setup (c.args.budget - c.turns.left) c.advance-rested.result.0 c.args.budget c.args.self.now c.turns.self c.advance-rested.new.self (omega (arith, all, few)) c.turns.invariant.goes_on (c.advance-rested.ensures.goes_on c.args.hall.now.table.shared.table_id c.args.hall.now.setup (sym c.code.ensures))
+    by_more c.args.hall.now.table.shared.table_id c.args.hall.now.setup (c.args.budget - c.turns.left) c.advance-rested.result.0 c.args.budget c.args.self.now c.turns.self c.advance-rested.new.self (omega (arith, all, few)) c.turns.invariant.goes_on (subst (λ (k : Setup). StepsBy c.args.hall.now.table.shared.table_id k c.advance-rested.result.0 c.turns.self c.advance-rested.new.self) c.args.hall.now.key c.advance-rested.ensures.goes_on)
+
+pub advance-rested-requires-clause-worker : goal.advance-rested-requires-clause-worker
+advance-rested-requires-clause-worker g c = subst (λ (k : Setup). CanStep c.args.hall.now.table.shared.table_id k c.turns.left c.turns.self) (sym c.args.hall.now.key) c.turns.invariant.can
 
 pub operate-requires-clause-worker : goal.operate-requires-clause-worker
 operate-requires-clause-worker g c =
     let z = c.args.hall.now.table.shared.table_id in
     let key = c.args.hall.now.setup in
-    let go = c.advance-rested.ensures.goes_on c.args.hall.now.table.shared.table_id c.args.hall.now.setup (sym c.code.ensures) in
+    let go = subst (λ (k : Setup). StepsBy c.args.hall.now.table.shared.table_id k c.advance-rested.result.0 c.turns.self c.advance-rested.new.self) c.args.hall.now.key c.advance-rested.ensures.goes_on in
     let few = c.turns.invariant.few in
     let rested = c.advance-rested.ensures.few in
     subst (λ (k : Setup). CanStep z k (c.turns.left - c.advance-rested.result.0) c.advance-rested.new.self) (sym c.args.hall.now.key)
@@ -33,7 +36,7 @@ pub turns-preserved : goal.turns-preserved
 turns-preserved g c =
     let z = c.args.hall.now.table.shared.table_id in
     let key = c.args.hall.now.setup in
-    let go = c.advance-rested.ensures.goes_on c.args.hall.now.table.shared.table_id c.args.hall.now.setup (sym c.code.ensures) in
+    let go = subst (λ (k : Setup). StepsBy c.args.hall.now.table.shared.table_id k c.advance-rested.result.0 c.turns.self c.advance-rested.new.self) c.args.hall.now.key c.advance-rested.ensures.goes_on in
     let few = c.turns.invariant.few in
     let rested = c.advance-rested.ensures.few in
     let ok = c.in-Ok.ensures.ok in
@@ -51,7 +54,7 @@ pub returns-in-Err-clause-goes_on : goal.returns-in-Err-clause-goes_on
 returns-in-Err-clause-goes_on g c =
     let z = c.args.hall.now.table.shared.table_id in
     let key = c.args.hall.now.setup in
-    let go = c.advance-rested.ensures.goes_on c.args.hall.now.table.shared.table_id c.args.hall.now.setup (sym c.code.ensures) in
+    let go = subst (λ (k : Setup). StepsBy c.args.hall.now.table.shared.table_id k c.advance-rested.result.0 c.turns.self c.advance-rested.new.self) c.args.hall.now.key c.advance-rested.ensures.goes_on in
     let few = c.turns.invariant.few in
     let rested = c.advance-rested.ensures.few in
     let none = subst (λ (k : Setup). StepsBy z k 0 c.advance-rested.new.self c.operate.new.self) c.args.hall.now.key c.in-Err.ensures.err in

@@ -1,0 +1,2 @@
+-- where local steps pause
+pub mod Paused

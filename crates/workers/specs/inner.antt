@@ -1,0 +1,2 @@
+-- a seat that loads for the reads of its thread
+pub mod Seated
