@@ -7,8 +7,8 @@ top=$(cd "$(dirname "$0")/.." && pwd)
 work=$(mktemp -d)
 trap 'rm -rf "$work"' EXIT
 mkdir -p "$work/crates/code_speed/src"
-for crate in atomic_code bytecode containers frames lex local_steps lower lowered nesting parse picked read_log refusing \
-    safety separation syntax types write_log; do
+for crate in atomic_code bytecode containers expression_code frames lex local_steps lower lowered nesting parse picked read_log \
+    refusing safety separation syntax types write_log; do
     cp -r "$top/crates/$crate" "$work/crates/"
     grep "^$crate:" "$top/crates.txt" >> "$work/crates.txt"
 done

@@ -15,9 +15,9 @@ use Rattle.picked.specs.Loops.{in_loops}
 use Rattle.picked.specs.Programs.{no_exits, body_with, body_ready, body_better, body_written, nothing_ready}
 use Rattle.picked.proofs.Longer.{stmts_longer}
 use Rattle.picked.proofs.stands.Standing.{Grows, IsFront}
-use Rattle.lower.specs.declared.fault.Failure.{Failure}
-use Rattle.lower.specs.inner.Limits.{NeedsMore}
-use Rattle.lower.proofs.Needing.{needs_more}
+use Rattle.expression_code.specs.declared.fault.Failure.{Failure}
+use Rattle.expression_code.specs.Limits.{NeedsMore}
+use Rattle.expression_code.proofs.Needing.{needs_more}
 
 pub still_fails : {X : Type 0} (r : Result X Failure) (m n : ℕ) → m ≤ n → IfErr r (λ why. NeedsMore why m) → IfErr r (λ why. NeedsMore why n)
 still_fails (Ok x) m n h k = tt

@@ -16,7 +16,7 @@ use Rattle.lowered.specs.Expressions.{LocalScope}
 use Rattle.picked.specs.Lists.{Lists}
 use Rattle.picked.specs.Statements.{all_written}
 use Rattle.picked.specs.Programs.{no_exits, body_written, Made, nothing_made, function_code, put_before, made_first, all_made, made_for}
-use Rattle.lower.proofs.Files.{items_more}
+use Rattle.expression_code.proofs.Files.{items_more}
 
 -- a body in equal scopes, with equal numbers of registers
 pub same_body : (p : Program) (body : Stmts) (from : ℕ) (l : Lists) (scope scope' : LocalScope) (n n' : ℕ) → scope ≡ scope' → n ≡ n' →

@@ -7,7 +7,7 @@ use Rattle.syntax.specs.declared.tree.Item.{Item as OwnItem}
 use Rattle.syntax.specs.Tree.{Span}
 use Rattle.syntax.specs.Views.{stmt_of, stmts_of, item_of}
 use Rattle.lower.specs.Nested.{too_deep, any_too_deep, item_too_deep, items_too_deep}
-use Rattle.lower.proofs.Files.{items_more}
+use Rattle.expression_code.proofs.Files.{items_more}
 
 module _ {A : Type 0} (ss : List (OwnStmt A)) (i n : ℕ) (s : OwnStmt A) (whole : Option Span) where
   here : i < length ss → s ≡ get_or ss i s → any_too_deep (stmts_of (drop i ss)) n ≡ option_or (too_deep (stmt_of s) n) (any_too_deep (stmts_of (drop (i + 1) ss)) n)

@@ -25,7 +25,7 @@ use Rattle.lower.specs.Faults.{picked_for, IsFaultOf}
 use Rattle.lower.specs.inner.Parts.{IsOfDefinition, IsOfItem, IsOfCode}
 use Rattle.lower.proofs.Better.{body_more}
 use Rattle.lower.proofs.Bodies.{definition_made, code_grows, codes_among, front_code, one_more}
-use Rattle.lower.proofs.Files.{items_more}
+use Rattle.expression_code.proofs.Files.{items_more}
 
 -- a function needs its parameters' registers at least
 pub parameters_fit : (p : Program) (f : Function) (body : Stmts) (from : ℕ) (l : Lists) → length f.parameters ≤ (body_written p f body from l).lists.registers

@@ -1,20 +1,9 @@
--- look-ups among locals, and tables of names
-mod Lookup
-mod Placing
-mod Files
-mod CellsFit
--- arguments and values one after another
-mod Handed
-mod Rows
-mod Arms
-mod Declared
 -- formats, and statements by their parts
 mod Formatted
 mod Leaving
 mod Made
 mod Written
 -- failures
-mod Needing
 mod Failing
 -- a body as it stands, or one that finds constants ready
 mod Better

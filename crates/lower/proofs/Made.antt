@@ -27,8 +27,8 @@ use Rattle.picked.specs.Conditions.{Condition, test_in, going_on}
 use Rattle.picked.specs.Expressions.{condition}
 use Rattle.picked.specs.Simples.{Written, start_written}
 use Rattle.picked.specs.Statements.{tested_back, for_step, for_test, looping, in_transaction, transacted, written, all_written}
-use Rattle.lower.specs.declared.fault.Failure.{Failure}
-use Rattle.lower.specs.inner.Limits.{NeedsMore}
+use Rattle.expression_code.specs.declared.fault.Failure.{Failure}
+use Rattle.expression_code.specs.Limits.{NeedsMore}
 
 -- what was done that gave this code behind another one
 pub record Makes (w : Written) (old new : List Instr) (l : Lists) (to : ℕ) : Type 0 where

@@ -1,29 +1,10 @@
 //! Why no code is made.
 
 ghost use Rattle.std.specs.Prelude.{◌≡◌};
-ghost use Rattle.lower.specs.declared.fault.Failure.TheVariants.{OutOfMemory};
 ghost use Rattle.lower.specs.Faults.{number_of, span_of};
 
 use lex::token::Span;
 use std::alloc::AllocError;
-
-/// Why a function's code is not made.
-#[derive(Clone, Copy, Debug)]
-pub(crate) enum Failure {
-    /// A growth was refused.
-    OutOfMemory,
-
-    /// A register's number is not below the most registers of a function.
-    Registers,
-}
-
-impl From<AllocError> for Failure {
-    ghost from_gives = { λ _ e. e ≡ OutOfMemory };
-
-    fn from(_error: AllocError) -> Failure {
-        Failure::OutOfMemory
-    }
-}
 
 /// Why no code is given.
 #[derive(Clone, Copy, PartialEq, Eq, Debug)]

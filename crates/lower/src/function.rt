@@ -5,19 +5,19 @@ ghost use Rattle.syntax.specs.Views.{function_of, stmts_of, parameter_of};
 ghost use Rattle.lowered.specs.Programs.{parameter_locals};
 ghost use Rattle.picked.specs.Loops as loops;
 ghost use Rattle.picked.specs.Programs.{body_ready, body_with, body_written, nothing_ready};
-ghost use Rattle.lower.specs.inner.Limits.{NeedsMore};
-ghost use Rattle.lower.specs.inner.Lists.{lists_of};
-ghost use Rattle.lower.specs.inner.Views.{program_in, scope_in};
+ghost use Rattle.expression_code.specs.Limits.{NeedsMore};
+ghost use Rattle.expression_code.specs.Lists.{lists_of};
+ghost use Rattle.expression_code.specs.Views.{program_in, scope_in};
 
-use crate::fault::Failure;
-use crate::lists::Lists;
 use crate::loops::in_loops;
-use crate::program::Names;
-use crate::put::{after, put};
-use crate::ready::set_all;
-use crate::scope::Scope;
 use crate::stmt::lower_stmts;
 use bytecode::Instr;
+use expression_code::fault::Failure;
+use expression_code::lists::Lists;
+use expression_code::program::Names;
+use expression_code::put::{after, put};
+use expression_code::ready::set_all;
+use expression_code::scope::Scope;
 use picked::held::Exits;
 use std::alloc::{AllocError, Allocator};
 use syntax::tree::{Function, Parameter, Stmt};
@@ -29,9 +29,7 @@ fn parameter_locals<'p, A: Allocator + Copy>(
 ) -> Result<Scope<'p, A>, AllocError>
     ensures { IfOk result (λ s. scope_in s ≡ parameter_locals (map parameter_of parameters.now)) }
 {
-    let mut scope = Scope {
-        locals: Vec::new(names.alloc),
-    };
+    let mut scope = Scope::new(names.alloc);
     'each: for parameter in parameters {
         match &parameter.name {
             Some(x) => scope.declare(x.text.as_str(), parameter.of)?,

@@ -5,13 +5,13 @@ ghost use Rattle.syntax.specs.Formats.{pieces};
 ghost use Rattle.bytecode.specs.declared.instr.Instr.TheVariants as instr;
 ghost use Rattle.picked.specs.Statements as statements;
 ghost use Rattle.picked.specs.Statements.{pieces_written};
-ghost use Rattle.lower.specs.inner.Lists.{lists_of};
+ghost use Rattle.expression_code.specs.Lists.{lists_of};
 ghost use Rattle.lower.specs.inner.Formats.{IsAt, text_written, figure_written};
 
-use crate::lists::Lists;
-use crate::put::{after, put};
 use bytecode::Instr;
 use containers::Text;
+use expression_code::lists::Lists;
+use expression_code::put::{after, put};
 use lex::token::Scalar;
 use std::alloc::{AllocError, Allocator};
 

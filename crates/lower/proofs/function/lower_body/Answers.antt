@@ -4,10 +4,10 @@ use Rattle.syntax.specs.Views.{stmts_of, parameter_of}
 use Rattle.bytecode.specs.declared.instr.Instr.TheVariants as instr
 use Rattle.lowered.specs.Programs.{parameter_locals}
 use Rattle.picked.specs.Simples.{Written}
-use Rattle.lower.specs.inner.Lists.{lists_of}
-use Rattle.lower.specs.inner.Views.{program_in, scope_in}
+use Rattle.expression_code.specs.Lists.{lists_of}
+use Rattle.expression_code.specs.Views.{program_in, scope_in}
 use Rattle.lower.proofs.Bodies.{same_body}
-use Rattle.lower.proofs.Failing.{passed_on}
+use Rattle.expression_code.proofs.Needing.{passed_on}
 use Rattle.lower.proofs.function.lower_body.Goals as goal
 
 pub returns-clause-code : goal.returns-clause-code

@@ -8,10 +8,10 @@ use Rattle.picked.specs.Loops.{in_loops}
 use Rattle.picked.specs.Simples.{Written}
 use Rattle.picked.specs.Programs.{body_with, body_written, nothing_ready}
 use Rattle.picked.proofs.Leaner.{body_leaner}
-use Rattle.lower.specs.inner.Lists.{lists_of}
-use Rattle.lower.specs.inner.Views.{program_in}
+use Rattle.expression_code.specs.Lists.{lists_of}
+use Rattle.expression_code.specs.Views.{program_in}
 use Rattle.lower.proofs.Better.{still_fails, arguments_fit, texts_fit, stays_plain, gets_better, body_more, has_room, behind_others, in_front}
-use Rattle.lower.proofs.Failing.{passed_on}
+use Rattle.expression_code.proofs.Needing.{passed_on}
 use Rattle.lower.proofs.function.lower_function.Goals as goal
 
 pub returns-in_err-to-clause-fails : goal.returns-in_err-to-clause-fails

@@ -1,9 +1,9 @@
 use Rattle.std.proofs.Common.{◌≡◌, ℕ, List, IfOk, IfErr, subst}
 use Rattle.syntax.specs.Views.{function_of, stmts_of}
 use Rattle.picked.specs.Programs.{body_with}
-use Rattle.lower.specs.inner.Limits.{NeedsMore}
-use Rattle.lower.specs.inner.Lists.{lists_of}
-use Rattle.lower.specs.inner.Views.{program_in}
+use Rattle.expression_code.specs.Limits.{NeedsMore}
+use Rattle.expression_code.specs.Lists.{lists_of}
+use Rattle.expression_code.specs.Views.{program_in}
 use Rattle.lower.proofs.function.lower_plain.Goals as goal
 
 pub returns-clause-place : goal.returns-clause-place

@@ -6,7 +6,7 @@ use Rattle.picked.specs.Programs.{picked_code}
 use Rattle.lower.specs.Nested.{items_too_deep, nested_too_deep}
 use Rattle.lower.specs.Faults.{IsFaultOf}
 use Rattle.lower.specs.inner.Parts.{IsOfCode}
-use Rattle.lower.specs.inner.Views.{program_in}
+use Rattle.expression_code.specs.Views.{program_in}
 use Rattle.lower.proofs.Faulty.{handed_on, of_program}
 use Rattle.lower.proofs.Whole.{parts_are_valid, code_means}
 use Rattle.lower.proofs.generate.lower.Goals as goal

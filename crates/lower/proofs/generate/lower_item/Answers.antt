@@ -5,9 +5,9 @@ use Rattle.syntax.specs.Views.{item_of, function_of, global_of, stmts_of}
 use Rattle.bytecode.specs.Code.{FunctionCode}
 use Rattle.bytecode.specs.Views.{function_of as code_function}
 use Rattle.picked.specs.Programs.{Made, all_made, body_written, function_code}
-use Rattle.lower.specs.inner.Lists.{lists_of}
+use Rattle.expression_code.specs.Lists.{lists_of}
 use Rattle.lower.specs.inner.Parts.{IsOfDefinition, IsOfItem}
-use Rattle.lower.specs.inner.Views.{program_in}
+use Rattle.expression_code.specs.Views.{program_in}
 use Rattle.lower.proofs.Bodies.{definition_made, few_more}
 use Rattle.lower.proofs.Faulty.{definition_fault, handed_on}
 use Rattle.lower.proofs.generate.lower_item.Goals as goal

@@ -7,11 +7,11 @@ use Rattle.bytecode.specs.Code.{FunctionCode}
 use Rattle.bytecode.specs.Views.{instr_of, function_of as code_function}
 use Rattle.picked.specs.Lists.{Lists}
 use Rattle.picked.specs.Programs.{all_made, made_of}
-use Rattle.lower.specs.inner.Lists.{lists_of}
+use Rattle.expression_code.specs.Lists.{lists_of}
 use Rattle.lower.specs.inner.Parts.{IsOfItem, IsOfCode}
-use Rattle.lower.specs.inner.Views.{program_in}
+use Rattle.expression_code.specs.Views.{program_in}
 use Rattle.lower.proofs.Bodies.{next_functions, next_code, next_lists, last_functions, last_code, last_lists, front_code, front_lists, front_to}
-use Rattle.lower.proofs.Files.{items_more}
+use Rattle.expression_code.proofs.Files.{items_more}
 use Rattle.lower.proofs.Faulty.{item_fault, handed_on}
 use Rattle.lower.proofs.generate.lower_parts.Goals as goal
 

@@ -4,8 +4,8 @@ use Rattle.syntax.specs.Names.{globals}
 use Rattle.syntax.specs.Views.{item_of, global_of}
 use Rattle.bytecode.specs.Views.{function_of}
 use Rattle.picked.specs.Programs.{all_made, made_for, made_of}
-use Rattle.lower.specs.inner.Lists.{lists_of}
-use Rattle.lower.specs.inner.Views.{program_in}
+use Rattle.expression_code.specs.Lists.{lists_of}
+use Rattle.expression_code.specs.Views.{program_in}
 use Rattle.lower.proofs.generate.lower_parts.Given as goal
 
 -- what is made and what is to come are the whole

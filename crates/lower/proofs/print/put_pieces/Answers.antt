@@ -2,7 +2,7 @@ use Rattle.std.proofs.Common.{◌≡◌, ◌++◌, ap, sym, subst, ◌∙◌, ar
 use Rattle.syntax.specs.Formats.{pieces}
 use Rattle.picked.specs.Simples.{Written}
 use Rattle.picked.specs.Statements.{pieces_written}
-use Rattle.lower.specs.inner.Lists.{lists_of}
+use Rattle.expression_code.specs.Lists.{lists_of}
 use Rattle.lower.specs.inner.Formats.{joined}
 use Rattle.lower.proofs.Formatted.{byte_goes, figure_code, figure_lists, figure_place, no_register, no_piece}
 use Rattle.lower.proofs.print.put_pieces.Goals as goal

@@ -1,7 +1,7 @@
 use Rattle.std.proofs.Common.{◌≡◌, ◌++◌, ◌≤◌, ◌-◌, drop, length}
 use Rattle.syntax.specs.Formats.{pieces}
 use Rattle.picked.specs.Statements.{pieces_written}
-use Rattle.lower.specs.inner.Lists.{lists_of}
+use Rattle.expression_code.specs.Lists.{lists_of}
 use Rattle.lower.specs.inner.Formats.{joined}
 use Rattle.lower.proofs.print.put_pieces.Given as goal
 

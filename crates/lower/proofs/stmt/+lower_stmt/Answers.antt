@@ -1,13 +1,14 @@
-use Rattle.std.proofs.Common.{◌++◌, length, refl, ap, ◌∙◌, arith, OnOk, Result, Ok, Err, option_map}
+use Rattle.std.proofs.Common.{◌++◌, length, refl, sym, ap, ◌∙◌, arith, OnOk, Result, Ok, Err, Some, option_map}
 use denote.Param.Weighed.{most, at_most}
 use Rattle.syntax.specs.declared.tree.Stmt.{the_lemmas}
 use Rattle.syntax.specs.declared.tree.Stmt.TheVariants as own_stmt
 use Rattle.syntax.proofs.tree.Stmt.TheLaws.{the_size}
 use Rattle.syntax.specs.Views.{expr_of, simple_of, start_of, stmt_of, stmts_of}
 use Rattle.picked.specs.Expressions.{condition}
-use Rattle.lower.specs.inner.Lists.{lists_of}
-use Rattle.lower.specs.inner.Views.{program_in, scope_in}
-use Rattle.lower.proofs.Failing.{passed_on, if_test, if_branch, if_else_test, if_else_first, if_else_second, while_body, while_test, do_body, do_test, transaction_body, for_first, for_body, for_next, for_last}
+use Rattle.expression_code.specs.Lists.{lists_of}
+use Rattle.expression_code.specs.Views.{program_in, scope_in}
+use Rattle.expression_code.proofs.Needing.{passed_on}
+use Rattle.lower.proofs.Failing.{if_test, if_branch, if_else_test, if_else_first, if_else_second, while_body, while_test, do_body, do_test, transaction_body, for_first, for_body, for_next, for_last}
 use Rattle.lower.proofs.Written.{first_within, next_code, next_lists, next_place, next_scope, last_code, last_lists, last_place, last_scope}
 use Rattle.lower.proofs.Leaving.{start_longer, start_left, stmt_longer, stmt_left, stmts_longer, stmts_left}
 use Rattle.lower.proofs.Made.{if_made, if_else_made, while_made, do_made, for_made, transaction_made, same_lowering, simple_is, return_is, declare_is, print_is, block_is, if_is, if_else_is, while_is, do_is, for_is, transaction_is}
@@ -29,6 +30,57 @@ lower_stmts-lower_stmt-requires g t c κs within =
     let below = at_most size c.args.body.now c.body.s-index c.s-item.result c.body-test.true in
     let here = ap size c.s-item.is in
     (omega (arith, below, here, c.decreases), within)
+
+pub lower_stmt-lower_if-requires : goal.lower_stmt-lower_if-requires
+lower_stmt-lower_if-requires g t c κs within =
+    let size = simp the_lemmas at (ap (the_size g.row.A g.A.Allocator g.A.laws) (c.in-If.is ∙ ap (λ o. own_stmt.If c.in-If.c c.in-If.then o) c.in-None.is)) in
+    let here = ap (the_size g.row.A g.A.Allocator g.A.laws) c.get.ensures in
+    (omega (arith, size, here, c.decreases), (within, (c.new-test.ensures.items, c.new-branch.ensures.items)))
+
+pub lower_stmt-lower_if_else-requires : goal.lower_stmt-lower_if_else-requires
+lower_stmt-lower_if_else-requires g t c κs within =
+    let some = c.in-If.is ∙ ap (λ o. own_stmt.If c.in-If.c c.in-If.then o) c.in-Some.is in
+    let parts = some ∙ (λ j. own_stmt.If c.in-If.c (sym c.get-in-Some.ensures j) (Some (sym c.get-in-Some-2.ensures j))) in
+    (omega (arith, c.decreases), (within, (c.new-test-in-Some.ensures.items, (c.new-first.ensures.items, (c.new-second.ensures.items, parts)))))
+
+pub lower_stmt-lower_while-requires : goal.lower_stmt-lower_while-requires
+lower_stmt-lower_while-requires g t c κs within =
+    let size = simp the_lemmas at (ap (the_size g.row.A g.A.Allocator g.A.laws) c.in-While.is) in
+    let here = ap (the_size g.row.A g.A.Allocator g.A.laws) c.get-in-While.ensures in
+    (omega (arith, size, here, c.decreases), (within, c.new-inner.ensures.items))
+
+pub lower_stmt-lower_do_while-requires : goal.lower_stmt-lower_do_while-requires
+lower_stmt-lower_do_while-requires g t c κs within =
+    let size = simp the_lemmas at (ap (the_size g.row.A g.A.Allocator g.A.laws) c.in-DoWhile.is) in
+    let here = ap (the_size g.row.A g.A.Allocator g.A.laws) c.get-in-DoWhile.ensures in
+    (omega (arith, size, here, c.decreases), (within, c.new-inner-in-DoWhile.ensures.items))
+
+pub lower_stmt-lower_for-requires : goal.lower_stmt-lower_for-requires
+lower_stmt-lower_for-requires g t c κs within =
+    let size = simp the_lemmas at (ap (the_size g.row.A g.A.Allocator g.A.laws) c.in-For.is) in
+    let here = ap (the_size g.row.A g.A.Allocator g.A.laws) c.get-in-For-2.ensures in
+    (omega (arith, size, here, c.decreases), (within, c.new-inner-in-For.ensures.items))
+
+pub lower_if-lower_scoped-requires : goal.lower_if-lower_scoped-requires
+lower_if-lower_scoped-requires g t c κs within = (omega (arith, c.decreases), within)
+
+pub lower_while-lower_scoped-requires : goal.lower_while-lower_scoped-requires
+lower_while-lower_scoped-requires g t c κs within = (omega (arith, c.decreases), within)
+
+pub lower_do_while-lower_scoped-requires : goal.lower_do_while-lower_scoped-requires
+lower_do_while-lower_scoped-requires g t c κs within = (omega (arith, c.decreases), within)
+
+pub lower_for-lower_scoped-requires : goal.lower_for-lower_scoped-requires
+lower_for-lower_scoped-requires g t c κs within = (omega (arith, c.decreases), within)
+
+pub lower_transaction-lower_block-requires : goal.lower_transaction-lower_block-requires
+lower_transaction-lower_block-requires g t c κs within = (omega (arith, c.decreases), within)
+
+pub lower_scoped-lower_stmt-requires : goal.lower_scoped-lower_stmt-requires
+lower_scoped-lower_stmt-requires g t c κs within = (omega (arith, c.decreases), within)
+
+pub lower_block-lower_stmts-requires : goal.lower_block-lower_stmts-requires
+lower_block-lower_stmts-requires g t c κs within = (omega (arith, c.decreases), within)
 
 pub lower_block-leave-requires : goal.lower_block-leave-requires
 lower_block-leave-requires g t c = stmts_longer (scope_in c.args.scope.now) (scope_in c.lower_stmts.new.scope) c.len-outer.result c.len-outer.ensures (stmts_of c.args.body.now) c.in_ok-to.ensures.scope

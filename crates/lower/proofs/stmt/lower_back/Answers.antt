@@ -4,8 +4,8 @@ use Rattle.picked.specs.declared.draft.Draft.{Draft}
 use Rattle.picked.specs.declared.held.Tested.{Tested}
 use Rattle.picked.specs.Conditions.{Condition, going_back}
 use Rattle.picked.specs.Expressions.{condition}
-use Rattle.lower.specs.inner.Lists.{lists_of}
-use Rattle.lower.specs.inner.Views.{program_in, scope_in}
+use Rattle.expression_code.specs.Lists.{lists_of}
+use Rattle.expression_code.specs.Views.{program_in, scope_in}
 use Rattle.lower.proofs.stmt.lower_back.Goals as goal
 
 pub returns-clause-code : goal.returns-clause-code

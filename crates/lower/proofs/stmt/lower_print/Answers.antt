@@ -1,8 +1,9 @@
 use Rattle.syntax.specs.Views.{exprs_of}
 use Rattle.syntax.specs.Formats.{pieces}
-use Rattle.lower.specs.inner.Lists.{lists_of}
-use Rattle.lower.specs.inner.Views.{program_in, scope_in}
-use Rattle.lower.proofs.Failing.{passed_on, print_args}
+use Rattle.expression_code.specs.Lists.{lists_of}
+use Rattle.expression_code.specs.Views.{program_in, scope_in}
+use Rattle.expression_code.proofs.Needing.{passed_on}
+use Rattle.lower.proofs.Failing.{print_args}
 use Rattle.lower.proofs.stmt.lower_print.Goals as goal
 
 pub returns-in_err-to-clause-fails : goal.returns-in_err-to-clause-fails

@@ -1,0 +1,665 @@
+//! The instructions of expressions and conditions.
+
+ghost use Rattle.std.specs.Prelude.{◌≡◌, [], ◌∷◌, ◌++◌, ◌+◌, ◌≤◌, length, map, pos, Some, OnOk, IfOk, IfErr};
+ghost use Rattle.syntax.specs.declared.tree.Expr as tree;
+ghost use Rattle.syntax.specs.Names as Source;
+ghost use Rattle.syntax.specs.Numbers.{word_of};
+ghost use Rattle.syntax.specs.Views.{expr_of, exprs_of, parameter_of};
+ghost use Rattle.bytecode.specs.declared.instr.Instr.TheVariants as instr;
+ghost use Rattle.lowered.specs.Expressions.{arranged, named_ones, nameless_ones};
+ghost use Rattle.picked.specs.Lists.{used, holding};
+ghost use Rattle.picked.specs.declared.draft.Draft.TheVariants as draft;
+ghost use Rattle.picked.specs.Conditions as conditions;
+ghost use Rattle.picked.specs.Conditions.{test_in, tested_by};
+ghost use Rattle.picked.specs.Expressions.{constant, variable, settled, answered, called, emitted, operand, condition, both_conditions, conditional, all_emitted};
+ghost use Rattle.expression_code.specs.Limits.{NeedsMore};
+ghost use Rattle.expression_code.specs.Lists.{lists_of};
+ghost use Rattle.expression_code.specs.inner.Tables.{callee_in, shared_in};
+ghost use Rattle.expression_code.specs.Views.{program_in, scope_in};
+
+use crate::cond::{opposite, zero_test};
+use crate::draft::{keep, put_first, turn};
+use crate::fault::Failure;
+use crate::lists::Lists;
+use crate::names::{Callee, Shared, called, cells_of, global};
+use crate::program::Names;
+use crate::put::{
+    above, after, put, put_answers, put_both, put_chosen, put_compared, put_complemented,
+    put_constant, put_negated, settle, take,
+};
+use crate::ready::constant_ready;
+use crate::scope::Scope;
+use bytecode::Instr;
+use lex::token::{Scalar, Span};
+use picked::draft::Draft;
+use picked::held::{Held, Tested};
+use std::alloc::{AllocError, Allocator};
+use syntax::tree::{Expr, LogicalOp, Parameter, UnaryOp};
+
+/// A constant of the program.
+fn put_number<A: Allocator>(
+    lists: &mut Lists<A>,
+    code: &mut Vec<Instr, A>,
+    value: u32,
+    of: Scalar,
+    from: u32,
+    into: usize,
+) -> Result<Held, Failure>
+    ensures code { OnOk result (code.new.items ≡ code.old.items ++ (constant (word_of (pos value)) of from into (lists_of lists.old)).code) }
+    ensures lists { OnOk result (lists_of lists.new ≡ (constant (word_of (pos value)) of from into (lists_of lists.old)).lists) }
+    ensures held { IfOk result (λ held. held ≡ (constant (word_of (pos value)) of from into (lists_of lists.old)).held) }
+    ensures fails { IfErr result (λ why. NeedsMore why ((constant (word_of (pos value)) of from into (lists_of lists.old)).lists).registers) }
+{
+    put_constant(lists, code, value, of, from, into)
+}
+
+/// The value of a global.
+fn put_read<A: Allocator + Copy>(
+    lists: &mut Lists<A>,
+    code: &mut Vec<Instr, A>,
+    g: Shared<'_, A>,
+    from: u32,
+    into: usize,
+) -> Result<Held, Failure>
+    requires { g.cell ≤ 4096 }
+    ensures code { OnOk result (code.new.items ≡ code.old.items ++ instr.Read into g.entry.cell ∷ []) }
+    ensures lists { OnOk result (lists_of lists.new ≡ used into (lists_of lists.old)) }
+    ensures held { IfOk result (λ held. held ≡ record { register = into; of = g.entry.global.now.of; to = from + 1 }) }
+    ensures fails { IfErr result (λ why. NeedsMore why (used into (lists_of lists.old)).registers) }
+{
+    let register = take(lists, into)?;
+    put(code, Instr::Read(register, g.cell as u32))?;
+    let to = after(from, 1)?;
+    Ok(Held {
+        register,
+        of: g.global.of,
+        to,
+    })
+}
+
+/// A variable's value.
+fn lower_variable<A: Allocator + Copy>(
+    names: &Names<'_, A>,
+    scope: &Scope<'_, A>,
+    lists: &mut Lists<A>,
+    code: &mut Vec<Instr, A>,
+    x: &str,
+    from: u32,
+    into: usize,
+) -> Result<Held, Failure>
+    ensures code { OnOk result (code.new.items ≡ code.old.items ++ (variable (Source.newest (scope_in scope.now) x.now) (Source.global_of (program_in names.now) x.now) from into (lists_of lists.old)).code) }
+    ensures lists { OnOk result (lists_of lists.new ≡ (variable (Source.newest (scope_in scope.now) x.now) (Source.global_of (program_in names.now) x.now) from into (lists_of lists.old)).lists) }
+    ensures held { IfOk result (λ held. held ≡ (variable (Source.newest (scope_in scope.now) x.now) (Source.global_of (program_in names.now) x.now) from into (lists_of lists.old)).held) }
+    ensures fails { IfErr result (λ why. NeedsMore why ((variable (Source.newest (scope_in scope.now) x.now) (Source.global_of (program_in names.now) x.now) from into (lists_of lists.old)).lists).registers) }
+{
+    match scope.newest(x) {
+        Some((i, of)) => {
+            let register = take(lists, i)?;
+            Ok(Held {
+                register,
+                of,
+                to: from,
+            })
+        }
+        None => match global(names, x) {
+            Some(g) => put_read(lists, code, g, from, into),
+            None => put_constant(lists, code, 0, Scalar::Int, from, into),
+        },
+    }
+}
+
+/// An element of an array, whose index is a value.
+fn put_read_at<A: Allocator + Copy>(
+    lists: &mut Lists<A>,
+    code: &mut Vec<Instr, A>,
+    g: Shared<'_, A>,
+    index: Held,
+    into: usize,
+) -> Result<Held, Failure>
+    requires { g.cell ≤ 4096 }
+    ensures code { OnOk result (code.new.items ≡ code.old.items ++ instr.ReadAt into index.register g.entry.cell (Source.cells (shared_in g.entry).global) ∷ []) }
+    ensures lists { OnOk result (lists_of lists.new ≡ used into (lists_of lists.old)) }
+    ensures held { IfOk result (λ held. held ≡ record { register = into; of = g.entry.global.now.of; to = index.to + 1 }) }
+    ensures fails { IfErr result (λ why. NeedsMore why (used into (lists_of lists.old)).registers) }
+{
+    let register = take(lists, into)?;
+    let length = cells_of(g.global);
+    put(
+        code,
+        Instr::ReadAt(register, index.register, g.cell as u32, length),
+    )?;
+    let to = after(index.to, 1)?;
+    Ok(Held {
+        register,
+        of: g.global.of,
+        to,
+    })
+}
+
+fn push<A: Allocator>(all: &mut Vec<u16, A>, r: u16) -> Result<(), AllocError>
+    ensures { OnOk result (all.new.items ≡ all.old.items ++ r ∷ []) }
+{
+    match all.push(r) {
+        Ok(()) => Ok(()),
+        Err(_) => Err(AllocError),
+    }
+}
+
+/// The registers of arguments for the parameters that have names.
+fn push_named<A: Allocator>(
+    all: &mut Vec<u16, A>,
+    parameters: &[Parameter<A>],
+    registers: &[u16],
+) -> Result<(), AllocError>
+    ensures { OnOk result (all.new.items ≡ all.old.items ++ named_ones (map parameter_of parameters.now) registers.now) }
+{
+    'each: for i in 0..parameters.len() {
+        if i >= registers.len() {
+            return Ok(());
+        }
+        if parameters[i].name.is_some() {
+            push(all, registers[i])?;
+        }
+    }
+    Ok(())
+}
+
+/// And for those that have none.
+fn push_nameless<A: Allocator>(
+    all: &mut Vec<u16, A>,
+    parameters: &[Parameter<A>],
+    registers: &[u16],
+) -> Result<(), AllocError>
+    ensures { OnOk result (all.new.items ≡ all.old.items ++ nameless_ones (map parameter_of parameters.now) registers.now) }
+{
+    'each: for i in 0..parameters.len() {
+        if i >= registers.len() {
+            return Ok(());
+        }
+        if parameters[i].name.is_some() {} else {
+            push(all, registers[i])?;
+        }
+    }
+    Ok(())
+}
+
+/// The registers of a call's arguments, as the called function numbers them; how many they are.
+fn push_arranged<A: Allocator>(
+    all: &mut Vec<u16, A>,
+    parameters: &[Parameter<A>],
+    registers: &[u16],
+) -> Result<usize, AllocError>
+    ensures items { OnOk result (all.new.items ≡ all.old.items ++ arranged (map parameter_of parameters.now) registers.now) }
+    ensures count { IfOk result (λ n. n ≡ length (arranged (map parameter_of parameters.now) registers.now)) }
+{
+    let first = all.len();
+    push_named(all, parameters, registers)?;
+    push_nameless(all, parameters, registers)?;
+    Ok(all.len() - first)
+}
+
+/// So many registers are used.
+fn hold<A: Allocator>(lists: &mut Lists<A>, count: usize) -> Result<u16, Failure>
+    ensures lists { OnOk result (lists_of lists.new ≡ holding count (lists_of lists.old)) }
+    ensures count { IfOk result (λ n. n ≡ count) }
+    ensures fails { IfErr result (λ why. NeedsMore why (holding count (lists_of lists.old)).registers) }
+{
+    if count > 65_535 {
+        return Err(Failure::Registers);
+    }
+    if lists.registers < count as u32 {
+        lists.registers = count as u32;
+    }
+    Ok(count as u16)
+}
+
+/// Hands over the registers of a call's arguments: their place in the list of arguments, and their number.
+fn hand_over<A: Allocator>(
+    lists: &mut Lists<A>,
+    parameters: &[Parameter<A>],
+    registers: &[u16],
+) -> Result<(u32, u16), Failure>
+    ensures lists { OnOk result (lists_of lists.new ≡ holding (length (arranged (map parameter_of parameters.now) registers.now)) (record (lists_of lists.old) { arguments = lists.old.arguments.items ++ arranged (map parameter_of parameters.now) registers.now })) }
+    ensures first { IfOk result (λ r. r.0 ≡ length lists.old.arguments.items) }
+    ensures count { IfOk result (λ r. r.1 ≡ length (arranged (map parameter_of parameters.now) registers.now)) }
+    ensures fails { IfErr result (λ why. NeedsMore why (holding (length (arranged (map parameter_of parameters.now) registers.now)) (record (lists_of lists.old) { arguments = lists.old.arguments.items ++ arranged (map parameter_of parameters.now) registers.now })).registers) }
+{
+    let first = lists.arguments.len();
+    if first > 4_294_967_295 {
+        return Err(Failure::OutOfMemory);
+    }
+    let count = push_arranged(&mut lists.arguments, parameters, registers)?;
+    let count = hold(lists, count)?;
+    Ok((first as u32, count))
+}
+
+/// A call whose arguments are values.
+fn put_call<A: Allocator + Copy>(
+    lists: &mut Lists<A>,
+    code: &mut Vec<Instr, A>,
+    f: Callee<'_, A>,
+    registers: &[u16],
+    from: u32,
+    into: usize,
+) -> Result<Held, Failure>
+    ensures code { OnOk result (code.new.items ≡ code.old.items ++ instr.Call into (length (arranged (map parameter_of f.entry.parameters.now) registers.now)) f.entry.number (length lists.old.arguments.items) ∷ []) }
+    ensures lists { OnOk result (lists_of lists.new ≡ used into (holding (length (arranged (map parameter_of f.entry.parameters.now) registers.now)) (record (lists_of lists.old) { arguments = lists.old.arguments.items ++ arranged (map parameter_of f.entry.parameters.now) registers.now }))) }
+    ensures held { IfOk result (λ held. held ≡ record { register = into; of = f.entry.of; to = from + 1 }) }
+    ensures fails { IfErr result (λ why. NeedsMore why (used into (holding (length (arranged (map parameter_of f.entry.parameters.now) registers.now)) (record (lists_of lists.old) { arguments = lists.old.arguments.items ++ arranged (map parameter_of f.entry.parameters.now) registers.now }))).registers) }
+{
+    if f.number > 4_294_967_295 {
+        return Err(Failure::OutOfMemory);
+    }
+    let (first, count) = hand_over(lists, f.parameters, registers)?;
+    let register = take(lists, into)?;
+    put(code, Instr::Call(register, count, f.number as u32, first))?;
+    let to = after(from, 1)?;
+    Ok(Held {
+        register,
+        of: f.of,
+        to,
+    })
+}
+
+/// An expression's value. A result that is computed comes into the register `into`; registers from `free` on may be written.
+#[cycle(lower_expr)]
+pub fn lower_expr<A: Allocator + Copy>(
+    names: &Names<'_, A>,
+    scope: &Scope<'_, A>,
+    lists: &mut Lists<A>,
+    code: &mut Vec<Instr, A>,
+    e: &Expr<A>,
+    from: u32,
+    into: usize,
+    free: usize,
+) -> Result<Held, Failure>
+    ensures code { OnOk result (code.new.items ≡ code.old.items ++ (emitted (program_in names.now) (scope_in scope.now) (expr_of e.now) from into free (lists_of lists.old)).code) }
+    ensures lists { OnOk result (lists_of lists.new ≡ (emitted (program_in names.now) (scope_in scope.now) (expr_of e.now) from into free (lists_of lists.old)).lists) }
+    ensures held { IfOk result (λ held. held ≡ (emitted (program_in names.now) (scope_in scope.now) (expr_of e.now) from into free (lists_of lists.old)).held) }
+    ensures fails { IfErr result (λ why. NeedsMore why ((emitted (program_in names.now) (scope_in scope.now) (expr_of e.now) from into free (lists_of lists.old)).lists).registers) }
+{
+    match e {
+        Expr::Variable(x) => lower_variable(names, scope, lists, code, x.text.as_str(), from, into),
+        Expr::Constant(value, of, _) => put_number(lists, code, *value, *of, from, into),
+        Expr::Element(x, index, _) => match global(names, x.text.as_str()) {
+            Some(g) => {
+                let i = lower_expr(names, scope, lists, code, index.get(), from, free, free)?;
+                put_read_at(lists, code, g, i, into)
+            }
+            None => put_constant(lists, code, 0, Scalar::Int, from, into),
+        },
+        Expr::Call(f, args, _) => match called(names, f.text.as_str()) {
+            Some(f) => {
+                let mut registers = Vec::new(names.alloc);
+                let all = args.as_slice();
+                lower_call(
+                    names,
+                    scope,
+                    lists,
+                    code,
+                    &mut registers,
+                    f,
+                    all,
+                    from,
+                    into,
+                    free,
+                )
+            }
+            None => put_constant(lists, code, 0, Scalar::Int, from, into),
+        },
+        Expr::Parenthesized(e, _) => {
+            lower_expr(names, scope, lists, code, e.get(), from, into, free)
+        }
+        Expr::Cast(of, e, _) => {
+            let held = lower_expr(names, scope, lists, code, e.get(), from, into, free)?;
+            Ok(Held {
+                register: held.register,
+                of: *of,
+                to: held.to,
+            })
+        }
+        Expr::Unary(op, e, _) => match op {
+            UnaryOp::Keep => lower_expr(names, scope, lists, code, e.get(), from, into, free),
+            UnaryOp::Negate => {
+                let a = lower_expr(names, scope, lists, code, e.get(), from, free, free)?;
+                put_negated(lists, code, a, into)
+            }
+            UnaryOp::Not => {
+                let a = lower_expr(names, scope, lists, code, e.get(), from, free, free)?;
+                put_compared(lists, code, a, into, free)
+            }
+            UnaryOp::Complement => {
+                let a = lower_expr(names, scope, lists, code, e.get(), from, free, free)?;
+                put_complemented(lists, code, a, into)
+            }
+        },
+        Expr::Binary(op, left, right, _) => {
+            let a = lower_expr(names, scope, lists, code, left.get(), from, free, free)?;
+            let later = above(free, a.register);
+            let b = lower_operand(names, scope, lists, code, right.get(), a.to, later)?;
+            put_both(lists, code, *op, a, b, into)
+        }
+        Expr::Logical(op, left, right, at) => {
+            let mut test = Vec::new(names.alloc);
+            lower_logical(
+                names,
+                scope,
+                lists,
+                code,
+                &mut test,
+                e,
+                *op,
+                left.get(),
+                right.get(),
+                *at,
+                from,
+                into,
+                free,
+            )
+        }
+        Expr::Conditional(c, left, right, at) => {
+            let mut test = Vec::new(names.alloc);
+            let mut first = Vec::new(names.alloc);
+            let mut second = Vec::new(names.alloc);
+            lower_conditional(
+                names,
+                scope,
+                lists,
+                code,
+                &mut test,
+                &mut first,
+                &mut second,
+                e,
+                c.get(),
+                left.get(),
+                right.get(),
+                *at,
+                from,
+                into,
+                free,
+            )
+        }
+    }
+}
+
+/// The right side of an operator: it is computed, or it is a constant that lies ready.
+#[cycle(lower_expr)]
+pub(crate) fn lower_operand<A: Allocator + Copy>(
+    names: &Names<'_, A>,
+    scope: &Scope<'_, A>,
+    lists: &mut Lists<A>,
+    code: &mut Vec<Instr, A>,
+    e: &Expr<A>,
+    from: u32,
+    free: usize,
+) -> Result<Held, Failure>
+    ensures code { OnOk result (code.new.items ≡ code.old.items ++ (operand (program_in names.now) (scope_in scope.now) (expr_of e.now) from free (lists_of lists.old)).code) }
+    ensures lists { OnOk result (lists_of lists.new ≡ (operand (program_in names.now) (scope_in scope.now) (expr_of e.now) from free (lists_of lists.old)).lists) }
+    ensures held { IfOk result (λ held. held ≡ (operand (program_in names.now) (scope_in scope.now) (expr_of e.now) from free (lists_of lists.old)).held) }
+    ensures fails { IfErr result (λ why. NeedsMore why ((operand (program_in names.now) (scope_in scope.now) (expr_of e.now) from free (lists_of lists.old)).lists).registers) }
+{
+    match constant_ready(lists, e, from) {
+        Some(held) => Ok(held),
+        None => lower_expr(names, scope, lists, code, e, from, free, free),
+    }
+}
+
+/// A call; its arguments' registers are gathered in `registers`.
+#[cycle(lower_expr)]
+fn lower_call<A: Allocator + Copy>(
+    names: &Names<'_, A>,
+    scope: &Scope<'_, A>,
+    lists: &mut Lists<A>,
+    code: &mut Vec<Instr, A>,
+    registers: &mut Vec<u16, A>,
+    f: Callee<'_, A>,
+    all: &[Expr<A>],
+    from: u32,
+    into: usize,
+    free: usize,
+) -> Result<Held, Failure>
+    requires { registers.old.items ≡ [] }
+    ensures code { OnOk result (code.new.items ≡ code.old.items ++ (called (Some (callee_in f.entry)) (all_emitted (program_in names.now) (scope_in scope.now) (exprs_of all.now) from free (lists_of lists.old)) from into (lists_of lists.old)).code) }
+    ensures lists { OnOk result (lists_of lists.new ≡ (called (Some (callee_in f.entry)) (all_emitted (program_in names.now) (scope_in scope.now) (exprs_of all.now) from free (lists_of lists.old)) from into (lists_of lists.old)).lists) }
+    ensures held { IfOk result (λ held. held ≡ (called (Some (callee_in f.entry)) (all_emitted (program_in names.now) (scope_in scope.now) (exprs_of all.now) from free (lists_of lists.old)) from into (lists_of lists.old)).held) }
+    ensures fails { IfErr result (λ why. NeedsMore why ((called (Some (callee_in f.entry)) (all_emitted (program_in names.now) (scope_in scope.now) (exprs_of all.now) from free (lists_of lists.old)) from into (lists_of lists.old)).lists).registers) }
+{
+    let to = lower_all(names, scope, lists, code, registers, all, from, free)?;
+    put_call(lists, code, f, registers.as_slice(), to, into)
+}
+
+/// `&&` and `||` as a value; both conditions are gathered in `test`. The prover needs `e` and `at`: the parts are smaller than `e`.
+#[cycle(lower_expr)]
+fn lower_logical<A: Allocator + Copy>(
+    names: &Names<'_, A>,
+    scope: &Scope<'_, A>,
+    lists: &mut Lists<A>,
+    code: &mut Vec<Instr, A>,
+    test: &mut Vec<Draft, A>,
+    e: &Expr<A>,
+    op: LogicalOp,
+    left: &Expr<A>,
+    right: &Expr<A>,
+    at: Span,
+    from: u32,
+    into: usize,
+    free: usize,
+) -> Result<Held, Failure>
+    requires test { test.old.items ≡ [] }
+    requires parts { e.now ≡ tree.Logical op left.now right.now at }
+    ensures code { OnOk result (code.new.items ≡ code.old.items ++ (answered (both_conditions (program_in names.now) (scope_in scope.now) op (expr_of left.now) (expr_of right.now) from free (lists_of lists.old)) into).code) }
+    ensures lists { OnOk result (lists_of lists.new ≡ (answered (both_conditions (program_in names.now) (scope_in scope.now) op (expr_of left.now) (expr_of right.now) from free (lists_of lists.old)) into).lists) }
+    ensures held { IfOk result (λ held. held ≡ (answered (both_conditions (program_in names.now) (scope_in scope.now) op (expr_of left.now) (expr_of right.now) from free (lists_of lists.old)) into).held) }
+    ensures fails { IfErr result (λ why. NeedsMore why ((answered (both_conditions (program_in names.now) (scope_in scope.now) op (expr_of left.now) (expr_of right.now) from free (lists_of lists.old)) into).lists).registers) }
+{
+    let _whole = e;
+    let _at = at;
+    let next = lower_first(names, scope, lists, test, op, left, from, free)?;
+    let t = lower_condition(names, scope, lists, test, right, next, free)?;
+    put_answers(lists, code, test.as_slice(), t, into)
+}
+
+/// One of two values by a condition; the three parts are gathered in `test`, `first` and `second`. The prover needs `e` and `at`: the
+/// parts are smaller than `e`.
+#[cycle(lower_expr)]
+fn lower_conditional<A: Allocator + Copy>(
+    names: &Names<'_, A>,
+    scope: &Scope<'_, A>,
+    lists: &mut Lists<A>,
+    code: &mut Vec<Instr, A>,
+    test: &mut Vec<Draft, A>,
+    first: &mut Vec<Instr, A>,
+    second: &mut Vec<Instr, A>,
+    e: &Expr<A>,
+    c: &Expr<A>,
+    left: &Expr<A>,
+    right: &Expr<A>,
+    at: Span,
+    from: u32,
+    into: usize,
+    free: usize,
+) -> Result<Held, Failure>
+    requires test { test.old.items ≡ [] }
+    requires first { first.old.items ≡ [] }
+    requires second { second.old.items ≡ [] }
+    requires parts { e.now ≡ tree.Conditional c.now left.now right.now at }
+    ensures code { OnOk result (code.new.items ≡ code.old.items ++ (conditional (program_in names.now) (scope_in scope.now) (expr_of c.now) (expr_of left.now) (expr_of right.now) from into free (lists_of lists.old)).code) }
+    ensures lists { OnOk result (lists_of lists.new ≡ (conditional (program_in names.now) (scope_in scope.now) (expr_of c.now) (expr_of left.now) (expr_of right.now) from into free (lists_of lists.old)).lists) }
+    ensures held { IfOk result (λ held. held ≡ (conditional (program_in names.now) (scope_in scope.now) (expr_of c.now) (expr_of left.now) (expr_of right.now) from into free (lists_of lists.old)).held) }
+    ensures fails { IfErr result (λ why. NeedsMore why ((conditional (program_in names.now) (scope_in scope.now) (expr_of c.now) (expr_of left.now) (expr_of right.now) from into free (lists_of lists.old)).lists).registers) }
+{
+    let _whole = e;
+    let _at = at;
+    let t = lower_condition(names, scope, lists, test, c, from, free)?;
+    let next = after(t.to, 1)?;
+    let a = lower_settled(names, scope, lists, first, left, next, into, free)?;
+    let other = after(a.to, 1)?;
+    let b = lower_settled(names, scope, lists, second, right, other, into, free)?;
+    put_chosen(code, test.as_slice(), t, first, a, second, b)
+}
+
+/// An expression's value in this very register.
+#[cycle(lower_expr)]
+fn lower_settled<A: Allocator + Copy>(
+    names: &Names<'_, A>,
+    scope: &Scope<'_, A>,
+    lists: &mut Lists<A>,
+    code: &mut Vec<Instr, A>,
+    e: &Expr<A>,
+    from: u32,
+    into: usize,
+    free: usize,
+) -> Result<Held, Failure>
+    requires { code.old.items ≡ [] }
+    ensures code { OnOk result (code.new.items ≡ (settled into (emitted (program_in names.now) (scope_in scope.now) (expr_of e.now) from into free (lists_of lists.old))).code) }
+    ensures lists { OnOk result (lists_of lists.new ≡ (settled into (emitted (program_in names.now) (scope_in scope.now) (expr_of e.now) from into free (lists_of lists.old))).lists) }
+    ensures held { IfOk result (λ held. held ≡ (settled into (emitted (program_in names.now) (scope_in scope.now) (expr_of e.now) from into free (lists_of lists.old))).held) }
+    ensures register { IfOk result (λ held. held.register ≡ into) }
+    ensures fails { IfErr result (λ why. NeedsMore why (settled into (emitted (program_in names.now) (scope_in scope.now) (expr_of e.now) from into free (lists_of lists.old))).lists.registers) }
+{
+    let held = lower_expr(names, scope, lists, code, e, from, into, free)?;
+    settle(lists, code, held, into)
+}
+
+/// A condition that is tested by its value.
+#[cycle(lower_expr)]
+fn lower_value<A: Allocator + Copy>(
+    names: &Names<'_, A>,
+    scope: &Scope<'_, A>,
+    lists: &mut Lists<A>,
+    drafts: &mut Vec<Draft, A>,
+    e: &Expr<A>,
+    from: u32,
+    free: usize,
+) -> Result<Tested, Failure>
+    ensures code { OnOk result (drafts.new.items ≡ drafts.old.items ++ map draft.Whole (emitted (program_in names.now) (scope_in scope.now) (expr_of e.now) from free free (lists_of lists.old)).code) }
+    ensures lists { OnOk result (lists_of lists.new ≡ (emitted (program_in names.now) (scope_in scope.now) (expr_of e.now) from free free (lists_of lists.old)).lists) }
+    ensures tested { IfOk result (λ t. t ≡ tested_by (emitted (program_in names.now) (scope_in scope.now) (expr_of e.now) from free free (lists_of lists.old)).held) }
+    ensures fails { IfErr result (λ why. NeedsMore why ((emitted (program_in names.now) (scope_in scope.now) (expr_of e.now) from free free (lists_of lists.old)).lists).registers) }
+{
+    let mut code = Vec::new(names.alloc);
+    let held = lower_expr(names, scope, lists, &mut code, e, from, free, free)?;
+    keep(drafts, code.as_slice())?;
+    Ok(Tested {
+        register: held.register,
+        at_zero: false,
+        to: held.to,
+    })
+}
+
+/// The opposite of a condition.
+#[cycle(lower_expr)]
+fn lower_opposite<A: Allocator + Copy>(
+    names: &Names<'_, A>,
+    scope: &Scope<'_, A>,
+    lists: &mut Lists<A>,
+    drafts: &mut Vec<Draft, A>,
+    e: &Expr<A>,
+    from: u32,
+    free: usize,
+) -> Result<Tested, Failure>
+    ensures code { OnOk result (drafts.new.items ≡ drafts.old.items ++ map conditions.turned (condition (program_in names.now) (scope_in scope.now) (expr_of e.now) from free (lists_of lists.old)).code) }
+    ensures lists { OnOk result (lists_of lists.new ≡ (condition (program_in names.now) (scope_in scope.now) (expr_of e.now) from free (lists_of lists.old)).lists) }
+    ensures tested { IfOk result (λ t. t ≡ test_in (conditions.opposite (condition (program_in names.now) (scope_in scope.now) (expr_of e.now) from free (lists_of lists.old)))) }
+    ensures fails { IfErr result (λ why. NeedsMore why ((condition (program_in names.now) (scope_in scope.now) (expr_of e.now) from free (lists_of lists.old)).lists).registers) }
+{
+    let mut first = Vec::new(names.alloc);
+    let t = lower_condition(names, scope, lists, &mut first, e, from, free)?;
+    turn(drafts, first.as_slice())?;
+    Ok(opposite(t))
+}
+
+/// The first condition of `&&` and `||` and its jump; the place behind.
+#[cycle(lower_expr)]
+fn lower_first<A: Allocator + Copy>(
+    names: &Names<'_, A>,
+    scope: &Scope<'_, A>,
+    lists: &mut Lists<A>,
+    drafts: &mut Vec<Draft, A>,
+    op: LogicalOp,
+    e: &Expr<A>,
+    from: u32,
+    free: usize,
+) -> Result<u32, Failure>
+    ensures code { OnOk result (drafts.new.items ≡ drafts.old.items ++ conditions.first_of op (condition (program_in names.now) (scope_in scope.now) (expr_of e.now) from free (lists_of lists.old))) }
+    ensures lists { OnOk result (lists_of lists.new ≡ (condition (program_in names.now) (scope_in scope.now) (expr_of e.now) from free (lists_of lists.old)).lists) }
+    ensures place { IfOk result (λ p. p ≡ (condition (program_in names.now) (scope_in scope.now) (expr_of e.now) from free (lists_of lists.old)).to + 1) }
+    ensures fails { IfErr result (λ why. NeedsMore why ((condition (program_in names.now) (scope_in scope.now) (expr_of e.now) from free (lists_of lists.old)).lists).registers) }
+{
+    let mut first = Vec::new(names.alloc);
+    let t = lower_condition(names, scope, lists, &mut first, e, from, free)?;
+    Ok(put_first(drafts, first.as_slice(), op, t)?)
+}
+
+/// A condition, up to the jump that it ends in.
+#[cycle(lower_expr)]
+pub fn lower_condition<A: Allocator + Copy>(
+    names: &Names<'_, A>,
+    scope: &Scope<'_, A>,
+    lists: &mut Lists<A>,
+    drafts: &mut Vec<Draft, A>,
+    e: &Expr<A>,
+    from: u32,
+    free: usize,
+) -> Result<Tested, Failure>
+    ensures code { OnOk result (drafts.new.items ≡ drafts.old.items ++ (condition (program_in names.now) (scope_in scope.now) (expr_of e.now) from free (lists_of lists.old)).code) }
+    ensures lists { OnOk result (lists_of lists.new ≡ (condition (program_in names.now) (scope_in scope.now) (expr_of e.now) from free (lists_of lists.old)).lists) }
+    ensures tested { IfOk result (λ t. t ≡ test_in (condition (program_in names.now) (scope_in scope.now) (expr_of e.now) from free (lists_of lists.old))) }
+    ensures fails { IfErr result (λ why. NeedsMore why ((condition (program_in names.now) (scope_in scope.now) (expr_of e.now) from free (lists_of lists.old)).lists).registers) }
+{
+    match e {
+        Expr::Parenthesized(e, _) => {
+            lower_condition(names, scope, lists, drafts, e.get(), from, free)
+        }
+        Expr::Cast(_, e, _) => lower_condition(names, scope, lists, drafts, e.get(), from, free),
+        Expr::Unary(op, a, _) => match op {
+            UnaryOp::Keep => lower_condition(names, scope, lists, drafts, a.get(), from, free),
+            UnaryOp::Not => lower_opposite(names, scope, lists, drafts, a.get(), from, free),
+            UnaryOp::Negate => lower_value(names, scope, lists, drafts, e, from, free),
+            UnaryOp::Complement => lower_value(names, scope, lists, drafts, e, from, free),
+        },
+        Expr::Binary(op, a, b, _) => match zero_test(*op, b.get()) {
+            Some(true) => lower_opposite(names, scope, lists, drafts, a.get(), from, free),
+            Some(false) => lower_condition(names, scope, lists, drafts, a.get(), from, free),
+            None => lower_value(names, scope, lists, drafts, e, from, free),
+        },
+        Expr::Logical(op, a, b, _) => {
+            let next = lower_first(names, scope, lists, drafts, *op, a.get(), from, free)?;
+            lower_condition(names, scope, lists, drafts, b.get(), next, free)
+        }
+        Expr::Variable(_) => lower_value(names, scope, lists, drafts, e, from, free),
+        Expr::Constant(_, _, _) => lower_value(names, scope, lists, drafts, e, from, free),
+        Expr::Element(_, _, _) => lower_value(names, scope, lists, drafts, e, from, free),
+        Expr::Call(_, _, _) => lower_value(names, scope, lists, drafts, e, from, free),
+        Expr::Conditional(_, _, _, _) => lower_value(names, scope, lists, drafts, e, from, free),
+    }
+}
+
+/// Values from left to right, each in a register of its own, which is added to `registers`; the place behind them.
+#[cycle(lower_expr)]
+pub fn lower_all<A: Allocator + Copy>(
+    names: &Names<'_, A>,
+    scope: &Scope<'_, A>,
+    lists: &mut Lists<A>,
+    code: &mut Vec<Instr, A>,
+    registers: &mut Vec<u16, A>,
+    all: &[Expr<A>],
+    from: u32,
+    free: usize,
+) -> Result<u32, Failure>
+    ensures code { OnOk result (code.new.items ≡ code.old.items ++ (all_emitted (program_in names.now) (scope_in scope.now) (exprs_of all.now) from free (lists_of lists.old)).code) }
+    ensures lists { OnOk result (lists_of lists.new ≡ (all_emitted (program_in names.now) (scope_in scope.now) (exprs_of all.now) from free (lists_of lists.old)).lists) }
+    ensures registers { OnOk result (registers.new.items ≡ registers.old.items ++ (all_emitted (program_in names.now) (scope_in scope.now) (exprs_of all.now) from free (lists_of lists.old)).registers) }
+    ensures place { IfOk result (λ to. to ≡ (all_emitted (program_in names.now) (scope_in scope.now) (exprs_of all.now) from free (lists_of lists.old)).to) }
+    ensures fails { IfErr result (λ why. NeedsMore why ((all_emitted (program_in names.now) (scope_in scope.now) (exprs_of all.now) from free (lists_of lists.old)).lists).registers) }
+{
+    let mut to = from;
+    let mut later = free;
+    'each: for one in all {
+        let held = lower_expr(names, scope, lists, code, one, to, later, later)?;
+        push(registers, held.register)?;
+        later = above(later, held.register);
+        to = held.to;
+    }
+    Ok(to)
+}

@@ -1,0 +1,19 @@
+//! Code generation for what a program computes: expressions, conditions, assignments and declarations.
+//!
+//! The code is that of `picked`: each function's contract names the definition there that it makes. `lower` makes the code of
+//! statements, functions and programs of it.
+#![tactic(auto)]
+
+mod aim;
+mod cond;
+pub mod draft;
+pub mod expr;
+pub mod fault;
+pub mod lists;
+mod names;
+pub mod program;
+pub mod put;
+pub mod ready;
+pub mod scope;
+pub mod simple;
+pub mod tables;

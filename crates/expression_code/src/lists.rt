@@ -1,0 +1,23 @@
+//! The lists of a code as it is made.
+
+use containers::Text;
+use std::alloc::Allocator;
+
+/// The lists of a code as it is made, but that of its instructions, and what is known of the function that is made.
+#[derive(Drop)]
+pub struct Lists<A: Allocator> {
+    /// The arguments of all calls, one call behind the other: registers of the caller.
+    pub arguments: Vec<u16, A>,
+
+    /// The texts that are printed.
+    pub texts: Vec<Text<A>, A>,
+
+    /// How many registers the function needs as far as it is made.
+    pub registers: u32,
+
+    /// The register from which on the function's constants lie ready.
+    pub writable: u16,
+
+    /// The constants that lie ready, in registers one after another.
+    pub constants: Vec<u32, A>,
+}

@@ -1,0 +1,72 @@
+//! What the names of a file stand for in code.
+
+ghost use Rattle.std.specs.Prelude.{◌≡◌, ◌≤◌, option_map, IfSome};
+ghost use Rattle.syntax.specs.Names as Source;
+ghost use Rattle.syntax.specs.Views.{global_of};
+ghost use Rattle.picked.specs.Names as Named;
+ghost use Rattle.expression_code.specs.inner.Tables.{shared_in, callee_in};
+ghost use Rattle.expression_code.specs.Views.{program_in};
+
+use crate::program::Names;
+use lex::token::Scalar;
+use std::alloc::Allocator;
+use syntax::tree::{Global, Parameter};
+
+/// A global, with its first cell.
+#[derive(Clone, Copy)]
+pub(crate) struct Shared<'p, A: Allocator> {
+    pub(crate) cell: usize,
+    pub(crate) global: &'p Global<A>,
+}
+
+/// A function that may be called: its number among the code's functions, the type of its value, and its parameters.
+#[derive(Clone, Copy)]
+pub(crate) struct Callee<'p, A: Allocator> {
+    pub(crate) number: usize,
+    pub(crate) of: Scalar,
+    pub(crate) parameters: &'p [Parameter<A>],
+}
+
+/// The number of a global's cells.
+pub(crate) fn cells_of<A: Allocator>(g: &Global<A>) -> u32
+    ensures { result ≡ Source.cells (global_of g.now) }
+{
+    match g.length {
+        Some((n, _)) => n,
+        None => 1,
+    }
+}
+
+/// A global of the file, with its first cell.
+pub(crate) fn global<'p, A: Allocator + Copy>(
+    names: &Names<'p, A>,
+    name: &str,
+) -> Option<Shared<'p, A>>
+    ensures value { option_map shared_in result ≡ Source.global_of (program_in names.now) name.now }
+    ensures low { IfSome result (λ g. g.cell ≤ 4096) }
+{
+    match names.globals.get(name) {
+        Some(g) => Some(Shared {
+            cell: g.cell,
+            global: g.global,
+        }),
+        None => None,
+    }
+}
+
+/// A function that is defined in the file.
+pub(crate) fn called<'p, A: Allocator + Copy>(
+    names: &Names<'p, A>,
+    name: &str,
+) -> Option<Callee<'p, A>>
+    ensures { option_map callee_in result ≡ Named.callee_of (program_in names.now) name.now }
+{
+    match names.callees.get(name) {
+        Some(f) => Some(Callee {
+            number: f.number,
+            of: f.of,
+            parameters: f.parameters,
+        }),
+        None => None,
+    }
+}

@@ -1,0 +1,35 @@
+//! A program for which code is made.
+
+ghost use Rattle.std.specs.Prelude.{◌≤◌};
+ghost use Rattle.std.proofs.Props.{props};
+ghost use mathlib.Core.Sum.{⊎_set};
+ghost use Rattle.syntax.specs.Names as Source;
+ghost use Rattle.syntax.specs.Views.{program_of};
+ghost use Rattle.expression_code.specs.inner.Tables.{total_cells, AreGlobals, AreCallees};
+
+use crate::names::{Callee, Shared};
+use std::alloc::Allocator;
+use std::collections::BTreeMap;
+use syntax::tree::Unit;
+
+/// Each global, with its first cell.
+pub(crate) type Globals<'p, A> = BTreeMap<&'p str, Shared<'p, A>, A>;
+
+/// Each function that is defined.
+pub(crate) type Callees<'p, A> = BTreeMap<&'p str, Callee<'p, A>, A>;
+
+/// A program for which code is made, with the tables of its names, and with at most so many cells as an accepted one has.
+#[derive(Drop)]
+pub struct Names<'p, A: Allocator> {
+    /// Where memory for code is taken.
+    pub alloc: A,
+
+    /// The program.
+    pub unit: &'p Unit<A>,
+
+    pub(crate) globals: Globals<'p, A>,
+    pub(crate) callees: Callees<'p, A>,
+    ghost small: { total_cells (Source.globals (program_of unit.now)) ≤ 4096 },
+    ghost shared: { AreGlobals (program_of unit.now) globals } by { Prim.hlevel (props, ⊎_set) },
+    ghost called: { AreCallees (program_of unit.now) callees } by { Prim.hlevel (props, ⊎_set) },
+}

@@ -1,0 +1,372 @@
+//! Single instructions: which one an operator is, and how one is put behind the others.
+
+ghost use Rattle.std.specs.Prelude.{◌≡◌, [], ◌∷◌, ◌++◌, ◌<◌, ◌≤◌, ◌+◌, max, suc, length, OnOk, IfOk, IfErr};
+ghost use Rattle.syntax.specs.Numbers as numbers;
+ghost use Rattle.bytecode.specs.declared.instr.Instr.TheVariants as instr;
+ghost use Rattle.picked.specs.Lists.{used};
+ghost use Rattle.picked.specs.Conditions as conditions;
+ghost use Rattle.picked.specs.Expressions as expressions;
+ghost use Rattle.expression_code.specs.Limits.{NeedsMore};
+ghost use Rattle.expression_code.specs.declared.lists.Lists as declared_lists;
+ghost use Rattle.expression_code.specs.Lists.{lists_of};
+
+use crate::draft::put_test;
+use crate::fault::Failure;
+use crate::lists::Lists;
+use bytecode::Instr;
+use lex::token::Scalar;
+use picked::draft::Draft;
+use picked::held::{Held, Tested};
+use std::alloc::{AllocError, Allocator};
+use syntax::tree::BinaryOp;
+
+/// The registers of a function have numbers below this one.
+const MOST_REGISTERS: usize = 65_535;
+
+/// One more instruction.
+pub fn put<A: Allocator>(code: &mut Vec<Instr, A>, instr: Instr) -> Result<(), AllocError>
+    ensures { OnOk result (code.new.items ≡ code.old.items ++ instr ∷ []) }
+{
+    match code.push(instr) {
+        Ok(()) => Ok(()),
+        Err(_) => Err(AllocError),
+    }
+}
+
+/// These instructions behind the others.
+pub fn append<A: Allocator>(
+    code: &mut Vec<Instr, A>,
+    more: &mut Vec<Instr, A>,
+) -> Result<(), AllocError>
+    ensures { OnOk result (code.new.items ≡ code.old.items ++ more.old.items) }
+{
+    match code.append(more) {
+        Ok(()) => Ok(()),
+        Err(_) => Err(AllocError),
+    }
+}
+
+/// The place so many places further. No memory holds a code with a place that is no `u32`.
+pub fn after(place: u32, count: u32) -> Result<u32, AllocError>
+    requires { count ≤ 4 }
+    ensures { IfOk result (λ n. n ≡ place + count) }
+{
+    if place > 4_294_967_295 - count {
+        return Err(AllocError);
+    }
+    Ok(place + count)
+}
+
+/// A register that is used.
+pub(crate) fn take<A: Allocator>(lists: &mut Lists<A>, r: usize) -> Result<u16, Failure>
+    ensures lists { OnOk result (lists_of lists.new ≡ used r (lists_of lists.old)) }
+    ensures register { IfOk result (λ n. n ≡ r) }
+    ensures fails { IfErr result (λ why. NeedsMore why (used r (lists_of lists.old)).registers) }
+{
+    if r >= MOST_REGISTERS {
+        return Err(Failure::Registers);
+    }
+    if lists.registers <= r as u32 {
+        lists.registers = r as u32 + 1;
+    }
+    Ok(r as u16)
+}
+
+/// The first free register above a value's.
+pub(crate) fn above(free: usize, r: u16) -> usize
+    ensures { result ≡ expressions.above free r }
+{
+    let next = r as usize + 1;
+    if free < next { next } else { free }
+}
+
+/// A constant in a register.
+pub(crate) fn put_constant<A: Allocator>(
+    lists: &mut Lists<A>,
+    code: &mut Vec<Instr, A>,
+    value: u32,
+    of: Scalar,
+    from: u32,
+    into: usize,
+) -> Result<Held, Failure>
+    ensures code { OnOk result (code.new.items ≡ code.old.items ++ (expressions.constant value of from into (lists_of lists.old)).code) }
+    ensures lists { OnOk result (lists_of lists.new ≡ (expressions.constant value of from into (lists_of lists.old)).lists) }
+    ensures held { IfOk result (λ held. held ≡ (expressions.constant value of from into (lists_of lists.old)).held) }
+    ensures fails { IfErr result (λ why. NeedsMore why (expressions.constant value of from into (lists_of lists.old)).lists.registers) }
+{
+    let register = take(lists, into)?;
+    put(code, Instr::Constant(register, value))?;
+    let to = after(from, 1)?;
+    Ok(Held { register, of, to })
+}
+
+/// A value in this very register.
+pub(crate) fn settle<A: Allocator>(
+    lists: &mut Lists<A>,
+    code: &mut Vec<Instr, A>,
+    held: Held,
+    r: usize,
+) -> Result<Held, Failure>
+    ensures code { OnOk result (code.new.items ≡ (expressions.settled r (record { code = code.old.items; lists = lists_of lists.old; held = held })).code) }
+    ensures lists { OnOk result (lists_of lists.new ≡ (expressions.settled r (record { code = code.old.items; lists = lists_of lists.old; held = held })).lists) }
+    ensures held { IfOk result (λ now. now ≡ (expressions.settled r (record { code = code.old.items; lists = lists_of lists.old; held = held })).held) }
+    ensures register { IfOk result (λ now. now.register ≡ r) }
+    ensures fails { IfErr result (λ why. NeedsMore why (expressions.settled r (record { code = code.old.items; lists = lists_of lists.old; held = held })).lists.registers) }
+{
+    if held.register as usize == r {
+        return Ok(held);
+    }
+    let register = take(lists, r)?;
+    put(code, Instr::Move(register, held.register))?;
+    let to = after(held.to, 1)?;
+    Ok(Held {
+        register,
+        of: held.of,
+        to,
+    })
+}
+
+fn common(left: Scalar, right: Scalar) -> Scalar
+    ensures { result ≡ numbers.common left right }
+{
+    match (left, right) {
+        (Scalar::Int, Scalar::Int) => Scalar::Int,
+        _ => Scalar::Unsigned,
+    }
+}
+
+/// What an operand is converted to.
+pub(crate) fn operand_type(op: BinaryOp, own: Scalar, other: Scalar) -> Scalar
+    ensures { result ≡ numbers.operand_type op own other }
+{
+    match op {
+        BinaryOp::ShiftLeft | BinaryOp::ShiftRight => own,
+        _ => common(own, other),
+    }
+}
+
+/// The type of an operator's result.
+pub(crate) fn result_type(op: BinaryOp, of: Scalar) -> Scalar
+    ensures { result ≡ numbers.result_type op of }
+{
+    match op {
+        BinaryOp::Equal
+        | BinaryOp::NotEqual
+        | BinaryOp::Less
+        | BinaryOp::Greater
+        | BinaryOp::LessEqual
+        | BinaryOp::GreaterEqual => Scalar::Int,
+        _ => of,
+    }
+}
+
+fn computing_signed(op: BinaryOp, d: u16, a: u16, b: u16) -> Instr
+    ensures { result ≡ expressions.computing op (Scalar.Int) d a b }
+{
+    match op {
+        BinaryOp::Add => Instr::AddSigned(d, a, b),
+        BinaryOp::Subtract => Instr::SubtractSigned(d, a, b),
+        BinaryOp::Multiply => Instr::MultiplySigned(d, a, b),
+        BinaryOp::Divide => Instr::DivideSigned(d, a, b),
+        BinaryOp::Remainder => Instr::RemainderSigned(d, a, b),
+        BinaryOp::ShiftLeft => Instr::ShiftLeftSigned(d, a, b),
+        BinaryOp::ShiftRight => Instr::ShiftRightSigned(d, a, b),
+        BinaryOp::And => Instr::And(d, a, b),
+        BinaryOp::Or => Instr::Or(d, a, b),
+        BinaryOp::Xor => Instr::Xor(d, a, b),
+        BinaryOp::Equal => Instr::Equal(d, a, b),
+        BinaryOp::NotEqual => Instr::NotEqual(d, a, b),
+        BinaryOp::Less => Instr::LessSigned(d, a, b),
+        BinaryOp::Greater => Instr::LessSigned(d, b, a),
+        BinaryOp::LessEqual => Instr::LessEqualSigned(d, a, b),
+        BinaryOp::GreaterEqual => Instr::LessEqualSigned(d, b, a),
+    }
+}
+
+fn computing_unsigned(op: BinaryOp, d: u16, a: u16, b: u16) -> Instr
+    ensures { result ≡ expressions.computing op (Scalar.Unsigned) d a b }
+{
+    match op {
+        BinaryOp::Add => Instr::AddUnsigned(d, a, b),
+        BinaryOp::Subtract => Instr::SubtractUnsigned(d, a, b),
+        BinaryOp::Multiply => Instr::MultiplyUnsigned(d, a, b),
+        BinaryOp::Divide => Instr::DivideUnsigned(d, a, b),
+        BinaryOp::Remainder => Instr::RemainderUnsigned(d, a, b),
+        BinaryOp::ShiftLeft => Instr::ShiftLeftUnsigned(d, a, b),
+        BinaryOp::ShiftRight => Instr::ShiftRightUnsigned(d, a, b),
+        BinaryOp::And => Instr::And(d, a, b),
+        BinaryOp::Or => Instr::Or(d, a, b),
+        BinaryOp::Xor => Instr::Xor(d, a, b),
+        BinaryOp::Equal => Instr::Equal(d, a, b),
+        BinaryOp::NotEqual => Instr::NotEqual(d, a, b),
+        BinaryOp::Less => Instr::LessUnsigned(d, a, b),
+        BinaryOp::Greater => Instr::LessUnsigned(d, b, a),
+        BinaryOp::LessEqual => Instr::LessEqualUnsigned(d, a, b),
+        BinaryOp::GreaterEqual => Instr::LessEqualUnsigned(d, b, a),
+    }
+}
+
+fn computing(op: BinaryOp, of: Scalar, d: u16, a: u16, b: u16) -> Instr
+    ensures { result ≡ expressions.computing op of d a b }
+{
+    match of {
+        Scalar::Int => computing_signed(op, d, a, b),
+        Scalar::Unsigned => computing_unsigned(op, d, a, b),
+    }
+}
+
+/// An operator on two values, whose instructions stand there.
+pub(crate) fn put_both<A: Allocator>(
+    lists: &mut Lists<A>,
+    code: &mut Vec<Instr, A>,
+    op: BinaryOp,
+    a: Held,
+    b: Held,
+    into: usize,
+) -> Result<Held, Failure>
+    ensures code { OnOk result (code.new.items ≡ code.old.items ++ expressions.computing op (numbers.operand_type op a.of b.of) into a.register b.register ∷ []) }
+    ensures lists { OnOk result (lists_of lists.new ≡ used into (lists_of lists.old)) }
+    ensures held { IfOk result (λ held. held ≡ record { register = into; of = numbers.result_type op (numbers.operand_type op a.of b.of); to = b.to + 1 }) }
+    ensures fails { IfErr result (λ why. NeedsMore why (used into (lists_of lists.old)).registers) }
+{
+    let register = take(lists, into)?;
+    let of = operand_type(op, a.of, b.of);
+    put(code, computing(op, of, register, a.register, b.register))?;
+    let to = after(b.to, 1)?;
+    Ok(Held {
+        register,
+        of: result_type(op, of),
+        to,
+    })
+}
+
+fn negating(of: Scalar, d: u16, a: u16) -> Instr
+    ensures { result ≡ expressions.negating of d a }
+{
+    match of {
+        Scalar::Int => Instr::NegateSigned(d, a),
+        Scalar::Unsigned => Instr::NegateUnsigned(d, a),
+    }
+}
+
+/// The negated value.
+pub(crate) fn put_negated<A: Allocator>(
+    lists: &mut Lists<A>,
+    code: &mut Vec<Instr, A>,
+    a: Held,
+    into: usize,
+) -> Result<Held, Failure>
+    ensures code { OnOk result (code.new.items ≡ code.old.items ++ expressions.negating a.of into a.register ∷ []) }
+    ensures lists { OnOk result (lists_of lists.new ≡ used into (lists_of lists.old)) }
+    ensures held { IfOk result (λ held. held ≡ record { register = into; of = a.of; to = a.to + 1 }) }
+    ensures fails { IfErr result (λ why. NeedsMore why (used into (lists_of lists.old)).registers) }
+{
+    let register = take(lists, into)?;
+    put(code, negating(a.of, register, a.register))?;
+    let to = after(a.to, 1)?;
+    Ok(Held {
+        register,
+        of: a.of,
+        to,
+    })
+}
+
+/// The value with each bit turned round.
+pub(crate) fn put_complemented<A: Allocator>(
+    lists: &mut Lists<A>,
+    code: &mut Vec<Instr, A>,
+    a: Held,
+    into: usize,
+) -> Result<Held, Failure>
+    ensures code { OnOk result (code.new.items ≡ code.old.items ++ instr.Complement into a.register ∷ []) }
+    ensures lists { OnOk result (lists_of lists.new ≡ used into (lists_of lists.old)) }
+    ensures held { IfOk result (λ held. held ≡ record { register = into; of = a.of; to = a.to + 1 }) }
+    ensures fails { IfErr result (λ why. NeedsMore why (used into (lists_of lists.old)).registers) }
+{
+    let register = take(lists, into)?;
+    put(code, Instr::Complement(register, a.register))?;
+    let to = after(a.to, 1)?;
+    Ok(Held {
+        register,
+        of: a.of,
+        to,
+    })
+}
+
+/// Whether a value is 0.
+pub(crate) fn put_compared<A: Allocator>(
+    lists: &mut Lists<A>,
+    code: &mut Vec<Instr, A>,
+    a: Held,
+    into: usize,
+    free: usize,
+) -> Result<Held, Failure>
+    ensures code { OnOk result (code.new.items ≡ code.old.items ++ instr.Constant (expressions.above free a.register) 0 ∷ instr.Equal into a.register (expressions.above free a.register) ∷ []) }
+    ensures lists { OnOk result (lists_of lists.new ≡ used into (used (expressions.above free a.register) (lists_of lists.old))) }
+    ensures held { IfOk result (λ held. held ≡ record { register = into; of = Scalar.Int; to = a.to + 2 }) }
+    ensures fails { IfErr result (λ why. NeedsMore why (used into (used (expressions.above free a.register) (lists_of lists.old))).registers) }
+{
+    let zero_in = take(lists, above(free, a.register))?;
+    put(code, Instr::Constant(zero_in, 0))?;
+    let register = take(lists, into)?;
+    put(code, Instr::Equal(register, a.register, zero_in))?;
+    let to = after(a.to, 2)?;
+    Ok(Held {
+        register,
+        of: Scalar::Int,
+        to,
+    })
+}
+
+/// A condition, and behind it the answers: 1 where it holds, and 0 where it does not.
+pub(crate) fn put_answers<A: Allocator>(
+    lists: &mut Lists<A>,
+    code: &mut Vec<Instr, A>,
+    test: &[Draft],
+    t: Tested,
+    into: usize,
+) -> Result<Held, Failure>
+    ensures code { OnOk result (code.new.items ≡ code.old.items ++ (conditions.going_on test.now t (t.to + 3) ++ instr.Constant into 1 ∷ instr.Jump (t.to + 4) ∷ instr.Constant into 0 ∷ [])) }
+    ensures lists { OnOk result (lists_of lists.new ≡ used into (lists_of lists.old)) }
+    ensures held { IfOk result (λ held. held ≡ record { register = into; of = Scalar.Int; to = t.to + 4 }) }
+    ensures fails { IfErr result (λ why. NeedsMore why (used into (lists_of lists.old)).registers) }
+{
+    let unmet = after(t.to, 3)?;
+    let to = after(t.to, 4)?;
+    let register = take(lists, into)?;
+    put_test(code, test, t, unmet)?;
+    put(code, Instr::Constant(register, 1))?;
+    put(code, Instr::Jump(to))?;
+    put(code, Instr::Constant(register, 0))?;
+    Ok(Held {
+        register,
+        of: Scalar::Int,
+        to,
+    })
+}
+
+/// A condition, and behind it two values in one register.
+pub(crate) fn put_chosen<A: Allocator>(
+    code: &mut Vec<Instr, A>,
+    test: &[Draft],
+    t: Tested,
+    first: &mut Vec<Instr, A>,
+    a: Held,
+    second: &mut Vec<Instr, A>,
+    b: Held,
+) -> Result<Held, Failure>
+    ensures code { OnOk result (code.new.items ≡ code.old.items ++ (conditions.going_on test.now t (a.to + 1) ++ first.old.items ++ instr.Jump b.to ∷ second.old.items)) }
+    ensures held { IfOk result (λ held. held ≡ record { register = b.register; of = numbers.common a.of b.of; to = b.to }) }
+    ensures fails { IfErr result (λ why. NeedsMore why 0) }
+{
+    let other = after(a.to, 1)?;
+    put_test(code, test, t, other)?;
+    append(code, first)?;
+    put(code, Instr::Jump(b.to))?;
+    append(code, second)?;
+    Ok(Held {
+        register: b.register,
+        of: common(a.of, b.of),
+        to: b.to,
+    })
+}

@@ -1,0 +1,68 @@
+//! Constants that lie ready in registers.
+
+ghost use Rattle.std.specs.Prelude.{◌≡◌, ◌++◌, ◌+◌, ◌≤◌, length, OnOk};
+ghost use Rattle.syntax.specs.Views.{expr_of};
+ghost use Rattle.picked.specs.Expressions as expressions;
+ghost use Rattle.picked.specs.Programs as programs;
+ghost use Rattle.expression_code.specs.Lists.{lists_of};
+
+use crate::lists::Lists;
+use crate::put::put;
+use bytecode::Instr;
+use lex::token::Scalar;
+use picked::held::Held;
+use std::alloc::{AllocError, Allocator};
+use syntax::tree::Expr;
+
+/// A word that lies ready: its value, which no instruction gives.
+pub(crate) fn ready<A: Allocator>(
+    lists: &Lists<A>,
+    word: u32,
+    of: Scalar,
+    from: u32,
+) -> Option<Held>
+    ensures { result ≡ expressions.ready (lists_of lists.now).layout word of from }
+{
+    let mut register = lists.writable;
+    'each: for constant in lists.constants.as_slice() {
+        if *constant == word {
+            return Some(Held {
+                register,
+                of,
+                to: from,
+            });
+        }
+        if register == 65_535 {
+            return None;
+        }
+        register += 1;
+    }
+    None
+}
+
+/// A constant that lies ready, as the right side of an operator.
+pub(crate) fn constant_ready<A: Allocator>(lists: &Lists<A>, e: &Expr<A>, from: u32) -> Option<Held>
+    ensures { result ≡ expressions.constant_ready (lists_of lists.now).layout (expr_of e.now) from }
+{
+    match e {
+        Expr::Constant(value, of, _) => ready(lists, *value, *of, from),
+        _ => None,
+    }
+}
+
+/// Sets these words in registers from one on.
+pub fn set_all<A: Allocator>(
+    code: &mut Vec<Instr, A>,
+    first: u16,
+    words: &[u32],
+) -> Result<(), AllocError>
+    requires { first + length words.now ≤ 65535 }
+    ensures { OnOk result (code.new.items ≡ code.old.items ++ programs.all_set first words.now) }
+{
+    let mut register = first;
+    'each: for word in words {
+        put(code, Instr::Constant(register, *word))?;
+        register += 1;
+    }
+    Ok(())
+}

@@ -1,0 +1,433 @@
+//! The instructions of assignments and declarations.
+
+ghost use Rattle.std.specs.Prelude.{◌≡◌, ◌++◌, ◌∷◌, [], ◌+◌, ◌≤◌, map, option_map, length, OnOk, IfOk, IfErr};
+ghost use Rattle.syntax.specs.Names as Source;
+ghost use Rattle.syntax.specs.Views.{expr_of, simple_of, declarator_of, start_of};
+ghost use Rattle.syntax.specs.Meaning.{op_of};
+ghost use Rattle.bytecode.specs.declared.instr.Instr.TheVariants as instr;
+ghost use Rattle.lowered.specs.Statements.{with_local, with_declared, locals_of_start};
+ghost use Rattle.picked.specs.declared.held.Target.TheVariants as target;
+ghost use Rattle.picked.specs.Lists.{Lists as Plain};
+ghost use Rattle.picked.specs.Simples as simples;
+ghost use Rattle.picked.specs.Simples.{emitted_one, aimed, variable_target, fetched, stored, assigned, adjusted, simple_written, first_written, declarator_written, declared_written, start_written};
+ghost use Rattle.expression_code.specs.Limits.{NeedsMore};
+ghost use Rattle.expression_code.specs.Lists.{lists_of};
+ghost use Rattle.expression_code.specs.inner.Tables.{shared_in};
+ghost use Rattle.expression_code.specs.inner.Aims.{aim_in};
+ghost use Rattle.expression_code.specs.Views.{program_in, scope_in};
+
+use crate::aim::Aim;
+use crate::expr::{lower_expr, lower_operand};
+use crate::fault::Failure;
+use crate::lists::Lists;
+use crate::names::{Shared, cells_of, global};
+use crate::program::Names;
+use crate::put::{above, after, put, put_both, put_constant, take};
+use crate::ready::ready;
+use crate::scope::Scope;
+use bytecode::Instr;
+use lex::token::Scalar;
+use picked::held::{Held, Target};
+use std::alloc::{AllocError, Allocator};
+use syntax::tree::{BinaryOp, Declarator, Expr, IncDec, Simple, Start};
+
+fn aim_at(target: Target, to: u32) -> Aim
+    ensures { result ≡ record { target = target; to = to } }
+{
+    Aim { target, to }
+}
+
+/// Where an assignment to a variable goes.
+fn aim_variable<A: Allocator + Copy>(
+    names: &Names<'_, A>,
+    scope: &Scope<'_, A>,
+    lists: &mut Lists<A>,
+    x: &str,
+    from: u32,
+) -> Result<Aim, Failure>
+    ensures lists { OnOk result (lists_of lists.new ≡ (variable_target (Source.newest (scope_in scope.now) x.now) (Source.global_of (program_in names.now) x.now) from (lists_of lists.old)).lists) }
+    ensures aim { IfOk result (λ a. a ≡ aim_in (variable_target (Source.newest (scope_in scope.now) x.now) (Source.global_of (program_in names.now) x.now) from (lists_of lists.old))) }
+    ensures fails { IfErr result (λ why. NeedsMore why ((variable_target (Source.newest (scope_in scope.now) x.now) (Source.global_of (program_in names.now) x.now) from (lists_of lists.old)).lists).registers) }
+{
+    match scope.newest(x) {
+        Some((i, of)) => {
+            let register = take(lists, i)?;
+            Ok(aim_at(Target::Local(register, of), from))
+        }
+        None => match global(names, x) {
+            Some(g) => Ok(aim_at(Target::Cell(g.cell as u32, g.global.of), from)),
+            None => Ok(aim_at(Target::Nowhere, from)),
+        },
+    }
+}
+
+/// Where an assignment to an element goes, with the test of its index or without it.
+fn put_check<A: Allocator + Copy>(
+    code: &mut Vec<Instr, A>,
+    check: bool,
+    g: Shared<'_, A>,
+    index: Held,
+) -> Result<Aim, AllocError>
+    requires { g.cell ≤ 4096 }
+    ensures code { OnOk result (code.new.items ≡ code.old.items ++ simples.checked_by check index.register (Source.cells (shared_in g.entry).global)) }
+    ensures aim { IfOk result (λ a. a ≡ record { target = target.Element index.register g.entry.cell (Source.cells (shared_in g.entry).global) g.entry.global.now.of; to = index.to + simples.checks check }) }
+{
+    let length = cells_of(g.global);
+    let target = Target::Element(index.register, g.cell as u32, length, g.global.of);
+    if check {
+        put(code, Instr::Check(index.register, length))?;
+        let to = after(index.to, 1)?;
+        return Ok(aim_at(target, to));
+    }
+    Ok(aim_at(target, index.to))
+}
+
+/// Where an assignment goes.
+fn aim<A: Allocator + Copy>(
+    names: &Names<'_, A>,
+    scope: &Scope<'_, A>,
+    lists: &mut Lists<A>,
+    code: &mut Vec<Instr, A>,
+    check: bool,
+    e: &Expr<A>,
+    from: u32,
+    free: usize,
+) -> Result<Aim, Failure>
+    ensures code { OnOk result (code.new.items ≡ code.old.items ++ (aimed (program_in names.now) (scope_in scope.now) check (expr_of e.now) from free (lists_of lists.old)).code) }
+    ensures lists { OnOk result (lists_of lists.new ≡ (aimed (program_in names.now) (scope_in scope.now) check (expr_of e.now) from free (lists_of lists.old)).lists) }
+    ensures aim { IfOk result (λ a. a ≡ aim_in (aimed (program_in names.now) (scope_in scope.now) check (expr_of e.now) from free (lists_of lists.old))) }
+    ensures fails { IfErr result (λ why. NeedsMore why ((aimed (program_in names.now) (scope_in scope.now) check (expr_of e.now) from free (lists_of lists.old)).lists).registers) }
+{
+    match e {
+        Expr::Variable(x) => aim_variable(names, scope, lists, x.text.as_str(), from),
+        Expr::Element(x, index, _) => match global(names, x.text.as_str()) {
+            Some(g) => {
+                let i = lower_expr(names, scope, lists, code, index.get(), from, free, free)?;
+                Ok(put_check(code, check, g, i)?)
+            }
+            None => Ok(aim_at(Target::Nowhere, from)),
+        },
+        _ => Ok(aim_at(Target::Nowhere, from)),
+    }
+}
+
+/// The first register that a target leaves.
+fn above_target(target: Target, free: usize) -> usize
+    ensures { result ≡ simples.above_target target free }
+{
+    match target {
+        Target::Element(i, _, _, _) => above(free, i),
+        _ => free,
+    }
+}
+
+/// The register that the value takes.
+fn home_or(target: Target, free: usize) -> usize
+    ensures { result ≡ simples.home_or target free }
+{
+    match target {
+        Target::Local(i, _) => i as usize,
+        _ => free,
+    }
+}
+
+/// The old value.
+fn fetch<A: Allocator>(
+    lists: &mut Lists<A>,
+    code: &mut Vec<Instr, A>,
+    target: Target,
+    from: u32,
+    free: usize,
+) -> Result<Held, Failure>
+    ensures code { OnOk result (code.new.items ≡ code.old.items ++ (fetched target from free (lists_of lists.old)).code) }
+    ensures lists { OnOk result (lists_of lists.new ≡ (fetched target from free (lists_of lists.old)).lists) }
+    ensures held { IfOk result (λ h. h ≡ (fetched target from free (lists_of lists.old)).held) }
+    ensures fails { IfErr result (λ why. NeedsMore why ((fetched target from free (lists_of lists.old)).lists).registers) }
+{
+    match target {
+        Target::Local(i, of) => {
+            let register = take(lists, i as usize)?;
+            Ok(Held {
+                register,
+                of,
+                to: from,
+            })
+        }
+        Target::Cell(cell, of) => {
+            let register = take(lists, free)?;
+            put(code, Instr::Read(register, cell))?;
+            let to = after(from, 1)?;
+            Ok(Held { register, of, to })
+        }
+        Target::Element(i, cell, length, of) => {
+            let register = take(lists, free)?;
+            put(code, Instr::ReadAt(register, i, cell, length))?;
+            let to = after(from, 1)?;
+            Ok(Held { register, of, to })
+        }
+        Target::Nowhere => put_constant(lists, code, 0, Scalar::Int, from, free),
+    }
+}
+
+/// A value goes to its target, where it does not lie there already; the place behind.
+fn store<A: Allocator>(
+    code: &mut Vec<Instr, A>,
+    target: Target,
+    a: u16,
+    from: u32,
+) -> Result<u32, AllocError>
+    ensures code { OnOk result ((l : Plain) → code.new.items ≡ code.old.items ++ (stored target a from l).code) }
+    ensures place { IfOk result (λ to. (l : Plain) → to ≡ (stored target a from l).to) }
+{
+    let instr = match target {
+        Target::Local(i, _) => {
+            if a == i {
+                return Ok(from);
+            }
+            Instr::Move(i, a)
+        }
+        Target::Cell(cell, _) => Instr::Write(a, cell),
+        Target::Element(i, cell, length, _) => Instr::WriteAt(i, a, cell, length),
+        Target::Nowhere => return Ok(from),
+    };
+    put(code, instr)?;
+    after(from, 1)
+}
+
+/// `to = value`
+fn lower_assign<A: Allocator + Copy>(
+    names: &Names<'_, A>,
+    scope: &Scope<'_, A>,
+    lists: &mut Lists<A>,
+    code: &mut Vec<Instr, A>,
+    to: &Expr<A>,
+    value: &Expr<A>,
+    from: u32,
+    free: usize,
+) -> Result<u32, Failure>
+    ensures code { OnOk result (code.new.items ≡ code.old.items ++ (assigned (program_in names.now) (scope_in scope.now) (expr_of to.now) (expr_of value.now) from free (lists_of lists.old)).code) }
+    ensures lists { OnOk result (lists_of lists.new ≡ (assigned (program_in names.now) (scope_in scope.now) (expr_of to.now) (expr_of value.now) from free (lists_of lists.old)).lists) }
+    ensures place { IfOk result (λ p. p ≡ (assigned (program_in names.now) (scope_in scope.now) (expr_of to.now) (expr_of value.now) from free (lists_of lists.old)).to) }
+    ensures fails { IfErr result (λ why. NeedsMore why ((assigned (program_in names.now) (scope_in scope.now) (expr_of to.now) (expr_of value.now) from free (lists_of lists.old)).lists).registers) }
+{
+    let aim = aim(names, scope, lists, code, true, to, from, free)?;
+    let later = above_target(aim.target, free);
+    let home = home_or(aim.target, later);
+    let held = lower_expr(names, scope, lists, code, value, aim.to, home, later)?;
+    Ok(store(code, aim.target, held.register, held.to)?)
+}
+
+/// `to op= value`
+fn lower_change<A: Allocator + Copy>(
+    names: &Names<'_, A>,
+    scope: &Scope<'_, A>,
+    lists: &mut Lists<A>,
+    code: &mut Vec<Instr, A>,
+    op: BinaryOp,
+    to: &Expr<A>,
+    value: &Expr<A>,
+    from: u32,
+    free: usize,
+) -> Result<u32, Failure>
+    ensures code { OnOk result (code.new.items ≡ code.old.items ++ (adjusted (program_in names.now) (scope_in scope.now) op (expr_of to.now) (Some (expr_of value.now)) from free (lists_of lists.old)).code) }
+    ensures lists { OnOk result (lists_of lists.new ≡ (adjusted (program_in names.now) (scope_in scope.now) op (expr_of to.now) (Some (expr_of value.now)) from free (lists_of lists.old)).lists) }
+    ensures place { IfOk result (λ p. p ≡ (adjusted (program_in names.now) (scope_in scope.now) op (expr_of to.now) (Some (expr_of value.now)) from free (lists_of lists.old)).to) }
+    ensures fails { IfErr result (λ why. NeedsMore why ((adjusted (program_in names.now) (scope_in scope.now) op (expr_of to.now) (Some (expr_of value.now)) from free (lists_of lists.old)).lists).registers) }
+{
+    let aim = aim(names, scope, lists, code, false, to, from, free)?;
+    let later = above_target(aim.target, free);
+    let old = fetch(lists, code, aim.target, aim.to, later)?;
+    let behind = above(later, old.register);
+    let other = lower_operand(names, scope, lists, code, value, old.to, behind)?;
+    let held = put_both(lists, code, op, old, other, home_or(aim.target, later))?;
+    Ok(store(code, aim.target, held.register, held.to)?)
+}
+
+/// The 1 that is added or subtracted.
+fn lower_one<A: Allocator>(
+    lists: &mut Lists<A>,
+    code: &mut Vec<Instr, A>,
+    from: u32,
+    free: usize,
+) -> Result<Held, Failure>
+    ensures code { OnOk result (code.new.items ≡ code.old.items ++ (emitted_one from free (lists_of lists.old)).code) }
+    ensures lists { OnOk result (lists_of lists.new ≡ (emitted_one from free (lists_of lists.old)).lists) }
+    ensures held { IfOk result (λ held. held ≡ (emitted_one from free (lists_of lists.old)).held) }
+    ensures fails { IfErr result (λ why. NeedsMore why (emitted_one from free (lists_of lists.old)).lists.registers) }
+{
+    match ready(lists, 1, Scalar::Int, from) {
+        Some(held) => Ok(held),
+        None => put_constant(lists, code, 1, Scalar::Int, from, free),
+    }
+}
+
+/// `to++` and `to--`
+fn lower_adjust<A: Allocator + Copy>(
+    names: &Names<'_, A>,
+    scope: &Scope<'_, A>,
+    lists: &mut Lists<A>,
+    code: &mut Vec<Instr, A>,
+    op: BinaryOp,
+    to: &Expr<A>,
+    from: u32,
+    free: usize,
+) -> Result<u32, Failure>
+    ensures code { OnOk result (code.new.items ≡ code.old.items ++ (adjusted (program_in names.now) (scope_in scope.now) op (expr_of to.now) None from free (lists_of lists.old)).code) }
+    ensures lists { OnOk result (lists_of lists.new ≡ (adjusted (program_in names.now) (scope_in scope.now) op (expr_of to.now) None from free (lists_of lists.old)).lists) }
+    ensures place { IfOk result (λ p. p ≡ (adjusted (program_in names.now) (scope_in scope.now) op (expr_of to.now) None from free (lists_of lists.old)).to) }
+    ensures fails { IfErr result (λ why. NeedsMore why ((adjusted (program_in names.now) (scope_in scope.now) op (expr_of to.now) None from free (lists_of lists.old)).lists).registers) }
+{
+    let aim = aim(names, scope, lists, code, false, to, from, free)?;
+    let later = above_target(aim.target, free);
+    let old = fetch(lists, code, aim.target, aim.to, later)?;
+    let behind = above(later, old.register);
+    let other = lower_one(lists, code, old.to, behind)?;
+    let held = put_both(lists, code, op, old, other, home_or(aim.target, later))?;
+    Ok(store(code, aim.target, held.register, held.to)?)
+}
+
+fn op_of(by: IncDec) -> BinaryOp
+    ensures { result ≡ op_of by }
+{
+    match by {
+        IncDec::Increment => BinaryOp::Add,
+        IncDec::Decrement => BinaryOp::Subtract,
+    }
+}
+
+/// An expression that stands as a statement, or an assignment.
+pub fn lower_simple<A: Allocator + Copy>(
+    names: &Names<'_, A>,
+    scope: &Scope<'_, A>,
+    lists: &mut Lists<A>,
+    code: &mut Vec<Instr, A>,
+    s: &Simple<A>,
+    from: u32,
+    free: usize,
+) -> Result<u32, Failure>
+    ensures code { OnOk result (code.new.items ≡ code.old.items ++ (simple_written (program_in names.now) (scope_in scope.now) (simple_of s.now) from free (lists_of lists.old)).code) }
+    ensures lists { OnOk result (lists_of lists.new ≡ (simple_written (program_in names.now) (scope_in scope.now) (simple_of s.now) from free (lists_of lists.old)).lists) }
+    ensures place { IfOk result (λ p. p ≡ (simple_written (program_in names.now) (scope_in scope.now) (simple_of s.now) from free (lists_of lists.old)).to) }
+    ensures fails { IfErr result (λ why. NeedsMore why ((simple_written (program_in names.now) (scope_in scope.now) (simple_of s.now) from free (lists_of lists.old)).lists).registers) }
+{
+    match s {
+        Simple::Evaluate(e) => {
+            let held = lower_expr(names, scope, lists, code, e, from, free, free)?;
+            Ok(held.to)
+        }
+        Simple::Assign(to, op, value) => match op {
+            None => lower_assign(names, scope, lists, code, to, value, from, free),
+            Some(op) => lower_change(names, scope, lists, code, *op, to, value, from, free),
+        },
+        Simple::Adjust(to, by) => {
+            lower_adjust(names, scope, lists, code, op_of(*by), to, from, free)
+        }
+    }
+}
+
+/// The first value of the local in this register.
+fn lower_first<A: Allocator + Copy>(
+    names: &Names<'_, A>,
+    scope: &Scope<'_, A>,
+    lists: &mut Lists<A>,
+    code: &mut Vec<Instr, A>,
+    register: u16,
+    of: Scalar,
+    first: &Option<Expr<A>>,
+    from: u32,
+) -> Result<u32, Failure>
+    ensures code { OnOk result (code.new.items ≡ code.old.items ++ (first_written (program_in names.now) (scope_in scope.now) register of (option_map expr_of first.now) from (lists_of lists.old)).code) }
+    ensures lists { OnOk result (lists_of lists.new ≡ (first_written (program_in names.now) (scope_in scope.now) register of (option_map expr_of first.now) from (lists_of lists.old)).lists) }
+    ensures place { IfOk result (λ p. p ≡ (first_written (program_in names.now) (scope_in scope.now) register of (option_map expr_of first.now) from (lists_of lists.old)).to) }
+    ensures fails { IfErr result (λ why. NeedsMore why ((first_written (program_in names.now) (scope_in scope.now) register of (option_map expr_of first.now) from (lists_of lists.old)).lists).registers) }
+{
+    match first {
+        Some(e) => {
+            let i = register as usize;
+            let held = lower_expr(names, scope, lists, code, e, from, i, i + 1)?;
+            Ok(store(code, Target::Local(register, of), held.register, held.to)?)
+        }
+        None => Ok(from),
+    }
+}
+
+/// A declared local is 0 and then has its first value.
+fn lower_declarator<'p, A: Allocator + Copy>(
+    names: &Names<'p, A>,
+    scope: &mut Scope<'p, A>,
+    lists: &mut Lists<A>,
+    code: &mut Vec<Instr, A>,
+    of: Scalar,
+    d: &'p Declarator<A>,
+    from: u32,
+) -> Result<u32, Failure>
+    ensures scope { OnOk result (scope_in scope.new ≡ with_local (scope_in scope.old) d.now.name.text of) }
+    ensures code { OnOk result (code.new.items ≡ code.old.items ++ (declarator_written (program_in names.now) of (declarator_of d.now) (scope_in scope.old) from (lists_of lists.old)).code) }
+    ensures lists { OnOk result (lists_of lists.new ≡ (declarator_written (program_in names.now) of (declarator_of d.now) (scope_in scope.old) from (lists_of lists.old)).lists) }
+    ensures place { IfOk result (λ p. p ≡ (declarator_written (program_in names.now) of (declarator_of d.now) (scope_in scope.old) from (lists_of lists.old)).to) }
+    ensures fails { IfErr result (λ why. NeedsMore why ((declarator_written (program_in names.now) of (declarator_of d.now) (scope_in scope.old) from (lists_of lists.old)).lists).registers) }
+{
+    let register = take(lists, scope.len())?;
+    put(code, Instr::Constant(register, 0))?;
+    let next = after(from, 1)?;
+    scope.declare(d.name.text.as_str(), of)?;
+    lower_first(names, scope, lists, code, register, of, &d.first, next)
+}
+
+/// The locals of one declaration, in order.
+pub fn lower_declarators<'p, A: Allocator + Copy>(
+    names: &Names<'p, A>,
+    scope: &mut Scope<'p, A>,
+    lists: &mut Lists<A>,
+    code: &mut Vec<Instr, A>,
+    of: Scalar,
+    all: &'p [Declarator<A>],
+    from: u32,
+) -> Result<u32, Failure>
+    ensures scope { OnOk result (scope_in scope.new ≡ with_declared of (map declarator_of all.now) (scope_in scope.old)) }
+    ensures code { OnOk result (code.new.items ≡ code.old.items ++ (declared_written (program_in names.now) of (map declarator_of all.now) (scope_in scope.old) from (lists_of lists.old)).code) }
+    ensures lists { OnOk result (lists_of lists.new ≡ (declared_written (program_in names.now) of (map declarator_of all.now) (scope_in scope.old) from (lists_of lists.old)).lists) }
+    ensures place { IfOk result (λ p. p ≡ (declared_written (program_in names.now) of (map declarator_of all.now) (scope_in scope.old) from (lists_of lists.old)).to) }
+    ensures fails { IfErr result (λ why. NeedsMore why ((declared_written (program_in names.now) of (map declarator_of all.now) (scope_in scope.old) from (lists_of lists.old)).lists).registers) }
+{
+    let mut to = from;
+    'each: for one in all {
+        to = lower_declarator(names, scope, lists, code, of, one, to)?;
+    }
+    Ok(to)
+}
+
+/// What the head of a `for` begins with.
+pub fn lower_start<'p, A: Allocator + Copy>(
+    names: &Names<'p, A>,
+    scope: &mut Scope<'p, A>,
+    lists: &mut Lists<A>,
+    code: &mut Vec<Instr, A>,
+    start: &'p Start<A>,
+    from: u32,
+) -> Result<u32, Failure>
+    ensures scope { OnOk result (scope_in scope.new ≡ locals_of_start (start_of start.now) (scope_in scope.old)) }
+    ensures code { OnOk result (code.new.items ≡ code.old.items ++ (start_written (program_in names.now) (start_of start.now) (scope_in scope.old) from (lists_of lists.old)).code) }
+    ensures lists { OnOk result (lists_of lists.new ≡ (start_written (program_in names.now) (start_of start.now) (scope_in scope.old) from (lists_of lists.old)).lists) }
+    ensures place { IfOk result (λ p. p ≡ (start_written (program_in names.now) (start_of start.now) (scope_in scope.old) from (lists_of lists.old)).to) }
+    ensures fails { IfErr result (λ why. NeedsMore why ((start_written (program_in names.now) (start_of start.now) (scope_in scope.old) from (lists_of lists.old)).lists).registers) }
+{
+    match start {
+        Start::Nothing => Ok(from),
+        Start::Declare(d) => {
+            lower_declarators(
+                names,
+                scope,
+                lists,
+                code,
+                d.of,
+                d.declarators.as_slice(),
+                from,
+            )
+        }
+        Start::Do(s) => {
+            let free = scope.len();
+            lower_simple(names, scope, lists, code, s, from, free)
+        }
+    }
+}

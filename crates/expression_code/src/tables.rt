@@ -1,0 +1,147 @@
+//! The tables of a program's names, which are made once.
+
+ghost use Rattle.std.specs.Prelude.{◌≡◌, ◌+◌, ◌≤◌, ◌++◌, List, ℕ, Option, Some, map, if◌then◌else◌, bytes_eq, IfOk, OnOk};
+ghost use Rattle.std.specs.Option.{option_or};
+ghost use Rattle.syntax.specs.Tree as tree;
+ghost use Rattle.syntax.specs.Names as Source;
+ghost use Rattle.syntax.specs.Names.{GlobalCells, globals};
+ghost use Rattle.syntax.specs.Views.{global_of, function_of, item_of};
+ghost use Rattle.picked.specs.Names as Named;
+ghost use Rattle.expression_code.specs.inner.Tables.{total_cells, shared_at, callee_in, called_at, AreGlobals, AreCallees};
+
+use crate::names::{Callee, Shared, cells_of};
+use crate::program::{Callees, Globals, Names};
+use lex::token::Scalar;
+use std::alloc::{AllocError, Allocator};
+use std::collections::BTreeMap;
+use syntax::tree::{Function, Global, Item};
+use types::Typed;
+
+/// Adds a global with this first cell, unless there is one of its name.
+fn add_global<'p, A: Allocator + Copy>(
+    table: &mut Globals<'p, A>,
+    cell: usize,
+    g: &'p Global<A>,
+) -> Result<(), AllocError>
+    ensures { OnOk result ((x : List ℕ) (rest : Option GlobalCells) → option_or (shared_at table.new x) rest ≡ option_or (shared_at table.old x) (if bytes_eq g.now.name.text x then Some (record { global = global_of g.now; cell = cell }) else rest)) }
+{
+    let name = g.name.text.as_str();
+    if table.contains_key(name) {
+        return Ok(());
+    }
+    match table.insert(name, Shared { cell, global: g }) {
+        Ok(_) => Ok(()),
+        Err(_) => Err(AllocError),
+    }
+}
+
+/// Adds the globals of a declaration, from this cell on; the cell behind them.
+fn add_globals<'p, A: Allocator + Copy>(
+    table: &mut Globals<'p, A>,
+    first: usize,
+    gs: &'p [Global<A>],
+) -> Result<usize, AllocError>
+    requires { first + total_cells (map global_of gs.now) ≤ 4096 }
+    ensures value { IfOk result (λ next. (x : List ℕ) (rest : List tree.Global) → option_or (shared_at table.new x) (Source.global_from next rest x) ≡ option_or (shared_at table.old x) (Source.global_from first (map global_of gs.now ++ rest) x)) }
+    ensures next { IfOk result (λ next. next ≡ first + total_cells (map global_of gs.now)) }
+{
+    let mut cell = first;
+    'globals: for g in gs {
+        add_global(table, cell, g)?;
+        cell += cells_of(g) as usize;
+    }
+    Ok(cell)
+}
+
+/// Each global, with its first cell: the first one of its name.
+fn place_globals<'p, A: Allocator + Copy>(
+    alloc: A,
+    items: &'p [Item<A>],
+) -> Result<Globals<'p, A>, AllocError>
+    requires { total_cells (globals (map item_of items.now)) ≤ 4096 }
+    ensures { IfOk result (AreGlobals (map item_of items.now)) }
+{
+    let mut table = BTreeMap::new(alloc);
+    let mut cell = 0;
+    'items: for item in items {
+        match item {
+            Item::Function(_) => {}
+            Item::Globals(gs) => cell = add_globals(&mut table, cell, gs.as_slice())?,
+        }
+    }
+    Ok(table)
+}
+
+/// A function with this number.
+fn callee_at<'p, A: Allocator + Copy>(number: usize, f: &'p Function<A>) -> Callee<'p, A>
+    ensures { callee_in result ≡ Named.callee_at number (function_of f.now) }
+{
+    let of = match f.result {
+        Some(of) => of,
+        None => Scalar::Int,
+    };
+    Callee {
+        number,
+        of,
+        parameters: f.parameters.as_slice(),
+    }
+}
+
+/// Adds a function with this number, unless there is one of its name.
+fn add_callee<'p, A: Allocator + Copy>(
+    table: &mut Callees<'p, A>,
+    number: usize,
+    f: &'p Function<A>,
+) -> Result<(), AllocError>
+    ensures { OnOk result ((x : List ℕ) (rest : Option Named.Callee) → option_or (called_at table.new x) rest ≡ option_or (called_at table.old x) (if bytes_eq f.now.name.text x then Some (Named.callee_at number (function_of f.now)) else rest)) }
+{
+    let name = f.name.text.as_str();
+    if table.contains_key(name) {
+        return Ok(());
+    }
+    match table.insert(name, callee_at(number, f)) {
+        Ok(_) => Ok(()),
+        Err(_) => Err(AllocError),
+    }
+}
+
+/// Each function that is defined, with its number: the first one of its name.
+fn number_callees<'p, A: Allocator + Copy>(
+    alloc: A,
+    items: &'p [Item<A>],
+) -> Result<Callees<'p, A>, AllocError>
+    ensures { IfOk result (AreCallees (map item_of items.now)) }
+{
+    let mut table = BTreeMap::new(alloc);
+    let mut number = 0;
+    'items: for item in items {
+        match item {
+            Item::Function(f) => {
+                if f.body.is_some() {
+                    add_callee(&mut table, number, f)?;
+                    number += 1;
+                }
+            }
+            Item::Globals(_) => {}
+        }
+    }
+    Ok(table)
+}
+
+/// A program for which code is to be made, with its tables. Takes memory for these.
+pub fn names<'p, A: Allocator + Copy>(
+    alloc: A,
+    typed: &'p Typed<A>,
+) -> Result<Names<'p, A>, AllocError>
+    ensures { IfOk result (λ n. n.unit.now ≡ typed.now.unit) }
+{
+    let unit = typed.unit();
+    let globals = place_globals(alloc, unit.items.as_slice())?;
+    let callees = number_callees(alloc, unit.items.as_slice())?;
+    Ok(Names {
+        alloc,
+        unit,
+        globals,
+        callees,
+    })
+}

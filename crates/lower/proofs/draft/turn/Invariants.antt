@@ -1,6 +1,0 @@
-use Rattle.std.proofs.Common.{◌≡◌, ◌++◌, map, take}
-use Rattle.picked.specs.Conditions.{turned}
-use Rattle.lower.proofs.draft.turn.Given as goal
-
-abbrev pub invariant-each : goal.invariant-each
-invariant-each g l = l.drafts.items ≡ l.fn.drafts.items ++ map turned (take l.one-index l.first)
