@@ -1,9 +1,9 @@
 //! What boxes, lists and texts hold: each call once with ample memory, and each growth refused once.
 
+use crate::asserted::assert_all;
 use containers::{Boxed, Copied, Items, Same, Text};
 use refusing::Refusing;
 use std::alloc::{AllocError, Allocator, Global};
-use std::test::Fail;
 
 /// Whether all of these were made, and the first is equal to the second and not to the third.
 fn tells_apart<T: PartialEq + Drop>(
@@ -23,11 +23,17 @@ fn holds_seven(boxed: Boxed<u32, Global>) -> bool {
     boxed.into_inner() == 7 && lent
 }
 
+/// Whether a new one does.
+fn a_new_one_holds_seven(alloc: Global) -> bool {
+    match Boxed::new(alloc, 7u32) {
+        Ok(boxed) => holds_seven(boxed),
+        Err(_) => false,
+    }
+}
+
 #[test]
-fn a_box_holds_its_value(rt: HostRuntime) -> Result<(), Fail> {
-    let boxed = Boxed::new(rt.alloc(), 7u32)?;
-    assert!(rt; holds_seven(boxed));
-    Ok(())
+fn a_box_holds_its_value(rt: HostRuntime) {
+    assert_all(&rt, &[("a box", a_new_one_holds_seven(rt.alloc()))]);
 }
 
 /// Whether boxes are compared by what they hold.
@@ -64,10 +70,6 @@ fn lends_three_and_one(items: &Items<u32, Global>) -> bool {
     as_slice && one_by_one && items.len() == 2 && items[1] == 1
 }
 
-fn has_none(items: &Items<u32, Global>) -> bool {
-    items.is_empty()
-}
-
 /// Whether a list lends 3 and 1, and does so still where it is made anew from its `Vec`.
 fn keeps_three_and_one(items: Items<u32, Global>) -> bool {
     let lent = lends_three_and_one(&items);
@@ -75,12 +77,29 @@ fn keeps_three_and_one(items: Items<u32, Global>) -> bool {
     lends_three_and_one(&items) && lent
 }
 
+/// The same of a new list.
+fn a_new_one_keeps_them(alloc: Global) -> bool {
+    match numbers(alloc, &[3, 1]) {
+        Ok(items) => keeps_three_and_one(items),
+        Err(_) => false,
+    }
+}
+
+/// Whether a list without items is one.
+fn none_is_empty(alloc: Global) -> bool {
+    let items: Items<u32, Global> = Items::new(alloc);
+    items.is_empty()
+}
+
 #[test]
-fn items_keep_their_order(rt: HostRuntime) -> Result<(), Fail> {
-    assert!(rt; has_none(&Items::new(rt.alloc())));
-    let items = numbers(rt.alloc(), &[3, 1])?;
-    assert!(rt; keeps_three_and_one(items));
-    Ok(())
+fn items_keep_their_order(rt: HostRuntime) {
+    assert_all(
+        &rt,
+        &[
+            ("none", none_is_empty(rt.alloc())),
+            ("two", a_new_one_keeps_them(rt.alloc())),
+        ],
+    );
 }
 
 /// Whether lists are compared item by item.
@@ -110,9 +129,14 @@ fn compares_texts(alloc: Global) -> bool {
 
 #[test]
 fn values_are_compared_by_what_they_hold(rt: HostRuntime) {
-    assert!(rt; compares_boxes(rt.alloc()));
-    assert!(rt; compares_lists(rt.alloc()));
-    assert!(rt; compares_texts(rt.alloc()));
+    assert_all(
+        &rt,
+        &[
+            ("boxes", compares_boxes(rt.alloc())),
+            ("lists", compares_lists(rt.alloc())),
+            ("texts", compares_texts(rt.alloc())),
+        ],
+    );
 }
 
 /// Whether a text was made that lends this, and begins so.
@@ -125,8 +149,16 @@ fn lends(text: Result<Text<Global>, AllocError>, wanted: &str, begin: &str) -> b
 
 #[test]
 fn a_text_holds_its_bytes(rt: HostRuntime) {
-    assert!(rt; lends(Text::from_str(rt.alloc(), "x = 2"), "x = 2", "x"));
-    assert!(rt; lends(moved(rt.alloc(), "y"), "y", ""));
+    assert_all(
+        &rt,
+        &[
+            (
+                "of a str",
+                lends(Text::from_str(rt.alloc(), "x = 2"), "x = 2", "x"),
+            ),
+            ("of a string", lends(moved(rt.alloc(), "y"), "y", "")),
+        ],
+    );
 }
 
 /// Pushes an item, a second time where it is refused, and says whether it was; none where the list did not stay as it
@@ -158,7 +190,7 @@ fn push_each_to_new(alloc: &Refusing<Global>) -> Option<bool> {
 #[test]
 fn a_refused_push_leaves_the_items(rt: HostRuntime) {
     let alloc = Refusing::new(rt.alloc(), 0);
-    assert!(rt; push_each_to_new(&alloc) == Some(true));
+    assert_all(&rt, &[("pushes", push_each_to_new(&alloc) == Some(true))]);
 }
 
 /// What the second call has made, where the first was refused.
@@ -187,9 +219,12 @@ fn makes_a_text_again(alloc: &Refusing<Global>) -> bool {
 #[test]
 fn a_refused_box_or_text_is_made_at_the_next_call(rt: HostRuntime) {
     let alloc = Refusing::new(rt.alloc(), 1);
-    assert!(rt; makes_a_box_again(&alloc));
+    let boxed = makes_a_box_again(&alloc);
     alloc.refuse(1);
-    assert!(rt; makes_a_text_again(&alloc));
+    assert_all(
+        &rt,
+        &[("a box", boxed), ("a text", makes_a_text_again(&alloc))],
+    );
 }
 
 /// A value that may be missing and holds a text in a box.
@@ -228,16 +263,29 @@ fn are_same<T: Same + Drop>(
     }
 }
 
-/// Whether the list that begins with `x` is the same as this one.
-fn is_same(alloc: Global, other: Result<Texts<Global>, AllocError>) -> Option<bool> {
-    are_same(texts(alloc, "x"), other)
+/// Whether the list that begins with `x` is the same as the one that begins with this.
+fn is_same(alloc: Global, first: &str) -> Option<bool> {
+    are_same(texts(alloc, "x"), texts(alloc, first))
+}
+
+/// Whether it is the same as one without items.
+fn is_same_as_none(alloc: Global) -> Option<bool> {
+    are_same(texts(alloc, "x"), Ok(Items::new(alloc)))
 }
 
 #[test]
 fn the_same_is_what_holds_the_same(rt: HostRuntime) {
-    assert!(rt; is_same(rt.alloc(), texts(rt.alloc(), "x")) == Some(true));
-    assert!(rt; is_same(rt.alloc(), texts(rt.alloc(), "z")) == Some(false));
-    assert!(rt; is_same(rt.alloc(), Ok(Items::new(rt.alloc()))) == Some(false));
+    let same = is_same(rt.alloc(), "x");
+    let other = is_same(rt.alloc(), "z");
+    let none = is_same_as_none(rt.alloc());
+    assert_all(
+        &rt,
+        &[
+            ("the same", same == Some(true)),
+            ("another", other == Some(false)),
+            ("none", none == Some(false)),
+        ],
+    );
 }
 
 /// Whether a copy is the same as the whole; none where it is refused.
@@ -248,14 +296,16 @@ fn copies<T: Copied<A> + Same + Drop, A: Allocator + Copy>(whole: &T, alloc: A) 
     }
 }
 
+/// The same of texts.
+fn copies_texts<A: Allocator + Copy>(whole: &Texts<A>, alloc: A) -> Option<bool> {
+    copies(whole, alloc)
+}
+
 /// Whether a copy is refused, so that the next one is made; none where a copy is not the same.
-fn copies_again<T: Copied<A> + Same + Drop, A: Allocator + Copy>(
-    whole: &T,
-    alloc: A,
-) -> Option<bool> {
-    match copies(whole, alloc) {
+fn copies_again<A: Allocator + Copy>(whole: &Texts<A>, alloc: A) -> Option<bool> {
+    match copies_texts(whole, alloc) {
         Some(same) => same.then_some(false),
-        None => (copies(whole, alloc) == Some(true)).then_some(true),
+        None => (copies_texts(whole, alloc) == Some(true)).then_some(true),
     }
 }
 
@@ -292,5 +342,5 @@ fn growths_of_texts(alloc: &Refusing<Global>) -> Option<u64> {
 fn each_growth_of_a_copy_is_refused_once(rt: HostRuntime) {
     let alloc = Refusing::new(rt.alloc(), 0);
     // a list, two boxes and two texts
-    assert!(rt; growths_of_texts(&alloc) == Some(5));
+    assert_all(&rt, &[("five", growths_of_texts(&alloc) == Some(5))]);
 }

@@ -1,5 +1,6 @@
 //! Long texts and long tokens.
 
+use crate::asserted::{assert_all, assert_none};
 use crate::texts::{is_refused, stand_at};
 use lex::{lex, unescape};
 use std::alloc::{AllocError, Global};
@@ -43,11 +44,19 @@ fn is_lexed(alloc: Global, row: &Row) -> bool {
     }
 }
 
+/// The first of these rows whose token stands elsewhere.
+fn lexed_otherwise(alloc: Global, rows: &[Row]) -> Option<&'static str> {
+    for row in rows {
+        if !is_lexed(alloc, row) {
+            return Some(row.0);
+        }
+    }
+    None
+}
+
 #[test]
 fn large_pieces_are_lexed(rt: HostRuntime) {
-    for row in large_pieces() {
-        assert!(rt; is_lexed(rt.alloc(), row), "{:?}", row.0);
-    }
+    assert_none(&rt, lexed_otherwise(rt.alloc(), large_pieces()));
 }
 
 /// Whether so many spaces are a text without tokens.
@@ -68,8 +77,13 @@ fn is_too_long(alloc: Global, before: &str, spaces: usize) -> bool {
 
 #[test]
 fn a_text_has_at_most_a_mebibyte(rt: HostRuntime) {
-    assert!(rt; is_too_long(rt.alloc(), "@", 1048576));
-    assert!(rt; has_no_tokens(rt.alloc(), 1048576));
+    assert_all(
+        &rt,
+        &[
+            ("more", is_too_long(rt.alloc(), "@", 1048576)),
+            ("as many", has_no_tokens(rt.alloc(), 1048576)),
+        ],
+    );
 }
 
 /// How many tokens so many names are.
@@ -96,6 +110,13 @@ fn count_escapes(alloc: Global, times: usize) -> Option<usize> {
 
 #[test]
 fn many_names_and_many_escapes(rt: HostRuntime) {
-    assert!(rt; count_names(rt.alloc(), 100000) == Some(100000));
-    assert!(rt; count_escapes(rt.alloc(), 100000) == Some(100000));
+    let names = count_names(rt.alloc(), 100000);
+    let escapes = count_escapes(rt.alloc(), 100000);
+    assert_all(
+        &rt,
+        &[
+            ("names", names == Some(100000)),
+            ("escapes", escapes == Some(100000)),
+        ],
+    );
 }

@@ -1,12 +1,24 @@
-//! Tests of the containers, of the lexer and of what is told of faults, in a crate of their own: a crate with tests is proved
-//! twice, and each crate of tests reads and links all that it stands on.
+//! Tests of the containers, of the lexer, of what is told of faults, of the logs and the core, and of the words of a command line,
+//! in a crate of their own: a crate with tests is proved twice, and each crate of tests reads and links all that it stands on.
 #![tactic(auto)]
 
+#[cfg(test)]
+mod asserted;
+#[cfg(test)]
+mod cores;
 #[cfg(test)]
 mod held;
 #[cfg(test)]
 mod large;
 #[cfg(test)]
+mod reads;
+#[cfg(test)]
 mod texts;
 #[cfg(test)]
 mod told;
+#[cfg(test)]
+mod validation;
+#[cfg(test)]
+mod words;
+#[cfg(test)]
+mod writes;

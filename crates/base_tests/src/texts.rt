@@ -1,10 +1,10 @@
 //! Each call once with ample memory, each fault with its span, and a refused growth.
 
+use crate::asserted::{assert_all, assert_none};
 use lex::token::{Keyword, Kind, Scalar, Span, Token};
 use lex::{lex, place, unescape};
 use refusing::Refusing;
 use std::alloc::{Allocator, Global};
-use std::process::Abort;
 
 /// A text, the number of its fault, and where the fault's span starts and ends.
 type Refused<'a> = (&'a str, u32, usize, usize);
@@ -23,11 +23,14 @@ pub fn is_refused(alloc: Global, row: &Refused) -> bool {
     }
 }
 
-/// Asserts that each of these texts is refused so.
-fn assert_all_refused(rt: &impl Abort, alloc: Global, rows: &[Refused<'static>]) {
+/// The first of these texts that is not refused so.
+fn refused_otherwise(alloc: Global, rows: &[Refused<'static>]) -> Option<&'static str> {
     for row in rows {
-        assert!(rt; is_refused(alloc, row), "{:?}", row.0);
+        if !is_refused(alloc, row) {
+            return Some(row.0);
+        }
     }
+    None
 }
 
 /// Whether a token stands at a place.
@@ -35,16 +38,20 @@ fn stands_at(token: &Token, place: &(usize, usize)) -> bool {
     token.span.start == place.0 && token.span.end == place.1
 }
 
+/// Whether tokens stand at these places.
+fn are_at(tokens: &[Token], places: &[(usize, usize)]) -> bool {
+    for (token, place) in tokens.iter().zip(places) {
+        if !stands_at(token, place) {
+            return false;
+        }
+    }
+    tokens.len() == places.len()
+}
+
 /// Whether the text's tokens stand at these places.
 pub fn stand_at(alloc: Global, text: &str, places: &[(usize, usize)]) -> bool {
     match lex(alloc, text) {
-        Ok(tokens) => {
-            tokens.len() == places.len()
-                && tokens
-                    .iter()
-                    .zip(places)
-                    .all(|(token, place)| stands_at(token, place))
-        }
+        Ok(tokens) => are_at(tokens.as_slice(), places),
         Err(_) => false,
     }
 }
@@ -100,17 +107,20 @@ fn tells_them(alloc: Global, text: &str) -> bool {
 #[test]
 fn tokens_say_what_they_are(rt: HostRuntime) {
     let text = "#include <stdio.h>\nint x=0x1FU;// c\nchar \"a\\n\"";
-    assert!(rt; tells_them(rt.alloc(), text));
+    assert_all(&rt, &[(text, tells_them(rt.alloc(), text))]);
 }
 
 /// A text, and the places of its tokens.
 type Row = (&'static str, &'static [(usize, usize)]);
 
-/// Asserts that the tokens of each of these texts stand at these places.
-fn assert_all_stand(rt: &impl Abort, alloc: Global, rows: &[Row]) {
+/// The first of these texts whose tokens stand at other places.
+fn stand_otherwise(alloc: Global, rows: &[Row]) -> Option<&'static str> {
     for row in rows {
-        assert!(rt; stand_at(alloc, row.0, row.1), "{:?}", row.0);
+        if !stand_at(alloc, row.0, row.1) {
+            return Some(row.0);
+        }
     }
+    None
 }
 
 fn punctuators() -> &'static [Row] {
@@ -124,7 +134,7 @@ fn punctuators() -> &'static [Row] {
 
 #[test]
 fn the_longest_punctuator_comes_first(rt: HostRuntime) {
-    assert_all_stand(&rt, rt.alloc(), punctuators());
+    assert_none(&rt, stand_otherwise(rt.alloc(), punctuators()));
 }
 
 fn skipped() -> &'static [Row] {
@@ -140,7 +150,7 @@ fn skipped() -> &'static [Row] {
 
 #[test]
 fn comments_and_lines_of_include_are_skipped(rt: HostRuntime) {
-    assert_all_stand(&rt, rt.alloc(), skipped());
+    assert_none(&rt, stand_otherwise(rt.alloc(), skipped()));
 }
 
 fn bad() -> &'static [Refused<'static>] {
@@ -159,7 +169,7 @@ fn bad() -> &'static [Refused<'static>] {
 
 #[test]
 fn bad_characters(rt: HostRuntime) {
-    assert_all_refused(&rt, rt.alloc(), bad());
+    assert_none(&rt, refused_otherwise(rt.alloc(), bad()));
 }
 
 fn too_large() -> &'static [Refused<'static>] {
@@ -182,8 +192,8 @@ fn largest() -> &'static [Row] {
 
 #[test]
 fn constants_too_large(rt: HostRuntime) {
-    assert_all_refused(&rt, rt.alloc(), too_large());
-    assert_all_stand(&rt, rt.alloc(), largest());
+    assert_none(&rt, refused_otherwise(rt.alloc(), too_large()));
+    assert_none(&rt, stand_otherwise(rt.alloc(), largest()));
 }
 
 fn open() -> &'static [Refused<'static>] {
@@ -202,7 +212,7 @@ fn open() -> &'static [Refused<'static>] {
 
 #[test]
 fn open_comments_bad_strings_and_directives(rt: HostRuntime) {
-    assert_all_refused(&rt, rt.alloc(), open());
+    assert_none(&rt, refused_otherwise(rt.alloc(), open()));
 }
 
 /// Whether the text without its escapes is this; none where memory is refused.
@@ -221,24 +231,29 @@ fn is_refused_once(alloc: &Refusing<Global>) -> bool {
 #[test]
 fn an_escape_is_one_character(rt: HostRuntime) {
     let found = becomes(rt.alloc(), "a\\n\\t\\\\\\\"n\u{e4}", "a\n\t\\\"n\u{e4}");
-    assert!(rt; found == Some(true));
     let alloc = Refusing::new(rt.alloc(), 1);
-    assert!(rt; is_refused_once(&alloc));
+    assert_all(
+        &rt,
+        &[
+            ("with memory", found == Some(true)),
+            ("refused once", is_refused_once(&alloc)),
+        ],
+    );
 }
 
 #[test]
 fn a_place_is_a_line_and_a_column_in_bytes(rt: HostRuntime) {
     let text = "a\n/* \u{e4} */ b\r\nc";
-    let places = [
-        (0, (1, 1)),
-        (1, (1, 2)),
-        (2, (2, 1)),
-        (11, (2, 10)),
-        (text.len(), (3, 2)),
-    ];
-    for (offset, wanted) in places {
-        assert!(rt; place(text, offset) == wanted, "{offset}");
-    }
+    assert_all(
+        &rt,
+        &[
+            ("the first", place(text, 0) == (1, 1)),
+            ("of the line's end", place(text, 1) == (1, 2)),
+            ("of the next line", place(text, 2) == (2, 1)),
+            ("behind two bytes", place(text, 11) == (2, 10)),
+            ("of the text's end", place(text, text.len()) == (3, 2)),
+        ],
+    );
 }
 
 /// The number of a text's tokens; of its fault the number and the span.
@@ -260,15 +275,19 @@ fn refuses(inner: Global, nth: u64) -> Option<bool> {
     }
 }
 
-#[test]
-fn a_refused_growth_is_out_of_memory(rt: HostRuntime) {
-    let mut met = 0;
+/// How many growths can be refused; none where one comes to another fault, or to other tokens.
+fn growths(inner: Global) -> Option<u64> {
     for nth in 1..100u64 {
-        match refuses(rt.alloc(), nth) {
-            Some(true) => met = nth,
-            Some(false) => break,
-            None => panic!(rt; "another fault, or other tokens"),
+        match refuses(inner, nth) {
+            Some(true) => {}
+            Some(false) => return Some(nth - 1),
+            None => return None,
         }
     }
-    assert!(rt; 0 < met);
+    None
+}
+
+#[test]
+fn a_refused_growth_is_out_of_memory(rt: HostRuntime) {
+    assert_all(&rt, &[("growths", growths(rt.alloc()) > Some(0))]);
 }

@@ -1,10 +1,10 @@
 //! What is told of faults.
 
+use crate::asserted::{assert_all, assert_none};
 use faults::{explanation, underlined, words};
 use lex::token::Span;
 use refusing::Refusing;
 use std::alloc::{AllocError, Allocator, Global};
-use std::test::Fail;
 
 /// A text, where a span of it starts and ends, and what is shown of it.
 type Row = (&'static str, usize, usize, &'static str);
@@ -54,7 +54,7 @@ fn shown_otherwise(alloc: Global, rows: &[Row]) -> Option<&'static str> {
 
 #[test]
 fn underlines_spans(rt: HostRuntime) {
-    assert_eq!(rt; shown_otherwise(rt.alloc(), spans()), None);
+    assert_none(&rt, shown_otherwise(rt.alloc(), spans()));
 }
 
 /// A line of 1,000 characters of two bytes each.
@@ -109,11 +109,17 @@ fn shows_a_part(alloc: Global, text: &str) -> bool {
     }
 }
 
+/// The same of the long line.
+fn shows_a_part_of_it(alloc: Global) -> bool {
+    match long_line(alloc) {
+        Ok(text) => shows_a_part(alloc, text.as_str()),
+        Err(_) => false,
+    }
+}
+
 #[test]
-fn shows_a_part_of_a_long_line(rt: HostRuntime) -> Result<(), Fail> {
-    let text = long_line(rt.alloc())?;
-    assert!(rt; shows_a_part(rt.alloc(), text.as_str()));
-    Ok(())
+fn shows_a_part_of_a_long_line(rt: HostRuntime) {
+    assert_all(&rt, &[("a part", shows_a_part_of_it(rt.alloc()))]);
 }
 
 /// Whether what a fault means is told just where the fault has words.
@@ -133,5 +139,5 @@ fn not_explained() -> Option<u32> {
 
 #[test]
 fn explains_each_fault(rt: HostRuntime) {
-    assert_eq!(rt; not_explained(), None);
+    assert_all(&rt, &[("explained", not_explained() == None)]);
 }

@@ -1,5 +1,6 @@
 //! The read log: pairs in their order, and each growth refused.
 
+use crate::asserted::assert_that;
 use read_log::ReadLog;
 use refusing::Refusing;
 use std::alloc::{AllocError, Global};
@@ -33,17 +34,21 @@ fn refuses(alloc: &Refusing<Global>) -> Option<bool> {
     (ends && log.len() == 20 && refused != alloc.is_waiting()).then_some(refused)
 }
 
-#[test]
-fn each_growth_is_refused_in_turn(rt: HostRuntime) {
-    let mut met = 0;
+/// The last growth that is met; none where a pair is lost, or a refused growth is not told.
+fn last_met(inner: Global) -> Option<u64> {
     for nth in 1..100u64 {
-        match refuses(&Refusing::new(rt.alloc(), nth)) {
-            Some(true) => met = nth,
-            Some(false) => break,
-            None => panic!(rt; "a pair was lost, or a refused growth was not told"),
+        match refuses(&Refusing::new(inner, nth)) {
+            Some(true) => {}
+            Some(false) => return Some(nth - 1),
+            None => return None,
         }
     }
-    assert!(rt; 0 < met);
+    None
+}
+
+#[test]
+fn each_growth_is_refused_in_turn(rt: HostRuntime) {
+    assert_that(&rt, last_met(rt.alloc()) > Some(0));
 }
 
 /// Pushes a pair, with room for it.
@@ -67,5 +72,5 @@ fn keeps_order(log: &mut ReadLog) -> Result<bool, AllocError> {
 #[test]
 fn keeps_each_pair_in_order(rt: HostRuntime) {
     let mut log = ReadLog::new(rt.alloc());
-    assert!(rt; keeps_order(&mut log) == Ok(true));
+    assert_that(&rt, keeps_order(&mut log) == Ok(true));
 }

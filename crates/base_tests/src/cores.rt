@@ -2,9 +2,10 @@
 
 ghost use Rattle.norec_core.specs.Accesses.{IsAnswerTo};
 
+use crate::asserted::assert_that;
 use norec_core::{Access, Answer, Core, Op, Outcome, Saved, Stop};
 use refusing::Refusing;
-use std::alloc::Allocator;
+use std::alloc::{Allocator, Global};
 
 // The answer of an access that finds this value in the lock or the word.
 fn answer_to(access: Access, found: u64) -> Answer
@@ -434,34 +435,34 @@ fn new_plays<A: Allocator + Copy, B: Allocator>(
 }
 
 // The same where growth `nth` is refused, and whether this growth is still to come.
-fn refused_at<A: Allocator>(inner: A, nth: u64, play: Play) -> (bool, bool) {
+fn refused_at(inner: Global, nth: u64, play: Play) -> (bool, bool) {
     let alloc = Refusing::new(inner, nth);
     let holds = new_plays(&alloc, &alloc, play);
     (holds, alloc.is_waiting())
 }
 
 // The same where no growth is.
-fn is_played<A: Allocator>(inner: A, play: Play) -> bool {
+fn is_played(inner: Global, play: Play) -> bool {
     refused_at(inner, 0, play).0
 }
 
 #[test]
 fn steps_are_played(rt: HostRuntime) {
-    assert!(rt; is_played(rt.alloc(), Play::Steps));
+    assert_that(&rt, is_played(rt.alloc(), Play::Steps));
 }
 
 #[test]
 fn an_abort_goes_back_to_what_was_saved(rt: HostRuntime) {
-    assert!(rt; is_played(rt.alloc(), Play::Abort));
+    assert_that(&rt, is_played(rt.alloc(), Play::Abort));
 }
 
 #[test]
 fn the_sequence_is_used_up(rt: HostRuntime) {
-    assert!(rt; is_played(rt.alloc(), Play::LastValues));
+    assert_that(&rt, is_played(rt.alloc(), Play::LastValues));
 }
 
 // The last growth that is met, where that holds for each.
-fn last_met<A: Allocator + Copy>(inner: A) -> Option<u64> {
+fn last_met(inner: Global) -> Option<u64> {
     let mut met = 0;
     for nth in 1..100u64 {
         match refused_at(inner, nth, Play::Refused) {
@@ -475,31 +476,31 @@ fn last_met<A: Allocator + Copy>(inner: A) -> Option<u64> {
 
 #[test]
 fn each_growth_is_refused_in_turn(rt: HostRuntime) {
-    assert!(rt; last_met(rt.alloc()) > Some(5));
+    assert_that(&rt, last_met(rt.alloc()) > Some(5));
 }
 
 #[test]
 fn told_takes_no_memory(rt: HostRuntime) {
-    assert!(rt; is_played(rt.alloc(), Play::Told));
+    assert_that(&rt, is_played(rt.alloc(), Play::Told));
 }
 
 // After its first transactions a thread that runs such ones takes no more memory.
 #[test]
 fn room_stays(rt: HostRuntime) {
-    assert!(rt; is_played(rt.alloc(), Play::Rounds));
+    assert_that(&rt, is_played(rt.alloc(), Play::Rounds));
 }
 
 #[test]
 fn large_logs_are_stored(rt: HostRuntime) {
-    assert!(rt; is_played(rt.alloc(), Play::LargeLogs));
+    assert_that(&rt, is_played(rt.alloc(), Play::LargeLogs));
 }
 
 #[test]
 fn reads_are_made_whole(rt: HostRuntime) {
-    assert!(rt; is_played(rt.alloc(), Play::WholeReads));
+    assert_that(&rt, is_played(rt.alloc(), Play::WholeReads));
 }
 
 #[test]
 fn writes_and_commits_are_made_at_once(rt: HostRuntime) {
-    assert!(rt; is_played(rt.alloc(), Play::AtOnce));
+    assert_that(&rt, is_played(rt.alloc(), Play::AtOnce));
 }

@@ -2,6 +2,7 @@
 
 ghost use Rattle.std.specs.Prelude.{◌≡◌, ◌+◌, ◌<◌, ◌≤◌, OnOk, length};
 
+use crate::asserted::{assert_all, assert_that};
 use refusing::Refusing;
 use std::alloc::{AllocError, Allocator, Global};
 use std::marker::Brand;
@@ -95,8 +96,9 @@ fn goes_on(log: &mut WriteLog) -> Result<bool, AllocError> {
 #[test]
 fn goes_back_to_a_mark_words_included(rt: HostRuntime) {
     let mut log = WriteLog::new(rt.alloc());
-    assert!(rt; goes_back(&mut log) == Ok(true));
-    assert!(rt; goes_on(&mut log) == Ok(true));
+    let back = goes_back(&mut log) == Ok(true);
+    let on = goes_on(&mut log) == Ok(true);
+    assert_all(&rt, &[("back", back), ("on", on)]);
 }
 
 /// Makes a mark, and writes a word at address 1 in it.
@@ -123,12 +125,12 @@ fn forgets(log: &mut WriteLog) -> Result<bool, AllocError> {
 #[test]
 fn a_mark_forgets_those_that_lay_in_it(rt: HostRuntime) {
     let mut log = WriteLog::new(rt.alloc());
-    assert!(rt; forgets(&mut log) == Ok(true));
+    assert_that(&rt, forgets(&mut log) == Ok(true));
 }
 
 #[test]
 fn looks_take_no_bytes(rt: HostRuntime) {
-    assert_eq!(rt; size_of::<Looks<Brand>>(), 0);
+    assert_that(&rt, size_of::<Looks<Brand>>() == 0);
 }
 
 /// A log as a plain list, searched from its front, with a copy of it for each mark.
@@ -307,7 +309,7 @@ fn answers_as_a_plain_list(rt: HostRuntime) {
         pairs: Vec::new(rt.alloc()),
         marks: Vec::new(rt.alloc()),
     };
-    assert!(rt; agree(&mut log, &mut plain) == Ok(true));
+    assert_that(&rt, agree(&mut log, &mut plain) == Ok(true));
 }
 
 /// Makes calls for which the log grows, and says whether a growth was refused.
@@ -338,16 +340,20 @@ fn refuses(alloc: &Refusing<Global>) -> Option<bool> {
     (told && has_pairs(&log, &[(30, 1), (5, 2)])).then_some(refused)
 }
 
-#[test]
-fn each_growth_is_refused_in_turn(rt: HostRuntime) {
-    let mut met = 0;
+/// The last growth that is met; none where a refused one has changed the log, or was not told.
+fn last_met(inner: Global) -> Option<u64> {
     for nth in 1..100u64 {
-        match refuses(&Refusing::new(rt.alloc(), nth)) {
-            Some(true) => met = nth,
-            Some(false) => break,
-            None => panic!(rt; "a refused growth has changed the log, or was not told"),
+        match refuses(&Refusing::new(inner, nth)) {
+            Some(true) => {}
+            Some(false) => return Some(nth - 1),
+            None => return None,
         }
     }
+    None
+}
+
+#[test]
+fn each_growth_is_refused_in_turn(rt: HostRuntime) {
     // The pairs, their order, the journal and the marks: the first three grow more than once.
-    assert!(rt; 7 <= met);
+    assert_that(&rt, last_met(rt.alloc()) >= Some(7));
 }

@@ -1,5 +1,5 @@
 use Rattle.std.proofs.Common.{◌≡◌}
-use Rattle.norec_tests.proofs.writes.write_to_each.Given as goal
+use Rattle.base_tests.proofs.writes.write_to_each.Given as goal
 
 abbrev pub invariant-addresses : goal.invariant-addresses
 invariant-addresses g l = l.log.marks ≡ l.fn.log.marks

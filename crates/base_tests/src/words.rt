@@ -1,9 +1,9 @@
 //! Command lines, and what they ask. In a line a bar stands between two words; what is asked, or why nothing is, stands as
 //! Rust's `{:?}` writes it.
 
+use crate::asserted::{assert_none, assert_that};
 use command::command;
 use std::alloc::{AllocError, Global};
-use std::process::Abort;
 
 /// What words ask.
 fn told(alloc: Global, words: &[&str]) -> Result<String, AllocError> {
@@ -28,11 +28,14 @@ fn asks(alloc: Global, line: &str, wanted: &[u8]) -> bool {
 /// A line, and the bytes of what it asks.
 type Row = (&'static str, &'static [u8]);
 
-/// Asserts that each of these lines asks what stands beside it.
-fn assert_all_ask(rt: &impl Abort, alloc: Global, rows: &[Row]) {
+/// The first of these lines that asks something else than what stands beside it.
+fn ask_otherwise(alloc: Global, rows: &[Row]) -> Option<&'static str> {
     for (line, wanted) in rows {
-        assert!(rt; asks(alloc, line, wanted), "{line}");
+        if !asks(alloc, line, wanted) {
+            return Some(*line);
+        }
     }
+    None
 }
 
 fn runs() -> &'static [Row] {
@@ -51,7 +54,7 @@ fn runs() -> &'static [Row] {
 
 #[test]
 fn reads_runs(rt: HostRuntime) {
-    assert_all_ask(&rt, rt.alloc(), runs());
+    assert_none(&rt, ask_otherwise(rt.alloc(), runs()));
 }
 
 fn words() -> &'static [Row] {
@@ -71,7 +74,7 @@ fn words() -> &'static [Row] {
 
 #[test]
 fn reads_words(rt: HostRuntime) {
-    assert_all_ask(&rt, rt.alloc(), words());
+    assert_none(&rt, ask_otherwise(rt.alloc(), words()));
 }
 
 fn orders() -> &'static [Row] {
@@ -107,7 +110,7 @@ fn orders() -> &'static [Row] {
 
 #[test]
 fn reads_orders(rt: HostRuntime) {
-    assert_all_ask(&rt, rt.alloc(), orders());
+    assert_none(&rt, ask_otherwise(rt.alloc(), orders()));
 }
 
 /// Orders that the program itself refuses.
@@ -163,7 +166,7 @@ fn refused_orders() -> &'static [Row] {
 
 #[test]
 fn refuses_orders(rt: HostRuntime) {
-    assert_all_ask(&rt, rt.alloc(), refused_orders());
+    assert_none(&rt, ask_otherwise(rt.alloc(), refused_orders()));
 }
 
 /// Replays, and where their steps come from.
@@ -188,7 +191,7 @@ fn replays() -> &'static [Row] {
 
 #[test]
 fn reads_replays(rt: HostRuntime) {
-    assert_all_ask(&rt, rt.alloc(), replays());
+    assert_none(&rt, ask_otherwise(rt.alloc(), replays()));
 }
 
 /// Replays by a seed.
@@ -216,7 +219,7 @@ fn seeds() -> &'static [Row] {
 
 #[test]
 fn reads_seeds(rt: HostRuntime) {
-    assert_all_ask(&rt, rt.alloc(), seeds());
+    assert_none(&rt, ask_otherwise(rt.alloc(), seeds()));
 }
 
 /// Replays that the program itself refuses.
@@ -264,7 +267,7 @@ fn refused_replays() -> &'static [Row] {
 
 #[test]
 fn refuses_replays(rt: HostRuntime) {
-    assert_all_ask(&rt, rt.alloc(), refused_replays());
+    assert_none(&rt, ask_otherwise(rt.alloc(), refused_replays()));
 }
 
 /// Whether what a line asks begins with this and has this piece.
@@ -275,11 +278,19 @@ fn has(alloc: Global, line: &str, begin: &str, piece: &str) -> bool {
     }
 }
 
-/// Asserts that of each of these lines.
-fn assert_all_have(rt: &impl Abort, alloc: Global, lines: &[&str], begin: &str, piece: &str) {
+/// The first of these lines of which that is not so.
+fn have_not(
+    alloc: Global,
+    lines: &[&'static str],
+    begin: &str,
+    piece: &str,
+) -> Option<&'static str> {
     for line in lines {
-        assert!(rt; has(alloc, line, begin, piece), "{line}");
+        if !has(alloc, line, begin, piece) {
+            return Some(*line);
+        }
     }
+    None
 }
 
 /// What is no command line of the program.
@@ -303,7 +314,7 @@ fn wrong_lines() -> &'static [&'static str] {
 
 #[test]
 fn refuses_words(rt: HostRuntime) {
-    assert_all_have(&rt, rt.alloc(), wrong_lines(), "Err(Wrong {", "");
+    assert_none(&rt, have_not(rt.alloc(), wrong_lines(), "Err(Wrong {", ""));
 }
 
 /// The begin of what is told where help is asked for.
@@ -324,17 +335,14 @@ fn help_lines() -> &'static [&'static str] {
 
 #[test]
 fn helps(rt: HostRuntime) {
-    assert_all_have(&rt, rt.alloc(), help_lines(), HELP, "Usage: txc");
-    assert_all_have(&rt, rt.alloc(), help_lines(), HELP, r"Example:\n  txc ");
-    assert_all_have(&rt, rt.alloc(), ["txc|--help"].as_slice(), HELP, "");
+    assert_none(&rt, have_not(rt.alloc(), help_lines(), HELP, "Usage: txc"));
+    let examples = have_not(rt.alloc(), help_lines(), HELP, r"Example:\n  txc ");
+    assert_none(&rt, examples);
+    assert_that(&rt, has(rt.alloc(), "txc|--help", HELP, ""));
 }
 
 #[test]
 fn tells_its_version(rt: HostRuntime) {
     let told = br#"Err(Help { text: "txc 0.1.0\n" })"#;
-    assert_all_ask(
-        &rt,
-        rt.alloc(),
-        [("txc|--version", told.as_slice())].as_slice(),
-    );
+    assert_that(&rt, asks(rt.alloc(), "txc|--version", told.as_slice()));
 }

@@ -1,8 +1,9 @@
 //! Validation whose steps are made by functions of their own.
 
+use crate::asserted::assert_that;
 use crate::cores::step;
 use norec_core::{Core, Op, Outcome};
-use std::alloc::Allocator;
+use std::alloc::{Allocator, Global};
 
 // Whether a read of this cell finds this word and then this lock value, with this outcome.
 fn reads<A: Allocator + Copy>(
@@ -93,7 +94,7 @@ fn drops<A: Allocator + Copy>(core: &mut Core<A>) -> bool {
 }
 
 // Whether a new core goes on, and then one drops its attempt.
-fn validates<A: Allocator + Copy>(alloc: A) -> bool {
+fn validates(alloc: Global) -> bool {
     let mut first = Core::new(alloc);
     let mut second = Core::new(alloc);
     goes_on(&mut first) && drops(&mut second)
@@ -101,5 +102,5 @@ fn validates<A: Allocator + Copy>(alloc: A) -> bool {
 
 #[test]
 fn validation_is_made_by_its_own_functions(rt: HostRuntime) {
-    assert!(rt; validates(rt.alloc()));
+    assert_that(&rt, validates(rt.alloc()));
 }
