@@ -3,8 +3,9 @@
 use bytecode::{Code, FunctionCode, Instr, Parts, validate};
 use containers::{Items, Text};
 use lex::token::{Scalar, Span};
-use std::alloc::{AllocError, Allocator};
-use syntax::tree::{Global, Name};
+use std::alloc::{AllocError, Allocator, Global};
+use syntax::tree;
+use syntax::tree::Name;
 
 /// A function's name, its first place, its registers and its parameters.
 pub type Function<'a> = (&'a str, u32, u32, u32);
@@ -83,10 +84,13 @@ fn push_texts<A: Allocator + Copy>(
 }
 
 /// The variable `x`, or an array of that length.
-pub fn global<A: Allocator + Copy>(alloc: A, length: Option<u32>) -> Result<Global<A>, AllocError> {
+pub fn global<A: Allocator + Copy>(
+    alloc: A,
+    length: Option<u32>,
+) -> Result<tree::Global<A>, AllocError> {
     let nowhere = Span { start: 0, end: 0 };
     let text = Text::from_str(alloc, "x")?;
-    Ok(Global {
+    Ok(tree::Global {
         of: Scalar::Int,
         name: Name {
             text,
@@ -103,7 +107,7 @@ pub fn global<A: Allocator + Copy>(alloc: A, length: Option<u32>) -> Result<Glob
 // Appends the variable `x`.
 fn push_variable<A: Allocator + Copy>(
     alloc: A,
-    to: &mut Items<Global<A>, A>,
+    to: &mut Items<tree::Global<A>, A>,
 ) -> Result<(), AllocError> {
     to.push(global(alloc, None)?)
 }
@@ -145,7 +149,10 @@ pub fn parts_of<A: Allocator + Copy>(
 }
 
 /// A worker that returns at once, over a variable `x` and this global.
-pub fn parts_over<A: Allocator + Copy>(alloc: A, other: Global<A>) -> Result<Parts<A>, AllocError> {
+pub fn parts_over<A: Allocator + Copy>(
+    alloc: A,
+    other: tree::Global<A>,
+) -> Result<Parts<A>, AllocError> {
     let mut parts = parts_of(alloc, &[WORKER], &[], &[Instr::Return], &[])?;
     parts.globals.push(other)?;
     Ok(parts)
@@ -153,12 +160,18 @@ pub fn parts_over<A: Allocator + Copy>(alloc: A, other: Global<A>) -> Result<Par
 
 /// What `validate` says of parts: that they are a code or that they are not, and nothing where memory was refused.
 pub fn is_valid<A: Allocator + Copy>(alloc: A, parts: Parts<A>) -> Option<bool> {
-    validate(alloc, parts).ok().map(|found| found.is_some())
+    match validate(alloc, parts) {
+        Ok(found) => Some(found.is_some()),
+        Err(_) => None,
+    }
 }
 
 /// The code of parts, if they are valid and memory is there.
 pub fn code_of<A: Allocator + Copy>(alloc: A, parts: Parts<A>) -> Option<Code<A>> {
-    validate(alloc, parts).ok().flatten()
+    match validate(alloc, parts) {
+        Ok(found) => found,
+        Err(_) => None,
+    }
 }
 
 /// The code of these functions, registers that calls hand over, instructions and texts, if it is valid and memory is there.
@@ -176,8 +189,8 @@ pub fn code_of_parts<A: Allocator + Copy>(
 }
 
 /// What `validate` says of these functions, registers that calls hand over and instructions, with two texts.
-pub fn of_functions<A: Allocator + Copy>(
-    alloc: A,
+pub fn of_functions(
+    alloc: Global,
     functions: &[Function],
     arguments: &[u16],
     instructions: &[Instr],
@@ -189,6 +202,6 @@ pub fn of_functions<A: Allocator + Copy>(
 }
 
 /// What `validate` says of `worker` with 2 registers and these instructions.
-pub fn of<A: Allocator + Copy>(alloc: A, instructions: &[Instr]) -> Option<bool> {
+pub fn of(alloc: Global, instructions: &[Instr]) -> Option<bool> {
     of_functions(alloc, &[WORKER], &[], instructions)
 }

@@ -1,10 +1,10 @@
 //! Each growth refused in turn.
 
+use crate::asserted::assert_all;
 use crate::built::{Function, TEXTS, WORKER, code_of_parts, is_valid, parts_of};
 use bytecode::{Code, Instr, Parts, PartsFault, listing, validate};
 use refusing::Refusing;
-use std::alloc::Allocator;
-use std::test::Fail;
+use std::alloc::{Allocator, Global};
 
 // A call whose growths are refused.
 #[derive(Clone, Copy)]
@@ -36,7 +36,8 @@ fn are_valid_later<A: Allocator + Copy>(alloc: A, fault: PartsFault<A>) -> Optio
 // Whether parts are found valid at once, or else when they come back; `None` where they are found not to be.
 fn are_valid_at_once<A: Allocator + Copy>(alloc: A, parts: Parts<A>) -> Option<bool> {
     match validate(alloc, parts) {
-        Ok(found) => found.map(|_| true),
+        Ok(Some(_)) => Some(true),
+        Ok(None) => None,
         Err(fault) => are_valid_later(alloc, fault),
     }
 }
@@ -103,13 +104,14 @@ fn made_in<A: Allocator, B: Allocator + Copy>(
     copies: bool,
     nth: u64,
 ) -> Option<(bool, bool)> {
-    code_of_parts(alloc, &FUNCTIONS, &[], &INSTRUCTIONS, &TEXTS).map(|code| made_where_refused(
-        refusing, alloc, &code, copies, nth,
-    ))
+    match code_of_parts(alloc, &FUNCTIONS, &[], &INSTRUCTIONS, &TEXTS) {
+        Some(code) => Some(made_where_refused(refusing, alloc, &code, copies, nth)),
+        None => None,
+    }
 }
 
 // What a call comes to where growth `nth` is refused: whether it is made, and whether that growth is still to come.
-fn refused_at<A: Allocator + Copy>(inner: A, call: Call, nth: u64) -> Option<(bool, bool)> {
+fn refused_at(inner: Global, call: Call, nth: u64) -> Option<(bool, bool)> {
     let alloc = Refusing::new(inner, 0);
     match call {
         Call::Validate => validated_in(&alloc, &alloc, nth),
@@ -120,7 +122,7 @@ fn refused_at<A: Allocator + Copy>(inner: A, call: Call, nth: u64) -> Option<(bo
 
 // How many growths a call makes, each of which was refused once; `None` where one was made in spite of that, or not made at
 // last.
-fn growths<A: Allocator + Copy>(inner: A, call: Call) -> Option<u64> {
+fn growths(inner: Global, call: Call) -> Option<u64> {
     let mut met = 0;
     for nth in 1..200u64 {
         match refused_at(inner, call, nth) {
@@ -133,12 +135,16 @@ fn growths<A: Allocator + Copy>(inner: A, call: Call) -> Option<u64> {
 }
 
 #[test]
-fn each_growth_may_be_refused(rt: HostRuntime) -> Result<(), Fail> {
-    let a = rt.alloc();
-    // names, arrivals and work
-    assert!(rt; growths(a, Call::Validate) >= Some(3));
-    // the lists, names and texts
-    assert!(rt; growths(a, Call::Copy) >= Some(8));
-    assert!(rt; growths(a, Call::List) >= Some(1));
-    Ok(())
+fn each_growth_may_be_refused(rt: HostRuntime) {
+    let validated = growths(rt.alloc(), Call::Validate);
+    let copied = growths(rt.alloc(), Call::Copy);
+    let listed = growths(rt.alloc(), Call::List);
+    assert_all(
+        &rt,
+        &[
+            ("names, arrivals and work", validated >= Some(3)),
+            ("the lists, names and texts", copied >= Some(8)),
+            ("a listing", listed >= Some(1)),
+        ],
+    );
 }

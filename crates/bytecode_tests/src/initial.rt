@@ -1,15 +1,17 @@
 //! The first word of each cell.
 
+use crate::asserted::assert_that;
 use crate::built::{code_of, global, parts_over};
 use bytecode::{Code, Parts};
 use lex::token::{Scalar, Span};
 use refusing::Refusing;
-use std::alloc::{AllocError, Allocator};
-use syntax::tree::{First, Global};
+use std::alloc::{AllocError, Allocator, Global};
+use syntax::tree;
+use syntax::tree::First;
 
 // Appends a first word to a variable's.
 fn push_first<A: Allocator>(
-    to: &mut Global<A>,
+    to: &mut tree::Global<A>,
     negative: bool,
     value: u32,
 ) -> Result<(), AllocError> {
@@ -22,13 +24,13 @@ fn push_first<A: Allocator>(
 }
 
 // Appends the first words -1 and 7.
-fn push_two<A: Allocator>(to: &mut Global<A>) -> Result<(), AllocError> {
+fn push_two<A: Allocator>(to: &mut tree::Global<A>) -> Result<(), AllocError> {
     push_first(to, true, 1)?;
     push_first(to, false, 7)
 }
 
 // An array of three cells, of which -1 and 7 are the first words of two.
-fn array<A: Allocator + Copy>(alloc: A) -> Result<Global<A>, AllocError> {
+fn array<A: Allocator + Copy>(alloc: A) -> Result<tree::Global<A>, AllocError> {
     let mut array = global(alloc, Some(3))?;
     push_two(&mut array)?;
     Ok(array)
@@ -75,17 +77,20 @@ fn refused_in<A: Allocator, B: Allocator + Copy>(
     alloc: B,
     nth: u64,
 ) -> Option<(Option<bool>, bool)> {
-    code_over_an_array(alloc).map(|code| begins_where_refused(refusing, alloc, &code, nth))
+    match code_over_an_array(alloc) {
+        Some(code) => Some(begins_where_refused(refusing, alloc, &code, nth)),
+        None => None,
+    }
 }
 
 // The same over an allocator.
-fn refused_at<A: Allocator + Copy>(inner: A, nth: u64) -> Option<(Option<bool>, bool)> {
+fn refused_at(inner: Global, nth: u64) -> Option<(Option<bool>, bool)> {
     let alloc = Refusing::new(inner, 0);
     refused_in(&alloc, &alloc, nth)
 }
 
 // Whether the words are there exactly where growth `nth` does not come.
-fn is_right_at<A: Allocator + Copy>(inner: A, nth: u64) -> bool {
+fn is_right_at(inner: Global, nth: u64) -> bool {
     match refused_at(inner, nth) {
         None => false,
         Some((Some(same), _)) => same && nth != 1,
@@ -93,9 +98,17 @@ fn is_right_at<A: Allocator + Copy>(inner: A, nth: u64) -> bool {
     }
 }
 
+// Whether that is so for each of the first growths.
+fn are_right(inner: Global) -> bool {
+    for nth in 0..20u64 {
+        if !is_right_at(inner, nth) {
+            return false;
+        }
+    }
+    true
+}
+
 #[test]
 fn each_cell_has_its_first_word(rt: HostRuntime) {
-    for nth in 0..20u64 {
-        assert!(rt; is_right_at(rt.alloc(), nth), "{nth}");
-    }
+    assert_that(&rt, are_right(rt.alloc()));
 }

@@ -1,8 +1,9 @@
 //! Each rule of validity, broken once, beside parts that keep it.
 
+use crate::asserted::{assert_all, assert_none};
 use crate::built::{Function, WORKER, global, is_valid, of, of_functions, parts_over};
 use bytecode::{Instr, MOST_CELLS, Parts};
-use std::alloc::{AllocError, Allocator};
+use std::alloc::{AllocError, Global};
 
 /// What is tried, the functions, the registers that calls hand over, the instructions, and whether they are valid.
 type Row = (
@@ -14,7 +15,7 @@ type Row = (
 );
 
 // The first row of which `validate` says something else.
-fn has_another<A: Allocator + Copy>(alloc: A, rows: &[Row]) -> Option<&'static str> {
+fn has_another(alloc: Global, rows: &[Row]) -> Option<&'static str> {
     for (what, functions, arguments, instructions, valid) in rows {
         if of_functions(alloc, functions, arguments, instructions) != Some(*valid) {
             return Some(*what);
@@ -64,7 +65,7 @@ fn operands() -> &'static [Row] {
 
 #[test]
 fn registers_places_cells_and_texts_are_there(rt: HostRuntime) {
-    assert_eq!(rt; has_another(rt.alloc(), operands()), None);
+    assert_none(&rt, has_another(rt.alloc(), operands()));
 }
 
 /// Instructions of which one operand is not there: register 2, place 2 or cell 1.
@@ -97,17 +98,31 @@ fn not_there() -> &'static [Instr] {
 }
 
 // What `validate` says of an instruction behind a return.
-fn of_unreached<A: Allocator + Copy>(alloc: A, instr: Instr) -> Option<bool> {
+fn of_unreached(alloc: Global, instr: Instr) -> Option<bool> {
     of(alloc, &[Instr::Return, instr])
+}
+
+// Whether none of these is valid there.
+fn none_is_valid(alloc: Global, instrs: &[Instr]) -> bool {
+    for instr in instrs {
+        if of_unreached(alloc, *instr) != Some(false) {
+            return false;
+        }
+    }
+    true
 }
 
 // what no way comes to names what is there, too
 #[test]
 fn what_no_way_comes_to_is_there(rt: HostRuntime) {
-    assert!(rt; of_unreached(rt.alloc(), Instr::Move(0, 1)) == Some(true));
-    for instr in not_there() {
-        assert!(rt; of_unreached(rt.alloc(), *instr) == Some(false));
-    }
+    let there = of_unreached(rt.alloc(), Instr::Move(0, 1));
+    assert_all(
+        &rt,
+        &[
+            ("there", there == Some(true)),
+            ("not there", none_is_valid(rt.alloc(), not_there())),
+        ],
+    );
 }
 
 const TWO: &[Function<'static>] = &[WORKER, ("f", 2, 1, 1)];
@@ -152,7 +167,7 @@ fn calls() -> &'static [Row] {
 
 #[test]
 fn calls_name_functions(rt: HostRuntime) {
-    assert_eq!(rt; has_another(rt.alloc(), calls()), None);
+    assert_none(&rt, has_another(rt.alloc(), calls()));
 }
 
 const FROM_ONE: &[Function<'static>] = &[WORKER, ("f", 1, 1, 1)];
@@ -188,7 +203,7 @@ fn ways() -> &'static [Row] {
 
 #[test]
 fn ways_stay_in_their_function(rt: HostRuntime) {
-    assert_eq!(rt; has_another(rt.alloc(), ways()), None);
+    assert_none(&rt, has_another(rt.alloc(), ways()));
 }
 
 const COMMIT: Instr = Instr::Commit;
@@ -233,7 +248,7 @@ fn begins() -> &'static [Row] {
 
 #[test]
 fn begins_are_paired(rt: HostRuntime) {
-    assert_eq!(rt; has_another(rt.alloc(), begins()), None);
+    assert_none(&rt, has_another(rt.alloc(), begins()));
 }
 
 fn cancels() -> &'static [Row] {
@@ -273,7 +288,7 @@ fn cancels() -> &'static [Row] {
 // a cancel goes on where its begin says, under the enclosing one
 #[test]
 fn cancels_go_on_under_the_enclosing_begin(rt: HostRuntime) {
-    assert_eq!(rt; has_another(rt.alloc(), cancels()), None);
+    assert_none(&rt, has_another(rt.alloc(), cancels()));
 }
 
 fn layouts() -> &'static [Row] {
@@ -308,7 +323,7 @@ fn layouts() -> &'static [Row] {
 
 #[test]
 fn functions_lie_one_after_another(rt: HostRuntime) {
-    assert_eq!(rt; has_another(rt.alloc(), layouts()), None);
+    assert_none(&rt, has_another(rt.alloc(), layouts()));
 }
 
 fn workers() -> &'static [Row] {
@@ -335,7 +350,7 @@ fn workers() -> &'static [Row] {
 
 #[test]
 fn one_worker_takes_its_number(rt: HostRuntime) {
-    assert_eq!(rt; has_another(rt.alloc(), workers()), None);
+    assert_none(&rt, has_another(rt.alloc(), workers()));
 }
 
 fn widths() -> &'static [Row] {
@@ -359,12 +374,12 @@ fn widths() -> &'static [Row] {
 }
 
 // A worker over a variable and an array of that length.
-fn over_an_array<A: Allocator + Copy>(alloc: A, length: u32) -> Result<Parts<A>, AllocError> {
+fn over_an_array(alloc: Global, length: u32) -> Result<Parts, AllocError> {
     parts_over(alloc, global(alloc, Some(length))?)
 }
 
 // What `validate` says of it.
-fn of_array<A: Allocator + Copy>(alloc: A, length: u32) -> Option<bool> {
+fn of_array(alloc: Global, length: u32) -> Option<bool> {
     match over_an_array(alloc, length) {
         Ok(parts) => is_valid(alloc, parts),
         Err(_) => None,
@@ -373,8 +388,15 @@ fn of_array<A: Allocator + Copy>(alloc: A, length: u32) -> Option<bool> {
 
 #[test]
 fn limits_are_kept(rt: HostRuntime) {
-    assert_eq!(rt; has_another(rt.alloc(), widths()), None);
+    assert_none(&rt, has_another(rt.alloc(), widths()));
     // the variable is one cell
-    assert!(rt; of_array(rt.alloc(), MOST_CELLS as u32 - 1) == Some(true));
-    assert!(rt; of_array(rt.alloc(), MOST_CELLS as u32) == Some(false));
+    let most = of_array(rt.alloc(), MOST_CELLS as u32 - 1);
+    let more = of_array(rt.alloc(), MOST_CELLS as u32);
+    assert_all(
+        &rt,
+        &[
+            ("the most cells", most == Some(true)),
+            ("more cells", more == Some(false)),
+        ],
+    );
 }
