@@ -1,5 +1,0 @@
-//! Tests of the check of safety.
-
-mod growths;
-mod large;
-mod rows;

@@ -1,5 +1,0 @@
-//! Tests of the check of separation.
-
-mod growths;
-mod large;
-mod rows;

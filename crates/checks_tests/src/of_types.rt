@@ -1,6 +1,0 @@
-//! Tests of the check of names and types.
-
-mod accepted;
-mod faults;
-mod growths;
-mod large;

@@ -1,0 +1,23 @@
+//! Tests of the parser, of the trees of `syntax`, and of the checks that accept a program, of names and types, of safety and of
+//! separation, in a crate of their own: a crate with tests is proved twice, and each crate of tests reads and links all that it
+//! stands on.
+#![tactic(auto)]
+
+#[cfg(test)]
+mod asserted;
+#[cfg(test)]
+mod growths;
+#[cfg(test)]
+mod large;
+#[cfg(test)]
+mod of_parse;
+#[cfg(test)]
+mod of_safety;
+#[cfg(test)]
+mod of_separation;
+#[cfg(test)]
+mod of_syntax;
+#[cfg(test)]
+mod of_types;
+#[cfg(test)]
+mod stages;

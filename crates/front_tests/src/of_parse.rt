@@ -1,0 +1,7 @@
+//! Tests of the parser.
+
+mod depths;
+mod faults;
+mod growths;
+mod productions;
+mod trees;

@@ -1,0 +1,48 @@
+//! Faults with their places.
+
+use crate::asserted::assert_none;
+use crate::stages::{Row, Stage, has_another};
+
+/// The rows stand in a function, so that no proof but its own looks at them.
+fn rows() -> &'static [Row] {
+    static ROWS: [Row; 30] = [
+        // what stands where no program goes on
+        ("int x = ;", 10, 8, 9),
+        ("int = 3;", 10, 4, 5),
+        ("int x; }", 10, 7, 8),
+        ("int x = 1 + 1;", 10, 10, 11),
+        ("int a[] = {1};", 10, 6, 7),
+        ("int a[1] = {};", 10, 12, 13),
+        ("int a[1] = {1,,};", 10, 14, 15),
+        ("int a[1] = 1;", 10, 11, 12),
+        ("void x;", 10, 6, 7),
+        ("signed unsigned x;", 10, 7, 15),
+        ("[[transaction_safe]] int x;", 10, 26, 27),
+        ("[[unknown]] void f(void);", 10, 2, 9),
+        ("[[]] void f(void);", 10, 2, 3),
+        ("void f(int) { }", 10, 12, 13),
+        ("void f(int a,) { }", 10, 13, 14),
+        ("void f(void a);", 10, 12, 13),
+        ("void f(void) { else ; }", 10, 15, 19),
+        ("void f(void) { int a }", 10, 21, 22),
+        ("void f(void) { if (a) int b; }", 10, 22, 25),
+        ("void f(void) { int v = x++; }", 10, 24, 26),
+        ("void f(void) { x++ + 1; }", 10, 19, 20),
+        ("void f(void) { a = b = c; }", 10, 21, 22),
+        ("void f(void) { int v = printf(\"a\"); }", 10, 23, 29),
+        ("void f(void) { (void) f(); }", 10, 16, 20),
+        ("void f(void) { f(,); }", 10, 17, 18),
+        ("void f(void) { for (int a;;) ; ) }", 10, 31, 32),
+        ("void f(void) { printf(a); }", 10, 22, 23),
+        // the end where a program is begun
+        ("int", 12, 3, 3),
+        ("int x", 12, 5, 5),
+        ("void worker(int self) { ", 12, 23, 23),
+    ];
+    &ROWS
+}
+
+#[test]
+fn each_fault_has_its_place(rt: HostRuntime) {
+    assert_none(&rt, has_another(rt.alloc(), Stage::Parse, rows()));
+}

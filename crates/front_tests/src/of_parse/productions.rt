@@ -1,0 +1,118 @@
+//! One source for each production of the grammar.
+
+use crate::asserted::assert_none;
+use crate::stages::{Stage, faulty};
+
+/// The rows stand in a function, so that no proof but its own looks at them.
+fn items() -> &'static [&'static str] {
+    static ROWS: [&str; 27] = [
+        // a program without an item
+        "",
+        // globals: each type's spellings, one and several, with and without a first value
+        "int a;",
+        "signed a;",
+        "signed int a;",
+        "unsigned a;",
+        "unsigned int a;",
+        "int a, b = 1, c;",
+        "int a = -1;",
+        "unsigned a = 4294967295u;",
+        // arrays
+        "int a[3];",
+        "int a[3u] = {1};",
+        "int a[3] = {1, -2, 3};",
+        "int a[3] = {1, -2, 3,};",
+        "int a, b[2] = {1, 2}, c = 3;",
+        // functions: results, parameters, prototypes
+        "void f() { }",
+        "void f(void) { }",
+        "int f(int a, unsigned b) { }",
+        "unsigned int f(int);",
+        "void f(int, unsigned b, signed int);",
+        "void f(int a);",
+        // attributes
+        "[[transaction_safe]] void f(void);",
+        "void f(void) [[transaction_unsafe]];",
+        "__attribute__((transaction_callable)) int f(void) { }",
+        "void f(void) __attribute__((transaction_safe)) { }",
+        "[[transaction_safe, transaction_callable]] [[transaction_safe]] void f(void) [[transaction_callable]] __attribute__((transaction_safe));",
+        // several items
+        "int a; void f(void); int b; void f(void) { } unsigned c[2];",
+        "int a; int f(int b) { return b; } void worker(int self) { }",
+    ];
+    &ROWS
+}
+
+fn statements() -> &'static [&'static str] {
+    static ROWS: [&str; 51] = [
+        // statements in a function: the empty one, blocks, declarations
+        "void f() { ; }",
+        "void f() { { } }",
+        "void f() { { ; { } } }",
+        "void f() { int a; }",
+        "void f() { unsigned a = 1, b; }",
+        "void f() { signed int a = b + 1; }",
+        // values, assignments, steps
+        "void f() { f(); }",
+        "void f() { a; }",
+        "void f() { a = 1; }",
+        "void f() { a += 1; }",
+        "void f() { a -= 1; a *= 2; a /= 2; a %= 2; }",
+        "void f() { a <<= 1; a >>= 1; a &= 1; a |= 1; a ^= 1; }",
+        "void f() { a[1] = 2; }",
+        "void f() { (a) = 2; }",
+        "void f() { a++; }",
+        "void f() { ++a; }",
+        "void f() { a[1]--; }",
+        "void f() { --a[1]; }",
+        // prints
+        "void f() { printf(\"a\"); }",
+        "void f() { printf(\"%d %u\\n\", a, f(b)); }",
+        // choices and loops
+        "void f() { if (a) ; }",
+        "void f() { if (a) ; else ; }",
+        "void f() { if (a) if (b) ; else ; else ; }",
+        "void f() { while (a) ; }",
+        "void f() { while (a) if (b) ; else ; }",
+        "void f() { do ; while (a); }",
+        "void f() { do { } while (a); }",
+        "void f() { for (;;) ; }",
+        "void f() { for (; a; ) ; }",
+        "void f() { for (a = 1; a < 2; a++) { } }",
+        "void f() { for (int a = 1, b; a < 2; ++a) ; }",
+        "void f() { for (f(); ; f()) ; }",
+        "void f() { while (1) { break; continue; } }",
+        // leaving
+        "void f() { return; }",
+        "void f() { return a + 1; }",
+        // transactions
+        "void f() { __transaction_atomic { } }",
+        "void f() { __transaction_relaxed { a = 1; } }",
+        "void f() { __transaction_atomic { __transaction_atomic { __transaction_cancel; } } }",
+        // expressions: each operator, each kind of operand
+        "void f() { a = 1; a = 1u; a = b; a = b[c]; a = f(); a = f(1); a = f(1, b, c); }",
+        "void f() { a = (b); }",
+        "void f() { a = (int)b; a = (unsigned)b; a = (signed int)b; a = (unsigned int)-(b); }",
+        "void f() { a = -b; a = +b; a = !b; a = ~b; a = - - b; }",
+        "void f() { a = b * c / d % e; }",
+        "void f() { a = b + c - d; }",
+        "void f() { a = b << c >> d; }",
+        "void f() { a = b < c; a = b > c; a = b <= c; a = b >= c; }",
+        "void f() { a = b == c != d; }",
+        "void f() { a = b & c ^ d | e; }",
+        "void f() { a = b && c || d; }",
+        "void f() { a = b ? c : d ? e : f; }",
+        "void f() { a = b ? c ? d : e : f; }",
+    ];
+    &ROWS
+}
+
+#[test]
+fn each_item_is_accepted(rt: HostRuntime) {
+    assert_none(&rt, faulty(rt.alloc(), Stage::Parse, items()));
+}
+
+#[test]
+fn each_statement_is_accepted(rt: HostRuntime) {
+    assert_none(&rt, faulty(rt.alloc(), Stage::Parse, statements()));
+}

@@ -1,0 +1,4 @@
+//! Tests of the check of safety.
+
+mod large;
+mod rows;

@@ -1,0 +1,4 @@
+//! Tests of the check of separation.
+
+mod large;
+mod rows;

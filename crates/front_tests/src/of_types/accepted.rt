@@ -1,0 +1,64 @@
+//! Programs whose names and types are right, and their tables.
+
+use crate::asserted::{assert_none, assert_that};
+use crate::stages::{Stage, faulty, unit_of};
+use std::alloc::Global;
+use syntax::tree::Unit;
+use types::{Typed, check};
+
+/// The rows stand in a function, so that no proof but its own looks at them.
+fn rows() -> &'static [&'static str] {
+    static ROWS: [&str; 10] = [
+        "void worker(int self) { }",
+        "void worker(int); void worker(int self) { }",
+        // a local is known in its own initialiser, also where it hides a global or a function
+        "int a[2]; void worker(int self) { int v = v; int a = a + 1; int worker = worker; }",
+        // a scope inside hides what is outside
+        "void worker(int self) { { int self; } for (int self = 1; self; self++) { int self; } do { int k; } while (self); }",
+        // a `for` has a scope round its body's
+        "int same(int i) { return i; } void worker(int self) { for (int i; i;) { int i; same(i); } }",
+        // a value that is dropped may be none
+        "void f(void) { } void worker(int self) { f(); (f()); printf(\"%%\"); printf(\"\"); }",
+        // the types of figures
+        "unsigned u; void worker(int self) { printf(\"%d%u%d%u\", u < 1, self + u, -self, self ? u : 1); }",
+        "unsigned u; void worker(int self) { printf(\"%d%u%u\", self << u, u >> 1, (unsigned)self); }",
+        // loops in loops, and returns of both kinds
+        "int f(int a) { while (1) { do { break; } while (0); continue; } return a; } void worker(int self) { return; }",
+        "int a[4095] = {1, -2,}, b = 3; void worker(int self) { a[b] = a[a[0]]; b += 1; a[1]++; --b; }",
+    ];
+    &ROWS
+}
+
+#[test]
+fn right_programs_are_accepted(rt: HostRuntime) {
+    assert_none(&rt, faulty(rt.alloc(), Stage::Types, rows()));
+}
+
+// Whether these are the functions and the first cells of the tables, and so many the items.
+fn has_tables(typed: &Typed, functions: &[usize], cells: &[u32]) -> bool {
+    typed.functions() == functions && typed.cells() == cells && typed.unit().items.len() == 6
+}
+
+// The same of a tree.
+fn leaves_tables(alloc: Global, unit: Unit, functions: &[usize], cells: &[u32]) -> bool {
+    match check(alloc, unit) {
+        Ok(typed) => has_tables(&typed, functions, cells),
+        Err(_) => false,
+    }
+}
+
+// The same of a text's tree.
+fn has_tables_of(alloc: Global, text: &str, functions: &[usize], cells: &[u32]) -> bool {
+    match unit_of(alloc, text) {
+        Some(unit) => leaves_tables(alloc, unit, functions, cells),
+        None => false,
+    }
+}
+
+#[test]
+fn the_tables_name_functions_and_cells(rt: HostRuntime) {
+    let text =
+        "int x, a[3]; void f(void); unsigned y; void worker(int self) { } void f(void) { } int z;";
+    let holds = has_tables_of(rt.alloc(), text, &[3, 4], &[0, 1, 4, 5]);
+    assert_that(&rt, holds);
+}
