@@ -1,5 +1,6 @@
 //! Reports of every kind, and each growth refused once.
 
+use crate::asserted::{assert_all, assert_that};
 use containers::{Items, Text};
 use lex::token::Scalar;
 use machine::Event;
@@ -107,8 +108,9 @@ const HELD: &[u8] =
 
 #[test]
 fn shows_a_replay(rt: HostRuntime) {
-    assert!(rt; is_reported(rt.alloc(), replayed(rt.alloc(), None), REPLAYED));
-    assert!(rt; is_reported(rt.alloc(), replayed(rt.alloc(), Some(1)), HELD));
+    let free = is_reported(rt.alloc(), replayed(rt.alloc(), None), REPLAYED);
+    let held = is_reported(rt.alloc(), replayed(rt.alloc(), Some(1)), HELD);
+    assert_all(&rt, &[("free", free), ("held", held)]);
 }
 
 const ENDS: [Thread; 6] = [
@@ -136,7 +138,8 @@ const REPORTED_ENDS: &[u8] =
 
 #[test]
 fn shows_each_end(rt: HostRuntime) {
-    assert!(rt; is_reported(rt.alloc(), ends(rt.alloc()), REPORTED_ENDS));
+    let told = is_reported(rt.alloc(), ends(rt.alloc()), REPORTED_ENDS);
+    assert_that(&rt, told);
 }
 
 /// Whether growth `nth` of the report is refused; none where it is said not to be, or the report is another one.
@@ -176,5 +179,5 @@ fn growths_of_replay(alloc: &Refusing<Global>) -> Option<u64> {
 #[test]
 fn each_growth_is_refused_once(rt: HostRuntime) {
     let alloc = Refusing::new(rt.alloc(), 0);
-    assert!(rt; growths_of_replay(&alloc) > Some(0));
+    assert_that(&rt, growths_of_replay(&alloc) > Some(0));
 }

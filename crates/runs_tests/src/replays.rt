@@ -1,6 +1,7 @@
 //! Replays of worked schedules.
 
-use crate::reports::{Wanted, is_as};
+use crate::asserted::{assert_all, assert_that};
+use crate::wanted::{Wanted, is_as};
 use bytecode::{Code, Instr};
 use machine::{Event, StepShown};
 use norec_core::{Access, Answer};
@@ -67,7 +68,8 @@ fn dropped_once() -> &'static Wanted<'static> {
 #[test]
 fn a_transaction_is_dropped_and_made_again(rt: HostRuntime) {
     let schedule = "0 a1\n1 a1\n0 a1\n1 a1\n0 a1\n1 a1\n0 a1\n1 a1\n0 a1\n1 a1\n0 a2\n1 a9";
-    assert!(rt; gives(rt.alloc(), adds_one(), 2, schedule, dropped_once()));
+    let holds = gives(rt.alloc(), adds_one(), 2, schedule, dropped_once());
+    assert_that(&rt, holds);
 }
 
 // One of two threads adds one, and then a third is named.
@@ -84,15 +86,9 @@ fn met_a_stranger() -> &'static Wanted<'static> {
 
 #[test]
 fn a_stranger_ends_a_replay(rt: HostRuntime) {
-    assert!(rt;
-        gives(
-            rt.alloc(),
-            adds_one(),
-            2,
-            "0 1000\n7 1\n1 100",
-            met_a_stranger()
-        )
-    );
+    let schedule = "0 1000\n7 1\n1 100";
+    let holds = gives(rt.alloc(), adds_one(), 2, schedule, met_a_stranger());
+    assert_that(&rt, holds);
 }
 
 // The one thread traps behind its print.
@@ -109,7 +105,8 @@ fn trapped() -> &'static Wanted<'static> {
 
 #[test]
 fn a_trap_gives_the_lock_back(rt: HostRuntime) {
-    assert!(rt; gives(rt.alloc(), traps(), 1, "0 a10", trapped()));
+    let holds = gives(rt.alloc(), traps(), 1, "0 a10", trapped());
+    assert_that(&rt, holds);
 }
 
 // It has the lock before its print.
@@ -126,7 +123,8 @@ fn held() -> &'static Wanted<'static> {
 
 #[test]
 fn a_replay_ends_with_the_lock_held(rt: HostRuntime) {
-    assert!(rt; gives(rt.alloc(), traps(), 1, "0 a2", held()));
+    let holds = gives(rt.alloc(), traps(), 1, "0 a2", held());
+    assert_that(&rt, holds);
 }
 
 // Whether four threads that add one each leave 4 by these lines.
@@ -165,7 +163,7 @@ fn seeds_add_up(alloc: Global) -> bool {
 
 #[test]
 fn a_seed_adds_all(rt: HostRuntime) {
-    assert!(rt; seeds_add_up(rt.alloc()));
+    assert_that(&rt, seeds_add_up(rt.alloc()));
 }
 
 // A quiet step of a thread that runs.
@@ -209,7 +207,8 @@ fn first_steps() -> [(u64, u32, StepShown); 5] {
 
 #[test]
 fn each_step_is_shown(rt: HostRuntime) {
-    assert!(rt; shows(rt.alloc(), &[0, 0, 1, 0, 0], &first_steps()));
+    let both = shows(rt.alloc(), &[0, 0, 1, 0, 0], &first_steps());
     // nothing is shown with a step of a thread that there is not
-    assert!(rt; shows(rt.alloc(), &[0, 2], &[]));
+    let stranger = shows(rt.alloc(), &[0, 2], &[]);
+    assert_all(&rt, &[("both", both), ("a stranger", stranger)]);
 }

@@ -1,5 +1,6 @@
 //! Schedules that are read, and those that are not.
 
+use crate::asserted::{assert_all, assert_none, assert_that};
 use refusing::Refusing;
 use replay::{Line, ScheduleFault, read_schedule, seeded, write_schedule};
 use std::alloc::{Allocator, Global};
@@ -79,7 +80,7 @@ fn read_otherwise(alloc: Global, rows: &[Row]) -> Option<&'static str> {
 
 #[test]
 fn lines_are_read(rt: HostRuntime) {
-    assert_eq!(rt; read_otherwise(rt.alloc(), texts()), None);
+    assert_none(&rt, read_otherwise(rt.alloc(), texts()));
 }
 
 /// A text, and its fault.
@@ -126,8 +127,9 @@ fn faulty_otherwise(alloc: Global, rows: &[Fault]) -> Option<&'static str> {
 
 #[test]
 fn bad_lines_are_told(rt: HostRuntime) {
-    assert_eq!(rt; faulty_otherwise(rt.alloc(), faults()), None);
-    assert!(rt; ScheduleFault::BadLine(3).number() == 80 && ScheduleFault::TooLong.number() == 81);
+    assert_none(&rt, faulty_otherwise(rt.alloc(), faults()));
+    let bad = ScheduleFault::BadLine(3).number();
+    assert_that(&rt, bad == 80 && ScheduleFault::TooLong.number() == 81);
 }
 
 /// Whether these are single steps of these threads.
@@ -170,8 +172,16 @@ fn seed_fault<A: Allocator + Copy>(alloc: A, steps: u32) -> Option<ScheduleFault
 #[test]
 fn a_seed_names_threads(rt: HostRuntime) {
     let threads = [0, 0, 2, 0, 2, 1, 2, 3, 3, 3, 1, 3];
-    assert!(rt; names(rt.alloc(), 42, threads.as_slice()) && longest_names(rt.alloc()));
-    assert!(rt; seed_fault(rt.alloc(), 1_048_577) == Some(ScheduleFault::TooLong));
+    let first = names(rt.alloc(), 42, threads.as_slice());
+    let fault = seed_fault(rt.alloc(), 1_048_577);
+    assert_all(
+        &rt,
+        &[
+            ("the first steps", first),
+            ("the longest schedule", longest_names(rt.alloc())),
+            ("a longer one", fault == Some(ScheduleFault::TooLong)),
+        ],
+    );
 }
 
 /// What came of one call with one growth refused: whether one was, as the call says or makes up for.
@@ -191,18 +201,26 @@ fn refuses_a_seed(alloc: &Refusing<Global>) -> bool {
     seed_fault(alloc, 10) == Some(ScheduleFault::OutOfMemory)
 }
 
-#[test]
-fn each_growth_may_be_refused(rt: HostRuntime) {
-    let mut met = 0;
+/// The last growth that is met; none where a refused one is not told, or there are 49.
+fn last_met(inner: Global) -> Option<u64> {
     for nth in 1..50u64 {
-        match refused(rt.alloc(), nth) {
-            Some(true) => met = nth,
-            Some(false) => break,
-            None => panic!(rt; "a refused growth was not told"),
+        match refused(inner, nth) {
+            Some(true) => {}
+            Some(false) => return Some(nth - 1),
+            None => return None,
         }
     }
-    assert!(rt; met >= 2 && met < 49);
-    assert!(rt; refuses_a_seed(&Refusing::new(rt.alloc(), 1)));
+    None
+}
+
+#[test]
+fn each_growth_may_be_refused(rt: HostRuntime) {
+    let met = last_met(rt.alloc());
+    let seed = refuses_a_seed(&Refusing::new(rt.alloc(), 1));
+    assert_all(
+        &rt,
+        &[("of a schedule", met >= Some(2)), ("of a seed", seed)],
+    );
 }
 
 /// Whether these lines are written so, and read back.
@@ -242,7 +260,11 @@ fn refuses_to_write(alloc: &Refusing<Global>, lines: &[Line]) -> bool {
 #[test]
 fn what_is_written_is_read_back(rt: HostRuntime) {
     let text = "0 1\n63 a0\n4294967295 a1048575\n";
-    assert!(rt; is_written_as(rt.alloc(), written(), text));
-    assert!(rt; is_written_as(rt.alloc(), [].as_slice(), ""));
-    assert!(rt; refuses_to_write(&Refusing::new(rt.alloc(), 1), written()));
+    let three = is_written_as(rt.alloc(), written(), text);
+    let none = is_written_as(rt.alloc(), [].as_slice(), "");
+    let refused = refuses_to_write(&Refusing::new(rt.alloc(), 1), written());
+    assert_all(
+        &rt,
+        &[("three", three), ("none", none), ("refused", refused)],
+    );
 }

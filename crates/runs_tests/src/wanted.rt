@@ -1,7 +1,6 @@
 //! What reports are to be.
 
 use machine::Event;
-use std::alloc::Allocator;
 use world::{End, Report, StopReason};
 
 /// A report: its events, its threads' ends and outputs, the words, who has the lock, and the step that was not made.
@@ -15,7 +14,7 @@ pub struct Wanted<'a> {
 }
 
 // Whether a thread is found so, with this output.
-fn shows<A: Allocator + Copy>(report: &Report<A>, t: usize, end: End, text: &str) -> bool {
+fn shows(report: &Report, t: usize, end: End, text: &str) -> bool {
     match report.threads.as_slice().get(t) {
         Some(found) => found.0 == end && found.1.as_str() == text,
         None => false,
@@ -23,7 +22,7 @@ fn shows<A: Allocator + Copy>(report: &Report<A>, t: usize, end: End, text: &str
 }
 
 // Whether the threads are found so.
-fn show<A: Allocator + Copy>(report: &Report<A>, threads: &[(End, &str)]) -> bool {
+fn show(report: &Report, threads: &[(End, &str)]) -> bool {
     for t in 0..threads.len() {
         let (end, text) = threads[t];
         if !shows(report, t, end, text) {
@@ -33,7 +32,7 @@ fn show<A: Allocator + Copy>(report: &Report<A>, threads: &[(End, &str)]) -> boo
     report.threads.len() == threads.len()
 }
 
-fn stops<A: Allocator + Copy>(report: &Report<A>, wanted: Option<(u64, StopReason)>) -> bool {
+fn stops(report: &Report, wanted: Option<(u64, StopReason)>) -> bool {
     match report.stop {
         Some(stop) => wanted == Some((stop.step, stop.reason)),
         None => wanted.is_none(),
@@ -41,7 +40,7 @@ fn stops<A: Allocator + Copy>(report: &Report<A>, wanted: Option<(u64, StopReaso
 }
 
 /// Whether a report is as wanted.
-pub fn is_as<A: Allocator + Copy>(report: &Report<A>, wanted: &Wanted) -> bool {
+pub fn is_as(report: &Report, wanted: &Wanted) -> bool {
     if report.events.as_slice() != wanted.events || report.words.as_slice() != wanted.words {
         return false;
     }

@@ -1,6 +1,7 @@
 //! Worlds: steps of two threads, steps that are not made, and each growth refused.
 
-use crate::reports::{Wanted, is_as};
+use crate::asserted::{assert_all, assert_that};
+use crate::wanted::{Wanted, is_as};
 use refusing::Refusing;
 use std::alloc::{Allocator, Global};
 use world::{End, StopReason, World, WorldFault};
@@ -31,7 +32,7 @@ fn stopped<A: Allocator + Copy>(world: &mut World<A>, steps: &[u32]) -> Option<(
     }
 }
 
-fn reports<A: Allocator + Copy>(alloc: A, world: &World<A>, wanted: &Wanted) -> bool {
+fn reports(alloc: Global, world: &World, wanted: &Wanted) -> bool {
     match world.report(alloc) {
         Ok(report) => is_as(&report, wanted),
         Err(_) => false,
@@ -42,7 +43,7 @@ fn reports<A: Allocator + Copy>(alloc: A, world: &World<A>, wanted: &Wanted) -> 
 type Left<'a> = (u64, u64, &'a Wanted<'a>);
 
 // Whether a world stands so behind these steps.
-fn stands<A: Allocator + Copy>(world: &World<A>, steps: &[u32], left: Left) -> bool {
+fn stands(world: &World, steps: &[u32], left: Left) -> bool {
     let (lock, accesses, wanted) = left;
     if world.lock() != lock || world.accesses() != accesses || world.holder() != wanted.holder {
         return false;
@@ -51,7 +52,7 @@ fn stands<A: Allocator + Copy>(world: &World<A>, steps: &[u32], left: Left) -> b
 }
 
 // Whether all these steps of two threads are made, and leave what is wanted.
-fn goes<A: Allocator + Copy>(alloc: A, world: &mut World<A>, steps: &[u32], left: Left) -> bool {
+fn goes(alloc: Global, world: &mut World, steps: &[u32], left: Left) -> bool {
     stopped(world, steps).is_none() && stands(world, steps, left) && reports(alloc, world, left.2)
 }
 
@@ -76,7 +77,8 @@ fn read_again() -> &'static Wanted<'static> {
 
 #[test]
 fn a_word_is_read_again(rt: HostRuntime) {
-    assert!(rt; leads_to(rt.alloc(), crossed(), (4, 16, read_again())));
+    let holds = leads_to(rt.alloc(), crossed(), (4, 16, read_again()));
+    assert_that(&rt, holds);
 }
 
 fn held() -> &'static Wanted<'static> {
@@ -92,7 +94,8 @@ fn held() -> &'static Wanted<'static> {
 
 #[test]
 fn a_thread_has_the_lock(rt: HostRuntime) {
-    assert!(rt; leads_to(rt.alloc(), &[1, 1, 1, 1, 1, 1, 1], (1, 4, held())));
+    let holds = leads_to(rt.alloc(), &[1, 1, 1, 1, 1, 1, 1], (1, 4, held()));
+    assert_that(&rt, holds);
 }
 
 // Whether a stranger's step, the third one, is not made, and those before it are.
@@ -111,7 +114,7 @@ fn meets_a_stranger(alloc: Global) -> bool {
 
 #[test]
 fn a_stranger_makes_no_step(rt: HostRuntime) {
-    assert!(rt; meets_a_stranger(rt.alloc()));
+    assert_that(&rt, meets_a_stranger(rt.alloc()));
 }
 
 // Why a world of so many threads is not opened, where it is not.
@@ -124,9 +127,10 @@ fn refusal(alloc: Global, threads: u32) -> Option<WorldFault> {
 
 #[test]
 fn there_are_1_to_64_threads(rt: HostRuntime) {
-    assert!(rt; refusal(rt.alloc(), 0) == Some(WorldFault::WrongThreads));
-    assert!(rt; refusal(rt.alloc(), 65) == Some(WorldFault::WrongThreads));
-    assert!(rt; refusal(rt.alloc(), 64).is_none());
+    let none = refusal(rt.alloc(), 0) == Some(WorldFault::WrongThreads);
+    let more = refusal(rt.alloc(), 65) == Some(WorldFault::WrongThreads);
+    let most = refusal(rt.alloc(), 64).is_none();
+    assert_all(&rt, &[("none", none), ("65", more), ("64", most)]);
 }
 
 // Makes these steps, with one growth refused among them: whether one was, where the world was then left as it stood before that
@@ -188,5 +192,5 @@ fn last_met(inner: Global) -> Option<u64> {
 
 #[test]
 fn a_step_that_was_refused_room_is_made_again(rt: HostRuntime) {
-    assert!(rt; last_met(rt.alloc()) > Some(2));
+    assert_that(&rt, last_met(rt.alloc()) > Some(2));
 }

@@ -1,6 +1,7 @@
 //! Tables that are opened, shared out among seats and closed.
 
-use crate::built::setup;
+use crate::asserted::assert_that;
+use crate::setups::setup;
 use refusing::Refusing;
 use seats::{Setup, close, join, meet, open, split_first};
 use std::alloc::{Allocator, Global};
@@ -38,7 +39,7 @@ fn leaves_all(alloc: Global) -> bool {
 
 #[test]
 fn seats_part_and_join(rt: HostRuntime) {
-    assert!(rt; leaves_all(rt.alloc()));
+    assert_that(&rt, leaves_all(rt.alloc()));
 }
 
 // The lock that the first of two threads finds where it meets the other.
@@ -62,7 +63,7 @@ fn met_first(alloc: Global) -> Option<u64> {
 
 #[test]
 fn two_meet_while_nobody_has_taken_the_lock(rt: HostRuntime) {
-    assert!(rt; met_first(rt.alloc()) == Some(0));
+    assert_that(&rt, met_first(rt.alloc()) == Some(0));
 }
 
 fn opens<A: Allocator + Copy>(alloc: A, setup: &Setup<A>) -> bool {
@@ -117,5 +118,5 @@ fn last_met(inner: Global) -> Option<u64> {
 #[test]
 fn each_growth_may_be_refused(rt: HostRuntime) {
     // the list of words, and the table's own
-    assert!(rt; last_met(rt.alloc()) >= Some(2));
+    assert_that(&rt, last_met(rt.alloc()) >= Some(2));
 }
