@@ -1,0 +1,2 @@
+-- where a thread that is carried on may stand
+mod Carrying

@@ -1,6 +1,13 @@
-//! Tests of threads of the machine, in a crate of their own: a crate with tests is proved twice.
+//! Tests of local steps, of frames, of threads of the machine and of `atomic_code`, in a crate of their own: a crate with tests is
+//! proved twice, and each crate of tests reads and links all that it stands on.
 #![tactic(auto)]
 
+#[cfg(test)]
+mod asserted;
+#[cfg(test)]
+mod of_atomic_code;
+#[cfg(test)]
+mod of_frames;
 #[cfg(test)]
 mod rows;
 #[cfg(test)]

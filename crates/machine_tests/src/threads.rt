@@ -5,6 +5,7 @@ ghost use Rattle.std.specs.Prelude.{◌+◌, ◌<◌, ◌≤◌, ◌^◌, IfSome
 ghost use Rattle.machine.specs.Standing.{IsThreadOf};
 ghost use Rattle.machine.specs.States.{IsWordOf};
 
+use crate::asserted::{assert_all, assert_that};
 use crate::rows::{Row, dropped_once, trapped};
 use bytecode::{Code, Instr};
 use frames::Doing;
@@ -195,13 +196,13 @@ fn go(inner: Global, instructions: &[Instr], rows: &[Row], found: Found) -> bool
 #[test]
 fn a_dropped_attempt_begins_again(rt: HostRuntime) {
     let found = (Status::Ended, "13", 13);
-    assert!(rt; go(rt.alloc(), adds_five(), dropped_once(), found));
+    assert_that(&rt, go(rt.alloc(), adds_five(), dropped_once(), found));
 }
 
 #[test]
 fn a_trap_gives_the_lock_back_and_is_the_end(rt: HostRuntime) {
     let found = (Status::Trapped(Trap::ZeroDivisor), "2", 3);
-    assert!(rt; go(rt.alloc(), traps(), trapped(), found));
+    assert_that(&rt, go(rt.alloc(), traps(), trapped(), found));
 }
 
 // Reads, in a transaction.
@@ -251,15 +252,11 @@ fn written_last() -> &'static [Row] {
 
 #[test]
 fn a_reader_and_a_last_writer_commit(rt: HostRuntime) {
-    assert!(rt; go(rt.alloc(), reader(), read_last(), (Status::Running, "", 3)));
-    assert!(rt;
-        go(
-            rt.alloc(),
-            writer(),
-            written_last(),
-            (Status::Running, "", 4)
-        )
-    );
+    let read = (Status::Running, "", 3);
+    let written = (Status::Running, "", 4);
+    let reads = go(rt.alloc(), reader(), read_last(), read);
+    let writes = go(rt.alloc(), writer(), written_last(), written);
+    assert_all(&rt, &[("a reader", reads), ("a last writer", writes)]);
 }
 
 // This word in each cell, and the lock at this value.
@@ -347,13 +344,21 @@ fn writes_back() -> &'static [Instr] {
 
 #[test]
 fn a_read_is_made_whole_and_what_follows_is_local(rt: HostRuntime) {
-    assert!(rt; reads_of(rt.alloc(), reads_aside(), 2) == Some((3, Some(Doing::End))));
-    assert!(rt; reads_of(rt.alloc(), writes_back(), 2) == Some((3, Some(Doing::Commit))));
+    let aside = reads_of(rt.alloc(), reads_aside(), 2);
+    let back = reads_of(rt.alloc(), writes_back(), 2);
+    assert_all(
+        &rt,
+        &[
+            ("aside", aside == Some((3, Some(Doing::End)))),
+            ("written back", back == Some((3, Some(Doing::Commit)))),
+        ],
+    );
 }
 
 #[test]
 fn a_read_that_finds_another_lock_stands_there_still(rt: HostRuntime) {
-    assert!(rt; reads_of(rt.alloc(), reads_aside(), 4) == Some((2, Some(Doing::Read(1, 0)))));
+    let found = reads_of(rt.alloc(), reads_aside(), 4);
+    assert_that(&rt, found == Some((2, Some(Doing::Read(1, 0)))));
 }
 
 // Takes the lock to print, in a transaction.
@@ -382,8 +387,10 @@ fn used_up() -> &'static [Row] {
 
 #[test]
 fn nobody_takes_the_lock_at_its_last_value(rt: HostRuntime) {
-    assert!(rt; go(rt.alloc(), writer(), used_up(), (Status::Running, "", 1)));
-    assert!(rt; go(rt.alloc(), printer(), used_up(), (Status::Running, "", 1)));
+    let stopped = (Status::Running, "", 1);
+    let writes = go(rt.alloc(), writer(), used_up(), stopped);
+    let prints = go(rt.alloc(), printer(), used_up(), stopped);
+    assert_all(&rt, &[("a writer", writes), ("a printer", prints)]);
 }
 
 // The last growth that is met, each of which is refused once; `None` where a thread does not go on.
@@ -406,5 +413,5 @@ fn last_met(inner: Global) -> Option<u64> {
 
 #[test]
 fn a_step_that_was_refused_room_is_made_again(rt: HostRuntime) {
-    assert!(rt; last_met(rt.alloc()) > Some(2));
+    assert_that(&rt, last_met(rt.alloc()) > Some(2));
 }

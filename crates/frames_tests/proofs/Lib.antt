@@ -1,2 +1,0 @@
--- where a thread that is carried on may stand
-mod Carrying

@@ -1,0 +1,9 @@
+//! Tests of `atomic_code`.
+
+mod built;
+mod driven;
+mod growths;
+mod pieces;
+mod programs;
+mod transactions;
+mod wholes;

@@ -1,0 +1,6 @@
+//! Tests of frames and of local steps.
+
+mod built;
+mod carried;
+mod growths;
+mod instructions;
