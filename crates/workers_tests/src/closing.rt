@@ -2,6 +2,7 @@
 
 ghost use Rattle.workers.specs.Workers.{AreWorkersOf, IsWorkerOf};
 
+use crate::asserted::assert_all;
 use crate::hall::{Turn, are_turns, leaves, opened, put, take};
 use crate::programs::prints;
 use std::alloc::Global;
@@ -122,6 +123,7 @@ fn is_kept_open(alloc: Global) -> bool {
 
 #[test]
 fn one_has_the_lock(rt: HostRuntime) {
-    assert!(rt; closes_at_last(rt.alloc()));
-    assert!(rt; is_kept_open(rt.alloc()));
+    let closes = closes_at_last(rt.alloc());
+    let kept = is_kept_open(rt.alloc());
+    assert_all(&rt, &[("closed at last", closes), ("kept open", kept)]);
 }

@@ -1,5 +1,6 @@
 //! Gates that hold threads back.
 
+use crate::asserted::{assert_all, assert_that};
 use crate::programs::{adds, looks, nothing};
 use crate::reports::{Wanted, runs_as};
 use std::alloc::Global;
@@ -77,8 +78,9 @@ fn adds_late<R: Threads + Wait + Sync>(rt: &R, alloc: Global, held: u32, other: 
 
 #[test]
 fn one_is_held_while_the_other_adds(rt: HostRuntime) {
-    assert!(rt; adds_late(&rt, rt.alloc(), 0, 1));
-    assert!(rt; adds_late(&rt, rt.alloc(), 1, 0));
+    let first = adds_late(&rt, rt.alloc(), 0, 1);
+    let second = adds_late(&rt, rt.alloc(), 1, 0);
+    assert_all(&rt, &[("the first", first), ("the second", second)]);
 }
 
 fn read_late() -> &'static Wanted<'static> {
@@ -99,7 +101,7 @@ fn reads_late<R: Threads + Wait + Sync>(rt: &R, alloc: Global) -> bool {
 
 #[test]
 fn what_one_wrote_the_next_reads(rt: HostRuntime) {
-    assert!(rt; reads_late(&rt, rt.alloc()));
+    assert_that(&rt, reads_late(&rt, rt.alloc()));
 }
 
 // Always holds.
@@ -135,7 +137,7 @@ fn is_overheld<R: Threads + Wait + Sync>(rt: &R, alloc: Global) -> bool {
 
 #[test]
 fn a_gate_that_always_holds_is_left_behind(rt: HostRuntime) {
-    assert!(rt; is_overheld(&rt, rt.alloc()));
+    assert_that(&rt, is_overheld(&rt, rt.alloc()));
 }
 
 // Two threads look at their first questions for each other's.
@@ -197,5 +199,5 @@ fn meet_at_once<R: Threads + Wait + Sync>(rt: &R, alloc: Global) -> bool {
 
 #[test]
 fn two_threads_run_at_one_time(rt: HostRuntime) {
-    assert!(rt; meet_at_once(&rt, rt.alloc()));
+    assert_that(&rt, meet_at_once(&rt, rt.alloc()));
 }

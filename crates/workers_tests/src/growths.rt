@@ -3,6 +3,7 @@
 ghost use Rattle.std.specs.Prelude.{IfSome};
 ghost use Rattle.workers.specs.Workers.{AreWorkersOf};
 
+use crate::asserted::assert_that;
 use crate::hall::{Left, Turn, are_turns, is_left, leaves, open};
 use crate::programs::{code_of, looks};
 use bytecode::Code;
@@ -104,5 +105,5 @@ fn last_met(inner: Global) -> Option<u64> {
 
 #[test]
 fn each_growth_may_be_refused(rt: HostRuntime) {
-    assert!(rt; last_met(rt.alloc()) > Some(10));
+    assert_that(&rt, last_met(rt.alloc()) > Some(10));
 }

@@ -1,5 +1,6 @@
 //! Many threads, and a gate that never holds: no addition is lost, and each run ends as it should.
 
+use crate::asserted::{assert_all, assert_that};
 use crate::programs::{adds_often, divides, prints};
 use crate::reports::{Wanted, runs_as};
 use std::alloc::Global;
@@ -54,20 +55,24 @@ fn adds_up<R: Threads + Wait + Sync>(
 // A million commits in all tests together.
 #[test]
 fn no_addition_of_two_threads_is_lost(rt: HostRuntime) {
-    assert!(rt; adds_up(&rt, rt.alloc(), 2, 200_000, 400_000));
+    assert_that(&rt, adds_up(&rt, rt.alloc(), 2, 200_000, 400_000));
 }
 
 #[test]
 fn no_addition_of_four_threads_is_lost(rt: HostRuntime) {
-    assert!(rt; adds_up(&rt, rt.alloc(), 4, 100_000, 400_000));
+    assert_that(&rt, adds_up(&rt, rt.alloc(), 4, 100_000, 400_000));
 }
 
 #[test]
 fn no_addition_of_8_to_64_threads_is_lost(rt: HostRuntime) {
-    assert!(rt; adds_up(&rt, rt.alloc(), 8, 15_000, 120_000));
-    assert!(rt; adds_up(&rt, rt.alloc(), 16, 3_000, 48_000));
-    assert!(rt; adds_up(&rt, rt.alloc(), 32, 600, 19_200));
-    assert!(rt; adds_up(&rt, rt.alloc(), 64, 200, 12_800));
+    let of_8 = adds_up(&rt, rt.alloc(), 8, 15_000, 120_000);
+    let of_16 = adds_up(&rt, rt.alloc(), 16, 3_000, 48_000);
+    let of_32 = adds_up(&rt, rt.alloc(), 32, 600, 19_200);
+    let of_64 = adds_up(&rt, rt.alloc(), 64, 200, 12_800);
+    assert_all(
+        &rt,
+        &[("8", of_8), ("16", of_16), ("32", of_32), ("64", of_64)],
+    );
 }
 
 fn unmoved() -> &'static Wanted<'static> {
@@ -102,8 +107,9 @@ fn keeps_the_lock<R: Threads + Wait + Sync>(rt: &R, alloc: Global) -> bool {
 
 #[test]
 fn a_run_is_cut_by_its_budget(rt: HostRuntime) {
-    assert!(rt; makes_no_step(&rt, rt.alloc()));
-    assert!(rt; keeps_the_lock(&rt, rt.alloc()));
+    let none = makes_no_step(&rt, rt.alloc());
+    let kept = keeps_the_lock(&rt, rt.alloc());
+    assert_all(&rt, &[("no step", none), ("the lock kept", kept)]);
 }
 
 fn one_trapped() -> &'static Wanted<'static> {
@@ -130,7 +136,8 @@ fn one_traps<R: Threads + Wait + Sync>(
 
 #[test]
 fn one_traps_and_one_ends(rt: HostRuntime) {
-    assert!(rt; one_traps(&rt, rt.alloc(), 2) == Ok(true));
-    assert!(rt; one_traps(&rt, rt.alloc(), 0) == Err(RunFault::Threads));
-    assert!(rt; one_traps(&rt, rt.alloc(), 65) == Err(RunFault::Threads));
+    let two = one_traps(&rt, rt.alloc(), 2) == Ok(true);
+    let none = one_traps(&rt, rt.alloc(), 0) == Err(RunFault::Threads);
+    let more = one_traps(&rt, rt.alloc(), 65) == Err(RunFault::Threads);
+    assert_all(&rt, &[("two", two), ("none", none), ("65", more)]);
 }

@@ -2,6 +2,7 @@
 
 ghost use Rattle.workers.specs.Workers.{AreWorkersOf};
 
+use crate::asserted::{assert_all, assert_that};
 use crate::hall::{Turn, are_turns, leaves, opened};
 use crate::programs::{adds, divides, looks};
 use std::alloc::Global;
@@ -41,8 +42,9 @@ fn reads_it(alloc: Global, turns: &[Turn]) -> bool {
 
 #[test]
 fn what_one_wrote_the_next_reads(rt: HostRuntime) {
-    assert!(rt; reads_it(rt.alloc(), in_order()));
-    assert!(rt; reads_it(rt.alloc(), in_order_with_a_meeting()));
+    let in_turn = reads_it(rt.alloc(), in_order());
+    let met = reads_it(rt.alloc(), in_order_with_a_meeting());
+    assert_all(&rt, &[("in order", in_turn), ("with a meeting", met)]);
 }
 
 // Worker 0 traps, and stays there.
@@ -63,7 +65,7 @@ fn traps(alloc: Global) -> bool {
 
 #[test]
 fn a_trap_is_told(rt: HostRuntime) {
-    assert!(rt; traps(rt.alloc()));
+    assert_that(&rt, traps(rt.alloc()));
 }
 
 // A step of worker 1.
@@ -105,7 +107,8 @@ fn refusal(alloc: Global, threads: u32) -> Option<HallFault> {
 // Two halls are opened, and none of 65 threads and none of no thread.
 #[test]
 fn halls_are_opened(rt: HostRuntime) {
-    assert!(rt; are_two(rt.alloc()));
-    assert!(rt; refusal(rt.alloc(), 65) == Some(HallFault::Threads));
-    assert!(rt; refusal(rt.alloc(), 0) == Some(HallFault::Threads));
+    let two = are_two(rt.alloc());
+    let more = refusal(rt.alloc(), 65) == Some(HallFault::Threads);
+    let none = refusal(rt.alloc(), 0) == Some(HallFault::Threads);
+    assert_all(&rt, &[("two", two), ("65", more), ("none", none)]);
 }

@@ -1,5 +1,6 @@
 //! Validation, and begins that wait for the lock, in runs that end amid them.
 
+use crate::asserted::assert_all;
 use crate::hall::{Turn, are_turns, leaves, opened};
 use crate::programs::{Program, adds, reads_again};
 use std::alloc::Global;
@@ -90,18 +91,21 @@ fn loses_its_swap() -> &'static [Turn] {
 
 #[test]
 fn validation_finds_what_was_read(rt: HostRuntime) {
-    assert!(rt; makes_reading(rt.alloc(), 0, goes_on()));
-    assert!(rt; makes_reading(rt.alloc(), 0, goes_on_in_pieces()));
+    let whole = makes_reading(rt.alloc(), 0, goes_on());
+    let pieces = makes_reading(rt.alloc(), 0, goes_on_in_pieces());
+    assert_all(&rt, &[("whole", whole), ("in pieces", pieces)]);
 }
 
 #[test]
 fn a_lock_that_is_taken_is_waited_for(rt: HostRuntime) {
-    assert!(rt; makes_reading(rt.alloc(), 0, waits()));
-    assert!(rt; makes_reading(rt.alloc(), 0, begins_late()));
+    let waited = makes_reading(rt.alloc(), 0, waits());
+    let late = makes_reading(rt.alloc(), 0, begins_late());
+    assert_all(&rt, &[("waited for", waited), ("begun late", late)]);
 }
 
 #[test]
 fn another_word_drops_the_attempt(rt: HostRuntime) {
-    assert!(rt; makes_reading(rt.alloc(), 1, begins_anew()));
-    assert!(rt; makes(rt.alloc(), adds(), loses_its_swap(), 2));
+    let anew = makes_reading(rt.alloc(), 1, begins_anew());
+    let lost = makes(rt.alloc(), adds(), loses_its_swap(), 2);
+    assert_all(&rt, &[("begun anew", anew), ("a lost swap", lost)]);
 }
