@@ -8,7 +8,7 @@ use parse::parse;
 use safety::checked::Safe;
 use safety::safe;
 use separation::{Accepted, accept};
-use std::alloc::Allocator;
+use std::alloc::{Allocator, Global};
 use syntax::tree::Unit;
 use types::{Typed, check};
 
@@ -57,7 +57,7 @@ pub fn accepted_of<A: Allocator + Copy>(alloc: A, text: &str) -> Option<Accepted
 }
 
 /// The code of a text, or in its place the number and the place of the fault. A text that is not accepted has the number 1.
-pub fn code_of<A: Allocator + Copy>(alloc: A, text: &str) -> Result<Code<A>, (u32, Option<Span>)> {
+pub fn code_of(alloc: Global, text: &str) -> Result<Code, (u32, Option<Span>)> {
     match accepted_of(alloc, text) {
         None => Err((1, None)),
         Some(accepted) => match lower(alloc, &accepted) {
@@ -68,7 +68,7 @@ pub fn code_of<A: Allocator + Copy>(alloc: A, text: &str) -> Result<Code<A>, (u3
 }
 
 /// The number and the place of the fault of a text that has no code.
-pub fn fault_of<A: Allocator + Copy>(alloc: A, text: &str) -> Option<(u32, Option<Span>)> {
+pub fn fault_of(alloc: Global, text: &str) -> Option<(u32, Option<Span>)> {
     match code_of(alloc, text) {
         Ok(_) => None,
         Err(fault) => Some(fault),
@@ -76,7 +76,7 @@ pub fn fault_of<A: Allocator + Copy>(alloc: A, text: &str) -> Option<(u32, Optio
 }
 
 /// The listing of a text's code, or in its place the fault's number.
-pub fn listed<A: Allocator + Copy>(alloc: A, text: &str) -> Result<String<A>, u32> {
+pub fn listed(alloc: Global, text: &str) -> Result<String, u32> {
     match code_of(alloc, text) {
         Ok(code) => match listing(alloc, &code) {
             Ok(text) => Ok(text),

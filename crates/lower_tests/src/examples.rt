@@ -1,7 +1,8 @@
 //! The programs of examples/, and that each has a code: written by scripts/examples.py.
 
 use crate::accepted::fault_of;
-use std::alloc::Allocator;
+use crate::asserted::assert_none;
+use std::alloc::Global;
 
 /// The texts stand in a function, so that no proof but its own looks at them.
 pub fn examples() -> &'static [&'static str] {
@@ -21,7 +22,7 @@ pub fn examples() -> &'static [&'static str] {
 }
 
 // The first of these texts that has no code.
-fn has_none<A: Allocator + Copy>(alloc: A, texts: &[&'static str]) -> Option<&'static str> {
+fn has_none(alloc: Global, texts: &[&'static str]) -> Option<&'static str> {
     for text in texts {
         if fault_of(alloc, text).is_some() {
             return Some(*text);
@@ -32,5 +33,5 @@ fn has_none<A: Allocator + Copy>(alloc: A, texts: &[&'static str]) -> Option<&'s
 
 #[test]
 fn each_example_has_code(rt: HostRuntime) {
-    assert_eq!(rt; has_none(rt.alloc(), examples()), None);
+    assert_none(&rt, has_none(rt.alloc(), examples()));
 }

@@ -1,10 +1,11 @@
 //! Each growth refused in turn.
 
 use crate::accepted::accepted_of;
+use crate::asserted::assert_that;
 use lower::{LowerFault, lower};
 use refusing::Refusing;
 use separation::Accepted;
-use std::alloc::Allocator;
+use std::alloc::{Allocator, Global};
 
 const SAMPLE: &str =
     "int x, a[3]; int f(int n, int m) { return n ? m : 2; } void worker(int self) { int i; \
@@ -15,7 +16,8 @@ while (i) i--; }";
 fn has_code<A: Allocator + Copy>(alloc: A, accepted: &Accepted<A>) -> Option<bool> {
     match lower(alloc, accepted) {
         Ok(_) => Some(true),
-        Err(fault) => matches!(fault, LowerFault::OutOfMemory).then_some(false),
+        Err(LowerFault::OutOfMemory) => Some(false),
+        Err(_) => None,
     }
 }
 
@@ -39,13 +41,13 @@ fn refused_in<A: Allocator, B: Allocator + Copy>(
 }
 
 // The same over an allocator.
-fn refused_at<A: Allocator>(inner: A, nth: u64) -> Option<(bool, bool)> {
+fn refused_at(inner: Global, nth: u64) -> Option<(bool, bool)> {
     let alloc = Refusing::new(inner, 0);
     refused_in(&alloc, &alloc, nth)
 }
 
 // How many growths are met, each of which was refused once; `None` where one is not met as it should be.
-fn growths<A: Allocator + Copy>(inner: A) -> Option<u64> {
+fn growths(inner: Global) -> Option<u64> {
     for nth in 1..400u64 {
         match refused_at(inner, nth) {
             Some((true, true)) => return Some(nth - 1),
@@ -58,5 +60,5 @@ fn growths<A: Allocator + Copy>(inner: A) -> Option<u64> {
 
 #[test]
 fn each_growth_may_be_refused(rt: HostRuntime) {
-    assert!(rt; growths(rt.alloc()) > Some(20));
+    assert_that(&rt, growths(rt.alloc()) > Some(20));
 }

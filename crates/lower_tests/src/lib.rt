@@ -4,6 +4,8 @@
 #[cfg(test)]
 mod accepted;
 #[cfg(test)]
+mod asserted;
+#[cfg(test)]
 mod examples;
 #[cfg(test)]
 mod growths;
@@ -15,3 +17,5 @@ mod listed;
 mod nested;
 #[cfg(test)]
 mod outcomes;
+#[cfg(test)]
+mod pieces;

@@ -1,7 +1,8 @@
 //! The codes of small programs, as they are listed: each was read by eye, so that a change in what is picked is seen.
 
 use crate::accepted::listed;
-use std::alloc::Allocator;
+use crate::asserted::assert_none;
+use std::alloc::Global;
 
 /// A program, and the listing of its code.
 pub type Listed = (&'static str, &'static str);
@@ -62,7 +63,7 @@ pub fn rows() -> &'static [Listed] {
 }
 
 // Whether this is the listing of a program's code.
-fn is_listed<A: Allocator + Copy>(alloc: A, text: &str, wanted: &str) -> bool {
+fn is_listed(alloc: Global, text: &str, wanted: &str) -> bool {
     match listed(alloc, text) {
         Ok(found) => found.as_str() == wanted,
         Err(_) => false,
@@ -70,7 +71,7 @@ fn is_listed<A: Allocator + Copy>(alloc: A, text: &str, wanted: &str) -> bool {
 }
 
 // The first program that has another one.
-fn has_another<A: Allocator + Copy>(alloc: A, rows: &[Listed]) -> Option<&'static str> {
+fn has_another(alloc: Global, rows: &[Listed]) -> Option<&'static str> {
     for (text, wanted) in rows {
         if !is_listed(alloc, text, wanted) {
             return Some(*text);
@@ -81,5 +82,5 @@ fn has_another<A: Allocator + Copy>(alloc: A, rows: &[Listed]) -> Option<&'stati
 
 #[test]
 fn small_programs_have_these_codes(rt: HostRuntime) {
-    assert_eq!(rt; has_another(rt.alloc(), rows()), None);
+    assert_none(&rt, has_another(rt.alloc(), rows()));
 }

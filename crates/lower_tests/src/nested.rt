@@ -1,68 +1,14 @@
 //! Transactions in one another: 16 may be, and the 17th is the fault, at its keyword.
 
 use crate::accepted::fault_of;
+use crate::asserted::{assert_all, assert_that};
+use crate::pieces::{Piece, text_of};
 use lex::token::Span;
-use std::alloc::{AllocError, Allocator};
+use std::alloc::Global;
 
-// Appends a text so many times.
-fn push_times<A: Allocator>(to: &mut String<A>, text: &str, times: u32) -> Result<(), AllocError> {
-    for _ in 0..times {
-        to.push_str(text)?;
-    }
-    Ok(())
-}
-
-// Appends a worker in which so many transactions lie in one another.
-fn push_worker<A: Allocator>(to: &mut String<A>, count: u32) -> Result<(), AllocError> {
-    to.push_str("void worker(int self) { ")?;
-    push_times(to, "__transaction_atomic { ", count)?;
-    push_times(to, "} ", count)?;
-    to.push_str("}")
-}
-
-// Appends a function with so many transactions in one another, in branches.
-fn push_branches<A: Allocator>(to: &mut String<A>, count: u32) -> Result<(), AllocError> {
-    to.push_str(" void f(int c) { if (c) while (c) ")?;
-    push_times(to, "{ __transaction_atomic { ", count)?;
-    push_times(to, "} }", count)?;
-    to.push_str(" }")
-}
-
-// Appends a prefix, that worker and that function; the function only where it has transactions.
-fn push_all<A: Allocator>(
-    to: &mut String<A>,
-    before: &str,
-    count: u32,
-    in_branches: u32,
-) -> Result<(), AllocError> {
-    to.push_str(before)?;
-    push_worker(to, count)?;
-    if in_branches == 0 {
-        return Ok(());
-    }
-    push_branches(to, in_branches)
-}
-
-// A text of those.
-fn text_of<A: Allocator + Copy>(
-    alloc: A,
-    before: &str,
-    count: u32,
-    in_branches: u32,
-) -> Result<String<A>, AllocError> {
-    let mut text = String::new(alloc);
-    push_all(&mut text, before, count, in_branches)?;
-    Ok(text)
-}
-
-// The number of its fault, and the bytes that it names. One that has code has the number 0, and one that memory is refused 1.
-fn fault_at<A: Allocator + Copy>(
-    alloc: A,
-    before: &str,
-    count: u32,
-    in_branches: u32,
-) -> (u32, Option<Span>) {
-    match text_of(alloc, before, count, in_branches) {
+// The fault of a text of pieces. One that has code has the number 0, and one that memory is refused 1.
+fn fault_at(alloc: Global, pieces: &[Piece]) -> (u32, Option<Span>) {
+    match text_of(alloc, pieces) {
         Ok(text) => match fault_of(alloc, text.as_str()) {
             Some(fault) => fault,
             None => (0, None),
@@ -71,9 +17,20 @@ fn fault_at<A: Allocator + Copy>(
     }
 }
 
+// What stands before, and a worker in which so many transactions lie in one another.
+fn worker(before: &'static str, count: u32) -> [Piece; 5] {
+    [
+        Piece::Times(before, 1),
+        Piece::Times("void worker(int self) { ", 1),
+        Piece::Times("__transaction_atomic { ", count),
+        Piece::Times("} ", count),
+        Piece::Times("}", 1),
+    ]
+}
+
 #[test]
 fn sixteen_may_lie_in_one_another(rt: HostRuntime) {
-    assert!(rt; fault_at(rt.alloc(), "", 16, 0).0 == 0);
+    assert_that(&rt, fault_at(rt.alloc(), &worker("", 16)).0 == 0);
 }
 
 #[test]
@@ -82,12 +39,27 @@ fn the_seventeenth_is_too_deep(rt: HostRuntime) {
         start: 392,
         end: 412,
     };
-    assert!(rt; fault_at(rt.alloc(), "", 17, 0) == (62, Some(keyword)));
+    let found = fault_at(rt.alloc(), &worker("", 17));
+    assert_that(&rt, found == (62, Some(keyword)));
+}
+
+// A worker in which 16 lie in one another, and a function with 17 in branches.
+fn branches() -> [Piece; 7] {
+    [
+        Piece::Times("void worker(int self) { ", 1),
+        Piece::Times("__transaction_atomic { ", 16),
+        Piece::Times("} ", 16),
+        Piece::Times("} void f(int c) { if (c) while (c) ", 1),
+        Piece::Times("{ __transaction_atomic { ", 17),
+        Piece::Times("} }", 17),
+        Piece::Times(" }", 1),
+    ]
 }
 
 #[test]
 fn calls_begin_anew_and_branches_do_not(rt: HostRuntime) {
     let called = "int x; void f(void) { __transaction_atomic { x = 1; } } ";
-    assert!(rt; fault_at(rt.alloc(), called, 16, 0).0 == 0);
-    assert!(rt; fault_at(rt.alloc(), "", 16, 17).0 == 62);
+    let anew = fault_at(rt.alloc(), &worker(called, 16)).0;
+    let deeper = fault_at(rt.alloc(), &branches()).0;
+    assert_all(&rt, &[("calls", anew == 0), ("branches", deeper == 62)]);
 }

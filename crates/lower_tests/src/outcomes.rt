@@ -6,13 +6,14 @@ ghost use Rattle.std.specs.Prelude.{IfSome};
 ghost use Rattle.atomic_code.specs.Threads.{IsThreadOf};
 
 use crate::accepted::{accepted_of, code_of};
+use crate::asserted::assert_none;
 use crate::examples::examples;
 use crate::listed::{Listed, rows};
 use atomic_code::{AtomicThread, is_memory};
 use bytecode::Code;
 use meaning::{SourceOutcome, ThreadEnd, run_order};
 use separation::Accepted;
-use std::alloc::{AllocError, Allocator};
+use std::alloc::{AllocError, Global};
 use syntax::numbers::{Status, Trap};
 
 fn trap_number(trap: Trap) -> u8 {
@@ -45,7 +46,7 @@ fn code_end(status: Status) -> u8 {
 }
 
 /// Adds a line behind others, where it is not the last one already: where the last one begins then.
-fn add<A: Allocator>(lines: &mut String<A>, last: usize, line: &str) -> Result<usize, AllocError> {
+fn add(lines: &mut String, last: usize, line: &str) -> Result<usize, AllocError> {
     if lines.as_bytes().get(last..) == Some(line.as_bytes()) {
         return Ok(last);
     }
@@ -55,10 +56,7 @@ fn add<A: Allocator>(lines: &mut String<A>, last: usize, line: &str) -> Result<u
 }
 
 /// What is seen of thread 3 of four, in a line.
-fn source_line<A: Allocator + Copy>(
-    alloc: A,
-    outcome: &SourceOutcome<A>,
-) -> Result<String<A>, AllocError> {
+fn source_line(alloc: Global, outcome: &SourceOutcome) -> Result<String, AllocError> {
     let memory = outcome.memory.as_slice();
     match outcome.threads.as_slice().get(3) {
         None => Ok(String::new(alloc)),
@@ -70,11 +68,7 @@ fn source_line<A: Allocator + Copy>(
 }
 
 /// What is seen of thread 3 of a program within so many ticks, and within 40 transactions.
-fn source_after<A: Allocator + Copy>(
-    alloc: A,
-    accepted: &Accepted<A>,
-    ticks: u64,
-) -> Result<String<A>, AllocError> {
+fn source_after(alloc: Global, accepted: &Accepted, ticks: u64) -> Result<String, AllocError> {
     match run_order(alloc, accepted, 4, &[3u32; 40], ticks) {
         Ok(outcome) => source_line(alloc, &outcome),
         Err(_) => Err(AllocError),
@@ -82,11 +76,11 @@ fn source_after<A: Allocator + Copy>(
 }
 
 /// Adds what is seen within so many ticks: where the last line begins then.
-fn add_after<A: Allocator + Copy>(
-    alloc: A,
-    accepted: &Accepted<A>,
+fn add_after(
+    alloc: Global,
+    accepted: &Accepted,
     ticks: u64,
-    lines: &mut String<A>,
+    lines: &mut String,
     last: usize,
 ) -> Result<usize, AllocError> {
     let line = source_after(alloc, accepted, ticks)?;
@@ -94,11 +88,11 @@ fn add_after<A: Allocator + Copy>(
 }
 
 /// Adds what is seen of a program's thread within fewer ticks than these, one line for each change.
-fn add_source<A: Allocator + Copy>(
-    alloc: A,
-    accepted: &Accepted<A>,
+fn add_source(
+    alloc: Global,
+    accepted: &Accepted,
     ticks: u64,
-    lines: &mut String<A>,
+    lines: &mut String,
 ) -> Result<(), AllocError> {
     let mut last = 0;
     for n in 0..ticks {
@@ -108,11 +102,7 @@ fn add_source<A: Allocator + Copy>(
 }
 
 /// These lines.
-fn source_lines<A: Allocator + Copy>(
-    alloc: A,
-    accepted: &Accepted<A>,
-    ticks: u64,
-) -> Option<String<A>> {
+fn source_lines(alloc: Global, accepted: &Accepted, ticks: u64) -> Option<String> {
     let mut lines = String::new(alloc);
     match add_source(alloc, accepted, ticks, &mut lines) {
         Ok(()) => Some(lines),
@@ -121,7 +111,7 @@ fn source_lines<A: Allocator + Copy>(
 }
 
 /// A thread at its beginning.
-fn begin<A: Allocator + Copy>(alloc: A, code: &Code<A>) -> Option<AtomicThread<A>>
+fn begin(alloc: Global, code: &Code) -> Option<AtomicThread>
     ensures { IfSome result (λ t. IsThreadOf code.now t.thread) }
 {
     match AtomicThread::new(alloc, code, 3) {
@@ -131,11 +121,7 @@ fn begin<A: Allocator + Copy>(alloc: A, code: &Code<A>) -> Option<AtomicThread<A
 }
 
 /// One instruction of a thread, which finds this memory or leaves another there.
-fn step<A: Allocator + Copy>(
-    thread: &mut AtomicThread<A>,
-    code: &Code<A>,
-    memory: &mut Vec<u64, A>,
-) -> Result<(), AllocError>
+fn step(thread: &mut AtomicThread, code: &Code, memory: &mut Vec<u64>) -> Result<(), AllocError>
     requires { IsThreadOf code.now thread.old.thread }
     ensures { IsThreadOf code.now thread.new.thread }
 {
@@ -157,21 +143,17 @@ fn step<A: Allocator + Copy>(
 }
 
 /// What is seen of a thread over this memory, in a line.
-fn code_line<A: Allocator + Copy>(
-    alloc: A,
-    thread: &AtomicThread<A>,
-    memory: &[u64],
-) -> Result<String<A>, AllocError> {
+fn code_line(alloc: Global, thread: &AtomicThread, memory: &[u64]) -> Result<String, AllocError> {
     let (end, text) = (code_end(thread.status()), thread.output().as_bytes());
     format!(in alloc; "{memory:?} {end} {text:?}\n")
 }
 
 /// Adds it: where the last line begins then.
-fn add_code_line<A: Allocator + Copy>(
-    alloc: A,
-    thread: &AtomicThread<A>,
+fn add_code_line(
+    alloc: Global,
+    thread: &AtomicThread,
     memory: &[u64],
-    lines: &mut String<A>,
+    lines: &mut String,
     last: usize,
 ) -> Result<usize, AllocError> {
     let line = code_line(alloc, thread, memory)?;
@@ -179,12 +161,12 @@ fn add_code_line<A: Allocator + Copy>(
 }
 
 /// Adds what is seen of a thread within so many instructions, one line for each change.
-fn carry_on<A: Allocator + Copy>(
-    alloc: A,
-    thread: &mut AtomicThread<A>,
-    code: &Code<A>,
-    memory: &mut Vec<u64, A>,
-    lines: &mut String<A>,
+fn carry_on(
+    alloc: Global,
+    thread: &mut AtomicThread,
+    code: &Code,
+    memory: &mut Vec<u64>,
+    lines: &mut String,
     steps: u32,
 ) -> Result<(), AllocError>
     requires { IsThreadOf code.now thread.old.thread }
@@ -198,11 +180,11 @@ fn carry_on<A: Allocator + Copy>(
 }
 
 /// The same of a new thread over a memory.
-fn add_thread<A: Allocator + Copy>(
-    alloc: A,
-    code: &Code<A>,
-    memory: &mut Vec<u64, A>,
-    lines: &mut String<A>,
+fn add_thread(
+    alloc: Global,
+    code: &Code,
+    memory: &mut Vec<u64>,
+    lines: &mut String,
     steps: u32,
 ) -> Result<(), AllocError> {
     match begin(alloc, code) {
@@ -212,19 +194,14 @@ fn add_thread<A: Allocator + Copy>(
 }
 
 /// The same over the memory that a code begins with.
-fn add_code<A: Allocator + Copy>(
-    alloc: A,
-    code: &Code<A>,
-    lines: &mut String<A>,
-    steps: u32,
-) -> Result<(), AllocError> {
+fn add_code(alloc: Global, code: &Code, lines: &mut String, steps: u32) -> Result<(), AllocError> {
     let mut memory = Vec::new(alloc);
     code.push_initial(&mut memory)?;
     add_thread(alloc, code, &mut memory, lines, steps)
 }
 
 /// What is seen of a code's thread within so many instructions, one line for each change.
-fn code_lines<A: Allocator + Copy>(alloc: A, code: &Code<A>, steps: u32) -> Option<String<A>> {
+fn code_lines(alloc: Global, code: &Code, steps: u32) -> Option<String> {
     let mut lines = String::new(alloc);
     match add_code(alloc, code, &mut lines, steps) {
         Ok(()) => Some(lines),
@@ -233,7 +210,7 @@ fn code_lines<A: Allocator + Copy>(alloc: A, code: &Code<A>, steps: u32) -> Opti
 }
 
 /// What is seen of the thread of an accepted text.
-fn of_source<A: Allocator + Copy>(alloc: A, text: &str, ticks: u64) -> Option<String<A>> {
+fn of_source(alloc: Global, text: &str, ticks: u64) -> Option<String> {
     match accepted_of(alloc, text) {
         None => None,
         Some(accepted) => source_lines(alloc, &accepted, ticks),
@@ -241,7 +218,7 @@ fn of_source<A: Allocator + Copy>(alloc: A, text: &str, ticks: u64) -> Option<St
 }
 
 /// What is seen of the thread of its code.
-fn of_code<A: Allocator + Copy>(alloc: A, text: &str, steps: u32) -> Option<String<A>> {
+fn of_code(alloc: Global, text: &str, steps: u32) -> Option<String> {
     match code_of(alloc, text) {
         Err(_) => None,
         Ok(code) => code_lines(alloc, &code, steps),
@@ -254,7 +231,7 @@ fn are_many(lines: &str) -> bool {
 }
 
 /// Whether this is seen of a text's code within so many instructions.
-fn is_seen<A: Allocator + Copy>(alloc: A, text: &str, steps: u32, wanted: &str) -> bool {
+fn is_seen(alloc: Global, text: &str, steps: u32, wanted: &str) -> bool {
     match of_code(alloc, text, steps) {
         Some(code) => code.as_str() == wanted,
         None => false,
@@ -263,7 +240,7 @@ fn is_seen<A: Allocator + Copy>(alloc: A, text: &str, steps: u32, wanted: &str) 
 
 /// Whether more than one thing is seen of a text's thread within so many ticks, and the same of its code's within so many
 /// instructions.
-fn show_the_same<A: Allocator + Copy>(alloc: A, text: &str, ticks: u64, steps: u32) -> bool {
+fn show_the_same(alloc: Global, text: &str, ticks: u64, steps: u32) -> bool {
     match of_source(alloc, text, ticks) {
         Some(source) => {
             are_many(source.as_str()) && is_seen(alloc, text, steps, source.as_str())
@@ -273,8 +250,8 @@ fn show_the_same<A: Allocator + Copy>(alloc: A, text: &str, ticks: u64, steps: u
 }
 
 /// The first of these texts of which that does not hold.
-fn show_others<A: Allocator + Copy>(
-    alloc: A,
+fn show_others(
+    alloc: Global,
     texts: &[&'static str],
     ticks: u64,
     steps: u32,
@@ -288,7 +265,7 @@ fn show_others<A: Allocator + Copy>(
 }
 
 /// The same of texts that stand beside their listings.
-fn listed_show_others<A: Allocator + Copy>(alloc: A, rows: &[Listed]) -> Option<&'static str> {
+fn listed_show_others(alloc: Global, rows: &[Listed]) -> Option<&'static str> {
     for (text, _) in rows {
         if !show_the_same(alloc, text, 300, 1000) {
             return Some(*text);
@@ -315,15 +292,15 @@ fn texts() -> &'static [&'static str] {
 
 #[test]
 fn small_programs_show_the_same(rt: HostRuntime) {
-    assert_eq!(rt; show_others(rt.alloc(), texts(), 300, 1000), None);
+    assert_none(&rt, show_others(rt.alloc(), texts(), 300, 1000));
 }
 
 #[test]
 fn listed_programs_show_the_same(rt: HostRuntime) {
-    assert_eq!(rt; listed_show_others(rt.alloc(), rows()), None);
+    assert_none(&rt, listed_show_others(rt.alloc(), rows()));
 }
 
 #[test]
 fn examples_show_the_same(rt: HostRuntime) {
-    assert_eq!(rt; show_others(rt.alloc(), examples(), 1500, 5000), None);
+    assert_none(&rt, show_others(rt.alloc(), examples(), 1500, 5000));
 }

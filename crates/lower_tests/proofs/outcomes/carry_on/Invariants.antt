@@ -2,4 +2,4 @@ use Rattle.atomic_code.specs.Threads.{IsThreadOf}
 use Rattle.lower_tests.proofs.outcomes.carry_on.Given as goal
 
 abbrev pub invariant-steps : goal.invariant-steps
-invariant-steps g l = IsThreadOf l.code l.thread.thread
+invariant-steps l = IsThreadOf l.code l.thread.thread
