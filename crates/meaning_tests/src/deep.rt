@@ -2,7 +2,7 @@
 
 use crate::run::{accepted_of, run};
 use meaning::ThreadEnd;
-use std::alloc::{AllocError, Allocator};
+use std::alloc::{AllocError, Global};
 use syntax::numbers::Trap;
 
 /// A function that calls itself: what stands before its levels, what opens a level, what stands inside them all, what closes
@@ -110,11 +110,7 @@ fn shapes() -> &'static [Shape] {
 }
 
 /// Appends a text so many times.
-fn push_times<A: Allocator>(
-    text: &mut String<A>,
-    piece: &str,
-    times: u32,
-) -> Result<(), AllocError> {
+fn push_times(text: &mut String, piece: &str, times: u32) -> Result<(), AllocError> {
     for _ in 0..times {
         text.push_str(piece)?;
     }
@@ -122,22 +118,14 @@ fn push_times<A: Allocator>(
 }
 
 /// Appends so many levels of a shape, and what stands inside them.
-fn push_levels<A: Allocator>(
-    text: &mut String<A>,
-    shape: &Shape,
-    levels: u32,
-) -> Result<(), AllocError> {
+fn push_levels(text: &mut String, shape: &Shape, levels: u32) -> Result<(), AllocError> {
     push_times(text, shape.1, levels)?;
     text.push_str(shape.2)?;
     push_times(text, shape.3, levels)
 }
 
 /// Appends the program of a shape with so many levels.
-fn push_program<A: Allocator>(
-    text: &mut String<A>,
-    shape: &Shape,
-    levels: u32,
-) -> Result<(), AllocError> {
+fn push_program(text: &mut String, shape: &Shape, levels: u32) -> Result<(), AllocError> {
     text.push_str(shape.0)?;
     push_levels(text, shape, levels)?;
     text.push_str(shape.4)?;
@@ -145,18 +133,14 @@ fn push_program<A: Allocator>(
 }
 
 /// The program of a shape with so many levels.
-fn program_of<A: Allocator + Copy>(
-    alloc: A,
-    shape: &Shape,
-    levels: u32,
-) -> Result<String<A>, AllocError> {
+fn program_of(alloc: Global, shape: &Shape, levels: u32) -> Result<String, AllocError> {
     let mut text = String::new(alloc);
     push_program(&mut text, shape, levels)?;
     Ok(text)
 }
 
 // How the thread of a text ends.
-fn end_of<A: Allocator + Copy>(alloc: A, text: &str) -> Option<ThreadEnd> {
+fn end_of(alloc: Global, text: &str) -> Option<ThreadEnd> {
     match run(alloc, text, 0, 1, 1000000) {
         Some(outcome) => Some(outcome.end),
         None => None,
@@ -164,7 +148,7 @@ fn end_of<A: Allocator + Copy>(alloc: A, text: &str) -> Option<ThreadEnd> {
 }
 
 // The same of a shape with so many levels.
-fn end_at<A: Allocator + Copy>(alloc: A, shape: &Shape, levels: u32) -> Option<ThreadEnd> {
+fn end_at(alloc: Global, shape: &Shape, levels: u32) -> Option<ThreadEnd> {
     match program_of(alloc, shape, levels) {
         Ok(text) => end_of(alloc, text.as_str()),
         Err(_) => None,
@@ -172,7 +156,7 @@ fn end_at<A: Allocator + Copy>(alloc: A, shape: &Shape, levels: u32) -> Option<T
 }
 
 // Whether a shape with so many levels is an accepted program.
-fn is_accepted_at<A: Allocator + Copy>(alloc: A, shape: &Shape, levels: u32) -> Option<bool> {
+fn is_accepted_at(alloc: Global, shape: &Shape, levels: u32) -> Option<bool> {
     match program_of(alloc, shape, levels) {
         Ok(text) => Some(accepted_of(alloc, text.as_str()).is_some()),
         Err(_) => None,
@@ -180,16 +164,13 @@ fn is_accepted_at<A: Allocator + Copy>(alloc: A, shape: &Shape, levels: u32) -> 
 }
 
 // Whether 64 frames of a shape fit the stack, and one level more is too deep.
-fn is_so<A: Allocator + Copy>(alloc: A, shape: &Shape) -> bool {
+fn is_so(alloc: Global, shape: &Shape) -> bool {
     end_at(alloc, shape, shape.5) == Some(ThreadEnd::Trapped(Trap::Frames))
         && is_accepted_at(alloc, shape, shape.5.saturating_add(1)) == Some(false)
 }
 
 // What stands before and opens the levels of the first shape that is not so.
-fn first_other<A: Allocator + Copy>(
-    alloc: A,
-    shapes: &[Shape],
-) -> Option<(&'static str, &'static str)> {
+fn first_other(alloc: Global, shapes: &[Shape]) -> Option<(&'static str, &'static str)> {
     for shape in shapes {
         if !is_so(alloc, shape) {
             return Some((shape.0, shape.1));

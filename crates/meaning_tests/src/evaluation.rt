@@ -1,8 +1,9 @@
 //! In which order operands, arguments and pieces are computed, and of which type a value is.
 
+use crate::asserted::assert_none;
 use crate::run::{first_left, run};
 use meaning::{ThreadEnd, ThreadOutcome};
-use std::alloc::Allocator;
+use std::alloc::Global;
 
 /// A text, what is printed, and the first cell of the memory left.
 type Row = (&'static str, &'static str, u64);
@@ -99,14 +100,14 @@ fn rows() -> &'static [Row] {
 }
 
 // Whether a thread has ended, has printed this, and has left a memory that begins so.
-fn leaves<A: Allocator>(outcome: &ThreadOutcome<A>, printed: &str, first: u64) -> bool {
+fn leaves(outcome: &ThreadOutcome, printed: &str, first: u64) -> bool {
     first_left(outcome) == Some(first)
         && outcome.end == ThreadEnd::Ended
         && outcome.text.as_slice() == printed.as_bytes()
 }
 
 // Whether a thread does what the row says.
-fn is_so<A: Allocator + Copy>(alloc: A, row: &Row) -> bool {
+fn is_so(alloc: Global, row: &Row) -> bool {
     match run(alloc, row.0, 0, 1, 1000) {
         Some(outcome) => leaves(&outcome, row.1, row.2),
         None => false,
@@ -114,7 +115,7 @@ fn is_so<A: Allocator + Copy>(alloc: A, row: &Row) -> bool {
 }
 
 // The text of the first row that is not so.
-fn first_other<A: Allocator + Copy>(alloc: A, rows: &[Row]) -> Option<&'static str> {
+fn first_other(alloc: Global, rows: &[Row]) -> Option<&'static str> {
     for row in rows {
         if !is_so(alloc, row) {
             return Some(row.0);
@@ -125,5 +126,5 @@ fn first_other<A: Allocator + Copy>(alloc: A, rows: &[Row]) -> Option<&'static s
 
 #[test]
 fn things_are_computed_in_their_order(rt: HostRuntime) {
-    assert_eq!(rt; first_other(rt.alloc(), rows()), None);
+    assert_none(&rt, first_other(rt.alloc(), rows()));
 }

@@ -1,9 +1,10 @@
 //! The programs of examples/, each run alone from its tree: written by scripts/examples.py.
 
+use crate::asserted::assert_none;
 use crate::run::accepted_of;
 use meaning::{SourceOutcome, ThreadEnd, ThreadReport, run_order};
 use separation::Accepted;
-use std::alloc::Allocator;
+use std::alloc::Global;
 
 /// A program, the number of the trap in which it ends or 0, what it prints, and the words of the memory that it leaves.
 type Row = (&'static str, u32, &'static str, &'static [u32]);
@@ -78,7 +79,7 @@ fn examples() -> &'static [Row] {
 const ALONE: [u32; 20] = [0; 20];
 
 // Whether a thread has printed what the row says, and is over so.
-fn is_report<A: Allocator>(report: &ThreadReport<A>, row: &Row) -> bool {
+fn is_report(report: &ThreadReport, row: &Row) -> bool {
     let over = match report.end {
         ThreadEnd::Ended => row.1 == 0,
         ThreadEnd::Trapped(why) => row.1 == why.number(),
@@ -88,7 +89,7 @@ fn is_report<A: Allocator>(report: &ThreadReport<A>, row: &Row) -> bool {
 }
 
 // Whether one thread has done what the row says.
-fn has_done<A: Allocator>(outcome: &SourceOutcome<A>, row: &Row) -> bool {
+fn has_done(outcome: &SourceOutcome, row: &Row) -> bool {
     match outcome.threads.as_slice() {
         [thread] => outcome.memory.as_slice() == row.3 && is_report(thread, row),
         _ => false,
@@ -96,7 +97,7 @@ fn has_done<A: Allocator>(outcome: &SourceOutcome<A>, row: &Row) -> bool {
 }
 
 // Whether one thread of a program does what the row says.
-fn does_so<A: Allocator + Copy>(alloc: A, accepted: &Accepted<A>, row: &Row) -> bool {
+fn does_so(alloc: Global, accepted: &Accepted, row: &Row) -> bool {
     match run_order(alloc, accepted, 1, ALONE.as_slice(), 100000) {
         Ok(outcome) => has_done(&outcome, row),
         Err(_) => false,
@@ -104,7 +105,7 @@ fn does_so<A: Allocator + Copy>(alloc: A, accepted: &Accepted<A>, row: &Row) -> 
 }
 
 // The same of its text.
-fn is_so<A: Allocator + Copy>(alloc: A, row: &Row) -> bool {
+fn is_so(alloc: Global, row: &Row) -> bool {
     match accepted_of(alloc, row.0) {
         Some(accepted) => does_so(alloc, &accepted, row),
         None => false,
@@ -112,7 +113,7 @@ fn is_so<A: Allocator + Copy>(alloc: A, row: &Row) -> bool {
 }
 
 // The text of the first row that is not so.
-fn first_other<A: Allocator + Copy>(alloc: A, rows: &[Row]) -> Option<&'static str> {
+fn first_other(alloc: Global, rows: &[Row]) -> Option<&'static str> {
     for row in rows {
         if !is_so(alloc, row) {
             return Some(row.0);
@@ -123,5 +124,5 @@ fn first_other<A: Allocator + Copy>(alloc: A, rows: &[Row]) -> Option<&'static s
 
 #[test]
 fn examples_leave_and_print_what_they_should(rt: HostRuntime) {
-    assert_eq!(rt; first_other(rt.alloc(), examples()), None);
+    assert_none(&rt, first_other(rt.alloc(), examples()));
 }

@@ -1,10 +1,11 @@
 //! Threads in an order: what is left, what each has printed and how it ends; the faults; each growth refused in turn.
 
+use crate::asserted::assert_that;
 use crate::run::accepted_of;
 use meaning::{MeaningFault, SourceOutcome, ThreadEnd, ThreadReport, run_order};
 use refusing::Refusing;
 use separation::Accepted;
-use std::alloc::Allocator;
+use std::alloc::{Allocator, Global};
 use syntax::numbers::Trap;
 
 const ADDS: &str = "int x; void worker(int self) { __transaction_atomic { x = x + 1; } }";
@@ -87,12 +88,12 @@ fn rows() -> &'static [Row] {
 }
 
 // Whether a thread has printed this, and ends so.
-fn is_report<A: Allocator>(report: &ThreadReport<A>, printed: &str, end: ThreadEnd) -> bool {
+fn is_report(report: &ThreadReport, printed: &str, end: ThreadEnd) -> bool {
     report.text.as_slice() == printed.as_bytes() && report.end == end
 }
 
 // Whether these have printed and end as the row says.
-fn are_reports<A: Allocator>(reports: &[ThreadReport<A>], row: &Row) -> bool {
+fn are_reports(reports: &[ThreadReport], row: &Row) -> bool {
     match reports {
         [first, second] => { is_report(first, row.5, row.6) && is_report(second, row.7, row.8) }
         _ => false,
@@ -105,12 +106,12 @@ fn is_cell(memory: &[u32], cell: u32) -> bool {
 }
 
 // Whether this is what two threads have done.
-fn have_done<A: Allocator>(outcome: &SourceOutcome<A>, row: &Row) -> bool {
+fn have_done(outcome: &SourceOutcome, row: &Row) -> bool {
     is_cell(outcome.memory.as_slice(), row.4) && are_reports(outcome.threads.as_slice(), row)
 }
 
 // Whether the threads of a program do what the row says.
-fn do_so<A: Allocator + Copy>(alloc: A, accepted: &Accepted<A>, row: &Row) -> bool {
+fn do_so(alloc: Global, accepted: &Accepted, row: &Row) -> bool {
     match run_order(alloc, accepted, row.1, row.2, row.3) {
         Ok(outcome) => have_done(&outcome, row),
         Err(_) => false,
@@ -118,7 +119,7 @@ fn do_so<A: Allocator + Copy>(alloc: A, accepted: &Accepted<A>, row: &Row) -> bo
 }
 
 // The same of its text.
-fn is_so<A: Allocator + Copy>(alloc: A, row: &Row) -> bool {
+fn is_so(alloc: Global, row: &Row) -> bool {
     match accepted_of(alloc, row.0) {
         Some(accepted) => do_so(alloc, &accepted, row),
         None => false,
@@ -126,10 +127,7 @@ fn is_so<A: Allocator + Copy>(alloc: A, row: &Row) -> bool {
 }
 
 // The text and the order of the first row that is not so.
-fn first_other<A: Allocator + Copy>(
-    alloc: A,
-    rows: &[Row],
-) -> Option<(&'static str, &'static [u32])> {
+fn first_other(alloc: Global, rows: &[Row]) -> Option<(&'static str, &'static [u32])> {
     for row in rows {
         if !is_so(alloc, row) {
             return Some((row.0, row.2));
@@ -160,12 +158,7 @@ fn faults() -> &'static [FaultRow] {
 }
 
 // How many threads are told of, or the number of the order's fault.
-fn count<A: Allocator + Copy>(
-    alloc: A,
-    accepted: &Accepted<A>,
-    threads: u32,
-    order: &[u32],
-) -> Result<usize, u32> {
+fn count(alloc: Global, accepted: &Accepted, threads: u32, order: &[u32]) -> Result<usize, u32> {
     match run_order(alloc, accepted, threads, order, 100) {
         Ok(outcome) => Ok(outcome.threads.len()),
         Err(fault) => Err(fault.number()),
@@ -173,11 +166,7 @@ fn count<A: Allocator + Copy>(
 }
 
 // The same of the text that adds.
-fn count_adding<A: Allocator + Copy>(
-    alloc: A,
-    threads: u32,
-    order: &[u32],
-) -> Option<Result<usize, u32>> {
+fn count_adding(alloc: Global, threads: u32, order: &[u32]) -> Option<Result<usize, u32>> {
     match accepted_of(alloc, ADDS) {
         Some(accepted) => Some(count(alloc, &accepted, threads, order)),
         None => None,
@@ -185,12 +174,12 @@ fn count_adding<A: Allocator + Copy>(
 }
 
 // Whether an order has the fault that the row says.
-fn has_fault<A: Allocator + Copy>(alloc: A, row: &FaultRow) -> bool {
+fn has_fault(alloc: Global, row: &FaultRow) -> bool {
     count_adding(alloc, row.0, row.1) == Some(Err(row.2))
 }
 
 // The first of these orders that has not its fault.
-fn first_without_fault<A: Allocator + Copy>(alloc: A, rows: &[FaultRow]) -> Option<FaultRow> {
+fn first_without_fault(alloc: Global, rows: &[FaultRow]) -> Option<FaultRow> {
     for row in rows {
         if !has_fault(alloc, row) {
             return Some(*row);
@@ -206,7 +195,7 @@ fn a_wrong_order_has_a_fault(rt: HostRuntime) {
 
 #[test]
 fn sixty_four_threads_run(rt: HostRuntime) {
-    assert!(rt; count_adding(rt.alloc(), 64, &[63]) == Some(Ok(64)));
+    assert_that(&rt, count_adding(rt.alloc(), 64, &[63]) == Some(Ok(64)));
 }
 
 // Whether a run in an order is made, and not refused for want of memory; none where it is made wrong, or has another fault.
@@ -262,12 +251,12 @@ fn first_spared_in_saying<A: Allocator, B: Allocator + Copy>(
 }
 
 // The same over an allocator.
-fn first_spared_of_saying<A: Allocator>(inner: A) -> Option<u64> {
+fn first_spared_of_saying(inner: Global) -> Option<u64> {
     let alloc = Refusing::new(inner, 0);
     first_spared_in_saying(&alloc, &alloc)
 }
 
 #[test]
 fn each_growth_that_is_refused_is_told(rt: HostRuntime) {
-    assert!(rt; first_spared_of_saying(rt.alloc()) > Some(10));
+    assert_that(&rt, first_spared_of_saying(rt.alloc()) > Some(10));
 }

@@ -2,7 +2,8 @@
 
 use crate::run::{first_left, run};
 use meaning::{ThreadEnd, ThreadOutcome};
-use std::alloc::Allocator;
+use std::alloc::Global;
+use std::process::Abort;
 use syntax::numbers::Trap;
 
 /// A text, the memories to be found, the ticks; how many memories are left, what the last one begins with, what is printed,
@@ -87,19 +88,19 @@ const BRANCH_TAKEN: &str =
 const BRANCH_MISSING: &str = "void worker(int self) { if (self) printf(\"a\"); }";
 
 // Whether a thread has left so many memories, of which the last one begins so.
-fn has_left<A: Allocator>(outcome: &ThreadOutcome<A>, lefts: usize, first: u64) -> bool {
+fn has_left(outcome: &ThreadOutcome, lefts: usize, first: u64) -> bool {
     outcome.lefts.len() == lefts && first_left(outcome) == (lefts > 0).then_some(first)
 }
 
 // Whether a thread has done what the row says.
-fn has_done<A: Allocator>(outcome: &ThreadOutcome<A>, row: &Row) -> bool {
+fn has_done(outcome: &ThreadOutcome, row: &Row) -> bool {
     has_left(outcome, row.3, row.4)
         && outcome.text.as_slice() == row.5.as_bytes()
         && outcome.end == row.6
 }
 
 // Whether a thread of the row's text does it.
-fn is_so<A: Allocator + Copy>(alloc: A, row: &Row) -> bool {
+fn is_so(alloc: Global, row: &Row) -> bool {
     match run(alloc, row.0, 0, row.1, row.2) {
         Some(outcome) => has_done(&outcome, row),
         None => false,
@@ -107,13 +108,18 @@ fn is_so<A: Allocator + Copy>(alloc: A, row: &Row) -> bool {
 }
 
 // The text and the ticks of the first row that is not so.
-fn first_other<A: Allocator + Copy>(alloc: A, rows: &[Row]) -> Option<(&'static str, u64)> {
+fn first_other(alloc: Global, rows: &[Row]) -> Option<(&'static str, u64)> {
     for row in rows {
         if !is_so(alloc, row) {
             return Some((row.0, row.2));
         }
     }
     None
+}
+
+// Asserts that each of these is so.
+fn assert_all_so(rt: &impl Abort, alloc: Global, rows: &[Row]) {
+    assert_eq!(rt; first_other(alloc, rows), None);
 }
 
 fn statements() -> &'static [Row] {
@@ -146,7 +152,7 @@ fn statements() -> &'static [Row] {
 
 #[test]
 fn statements_take_their_ticks(rt: HostRuntime) {
-    assert_eq!(rt; first_other(rt.alloc(), statements()), None);
+    assert_all_so(&rt, rt.alloc(), statements());
 }
 
 fn loops() -> &'static [Row] {
@@ -181,7 +187,7 @@ fn loops() -> &'static [Row] {
 
 #[test]
 fn loops_take_their_ticks(rt: HostRuntime) {
-    assert_eq!(rt; first_other(rt.alloc(), loops()), None);
+    assert_all_so(&rt, rt.alloc(), loops());
 }
 
 fn calls_and_traps() -> &'static [Row] {
@@ -206,7 +212,7 @@ fn calls_and_traps() -> &'static [Row] {
 
 #[test]
 fn calls_and_traps_take_their_ticks(rt: HostRuntime) {
-    assert_eq!(rt; first_other(rt.alloc(), calls_and_traps()), None);
+    assert_all_so(&rt, rt.alloc(), calls_and_traps());
 }
 
 fn transactions() -> &'static [Row] {
@@ -232,5 +238,5 @@ fn transactions() -> &'static [Row] {
 
 #[test]
 fn transactions_take_their_ticks(rt: HostRuntime) {
-    assert_eq!(rt; first_other(rt.alloc(), transactions()), None);
+    assert_all_so(&rt, rt.alloc(), transactions());
 }

@@ -2,12 +2,13 @@
 
 ghost use Rattle.meaning.specs.Outcomes.{AreWords};
 
+use crate::asserted::{assert_none, assert_that};
 use crate::memory::zeros;
 use crate::run::{accepted_of, run};
 use meaning::{ThreadEnd, ThreadOutcome, thread};
 use refusing::Refusing;
 use separation::Accepted;
-use std::alloc::Allocator;
+use std::alloc::{Allocator, Global};
 use syntax::numbers::Trap;
 
 /// A text, and the trap in which its thread ends.
@@ -42,7 +43,7 @@ fn traps() -> &'static [TrapRow] {
 }
 
 // How the thread of a text ends.
-fn end_of<A: Allocator + Copy>(alloc: A, text: &str) -> Option<ThreadEnd> {
+fn end_of(alloc: Global, text: &str) -> Option<ThreadEnd> {
     match run(alloc, text, 0, 1, 1000) {
         Some(outcome) => Some(outcome.end),
         None => None,
@@ -50,12 +51,12 @@ fn end_of<A: Allocator + Copy>(alloc: A, text: &str) -> Option<ThreadEnd> {
 }
 
 // Whether the thread of the row's text ends in its trap.
-fn has_trap<A: Allocator + Copy>(alloc: A, row: &TrapRow) -> bool {
+fn has_trap(alloc: Global, row: &TrapRow) -> bool {
     end_of(alloc, row.0) == Some(ThreadEnd::Trapped(row.1))
 }
 
 // The first text whose thread does not.
-fn first_without_trap<A: Allocator + Copy>(alloc: A, rows: &[TrapRow]) -> Option<&'static str> {
+fn first_without_trap(alloc: Global, rows: &[TrapRow]) -> Option<&'static str> {
     for row in rows {
         if !has_trap(alloc, row) {
             return Some(row.0);
@@ -66,7 +67,7 @@ fn first_without_trap<A: Allocator + Copy>(alloc: A, rows: &[TrapRow]) -> Option
 
 #[test]
 fn each_trap_has_a_program(rt: HostRuntime) {
-    assert_eq!(rt; first_without_trap(rt.alloc(), traps()), None);
+    assert_none(&rt, first_without_trap(rt.alloc(), traps()));
 }
 
 const WHOLE: &str = "unsigned total; int a[3];
@@ -86,7 +87,7 @@ void worker(int self) {
 }";
 
 // Whether a thread has left three memories, of which these are the words of the last one.
-fn has_left<A: Allocator>(outcome: &ThreadOutcome<A>, words: &[u64]) -> bool {
+fn has_left(outcome: &ThreadOutcome, words: &[u64]) -> bool {
     match outcome.lefts.last() {
         Some(memory) => outcome.lefts.len() == 3 && memory.as_slice() == words,
         None => false,
@@ -94,7 +95,7 @@ fn has_left<A: Allocator>(outcome: &ThreadOutcome<A>, words: &[u64]) -> bool {
 }
 
 // Whether the whole language is run: what is printed, and what is left.
-fn runs_whole<A: Allocator + Copy>(alloc: A) -> bool {
+fn runs_whole(alloc: Global) -> bool {
     match run(alloc, WHOLE, 3, 3, 10000) {
         Some(outcome) => {
             has_left(&outcome, &[4294967295, 0, 0, 6])
@@ -107,7 +108,7 @@ fn runs_whole<A: Allocator + Copy>(alloc: A) -> bool {
 
 #[test]
 fn the_whole_language_runs(rt: HostRuntime) {
-    assert!(rt; runs_whole(rt.alloc()));
+    assert_that(&rt, runs_whole(rt.alloc()));
 }
 
 // Whether `worker(t)` over these memories ends.
@@ -179,14 +180,14 @@ fn first_spared_in<A: Allocator, B: Allocator + Copy>(
 }
 
 // The same over an allocator.
-fn first_spared_of<A: Allocator>(inner: A, text: &str, t: u32, founds: usize) -> Option<u64> {
+fn first_spared_of(inner: Global, text: &str, t: u32, founds: usize) -> Option<u64> {
     let alloc = Refusing::new(inner, 0);
     first_spared_in(&alloc, &alloc, text, t, founds)
 }
 
 #[test]
 fn each_growth_that_is_refused_is_told(rt: HostRuntime) {
-    assert!(rt; first_spared_of(rt.alloc(), WHOLE, 3, 3) > Some(10));
+    assert_that(&rt, first_spared_of(rt.alloc(), WHOLE, 3, 3) > Some(10));
 }
 
 // turns with a block, a local and a branch, ten of them
@@ -197,7 +198,7 @@ const MANY_TURNS: &str =
     "int x; void worker(int self) { __transaction_atomic { for (int i = 0; i < 1000; i++) { int k = i; if (k & 1) { x = k; } } } }";
 
 // Whether many turns are refused no more growths than few.
-fn take_no_more<A: Allocator + Copy>(alloc: A) -> bool {
+fn take_no_more(alloc: Global) -> bool {
     match first_spared_of(alloc, FEW_TURNS, 0, 1) {
         Some(spared) => first_spared_of(alloc, MANY_TURNS, 0, 1) == Some(spared),
         None => false,
@@ -206,5 +207,5 @@ fn take_no_more<A: Allocator + Copy>(alloc: A) -> bool {
 
 #[test]
 fn turns_take_no_memory_of_their_own(rt: HostRuntime) {
-    assert!(rt; take_no_more(rt.alloc()));
+    assert_that(&rt, take_no_more(rt.alloc()));
 }

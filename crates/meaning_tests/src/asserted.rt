@@ -1,0 +1,13 @@
+//! What tests assert. The assertions stand here alone: each takes a proof of what it prints.
+
+use std::process::Abort;
+
+/// Asserts that something holds.
+pub fn assert_that(rt: &impl Abort, holds: bool) {
+    assert!(rt; holds);
+}
+
+/// Asserts that there is none that is otherwise than it should be.
+pub fn assert_none(rt: &impl Abort, other: Option<&str>) {
+    assert_eq!(rt; other, None);
+}
