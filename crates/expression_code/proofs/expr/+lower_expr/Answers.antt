@@ -6,7 +6,8 @@ use Rattle.syntax.specs.Views.{expr_of, exprs_of}
 use Rattle.bytecode.specs.declared.instr.Instr.TheVariants as own
 use Rattle.lex.specs.declared.token.Scalar.TheVariants.{Int}
 use Rattle.syntax.specs.Names.{global_of, cells, newest}
-use denote.Param.Weighed.{most}
+use denote.Param.Weighed.{most, at_most}
+use Rattle.syntax.specs.declared.tree.Expr as own_expr
 use Rattle.syntax.specs.declared.tree.Expr.{the_lemmas}
 use Rattle.syntax.proofs.tree.Expr.TheLaws.{the_size}
 use Rattle.picked.specs.Names.{callee_of}
@@ -167,6 +168,192 @@ lower_expr-lower_call-requires g t c κs within =
     let size = simp the_lemmas at (ap (the_size g.row.A g.A.Allocator g.A.laws) c.in-Call.is) in
     let here = ap (most (the_size g.row.A g.A.Allocator g.A.laws)) c.as_slice-all.ensures in
     (omega (arith, size, here, c.decreases), (within, c.new-registers.ensures.items))
+
+pub lower_expr-lower_expr-requires : goal.lower_expr-lower_expr-requires
+lower_expr-lower_expr-requires g t c κs within =
+    let size = simp the_lemmas at (ap (the_size g.row.A g.A.Allocator g.A.laws) c.in-Element.is) in
+    let here = ap (the_size g.row.A g.A.Allocator g.A.laws) c.get.ensures in
+    (omega (arith, size, here, c.decreases), within)
+
+pub lower_expr-lower_expr-requires-in-Parenthesized : goal.lower_expr-lower_expr-requires-in-Parenthesized
+lower_expr-lower_expr-requires-in-Parenthesized g t c κs within =
+    let size = simp the_lemmas at (ap (the_size g.row.A g.A.Allocator g.A.laws) c.in-Parenthesized.is) in
+    let here = ap (the_size g.row.A g.A.Allocator g.A.laws) c.get-in-Parenthesized.ensures in
+    (omega (arith, size, here, c.decreases), within)
+
+pub lower_expr-lower_expr-requires-in-Cast : goal.lower_expr-lower_expr-requires-in-Cast
+lower_expr-lower_expr-requires-in-Cast g t c κs within =
+    let size = simp the_lemmas at (ap (the_size g.row.A g.A.Allocator g.A.laws) c.in-Cast.is) in
+    let here = ap (the_size g.row.A g.A.Allocator g.A.laws) c.get-in-Cast.ensures in
+    (omega (arith, size, here, c.decreases), within)
+
+pub lower_expr-lower_expr-requires-in-Keep : goal.lower_expr-lower_expr-requires-in-Keep
+lower_expr-lower_expr-requires-in-Keep g t c κs within =
+    let size = simp the_lemmas at (ap (the_size g.row.A g.A.Allocator g.A.laws) c.in-Unary.is) in
+    let here = ap (the_size g.row.A g.A.Allocator g.A.laws) c.get-in-Keep.ensures in
+    (omega (arith, size, here, c.decreases), within)
+
+pub lower_expr-lower_expr-requires-in-Negate : goal.lower_expr-lower_expr-requires-in-Negate
+lower_expr-lower_expr-requires-in-Negate g t c κs within =
+    let size = simp the_lemmas at (ap (the_size g.row.A g.A.Allocator g.A.laws) c.in-Unary.is) in
+    let here = ap (the_size g.row.A g.A.Allocator g.A.laws) c.get-in-Negate.ensures in
+    (omega (arith, size, here, c.decreases), within)
+
+pub lower_expr-lower_expr-requires-in-Not : goal.lower_expr-lower_expr-requires-in-Not
+lower_expr-lower_expr-requires-in-Not g t c κs within =
+    let size = simp the_lemmas at (ap (the_size g.row.A g.A.Allocator g.A.laws) c.in-Unary.is) in
+    let here = ap (the_size g.row.A g.A.Allocator g.A.laws) c.get-in-Not.ensures in
+    (omega (arith, size, here, c.decreases), within)
+
+pub lower_expr-lower_expr-requires-in-Complement : goal.lower_expr-lower_expr-requires-in-Complement
+lower_expr-lower_expr-requires-in-Complement g t c κs within =
+    let size = simp the_lemmas at (ap (the_size g.row.A g.A.Allocator g.A.laws) c.in-Unary.is) in
+    let here = ap (the_size g.row.A g.A.Allocator g.A.laws) c.get-in-Complement.ensures in
+    (omega (arith, size, here, c.decreases), within)
+
+pub lower_expr-lower_expr-requires-in-Binary : goal.lower_expr-lower_expr-requires-in-Binary
+lower_expr-lower_expr-requires-in-Binary g t c κs within =
+    let size = simp the_lemmas at (ap (the_size g.row.A g.A.Allocator g.A.laws) c.in-Binary.is) in
+    let here = ap (the_size g.row.A g.A.Allocator g.A.laws) c.get-in-Binary.ensures in
+    (omega (arith, size, here, c.decreases), within)
+
+pub lower_expr-lower_operand-requires : goal.lower_expr-lower_operand-requires
+lower_expr-lower_operand-requires g t c κs within =
+    let size = simp the_lemmas at (ap (the_size g.row.A g.A.Allocator g.A.laws) c.in-Binary.is) in
+    let here = ap (the_size g.row.A g.A.Allocator g.A.laws) c.get-in-Binary-2.ensures in
+    (omega (arith, size, here, c.decreases), within)
+
+pub lower_expr-lower_logical-requires : goal.lower_expr-lower_logical-requires
+lower_expr-lower_logical-requires g t c κs within =
+    let parts = c.in-Logical.is ∙ (λ j. own_expr.Logical c.in-Logical.op (sym c.get-in-Logical.ensures j) (sym c.get-in-Logical-2.ensures j) c.in-Logical.at) in
+    (omega (arith, c.decreases), (within, (c.new-test.ensures.items, parts)))
+
+pub lower_expr-lower_conditional-requires : goal.lower_expr-lower_conditional-requires
+lower_expr-lower_conditional-requires g t c κs within =
+    let parts = c.in-Conditional.is ∙ (λ j. own_expr.Conditional (sym c.get-in-Conditional.ensures j) (sym c.get-in-Conditional-2.ensures j) (sym c.get-in-Conditional-3.ensures j) c.in-Conditional.at) in
+    (omega (arith, c.decreases), (within, (c.new-test-in-Conditional.ensures.items, (c.new-first.ensures.items, (c.new-second.ensures.items, parts)))))
+
+pub lower_operand-lower_expr-requires : goal.lower_operand-lower_expr-requires
+lower_operand-lower_expr-requires g t c κs within = (omega (arith, c.decreases), within)
+
+pub lower_call-lower_all-requires : goal.lower_call-lower_all-requires
+lower_call-lower_all-requires g t c κs within = (omega (arith, c.decreases), within)
+
+pub lower_settled-lower_expr-requires : goal.lower_settled-lower_expr-requires
+lower_settled-lower_expr-requires g t c κs within = (omega (arith, c.decreases), within)
+
+pub lower_value-lower_expr-requires : goal.lower_value-lower_expr-requires
+lower_value-lower_expr-requires g t c κs within = (omega (arith, c.decreases), within)
+
+pub lower_opposite-lower_condition-requires : goal.lower_opposite-lower_condition-requires
+lower_opposite-lower_condition-requires g t c κs within = (omega (arith, c.decreases), within)
+
+pub lower_first-lower_condition-requires : goal.lower_first-lower_condition-requires
+lower_first-lower_condition-requires g t c κs within = (omega (arith, c.decreases), within)
+
+pub lower_logical-lower_first-requires : goal.lower_logical-lower_first-requires
+lower_logical-lower_first-requires g t c κs within =
+    let size = simp the_lemmas at (ap (the_size g.row.A g.A.Allocator g.A.laws) c.requires.parts) in
+    (omega (arith, size, c.decreases), within)
+
+pub lower_logical-lower_condition-requires : goal.lower_logical-lower_condition-requires
+lower_logical-lower_condition-requires g t c κs within =
+    let size = simp the_lemmas at (ap (the_size g.row.A g.A.Allocator g.A.laws) c.requires.parts) in
+    (omega (arith, size, c.decreases), within)
+
+pub lower_conditional-lower_condition-requires : goal.lower_conditional-lower_condition-requires
+lower_conditional-lower_condition-requires g t c κs within =
+    let size = simp the_lemmas at (ap (the_size g.row.A g.A.Allocator g.A.laws) c.requires.parts) in
+    (omega (arith, size, c.decreases), within)
+
+pub lower_conditional-lower_settled-requires : goal.lower_conditional-lower_settled-requires
+lower_conditional-lower_settled-requires g t c κs within =
+    let size = simp the_lemmas at (ap (the_size g.row.A g.A.Allocator g.A.laws) c.requires.parts) in
+    (omega (arith, size, c.decreases), (within, c.requires.first))
+
+pub lower_conditional-lower_settled-requires-2 : goal.lower_conditional-lower_settled-requires-2
+lower_conditional-lower_settled-requires-2 g t c κs within =
+    let size = simp the_lemmas at (ap (the_size g.row.A g.A.Allocator g.A.laws) c.requires.parts) in
+    (omega (arith, size, c.decreases), (within, c.requires.second))
+
+pub lower_condition-lower_condition-requires : goal.lower_condition-lower_condition-requires
+lower_condition-lower_condition-requires g t c κs within =
+    let size = simp the_lemmas at (ap (the_size g.row.A g.A.Allocator g.A.laws) c.in-Parenthesized.is) in
+    let here = ap (the_size g.row.A g.A.Allocator g.A.laws) c.get.ensures in
+    (omega (arith, size, here, c.decreases), within)
+
+pub lower_condition-lower_condition-requires-in-Cast : goal.lower_condition-lower_condition-requires-in-Cast
+lower_condition-lower_condition-requires-in-Cast g t c κs within =
+    let size = simp the_lemmas at (ap (the_size g.row.A g.A.Allocator g.A.laws) c.in-Cast.is) in
+    let here = ap (the_size g.row.A g.A.Allocator g.A.laws) c.get-in-Cast.ensures in
+    (omega (arith, size, here, c.decreases), within)
+
+pub lower_condition-lower_condition-requires-in-Keep : goal.lower_condition-lower_condition-requires-in-Keep
+lower_condition-lower_condition-requires-in-Keep g t c κs within =
+    let size = simp the_lemmas at (ap (the_size g.row.A g.A.Allocator g.A.laws) c.in-Unary.is) in
+    let here = ap (the_size g.row.A g.A.Allocator g.A.laws) c.get-in-Keep.ensures in
+    (omega (arith, size, here, c.decreases), within)
+
+pub lower_condition-lower_condition-requires-in-Some-false : goal.lower_condition-lower_condition-requires-in-Some-false
+lower_condition-lower_condition-requires-in-Some-false g t c κs within =
+    let size = simp the_lemmas at (ap (the_size g.row.A g.A.Allocator g.A.laws) c.in-Binary.is) in
+    let here = ap (the_size g.row.A g.A.Allocator g.A.laws) c.get-in-Some-false.ensures in
+    (omega (arith, size, here, c.decreases), within)
+
+pub lower_condition-lower_condition-requires-in-Logical : goal.lower_condition-lower_condition-requires-in-Logical
+lower_condition-lower_condition-requires-in-Logical g t c κs within =
+    let size = simp the_lemmas at (ap (the_size g.row.A g.A.Allocator g.A.laws) c.in-Logical.is) in
+    let here = ap (the_size g.row.A g.A.Allocator g.A.laws) c.get-in-Logical-2.ensures in
+    (omega (arith, size, here, c.decreases), within)
+
+pub lower_condition-lower_opposite-requires : goal.lower_condition-lower_opposite-requires
+lower_condition-lower_opposite-requires g t c κs within =
+    let size = simp the_lemmas at (ap (the_size g.row.A g.A.Allocator g.A.laws) c.in-Unary.is) in
+    let here = ap (the_size g.row.A g.A.Allocator g.A.laws) c.get-in-Not.ensures in
+    (omega (arith, size, here, c.decreases), within)
+
+pub lower_condition-lower_opposite-requires-in-Some-true : goal.lower_condition-lower_opposite-requires-in-Some-true
+lower_condition-lower_opposite-requires-in-Some-true g t c κs within =
+    let size = simp the_lemmas at (ap (the_size g.row.A g.A.Allocator g.A.laws) c.in-Binary.is) in
+    let here = ap (the_size g.row.A g.A.Allocator g.A.laws) c.get-in-Some-true.ensures in
+    (omega (arith, size, here, c.decreases), within)
+
+pub lower_condition-lower_first-requires : goal.lower_condition-lower_first-requires
+lower_condition-lower_first-requires g t c κs within =
+    let size = simp the_lemmas at (ap (the_size g.row.A g.A.Allocator g.A.laws) c.in-Logical.is) in
+    let here = ap (the_size g.row.A g.A.Allocator g.A.laws) c.get-in-Logical.ensures in
+    (omega (arith, size, here, c.decreases), within)
+
+pub lower_condition-lower_value-requires : goal.lower_condition-lower_value-requires
+lower_condition-lower_value-requires g t c κs within = (omega (arith, c.decreases), within)
+
+pub lower_condition-lower_value-requires-in-Complement : goal.lower_condition-lower_value-requires-in-Complement
+lower_condition-lower_value-requires-in-Complement g t c κs within = (omega (arith, c.decreases), within)
+
+pub lower_condition-lower_value-requires-in-None : goal.lower_condition-lower_value-requires-in-None
+lower_condition-lower_value-requires-in-None g t c κs within = (omega (arith, c.decreases), within)
+
+pub lower_condition-lower_value-requires-in-Variable : goal.lower_condition-lower_value-requires-in-Variable
+lower_condition-lower_value-requires-in-Variable g t c κs within = (omega (arith, c.decreases), within)
+
+pub lower_condition-lower_value-requires-in-Constant : goal.lower_condition-lower_value-requires-in-Constant
+lower_condition-lower_value-requires-in-Constant g t c κs within = (omega (arith, c.decreases), within)
+
+pub lower_condition-lower_value-requires-in-Element : goal.lower_condition-lower_value-requires-in-Element
+lower_condition-lower_value-requires-in-Element g t c κs within = (omega (arith, c.decreases), within)
+
+pub lower_condition-lower_value-requires-in-Call : goal.lower_condition-lower_value-requires-in-Call
+lower_condition-lower_value-requires-in-Call g t c κs within = (omega (arith, c.decreases), within)
+
+pub lower_condition-lower_value-requires-in-Conditional : goal.lower_condition-lower_value-requires-in-Conditional
+lower_condition-lower_value-requires-in-Conditional g t c κs within = (omega (arith, c.decreases), within)
+
+pub lower_all-lower_expr-requires : goal.lower_all-lower_expr-requires
+lower_all-lower_expr-requires g t c κs within =
+    let size = the_size g.row.A g.A.Allocator g.A.laws in
+    let below = at_most size c.args.all.now c.each.one-index c.one-item.result c.each-test.true in
+    let here = ap size c.one-item.is in
+    (omega (arith, below, here, c.decreases), within)
 
 pub lower_expr-returns-in-Parenthesized : goal.lower_expr-returns-in-Parenthesized
 lower_expr-returns-in-Parenthesized g t c =
