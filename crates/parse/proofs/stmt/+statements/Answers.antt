@@ -216,3 +216,56 @@ stmt-returns-in_ok-body-in-Block g t c =
     stmt_start c.args.depth b (toks c.args.tokens.now) lead.Block (omega arith) (sym c.lead_at.ensures ∙ c.in-Block.is)
     ∙ block_stmt_is c.args.depth b (toks c.args.tokens.now) (toks c.in_ok-body-in-Block.rest.now) (map stmt_of c.in_ok-body-in-Block.body) (omega arith) c.in_ok-body-in-Block.ensures
     ∙ ap (λ s. Ok (s, toks c.in_ok-body-in-Block.rest.now)) (sym (stmt_of_block c.in_ok-body-in-Block.body))
+
+-- ---- each call goes down
+
+pub boxed_stmt-stmt-requires : goal.boxed_stmt-stmt-requires
+boxed_stmt-stmt-requires g t c κs within = (omega (arith, c.decreases), (within, c.requires))
+
+pub else_part-boxed_stmt-requires : goal.else_part-boxed_stmt-requires
+else_part-boxed_stmt-requires g t c κs within = (omega (arith, c.decreases), (within, c.requires))
+
+pub branches-boxed_stmt-requires : goal.branches-boxed_stmt-requires
+branches-boxed_stmt-requires g t c κs within = (omega (arith, c.decreases), (within, c.requires))
+
+pub branches-else_part-requires : goal.branches-else_part-requires
+branches-else_part-requires g t c κs within = (omega (arith, c.decreases), (within, c.requires))
+
+pub if_stmt-branches-requires : goal.if_stmt-branches-requires
+if_stmt-branches-requires g t c κs within = (omega (arith, c.decreases), (within, c.requires))
+
+pub while_stmt-boxed_stmt-requires : goal.while_stmt-boxed_stmt-requires
+while_stmt-boxed_stmt-requires g t c κs within = (omega (arith, c.decreases), (within, c.requires))
+
+pub do_stmt-boxed_stmt-requires : goal.do_stmt-boxed_stmt-requires
+do_stmt-boxed_stmt-requires g t c κs within = (omega (arith, c.decreases), (within, c.requires))
+
+pub for_stmt-boxed_stmt-requires : goal.for_stmt-boxed_stmt-requires
+for_stmt-boxed_stmt-requires g t c κs within = (omega (arith, c.decreases), (within, c.requires))
+
+pub transaction_stmt-block-requires : goal.transaction_stmt-block-requires
+transaction_stmt-block-requires g t c κs within = (omega (arith, c.decreases), (within, c.requires))
+
+pub entry-stmt-requires : goal.entry-stmt-requires
+entry-stmt-requires g t c κs within = (omega (arith, c.decreases), (within, c.requires))
+
+pub stmt-block-requires : goal.stmt-block-requires
+stmt-block-requires g t c κs within = (omega (arith, c.decreases), (within, c.requires))
+
+pub block-entry-requires : goal.block-entry-requires
+block-entry-requires g t c κs within = (omega (arith, c.decreases, c.if-depth-eq0.false), (within, omega (arith, c.requires)))
+
+pub stmt-if_stmt-requires : goal.stmt-if_stmt-requires
+stmt-if_stmt-requires g t c κs within = (omega (arith, c.decreases, c.if-depth-eq0.false), (within, omega (arith, c.requires)))
+
+pub stmt-while_stmt-requires : goal.stmt-while_stmt-requires
+stmt-while_stmt-requires g t c κs within = (omega (arith, c.decreases, c.if-depth-eq0.false), (within, omega (arith, c.requires)))
+
+pub stmt-do_stmt-requires : goal.stmt-do_stmt-requires
+stmt-do_stmt-requires g t c κs within = (omega (arith, c.decreases, c.if-depth-eq0.false), (within, omega (arith, c.requires)))
+
+pub stmt-for_stmt-requires : goal.stmt-for_stmt-requires
+stmt-for_stmt-requires g t c κs within = (omega (arith, c.decreases, c.if-depth-eq0.false), (within, omega (arith, c.requires)))
+
+pub stmt-transaction_stmt-requires : goal.stmt-transaction_stmt-requires
+stmt-transaction_stmt-requires g t c κs within = (omega (arith, c.decreases, c.if-depth-eq0.false), (within, omega (arith, c.requires)))
