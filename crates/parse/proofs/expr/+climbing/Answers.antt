@@ -5,7 +5,7 @@ use Rattle.syntax.specs.Views.{expr_of, exprs_of, name_of, exprs_from}
 use Rattle.syntax.proofs.Seen.{expr_of_variable}
 use Rattle.parse.specs.inner.Expressions.{arguments, expr_at, whole_at, infix_node, operators}
 use Rattle.parse.proofs.code.Climbing.{fails_along, loop_none, loop_deep, loop_full, turn_fails, turn_goes}
-use Rattle.parse.proofs.code.ExprSteps.{variable_goes, call_goes, unclosed, listed_goes, behind_none, both_none, first_fails, second_fails, both_go, deepest_push, none_left, climb_start, infix_depth, conditional_alone, conditional_deep, conditional_fails, conditional_goes, whole_goes, whole_fails}
+use Rattle.parse.proofs.code.ExprSteps.{opened_none, cast_none, cast_open, cast_fails, cast_is, group_none, group_open, named_none, variable_goes, element_goes, call_goes, unread, unclosed, listed_goes, behind_none, both_none, first_fails, second_fails, both_go, deepest_push, none_left, climb_start, infix_depth, conditional_alone, conditional_deep, conditional_fails, conditional_goes, whole_goes, whole_fails}
 use Rattle.parse.specs.inner.Reading.{across, behind, is_other, mapped, many_until, climb_loop}
 use Rattle.std.proofs.lemmas.List.{map_push, length-map}
 use Rattle.syntax.specs.Depth.{expr_depth, deepest}
@@ -75,7 +75,64 @@ pub whole-conditional-requires : goal.whole-conditional-requires
 whole-conditional-requires g t c κs within =
     (omega (arith, c.decreases, c.if-depth-eq0.false), (within, (omega (arith, c.requires), (c.in_ok-condition.ensures.deep, omega (arith, c.in_ok-condition.ensures.within, c.if-depth-eq0.false)))))
 
+-- ---- parentheses
+
+pub opened-returns-in_err-at-clause-value : goal.opened-returns-in_err-at-clause-value
+opened-returns-in_err-at-clause-value g t c =
+    let p = err_from_is_err_and c.from_residual.result c.from_residual.ensures.1 in
+    rw (p.1, p.2) (fails_along c.in_err-at.field-0.0 _ _ (opened_none (whole_at c.args.depth) (expr_at c.args.depth 11) (toks c.args.tokens.now)) c.in_err-at.ensures)
+
+pub opened-returns-in_err-to-clause-value : goal.opened-returns-in_err-to-clause-value
+opened-returns-in_err-to-clause-value g t c =
+    let p = err_from_is_err_and c.from_residual-in_err-to.result c.from_residual-in_err-to.ensures.1 in
+    rw (p.1, p.2) (fails_along c.in_err-to.field-0.0 _ _ (cast_none (whole_at c.args.depth) (expr_at c.args.depth 11) (toks c.args.tokens.now) c.in_ok-at.at (toks c.in_ok-at.rest.now) c.in_ok-at.ensures (sym c.starts_type.ensures ∙ c.if-starts_type.true)) c.in_err-to.ensures)
+
+pub opened-returns-in_err-rest-clause-value : goal.opened-returns-in_err-rest-clause-value
+opened-returns-in_err-rest-clause-value g t c =
+    let p = err_from_is_err_and c.from_residual-in_err-rest.result c.from_residual-in_err-rest.ensures.1 in
+    rw (p.1, p.2) (fails_along c.in_err-rest.field-0.0 _ _ (cast_open (whole_at c.args.depth) (expr_at c.args.depth 11) (toks c.args.tokens.now) c.in_ok-at.at (toks c.in_ok-at.rest.now) c.in_ok-at.ensures (sym c.starts_type.ensures ∙ c.if-starts_type.true) c.in_ok-to.to (toks c.in_ok-to.rest.now) c.in_ok-to.ensures) c.in_err-rest.ensures)
+
+pub opened-returns-in_err-inner-clause-value : goal.opened-returns-in_err-inner-clause-value
+opened-returns-in_err-inner-clause-value g t c =
+    let p = err_from_is_err_and c.from_residual-in_err-inner.result c.from_residual-in_err-inner.ensures.1 in
+    rw (p.1, p.2) (fails_along c.in_err-inner.field-0.0 _ _ (cast_fails (whole_at c.args.depth) (expr_at c.args.depth 11) (toks c.args.tokens.now) c.in_ok-at.at (toks c.in_ok-at.rest.now) c.in_ok-at.ensures (sym c.starts_type.ensures ∙ c.if-starts_type.true) c.in_ok-to.to (toks c.in_ok-to.rest.now) c.in_ok-to.ensures (toks c.in_ok-rest.rest.now) c.in_ok-rest.ensures) c.in_err-inner.ensures.value)
+
+pub opened-returns-then-starts_type-clause-value : goal.opened-returns-then-starts_type-clause-value
+opened-returns-then-starts_type-clause-value g t c =
+    cast_is (whole_at c.args.depth) (expr_at c.args.depth 11) (toks c.args.tokens.now) c.in_ok-at.at (toks c.in_ok-at.rest.now) c.in_ok-at.ensures (sym c.starts_type.ensures ∙ c.if-starts_type.true) c.in_ok-to.to (toks c.in_ok-to.rest.now) c.in_ok-to.ensures (toks c.in_ok-rest.rest.now) c.in_ok-rest.ensures (expr_of c.in_ok-inner.inner) (toks c.in_ok-inner.rest.now) c.in_ok-inner.ensures.value
+    ∙ ap (λ e. Ok (e, toks c.in_ok-inner.rest.now)) (sym c.in_ok-cast.ensures)
+
+pub opened-returns-in_err-inner-2-clause-value : goal.opened-returns-in_err-inner-2-clause-value
+opened-returns-in_err-inner-2-clause-value g t c =
+    let p = err_from_is_err_and c.from_residual-in_err-inner-2.result c.from_residual-in_err-inner-2.ensures.1 in
+    rw (p.1, p.2) (fails_along c.in_err-inner-2.field-0.0 _ _ (group_none (whole_at c.args.depth) (expr_at c.args.depth 11) (toks c.args.tokens.now) c.in_ok-at.at (toks c.in_ok-at.rest.now) c.in_ok-at.ensures (sym c.starts_type.ensures ∙ c.if-starts_type.false)) c.in_err-inner-2.ensures.value)
+
+pub opened-returns-in_err-inner-3-clause-value : goal.opened-returns-in_err-inner-3-clause-value
+opened-returns-in_err-inner-3-clause-value g t c =
+    let p = err_from_is_err_and c.from_residual-in_err-inner-3.result c.from_residual-in_err-inner-3.ensures.1 in
+    rw (p.1, p.2) (fails_along c.in_err-inner-3.field-0.0 _ _ (group_open (whole_at c.args.depth) (expr_at c.args.depth 11) (toks c.args.tokens.now) c.in_ok-at.at (toks c.in_ok-at.rest.now) c.in_ok-at.ensures (sym c.starts_type.ensures ∙ c.if-starts_type.false) (expr_of c.in_ok-inner-2.inner) (toks c.in_ok-inner-2.rest.now) c.in_ok-inner-2.ensures.value) c.in_err-inner-3.ensures.rest)
+
 -- ---- a name, and what may follow it
+
+pub named-returns-in_err-name-clause-value : goal.named-returns-in_err-name-clause-value
+named-returns-in_err-name-clause-value g t c =
+    let p = err_from_is_err_and c.from_residual.result c.from_residual.ensures.1 in
+    rw (p.1, p.2) (fails_along c.in_err-name.field-0.0 _ _ (named_none (whole_at c.args.depth) (expr_at c.args.depth 11) (toks c.args.tokens.now)) c.in_err-name.ensures)
+
+pub named-returns-in_err-index-clause-value : goal.named-returns-in_err-index-clause-value
+named-returns-in_err-index-clause-value g t c =
+    let p = err_from_is_err_and c.from_residual-in_err-index.result c.from_residual-in_err-index.ensures.1 in
+    rw (p.1, p.2) (fails_along c.in_err-index.field-0.0 _ _ (λ f e. element_goes (whole_at c.args.depth) (expr_at c.args.depth 11) (toks c.args.tokens.now) (toks c.in_ok-name.rest.now) (name_of c.in_ok-name.name) c.in_ok-name.ensures c.in-Some.ensures.0 ∙ unread (Punctuator punct.OpenBracket) (Punctuator punct.CloseBracket) (whole_at c.args.depth) _ (toks c.in_ok-name.rest.now) (toks c.in-Some.rest.now) f c.in-Some.ensures.1 e) c.in_err-index.ensures.value)
+
+pub named-returns-in_err-index-2-clause-value : goal.named-returns-in_err-index-2-clause-value
+named-returns-in_err-index-2-clause-value g t c =
+    let p = err_from_is_err_and c.from_residual-in_err-index-2.result c.from_residual-in_err-index-2.ensures.1 in
+    rw (p.1, p.2) (fails_along c.in_err-index-2.field-0.0 _ _ (λ f e. element_goes (whole_at c.args.depth) (expr_at c.args.depth 11) (toks c.args.tokens.now) (toks c.in_ok-name.rest.now) (name_of c.in_ok-name.name) c.in_ok-name.ensures c.in-Some.ensures.0 ∙ unclosed (Punctuator punct.OpenBracket) (Punctuator punct.CloseBracket) (whole_at c.args.depth) _ (toks c.in_ok-name.rest.now) (toks c.in-Some.rest.now) (toks c.in_ok-index.rest.now) _ f c.in-Some.ensures.1 c.in_ok-index.ensures.value e) c.in_err-index-2.ensures.rest)
+
+pub named-returns-in_err-args-clause-value : goal.named-returns-in_err-args-clause-value
+named-returns-in_err-args-clause-value g t c =
+    let p = err_from_is_err_and c.from_residual-in_err-args.result c.from_residual-in_err-args.ensures.1 in
+    rw (p.1, p.2) (fails_along c.in_err-args.field-0.0 _ _ (λ f e. call_goes (whole_at c.args.depth) (expr_at c.args.depth 11) (toks c.args.tokens.now) (toks c.in_ok-name.rest.now) (name_of c.in_ok-name.name) c.in_ok-name.ensures c.in_default.ensures c.in-Some-eat.ensures.0 ∙ unread (Punctuator punct.OpenParen) (Punctuator punct.CloseParen) (arguments (whole_at c.args.depth) (expr_at c.args.depth 11)) _ (toks c.in_ok-name.rest.now) (toks c.in-Some-eat.rest.now) f c.in-Some-eat.ensures.1 e) c.in_err-args.ensures.value)
 
 pub named-returns-in_err-args-2-clause-value : goal.named-returns-in_err-args-2-clause-value
 named-returns-in_err-args-2-clause-value g t c =
