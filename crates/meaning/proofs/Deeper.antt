@@ -1,13 +1,20 @@
 -- A part of a tree is less deep than the whole.
-use Rattle.std.proofs.Common.{◌≡◌, ℕ, ◌+◌, ◌<◌, ◌≤◌, List, map, option_map, length, get_or, zero, suc, [], ◌∷◌, ap, ◌∙◌, arith}
+use Rattle.std.proofs.Common.{◌≡◌, ℕ, ◌+◌, ◌<◌, ◌≤◌, List, Option, Some, None, max, map, option_map, length, get_or, zero, suc, [], ◌∷◌, sym, ap, ◌∙◌, arith}
 use Rattle.lex.specs.declared.token.Span.{Span}
 use Rattle.syntax.specs.declared.tree.Mode.{Mode}
 use Rattle.syntax.specs.declared.tree.Expr as E
 use Rattle.syntax.specs.declared.tree.Declarator as R
 use Rattle.syntax.specs.declared.tree.Stmt as S
-use Rattle.syntax.specs.Views.{expr_of, exprs_of, declarator_of, stmt_of, stmts_of}
-use Rattle.syntax.specs.Depth.{expr_depth, deepest, optional_depth, deepest_value, stmt_depth, block_depth}
+use Rattle.syntax.specs.declared.tree.Simple.{Simple}
+use Rattle.syntax.specs.Tree as Tree
+use Rattle.syntax.specs.declared.tree.Stmt.TheOpen.{Stmt-F}
+use Rattle.syntax.specs.declared.tree.Stmt.TheFolds.{fold-roll-Stmt}
+use Rattle.syntax.specs.declared.tree.Stmt.TheVariants as SV
+use Rattle.syntax.specs.Views.{expr_of, exprs_of, simple_of, declarator_of, stmt_step, stmt_of, stmts_of}
+use Rattle.syntax.specs.Depth.{expr_depth, deepest, optional_depth, simple_depth, deepest_value, stmt_depth, block_depth}
 use Rattle.syntax.proofs.Seen.{stmt_of_block, stmt_of_transaction}
+use Rattle.meaning.specs.inner.Does.{else_depth, if_of}
+use Rattle.meaning.proofs.Parts.{if_is}
 
 one : (d part whole : ℕ) → whole ≡ part + 1 → d ≡ part → d + 1 ≤ whole
 one d part whole a b = omega (arith, a, b)
@@ -21,6 +28,13 @@ module _ {A : Type 0} where
 
   pub transaction_deep : (s : S.Stmt A) (mode : Mode) (ss ss' : List (S.Stmt A)) (at : Span) → s ≡ S.Transaction mode ss at → ss' ≡ ss → block_depth (stmts_of ss') + 1 ≤ stmt_depth (stmt_of s)
   transaction_deep s mode ss ss' at is a = one _ _ _ (ap (λ y. stmt_depth (stmt_of y)) is ∙ ap stmt_depth (stmt_of_transaction mode ss at)) (ap (λ y. block_depth (stmts_of y)) a)
+
+  pub do_deep : (s : S.Stmt A) (a : Simple A) → s ≡ S.Do a → stmt_depth (stmt_of s) ≡ simple_depth (simple_of a)
+  do_deep s a is = ap (λ y. stmt_depth (stmt_of y)) (is ∙ sym (SV.rolls-Do a)) ∙ ap stmt_depth (fold-roll-Stmt A Tree.Stmt stmt_step (Stmt-F.Do a))
+
+  pub if_deep : (s : S.Stmt A) (c : E.Expr A) (a a' : S.Stmt A) (b : Option (S.Stmt A)) → s ≡ S.If c a b → a' ≡ a → stmt_depth (stmt_of s) ≡ max (expr_depth (expr_of c)) (max (stmt_depth (stmt_of a')) (else_depth (option_map stmt_of b))) + 1
+  if_deep s c a a' None is k = let e = ap stmt_depth (if_is s c a a' None is k) in omega (arith, e)
+  if_deep s c a a' (Some b) is k = ap stmt_depth (if_is s c a a' (Some b) is k)
 
   -- an element of a list
   pub argument_deep : (es : List (E.Expr A)) (i : ℕ) (e : E.Expr A) → i < length es → e ≡ get_or es i e → expr_depth (expr_of e) ≤ deepest (exprs_of es)

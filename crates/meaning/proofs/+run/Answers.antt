@@ -4,7 +4,7 @@ use Rattle.syntax.specs.Numbers as numbers
 use Rattle.syntax.specs.Numbers.{converted, is_zero}
 use Rattle.syntax.specs.Tree as tree
 use Rattle.syntax.specs.Views.{declarator_of, expr_of, exprs_of, simple_of, start_of, stmt_of, stmts_of}
-use Rattle.syntax.specs.Depth.{block_depth}
+use Rattle.syntax.specs.Depth.{block_depth, deepest_value, expr_depth, optional_depth, optional_simple_depth, simple_depth, start_depth, stmt_depth}
 use Rattle.syntax.specs.Actions as act
 use Rattle.syntax.specs.Actions.{Gives, go_on}
 use Rattle.syntax.specs.Meaning as meaning
@@ -12,11 +12,11 @@ use Rattle.syntax.specs.Meaning.{expr, exprs, stmt, simple, declare, scoped, tur
 use Rattle.meaning.specs.inner.Calls.{begun_in}
 use Rattle.meaning.specs.Outcomes.{memories_in}
 use Rattle.meaning.specs.inner.Machine.{context_in, end_of, items_in, local_in, program_in, spot_of, state_in}
-use Rattle.meaning.specs.inner.Does.{called, does_stmt, does_stmts, does_turn, do_turn, for_all, joined_to, while_turn}
+use Rattle.meaning.specs.inner.Does.{called, does_stmt, does_stmts, does_turn, do_turn, else_depth, for_all, joined_to, loop_depth, while_turn}
 use Rattle.meaning.specs.inner.Word.{value_of}
 use Rattle.meaning.proofs.Stops.{err_of, stops_as}
 use Rattle.meaning.proofs.Bodies.{weight_less}
-use Rattle.meaning.proofs.Deeper.{block_deep, transaction_deep, argument_deep, statement_deep, declarator_deep}
+use Rattle.meaning.proofs.Deeper.{block_deep, do_deep, if_deep, transaction_deep, argument_deep, statement_deep, declarator_deep}
 use Rattle.meaning.proofs.Parts.{call_is, element_is, parenthesized_is, cast_is, unary_is, binary_is, logical_is, conditional_is, declare_is, block_is, print_is, if_is, while_is, do_while_is, for_is, return_is, transaction_is}
 use Rattle.meaning.proofs.Sequences.{after, halts, twice, stmts_next, stmts_left, stmts_halt, stmts_end, values_next, values_halt, values_end, values_start, declare_next, declare_halt, scoped_gives, scoped_stops, truncated, turns_spent, turns_next, turns_ended}
 use Rattle.meaning.proofs.Steps.{ticks_then, spent_first, changed_gives, adjusted_gives, print_until, call_gives, call_stops, transaction_at, outermost_none, outermost_gives, outermost_stops, nested_astray, nested_gives, nested_stops, found_none, found_first, conditional_gives, branch_gives}
@@ -344,3 +344,265 @@ pub calls::values-returns-in_err-v : goal.calls::values-returns-in_err-v
 calls::values-returns-in_err-v g t c =
     let is : c.from_residual.result ≡ Err c.in_err-v.field-0.0 = err_of c.from_residual.result c.in_err-v.field-0.0 c.from_residual.ensures.1 in
     stops_as (λ v. v.items) c.from_residual.result c.in_err-v.field-0.0 _ c.eval.new.m is (λ d. values_halt (program_in c.args.source.now) (called c.args.source.now c.args.frames) c.args.args.now c.arguments.e-index c.e-item.result (state_in c.arguments.m) (state_in c.eval.new.m) c.arguments.values.items _ (exprs (program_in c.args.source.now) (called c.args.source.now c.args.frames) (exprs_of c.args.args.now) (state_in c.args.m.now)) c.arguments-test.true c.e-item.is c.arguments.invariant (c.in_err-v.ensures d))
+
+-- ---- each call goes down
+
+pub expr::eval-element-requires : goal.expr::eval-element-requires
+expr::eval-element-requires g t c κs within =
+    (omega (arith, ap expr_depth (element_is c.args.e.now c.in-Element.x c.in-Element.i c.get.result.now c.in-Element.field-2 c.in-Element.is c.get.ensures), c.decreases), within)
+
+pub expr::eval-call-requires : goal.expr::eval-call-requires
+expr::eval-call-requires g t c κs within =
+    (omega (arith, ap expr_depth (call_is c.args.e.now c.in-Call.f c.in-Call.args c.as_slice.result.now c.in-Call.field-2 c.in-Call.is c.as_slice.ensures), c.decreases), within)
+
+pub expr::eval-eval-requires : goal.expr::eval-eval-requires
+expr::eval-eval-requires g t c κs within =
+    (omega (arith, ap expr_depth (parenthesized_is c.args.e.now c.in-Parenthesized.e c.get-in-Parenthesized.result.now c.in-Parenthesized.field-1 c.in-Parenthesized.is c.get-in-Parenthesized.ensures), c.decreases), within)
+
+pub expr::eval-eval-requires-in-Cast : goal.expr::eval-eval-requires-in-Cast
+expr::eval-eval-requires-in-Cast g t c κs within =
+    (omega (arith, ap expr_depth (cast_is c.args.e.now c.in-Cast.t c.in-Cast.e c.get-in-Cast.result.now c.in-Cast.field-2 c.in-Cast.is c.get-in-Cast.ensures), c.decreases), within)
+
+pub expr::eval-eval-requires-in-Unary : goal.expr::eval-eval-requires-in-Unary
+expr::eval-eval-requires-in-Unary g t c κs within =
+    (omega (arith, ap expr_depth (unary_is c.args.e.now c.in-Unary.op c.in-Unary.e c.get-in-Unary.result.now c.in-Unary.field-2 c.in-Unary.is c.get-in-Unary.ensures), c.decreases), within)
+
+pub expr::eval-eval-requires-in-Binary : goal.expr::eval-eval-requires-in-Binary
+expr::eval-eval-requires-in-Binary g t c κs within =
+    (omega (arith, ap expr_depth (binary_is c.args.e.now c.in-Binary.op c.in-Binary.a c.in-Binary.b c.get-in-Binary.result.now c.in-Binary.b c.in-Binary.field-3 c.in-Binary.is c.get-in-Binary.ensures refl), c.decreases), within)
+
+pub expr::eval-eval-requires-in-Binary-2 : goal.expr::eval-eval-requires-in-Binary-2
+expr::eval-eval-requires-in-Binary-2 g t c κs within =
+    (omega (arith, ap expr_depth (binary_is c.args.e.now c.in-Binary.op c.in-Binary.a c.in-Binary.b c.get-in-Binary.result.now c.get-in-Binary-2.result.now c.in-Binary.field-3 c.in-Binary.is c.get-in-Binary.ensures c.get-in-Binary-2.ensures), c.decreases), within)
+
+pub expr::eval-logical-requires : goal.expr::eval-logical-requires
+expr::eval-logical-requires g t c κs within =
+    (omega (arith, ap expr_depth (logical_is c.args.e.now c.in-Logical.op c.in-Logical.a c.in-Logical.b c.get-in-Logical.result.now c.get-in-Logical-2.result.now c.in-Logical.field-3 c.in-Logical.is c.get-in-Logical.ensures c.get-in-Logical-2.ensures), c.decreases), within)
+
+pub expr::eval-conditional-requires : goal.expr::eval-conditional-requires
+expr::eval-conditional-requires g t c κs within =
+    (omega (arith, ap expr_depth (conditional_is c.args.e.now c.in-Conditional.c c.in-Conditional.a c.in-Conditional.b c.get-in-Conditional.result.now c.get-in-Conditional-2.result.now c.get-in-Conditional-3.result.now c.in-Conditional.field-3 c.in-Conditional.is c.get-in-Conditional.ensures c.get-in-Conditional-2.ensures c.get-in-Conditional-3.ensures), c.decreases), within)
+
+pub expr::logical-eval-requires : goal.expr::logical-eval-requires
+expr::logical-eval-requires g t c κs within =
+    (omega (arith, c.decreases), within)
+
+pub expr::logical-eval-requires-else-is_zero : goal.expr::logical-eval-requires-else-is_zero
+expr::logical-eval-requires-else-is_zero g t c κs within =
+    (omega (arith, c.decreases), within)
+
+pub expr::conditional-eval-requires : goal.expr::conditional-eval-requires
+expr::conditional-eval-requires g t c κs within =
+    (omega (arith, c.decreases), within)
+
+pub expr::conditional-eval-requires-then-is_zero : goal.expr::conditional-eval-requires-then-is_zero
+expr::conditional-eval-requires-then-is_zero g t c κs within =
+    (omega (arith, c.decreases), within)
+
+pub expr::conditional-eval-requires-else-is_zero : goal.expr::conditional-eval-requires-else-is_zero
+expr::conditional-eval-requires-else-is_zero g t c κs within =
+    (omega (arith, c.decreases), within)
+
+pub expr::element-eval-requires : goal.expr::element-eval-requires
+expr::element-eval-requires g t c κs within =
+    (omega (arith, c.decreases), within)
+
+pub calls::call-values-requires : goal.calls::call-values-requires
+calls::call-values-requires g t c κs within =
+    (omega (arith, c.decreases), within)
+
+pub calls::call-entered-requires : goal.calls::call-entered-requires
+calls::call-entered-requires g t c κs within =
+    (omega (arith, c.decreases), within)
+
+pub simple::target-element-requires : goal.simple::target-element-requires
+simple::target-element-requires g t c κs within =
+    (omega (arith, ap expr_depth (element_is c.args.e.now c.in-Element.x c.in-Element.i c.get.result.now c.in-Element.field-2 c.in-Element.is c.get.ensures), c.decreases), within)
+
+pub simple::assigned-target-requires : goal.simple::assigned-target-requires
+simple::assigned-target-requires g t c κs within =
+    (omega (arith, c.decreases), within)
+
+pub simple::assigned-eval-requires : goal.simple::assigned-eval-requires
+simple::assigned-eval-requires g t c κs within =
+    (omega (arith, c.decreases), within)
+
+pub simple::changed-target-requires : goal.simple::changed-target-requires
+simple::changed-target-requires g t c κs within =
+    (omega (arith, c.decreases), within)
+
+pub simple::changed-eval-requires : goal.simple::changed-eval-requires
+simple::changed-eval-requires g t c κs within =
+    (omega (arith, c.decreases), within)
+
+pub simple::simple-eval-requires : goal.simple::simple-eval-requires
+simple::simple-eval-requires g t c κs within =
+    (omega (arith, ap (λ s. simple_depth (simple_of s)) c.in-Evaluate.is, c.decreases), within)
+
+pub simple::simple-assigned-requires : goal.simple::simple-assigned-requires
+simple::simple-assigned-requires g t c κs within =
+    (omega (arith, ap (λ s. simple_depth (simple_of s)) c.in-Assign.is, c.decreases), within)
+
+pub simple::simple-changed-requires : goal.simple::simple-changed-requires
+simple::simple-changed-requires g t c κs within =
+    (omega (arith, ap (λ s. simple_depth (simple_of s)) c.in-Assign.is, c.decreases), within)
+
+pub simple::simple-target-requires : goal.simple::simple-target-requires
+simple::simple-target-requires g t c κs within =
+    (omega (arith, ap (λ s. simple_depth (simple_of s)) c.in-Adjust.is, c.decreases), within)
+
+pub simple::declare_one-eval-requires : goal.simple::declare_one-eval-requires
+simple::declare_one-eval-requires g t c κs within =
+    (omega (arith, ap (λ o. optional_depth (option_map expr_of o)) c.in-Some.is, c.decreases), within)
+
+pub stmt::stmt-declare-requires : goal.stmt::stmt-declare-requires
+stmt::stmt-declare-requires g t c κs within =
+    (omega (arith, ap stmt_depth (declare_is c.args.s.now c.in-Declare.d c.as_slice.result.now c.in-Declare.is c.as_slice.ensures), c.decreases), within)
+
+pub stmt::stmt-simple-requires : goal.stmt::stmt-simple-requires
+stmt::stmt-simple-requires g t c κs within =
+    (omega (arith, do_deep c.args.s.now c.in-Do.s c.in-Do.is, c.decreases), within)
+
+pub stmt::stmt-printed-requires : goal.stmt::stmt-printed-requires
+stmt::stmt-printed-requires g t c κs within =
+    (omega (arith, ap stmt_depth (print_is c.args.s.now c.in-Print.field-0 c.in-Print.format c.as_bytes.result.now c.in-Print.field-2 c.in-Print.args c.as_slice-in-Print.result.now c.in-Print.is (c.as_bytes.ensures.value ∙ c.as_str.ensures) c.as_slice-in-Print.ensures), c.decreases), within)
+
+pub stmt::stmt-either-requires : goal.stmt::stmt-either-requires
+stmt::stmt-either-requires g t c κs within =
+    (omega (arith, if_deep c.args.s.now c.in-If.c c.in-If.a c.get.result.now c.in-If.b c.in-If.is c.get.ensures, c.decreases), within)
+
+pub stmt::stmt-repeat-requires : goal.stmt::stmt-repeat-requires
+stmt::stmt-repeat-requires g t c κs within =
+    (omega (arith, ap stmt_depth (while_is c.args.s.now c.in-While.c c.in-While.a c.get-in-While.result.now c.in-While.is c.get-in-While.ensures), c.decreases), within)
+
+pub stmt::stmt-repeat-requires-in-DoWhile : goal.stmt::stmt-repeat-requires-in-DoWhile
+stmt::stmt-repeat-requires-in-DoWhile g t c κs within =
+    (omega (arith, ap stmt_depth (do_while_is c.args.s.now c.in-DoWhile.a c.get-in-DoWhile.result.now c.in-DoWhile.c c.in-DoWhile.is c.get-in-DoWhile.ensures), c.decreases), within)
+
+pub stmt::stmt-for_scoped-requires : goal.stmt::stmt-for_scoped-requires
+stmt::stmt-for_scoped-requires g t c κs within =
+    (omega (arith, ap stmt_depth (for_is c.args.s.now c.in-For.head c.get-in-For.result.now c.in-For.a c.get-in-For-2.result.now c.in-For.is c.get-in-For.ensures c.get-in-For-2.ensures), c.decreases), within)
+
+pub stmt::stmt-returned-requires : goal.stmt::stmt-returned-requires
+stmt::stmt-returned-requires g t c κs within =
+    (omega (arith, ap stmt_depth (return_is c.args.s.now c.in-Return.e c.in-Return.field-1 c.in-Return.is), c.decreases), within)
+
+pub stmt::block-stmts-requires : goal.stmt::block-stmts-requires
+stmt::block-stmts-requires g t c κs within =
+    (omega (arith, c.decreases), within)
+
+pub stmt::scoped-stmt-requires : goal.stmt::scoped-stmt-requires
+stmt::scoped-stmt-requires g t c κs within =
+    (omega (arith, c.decreases), within)
+
+pub stmt::printed-values-requires : goal.stmt::printed-values-requires
+stmt::printed-values-requires g t c κs within =
+    (omega (arith, c.decreases), within)
+
+pub stmt::either-eval-requires : goal.stmt::either-eval-requires
+stmt::either-eval-requires g t c κs within =
+    (omega (arith, c.decreases), within)
+
+pub stmt::either-scoped-requires : goal.stmt::either-scoped-requires
+stmt::either-scoped-requires g t c κs within =
+    (omega (arith, c.decreases), within)
+
+pub stmt::either-scoped-requires-in-Some : goal.stmt::either-scoped-requires-in-Some
+stmt::either-scoped-requires-in-Some g t c κs within =
+    (omega (arith, ap (λ o. else_depth (option_map stmt_of o)) c.in-Some.is, ap (λ s. stmt_depth (stmt_of s)) c.get.ensures, c.decreases), within)
+
+pub stmt::returned-eval-requires : goal.stmt::returned-eval-requires
+stmt::returned-eval-requires g t c κs within =
+    (omega (arith, ap (λ o. optional_depth (option_map expr_of o)) c.in-Some.is, c.decreases), within)
+
+pub loops::repeat-turn-requires : goal.loops::repeat-turn-requires
+loops::repeat-turn-requires g t c κs within =
+    (omega (arith, c.decreases), within)
+
+pub loops::turn-turn_while-requires : goal.loops::turn-turn_while-requires
+loops::turn-turn_while-requires g t c κs within =
+    (omega (arith, ap loop_depth c.in-While.is, c.decreases), within)
+
+pub loops::turn-turn_do-requires : goal.loops::turn-turn_do-requires
+loops::turn-turn_do-requires g t c κs within =
+    (omega (arith, ap loop_depth c.in-DoWhile.is, c.decreases), within)
+
+pub loops::turn-turn_for-requires : goal.loops::turn-turn_for-requires
+loops::turn-turn_for-requires g t c κs within =
+    (omega (arith, ap loop_depth c.in-For.is, c.decreases), within)
+
+pub loops::turn_while-eval-requires : goal.loops::turn_while-eval-requires
+loops::turn_while-eval-requires g t c κs within =
+    (omega (arith, c.decreases), within)
+
+pub loops::turn_while-scoped-requires : goal.loops::turn_while-scoped-requires
+loops::turn_while-scoped-requires g t c κs within =
+    (omega (arith, c.decreases), within)
+
+pub loops::tested-eval-requires : goal.loops::tested-eval-requires
+loops::tested-eval-requires g t c κs within =
+    (omega (arith, c.decreases), within)
+
+pub loops::turn_do-scoped-requires : goal.loops::turn_do-scoped-requires
+loops::turn_do-scoped-requires g t c κs within =
+    (omega (arith, c.decreases), within)
+
+pub loops::turn_do-tested-requires : goal.loops::turn_do-tested-requires
+loops::turn_do-tested-requires g t c κs within =
+    (omega (arith, c.decreases), within)
+
+pub loops::turn_for-holds-requires : goal.loops::turn_for-holds-requires
+loops::turn_for-holds-requires g t c κs within =
+    (omega (arith, c.decreases), within)
+
+pub loops::turn_for-scoped-requires : goal.loops::turn_for-scoped-requires
+loops::turn_for-scoped-requires g t c κs within =
+    (omega (arith, c.decreases), within)
+
+pub loops::turn_for-stepped-requires : goal.loops::turn_for-stepped-requires
+loops::turn_for-stepped-requires g t c κs within =
+    (omega (arith, c.decreases), within)
+
+pub loops::holds-eval-requires : goal.loops::holds-eval-requires
+loops::holds-eval-requires g t c κs within =
+    (omega (arith, ap (λ o. optional_depth (option_map expr_of o)) c.in-Some.is, c.decreases), within)
+
+pub loops::stepped-simple-requires : goal.loops::stepped-simple-requires
+loops::stepped-simple-requires g t c κs within =
+    (omega (arith, ap (λ o. optional_simple_depth (option_map simple_of o)) c.in-Some.is, c.decreases), within)
+
+pub loops::for_scoped-for_run-requires : goal.loops::for_scoped-for_run-requires
+loops::for_scoped-for_run-requires g t c κs within =
+    (omega (arith, c.decreases), within)
+
+pub loops::for_run-started-requires : goal.loops::for_run-started-requires
+loops::for_run-started-requires g t c κs within =
+    (omega (arith, c.decreases), within)
+
+pub loops::for_run-repeat-requires : goal.loops::for_run-repeat-requires
+loops::for_run-repeat-requires g t c κs within =
+    (omega (arith, c.decreases), within)
+
+pub loops::started-declare-requires : goal.loops::started-declare-requires
+loops::started-declare-requires g t c κs within =
+    (omega (arith, ap (λ s. start_depth (start_of s)) c.in-Declare.is, ap (λ ds. deepest_value (map declarator_of ds)) c.as_slice.ensures, c.decreases), within)
+
+pub loops::started-simple-requires : goal.loops::started-simple-requires
+loops::started-simple-requires g t c κs within =
+    (omega (arith, ap (λ s. start_depth (start_of s)) c.in-Do.is, c.decreases), within)
+
+pub transactions::transaction-outermost-requires : goal.transactions::transaction-outermost-requires
+transactions::transaction-outermost-requires g t c κs within =
+    (omega (arith, c.decreases), within)
+
+pub transactions::transaction-nested-requires : goal.transactions::transaction-nested-requires
+transactions::transaction-nested-requires g t c κs within =
+    (omega (arith, c.decreases), within)
+
+pub transactions::outermost-block-requires : goal.transactions::outermost-block-requires
+transactions::outermost-block-requires g t c κs within =
+    (omega (arith, c.decreases), within)
+
+pub transactions::nested-block-requires : goal.transactions::nested-block-requires
+transactions::nested-block-requires g t c κs within =
+    (omega (arith, c.decreases), within)
