@@ -140,14 +140,14 @@ impl<A: Allocator + Copy> Core<A> {
         self.steps.take_read(cell, word, lock)
     }
 
-    /// Makes the step of a write, where it stands at an operation: whether it did. It makes the room that the write needs; where
-    /// that is refused nothing changes.
+    /// Makes the step of a write, where it stands at an operation without the lock: whether it did. It makes the room that the
+    /// write needs; where that is refused nothing changes.
     #[inline(always)]
     pub fn write(&mut self, cell: u32, word: u64) -> bool
         ensures done { result ≡ true → IsDoneAtOnce self.old (Op.Write cell word) self.new }
         ensures not_done { result ≡ false → self.new.attempt ≡ self.old.attempt }
     {
-        if !self.steps.is_at_operation() || !self.steps.make_write_room() {
+        if !self.steps.is_plain() || !self.steps.make_write_room() {
             return false;
         }
         self.is_asked = false;
@@ -155,14 +155,14 @@ impl<A: Allocator + Copy> Core<A> {
         true
     }
 
-    /// Makes the step of a commit that makes no access, that of an inner transaction or of one that wrote nothing: whether it did.
-    /// It takes no memory.
+    /// Makes the step of a commit that makes no access and has not the lock, that of an inner transaction or of one that wrote
+    /// nothing: whether it did. It takes no memory.
     #[inline(always)]
     pub fn commit(&mut self) -> bool
         ensures done { result ≡ true → IsDoneAtOnce self.old Op.Commit self.new }
         ensures not_done { result ≡ false → self.new.attempt ≡ self.old.attempt }
     {
-        if !self.steps.is_at_operation() || !self.steps.commits_at_once() {
+        if !self.steps.is_plain() || !self.steps.commits_at_once() {
             return false;
         }
         self.is_asked = false;
@@ -202,7 +202,7 @@ impl<A: Allocator + Copy> Core<A> {
     pub fn swaps_from(&self) -> Option<u64>
         ensures { IfSome result (λ from. (core_access self.now.attempt Op.Commit ≡ Access.Swap from) × (stops (Access.Swap from) ≡ false)) }
     {
-        if !self.steps.is_at_operation() {
+        if !self.steps.is_plain() {
             return None;
         }
         match self.steps.commit_access() {

@@ -138,16 +138,12 @@ impl<A: Allocator + Copy> Steps<A> {
         Outcome::Going
     }
 
-    // Whether it stands at an operation.
+    // Whether it is known to stand at an operation without the lock.
     #[inline(always)]
-    pub(crate) fn is_at_operation(&self) -> bool
+    pub(crate) fn is_plain(&self) -> bool
         ensures { result ≡ true → (self.now.begun ≡ true) × (self.now.attempt.phase ≡ Phase.AtOperation) }
     {
         self.plain
-            || match self.phase {
-                Phase::AtOperation => self.begun,
-                _ => false,
-            }
     }
 
     // The attempt is no longer under way.
