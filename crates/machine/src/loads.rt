@@ -22,11 +22,11 @@ pub trait Loads {
         ensures count { (code : Plain) → (s : Self) → (from : Counted) → (n : ℕ) → (m : ℕ) → (at : Counted) → IsLoad leads can_step code s from n m self.old at cell → at.accesses + 2 < 2 ^ 64 }
         ensures leads { (code : Plain) → (s : Self) → (from : Counted) → (n : ℕ) → (at : Counted) → leads code s from n self.old at → LoadsNext code at.thread cell → IsThreadOf code (loaded code at result.0 result.1).thread → leads code s from (n + 2) self.new (loaded code at result.0 result.1) };
 
-    /// No step leads nowhere. It does nothing.
+    /// The prover learns here that no step leads nowhere; it does nothing.
     fn stays(&self)
         ensures { (code : Plain) → (from : Counted) → leads code self.now from 0 self.now from };
 
-    /// Local steps lead on. It does nothing.
+    /// The prover learns here that local steps lead on; it does nothing.
     fn goes_on(&self)
         ensures { (code : Plain) → (s : Self) → (from : Counted) → (n : ℕ) → (at : Counted) → (k : ℕ) → (next : PlainThread Configuration) → leads code s from n self.now at → Replays (effect code) at.thread k [] next → IsThreadOf code next → leads code s from (n + k) self.now (record { thread = next; accesses = at.accesses }) };
 }
