@@ -12,6 +12,7 @@ With --gate each process of the run is looked at five times a second, with all t
 that it works for; what it takes after the last look is in the sum alone, which the system gives at the end.
 A crate that is measured alone is proved from nothing in a copy; the crates below it are taken as they are in their out/ folders
 (those that have none are proved first, outside of the measurement), with their proofs, where the gate reads their statements alone.
+Its sources end in one line more there, since a check begins with what others on the machine keep of the same files.
 Seconds are of processor, over all processes; memory is the most that any one process held. --jobs N is how many jobs a check gets (2).
 """
 
@@ -72,6 +73,17 @@ def has_tests(folder):
     return False
 
 
+def add_remarks(folder):
+    """Ends each source below a folder in one line more, so that nothing fits it that a check elsewhere on this machine keeps."""
+    remarks = {".rt": "// Measured from nothing.", ".antt": "-- measured from nothing"}
+    for at, _, names in os.walk(folder):
+        for name in names:
+            remark = remarks.get(os.path.splitext(name)[1])
+            if remark:
+                with open(f"{at}/{name}", "a", encoding="utf-8") as file:
+                    file.write(f"{remark}\n")
+
+
 def measured(crate, parts, jobs):
     """Measures a crate in a copy of what it needs."""
     named, row, peak = libraries(), {"crate": crate}, 0.0
@@ -85,6 +97,7 @@ def measured(crate, parts, jobs):
             shutil.copytree(f"{TOP}/crates/{it}", f"{room}/crates/{it}", symlinks=True)
         here = f"{room}/crates/{crate}"
         shutil.copytree(f"{TOP}/crates/{crate}", here, ignore=shutil.ignore_patterns("out"))
+        add_remarks(here)
         with open(f"{room}/crates.txt", "w", encoding="utf-8") as file, open(f"{TOP}/crates.txt", encoding="utf-8") as whole:
             file.writelines(it for it in whole if (re.split(r"[\s:]", it) or [""])[0] in [*needed, crate])
         with open(f"/tmp/gate_cost_{crate}.log", "w", encoding="utf-8") as log:
