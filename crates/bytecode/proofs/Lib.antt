@@ -18,5 +18,7 @@ mod Callees
 pub mod LaidOut
 mod Names
 mod Each
+-- how sums at loops' ends are marked
+mod Marks
 -- what a valid code reads and writes
 pub mod Fits

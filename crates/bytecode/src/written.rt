@@ -78,6 +78,8 @@ pub(crate) fn is_written<A: Allocator>(
         }
         Instr::Move(d, a) => has_two(f, *d, *a),
         Instr::AddSigned(d, a, b) => has_three(f, *d, *a, *b),
+        Instr::LoopEnd(i, b, _, _, _) => has_three(f, *i, *i, *b),
+        Instr::SumLoopEnd(s, t, _, _, _, _) => has_three(f, *s, *s, *t),
         Instr::AddUnsigned(d, a, b) => has_three(f, *d, *a, *b),
         Instr::SubtractSigned(d, a, b) => has_three(f, *d, *a, *b),
         Instr::SubtractUnsigned(d, a, b) => has_three(f, *d, *a, *b),

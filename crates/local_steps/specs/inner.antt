@@ -1,2 +1,4 @@
 -- where local steps pause
 pub mod Paused
+-- the ends of loops' turns, made at once
+pub mod Turns
