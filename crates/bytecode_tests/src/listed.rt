@@ -255,3 +255,112 @@ fn told_otherwise(alloc: Global, rows: &[Row]) -> Option<&'static str> {
 fn every_instruction_is_listed(rt: HostRuntime) {
     assert_none(&rt, told_otherwise(rt.alloc(), instructions()));
 }
+
+/// `worker` with the registers of a loop.
+const LOOPING: Function<'static> = ("worker", 0, 5, 1);
+
+const TURN: [Instr; 4] = [
+    Instr::AddSigned(1, 1, 2),
+    Instr::LessSigned(3, 1, 4),
+    Instr::JumpNonzero(3, 0),
+    Instr::Return,
+];
+
+const TURN_LISTED: &str = "function worker registers 5
+0 add.s r1 r1 r2
+1 lt.s r3 r1 r4
+2 jnz r3 >0
+3 ret
+";
+
+const SUMMED: [Instr; 5] = [
+    Instr::AddSigned(0, 0, 3),
+    Instr::AddSigned(1, 1, 2),
+    Instr::LessSigned(3, 1, 4),
+    Instr::JumpNonzero(3, 0),
+    Instr::Return,
+];
+
+const SUMMED_LISTED: &str = "function worker registers 5
+0 add.s r0 r0 r3
+1 add.s r1 r1 r2
+2 lt.s r3 r1 r4
+3 jnz r3 >0
+4 ret
+";
+
+/// Marks behind which nothing of the kind stands.
+const FALSE_MARKS: [Instr; 5] = [
+    Instr::LoopEnd(1, 2, 4, 3, 0),
+    Instr::LessSigned(3, 1, 4),
+    Instr::SumLoopEnd(0, 3, 1, 2, 4, 0),
+    Instr::LoopEnd(7, 2, 9, 9, 99),
+    Instr::Return,
+];
+
+const FALSE_MARKS_LISTED: &str = "function worker registers 8
+0 add.s r1 r1 r2
+1 lt.s r3 r1 r4
+2 add.s r0 r0 r3
+3 add.s r7 r7 r2
+4 ret
+";
+
+fn loop_ends() -> &'static [Row] {
+    static ROWS: [Row; 3] = [
+        (&[LOOPING], &TURN, &[], TURN_LISTED, (1, 4, 0, 1)),
+        (&[LOOPING], &SUMMED, &[], SUMMED_LISTED, (1, 5, 0, 1)),
+        (
+            &[("worker", 0, 8, 1)],
+            &FALSE_MARKS,
+            &[],
+            FALSE_MARKS_LISTED,
+            (1, 5, 0, 1),
+        ),
+    ];
+    &ROWS
+}
+
+#[test]
+fn sums_at_loop_ends_are_listed_as_sums(rt: HostRuntime) {
+    assert_none(&rt, told_otherwise(rt.alloc(), loop_ends()));
+}
+
+/// What a mark says of a loop's end: its registers, as `(i, b, n, c)`, and where it leads.
+type Mark = ((u16, u16, u16, u16), u32);
+
+fn mark_at(code: &Code, place: usize) -> Option<Mark> {
+    match code.parts().instructions.get(place) {
+        Some(Instr::LoopEnd(i, b, n, c, to)) => Some(((*i, *b, *n, *c), *to)),
+        Some(Instr::SumLoopEnd(_, t, i, b, n, to)) => Some(((*i, *b, *n, *t), *to)),
+        _ => None,
+    }
+}
+
+// The mark at a place of the code of `worker` with 8 registers and these instructions.
+fn marked(alloc: Global, instructions: &[Instr], place: usize) -> Option<Mark> {
+    match code_of_parts(alloc, &[("worker", 0, 8, 1)], &[], instructions, &[]) {
+        None => None,
+        Some(code) => mark_at(&code, place),
+    }
+}
+
+#[test]
+fn sums_at_loop_ends_are_marked(rt: HostRuntime) {
+    assert_that(&rt, marked(rt.alloc(), &TURN, 0) == Some(((1, 2, 4, 3), 0)));
+    assert_that(
+        &rt,
+        marked(rt.alloc(), &SUMMED, 0) == Some(((1, 2, 4, 3), 0)),
+    );
+    assert_that(
+        &rt,
+        marked(rt.alloc(), &SUMMED, 1) == Some(((1, 2, 4, 3), 0)),
+    );
+}
+
+#[test]
+fn no_other_sums_are_marked(rt: HostRuntime) {
+    assert_that(&rt, marked(rt.alloc(), &FALSE_MARKS, 0) == None);
+    assert_that(&rt, marked(rt.alloc(), &FALSE_MARKS, 2) == None);
+    assert_that(&rt, marked(rt.alloc(), &FALSE_MARKS, 3) == None);
+}

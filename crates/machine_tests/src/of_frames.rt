@@ -4,3 +4,4 @@ mod built;
 mod carried;
 mod growths;
 mod instructions;
+mod loop_ends;

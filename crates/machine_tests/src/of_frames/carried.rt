@@ -118,8 +118,8 @@ fn go_far<A: Allocator + Copy>(frames: &mut Frames<A>, code: &Code<A>) -> u64
     made
 }
 
-// A thread at its beginning.
-fn first<A: Allocator + Copy>(
+/// A thread at its beginning.
+pub fn first<A: Allocator + Copy>(
     alloc: A,
     code: &Code<A>,
     thread: u32,
