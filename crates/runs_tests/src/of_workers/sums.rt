@@ -1,8 +1,8 @@
 //! Many threads, and a gate that never holds: no addition is lost, and each run ends as it should.
 
 use crate::asserted::{assert_all, assert_that};
-use crate::programs::{adds_often, divides, prints};
-use crate::reports::{Wanted, runs_as};
+use crate::of_workers::programs::{adds_often, divides, prints};
+use crate::of_workers::reports::{Wanted, runs_as};
 use std::alloc::Global;
 use std::sync::Wait;
 use std::thread::Threads;

@@ -1,7 +1,7 @@
 use Rattle.std.proofs.Common.{subst}
 use Rattle.workers.specs.Workers.{AreWorkersOf}
 use Rattle.workers.proofs.Drives.{without_last}
-use Rattle.workers_tests.proofs.hall.take.Goals as goal
+use Rattle.runs_tests.proofs.of_workers.hall.take.Goals as goal
 
 pub returns-in-Some-clause-left : goal.returns-in-Some-clause-left
 returns-in-Some-clause-left g c =

@@ -1,7 +1,7 @@
 use Rattle.std.proofs.Common.{subst, sym}
 use Rattle.workers.specs.Workers.{AreWorkersOf}
 use Rattle.workers.proofs.Drives.{with_last}
-use Rattle.workers_tests.proofs.hall.push.Goals as goal
+use Rattle.runs_tests.proofs.of_workers.hall.push.Goals as goal
 
 pub returns : goal.returns
 returns g c =

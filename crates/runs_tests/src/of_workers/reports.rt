@@ -1,6 +1,6 @@
 //! Runs on real threads, and what their reports are to say.
 
-use crate::programs::{Program, code_of};
+use crate::of_workers::programs::{Program, code_of};
 use bytecode::Code;
 use std::alloc::Global;
 use std::sync::Wait;

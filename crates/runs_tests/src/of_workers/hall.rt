@@ -3,7 +3,7 @@
 ghost use Rattle.std.specs.Prelude.{◌≡◌, IfOk, IfSome};
 ghost use Rattle.workers.specs.Workers.{AreWorkersOf, IsWorkerOf};
 
-use crate::programs::{Program, code_of};
+use crate::of_workers::programs::{Program, code_of};
 use bytecode::Code;
 use norec_core::Stop;
 use std::alloc::{AllocError, Allocator};

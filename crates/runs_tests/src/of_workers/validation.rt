@@ -1,8 +1,8 @@
 //! Validation, and begins that wait for the lock, in runs that end amid them.
 
 use crate::asserted::assert_all;
-use crate::hall::{Turn, are_turns, leaves, opened};
-use crate::programs::{Program, adds, reads_again};
+use crate::of_workers::hall::{Turn, are_turns, leaves, opened};
+use crate::of_workers::programs::{Program, adds, reads_again};
 use std::alloc::Global;
 use workers::Status;
 

@@ -1,8 +1,8 @@
 //! Gates that hold threads back.
 
 use crate::asserted::{assert_all, assert_that};
-use crate::programs::{adds, looks, nothing};
-use crate::reports::{Wanted, runs_as};
+use crate::of_workers::programs::{adds, looks, nothing};
+use crate::of_workers::reports::{Wanted, runs_as};
 use std::alloc::Global;
 use std::sync::Wait;
 use std::sync::atomic::{AtomicBool, Ordering};

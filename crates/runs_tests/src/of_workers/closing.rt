@@ -3,8 +3,8 @@
 ghost use Rattle.workers.specs.Workers.{AreWorkersOf, IsWorkerOf};
 
 use crate::asserted::assert_all;
-use crate::hall::{Turn, are_turns, leaves, opened, put, take};
-use crate::programs::prints;
+use crate::of_workers::hall::{Turn, are_turns, leaves, opened, put, take};
+use crate::of_workers::programs::prints;
 use std::alloc::Global;
 use workers::{CloseFault, CloseReason, Hall, Status, Worker};
 

@@ -4,8 +4,8 @@ ghost use Rattle.std.specs.Prelude.{IfSome};
 ghost use Rattle.workers.specs.Workers.{AreWorkersOf};
 
 use crate::asserted::assert_that;
-use crate::hall::{Left, Turn, are_turns, is_left, leaves, open};
-use crate::programs::{code_of, looks};
+use crate::of_workers::hall::{Left, Turn, are_turns, is_left, leaves, open};
+use crate::of_workers::programs::{code_of, looks};
 use bytecode::Code;
 use refusing::Refusing;
 use std::alloc::{Allocator, Global};

@@ -3,8 +3,8 @@
 ghost use Rattle.workers.specs.Workers.{AreWorkersOf};
 
 use crate::asserted::{assert_all, assert_that};
-use crate::hall::{Turn, are_turns, leaves, opened};
-use crate::programs::{adds, divides, looks};
+use crate::of_workers::hall::{Turn, are_turns, leaves, opened};
+use crate::of_workers::programs::{adds, divides, looks};
 use std::alloc::Global;
 use syntax::numbers::Trap;
 use workers::{Hall, HallFault, Status, Worker};

@@ -1,0 +1,11 @@
+//! Tests of workers.
+
+mod closing;
+mod gates;
+mod growths;
+mod hall;
+mod programs;
+mod reports;
+mod sums;
+mod turns;
+mod validation;
