@@ -1,8 +1,8 @@
 #!/usr/bin/env python3
 """Writes crates/serving_replays_tests/src/examples.rt. It runs each program of examples/ and examples/bench/ and compares what it prints with
 the file of the same name that ends in .out; and it runs each transcript of examples/transcripts/, a file whose first line is a command line, `$ txc ..`,
-and which has under it what a terminal then shows. And it writes crates/meaning_tests/src/examples.rt, which runs each program of
-examples/ from its tree and compares with the same file, and crates/lower_tests/src/examples.rt, which lists the programs of
+and which has under it what a terminal then shows. And it writes crates/lower_tests/src/of_meaning/examples.rt, which runs each program of
+examples/ from its tree and compares with the same file, and crates/lower_tests/src/of_lower/examples.rt, which lists the programs of
 examples/ and demands a code of each.
 
 With --check it writes nothing, and fails where one of the three is not what it would write, or where a document shows what the program
@@ -18,8 +18,8 @@ import sys
 
 TOP = os.path.dirname(os.path.dirname(os.path.abspath(__file__)))
 TESTS = os.path.join(TOP, "crates/serving_replays_tests/src/examples.rt")
-MEANING_TESTS = os.path.join(TOP, "crates/meaning_tests/src/examples.rt")
-LOWER_TESTS = os.path.join(TOP, "crates/lower_tests/src/examples.rt")
+MEANING_TESTS = os.path.join(TOP, "crates/lower_tests/src/of_meaning/examples.rt")
+LOWER_TESTS = os.path.join(TOP, "crates/lower_tests/src/of_lower/examples.rt")
 SHOWN = re.compile(r"^```\n(\$ txc [^\n]*\n)(.*?)^```$", re.M | re.S)
 PROGRAM = re.compile(r"^```c\n(.*?)^```$", re.M | re.S)
 RUN = re.compile(r"\$ txc run examples/(\w+)\.c\n")
@@ -161,8 +161,8 @@ def meaning_tests():
     examples = [f"        (\n            {literal(read(name))},\n{told(read(name[:-2] + '.out'))}        ),\n" for name in names("examples/*.c")]
     return f"""//! The programs of examples/, each run alone from its tree: written by scripts/examples.py.
 
+use crate::accepted::accepted_of;
 use crate::asserted::assert_none;
-use crate::run::accepted_of;
 use meaning::{{SourceOutcome, ThreadEnd, ThreadReport, run_order}};
 use separation::Accepted;
 use std::alloc::Global;
@@ -234,8 +234,8 @@ def lower_tests():
     examples = [f"        {literal(read(name))},\n" for name in names("examples/*.c")]
     return f"""//! The programs of examples/, and that each has a code: written by scripts/examples.py.
 
-use crate::accepted::fault_of;
 use crate::asserted::assert_none;
+use crate::of_lower::codes::fault_of;
 use std::alloc::Global;
 
 /// The texts stand in a function, so that no proof but its own looks at them.

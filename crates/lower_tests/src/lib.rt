@@ -1,4 +1,5 @@
-//! Tests of `lower`, in a crate of their own: a crate with tests is proved twice.
+//! Tests of `lower` and of `meaning`, in a crate of their own: a crate with tests is proved twice, and each crate of tests reads and
+//! links all that it stands on.
 #![tactic(auto)]
 
 #[cfg(test)]
@@ -6,16 +7,6 @@ mod accepted;
 #[cfg(test)]
 mod asserted;
 #[cfg(test)]
-mod examples;
+mod of_lower;
 #[cfg(test)]
-mod growths;
-#[cfg(test)]
-mod large;
-#[cfg(test)]
-mod listed;
-#[cfg(test)]
-mod nested;
-#[cfg(test)]
-mod outcomes;
-#[cfg(test)]
-mod pieces;
+mod of_meaning;

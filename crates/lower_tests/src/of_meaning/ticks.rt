@@ -1,6 +1,6 @@
 //! How many ticks each thing takes, and what is left before and behind the last of them.
 
-use crate::run::{first_left, run};
+use crate::of_meaning::run::{first_left, run};
 use meaning::{ThreadEnd, ThreadOutcome};
 use std::alloc::Global;
 use std::process::Abort;

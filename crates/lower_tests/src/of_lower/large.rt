@@ -1,8 +1,8 @@
 //! Large programs: the limits of registers and instructions, and a text of nearly 1 MiB.
 
-use crate::accepted::{code_of, fault_of};
 use crate::asserted::{assert_all, assert_that};
-use crate::pieces::{Piece, text_of};
+use crate::of_lower::codes::{code_of, fault_of};
+use crate::of_lower::pieces::{Piece, text_of};
 use bytecode::Code;
 use lex::token::Span;
 use std::alloc::Global;

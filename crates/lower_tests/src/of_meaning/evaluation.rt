@@ -1,7 +1,7 @@
 //! In which order operands, arguments and pieces are computed, and of which type a value is.
 
 use crate::asserted::assert_none;
-use crate::run::{first_left, run};
+use crate::of_meaning::run::{first_left, run};
 use meaning::{ThreadEnd, ThreadOutcome};
 use std::alloc::Global;
 

@@ -5,10 +5,11 @@
 ghost use Rattle.std.specs.Prelude.{IfSome};
 ghost use Rattle.atomic_code.specs.Threads.{IsThreadOf};
 
-use crate::accepted::{accepted_of, code_of};
+use crate::accepted::accepted_of;
 use crate::asserted::assert_none;
-use crate::examples::examples;
-use crate::listed::{Listed, rows};
+use crate::of_lower::codes::code_of;
+use crate::of_lower::examples::examples;
+use crate::of_lower::listed::{Listed, rows};
 use atomic_code::{AtomicThread, is_memory};
 use bytecode::Code;
 use meaning::{SourceOutcome, ThreadEnd, run_order};

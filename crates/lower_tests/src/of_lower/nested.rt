@@ -1,8 +1,8 @@
 //! Transactions in one another: 16 may be, and the 17th is the fault, at its keyword.
 
-use crate::accepted::fault_of;
 use crate::asserted::{assert_all, assert_that};
-use crate::pieces::{Piece, text_of};
+use crate::of_lower::codes::fault_of;
+use crate::of_lower::pieces::{Piece, text_of};
 use lex::token::Span;
 use std::alloc::Global;
 

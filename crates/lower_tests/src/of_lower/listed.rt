@@ -1,7 +1,7 @@
 //! The codes of small programs, as they are listed: each was read by eye, so that a change in what is picked is seen.
 
-use crate::accepted::listed;
 use crate::asserted::assert_none;
+use crate::of_lower::codes::listed;
 use std::alloc::Global;
 
 /// A program, and the listing of its code.

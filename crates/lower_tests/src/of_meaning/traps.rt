@@ -2,9 +2,10 @@
 
 ghost use Rattle.meaning.specs.Outcomes.{AreWords};
 
+use crate::accepted::accepted_of;
 use crate::asserted::{assert_none, assert_that};
-use crate::memory::zeros;
-use crate::run::{accepted_of, run};
+use crate::of_meaning::memory::zeros;
+use crate::of_meaning::run::run;
 use meaning::{ThreadEnd, ThreadOutcome, thread};
 use refusing::Refusing;
 use separation::Accepted;

@@ -1,6 +1,7 @@
 //! 64 frames, each at the greatest depth, fit the stack of a program's main thread.
 
-use crate::run::{accepted_of, run};
+use crate::accepted::accepted_of;
+use crate::of_meaning::run::run;
 use meaning::ThreadEnd;
 use std::alloc::{AllocError, Global};
 use syntax::numbers::Trap;

@@ -1,7 +1,7 @@
 //! The programs of examples/, each run alone from its tree: written by scripts/examples.py.
 
+use crate::accepted::accepted_of;
 use crate::asserted::assert_none;
-use crate::run::accepted_of;
 use meaning::{SourceOutcome, ThreadEnd, ThreadReport, run_order};
 use separation::Accepted;
 use std::alloc::Global;

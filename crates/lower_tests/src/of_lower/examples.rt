@@ -1,7 +1,7 @@
 //! The programs of examples/, and that each has a code: written by scripts/examples.py.
 
-use crate::accepted::fault_of;
 use crate::asserted::assert_none;
+use crate::of_lower::codes::fault_of;
 use std::alloc::Global;
 
 /// The texts stand in a function, so that no proof but its own looks at them.

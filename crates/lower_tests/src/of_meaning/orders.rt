@@ -1,7 +1,7 @@
 //! Threads in an order: what is left, what each has printed and how it ends; the faults; each growth refused in turn.
 
+use crate::accepted::accepted_of;
 use crate::asserted::assert_that;
-use crate::run::accepted_of;
 use meaning::{MeaningFault, SourceOutcome, ThreadEnd, ThreadReport, run_order};
 use refusing::Refusing;
 use separation::Accepted;

@@ -1,0 +1,10 @@
+//! Tests of `lower`, and of its code beside the source.
+
+mod codes;
+mod examples;
+mod growths;
+mod large;
+mod listed;
+mod nested;
+mod outcomes;
+mod pieces;
