@@ -13,3 +13,8 @@ pub fn assert_all(rt: &impl Abort, rows: &[(&str, bool)]) {
 pub fn assert_that(rt: &impl Abort, holds: bool) {
     assert!(rt; holds);
 }
+
+/// Asserts that there is none that is otherwise than it should be.
+pub fn assert_none(rt: &impl Abort, other: Option<&str>) {
+    assert_eq!(rt; other, None);
+}

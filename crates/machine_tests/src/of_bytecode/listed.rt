@@ -1,7 +1,7 @@
 //! Listings.
 
 use crate::asserted::{assert_none, assert_that};
-use crate::built::{Function, TEXTS, WORKER, code_of_parts};
+use crate::of_bytecode::built::{Function, TEXTS, WORKER, code_of_parts};
 use bytecode::{Code, Instr, listing};
 use std::alloc::Global;
 

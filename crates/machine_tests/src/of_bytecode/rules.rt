@@ -1,7 +1,7 @@
 //! Each rule of validity, broken once, beside parts that keep it.
 
 use crate::asserted::{assert_all, assert_none};
-use crate::built::{Function, WORKER, global, is_valid, of, of_functions, parts_over};
+use crate::of_bytecode::built::{Function, WORKER, global, is_valid, of, of_functions, parts_over};
 use bytecode::{Instr, MOST_CELLS, Parts};
 use std::alloc::{AllocError, Global};
 

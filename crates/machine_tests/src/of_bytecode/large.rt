@@ -1,7 +1,7 @@
 //! The longest codes, and what an instruction takes.
 
 use crate::asserted::assert_that;
-use crate::built::of;
+use crate::of_bytecode::built::of;
 use bytecode::{Instr, MOST_INSTRUCTIONS};
 use std::alloc::{AllocError, Global};
 use std::mem::size_of;

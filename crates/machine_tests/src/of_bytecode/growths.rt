@@ -1,7 +1,7 @@
 //! Each growth refused in turn.
 
 use crate::asserted::assert_all;
-use crate::built::{Function, TEXTS, WORKER, code_of_parts, is_valid, parts_of};
+use crate::of_bytecode::built::{Function, TEXTS, WORKER, code_of_parts, is_valid, parts_of};
 use bytecode::{Code, Instr, Parts, PartsFault, listing, validate};
 use refusing::Refusing;
 use std::alloc::{Allocator, Global};

@@ -1,7 +1,7 @@
 //! The first word of each cell.
 
 use crate::asserted::assert_that;
-use crate::built::{code_of, global, parts_over};
+use crate::of_bytecode::built::{code_of, global, parts_over};
 use bytecode::{Code, Parts};
 use lex::token::{Scalar, Span};
 use refusing::Refusing;
