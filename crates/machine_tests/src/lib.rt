@@ -5,6 +5,8 @@
 #[cfg(test)]
 mod asserted;
 #[cfg(test)]
+mod built;
+#[cfg(test)]
 mod of_atomic_code;
 #[cfg(test)]
 mod of_bytecode;

@@ -1,6 +1,5 @@
 //! Tests of frames and of local steps.
 
-mod built;
 mod carried;
 mod growths;
 mod instructions;

@@ -1,7 +1,7 @@
 //! Each growth refused in turn.
 
 use crate::asserted::assert_that;
-use crate::of_frames::built::code_of_two;
+use crate::built::code_of_two;
 use crate::of_frames::carried::run;
 use bytecode::{Code, Instr};
 use frames::Doing;
@@ -36,7 +36,7 @@ fn refused_in<A: Allocator + Copy, B: Allocator>(
     refusing: &Refusing<B>,
     nth: u64,
 ) -> Option<(Option<bool>, bool)> {
-    match code_of_two(alloc, prints_and_calls(), 4) {
+    match code_of_two(alloc, prints_and_calls(), 4, (2, 1)) {
         None => None,
         Some(code) => {
             refusing.refuse(nth);

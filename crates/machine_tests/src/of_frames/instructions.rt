@@ -1,7 +1,7 @@
 //! A code for every instruction, carried out.
 
 use crate::asserted::{assert_all, assert_that};
-use crate::of_frames::built::{code_of_two, code_of_worker};
+use crate::built::{code_of_two, code_of_worker};
 use crate::of_frames::carried::run;
 use bytecode::{Code, Instr};
 use frames::Doing;
@@ -443,7 +443,7 @@ fn texts_and_numbers_are_printed(rt: HostRuntime) {
 
 // What is found of a worker behind which a function begins at this place.
 fn calls<A: Allocator + Copy>(alloc: A, instructions: &[Instr], second: u32) -> Option<Found> {
-    found(alloc, code_of_two(alloc, instructions, second), "")
+    found(alloc, code_of_two(alloc, instructions, second, (2, 1)), "")
 }
 
 // r1 = f(r0), and f gives minus its parameter

@@ -3,7 +3,7 @@
 ghost use Rattle.frames.specs.Open.{IsConfigurationOf};
 
 use crate::asserted::assert_all;
-use crate::of_frames::built::code_of_worker;
+use crate::built::code_of_worker;
 use crate::of_frames::carried::first;
 use bytecode::{Code, Instr};
 use frames::Frames;

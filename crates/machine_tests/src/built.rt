@@ -16,14 +16,15 @@ pub fn code_of_worker<A: Allocator + Copy>(alloc: A, instructions: &[Instr]) -> 
     code_of(alloc, &written)
 }
 
-/// The same of a `worker` of two registers, and of a function of one behind it, which begins at `first` and takes register 0.
+/// The same of a `worker`, and of a function behind it, which begins at `first` and takes register 0: so many registers each.
 pub fn code_of_two<A: Allocator + Copy>(
     alloc: A,
     instructions: &[Instr],
     first: u32,
+    registers: (u32, u32),
 ) -> Option<Code<A>> {
     let written = WrittenCode {
-        functions: &[worker(2), second(first, 1)],
+        functions: &[worker(registers.0), second(first, registers.1)],
         instructions,
         arguments: &[0],
         texts: &TEXTS,
