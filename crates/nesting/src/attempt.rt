@@ -118,11 +118,7 @@ impl<A: Allocator + Copy> Attempt<A> {
     {
         reserve_inner(&mut self.inner, self.depth, self.alloc)?;
         self.writes.reserve_one()?;
-        if self.turned {
-            self.one.save(registers, frames, place)
-        } else {
-            self.other.save(registers, frames, place)
-        }
+        self.prepare_outermost(registers, frames, place)
     }
 
     /// Sets aside what the next outermost begin saves, which needs no room beside that of the registers. The error comes only where
@@ -135,6 +131,7 @@ impl<A: Allocator + Copy> Attempt<A> {
         place: u32,
     ) -> Result<(), AllocError>
         ensures aside { OnOk result (self.new.aside ≡ record { registers = registers.now; frames = frames; place = place }) }
+        ensures err { OnErr result (self.new.aside ≡ self.old.aside) }
         ensures others { GainsRoom (record self.old { aside = self.new.aside }) self.new }
     {
         if self.turned {
