@@ -12,7 +12,7 @@ use crate::instr::Instr;
 use std::alloc::{AllocError, Allocator};
 
 /// What is known of a place: whether a way comes to it, and the innermost begin that is open there.
-#[derive(Clone, Copy, PartialEq, Eq, Debug)]
+#[derive(Clone, Copy)]
 pub(crate) enum Arrival {
     /// No way so far.
     Unseen,
@@ -25,7 +25,7 @@ pub(crate) enum Arrival {
 }
 
 /// Where an instruction leads.
-#[derive(Clone, Copy, PartialEq, Eq, Debug)]
+#[derive(Clone, Copy)]
 pub(crate) enum Way {
     On,
     To(u32),

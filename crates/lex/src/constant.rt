@@ -13,7 +13,7 @@ use crate::fault::LexFault;
 use crate::token::{Kind, Scalar, Span};
 
 /// How a constant is written.
-#[derive(Clone, Copy, Debug)]
+#[derive(Clone, Copy)]
 pub(crate) enum Base {
     Decimal,
     /// With `0` before its digits.

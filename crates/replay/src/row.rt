@@ -9,7 +9,7 @@ ghost use Rattle.replay.specs.inner.Rows.{is_space, is_digit, past, digits_of, b
 use crate::line::Line;
 
 /// What a row says.
-#[derive(Clone, Copy, Debug)]
+#[derive(Clone, Copy)]
 pub(crate) enum Row {
     /// Nothing: it has spaces alone.
     Blank,
@@ -94,7 +94,7 @@ fn number(digits: &[u8]) -> Option<u32>
 }
 
 /// The parts of a row.
-#[derive(Clone, Copy, Debug)]
+#[derive(Clone, Copy)]
 struct Parts<'a> {
     thread: &'a [u8],
     // Whether a space stands behind the thread.

@@ -31,7 +31,7 @@ impl Gate for Open {
 }
 
 /// Why the threads of a source do not run.
-#[derive(Clone, Copy, Debug)]
+#[derive(Clone, Copy)]
 pub(crate) enum ThreadsFault {
     /// The source is refused.
     Source(SourceFault),

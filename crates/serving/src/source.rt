@@ -12,7 +12,7 @@ use std::io::Read;
 const BEYOND_MOST_BYTES: u64 = MOST_BYTES as u64 + 1;
 
 /// What a file holds.
-#[derive(Debug, Drop)]
+#[derive(Drop)]
 pub(crate) enum Source<A: Allocator> {
     Text(String<A>),
     NotText,

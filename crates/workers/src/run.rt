@@ -247,7 +247,7 @@ pub enum RunFault {
 }
 
 // Why the workers were not driven.
-#[derive(Clone, Copy, Debug)]
+#[derive(Clone, Copy)]
 enum DriveFault {
     OutOfMemory,
     NotStarted,
