@@ -5,11 +5,12 @@
                                                 it prints, and adds a line for each crate of which it proved or tried anything to docs/gate_cost.csv
   scripts/gate_cost.py CRATE..                  measures crates one after another in copies, and adds a line for each
   scripts/gate_cost.py --part check CRATE..     one part alone: check, tests or wrong (wrong bodies)
-  scripts/gate_cost.py --table                  prints the table, from the last measurement of each part of each crate
+  scripts/gate_cost.py --table                  prints the table, from the least measurement of each part of each crate, of the files as they are
   scripts/gate_cost.py --write                  puts the table into docs/GATE.md
 
 With --gate each process of the run is looked at five times a second, with all that it started, and counted to the crate and the part
-that it works for; what it takes after the last look is in the sum alone, which the system gives at the end.
+that it works for; what it takes after the last look is in the sum alone, which the system gives at the end. A run that fails adds no
+line. How fast the processor is meanwhile is told by a fixed loop, made anew each ten seconds: what it took at the median and at best.
 A crate that is measured alone is proved from nothing in a copy; the crates below it are taken as they are in their out/ folders
 (those that have none are proved first, outside of the measurement), with their proofs, where the gate reads their statements alone.
 Its sources end in one line more there, since a check begins with what others on the machine keep of the same files.
@@ -190,15 +191,26 @@ def look(root, taken, most, proved):
         taken[key] = max(taken.get(key, 0), ticks)
 
 
+def fixed_loop():
+    """The milliseconds of processor that a loop takes which is always the same."""
+    start, number = time.thread_time(), 1
+    for _ in range(200_000):
+        number = number * 69069 % 4294967296 + 1
+    return (time.thread_time() - start) * 1000
+
+
 def gate(names):
     """Runs the gate, or its part for some crates, keeps a line for each crate that it worked for, and gives its status."""
-    taken, most, proved, start = {}, {}, set(), time.monotonic()
+    taken, most, proved, start, loops = {}, {}, set(), time.monotonic(), [fixed_loop()]
     run = subprocess.Popen(["rt", "ci", *names], cwd=TOP, stdin=subprocess.DEVNULL)
     while run.poll() is None:
         look(run.pid, taken, most, proved)
+        if time.monotonic() > start + 10 * len(loops):
+            loops.append(fixed_loop())
         time.sleep(0.2)
     used = resource.getrusage(resource.RUSAGE_CHILDREN)
-    for crate in libraries():
+    # (what a run that fails took may be less than a proof: it is not kept)
+    for crate in [] if run.returncode else libraries():
         # (tests that an earlier run proved are run all the same)
         parts = [part for part in ("check", "tests", "wrong") if (crate, part) in proved]
         row = {"crate": crate, "wrong_bodies": wrong_bodies(crate)}
@@ -210,24 +222,43 @@ def gate(names):
             keep(row)
     minutes, seconds = round((time.monotonic() - start) / 60), used.ru_utime + used.ru_stime
     what = f"the gate's part for {' '.join(names)}" if names else "the gate"
-    print(f"{what} {'failed' if run.returncode else 'passed'} in {minutes} minutes, with {round(seconds / 60)} of processor")
+    loop = f"a fixed loop took {sorted(loops)[len(loops) // 2]:.1f} ms of it at the median, {min(loops):.1f} at best"
+    print(f"{what} {'failed' if run.returncode else 'passed'} in {minutes} minutes, with {round(seconds / 60)} of processor; {loop}")
     return run.returncode
 
 
+def same_files(commit, crate, part):
+    """Whether a crate has the files that it had at a commit; of its wrong bodies too, for the part `wrong`."""
+    but = [] if part == "wrong_s" else [f":(exclude)crates/{crate}/must-fail"]
+    words = ["git", "diff", "--quiet", commit, "--", f"crates/{crate}", *but]
+    return subprocess.run(words, cwd=TOP, stderr=subprocess.DEVNULL).returncode == 0
+
+
 def table():
-    """The table, from the last value of each part, of wrong bodies where there are as many still; the memory is the most of the lines that
-    gave these."""
-    last, peaks = {}, {}
+    """The table: of each part the least that it took of the files that the crate has now (what else a machine does adds up to a third), or
+    where none was of these the last value, of wrong bodies where there are as many still; the memory is the most of the same lines."""
+    last, peaks, least = {}, {}, {}
     if os.path.isfile(CSV):
         with open(CSV, encoding="utf-8", newline="") as file:
             for row in csv.DictReader(file):
-                known = last.setdefault(row["crate"], {})
-                if row["wrong_s"] != "" and int(row["wrong_bodies"]) != wrong_bodies(row["crate"]):
+                crate = row["crate"]
+                known = last.setdefault(crate, {})
+                if row["wrong_s"] != "" and int(row["wrong_bodies"]) != wrong_bodies(crate):
                     row["wrong_s"] = ""
-                known.update({field: row[field] for field in FIELDS if row[field] != ""}, wrong_bodies=wrong_bodies(row["crate"]))
+                known.update({field: row[field] for field in FIELDS if row[field] != ""}, wrong_bodies=wrong_bodies(crate))
                 for part in ("check_s", "tests_s", "wrong_s"):
-                    if row[part] != "":
-                        peaks.setdefault(row["crate"], {})[part] = int(row["peak_mb"])
+                    if row[part] in ("", "0"):
+                        continue
+                    held = int(row["peak_mb"])
+                    if same_files(row["commit"], crate, part):
+                        took, most = least.get((crate, part), (int(row[part]), 0))
+                        least[crate, part] = min(took, int(row[part])), max(most, held)
+                        held = least[crate, part][1]
+                    elif (crate, part) in least:
+                        continue
+                    peaks.setdefault(crate, {})[part] = held
+    for (crate, part), (took, _) in least.items():
+        last[crate][part] = took
     for crate, known in last.items():
         known.update({} if known["wrong_bodies"] else {"wrong_s": 0}, **({} if has_tests(f"{TOP}/crates/{crate}") else {"tests_s": 0}))
     number = lambda row, field: int(row.get(field) or 0)
