@@ -228,10 +228,17 @@ def gate(names):
 
 
 def same_files(commit, crate, part):
-    """Whether a crate has the files that it had at a commit; of its wrong bodies too, for the part `wrong`."""
-    but = [] if part == "wrong_s" else [f":(exclude)crates/{crate}/must-fail"]
-    words = ["git", "diff", "--quiet", commit, "--", f"crates/{crate}", *but]
-    return subprocess.run(words, cwd=TOP, stderr=subprocess.DEVNULL).returncode == 0
+    """Whether a crate has the files that it had at a commit, and for the part `wrong_s` all its wrong bodies stood there as they are (with
+    more of them it took more)."""
+
+    def differ(*words):
+        run = subprocess.run(["git", "diff", "--name-only", "--no-renames", commit, *words], cwd=TOP, stdout=subprocess.PIPE, stderr=subprocess.DEVNULL)
+        return run.returncode or run.stdout
+
+    here = f"crates/{crate}"
+    if differ("--", f"{here}/src", f"{here}/specs", f"{here}/proofs"):
+        return False
+    return part != "wrong_s" or not differ("--diff-filter=d", "--", f"{here}/must-fail")
 
 
 def table():
@@ -243,18 +250,18 @@ def table():
             for row in csv.DictReader(file):
                 crate = row["crate"]
                 known = last.setdefault(crate, {})
+                taken = {part: int(row[part]) for part in ("check_s", "tests_s", "wrong_s") if row[part] not in ("", "0")}
+                same = [part for part in taken if same_files(row["commit"], crate, part)]
                 if row["wrong_s"] != "" and int(row["wrong_bodies"]) != wrong_bodies(crate):
                     row["wrong_s"] = ""
                 known.update({field: row[field] for field in FIELDS if row[field] != ""}, wrong_bodies=wrong_bodies(crate))
-                for part in ("check_s", "tests_s", "wrong_s"):
-                    if row[part] in ("", "0"):
-                        continue
+                for part in taken:
                     held = int(row["peak_mb"])
-                    if same_files(row["commit"], crate, part):
-                        took, most = least.get((crate, part), (int(row[part]), 0))
-                        least[crate, part] = min(took, int(row[part])), max(most, held)
+                    if part in same:
+                        took, most = least.get((crate, part), (taken[part], 0))
+                        least[crate, part] = min(took, taken[part]), max(most, held)
                         held = least[crate, part][1]
-                    elif (crate, part) in least:
+                    elif (crate, part) in least or row[part] == "":
                         continue
                     peaks.setdefault(crate, {})[part] = held
     for (crate, part), (took, _) in least.items():
