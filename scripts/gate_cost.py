@@ -2,7 +2,7 @@
 """Measures what the gate costs, crate by crate, and keeps the table of docs/GATE.md.
 
   scripts/gate_cost.py --gate [CRATE..]         runs `rt ci` once, of these crates and those below them where some are named, passes on what
-                                                it prints, and adds a line for each crate of which it proved or tried anything to docs/gate_cost.csv
+                                                it prints, and adds a line for each crate that it proved, or all of whose wrong bodies it tried, to docs/gate_cost.csv
   scripts/gate_cost.py CRATE..                  measures crates one after another in copies, and adds a line for each
   scripts/gate_cost.py --part check CRATE..     one part alone: check, tests or wrong (wrong bodies)
   scripts/gate_cost.py --table                  prints the table, from the least measurement of each part of each crate, of the files as they are
@@ -165,9 +165,17 @@ def work_of(pid):
     return (tests[0], "tests") if tests else None
 
 
+def room_of(pid):
+    """The folder in which the gate tries a wrong body, for its process."""
+    try:
+        return re.sub(r"(/rt-edit-[^/]+)/.*", r"\1", os.readlink(f"/proc/{pid}/cwd"))
+    except OSError:
+        return None
+
+
 def look(root, taken, most, proved):
     """Notes what each process that `root` started has taken so far, with all below it, in ticks, the most kilobytes of any one, and of
-    which crates and parts something is proved or tried."""
+    which crates and parts something is proved or tried, and in which rooms."""
     stats, below = {}, {}
     for pid in filter(str.isdigit, os.listdir("/proc")):
         stat = text_of(pid, "stat").rpartition(")")[2].split()
@@ -179,7 +187,7 @@ def look(root, taken, most, proved):
         if work is None:
             continue
         if "--crate-name" in text_of(top, "cmdline").split("\0"):
-            proved.add(work)
+            proved.setdefault(work, set()).add(room_of(top))
         ticks, line = 0, [top]
         while line:
             pid = line.pop()
@@ -201,7 +209,7 @@ def fixed_loop():
 
 def gate(names):
     """Runs the gate, or its part for some crates, keeps a line for each crate that it worked for, and gives its status."""
-    taken, most, proved, start, loops = {}, {}, set(), time.monotonic(), [fixed_loop()]
+    taken, most, proved, start, loops = {}, {}, {}, time.monotonic(), [fixed_loop()]
     run = subprocess.Popen(["rt", "ci", *names], cwd=TOP, stdin=subprocess.DEVNULL)
     while run.poll() is None:
         look(run.pid, taken, most, proved)
@@ -213,6 +221,9 @@ def gate(names):
     for crate in [] if run.returncode else libraries():
         # (tests that an earlier run proved are run all the same)
         parts = [part for part in ("check", "tests", "wrong") if (crate, part) in proved]
+        if len(proved.get((crate, "wrong"), ())) < wrong_bodies(crate) + 2 * (wrong_bodies(crate) > 1):
+            # (some were kept; where there are more than one, a proof before them and one behind have rooms of their own)
+            parts = [part for part in parts if part != "wrong"]
         row = {"crate": crate, "wrong_bodies": wrong_bodies(crate)}
         for part in parts:
             ticks = sum(it for key, it in taken.items() if key[2] == (crate, part))
