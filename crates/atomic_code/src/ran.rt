@@ -4,7 +4,7 @@ use std::alloc::{Allocator, Global};
 use syntax::numbers::Trap;
 
 /// How a thread is over.
-#[derive(Clone, Copy, PartialEq, Eq, Debug)]
+#[derive(Clone, Copy, PartialEq, Eq)]
 pub enum End {
     /// It has come to its end.
     Ended,

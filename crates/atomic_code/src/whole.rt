@@ -18,7 +18,7 @@ use std::alloc::{AllocError, Allocator, Global};
 use syntax::numbers::{Halt, Status};
 
 /// How a thread is found after its instructions.
-#[derive(Clone, Copy, PartialEq, Eq, Debug)]
+#[derive(Clone, Copy, PartialEq, Eq)]
 pub enum ThreadEnd {
     /// It has come to its end.
     Ended,

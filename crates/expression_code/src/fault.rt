@@ -6,7 +6,7 @@ ghost use Rattle.expression_code.specs.declared.fault.Failure.TheVariants.{OutOf
 use std::alloc::AllocError;
 
 /// Why a function's code is not made.
-#[derive(Clone, Copy, Debug)]
+#[derive(Clone, Copy)]
 pub enum Failure {
     /// A growth was refused.
     OutOfMemory,

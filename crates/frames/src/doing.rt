@@ -9,7 +9,7 @@ use std::alloc::{AllocError, Allocator};
 use syntax::numbers::Trap;
 
 /// What stands at a thread's place to be done. Indices of arrays have been tested, and values of registers are given with it.
-#[derive(Clone, Copy, PartialEq, Eq, Debug)]
+#[derive(Clone, Copy, PartialEq, Eq)]
 pub enum Doing {
     /// A local step, which does not trap.
     Local,

@@ -11,7 +11,7 @@ pub struct Span {
 }
 
 /// The type of a number: 32 bits, in two's complement where it is signed (C11 6.2.5).
-#[derive(Clone, Copy, Debug, PartialEq, Eq)]
+#[derive(Clone, Copy, PartialEq, Eq)]
 pub enum Scalar {
     /// -2147483648 to 2147483647.
     Int,
@@ -20,7 +20,7 @@ pub enum Scalar {
 }
 
 /// A keyword (C11 6.4.1, and the transactions of GNU C).
-#[derive(Clone, Copy, Debug, PartialEq, Eq)]
+#[derive(Clone, Copy, PartialEq, Eq)]
 pub enum Keyword {
     Int,
     Unsigned,
@@ -46,7 +46,7 @@ pub enum Keyword {
 }
 
 /// A punctuator (C11 6.4.6).
-#[derive(Clone, Copy, Debug, PartialEq, Eq)]
+#[derive(Clone, Copy, PartialEq, Eq)]
 pub enum Punctuator {
     OpenBrace,
     CloseBrace,
@@ -96,14 +96,14 @@ pub enum Punctuator {
 }
 
 /// A token with one spelling only.
-#[derive(Clone, Copy, Debug, PartialEq, Eq)]
+#[derive(Clone, Copy, PartialEq, Eq)]
 pub enum Fixed {
     Keyword(Keyword),
     Punctuator(Punctuator),
 }
 
 /// What a token is.
-#[derive(Clone, Copy, Debug)]
+#[derive(Clone, Copy)]
 pub enum Kind<'a> {
     Name(&'a str),
     /// A whole number, by its value and its type.
@@ -127,7 +127,7 @@ pub(crate) fn kind_of<'a>(fixed: Fixed) -> Kind<'a>
 }
 
 /// A token, and where it stands.
-#[derive(Clone, Copy, Debug)]
+#[derive(Clone, Copy)]
 pub struct Token<'a> {
     pub kind: Kind<'a>,
     pub span: Span,

@@ -8,7 +8,7 @@ use syntax::numbers::Trap;
 use thiserror::Error;
 
 /// How a thread of an accepted program is found after its ticks.
-#[derive(Clone, Copy, PartialEq, Eq, Debug)]
+#[derive(Clone, Copy, PartialEq, Eq)]
 pub enum ThreadEnd {
     /// It has come to its end.
     Ended,
@@ -47,7 +47,7 @@ pub struct SourceOutcome<A: Allocator = std::alloc::Global> {
 }
 
 /// Memory was refused.
-#[derive(Clone, Copy, Debug)]
+#[derive(Clone, Copy)]
 pub struct OutOfMemory;
 
 /// Why threads don't run in an order.

@@ -17,7 +17,7 @@ use write_log::WriteLog;
 /// Contracts see the begins, with the write log as it was at each inner one; the logs; and beside them what was set
 /// aside, and numbers: for how many inner begins, reads and writes there is room. Only the calls named `prepare` take
 /// memory. Room stays from one transaction to the next, that of the registers at each depth too.
-#[derive(Debug, Drop)]
+#[derive(Drop)]
 pub struct Attempt<A: Allocator = Global> {
     reads: ReadLog<A>,
     writes: WriteLog<A>,

@@ -7,7 +7,7 @@ use std::marker::Model;
 
 /// What a begin saves of its thread: the registers of the frame on top, the number of frames, and the begin's place,
 /// which counts instructions.
-#[derive(Debug, Drop)]
+#[derive(Drop)]
 pub struct Saved<A: Allocator = Global> {
     registers: Vec<u64, A>,
     frames: usize,

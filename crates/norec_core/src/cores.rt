@@ -22,7 +22,7 @@ const LAST_SNAPSHOT: u64 = u64::MAX - 1;
 /// Each step is made in two calls, with the step's one access to the lock or the words between them: `prepare` names the
 /// access and makes all room that the step needs, `told` takes the answer, and neither fails nor takes memory. An
 /// operation is prepared again until it is done or the attempt is dropped.
-#[derive(Debug, Drop)]
+#[derive(Drop)]
 pub struct Core<A: Allocator = Global> {
     steps: Steps<A>,
     // The operation that was prepared last, and whether its step is still to be told.

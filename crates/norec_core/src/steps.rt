@@ -15,7 +15,7 @@ use std::alloc::{AllocError, Allocator};
 use std::marker::Model;
 
 // The attempt of a thread, if one is under way, and where it stands.
-#[derive(Debug, Drop)]
+#[derive(Drop)]
 pub(crate) struct Steps<A: Allocator> {
     logs: Attempt<A>,
     begun: bool,

@@ -4,7 +4,7 @@
 pub const MOST_STEPS: u32 = 1_048_576;
 
 /// Steps of one thread.
-#[derive(Clone, Copy, Debug, PartialEq, Eq)]
+#[derive(Clone, Copy, PartialEq, Eq)]
 pub struct Line {
     /// The thread's number.
     pub thread: u32,

@@ -9,7 +9,7 @@ use crate::row::{Row, read_row};
 use std::alloc::{AllocError, Allocator};
 
 /// Why a schedule is refused.
-#[derive(Clone, Copy, Debug, PartialEq, Eq)]
+#[derive(Clone, Copy, PartialEq, Eq)]
 pub enum ScheduleFault {
     /// Memory was refused.
     OutOfMemory,

@@ -7,7 +7,7 @@ use std::alloc::Allocator;
 use syntax::numbers::Trap;
 
 /// How a thread is found.
-#[derive(Clone, Copy, PartialEq, Eq, Debug)]
+#[derive(Clone, Copy, PartialEq, Eq)]
 pub enum End {
     /// It has come to its end.
     Ended,

@@ -20,7 +20,7 @@ use workers::RunFault;
 use world::{StopReason, WorldFault, WorldStop};
 
 /// How much is told of faults.
-#[derive(Clone, Copy, PartialEq, Eq, Debug)]
+#[derive(Clone, Copy, PartialEq, Eq)]
 pub struct Detail {
     /// Whether the line of the source follows.
     pub lines: bool,

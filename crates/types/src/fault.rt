@@ -93,7 +93,7 @@ pub(crate) fn demand(met: bool, fault: Violation) -> Result<(), Violation>
 }
 
 /// What stops a check in the middle.
-#[derive(Clone, Copy, PartialEq, Eq, Debug)]
+#[derive(Clone, Copy, PartialEq, Eq)]
 pub(crate) enum Failure {
     OutOfMemory,
     Violation(Violation),

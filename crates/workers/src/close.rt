@@ -101,7 +101,7 @@ pub struct Outcome<A: Allocator = Global> {
 }
 
 /// Why a hall was not closed.
-#[derive(Clone, Copy, Debug, PartialEq, Eq)]
+#[derive(Clone, Copy, PartialEq, Eq)]
 pub enum CloseReason {
     /// A growth was refused.
     OutOfMemory,

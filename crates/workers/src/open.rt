@@ -20,7 +20,7 @@ use std::alloc::{AllocError, Allocator};
 const MOST_THREADS: u32 = 64;
 
 /// Why a hall was not opened.
-#[derive(Clone, Copy, Debug, PartialEq, Eq)]
+#[derive(Clone, Copy, PartialEq, Eq)]
 pub enum HallFault {
     /// A growth was refused.
     OutOfMemory,

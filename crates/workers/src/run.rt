@@ -236,7 +236,7 @@ fn join_driven<'s, R: Threads>(
 }
 
 /// Why nothing was reported of a run.
-#[derive(Clone, Copy, Debug, PartialEq, Eq)]
+#[derive(Clone, Copy, PartialEq, Eq)]
 pub enum RunFault {
     /// A growth was refused, but for those of steps, whose threads stop.
     OutOfMemory,
@@ -254,7 +254,7 @@ enum DriveFault {
 }
 
 /// How a worker's loop ended: by a stop, or else with its thread over or with all steps of the budget made.
-#[derive(Clone, Copy, Debug, PartialEq, Eq)]
+#[derive(Clone, Copy, PartialEq, Eq)]
 pub struct Ending {
     pub number: u32,
     pub stopped: Option<Stop>,

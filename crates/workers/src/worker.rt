@@ -32,7 +32,7 @@ pub struct Worker<A: Allocator = Global> {
 }
 
 /// How a run of one worker ended.
-#[derive(Clone, Copy, Debug, PartialEq, Eq)]
+#[derive(Clone, Copy, PartialEq, Eq)]
 pub enum Status {
     /// The thread has ended.
     Ended,

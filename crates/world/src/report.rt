@@ -11,7 +11,7 @@ use std::alloc::{AllocError, Allocator, Global};
 use syntax::numbers::{Status, Trap};
 
 /// How a thread is found.
-#[derive(Clone, Copy, PartialEq, Eq, Debug)]
+#[derive(Clone, Copy, PartialEq, Eq)]
 pub enum End {
     /// It has come to its end.
     Ended,

@@ -1,7 +1,7 @@
 //! Why a world is not opened, and why a step is not made.
 
 /// Why a world was not opened.
-#[derive(Clone, Copy, PartialEq, Eq, Debug)]
+#[derive(Clone, Copy, PartialEq, Eq)]
 pub enum WorldFault {
     /// A growth was refused.
     OutOfMemory,
@@ -10,7 +10,7 @@ pub enum WorldFault {
 }
 
 /// Why a list of steps was not made to its end.
-#[derive(Clone, Copy, PartialEq, Eq, Debug)]
+#[derive(Clone, Copy, PartialEq, Eq)]
 pub enum StopReason {
     /// The memory that the step wants was refused.
     OutOfMemory,
@@ -21,7 +21,7 @@ pub enum StopReason {
 }
 
 /// The step of a list that was not made: how many were made before it, and why.
-#[derive(Clone, Copy, PartialEq, Eq, Debug)]
+#[derive(Clone, Copy, PartialEq, Eq)]
 pub struct WorldStop {
     pub step: u64,
     pub reason: StopReason,

@@ -13,7 +13,7 @@ use std::marker::{Brand, Model};
 use std::sync::ledger::{Blank, Ledger};
 
 /// What a put has changed: it added the last pair, or replaced the word at a place, which was this.
-#[derive(Clone, Copy, Debug)]
+#[derive(Clone, Copy)]
 pub enum Change {
     Added,
     Replaced(usize, u64),
@@ -21,7 +21,7 @@ pub enum Change {
 
 /// Each address with its word, in order of first write, and beside them (address, place) by address. All addresses lie
 /// between `least` and `greatest`, which stay where pairs are taken back.
-#[derive(Debug, Drop)]
+#[derive(Drop)]
 pub struct Pairs<A: Allocator> {
     list: Vec<(u32, u64), A>,
     order: Vec<(u32, usize), A>,
