@@ -1,4 +1,4 @@
-use Rattle.std.proofs.Common.{◌∙◌, refl, arith}
+use Rattle.std.proofs.Common.{◌∙◌, refl, arith, rules}
 use Rattle.seats.proofs.access.make.Goals as goal
 
 pub load_lock-requires-clause-table : goal.load_lock-requires-clause-table
@@ -18,3 +18,6 @@ store_lock-requires-clause-next g c = let n = c.requires.next in (n.0, n.1, n.2 
 
 pub returns-in-StoreLock-clause-made : goal.returns-in-StoreLock-clause-made
 returns-in-StoreLock-clause-made g c = rw c.in-StoreLock.is (c.in-StoreLock.value, refl, c.store_lock.ensures.took)
+
+pub returns-else-found-from-clause-made : goal.returns-else-found-from-clause-made
+returns-else-found-from-clause-made g c = search rules

@@ -18,3 +18,6 @@ returns g c =
     leaves c.args.table.shared.key c.args.seat.id c.args.seat.me c.cells.cell s.words s.views c.cells.cells.items end.1.0 end.1.1
     (subst (λ (ws : List ℕ). length ws ≤ c.cells.cell + 1) (sym end.2) long)
     (c.cells.invariant.cells ∙ ap (λ (ws : List ℕ). take c.cells.cell (drop 1 ws)) (sym end.2))
+
+pub cells-init : goal.cells-init
+cells-init g c = search rules

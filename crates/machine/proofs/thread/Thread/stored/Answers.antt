@@ -1,4 +1,4 @@
-use Rattle.std.proofs.Common.{◌∙◌, ap, subst, sym}
+use Rattle.std.proofs.Common.{◌∙◌, ap, subst, sym, rules}
 use Rattle.std.specs.Prelude.{IsSomeAnd}
 use Rattle.frames.proofs.Keeping.{begins_stay_open}
 use Rattle.norec_core.specs.Cores.{IsStoring}
@@ -26,3 +26,6 @@ returns-clause-of g c = thread_of c.args.code.now (begins_stay_open c.args.code.
 
 pub invariant_of-self : goal.invariant_of-self
 invariant_of-self g c = (c.stored-event.ensures.makes Done).within
+
+pub returns-clause-again : goal.returns-clause-again
+returns-clause-again g c = search rules

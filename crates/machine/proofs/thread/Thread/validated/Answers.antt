@@ -1,4 +1,4 @@
-use Rattle.std.proofs.Common.{◌∙◌, ap}
+use Rattle.std.proofs.Common.{◌∙◌, ap, rules}
 use Rattle.frames.proofs.Keeping.{begins_stay_open}
 use Rattle.machine.proofs.keeping.Calls.{runs_of}
 use Rattle.machine.proofs.keeping.Seen.{thread_of}
@@ -14,3 +14,6 @@ validated-requires-clause-runs g c =
 
 pub returns-clause-of : goal.returns-clause-of
 returns-clause-of g c = thread_of c.args.code.now (begins_stay_open c.args.code.now c.parts-valid.ensures.valid) _ c.validated.ensures.makes.of
+
+pub returns-clause-thread : goal.returns-clause-thread
+returns-clause-thread g c = search rules

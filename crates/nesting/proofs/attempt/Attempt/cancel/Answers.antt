@@ -1,4 +1,4 @@
-use Rattle.std.proofs.Common.{arith}
+use Rattle.std.proofs.Common.{arith, rules}
 use Rattle.nesting.proofs.CheckpointLists.{after_cancel, counts_begins}
 use Rattle.nesting.proofs.attempt.Attempt.cancel.Goals as goal
 
@@ -8,3 +8,6 @@ returns-clause-back g c =
     let begun = rw (← c.self.view_is) at c.requires in
     rw (c.swap_aside.ensures.aside, c.back_to.ensures.marks, ← c.self.view_is)
     (after_cancel c.self.inside.depth c.self.inside.inner.items c.self.inside.writes.marks _ _ _ (omega arith) (omega arith) c.index_mut.ensures.value c.back_to.ensures.pairs)
+
+pub returns-clause-reads : goal.returns-clause-reads
+returns-clause-reads g c = search rules

@@ -1,0 +1,6 @@
+-- (the prover finds these unwritten too; where they are written, it refuses a wrong body sooner)
+use Rattle.std.proofs.Common.{rules}
+use Rattle.norec_core.proofs.steps.Steps.swapped.Goals as goal
+
+pub returns-in-Won : goal.returns-in-Won
+returns-in-Won g c = search rules
