@@ -282,7 +282,7 @@ def table():
     number = lambda row, field: int(row.get(field) or 0)
     whole = lambda row: sum(number(row, field) for field in ("check_s", "tests_s", "wrong_s"))
     shown = lambda row, field: "not measured" if field not in row else f"{int(row[field]):,}" if int(row[field]) else "–"
-    lines = ["| Crate | Check, s | Tests, s | Wrong bodies | Their s | Peak of one process, GB | At commit |", "|---|---|---|---|---|---|---|"]
+    lines = ["| Crate | Check, s | Tests, s | Wrong bodies | Their s | Peak of one process, GB | Last measured at |", "|---|---|---|---|---|---|---|"]
     crates = [it for it in libraries()]
     for crate in sorted((it for it in peaks if it in crates), key=lambda it: -whole(last[it])):
         row, peak = last[crate], max(peaks[crate].values()) / 1024
