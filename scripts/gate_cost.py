@@ -1,8 +1,9 @@
 #!/usr/bin/env python3
 """Measures what the gate costs, crate by crate, and keeps the table of docs/GATE.md.
 
-  scripts/gate_cost.py --gate [CRATE..]         runs `rt ci` once, of these crates and those below them where some are named, passes on what
-                                                it prints, and adds a line for each crate that it proved, or all of whose wrong bodies it tried, to docs/gate_cost.csv
+  scripts/gate_cost.py --gate [CRATE..]         runs the gate once (.ci/run, or `rt ci` of these crates and those below them where some are named),
+                                                passes on what it prints, and adds a line for each crate that it proved, or all of whose wrong bodies
+                                                it tried, to docs/gate_cost.csv
   scripts/gate_cost.py CRATE..                  measures crates one after another in copies, and adds a line for each
   scripts/gate_cost.py --part check CRATE..     one part alone: check, tests or wrong (wrong bodies)
   scripts/gate_cost.py --table                  prints the table, from the least measurement of each part of each crate, of the files as they are
@@ -210,7 +211,10 @@ def fixed_loop():
 def gate(names):
     """Runs the gate, or its part for some crates, keeps a line for each crate that it worked for, and gives its status."""
     taken, most, proved, start, loops = {}, {}, {}, time.monotonic(), [fixed_loop()]
-    run = subprocess.Popen(["rt", "ci", *names], cwd=TOP, stdin=subprocess.DEVNULL)
+    # (named crates with as many checks at once, and jobs in each, as the whole gate)
+    jobs = str(min(4, len(os.sched_getaffinity(0))))
+    words, more = (["rt", "ci", *names], {"RT_JOBS": jobs}) if names else ([f"{TOP}/.ci/run"], {})
+    run = subprocess.Popen(words, cwd=TOP, stdin=subprocess.DEVNULL, env={**os.environ, **more})
     while run.poll() is None:
         look(run.pid, taken, most, proved)
         if time.monotonic() > start + 10 * len(loops):
