@@ -7,7 +7,7 @@ use Rattle.std.proofs.lemmas.List.Edits.{length-insert, get_or-insert_below, get
 use Rattle.std.proofs.lemmas.List.Sums.{position_or_len_is}
 use Rattle.std.proofs.Math.Nat.{pow-suc}
 use Rattle.write_log.specs.Overlay.{Lacks, IsDistinct}
-use Rattle.write_log.specs.inner.Order.{IsPlace, IsFound, IsRising, IsOrderOf, AreBetween, IsAbove, IsSearched}
+use Rattle.write_log.specs.inner.Order.{IsPlace, IsFound, IsRising, IsOrderOf, AreBetween, IsAbove, IsSearched, AreWithin}
 use Rattle.write_log.proofs.Places.{lacks_all, lacks_at}
 
 -- ---- searching
@@ -31,6 +31,52 @@ above_at order m a up lt here j le inside = at (cases_eq j m)
     at : (j ≡ m) ⊎ (j ≢ m) → a < (get_or order j (0, 0)).0
     at (inl e) = rw e here
     at (inr ne) = let r = up m j (omega arith) inside in omega arith
+
+-- as far apart as two stand in the order, so far apart are they at least
+gap : (order : List (ℕ × ℕ)) (i k : ℕ) → IsRising order → i + k < length order → (get_or order i (0, 0)).0 + k ≤ (get_or order (i + k) (0, 0)).0
+gap order i zero up lt = let e : i + 0 ≡ i = omega arith in rw e (omega arith)
+gap order i (suc k) up lt =
+    let r = gap order i k up (omega arith) in
+    let s = up (i + k) (i + suc k) (omega arith) lt in
+    omega (arith, r, s)
+
+gap_first : (order : List (ℕ × ℕ)) (j : ℕ) → IsRising order → j < length order → (get_or order 0 (0, 0)).0 + j ≤ (get_or order j (0, 0)).0
+gap_first order zero up lt = omega arith
+gap_first order (suc j) up lt =
+    let r = gap_first order j up (omega arith) in
+    let s = up j (suc j) (omega arith) lt in
+    omega (arith, r, s)
+
+-- before so many, all are below an address, and from so many on above it
+pub below_few : (order : List (ℕ × ℕ)) (least greatest a j : ℕ) → IsRising order → AreWithin least greatest order → j < length order - ((greatest - a) + 1) → (get_or order j (0, 0)).0 < a
+below_few order least greatest a j up b lt =
+    let k = length order - 1 - j in
+    let e : j + k ≡ length order - 1 = omega arith in
+    let r = gap order j k up (omega arith) in
+    let s = (b (j + k) (omega arith)).1 in
+    omega (arith, r, s, e)
+
+pub above_few : (order : List (ℕ × ℕ)) (least greatest a j : ℕ) → IsRising order → AreWithin least greatest order → (a - least) + 1 ≤ j → j < length order → a < (get_or order j (0, 0)).0
+above_few order least greatest a j up b le lt =
+    let r = gap_first order j up lt in
+    let s = (b 0 (omega arith)).0 in
+    omega (arith, r, s)
+
+-- as many as there are lie between the bounds
+pub spread : (order : List (ℕ × ℕ)) (least greatest : ℕ) → IsRising order → AreWithin least greatest order → 0 < length order → least + (length order - 1) ≤ greatest
+spread order least greatest up b some =
+    let r = gap_first order (length order - 1) up (omega arith) in
+    let s = (b 0 some).0 in
+    let t = (b (length order - 1) (omega arith)).1 in
+    omega (arith, r, s, t)
+
+-- what is left to be halved begins before it ends
+pub starts : (order : List (ℕ × ℕ)) (least greatest a : ℕ) → IsRising order → AreWithin least greatest order → length order - ((greatest - a) + 1) ≤ min (length order) ((a - least) + 1)
+starts order least greatest a up b = at (cases_lt 0 (length order))
+  where
+    at : (0 < length order) ⊎ (length order ≤ 0) → length order - ((greatest - a) + 1) ≤ min (length order) ((a - least) + 1)
+    at (inl some) = let s = spread order least greatest up b some in omega (arith, s)
+    at (inr none) = omega arith
 
 -- ---- what an order tells of its pairs
 
@@ -60,6 +106,13 @@ distinct_from_apart (p ∷ ps) h =
 
 pub order-distinct : (ps order : List (ℕ × ℕ)) → IsOrderOf ps order → IsDistinct ps
 order-distinct ps order o = distinct_from_apart ps (λ i j l m e. let f = one_place ps order i j o (omega arith) m e in omega arith)
+
+-- the bounds of its pairs are its own
+pub order-within : (least greatest : ℕ) (ps order : List (ℕ × ℕ)) → IsOrderOf ps order → AreBetween least greatest ps → AreWithin least greatest order
+order-within least greatest ps order o b k l =
+    let h = o.here k l in
+    let w = b (get_or order k (0, 0)).1 h.0 in
+    (omega (arith, w.0, h.1), omega (arith, w.1, h.1))
 
 -- an address that was found
 pub found_place : (a : ℕ) (ps order : List (ℕ × ℕ)) (k : ℕ) → IsOrderOf ps order → IsSearched a order (Ok k) → IsPlace a ps (get_or order k (0, 0)).1

@@ -3,7 +3,7 @@
 ghost use Rattle.std.specs.Prelude.{◌≡◌, true, false, ◌+◌, ◌<◌, ◌≤◌, ◌^◌, [], OnOk, OnErr, length, vec_len, vec_capacity};
 ghost use Rattle.std.specs.List.{slice_get, insert};
 ghost use Rattle.write_log.specs.Overlay.{put, IsDistinct};
-ghost use Rattle.write_log.specs.inner.Order.{IsAbove, IsRising, IsSearched, IsFound, IsWithinDigits};
+ghost use Rattle.write_log.specs.inner.Order.{IsAbove, IsRising, IsSearched, IsFound, IsWithinDigits, AreWithin};
 ghost use Rattle.write_log.specs.inner.Journal.{undone, CanUndo};
 
 use crate::looks::Looks;
@@ -40,19 +40,26 @@ impl<A: Allocator> Model for Pairs<A> {
     ghost invariant = { λ a. IsOrderOf a.list.items a.order.items × AreBetween a.least a.greatest a.list.items };
 }
 
-/// Where the order has an address, or where it would be inserted.
+/// Where the order has an address, or where it would be inserted. All its addresses lie between these bounds.
 #[inline(never)]
 fn search<L: Ledger>(
     order: &[(u32, usize)],
+    least: u32,
+    greatest: u32,
     address: u32,
     looks: &mut Looks<L>,
 ) -> Result<usize, usize>
-    requires { IsRising order.now }
+    requires rising { IsRising order.now }
+    requires between { AreWithin least greatest order.now }
     ensures found { IsSearched address order.now result }
     ensures looks { IsWithinDigits (length order.now) looks.old looks.new }
 {
-    let mut from = 0;
-    let mut to = order.len();
+    // The addresses rise, so at most `address - least` of them lie below this one, and at most `greatest - address` above it.
+    // Where they lie close together, little is left to be halved: nothing where none is left out.
+    let below = address.saturating_sub(least) as usize;
+    let above = greatest.saturating_sub(address) as usize;
+    let mut from = order.len().saturating_sub(above + 1);
+    let mut to = order.len().min(below + 1);
     while from < to {
         let middle = from + (to - from) / 2;
         match looks.compare(order[middle].0, address) {
@@ -67,6 +74,8 @@ fn search<L: Ledger>(
 /// The same, with a ledger for the looks.
 fn search_uncounted<L: Ledger>(
     order: &[(u32, usize)],
+    least: u32,
+    greatest: u32,
     address: u32,
     blank: Blank,
 ) -> Result<usize, usize>
@@ -74,17 +83,19 @@ fn search_uncounted<L: Ledger>(
     requires parts { blank.parts ≡ L.parts }
     requires some { 0 < blank.parts }
     requires rising { IsRising order.now }
+    requires between { AreWithin least greatest order.now }
     ensures { IsSearched address order.now result }
 {
-    search(order, address, &mut Looks::<L>::new(blank))
+    search(order, least, greatest, address, &mut Looks::<L>::new(blank))
 }
 
 /// The same where nobody counts.
-fn slot_of(order: &[(u32, usize)], address: u32) -> Result<usize, usize>
-    requires { IsRising order.now }
+fn slot_of(order: &[(u32, usize)], least: u32, greatest: u32, address: u32) -> Result<usize, usize>
+    requires rising { IsRising order.now }
+    requires between { AreWithin least greatest order.now }
     ensures { IsSearched address order.now result }
 {
-    search_uncounted::<Brand>(order, address, Blank::new(1))
+    search_uncounted::<Brand>(order, least, greatest, address, Blank::new(1))
 }
 
 /// Inserts an entry where there is room.
@@ -161,7 +172,13 @@ impl<A: Allocator + Copy> Pairs<A> {
         if address < self.least || self.greatest < address {
             return None;
         }
-        match search(self.order.as_slice(), address, looks) {
+        match search(
+            self.order.as_slice(),
+            self.least,
+            self.greatest,
+            address,
+            looks,
+        ) {
             Ok(at) => Some(self.order[at].1),
             Err(_) => None,
         }
@@ -203,7 +220,7 @@ impl<A: Allocator + Copy> Pairs<A> {
         ensures can_undo { CanUndo result self.new.pairs }
         ensures room { self.old.room ≤ self.new.room + 1 }
     {
-        match slot_of(self.order.as_slice(), address) {
+        match slot_of(self.order.as_slice(), self.least, self.greatest, address) {
             Ok(at) => {
                 let place = self.order[at].1;
                 let before = self.list[place].1;
@@ -229,7 +246,7 @@ impl<A: Allocator + Copy> Pairs<A> {
         match change {
             Change::Added => {
                 let (address, _) = self.list.take_last();
-                if let Ok(at) = slot_of(self.order.as_slice(), address) {
+                if let Ok(at) = slot_of(self.order.as_slice(), self.least, self.greatest, address) {
                     self.order.remove(at);
                 }
             }
