@@ -1,3 +1,5 @@
+-- the begins along a list of instructions
+pub mod Begins
 -- instructions that are in order where they stand
 pub mod Goods
 -- lists that become those of a finished code

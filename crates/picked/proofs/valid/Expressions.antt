@@ -134,7 +134,7 @@ module _ (p : Program) (code : Code) (arguments : List ℕ) (f : FunctionCode) (
       own_sound e h from free l = tt
 
       pub all_sound : (es : Exprs) → TypedExprs known es → (from free : ℕ) (l : Lists) → AllSound code arguments f end from l (all_emitted p scope es from free l)
-      all_sound Exprs.[] h from free l = record { to_is = omega arith; grows = grows_same l; held = tt; goods = λ o bs k run. tt }
+      all_sound Exprs.[] h from free l = record { to_is = omega arith; grows = grows_same l; held = tt; balanced = λ q bs. refl; goods = λ o bs k run. tt }
       all_sound (Exprs.◌∷◌ e es) h from free l =
           let first = emitted p scope e from free free l in
           let later : ℕ = above free first.held.register in

@@ -1,5 +1,5 @@
 -- Parts of a body, with the begins that are open at each of their places, and how they are put together.
-use Rattle.std.proofs.Common.{◌≡◌, refl, sym, ap, subst, ◌∙◌, ℕ, zero, suc, ◌+◌, ◌-◌, ◌≤◌, ◌<◌, List, [], ◌∷◌, ◌++◌, length, replicate, drop, arith, Option, Some, Bool, IsTrue}
+use Rattle.std.proofs.Common.{◌≡◌, refl, sym, ap, subst, ◌∙◌, ℕ, zero, suc, ◌+◌, ◌≤◌, ◌<◌, List, [], ◌∷◌, ◌++◌, length, replicate, drop, arith, Option, Some, Bool, IsTrue}
 use Rattle.std.specs.List.{AllByRecursion}
 use Rattle.std.proofs.lemmas.List.{length-append, length-replicate}
 use Rattle.syntax.specs.declared.tree.Mode.{Mode}
@@ -16,37 +16,9 @@ use Rattle.picked.specs.Simples.{Written, one_written, and_then}
 use Rattle.picked.specs.Statements.{in_transaction, left_by, transacted}
 use Rattle.picked.proofs.stands.Standing.{Stand, front, behind, Grows, grows_same, grows_further}
 use Rattle.picked.proofs.valid.Fitting.{Fits, fits_before}
-use Rattle.picked.proofs.valid.Goods.{IsGood, AreGood, good_append, Meets, Runs}
+use Rattle.picked.proofs.valid.Begins.{Are, are_front, are_behind, opens as opens_along, opens_many, opens_first}
+use Rattle.picked.proofs.valid.Goods.{IsGood, AreGood, good_append, Meets, Runs, runs_to}
 use Rattle.picked.proofs.valid.Simples.{Flat}
-
--- these begins are open at a place and those behind it
-module _ (open_at : ℕ → List ℕ) where
-  abbrev pub Are : ℕ → List (List ℕ) → Type 0
-  Are q [] = Unit {0}
-  Are q (bs ∷ rest) = (open_at q ≡ bs) × Are (suc q) rest
-
-  pub are_front : (q : ℕ) (a b : List (List ℕ)) → Are q (a ++ b) → Are q a
-  are_front q [] b h = tt
-  are_front q (bs ∷ a) b h = (h.0, are_front (suc q) a b h.1)
-
-  pub are_behind : (q to : ℕ) (a b : List (List ℕ)) → to ≡ q + length a → Are q (a ++ b) → Are to b
-  are_behind q to [] b e h = let f : q ≡ to = omega (arith, e) in subst (λ n. Are n b) f h
-  are_behind q to (bs ∷ a) b e h = let f : to ≡ suc q + length a = omega (arith, e) in are_behind (suc q) to a b f h.1
-
-  level : (n k q : ℕ) (bs : List ℕ) → k ≤ n → Are q (replicate n bs) → open_at (q + n) ≡ bs → open_at (q + k) ≡ bs
-  level zero zero q bs low h e = e
-  level zero (suc k) q bs low h e = absurd (omega (arith, low))
-  level (suc n) zero q bs low h e = let same : q ≡ q + 0 = omega arith in subst (λ m. open_at m ≡ bs) same h.0
-  level (suc n) (suc k) q bs low h e =
-      let there : q + suc n ≡ suc q + n = omega arith in
-      let here : suc q + k ≡ q + suc k = omega arith in
-      subst (λ m. open_at m ≡ bs) here (level n k (suc q) bs (omega (arith, low)) h.1 (subst (λ m. open_at m ≡ bs) there e))
-
-  pub level_at : (n q to : ℕ) (bs : List ℕ) → to ≡ q + n → Are q (replicate n bs) → open_at to ≡ bs → (r : ℕ) → q ≤ r → r ≤ to → open_at r ≡ bs
-  level_at n q to bs same h e r low high =
-      let k : ℕ = r - q in
-      let at : q + k ≡ r = omega (arith, low) in
-      subst (λ m. open_at m ≡ bs) at (level n k q bs (omega (arith, same, low, high)) h (subst (λ m. open_at m ≡ bs) same e))
 
 -- the open begins in front of so many commits and what follows them
 abbrev pub lowering : ℕ → List ℕ → List (List ℕ)
@@ -76,22 +48,20 @@ module _ (code : Code) (arguments : List ℕ) (f : FunctionCode) (end : ℕ) whe
     pub goods : (open_at : ℕ → List ℕ) → Fits code arguments f.registers w.lists → Stand code arguments from w.code → f.first ≤ from → w.to < end → Are open_at from opens → open_at w.to ≡ bs → P open_at →
         AreGood code arguments f end open_at from w.code
 
-  -- what is in order where the begins are open throughout, and in what is known
-  pub level_part : (P : (ℕ → List ℕ) → Type 0) (bs : List ℕ) (from : ℕ) (l : Lists) (w : Written) → w.to ≡ from + length w.code → Grows l w.lists →
-      ((open_at : ℕ → List ℕ) → Fits code arguments f.registers w.lists → P open_at → Runs code arguments f end open_at from w.to bs → AreGood code arguments f end open_at from w.code) → Part P bs from l w
-  level_part P bs from l w to_is grows good =
-      let n : ℕ = length w.code in
-      record {
-        to_is = to_is;
-        grows = grows;
-        opens = replicate n bs;
-        many = length-replicate n bs;
-        enters = λ o are e. level_at o n from w.to bs to_is are e from (omega arith) (omega (arith, to_is));
-        goods = λ o k st first last are e holds. good o k holds (record { first = first; last = last; level = level_at o n from w.to bs to_is are e });
-      }
+  -- what is in order where those begins are open that its text says, and in what is known
+  pub along_part : (P : (ℕ → List ℕ) → Type 0) (bs : List ℕ) (from : ℕ) (l : Lists) (w : Written) → w.to ≡ from + length w.code → Grows l w.lists →
+      ((open_at : ℕ → List ℕ) → Fits code arguments f.registers w.lists → P open_at → Runs code arguments f end open_at from bs w.code → AreGood code arguments f end open_at from w.code) → Part P bs from l w
+  along_part P bs from l w to_is grows good = record {
+    to_is = to_is;
+    grows = grows;
+    opens = opens_along arguments from bs w.code;
+    many = opens_many arguments from bs w.code;
+    enters = λ o are e. opens_first arguments o from w.to bs w.code to_is are e;
+    goods = λ o k st first last are e holds. good o k holds (runs_to code arguments f end o from w.to bs w.code to_is first last are e);
+  }
 
   pub flat_part : (P : (ℕ → List ℕ) → Type 0) (bs : List ℕ) (from : ℕ) (l : Lists) (w : Written) → Flat code arguments f end from l w → Part P bs from l w
-  flat_part P bs from l w h = level_part P bs from l w h.to_is h.grows (λ o k holds run. h.goods o bs k run)
+  flat_part P bs from l w h = along_part P bs from l w h.to_is h.grows (λ o k holds run. h.goods o bs k run)
 
   -- a part is in order where more is known
   abbrev pub knowing : (P Q : (ℕ → List ℕ) → Type 0) (bs : List ℕ) (from : ℕ) (l : Lists) (w : Written) (h : Part P bs from l w) → ((open_at : ℕ → List ℕ) → f.first ≤ from → w.to < end → Are open_at from h.opens → open_at w.to ≡ bs → Q open_at → P open_at) → Part Q bs from l w

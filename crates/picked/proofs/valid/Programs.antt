@@ -20,7 +20,7 @@ use Rattle.syntax.proofs.Called.{called_are_defined, bodies_are_typed, worker_kn
 use Rattle.bytecode.specs.declared.limits.TheConstants.{MOST_REGISTERS}
 use Rattle.bytecode.specs.declared.instr.Instr.{Instr}
 use Rattle.bytecode.specs.declared.instr.Instr.TheVariants as own
-use Rattle.bytecode.specs.Code.{Code, FunctionCode, Instr as Plain}
+use Rattle.bytecode.specs.Code.{Code, FunctionCode}
 use Rattle.bytecode.specs.Valid.{IsWritten, end_before, IsValidFunction, HasWorker, IsValid}
 use Rattle.bytecode.specs.Views.{instr_of}
 use Rattle.lowered.specs.Expressions.{LocalScope, Layout}
@@ -37,11 +37,12 @@ use Rattle.picked.proofs.stands.Standing.{Stand, front, behind, IsFront, front_s
 use Rattle.picked.proofs.stands.Cancelling.{CancelsAreFit}
 use Rattle.picked.proofs.stands.Functions.{callee_is_there, defined_are_callees, parameters_are, GoesOn, on_same, on_further, or_false, names_apart, own_first, Firsts, firsts_from, items_met, all_stand, callable_worker, sets_length}
 use Rattle.picked.proofs.valid.Fitting.{AreFoundBelow, nothing_below, all_below, Fits}
-use Rattle.picked.proofs.valid.Goods.{AreGood, good_append, Runs, good_on}
+use Rattle.picked.proofs.valid.Begins.{Are, are_front, are_behind, opens as opens_along, opens_many}
+use Rattle.picked.proofs.valid.Goods.{AreGood, good_append, Runs, runs_to, meets_first, next_run, good_on}
 use Rattle.picked.proofs.valid.Sounds.{AreBelow, below_append}
 use Rattle.picked.proofs.valid.Shared.{cells_fit}
 use Rattle.picked.proofs.valid.Expressions.{CalleesTake}
-use Rattle.picked.proofs.valid.Parts.{Are, are_front, are_behind, level_at, Exiting}
+use Rattle.picked.proofs.valid.Parts.{Exiting}
 use Rattle.picked.proofs.valid.Statements.{stmts_part}
 use Rattle.picked.proofs.valid.Ways.{opened, are_opened, all_written as are_all_written, keeps_open}
 
@@ -108,11 +109,11 @@ module _ (code : Code) (arguments : List ℕ) (g : FunctionCode) (end : ℕ) (op
   looped_words [] at q h = tt
   looped_words (i ∷ is) at q h = words_by i at (looped_from (suc at) is) h.0.written (looped_words is (suc at) (suc q) h.1)
 
-  sets_good : (from to : ℕ) → Runs code arguments g end open_at from to [] → (r : ℕ) (ws : List ℕ) (q : ℕ) → r + length ws ≤ g.registers → AreBelow (2 ^ 32) ws → from ≤ q → q + length ws ≤ to → AreGood code arguments g end open_at q (all_set r ws)
-  sets_good from to run r [] q room words low high = tt
-  sets_good from to run r (w ∷ ws) q room words low high = (
-    good_on code arguments g end open_at from to [] run (Plain.Constant r w) (λ q bs. (refl, tt)) (omega (arith, room), words.0) q low (omega (arith, high)),
-    sets_good from to run (suc r) ws (suc q) (omega (arith, room)) words.1 (omega (arith, low)) (omega (arith, high)),
+  sets_good : (r : ℕ) (ws : List ℕ) (q : ℕ) → r + length ws ≤ g.registers → AreBelow (2 ^ 32) ws → Runs code arguments g end open_at q [] (all_set r ws) → AreGood code arguments g end open_at q (all_set r ws)
+  sets_good r [] q room words run = tt
+  sets_good r (w ∷ ws) q room words run = (
+    good_on code arguments g end open_at q [] (own.Constant r w) (all_set (suc r) ws) (λ q bs. (refl, tt)) (omega (arith, room), words.0) run,
+    sets_good (suc r) ws (suc q) (omega (arith, room)) words.1 (next_run code arguments g end open_at q [] (own.Constant r w) (all_set (suc r) ws) (λ q bs. refl) run),
   )
 
 -- a body with its return is in order in a function that ends behind it
@@ -224,30 +225,29 @@ module _ (p : Program) (typed : IsTypedProgram p) (cancels : CancelsAreFit p) wh
       let w = body_ready layout p f body from l in
       let g : FunctionCode = function_code f from w in
       let b = body_good p typed cancels code final.arguments (callees_take p) refl g layout f body e begins l in
-      let flat : List (List ℕ) = replicate n [] in
+      let flat : List (List ℕ) = opens_along final.arguments from [] sets in
       let many = sets_length layout.writable layout.constants in
-      let flat_many : length flat ≡ n = length-replicate n [] in
+      let flat_many : length flat ≡ length sets = opens_many final.arguments from [] sets in
       let open_at : ℕ → List ℕ = opened (flat ++ b.opens) from in
       let are = are_opened (flat ++ b.opens) from in
-      let behind_sets = are_behind open_at from begins flat b.opens (omega (arith, flat_many)) are in
-      let level = level_at open_at n from begins [] refl (are_front open_at from flat b.opens are) (b.enters open_at behind_sets) in
-      let starts = level from (omega arith) (omega arith) in
+      let behind_sets = are_behind open_at from begins flat b.opens (omega (arith, flat_many, many)) are in
       let sets_is : begins ≡ from + length sets = omega (arith, many) in
       let a = b.to_is in
       let last = b.some in
       let u : length (sets ++ made.code) ≡ length sets + length made.code = length-append sets made.code in
       let end_is : w.to ≡ from + length w.code = omega (arith, a, u, many) in
       let some : from < w.to = omega (arith, last) in
+      let run : Runs code final.arguments g w.to open_at from [] sets = runs_to code final.arguments g w.to open_at from begins [] sets sets_is (omega arith) last (are_front open_at from flat b.opens are) (b.enters open_at behind_sets) in
+      let starts = (meets_first code final.arguments g w.to open_at from from [] sets refl run).1 in
       record {
         to_is = end_is;
         some = some;
         goes_on = record { arguments = b.goes_on.arguments; texts = b.goes_on.texts };
         valid = λ goes st few.
             let named = b.named in
-            let run : Runs code final.arguments g w.to open_at from begins [] = (record { first = omega arith; last = last; level = level }) in
             let goods : AreGood code final.arguments g w.to open_at from w.code =
             good_append code final.arguments g w.to open_at from begins sets made.code sets_is
-            (sets_good code final.arguments g w.to open_at from begins run layout.writable layout.constants from (omega arith) words (omega arith) (omega arith))
+            (sets_good code final.arguments g w.to open_at layout.writable layout.constants from (omega arith) words run)
             (b.goods open_at behind_sets (omega arith) (omega (arith, room)) (all_below layout) goes.arguments goes.texts (behind code final.arguments from begins sets made.code sets_is st)) in
             record {
               named = omega (arith, named, room);

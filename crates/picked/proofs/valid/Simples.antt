@@ -1,5 +1,5 @@
 -- What is picked for assignments and declarations of a typed program is in order.
-use Rattle.std.proofs.Common.{◌≡◌, refl, subst, ℕ, suc, ◌+◌, ◌≤◌, ◌<◌, List, [], ◌∷◌, ◌++◌, length, arith, Option, Some, None, Bool, true, false, IsTrue}
+use Rattle.std.proofs.Common.{◌≡◌, refl, ℕ, suc, ◌+◌, ◌≤◌, ◌<◌, List, [], ◌∷◌, ◌++◌, length, arith, Option, Some, None, Bool, true, false, IsTrue}
 use Rattle.std.specs.Prelude.{if◌then◌else◌, ◌==◌}
 use Rattle.std.specs.Option.{IfSome}
 use Rattle.std.proofs.lemmas.List.{length-append}
@@ -30,25 +30,28 @@ use Rattle.picked.proofs.stands.Named.{known_number}
 use Rattle.picked.proofs.stands.Exprs.{DefinedAreCallees}
 use Rattle.picked.proofs.stands.Simply.{one_more_agrees}
 use Rattle.picked.proofs.valid.Fitting.{Fits, fits_before, is_register}
-use Rattle.picked.proofs.valid.Goods.{GoesOn, AreGood, good_append, good_on, Runs, within}
+use Rattle.picked.proofs.valid.Begins.{IsBalanced, balanced_append}
+use Rattle.picked.proofs.valid.Goods.{GoesOn, AreGood, balanced_one, Runs, good_parts, good_on}
 use Rattle.picked.proofs.valid.Sounds.{Sound, OperandSound, in_size, one_sound, in_local_sound, ready_or_sound, operand_sound, both_sound}
 use Rattle.picked.proofs.valid.Expressions.{CalleesTake, cells_are, cell_is, expr_sound}
 
 module _ (code : Code) (arguments : List ℕ) (f : FunctionCode) (end : ℕ) where
-  -- what is written from a place on is in order where the same begins are open at each of its places
+  -- what is written from a place on leaves what it opens, and is in order where those begins are open that its text says
   pub record Flat (from : ℕ) (l : Lists) (w : Written) : Type 0 where
     pub to_is : w.to ≡ from + length w.code
     pub grows : Grows l w.lists
-    pub goods : (open_at : ℕ → List ℕ) (bs : List ℕ) → Fits code arguments f.registers w.lists → Runs code arguments f end open_at from w.to bs → AreGood code arguments f end open_at from w.code
+    pub balanced : IsBalanced arguments w.code
+    pub goods : (open_at : ℕ → List ℕ) (bs : List ℕ) → Fits code arguments f.registers w.lists → Runs code arguments f end open_at from bs w.code → AreGood code arguments f end open_at from w.code
 
   pub nothing_flat : (from : ℕ) (l : Lists) → Flat from l (nothing_written from l)
-  nothing_flat from l = record { to_is = omega arith; grows = grows_same l; goods = λ o bs k run. tt }
+  nothing_flat from l = record { to_is = omega arith; grows = grows_same l; balanced = λ q bs. refl; goods = λ o bs k run. tt }
 
   pub one_flat : (i : Instr) (from : ℕ) (l : Lists) → GoesOn code arguments f end (instr_of arguments i) → (Fits code arguments f.registers l → IsWritten code f end (instr_of arguments i)) → Flat from l (one_written i from l)
   one_flat i from l way w = record {
     to_is = omega arith;
     grows = grows_same l;
-    goods = λ o bs k run. (good_on code arguments f end o from (from + 1) bs run (instr_of arguments i) way (w k) from (omega arith) (omega arith), tt);
+    balanced = balanced_one code arguments f end i way;
+    goods = λ o bs k run. (good_on code arguments f end o from bs i [] way (w k) run, tt);
   }
 
   pub then_flat : (from : ℕ) (l : Lists) (a b : Written) → Flat from l a → Flat a.to a.lists b → Flat from l (and_then a b)
@@ -58,14 +61,13 @@ module _ (code : Code) (arguments : List ℕ) (f : FunctionCode) (end : ℕ) whe
       record {
         to_is = let u : length (a.code ++ b.code) ≡ length a.code + length b.code = length-append a.code b.code in omega (arith, x, y, u);
         grows = grows_further l a.lists b.lists h.grows g.grows;
+        balanced = balanced_append arguments a.code b.code h.balanced g.balanced;
         goods = λ o bs k run.
-            good_append code arguments f end o from a.to a.code b.code h.to_is
-            (h.goods o bs (fits_before code arguments f.registers a.lists b.lists g.grows k) (within code arguments f end o from b.to from a.to bs run (omega arith) (omega (arith, y))))
-            (g.goods o bs k (within code arguments f end o from b.to a.to b.to bs run (omega (arith, x)) (omega arith)));
+            good_parts code arguments f end o from a.to bs a.code b.code h.to_is h.balanced run (h.goods o bs (fits_before code arguments f.registers a.lists b.lists g.grows k)) (g.goods o bs k);
       }
 
   pub evaluated_flat : (from : ℕ) (l : Lists) (e : Emitted) → Sound code arguments f end from l e → Flat from l (evaluated e)
-  evaluated_flat from l e h = record { to_is = h.to_is; grows = h.grows; goods = h.goods }
+  evaluated_flat from l e h = record { to_is = h.to_is; grows = h.grows; balanced = h.balanced; goods = h.goods }
 
   -- a target whose register is below a number
   abbrev pub IsIn : ℕ → Target → Type 0
@@ -106,7 +108,8 @@ module _ (code : Code) (arguments : List ℕ) (f : FunctionCode) (end : ℕ) whe
     to_is : a.to ≡ from + length a.code
     grows : Grows l a.lists
     aim : IsIn a.lists.registers a.target
-    goods : (open_at : ℕ → List ℕ) (bs : List ℕ) → Fits code arguments f.registers a.lists → Runs code arguments f end open_at from a.to bs → AreGood code arguments f end open_at from a.code
+    balanced : IsBalanced arguments a.code
+    goods : (open_at : ℕ → List ℕ) (bs : List ℕ) → Fits code arguments f.registers a.lists → Runs code arguments f end open_at from bs a.code → AreGood code arguments f end open_at from a.code
 
   aimed_flat : (from : ℕ) (l : Lists) (a : Aimed) (w : Written) → Aims from l a → Flat a.to a.lists w → Flat from l (aimed_then a w)
   aimed_flat from l a w h g =
@@ -115,23 +118,23 @@ module _ (code : Code) (arguments : List ℕ) (f : FunctionCode) (end : ℕ) whe
       record {
         to_is = let u : length (a.code ++ w.code) ≡ length a.code + length w.code = length-append a.code w.code in omega (arith, x, y, u);
         grows = grows_further l a.lists w.lists h.grows g.grows;
+        balanced = balanced_append arguments a.code w.code h.balanced g.balanced;
         goods = λ o bs k run.
-            good_append code arguments f end o from a.to a.code w.code h.to_is
-            (h.goods o bs (fits_before code arguments f.registers a.lists w.lists g.grows k) (within code arguments f end o from w.to from a.to bs run (omega arith) (omega (arith, y))))
-            (g.goods o bs k (within code arguments f end o from w.to a.to w.to bs run (omega (arith, x)) (omega arith)));
+            good_parts code arguments f end o from a.to bs a.code w.code h.to_is h.balanced run (h.goods o bs (fits_before code arguments f.registers a.lists w.lists g.grows k)) (g.goods o bs k);
       }
 
   nowhere_aims : (from : ℕ) (l : Lists) → Aims from l (aimed_at target.Nowhere from l)
-  nowhere_aims from l = record { to_is = omega arith; grows = grows_same l; aim = tt; goods = λ o bs k run. tt }
+  nowhere_aims from l = record { to_is = omega arith; grows = grows_same l; aim = tt; balanced = λ q bs. refl; goods = λ o bs k run. tt }
 
   variable_aims : (o : Option (ℕ × Scalar)) (g : Option GlobalCells) → (o ≡ None → (c : GlobalCells) → g ≡ Some c → c.cell + 1 ≤ cells_of code) → (from : ℕ) (l : Lists) → Aims from l (variable_target o g from l)
   variable_aims (Some x) g h from l = record {
     to_is = omega arith;
     grows = grows_used l l x.0 (grows_same l);
     aim = let m = max_right l.registers (suc x.0) in omega (arith, m);
+    balanced = λ q bs. refl;
     goods = λ o bs k run. tt;
   }
-  variable_aims None (Some c) h from l = record { to_is = omega arith; grows = grows_same l; aim = h refl c refl; goods = λ o bs k run. tt }
+  variable_aims None (Some c) h from l = record { to_is = omega arith; grows = grows_same l; aim = h refl c refl; balanced = λ q bs. refl; goods = λ o bs k run. tt }
   variable_aims None None h from l = nowhere_aims from l
 
   element_aims : (check : Bool) (g : Option GlobalCells) → ((c : GlobalCells) → g ≡ Some c → c.cell + cells c.global ≤ cells_of code) → (from : ℕ) (l : Lists) (e : Emitted) → Sound code arguments f end from l e → Aims from l (element_target check g e from l)
@@ -143,10 +146,10 @@ module _ (code : Code) (arguments : List ℕ) (f : FunctionCode) (end : ℕ) whe
         to_is = let b : length (e.code ++ test ∷ []) ≡ length e.code + 1 = length-append e.code (test ∷ []) in omega (arith, x, b);
         grows = s.grows;
         aim = (s.held, h c refl);
+        balanced = balanced_append arguments e.code (test ∷ []) s.balanced (λ q bs. refl);
         goods = λ o bs k run.
-            good_append code arguments f end o from e.held.to e.code (test ∷ []) s.to_is
-            (s.goods o bs k (within code arguments f end o from (e.held.to + 1) from e.held.to bs run (omega arith) (omega arith)))
-            (good_on code arguments f end o from (e.held.to + 1) bs run (instr_of arguments test) (λ q bs. (refl, tt)) (in_size code arguments f end e.held.register e.lists s.held k) e.held.to (omega (arith, x)) (omega arith), tt);
+            good_parts code arguments f end o from e.held.to bs e.code (test ∷ []) s.to_is s.balanced run (s.goods o bs k)
+            (λ r. (good_on code arguments f end o e.held.to bs test [] (λ q bs. (refl, tt)) (in_size code arguments f end e.held.register e.lists s.held k) r, tt));
       }
   element_aims false (Some c) h from l e s =
       let x = s.to_is in
@@ -154,9 +157,8 @@ module _ (code : Code) (arguments : List ℕ) (f : FunctionCode) (end : ℕ) whe
         to_is = let b : length (e.code ++ []) ≡ length e.code + 0 = length-append e.code [] in omega (arith, x, b);
         grows = s.grows;
         aim = (s.held, h c refl);
-        goods = λ o bs k run.
-            good_append code arguments f end o from e.held.to e.code [] s.to_is
-            (s.goods o bs k (within code arguments f end o from (e.held.to + 0) from e.held.to bs run (omega arith) (omega arith))) tt;
+        balanced = balanced_append arguments e.code [] s.balanced (λ q bs. refl);
+        goods = λ o bs k run. good_parts code arguments f end o from e.held.to bs e.code [] s.to_is s.balanced run (s.goods o bs k) (λ r. tt);
       }
 
   module _ (p : Program) (typed : IsTypedProgram p) (takes : CalleesTake p code) (defined : DefinedAreCallees p) (shares : code.globals ≡ globals p) where
@@ -217,15 +219,16 @@ module _ (code : Code) (arguments : List ℕ) (f : FunctionCode) (end : ℕ) whe
         let g = first_flat known' inner ahead i t d.first h.0 (from + 1) (used i l) here in
         let own_growth : Grows l (used i l) = grows_used l l i (grows_same l) in
         let one = declarator_written p t d scope from l in
+        let zero : Instr = own.Constant i 0 in
         let y = g.to_is in
         let one_is : Flat from l one = (record {
           to_is = omega (arith, y);
           grows = grows_further l (used i l) first.lists own_growth g.grows;
+          balanced = balanced_append arguments (zero ∷ []) first.code (λ q bs. refl) g.balanced;
           goods = λ o bs k run.
-              let fits = fits_before code arguments f.registers (used i l) first.lists g.grows k in (
-                good_on code arguments f end o from first.to bs run (instr_of arguments (own.Constant i 0)) (λ q bs. (refl, tt)) (is_register code arguments f.registers l i fits, omega arith) from (omega arith) (omega (arith, y)),
-                subst (λ q. AreGood code arguments f end o q first.code) (omega arith) (g.goods o bs k (within code arguments f end o from first.to (from + 1) first.to bs run (omega arith) (omega arith))),
-              );
+              let fits = fits_before code arguments f.registers (used i l) first.lists g.grows k in
+              good_parts code arguments f end o from (from + 1) bs (zero ∷ []) first.code (omega arith) (λ q bs. refl) run
+              (λ r. (good_on code arguments f end o from bs zero [] (λ q bs. (refl, tt)) (is_register code arguments f.registers l i fits, omega arith) r, tt)) (g.goods o bs k);
         }) in
         then_flat from l one (declared_written p t ds inner one.to one.lists) one_is (declared_flat t ds known' inner ahead h.1 one.to one.lists)
 

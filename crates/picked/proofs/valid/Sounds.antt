@@ -29,7 +29,8 @@ use Rattle.picked.proofs.stands.Standing.{front_same, front_more, Grows, grows_s
 use Rattle.picked.proofs.stands.Emitting.{computing_is}
 use Rattle.picked.proofs.stands.Exprs.{handed_over}
 use Rattle.picked.proofs.valid.Fitting.{Fits, fits_before, is_register}
-use Rattle.picked.proofs.valid.Goods.{GoesOn, IsGood, AreGood, good_append, Meets, Runs, within, meets_in, good_on, good_jump, good_zero, good_nonzero}
+use Rattle.picked.proofs.valid.Begins.{IsBalanced, balanced_append}
+use Rattle.picked.proofs.valid.Goods.{GoesOn, IsGood, AreGood, good_append, balanced_one, Meets, Runs, meets_first, meets_out, parted, good_parts, next_run, good_on, good_jump, good_zero, good_nonzero}
 
 -- registers that are below a number
 abbrev pub AreBelow : ℕ → List ℕ → Type 0
@@ -85,10 +86,21 @@ settled_into r e = by (e.held.register == r) refl
     by false n = refl
 
 module _ (code : Code) (arguments : List ℕ) (f : FunctionCode) (end : ℕ) where
-  computing_goes : (op : BinaryOp) (t : Scalar) (d a b : ℕ) → d < f.registers → a < f.registers → b < f.registers → GoesOn code arguments f end (Lowered.computing op t d a b) × IsWritten code f end (Lowered.computing op t d a b)
-  computing_goes Greater t d a b x y z = (λ q bs. (refl, tt), (x, z, y))
-  computing_goes GreaterEqual t d a b x y z = (λ q bs. (refl, tt), (x, z, y))
-  computing_goes op t d a b x y z = (λ q bs. (refl, tt), (x, y, z))
+  lowered_goes : (op : BinaryOp) (t : Scalar) (d a b : ℕ) → GoesOn code arguments f end (Lowered.computing op t d a b)
+  lowered_goes Greater t d a b = λ q bs. (refl, tt)
+  lowered_goes GreaterEqual t d a b = λ q bs. (refl, tt)
+  lowered_goes op t d a b = λ q bs. (refl, tt)
+
+  lowered_written : (op : BinaryOp) (t : Scalar) (d a b : ℕ) → d < f.registers → a < f.registers → b < f.registers → IsWritten code f end (Lowered.computing op t d a b)
+  lowered_written Greater t d a b x y z = (x, z, y)
+  lowered_written GreaterEqual t d a b x y z = (x, z, y)
+  lowered_written op t d a b x y z = (x, y, z)
+
+  computing_goes : (op : BinaryOp) (t : Scalar) (d a b : ℕ) → GoesOn code arguments f end (instr_of arguments (computing op t d a b))
+  computing_goes op t d a b = subst (GoesOn code arguments f end) (sym (computing_is arguments op t d a b)) (lowered_goes op t d a b)
+
+  computing_written : (op : BinaryOp) (t : Scalar) (d a b : ℕ) → d < f.registers → a < f.registers → b < f.registers → IsWritten code f end (instr_of arguments (computing op t d a b))
+  computing_written op t d a b x y z = subst (IsWritten code f end) (sym (computing_is arguments op t d a b)) (lowered_written op t d a b x y z)
 
   pub size_of : (l : Lists) → Fits code arguments f.registers l → l.registers ≤ f.registers
   size_of l k = k.registers
@@ -101,14 +113,16 @@ module _ (code : Code) (arguments : List ℕ) (f : FunctionCode) (end : ℕ) whe
     pub to_is : e.held.to ≡ from + length e.code
     pub grows : Grows l e.lists
     pub held : e.held.register < e.lists.registers
-    pub goods : (open_at : ℕ → List ℕ) (bs : List ℕ) → Fits code arguments f.registers e.lists → Runs code arguments f end open_at from e.held.to bs → AreGood code arguments f end open_at from e.code
+    pub balanced : IsBalanced arguments e.code
+    pub goods : (open_at : ℕ → List ℕ) (bs : List ℕ) → Fits code arguments f.registers e.lists → Runs code arguments f end open_at from bs e.code → AreGood code arguments f end open_at from e.code
 
   pub one_sound : (i : Instr) (from r : ℕ) (t : Scalar) (l : Lists) → GoesOn code arguments f end (instr_of arguments i) → (r < f.registers → l.registers ≤ f.registers → IsWritten code f end (instr_of arguments i)) → Sound from l (one i from r t l)
   one_sound i from r t l way w = record {
     to_is = omega arith;
     grows = grows_used l l r (grows_same l);
     held = let h = max_right l.registers (suc r) in omega (arith, h);
-    goods = λ o bs k run. (good_on code arguments f end o from (from + 1) bs run (instr_of arguments i) way (w (is_register code arguments f.registers l r k) (let a = k.registers in let b = max_left l.registers (suc r) in omega (arith, a, b))) from (omega arith) (omega arith), tt);
+    balanced = balanced_one code arguments f end i way;
+    goods = λ o bs k run. (good_on code arguments f end o from bs i [] way (w (is_register code arguments f.registers l r k) (let a = k.registers in let b = max_left l.registers (suc r) in omega (arith, a, b))) run, tt);
   }
 
   pub in_local_sound : (i : ℕ) (t : Scalar) (from : ℕ) (l : Lists) → Sound from l (in_local i t from l)
@@ -116,6 +130,7 @@ module _ (code : Code) (arguments : List ℕ) (f : FunctionCode) (end : ℕ) whe
     to_is = omega arith;
     grows = grows_used l l i (grows_same l);
     held = let h = max_right l.registers (suc i) in omega (arith, h);
+    balanced = λ q bs. refl;
     goods = λ o bs k run. tt;
   }
 
@@ -124,19 +139,15 @@ module _ (code : Code) (arguments : List ℕ) (f : FunctionCode) (end : ℕ) whe
     to_is = let a = h.to_is in let b : length (e.code ++ i ∷ []) ≡ length e.code + 1 = length-append e.code (i ∷ []) in omega (arith, a, b);
     grows = grows_used l e.lists r h.grows;
     held = let x = max_right e.lists.registers (suc r) in omega (arith, x);
+    balanced = balanced_append arguments e.code (i ∷ []) h.balanced (balanced_one code arguments f end i way);
     goods = λ o bs k run.
         let inner = fits_before code arguments f.registers e.lists (used r e.lists) (grows_used e.lists e.lists r (grows_same e.lists)) k in
-        let to_is = h.to_is in
-        good_append code arguments f end o from e.held.to e.code (i ∷ []) h.to_is
-        (h.goods o bs inner (within code arguments f end o from (e.held.to + 1) from e.held.to bs run (omega arith) (omega arith))) (
-          good_on code arguments f end o from (e.held.to + 1) bs run (instr_of arguments i) way
-              (w (is_register code arguments f.registers e.lists r k) (in_size e.held.register e.lists h.held inner)) e.held.to (omega (arith, to_is)) (omega arith),
-          tt,
-        );
+        good_parts code arguments f end o from e.held.to bs e.code (i ∷ []) h.to_is h.balanced run (h.goods o bs inner)
+        (λ g. (good_on code arguments f end o e.held.to bs i [] way (w (is_register code arguments f.registers e.lists r k) (in_size e.held.register e.lists h.held inner)) g, tt));
   }
 
   pub cast_sound : (t : Scalar) (from : ℕ) (l : Lists) (e : Emitted) → Sound from l e → Sound from l (converted_to t e)
-  cast_sound t from l e h = record { to_is = h.to_is; grows = h.grows; held = h.held; goods = h.goods }
+  cast_sound t from l e h = record { to_is = h.to_is; grows = h.grows; held = h.held; balanced = h.balanced; goods = h.goods }
 
   pub negated_sound : (into from : ℕ) (l : Lists) (e : Emitted) → Sound from l e → Sound from l (negated e into)
   negated_sound into from l e h = by e.held.of
@@ -159,15 +170,20 @@ module _ (code : Code) (arguments : List ℕ) (f : FunctionCode) (end : ℕ) whe
         to_is = let b : length (e.code ++ zero ∷ equal ∷ []) ≡ length e.code + 2 = length-append e.code (zero ∷ equal ∷ []) in omega (arith, to_is, b);
         grows = grows_used l lists into (grows_used l e.lists rz h.grows);
         held = let x = max_right lists.registers (suc into) in omega (arith, x);
+        balanced = balanced_append arguments e.code (zero ∷ equal ∷ []) h.balanced (λ q bs. refl);
         goods = λ o bs k run.
             let inner = fits_before code arguments f.registers lists (used into lists) (grows_used lists lists into (grows_same lists)) k in
             let first = fits_before code arguments f.registers e.lists lists (grows_used e.lists e.lists rz (grows_same e.lists)) inner in
             let z = is_register code arguments f.registers e.lists rz inner in
-            good_append code arguments f end o from e.held.to e.code (zero ∷ equal ∷ []) h.to_is
-            (h.goods o bs first (within code arguments f end o from (e.held.to + 2) from e.held.to bs run (omega arith) (omega arith))) (
-              good_on code arguments f end o from (e.held.to + 2) bs run (instr_of arguments zero) (λ q bs. (refl, tt)) (z, omega arith) e.held.to (omega (arith, to_is)) (omega arith),
-              (good_on code arguments f end o from (e.held.to + 2) bs run (instr_of arguments equal) (λ q bs. (refl, tt)) (is_register code arguments f.registers lists into k, in_size e.held.register e.lists h.held first, z) (suc e.held.to) (omega (arith, to_is)) (omega arith), tt),
-            );
+            good_parts code arguments f end o from e.held.to bs e.code (zero ∷ equal ∷ []) h.to_is h.balanced run (h.goods o bs first)
+            (λ g. (
+              good_on code arguments f end o e.held.to bs zero (equal ∷ []) (λ q bs. (refl, tt)) (z, omega arith) g,
+              (
+                good_on code arguments f end o (suc e.held.to) bs equal [] (λ q bs. (refl, tt)) (is_register code arguments f.registers lists into k, in_size e.held.register e.lists h.held first, z)
+                    (next_run code arguments f end o e.held.to bs zero (equal ∷ []) (λ q bs. refl) g),
+                tt,
+              ),
+            ));
       }
 
   -- the right side of an operator, which may lie ready
@@ -175,17 +191,18 @@ module _ (code : Code) (arguments : List ℕ) (f : FunctionCode) (end : ℕ) whe
     pub to_is : e.held.to ≡ from + length e.code
     pub grows : Grows l e.lists
     pub held : Fits code arguments f.registers e.lists → e.held.register < f.registers
-    pub goods : (open_at : ℕ → List ℕ) (bs : List ℕ) → Fits code arguments f.registers e.lists → Runs code arguments f end open_at from e.held.to bs → AreGood code arguments f end open_at from e.code
+    pub balanced : IsBalanced arguments e.code
+    pub goods : (open_at : ℕ → List ℕ) (bs : List ℕ) → Fits code arguments f.registers e.lists → Runs code arguments f end open_at from bs e.code → AreGood code arguments f end open_at from e.code
 
   computed_sound : (from : ℕ) (l : Lists) (e : Emitted) → Sound from l e → OperandSound from l e
-  computed_sound from l e h = record { to_is = h.to_is; grows = h.grows; held = λ k. in_size e.held.register e.lists h.held k; goods = h.goods }
+  computed_sound from l e h = record { to_is = h.to_is; grows = h.grows; held = λ k. in_size e.held.register e.lists h.held k; balanced = h.balanced; goods = h.goods }
 
   pub ready_or_sound : (w : ℕ) (t : Scalar) (from : ℕ) (l : Lists) (e : Emitted) → Sound from l e → OperandSound from l (ready_or (ready l.layout w t from) l e)
   ready_or_sound w t from l e h = by (ready_from l.layout.writable l.layout.constants w) refl
     where
       by : (o : Option ℕ) → ready_from l.layout.writable l.layout.constants w ≡ o → OperandSound from l (ready_or (option_map (λ r. record { register = r; of = t; to = from }) o) l e)
       by None n = computed_sound from l e h
-      by (Some r) n = record { to_is = omega arith; grows = grows_same l; held = λ k. k.ready w r n; goods = λ o bs k run. tt }
+      by (Some r) n = record { to_is = omega arith; grows = grows_same l; held = λ k. k.ready w r n; balanced = λ q bs. refl; goods = λ o bs k run. tt }
 
   pub operand_sound : (b : Expr) (from : ℕ) (l : Lists) (e : Emitted) → Sound from l e → OperandSound from l (ready_or (constant_ready l.layout b from) l e)
   operand_sound (Constant n t at) from l e h = ready_or_sound (word_of (pos n)) t from l e h
@@ -193,7 +210,6 @@ module _ (code : Code) (arguments : List ℕ) (f : FunctionCode) (end : ℕ) whe
 
   pub both_sound : (op : BinaryOp) (into from : ℕ) (l : Lists) (a b : Emitted) → Sound from l a → OperandSound a.held.to a.lists b → Sound from l (both op a b into)
   both_sound op into from l a b h g =
-      let t : Scalar = operand_type op a.held.of b.held.of in
       let i : Instr = computing op t into a.held.register b.held.register in
       let two : length (a.code ++ b.code) ≡ length a.code + length b.code = length-append a.code b.code in
       let x = h.to_is in
@@ -203,34 +219,38 @@ module _ (code : Code) (arguments : List ℕ) (f : FunctionCode) (end : ℕ) whe
         to_is = let u : length (a.code ++ b.code ++ i ∷ []) ≡ length (a.code ++ b.code) + 1 = length-append (a.code ++ b.code) (i ∷ []) in omega (arith, last_is, u);
         grows = grows_used l b.lists into (grows_further l a.lists b.lists h.grows g.grows);
         held = let z = max_right b.lists.registers (suc into) in omega (arith, z);
+        balanced = balanced_append arguments (a.code ++ b.code) (i ∷ []) (balanced_append arguments a.code b.code h.balanced g.balanced) (balanced_one code arguments f end i way);
         goods = λ o bs k run.
             let inner = fits_before code arguments f.registers b.lists (used into b.lists) (grows_used b.lists b.lists into (grows_same b.lists)) k in
             let first = fits_before code arguments f.registers a.lists b.lists g.grows inner in
-            let goes = computing_goes op t into a.held.register b.held.register (is_register code arguments f.registers b.lists into k) (in_size a.held.register a.lists h.held first) (g.held inner) in
-            good_append code arguments f end o from b.held.to (a.code ++ b.code) (i ∷ []) last_is
-            (good_append code arguments f end o from a.held.to a.code b.code h.to_is
-            (h.goods o bs first (within code arguments f end o from (b.held.to + 1) from a.held.to bs run (omega arith) (omega (arith, y))))
-            (g.goods o bs inner (within code arguments f end o from (b.held.to + 1) a.held.to b.held.to bs run (omega (arith, x)) (omega arith)))) (
-              subst (IsGood code arguments f end o b.held.to) (sym (computing_is arguments op t into a.held.register b.held.register))
-                  (good_on code arguments f end o from (b.held.to + 1) bs run (Lowered.computing op t into a.held.register b.held.register) goes.0 goes.1 b.held.to (omega (arith, last_is)) (omega arith)),
-              tt,
-            );
+            let there = computing_written op t into a.held.register b.held.register (is_register code arguments f.registers b.lists into k) (in_size a.held.register a.lists h.held first) (g.held inner) in
+            good_parts code arguments f end o from b.held.to bs (a.code ++ b.code) (i ∷ []) last_is (balanced_append arguments a.code b.code h.balanced g.balanced) run
+            (λ r. good_parts code arguments f end o from a.held.to bs a.code b.code h.to_is h.balanced r (h.goods o bs first) (g.goods o bs inner))
+            (λ r. (good_on code arguments f end o b.held.to bs i [] way there r, tt));
       }
+    where
+      t : Scalar
+      t = operand_type op a.held.of b.held.of
+
+      way : GoesOn code arguments f end (instr_of arguments (computing op t into a.held.register b.held.register))
+      way = computing_goes op t into a.held.register b.held.register
 
   -- a condition, up to its jump
   pub record TestSound (from : ℕ) (l : Lists) (c : Condition) : Type 0 where
     pub to_is : c.to ≡ from + length c.code
     pub grows : Grows l c.lists
     pub held : c.register < c.lists.registers
+    pub balanced : (met unmet : ℕ) → IsBalanced arguments (map (completed met unmet) c.code)
     pub goods : (open_at : ℕ → List ℕ) (bs : List ℕ) → Fits code arguments f.registers c.lists → (met unmet : ℕ) → Meets code arguments f end open_at (met, bs) → Meets code arguments f end open_at (unmet, bs) →
-        Runs code arguments f end open_at from c.to bs → AreGood code arguments f end open_at from (map (completed met unmet) c.code)
+        Runs code arguments f end open_at from bs (map (completed met unmet) c.code) → AreGood code arguments f end open_at from (map (completed met unmet) c.code)
 
   value_sound : (from : ℕ) (l : Lists) (e : Emitted) → Sound from l e → TestSound from l (by_value e.code e.lists e.held)
   value_sound from l e h = record {
     to_is = let x = h.to_is in let y : length (map draft.Whole e.code) ≡ length e.code = length-map e.code draft.Whole in omega (arith, x, y);
     grows = h.grows;
     held = h.held;
-    goods = λ o bs k met unmet m u run. subst (AreGood code arguments f end o from) (sym (whole_are met unmet e.code)) (h.goods o bs k run);
+    balanced = λ met unmet. subst (IsBalanced arguments) (sym (whole_are met unmet e.code)) h.balanced;
+    goods = λ o bs k met unmet m u run. subst (AreGood code arguments f end o from) (sym (whole_are met unmet e.code)) (h.goods o bs k (subst (Runs code arguments f end o from bs) (whole_are met unmet e.code) run));
   }
 
   pub opposite_sound : (from : ℕ) (l : Lists) (c : Condition) → TestSound from l c → TestSound from l (opposite c)
@@ -238,18 +258,27 @@ module _ (code : Code) (arguments : List ℕ) (f : FunctionCode) (end : ℕ) whe
     to_is = let x = h.to_is in let y : length (map turned c.code) ≡ length c.code = length-map c.code turned in omega (arith, x, y);
     grows = h.grows;
     held = h.held;
-    goods = λ o bs k met unmet m u run. subst (AreGood code arguments f end o from) (sym (turned_are met unmet c.code)) (h.goods o bs k unmet met u m run);
+    balanced = λ met unmet. subst (IsBalanced arguments) (sym (turned_are met unmet c.code)) (h.balanced unmet met);
+    goods = λ o bs k met unmet m u run. subst (AreGood code arguments f end o from) (sym (turned_are met unmet c.code)) (h.goods o bs k unmet met u m (subst (Runs code arguments f end o from bs) (turned_are met unmet c.code) run));
   }
 
-  good_if : (open_at : ℕ → List ℕ) (zero : Bool) (from to : ℕ) (bs : List ℕ) → Runs code arguments f end open_at from to bs → (a there : ℕ) → a < f.registers → Meets code arguments f end open_at (there, bs) → (q : ℕ) → from ≤ q → suc q ≤ to →
+  good_if : (open_at : ℕ → List ℕ) (zero : Bool) (q : ℕ) (bs : List ℕ) (a there : ℕ) (is : List Instr) → a < f.registers → Meets code arguments f end open_at (there, bs) → Runs code arguments f end open_at q bs (jump_if zero a there ∷ is) →
       IsGood code arguments f end open_at q (instr_of arguments (jump_if zero a there))
-  good_if o true from to bs r a there h m q low high = good_zero code arguments f end o from to bs r a there h m q low high
-  good_if o false from to bs r a there h m q low high = good_nonzero code arguments f end o from to bs r a there h m q low high
+  good_if o true q bs a there is h m r = good_zero code arguments f end o q bs a there is h m r
+  good_if o false q bs a there is h m r = good_nonzero code arguments f end o q bs a there is h m r
 
-  good_if_not : (open_at : ℕ → List ℕ) (zero : Bool) (from to : ℕ) (bs : List ℕ) → Runs code arguments f end open_at from to bs → (a there : ℕ) → a < f.registers → Meets code arguments f end open_at (there, bs) → (q : ℕ) → from ≤ q → suc q ≤ to →
+  good_if_not : (open_at : ℕ → List ℕ) (zero : Bool) (q : ℕ) (bs : List ℕ) (a there : ℕ) (is : List Instr) → a < f.registers → Meets code arguments f end open_at (there, bs) → Runs code arguments f end open_at q bs (jump_if_not zero a there ∷ is) →
       IsGood code arguments f end open_at q (instr_of arguments (jump_if_not zero a there))
-  good_if_not o true from to bs r a there h m q low high = good_nonzero code arguments f end o from to bs r a there h m q low high
-  good_if_not o false from to bs r a there h m q low high = good_zero code arguments f end o from to bs r a there h m q low high
+  good_if_not o true q bs a there is h m r = good_nonzero code arguments f end o q bs a there is h m r
+  good_if_not o false q bs a there is h m r = good_zero code arguments f end o q bs a there is h m r
+
+  balanced_if : (zero : Bool) (a there : ℕ) → IsBalanced arguments (jump_if zero a there ∷ [])
+  balanced_if true a there = λ q bs. refl
+  balanced_if false a there = λ q bs. refl
+
+  balanced_if_not : (zero : Bool) (a there : ℕ) → IsBalanced arguments (jump_if_not zero a there ∷ [])
+  balanced_if_not true a there = λ q bs. refl
+  balanced_if_not false a there = λ q bs. refl
 
   -- a condition with its jump
   module _ (from : ℕ) (l : Lists) (c : Condition) (h : TestSound from l c) where
@@ -262,26 +291,28 @@ module _ (code : Code) (arguments : List ℕ) (f : FunctionCode) (end : ℕ) whe
     pub test_back_is : (met : ℕ) → c.to + 1 ≡ from + length (going_back c.code (test_in c) met)
     test_back_is met = let x = h.to_is in let y = back_length c.code (test_in c) met in omega (arith, x, y)
 
-    module _ (open_at : ℕ → List ℕ) (bs : List ℕ) (k : Fits code arguments f.registers c.lists) (there to : ℕ) (m : Meets code arguments f end open_at (there, bs)) (low : c.to + 1 ≤ to) (run : Runs code arguments f end open_at from to bs) where
-      next_is : Meets code arguments f end open_at (c.to + 1, bs)
-      next_is = let x = h.to_is in meets_in code arguments f end open_at from to (c.to + 1) bs run (omega (arith, x)) low
+    pub on_balanced : (unmet : ℕ) → IsBalanced arguments (going_on c.code (test_in c) unmet)
+    on_balanced unmet = balanced_append arguments (map (completed (c.to + 1) unmet) c.code) (jump_if_not c.at_zero c.register unmet ∷ []) (h.balanced (c.to + 1) unmet) (balanced_if_not c.at_zero c.register unmet)
 
-      until : Runs code arguments f end open_at from c.to bs
-      until = within code arguments f end open_at from to from c.to bs run (omega arith) (omega (arith, low))
+    pub back_balanced : (met : ℕ) → IsBalanced arguments (going_back c.code (test_in c) met)
+    back_balanced met = balanced_append arguments (map (completed met (c.to + 1)) c.code) (jump_if c.at_zero c.register met ∷ []) (h.balanced met (c.to + 1)) (balanced_if c.at_zero c.register met)
 
-      pub going_on_good : AreGood code arguments f end open_at from (going_on c.code (test_in c) there)
-      going_on_good =
-          let x = h.to_is in
-          good_append code arguments f end open_at from c.to (map (completed (c.to + 1) there) c.code) (jump_if_not c.at_zero c.register there ∷ []) (at_jump (c.to + 1) there)
-          (h.goods open_at bs k (c.to + 1) there next_is m until)
-          (good_if_not open_at c.at_zero from to bs run c.register there (in_size c.register c.lists h.held k) m c.to (omega (arith, x)) (omega (arith, low)), tt)
+    module _ (open_at : ℕ → List ℕ) (bs : List ℕ) (k : Fits code arguments f.registers c.lists) (there : ℕ) (m : Meets code arguments f end open_at (there, bs)) where
+      pub going_on_good : Runs code arguments f end open_at from bs (going_on c.code (test_in c) there) → AreGood code arguments f end open_at from (going_on c.code (test_in c) there)
+      going_on_good run =
+          let test : List Instr = map (completed (c.to + 1) there) c.code in
+          let jump : Instr = jump_if_not c.at_zero c.register there in
+          let next = meets_out code arguments f end open_at (c.to + 1) from bs (going_on c.code (test_in c) there) (test_on_is there) run in
+          good_parts code arguments f end open_at from c.to bs test (jump ∷ []) (at_jump (c.to + 1) there) (h.balanced (c.to + 1) there) run (h.goods open_at bs k (c.to + 1) there next m)
+          (λ r. (good_if_not open_at c.at_zero c.to bs c.register there [] (in_size c.register c.lists h.held k) m r, tt))
 
-      pub going_back_good : AreGood code arguments f end open_at from (going_back c.code (test_in c) there)
-      going_back_good =
-          let x = h.to_is in
-          good_append code arguments f end open_at from c.to (map (completed there (c.to + 1)) c.code) (jump_if c.at_zero c.register there ∷ []) (at_jump there (c.to + 1))
-          (h.goods open_at bs k there (c.to + 1) m next_is until)
-          (good_if open_at c.at_zero from to bs run c.register there (in_size c.register c.lists h.held k) m c.to (omega (arith, x)) (omega (arith, low)), tt)
+      pub going_back_good : Runs code arguments f end open_at from bs (going_back c.code (test_in c) there) → AreGood code arguments f end open_at from (going_back c.code (test_in c) there)
+      going_back_good run =
+          let test : List Instr = map (completed there (c.to + 1)) c.code in
+          let jump : Instr = jump_if c.at_zero c.register there in
+          let next = meets_out code arguments f end open_at (c.to + 1) from bs (going_back c.code (test_in c) there) (test_back_is there) run in
+          good_parts code arguments f end open_at from c.to bs test (jump ∷ []) (at_jump there (c.to + 1)) (h.balanced there (c.to + 1)) run (h.goods open_at bs k there (c.to + 1) m next)
+          (λ r. (good_if open_at c.at_zero c.to bs c.register there [] (in_size c.register c.lists h.held k) m r, tt))
 
   -- two conditions, one behind the other
   pub joined_sound : (op : LogicalOp) (from : ℕ) (l : Lists) (a b : Condition) → TestSound from l a → TestSound (a.to + 1) a.lists b → TestSound from l (joined op a b)
@@ -293,17 +324,29 @@ module _ (code : Code) (arguments : List ℕ) (f : FunctionCode) (end : ℕ) whe
         to_is = let u : length (first_of op a ++ b.code) ≡ length (first_of op a) + length b.code = length-append (first_of op a) b.code in omega (arith, x, y, z, u);
         grows = grows_further l a.lists b.lists h.grows g.grows;
         held = g.held;
+        balanced = λ met unmet.
+            subst (IsBalanced arguments) (sym (map-append (completed met unmet) (first_of op a) b.code))
+            (balanced_append arguments (map (completed met unmet) (first_of op a)) (map (completed met unmet) b.code) (first_balanced op met unmet) (g.balanced met unmet));
         goods = λ o bs k met unmet m u run.
-            subst (AreGood code arguments f end o from) (sym (map-append (completed met unmet) (first_of op a) b.code))
-            (good_append code arguments f end o from (a.to + 1) (map (completed met unmet) (first_of op a)) (map (completed met unmet) b.code) (let v = completed_length met unmet (first_of op a) in omega (arith, x, z, v))
-            (by op o bs (fits_before code arguments f.registers a.lists b.lists g.grows k) met unmet m u (within code arguments f end o from b.to from (a.to + 1) bs run (omega arith) (omega (arith, y))))
-            (g.goods o bs k met unmet m u (within code arguments f end o from b.to (a.to + 1) b.to bs run (omega (arith, x)) (omega arith))));
+            let first : List Instr = map (completed met unmet) (first_of op a) in
+            let second : List Instr = map (completed met unmet) b.code in
+            let apart = map-append (completed met unmet) (first_of op a) b.code in
+            let mid_is : a.to + 1 ≡ from + length first = (let v = completed_length met unmet (first_of op a) in omega (arith, x, z, v)) in
+            subst (AreGood code arguments f end o from) (sym apart)
+            (good_parts code arguments f end o from (a.to + 1) bs first second mid_is (first_balanced op met unmet) (subst (Runs code arguments f end o from bs) apart run)
+            (by op o bs (fits_before code arguments f.registers a.lists b.lists g.grows k) met unmet m u) (g.goods o bs k met unmet m u));
       }
     where
-      by : (op : LogicalOp) (o : ℕ → List ℕ) (bs : List ℕ) → Fits code arguments f.registers a.lists → (met unmet : ℕ) → Meets code arguments f end o (met, bs) → Meets code arguments f end o (unmet, bs) → Runs code arguments f end o from (a.to + 1) bs →
-          AreGood code arguments f end o from (map (completed met unmet) (first_of op a))
-      by AndThen o bs k met unmet m u run = subst (AreGood code arguments f end o from) (sym (first_and met unmet a)) (going_on_good from l a h o bs k unmet (a.to + 1) u (omega arith) run)
-      by OrElse o bs k met unmet m u run = subst (AreGood code arguments f end o from) (sym (first_or met unmet a)) (going_back_good from l a h o bs k met (a.to + 1) m (omega arith) run)
+      first_balanced : (op : LogicalOp) (met unmet : ℕ) → IsBalanced arguments (map (completed met unmet) (first_of op a))
+      first_balanced AndThen met unmet = subst (IsBalanced arguments) (sym (first_and met unmet a)) (on_balanced from l a h unmet)
+      first_balanced OrElse met unmet = subst (IsBalanced arguments) (sym (first_or met unmet a)) (back_balanced from l a h met)
+
+      by : (op : LogicalOp) (o : ℕ → List ℕ) (bs : List ℕ) → Fits code arguments f.registers a.lists → (met unmet : ℕ) → Meets code arguments f end o (met, bs) → Meets code arguments f end o (unmet, bs) →
+          Runs code arguments f end o from bs (map (completed met unmet) (first_of op a)) → AreGood code arguments f end o from (map (completed met unmet) (first_of op a))
+      by AndThen o bs k met unmet m u run =
+          subst (AreGood code arguments f end o from) (sym (first_and met unmet a)) (going_on_good from l a h o bs k unmet u (subst (Runs code arguments f end o from bs) (first_and met unmet a) run))
+      by OrElse o bs k met unmet m u run =
+          subst (AreGood code arguments f end o from) (sym (first_or met unmet a)) (going_back_good from l a h o bs k met m (subst (Runs code arguments f end o from bs) (first_or met unmet a) run))
 
   pub tested_sound : (from : ℕ) (l : Lists) (o : Option Condition) (e : Emitted) → IfSome o (TestSound from l) → Sound from l e → TestSound from l (tested o e)
   tested_sound from l None e h g = value_sound from l e g
@@ -327,17 +370,20 @@ module _ (code : Code) (arguments : List ℕ) (f : FunctionCode) (end : ℕ) whe
         to_is = let u : length (head ++ tail) ≡ length head + 3 = length-append head tail in omega (arith, next, u);
         grows = grows_used l c.lists into h.grows;
         held = let z = max_right c.lists.registers (suc into) in omega (arith, z);
+        balanced = balanced_append arguments head tail (on_balanced from l c h (c.to + 3)) (λ q bs. refl);
         goods = λ o bs k run.
             let inner = fits_before code arguments f.registers c.lists (used into c.lists) (grows_used c.lists c.lists into (grows_same c.lists)) k in
             let here = is_register code arguments f.registers c.lists into k in
-            let there = meets_in code arguments f end o from (c.to + 4) (c.to + 3) bs run (omega (arith, x)) (omega arith) in
-            let out = meets_in code arguments f end o from (c.to + 4) (c.to + 4) bs run (omega (arith, x)) (omega arith) in
-            good_append code arguments f end o from (c.to + 1) head tail next
-            (going_on_good from l c h o bs inner (c.to + 3) (c.to + 4) there (omega arith) run) (
-              good_on code arguments f end o from (c.to + 4) bs run (instr_of arguments long) (λ q bs. (refl, tt)) (here, omega arith) (c.to + 1) (omega (arith, x)) (omega arith),
+            let two = parted code arguments f end o from (c.to + 1) bs head tail next (on_balanced from l c h (c.to + 3)) run in
+            let at_skip = next_run code arguments f end o (c.to + 1) bs long (skip ∷ short ∷ []) (λ q bs. refl) two.1 in
+            let at_short = next_run code arguments f end o (suc (c.to + 1)) bs skip (short ∷ []) (λ q bs. refl) at_skip in
+            let there = meets_first code arguments f end o (c.to + 3) (suc (suc (c.to + 1))) bs (short ∷ []) (omega arith) at_short in
+            let out = meets_out code arguments f end o (c.to + 4) (suc (suc (c.to + 1))) bs (short ∷ []) (omega arith) at_short in
+            good_append code arguments f end o from (c.to + 1) head tail next (going_on_good from l c h o bs inner (c.to + 3) there two.0) (
+              good_on code arguments f end o (c.to + 1) bs long (skip ∷ short ∷ []) (λ q bs. (refl, tt)) (here, omega arith) two.1,
               (
-                good_jump code arguments f end o from (c.to + 4) bs run (c.to + 4) out (suc (c.to + 1)) (omega (arith, x)) (omega arith),
-                (good_on code arguments f end o from (c.to + 4) bs run (instr_of arguments short) (λ q bs. (refl, tt)) (here, omega arith) (suc (suc (c.to + 1))) (omega (arith, x)) (omega arith), tt),
+                good_jump code arguments f end o (suc (c.to + 1)) bs (c.to + 4) (short ∷ []) out at_skip,
+                (good_on code arguments f end o (suc (suc (c.to + 1))) bs short [] (λ q bs. (refl, tt)) (here, omega arith) at_short, tt),
               ),
             );
       }
@@ -360,22 +406,23 @@ module _ (code : Code) (arguments : List ℕ) (f : FunctionCode) (end : ℕ) whe
       let y = g.to_is in
       let z = w.to_is in
       let last_is : a.held.to ≡ from + length head = omega (arith, next, y, two) in
+      let head_balanced = balanced_append arguments test a.code (on_balanced from l c h (a.held.to + 1)) g.balanced in
       record {
         to_is = let u : length (head ++ skip ∷ b.code) ≡ length head + length (skip ∷ b.code) = length-append head (skip ∷ b.code) in omega (arith, last_is, z, u);
         grows = grows_further l c.lists b.lists h.grows (grows_further c.lists a.lists b.lists g.grows w.grows);
         held = let e = w.held in omega (arith, e, same);
+        balanced = balanced_append arguments head (skip ∷ b.code) head_balanced (balanced_append arguments (skip ∷ []) b.code (λ q bs. refl) w.balanced);
         goods = λ o bs k run.
             let fa = fits_before code arguments f.registers a.lists b.lists w.grows k in
             let fc = fits_before code arguments f.registers c.lists a.lists g.grows fa in
-            let other = meets_in code arguments f end o from b.held.to (a.held.to + 1) bs run (omega (arith, last_is)) (omega (arith, z)) in
-            let out = meets_in code arguments f end o from b.held.to b.held.to bs run (omega (arith, last_is, z)) (omega arith) in
-            good_append code arguments f end o from a.held.to head (skip ∷ b.code) last_is
-            (good_append code arguments f end o from (c.to + 1) test a.code next
-            (going_on_good from l c h o bs fc (a.held.to + 1) b.held.to other (omega (arith, y, z)) run)
-            (g.goods o bs fa (within code arguments f end o from b.held.to (c.to + 1) a.held.to bs run (omega (arith, x)) (omega (arith, z))))) (
-              good_jump code arguments f end o from b.held.to bs run b.held.to out a.held.to (omega (arith, last_is)) (omega (arith, z)),
-              subst (λ q. AreGood code arguments f end o q b.code) (omega arith) (w.goods o bs k (within code arguments f end o from b.held.to (a.held.to + 1) b.held.to bs run (omega (arith, last_is)) (omega arith))),
-            );
+            let second : a.held.to + 1 ≡ a.held.to + length (skip ∷ []) = omega arith in
+            let behind_head = (parted code arguments f end o from a.held.to bs head (skip ∷ b.code) last_is head_balanced run).1 in
+            let behind_skip = (parted code arguments f end o a.held.to (a.held.to + 1) bs (skip ∷ []) b.code second (λ q bs. refl) behind_head).1 in
+            let other = meets_first code arguments f end o (a.held.to + 1) (a.held.to + 1) bs b.code refl behind_skip in
+            let out = meets_out code arguments f end o b.held.to (a.held.to + 1) bs b.code z behind_skip in
+            good_parts code arguments f end o from a.held.to bs head (skip ∷ b.code) last_is head_balanced run
+            (λ r. good_parts code arguments f end o from (c.to + 1) bs test a.code next (on_balanced from l c h (a.held.to + 1)) r (going_on_good from l c h o bs fc (a.held.to + 1) other) (g.goods o bs fa))
+            (λ r. good_parts code arguments f end o a.held.to (a.held.to + 1) bs (skip ∷ []) b.code second (λ q bs. refl) r (λ j. (good_jump code arguments f end o a.held.to bs b.held.to [] out j, tt)) (w.goods o bs k));
       }
 
   -- the values of a call's arguments
@@ -383,7 +430,8 @@ module _ (code : Code) (arguments : List ℕ) (f : FunctionCode) (end : ℕ) whe
     pub to_is : e.to ≡ from + length e.code
     pub grows : Grows l e.lists
     pub held : AreBelow e.lists.registers e.registers
-    pub goods : (open_at : ℕ → List ℕ) (bs : List ℕ) → Fits code arguments f.registers e.lists → Runs code arguments f end open_at from e.to bs → AreGood code arguments f end open_at from e.code
+    pub balanced : IsBalanced arguments e.code
+    pub goods : (open_at : ℕ → List ℕ) (bs : List ℕ) → Fits code arguments f.registers e.lists → Runs code arguments f end open_at from bs e.code → AreGood code arguments f end open_at from e.code
 
   pub followed_sound : (from : ℕ) (l : Lists) (e : Emitted) (es : AllEmitted) → Sound from l e → AllSound e.held.to e.lists es → AllSound from l (followed e es)
   followed_sound from l e es h g =
@@ -393,10 +441,9 @@ module _ (code : Code) (arguments : List ℕ) (f : FunctionCode) (end : ℕ) whe
         to_is = let u : length (e.code ++ es.code) ≡ length e.code + length es.code = length-append e.code es.code in omega (arith, x, y, u);
         grows = grows_further l e.lists es.lists h.grows g.grows;
         held = (let a = h.held in let b = g.grows.registers in omega (arith, a, b), g.held);
+        balanced = balanced_append arguments e.code es.code h.balanced g.balanced;
         goods = λ o bs k run.
-            good_append code arguments f end o from e.held.to e.code es.code h.to_is
-            (h.goods o bs (fits_before code arguments f.registers e.lists es.lists g.grows k) (within code arguments f end o from es.to from e.held.to bs run (omega arith) (omega (arith, y))))
-            (g.goods o bs k (within code arguments f end o from es.to e.held.to es.to bs run (omega (arith, x)) (omega arith)));
+            good_parts code arguments f end o from e.held.to bs e.code es.code h.to_is h.balanced run (h.goods o bs (fits_before code arguments f.registers e.lists es.lists g.grows k)) (g.goods o bs k);
       }
 
   pub called_sound : (c : Callee) (into from : ℕ) (l : Lists) (args : AllEmitted) → AllSound from l args → length args.registers ≡ length c.parameters → Takes code c.number (length c.parameters) → Sound from l (called (Some c) args from into l)
@@ -414,15 +461,12 @@ module _ (code : Code) (arguments : List ℕ) (f : FunctionCode) (end : ℕ) whe
         to_is = let b : length (args.code ++ i ∷ []) ≡ length args.code + 1 = length-append args.code (i ∷ []) in omega (arith, to_is, b);
         grows = grows_further l args.lists (used into lists) h.grows all;
         held = let x = max_right lists.registers (suc into) in omega (arith, x);
+        balanced = balanced_append arguments args.code (i ∷ []) h.balanced (λ q bs. refl);
         goods = λ o bs k run.
             let first = fits_before code arguments f.registers args.lists (used into lists) all k in
             let same : instr_of arguments i ≡ Plain.Call c.number into handed = ap (λ xs. Plain.Call c.number into xs) (handed_over arguments made handed k.arguments.0 k.arguments.1) in
             let below : AreBelow f.registers handed = arranged_below f.registers c.parameters args.registers (below_more args.lists.registers f.registers args.registers (size_of args.lists first) h.held) in
             let takes_them : Takes code c.number (length handed) = subst (Takes code c.number) (sym (arranged_length c.parameters args.registers many)) takes in
-            good_append code arguments f end o from args.to args.code (i ∷ []) h.to_is
-            (h.goods o bs first (within code arguments f end o from (args.to + 1) from args.to bs run (omega arith) (omega arith))) (
-              subst (IsGood code arguments f end o args.to) (sym same)
-                  (good_on code arguments f end o from (args.to + 1) bs run (Plain.Call c.number into handed) (λ q bs. (refl, tt)) (is_register code arguments f.registers lists into k, below, takes_them) args.to (omega (arith, to_is)) (omega arith)),
-              tt,
-            );
+            good_parts code arguments f end o from args.to bs args.code (i ∷ []) h.to_is h.balanced run (h.goods o bs first)
+            (λ r. (good_on code arguments f end o args.to bs i [] (λ q bs. (refl, tt)) (subst (IsWritten code f end) (sym same) (is_register code arguments f.registers lists into k, below, takes_them)) r, tt));
       }

@@ -13,6 +13,7 @@ use Rattle.syntax.specs.Typing as Typing
 use Rattle.syntax.specs.Typing.{IsTypedProgram, scope_of_start}
 use Rattle.syntax.specs.ScopeLaws.{Agrees}
 use Rattle.syntax.proofs.TypedParts.{TypedExprs, TypedExpr, TypedSimple, TypedStmt, TypedStmts}
+use Rattle.bytecode.specs.declared.instr.Instr.{Instr}
 use Rattle.bytecode.specs.declared.instr.Instr.TheVariants as own
 use Rattle.bytecode.specs.Code.{Code, FunctionCode}
 use Rattle.lowered.specs.Expressions.{LocalScope}
@@ -28,11 +29,12 @@ use Rattle.picked.proofs.stands.Exprs.{DefinedAreCallees}
 use Rattle.picked.proofs.stands.Simply.{start_agrees}
 use Rattle.picked.proofs.stands.Statements.{CancelsFit, AllCancelsFit, after_agrees}
 use Rattle.picked.proofs.valid.Fitting.{fits_before}
-use Rattle.picked.proofs.valid.Goods.{Meets, AreGood, within, good_on}
+use Rattle.picked.proofs.valid.Begins.{Are, are_front, are_behind, balanced_append}
+use Rattle.picked.proofs.valid.Goods.{Meets, good_parts, good_on}
 use Rattle.picked.proofs.valid.Sounds.{Sound, TestSound, AreBelow, in_size, test_on_is, test_back_is, going_on_good, going_back_good}
 use Rattle.picked.proofs.valid.Expressions.{CalleesTake, expr_sound, all_sound, test_sound}
 use Rattle.picked.proofs.valid.Simples.{Flat, nothing_flat, one_flat, then_flat, evaluated_flat, simple_flat, declared_flat, start_flat}
-use Rattle.picked.proofs.valid.Parts.{Are, are_front, are_behind, Exiting, Part, level_part, flat_part, knowing, given, then_part, jump_part, left_part, cancel_part, transaction_part}
+use Rattle.picked.proofs.valid.Parts.{Exiting, Part, along_part, flat_part, knowing, given, then_part, jump_part, left_part, cancel_part, transaction_part}
 
 -- a condition with its jump, and the values of arguments, as what is written
 abbrev leading : Condition → ℕ → Written
@@ -60,17 +62,18 @@ module _ (code : Code) (arguments : List ℕ) (f : FunctionCode) (end : ℕ) whe
       let g = pieces_flat ps rs (from + 1) more h in
       let rest = pieces_written ps rs (from + 1) more in
       let first : Grows l more = record { arguments = front_same l.arguments; texts = front_more l.texts (text ∷ []); registers = omega arith; layout = refl } in
+      let put : Instr = own.PrintText (length l.texts) in
       let y = g.to_is in
       record {
         to_is = omega (arith, y);
         grows = grows_further l more rest.lists first g.grows;
+        balanced = balanced_append arguments (put ∷ []) rest.code (λ q bs. refl) g.balanced;
         goods = λ o bs k run.
             let t = (fits_before code arguments f.registers more rest.lists g.grows k).texts in
             let long : length code.texts ≡ length (l.texts ++ text ∷ []) + length t.0 = ap (λ (ts : List (List ℕ)). length ts) t.1 ∙ length-append (l.texts ++ text ∷ []) t.0 in
-            let one_more : length (l.texts ++ text ∷ []) ≡ length l.texts + 1 = length-append l.texts (text ∷ []) in (
-              good_on code arguments f end o from rest.to bs run _ (λ q bs. (refl, tt)) (omega (arith, long, one_more)) from (omega arith) (omega (arith, y)),
-              subst (λ q. AreGood code arguments f end o q rest.code) (omega arith) (g.goods o bs k (within code arguments f end o from rest.to (from + 1) rest.to bs run (omega arith) (omega arith))),
-            );
+            let one_more : length (l.texts ++ text ∷ []) ≡ length l.texts + 1 = length-append l.texts (text ∷ []) in
+            good_parts code arguments f end o from (from + 1) bs (put ∷ []) rest.code (omega arith) (λ q bs. refl) run
+            (λ r. (good_on code arguments f end o from bs put [] (λ q bs. (refl, tt)) (omega (arith, long, one_more)) r, tt)) (g.goods o bs k);
       }
   pieces_flat (Figure t ∷ ps) [] from l h = nothing_flat code arguments f end from l
   pieces_flat (Figure t ∷ ps) (r ∷ rs) from l h = by t (pieces_flat ps rs (from + 1) l h.1)
@@ -82,13 +85,13 @@ module _ (code : Code) (arguments : List ℕ) (f : FunctionCode) (end : ℕ) whe
   -- a condition with its jump
   leading_part : (P : (ℕ → List ℕ) → Type 0) (bs : List ℕ) (there from : ℕ) (l : Lists) (c : Condition) → TestSound code arguments f end from l c → ((open_at : ℕ → List ℕ) → P open_at → Open bs there open_at) → Part code arguments f end P bs from l (leading c there)
   leading_part P bs there from l c h meets =
-      level_part code arguments f end P bs from l (leading c there) (test_on_is code arguments f end from l c h there) h.grows
-      (λ o k holds run. going_on_good code arguments f end from l c h o bs k there (c.to + 1) (meets o holds) (omega arith) run)
+      along_part code arguments f end P bs from l (leading c there) (test_on_is code arguments f end from l c h there) h.grows
+      (λ o k holds run. going_on_good code arguments f end from l c h o bs k there (meets o holds) run)
 
   back_part : (P : (ℕ → List ℕ) → Type 0) (bs : List ℕ) (there from : ℕ) (l : Lists) (c : Condition) → TestSound code arguments f end from l c → ((open_at : ℕ → List ℕ) → P open_at → Open bs there open_at) → Part code arguments f end P bs from l (tested_back c there)
   back_part P bs there from l c h meets =
-      level_part code arguments f end P bs from l (tested_back c there) (test_back_is code arguments f end from l c h there) h.grows
-      (λ o k holds run. going_back_good code arguments f end from l c h o bs k there (c.to + 1) (meets o holds) (omega arith) run)
+      along_part code arguments f end P bs from l (tested_back c there) (test_back_is code arguments f end from l c h there) h.grows
+      (λ o k holds run. going_back_good code arguments f end from l c h o bs k there (meets o holds) run)
 
   -- a branch
   if_part : (P : (ℕ → List ℕ) → Type 0) (bs : List ℕ) (from : ℕ) (l : Lists) (c : Condition) (a : Written) → TestSound code arguments f end from l c → Part code arguments f end P bs (c.to + 1) c.lists a → Part code arguments f end P bs from l (branched c a)
@@ -287,7 +290,7 @@ module _ (code : Code) (arguments : List ℕ) (f : FunctionCode) (end : ℕ) whe
           let g = all_sound p code arguments f end typed takes defined shares known scope agrees es h (from + 1) (length scope) l in
           let first = one_written own.Irrevocable from l in
           then_flat code arguments f end from l (and_then first (handed args)) (pieces_written (pieces format) args.registers args.to args.lists)
-          (then_flat code arguments f end from l first (handed args) (one_flat code arguments f end own.Irrevocable from l (λ q bs. (refl, tt)) (λ k. tt)) (record { to_is = g.to_is; grows = g.grows; goods = g.goods }))
+          (then_flat code arguments f end from l first (handed args) (one_flat code arguments f end own.Irrevocable from l (λ q bs. (refl, tt)) (λ k. tt)) (record { to_is = g.to_is; grows = g.grows; balanced = g.balanced; goods = g.goods }))
           (pieces_flat (pieces format) args.registers args.to args.lists g.held)
 
       return_part : (bs : List ℕ) (x : Exits) (loops : Bool) (m : Option Mode) (e : Expr) → TypedExpr known e → (from : ℕ) (l : Lists) →

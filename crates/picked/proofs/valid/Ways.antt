@@ -9,8 +9,8 @@ use Rattle.bytecode.specs.Code.{Code, FunctionCode, Instr as Plain}
 use Rattle.bytecode.specs.Valid.{IsPlace, IsWritten, leads_from, IsReached, at_first, further, AsksOpen, KeepsOpen, AreWritten}
 use Rattle.bytecode.specs.Views.{instr_of}
 use Rattle.picked.proofs.stands.Standing.{Stand}
+use Rattle.picked.proofs.valid.Begins.{Are}
 use Rattle.picked.proofs.valid.Goods.{IsGood, AreGood, Meets}
-use Rattle.picked.proofs.valid.Parts.{Are}
 
 -- the begins that are open at a place, by a list of them for each place from one on
 abbrev pub opened : List (List ℕ) → ℕ → ℕ → List ℕ
