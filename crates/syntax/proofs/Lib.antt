@@ -4,9 +4,12 @@ mod Expressions
 mod Further
 mod MeaningSteady
 mod Memories
+mod MoreFounds
 mod OneTick
 mod OrderRows
+mod OrderRuns
 mod RefusedRows
+mod RunOrders
 mod Spelled
 mod Steady
 mod ThreadLaws

@@ -20,6 +20,7 @@ pub mod Orders
 -- what is proved of the meaning
 pub mod Laws
 pub mod ScopeLaws
+pub mod OrderLaws
 -- which tokens spell a program
 pub mod Phrases
 pub mod Grammar

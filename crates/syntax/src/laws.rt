@@ -1,6 +1,7 @@
 //! Laws of the meaning of programs. A law has no code: its contract is what it says.
 
-ghost use Rattle.syntax.specs.Laws.{BeginsWithMemory, GivesItsType, GivesWords, GoesOn, KeepsLocals, KeepsOlderLocals, LeavesMemories, LeftAsManyAsFound, LoopIsItsTurns, MoreMemories, MoreTicks, NeverMoreLeft, OneTickMore, StaysInContext, TicksNeverGrow, WordsStay};
+ghost use Rattle.syntax.specs.Laws.{BeginsWithMemory, GivesItsType, GivesWords, GoesOn, KeepsLocals, KeepsOlderLocals, LeavesMemories, LeftAsManyAsFound, LoopIsItsTurns, MoreFounds, MoreMemories, MoreTicks, NeverMoreLeft, OneTickMore, StaysInContext, TicksNeverGrow, WordsStay};
+ghost use Rattle.syntax.specs.OrderLaws.{OrdersAreRuns, RunsAreOrders};
 
 /// How a thread goes on. One that is not spent does the same with more ticks, and one that wants no memory either does the
 /// same with further memories too; any thread begins with what it did before. One tick more shows at most one piece more,
@@ -9,6 +10,7 @@ ghost use Rattle.syntax.specs.Laws.{BeginsWithMemory, GivesItsType, GivesWords, 
 pub fn threads_go_on()
     ensures ticks { MoreTicks }
     ensures memories { MoreMemories }
+    ensures founds { MoreFounds }
     ensures both { GoesOn }
     ensures one_tick { OneTickMore }
 {}
@@ -44,4 +46,11 @@ pub fn values_fit()
 /// A loop is its turn, for one tick, and then the loop again where the turn did not end it.
 pub fn a_loop_is_its_turns()
     ensures { LoopIsItsTurns }
+{}
+
+/// What orders show. A run whose threads make their steps within so many ticks is the order of its steps; and each order shows
+/// a run.
+pub fn orders_show_runs()
+    ensures runs { RunsAreOrders }
+    ensures orders { OrdersAreRuns }
 {}

@@ -1,4 +1,5 @@
 use Rattle.syntax.proofs.ThreadLaws.{more_ticks, more_memories, goes_on}
+use Rattle.syntax.proofs.MoreFounds.{more_founds}
 use Rattle.syntax.proofs.OneTick.{one_tick_more}
 use Rattle.syntax.proofs.laws.threads_go_on.Goals as goal
 
@@ -7,6 +8,9 @@ returns-clause-ticks c = more_ticks
 
 pub returns-clause-memories : goal.returns-clause-memories
 returns-clause-memories c = more_memories
+
+pub returns-clause-founds : goal.returns-clause-founds
+returns-clause-founds c = more_founds
 
 pub returns-clause-both : goal.returns-clause-both
 returns-clause-both c = goes_on
