@@ -1,5 +1,9 @@
 -- by the invariant each merge is a run in which every thread stands
 pub mod Explained
+-- what attempts have computed
+pub mod Computes
+-- how often attempts are dropped
+pub mod Drops
 -- the main theorem: from the new world every list of steps is serializable
 pub mod Serializable
 -- an attempt that goes on keeps its first snapshot, and what takes effect has its last one

@@ -8,6 +8,10 @@ pub mod Merges
 pub mod Explained
 -- what holds of every list of steps
 pub mod Serializable
+-- what attempts have computed
+pub mod Computes
+-- how often attempts are dropped
+pub mod Drops
 -- a thread that steps alone
 pub mod Alone
 -- how many accesses an undisturbed transaction makes

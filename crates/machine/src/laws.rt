@@ -15,6 +15,8 @@ ghost use Rattle.machine.specs.Worlds.{Part, World, Reached, answer, new_world};
 ghost use Rattle.machine.specs.Merges.{Entry};
 ghost use Rattle.machine.specs.Serializable.{world_after, IsOpaque, HasChanged, HoldersGoOn};
 ghost use Rattle.machine.specs.Alone.{ReachesEnd};
+ghost use Rattle.machine.specs.Computes.{AttemptsCompute};
+ghost use Rattle.machine.specs.Drops.{DropsAreBounded, DropsComeAfterTakings};
 ghost use Rattle.machine.specs.Counts.{CountsItsAccesses};
 ghost use Rattle.machine.specs.Tallies.{CountsByMeaning};
 ghost use Rattle.machine.specs.Holders.{HoldersNeverAbort};
@@ -48,6 +50,14 @@ pub fn opaque<C>()
         IsOpaque code init program bounds m0 threads steps }
 {}
 
+/// Every attempt, also one that will be dropped, is where its code's meaning comes in the memory of its moment: the same
+/// registers, frames and place, the same text, and it sees that memory with its own writes over it.
+pub fn attempts_compute<C>()
+    ensures { (code : C → Effect C) (init : ℕ → C) (bounds : List ℕ) (m0 : Memory) (threads : ℕ) (steps : List ℕ) →
+        FitsCells code bounds → IsMemory bounds m0 →
+        AttemptsCompute code init m0 (world_after code init m0 threads steps) }
+{}
+
 /// A step drops an attempt only where validation has loaded the word of an entry of its read log and found another one. A
 /// thread that has taken the lock is never dropped, whatever other threads do.
 pub fn aborts<C>()
@@ -58,6 +68,17 @@ pub fn aborts<C>()
     ensures holders { (code : C → Effect C) (init : ℕ → C) (bounds : List ℕ) (m0 : Memory) (threads : ℕ)
         (steps : List ℕ) → FitsCells code bounds → IsMemory bounds m0 →
         HoldersGoOn code (world_after code init m0 threads steps) }
+{}
+
+/// A thread has been dropped at most as often as other threads have taken the lock, and once more while it is held, whatever
+/// the steps. Where an attempt is dropped, the lock has been taken since its last snapshot.
+pub fn drops_are_bounded<C>()
+    ensures bounded { (code : C → Effect C) (init : ℕ → C) (bounds : List ℕ) (m0 : Memory) (threads : ℕ)
+        (steps : List ℕ) → FitsCells code bounds → IsMemory bounds m0 →
+        DropsAreBounded code init m0 threads steps }
+    ensures after_takings { (code : C → Effect C) (init : ℕ → C) (bounds : List ℕ) (m0 : Memory) (threads : ℕ)
+        (steps : List ℕ) → FitsCells code bounds → IsMemory bounds m0 →
+        DropsComeAfterTakings code (world_after code init m0 threads steps) }
 {}
 
 /// What a thread's meaning does alone, a machine of one thread does in some number of steps, and stays there: the same

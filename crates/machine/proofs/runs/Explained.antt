@@ -9,8 +9,9 @@ use Rattle.read_log.specs.Agreement.{Agrees}
 use Rattle.bytecode.specs.Effects.{Effect}
 use Rattle.bytecode.specs.Sequential.{Sequential, end_of, meaning, outside, outside_step, steps, thread}
 use Rattle.norec_core.specs.Attempts.{Attempt}
+use Rattle.machine.specs.Computes.{ComputesOn, HasComputed}
 use Rattle.machine.specs.Explained.{HasLock, HasMomentIf, IsExplainedBy, IsFree, IsHeld, IsNumbered, has_lock, stored_of}
-use Rattle.machine.specs.inner.Invariant.{ComesTo, HasTaker, History, Invariant, LeftIs, LockBy, LockIs, Now, Ordered, PartOk, RecordOk, bound_of, founds_in, lefts_in, next_snapshot}
+use Rattle.machine.specs.inner.Invariant.{ComesTo, HasTaker, History, Invariant, LeftIs, LockBy, LockIs, Now, Ordered, PartOk, RecordOk, bound_of, founds_in, inside, inside_of, lefts_in, next_snapshot}
 use Rattle.machine.specs.Merges.{Entry, IsMerge, count_takers, own, run_of}
 use Rattle.machine.specs.Threads.{after}
 use Rattle.machine.specs.Worlds.{Part, Record, World, run}
@@ -219,3 +220,42 @@ module _ {C : Type 0} (code : C → Effect C) (init : ℕ → C) (bounds : List 
     numbered = numbered;
     moments = λ t p e. moment_of t p e p.thread.attempt (v.parts t p e).ordered (v.parts t p e).now;
   }
+
+  -- in the memory of its snapshot the attempt is where the meaning is
+  computes_of : (t : ℕ) (p : Part C) → slice_get w.parts t ≡ Some p → (a : Attempt C) → Now code bounds h t (init t) p.records p.base p.thread (Some a) → ComputesOn code init es t p a (h.mem a.snapshot)
+  computes_of t p e a n =
+      let m : List ℕ = h.mem a.snapshot in
+      let comes : thread code (init t) (founds_in p.records ++ m ∷ []) ((n.begun.comes_to.0 + 1) + n.begun.reaches.0)
+      ≡ inside p.thread.configuration (inside_of code m a.saved a.writes a.inner a.kept) [] (lefts_in p.records) p.thread.text =
+      steps-add code (n.begun.comes_to.0 + 1) n.begun.reaches.0 _
+      ∙ ap (steps code n.begun.reaches.0)
+      (steps-last code n.begun.comes_to.0 _ _ (n.begun.comes_to.1 (m ∷ []))
+      ∙ ap (outside_step (outside a.saved (m ∷ []) (lefts_in p.records) n.begun.text1 Running)) n.begun.begins)
+      ∙ n.begun.reaches.1 m [] (lefts_in p.records) (sized bounds (h.mem a.snapshot) (v.history.memories a.snapshot n.steady.in_time)) (record { agrees = n.steady.agrees; known = λ x. refl }) in
+      record {
+        instructions = (n.begun.comes_to.0 + 1) + n.begun.reaches.0;
+        meant = inside p.thread.configuration (inside_of code m a.saved a.writes a.inner a.kept) [] (lefts_in p.records) p.thread.text;
+        comes = ap (λ fs. thread code (init t) (fs ++ m ∷ []) ((n.begun.comes_to.0 + 1) + n.begun.reaches.0)) (founds_own t p e) ∙ comes;
+        configuration = refl;
+        text = refl;
+        lefts = sym (lefts_own t p e);
+        within = inside_of code m a.saved a.writes a.inner a.kept;
+        inside = refl;
+        found = refl;
+        sees = refl;
+        kept = refl;
+      }
+
+  -- and that memory is the one of its moment
+  pub computed : (t : ℕ) (p : Part C) (a : Attempt C) → slice_get w.parts t ≡ Some p → p.thread.attempt ≡ Some a → HasComputed code init m0 es t p a
+  unfolding moment_of
+  computed t p a e has =
+      let n : Now code bounds h t (init t) p.records p.base p.thread (Some a) = subst (λ o. Now code bounds h t (init t) p.records p.base p.thread o) has (v.parts t p e).now in
+      let ord : Ordered 0 p.records (bound_of h (Some a)) = subst (λ o. Ordered 0 p.records (bound_of h o)) has (v.parts t p e).ordered in
+      let c : Cut 0 a.snapshot es = cut 0 a.snapshot 0 es h.top refl n.steady.even (omega arith) n.steady.in_time merge.sorted whole in
+      let there : last_memory m0 (run_of c.before) ≡ h.mem a.snapshot =
+      last_is h 0 m0 c.before a.snapshot (sym v.first) c.follows (all_left (EntryOk h) c.before c.after (subst (AllByRecursion (EntryOk h)) c.place each_ok)) in
+      record {
+        moment = (moment_of t p e (Some a) ord n).1;
+        computes = subst (λ m. ComputesOn code init es t p a m) (sym there) (computes_of t p e a n);
+      }

@@ -17,7 +17,7 @@ use Rattle.machine.proofs.merges.Insert.{insert_all, insert_sorted, keys_before,
 use Rattle.machine.proofs.steps.Worlds.{get-set_other, get-set_same, run_invariant, step_invariant}
 
 -- a new thread's part
-new_part_at : {C : Type 0} (init : ℕ → C) (b n t : ℕ) (p : Part C) → slice_get (new_parts init b n) t ≡ Some p → p ≡ new_part (init (t + b))
+pub new_part_at : {C : Type 0} (init : ℕ → C) (b n t : ℕ) (p : Part C) → slice_get (new_parts init b n) t ≡ Some p → p ≡ new_part (init (t + b))
 new_part_at init b zero t p e = absurd (cc)
 new_part_at init b (suc n) zero p e = let r : new_part (init b) ≡ p = cc in sym r ∙ ap (λ k. new_part (init k)) (sym (zero-add b))
 new_part_at init b (suc n) (suc t) p e = new_part_at init (suc b) n t p e ∙ ap (λ k. new_part (init k)) (add-suc t b ∙ sym (suc-add t b))
