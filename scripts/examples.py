@@ -1,9 +1,9 @@
 #!/usr/bin/env python3
-"""Writes crates/serving_replays_tests/src/examples.rt. It runs each program of examples/ and examples/bench/ and compares what it prints with
-the file of the same name that ends in .out; and it runs each transcript of examples/transcripts/, a file whose first line is a command line, `$ txc ..`,
-and which has under it what a terminal then shows. And it writes crates/lower_tests/src/of_meaning/examples.rt, which runs each program of
-examples/ from its tree and compares with the same file, and crates/lower_tests/src/of_lower/examples.rt, which lists the programs of
-examples/ and demands a code of each.
+"""Writes crates/serving_replays_tests/src/examples.rt. It runs each program of examples/, examples/against/ and examples/bench/ and
+compares what it prints with the file of the same name that ends in .out; and it runs each transcript of examples/transcripts/, a
+file whose first line is a command line, `$ txc ..`, and which has under it what a terminal then shows. And it writes
+crates/lower_tests/src/of_meaning/examples.rt, which runs each program of examples/ from its tree and compares with the same file,
+and crates/lower_tests/src/of_lower/examples.rt, which lists the programs of examples/ and demands a code of each.
 
 With --check it writes nothing, and fails where one of the three is not what it would write, or where a document shows what the program
 does not print: a block that begins with `$ txc run examples/NAME.c` has NAME.out under it, any other one that begins with
@@ -22,7 +22,7 @@ MEANING_TESTS = os.path.join(TOP, "crates/lower_tests/src/of_meaning/examples.rt
 LOWER_TESTS = os.path.join(TOP, "crates/lower_tests/src/of_lower/examples.rt")
 SHOWN = re.compile(r"^```\n(\$ txc [^\n]*\n)(.*?)^```$", re.M | re.S)
 PROGRAM = re.compile(r"^```c\n(.*?)^```$", re.M | re.S)
-RUN = re.compile(r"\$ txc run examples/(\w+)\.c\n")
+RUN = re.compile(r"\$ txc run examples/((?:against/)?\w+)\.c\n")
 SCHEDULE = re.compile(r"^```\n((?:\d+ a?\d+\n)+)```$", re.M)
 
 
@@ -33,6 +33,11 @@ def read(path):
 
 def names(pattern):
     return sorted(glob.glob(pattern, root_dir=TOP, recursive=True))
+
+
+def programs():
+    """Those of examples/, and those that are held against other implementations or measured."""
+    return [name for folder in ("", "against/", "bench/") for name in names(f"examples/{folder}*.c")]
 
 
 def literal(text):
@@ -59,7 +64,7 @@ def transcript(path):
 
 
 def tests():
-    examples = [row([literal(name), data(read(name)), data(read(name[:-2] + ".out"))], 8) for name in names("examples/*.c") + names("examples/bench/*.c")]
+    examples = [row([literal(name), data(read(name)), data(read(name[:-2] + ".out"))], 8) for name in programs()]
     transcripts = [row([literal(words), *map(data, shown)], 8) for words, *shown in map(transcript, names("examples/transcripts/*.txt"))]
     return f"""//! The programs of examples/, with what each prints, and the transcripts of examples/transcripts/: written by scripts/examples.py.
 

@@ -10,7 +10,7 @@ type Example = (&'static str, &'static [u8], &'static [u8]);
 
 /// The rows stand in a function, so that no proof but its own looks at them.
 fn examples() -> &'static [Example] {
-    static ROWS: [Example; 17] = [
+    static ROWS: [Example; 21] = [
         (
             "examples/booking.c",
             b"// A cancel of an inner transaction undoes the inner one alone: who finds no seat in the train takes one in the bus, and what the\n// outer transaction wrote before stays. Each thread books twice.\nint train = 1, bus = 9, asked, by_train, by_bus;\n\nvoid worker(int self) {\n    int i;\n    for (i = 0; i < 2; i++) {\n        __transaction_atomic {\n            int seated = 0;\n            asked = asked + 1;\n            __transaction_atomic {\n                train = train - 1;\n                by_train = by_train + 1;\n                if (train < 0) __transaction_cancel;\n                seated = 1;\n            }\n            if (!seated) {\n                bus = bus - 1;\n                by_bus = by_bus + 1;\n            }\n        }\n    }\n}\n",
@@ -60,6 +60,26 @@ fn examples() -> &'static [Example] {
             "examples/withdraw.c",
             b"// A cancel undoes all that its transaction wrote: a thread takes 70 from the account, or nothing. It tries twice.\nint balance = 100, refused;\n\nint withdraw(int amount) {\n    int paid = 0;\n    __transaction_atomic {\n        balance = balance - amount;\n        if (balance < 0) __transaction_cancel;\n        paid = 1;\n    }\n    return paid;\n}\n\nvoid worker(int self) {\n    int i;\n    for (i = 0; i < 2; i++) {\n        if (!withdraw(70)) {\n            __transaction_atomic { refused = refused + 1; }\n        }\n    }\n}\n",
             b"== thread 0: ended\n== memory\nbalance = 30\nrefused = 1\n",
+        ),
+        (
+            "examples/against/clear_cancel.c",
+            b"// An array is cleared, and the transaction is cancelled: its first values stay.\nunsigned a[8] = {1, 2, 3, 4}, n;\n\nvoid worker(int self) {\n    __transaction_atomic {\n        for (int i = 0; i < 8; i++) a[i] = 0;\n        if (n == 0) __transaction_cancel;\n    }\n}\n",
+            b"== thread 0: ended\n== memory\na = 1 2 3 4 0 0 0 0\nn = 0\n",
+        ),
+        (
+            "examples/against/clear_torn.c",
+            b"// Thread 0 clears an array in one transaction, thread 1 reads both ends of it in another. So it prints 1 1, or 0 0.\nunsigned a[8] = {1, 1, 1, 1, 1, 1, 1, 1};\n\nvoid worker(int self) {\n    unsigned first = 0, last = 0;\n    if (self == 0) {\n        __transaction_atomic {\n            for (int i = 0; i < 8; i++) a[i] = 0;\n        }\n    } else {\n        __transaction_atomic {\n            first = a[0]; /*pause*/\n            last = a[7];\n        }\n        printf(\"%u %u\\n\", first, last);\n    }\n}\n",
+            b"== thread 0: ended\n== memory\na = 0 0 0 0 0 0 0 0\n",
+        ),
+        (
+            "examples/against/nested_cancel.c",
+            b"// An inner transaction writes what the outer one has written, and is cancelled: what the outer one wrote stays.\nunsigned g;\n\nvoid worker(int self) {\n    __transaction_atomic {\n        g = 0;\n        __transaction_atomic {\n            g = 1;\n            __transaction_cancel;\n        }\n    }\n}\n",
+            b"== thread 0: ended\n== memory\ng = 0\n",
+        ),
+        (
+            "examples/against/wide_lost.c",
+            b"// Thread 0 writes four neighbours, thread 1 adds 1 to two of them. So these are 8 and 9 (thread 0 first), or 7 and 8.\nunsigned a[16], n;\n\nvoid worker(int self) {\n    if (self == 0) {\n        __transaction_atomic {\n            a[6] = 1;\n            a[7] = 2;\n            if (n == 0) {\n                a[6] = 5;\n                a[7] = 6;\n                a[8] = 7;\n                a[9] = 8;\n            }\n        }\n    } else {\n        __transaction_atomic {\n            a[8] = a[8] + 1; /*pause*/\n            a[9] = a[9] + 1;\n        }\n    }\n}\n",
+            b"== thread 0: ended\n== memory\na = 0 0 0 0 0 0 5 6 7 8 0 0 0 0 0 0\nn = 0\n",
         ),
         (
             "examples/bench/bank.c",
@@ -127,7 +147,7 @@ fn examples_print_what_they_should(rt: HostRuntime) {
 type Transcript = (&'static str, &'static [u8], &'static [u8], &'static [u8]);
 
 fn transcripts() -> &'static [Transcript] {
-    static ROWS: [Transcript; 25] = [
+    static ROWS: [Transcript; 29] = [
         (
             "txc check examples/queue.c",
             b"// A bounded queue: one transaction puts or takes, and a cancel undoes what does not fit.\nint slots[4], head, count, refused;\n\nint put(int value) {\n    int done = 0;\n    __transaction_atomic {\n        slots[(head + count) % 4] = value;\n        count++;\n        if (count > 4) __transaction_cancel;\n        done = 1;\n    }\n    return done;\n}\n\nvoid worker(int self) {\n    int i;\n    for (i = 1; i <= 6; i++) {\n        if (!put(i * i)) {\n            __transaction_atomic { refused++; }\n        }\n    }\n    __transaction_relaxed {\n        printf(\"%d waiting, %d refused\\n\", count, refused);\n        while (count > 0) {\n            printf(\"%d \", slots[head]);\n            head = (head + 1) % 4;\n            count--;\n        }\n    }\n    printf(\"\\n\");\n}\n",
@@ -237,6 +257,18 @@ fn transcripts() -> &'static [Transcript] {
             b"== thread 0: ended\n== thread 1: ended\n== memory\ntrain = 0\nbus = 6\nasked = 4\nby_train = 1\nby_bus = 3\n",
         ),
         (
+            "txc source examples/against/clear_torn.c --threads 2 --order 0,1",
+            b"// Thread 0 clears an array in one transaction, thread 1 reads both ends of it in another. So it prints 1 1, or 0 0.\nunsigned a[8] = {1, 1, 1, 1, 1, 1, 1, 1};\n\nvoid worker(int self) {\n    unsigned first = 0, last = 0;\n    if (self == 0) {\n        __transaction_atomic {\n            for (int i = 0; i < 8; i++) a[i] = 0;\n        }\n    } else {\n        __transaction_atomic {\n            first = a[0]; /*pause*/\n            last = a[7];\n        }\n        printf(\"%u %u\\n\", first, last);\n    }\n}\n",
+            b"",
+            b"== thread 0: ended\n== thread 1: ended\n0 0\n== memory\na = 0 0 0 0 0 0 0 0\n",
+        ),
+        (
+            "txc source examples/against/clear_torn.c --threads 2 --order 1,0",
+            b"// Thread 0 clears an array in one transaction, thread 1 reads both ends of it in another. So it prints 1 1, or 0 0.\nunsigned a[8] = {1, 1, 1, 1, 1, 1, 1, 1};\n\nvoid worker(int self) {\n    unsigned first = 0, last = 0;\n    if (self == 0) {\n        __transaction_atomic {\n            for (int i = 0; i < 8; i++) a[i] = 0;\n        }\n    } else {\n        __transaction_atomic {\n            first = a[0]; /*pause*/\n            last = a[7];\n        }\n        printf(\"%u %u\\n\", first, last);\n    }\n}\n",
+            b"",
+            b"== thread 0: ended\n== thread 1: ended\n1 1\n== memory\na = 0 0 0 0 0 0 0 0\n",
+        ),
+        (
             "txc source examples/counter.c --threads 2 --order 0,1,1,0,0,1",
             b"// Each thread adds one, three times. No addition is lost, whatever the threads do.\nint x;\n\nvoid worker(int self) {\n    int i;\n    for (i = 0; i < 3; i++) {\n        __transaction_atomic { x = x + 1; }\n    }\n}\n",
             b"",
@@ -271,6 +303,18 @@ fn transcripts() -> &'static [Transcript] {
             b"// Both accounts change in one step, or neither does.\nint checking = 120, savings = 40;\n\nvoid worker(int self) {\n    __transaction_atomic {\n        checking = checking - 50;\n        savings = savings + 50;\n    }\n    __transaction_atomic {\n        savings = savings + 1;\n    }\n}\n",
             b"",
             b"== thread 0: ended\n== thread 1: ended\n== memory\nchecking = 20\nsavings = 142\n",
+        ),
+        (
+            "txc source examples/against/wide_lost.c --threads 2 --order 0,1",
+            b"// Thread 0 writes four neighbours, thread 1 adds 1 to two of them. So these are 8 and 9 (thread 0 first), or 7 and 8.\nunsigned a[16], n;\n\nvoid worker(int self) {\n    if (self == 0) {\n        __transaction_atomic {\n            a[6] = 1;\n            a[7] = 2;\n            if (n == 0) {\n                a[6] = 5;\n                a[7] = 6;\n                a[8] = 7;\n                a[9] = 8;\n            }\n        }\n    } else {\n        __transaction_atomic {\n            a[8] = a[8] + 1; /*pause*/\n            a[9] = a[9] + 1;\n        }\n    }\n}\n",
+            b"",
+            b"== thread 0: ended\n== thread 1: ended\n== memory\na = 0 0 0 0 0 0 5 6 8 9 0 0 0 0 0 0\nn = 0\n",
+        ),
+        (
+            "txc source examples/against/wide_lost.c --threads 2 --order 1,0",
+            b"// Thread 0 writes four neighbours, thread 1 adds 1 to two of them. So these are 8 and 9 (thread 0 first), or 7 and 8.\nunsigned a[16], n;\n\nvoid worker(int self) {\n    if (self == 0) {\n        __transaction_atomic {\n            a[6] = 1;\n            a[7] = 2;\n            if (n == 0) {\n                a[6] = 5;\n                a[7] = 6;\n                a[8] = 7;\n                a[9] = 8;\n            }\n        }\n    } else {\n        __transaction_atomic {\n            a[8] = a[8] + 1; /*pause*/\n            a[9] = a[9] + 1;\n        }\n    }\n}\n",
+            b"",
+            b"== thread 0: ended\n== thread 1: ended\n== memory\na = 0 0 0 0 0 0 5 6 7 8 0 0 0 0 0 0\nn = 0\n",
         ),
         (
             "txc source examples/withdraw.c --threads 2 --order 0,1,1,1,1,0,0",

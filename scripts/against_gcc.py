@@ -1,0 +1,353 @@
+#!/usr/bin/env python3
+"""Judges GCC's transactions (-fgnu-tm, libitm) by txc: tells each outcome of a program that no order of whole transactions gives.
+
+    scripts/against_gcc.py FILE [--threads T] [--runs N] [--pauses] [--all] ..
+    scripts/against_gcc.py --generate SEED [--count N] [--threads T] [--keep FOLDER] ..
+    scripts/against_gcc.py --guide
+
+GCC builds the program at each level, with a harness (scripts/workloads/against.c) that calls `worker` in T threads N times over,
+each time from the globals' first values. Each build is run with each of libitm's methods. What is allowed is asked of
+`txc source`, order by order; a program that traps in one is left out, since C says nothing of it. A wrong outcome is told with the
+allowed one that differs from it in the fewest words, and the order that gives that.
+
+--generate makes programs by chance and shrinks each that has a wrong outcome. --guide runs what docs/GUIDE.md shows of this script:
+where one thread runs, GCC 12.2.0 has to give what stands there; with more threads chance decides, and what comes is only printed.
+
+Exit status: 1 where something is wrong, 2 where a program is left out or gcc, libitm or txc is not there. txc is $TXC, or the program
+that `rt run` or scripts/quick_build.py makes, or `txc` on the path.
+"""
+
+import argparse
+import collections
+import os
+import re
+import shlex
+import shutil
+import signal
+import subprocess
+import sys
+import tempfile
+import time
+
+from orders import LeftOut, Orders, report_of
+from programs import WEIGHTS, Program, shrunk, text_of
+
+TOP = os.path.dirname(os.path.dirname(os.path.abspath(__file__)))
+GUIDE = f"{TOP}/docs/GUIDE.md"
+SHOWN = re.compile(r"^```\n\$ scripts/against_gcc\.py ([^\n]*)\n(.*?)^```$", re.M | re.S)
+VERSION = "12.2.0"
+LEVELS = "O0,O1,O2,O3"
+METHODS = "default,serialirr,serialirr_onwrite,serial,gl_wt,ml_wt"
+# Before the program's text, so that its prints are kept, and a pause is no unsafe call.
+BEFORE = """int against_print(const char *, ...);
+__attribute__((transaction_pure)) void against_pause(void);
+#define printf against_print
+#line 1 "program.c"
+"""
+TRANSACTION = re.compile(r"(__transaction_(?:atomic|relaxed)\s*\{)")
+GLOBAL = re.compile(r"(unsigned int|signed int|unsigned|signed|int)\b(.*)$", re.S)
+DECLARATOR = re.compile(r"\s*(\w+)\s*(?:\[\s*(\w+?)[uU]?\s*\])?")
+
+# A wrong outcome: a report, what the build said, or what became of the run; in how many of the runs.
+Wrong = collections.namedtuple("Wrong", "level method what count runs")
+
+
+def read(path):
+    with open(path, encoding="utf-8") as file:
+        return file.read()
+
+
+def write(path, text):
+    with open(path, "w", encoding="utf-8") as file:
+        file.write(text)
+
+
+def txc():
+    """The program to judge by."""
+    found = [os.environ.get("TXC"), f"{TOP}/crates/txc/out/txc", f"{TOP}/out/txc", shutil.which("txc")]
+    for it in found:
+        if it and os.path.isfile(it):
+            return it
+    raise LeftOut("there is no txc: scripts/quick_build.py makes one")
+
+
+# ---- what GCC makes of a program -------------------------------------------------------------------------------------------
+
+
+def size(text):
+    """What an integer constant stands for."""
+    return int(text, 8) if re.match(r"0\d", text) else int(text, 0)
+
+
+def globals_of(text):
+    """(name, type, length or None) of each global: what stands outside of braces and parentheses."""
+    text = re.sub(r"//[^\n]*|/\*.*?\*/", " ", text, flags=re.S)
+    text, depth, level = re.sub(r"=\s*\{[^}]*\}", "", text), 0, []
+    for it in text:
+        depth -= it == "}"
+        if depth == 0:
+            level.append(";" if it in "{}" else it)
+        depth += it == "{"
+    for item in "".join(level).split(";"):
+        found = GLOBAL.match(item.strip())
+        if found and "(" not in item:
+            kind = "unsigned" if found[1].startswith("unsigned") else "int"
+            for it in found[2].split(","):
+                name, length = DECLARATOR.match(it).groups()
+                yield name, kind, size(length) if length else None
+
+
+def memory_code(text):
+    """The functions of the harness that know the program's globals."""
+    declared, saved, reset, shown = [], [], [], []
+    for name, kind, length in globals_of(text):
+        bounds, form = "" if length is None else f"[{length}]", "%u" if kind == "unsigned" else "%d"
+        declared.append(f"extern {kind} {name}{bounds};\nstatic {kind} first_{name}{bounds};")
+        saved.append(f"memcpy(&first_{name}, &{name}, sizeof {name});")
+        reset.append(f"memcpy(&{name}, &first_{name}, sizeof {name});")
+        if length is None:
+            shown.append(f'printf("{name} = {form}\\n", {name});')
+        else:
+            values = f'for (int i = 0; i < {length}; i++) printf(" {form}", {name}[i]);'
+            shown.append(f'printf("{name} ="); {values} putchar(10);')
+    functions = zip(("save", "reset", "show"), (saved, reset, shown))
+    bodies = [f"void against_{name}(void)\n{{\n" + "\n".join(lines) + "\n}" for name, lines in functions]
+    return "\n".join(["#include <stdio.h>", "#include <string.h>", *declared, *bodies]) + "\n"
+
+
+def gcc(folder, *words):
+    return subprocess.run(["gcc", *words], cwd=folder, capture_output=True, text=True, check=False)
+
+
+class Builds:
+    """A program built at each level, in a folder."""
+
+    def __init__(self, folder, text, asked):
+        self.folder, self.flags, self.threads = folder, shlex.split(asked.flags), asked.threads
+        self.runs, self.is_fresh = asked.runs or (2 if asked.threads == 1 else 2000), asked.fresh
+        if asked.pauses:
+            has_marks = "/*pause*/" in text
+            text = text.replace("/*pause*/", "against_pause();")
+            text = text if has_marks else TRANSACTION.sub(r"\1 against_pause();", text)
+        write(f"{folder}/program.c", BEFORE + text)
+        write(f"{folder}/memory.c", memory_code(text))
+        harness = f"{TOP}/scripts/workloads/against.c"
+        built = gcc(folder, "-O1", "-w", "-pthread", "-c", harness, "memory.c")
+        if built.returncode:
+            raise LeftOut(f"gcc does not build the harness: {built.stderr[:400]}")
+
+    def at(self, level):
+        """The program of a level, or what GCC said."""
+        words = ["-std=gnu11", "-w", "-fgnu-tm", "-pthread", f"-{level}", *self.flags]
+        built = gcc(self.folder, *words, "program.c", "against.o", "memory.o", "-litm", "-o", level)
+        if built.returncode == 0:
+            return f"{self.folder}/{level}", None
+        errors = [it for it in built.stderr.splitlines() if "error" in it]
+        return None, (errors or [built.stderr.strip()])[0][:200]
+
+    def outcomes(self, program, method):
+        """The reports of all runs, counted, and what went wrong with the process, if anything did."""
+        environment = {name: value for name, value in os.environ.items() if not name.startswith("ITM_")}
+        if method != "default":
+            environment["ITM_DEFAULT_METHOD"] = method
+        words = [program, str(self.threads), str(self.runs), *["fresh"] * self.is_fresh]
+        how = {"capture_output": True, "text": True, "check": False, "timeout": 60, "env": environment}
+        try:
+            done = subprocess.run(words, **how)
+        except subprocess.TimeoutExpired:
+            return collections.Counter(), "it does not end within 60 seconds"
+        counted = collections.Counter(map(report_of, done.stdout.split("== over\n")[:-1]))
+        if done.returncode == 0:
+            return counted, None
+        said = done.stderr.strip().splitlines()[-1:]
+        ended = f"status {done.returncode}" if done.returncode > 0 else signal.Signals(-done.returncode).name
+        return counted, ": ".join([f"the process ends with {ended}", *said])
+
+
+def judged(text, asked, first_only=False):
+    """The wrong outcomes of a program's text, and its orders."""
+    found = []
+    with tempfile.TemporaryDirectory() as folder:
+        file = f"{folder}/source.c"
+        write(file, text)
+        checked = subprocess.run([txc(), "check", file], capture_output=True, text=True, check=False)
+        if checked.returncode:
+            raise LeftOut(checked.stderr.strip().partition("\n")[0])
+        orders = Orders(txc(), file, asked.threads)
+        if asked.threads == 1 or asked.all:
+            orders.look_at_all()
+        builds = Builds(folder, text, asked)
+        for level in asked.levels.split(","):
+            program, error = builds.at(level)
+            if error:
+                found.append(Wrong(level, None, f"gcc does not build it: {error}", 1, 1))
+            for method in asked.methods.split(",") if program else []:
+                counted, ended = builds.outcomes(program, method)
+                runs = sum(counted.values())
+                found += [Wrong(level, method, it, counted[it], runs) for it in orders.unexplained(counted)]
+                if ended and not (asked.no_deaths and "SIG" in ended):
+                    found.append(Wrong(level, method, ended, 1, 1))
+                if found and first_only:
+                    return found, orders
+        if found:
+            orders.look_at_all()
+    return found, orders
+
+
+# ---- what is told ----------------------------------------------------------------------------------------------------------
+
+
+def counted_as(count, word):
+    return f"{count} {word}" + "s" * (count != 1)
+
+
+def shown(report):
+    """The lines of a report: each thread's text in one, and the globals in one."""
+    if isinstance(report, str):
+        return [f"    {report}"]
+    texts = [(thread, text.rstrip("\n").replace("\n", " | ")) for thread, text in enumerate(report.texts)]
+    lines = [f"    thread {thread} prints {text}" for thread, text in texts if text]
+    return [*lines, "    " + ", ".join(report.memory.splitlines())]
+
+
+def where(wrongs, methods):
+    """At which levels, by which methods and how often it came."""
+    levels = collections.defaultdict(list)
+    for it in wrongs:
+        levels[it.level].append(it)
+    every = [level for level, its in levels.items() if len(its) == methods and all(it.count == it.runs for it in its)]
+    if every:
+        yield "-" + ", -".join(every) + ", every method: every run"
+    for level, its in levels.items():
+        if level not in every and its[0].method is None:
+            yield f"-{level}"
+        elif level not in every:
+            yield f"-{level}, " + ", ".join(f"{it.method}: {it.count} of {counted_as(it.runs, 'run')}" for it in its)
+
+
+def told(found, orders, asked):
+    """What is told of a program, line by line."""
+    by_what = collections.defaultdict(list)
+    for it in found:
+        by_what[it.what].append(it)
+    for what, wrongs in by_what.items():
+        yield "wrong outcome" if not isinstance(what, str) else "wrong"
+        yield from (f"  {it}" for it in where(wrongs, len(asked.methods.split(","))))
+        yield from shown(what)
+        if not isinstance(what, str):
+            report, order = orders.nearest(what)
+            yield f"  nearest is the order {','.join(map(str, order))}:"
+            yield from shown(report)
+    if asked.all:
+        for report, order in sorted(orders.found.items(), key=lambda it: it[1]):
+            yield f"allowed, by the order {','.join(map(str, order))}"
+            yield from shown(report)
+    allowed = counted_as(len(orders.found), "outcome")
+    known = f"{allowed} allowed" if orders.is_complete else f"{allowed} met, and allowed"
+    yield f"{known}; {len(by_what)} wrong"
+
+
+def judge_file(file, asked):
+    """Tells what a file's program does under GCC. Gives the exit status."""
+    found, orders = judged(read(file), asked)
+    print("\n".join(told(found, orders, asked)))
+    return 1 if found else 0
+
+
+def is_still_wrong(first, asked, end):
+    """Whether a smaller program is wrong in the same way, at the level and by the method of the first wrong outcome."""
+    asked = argparse.Namespace(**{**vars(asked), "levels": first.level, "methods": first.method or asked.methods})
+
+    def is_wrong(text):
+        if time.monotonic() > end:
+            raise TimeoutError
+        try:
+            found, _ = judged(text, asked, first_only=True)
+        except LeftOut:
+            return False
+        return any(isinstance(it.what, str) == isinstance(first.what, str) for it in found)
+
+    return is_wrong
+
+
+def judge_by_chance(asked):
+    """Makes programs, and shrinks those that are wrong. Gives the exit status."""
+    weights = {name: int(value) for name, _, value in (it.partition("=") for it in asked.weights.split(",") if it)}
+    if not set(weights) <= set(WEIGHTS):
+        sys.exit(f"--weights has {', '.join(WEIGHTS)}")
+    left_out = wrong = 0
+    for seed in range(asked.generate, asked.generate + asked.count):
+        items = Program(seed, asked.threads, weights).items()
+        try:
+            found, _ = judged(text_of(items), asked, first_only=True)
+            if found:
+                items = shrunk(items, is_still_wrong(found[0], asked, time.monotonic() + asked.seconds))
+                text, wrong = text_of(items), wrong + 1
+                print(f"seed {seed}", text, *told(*judged(text, asked), asked), sep="\n", flush=True)
+                if asked.keep:
+                    os.makedirs(asked.keep, exist_ok=True)
+                    write(f"{asked.keep}/seed{seed}_threads{asked.threads}.c", text)
+        except LeftOut as why:
+            left_out += 1
+            print(f"seed {seed} is left out: {why}", file=sys.stderr)
+    print(f"{counted_as(asked.count, 'program')}, {left_out} left out, {wrong} wrong")
+    return 1 if wrong else 0
+
+
+def hold_guide(version):
+    """Runs what the guide shows of this script. Gives the exit status."""
+    differs = 0
+    for line, text in SHOWN.findall(read(GUIDE)):
+        asked = words(shlex.split(line))
+        found, orders = judged(read(f"{TOP}/{asked.file}"), asked)
+        came = "".join(f"{it}\n" for it in told(found, orders, asked))
+        if asked.threads > 1 or version != VERSION:
+            print(f"$ {line}\n{came}", end="")
+        elif came != text:
+            differs = 1
+            print(f"docs/GUIDE.md does not show what this prints: {line}\n{came}", end="")
+        else:
+            print(f"as the guide shows: {line}")
+    return differs
+
+
+def words(given=None):
+    """The words of the command line."""
+    parser = argparse.ArgumentParser(description=__doc__, formatter_class=argparse.RawDescriptionHelpFormatter)
+    what = parser.add_mutually_exclusive_group(required=True)
+    what.add_argument("file", nargs="?", metavar="FILE")
+    what.add_argument("--generate", type=int, metavar="SEED", help="judges a program made by chance")
+    what.add_argument("--guide", action="store_true", help="runs what docs/GUIDE.md shows")
+    parser.add_argument("--threads", type=int, default=1, metavar="T", help="1 if not given")
+    parser.add_argument("--runs", type=int, metavar="N", help="2 of one thread and 2000 of more, if not given")
+    parser.add_argument("--levels", default=LEVELS, help=f"{LEVELS} if not given")
+    parser.add_argument("--methods", default=METHODS, help=f"of libitm: {METHODS} if not given")
+    parser.add_argument("--flags", default="", help="more words for gcc, in one")
+    parser.add_argument("--pauses", action="store_true", help="waits by chance at /*pause*/, or where transactions begin")
+    parser.add_argument("--fresh", action="store_true", help="starts threads for each run")
+    parser.add_argument("--all", action="store_true", help="tells each allowed outcome")
+    parser.add_argument("--no-deaths", action="store_true", help="passes over runs that a signal ends")
+    parser.add_argument("--count", type=int, default=1, metavar="N", help="programs by chance, from SEED on")
+    parser.add_argument("--weights", default="", help="what is drawn, as cancel=0,wide=8")
+    parser.add_argument("--seconds", type=int, default=60, metavar="N", help="for shrinking one program, 60 if not given")
+    parser.add_argument("--keep", metavar="FOLDER", help="writes each shrunk program there")
+    return parser.parse_args(given)
+
+
+def main():
+    asked = words()
+    try:
+        if not shutil.which("gcc"):
+            raise LeftOut("gcc is not installed")
+        version = subprocess.run(["gcc", "-dumpfullversion"], capture_output=True, text=True, check=False).stdout.strip()
+        print(f"GCC {version}", file=sys.stderr)
+        if asked.guide:
+            return hold_guide(version)
+        return judge_file(asked.file, asked) if asked.file else judge_by_chance(asked)
+    except LeftOut as why:
+        print(f"left out: {why}")
+        return 2
+
+
+if __name__ == "__main__":
+    sys.exit(main())
