@@ -2,16 +2,16 @@
 """Counts the processor's instructions of `txc run` with one thread, by `valgrind --tool=callgrind`, which gives the same counts
 whatever else the machine does.
 
-    scripts/instruction_counts.py
+    scripts/instruction_counts.py [TXC]
 
 Each workload of examples/bench is run with two numbers of turns; the difference, divided by how much more was done, is what one
-transaction, word or call takes, everything round it included. The program is crates/txc/out/txc, which
+transaction, word or call takes, everything round it included. TXC is the program, crates/txc/out/txc if it is not given, which
 `cd crates/txc && rt run -- --version` builds.
 """
 import os, re, shutil, subprocess, sys, tempfile
 
 TOP = os.path.dirname(os.path.dirname(os.path.abspath(__file__)))
-TXC = os.path.join(TOP, 'crates', 'txc', 'out', 'txc')
+TXC = os.path.abspath(sys.argv[1]) if sys.argv[1:] else os.path.join(TOP, 'crates', 'txc', 'out', 'txc')
 
 
 def calls(n):
@@ -44,7 +44,7 @@ def counted(text):
 
 def main():
     if not os.path.exists(TXC):
-        sys.exit('crates/txc/out/txc is not there: build it by `cd crates/txc && rt run -- --version`')
+        sys.exit(f'{TXC} is not there: `cd crates/txc && rt run -- --version` builds crates/txc/out/txc')
     if not shutil.which('valgrind'):
         sys.exit('valgrind is not installed')
     print('| What | Instructions |\n|---|---|')

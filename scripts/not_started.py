@@ -4,7 +4,8 @@ started: fault 73, with nothing reported and the exit status 4. No test of the r
 
   scripts/not_started.py [TXC]
 
-TXC is the program, crates/txc/out/txc if it is not given, which `cd crates/txc && rt run -- --version` builds.
+TXC is the program, crates/txc/out/txc if it is not given, which `cd crates/txc && rt run -- --version` builds; the one of
+scripts/quick_build.py will do. One with the checks of `rt try` will not: these take more room than it is given.
 """
 
 import os

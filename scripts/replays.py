@@ -5,7 +5,8 @@ have to leave the same memory; each thread has to have printed no more than ther
 
   scripts/replays.py [SEEDS [TXC]]
 
-TXC is the program, crates/txc/out/txc if it is not given, which `cd crates/txc && rt run -- --version` builds.
+TXC is the program, crates/txc/out/txc if it is not given, which `cd crates/txc && rt run -- --version` builds; the one of
+scripts/quick_build.py will do.
 
 The order is that of the events: each commit, each trap, and each cancel of an outermost transaction is one turn. A transaction that
 is cancelled may have found an earlier memory than that before its event, if others committed in between. So where the order of
