@@ -7,12 +7,7 @@ top=$(cd "$(dirname "$0")/.." && pwd)
 work=$(mktemp -d)
 trap 'rm -rf "$work"' EXIT
 mkdir -p "$work/crates/code_speed/src"
-for crate in atomic_code bytecode containers expression_code frames lex local_steps lower lowered nesting parse picked read_log \
-    refusing safety separation syntax types write_log; do
-    cp -r "$top/crates/$crate" "$work/crates/"
-    grep "^$crate:" "$top/crates.txt" >> "$work/crates.txt"
-done
-echo 'code_speed: atomic_code bytecode containers lex lower parse safety separation syntax types' >> "$work/crates.txt"
+python3 "$top/scripts/copy_crates.py" "$work" code_speed atomic_code bytecode containers lex lower parse safety separation syntax types
 cat > "$work/crates/code_speed/src/main.rt" <<'END'
 //! Prints what register code takes.
 #![tactic(auto)]

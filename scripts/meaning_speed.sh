@@ -8,21 +8,7 @@ top=$(cd "$(dirname "$0")/.." && pwd)
 work=$(mktemp -d)
 trap 'rm -rf "$work"' EXIT
 mkdir -p "$work/crates/meaning_speed/src"
-for crate in containers lex meaning parse refusing safety separation syntax types; do
-    cp -a "$top/crates/$crate" "$work/crates/"
-done
-cat > "$work/crates.txt" <<'END_CRATES'
-containers: refusing
-refusing:
-lex: refusing thiserror
-syntax: containers lex
-parse: containers lex syntax thiserror
-types: containers lex syntax thiserror
-safety: containers lex syntax types thiserror
-separation: containers lex safety syntax types thiserror
-meaning: containers itoa lex safety separation syntax thiserror types
-meaning_speed: lex meaning parse safety separation types
-END_CRATES
+python3 "$top/scripts/copy_crates.py" "$work" meaning_speed lex meaning parse safety separation types
 # memories that hold 0, and the proof that they are words, are those of the tests
 cp "$top/crates/lower_tests/src/of_meaning/memory.rt" "$work/crates/meaning_speed/src/"
 mkdir -p "$work/crates/meaning_speed/proofs"

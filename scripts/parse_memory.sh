@@ -6,17 +6,7 @@ top=$(cd "$(dirname "$0")/.." && pwd)
 work=$(mktemp -d)
 trap 'rm -rf "$work"' EXIT
 mkdir -p "$work/crates/parse_memory/src"
-for crate in containers lex parse refusing syntax; do
-    cp -r "$top/crates/$crate" "$work/crates/"
-done
-cat > "$work/crates.txt" <<'END_OF_CRATES'
-containers: refusing
-refusing:
-lex: refusing thiserror
-syntax: containers lex
-parse: containers lex syntax thiserror
-parse_memory: lex parse syntax
-END_OF_CRATES
+python3 "$top/scripts/copy_crates.py" "$work" parse_memory lex parse syntax
 cat > "$work/crates/parse_memory/src/main.rt" <<'END_OF_PROGRAM'
 //! Parses a function of 1 MiB whose block repeats the piece that is the first argument.
 #![tactic(auto)]

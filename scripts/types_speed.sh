@@ -8,18 +8,7 @@ top=$(cd "$(dirname "$0")/.." && pwd)
 work=$(mktemp -d)
 trap 'rm -rf "$work"' EXIT
 mkdir -p "$work/crates/types_speed/src"
-for crate in containers lex parse refusing syntax types; do
-    cp -r "$top/crates/$crate" "$work/crates/"
-done
-cat > "$work/crates.txt" <<'END'
-containers: refusing
-refusing:
-lex: refusing thiserror
-syntax: containers lex
-parse: containers lex syntax thiserror
-types: containers lex syntax thiserror
-types_speed: lex parse syntax types
-END
+python3 "$top/scripts/copy_crates.py" "$work" types_speed lex parse syntax types
 cat > "$work/crates/types_speed/src/main.rt" <<'END'
 //! Prints how long a source takes to be lexed, parsed and checked.
 #![tactic(auto)]

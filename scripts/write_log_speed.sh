@@ -8,8 +8,7 @@ top=$(cd "$(dirname "$0")/.." && pwd)
 work=$(mktemp -d)
 trap 'rm -rf "$work"' EXIT
 mkdir -p "$work/crates/write_log_speed/src"
-cp -r "$top/crates/write_log" "$work/crates/"
-printf 'write_log:\nwrite_log_speed: write_log\n' > "$work/crates.txt"
+python3 "$top/scripts/copy_crates.py" "$work" write_log_speed write_log
 cat > "$work/crates/write_log_speed/src/main.rt" <<'END'
 //! Prints what the write log takes, beside a plain list.
 #![tactic(auto)]
