@@ -9,5 +9,3 @@ pub mod Ways
 -- steps over a loop's end
 mod Ending
 pub mod Views
--- quotients fit 64 bits
-mod Figures
