@@ -4,3 +4,7 @@ mod Numbers
 mod Reading
 -- the command line is simple
 mod Commands
+-- words are refused because something is so
+mod Refusals
+-- what is given for arguments makes no task
+mod Tasks

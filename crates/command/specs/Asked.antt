@@ -1,8 +1,8 @@
 -- What words ask.
-use Rattle.std.specs.Prelude.{◌≡◌, ◌≢◌, ◌⊎◌, ◌↔◌, ◌≤◌, ℕ, IsTrue, List, [], ◌∷◌, Option, Some, None, codes, option_map, unwrap_or, string_bytes}
-use Rattle.std.specs.List.{join_with_byte}
+use Rattle.std.specs.Prelude.{◌≡◌, ◌≢◌, ◌⊎◌, ◌↔◌, ◌≤◌, ◌<◌, ◌==◌, ℕ, IsTrue, IsSomeAnd, List, [], ◌∷◌, Option, Some, None, codes, string_bytes}
+use Rattle.std.specs.List.{slice_split}
 use Rattle.std.specs.Str.Parse.{IsNumeral, digits_value, without_leading_plus}
-use Rattle.clap.specs.Words.{IsAmong, Kinds, Row, Text, fault_of, first_of, one_of, subcommand_of}
+use Rattle.clap.specs.Words.{IsAmong, Row, Text, fault_of, first_of, one_of, subcommand_of}
 use Rattle.clap.specs.declared.error.kind.ErrorKind.{ErrorKind}
 use Rattle.clap.specs.declared.error.kind.ErrorKind.TheVariants.{DisplayHelp, DisplayVersion}
 use Rattle.command.specs.declared.request.Request.{Request}
@@ -15,41 +15,44 @@ use Rattle.command.specs.declared.request.UsageFault.{UsageFault}
 use Rattle.command.specs.declared.request.UsageFault.TheVariants.{OutOfMemory, Help, Wrong}
 use Rattle.command.specs.Line.{program_app}
 
--- the number that a text says, where a plus may stand first
-abbrev pub number_said : Text → ℕ
-number_said text = digits_value 10 (without_leading_plus text)
+-- decimal digits alone, and their number, which is below 2 ^ 32
+abbrev pub IsDecimal : Text → ℕ → Type 0
+IsDecimal text n = IsNumeral 10 text × (digits_value 10 text ≡ n) × (n < 4294967296)
 
--- the number that is given for an argument, where there is one
-abbrev pub number_in : List Row → Text → Option ℕ
-number_in given id = option_map number_said (one_of id given)
+-- a text says a number below 2 ^ 32 in decimal digits, where a plus may stand first
+abbrev pub SaysNumber : Text → ℕ → Type 0
+SaysNumber text n = IsDecimal (without_leading_plus text) n
+
+-- the number that is given for an argument
+abbrev pub IsGiven : List Row → Text → ℕ → Type 0
+IsGiven given id n = IsSomeAnd (one_of id given) (λ text. SaysNumber text n)
+
+-- a number, or this one where none is said
+abbrev pub IsSaidOr : (default : ℕ) → Option Text → ℕ → Type 0
+IsSaidOr default None n = n ≡ default
+IsSaidOr default (Some text) n = SaysNumber text n
 
 -- the number that is given for an argument, or else the default one, in its range
 pub record IsNumber (given : List Row) (id : Text) (default least most n : ℕ) : Type 0 where
-  pub said : n ≡ unwrap_or (number_in given id) default
+  pub said : IsSaidOr default (one_of id given) n
   pub not_below : least ≤ n
   pub not_above : n ≤ most
-
--- a thread's number, in decimal digits alone
-abbrev pub IsThread : Text → ℕ → Type 0
-IsThread text n = IsNumeral 10 text × (digits_value 10 text ≡ n)
 
 -- pieces that are threads' numbers
 abbrev pub AreThreads : List Text → List ℕ → Type 0
 AreThreads [] [] = Unit {0}
-AreThreads (piece ∷ pieces) (n ∷ ns) = IsThread piece n × AreThreads pieces ns
+AreThreads (piece ∷ pieces) (n ∷ ns) = IsDecimal piece n × AreThreads pieces ns
 AreThreads _ _ = ⊥
 
--- thread numbers joined by commas, or no text
+-- thread numbers between commas, or no text
 abbrev pub IsOrder : Text → List ℕ → Type 0
-IsOrder text order = ((text ≡ []) × (order ≡ []))
-    ⊎ ((pieces : List Text) × (join_with_byte 44 pieces ≡ text) × AreThreads pieces order)
+IsOrder text order = ((text ≡ []) × (order ≡ [])) ⊎ AreThreads (slice_split (λ b. b == 44) text) order
 
 -- either a schedule or a seed, and not both
 abbrev pub AreSteps : List Row → Steps → Type 0
 AreSteps given (Schedule file) =
-    (first_of (codes "schedule") given ≡ Some (string_bytes file)) × (number_in given (codes "seed") ≡ None)
-AreSteps given (Seed seed count) =
-    (first_of (codes "schedule") given ≡ None) × (number_in given (codes "seed") ≡ Some seed)
+    (first_of (codes "schedule") given ≡ Some (string_bytes file)) × (one_of (codes "seed") given ≡ None)
+AreSteps given (Seed seed count) = (first_of (codes "schedule") given ≡ None) × IsGiven given (codes "seed") seed
     × IsNumber given (codes "steps") 100000 0 1048576 count
 
 -- 1 to 64 threads
@@ -91,7 +94,7 @@ abbrev pub IsRequest : Text → List Row → Request → Type 0
 IsRequest name given (Program file verbose task) = (first_of (codes "FILE") given ≡ Some (string_bytes file))
     × (IsTrue verbose ↔ IsFlagged given (codes "verbose")) × IsTask name given task
 IsRequest name given (Explain number) =
-    (name ≡ codes "explain") × (number_in given (codes "NN") ≡ Some number)
+    (name ≡ codes "explain") × IsGiven given (codes "NN") number
 
 -- the words are those of a command, and make this request
 pub record Asks (words : List Text) (request : Request) : Type 0 where
@@ -101,10 +104,24 @@ pub record Asks (words : List Text) (request : Request) : Type 0 where
   pub command : subcommand_of program_app words ≡ Some (name, given)
   pub made : IsRequest name given request
 
--- what a fault says of words: help comes where it is asked for, and words are wrong where the command line has not got
--- them, or where it has and the program's own tests refuse them; want of memory says nothing
-abbrev pub Refuses : Kinds → UsageFault → Type 0
-Refuses kinds OutOfMemory = Unit {0}
-Refuses kinds (Help text) = IsAmong DisplayHelp kinds ⊎ IsAmong DisplayVersion kinds
-Refuses kinds (Wrong text) =
-    (kinds ≡ []) ⊎ ((kind : ErrorKind) × IsAmong kind kinds × (kind ≢ DisplayHelp) × (kind ≢ DisplayVersion))
+-- words that ask nothing
+abbrev pub AskNothing : List Text → Type 0
+AskNothing words = (request : Request) → Asks words request → ⊥
+
+-- help is asked for, or the version
+abbrev pub AskHelp : List Text → Type 0
+AskHelp words = let kinds = fault_of program_app words in IsAmong DisplayHelp kinds ⊎ IsAmong DisplayVersion kinds
+
+-- the command line has not got such words, and it is no help that they ask for
+pub record AreStrange (words : List Text) : Type 0 where
+  pub kind : ErrorKind
+  pub among : IsAmong kind (fault_of program_app words)
+  pub no_help : kind ≢ DisplayHelp
+  pub no_version : kind ≢ DisplayVersion
+
+-- What a fault says of words: help comes where it is asked for, and words are wrong where the command line has not got
+-- them, or where it has and they make no request. Want of memory says nothing.
+abbrev pub Refuses : List Text → UsageFault → Type 0
+Refuses words OutOfMemory = Unit {0}
+Refuses words (Help text) = AskHelp words
+Refuses words (Wrong text) = AskNothing words × ((fault_of program_app words ≡ []) ⊎ AreStrange words)

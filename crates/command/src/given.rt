@@ -1,9 +1,9 @@
 //! What words give for the arguments of a command.
 
-ghost use Rattle.std.specs.Prelude.{◌≡◌, ◌≤◌, ◌↔◌, IsTrue, Some, None, IfOk, IfErr, codes, option_map, string_bytes};
-ghost use Rattle.clap.specs.Words.{first_of, found_of, rows_of};
-ghost use Rattle.command.specs.Asked.{number_in};
-ghost use Rattle.command.specs.inner.Refusals.{IsOwn};
+ghost use Rattle.std.specs.Prelude.{◌≡◌, ◌≤◌, ◌↔◌, ℕ, IsTrue, IsSomeAnd, Some, None, IfOk, IfErr, codes, option_map, string_bytes};
+ghost use Rattle.clap.specs.Words.{first_of, found_of, one_of, rows_of};
+ghost use Rattle.command.specs.Asked.{IsGiven};
+ghost use Rattle.command.specs.inner.Refusals.{IsNoNumber, IsOwn, IsRead};
 
 use crate::order::order;
 use crate::request::{Steps, Task, UsageFault};
@@ -12,7 +12,7 @@ use std::alloc::Global;
 
 /// Words that the command line has, and that the program refuses all the same: why.
 pub(crate) fn wrong(alloc: Global, why: &str) -> UsageFault
-    ensures { IsOwn result }
+    ensures { IsOwn (Unit {0}) result }
 {
     match format!(in alloc; "txc: usage: {why}\n") {
         Ok(text) => UsageFault::Wrong { text },
@@ -34,7 +34,7 @@ pub(crate) fn text_wanted(
     id: &str,
 ) -> Result<String, UsageFault>
     ensures ok { IfOk result (λ s. first_of id.now (rows_of (found_of given.now)) ≡ Some (string_bytes s)) }
-    ensures err { IfErr result IsOwn }
+    ensures err { IfErr result (IsOwn (first_of id.now (rows_of (found_of given.now)) ≡ None)) }
 {
     match text_given(given, id) {
         Some(text) => Ok(String::from_str(alloc, text)?),
@@ -58,8 +58,8 @@ pub(crate) fn number_wanted(
     given: &ArgMatches<'_>,
     id: &str,
 ) -> Result<u32, UsageFault>
-    ensures ok { IfOk result (λ n. number_in (rows_of (found_of given.now)) id.now ≡ Some n) }
-    ensures err { IfErr result IsOwn }
+    ensures ok { IfOk result (IsGiven (rows_of (found_of given.now)) id.now) }
+    ensures err { IfErr result (IsOwn ((n : ℕ) → IsGiven (rows_of (found_of given.now)) id.now n → ⊥)) }
 {
     match number_given(alloc, given, id)? {
         Some(number) => Ok(number),
@@ -73,8 +73,8 @@ pub(crate) fn number_given(
     given: &ArgMatches<'_>,
     id: &str,
 ) -> Result<Option<u32>, UsageFault>
-    ensures ok { IfOk result (λ n. number_in (rows_of (found_of given.now)) id.now ≡ n) }
-    ensures err { IfErr result IsOwn }
+    ensures ok { IfOk result (IsRead (one_of id.now (rows_of (found_of given.now)))) }
+    ensures err { IfErr result (IsOwn (IsSomeAnd (one_of id.now (rows_of (found_of given.now))) IsNoNumber)) }
 {
     match given.try_get_one::<u32>(id) {
         Ok(number) => Ok(number),

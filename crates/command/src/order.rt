@@ -1,21 +1,21 @@
 //! Thread numbers joined by commas.
 
-ghost use Rattle.std.specs.Prelude.{◌≡◌, [], IfOk, IfSome, OnSome, IfNone, map};
-ghost use Rattle.std.specs.List.{join_with_byte};
-ghost use Rattle.command.specs.Asked.{IsOrder, IsThread, AreThreads};
+ghost use Rattle.std.specs.Prelude.{◌≡◌, ◌==◌, ℕ, List, IfOk, MatchOption, map};
+ghost use Rattle.std.specs.List.{slice_split};
+ghost use Rattle.command.specs.Asked.{AreThreads, IsDecimal, IsOrder};
 
 use std::alloc::{AllocError, Global};
 
 /// The pieces between commas.
 fn pieces<'a>(alloc: Global, text: &'a str) -> Result<Vec<&'a str>, AllocError>
-    ensures { IfOk result (λ v. join_with_byte 44 (map (λ p. p.now) v.items) ≡ text.now) }
+    ensures { IfOk result (λ v. map (λ p. p.now) v.items ≡ slice_split (λ b. b == 44) text.now) }
 {
     text.split(',').collect(alloc)
 }
 
 /// The number of a thread, in decimal digits alone.
 fn thread_number(piece: &str) -> Option<u32>
-    ensures { IfSome result (IsThread piece.now) }
+    ensures { MatchOption result ((n : ℕ) → IsDecimal piece.now n → ⊥) (IsDecimal piece.now) }
 {
     if piece.starts_with('+') {
         return None;
@@ -25,7 +25,7 @@ fn thread_number(piece: &str) -> Option<u32>
 
 /// The numbers of the threads that pieces are.
 fn thread_numbers(alloc: Global, pieces: &[&str]) -> Result<Option<Vec<u32>>, AllocError>
-    ensures { IfOk result (λ o. IfSome o (λ v. AreThreads (map (λ p. p.now) pieces.now) v.items)) }
+    ensures { let texts = map (λ p. p.now) pieces.now in IfOk result (λ o. MatchOption o ((ns : List ℕ) → AreThreads texts ns → ⊥) (λ v. AreThreads texts v.items)) }
 {
     let mut numbers = Vec::new(alloc);
     'pieces: for piece in pieces {
@@ -39,7 +39,7 @@ fn thread_numbers(alloc: Global, pieces: &[&str]) -> Result<Option<Vec<u32>>, Al
 
 /// The thread numbers that a text lists, joined by commas; an empty text lists none.
 pub fn order(alloc: Global, text: &str) -> Result<Option<Vec<u32>>, AllocError>
-    ensures { IfOk result (λ o. IfSome o (λ v. IsOrder text.now v.items)) }
+    ensures { IfOk result (λ o. MatchOption o ((ns : List ℕ) → IsOrder text.now ns → ⊥) (λ v. IsOrder text.now v.items)) }
 {
     if text.is_empty() {
         return Ok(Some(Vec::new(alloc)));

@@ -1,10 +1,10 @@
 //! From words to a request.
 
 ghost use Rattle.std.specs.Prelude.{◌≡◌, IfOk, IfErr, map};
-ghost use Rattle.clap.specs.Words.{fault_of, found_of, rows_of, subcommand_rows_of};
-ghost use Rattle.command.specs.Line.{program_app};
+ghost use Rattle.clap.specs.Words.{found_of, rows_of, subcommand_rows_of};
+ghost use Rattle.command.specs.declared.request.Request.{Request};
 ghost use Rattle.command.specs.Asked.{Asks, IsRequest, Refuses};
-ghost use Rattle.command.specs.inner.Refusals.{IsOwn, HasGiven, SaysError};
+ghost use Rattle.command.specs.inner.Refusals.{AreNoRequest, IsOwn, HasGiven, SaysError};
 
 use crate::given::{flag_given, number_wanted, text_wanted, wrong};
 use crate::line::program;
@@ -19,7 +19,7 @@ use std::alloc::Global;
 /// A command or an option that the program does not have is `Wrong`. Memory is taken from the global allocator, as `clap` does.
 pub fn command(alloc: Global, words: &[&str]) -> Result<Request, UsageFault>
     ensures ok { IfOk result (Asks (map (λ w. w.now) words.now)) }
-    ensures err { IfErr result (Refuses (fault_of program_app (map (λ w. w.now) words.now))) }
+    ensures err { IfErr result (Refuses (map (λ w. w.now) words.now)) }
 {
     let program = program(alloc)?;
     match program.try_get_matches_from(words) {
@@ -45,7 +45,7 @@ fn refusal(alloc: Global, error: &Error) -> UsageFault
 /// The request of words that the command line has.
 fn request(alloc: Global, matches: &ArgMatches<'_>) -> Result<Request, UsageFault>
     ensures ok { IfOk result (HasGiven (subcommand_rows_of matches.now)) }
-    ensures err { IfErr result IsOwn }
+    ensures err { IfErr result (IsOwn ((r : Request) → HasGiven (subcommand_rows_of matches.now) r → ⊥)) }
 {
     match matches.subcommand() {
         Some((name, given)) => request_of(alloc, name, given),
@@ -56,7 +56,7 @@ fn request(alloc: Global, matches: &ArgMatches<'_>) -> Result<Request, UsageFaul
 /// The request of a command, and what is given for its arguments.
 fn request_of(alloc: Global, name: &str, given: &ArgMatches<'_>) -> Result<Request, UsageFault>
     ensures ok { IfOk result (IsRequest name.now (rows_of (found_of given.now))) }
-    ensures err { IfErr result IsOwn }
+    ensures err { IfErr result (IsOwn (AreNoRequest name.now (rows_of (found_of given.now)))) }
 {
     if name == "explain" {
         return Ok(Request::Explain {

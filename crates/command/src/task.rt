@@ -1,9 +1,10 @@
 //! What a command does with a program.
 
-ghost use Rattle.std.specs.Prelude.{◌≡◌, ◌≤◌, IfOk, IfErr, Some, None, codes, if◌then◌else◌};
+ghost use Rattle.std.specs.Prelude.{◌≡◌, ◌≤◌, ℕ, List, IfOk, IfErr, Some, None, codes, if◌then◌else◌};
 ghost use Rattle.clap.specs.Words.{first_of, found_of, rows_of};
 ghost use Rattle.command.specs.Asked.{AreSteps, IsNumber, IsTask, AreThreadsGiven, IsOrderGiven};
-ghost use Rattle.command.specs.inner.Refusals.{IsOwn};
+ghost use Rattle.command.specs.declared.request.Steps.{Steps};
+ghost use Rattle.command.specs.inner.Refusals.{AreNoTask, IsOutOfRange, IsOwn};
 
 use crate::given::{flag_given, number_given, text_given, text_wanted, wrong};
 use crate::order::order;
@@ -30,7 +31,7 @@ fn number(
     most: u32,
 ) -> Result<u32, UsageFault>
     ensures ok { IfOk result (λ n. IsNumber (rows_of (found_of given.now)) id.now default least most n) }
-    ensures err { IfErr result IsOwn }
+    ensures err { IfErr result (IsOwn (IsOutOfRange (rows_of (found_of given.now)) id.now default least most)) }
 {
     let number = number_given(alloc, given, id)?.unwrap_or(default);
     if least <= number && number <= most {
@@ -42,7 +43,7 @@ fn number(
 
 /// Says that a number is out of its range.
 fn out_of_range(alloc: Global, id: &str, least: u32, most: u32) -> UsageFault
-    ensures { IsOwn result }
+    ensures { IsOwn (Unit {0}) result }
 {
     match format!(in alloc; "--{id} is {least} to {most}") {
         Ok(why) => wrong(alloc, why.as_str()),
@@ -53,7 +54,7 @@ fn out_of_range(alloc: Global, id: &str, least: u32, most: u32) -> UsageFault
 /// The number of threads that is given.
 fn threads(alloc: Global, given: &ArgMatches<'_>) -> Result<u32, UsageFault>
     ensures ok { IfOk result (AreThreadsGiven (rows_of (found_of given.now))) }
-    ensures err { IfErr result IsOwn }
+    ensures err { IfErr result (IsOwn ((n : ℕ) → AreThreadsGiven (rows_of (found_of given.now)) n → ⊥)) }
 {
     number(alloc, given, "threads", 1, 1, MOST_THREADS)
 }
@@ -61,7 +62,7 @@ fn threads(alloc: Global, given: &ArgMatches<'_>) -> Result<u32, UsageFault>
 /// Where the steps of a replay come from: a schedule or a seed.
 fn steps(alloc: Global, given: &ArgMatches<'_>) -> Result<Steps, UsageFault>
     ensures ok { IfOk result (AreSteps (rows_of (found_of given.now))) }
-    ensures err { IfErr result IsOwn }
+    ensures err { IfErr result (IsOwn ((s : Steps) → AreSteps (rows_of (found_of given.now)) s → ⊥)) }
 {
     let seed = number_given(alloc, given, "seed")?;
     let schedule = text_given(given, "schedule");
@@ -90,8 +91,8 @@ fn replay_of(threads: u32, steps: Steps, timeline: bool) -> Task
 
 /// A replay, or what it would make.
 fn replay(alloc: Global, given: &ArgMatches<'_>) -> Result<Task, UsageFault>
-    ensures ok { IfOk result (λ t. IsTask (codes "replay") (rows_of (found_of given.now)) t) }
-    ensures err { IfErr result IsOwn }
+    ensures ok { IfOk result (IsTask (codes "replay") (rows_of (found_of given.now))) }
+    ensures err { IfErr result (IsOwn (AreNoTask (codes "replay") (rows_of (found_of given.now)))) }
 {
     let threads = threads(alloc, given)?;
     let steps = steps(alloc, given)?;
@@ -115,7 +116,7 @@ fn replay(alloc: Global, given: &ArgMatches<'_>) -> Result<Task, UsageFault>
 /// The order of threads that is given.
 fn order_given(alloc: Global, given: &ArgMatches<'_>) -> Result<Vec<u32>, UsageFault>
     ensures ok { IfOk result (λ v. IsOrderGiven (rows_of (found_of given.now)) v.items) }
-    ensures err { IfErr result IsOwn }
+    ensures err { IfErr result (IsOwn ((ns : List ℕ) → IsOrderGiven (rows_of (found_of given.now)) ns → ⊥)) }
 {
     let text = text_wanted(alloc, given, "order")?;
     match order(alloc, text.as_str())? {
@@ -127,7 +128,7 @@ fn order_given(alloc: Global, given: &ArgMatches<'_>) -> Result<Vec<u32>, UsageF
 /// A run of the source in an order.
 fn source(alloc: Global, given: &ArgMatches<'_>) -> Result<Task, UsageFault>
     ensures ok { IfOk result (IsTask (codes "source") (rows_of (found_of given.now))) }
-    ensures err { IfErr result IsOwn }
+    ensures err { IfErr result (IsOwn (AreNoTask (codes "source") (rows_of (found_of given.now)))) }
 {
     let threads = threads(alloc, given)?;
     let ticks = number(alloc, given, "ticks", 100000, 0, MOST_TICKS)?;
@@ -141,7 +142,7 @@ fn source(alloc: Global, given: &ArgMatches<'_>) -> Result<Task, UsageFault>
 /// What a command over a file does.
 pub(crate) fn task(alloc: Global, name: &str, given: &ArgMatches<'_>) -> Result<Task, UsageFault>
     ensures ok { IfOk result (IsTask name.now (rows_of (found_of given.now))) }
-    ensures err { IfErr result IsOwn }
+    ensures err { IfErr result (IsOwn (AreNoTask name.now (rows_of (found_of given.now)))) }
 {
     match name {
         "check" => Ok(Task::Check),

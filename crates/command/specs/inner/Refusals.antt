@@ -1,18 +1,41 @@
 -- What the program refuses by itself, and what clap does.
-use Rattle.std.specs.Prelude.{◌≡◌, ◌≢◌, ◌⊎◌, List, Option, Some}
+use Rattle.std.specs.Prelude.{◌≡◌, ◌≢◌, ◌⊎◌, ℕ, List, Option, Some, None}
 use Rattle.clap.specs.Words.{Row, Text, kind_of}
 use Rattle.clap.specs.declared.error.Error.{Error}
 use Rattle.clap.specs.declared.error.kind.ErrorKind.TheVariants.{DisplayHelp, DisplayVersion}
 use Rattle.clap.specs.declared.error.kind.ErrorKind.TheVariants as kind
 use Rattle.command.specs.declared.request.Request.{Request}
+use Rattle.command.specs.declared.request.Task.{Task}
 use Rattle.command.specs.declared.request.UsageFault.{UsageFault}
 use Rattle.command.specs.declared.request.UsageFault.TheVariants.{OutOfMemory, Help, Wrong}
-use Rattle.command.specs.Asked.{IsRequest}
+use Rattle.command.specs.Asked.{IsNumber, IsRequest, IsTask, SaysNumber}
 
--- no help: words that the command line has, and that are refused all the same, or want of memory
-abbrev pub IsOwn : UsageFault → Type 0
-IsOwn (Help text) = ⊥
-IsOwn _ = Unit {0}
+-- no help: words that the command line has, and that are refused because this is so, or want of memory
+abbrev pub IsOwn : Type 0 → UsageFault → Type 0
+IsOwn IsSo OutOfMemory = Unit {0}
+IsOwn IsSo (Help text) = ⊥
+IsOwn IsSo (Wrong text) = IsSo
+
+-- the number that was read of what is given, if there is any
+abbrev pub IsRead : Option Text → Option ℕ → Type 0
+IsRead None None = Unit {0}
+IsRead (Some text) (Some n) = SaysNumber text n
+IsRead _ _ = ⊥
+
+-- a text that says no number
+abbrev pub IsNoNumber : Text → Type 0
+IsNoNumber text = (n : ℕ) → SaysNumber text n → ⊥
+
+-- no number is given for an argument in its range, and none is the default one
+abbrev pub IsOutOfRange : List Row → Text → (default least most : ℕ) → Type 0
+IsOutOfRange given id default least most = (n : ℕ) → IsNumber given id default least most n → ⊥
+
+-- what is given for its arguments makes no task of this command, and no request
+abbrev pub AreNoTask : Text → List Row → Type 0
+AreNoTask name given = (task : Task) → IsTask name given task → ⊥
+
+abbrev pub AreNoRequest : Text → List Row → Type 0
+AreNoRequest name given = (request : Request) → IsRequest name given request → ⊥
 
 -- what a fault says of an error of clap
 abbrev pub SaysError : Error → UsageFault → Type 0

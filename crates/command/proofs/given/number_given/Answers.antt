@@ -1,13 +1,19 @@
-use Rattle.std.proofs.Common.{◌∙◌, ap, sym}
-use Rattle.std.specs.Prelude.{option_map}
+use Rattle.std.proofs.Common.{subst}
+use Rattle.std.specs.Prelude.{IsSomeAnd}
 use Rattle.std.specs.Str.Parse.{ParsesUnsigned, ExplainsUnsignedError, HasUnsignedDigitsIfOk}
 use Rattle.clap.specs.Words.{found_of}
 use Rattle.clap.proofs.WalkLemmas.{one_text-rows}
-use Rattle.command.specs.Asked.{number_said}
-use Rattle.command.proofs.Reading.{number_read}
+use Rattle.command.specs.inner.Refusals.{IsNoNumber, IsRead}
+use Rattle.command.proofs.Reading.{number_read, number_unread, parsed, unparsed}
+use Rattle.command.proofs.Refusals.{own_of}
 use Rattle.command.proofs.given.number_given.Goals as goal
 
 pub returns-in-Ok-clause-ok : goal.returns-in-Ok-clause-ok
 returns-in-Ok-clause-ok c =
-    ap (option_map number_said) (sym (one_text-rows (found_of c.args.given.now) c.args.id.now))
-    ∙ number_read (λ bs r. ParsesUnsigned 32 10 bs r × ExplainsUnsignedError 10 bs r × HasUnsignedDigitsIfOk bs r) (λ t n g. g.0.1) _ _ c.in-Ok.ensures.none c.in-Ok.ensures.value
+    subst (λ o. IsRead o c.in-Ok.number) (one_text-rows (found_of c.args.given.now) c.args.id.now)
+    (number_read (λ bs r. ParsesUnsigned 32 10 bs r × ExplainsUnsignedError 10 bs r × HasUnsignedDigitsIfOk bs r) (λ t n g. parsed t n g.0) _ _ c.in-Ok.ensures.none c.in-Ok.ensures.value)
+
+pub returns-in-Err-clause-err : goal.returns-in-Err-clause-err
+returns-in-Err-clause-err c =
+    let unread = number_unread (λ bs r. ParsesUnsigned 32 10 bs r × ExplainsUnsignedError 10 bs r × HasUnsignedDigitsIfOk bs r) (λ t e g. unparsed t g.0) _ _ c.in-Err.ensures.none c.in-Err.ensures.value in
+    own_of _ _ (subst (λ o. IsSomeAnd o IsNoNumber) (one_text-rows (found_of c.args.given.now) c.args.id.now) unread) c.wrong.ensures

@@ -1,0 +1,36 @@
+-- What is given for arguments makes no task.
+use Rattle.std.proofs.Common.{◌≡◌, ℕ, List, Option, Some, length, ap, subst, arith}
+use Rattle.std.specs.Prelude.{codes, slice_index}
+use Rattle.clap.specs.Words.{Row, Text, first_of}
+use Rattle.command.specs.declared.request.Task.TheVariants.{Check, Listing, Run, Replay, Timeline, PrintSchedule, Source}
+use Rattle.command.specs.declared.request.Steps.{Steps}
+use Rattle.command.specs.declared.request.Steps.TheVariants.{Seed}
+use Rattle.command.specs.Asked.{AreSteps, IsOrder, IsOrderGiven}
+use Rattle.command.specs.inner.Refusals.{AreNoTask}
+
+-- no steps, no replay
+pub no_replay : (given : List Row) → ((steps : Steps) → AreSteps given steps → ⊥) → AreNoTask (codes "replay") given
+no_replay given none Check is = let e : 114 ≡ 99 = ap (λ l. slice_index l 0) is in absurd (omega (arith, e))
+no_replay given none Listing is = let e : 114 ≡ 108 = ap (λ l. slice_index l 0) is in absurd (omega (arith, e))
+no_replay given none (Run threads budget) is = let e : 6 ≡ 3 = ap length is.0 in absurd (omega (arith, e))
+no_replay given none (Replay threads steps) is = none steps is.2
+no_replay given none (Timeline threads steps) is = none steps is.2
+no_replay given none (PrintSchedule threads seed count) is = none (Seed seed count) is.2
+no_replay given none (Source threads order ticks) is = let e : 114 ≡ 115 = ap (λ l. slice_index l 0) is.0 in absurd (omega (arith, e))
+
+-- no order, no run of the source
+pub no_source : (given : List Row) → ((order : List ℕ) → IsOrderGiven given order → ⊥) → AreNoTask (codes "source") given
+no_source given none Check is = let e : 115 ≡ 99 = ap (λ l. slice_index l 0) is in absurd (omega (arith, e))
+no_source given none Listing is = let e : 115 ≡ 108 = ap (λ l. slice_index l 0) is in absurd (omega (arith, e))
+no_source given none (Run threads budget) is = let e : 115 ≡ 114 = ap (λ l. slice_index l 0) is.0 in absurd (omega (arith, e))
+no_source given none (Replay threads steps) is = let e : 115 ≡ 114 = ap (λ l. slice_index l 0) is.0 in absurd (omega (arith, e))
+no_source given none (Timeline threads steps) is = let e : 115 ≡ 114 = ap (λ l. slice_index l 0) is.0 in absurd (omega (arith, e))
+no_source given none (PrintSchedule threads seed count) is = let e : 115 ≡ 114 = ap (λ l. slice_index l 0) is.0 in absurd (omega (arith, e))
+no_source given none (Source threads order ticks) is = none order.items is.2
+
+-- a text that lists no threads is no order
+pub no_order : (given : List Row) (taken text : Text) → ((order : List ℕ) → IsOrder taken order → ⊥) → taken ≡ text → first_of (codes "order") given ≡ Some text → (order : List ℕ) → IsOrderGiven given order → ⊥
+no_order given taken text none same said order is =
+    let other = is.said in
+    let e : is.text ≡ taken = cc (other, said, same) in
+    none order (subst (λ t. IsOrder t order) e is.listed)
