@@ -1,10 +1,11 @@
 //! Which parts are a valid code.
 
 ghost use Rattle.std.specs.Prelude.{◌≡◌, ◌<◌, ◌≤◌, ◌+◌, MatchOption, IfOk, IfErr, IsTrue, ◌↔◌, length, map};
+ghost use Rattle.std.specs.List.{list_all};
 ghost use Rattle.syntax.specs.Names.{first_words, initial_from};
 ghost use Rattle.syntax.specs.Views.{global_of};
 ghost use Rattle.bytecode.specs.declared.valid.PartsFault.TheVariants.{OutOfMemory};
-ghost use Rattle.bytecode.specs.Valid.{cells_of, end_of, AreWritten, HasDistinctNames, HasWorker, IsValidFunction, AreValid, IsValid};
+ghost use Rattle.bytecode.specs.Valid.{cells_of, end_of, is_shaped, AreWritten, HasDistinctNames, HasWorker, IsValidFunction, AreValid, IsValid};
 ghost use Rattle.bytecode.specs.Views.{code_of, function_of};
 ghost use Rattle.bytecode.specs.inner.Layout.{AreLaidOut};
 
@@ -21,6 +22,24 @@ use syntax::tree::Global;
 pub enum PartsFault<A: Allocator = std::alloc::Global> {
     /// A growth was refused. It says nothing of the parts.
     OutOfMemory(Parts<A>),
+}
+
+// Whether a global has 1 to 4,096 cells, and one for each initial value.
+fn is_shaped<A: Allocator>(g: &Global<A>) -> bool
+    ensures { result ≡ is_shaped (global_of g.now) }
+{
+    let cells = match g.length {
+        Some((length, _)) => length as usize,
+        None => 1,
+    };
+    1 <= cells && cells <= MOST_CELLS && g.first.len() <= cells
+}
+
+// Whether each global is so.
+fn are_shaped<A: Allocator>(globals: &[Global<A>]) -> bool
+    ensures { result ≡ list_all (λ g. is_shaped (global_of g)) globals.now }
+{
+    globals.iter().all(|g| is_shaped(g))
 }
 
 // The number of a global's cells, or of its initialisers where these are more.
@@ -175,6 +194,9 @@ fn is_valid<A: Allocator + Copy>(alloc: A, parts: &Parts<A>) -> Result<bool, All
     ensures { IfOk result (λ b. IsTrue b ↔ IsValid (code_of parts.now)) }
 {
     if parts.instructions.len() > MOST_INSTRUCTIONS {
+        return Ok(false);
+    }
+    if !are_shaped(parts.globals.as_slice()) {
         return Ok(false);
     }
     match count_cells(parts.globals.as_slice()) {

@@ -1,7 +1,7 @@
 //! The first word of each cell.
 
 use crate::asserted::assert_that;
-use crate::of_bytecode::built::{code_of, global, parts_over};
+use crate::of_bytecode::built::{code_of, global, is_valid, parts_over};
 use bytecode::{Code, Parts};
 use lex::token::{Scalar, Span};
 use refusing::Refusing;
@@ -29,16 +29,35 @@ fn push_two<A: Allocator>(to: &mut tree::Global<A>) -> Result<(), AllocError> {
     push_first(to, false, 7)
 }
 
-// An array of three cells, of which -1 and 7 are the first words of two.
-fn array<A: Allocator + Copy>(alloc: A) -> Result<tree::Global<A>, AllocError> {
-    let mut array = global(alloc, Some(3))?;
+// An array of so many cells, with the first words -1 and 7.
+fn array<A: Allocator + Copy>(alloc: A, cells: u32) -> Result<tree::Global<A>, AllocError> {
+    let mut array = global(alloc, Some(cells))?;
     push_two(&mut array)?;
     Ok(array)
 }
 
 // A worker over a variable and that array.
+fn over<A: Allocator + Copy>(alloc: A, cells: u32) -> Result<Parts<A>, AllocError> {
+    parts_over(alloc, array(alloc, cells)?)
+}
+
+// A worker over a variable and an array of three cells, of which -1 and 7 are the first words of two.
 fn over_an_array<A: Allocator + Copy>(alloc: A) -> Result<Parts<A>, AllocError> {
-    parts_over(alloc, array(alloc)?)
+    over(alloc, 3)
+}
+
+// What `validate` says of a worker over an array of so many cells with two first words.
+fn is_valid_over(alloc: Global, cells: u32) -> Option<bool> {
+    match over(alloc, cells) {
+        Ok(parts) => is_valid(alloc, parts),
+        Err(_) => None,
+    }
+}
+
+#[test]
+fn each_first_word_has_a_cell(rt: HostRuntime) {
+    assert_that(&rt, is_valid_over(rt.alloc(), 2) == Some(true));
+    assert_that(&rt, is_valid_over(rt.alloc(), 1) == Some(false));
 }
 
 // Its code.

@@ -392,9 +392,11 @@ fn limits_are_kept(rt: HostRuntime) {
     // the variable is one cell
     let most = of_array(rt.alloc(), MOST_CELLS as u32 - 1);
     let more = of_array(rt.alloc(), MOST_CELLS as u32);
+    let none = of_array(rt.alloc(), 0);
     assert_all(
         &rt,
         &[
+            ("an array of no cell", none == Some(false)),
             ("the most cells", most == Some(true)),
             ("more cells", more == Some(false)),
         ],

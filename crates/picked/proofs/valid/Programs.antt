@@ -40,7 +40,7 @@ use Rattle.picked.proofs.valid.Fitting.{AreFoundBelow, nothing_below, all_below,
 use Rattle.picked.proofs.valid.Begins.{Are, are_front, are_behind, opens as opens_along, opens_many}
 use Rattle.picked.proofs.valid.Goods.{AreGood, good_append, Runs, runs_to, meets_first, next_run, good_on}
 use Rattle.picked.proofs.valid.Sounds.{AreBelow, below_append}
-use Rattle.picked.proofs.valid.Shared.{cells_fit}
+use Rattle.picked.proofs.valid.Shared.{all_shaped, cells_fit}
 use Rattle.picked.proofs.valid.Expressions.{CalleesTake}
 use Rattle.picked.proofs.valid.Parts.{Exiting}
 use Rattle.picked.proofs.valid.Statements.{stmts_part}
@@ -404,6 +404,7 @@ module _ (p : Program) (typed : IsTypedProgram p) (cancels : CancelsAreFit p) wh
     distinct = distinct_from [] p (items_met p typed cancels) 0 none_made;
     covered = λ q low. whole.covers ends q (omega arith) (let e = ends in omega (arith, low, e));
     few = within.instructions;
+    shaped = all_shaped [] p (items_met p typed cancels);
     cells = let h = cells_fit [] p (omega arith) (items_met p typed cancels) in omega (arith, h);
     worker = has_worker;
   }

@@ -1,7 +1,11 @@
--- The cells of what a program shares lie within its memory, and a typed program has no more than there may be.
+-- The cells of what a program shares lie within its memory; a typed program has no more than there may be, and each of
+-- its globals is within the limits.
 use Rattle.std.proofs.Common.{◌≡◌, refl, sym, ap, ◌∙◌, ℕ, zero, suc, ◌+◌, ◌-◌, ◌≤◌, List, [], ◌∷◌, ◌++◌, length, map, replicate, drop, arith, Option, Some, None, Bool, true, false}
-use Rattle.std.specs.Prelude.{if◌then◌else◌, bytes_eq, option_map, unwrap_or, sum_by, nat_le}
-use Rattle.std.proofs.lemmas.Bool.{leb-true}
+use Rattle.std.specs.Prelude.{◌&&◌, if◌then◌else◌, bytes_eq, option_map, unwrap_or, sum_by, nat_le}
+use Rattle.std.proofs.lemmas.Bool.{leb-true, le-leb}
+use Rattle.std.proofs.lemmas.List.Folds.{list_all-append}
+use Rattle.std.specs.Cmp.Derive.{both_true}
+use Rattle.std.specs.List.{list_all}
 use Rattle.std.proofs.lemmas.List.Sums.{sum_by-cons}
 use Rattle.std.proofs.lemmas.List.{length-append, length-replicate, length-map}
 use Rattle.lex.specs.declared.token.Span.{Span}
@@ -11,6 +15,7 @@ use Rattle.syntax.specs.Tree.{Global, Item, Defines, Shares, Program}
 use Rattle.syntax.specs.Names.{GlobalCells, cells, globals, global_from, first_word, first_words, initial_from}
 use Rattle.syntax.specs.Types.{Number, Array, Scope, known_global, known_among, known_function, file_scope}
 use Rattle.syntax.specs.Typing.{is_unknown, demand, all_cells, IsTypedFunction, IsLength, HaveCells, AreTypedGlobals, AreTypedItems}
+use Rattle.bytecode.specs.Valid.{is_shaped}
 use Rattle.syntax.proofs.Demands.{AreMet, met_before, met_behind, is_met}
 
 -- a global has its words
@@ -130,3 +135,43 @@ cells_fit earlier (Shares gs ∷ items) low h =
     let rest = cells_fit (earlier ++ Shares gs ∷ []) items (omega (arith, more, words, few)) (met_behind (AreTypedGlobals earlier [] (all_cells earlier) gs) (AreTypedItems (earlier ++ Shares gs ∷ []) items) h) in
     let whole = initial_append gs (globals items) in
     omega (arith, rest, more, whole, words)
+
+both : (a b : Bool) → (a && b) ≡ true → (a ≡ true) × (b ≡ true)
+both true b e = (refl, e)
+both false b e = absurd (cc)
+
+-- an array that is typed has a cell
+sized : (o : Option (ℕ × Span)) → AreMet (IsLength o) → 1 ≤ unwrap_or (option_map (λ n. n.0) o) 1
+sized None h = omega arith
+sized (Some n) h = leb-true 1 n.0 (both (nat_le 1 n.0) (nat_le n.0 4096) (is_met 25 n.1 (nat_le 1 n.0 && nat_le n.0 4096) h)).0
+
+shaped_so : (g : Global) → 1 ≤ cells g → cells g ≤ 4096 → length g.first ≤ cells g → is_shaped g ≡ true
+shaped_so g some few enough =
+    let a = le-leb 1 (cells g) some in
+    let b = le-leb (cells g) 4096 few in
+    let c = le-leb (length g.first) (cells g) enough in
+    both_true a (both_true b c)
+
+-- typed globals are within the limits
+globals_shaped : (earlier : List Item) (before : List Global) (taken : ℕ) (gs : List Global) → AreMet (AreTypedGlobals earlier before taken gs) → list_all is_shaped gs ≡ true
+globals_shaped earlier before taken [] h = refl
+globals_shaped earlier before taken (g ∷ gs) h =
+    let new = demand 21 g.name.at (is_unknown (file_scope (earlier ++ Shares before ∷ []) g.name.text)) in
+    let size = IsLength g.length in
+    let room = HaveCells (drop (cells g) g.first) in
+    let few = demand 25 g.name.at (nat_le (taken + cells g) 4096) in
+    let others = AreTypedGlobals earlier (before ++ g ∷ []) (taken + cells g) gs in
+    let all = met_before (new ++ size ++ room ++ few) others h in
+    let some : 1 ≤ cells g = sized g.length (met_behind new size (met_before (new ++ size) room (met_before (new ++ size ++ room) few all))) in
+    let fits = firsts_fit (cells g) g.first (met_behind (new ++ size) room (met_before (new ++ size ++ room) few all)) in
+    let low : taken + cells g ≤ 4096 = leb-true (taken + cells g) 4096 (is_met 25 g.name.at (nat_le (taken + cells g) 4096) (met_behind (new ++ size ++ room) few all)) in
+    both_true (shaped_so g some (omega (arith, low)) fits) (globals_shaped earlier (before ++ g ∷ []) (taken + cells g) gs (met_behind (new ++ size ++ room ++ few) others h))
+
+pub all_shaped : (earlier items : List Item) → AreMet (AreTypedItems earlier items) → list_all is_shaped (globals items) ≡ true
+all_shaped earlier [] h = refl
+all_shaped earlier (Defines f ∷ items) h =
+    all_shaped (earlier ++ Defines f ∷ []) items (met_behind (IsTypedFunction earlier f) (AreTypedItems (earlier ++ Defines f ∷ []) items) h)
+all_shaped earlier (Shares gs ∷ items) h =
+    let own = globals_shaped earlier [] (all_cells earlier) gs (met_before (AreTypedGlobals earlier [] (all_cells earlier) gs) (AreTypedItems (earlier ++ Shares gs ∷ []) items) h) in
+    let rest = all_shaped (earlier ++ Shares gs ∷ []) items (met_behind (AreTypedGlobals earlier [] (all_cells earlier) gs) (AreTypedItems (earlier ++ Shares gs ∷ []) items) h) in
+    list_all-append is_shaped gs (globals items) ∙ both_true own rest
