@@ -14,8 +14,6 @@ pub mod alone
 pub mod tallies
 -- what threads were answered, the addresses that they use, where attempts begin
 pub mod answers
--- the frames of a thread that keeps the one on top of each begin
-pub mod frames
 -- a thread as code keeps it makes the machine's steps
 pub mod keeping
 -- worked schedules, and that their codes meet the premises

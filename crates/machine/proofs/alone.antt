@@ -4,5 +4,3 @@ pub mod Unstopped
 pub mod Alone
 -- the world of one thread comes to the end of its meaning, by steps that do not stop
 pub mod OneThread
--- an undisturbed transaction takes effect after just so many accesses
-pub mod Counts

@@ -14,9 +14,7 @@ pub mod Computes
 pub mod Drops
 -- a thread that steps alone
 pub mod Alone
--- how many accesses an undisturbed transaction makes
-pub mod Counts
--- how many it makes, by what its code means
+-- how many accesses an undisturbed transaction makes, by what its code means
 pub mod Tallies
 -- what becomes of a thread that has the lock
 pub mod Holders
@@ -30,8 +28,6 @@ pub mod Answered
 pub mod Traces
 -- where attempts begin
 pub mod Moments
--- frames of a thread, and what it keeps of its begins
-pub mod Frames
 -- how a thread stands in a valid code
 pub mod Standing
 -- a thread as its contracts see it

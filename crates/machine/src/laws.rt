@@ -17,10 +17,8 @@ ghost use Rattle.machine.specs.Serializable.{world_after, IsOpaque, HasChanged, 
 ghost use Rattle.machine.specs.Alone.{ReachesEnd};
 ghost use Rattle.machine.specs.Computes.{AttemptsCompute};
 ghost use Rattle.machine.specs.Drops.{DropsAreBounded, DropsComeAfterTakings};
-ghost use Rattle.machine.specs.Counts.{CountsItsAccesses};
 ghost use Rattle.machine.specs.Tallies.{CountsByMeaning};
 ghost use Rattle.machine.specs.Holders.{HoldersNeverAbort};
-ghost use Rattle.machine.specs.Frames.{KeepsBegins};
 ghost use Rattle.machine.specs.Addresses.{NamesCells};
 ghost use Rattle.machine.specs.Events.{EventsTell};
 ghost use Rattle.machine.specs.Answered.{Answered, AnswersOk, Heard, Replays};
@@ -91,13 +89,6 @@ pub fn alone<C>()
         (run : List Step) (n : ℕ) → FitsCells code bounds → IsMemory bounds m0 →
         Means bounds (meaning code init) program → AllByRecursion (IsMemory bounds) (founds_of 0 run) →
         ReachesEnd code init program m0 run n }
-{}
-
-/// While no other thread steps, a transaction that begins at an even lock is never dropped, and it makes one access for its
-/// begin, two for each entry of its read log, and where it takes the lock one for the swap, one for each word that it
-/// stores, and one for the release. Of transactions without an irrevocable.
-pub fn undisturbed_transactions_are_counted<C>()
-    ensures { (code : C → Effect C) (w : World C) (t : ℕ) → CountsItsAccesses code w t }
 {}
 
 /// How many accesses a transaction makes that nobody disturbs, counted by what its code means on the memory that it finds:
@@ -189,11 +180,4 @@ pub fn answered_by_traces<C>()
 pub fn attempts_begin_past_their_floor<C>()
     ensures { (does : Behaviour) (bounds : List ℕ) (m0 : Memory) (threads : ℕ) (w : World C) (es : List Entry) →
         BeginsPast does bounds m0 threads w es }
-{}
-
-/// A thread may keep of each open begin the frame on top, the number of frames and the place. Where the begins lie in the
-/// frames as the code's places say (depth: how many are open at a place), that stays so over each instruction, what the
-/// thread shows of its begins stays as it was, a begin shows as all frames, and going back to a begin gives its frames.
-pub fn begins_are_restored()
-    ensures { (depth : ℕ → ℕ) → KeepsBegins depth }
 {}
