@@ -6,3 +6,5 @@ pub mod Follow
 pub mod Insert
 -- lists whose elements stand in another in their order, and insertion into a merge
 pub mod Within
+-- merges cut in two, and what is put into them
+pub mod Splits

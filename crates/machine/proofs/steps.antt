@@ -10,3 +10,5 @@ pub mod Stores
 pub mod PartSteps
 -- each step of the machine keeps the invariant, whichever thread makes it, and so does each list of steps
 pub mod Worlds
+-- a step leads the history on
+pub mod Moving

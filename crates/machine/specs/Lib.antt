@@ -8,6 +8,8 @@ pub mod Merges
 pub mod Explained
 -- what holds of every list of steps
 pub mod Serializable
+-- what begins later stands behind
+pub mod Strict
 -- what attempts have computed
 pub mod Computes
 -- how often attempts are dropped

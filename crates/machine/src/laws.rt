@@ -14,6 +14,7 @@ ghost use Rattle.machine.specs.Threads.{Thread, access, told};
 ghost use Rattle.machine.specs.Worlds.{Part, World, Reached, answer, new_world};
 ghost use Rattle.machine.specs.Merges.{Entry};
 ghost use Rattle.machine.specs.Serializable.{world_after, IsOpaque, HasChanged, HoldersGoOn};
+ghost use Rattle.machine.specs.Strict.{IsStrictlySerializable};
 ghost use Rattle.machine.specs.Alone.{ReachesEnd};
 ghost use Rattle.machine.specs.Computes.{AttemptsCompute};
 ghost use Rattle.machine.specs.Drops.{DropsAreBounded, DropsComeAfterTakings};
@@ -46,6 +47,22 @@ pub fn opaque<C>()
         (threads : ℕ) (steps : List ℕ) → FitsCells code bounds → IsMemory bounds m0 →
         Means bounds (meaning code init) program → threads ≤ 2 ^ 32 →
         IsOpaque code init program bounds m0 threads steps }
+{}
+
+/// Strict serializability, for all steps ts and all further ones us: the transactions that have taken effect are a run in
+/// which every thread stands, and all that a thread has begun since ts, where it had no attempt then, stands behind all that
+/// had taken effect by then. The same for every program that the code means.
+///
+/// Of threads of the program that run at one time the order of these lists is not known, so this is not said of them: only
+/// that what one of them begins after a meeting stands behind all that both had done (`attempts_begin_past_their_floor`).
+pub fn strictly_serializable<C>()
+    ensures code { (code : C → Effect C) (init : ℕ → C) (bounds : List ℕ) (m0 : Memory) (threads : ℕ)
+        (ts us : List ℕ) → FitsCells code bounds → IsMemory bounds m0 →
+        IsStrictlySerializable code init (meaning code init) bounds m0 threads ts us }
+    ensures programs { (code : C → Effect C) (init : ℕ → C) (program : Behaviour) (bounds : List ℕ) (m0 : Memory)
+        (threads : ℕ) (ts us : List ℕ) → FitsCells code bounds → IsMemory bounds m0 →
+        Means bounds (meaning code init) program → threads ≤ 2 ^ 32 →
+        IsStrictlySerializable code init program bounds m0 threads ts us }
 {}
 
 /// Every attempt, also one that will be dropped, is where its code's meaning comes in the memory of its moment: the same

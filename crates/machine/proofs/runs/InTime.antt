@@ -22,15 +22,15 @@ abbrev pub LowFor : {C : Type 0} → Option (Attempt C) → List Entry → Type 
 LowFor None fs = Unit {0}
 LowFor (Some a) fs = AllByRecursion (λ (f : Entry). key f ≤ 2 * a.first) fs
 
-all_map : {X : Type 0} (P Q : X → Type 0) (xs : List X) → ((x : X) → P x → Q x) → AllByRecursion P xs → AllByRecursion Q xs
+pub all_map : {X : Type 0} (P Q : X → Type 0) (xs : List X) → ((x : X) → P x → Q x) → AllByRecursion P xs → AllByRecursion Q xs
 all_map P Q [] f all = tt
 all_map P Q (x ∷ xs) f all = (f x all.0, all_map P Q xs f all.1)
 
-key_top : (h : History) (t s : ℕ) (x : Record) (b : Bool) → LeftIs h t x b → key_of x.snapshot b ≤ 2 * h.top
+pub key_top : (h : History) (t s : ℕ) (x : Record) (b : Bool) → LeftIs h t x b → key_of x.snapshot b ≤ 2 * h.top
 key_top h t s x true k = let le = k.0 in omega arith
 key_top h t s x false k = let le = k.0 in omega arith
 
-recorded_at : {C : Type 0} (a : Attempt C) (base : List ℕ) (x : Record) (o : Option Completed) → CompletedAt a o → recorded base o ≡ Some x → x.snapshot ≡ a.snapshot
+pub recorded_at : {C : Type 0} (a : Attempt C) (base : List ℕ) (x : Record) (o : Option Completed) → CompletedAt a o → recorded base o ≡ Some x → x.snapshot ≡ a.snapshot
 recorded_at a base x None g e = absurd (cc)
 recorded_at a base x (Some y) g e = let r : record_of base y ≡ x = cc in ap (λ (z : Record). z.snapshot) (sym r) ∙ g
 

@@ -84,7 +84,7 @@ module _ {C : Type 0} (code : C → Effect C) (init : ℕ → C) (bounds : List 
   }
 
   module _ (source : Behaviour) (means : Means bounds (meaning code init) source) where
-    serializable_source : (threads : ℕ) → threads ≤ 2 ^ 32 → (ts : List ℕ) → IsSerializable code init source bounds m0 threads ts
+    pub serializable_source : (threads : ℕ) → threads ≤ 2 ^ 32 → (ts : List ℕ) → IsSerializable code init source bounds m0 threads ts
     serializable_source threads few ts =
         let s = serializable code init bounds m0 is_memory fits threads ts in
         record {
