@@ -8,3 +8,5 @@ pub mod Insert
 pub mod Within
 -- merges cut in two, and what is put into them
 pub mod Splits
+-- merges with attempts between that leave what they found
+pub mod Idle

@@ -10,6 +10,8 @@ pub mod Serializable
 pub mod Order
 -- order in time, over whole lists of steps
 pub mod InTime
+-- all attempts in one order
+pub mod OneOrder
 -- what a thread begins later stands behind all that has taken effect
 pub mod Strict
 -- the run of more steps extends the run of fewer

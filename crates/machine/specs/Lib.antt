@@ -12,6 +12,8 @@ pub mod Serializable
 pub mod Strict
 -- what attempts have computed
 pub mod Computes
+-- all attempts in one order
+pub mod OneOrder
 -- how often attempts are dropped
 pub mod Drops
 -- a thread that steps alone

@@ -17,6 +17,7 @@ ghost use Rattle.machine.specs.Serializable.{world_after, IsOpaque, HasChanged, 
 ghost use Rattle.machine.specs.Strict.{IsStrictlySerializable};
 ghost use Rattle.machine.specs.Alone.{ReachesEnd};
 ghost use Rattle.machine.specs.Computes.{AttemptsCompute};
+ghost use Rattle.machine.specs.OneOrder.{IsInOneOrder};
 ghost use Rattle.machine.specs.Drops.{DropsAreBounded, DropsComeAfterTakings};
 ghost use Rattle.machine.specs.Tallies.{CountsByMeaning};
 ghost use Rattle.machine.specs.Holders.{HoldersNeverAbort};
@@ -71,6 +72,20 @@ pub fn attempts_compute<C>()
     ensures { (code : C → Effect C) (init : ℕ → C) (bounds : List ℕ) (m0 : Memory) (threads : ℕ) (steps : List ℕ) →
         FitsCells code bounds → IsMemory bounds m0 →
         AttemptsCompute code init m0 (world_after code init m0 threads steps) }
+{}
+
+/// All attempts stand in one order, the dropped ones too: those that took effect are the run in it, and each of the others
+/// leaves what it found. Each attempt finds what the one before it left, and it is where its code's meaning comes on that
+/// memory. It stands after all that had ended when it began, and so would one that has not ended yet; and more steps put
+/// further attempts in, and move none. So the order of attempts is the order of time, wherever one had ended when another
+/// began.
+///
+/// Of threads of the program that run at one time, this holds of some list of steps that makes what they did, and not of the
+/// order in time in which they made it.
+pub fn attempts_stand_in_one_order<C>()
+    ensures { (code : C → Effect C) (init : ℕ → C) (bounds : List ℕ) (m0 : Memory) (threads : ℕ) (steps : List ℕ) →
+        FitsCells code bounds → IsMemory bounds m0 →
+        IsInOneOrder code init m0 threads steps }
 {}
 
 /// A step drops an attempt only where validation has loaded the word of an entry of its read log and found another one. A

@@ -1,9 +1,8 @@
 -- Merges cut in two, and what is put into them.
-use Rattle.std.proofs.Common.{◌≡◌, ◌≢◌, ◌<◌, ◌≤◌, ◌⊎◌, inl, inr, ℕ, Bool, true, false, leb, List, [], ◌∷◌, ◌++◌, refl, sym, ◌∙◌, ap, arith}
+use Rattle.std.proofs.Common.{◌≡◌, ◌≢◌, ◌<◌, ◌≤◌, ◌⊎◌, inl, inr, ℕ, Bool, true, false, leb, List, [], ◌∷◌, ◌++◌, refl, ◌∙◌, ap, arith}
 use Rattle.std.specs.List.{AllByRecursion}
 use Rattle.std.proofs.lemmas.Bool.Decides.{leb_tells}
-use Rattle.syntax.specs.Behaviours.{IsWithin}
-use Rattle.machine.specs.Merges.{Entry, insert, key, own}
+use Rattle.machine.specs.Merges.{Entry, insert, key}
 use Rattle.machine.specs.Strict.{StandsBehind}
 use Rattle.machine.proofs.merges.Insert.{insert_all, own-insert_other}
 use Rattle.machine.proofs.merges.Within.{within_insert}

@@ -145,7 +145,7 @@ parted t (e ∷ es) = at (e.thread == t) e.item.took_lock refl (parted t es)
     at false true f ih = rw f (omega (arith, ih))
     at false false f ih = rw f (omega (arith, ih))
 
-last_of : {X : Type 0} (P : X → Type 0) (xs : List X) (x : X) → AllByRecursion P (xs ++ x ∷ []) → P x
+pub last_of : {X : Type 0} (P : X → Type 0) (xs : List X) (x : X) → AllByRecursion P (xs ++ x ∷ []) → P x
 last_of P [] x all = all.0
 last_of P (y ∷ ys) x all = last_of P ys x all.1
 

@@ -222,7 +222,7 @@ module _ {C : Type 0} (code : C → Effect C) (init : ℕ → C) (bounds : List 
   }
 
   -- in the memory of its snapshot the attempt is where the meaning is
-  computes_of : (t : ℕ) (p : Part C) → slice_get w.parts t ≡ Some p → (a : Attempt C) → Now code bounds h t (init t) p.records p.base p.thread (Some a) → ComputesOn code init es t p a (h.mem a.snapshot)
+  pub computes_of : (t : ℕ) (p : Part C) → slice_get w.parts t ≡ Some p → (a : Attempt C) → Now code bounds h t (init t) p.records p.base p.thread (Some a) → ComputesOn code init es t p a (h.mem a.snapshot)
   computes_of t p e a n =
       let m : List ℕ = h.mem a.snapshot in
       let comes : thread code (init t) (founds_in p.records ++ m ∷ []) ((n.begun.comes_to.0 + 1) + n.begun.reaches.0)

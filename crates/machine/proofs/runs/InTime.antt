@@ -35,12 +35,12 @@ recorded_at a base x None g e = absurd (cc)
 recorded_at a base x (Some y) g e = let r : record_of base y ≡ x = cc in ap (λ (z : Record). z.snapshot) (sym r) ∙ g
 
 module _ {C : Type 0} (code : C → Effect C) (init : ℕ → C) (bounds : List ℕ) (m0 : List ℕ) (is_memory : IsMemory bounds m0) (fits : FitsCells code bounds) (t : ℕ) where
-  among : (o o' : Option (Attempt C)) (es fs seen : List Entry) → ((l : List Entry) → IsWithin l es → IsWithin l fs) → IsWithin seen es → IsWithin (seen_after o o' es seen) fs
+  pub among : (o o' : Option (Attempt C)) (es fs seen : List Entry) → ((l : List Entry) → IsWithin l es → IsWithin l fs) → IsWithin seen es → IsWithin (seen_after o o' es seen) fs
   among None (Some a) es fs seen up m = up es (within_self es)
   among None None es fs seen up m = up seen m
   among (Some a) o' es fs seen up m = up seen m
 
-  within_made : (l : List Entry) (u : ℕ) (o : Option Record) (es : List Entry) → IsWithin l es → IsWithin l (insert_made u o es)
+  pub within_made : (l : List Entry) (u : ℕ) (o : Option Record) (es : List Entry) → IsWithin l es → IsWithin l (insert_made u o es)
   within_made l u None es w = w
   within_made l u (Some x) es w = within_insert (record { thread = u; item = x }) l es w
 
@@ -55,14 +55,14 @@ module _ {C : Type 0} (code : C → Effect C) (init : ℕ → C) (bounds : List 
   low_step (Some a) None es seen s new l = tt
   low_step (Some a) (Some b) es seen s new l = subst (λ n. AllByRecursion (λ (f : Entry). key f ≤ 2 * n) seen) (sym s) l
 
-  low_of : (w : World C) (h : History) (u : ℕ) (es seen : List Entry) → Invariant code bounds init m0 h w → IsMerge w.parts es → LowFor (attempt_of (slice_get w.parts t)) seen
+  pub low_of : (w : World C) (h : History) (u : ℕ) (es seen : List Entry) → Invariant code bounds init m0 h w → AllByRecursion (EntryOk h) es → LowFor (attempt_of (slice_get w.parts t)) seen
       → LowFor (attempt_of (slice_get (step code w u).parts t)) (seen_after (attempt_of (slice_get w.parts t)) (attempt_of (slice_get (step code w u).parts t)) es seen)
-  low_of w h u es seen v m low = at (slice_get w.parts u) refl
+  low_of w h u es seen v each low = at (slice_get w.parts u) refl
     where
       keys : h.lock % 2 ≡ 0 → AllByRecursion (λ (f : Entry). key f ≤ 2 * h.lock) es
       keys even =
           let top : h.lock ≡ h.top = (even_words bounds h w.words v.history even).0 in
-          all_map (EntryOk h) (λ f. key f ≤ 2 * h.lock) es (λ f ok. let k = key_top h f.thread 0 f.item f.item.took_lock ok.left in omega arith) (each_ok code init bounds m0 w h v es m)
+          all_map (EntryOk h) (λ f. key f ≤ 2 * h.lock) es (λ f ok. let k = key_top h f.thread 0 f.item f.item.took_lock ok.left in omega arith) each
 
       own : (p : Part C) → slice_get w.parts t ≡ Some p → LowFor (attempt_of (slice_get w.parts t)) seen → LowFor (told code p.thread (answer w.lock w.words (access code p.thread))).thread.attempt (seen_after (attempt_of (slice_get w.parts t)) (told code p.thread (answer w.lock w.words (access code p.thread))).thread.attempt es seen)
       own p e l =
@@ -120,9 +120,9 @@ module _ {C : Type 0} (code : C → Effect C) (init : ℕ → C) (bounds : List 
       over us (step code w u) s.0 (insert_made u j1 es) (seen_after (attempt_of (slice_get w.parts t)) (attempt_of (slice_get (step code w u).parts t)) es seen) s.1
       (merge_step code init bounds m0 is_memory fits w h u es v m)
       (among (attempt_of (slice_get w.parts t)) (attempt_of (slice_get (step code w u).parts t)) es (insert_made u j1 es) seen (λ l. within_made l u j1 es) in_es)
-      (low_of w h u es seen v m low) x j
+      (low_of w h u es seen v (each_ok code init bounds m0 w h v es m) low) x j
 
-no_low : {C : Type 0} (o : Option (Attempt C)) → LowFor o []
+pub no_low : {C : Type 0} (o : Option (Attempt C)) → LowFor o []
 no_low None = tt
 no_low (Some a) = tt
 

@@ -1,10 +1,9 @@
 -- What a thread begins later stands behind all that has taken effect.
 use Rattle.std.proofs.Common.{◌≡◌, ◌≢◌, ◌≤◌, ◌*◌, ◌==◌, ◌⊎◌, inl, inr, ℕ, Bool, true, false, List, [], ◌∷◌, ◌++◌, Option, None, Some, append-nil, refl, sym, ◌∙◌, ap, subst, slice_get, set, arith}
-use Rattle.std.specs.List.{AllByRecursion}
 use Rattle.std.proofs.lemmas.Bool.Decides.{eqb_tells}
 use Rattle.syntax.specs.Behaviours.{Behaviour, IsMemory}
 use Rattle.bytecode.specs.Effects.{Effect, FitsCells}
-use Rattle.norec_core.specs.Attempts.{Attempt, Completed}
+use Rattle.norec_core.specs.Attempts.{Attempt}
 use Rattle.machine.specs.inner.Invariant.{History, Invariant, Now}
 use Rattle.machine.specs.Merges.{Entry, insert_made, key, key_of, made_of, merged}
 use Rattle.machine.specs.Serializable.{IsSerializable, attempt_of, merge_after, world_after}

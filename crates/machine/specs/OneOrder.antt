@@ -1,0 +1,86 @@
+-- All attempts in one order: the transactions that took effect, and between them the attempts that were dropped.
+use Rattle.std.specs.Prelude.{◌≡◌, ◌⊎◌, ℕ, false, List, [], ◌∷◌, ◌++◌, Option, None, Some}
+use Rattle.std.specs.List.{slice_get}
+use Rattle.syntax.specs.Behaviours.{IsChained, IsWithin, Memory}
+use Rattle.bytecode.specs.Effects.{Effect}
+use Rattle.norec_core.specs.Attempts.{Attempt, Completed}
+use Rattle.machine.specs.Computes.{ComputesOn}
+use Rattle.machine.specs.Merges.{Entry, IsMerge, insert, insert_made, run_of}
+use Rattle.machine.specs.Serializable.{StandsAfter, attempt_of, merge_after, seen_after, world_after}
+use Rattle.machine.specs.Threads.{access, told}
+use Rattle.machine.specs.Worlds.{Part, Record, World, answer, new_world, record_of, step}
+
+-- an attempt that does not take effect, as a transaction: it leaves what it found, the memory at its last snapshot
+abbrev pub idle_record : {C : Type 0} → Memory → Attempt C → Record
+idle_record base a = record { snapshot = a.snapshot; took_lock = false; found = base; left = base }
+
+-- the record of the attempt that ends in a step, if one does: its transaction takes effect, or it is dropped
+abbrev pub ended : {C : Type 0} → Memory → Option Completed → (before after : Option (Attempt C)) → Option Record
+ended base (Some x) o o' = Some (record_of base x)
+ended base None (Some a) None = Some (idle_record base a)
+ended base None (Some a) (Some b) = None
+ended base None None o' = None
+
+abbrev pub ended_in : {C : Type 0} → (C → Effect C) → World C → Option (Part C) → Option Record
+ended_in code w None = None
+ended_in code w (Some p) =
+    let n = told code p.thread (answer w.lock w.words (access code p.thread)) in
+    ended p.base n.completed p.thread.attempt n.thread.attempt
+
+-- the merge with the dropped attempts too, which keeps equals in the order in which they ended
+abbrev pub attempted : {C : Type 0} → (C → Effect C) → List ℕ → World C → List Entry → List Entry
+attempted code [] w es = es
+attempted code (t ∷ ts) w es =
+    attempted code ts (step code w t) (insert_made t (ended_in code w (slice_get w.parts t)) es)
+
+abbrev pub attempts_after : {C : Type 0} → (C → Effect C) → (ℕ → C) → Memory → ℕ → List ℕ → List Entry
+attempts_after code init m0 threads ts = attempted code ts (new_world init m0 threads) []
+
+-- all that had ended when thread t loaded the first snapshot of its attempt
+abbrev pub ended_by : {C : Type 0} → (C → Effect C) → ℕ → List ℕ → World C → List Entry → List Entry → List Entry
+ended_by code t [] w es seen = seen
+ended_by code t (u ∷ us) w es seen =
+    ended_by code t us (step code w u) (insert_made u (ended_in code w (slice_get w.parts u)) es)
+    (seen_after (attempt_of (slice_get w.parts t)) (attempt_of (slice_get (step code w u).parts t)) es seen)
+
+abbrev pub ended_before : {C : Type 0} → (C → Effect C) → (ℕ → C) → Memory → ℕ → List ℕ → ℕ → List Entry
+ended_before code init m0 threads ts t = ended_by code t ts (new_world init m0 threads) [] []
+
+-- an entry that did not take the lock, and left what it found
+abbrev pub IsIdle : Entry → Type 0
+IsIdle e = (e.item.took_lock ≡ false) × (e.item.left ≡ e.item.found)
+
+-- these entries in their order, and idle ones between them
+abbrev pub WithIdle : List Entry → List Entry → Type 0
+WithIdle [] [] = Unit {0}
+WithIdle (e ∷ es) [] = ⊥
+WithIdle [] (x ∷ all) = IsIdle x × WithIdle [] all
+WithIdle (e ∷ es) (x ∷ all) = ((e ≡ x) × WithIdle es all) ⊎ (IsIdle x × WithIdle (e ∷ es) all)
+
+-- an attempt that has not ended, put into the order as if it was dropped now
+pub record MayStand {C : Type 0} (m0 : Memory) (t : ℕ) (p : Part C) (a : Attempt C) (seen all : List Entry)
+    : Type 0 where
+  pub in_time : StandsAfter (record { thread = t; item = idle_record p.base a }) seen all
+  pub chained : IsChained m0 (run_of (insert (record { thread = t; item = idle_record p.base a }) all))
+
+-- One order of all attempts that have ended. Those that took effect are the run in it; each finds what the one before
+-- it left, and a dropped one leaves that too. Each attempt is where its code's meaning comes on the memory that it
+-- finds there, whether it takes effect or will be dropped. An attempt that ends in the next step stands after all that
+-- had ended when it loaded its first snapshot; and so would one that has not ended yet. More steps put further attempts
+-- in, and move none.
+pub record IsInOneOrder {C : Type 0} (code : C → Effect C) (init : ℕ → C) (m0 : Memory) (threads : ℕ) (ts : List ℕ)
+    : Type 0 where
+  pub effective : WithIdle (merge_after code init m0 threads ts) (attempts_after code init m0 threads ts)
+  pub chained : IsChained m0 (run_of (attempts_after code init m0 threads ts))
+  pub computes : (t : ℕ) (p : Part C) (a : Attempt C) →
+      slice_get (world_after code init m0 threads ts).parts t ≡ Some p → p.thread.attempt ≡ Some a →
+      (es : List Entry) → IsMerge (world_after code init m0 threads ts).parts es → ComputesOn code init es t p a p.base
+  pub in_time : (t : ℕ) (x : Record) → ended_in code (world_after code init m0 threads ts)
+      (slice_get (world_after code init m0 threads ts).parts t) ≡ Some x →
+      StandsAfter (record { thread = t; item = x }) (ended_before code init m0 threads ts t)
+      (attempts_after code init m0 threads ts)
+  pub live : (t : ℕ) (p : Part C) (a : Attempt C) →
+      slice_get (world_after code init m0 threads ts).parts t ≡ Some p → p.thread.attempt ≡ Some a →
+      MayStand m0 t p a (ended_before code init m0 threads ts t) (attempts_after code init m0 threads ts)
+  pub extended : (us : List ℕ) →
+      IsWithin (attempts_after code init m0 threads ts) (attempts_after code init m0 threads (ts ++ us))
