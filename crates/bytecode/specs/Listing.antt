@@ -65,6 +65,7 @@ instr_text fs (Instr.WriteAt c n i a) = codes "wrx" ++ c_text c ++ k_text n ++ r
 instr_text fs (Instr.Begin to) = codes "begin" ++ p_text to
 instr_text fs Instr.Commit = codes "commit"
 instr_text fs Instr.Cancel = codes "cancel"
+instr_text fs (Instr.CancelOuter n) = codes "cancelx" ++ k_text n
 instr_text fs Instr.Irrevocable = codes "irrevocable"
 instr_text fs (Instr.Call f d args) = codes "call " ++ name_text (slice_get fs f) ++ r_text d ++ flat_map r_text args
 instr_text fs (Instr.Return None) = codes "ret"

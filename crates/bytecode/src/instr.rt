@@ -133,6 +133,9 @@ pub enum Instr {
     /// `cancel`
     Cancel,
 
+    /// `cancelx #K`: takes away the last K open begins, and goes on where a cancel of the outermost of these does.
+    CancelOuter(u32),
+
     /// `irrevocable`
     Irrevocable,
 

@@ -33,6 +33,7 @@ pub(crate) enum Way {
     Opens,
     Closes,
     Cancels,
+    CancelsOuter(u32),
     Ends,
 }
 

@@ -103,6 +103,12 @@ pub record BeginsStayOpen (code : Code) : Type 0 where
       (s : Saved) × (rest : List Saved) × (ss ≡ s ∷ rest)
       × MayStand code (after_cancel (effect code (restored c s)) (restored c s)) rest
       × AreRestored c (after_cancel (effect code (restored c s)) (restored c s)) rest
+  -- an outer cancel closes so many, and goes on where the outermost of these says
+  pub cancels_outer : (n : ℕ) (c : Configuration) (ss : List Saved) → MayStand code c ss →
+      effect code c ≡ Effect.CancelOuter n →
+      (inner : List Saved) × (s : Saved) × (rest : List Saved) × (n ≡ suc (length inner)) × (ss ≡ inner ++ s ∷ rest)
+      × MayStand code (after_cancel (effect code (restored c s)) (restored c s)) rest
+      × AreRestored c (after_cancel (effect code (restored c s)) (restored c s)) rest
   -- back at any of them, those outside it are open
   pub goes_back : (c : Configuration) (inner : List Saved) (s : Saved) (outer : List Saved) →
       MayStand code c (inner ++ s ∷ outer) → MayStand code (restored c s) outer × AreRestored c (restored c s) outer

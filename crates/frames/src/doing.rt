@@ -29,6 +29,9 @@ pub enum Doing {
     /// Cancels the innermost transaction.
     Cancel,
 
+    /// Cancels so many transactions, the innermost ones, as one.
+    CancelOuter(u32),
+
     /// Makes the transaction irrevocable.
     Irrevocable,
 

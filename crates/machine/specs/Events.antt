@@ -1,18 +1,19 @@
 -- What an event says of the step that it is told of.
-use Rattle.std.specs.Prelude.{◌≡◌, ◌≢◌, ◌↔◌, ◌⊎◌, ℕ, false, [], Option, None, Some}
+use Rattle.std.specs.Prelude.{◌≡◌, ◌≢◌, ◌↔◌, ◌⊎◌, ℕ, ◌-◌, drop, false, [], Option, None, Some}
 use Rattle.std.specs.List.{slice_get}
 use Rattle.syntax.specs.declared.numbers.Trap.{Trap}
 use Rattle.syntax.specs.declared.numbers.Status.TheVariants.{Running, Trapped as HasTrapped}
 use Rattle.bytecode.specs.Effects.{Effect}
-use Rattle.bytecode.specs.Effects.Effect.{Commit, Cancel}
+use Rattle.bytecode.specs.Effects.Effect.{Commit, Cancel, CancelOuter}
 use Rattle.norec_core.specs.Attempts.{Attempt}
 use Rattle.machine.specs.declared.event.Event.TheVariants as event
 use Rattle.machine.specs.Threads.{Thread, Next, access, told}
 use Rattle.machine.specs.Worlds.{Part, World, answer}
 
--- the instruction cancels a transaction: an inner one, or an outermost one without the lock kept
+-- the instruction cancels a transaction, or several: inner ones, or the outermost one without the lock kept
 abbrev pub Cancels : {C : Type 0} → Effect C → Option (Attempt C) → Type 0
 Cancels Cancel (Some a) = (a.kept ≡ false) ⊎ (a.inner ≢ [])
+Cancels (CancelOuter n) (Some a) = (a.kept ≡ false) ⊎ (drop (n - 1) a.inner ≢ [])
 Cancels _ _ = ⊥
 
 -- a step of a thread at this instruction, and the event that is told of it

@@ -1,10 +1,10 @@
 -- How many accesses an outermost transaction makes that nobody disturbs, counted by what its code means.
-use Rattle.std.specs.Prelude.{◌≡◌, ◌≢◌, ◌+◌, ◌*◌, ◌%◌, ◌==◌, ◌⊎◌, ℕ, zero, suc, Bool, true, false, List, [], ◌∷◌, ◌++◌, Option, None, Some, length, if◌then◌else◌}
+use Rattle.std.specs.Prelude.{◌≡◌, ◌≢◌, ◌+◌, ◌-◌, drop, ◌*◌, ◌%◌, ◌==◌, ◌⊎◌, ℕ, zero, suc, Bool, true, false, List, [], ◌∷◌, ◌++◌, Option, None, Some, length, if◌then◌else◌}
 use Rattle.std.specs.List.{slice_get}
 use Rattle.syntax.specs.Behaviours.{Memory}
 use Rattle.syntax.specs.declared.numbers.Status.TheVariants.{Running}
 use Rattle.bytecode.specs.Effects.{Effect}
-use Rattle.bytecode.specs.Effects.Effect.{Pure, Print, Begin, Read, Write, Commit, Cancel, Irrevocable, Traps, End}
+use Rattle.bytecode.specs.Effects.Effect.{Pure, Print, Begin, Read, Write, Commit, Cancel, CancelOuter, Irrevocable, Traps, End}
 use Rattle.bytecode.specs.Sequential.{Sequential, next, start}
 use Rattle.norec_core.specs.declared.step.Phase.{Phase}
 use Rattle.norec_core.specs.declared.step.Phase.TheVariants.{AtOperation, ReadsLock, ValidatesTime, ValidatesEntry, Stores}
@@ -54,6 +54,7 @@ tallied t (Read a k) = with_read t (is_among a t.written) t.kept
 tallied t (Write a v c) = record t { written = with_cell a t.written }
 tallied t (Commit c) = with_commit t t.inner
 tallied t Cancel = with_cancel t t.inner
+tallied t (CancelOuter n) = with_cancel t (drop (n - 1) t.inner)
 tallied t (Irrevocable c) = record t { kept = true }
 tallied t (Traps cause) = t
 tallied t End = t

@@ -1,10 +1,10 @@
 -- How ways through a function are followed: what an instruction does with the place and with the open begins.
-use Rattle.std.specs.Prelude.{ℕ, suc, ◌-◌, List, [], ◌∷◌, ◌++◌, Bool, true, false, Option, Some, None, slice_get, slice_set, nat_lt, if◌then◌else◌, ◌==◌}
+use Rattle.std.specs.Prelude.{ℕ, zero, suc, ◌-◌, List, [], ◌∷◌, ◌++◌, Bool, true, false, Option, Some, None, slice_get, slice_set, nat_lt, if◌then◌else◌, ◌==◌}
 use Rattle.bytecode.specs.Code.{Instr}
 use Rattle.bytecode.specs.declared.walk.Arrival.{Arrival}
 use Rattle.bytecode.specs.declared.walk.Arrival.TheVariants.{Unseen, Outside, Inside}
 use Rattle.bytecode.specs.declared.walk.Way.{Way}
-use Rattle.bytecode.specs.declared.walk.Way.TheVariants.{On, To, Both, Opens, Closes, Cancels, Ends}
+use Rattle.bytecode.specs.declared.walk.Way.TheVariants.{On, To, Both, Opens, Closes, Cancels, CancelsOuter, Ends}
 
 -- where an instruction leads
 abbrev pub way_of : Instr → Way
@@ -14,6 +14,7 @@ way_of (Instr.JumpNonzero a to) = Both to
 way_of (Instr.Begin to) = Opens
 way_of Instr.Commit = Closes
 way_of Instr.Cancel = Cancels
+way_of (Instr.CancelOuter n) = CancelsOuter n
 way_of (Instr.Return a) = Ends
 way_of i = On
 
@@ -66,6 +67,19 @@ abbrev pub cancelled : ℕ → Arrivals → List ℕ → Option Arrival → Opti
 cancelled first ms work o (Some to) = reopened first ms work to o
 cancelled first ms work o None = None
 
+-- the begin round this one in which it lies, and so on so many times: the arrival at a begin tells which one it is
+abbrev pub begin_in : Option Arrival → (ℕ → Option ℕ) → Option ℕ
+begin_in (Some (Inside c)) on = on c
+begin_in o on = None
+
+abbrev pub begin_round : ℕ → Arrivals → ℕ → ℕ → Option ℕ
+begin_round first ms zero b = Some b
+begin_round first ms (suc n) b = begin_in (arrival_at first ms b) (begin_round first ms n)
+
+abbrev pub cancelled_at : List Instr → ℕ → Arrivals → List ℕ → Option ℕ → Option (Arrivals × List ℕ)
+cancelled_at is first ms work None = None
+cancelled_at is first ms work (Some b) = cancelled first ms work (arrival_at first ms b) (begun (slice_get is b))
+
 abbrev pub twice : ℕ → ℕ → Arrival → Option (Arrivals × List ℕ) → Option (Arrivals × List ℕ)
 twice first to m None = None
 twice first to m (Some s) = visited first s.0 s.1 to m
@@ -80,6 +94,9 @@ went_by is first ms work q (Inside b) Closes = reopened first ms work (suc q) (a
 went_by is first ms work q Outside Closes = None
 went_by is first ms work q Unseen Closes = None
 went_by is first ms work q (Inside b) Cancels = cancelled first ms work (arrival_at first ms b) (begun (slice_get is b))
+went_by is first ms work q (Inside b) (CancelsOuter n) = cancelled_at is first ms work (begin_round first ms (n - 1) b)
+went_by is first ms work q Outside (CancelsOuter n) = None
+went_by is first ms work q Unseen (CancelsOuter n) = None
 went_by is first ms work q Outside Cancels = None
 went_by is first ms work q Unseen Cancels = None
 went_by is first ms work q Outside Ends = Some (ms, work)

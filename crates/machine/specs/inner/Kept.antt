@@ -5,7 +5,7 @@ use Rattle.syntax.specs.declared.numbers.Status.{Status}
 use Rattle.syntax.specs.declared.numbers.Status.TheVariants.{Running, Ended as HasEnded, Trapped as HasTrapped}
 use Rattle.nesting.specs.Begins.{Saved}
 use Rattle.bytecode.specs.Effects.{Effect}
-use Rattle.bytecode.specs.Effects.Effect.{Commit, Cancel, Traps}
+use Rattle.bytecode.specs.Effects.Effect.{Commit, Cancel, CancelOuter, Traps}
 use Rattle.bytecode.specs.Code.{Code, Configuration, effect}
 use Rattle.frames.specs.declared.doing.Doing.{Doing}
 use Rattle.frames.specs.declared.doing.Doing.TheVariants as doing
@@ -96,6 +96,7 @@ op_by (doing.Read d a) kept trapping = Some (op.Read a)
 op_by (doing.Write a w) kept trapping = Some (op.Write a w)
 op_by doing.Commit kept trapping = Some op.Commit
 op_by doing.Cancel kept trapping = Some op.Cancel
+op_by (doing.CancelOuter n) kept trapping = Some (op.CancelOuter n)
 op_by doing.Irrevocable kept trapping = Some op.Irrevocable
 op_by (doing.Traps cause) true false = None
 op_by (doing.Traps cause) true true = Some op.Release
@@ -113,6 +114,7 @@ op_asked x (Some a) trapping = op_by x a.kept trapping
 -- what the thread goes back to after an operation, if it does
 abbrev pub back_done : Effect Configuration → Configuration → Option Configuration
 back_done Cancel c = Some c
+back_done (CancelOuter n) c = Some c
 back_done _ c = None
 
 abbrev pub back_by : Effect Configuration → Outcome → Configuration → Option Configuration
@@ -133,6 +135,7 @@ commit_told (Some a) = event.Quiet
 abbrev pub event_done : Effect Configuration → Option (Attempt Saved) → Event
 event_done (Commit c) o = commit_told o
 event_done Cancel o = event.Cancel
+event_done (CancelOuter n) o = event.Cancel
 event_done (Traps cause) o = event.Trap cause
 event_done _ o = event.Quiet
 
