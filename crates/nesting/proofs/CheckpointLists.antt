@@ -1,5 +1,5 @@
 -- The checkpoints of lists of what was saved and of marks: after a begin, a commit and a cancel.
-use Rattle.std.proofs.Common.{◌≡◌, ◌<◌, ◌≤◌, ◌+◌, ◌-◌, ℕ, zero, suc, List, [], ◌∷◌, ◌++◌, Some, refl, length, take, drop, slice_get, set, get_or, arith, add-one}
+use Rattle.std.proofs.Common.{◌≡◌, ◌<◌, ◌≤◌, ◌+◌, ◌-◌, ℕ, zero, suc, List, [], ◌∷◌, ◌++◌, Some, refl, sym, ap, subst, ◌∙◌, length, take, drop, slice_get, set, get_or, arith, add-one}
 use Rattle.std.proofs.lemmas.List.{take-set}
 use Rattle.std.proofs.lemmas.Option.{slice_get-get_or}
 use Rattle.nesting.specs.Begins.{Saved, Checkpoint}
@@ -54,14 +54,27 @@ after_commit (suc d) (x ∷ xs) ms pos a b =
     defaults zero (y ∷ ys) d1 d2 lt = refl
     defaults (suc i) (y ∷ ys) d1 d2 lt = defaults i ys d1 d2 (omega arith)
 
-pub after_cancel : (n : ℕ) (items : List Saved) (ms : List (List (ℕ × ℕ))) (s x : Saved) (w : List (ℕ × ℕ)) → 0 < n → n ≤ length items → s ≡ get_or items (n - 1) s → slice_get ms (n - 1) ≡ Some w →
-    checkpoints [] (take n items) ms ≡ record { saved = s; writes = w } ∷ checkpoints [] (take (n - 1) (set items (n - 1) x)) (take (n - 1) ms)
-after_cancel zero items ms s x w pos a e f = absurd (omega arith)
-after_cancel (suc d) items ms s x w pos a e f =
-    let g : suc d - 1 ≡ d = omega arith in
-    let e' = rw g at e in
-    let f' = rw g at f in
-    rw (g, take-set items d x, front [] d items ms) (last [] d items ms s w (omega arith) e' f')
+-- without the last of the lists
+fewer : (k d : ℕ) (items : List Saved) (ms : List (List (ℕ × ℕ))) → k + d ≤ length items → k + d ≤ length ms →
+    drop k (checkpoints [] (take (k + d) items) ms) ≡ checkpoints [] (take d items) ms
+fewer zero d items ms a b = let none : 0 + d ≡ d = omega arith in rw none refl
+fewer (suc k) d items ms a b =
+    let less : suc k + d - 1 ≡ k + d = omega arith in
+    let one = rw less at (after_commit (suc k + d) items ms (omega arith) a b) in
+    drop_suc k (checkpoints [] (take (suc k + d) items) ms) ∙ ap (drop k) (sym one) ∙ fewer k d items ms (omega arith) (omega arith)
+  where
+    drop_suc : {X : Type 0} (n : ℕ) (xs : List X) → drop (suc n) xs ≡ drop n (drop 1 xs)
+    drop_suc zero [] = refl
+    drop_suc (suc n) [] = refl
+    drop_suc n (x ∷ xs) = refl
+
+-- back at any open begin: those inside it and it are closed
+pub after_cancel : (n d : ℕ) (items : List Saved) (ms : List (List (ℕ × ℕ))) (s x : Saved) (w : List (ℕ × ℕ)) → d < n → n ≤ length items → n ≤ length ms → s ≡ get_or items d s → slice_get ms d ≡ Some w →
+    drop (n - suc d) (checkpoints [] (take n items) ms) ≡ record { saved = s; writes = w } ∷ checkpoints [] (take d (set items d x)) (take d ms)
+after_cancel n d items ms s x w lt a b e f =
+    let all : (n - suc d) + suc d ≡ n = omega arith in
+    let left = fewer (n - suc d) (suc d) items ms (omega arith) (omega arith) in
+    rw (take-set items d x, front [] d items ms) (subst (λ m. drop (n - suc d) (checkpoints [] (take m items) ms) ≡ checkpoints [] (take (suc d) items) ms) all left ∙ last [] d items ms s w (omega arith) e f)
 
 pub counts_begins : (d : ℕ) (items : List Saved) (ms : List (List (ℕ × ℕ))) → d ≤ length items → d ≤ length ms → d ≡ length (checkpoints [] (take d items) ms)
 counts_begins d items ms a b = let e = count [] d items ms a b in omega arith

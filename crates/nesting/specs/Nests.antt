@@ -1,5 +1,5 @@
 -- An attempt's logs and begins as its contracts see them.
-use Rattle.std.specs.Prelude.{◌≡◌, ◌≤◌, ℕ, Bool, List}
+use Rattle.std.specs.Prelude.{◌≡◌, ◌≤◌, ℕ, Bool, List, [], ◌∷◌}
 use Rattle.nesting.specs.Begins.{Saved, Checkpoint}
 
 -- the begins that are open
@@ -28,3 +28,11 @@ pub record GainsRoom (old new : Nest) : Type 0 where
   pub begin_room : old.begin_room ≤ new.begin_room
   pub read_room : old.read_room ≤ new.read_room
   pub write_room : old.write_room ≤ new.write_room
+
+-- A cancel has taken away the inner begins before these, and the first of these: its write log is back, what it saved is set
+-- aside, and the others are open. Where none is left the outermost begin is gone too, and what it saved is set aside; the
+-- write log stays then, and is of no use.
+abbrev pub IsCancelled : (old : Nest) → List (Checkpoint Saved) → (new : Nest) → Type 0
+IsCancelled old [] new = (new.aside ≡ old.begins.saved) × (new.writes ≡ old.writes)
+IsCancelled old (l ∷ ls) new =
+    (new.begins ≡ record { saved = old.begins.saved; inner = ls }) × (new.aside ≡ l.saved) × (new.writes ≡ l.writes)

@@ -1,9 +1,9 @@
 //! An attempt: its logs and its begins.
 
-ghost use Rattle.std.specs.Prelude.{◌≡◌, ◌+◌, ◌<◌, ◌≤◌, ◌^◌, [], ◌∷◌, ◌++◌, true, false, if◌then◌else◌, OnOk, OnErr, OnSome, length, take, drop, vec_len};
+ghost use Rattle.std.specs.Prelude.{◌≡◌, ◌+◌, ◌-◌, ◌<◌, ◌≤◌, ◌^◌, suc, [], ◌∷◌, ◌++◌, true, false, if◌then◌else◌, OnOk, OnErr, OnSome, length, take, drop, vec_len};
 ghost use Rattle.std.specs.List.{slice_get};
 ghost use Rattle.write_log.specs.Overlay.{written, put};
-ghost use Rattle.nesting.specs.Nests.{GainsRoom};
+ghost use Rattle.nesting.specs.Nests.{GainsRoom, IsCancelled};
 
 use super::Saved;
 use read_log::ReadLog;
@@ -211,6 +211,26 @@ impl<A: Allocator + Copy> Attempt<A> {
         self.depth -= 1;
     }
 
+    // Goes back to the inner begin of this depth: the write log is what it was there, and what was saved is set aside. It and
+    // the begins inside it are closed.
+    #[inline(always)]
+    fn back_to(&mut self, depth: usize)
+        requires { depth < length self.old.begins.inner }
+        ensures saved { self.new.begins.saved ≡ self.old.begins.saved }
+        ensures back { drop (length self.old.begins.inner - suc depth) self.old.begins.inner ≡ record { saved = self.new.aside; writes = self.new.writes } ∷ self.new.begins.inner }
+        ensures reads { self.new.reads ≡ self.old.reads }
+        ensures kept { self.new.kept ≡ self.old.kept }
+    {
+        self.writes.back_to(depth);
+        swap_aside(
+            &mut self.inner[depth],
+            &mut self.one,
+            &mut self.other,
+            self.turned,
+        );
+        self.depth = depth;
+    }
+
     /// Cancels the innermost of the inner begins: the write log is what it was there, and what was saved is set aside. The
     /// read log stays.
     pub fn cancel(&mut self)
@@ -220,15 +240,26 @@ impl<A: Allocator + Copy> Attempt<A> {
         ensures reads { self.new.reads ≡ self.old.reads }
         ensures kept { self.new.kept ≡ self.old.kept }
     {
-        let innermost = self.depth - 1;
-        self.writes.back_to(innermost);
-        swap_aside(
-            &mut self.inner[innermost],
-            &mut self.one,
-            &mut self.other,
-            self.turned,
-        );
-        self.depth = innermost;
+        let innermost = self.depth() - 1;
+        self.back_to(innermost);
+    }
+
+    /// Cancels so many begins as one, the last that were opened; the outermost begin counts. Where it is not among them, the
+    /// write log is what it was at the outermost of these, and what was saved there is set aside. Where it is, this is an
+    /// abort. The read log stays.
+    pub fn cancel_outer(&mut self, levels: usize)
+        requires several { 2 ≤ levels }
+        requires open { levels ≤ length self.old.begins.inner + 1 }
+        ensures back { IsCancelled self.old (drop (levels - 1) self.old.begins.inner) self.new }
+        ensures reads { self.new.reads ≡ self.old.reads }
+        ensures kept { self.new.kept ≡ self.old.kept }
+    {
+        let depth = self.depth();
+        if levels <= depth {
+            self.back_to(depth - levels);
+        } else {
+            self.abort();
+        }
     }
 
     /// Sets aside what the outermost begin saved, to go back to. The logs stay until the next outermost begin, and are of
