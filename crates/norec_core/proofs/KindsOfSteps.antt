@@ -1,5 +1,5 @@
 -- Each step of an attempt is one of a few kinds, and each kind keeps to each law.
-use Rattle.std.proofs.Common.{◌≡◌, ◌==◌, ◌%◌, ℕ, suc, Bool, true, false, cond, List, [], ◌∷◌, ◌++◌, Option, None, Some, refl, ◌∙◌, ap, subst, slice_get}
+use Rattle.std.proofs.Common.{◌≡◌, ◌==◌, ◌%◌, ◌-◌, ℕ, suc, Bool, true, false, cond, List, [], ◌∷◌, ◌++◌, Option, None, Some, refl, ◌∙◌, ap, subst, drop, slice_get}
 use Rattle.std.proofs.lemmas.Bool.{eqb-true}
 use Rattle.write_log.specs.Overlay.{written, put}
 use Rattle.norec_core.specs.declared.step.Op.{Op}
@@ -98,6 +98,7 @@ module _ {S : Type 0} (a : Attempt S) (o : Op) (y : Answer) where
   check v e (op.Write ad w) f z g = goes a stays
   check v e op.Commit f z g = goes a stays
   check v e op.Cancel f z g = goes a stays
+  check v e (op.CancelOuter n) f z g = goes a stays
   check v e op.Irrevocable f z g = goes a stays
   check v e op.Release f z g = goes a stays
 
@@ -124,6 +125,7 @@ module _ {S : Type 0} (now : S) (a : Attempt S) (y : Answer) where
   operation e (op.Write ad v) = goes a _ y _ (works (record a { writes = put ad v a.writes }) refl refl refl e)
   operation e op.Commit = commit a op.Commit y e (ap (λ (q : Phase). phase_access a q op.Commit) e) a.inner refl a.kept refl a.writes refl
   operation e op.Cancel = cancel a op.Cancel y e a.inner a.kept
+  operation e (op.CancelOuter n) = cancel a (op.CancelOuter n) y e (drop (n - 1) a.inner) a.kept
   operation e op.Irrevocable = irrevocable a op.Irrevocable y e a.kept
   operation e op.Release = ends a op.Release y
 
@@ -137,6 +139,7 @@ module _ {S : Type 0} (now : S) (a : Attempt S) (y : Answer) where
   phase (Stores i) e (op.Read ad) = goes a _ y a stays
   phase (Stores i) e (op.Write ad v) = goes a _ y a stays
   phase (Stores i) e op.Cancel = goes a _ y a stays
+  phase (Stores i) e (op.CancelOuter n) = goes a _ y a stays
   phase (Stores i) e op.Irrevocable = goes a _ y a stays
   phase (Stores i) e op.Release = goes a _ y a stays
 

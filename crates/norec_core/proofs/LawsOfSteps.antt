@@ -1,5 +1,5 @@
 -- Each kind of step keeps to each law.
-use Rattle.std.proofs.Common.{◌≡◌, ◌==◌, ◌%◌, ◌+◌, ◌⊎◌, inl, inr, ℕ, suc, Bool, true, false, cond, List, [], ◌∷◌, ◌++◌, Option, None, Some, refl, sym, ◌∙◌, ap, subst, slice_get}
+use Rattle.std.proofs.Common.{◌≡◌, ◌==◌, ◌%◌, ◌+◌, ◌-◌, ◌⊎◌, inl, inr, ℕ, suc, Bool, true, false, cond, List, [], ◌∷◌, ◌++◌, Option, None, Some, refl, sym, ◌∙◌, ap, subst, drop, slice_get}
 use Rattle.std.proofs.lemmas.Bool.{eqb-true}
 use Rattle.norec_core.specs.declared.step.Op.{Op}
 use Rattle.norec_core.specs.declared.step.Op.TheVariants as op
@@ -110,6 +110,7 @@ module _ {S : Type 0} (a : Attempt S) where
   releases value AtOperation e (op.Write ad v) g = absurd (cc)
   releases value AtOperation e op.Commit g = commits_last op.Commit value (ap stored e) a.inner a.kept a.writes refl g
   releases value AtOperation e op.Cancel g = absurd (cc)
+  releases value AtOperation e (op.CancelOuter n) g = absurd (cc)
   releases value AtOperation e op.Irrevocable g = absurd (no_swap value a.kept g)
   releases value AtOperation e op.Release g = keeps_last value a.kept refl g
   releases value (ReadsLock v) e o g = absurd (cc)
@@ -171,10 +172,11 @@ module _ {S : Type 0} (now : S) (a : Attempt S) (y : Answer) where
   commits f [] g false h (p ∷ ps) w = swapped op.Commit _ _ y
   commits f (l ∷ ls) g kept h ws w = none op.Commit
 
-  cancels : core_access (Some a) op.Cancel ≡ Local → (inner : List (Checkpoint S)) (kept : Bool) → a.kept ≡ kept → Completes op.Cancel (core_cancel a inner kept)
-  cancels e [] false h = some op.Cancel _ (refl, refl, inr (refl, e, h, refl))
-  cancels e [] true h = none op.Cancel
-  cancels e (l ∷ ls) kept h = none op.Cancel
+  -- of one level or of several
+  cancels : (o : Op) → left_by o a.writes ≡ [] → core_access (Some a) o ≡ Local → (inner : List (Checkpoint S)) (kept : Bool) → a.kept ≡ kept → Completes o (core_cancel a inner kept)
+  cancels o nothing e [] false h = some o _ (refl, sym nothing, inr (refl, e, h, refl))
+  cancels o nothing e [] true h = none o
+  cancels o nothing e (l ∷ ls) kept h = none o
 
   irrevocables : (kept : Bool) → Completes op.Irrevocable (cond kept (on a outcome.Done) (core_swap a (record a { kept = true }) outcome.Done y))
   irrevocables true = none op.Irrevocable
@@ -189,7 +191,8 @@ module _ {S : Type 0} (now : S) (a : Attempt S) (y : Answer) where
   at_operation e (op.Read ad) = no_value _ (written ad a.writes)
   at_operation e (op.Write ad v) = none _
   at_operation e op.Commit = commits (ap (λ (q : Phase). phase_access a q op.Commit) e) a.inner refl a.kept refl a.writes refl
-  at_operation e op.Cancel = cancels (ap (λ (q : Phase). phase_access a q op.Cancel) e) a.inner a.kept refl
+  at_operation e op.Cancel = cancels op.Cancel refl (ap (λ (q : Phase). phase_access a q op.Cancel) e) a.inner a.kept refl
+  at_operation e (op.CancelOuter n) = cancels (op.CancelOuter n) refl (ap (λ (q : Phase). phase_access a q (op.CancelOuter n)) e) (drop (n - 1) a.inner) a.kept refl
   at_operation e op.Irrevocable = irrevocables a.kept
   at_operation e op.Release = some op.Release _ (traps (ap (λ (q : Phase). phase_access a q op.Release) e) a.kept refl)
 
@@ -202,6 +205,7 @@ module _ {S : Type 0} (now : S) (a : Attempt S) (y : Answer) where
   checks v o (op.Write ad w) z = none o
   checks v o op.Commit z = none o
   checks v o op.Cancel z = none o
+  checks v o (op.CancelOuter n) z = none o
   checks v o op.Irrevocable z = none o
   checks v o op.Release z = none o
 
@@ -231,6 +235,7 @@ module _ {S : Type 0} (now : S) (a : Attempt S) (y : Answer) where
   effective (Stores i) e (op.Read ad) = none _
   effective (Stores i) e (op.Write ad v) = none _
   effective (Stores i) e op.Cancel = none _
+  effective (Stores i) e (op.CancelOuter n) = none _
   effective (Stores i) e op.Irrevocable = none _
   effective (Stores i) e op.Release = none _
 
@@ -259,6 +264,7 @@ module _ {S : Type 0} where
   begins now b (op.Write ad v) y e = absurd (cc)
   begins now b op.Commit y e = absurd (cc)
   begins now b op.Cancel y e = absurd (cc)
+  begins now b (op.CancelOuter n) y e = absurd (cc)
   begins now b op.Irrevocable y e = absurd (cc)
   begins now b op.Release y e = absurd (cc)
 

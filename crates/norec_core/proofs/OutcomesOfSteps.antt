@@ -1,5 +1,5 @@
 -- What comes of a step: the attempt goes on, its transaction takes effect, or it is dropped.
-use Rattle.std.proofs.Common.{◌≡◌, ◌==◌, ◌%◌, ℕ, Bool, true, false, cond, List, [], ◌∷◌, Option, None, Some, refl, slice_get}
+use Rattle.std.proofs.Common.{◌≡◌, ◌==◌, ◌%◌, ◌-◌, ℕ, Bool, true, false, cond, List, [], ◌∷◌, Option, None, Some, refl, drop, slice_get}
 use Rattle.write_log.specs.Overlay.{written}
 use Rattle.norec_core.specs.declared.step.Op.{Op}
 use Rattle.norec_core.specs.declared.step.Op.TheVariants as op
@@ -81,6 +81,7 @@ module _ {S : Type 0} (now : S) (a : Attempt S) where
   operation (op.Write ad v) z = done _
   operation op.Commit z = commit a.inner a.kept a.writes z
   operation op.Cancel z = cancel a.inner a.kept
+  operation (op.CancelOuter n) z = cancel (drop (n - 1) a.inner) a.kept
   operation op.Irrevocable z = irrevocable a.kept z
   operation op.Release z = completes _ refl refl refl
 
@@ -93,6 +94,7 @@ module _ {S : Type 0} (now : S) (a : Attempt S) where
   check (op.Write ad w) v z = going a
   check op.Commit v z = going a
   check op.Cancel v z = going a
+  check (op.CancelOuter n) v z = going a
   check op.Irrevocable v z = going a
   check op.Release v z = going a
 
@@ -122,5 +124,6 @@ module _ {S : Type 0} (now : S) (a : Attempt S) where
   comes (Stores i) (op.Read ad) z = going a
   comes (Stores i) (op.Write ad v) z = going a
   comes (Stores i) op.Cancel z = going a
+  comes (Stores i) (op.CancelOuter n) z = going a
   comes (Stores i) op.Irrevocable z = going a
   comes (Stores i) op.Release z = going a

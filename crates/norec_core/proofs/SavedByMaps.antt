@@ -1,5 +1,6 @@
 -- A step of the core under a map of what a begin saves, by cases.
-use Rattle.std.proofs.Common.{◌≡◌, ◌==◌, ◌%◌, ℕ, suc, Bool, true, false, cond, List, [], ◌∷◌, ◌++◌, Option, None, Some, refl, slice_get, map}
+use Rattle.std.proofs.Common.{◌≡◌, ◌==◌, ◌%◌, ◌-◌, ◌∙◌, ℕ, suc, Bool, true, false, cond, List, [], ◌∷◌, ◌++◌, Option, None, Some, refl, ap, drop, slice_get, map}
+use Rattle.std.proofs.lemmas.List.{drop-map}
 use Rattle.write_log.specs.Overlay.{written}
 use Rattle.norec_core.specs.declared.step.Op.{Op}
 use Rattle.norec_core.specs.declared.step.Op.TheVariants as op
@@ -30,6 +31,7 @@ module _ {S T : Type 0} (f : S → T) where
   at_same a (op.Write ad v) = refl
   at_same a op.Commit = commit_same a a.inner a.kept a.writes
   at_same a op.Cancel = refl
+  at_same a (op.CancelOuter n) = refl
   at_same a op.Irrevocable = refl
   at_same a op.Release = refl
 
@@ -46,6 +48,7 @@ module _ {S T : Type 0} (f : S → T) where
   access_same None (op.Write ad v) = refl
   access_same None op.Commit = refl
   access_same None op.Cancel = refl
+  access_same None (op.CancelOuter n) = refl
   access_same None op.Irrevocable = refl
   access_same None op.Release = refl
   access_same (Some a) x = phase_same a a.phase x
@@ -99,6 +102,7 @@ module _ {S T : Type 0} (f : S → T) where
   operation now a (op.Write ad v) x = refl
   operation now a op.Commit x = commit a a.inner a.kept a.writes x
   operation now a op.Cancel x = cancel a a.inner a.kept
+  operation now a (op.CancelOuter n) x = ap (λ ls. core_cancel (seen a) ls a.kept) (drop-map (checkpoint_as f) (n - 1) a.inner) ∙ cancel a (drop (n - 1) a.inner) a.kept
   operation now a op.Irrevocable x = irrevocable a a.kept x
   operation now a op.Release x = refl
 
@@ -115,6 +119,7 @@ module _ {S T : Type 0} (f : S → T) where
   check a (op.Write ad w) v x = refl
   check a op.Commit v x = refl
   check a op.Cancel v x = refl
+  check a (op.CancelOuter n) v x = refl
   check a op.Irrevocable v x = refl
   check a op.Release v x = refl
 
@@ -144,6 +149,7 @@ module _ {S T : Type 0} (f : S → T) where
   phase now a (Stores i) (op.Read ad) x = refl
   phase now a (Stores i) (op.Write ad v) x = refl
   phase now a (Stores i) op.Cancel x = refl
+  phase now a (Stores i) (op.CancelOuter n) x = refl
   phase now a (Stores i) op.Irrevocable x = refl
   phase now a (Stores i) op.Release x = refl
 
@@ -159,6 +165,7 @@ module _ {S T : Type 0} (f : S → T) where
   step_same now None (op.Write ad v) y = refl
   step_same now None op.Commit y = refl
   step_same now None op.Cancel y = refl
+  step_same now None (op.CancelOuter n) y = refl
   step_same now None op.Irrevocable y = refl
   step_same now None op.Release y = refl
   step_same now (Some a) x y = phase now a a.phase x y

@@ -1,6 +1,6 @@
 //! The steps of an attempt, phase by phase: the access of each, and what comes of its answer.
 
-ghost use Rattle.std.specs.Prelude.{◌≡◌, ◌≢◌, ◌+◌, ◌^◌, ◌<◌, ◌≤◌, true, false, None, IfSome, OnOk, OnErr, OnSome, slice_get};
+ghost use Rattle.std.specs.Prelude.{◌≡◌, ◌≢◌, ◌+◌, ◌-◌, ◌^◌, ◌<◌, ◌≤◌, true, false, None, IfSome, OnOk, OnErr, OnSome, drop, slice_get};
 ghost use Rattle.write_log.specs.Overlay.{put, written};
 ghost use Rattle.norec_core.specs.Accesses.{stops};
 ghost use Rattle.norec_core.specs.Phases.{core_access, core_step, core_phase, core_operation, core_read, core_commit, core_cancel, core_store, core_swap, core_check, core_time, core_compare, operation_access, commit_access, entry_access, store_access};
@@ -400,6 +400,7 @@ impl<A: Allocator + Copy> Steps<A> {
             Op::Write(address, word) => self.logs.write(address, word),
             Op::Commit => return self.told_commit(answer),
             Op::Cancel => return self.told_cancel(),
+            Op::CancelOuter(levels) => return self.told_cancel_outer(levels),
             Op::Irrevocable => return self.told_irrevocable(answer),
             Op::Release => self.end(),
         }
@@ -479,6 +480,28 @@ impl<A: Allocator + Copy> Steps<A> {
         }
         self.logs.abort();
         self.end();
+        Outcome::Done
+    }
+
+    // A cancel of several levels, or of all that are open where these are fewer: the log and the lock as at a cancel of one.
+    #[inline(never)]
+    fn told_cancel_outer(&mut self, levels: u32) -> Outcome
+        requires { self.old.begun ≡ true }
+        ensures { IsStep (core_cancel self.old.attempt (drop (levels - 1) self.old.attempt.inner) self.old.attempt.kept) result self.new }
+    {
+        let inner = self.logs.depth();
+        let open = (levels as usize).min(inner.saturating_add(1));
+        if open < 2 {
+            return self.told_cancel();
+        }
+        let is_outermost = inner < open;
+        if is_outermost && self.logs.is_kept() {
+            return Outcome::Going;
+        }
+        self.logs.cancel_outer(open);
+        if is_outermost {
+            self.end();
+        }
         Outcome::Done
     }
 
