@@ -1,3 +1,5 @@
+-- what a cancel of several levels leaves of the inner begins
+pub mod Levels
 -- what holds of one part, and how it is carried over the steps of others
 pub mod parts
 -- each step of a thread keeps the invariant

@@ -153,7 +153,7 @@ pub fn a_holder_never_aborts<C>()
 {}
 
 /// What an event says of the step that it is told of: an abort dropped the attempt, and nothing took effect; a commit made a
-/// transaction take effect at a commit; a cancel cancelled an inner transaction, or an outermost one without the lock kept;
+/// transaction take effect at a commit; a cancel cancelled inner transactions, or an outermost one without the lock kept;
 /// a trap left a running thread trapped by that cause. And the other way round: no such step goes untold.
 pub fn events_tell<C>()
     ensures { (code : C → Effect C) (init : ℕ → C) (bounds : List ℕ) (m0 : Memory) (threads : ℕ) (steps : List ℕ) →

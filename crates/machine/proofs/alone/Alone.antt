@@ -1,5 +1,5 @@
 -- A thread that steps alone does what its meaning does.
-use Rattle.std.proofs.Common.{◌≡◌, ◌≤◌, ◌+◌, ◌*◌, ◌%◌, ◌⊎◌, inl, inr, ℕ, zero, suc, Bool, true, false, List, [], ◌∷◌, ◌++◌, Option, None, Some, refl, sym, ◌∙◌, ap, subst, length, slice_get, slice_index, zero-add, suc-add, append_assoc, append-nil, arith}
+use Rattle.std.proofs.Common.{◌≡◌, ◌≤◌, ◌+◌, ◌-◌, ◌*◌, ◌%◌, ◌⊎◌, inl, inr, ℕ, zero, suc, Bool, true, false, List, [], ◌∷◌, ◌++◌, Option, None, Some, refl, sym, ◌∙◌, ap, subst, length, drop, slice_get, slice_index, zero-add, suc-add, append_assoc, append-nil, arith}
 use Rattle.std.specs.List.{AllByRecursion}
 use Rattle.std.proofs.lemmas.Bool.{eq-eqb}
 use Rattle.syntax.specs.declared.numbers.Status.{Status}
@@ -7,7 +7,7 @@ use Rattle.syntax.specs.declared.numbers.Status.TheVariants.{Running, Ended as H
 use Rattle.syntax.specs.declared.numbers.Trap.{Trap}
 use Rattle.write_log.specs.Overlay.{IsDistinct, overlay, put, written}
 use Rattle.bytecode.specs.Effects.{Effect, FitsCells, after_cancel}
-use Rattle.bytecode.specs.Effects.Effect.{Begin, Cancel, Commit, End, Irrevocable, Print, Pure, Read, Traps, Write}
+use Rattle.bytecode.specs.Effects.Effect.{Begin, Cancel, CancelOuter, Commit, End, Irrevocable, Print, Pure, Read, Traps, Write}
 use Rattle.bytecode.specs.Sequential.{InnerTransaction, OpenTransaction, Sequential, cancel_step, commit_step, end_of, found_next, inside_step, next, outside, outside_step, print_step, sequential_step, start, steps}
 use Rattle.norec_core.specs.Attempts.{Attempt, Checkpoint}
 use Rattle.norec_core.specs.declared.step.Phase.{Phase}
@@ -16,6 +16,8 @@ use Rattle.machine.specs.Alone.{IsOver}
 use Rattle.machine.specs.inner.Invariant.{inners_of, inside, inside_of}
 use Rattle.machine.specs.Threads.{Thread, access_of, told_of}
 use Rattle.machine.specs.Worlds.{answer, lock_after, words_after}
+use Rattle.machine.proofs.Levels.{all_left}
+use Rattle.machine.proofs.parts.Meaning.{outer_cancelled}
 use Rattle.write_log.proofs.Overlay.{distinct-put, length-overlay, not_written, overlay-append, overlay-other, overlay-put, overlay-written}
 
 get_seam : (xs ys : List (ℕ × ℕ)) (y : ℕ × ℕ) → slice_get (xs ++ y ∷ ys) (length xs) ≡ Some y
@@ -233,6 +235,13 @@ module _ {C : Type 0} (code : C → Effect C) (bounds : List ℕ) (fits : FitsCe
     cancelling true [] ex ei = stays_at true _ (rw ei refl)
     cancelling false [] ex ei = leaves false _ (after_cancel (code saved) saved) Running snapshot words (once _ _ Cancel ex (rw ei refl)) even (omega arith) sized (rw ei refl)
 
+    outer_cancelling : (levels : ℕ) (kept : Bool) (ls : List (Checkpoint C)) → code c ≡ CancelOuter levels → drop (levels - 1) inner ≡ ls → Does kept (CancelOuter levels)
+    outer_cancelling levels kept (l ∷ ls) ex ei =
+        let ms = subst (AllByRecursion (λ (k : Checkpoint C). IsDistinct k.writes)) ei (all_left (λ (k : Checkpoint C). IsDistinct k.writes) (levels - 1) inner marks) in
+        within kept _ (after_cancel (code l.saved) l.saved) text reads l.writes ls kept (once _ _ (CancelOuter levels) ex (rw ei refl)) ms.0 ms.1 (outer_cancelled code _ words saved writes inner (l ∷ ls) kept levels ei)
+    outer_cancelling levels true [] ex ei = stays_at true _ (outer_cancelled code _ words saved writes inner [] true levels ei)
+    outer_cancelling levels false [] ex ei = leaves false _ (after_cancel (code saved) saved) Running snapshot words (once _ _ (CancelOuter levels) ex (rw ei refl)) even (omega arith) sized (outer_cancelled code _ words saved writes inner [] false levels ei)
+
     printing : (kept : Bool) (piece : List ℕ) (e : C) → code c ≡ Print piece e → Does kept (Print piece e)
     printing true piece e ex = within true _ e (text ++ piece) reads writes inner true (once _ _ (Print piece e) ex refl) distinct marks refl
     printing false piece e ex = stays_at false _ refl
@@ -256,6 +265,7 @@ module _ {C : Type 0} (code : C → Effect C) (bounds : List ℕ) (fits : FitsCe
         (ap (λ w. inside e (record { cancelled = after_cancel (code saved) saved; found = words; mem = w; inner = inners_of code words inner; kept = kept }) founds lefts text) (sym (overlay-put words ad v writes distinct)))
     in_step kept (Commit e) ex = committing kept e inner writes ex refl refl
     in_step kept Cancel ex = cancelling kept inner ex refl
+    in_step kept (CancelOuter levels) ex = outer_cancelling levels kept (drop (levels - 1) inner) ex refl
     in_step kept (Irrevocable e) ex = taking kept e ex
     in_step kept (Traps cause) ex = trapping kept cause ex
     in_step kept End ex = stays_at kept _ refl
@@ -269,18 +279,19 @@ module _ {C : Type 0} (code : C → Effect C) (bounds : List ℕ) (fits : FitsCe
       begin (f ∷ fs) = ([], sym (append-nil r.lefts))
   outside_grows r x = ([], sym (append-nil r.lefts))
 
+  cancel_grows : (r : Sequential C) (i : OpenTransaction C) (ls : List (InnerTransaction C)) (b : Bool) → (more : List (List ℕ)) × ((cancel_step r i ls b).lefts ≡ r.lefts ++ more)
+  cancel_grows r i [] false = (i.found ∷ [], refl)
+  cancel_grows r i [] true = ([], sym (append-nil r.lefts))
+  cancel_grows r i (l ∷ ls) b = ([], sym (append-nil r.lefts))
+
   inside_grows : (r : Sequential C) (i : OpenTransaction C) (x : Effect C) → (more : List (List ℕ)) × ((inside_step r i x).lefts ≡ r.lefts ++ more)
   inside_grows r i (Commit c) = commit i.inner
     where
       commit : (ls : List (InnerTransaction C)) → (more : List (List ℕ)) × ((commit_step r i c ls).lefts ≡ r.lefts ++ more)
       commit [] = (i.mem ∷ [], refl)
       commit (l ∷ ls) = ([], sym (append-nil r.lefts))
-  inside_grows r i Cancel = cancel i.inner i.kept
-    where
-      cancel : (ls : List (InnerTransaction C)) (b : Bool) → (more : List (List ℕ)) × ((cancel_step r i ls b).lefts ≡ r.lefts ++ more)
-      cancel [] false = (i.found ∷ [], refl)
-      cancel [] true = ([], sym (append-nil r.lefts))
-      cancel (l ∷ ls) b = ([], sym (append-nil r.lefts))
+  inside_grows r i Cancel = cancel_grows r i i.inner i.kept
+  inside_grows r i (CancelOuter levels) = cancel_grows r i (drop (levels - 1) i.inner) i.kept
   inside_grows r i (Print piece c) = print i.kept
     where
       print : (b : Bool) → (more : List (List ℕ)) × ((print_step r piece c b).lefts ≡ r.lefts ++ more)

@@ -59,6 +59,7 @@ module _ {C : Type 0} (a : Attempt C) (from : ℕ) where
   operation_swaps (op.Write ad v) e = absurd (cc)
   operation_swaps op.Commit e = commit_swaps a.inner a.kept a.writes e
   operation_swaps op.Cancel e = absurd (cc)
+  operation_swaps (op.CancelOuter levels) e = absurd (cc)
   operation_swaps op.Irrevocable e = irrevocable_swaps a.kept e
   operation_swaps op.Release e = release_swaps a.kept e
 

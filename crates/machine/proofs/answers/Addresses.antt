@@ -1,5 +1,5 @@
 -- The addresses in an attempt's logs are cells, so a thread loads and stores cells alone.
-use Rattle.std.proofs.Common.{◌≡◌, ◌<◌, ◌==◌, ◌%◌, ℕ, zero, suc, Bool, true, false, cond, List, [], ◌∷◌, Option, None, Some, refl, subst, length, slice_get}
+use Rattle.std.proofs.Common.{◌≡◌, ◌-◌, ◌<◌, ◌==◌, ◌%◌, ℕ, zero, suc, Bool, true, false, cond, List, [], ◌∷◌, Option, None, Some, refl, subst, length, slice_get, drop}
 use Rattle.std.specs.List.{AllByRecursion}
 use Rattle.syntax.specs.declared.numbers.Status.{Status}
 use Rattle.syntax.specs.declared.numbers.Status.TheVariants.{Running, Ended as HasEnded, Trapped as HasTrapped}
@@ -20,6 +20,7 @@ use Rattle.norec_core.specs.declared.step.Phase.{Phase}
 use Rattle.norec_core.specs.declared.step.Phase.TheVariants.{AtOperation, ReadsLock, Stores, ValidatesEntry, ValidatesTime}
 use Rattle.machine.specs.Addresses.{AccessFits, AreCells, LogsFit, LogsFitIf}
 use Rattle.machine.specs.Threads.{Thread, access, access_of, inside_access, op_of, outside_access, own_step, print_inside, told, told_inside, told_of, told_outside, told_running}
+use Rattle.machine.proofs.Levels.{all_left}
 use Rattle.machine.proofs.parts.Part.{each_append}
 
 abbrev OpFits : ℕ → Op → Type 0
@@ -88,6 +89,7 @@ module _ {C : Type 0} (cells : ℕ) where
     operation_fits (op.Write ad v) answer fit = record { reads = f.reads; writes = put_cells cells ad v a.writes fit f.writes; marks = f.marks }
     operation_fits op.Commit answer fit = commit_fits a.inner a.kept a.writes answer f.marks
     operation_fits op.Cancel answer fit = cancel_fits a.inner a.kept f.marks
+    operation_fits (op.CancelOuter levels) answer fit = cancel_fits (drop (levels - 1) a.inner) a.kept (all_left (λ (k : Checkpoint C). AreCells cells k.writes) (levels - 1) a.inner f.marks)
     operation_fits op.Irrevocable answer fit = either a.kept _ _ f (irrevocable_fits a.kept answer)
     operation_fits op.Release answer fit = tt
 
@@ -143,6 +145,7 @@ module _ {C : Type 0} (cells : ℕ) where
     operation_cell (op.Write ad v) fit = tt
     operation_cell op.Commit fit = commit_cell a.inner a.kept a.writes f.writes
     operation_cell op.Cancel fit = tt
+    operation_cell (op.CancelOuter levels) fit = tt
     operation_cell op.Irrevocable fit = kept_cell a.kept Local (Swap a.snapshot) tt tt
     operation_cell op.Release fit = kept_cell a.kept (StoreLock (Rattle.std.specs.Prelude.◌+◌ a.snapshot 2)) Local tt tt
 

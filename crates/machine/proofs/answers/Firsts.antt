@@ -1,5 +1,5 @@
 -- An attempt keeps its first snapshot, which was answered to a load of the lock when it began.
-use Rattle.std.proofs.Common.{◌≡◌, ◌≤◌, ◌==◌, ◌%◌, inl, inr, ℕ, Bool, true, false, cond, List, [], ◌∷◌, ◌++◌, Option, None, Some, refl, sym, ◌∙◌, ap, subst, slice_get}
+use Rattle.std.proofs.Common.{◌≡◌, ◌-◌, ◌≤◌, ◌==◌, ◌%◌, inl, inr, ℕ, Bool, true, false, cond, List, [], ◌∷◌, ◌++◌, Option, None, Some, refl, sym, ◌∙◌, ap, subst, slice_get, drop}
 use Rattle.syntax.specs.declared.numbers.Status.{Status}
 use Rattle.syntax.specs.declared.numbers.Status.TheVariants.{Running, Ended as HasEnded, Trapped as HasTrapped}
 use Rattle.write_log.specs.Overlay.{written}
@@ -68,6 +68,7 @@ module _ {C : Type 0} (now : C) (a : Attempt C) where
   operation_same (op.Write ad v) answer = refl
   operation_same op.Commit answer = commit_same a.inner a.kept a.writes answer
   operation_same op.Cancel answer = cancel_same a.inner a.kept
+  operation_same (op.CancelOuter levels) answer = cancel_same (drop (levels - 1) a.inner) a.kept
   operation_same op.Irrevocable answer = either a.kept _ _ refl (swap_same (record a { kept = true }) outcome.Done answer refl)
   operation_same op.Release answer = tt
 

@@ -1,5 +1,5 @@
 -- A step whose access gives no value sets no snapshot, so a local step depends on the thread's part alone.
-use Rattle.std.proofs.Common.{◌≡◌, ℕ, Bool, true, false, cond, List, [], ◌∷◌, Option, None, Some, refl, sym, ◌∙◌, ap, slice_get}
+use Rattle.std.proofs.Common.{◌≡◌, ◌-◌, ℕ, Bool, true, false, cond, List, [], ◌∷◌, Option, None, Some, refl, sym, ◌∙◌, ap, slice_get, drop}
 use Rattle.syntax.specs.declared.numbers.Status.{Status}
 use Rattle.syntax.specs.declared.numbers.Status.TheVariants.{Running, Ended as HasEnded, Trapped as HasTrapped}
 use Rattle.write_log.specs.Overlay.{written}
@@ -50,6 +50,7 @@ module _ {C : Type 0} (now : C) (a : Attempt C) where
   operation_quiet (op.Write ad v) = refl
   operation_quiet op.Commit = commit_quiet a.inner a.kept a.writes
   operation_quiet op.Cancel = cancel_quiet a.inner a.kept
+  operation_quiet (op.CancelOuter levels) = cancel_quiet (drop (levels - 1) a.inner) a.kept
   operation_quiet op.Irrevocable = either a.kept _ _ refl refl
   operation_quiet op.Release = refl
 

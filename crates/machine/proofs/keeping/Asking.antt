@@ -97,6 +97,7 @@ module _ (code : Code) (c : Configuration) where
   writes (doing.Begin to) k t o h e = let s : op.Begin ≡ o = cc in subst WritesWord s tt
   writes doing.Commit k t o h e = let s : op.Commit ≡ o = cc in subst WritesWord s tt
   writes doing.Cancel k t o h e = let s : op.Cancel ≡ o = cc in subst WritesWord s tt
+  writes (doing.CancelOuter levels) k t o h e = let s : op.CancelOuter levels ≡ o = cc in subst WritesWord s tt
   writes doing.Irrevocable k t o h e = let s : op.Irrevocable ≡ o = cc in subst WritesWord s tt
   writes (doing.Traps cause) true true o h e = let s : op.Release ≡ o = cc in subst WritesWord s tt
   writes (doing.Traps cause) false t o h e = let s : op.Release ≡ o = cc in subst WritesWord s tt

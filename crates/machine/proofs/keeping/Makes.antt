@@ -1,11 +1,11 @@
 -- Each step of a kept thread makes the machine's step.
-use Rattle.std.proofs.Common.{◌≡◌, ◌≢◌, false, List, [], ◌∷◌, ◌++◌, Option, None, Some, refl, sym, ◌∙◌, ap, subst}
+use Rattle.std.proofs.Common.{◌≡◌, ◌≢◌, true, false, List, [], ◌∷◌, ◌++◌, Option, None, Some, refl, sym, ◌∙◌, ap, subst}
 use Rattle.std.specs.Prelude.{IfSome}
 use Rattle.syntax.specs.declared.numbers.Status.{Status}
 use Rattle.syntax.specs.declared.numbers.Status.TheVariants.{Running, Ended as HasEnded, Trapped as HasTrapped}
 use Rattle.nesting.specs.Begins.{Saved}
 use Rattle.bytecode.specs.Effects.{Effect}
-use Rattle.bytecode.specs.Effects.Effect.{Pure, Print, Commit, Cancel, End}
+use Rattle.bytecode.specs.Effects.Effect.{Pure, Print, Commit, Cancel, CancelOuter, End}
 use Rattle.bytecode.specs.Code.{Code, Configuration, effect}
 use Rattle.frames.specs.Open.{MayStand, AreRestored, restored, saved_in, BeginsStayOpen, CanRestore}
 use Rattle.norec_core.specs.declared.step.Op.{Op}
@@ -21,23 +21,25 @@ use Rattle.machine.specs.Threads.{Thread, Next, told, resumed, resume, status_af
 use Rattle.machine.specs.Standing.{begins_of, GivesWordsIf}
 use Rattle.machine.specs.States.{asks_by, IsWordOf}
 use Rattle.machine.specs.inner.Kept.{Kept, shown_from, shown, AreWithin, RunsKept, KeptBy, back_done, back_by, MayGoBack, event_by, event_done, commit_told, Makes}
-use Rattle.machine.proofs.keeping.Operations.{Does, is_plain, tells_commit, WritesWord, does}
+use Rattle.machine.proofs.keeping.Operations.{Does, is_cancel, is_plain, cancels_so, plain_stays, tells_commit, WritesWord, does}
 use Rattle.machine.proofs.keeping.Operations.Does.{goes, reads, works, begins, commits, cancels, drops, releases}
 use Rattle.machine.proofs.keeping.Seen.{agree}
 use Rattle.machine.proofs.keeping.Steps.{Matches, matches, told_asked, core_shown, Leaves, leaves}
 
 module _ (x : Effect Configuration) (o : Op) (q : Matches x o) where
   -- only a cancel goes back where it is done
-  no_back : (y : Effect Configuration) (b : Configuration) → Matches y o → o ≢ op.Cancel → back_done y b ≡ None
-  no_back Cancel b m h = absurd (h m)
+  no_back : (y : Effect Configuration) (b : Configuration) → Matches y o → is_cancel o ≡ false → back_done y b ≡ None
+  no_back Cancel b m h = let z : is_cancel o ≡ true = ap is_cancel m in absurd (cc)
+  no_back (CancelOuter levels) b m h = let z : is_cancel o ≡ true = ap is_cancel m in absurd (cc)
   no_back y b m h = refl
 
-  is_back : (y : Effect Configuration) (b : Configuration) → Matches y o → o ≡ op.Cancel → back_done y b ≡ Some b
+  is_back : (y : Effect Configuration) (b : Configuration) → Matches y o → is_cancel o ≡ true → back_done y b ≡ Some b
   is_back Cancel b m h = refl
+  is_back (CancelOuter levels) b m h = refl
   is_back (Pure c) b m h = absurd m
   is_back (Print p c) b m h = absurd m
   is_back End b m h = absurd m
-  is_back y b m h = absurd (cc)
+  is_back y b m h = let z : is_cancel o ≡ false = ap is_cancel m in absurd (cc)
 
   no_commit : (y : Effect Configuration) (att : Option (Attempt Saved)) (z : Option Completed) → Matches y o → o ≢ op.Commit → event_done y att ≡ done_event y z
   no_commit (Commit c) att z m h = absurd (h m)
@@ -63,12 +65,12 @@ module _ (x : Effect Configuration) (o : Op) (q : Matches x o) where
     pub backs : Does s ss o n → IfSome n.back (λ z. kept ≡ z) → back_by x n.outcome (restored c kept) ≡ if_some (restored c) n.back
     backs (goes e f b w) h = backs_at outcome.Going None e f refl
     backs (reads v r lt e f b w) h = backs_at (outcome.Read v) None e f refl
-    backs (works r e f b w) h = backs_at outcome.Done None e f (no_back x (restored c kept) q (λ g. let z : is_plain o ≡ false = ap is_plain g in cc))
-    backs (begins r e f b w) h = backs_at outcome.Done None e f (no_back x (restored c kept) q (λ g. cc))
-    backs (commits t r e f b w d) h = backs_at outcome.Done None e f (no_back x (restored c kept) q (λ g. cc))
-    backs (cancels t r e f b w) h = backs_at outcome.Done (Some t) e f (is_back x (restored c kept) q r ∙ ap (λ (z : Saved). Some (restored c z)) (same_kept t f h))
+    backs (works r e f b w) h = backs_at outcome.Done None e f (no_back x (restored c kept) q (plain_stays o r))
+    backs (begins r e f b w) h = backs_at outcome.Done None e f (no_back x (restored c kept) q (ap is_cancel r))
+    backs (commits t r e f b w d) h = backs_at outcome.Done None e f (no_back x (restored c kept) q (ap is_cancel r))
+    backs (cancels inner t r e f b w) h = backs_at outcome.Done (Some t) e f (is_back x (restored c kept) q (cancels_so o _ _ r) ∙ ap (λ (z : Saved). Some (restored c z)) (same_kept t f h))
     backs (drops inner t e f b a) h = backs_at outcome.Aborted (Some t) e f (ap (λ (z : Saved). Some (restored c z)) (same_kept t f h))
-    backs (releases r e f a) h = backs_at outcome.Done None e f (no_back x (restored c kept) q (λ g. cc))
+    backs (releases r e f a) h = backs_at outcome.Done None e f (no_back x (restored c kept) q (ap is_cancel r))
 
     events_at : (r : Outcome) → n.outcome ≡ r → event_by x r n.attempt ≡ event_of x r n.completed → event_by x n.outcome n.attempt ≡ event_of x n.outcome n.completed
     events_at r e h = ap (λ (z : Outcome). event_by x z n.attempt) e ∙ h ∙ sym (ap (λ (z : Outcome). event_of x z n.completed) e)
@@ -79,7 +81,7 @@ module _ (x : Effect Configuration) (o : Op) (q : Matches x o) where
     events (works r e f b w) = events_at outcome.Done e (no_commit x n.attempt n.completed q (λ g. let z : is_plain o ≡ false = ap is_plain g in cc))
     events (begins r e f b w) = events_at outcome.Done e (no_commit x n.attempt n.completed q (λ g. cc))
     events (commits t r e f b w d) = events_at outcome.Done e (is_commit x n.attempt n.completed q d r)
-    events (cancels t r e f b w) = events_at outcome.Done e (no_commit x n.attempt n.completed q (λ g. cc))
+    events (cancels inner t r e f b w) = events_at outcome.Done e (no_commit x n.attempt n.completed q (λ g. let y : is_cancel o ≡ true = cancels_so o _ _ r in let z : is_cancel o ≡ false = ap is_cancel g in cc))
     events (drops inner t e f b a) = events_at outcome.Aborted e refl
     events (releases r e f a) = events_at outcome.Done e (no_commit x n.attempt n.completed q (λ g. cc))
 
@@ -150,7 +152,7 @@ module _ (code : Code) (law : BeginsStayOpen code) where
         at (works r e f b w) = none f
         at (begins r e f b w) = none f
         at (commits t r e f b w z) = none f
-        at (cancels t r e f b w) = open_at [] t (begins_of n.attempt) b f
+        at (cancels inner t r e f b w) = open_at inner t (begins_of n.attempt) b f
         at (drops inner t e f b a) = open_at inner t [] b f
         at (releases r e f a) = none f
 

@@ -1,5 +1,6 @@
 -- What a step of the core does with the begins that are open and with the words of its logs, by what comes of the operation.
-use Rattle.std.proofs.Common.{◌≡◌, ◌≢◌, ◌<◌, ◌^◌, ◌==◌, ◌%◌, ℕ, suc, Bool, true, false, cond, List, [], ◌∷◌, ◌++◌, Option, None, Some, refl, sym, ◌∙◌, ap, subst, slice_get, map}
+use Rattle.std.proofs.Common.{◌≡◌, ◌≢◌, ◌<◌, ◌≤◌, ◌-◌, ◌^◌, ◌==◌, ◌%◌, ℕ, suc, Bool, true, false, cond, List, [], ◌∷◌, ◌++◌, Option, None, Some, refl, sym, ◌∙◌, ap, subst, slice_get, map, length, take, drop, append_assoc, take-append-drop, length-append, length-take-le, arith}
+use Rattle.std.proofs.lemmas.List.{length-map, map-append}
 use Rattle.std.specs.List.{AllByRecursion}
 use Rattle.write_log.specs.Overlay.{written, put}
 use Rattle.norec_core.specs.declared.step.Op.{Op}
@@ -15,6 +16,7 @@ use Rattle.norec_core.specs.Attempts.{Checkpoint, Attempt, Completed}
 use Rattle.norec_core.specs.Phases.{CoreStep, on, on_snapshot, validating, idle, core_word, core_read, core_store, core_swap, core_commit, core_cancel, core_operation, core_check, core_time, core_compare, core_phase, core_begin, core_step, core_access, phase_access, operation_access, read_access}
 use Rattle.machine.specs.Standing.{begins_of, HaveWords, HasInHand, GivesWords, GivesWordsIf}
 use Rattle.machine.specs.States.{IsWordOf}
+use Rattle.machine.proofs.Levels.{all_left}
 
 -- operations that leave the begins as they are
 abbrev pub is_plain : Op → Bool
@@ -25,6 +27,27 @@ is_plain _ = false
 abbrev pub is_read : Op → Bool
 is_read (op.Read a) = true
 is_read _ = false
+
+abbrev pub is_cancel : Op → Bool
+is_cancel op.Cancel = true
+is_cancel (op.CancelOuter levels) = true
+is_cancel _ = false
+
+-- of so many begins that are open a cancel takes away so many inside the one that it goes back to
+abbrev pub TakesAway : Op → (inner all : ℕ) → Type 0
+TakesAway op.Cancel inner all = inner ≡ 0
+TakesAway (op.CancelOuter levels) inner all = levels ≤ all → inner ≡ levels - 1
+TakesAway _ inner all = ⊥
+
+pub cancels_so : (o : Op) (inner all : ℕ) → TakesAway o inner all → is_cancel o ≡ true
+cancels_so op.Cancel inner all h = refl
+cancels_so (op.CancelOuter levels) inner all h = refl
+cancels_so _ inner all h = absurd h
+
+pub plain_stays : (o : Op) → is_plain o ≡ true → is_cancel o ≡ false
+plain_stays (op.Write a v) h = refl
+plain_stays op.Irrevocable h = refl
+plain_stays _ h = absurd (cc)
 
 -- a word that an operation writes
 abbrev pub WritesWord : Op → Type 0
@@ -41,7 +64,7 @@ pub data Does {S : Type 0} (now : S) (old : List S) (o : Op) (n : CoreStep S) : 
   works : is_plain o ≡ true → n.outcome ≡ outcome.Done → n.back ≡ None → begins_of n.attempt ≡ old → GivesWordsIf n.attempt → Does now old o n
   begins : o ≡ op.Begin → n.outcome ≡ outcome.Done → n.back ≡ None → begins_of n.attempt ≡ now ∷ old → GivesWordsIf n.attempt → Does now old o n
   commits : (s : S) → o ≡ op.Commit → n.outcome ≡ outcome.Done → n.back ≡ None → old ≡ s ∷ begins_of n.attempt → GivesWordsIf n.attempt → tells_commit n.attempt n.completed → Does now old o n
-  cancels : (s : S) → o ≡ op.Cancel → n.outcome ≡ outcome.Done → n.back ≡ Some s → old ≡ s ∷ begins_of n.attempt → GivesWordsIf n.attempt → Does now old o n
+  cancels : (inner : List S) (s : S) → TakesAway o (length inner) (length old) → n.outcome ≡ outcome.Done → n.back ≡ Some s → old ≡ inner ++ s ∷ begins_of n.attempt → GivesWordsIf n.attempt → Does now old o n
   drops : (inner : List S) (s : S) → n.outcome ≡ outcome.Aborted → n.back ≡ Some s → old ≡ inner ++ s ∷ [] → n.attempt ≡ None → Does now old o n
   releases : o ≡ op.Release → n.outcome ≡ outcome.Done → n.back ≡ None → n.attempt ≡ None → Does now old o n
 
@@ -139,12 +162,31 @@ module _ {S : Type 0} (now : S) (a : Attempt S) (w : GivesWords a) where
   commit [] false (p ∷ ps) z e q = swap op.Commit (record a { phase = Stores 0 }) outcome.Going z (going op.Commit (record a { phase = Stores 0 }) (in_phase op.Commit (Stores 0) e))
   commit (l ∷ ls) kept ws z e q = commits l.saved refl refl refl (ap (λ (ks : List (Checkpoint S)). map (λ (k : Checkpoint S). k.saved) ks ++ a.saved ∷ []) e) (record { writes = w.writes; marks = (subst (AllByRecursion (λ (k : Checkpoint S). HaveWords k.writes)) e w.marks).1; in_hand = hand ls q }) refl
 
-  cancel : (inner : List (Checkpoint S)) (kept : Bool) → a.inner ≡ inner → a.phase ≡ AtOperation → Does now old op.Cancel (core_cancel a inner kept)
-  cancel [] false e q = cancels a.saved refl refl refl (ends [] e refl) tt
-  cancel [] true e q = stays op.Cancel
-  cancel (l ∷ ls) kept e q =
-      let m = subst (AllByRecursion (λ (k : Checkpoint S). HaveWords k.writes)) e w.marks in
-      cancels l.saved refl refl refl (ap (λ (ks : List (Checkpoint S)). map (λ (k : Checkpoint S). k.saved) ks ++ a.saved ∷ []) e) (record { writes = m.0; marks = m.1; in_hand = hand ls q })
+  -- the first inner begins
+  abbrev first_begins : ℕ → List S
+  first_begins d = map (λ (k : Checkpoint S). k.saved) (take d a.inner)
+
+  opens : (d : ℕ) (inner : List (Checkpoint S)) → drop d a.inner ≡ inner → old ≡ first_begins d ++ (map (λ (k : Checkpoint S). k.saved) inner ++ a.saved ∷ [])
+  opens d inner e =
+      let all : a.inner ≡ take d a.inner ++ inner = sym (take-append-drop d a.inner) ∙ ap (λ (ks : List (Checkpoint S)). take d a.inner ++ ks) e in
+      ap (λ (ks : List (Checkpoint S)). map (λ (k : Checkpoint S). k.saved) ks ++ a.saved ∷ []) all
+      ∙ ap (λ (ss : List S). ss ++ a.saved ∷ []) (map-append (λ (k : Checkpoint S). k.saved) (take d a.inner) inner)
+      ∙ append_assoc (first_begins d) (map (λ (k : Checkpoint S). k.saved) inner) (a.saved ∷ [])
+
+  -- where so many are open, so many of them are inner ones
+  takes : (levels : ℕ) → levels ≤ length old → length (first_begins (levels - 1)) ≡ levels - 1
+  takes levels le =
+      let all = length-append (map (λ (k : Checkpoint S). k.saved) a.inner) (a.saved ∷ []) in
+      let inner = length-map a.inner (λ (k : Checkpoint S). k.saved) in
+      length-map (take (levels - 1) a.inner) (λ (k : Checkpoint S). k.saved) ∙ length-take-le (levels - 1) a.inner (omega (arith, le, all, inner))
+
+  -- a cancel that leaves these inner begins
+  cancel : (o : Op) (d : ℕ) (inner : List (Checkpoint S)) (kept : Bool) → drop d a.inner ≡ inner → a.phase ≡ AtOperation → TakesAway o (length (first_begins d)) (length old) → Does now old o (core_cancel a inner kept)
+  cancel o d [] false e q t = cancels (first_begins d) a.saved t refl refl (opens d [] e) tt
+  cancel o d [] true e q t = stays o
+  cancel o d (l ∷ ls) kept e q t =
+      let m = subst (AllByRecursion (λ (k : Checkpoint S). HaveWords k.writes)) e (all_left (λ (k : Checkpoint S). HaveWords k.writes) d a.inner w.marks) in
+      cancels (first_begins d) l.saved t refl refl (opens d (l ∷ ls) e) (record { writes = m.0; marks = m.1; in_hand = hand ls q })
 
   irrevocable : (kept : Bool) (z : Answer) → Does now old op.Irrevocable (cond kept (on a outcome.Done) (core_swap a (record a { kept = true }) outcome.Done z))
   irrevocable true z = works refl refl refl refl w
@@ -155,7 +197,8 @@ module _ {S : Type 0} (now : S) (a : Attempt S) (w : GivesWords a) where
   operation (op.Read ad) z q g h = read ad (written ad a.writes) z refl h
   operation (op.Write ad v) z q g h = works refl refl refl refl (record { writes = put_words ad v a.writes g w.writes; marks = w.marks; in_hand = w.in_hand })
   operation op.Commit z q g h = commit a.inner a.kept a.writes z refl q
-  operation op.Cancel z q g h = cancel a.inner a.kept refl q
+  operation op.Cancel z q g h = cancel op.Cancel 0 a.inner a.kept refl q refl
+  operation (op.CancelOuter levels) z q g h = cancel (op.CancelOuter levels) (levels - 1) (drop (levels - 1) a.inner) a.kept refl q (takes levels)
   operation op.Irrevocable z q g h = irrevocable a.kept z
   operation op.Release z q g h = releases refl refl refl refl
 
@@ -168,6 +211,7 @@ module _ {S : Type 0} (now : S) (a : Attempt S) (w : GivesWords a) where
   check (op.Write ad x) v z h = stays (op.Write ad x)
   check op.Commit v z h = stays op.Commit
   check op.Cancel v z h = stays op.Cancel
+  check (op.CancelOuter levels) v z h = stays (op.CancelOuter levels)
   check op.Irrevocable v z h = stays op.Irrevocable
   check op.Release v z h = stays op.Release
 
@@ -181,6 +225,7 @@ module _ {S : Type 0} (now : S) (a : Attempt S) (w : GivesWords a) where
   phase (Stores i) (op.Read ad) z e g h = stays (op.Read ad)
   phase (Stores i) (op.Write ad v) z e g h = stays (op.Write ad v)
   phase (Stores i) op.Cancel z e g h = stays op.Cancel
+  phase (Stores i) (op.CancelOuter levels) z e g h = stays (op.CancelOuter levels)
   phase (Stores i) op.Irrevocable z e g h = stays op.Irrevocable
   phase (Stores i) op.Release z e g h = stays op.Release
 
@@ -205,6 +250,7 @@ module _ {S : Type 0} (now : S) where
   outside (op.Write ad v) z = still (op.Write ad v)
   outside op.Commit z = still op.Commit
   outside op.Cancel z = still op.Cancel
+  outside (op.CancelOuter levels) z = still (op.CancelOuter levels)
   outside op.Irrevocable z = still op.Irrevocable
   outside op.Release z = still op.Release
 

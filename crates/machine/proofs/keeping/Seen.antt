@@ -104,6 +104,7 @@ module _ {S : Type 0} (now new : S) where
       at AtOperation (op.Write ad v) ne = refl
       at AtOperation op.Commit ne = refl
       at AtOperation op.Cancel ne = refl
+      at AtOperation (op.CancelOuter levels) ne = refl
       at AtOperation op.Irrevocable ne = refl
       at AtOperation op.Release ne = refl
       at (ReadsLock v) x ne = refl
@@ -114,6 +115,7 @@ module _ {S : Type 0} (now new : S) where
       at (Stores i) (op.Read ad) ne = refl
       at (Stores i) (op.Write ad v) ne = refl
       at (Stores i) op.Cancel ne = refl
+      at (Stores i) (op.CancelOuter levels) ne = refl
       at (Stores i) op.Irrevocable ne = refl
       at (Stores i) op.Release ne = refl
   now_unused o x y ne = refl

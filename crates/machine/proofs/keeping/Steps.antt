@@ -1,11 +1,11 @@
 -- The steps of a kept thread: each shows as the machine's step.
-use Rattle.std.proofs.Common.{◌≡◌, ◌<◌, ◌^◌, ℕ, Bool, true, false, List, [], ◌∷◌, ◌++◌, Option, None, Some, refl, sym, ◌∙◌, ap, subst, map}
+use Rattle.std.proofs.Common.{◌≡◌, ◌<◌, ◌+◌, ◌-◌, ◌^◌, ℕ, suc, Bool, true, false, List, [], ◌∷◌, ◌++◌, Option, None, Some, refl, sym, ◌∙◌, ap, subst, map, length, length-append, arith}
 use Rattle.syntax.specs.declared.numbers.Status.{Status}
 use Rattle.syntax.specs.declared.numbers.Status.TheVariants.{Running, Trapped as HasTrapped}
 use Rattle.syntax.specs.declared.numbers.Trap.{Trap}
 use Rattle.nesting.specs.Begins.{Saved}
 use Rattle.bytecode.specs.Effects.{Effect, after_cancel}
-use Rattle.bytecode.specs.Effects.Effect.{Pure, Print, Begin, Read, Write, Commit, Cancel, Irrevocable, Traps, End}
+use Rattle.bytecode.specs.Effects.Effect.{Pure, Print, Begin, Read, Write, Commit, Cancel, CancelOuter, Irrevocable, Traps, End}
 use Rattle.bytecode.specs.Code.{Code, Configuration, effect}
 use Rattle.frames.specs.Open.{MayStand, AreRestored, GoesOn, restored, saved_in, BeginsStayOpen}
 use Rattle.norec_core.specs.declared.step.Op.{Op}
@@ -21,7 +21,8 @@ use Rattle.machine.specs.Threads.{Thread, told_of, told_outside, told_inside, re
 use Rattle.machine.specs.Standing.{begins_of, GivesWordsIf}
 use Rattle.machine.specs.States.{asks_outside, asks_by}
 use Rattle.machine.specs.inner.Kept.{shown_from, AreWithin, KeptBy}
-use Rattle.machine.proofs.keeping.Operations.{Does, is_plain, is_read}
+use Rattle.machine.proofs.Levels.{same_split}
+use Rattle.machine.proofs.keeping.Operations.{Does, TakesAway, cancels_so, is_cancel, is_plain, is_read}
 use Rattle.machine.proofs.keeping.Operations.Does.{goes, reads, works, begins, commits, cancels, drops, releases}
 use Rattle.machine.proofs.keeping.Seen.{restored_saved, now_unused, within}
 
@@ -35,6 +36,7 @@ core_shown c s att o y h = at o h ∙ (commutes (restored c)).step s att o y
     at (op.Write a v) e = now_unused c (restored c s) (shown_from c att) (op.Write a v) y (λ g. cc)
     at op.Commit e = now_unused c (restored c s) (shown_from c att) op.Commit y (λ g. cc)
     at op.Cancel e = now_unused c (restored c s) (shown_from c att) op.Cancel y (λ g. cc)
+    at (op.CancelOuter levels) e = now_unused c (restored c s) (shown_from c att) (op.CancelOuter levels) y (λ g. cc)
     at op.Irrevocable e = now_unused c (restored c s) (shown_from c att) op.Irrevocable y (λ g. cc)
     at op.Release e = now_unused c (restored c s) (shown_from c att) op.Release y (λ g. cc)
 
@@ -55,6 +57,7 @@ Matches (Read a k) o = o ≡ op.Read a
 Matches (Write a v c) o = o ≡ op.Write a v
 Matches (Commit c) o = o ≡ op.Commit
 Matches Cancel o = o ≡ op.Cancel
+Matches (CancelOuter levels) o = o ≡ op.CancelOuter levels
 Matches (Irrevocable c) o = o ≡ op.Irrevocable
 Matches (Traps k) o = o ≡ op.Release
 Matches (Pure c) o = ⊥
@@ -156,19 +159,33 @@ module _ (code : Code) (law : BeginsStayOpen code) where
       committing End t ex q r e f b w = absurd q
       committing x t ex q r e f b w = absurd (cc)
 
-      cancelling : (x : Effect Configuration) (t : Saved) → effect code c ≡ x → Matches x o → o ≡ op.Cancel → n.outcome ≡ outcome.Done → n.back ≡ Some t → ss ≡ t ∷ begins_of n.attempt → GivesWordsIf n.attempt → LeavesTo x
-      cancelling Cancel t ex q r e f b w =
+      -- where a cancel of the begin that saved this goes on
+      abbrev Back : Saved → Configuration
+      Back z = after_cancel (effect code (restored c z)) (restored c z)
+
+      -- back at a begin, which is this one
+      back_at : (x : Effect Configuration) (z t : Saved) (rest : List Saved) → status_after outcome.Done x Running ≡ Running → MayStand code (Back z) rest → AreRestored c (Back z) rest → (z ≡ t) × (rest ≡ begins_of n.attempt)
+          → n.outcome ≡ outcome.Done → n.back ≡ Some t → GivesWordsIf n.attempt → LeavesTo x
+      back_at x z t rest runs stands restored same e f w =
+          to_at x outcome.Done (Some t) (Back t) Running e f refl runs
+          (runs_at x n.outcome n.attempt (Back t) (subst (λ (y : Saved). MayStand code (Back y) (begins_of n.attempt)) same.0 (subst (MayStand code (Back z)) same.1 stands))
+          (subst (λ (y : Saved). AreRestored c (Back y) (begins_of n.attempt)) same.0 (subst (AreRestored c (Back z)) same.1 restored)) w)
+
+      cancelling : (x : Effect Configuration) (inner : List Saved) (t : Saved) → effect code c ≡ x → Matches x o → TakesAway o (length inner) (length ss) → n.outcome ≡ outcome.Done → n.back ≡ Some t → ss ≡ inner ++ t ∷ begins_of n.attempt → GivesWordsIf n.attempt
+          → LeavesTo x
+      cancelling Cancel inner t ex q r e f b w =
           let h = law.cancels c ss m ex in
-          let first : h.0 ≡ t = let g = h.2 in cc in
-          let rest : h.1 ≡ begins_of n.attempt = let g = h.2 in cc in
-          let to = λ (z : Saved). after_cancel (effect code (restored c z)) (restored c z) in
-          to_at Cancel outcome.Done (Some t) (to t) Running e f refl refl
-          (runs_at Cancel n.outcome n.attempt (to t) (subst (λ (z : Saved). MayStand code (to z) (begins_of n.attempt)) first (subst (MayStand code (to h.0)) rest h.3))
-          (subst (λ (z : Saved). AreRestored c (to z) (begins_of n.attempt)) first (subst (AreRestored c (to h.0)) rest h.4)) w)
-      cancelling (Pure d) t ex q r e f b w = absurd q
-      cancelling (Print p d) t ex q r e f b w = absurd q
-      cancelling End t ex q r e f b w = absurd q
-      cancelling x t ex q r e f b w = absurd (cc)
+          let none : length inner ≡ 0 = subst (λ (z : Op). TakesAway z (length inner) (length ss)) q r in
+          back_at Cancel h.0 t h.1 refl h.3 h.4 (same_split [] inner h.0 t h.1 (begins_of n.attempt) (sym none) (sym h.2 ∙ b)) e f w
+      cancelling (CancelOuter levels) inner t ex q r e f b w =
+          let h = law.cancels_outer levels c ss m ex in
+          let all : length ss ≡ length h.0 + suc (length h.2) = ap length h.4 ∙ length-append h.0 (h.1 ∷ h.2) in
+          let some : length inner ≡ levels - 1 = subst (λ (z : Op). TakesAway z (length inner) (length ss)) q r (omega (arith, all, h.3)) in
+          back_at (CancelOuter levels) h.1 t h.2 refl h.5 h.6 (same_split h.0 inner h.1 t h.2 (begins_of n.attempt) (omega (arith, some, h.3)) (sym h.4 ∙ b)) e f w
+      cancelling (Pure d) inner t ex q r e f b w = absurd q
+      cancelling (Print p d) inner t ex q r e f b w = absurd q
+      cancelling End inner t ex q r e f b w = absurd q
+      cancelling x inner t ex q r e f b w = let y : is_cancel o ≡ true = cancels_so o _ _ r in let z : is_cancel o ≡ false = ap is_cancel q in absurd (cc)
 
       dropping : (x : Effect Configuration) (inner : List Saved) (t : Saved) → n.outcome ≡ outcome.Aborted → n.back ≡ Some t → ss ≡ inner ++ t ∷ [] → n.attempt ≡ None → LeavesTo x
       dropping x inner t e f b a =
@@ -189,6 +206,6 @@ module _ (code : Code) (law : BeginsStayOpen code) where
       leaves x ex q (works r e f b w) = working x ex q r e f b w
       leaves x ex q (begins r e f b w) = beginning x ex q r e f b w
       leaves x ex q (commits t r e f b w c) = committing x t ex q r e f b w
-      leaves x ex q (cancels t r e f b w) = cancelling x t ex q r e f b w
+      leaves x ex q (cancels inner t r e f b w) = cancelling x inner t ex q r e f b w
       leaves x ex q (drops inner t e f b a) = dropping x inner t e f b a
       leaves x ex q (releases r e f a) = releasing x q r e f a

@@ -35,6 +35,7 @@ writes op.Irrevocable v = tt
 writes op.Begin v = tt
 writes (op.Write address w) v = absurd v
 writes op.Cancel v = tt
+writes (op.CancelOuter levels) v = tt
 writes op.Release v = tt
 
 module _ (code : Code) (law : BeginsStayOpen code) (k : Kept) (running : k.status ≡ Running) (runs : RunsKept code k) (operation : IsSomeAnd (asks (effect code) (shown k)) IsValidated) where

@@ -1,14 +1,15 @@
 -- Steps of the code meaning, put one after another.
-use Rattle.std.proofs.Common.{◌≡◌, ◌+◌, ℕ, zero, suc, Bool, false, List, [], ◌∷◌, ◌++◌, sym, ◌∙◌, ap, length, zero-add, suc-add, append_assoc}
-use Rattle.std.proofs.lemmas.List.{map-append}
+use Rattle.std.proofs.Common.{◌≡◌, ◌+◌, ◌-◌, ℕ, zero, suc, Bool, false, List, [], ◌∷◌, ◌++◌, sym, ◌∙◌, ap, length, drop, zero-add, suc-add, append_assoc}
+use Rattle.std.proofs.lemmas.List.{drop-map, map-append}
 use Rattle.syntax.specs.declared.numbers.Status.{Status}
 use Rattle.syntax.specs.declared.numbers.Status.TheVariants.{Running}
 use Rattle.write_log.specs.Overlay.{overlay}
 use Rattle.bytecode.specs.Effects.{Effect}
-use Rattle.bytecode.specs.Sequential.{Sequential, inside_step, next, outside, outside_step, start, steps}
+use Rattle.bytecode.specs.Effects.Effect.{CancelOuter}
+use Rattle.bytecode.specs.Sequential.{Sequential, cancel_step, inside_step, next, outside, outside_step, start, steps}
 use Rattle.norec_core.specs.Attempts.{Attempt, Checkpoint}
 use Rattle.norec_core.specs.declared.step.Phase.{Phase}
-use Rattle.machine.specs.inner.Invariant.{Begun, ComesTo, History, MayHaveFound, founds_in, inside, inside_of, lefts_in}
+use Rattle.machine.specs.inner.Invariant.{Begun, ComesTo, History, MayHaveFound, founds_in, inner_of, inners_of, inside, inside_of, lefts_in}
 use Rattle.machine.specs.Worlds.{Record, record_of}
 
 module _ {C : Type 0} (code : C → Effect C) where
@@ -19,6 +20,11 @@ module _ {C : Type 0} (code : C → Effect C) where
   -- n steps and then one more
   pub steps-last : (n : ℕ) (s r : Sequential C) → steps code n s ≡ r → steps code (n + 1) s ≡ next code r
   steps-last n s r e = steps-add n 1 s ∙ ap (next code) e
+
+  -- a cancel of several levels, by the inner begins that it leaves
+  pub outer_cancelled : (s : Sequential C) (m : List ℕ) (saved : C) (writes : List (ℕ × ℕ)) (inner left : List (Checkpoint C)) (kept : Bool) (levels : ℕ) → drop (levels - 1) inner ≡ left
+      → inside_step s (inside_of code m saved writes inner kept) (CancelOuter levels) ≡ cancel_step s (inside_of code m saved writes inner kept) (inners_of code m left) kept
+  outer_cancelled s m saved writes inner left kept levels e = ap (λ ls. cancel_step s (inside_of code m saved writes inner kept) ls kept) (drop-map (inner_of code m) (levels - 1) inner ∙ ap (inners_of code m) e)
 
   -- one more step outside transactions
   pub comes_step : (c0 : C) (xs : List Record) (c d : C) (text text' : List ℕ) (status : Status) (x : Effect C) → code c ≡ x → ((more : List (List ℕ)) → outside_step (outside c more (lefts_in xs) text Running) x ≡ outside d more (lefts_in xs) text' status) → ComesTo code c0 xs c text Running → ComesTo code c0 xs d text' status

@@ -1,5 +1,5 @@
 -- Attempts are dropped no more often than others have taken the lock.
-use Rattle.std.proofs.Common.{suc, ◌≡◌, ◌≢◌, ◌<◌, ◌≤◌, ◌+◌, ◌*◌, ◌%◌, ◌==◌, ◌⊎◌, inl, inr, ℕ, Bool, true, false, cond, List, [], ◌∷◌, ◌++◌, Option, None, Some, refl, sym, ◌∙◌, ap, subst, slice_get, slice_index, set, if◌then◌else◌, arith}
+use Rattle.std.proofs.Common.{suc, ◌≡◌, ◌-◌, ◌≢◌, ◌<◌, ◌≤◌, ◌+◌, ◌*◌, ◌%◌, ◌==◌, ◌⊎◌, inl, inr, ℕ, Bool, true, false, cond, List, [], ◌∷◌, ◌++◌, Option, None, Some, refl, sym, ◌∙◌, ap, subst, slice_get, drop, slice_index, set, if◌then◌else◌, arith}
 use Rattle.std.specs.List.{AllByRecursion}
 use Rattle.std.proofs.lemmas.Bool.Decides.{eqb_tells}
 use Rattle.syntax.specs.Behaviours.{IsMemory}
@@ -77,6 +77,7 @@ module _ {C : Type 0} (now : C) (a : Attempt C) where
   operation (op.Write ad v) ans = (λ b e. refl)
   operation op.Commit ans = commit a.inner a.kept a.writes ans
   operation op.Cancel ans = cancel a.inner a.kept
+  operation (op.CancelOuter levels) ans = cancel (drop (levels - 1) a.inner) a.kept
   operation op.Irrevocable ans = either a.kept _ _ (λ b e. refl) (swap (record a { kept = true }) outcome.Done ans)
   operation op.Release ans = (λ b e. absurd (cc))
 

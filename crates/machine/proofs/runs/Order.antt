@@ -1,11 +1,11 @@
 -- An attempt that goes on keeps its first snapshot, and what takes effect has its last one.
-use Rattle.std.proofs.Common.{◌≡◌, ◌==◌, ◌%◌, ℕ, Bool, true, false, cond, List, [], ◌∷◌, Option, None, Some, refl, sym, ◌∙◌, ap, subst, slice_get}
+use Rattle.std.proofs.Common.{◌≡◌, ◌-◌, ◌==◌, ◌%◌, ℕ, Bool, true, false, cond, List, [], ◌∷◌, Option, None, Some, refl, sym, ◌∙◌, ap, subst, slice_get, drop}
 use Rattle.std.proofs.lemmas.Bool.{eqb-true}
 use Rattle.syntax.specs.declared.numbers.Status.{Status}
 use Rattle.syntax.specs.declared.numbers.Status.TheVariants.{Running, Ended as HasEnded, Trapped as HasTrapped}
 use Rattle.write_log.specs.Overlay.{written}
 use Rattle.bytecode.specs.Effects.{Effect}
-use Rattle.bytecode.specs.Effects.Effect.{Begin, Cancel, Commit, End, Irrevocable, Print, Pure, Read, Traps, Write}
+use Rattle.bytecode.specs.Effects.Effect.{Begin, Cancel, CancelOuter, Commit, End, Irrevocable, Print, Pure, Read, Traps, Write}
 use Rattle.norec_core.specs.Attempts.{Attempt, Checkpoint, Completed}
 use Rattle.norec_core.specs.Phases.{CoreStep, core_begin, core_cancel, core_check, core_commit, core_compare, core_operation, core_phase, core_read, core_store, core_swap, core_time, core_word, idle, on_snapshot}
 use Rattle.norec_core.specs.declared.step.Answer.{Answer}
@@ -72,6 +72,7 @@ module _ {C : Type 0} (now : C) (a : Attempt C) where
   operation (op.Write ad v) ans = (refl, tt)
   operation op.Commit ans = commit a.inner a.kept a.writes ans
   operation op.Cancel ans = cancel a.inner a.kept
+  operation (op.CancelOuter levels) ans = cancel (drop (levels - 1) a.inner) a.kept
   operation op.Irrevocable ans = either a.kept _ _ (refl, tt) (swap (record a { kept = true }) outcome.Done ans refl)
   operation op.Release ans = (tt, refl)
 
@@ -161,6 +162,7 @@ module _ {C : Type 0} (code : C → Effect C) where
       status Running (Write ad v c) f = old f
       status Running (Commit c) f = old f
       status Running Cancel f = old f
+      status Running (CancelOuter levels) f = old f
       status Running (Irrevocable c) f = old f
       status Running (Traps cause) f = old f
       status Running End f = old f

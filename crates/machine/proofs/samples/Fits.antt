@@ -10,7 +10,7 @@ use Rattle.machine.specs.Serializable.{IsOpaque}
 use Rattle.machine.proofs.runs.Programs.{opaque}
 use Rattle.machine.proofs.samples.Samples.{Instruction, Configuration, begins, effect_of, effects_of, instruction_effect}
 use Rattle.machine.proofs.samples.Samples.Instruction.{Add, Sub, Div, Jnz, Read, Write}
-use Rattle.machine.proofs.samples.Rows.{count_code, copy_code, back_code, div_code, look_code, nested_code, cancel_code, relaxed_code, trap_code, inner_code, inner_cancel_code, two_prints_code, kept_undo_code}
+use Rattle.machine.proofs.samples.Rows.{count_code, copy_code, back_code, div_code, look_code, nested_code, cancel_code, relaxed_code, trap_code, inner_code, inner_cancel_code, two_prints_code, kept_undo_code, outer_code, middle_code, all_code, kept_all_code}
 
 -- the cell is there, and its bound is 2 ^ 32
 abbrev is_word : Option ℕ → Bool
@@ -130,3 +130,15 @@ printing_is_opaque = all_opaque (words 1) (4 ∷ []) two_prints_code refl (omega
 
 kept_undo_is_opaque : AllOpaque (words 1) (0 ∷ []) kept_undo_code
 kept_undo_is_opaque = all_opaque (words 1) (0 ∷ []) kept_undo_code refl (omega arith, tt)
+
+outer_is_opaque : AllOpaque (words 3) (0 ∷ 1 ∷ 0 ∷ []) outer_code
+outer_is_opaque = all_opaque (words 3) (0 ∷ 1 ∷ 0 ∷ []) outer_code refl (omega arith, (omega arith, (omega arith, tt)))
+
+middle_is_opaque : AllOpaque (words 2) (1 ∷ 0 ∷ []) middle_code
+middle_is_opaque = all_opaque (words 2) (1 ∷ 0 ∷ []) middle_code refl (omega arith, (omega arith, tt))
+
+all_is_opaque : AllOpaque (words 1) (1 ∷ []) all_code
+all_is_opaque = all_opaque (words 1) (1 ∷ []) all_code refl (omega arith, tt)
+
+kept_all_is_opaque : AllOpaque (words 1) (0 ∷ []) kept_all_code
+kept_all_is_opaque = all_opaque (words 1) (0 ∷ []) kept_all_code refl (omega arith, tt)

@@ -15,7 +15,7 @@ use Rattle.norec_core.specs.declared.step.Outcome.{Outcome}
 use Rattle.norec_core.specs.declared.step.Outcome.TheVariants as outcome
 use Rattle.machine.specs.declared.event.Event.TheVariants as event
 use Rattle.machine.proofs.samples.Samples.{Instruction, begins}
-use Rattle.machine.proofs.samples.Samples.Instruction.{Const, Add, Sub, Mul, Div, Jump, Jnz, Read, Write, Open, Close, Undo, Keep, Show, Ret}
+use Rattle.machine.proofs.samples.Samples.Instruction.{Const, Add, Sub, Mul, Div, Jump, Jnz, Read, Write, Open, Close, Undo, UndoOuter, Keep, Show, Ret}
 use Rattle.machine.specs.Worlds.{new_world}
 use Rattle.machine.proofs.samples.Replays.{replayed, lines}
 
@@ -128,6 +128,39 @@ kept_undo_code = Open 3 ∷ Keep ∷ Undo ∷ Ret ∷ []
 
 kept_undo : (lines kept_undo_code ((0, 2) ∷ []) (record { world = new_world begins (0 ∷ []) 1; count = 0; events = [] })).events ≡ []
 kept_undo = refl
+
+-- a cancel of two levels, as nested_code has one: what was read inside both is validated all the same
+abbrev pub outer_code : List Instruction
+outer_code = Jnz 0 7 ∷ Open 6 ∷ Const 1 1 ∷ Write 0 1 ∷ Write 2 1 ∷ Close ∷ Ret
+    ∷ Open 24 ∷ Open 19 ∷ Open 16 ∷ Read 1 0 ∷ Jnz 1 15 ∷ Const 1 9 ∷ Write 1 1 ∷ UndoOuter 2 ∷ Close ∷ Const 1 5 ∷ Write 1 1 ∷ Close
+    ∷ Read 1 1 ∷ Read 2 2 ∷ Add 1 1 2 ∷ Write 1 1 ∷ Close ∷ Ret ∷ []
+
+outer_read_counts : replayed outer_code (0 ∷ 1 ∷ 0 ∷ []) 2 ((1, 5) ∷ (0, 6) ∷ (1, 13) ∷ [])
+    ≡ record { events = (3, 1, event.Cancel) ∷ (10, 0, event.Commit) ∷ (14, 1, event.Abort) ∷ (22, 1, event.Commit) ∷ []; lock = 4; words = 1 ∷ 6 ∷ 1 ∷ []; texts = [] ∷ [] ∷ []; ends = HasEnded ∷ HasEnded ∷ [] }
+outer_read_counts = refl
+
+-- of three levels two are cancelled: words and registers are those of the middle begin, and the thread goes on where that says
+abbrev pub middle_code : List Instruction
+middle_code = Open 14 ∷ Const 1 2 ∷ Write 0 1 ∷ Open 10 ∷ Const 1 3 ∷ Write 0 1 ∷ Open 9 ∷ Write 1 1 ∷ UndoOuter 2 ∷ Const 1 7 ∷ Read 2 0 ∷ Add 1 1 2 ∷ Write 1 1 ∷ Close ∷ Ret ∷ []
+
+middle_cancel : replayed middle_code (1 ∷ 0 ∷ []) 1 ((0, 20) ∷ [])
+    ≡ record { events = (1, 0, event.Cancel) ∷ (5, 0, event.Commit) ∷ []; lock = 2; words = 2 ∷ 4 ∷ []; texts = [] ∷ []; ends = HasEnded ∷ [] }
+middle_cancel = refl
+
+-- all levels at once: the outermost transaction is cancelled
+abbrev pub all_code : List Instruction
+all_code = Const 1 5 ∷ Open 8 ∷ Const 1 6 ∷ Write 0 1 ∷ Open 7 ∷ Const 1 7 ∷ UndoOuter 2 ∷ Const 1 9 ∷ Show 1 ∷ Ret ∷ []
+
+all_cancelled : replayed all_code (1 ∷ []) 1 ((0, 9) ∷ [])
+    ≡ record { events = (1, 0, event.Cancel) ∷ []; lock = 0; words = 1 ∷ []; texts = (5 ∷ []) ∷ []; ends = HasEnded ∷ [] }
+all_cancelled = refl
+
+-- while the lock is kept that stands still too
+abbrev pub kept_all_code : List Instruction
+kept_all_code = Open 4 ∷ Keep ∷ Open 4 ∷ UndoOuter 2 ∷ Ret ∷ []
+
+kept_all : (lines kept_all_code ((0, 2) ∷ []) (record { world = new_world begins (0 ∷ []) 1; count = 0; events = [] })).events ≡ []
+kept_all = refl
 
 -- The core played by hand: what each step asks for and what comes of it, and the snapshot and read log at the end.
 abbrev log_of : Option (Attempt ℕ) → ℕ × List (ℕ × ℕ)

@@ -17,6 +17,7 @@ pub data Instruction : Type 0 where
   Open : (p : ℕ) → Instruction
   Close : Instruction
   Undo : Instruction
+  UndoOuter : (levels : ℕ) → Instruction
   Keep : Instruction
   Show : (a : ℕ) → Instruction
   Ret : Instruction
@@ -44,6 +45,7 @@ instruction_effect c (Write a r) = Effect.Write a (slice_index c.registers r % 2
 instruction_effect c (Open p) = Effect.Begin (ahead c) (record c { place = p })
 instruction_effect c Close = Effect.Commit (ahead c)
 instruction_effect c Undo = Effect.Cancel
+instruction_effect c (UndoOuter levels) = Effect.CancelOuter levels
 instruction_effect c Keep = Effect.Irrevocable (ahead c)
 instruction_effect c (Show a) = Effect.Print (slice_index c.registers a ∷ []) (ahead c)
 instruction_effect c Ret = Effect.End

@@ -8,7 +8,7 @@ use Rattle.machine.specs.Tallies.{BeginsFree, IsOpenAfter, IsOverAfter, IsUndist
 use Rattle.machine.specs.Serializable.{world_after}
 use Rattle.machine.specs.Worlds.{Part, World, new_world, run, step}
 use Rattle.machine.proofs.samples.Fits.{fits}
-use Rattle.machine.proofs.samples.Rows.{count_code, inner_cancel_code, inner_code, trap_code, two_prints_code}
+use Rattle.machine.proofs.samples.Rows.{count_code, inner_cancel_code, inner_code, middle_code, trap_code, two_prints_code}
 use Rattle.machine.proofs.samples.Samples.{Configuration, Instruction, begins, effects_of}
 use Rattle.machine.proofs.samples.Samples.Instruction.{Close, Const, Open, Read, Ret, Undo, Write}
 use Rattle.machine.proofs.tallies.Spans.{counts_by_meaning}
@@ -62,6 +62,10 @@ undone = (refl, refl)
 -- what a cancelled inner transaction wrote serves no read after it: 1 + 2 + 4
 inner_undone : Costs inner_cancel_code (1 ∷ 0 ∷ []) 7
 inner_undone = (refl, refl)
+
+-- what two cancelled levels wrote is not stored, and what was written before serves the read: 1 + 4
+levels_undone : Costs middle_code (1 ∷ 0 ∷ []) 5
+levels_undone = (refl, refl)
 
 -- a read, an irrevocable, and a commit of one cell: 1 + 2 + 1 + 2
 printing : Costs two_prints_code (4 ∷ []) 6

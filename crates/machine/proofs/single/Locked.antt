@@ -1,5 +1,5 @@
 -- A thread that has the lock has it until its transaction takes effect.
-use Rattle.std.proofs.Common.{◌≡◌, ◌≢◌, ◌==◌, ◌⊎◌, inl, inr, ℕ, suc, Bool, true, false, cond, List, [], ◌∷◌, ◌++◌, Option, None, Some, refl, sym, ◌∙◌, ap, subst, slice_get, append_assoc}
+use Rattle.std.proofs.Common.{◌≡◌, ◌-◌, ◌≢◌, ◌==◌, ◌⊎◌, inl, inr, ℕ, suc, Bool, true, false, cond, List, [], ◌∷◌, ◌++◌, Option, None, Some, refl, sym, ◌∙◌, ap, subst, slice_get, drop, append_assoc}
 use Rattle.std.proofs.lemmas.Bool.Decides.{eqb_tells}
 use Rattle.syntax.specs.Behaviours.{IsMemory}
 use Rattle.write_log.specs.Overlay.{written}
@@ -75,6 +75,7 @@ module _ {C : Type 0} (code : C → Effect C) (h : History) (th : Thread C) (a :
   operation (op.Write ad v) y k = (refl, has)
   operation op.Commit y k = commit a.inner a.kept k a.writes y
   operation op.Cancel y k = cancel a.inner a.kept k
+  operation (op.CancelOuter levels) y k = cancel (drop (levels - 1) a.inner) a.kept k
   operation op.Irrevocable y k = irrevocable a.kept k y
   operation op.Release y k = (refl, k)
 

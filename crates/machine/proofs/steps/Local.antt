@@ -1,12 +1,12 @@
 -- Local steps, and the load of the lock at an outermost begin.
-use Rattle.std.proofs.Common.{◌≡◌, ◌≢◌, ◌<◌, ◌%◌, ◌==◌, ◌⊎◌, inl, inr, ℕ, Bool, true, false, List, [], ◌∷◌, ◌++◌, ◌∙◌, None, Some, refl, sym, ap, subst, length, arith}
+use Rattle.std.proofs.Common.{◌≡◌, ◌≢◌, ◌<◌, ◌-◌, ◌%◌, ◌==◌, ◌⊎◌, inl, inr, ℕ, Bool, true, false, List, [], ◌∷◌, ◌++◌, ◌∙◌, None, Some, refl, sym, ap, subst, length, drop, arith}
 use Rattle.std.specs.List.{AllByRecursion}
 use Rattle.std.proofs.lemmas.Bool.Decides.{eqb_tells}
 use Rattle.syntax.specs.declared.numbers.Status.TheVariants.{Running, Trapped as HasTrapped}
 use Rattle.syntax.specs.declared.numbers.Trap.{Trap}
 use Rattle.write_log.specs.Overlay.{overlay, put, written}
 use Rattle.bytecode.specs.Effects.{Effect, FitsCells, after_cancel}
-use Rattle.bytecode.specs.Effects.Effect.{Begin, Cancel, Commit, End, Irrevocable, Print, Pure, Read, Traps, Write}
+use Rattle.bytecode.specs.Effects.Effect.{Begin, Cancel, CancelOuter, Commit, End, Irrevocable, Print, Pure, Read, Traps, Write}
 use Rattle.bytecode.specs.Sequential.{inside_step, outside, outside_step}
 use Rattle.norec_core.specs.Attempts.{Attempt, Checkpoint}
 use Rattle.norec_core.specs.declared.step.Answer.{Answer}
@@ -16,8 +16,9 @@ use Rattle.machine.specs.inner.Invariant.{AttemptOk, ComesTo, HasTaker, History,
 use Rattle.machine.specs.Threads.{own_step, print_inside, told_running}
 use Rattle.machine.specs.Worlds.{Part, part_after}
 use Rattle.write_log.proofs.Overlay.{overlay-put, overlay-written}
+use Rattle.machine.proofs.Levels.{all_left}
 use Rattle.machine.proofs.parts.Forms.{finish, go}
-use Rattle.machine.proofs.parts.Meaning.{comes_step}
+use Rattle.machine.proofs.parts.Meaning.{comes_step, outer_cancelled}
 use Rattle.machine.proofs.parts.Memories.{log-put}
 use Rattle.machine.proofs.parts.Part.{advance, attempt_part, even_words, joined_part, outside_part}
 
@@ -121,6 +122,12 @@ module _ {C : Type 0} (code : C → Effect C) (bounds : List ℕ) (t : ℕ) (c0 
       pub inner_cancel_step : (l : Checkpoint C) (ls : List (Checkpoint C)) → a.inner ≡ l ∷ ls → code p.thread.configuration ≡ Cancel → PartOk code bounds h t c0 (part_after words p (go p.thread (after_cancel (code l.saved) l.saved) (record a { writes = l.writes; inner = ls })))
       inner_cancel_step l ls ei ex = goes (after_cancel (code l.saved) l.saved) l.writes ls Cancel ex (let ms = rw ei at n.steady.marks in ms.0) (let ms = rw ei at n.steady.marks in ms.1) (λ m fs gs size ok. rw ei refl)
 
+      pub inner_outer_cancel_step : (levels : ℕ) (l : Checkpoint C) (ls : List (Checkpoint C)) → drop (levels - 1) a.inner ≡ l ∷ ls → code p.thread.configuration ≡ CancelOuter levels
+          → PartOk code bounds h t c0 (part_after words p (go p.thread (after_cancel (code l.saved) l.saved) (record a { writes = l.writes; inner = ls })))
+      inner_outer_cancel_step levels l ls ei ex =
+          let ms = subst (AllByRecursion (λ (k : Checkpoint C). IsLog bounds k.writes)) ei (all_left (λ (k : Checkpoint C). IsLog bounds k.writes) (levels - 1) a.inner n.steady.marks) in
+          goes (after_cancel (code l.saved) l.saved) l.writes ls (CancelOuter levels) ex ms.0 ms.1 (λ m fs gs size ok. outer_cancelled code _ m a.saved a.writes a.inner (l ∷ ls) a.kept levels ei)
+
       pub kept_irrevocable_step : (c : C) → a.kept ≡ true → code p.thread.configuration ≡ Irrevocable c → PartOk code bounds h t c0 (part_after words p (go p.thread c a))
       kept_irrevocable_step c k ex = goes c a.writes a.inner (Irrevocable c) ex n.steady.log n.steady.marks (λ m fs ls size ok. rw k refl)
 
@@ -131,6 +138,11 @@ module _ {C : Type 0} (code : C → Effect C) (bounds : List ℕ) (t : ℕ) (c0 
 
         pub cancel_step : a.inner ≡ [] → code p.thread.configuration ≡ Cancel → PartOk code bounds h t c0 (part_after words p (finish p.thread a (after_cancel (code a.saved) a.saved) p.thread.status false []))
         cancel_step ei ex = joined_part code bounds t c0 h words p a (after_cancel (code a.saved) a.saved) p.thread.status Cancel ex (rw (ph, free) refl) i each ord comp (λ fs ls. rw (ei, free, n.steady.running) refl) n
+
+        pub outer_cancel_step : (levels : ℕ) → drop (levels - 1) a.inner ≡ [] → code p.thread.configuration ≡ CancelOuter levels → PartOk code bounds h t c0 (part_after words p (finish p.thread a (after_cancel (code a.saved) a.saved) p.thread.status false []))
+        outer_cancel_step levels ei ex =
+            joined_part code bounds t c0 h words p a (after_cancel (code a.saved) a.saved) p.thread.status (CancelOuter levels) ex (rw (ph, free) refl) i each ord comp
+            (λ fs ls. outer_cancelled code _ p.base a.saved a.writes a.inner [] a.kept levels ei ∙ rw (free, n.steady.running) refl) n
 
         pub trap_step : (cause : Trap) → code p.thread.configuration ≡ Traps cause → PartOk code bounds h t c0 (part_after words p (finish p.thread a p.thread.configuration (HasTrapped cause) false []))
         trap_step cause ex = joined_part code bounds t c0 h words p a p.thread.configuration (HasTrapped cause) (Traps cause) ex (rw (ph, free) refl) i each ord comp (λ fs ls. refl) n

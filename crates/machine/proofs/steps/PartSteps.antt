@@ -1,11 +1,11 @@
 -- Each step of the machine keeps the invariant.
-use Rattle.std.proofs.Common.{◌≡◌, ◌≢◌, ℕ, Bool, true, false, cond, List, [], ◌∷◌, ◌+◌, Option, None, Some, refl, sym, ◌∙◌, ap, subst, slice_get, slice_index, take}
+use Rattle.std.proofs.Common.{◌≡◌, ◌≢◌, ℕ, Bool, true, false, cond, List, [], ◌∷◌, ◌+◌, ◌-◌, Option, None, Some, refl, sym, ◌∙◌, ap, subst, slice_get, slice_index, take, drop}
 use Rattle.syntax.specs.declared.numbers.Status.{Status}
 use Rattle.syntax.specs.declared.numbers.Status.TheVariants.{Running, Ended as HasEnded, Trapped as HasTrapped}
 use Rattle.syntax.specs.declared.numbers.Trap.{Trap}
 use Rattle.write_log.specs.Overlay.{overlay, written}
 use Rattle.bytecode.specs.Effects.{Effect, FitsCells}
-use Rattle.bytecode.specs.Effects.Effect.{Begin, Cancel, Commit, End, Irrevocable, Print, Pure, Read, Traps, Write}
+use Rattle.bytecode.specs.Effects.Effect.{Begin, Cancel, CancelOuter, Commit, End, Irrevocable, Print, Pure, Read, Traps, Write}
 use Rattle.norec_core.specs.Attempts.{Attempt, Checkpoint}
 use Rattle.norec_core.specs.Phases.{CoreStep, commit_access, core_cancel, core_check, core_commit, core_compare, core_operation, core_phase, core_read, core_store, core_swap, core_time, entry_access, off, on, operation_access, phase_access, read_access, store_access}
 use Rattle.norec_core.specs.declared.step.Access.{Access}
@@ -22,7 +22,7 @@ use Rattle.machine.specs.Worlds.{Part, answer, lock_after, part_after, step, wor
 use Rattle.write_log.proofs.Overlay.{not_written}
 use Rattle.read_log.proofs.Logs.{take_whole}
 use Rattle.machine.proofs.steps.Loads.{check_step, compare_step, time_step, unmoved_step, word_step}
-use Rattle.machine.proofs.steps.Local.{cancel_step, inner_begin_step, inner_cancel_step, inner_commit_step, kept_irrevocable_step, outside_steps, print_step, pure_step, read_only_commit_step, served_step, trap_step, write_step}
+use Rattle.machine.proofs.steps.Local.{cancel_step, inner_begin_step, inner_cancel_step, inner_commit_step, inner_outer_cancel_step, kept_irrevocable_step, outer_cancel_step, outside_steps, print_step, pure_step, read_only_commit_step, served_step, trap_step, write_step}
 use Rattle.machine.proofs.parts.Part.{attempt_part, still}
 use Rattle.machine.proofs.steps.Stores.{release_step, store_word_step}
 use Rattle.machine.proofs.steps.Swap.{commit_swap_step, irrevocable_step}
@@ -96,6 +96,12 @@ module _ {C : Type 0} (code : C → Effect C) (bounds : List ℕ) (t : ℕ) (c0 
       cancel_at [] false ei ek ph ex = from _ (cancel_step code bounds t c0 h words p ok.each ok.complete a e ph ord n committed ek ei ex)
       cancel_at [] true ei ek ph ex = unmoved
       cancel_at (l ∷ ls) kept ei ek ph ex = from _ (inner_cancel_step code bounds t c0 h words p ok.each ok.complete a e ph ord n l ls ei ex)
+
+      outer_cancel_at : (levels : ℕ) (inner : List (Checkpoint C)) (kept : Bool) → drop (levels - 1) a.inner ≡ inner → a.kept ≡ kept → a.phase ≡ AtOperation → code p.thread.configuration ≡ CancelOuter levels
+          → Does (CancelOuter levels) Local (λ answer. core_cancel a inner kept)
+      outer_cancel_at levels [] false ei ek ph ex = from _ (outer_cancel_step code bounds t c0 h words p ok.each ok.complete a e ph ord n committed ek levels ei ex)
+      outer_cancel_at levels [] true ei ek ph ex = unmoved
+      outer_cancel_at levels (l ∷ ls) kept ei ek ph ex = from _ (inner_outer_cancel_step code bounds t c0 h words p ok.each ok.complete a e ph ord n levels l ls ei ex)
 
       irrevocable_at : (c : C) (kept : Bool) → a.kept ≡ kept → a.phase ≡ AtOperation → code p.thread.configuration ≡ Irrevocable c → Does (Irrevocable c) (cond kept Local (Swap a.snapshot)) (λ answer. cond kept (on a outcome.Done) (core_swap a (record a { kept = true }) outcome.Done answer))
       irrevocable_at c true ek ph ex = from _ (kept_irrevocable_step code bounds t c0 h words p ok.each ok.complete a e ph ord n c ek ex)
@@ -188,6 +194,10 @@ module _ {C : Type 0} (code : C → Effect C) (bounds : List ℕ) (t : ℕ) (c0 
           (λ ph. cancel_at a.inner a.kept refl refl ph ex)
           (λ v ph hand. other_read v Cancel ex hand (λ ad k f. absurd (cc)))
           (λ j ph hand. other_commit j Cancel ex hand (λ c' f. absurd (cc)))
+      by_effect (CancelOuter levels) ex = phases (CancelOuter levels) (op.CancelOuter levels) a.phase refl n.in_hand
+          (λ ph. outer_cancel_at levels (drop (levels - 1) a.inner) a.kept refl refl ph ex)
+          (λ v ph hand. other_read v (CancelOuter levels) ex hand (λ ad k f. absurd (cc)))
+          (λ j ph hand. other_commit j (CancelOuter levels) ex hand (λ c' f. absurd (cc)))
       by_effect (Irrevocable c) ex = phases (Irrevocable c) op.Irrevocable a.phase refl n.in_hand
           (λ ph. irrevocable_at c a.kept refl ph ex)
           (λ v ph hand. other_read v (Irrevocable c) ex hand (λ ad k f. absurd (cc)))

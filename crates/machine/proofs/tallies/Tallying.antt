@@ -1,16 +1,16 @@
 -- What a step of an undisturbed transaction costs, beside the instruction of the code's meaning and its tally.
-use Rattle.std.proofs.Common.{◌≡◌, ◌≢◌, ◌<◌, ◌≤◌, ◌+◌, ◌==◌, ◌⊎◌, if◌then◌else◌, inl, inr, ℕ, zero, suc, Bool, true, false, cond, List, [], ◌∷◌, ◌++◌, Option, None, Some, refl, sym, ◌∙◌, ap, subst, map, slice_get, slice_index, length, zero-add, suc-add, arith}
+use Rattle.std.proofs.Common.{◌≡◌, ◌≢◌, ◌<◌, ◌≤◌, ◌+◌, ◌-◌, ◌==◌, ◌⊎◌, if◌then◌else◌, inl, inr, ℕ, zero, suc, Bool, true, false, cond, List, [], ◌∷◌, ◌++◌, Option, None, Some, refl, sym, ◌∙◌, ap, subst, map, slice_get, slice_index, length, drop, zero-add, suc-add, arith}
 use Rattle.std.specs.List.{AllByRecursion}
 use Rattle.std.proofs.lemmas.Bool.{eq-eqb}
 use Rattle.std.proofs.lemmas.Bool.Decides.{eqb_tells}
-use Rattle.std.proofs.lemmas.List.{length-map}
+use Rattle.std.proofs.lemmas.List.{drop-map, length-map}
 use Rattle.std.proofs.lemmas.Option.{slice_get_within}
 use Rattle.syntax.specs.Behaviours.{Memory}
 use Rattle.syntax.specs.declared.numbers.Trap.{Trap}
 use Rattle.write_log.specs.Overlay.{IsDistinct, overlay, put, written}
 use Rattle.write_log.proofs.Overlay.{distinct-put, not_written, overlay-other, overlay-put, overlay-written}
 use Rattle.bytecode.specs.Effects.{Effect, FitsCells, after_cancel}
-use Rattle.bytecode.specs.Effects.Effect.{Pure, Print, Begin, Read, Write, Commit, Cancel, Irrevocable, Traps, End}
+use Rattle.bytecode.specs.Effects.Effect.{Pure, Print, Begin, Read, Write, Commit, Cancel, CancelOuter, Irrevocable, Traps, End}
 use Rattle.bytecode.specs.Sequential.{OpenTransaction, Sequential, cancel_step, commit_step, inside_step, next, print_step, start}
 use Rattle.norec_core.specs.declared.step.Op.{Op}
 use Rattle.norec_core.specs.declared.step.Op.TheVariants as op
@@ -27,6 +27,8 @@ use Rattle.machine.specs.inner.Invariant.{inners_of, inside, inside_of}
 use Rattle.machine.specs.Tallies.{Tally, accesses, accesses_at, accesses_so_far, commit_accesses, empty_tally, is_among, is_commit, tallied, tally_after, with_cancel, with_cell, with_commit, with_read}
 use Rattle.machine.specs.Threads.{Thread, Next, access, access_of, told, told_of, op_of, own_step, print_inside, resumed}
 use Rattle.machine.specs.Worlds.{answer, lock_after, words_after}
+use Rattle.machine.proofs.Levels.{all_left}
+use Rattle.machine.proofs.parts.Meaning.{outer_cancelled}
 
 -- the cells that a write log has, in its order
 abbrev pub cells : List (ℕ × ℕ) → List ℕ
@@ -306,6 +308,22 @@ module _ {C : Type 0} (code : C → Effect C) (bounds : List ℕ) (fits : FitsCe
           (ap (λ ms. with_cancel tally (map (λ (m : Checkpoint C). cells m.writes) ms)) g))
           unkept (omega arith) (subst (AllByRecursion (λ (m : Checkpoint C). IsDistinct m.writes)) g marks).0 (subst (AllByRecursion (λ (m : Checkpoint C). IsDistinct m.writes)) g marks).1
 
+      outer_cancel : (levels : ℕ) → code here ≡ CancelOuter levels → (inner : List (Checkpoint C)) → drop (levels - 1) a.inner ≡ inner → (kept : Bool) → a.kept ≡ kept → After access_.Local (λ y. resumed code th (CancelOuter levels) (core_cancel a inner kept))
+      outer_cancel levels ex [] g true kp = moves here tells
+      outer_cancel levels ex [] g false kp =
+          let own = if_not a.kept 1 0 kp in
+          ends_by (k + 0) (after_cancel (code a.saved) a.saved) (CancelOuter levels) ex (λ text.
+          let is : inside_step (meant here a text) (opened a) (CancelOuter levels) ≡ cancel_step (meant here a text) (opened a) [] false =
+          outer_cancelled code (meant here a text) found a.saved a.writes a.inner [] a.kept levels g ∙ ap (cancel_step (meant here a text) (opened a) []) kp in
+          (ap (λ (s : Sequential C). s.inside) is, ap (λ (s : Sequential C). s.configuration) is)) (omega arith)
+      outer_cancel levels ex (l ∷ ls) g kept kp =
+          let ms = subst (AllByRecursion (λ (m : Checkpoint C). IsDistinct m.writes)) g (all_left (λ (m : Checkpoint C). IsDistinct m.writes) (levels - 1) a.inner marks) in
+          rests lock (k + 0) (after_cancel (code l.saved) l.saved) (record a { writes = l.writes; inner = ls }) r kr ph free
+          (advance r kr here a (CancelOuter levels) ex tells r kr (after_cancel (code l.saved) l.saved) (record a { writes = l.writes; inner = ls })
+          (λ text. (text, outer_cancelled code (meant here a text) found a.saved a.writes a.inner (l ∷ ls) a.kept levels g))
+          (ap (with_cancel tally) (drop-map (λ (m : Checkpoint C). cells m.writes) (levels - 1) a.inner) ∙ ap (λ ms. with_cancel tally (map (λ (m : Checkpoint C). cells m.writes) ms)) g))
+          unkept (omega arith) ms.0 ms.1
+
       print : (piece : List ℕ) (c : C) → code here ≡ Print piece c → (kept : Bool) → a.kept ≡ kept → After access_.Local (λ y. print_inside th piece c kept)
       print piece c ex true kp = unmoved c
           (advance r kr here a (Print piece c) ex tells r kr c a (λ text. (text ++ piece, ap (print_step (meant here a text) piece c) kp)) refl)
@@ -349,6 +367,7 @@ module _ {C : Type 0} (code : C → Effect C) (bounds : List ℕ) (fits : FitsCe
       at_step (Write ad v c) ex = write ad v c ex
       at_step (Commit c) ex = commit c ex a.inner refl a.kept refl a.writes refl
       at_step Cancel ex = cancel ex a.inner refl a.kept refl
+      at_step (CancelOuter levels) ex = outer_cancel levels ex (drop (levels - 1) a.inner) refl a.kept refl
       at_step (Irrevocable c) ex = irrevocable c ex a.kept refl
       at_step (Traps cause) ex = trap cause ex a.kept th.trapping refl
       at_step End ex = unmoved here tells
