@@ -1,17 +1,18 @@
 -- Going on from a place fails only where a function's ways are not kept.
-use Rattle.std.proofs.Common.{◌≡◌, ◌≢◌, ℕ, suc, ◌+◌, List, [], ◌∷◌, length, Option, Some, None, refl, sym, ap, ◌∙◌, subst, arith, inl, inr}
+use Rattle.std.proofs.Common.{◌≡◌, ◌≢◌, ℕ, zero, suc, ◌+◌, ◌-◌, ◌≤◌, List, [], ◌∷◌, length, drop, Option, Some, None, refl, sym, ap, ◌∙◌, subst, arith, inl, inr}
 use Rattle.std.specs.Prelude.{slice_get, Contains}
 use Rattle.std.proofs.lemmas.List.Elements.{Contains-push, Contains-append_left}
 use Rattle.bytecode.specs.Code.{Code, FunctionCode, Instr}
-use Rattle.bytecode.specs.Valid.{leads_from, cancel_of, IsReached, at_first, further, AsksOpen, KeepsOpen}
+use Rattle.bytecode.specs.Valid.{cancel_of, cancelled_in, leads_from, IsReached, at_first, further, AsksOpen, KeepsOpen}
 use Rattle.bytecode.specs.declared.walk.Arrival.{Arrival}
 use Rattle.bytecode.specs.declared.walk.Arrival.TheVariants.{Unseen, Outside, Inside}
 use Rattle.bytecode.specs.declared.walk.Way.{Way}
-use Rattle.bytecode.specs.declared.walk.Way.TheVariants.{On, To, Both, Opens, Closes, Cancels, Ends}
-use Rattle.bytecode.specs.inner.Walking.{Arrivals, arrival_at, visited, way_of, reopened, begun, cancelled, twice, went_by}
+use Rattle.bytecode.specs.declared.walk.Way.TheVariants.{On, To, Both, Opens, Closes, Cancels, CancelsOuter, Ends}
+use Rattle.bytecode.specs.inner.Walking.{Arrivals, arrival_at, visited, way_of, reopened, begun, cancelled, begin_round, cancelled_at, twice, went_by}
 use Rattle.bytecode.proofs.Tables.{IsChain, some_same, IsFound}
 use Rattle.bytecode.proofs.Arrivals.{seen_table, seen_one, innermost, id_of, table, chain_grows}
 use Rattle.bytecode.proofs.Meets.{State, visited_gives, visited_fails}
+use Rattle.bytecode.proofs.Rounds.{some_open, rounds}
 use Rattle.bytecode.proofs.Leads.{leads_by, asks_by, leads_so, asks_of, only, either, first_of}
 use Rattle.bytecode.proofs.Walks.{found_after}
 
@@ -33,6 +34,15 @@ in_cancel : (code : Code) (o : Option Instr) (bs : List ℕ) (q : ℕ) (bs' : Li
 in_cancel code (Some (Instr.Begin to)) bs q bs' c = sym (ap (λ p. p.1) (only (to, bs) (q, bs') c))
 in_cancel code o bs q bs' c = absurd (omega (arith, c.1))
 
+begins_cancelled : (code : Code) (bs : List ℕ) (q : ℕ) (bs' : List ℕ) → AreBegins code bs → Contains (cancelled_in code bs) (q, bs') → AreBegins code bs'
+begins_cancelled code [] q bs' a c = absurd (omega (arith, c.1))
+begins_cancelled code (b ∷ bs) q bs' a c = subst (AreBegins code) (sym (in_cancel code (slice_get code.instructions b) bs q bs' c)) a.1
+
+begins_behind : (code : Code) (n : ℕ) (bs : List ℕ) → AreBegins code bs → AreBegins code (drop n bs)
+begins_behind code zero bs a = a
+begins_behind code (suc n) [] a = tt
+begins_behind code (suc n) (b ∷ bs) a = begins_behind code n bs a.1
+
 begins_on : (code : Code) (q : ℕ) (i : Instr) (w : Way) (bs : List ℕ) (q' : ℕ) (bs' : List ℕ) → slice_get code.instructions q ≡ Some i → way_of i ≡ w → AreBegins code bs → Contains (leads_by code q bs w) (q', bs') → AreBegins code bs'
 begins_on code q i On bs q' bs' e w a c = subst (AreBegins code) (ap (λ p. p.1) (only (suc q, bs) (q', bs') c)) a
 begins_on code q i (To to) bs q' bs' e w a c = subst (AreBegins code) (ap (λ p. p.1) (only (to, bs) (q', bs') c)) a
@@ -43,8 +53,8 @@ begins_on code q i (Both to) bs q' bs' e w a c = elim (either (suc q, bs) (to, b
 begins_on code q i Opens bs q' bs' e w a c = subst (AreBegins code) (ap (λ p. p.1) (only (suc q, q ∷ bs) (q', bs') c)) (subst IsBegin (sym e) (opens_begins i w), a)
 begins_on code q i Closes [] q' bs' e w a c = absurd (omega (arith, c.1))
 begins_on code q i Closes (b ∷ bs) q' bs' e w a c = subst (AreBegins code) (ap (λ p. p.1) (only (suc q, bs) (q', bs') c)) a.1
-begins_on code q i Cancels [] q' bs' e w a c = absurd (omega (arith, c.1))
-begins_on code q i Cancels (b ∷ bs) q' bs' e w a c = subst (AreBegins code) (sym (in_cancel code (slice_get code.instructions b) bs q' bs' c)) a.1
+begins_on code q i Cancels bs q' bs' e w a c = begins_cancelled code bs q' bs' a c
+begins_on code q i (CancelsOuter n) bs q' bs' e w a c = begins_cancelled code (drop (n - 1) bs) q' bs' (begins_behind code (n - 1) bs a) c
 begins_on code q i Ends bs q' bs' e w a c = absurd (omega (arith, c.1))
 
 begins_in : (code : Code) (q : ℕ) (o : Option Instr) (bs : List ℕ) (q' : ℕ) (bs' : List ℕ) → slice_get code.instructions q ≡ o → AreBegins code bs → Contains (leads_from code q bs o) (q', bs') → AreBegins code bs'
@@ -83,10 +93,10 @@ module _ (code : Code) (f : FunctionCode) (end : ℕ) (ms : Arrivals) (work : Li
   no_way_back to bs b parent (Some Outside) l t c e h = no_one_way to bs Outside refl l (subst (λ x. IsChain (table f.first ms) x bs) (some_same parent None (sym t ∙ ap innermost e)) c) h
   no_way_back to bs b parent (Some (Inside d)) l t c e h = no_one_way to bs (Inside d) refl l (subst (λ x. IsChain (table f.first ms) x bs) (some_same parent (Some d) (sym t ∙ ap innermost e)) c) h
 
-  no_cancel : (bs : List ℕ) (b : ℕ) (parent : Option ℕ) (o : Option Instr) → IsBegin o → slice_get code.instructions b ≡ o → begins ≡ b ∷ bs → way_of i ≡ Cancels → table f.first ms b ≡ Some parent → IsChain (table f.first ms) parent bs → cancelled f.first ms work (arrival_at f.first ms b) (begun o) ≡ None → ⊥
-  no_cancel bs b parent (Some (Instr.Begin to)) z e g w t c h =
-      no_way_back to bs b parent (arrival_at f.first ms b) (ap (λ x. leads_by code q x (way_of i)) g ∙ ap (leads_by code q (b ∷ bs)) w ∙ ap (λ x. cancel_of x [] (λ to. (to, bs) ∷ [])) e) t c refl h
-  no_cancel bs b parent o z e g w t c h = z
+  no_cancel : (bs : List ℕ) (b : ℕ) (parent : Option ℕ) (o : Option Instr) → IsBegin o → slice_get code.instructions b ≡ o → leads_by code q begins (way_of i) ≡ cancelled_in code (b ∷ bs) → table f.first ms b ≡ Some parent → IsChain (table f.first ms) parent bs → cancelled f.first ms work (arrival_at f.first ms b) (begun o) ≡ None → ⊥
+  no_cancel bs b parent (Some (Instr.Begin to)) z e l t c h =
+      no_way_back to bs b parent (arrival_at f.first ms b) (l ∙ ap (λ x. cancel_of x [] (λ to. (to, bs) ∷ [])) e) t c refl h
+  no_cancel bs b parent o z e l t c h = z
 
   no_close : (b : ℕ) (bs : List ℕ) → way_of i ≡ Closes → begins ≡ bs → IsChain (table f.first ms) (Some b) bs → reopened f.first ms work (suc q) (arrival_at f.first ms b) ≡ None → ⊥
   no_close b [] w e c h = cc c
@@ -94,12 +104,26 @@ module _ (code : Code) (f : FunctionCode) (end : ℕ) (ms : Arrivals) (work : Li
       let g : b ≡ d = some_same b d c.0 in
       no_way_back (suc q) bs b c.1 (arrival_at f.first ms b) (ap (λ x. leads_by code q x (way_of i)) e ∙ ap (leads_by code q (d ∷ bs)) w) (ap (table f.first ms) g ∙ c.2) c.3 refl h
 
-  no_cancels : (b : ℕ) (bs : List ℕ) → way_of i ≡ Cancels → begins ≡ bs → IsChain (table f.first ms) (Some b) bs → cancelled f.first ms work (arrival_at f.first ms b) (begun (slice_get code.instructions b)) ≡ None → ⊥
-  no_cancels b [] w e c h = cc c
-  no_cancels b (d ∷ bs) w e c h =
+  -- a cancel of the first of these begins
+  no_cancels : (b : ℕ) (bs : List ℕ) → AreBegins code bs → leads_by code q begins (way_of i) ≡ cancelled_in code bs → IsChain (table f.first ms) (Some b) bs → cancelled f.first ms work (arrival_at f.first ms b) (begun (slice_get code.instructions b)) ≡ None → ⊥
+  no_cancels b [] z l c h = cc c
+  no_cancels b (d ∷ bs) z l c h =
       let g : b ≡ d = some_same b d c.0 in
-      let z : AreBegins code (b ∷ bs) = subst (AreBegins code) (e ∙ ap (λ x. x ∷ bs) (sym g)) (reached_begins code f q begins reached) in
-      no_cancel bs b c.1 (slice_get code.instructions b) z.0 refl (e ∙ ap (λ x. x ∷ bs) (sym g)) w (ap (table f.first ms) g ∙ c.2) c.3 h
+      no_cancel bs b c.1 (slice_get code.instructions b) (subst (λ x. IsBegin (slice_get code.instructions x)) (sym g) z.0) refl (l ∙ ap (λ x. cancelled_in code (x ∷ bs)) (sym g)) (ap (table f.first ms) g ∙ c.2) c.3 h
+
+  no_cancels_outer : (n b : ℕ) (x : Option ℕ) → begin_round f.first ms (n - 1) b ≡ x → way_of i ≡ CancelsOuter n → IsChain (table f.first ms) (Some b) begins → cancelled_at code.instructions f.first ms work x ≡ None → ⊥
+  no_cancels_outer n b None e w c h =
+      let few : length begins ≤ n - 1 = rounds f.first ms (n - 1) b begins None c e in
+      let some = some_open (table f.first ms) b begins c in
+      let asks : n ≤ length begins = subst (λ x. asks_by x begins) w asked in
+      absurd (omega (arith, few, some, asks))
+  no_cancels_outer n b (Some d) e w c h =
+      no_cancels d (drop (n - 1) begins) (begins_behind code (n - 1) begins (reached_begins code f q begins reached)) (ap (leads_by code q begins) w) (rounds f.first ms (n - 1) b begins (Some d) c e) h
+
+  -- with no begin open
+  too_many : (n : ℕ) (bs : List ℕ) → begins ≡ bs → IsChain (table f.first ms) None bs → suc n ≤ length begins → ⊥
+  too_many n [] e c few = absurd (let l = ap length e in omega (arith, few, l))
+  too_many n (d ∷ bs) e c few = cc c.0
 
   -- with no begin open none may be asked for, and with one open none may be left
   none_open : (bs : List ℕ) → begins ≡ bs → IsChain (table f.first ms) None bs → begins ≢ [] → ⊥
@@ -120,7 +144,11 @@ module _ (code : Code) (f : FunctionCode) (end : ℕ) (ms : Arrivals) (work : Li
   fails_by Closes (Inside b) one w e h = no_close b begins w refl (subst (λ x. IsChain (table f.first ms) (id_of x) begins) e chain) h
   fails_by Cancels Unseen one w e h = cc (one, e)
   fails_by Cancels Outside one w e h = none_open begins refl (subst (λ x. IsChain (table f.first ms) (id_of x) begins) e chain) (subst (λ x. asks_by x begins) w asked)
-  fails_by Cancels (Inside b) one w e h = no_cancels b begins w refl (subst (λ x. IsChain (table f.first ms) (id_of x) begins) e chain) h
+  fails_by Cancels (Inside b) one w e h = no_cancels b begins (reached_begins code f q begins reached) (ap (leads_by code q begins) w) (subst (λ x. IsChain (table f.first ms) (id_of x) begins) e chain) h
+  fails_by (CancelsOuter n) Unseen one w e h = cc (one, e)
+  fails_by (CancelsOuter zero) Outside one w e h = cc h
+  fails_by (CancelsOuter (suc n)) Outside one w e h = too_many n begins refl (subst (λ x. IsChain (table f.first ms) (id_of x) begins) e chain) (subst (λ x. asks_by x begins) w asked)
+  fails_by (CancelsOuter n) (Inside b) one w e h = no_cancels_outer n b (begin_round f.first ms (n - 1) b) refl w (subst (λ x. IsChain (table f.first ms) (id_of x) begins) e chain) h
   fails_by Ends Unseen one w e h = cc (one, e)
   fails_by Ends Outside one w e h = cc h
   fails_by Ends (Inside b) one w e h = one_open b begins refl (subst (λ x. IsChain (table f.first ms) (id_of x) begins) e chain) (subst (λ x. asks_by x begins) w asked)

@@ -1,17 +1,18 @@
 -- Going on from a place keeps what is known, and fails only where the ways are not kept.
-use Rattle.std.proofs.Common.{◌≡◌, ℕ, suc, List, [], ◌∷◌, Option, Some, None, refl, sym, ap, ◌∙◌, subst, arith, inl, inr}
+use Rattle.std.proofs.Common.{◌≡◌, ℕ, zero, suc, ◌-◌, List, [], ◌∷◌, drop, Option, Some, None, refl, sym, ap, ◌∙◌, subst, arith, inl, inr}
 use Rattle.std.specs.Prelude.{slice_get, Contains}
 use Rattle.std.proofs.lemmas.List.Elements.{Contains-push, Contains-append_left}
 use Rattle.bytecode.specs.Code.{Code, FunctionCode, Instr}
-use Rattle.bytecode.specs.Valid.{Standing, leads_from, cancel_of, IsReached, further, AsksOpen}
+use Rattle.bytecode.specs.Valid.{Standing, cancel_of, cancelled_in, leads_from, IsReached, further, AsksOpen}
 use Rattle.bytecode.specs.declared.walk.Arrival.{Arrival}
 use Rattle.bytecode.specs.declared.walk.Arrival.TheVariants.{Unseen, Outside, Inside}
 use Rattle.bytecode.specs.declared.walk.Way.{Way}
-use Rattle.bytecode.specs.declared.walk.Way.TheVariants.{On, To, Both, Opens, Closes, Cancels, Ends}
-use Rattle.bytecode.specs.inner.Walking.{Arrivals, arrival_at, visited, way_of, reopened, begun, cancelled, twice, went_by}
+use Rattle.bytecode.specs.declared.walk.Way.TheVariants.{On, To, Both, Opens, Closes, Cancels, CancelsOuter, Ends}
+use Rattle.bytecode.specs.inner.Walking.{Arrivals, arrival_at, visited, way_of, reopened, begun, cancelled, begin_round, cancelled_at, twice, went_by}
 use Rattle.bytecode.proofs.Tables.{IsChain, some_same}
 use Rattle.bytecode.proofs.Arrivals.{seen_table, seen_one, innermost, id_of, table, chain_grows}
 use Rattle.bytecode.proofs.Meets.{State, visited_gives}
+use Rattle.bytecode.proofs.Rounds.{not_empty, enough, rounds}
 use Rattle.bytecode.proofs.Leads.{leads_by, asks_by, leads_so, asks_to, only, either, first_of}
 use Rattle.bytecode.proofs.Walks.{Walked, Taken, visit_keeps, settles}
 
@@ -75,10 +76,10 @@ module _ (code : Code) (f : FunctionCode) (ms : Arrivals) (work : List ℕ) (q m
   back to bs b parent s (Some Outside) a l t c e h = one_way to bs Outside s refl a l (subst (λ x. IsChain (table f.first ms) x bs) (some_same parent None (sym t ∙ ap innermost e)) c) h
   back to bs b parent s (Some (Inside d)) a l t c e h = one_way to bs (Inside d) s refl a l (subst (λ x. IsChain (table f.first ms) x bs) (some_same parent (Some d) (sym t ∙ ap innermost e)) c) h
 
-  cancelled_back : (bs : List ℕ) (b : ℕ) (parent : Option ℕ) (s : State) (o : Option Instr) → slice_get code.instructions b ≡ o → begins ≡ b ∷ bs → way_of i ≡ Cancels → table f.first ms b ≡ Some parent → IsChain (table f.first ms) parent bs → cancelled f.first ms work (arrival_at f.first ms b) (begun o) ≡ Some s → Walked code f s.0 s.1 (suc made)
-  cancelled_back bs b parent s (Some (Instr.Begin to)) e g w t c h =
-      back to bs b parent s (arrival_at f.first ms b) (subst (λ x. asks_by x begins) (sym w) (λ n. cc (g, n))) (ap (λ x. leads_by code q x (way_of i)) g ∙ ap (leads_by code q (b ∷ bs)) w ∙ ap (λ x. cancel_of x [] (λ to. (to, bs) ∷ [])) e) t c refl h
-  cancelled_back bs b parent s o e g w t c h = cc h
+  cancelled_back : (bs : List ℕ) (b : ℕ) (parent : Option ℕ) (s : State) (o : Option Instr) → slice_get code.instructions b ≡ o → asks_by (way_of i) begins → leads_by code q begins (way_of i) ≡ cancelled_in code (b ∷ bs) → table f.first ms b ≡ Some parent → IsChain (table f.first ms) parent bs → cancelled f.first ms work (arrival_at f.first ms b) (begun o) ≡ Some s → Walked code f s.0 s.1 (suc made)
+  cancelled_back bs b parent s (Some (Instr.Begin to)) e a l t c h =
+      back to bs b parent s (arrival_at f.first ms b) a (l ∙ ap (λ x. cancel_of x [] (λ to. (to, bs) ∷ [])) e) t c refl h
+  cancelled_back bs b parent s o e a l t c h = cc h
 
   closes : (b : ℕ) (bs : List ℕ) (s : State) → way_of i ≡ Closes → begins ≡ bs → IsChain (table f.first ms) (Some b) bs → reopened f.first ms work (suc q) (arrival_at f.first ms b) ≡ Some s → Walked code f s.0 s.1 (suc made)
   closes b [] s w e c h = cc c
@@ -86,11 +87,26 @@ module _ (code : Code) (f : FunctionCode) (ms : Arrivals) (work : List ℕ) (q m
       let g : b ≡ d = some_same b d c.0 in
       back (suc q) bs b c.1 s (arrival_at f.first ms b) (subst (λ x. asks_by x begins) (sym w) (λ n. cc (e, n))) (ap (λ x. leads_by code q x (way_of i)) e ∙ ap (leads_by code q (d ∷ bs)) w) (ap (table f.first ms) g ∙ c.2) c.3 refl h
 
-  cancels : (b : ℕ) (bs : List ℕ) (s : State) → way_of i ≡ Cancels → begins ≡ bs → IsChain (table f.first ms) (Some b) bs → cancelled f.first ms work (arrival_at f.first ms b) (begun (slice_get code.instructions b)) ≡ Some s → Walked code f s.0 s.1 (suc made)
-  cancels b [] s w e c h = cc c
-  cancels b (d ∷ bs) s w e c h =
+  -- a cancel of the first of these begins
+  cancels : (b : ℕ) (bs : List ℕ) (s : State) → asks_by (way_of i) begins → leads_by code q begins (way_of i) ≡ cancelled_in code bs → IsChain (table f.first ms) (Some b) bs → cancelled f.first ms work (arrival_at f.first ms b) (begun (slice_get code.instructions b)) ≡ Some s → Walked code f s.0 s.1 (suc made)
+  cancels b [] s a l c h = cc c
+  cancels b (d ∷ bs) s a l c h =
       let g : b ≡ d = some_same b d c.0 in
-      cancelled_back bs b c.1 s (slice_get code.instructions b) refl (e ∙ ap (λ x. x ∷ bs) (sym g)) w (ap (table f.first ms) g ∙ c.2) c.3 h
+      cancelled_back bs b c.1 s (slice_get code.instructions b) refl a (l ∙ ap (λ x. cancelled_in code (x ∷ bs)) (sym g)) (ap (table f.first ms) g ∙ c.2) c.3 h
+
+  cancels_one : (b : ℕ) (s : State) → way_of i ≡ Cancels → IsChain (table f.first ms) (Some b) begins → cancelled f.first ms work (arrival_at f.first ms b) (begun (slice_get code.instructions b)) ≡ Some s → Walked code f s.0 s.1 (suc made)
+  cancels_one b s w c h = cancels b begins s (subst (λ x. asks_by x begins) (sym w) (not_empty (table f.first ms) b begins c)) (ap (leads_by code q begins) w) c h
+
+  cancels_outer : (n b : ℕ) (s : State) (x : Option ℕ) → begin_round f.first ms (n - 1) b ≡ x → way_of i ≡ CancelsOuter n → IsChain (table f.first ms) (Some b) begins → cancelled_at code.instructions f.first ms work x ≡ Some s → Walked code f s.0 s.1 (suc made)
+  cancels_outer n b s None e w c h = cc h
+  cancels_outer n b s (Some d) e w c h =
+      let outer : IsChain (table f.first ms) (Some d) (drop (n - 1) begins) = rounds f.first ms (n - 1) b begins (Some d) c e in
+      cancels d (drop (n - 1) begins) s (subst (λ x. asks_by x begins) (sym w) (enough (table f.first ms) n d begins outer)) (ap (leads_by code q begins) w) outer h
+
+  -- with no begin open, a cancel of no levels leads nowhere
+  cancels_none : (bs : List ℕ) (s : State) → way_of i ≡ CancelsOuter zero → begins ≡ bs → IsChain (table f.first ms) None bs → Some (ms, work) ≡ Some s → Walked code f s.0 s.1 (suc made)
+  cancels_none [] s w e c h = no_way s (subst (λ x. asks_by x begins) (sym w) (omega arith)) (ap (leads_by code q begins) w ∙ ap (cancelled_in code) e) h
+  cancels_none (d ∷ bs) s w e c h = cc c.0
 
   ends : (bs : List ℕ) (s : State) → way_of i ≡ Ends → begins ≡ bs → IsChain (table f.first ms) None bs → Some (ms, work) ≡ Some s → Walked code f s.0 s.1 (suc made)
   ends [] s w e c h = no_way s (subst (λ x. asks_by x begins) (sym w) e) (ap (leads_by code q begins) w) h
@@ -103,7 +119,10 @@ module _ (code : Code) (f : FunctionCode) (ms : Arrivals) (work : List ℕ) (q m
   goes_by (Both to) n s one w e h = two_ways to s (visited f.first ms work (suc q) m) one w refl (ap (λ x. twice f.first to x (visited f.first ms work (suc q) x)) e ∙ h)
   goes_by Opens n s one w e h = one_way (suc q) (q ∷ begins) (Inside q) s refl (subst (λ x. asks_by x begins) (sym w) tt) (ap (leads_by code q begins) w) (refl, id_of m, at, chain) h
   goes_by Closes (Inside b) s one w e h = closes b begins s w refl (subst (λ x. IsChain (table f.first ms) (id_of x) begins) e chain) h
-  goes_by Cancels (Inside b) s one w e h = cancels b begins s w refl (subst (λ x. IsChain (table f.first ms) (id_of x) begins) e chain) h
+  goes_by Cancels (Inside b) s one w e h = cancels_one b s w (subst (λ x. IsChain (table f.first ms) (id_of x) begins) e chain) h
+  goes_by (CancelsOuter n) (Inside b) s one w e h = cancels_outer n b s (begin_round f.first ms (n - 1) b) refl w (subst (λ x. IsChain (table f.first ms) (id_of x) begins) e chain) h
+  goes_by (CancelsOuter zero) Outside s one w e h = cancels_none begins s w refl (subst (λ x. IsChain (table f.first ms) (id_of x) begins) e chain) h
+  goes_by (CancelsOuter zero) Unseen s one w e h = cc (one, e)
   goes_by Ends Outside s one w e h = ends begins s w refl (subst (λ x. IsChain (table f.first ms) (id_of x) begins) e chain) h
   goes_by _ n s one w e h = cc h
 

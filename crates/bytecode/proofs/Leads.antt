@@ -1,11 +1,11 @@
 -- Where instructions lead, by ways.
-use Rattle.std.proofs.Common.{◌≡◌, ◌≢◌, ◌⊎◌, ℕ, suc, List, [], ◌∷◌, Some, refl, arith, inl, inr}
-use Rattle.std.specs.Prelude.{slice_get, Contains}
+use Rattle.std.proofs.Common.{◌≡◌, ◌≢◌, ◌⊎◌, ℕ, suc, ◌-◌, ◌≤◌, List, [], ◌∷◌, length, drop, Some, refl, arith, inl, inr}
+use Rattle.std.specs.Prelude.{Contains}
 use Rattle.std.proofs.lemmas.List.Elements.{Contains-push_cases, Contains-push}
 use Rattle.bytecode.specs.Code.{Code, Instr}
-use Rattle.bytecode.specs.Valid.{Standing, leads_from, cancel_of, AsksOpen}
+use Rattle.bytecode.specs.Valid.{Standing, cancelled_in, leads_from, AsksOpen}
 use Rattle.bytecode.specs.declared.walk.Way.{Way}
-use Rattle.bytecode.specs.declared.walk.Way.TheVariants.{On, To, Both, Opens, Closes, Cancels, Ends}
+use Rattle.bytecode.specs.declared.walk.Way.TheVariants.{On, To, Both, Opens, Closes, Cancels, CancelsOuter, Ends}
 use Rattle.bytecode.specs.inner.Walking.{way_of}
 
 abbrev pub leads_by : Code → ℕ → List ℕ → Way → List Standing
@@ -15,13 +15,14 @@ leads_by code q bs (Both to) = (suc q, bs) ∷ (to, bs) ∷ []
 leads_by code q bs Opens = (suc q, q ∷ bs) ∷ []
 leads_by code q [] Closes = []
 leads_by code q (b ∷ bs) Closes = (suc q, bs) ∷ []
-leads_by code q [] Cancels = []
-leads_by code q (b ∷ bs) Cancels = cancel_of (slice_get code.instructions b) [] (λ to. (to, bs) ∷ [])
+leads_by code q bs Cancels = cancelled_in code bs
+leads_by code q bs (CancelsOuter n) = cancelled_in code (drop (n - 1) bs)
 leads_by code q bs Ends = []
 
 abbrev pub asks_by : Way → List ℕ → Type 0
 asks_by Closes bs = bs ≢ []
 asks_by Cancels bs = bs ≢ []
+asks_by (CancelsOuter n) bs = n ≤ length bs
 asks_by Ends bs = bs ≡ []
 asks_by w bs = Unit {0}
 

@@ -1,10 +1,11 @@
 -- the lines of a listing, and characters that stand for themselves in it
 mod Lines
 mod Escaping
--- arrivals at places as a table of innermost open begins, and what a visit does to it
+-- arrivals at places as a table of innermost open begins, what a visit does to it, and the begins round a begin
 pub mod Tables
 mod Arrivals
 mod Meets
+mod Rounds
 -- where instructions lead, what the walk over a function's ways keeps, and how it goes on, fails, begins and ends
 mod Leads
 mod Walks

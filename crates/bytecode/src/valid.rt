@@ -189,7 +189,7 @@ fn are_valid_functions<A: Allocator + Copy>(
     Ok(true)
 }
 
-// Whether parts are a valid code, in time for their size alone.
+// Whether parts are a valid code.
 fn is_valid<A: Allocator + Copy>(alloc: A, parts: &Parts<A>) -> Result<bool, AllocError>
     ensures { IfOk result (λ b. IsTrue b ↔ IsValid (code_of parts.now)) }
 {
@@ -216,9 +216,12 @@ fn is_valid<A: Allocator + Copy>(alloc: A, parts: &Parts<A>) -> Result<bool, All
     }
 }
 
-/// The code of these very parts, and `None` exactly where they are not valid. Takes time for their size alone, and memory for
-/// an arrival and a place for each of the longest function's instructions and a name for each function. Where that is refused, the
-/// parts come back.
+/// The code of these very parts, and `None` exactly where they are not valid. Takes memory for an arrival and a place for each of
+/// the longest function's instructions and a name for each function. Where that is refused, the parts come back.
+///
+/// Takes time for the parts' size, and for each `cancelx #K` that a way comes to for K more, or for the number of begins that are
+/// open there where that is less. So N instructions may take time for the square of N: where a third of them are begins that stay
+/// open, and another third cancels of them all.
 pub fn validate<A: Allocator + Copy>(
     alloc: A,
     parts: Parts<A>,

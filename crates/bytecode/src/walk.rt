@@ -5,7 +5,7 @@ ghost use Rattle.bytecode.specs.Valid.{KeepsOpen};
 ghost use Rattle.bytecode.specs.Views.{code_of, function_of, instr_of};
 ghost use Rattle.bytecode.specs.Code.{Code as Plain, FunctionCode as FunctionPlain, Instr as PlainInstr};
 ghost use Rattle.bytecode.specs.declared.walk.Arrival.TheVariants.{Unseen};
-ghost use Rattle.bytecode.specs.inner.Walking.{way_of, visited, given, arrival_at, reopened, begun_by, begun, went_by};
+ghost use Rattle.bytecode.specs.inner.Walking.{way_of, visited, given, arrival_at, reopened, begun_by, begun, cancelled, begin_round, cancelled_at, went_by};
 
 use crate::code::{FunctionCode, Parts};
 use crate::instr::Instr;
@@ -48,6 +48,7 @@ fn way_on(instr: &Instr) -> Way
         Instr::Begin(_) => Way::Opens,
         Instr::Commit => Way::Closes,
         Instr::Cancel => Way::Cancels,
+        Instr::CancelOuter(levels) => Way::CancelsOuter(*levels),
         Instr::Return => Way::Ends,
         Instr::ReturnValue(_) => Way::Ends,
         _ => Way::On,
@@ -132,6 +133,58 @@ fn cancel_at(instrs: &[Instr], at: usize) -> Option<u32>
     }
 }
 
+// Goes on where a cancel of the begin at a place does: whether a way may come there.
+fn cancel<A: Allocator>(
+    instrs: &[Instr],
+    arrivals: &mut [Arrival],
+    work: &mut Vec<usize, A>,
+    first: usize,
+    begin: usize,
+) -> Result<bool, AllocError>
+    ensures cancelled { (arguments : List ℕ) → IfOk result (λ b. cancelled first arrivals.old work.old.items (arrival_at first arrivals.old begin) (begun (slice_get (map (instr_of arguments) instrs.now) begin)) ≡ given b arrivals.new work.new.items) }
+    ensures len { length arrivals.new ≡ length arrivals.old }
+{
+    match cancel_at(instrs, begin) {
+        Some(to) => reopen(arrivals, work, first, to as usize, begin),
+        None => Ok(false),
+    }
+}
+
+// The begin round the one at a place, and the one round that, so many times.
+fn begin_round(arrivals: &[Arrival], first: usize, times: u32, begin: usize) -> Option<usize>
+    ensures { result ≡ begin_round first arrivals.now times begin }
+{
+    let mut round = begin;
+    'outward: for made in 0..times {
+        match arrival_of(arrivals, first, round) {
+            Some(Arrival::Inside(next)) => {
+                round = next;
+            }
+            None | Some(Arrival::Unseen) | Some(Arrival::Outside) => return None,
+        }
+    }
+    Some(round)
+}
+
+// Goes on where a cancel of so many levels does, the innermost of which is the begin at a place: whether there are so many, and a
+// way may come there. Takes a look at an arrival for each level.
+fn cancel_outer<A: Allocator>(
+    instrs: &[Instr],
+    arrivals: &mut [Arrival],
+    work: &mut Vec<usize, A>,
+    first: usize,
+    begin: usize,
+    levels: u32,
+) -> Result<bool, AllocError>
+    ensures cancelled { (arguments : List ℕ) → IfOk result (λ b. cancelled_at (map (instr_of arguments) instrs.now) first arrivals.old work.old.items (begin_round first arrivals.old (levels - 1) begin) ≡ given b arrivals.new work.new.items) }
+    ensures len { length arrivals.new ≡ length arrivals.old }
+{
+    match begin_round(arrivals, first, levels.saturating_sub(1), begin) {
+        Some(outer) => cancel(instrs, arrivals, work, first, outer),
+        None => Ok(false),
+    }
+}
+
 // Goes on from a place by the way of its instruction: whether each way on may go where it goes.
 fn go_by<A: Allocator>(
     instrs: &[Instr],
@@ -161,11 +214,13 @@ fn go_by<A: Allocator>(
             _ => Ok(false),
         },
         Way::Cancels => match arrival {
-            Arrival::Inside(b) => match cancel_at(instrs, b) {
-                Some(to) => reopen(arrivals, work, first, to as usize, b),
-                None => Ok(false),
-            },
+            Arrival::Inside(b) => cancel(instrs, arrivals, work, first, b),
             _ => Ok(false),
+        },
+        Way::CancelsOuter(levels) => match arrival {
+            Arrival::Inside(b) => cancel_outer(instrs, arrivals, work, first, b, levels),
+            // One of no levels asks for no begin.
+            _ => Ok(levels == 0),
         },
         Way::Ends => match arrival {
             Arrival::Outside => Ok(true),
@@ -225,7 +280,8 @@ fn walk_over<A: Allocator>(
 }
 
 /// Whether the ways through a function stay in it, come to each place with one list of open begins, and have the begins that
-/// its instructions ask for. Takes time for the function's length alone.
+/// its instructions ask for. Takes time for the function's length, and for a cancel of several levels that a way comes to for so many
+/// more, or for the begins that are open there where these are fewer.
 pub(crate) fn walk<A: Allocator + Copy>(
     alloc: A,
     parts: &Parts<A>,

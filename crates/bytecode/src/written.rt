@@ -119,6 +119,7 @@ pub(crate) fn is_written<A: Allocator>(
         Instr::Begin(cancelled) => lies(f, end, *cancelled),
         Instr::Commit => true,
         Instr::Cancel => true,
+        Instr::CancelOuter(levels) => *levels >= 2,
         Instr::Irrevocable => true,
         Instr::Call(d, count, callee, from) => {
             let args = cut(parts.arguments.as_slice(), *from as usize, *count as usize);
