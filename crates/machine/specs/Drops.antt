@@ -7,7 +7,7 @@ use Rattle.norec_core.specs.Attempts.{Attempt, Completed}
 use Rattle.machine.specs.Threads.{access, told}
 use Rattle.machine.specs.Merges.{Entry, IsMerge}
 use Rattle.machine.specs.Worlds.{Part, World, answer, new_world, step}
-use Rattle.machine.specs.Serializable.{world_after}
+use Rattle.machine.specs.Serializable.{HasChanged, world_after}
 
 -- an attempt is dropped: it is no longer there, and nothing took effect
 abbrev pub gone : {C : Type 0} → Option (Attempt C) → Option (Attempt C) → Option Completed → ℕ
@@ -47,3 +47,10 @@ DropsComeAfterTakings {C} code w = (t : ℕ) (p : Part C) (a : Attempt C) → sl
     p.thread.attempt ≡ Some a →
     (told code p.thread (answer w.lock w.words (access code p.thread))).thread.attempt ≡ None →
     (told code p.thread (answer w.lock w.words (access code p.thread))).completed ≡ None → a.snapshot < w.lock
+
+-- where a step drops an attempt, validation has loaded the word of an entry of its read log, and it is another one
+abbrev pub DropsComeOfChanges : {C : Type 0} → (C → Effect C) → World C → Type 0
+DropsComeOfChanges {C} code w = (t : ℕ) (p : Part C) (a : Attempt C) → slice_get w.parts t ≡ Some p →
+    p.thread.attempt ≡ Some a →
+    (told code p.thread (answer w.lock w.words (access code p.thread))).thread.attempt ≡ None →
+    (told code p.thread (answer w.lock w.words (access code p.thread))).completed ≡ None → HasChanged a w.words

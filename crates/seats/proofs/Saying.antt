@@ -5,17 +5,22 @@ use Rattle.std.proofs.lemmas.Bool.Decides.{eqb_tells, leb_tells}
 use Rattle.std.proofs.lemmas.Option.{slice_get_within}
 use mathlib.Core.Option.{some}
 use lib.ListN.{get_elem?}
+use Rattle.machine.specs.Answered.{Heard}
+use Rattle.machine.specs.Worlds.{World}
 use Rattle.machine.proofs.answers.Holding.{answers_ok, numbers_below, runs}
-use Rattle.bytecode.specs.Code.{effect}
+use Rattle.machine.proofs.answers.Traces.{traced}
+use Rattle.machine.proofs.runs.Computes.{answered_compute}
+use Rattle.machine.proofs.runs.Drops.{drops_are_bounded}
+use Rattle.bytecode.specs.Code.{Configuration, effect}
 use Rattle.bytecode.specs.Beginning.{beginning}
 use Rattle.bytecode.specs.Initial.{initial_of}
-use Rattle.bytecode.specs.Valid.{bounds_of}
+use Rattle.bytecode.specs.Valid.{IsValid, bounds_of}
 use Rattle.bytecode.proofs.Fits.{fits_cells}
 use Rattle.seats.proofs.Codes.{initial_fits}
-use Rattle.seats.specs.Setup.{Setup}
+use Rattle.seats.specs.Setup.{IsWorldOf, Setup}
 use Rattle.seats.specs.Views.{Among, ViewPart, Views, parts_in, parts_of}
 use Rattle.seats.specs.Rule.{IsRuled}
-use Rattle.seats.specs.Saying.{AllAreSeen, PartSays, RuleSays, RunsSay}
+use Rattle.seats.specs.Saying.{AllAreSeen, DropsSay, PartSays, RuleSays, RunsSay}
 
 find_of : (number : ℕ) (v : List ViewPart) → 1 ≤ parts_of number v → (q : ViewPart) × Among q v × (q.number ≡ number)
 find_of number [] le = absurd (omega arith)
@@ -44,8 +49,27 @@ lt_true a b lt = at (leb_tells (suc a) b)
     at (inl f) = f.0
     at (inr f) = let gt = f.1 in absurd (omega arith)
 
+module _ (key : Setup) (w : World Configuration) (heard : List (List Heard)) (valid : IsValid key.code) (answered : IsWorldOf key w heard) where
+  pub runs_say : RunsSay key w
+  runs_say =
+      let r = runs (effect key.code) (beginning key.code) (bounds_of key.code) (initial_of key.code) (initial_fits key.code) (fits_cells key.code valid) key.threads w heard answered in
+      record {
+        entries = r.0;
+        is_merge = r.1;
+        each = r.2;
+        attempts = answered_compute (effect key.code) (beginning key.code) (bounds_of key.code) (initial_of key.code) (initial_fits key.code) (fits_cells key.code valid) key.threads w heard answered;
+      }
+
+  pub drops_say : DropsSay key w heard
+  drops_say =
+      let g = traced (effect key.code) (beginning key.code) (initial_of key.code) key.threads w heard answered in
+      record {
+        traced = g;
+        bounded = drops_are_bounded (effect key.code) (beginning key.code) (bounds_of key.code) (initial_of key.code) (initial_fits key.code) (fits_cells key.code valid) key.threads g.trace;
+      }
+
 pub says : (key : Setup) (words : List ℕ) (views : Views) (rule : IsRuled key words views) → RuleSays key words views rule
-says key words views rule = (all, seen, each)
+says key words views rule = (runs_say key rule.world rule.heard rule.valid rule.answered, drops_say key rule.world rule.heard rule.valid rule.answered, seen, each)
   where
     seen : AllAreSeen rule.world views
     seen t p e =
@@ -58,9 +82,6 @@ says key words views rule = (all, seen, each)
         let f = find_in t views (omega arith) in
         let g : Some f.2.part ≡ Some p = sym (rule.fits f.0 f.1 f.2 f.3 f.4).part ∙ ap (slice_get rule.world.parts) f.5 ∙ e in
         (f.0, f.1, f.2, f.3, f.4, f.5, (cc))
-
-    all : RunsSay key rule.world
-    all = let r = runs (effect key.code) (beginning key.code) (bounds_of key.code) (initial_of key.code) (initial_fits key.code) (fits_cells key.code rule.valid) key.threads rule.world rule.heard rule.answered in record { entries = r.0; is_merge = r.1; each = r.2 }
 
     each : (seat : ℕ) (view : List ViewPart) (p : ViewPart) → get_elem? views seat ≡ some view → Among p view → PartSays key rule.world p
     each seat view p at a =

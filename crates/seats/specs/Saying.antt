@@ -7,9 +7,12 @@ use Rattle.bytecode.specs.Code.{Code, Configuration, effect}
 use Rattle.bytecode.specs.Initial.{initial_of}
 use Rattle.bytecode.specs.Sequential.{meaning}
 use Rattle.bytecode.specs.Valid.{bounds_of}
-use Rattle.machine.specs.Answered.{AnswersOk, LocksFrom, NumbersBelow}
+use Rattle.machine.specs.Answered.{AnswersOk, Heard, LocksFrom, NumbersBelow}
+use Rattle.machine.specs.Computes.{AttemptsCompute}
+use Rattle.machine.specs.Drops.{DropsAreBounded}
 use Rattle.machine.specs.Explained.{IsExplainedBy}
 use Rattle.machine.specs.Merges.{Entry, IsMerge}
+use Rattle.machine.specs.Traces.{IsTraced}
 use Rattle.machine.specs.Worlds.{Part, World}
 use Rattle.syntax.specs.Behaviours.{Behaviour}
 use Rattle.bytecode.specs.Beginning.{beginning}
@@ -25,13 +28,23 @@ IsExplained does key w es = IsExplainedBy does (bounds_of key.code) (initial_of 
 abbrev pub code_does : Code → Behaviour
 code_does code = meaning (effect code) (beginning code)
 
--- There is a merge of the records, and every merge is a run of the code in which every thread stands. While the lock
--- is even the words are its last memory; while it is odd one thread has it, and the words are that memory with what
--- this thread has stored so far. Each attempt has a moment.
+-- There is a merge of the records, and every merge is a run of the code in which every thread stands. While the lock is
+-- even the words are its last memory; while it is odd one thread has it, and the words are that memory with what this
+-- thread has stored so far. Each attempt has a moment, and also one that will be dropped is where its code's meaning
+-- comes on the memory of its moment.
 pub record RunsSay (key : Setup) (w : World Configuration) : Type 0 where
   pub entries : List Entry
   pub is_merge : IsMerge w.parts entries
   pub each : (es : List Entry) → IsMerge w.parts es → IsExplained (code_does key.code) key w es
+  pub attempts : AttemptsCompute (effect key.code) (beginning key.code) (initial_of key.code) w
+
+-- Some list of steps leads to the world and to all answers, so it makes just what the threads did; and in it each
+-- thread has been dropped at most once for each transaction of another thread that took the lock, and once more while
+-- the lock is held. In which order in time the threads made these steps is not said.
+pub record DropsSay (key : Setup) (w : World Configuration) (heard : List (List Heard)) : Type 0 where
+  pub traced : IsTraced (effect key.code) (beginning key.code) (initial_of key.code) key.threads w heard
+  pub bounded :
+      DropsAreBounded (effect key.code) (beginning key.code) (initial_of key.code) key.threads traced.trace
 
 -- The answers of a thread are in order and each is explained; its records that took the lock have numbers below the
 -- lock, its floor is not above the lock, and no lock value answered since is below the floor.
@@ -50,6 +63,7 @@ AllAreSeen w views = (t : ℕ) (p : Part Configuration) → slice_get w.parts t 
 abbrev pub RuleSays : (key : Setup) (words : List ℕ) (views : Views) → IsRuled key words views → Type 0
 RuleSays key words views rule =
     RunsSay key rule.world
+    × DropsSay key rule.world rule.heard
     × AllAreSeen rule.world views
     × ((seat : ℕ) (view : List ViewPart) (p : ViewPart) → get_elem? views seat ≡ some view → Among p view →
     PartSays key rule.world p)

@@ -12,12 +12,14 @@ use Rattle.machine.specs.Explained.{HasLock}
 use Rattle.bytecode.specs.Code.{Configuration}
 use Rattle.machine.specs.Worlds.{Part, World}
 use Rattle.machine.proofs.answers.Answering.{pauses}
-use Rattle.machine.proofs.answers.Holding.{runs, unheld}
+use Rattle.machine.proofs.answers.Holding.{unheld}
+use Rattle.machine.proofs.runs.Programs.{explained_source}
 use Rattle.machine.proofs.steps.Worlds.{get-set_other, get-set_same}
 use Rattle.bytecode.specs.Code.{effect}
 use Rattle.bytecode.specs.Beginning.{beginning}
 use Rattle.machine.specs.States.{attempt_has_lock, thread_has_lock}
 use Rattle.bytecode.specs.Initial.{initial_of}
+use Rattle.bytecode.specs.Sequential.{meaning}
 use Rattle.bytecode.specs.Valid.{bounds_of}
 use Rattle.bytecode.proofs.Fits.{fits_cells}
 use Rattle.seats.proofs.Codes.{initial_fits}
@@ -30,6 +32,7 @@ use Rattle.workers.specs.Workers.{AreWorkersOf, IsWorkerOf}
 use Rattle.workers.specs.Closing.{AreThere, Closes, finished_back, parts_back}
 use Rattle.seats.proofs.Keeps.{at_most_one}
 use Rattle.seats.proofs.Parts.{one_if, parts_in-at, parts_of-append}
+use Rattle.seats.proofs.Saying.{drops_say, runs_say}
 
 split : (k i : ℕ) → k < i + 1 → (k < i) ⊎ (k ≡ i)
 split zero zero lt = inr refl
@@ -144,7 +147,7 @@ module _ {A : Type 0} (z : TableId) (key : Setup) where
       let rule = left.2 in
       let at : get_elem? views id ≡ some (parts_back ws) = subst (λ (v : List ViewPart). get_elem? views id ≡ some v) same left.3 in
       let s = settles rule.world rule.heard rule.answered ws all (λ n. let a = parts_in-at n views id (parts_back ws) at in let o = at_most_one (nat_lt n key.threads) (parts_in n views) (rule.once n) in omega arith) (λ p a. rule.fits id (parts_back ws) p at a) in
-      let r = runs (effect key.code) (beginning key.code) (bounds_of key.code) (initial_of key.code) (initial_fits key.code) (fits_cells key.code rule.valid) key.threads (record rule.world { parts = s.parts }) rule.heard s.reached in
+      let r = runs_say key (record rule.world { parts = s.parts }) rule.heard rule.valid s.reached in
       record {
         world = record rule.world { parts = s.parts };
         heard = rule.heard;
@@ -152,10 +155,12 @@ module _ {A : Type 0} (z : TableId) (key : Setup) where
         cells_are = (let e : (left.0 ∷ cells) ≡ rule.world.lock ∷ rule.world.words = rule.words_are in sym (ap (λ (l : List ℕ). drop 1 l) e));
         there = s.there;
         threads_are = finished;
-        runs = record { entries = r.0; is_merge = r.1; each = r.2 };
+        runs = r;
+        programs = λ does means few es m. explained_source (bounds_of key.code) (initial_of key.code) (initial_fits key.code) (meaning (effect key.code) (beginning key.code)) does means key.threads few (record rule.world { parts = s.parts }) es (r.each es m);
+        drops = drops_say key (record rule.world { parts = s.parts }) rule.heard rule.valid s.reached;
         even = λ here free. unheld (effect key.code) (beginning key.code) (bounds_of key.code) (initial_of key.code) (initial_fits key.code) (fits_cells key.code rule.valid) key.threads (record rule.world { parts = s.parts }) rule.heard s.reached
             (λ t p a e has.
-            let count = (r.2 r.0 r.1).count in
+            let count = (r.each r.entries r.is_merge).count in
             let below = slice_get_within s.parts t p e in
             let h = here t (omega arith) in
             let g = thread_there (record rule.world { parts = s.parts }) rule.heard ws all s.there h.0 h.1 h.2 in

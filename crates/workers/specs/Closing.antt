@@ -1,11 +1,14 @@
 -- What is left when a hall is closed.
-use Rattle.std.specs.Prelude.{◌≡◌, ◌≢◌, ◌%◌, ◌<◌, ℕ, false, true, List, [], ◌∷◌, ◌++◌, Some}
+use Rattle.std.specs.Prelude.{◌≡◌, ◌≢◌, ◌%◌, ◌<◌, ◌≤◌, ◌^◌, ℕ, false, true, List, [], ◌∷◌, ◌++◌, Some}
 use Rattle.std.specs.List.{slice_get}
 use mathlib.Core.Option.{some}
 use lib.ListN.{get_elem?}
 use Rattle.atomic_table.specs.Seated.{TableId}
+use Rattle.syntax.specs.Behaviours.{Behaviour, Means}
 use Rattle.bytecode.specs.Code.{Configuration}
+use Rattle.bytecode.specs.Valid.{bounds_of}
 use Rattle.machine.specs.Answered.{Heard}
+use Rattle.machine.specs.Merges.{Entry, IsMerge}
 use Rattle.machine.specs.Worlds.{World}
 use Rattle.machine.specs.States.{thread_has_lock}
 use Rattle.workers.specs.declared.worker.Worker.{Worker}
@@ -14,7 +17,7 @@ use Rattle.workers.specs.declared.close.CloseReason.{CloseReason}
 use Rattle.workers.specs.declared.close.CloseReason.TheVariants.{OutOfMemory, Missing, LockHeld}
 use Rattle.seats.specs.Setup.{Setup, IsWorldOf}
 use Rattle.seats.specs.Views.{ViewPart}
-use Rattle.seats.specs.Saying.{RunsSay}
+use Rattle.seats.specs.Saying.{DropsSay, IsExplained, RunsSay, code_does}
 use Rattle.workers.specs.Workers.{AreWorkersOf}
 
 -- A is the allocator
@@ -67,6 +70,11 @@ module _ {A : Type 0} where
     pub there : AreThere z key world heard ws all
     pub threads_are : threads ≡ finished_back ws
     pub runs : RunsSay key world
+    -- and of each program that the code means
+    pub programs : (does : Behaviour) → Means (bounds_of key.code) (code_does key.code) does → key.threads ≤ 2 ^ 32 →
+        (es : List Entry) → IsMerge world.parts es → IsExplained does key world es
+    -- no thread was dropped more often than others took the lock
+    pub drops : DropsSay key world heard
     -- where no worker's thread has the lock it is even, and then the cells are the last memory of each of these runs
     pub even : AllHere ws key.threads → NoneHolds ws → world.lock % 2 ≡ 0
 

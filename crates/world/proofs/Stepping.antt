@@ -31,7 +31,12 @@ use Rattle.machine.specs.Worlds.{Part, World, answer, lock_after, new_world, par
 use Rattle.machine.proofs.answers.Answering.{reached}
 use Rattle.machine.proofs.answers.Holding.{memory, runs, swaps_even, unheld, within}
 use Rattle.machine.proofs.answers.Traces.{answered}
-use Rattle.machine.proofs.runs.Programs.{opaque, opaque_source}
+use Rattle.machine.proofs.runs.Computes.{all_compute}
+use Rattle.machine.proofs.runs.Drops.{drops_are_bounded, drops_come_after_takings}
+use Rattle.machine.proofs.runs.OneOrder.{one_order}
+use Rattle.machine.proofs.runs.Programs.{opaque, opaque_source, serializable_source}
+use Rattle.machine.proofs.runs.Strict.{strictly_serializable}
+use Rattle.machine.proofs.single.Aborts.{abort_reason}
 use Rattle.machine.proofs.single.Locked.{never_aborts}
 use Rattle.machine.proofs.tallies.Spans.{counts_by_meaning}
 use Rattle.world.proofs.Cells.{answer_fits, initial_fits, memory_length, word_fits}
@@ -129,6 +134,14 @@ module _ (s : Simulation) (lock : ℕ) (words : List ℕ) (threads : List Thread
     reached = reached (effect s.code) (beginning s.code) (initial_of s.code) s.threads w heard is_answered;
     code = opaque (effect s.code) (beginning s.code) (bounds_of s.code) (initial_of s.code) (initial_fits s.code) (fits_cells s.code k.valid) s.threads s.trace;
     programs = λ program means. opaque_source (effect s.code) (beginning s.code) (bounds_of s.code) (initial_of s.code) (initial_fits s.code) (fits_cells s.code k.valid) program means s.threads (let f = k.few in omega arith) s.trace;
+    strict = λ program means us.
+        strictly_serializable (effect s.code) (beginning s.code) (bounds_of s.code) (initial_of s.code) (initial_fits s.code) (fits_cells s.code k.valid) program s.threads s.trace us
+        (serializable_source (effect s.code) (beginning s.code) (bounds_of s.code) (initial_of s.code) (initial_fits s.code) (fits_cells s.code k.valid) program means s.threads (let f = k.few in omega arith) (s.trace ++ us));
+    order = one_order (effect s.code) (beginning s.code) (bounds_of s.code) (initial_of s.code) (initial_fits s.code) (fits_cells s.code k.valid) s.threads s.trace;
+    attempts = all_compute (effect s.code) (beginning s.code) (bounds_of s.code) (initial_of s.code) (initial_fits s.code) (fits_cells s.code k.valid) s.threads s.trace;
+    drops = drops_are_bounded (effect s.code) (beginning s.code) (bounds_of s.code) (initial_of s.code) (initial_fits s.code) (fits_cells s.code k.valid) s.threads s.trace;
+    changes = λ t p a here has gone none. abort_reason (effect s.code) p.thread a w.lock w.words has gone none;
+    takings = drops_come_after_takings (effect s.code) (beginning s.code) (bounds_of s.code) (initial_of s.code) (initial_fits s.code) (fits_cells s.code k.valid) s.threads s.trace;
     holders = never_aborts (effect s.code) (beginning s.code) (bounds_of s.code) (initial_of s.code) (initial_fits s.code) (fits_cells s.code k.valid) s.threads s.trace;
     counts = counted;
   }

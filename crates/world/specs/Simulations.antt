@@ -13,10 +13,14 @@ use Rattle.machine.specs.declared.event.Event.{Event}
 use Rattle.machine.specs.declared.event.Event.TheVariants as event
 use Rattle.machine.specs.declared.event.StepShown.{StepShown}
 use Rattle.machine.specs.Alone.{ReachesEnd}
+use Rattle.machine.specs.Computes.{AttemptsCompute}
+use Rattle.machine.specs.Drops.{DropsAreBounded, DropsComeAfterTakings, DropsComeOfChanges}
 use Rattle.machine.specs.Holders.{HoldersNeverAbort}
 use Rattle.machine.specs.Merges.{run_of}
+use Rattle.machine.specs.OneOrder.{IsInOneOrder}
 use Rattle.machine.specs.Serializable.{IsOpaque, merge_after, world_after}
 use Rattle.machine.specs.States.{thread_has_lock}
+use Rattle.machine.specs.Strict.{IsStrictlySerializable}
 use Rattle.machine.specs.Tallies as tallies
 use Rattle.machine.specs.Tallies.{BeginsFree, IsOpenAfter, IsOverAfter, IsUndisturbed}
 use Rattle.machine.specs.Threads.{access, told}
@@ -123,8 +127,13 @@ CountsAccesses s = (t : ℕ) (p : Part Configuration) (us : List ℕ) (k : ℕ) 
 
 -- What holds of every world: none of its steps was one that stops; its transactions are one after another, in the order
 -- of time, each attempt has a moment, and later runs extend earlier ones. So it is for the code, and for every program
--- that the code means. From here on a thread that has the lock never aborts, and the accesses of an undisturbed
--- transaction are those that the code's meaning tells.
+-- that the code means. What a thread begins from here on, where it has no attempt, stands behind all that has taken
+-- effect. All attempts, the dropped ones too, stand in one order, which is that of time. Each attempt, also one that
+-- will be dropped, is where its code's meaning comes on the memory of its moment. A thread has been dropped at most
+-- once for each transaction of another thread that took the lock, and once more while the lock is held; and its next
+-- step drops its attempt only where validation loaded the word of an entry of the read log and found another one, and
+-- where the lock was taken since its last snapshot. From here on a thread that has the lock never aborts, and the
+-- accesses of an undisturbed transaction are those that the code's meaning tells.
 pub record IsExplained (s : Simulation) : Type 0 where
   pub reached : Reached (effect s.code) (beginning s.code) (initial_of s.code) s.threads (world_of s)
   pub code : IsOpaque (effect s.code) (beginning s.code) (meaning (effect s.code) (beginning s.code)) (bounds_of s.code)
@@ -132,6 +141,14 @@ pub record IsExplained (s : Simulation) : Type 0 where
   pub programs : (program : Behaviour) →
       Means (bounds_of s.code) (meaning (effect s.code) (beginning s.code)) program →
       IsOpaque (effect s.code) (beginning s.code) program (bounds_of s.code) (initial_of s.code) s.threads s.trace
+  pub strict : (program : Behaviour) → Means (bounds_of s.code) (meaning (effect s.code) (beginning s.code)) program →
+      (us : List ℕ) → IsStrictlySerializable (effect s.code) (beginning s.code) program (bounds_of s.code)
+      (initial_of s.code) s.threads s.trace us
+  pub order : IsInOneOrder (effect s.code) (beginning s.code) (initial_of s.code) s.threads s.trace
+  pub attempts : AttemptsCompute (effect s.code) (beginning s.code) (initial_of s.code) (world_of s)
+  pub drops : DropsAreBounded (effect s.code) (beginning s.code) (initial_of s.code) s.threads s.trace
+  pub changes : DropsComeOfChanges (effect s.code) (world_of s)
+  pub takings : DropsComeAfterTakings (effect s.code) (world_of s)
   pub holders : HoldersNeverAbort (effect s.code) (world_of s)
   pub counts : CountsAccesses s
 
