@@ -2,6 +2,8 @@
 pub mod Turns
 -- many local steps of a worker
 pub mod Resting
+-- its thread stands in a run, as it is now
+pub mod Standing
 -- what a worker does goes on from what it did
 pub mod Going
 -- two workers meet

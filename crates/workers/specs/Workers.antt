@@ -1,13 +1,16 @@
 -- Workers of a hall.
-use Rattle.std.specs.Prelude.{◌≡◌, ◌+◌, ◌<◌, ◌^◌, ℕ, suc, List, [], ◌∷◌}
+use Rattle.std.specs.Prelude.{◌≡◌, ◌+◌, ◌<◌, ◌≤◌, ◌^◌, ℕ, suc, List, [], ◌∷◌}
+use Rattle.syntax.specs.Behaviours.{Behaviour, Means}
 use Rattle.syntax.specs.declared.numbers.Status.{Status as ThreadStatus}
 use Rattle.syntax.specs.declared.numbers.Status.TheVariants as thread
 use Rattle.atomic_table.specs.Seated.{TableId}
+use Rattle.bytecode.specs.Valid.{bounds_of}
 use Rattle.workers.specs.declared.worker.Worker.{Worker}
 use Rattle.workers.specs.declared.worker.Status.{Status}
 use Rattle.workers.specs.declared.worker.Status.TheVariants.{Ended, Trapped, Budget}
+use Rattle.seats.specs.Saying.{code_does}
 use Rattle.seats.specs.Setup.{Setup}
-use Rattle.workers.specs.Works.{Works, GoesOnFrom, MeetsAt}
+use Rattle.workers.specs.Works.{Works, GoesOnFrom, MeetsAt, StandsInARun}
 
 -- A is the allocator
 module _ {A : Type 0} where
@@ -22,6 +25,13 @@ module _ {A : Type 0} where
   abbrev pub StepsOn : TableId → Setup → Worker A → Worker A → Type 0
   StepsOn z key a b = (was : IsWorkerOf z key a) →
       (is : IsWorkerOf z key b) × GoesOnFrom key.code was.1.part was.1.now is.1.part is.1.now
+
+  -- Whatever is known of the worker before, after the call there is a run of each program that the code means in which
+  -- its thread stands as it is then, and in which what it had done before comes first among its own.
+  abbrev pub StandsOn : TableId → Setup → Worker A → Worker A → Type 0
+  StandsOn z key a b = (does : Behaviour) → Means (bounds_of key.code) (code_does key.code) does →
+      key.threads ≤ 2 ^ 32 → (was : IsWorkerOf z key a) →
+      StandsInARun does key b.number was.1.now.records b.thread.thread
 
   -- a worker of the table that has made some number of steps, to which n more can be counted
   abbrev pub CanStep : TableId → Setup → ℕ → Worker A → Type 0

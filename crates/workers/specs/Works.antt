@@ -1,6 +1,9 @@
 -- What a worker has done.
 use Rattle.std.specs.Prelude.{◌≡◌, ℕ, ◌≤◌, List, [], ◌∷◌, ◌++◌, length, drop, true, None, Some}
+use Rattle.syntax.specs.Behaviours.{Behaviour, IsRun, Stands}
+use Rattle.bytecode.specs.Beginning.{beginning}
 use Rattle.bytecode.specs.Code.{Code, Configuration, effect}
+use Rattle.bytecode.specs.Initial.{initial_of}
 use Rattle.bytecode.specs.Valid.{IsValid}
 use Rattle.norec_core.specs.declared.step.Access.{Access}
 use Rattle.norec_core.specs.declared.step.Stop.{Stop}
@@ -8,8 +11,10 @@ use Rattle.norec_core.specs.declared.step.Stop.TheVariants.{OutOfMemory, Sequenc
 use Rattle.norec_core.specs.Accesses.{stops}
 use Rattle.norec_core.specs.Attempts.{Attempt}
 use Rattle.machine.specs.Answered.{Heard, LocksFrom, Replays, paused}
+use Rattle.machine.specs.Computes.{HasComputed}
+use Rattle.machine.specs.Merges.{Entry, own, run_of}
 use Rattle.machine.specs.Threads.{Thread}
-use Rattle.machine.specs.Worlds.{Part}
+use Rattle.machine.specs.Worlds.{Part, Record}
 use Rattle.machine.specs.Standing.{IsThreadOf}
 use Rattle.machine.specs.States.{first_thread}
 use Rattle.seats.specs.Setup.{Setup, IsPart}
@@ -51,6 +56,21 @@ pub record GoesOnFrom (code : Code) (p : ViewPart) (now : Part Configuration)
   pub steps : Replays (effect code) now.thread count more later.thread
   pub records : Grows now.records later.records
   pub floor : (q.floor ≡ p.floor) × (q.floor_at ≡ p.floor_at)
+
+-- A run of the behaviour in which the thread stands as it is now: it has printed its text there, and ends or traps only
+-- where it does there. Its earlier transactions come first there among its own, with the memories that they found and
+-- left. Its attempt, where it has one, is where the code's meaning comes on one memory of this run, also where it will
+-- be dropped.
+pub record StandsInARun (does : Behaviour) (key : Setup) (number : ℕ) (earlier : List Record)
+    (th : Thread Configuration) : Type 0 where
+  pub entries : List Entry
+  pub is_run : IsRun does key.threads (initial_of key.code) (run_of entries)
+  pub stands : Stands does (initial_of key.code) (run_of entries) number th.text th.status
+  pub first : Grows earlier (own number entries)
+  pub part : Part Configuration
+  pub thread_is : part.thread ≡ th
+  pub computes : (a : Attempt Configuration) → th.attempt ≡ Some a →
+      HasComputed (effect key.code) (beginning key.code) (initial_of key.code) entries number part a
 
 -- why a step was not made: the sequence is used up only where the step would stop
 abbrev pub Because : Stop → Access → Type 0

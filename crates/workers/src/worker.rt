@@ -62,7 +62,7 @@ fn back_off() {
 }
 
 impl<A: Allocator + Copy> Worker<A> {
-    ghost use Rattle.workers.specs.Workers.{CanStep, IsWorkerOf, StepsBy, StepsOn, FloorsAt, Reports};
+    ghost use Rattle.workers.specs.Workers.{CanStep, IsWorkerOf, StepsBy, StandsOn, StepsOn, FloorsAt, Reports};
 
     // Steps are counted where `step` and `run` end, and not by what they call.
 
@@ -469,11 +469,16 @@ impl<A: Allocator + Copy> Worker<A> {
     ///
     /// A stop, `OutOfMemory` where the memory that a step wants was refused and `SequenceUsedUp` where the lock has no value
     /// left, leaves all earlier steps, and the same call may go on from there.
+    ///
+    /// After it there is a run of every program that the code means in which the thread stands as it is then, local steps
+    /// since its last access and commits without a write among them, and in which its earlier transactions come first among
+    /// its own. An attempt that it has is where the code comes on one memory of that run, also where it will be dropped.
     pub fn run(&mut self, hall: &Hall<A>, budget: u64) -> Result<Status, Stop>
         requires worker { IsWorkerOf hall.now.table.shared.table_id hall.now.setup self.old }
         requires room { self.old.steps + budget < 2 ^ 64 }
         ensures worker { IsWorkerOf hall.now.table.shared.table_id hall.now.setup self.new }
         ensures goes_on { (self.new.number ≡ self.old.number) × StepsOn hall.now.table.shared.table_id hall.now.setup self.old self.new }
+        ensures runs { StandsOn hall.now.table.shared.table_id hall.now.setup self.old self.new }
         ensures steps { (self.old.steps ≤ self.new.steps) × (self.new.steps ≤ self.old.steps + budget) }
         ensures status { IfOk result (λ s. Reports s self.new.thread.thread.status (self.old.steps + budget) self.new.steps) }
         ensures stop { IfErr result (λ e. Because e (access_of (effect hall.now.setup.code) self.new.thread.thread)) }
