@@ -8,7 +8,7 @@ use refusing::Refusing;
 use std::alloc::{Allocator, Global};
 
 // The answer of an access that finds this value in the lock or the word.
-fn answer_to(access: Access, found: u64) -> Answer
+pub(crate) fn answer_to(access: Access, found: u64) -> Answer
     ensures { IsAnswerTo access result }
 {
     match access {
@@ -31,10 +31,10 @@ pub(crate) fn step<A: Allocator + Copy>(
 }
 
 // An operation, what its access finds, the access, and what comes of the operation.
-type Row = (Op, u64, Access, Outcome);
+pub(crate) type Row = (Op, u64, Access, Outcome);
 
 // Whether each of these steps is played so. The rows stand in functions, so that no proof but theirs looks at them.
-fn plays<A: Allocator + Copy>(core: &mut Core<A>, rows: &[Row]) -> bool {
+pub(crate) fn plays<A: Allocator + Copy>(core: &mut Core<A>, rows: &[Row]) -> bool {
     for row in rows {
         if step(core, row.0, row.1) != Ok((row.2, row.3)) {
             return false;

@@ -11,6 +11,8 @@ mod held;
 #[cfg(test)]
 mod large;
 #[cfg(test)]
+mod levels;
+#[cfg(test)]
 mod reads;
 #[cfg(test)]
 mod texts;
