@@ -109,6 +109,87 @@ fn a_trap_gives_the_lock_back(rt: HostRuntime) {
     assert_that(&rt, holds);
 }
 
+// Adds 1 to x, and takes back what two inner transactions do, as one: its place and registers are those of the outer of these.
+fn takes_back() -> &'static [Instr] {
+    static CODE: [Instr; 14] = [
+        Instr::Begin(13),
+        Instr::Read(0, 0),
+        Instr::Constant(1, 1),
+        Instr::AddSigned(0, 0, 1),
+        Instr::Write(0, 0),
+        Instr::Begin(11),
+        Instr::Constant(0, 9),
+        Instr::Write(0, 0),
+        Instr::Begin(10),
+        Instr::CancelOuter(2),
+        Instr::Commit,
+        Instr::Commit,
+        Instr::PrintSigned(0),
+        Instr::Return,
+    ];
+    &CODE
+}
+
+fn taken_back() -> &'static Wanted<'static> {
+    static WANTED: Wanted<'static> = Wanted {
+        events: &[(3, 0, Event::Cancel), (6, 0, Event::Commit)],
+        threads: &[(End::Ended, "1")],
+        words: &[1],
+        holder: None,
+        stop: None,
+    };
+    &WANTED
+}
+
+#[test]
+fn a_cancel_of_two_levels_goes_back_to_the_outer_one(rt: HostRuntime) {
+    let holds = gives(rt.alloc(), takes_back(), 1, "0 a20", taken_back());
+    assert_that(&rt, holds);
+}
+
+// Reads x in the inner one of two transactions, takes back both, and stores 5.
+fn reads_and_takes_back() -> &'static [Instr] {
+    static CODE: [Instr; 10] = [
+        Instr::Begin(9),
+        Instr::Begin(6),
+        Instr::Begin(5),
+        Instr::Read(0, 0),
+        Instr::CancelOuter(2),
+        Instr::Commit,
+        Instr::Constant(0, 5),
+        Instr::Write(0, 0),
+        Instr::Commit,
+        Instr::Return,
+    ];
+    &CODE
+}
+
+// What thread 1 has read there is validated all the same, once thread 0 has stored.
+fn validated() -> &'static Wanted<'static> {
+    static WANTED: Wanted<'static> = Wanted {
+        events: &[
+            (6, 0, Event::Cancel),
+            (9, 0, Event::Commit),
+            (9, 1, Event::Cancel),
+            (12, 1, Event::Abort),
+            (15, 1, Event::Cancel),
+            (18, 1, Event::Commit),
+        ],
+        threads: &[(End::Ended, ""), (End::Ended, "")],
+        words: &[5],
+        holder: None,
+        stop: None,
+    };
+    &WANTED
+}
+
+#[test]
+fn what_cancelled_levels_have_read_is_validated(rt: HostRuntime) {
+    let schedule = "1 a3\n0 a9\n1 a20";
+    let holds = gives(rt.alloc(), reads_and_takes_back(), 2, schedule, validated());
+    assert_that(&rt, holds);
+}
+
 // It has the lock before its print.
 fn held() -> &'static Wanted<'static> {
     static WANTED: Wanted<'static> = Wanted {
@@ -185,9 +266,9 @@ fn are_shown(alloc: Global, code: &Code, steps: &[u32], wanted: &[(u64, u32, Ste
     }
 }
 
-// The same of two threads that add 1 to x.
-fn shows(alloc: Global, steps: &[u32], wanted: &[(u64, u32, StepShown)]) -> bool {
-    match code_of(alloc, &over_x(adds_one())) {
+// The same of two threads of these instructions.
+fn shows(alloc: Global, instrs: &[Instr], steps: &[u32], wanted: &[(u64, u32, StepShown)]) -> bool {
+    match code_of(alloc, &over_x(instrs)) {
         Some(code) => are_shown(alloc, &code, steps, wanted),
         None => false,
     }
@@ -207,8 +288,35 @@ fn first_steps() -> [(u64, u32, StepShown); 5] {
 
 #[test]
 fn each_step_is_shown(rt: HostRuntime) {
-    let both = shows(rt.alloc(), &[0, 0, 1, 0, 0], &first_steps());
+    let both = shows(rt.alloc(), adds_one(), &[0, 0, 1, 0, 0], &first_steps());
     // nothing is shown with a step of a thread that there is not
-    let stranger = shows(rt.alloc(), &[0, 2], &[]);
+    let stranger = shows(rt.alloc(), adds_one(), &[0, 2], &[]);
     assert_all(&rt, &[("both", both), ("a stranger", stranger)]);
+}
+
+// Takes back two transactions, which are all that are open.
+fn takes_all_back() -> &'static [Instr] {
+    static CODE: [Instr; 4] = [
+        Instr::Begin(3),
+        Instr::Begin(3),
+        Instr::CancelOuter(2),
+        Instr::Return,
+    ];
+    &CODE
+}
+
+#[test]
+fn a_cancel_of_two_levels_is_one_step(rt: HostRuntime) {
+    let cancels = StepShown {
+        event: Event::Cancel,
+        ..quiet(2, Access::Local, Answer::Done)
+    };
+    let wanted = [
+        (1, 0, quiet(0, Access::LoadLock, Answer::Value(0))),
+        (1, 0, quiet(1, Access::Local, Answer::Done)),
+        (1, 0, cancels),
+        (1, 0, quiet(3, Access::Local, Answer::Done)),
+    ];
+    let holds = shows(rt.alloc(), takes_all_back(), &[0, 0, 0, 0], &wanted);
+    assert_that(&rt, holds);
 }
