@@ -1,16 +1,17 @@
--- A begin opens one more, a commit and a cancel close the innermost one, and any of them can be gone back to.
-use Rattle.std.proofs.Common.{◌≡◌, ℕ, suc, ◌-◌, ◌<◌, ◌≤◌, List, [], ◌∷◌, ◌++◌, ◌≢◌, ◌⊎◌, inl, inr, length, map, drop, Option, Some, refl, sym, ap, ◌∙◌, subst, arith}
+-- A begin opens one more, a commit and a cancel close the innermost one, an outer cancel so many, and any of them can be gone
+-- back to.
+use Rattle.std.proofs.Common.{◌≡◌, ℕ, zero, suc, ◌-◌, ◌<◌, ◌≤◌, List, [], ◌∷◌, ◌++◌, ◌≢◌, ◌⊎◌, inl, inr, length, map, drop, Option, Some, refl, sym, ap, ◌∙◌, subst, arith}
 use Rattle.std.specs.Prelude.{slice_get}
 use Rattle.nesting.specs.Begins.{Saved}
 use Rattle.bytecode.specs.Effects.{Effect, after_cancel}
 use Rattle.bytecode.specs.Code.{Code, FunctionCode, Configuration, Frame, Instr, onward, going, effect, effect_of}
-use Rattle.bytecode.specs.Valid.{IsReached, AsksOpen, IsValid}
+use Rattle.bytecode.specs.Valid.{cancelled_in, end_of, IsReached, IsWritten, AsksOpen, IsValid}
 use Rattle.local_steps.specs.Local.{standing}
 use Rattle.frames.specs.Open.{saved_in, restored, IsSavedAt, AreSaved, IsFrame, AreCallers, MayStand, AreRestored, CanRestore}
-use Rattle.frames.proofs.Reached.{AreReached, IsBeginAt, are_reached, to_inside, to_outside, to_cancelled}
-use Rattle.frames.proofs.ByWay.{kind_of, begins_only, commits_only, cancels_only, ends_only}
+use Rattle.frames.proofs.Reached.{AreReached, IsBeginAt, are_reached, reached_behind, to_inside, to_outside, to_cancelled}
+use Rattle.frames.proofs.ByWay.{kind_of, begins_only, commits_only, cancels_only, cancels_outer_only, ends_only}
 use Rattle.frames.proofs.Levels.{AreUpTo, callers_up_to, frames_under, restored_under}
-use Rattle.frames.proofs.Leading.{Way, way_of, asks_of, asks_by}
+use Rattle.frames.proofs.Leading.{Way, way_of, leads_by, asks_of, asks_by}
 
 same_level : (n k : ℕ) → k ≡ suc n → suc n - k ≡ 0
 same_level n k e = omega arith
@@ -149,13 +150,85 @@ goes_back code c inner s outer m =
       (onward (restored c s), going (restored c s) b.begins.0, ap (effect_of code (restored c s)) b.begins.1),
     )
 
--- ---- an instruction that opens a begin or closes one
+-- ---- an instruction that opens a begin or closes some
+
+-- so many are closed, and the thread goes on where the outermost of these says
+abbrev pub IsCancelled : Code → Configuration → List Saved → ℕ → Type 0
+IsCancelled code c ss n = (inner : List Saved) × (s : Saved) × (rest : List Saved) × (n ≡ suc (length inner)) × (ss ≡ inner ++ s ∷ rest) × MayStand code (after_cancel (effect code (restored c s)) (restored c s)) rest × AreRestored c (after_cancel (effect code (restored c s)) (restored c s)) rest
+
+-- the begin behind so many, and what it saved
+record IsParted (f : FunctionCode) (number n : ℕ) (begins : List ℕ) (ss callers : List Saved) : Type 0 where
+  place : ℕ
+  others : List ℕ
+  inner : List Saved
+  saved : Saved
+  rest : List Saved
+  drops : drop n begins ≡ place ∷ others
+  count : length inner ≡ n
+  all : ss ≡ inner ++ saved ∷ rest
+  is_saved : IsSavedAt f number place saved
+  are_saved : AreSaved f number others rest callers
+
+parted_by : (f : FunctionCode) (number n : ℕ) (begins : List ℕ) (ss callers : List Saved) → AreSaved f number begins ss callers → n < length begins → IsParted f number n begins ss callers
+parted_by f number n [] ss callers a lt = absurd (omega arith)
+parted_by f number n (b ∷ begins) [] callers a lt = absurd a
+parted_by f number zero (b ∷ begins) (s ∷ ss) callers a lt = record {
+  place = b;
+  others = begins;
+  inner = [];
+  saved = s;
+  rest = ss;
+  drops = refl;
+  count = refl;
+  all = refl;
+  is_saved = a.0;
+  are_saved = a.1;
+}
+parted_by f number (suc n) (b ∷ begins) (s ∷ ss) callers a lt =
+    let p = parted_by f number n begins ss callers a.1 (omega arith) in
+    record {
+      place = p.place;
+      others = p.others;
+      inner = s ∷ p.inner;
+      saved = p.saved;
+      rest = p.rest;
+      drops = p.drops;
+      count = ap suc p.count;
+      all = ap (λ xs. s ∷ xs) p.all;
+      is_saved = p.is_saved;
+      are_saved = p.are_saved;
+    }
+
+some_open : (bs : List ℕ) → bs ≢ [] → 1 ≤ length bs
+some_open [] some = absurd (some refl)
+some_open (b ∷ bs) some = omega arith
+
+none_inside : (inner : List Saved) → 1 ≡ suc (length inner) → inner ≡ []
+none_inside [] e = refl
+none_inside (s ∷ inner) e = absurd (omega (arith, e))
+
+one_level : (code : Code) (c : Configuration) (ss : List Saved) → IsCancelled code c ss 1 → (s : Saved) × (rest : List Saved) × (ss ≡ s ∷ rest) × MayStand code (after_cancel (effect code (restored c s)) (restored c s)) rest × AreRestored c (after_cancel (effect code (restored c s)) (restored c s)) rest
+one_level code c ss h = (h.1, h.2, h.4 ∙ ap (λ (xs : List Saved). xs ++ h.1 ∷ h.2) (none_inside h.0 h.3), h.5, h.6)
+
+abbrev levels_on : Way → ℕ
+levels_on (Way.CancelsOuter n) = n
+levels_on w = 0
+
+levels_written : (code : Code) (f : FunctionCode) (end n : ℕ) (i : Instr) → way_of i ≡ Way.CancelsOuter n → IsWritten code f end i → 2 ≤ n
+levels_written code f end n (Instr.CancelOuter k) e w = let same : k ≡ n = ap levels_on e in omega (arith, same, w)
+levels_written code f end n i e w = cc e
 
 module _ (code : Code) (v : IsValid code) (c : Configuration) (ss : List Saved) (m : MayStand code c ss) where
   asked_of : (o : Option Instr) → slice_get code.instructions c.place ≡ o → AsksOpen o m.top.begins
   asked_of o at = subst (λ x. AsksOpen x m.top.begins) at ((v.each m.top.index m.top.function m.top.has).ways.asks c.place m.top.begins m.top.reached)
 
   module _ (i : Instr) (at : slice_get code.instructions c.place ≡ Some i) where
+    written_here : IsWritten code m.top.function (end_of code m.top.index) i
+    written_here =
+        let valid = v.each m.top.index m.top.function m.top.has in
+        let inside = valid.ways.inside c.place m.top.begins m.top.reached in
+        valid.written c.place i inside.0 inside.1 at
+
     does : effect code c ≡ effect_of code c (Some i)
     does = ap (effect_of code c) at
 
@@ -220,27 +293,34 @@ module _ (code : Code) (v : IsValid code) (c : Configuration) (ss : List Saved) 
         let same : d ≡ onward c = cc (x, does, k.1) in
         subst (λ y. (s : Saved) × (rest : List Saved) × (ss ≡ s ∷ rest) × MayStand code y rest × AreRestored c y rest) (sym same) (closes_at ss m.top m.top.begins refl (asked_by Way.Closes k.0) k.0)
 
-    cancels_at : (ss : List Saved) (top : IsFrame code (suc (length c.frames)) c.place c.registers ss m.callers) (bs : List ℕ) → top.begins ≡ bs → bs ≢ [] → way_of i ≡ Way.Cancels → (s : Saved) × (rest : List Saved) × (ss ≡ s ∷ rest) × MayStand code (after_cancel (effect code (restored c s)) (restored c s)) rest × AreRestored c (after_cancel (effect code (restored c s)) (restored c s)) rest
-    cancels_at ss top [] e some w = absurd (some refl)
-    cancels_at [] top (b ∷ bs) e some w = absurd (subst (λ xs. AreSaved top.function (suc (length c.frames)) xs [] m.callers) e top.saved)
-    cancels_at (s ∷ rest) top (b ∷ bs) e some w =
-        let saved : AreSaved top.function (suc (length c.frames)) (b ∷ bs) (s ∷ rest) m.callers = subst (λ xs. AreSaved top.function (suc (length c.frames)) xs (s ∷ rest) m.callers) e top.saved in
-        let r : IsReached code top.function c.place (b ∷ bs) = subst (IsReached code top.function c.place) e top.reached in
-        let reached : AreReached code top.function (b ∷ bs) = are_reached code top.function c.place (b ∷ bs) r in
+    -- the begin behind so many of the frame on top
+    cancels_at : (n : ℕ) (w : Way) → 0 < n → n ≤ length m.top.begins → way_of i ≡ w → leads_by code c.place m.top.begins w ≡ cancelled_in code (drop (n - 1) m.top.begins) → IsCancelled code c ss n
+    cancels_at n w some within e l =
+        let p = parted_by m.top.function (suc (length c.frames)) (n - 1) m.top.begins ss m.callers m.top.saved (omega (arith, some, within)) in
+        let reached : AreReached code m.top.function (p.place ∷ p.others) = subst (AreReached code m.top.function) p.drops (reached_behind code m.top.function (n - 1) m.top.begins (are_reached code m.top.function c.place m.top.begins m.top.reached)) in
         let to = reached.1.0 in
-        let stands_at : slice_get code.instructions s.place ≡ Some (Instr.Begin to) = ap (slice_get code.instructions) saved.0.at ∙ reached.1.1 in
-        let after : after_cancel (effect code (restored c s)) (restored c s) ≡ standing to s.registers (drop (suc (length c.frames) - s.frames) c.frames) = ap (λ o. after_cancel (effect_of code (restored c s) o) (restored c s)) stands_at in (
-          s,
-          rest,
-          refl,
-          subst (λ y. MayStand code y rest) (sym after) (stands_on_top code top.function c.frames s rest m.callers top.index b bs to top.has saved.0 saved.1 (to_cancelled code top.function c.place b to bs i r at w reached.1.1) m.below m.few),
-          subst (λ y. AreRestored c y rest) (sym after) (same_on_top c.place to c.registers s.registers c.frames s rest saved.0.frame),
+        let stands_at : slice_get code.instructions p.saved.place ≡ Some (Instr.Begin to) = ap (slice_get code.instructions) p.is_saved.at ∙ reached.1.1 in
+        let after : after_cancel (effect code (restored c p.saved)) (restored c p.saved) ≡ standing to p.saved.registers (drop (suc (length c.frames) - p.saved.frames) c.frames) = ap (λ o. after_cancel (effect_of code (restored c p.saved) o) (restored c p.saved)) stands_at in
+        let r : IsReached code m.top.function to p.others = to_cancelled code m.top.function c.place m.top.begins p.place to p.others i w m.top.reached at e (l ∙ ap (cancelled_in code) p.drops) reached.1.1 in (
+          p.inner,
+          p.saved,
+          p.rest,
+          (let k = p.count in omega (arith, k, some)),
+          p.all,
+          subst (λ y. MayStand code y p.rest) (sym after) (stands_on_top code m.top.function c.frames p.saved p.rest m.callers m.top.index p.place p.others to m.top.has p.is_saved p.are_saved r m.below m.few),
+          subst (λ y. AreRestored c y p.rest) (sym after) (same_on_top c.place to c.registers p.saved.registers c.frames p.saved p.rest p.is_saved.frame),
         )
 
     pub cancels_by : effect code c ≡ Effect.Cancel → (s : Saved) × (rest : List Saved) × (ss ≡ s ∷ rest) × MayStand code (after_cancel (effect code (restored c s)) (restored c s)) rest × AreRestored c (after_cancel (effect code (restored c s)) (restored c s)) rest
     cancels_by x =
         let k = cancels_only c (way_of i) (effect_of code c (Some i)) (kind_of code c i) (sym does ∙ x) in
-        cancels_at ss m.top m.top.begins refl (asked_by Way.Cancels k) k
+        one_level code c ss (cancels_at 1 Way.Cancels (omega arith) (some_open m.top.begins (asked_by Way.Cancels k)) k refl)
+
+    pub cancels_outer_by : (n : ℕ) → effect code c ≡ Effect.CancelOuter n → IsCancelled code c ss n
+    cancels_outer_by n x =
+        let k = cancels_outer_only n c (way_of i) (effect_of code c (Some i)) (kind_of code c i) (sym does ∙ x) in
+        let levels = levels_written code m.top.function (end_of code m.top.index) n i k written_here in
+        cancels_at n (Way.CancelsOuter n) (omega (arith, levels)) (asked_by (Way.CancelsOuter n) k) k refl
 
     -- the end of a thread: no caller, and no begin of its frame
     pub ends_by : effect code c ≡ Effect.End → m.top.begins ≡ []

@@ -1,5 +1,5 @@
 -- Which instructions begin, commit, cancel and return, by their ways.
-use Rattle.std.proofs.Common.{◌≡◌, ℕ, Bool, true, false, List, [], ◌∷◌, Option, Some, None, Result, Ok, Err, refl, ap}
+use Rattle.std.proofs.Common.{◌≡◌, ℕ, Bool, true, false, List, [], ◌∷◌, Option, Some, None, Result, Ok, Err, refl, sym, ap, ◌∙◌}
 use Rattle.std.specs.Prelude.{slice_get, if◌then◌else◌, nat_lt, length}
 use Rattle.syntax.specs.declared.numbers.Trap.{Trap}
 use Rattle.syntax.specs.declared.numbers.Trap.TheVariants.{Index}
@@ -12,6 +12,7 @@ abbrev pub is_plain : Effect Configuration → Bool
 is_plain (Effect.Begin c d) = false
 is_plain (Effect.Commit c) = false
 is_plain Effect.Cancel = false
+is_plain (Effect.CancelOuter n) = false
 is_plain Effect.End = false
 is_plain x = true
 
@@ -24,6 +25,7 @@ abbrev pub IsOfKind : Configuration → Way → Effect Configuration → Type 0
 IsOfKind c Way.Opens x = (to : ℕ) × (x ≡ Effect.Begin (onward c) (going c to))
 IsOfKind c Way.Closes x = x ≡ Effect.Commit (onward c)
 IsOfKind c Way.Cancels x = x ≡ Effect.Cancel
+IsOfKind c (Way.CancelsOuter n) x = x ≡ Effect.CancelOuter n
 IsOfKind c Way.Ends x = is_return x ≡ true
 IsOfKind c w x = is_plain x ≡ true
 
@@ -64,6 +66,7 @@ kind_of code c (Instr.WriteAt a n i r) = plain_tested (nat_lt (register c i) n) 
 kind_of code c (Instr.Begin to) = (to, refl)
 kind_of code c Instr.Commit = refl
 kind_of code c Instr.Cancel = refl
+kind_of code c (Instr.CancelOuter n) = refl
 kind_of code c Instr.Irrevocable = refl
 kind_of code c (Instr.Call g d args) = plain_called c d args (slice_get code.functions g)
 kind_of code c (Instr.Return a) = return_kind c.frames _
@@ -78,6 +81,7 @@ begins_only c d e (Way.Both to) x k h = cc (k, ap is_plain h)
 begins_only c d e Way.Opens x k h = (refl, k)
 begins_only c d e Way.Closes x k h = cc (k, h)
 begins_only c d e Way.Cancels x k h = cc (k, h)
+begins_only c d e (Way.CancelsOuter n) x k h = cc (k, h)
 begins_only c d e Way.Ends x k h = cc (k, ap is_return h)
 
 pub commits_only : (c d : Configuration) (w : Way) (x : Effect Configuration) → IsOfKind c w x → x ≡ Effect.Commit d → (w ≡ Way.Closes) × (x ≡ Effect.Commit (onward c))
@@ -87,6 +91,7 @@ commits_only c d (Way.Both to) x k h = cc (k, ap is_plain h)
 commits_only c d Way.Opens x k h = cc (k.1, h)
 commits_only c d Way.Closes x k h = (refl, k)
 commits_only c d Way.Cancels x k h = cc (k, h)
+commits_only c d (Way.CancelsOuter n) x k h = cc (k, h)
 commits_only c d Way.Ends x k h = cc (k, ap is_return h)
 
 pub cancels_only : (c : Configuration) (w : Way) (x : Effect Configuration) → IsOfKind c w x → x ≡ Effect.Cancel → w ≡ Way.Cancels
@@ -96,7 +101,23 @@ cancels_only c (Way.Both to) x k h = cc (k, ap is_plain h)
 cancels_only c Way.Opens x k h = cc (k.1, h)
 cancels_only c Way.Closes x k h = cc (k, h)
 cancels_only c Way.Cancels x k h = refl
+cancels_only c (Way.CancelsOuter n) x k h = cc (k, h)
 cancels_only c Way.Ends x k h = cc (k, ap is_return h)
+
+-- the number of levels that an effect cancels
+abbrev levels_of : Effect Configuration → ℕ
+levels_of (Effect.CancelOuter n) = n
+levels_of x = 0
+
+pub cancels_outer_only : (n : ℕ) (c : Configuration) (w : Way) (x : Effect Configuration) → IsOfKind c w x → x ≡ Effect.CancelOuter n → w ≡ Way.CancelsOuter n
+cancels_outer_only n c Way.On x k h = cc (k, ap is_plain h)
+cancels_outer_only n c (Way.To to) x k h = cc (k, ap is_plain h)
+cancels_outer_only n c (Way.Both to) x k h = cc (k, ap is_plain h)
+cancels_outer_only n c Way.Opens x k h = cc (k.1, h)
+cancels_outer_only n c Way.Closes x k h = cc (k, h)
+cancels_outer_only n c Way.Cancels x k h = cc (k, h)
+cancels_outer_only n c (Way.CancelsOuter m) x k h = ap Way.CancelsOuter (ap levels_of (sym k ∙ h))
+cancels_outer_only n c Way.Ends x k h = cc (k, ap is_return h)
 
 pub ends_only : (c : Configuration) (w : Way) (x : Effect Configuration) → IsOfKind c w x → x ≡ Effect.End → w ≡ Way.Ends
 ends_only c Way.On x k h = cc (k, ap is_plain h)
@@ -105,4 +126,5 @@ ends_only c (Way.Both to) x k h = cc (k, ap is_plain h)
 ends_only c Way.Opens x k h = cc (k.1, h)
 ends_only c Way.Closes x k h = cc (k, h)
 ends_only c Way.Cancels x k h = cc (k, h)
+ends_only c (Way.CancelsOuter n) x k h = cc (k, h)
 ends_only c Way.Ends x k h = refl

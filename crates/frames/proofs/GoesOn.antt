@@ -176,6 +176,7 @@ module _ (code : Code) (v : IsValid code) (p : ℕ) (rs : List ℕ) (fs : List F
   goes_by (Instr.Begin to) at w = λ d g. absurd g
   goes_by Instr.Commit at w = λ d g. absurd g
   goes_by Instr.Cancel at w = λ d g. absurd g
+  goes_by (Instr.CancelOuter n) at w = λ d g. absurd g
   goes_by Instr.Irrevocable at w = well_next _ at refl
   goes_by (Instr.Call g d args) at w = well_called (Instr.Call g d args) at d args g (slice_get code.functions g) refl refl w.2 (in_frame d w.0)
   goes_by (Instr.Return a) at w =

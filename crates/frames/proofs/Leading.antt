@@ -1,15 +1,16 @@
--- Where instructions lead, by seven ways.
-use Rattle.std.proofs.Common.{◌≡◌, ◌≢◌, ◌⊎◌, ℕ, suc, List, [], ◌∷◌, Some, refl, arith, inl, inr}
-use Rattle.std.specs.Prelude.{slice_get, Contains}
+-- Where instructions lead, by eight ways.
+use Rattle.std.proofs.Common.{◌≡◌, ◌≢◌, ◌⊎◌, ℕ, suc, ◌-◌, ◌≤◌, List, [], ◌∷◌, length, drop, Some, refl, arith, inl, inr}
+use Rattle.std.specs.Prelude.{Contains}
 use Rattle.std.proofs.lemmas.List.Elements.{Contains-push_cases, Contains-push}
 use Rattle.bytecode.specs.Code.{Code, Instr}
-use Rattle.bytecode.specs.Valid.{Standing, leads_from, cancel_of, AsksOpen}
+use Rattle.bytecode.specs.Valid.{Standing, cancelled_in, leads_from, AsksOpen}
 
 pub data Way : Type 0 where
   On : Way
   To : (to : ℕ) → Way
   Both : (to : ℕ) → Way
   Opens Closes Cancels Ends : Way
+  CancelsOuter : (levels : ℕ) → Way
 
 abbrev pub way_of : Instr → Way
 way_of (Instr.Jump to) = Way.To to
@@ -18,6 +19,7 @@ way_of (Instr.JumpNonzero a to) = Way.Both to
 way_of (Instr.Begin to) = Way.Opens
 way_of Instr.Commit = Way.Closes
 way_of Instr.Cancel = Way.Cancels
+way_of (Instr.CancelOuter n) = Way.CancelsOuter n
 way_of (Instr.Return a) = Way.Ends
 way_of i = Way.On
 
@@ -28,13 +30,14 @@ leads_by code q bs (Way.Both to) = (suc q, bs) ∷ (to, bs) ∷ []
 leads_by code q bs Way.Opens = (suc q, q ∷ bs) ∷ []
 leads_by code q [] Way.Closes = []
 leads_by code q (b ∷ bs) Way.Closes = (suc q, bs) ∷ []
-leads_by code q [] Way.Cancels = []
-leads_by code q (b ∷ bs) Way.Cancels = cancel_of (slice_get code.instructions b) [] (λ to. (to, bs) ∷ [])
+leads_by code q bs Way.Cancels = cancelled_in code bs
+leads_by code q bs (Way.CancelsOuter n) = cancelled_in code (drop (n - 1) bs)
 leads_by code q bs Way.Ends = []
 
 abbrev pub asks_by : Way → List ℕ → Type 0
 asks_by Way.Closes bs = bs ≢ []
 asks_by Way.Cancels bs = bs ≢ []
+asks_by (Way.CancelsOuter n) bs = n ≤ length bs
 asks_by Way.Ends bs = bs ≡ []
 asks_by w bs = Unit {0}
 
@@ -71,6 +74,8 @@ leads_so code q [] Instr.Commit = refl
 leads_so code q (x ∷ bs) Instr.Commit = refl
 leads_so code q [] Instr.Cancel = refl
 leads_so code q (x ∷ bs) Instr.Cancel = refl
+leads_so code q [] (Instr.CancelOuter n) = refl
+leads_so code q (x ∷ bs) (Instr.CancelOuter n) = refl
 leads_so code q [] Instr.Irrevocable = refl
 leads_so code q (x ∷ bs) Instr.Irrevocable = refl
 leads_so code q [] (Instr.Call g d args) = refl
@@ -99,6 +104,7 @@ asks_of bs (Instr.WriteAt c n i a) h = h
 asks_of bs (Instr.Begin to) h = h
 asks_of bs Instr.Commit h = h
 asks_of bs Instr.Cancel h = h
+asks_of bs (Instr.CancelOuter n) h = h
 asks_of bs Instr.Irrevocable h = h
 asks_of bs (Instr.Call g d args) h = h
 asks_of bs (Instr.Return a) h = h

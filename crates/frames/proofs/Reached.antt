@@ -1,9 +1,9 @@
 -- The begins that are open at a place are reached, each with those behind it; and where a way goes on.
-use Rattle.std.proofs.Common.{◌≡◌, ℕ, suc, List, [], ◌∷◌, Option, Some, None, refl, sym, ap, ◌∙◌, subst, arith, inl, inr}
+use Rattle.std.proofs.Common.{◌≡◌, ℕ, zero, suc, ◌-◌, List, [], ◌∷◌, drop, Option, Some, None, refl, sym, ap, ◌∙◌, subst, arith, inl, inr}
 use Rattle.std.specs.Prelude.{slice_get, Contains}
 use Rattle.std.proofs.lemmas.List.Elements.{Contains-push, Contains-append_left}
 use Rattle.bytecode.specs.Code.{Code, FunctionCode, Instr}
-use Rattle.bytecode.specs.Valid.{leads_from, cancel_of, IsReached, at_first, further}
+use Rattle.bytecode.specs.Valid.{cancel_of, cancelled_in, leads_from, IsReached, at_first, further}
 use Rattle.frames.proofs.Leading.{Way, way_of, leads_by, leads_so, only, either, first_of}
 
 -- a begin stands at the place
@@ -32,6 +32,7 @@ begin_of (Instr.WriteAt a n j r) e = cc e
 begin_of (Instr.Begin to) e = (to, refl)
 begin_of Instr.Commit e = cc e
 begin_of Instr.Cancel e = cc e
+begin_of (Instr.CancelOuter n) e = cc e
 begin_of Instr.Irrevocable e = cc e
 begin_of (Instr.Call n d args) e = cc e
 begin_of (Instr.Return a) e = cc e
@@ -39,6 +40,18 @@ begin_of (Instr.PrintText n) e = cc e
 begin_of (Instr.PrintNumber u a) e = cc e
 
 module _ (code : Code) (f : FunctionCode) where
+  -- those behind so many
+  pub reached_behind : (n : ℕ) (bs : List ℕ) → AreReached code f bs → AreReached code f (drop n bs)
+  reached_behind zero bs a = a
+  reached_behind (suc n) [] a = tt
+  reached_behind (suc n) (b ∷ bs) a = reached_behind n bs a.2
+
+  after_cancelled : (bs : List ℕ) (q' : ℕ) (bs' : List ℕ) → AreReached code f bs → Contains (cancelled_in code bs) (q', bs') → AreReached code f bs'
+  after_cancelled [] q' bs' a c = absurd (omega (arith, c.1))
+  after_cancelled (b ∷ bs) q' bs' a c =
+      let k : Contains ((a.1.0, bs) ∷ []) (q', bs') = subst (λ o. Contains (cancel_of o [] (λ to. (to, bs) ∷ [])) (q', bs')) a.1.1 c in
+      subst (AreReached code f) (ap (λ p. p.1) (only (a.1.0, bs) (q', bs') k)) a.2
+
   reached_on : (q : ℕ) (i : Instr) (w : Way) (bs : List ℕ) (q' : ℕ) (bs' : List ℕ) → IsReached code f q bs → slice_get code.instructions q ≡ Some i → way_of i ≡ w → AreReached code f bs → Contains (leads_by code q bs w) (q', bs') → AreReached code f bs'
   reached_on q i Way.On bs q' bs' r e w a c = subst (AreReached code f) (ap (λ p. p.1) (only (suc q, bs) (q', bs') c)) a
   reached_on q i (Way.To to) bs q' bs' r e w a c = subst (AreReached code f) (ap (λ p. p.1) (only (to, bs) (q', bs') c)) a
@@ -51,10 +64,8 @@ module _ (code : Code) (f : FunctionCode) where
       subst (AreReached code f) (ap (λ p. p.1) (only (suc q, q ∷ bs) (q', bs') c)) (r, (b.0, e ∙ ap Some b.1), a)
   reached_on q i Way.Closes [] q' bs' r e w a c = absurd (omega (arith, c.1))
   reached_on q i Way.Closes (b ∷ bs) q' bs' r e w a c = subst (AreReached code f) (ap (λ p. p.1) (only (suc q, bs) (q', bs') c)) a.2
-  reached_on q i Way.Cancels [] q' bs' r e w a c = absurd (omega (arith, c.1))
-  reached_on q i Way.Cancels (b ∷ bs) q' bs' r e w a c =
-      let k : Contains ((a.1.0, bs) ∷ []) (q', bs') = subst (λ o. Contains (cancel_of o [] (λ to. (to, bs) ∷ [])) (q', bs')) a.1.1 c in
-      subst (AreReached code f) (ap (λ p. p.1) (only (a.1.0, bs) (q', bs') k)) a.2
+  reached_on q i Way.Cancels bs q' bs' r e w a c = after_cancelled bs q' bs' a c
+  reached_on q i (Way.CancelsOuter n) bs q' bs' r e w a c = after_cancelled (drop (n - 1) bs) q' bs' (reached_behind (n - 1) bs a) c
   reached_on q i Way.Ends bs q' bs' r e w a c = absurd (omega (arith, c.1))
 
   reached_in : (q : ℕ) (o : Option Instr) (bs : List ℕ) (q' : ℕ) (bs' : List ℕ) → IsReached code f q bs → slice_get code.instructions q ≡ o → AreReached code f bs → Contains (leads_from code q bs o) (q', bs') → AreReached code f bs'
@@ -88,5 +99,6 @@ module _ (code : Code) (f : FunctionCode) where
   pub to_outside : (q b : ℕ) (bs : List ℕ) (i : Instr) → IsReached code f q (b ∷ bs) → slice_get code.instructions q ≡ Some i → way_of i ≡ Way.Closes → IsReached code f (suc q) bs
   to_outside q b bs i r at e = way_on q (b ∷ bs) i r at (suc q) bs Way.Closes e (first_of (suc q, bs))
 
-  pub to_cancelled : (q b to : ℕ) (bs : List ℕ) (i : Instr) → IsReached code f q (b ∷ bs) → slice_get code.instructions q ≡ Some i → way_of i ≡ Way.Cancels → slice_get code.instructions b ≡ Some (Instr.Begin to) → IsReached code f to bs
-  to_cancelled q b to bs i r at e begin = way_on q (b ∷ bs) i r at to bs Way.Cancels e (subst (λ o. Contains (cancel_of o [] (λ x. (x, bs) ∷ [])) (to, bs)) (sym begin) (first_of (to, bs)))
+  -- where a begin says that a cancel of it goes on
+  pub to_cancelled : (q : ℕ) (begins : List ℕ) (b to : ℕ) (bs : List ℕ) (i : Instr) (w : Way) → IsReached code f q begins → slice_get code.instructions q ≡ Some i → way_of i ≡ w → leads_by code q begins w ≡ cancelled_in code (b ∷ bs) → slice_get code.instructions b ≡ Some (Instr.Begin to) → IsReached code f to bs
+  to_cancelled q begins b to bs i w r at e l begin = way_on q begins i r at to bs w e (subst (λ xs. Contains xs (to, bs)) (sym (l ∙ ap (λ o. cancel_of o [] (λ x. (x, bs) ∷ [])) begin)) (first_of (to, bs)))
