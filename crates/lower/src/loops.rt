@@ -63,6 +63,7 @@ fn operands_of(instr: Instr) -> Option<(u16, u16)>
         | Instr::Begin(_)
         | Instr::Commit
         | Instr::Cancel
+        | Instr::CancelOuter(_)
         | Instr::Irrevocable
         | Instr::Call(_, _, _, _)
         | Instr::Return
