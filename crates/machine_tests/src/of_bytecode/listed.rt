@@ -179,18 +179,19 @@ const BITS_LISTED: &str = "function worker registers 2
 13 ret
 ";
 
-const LEADS: [Instr; 19] = [
+const LEADS: [Instr; 20] = [
     Instr::Jump(1),
     Instr::JumpZero(0, 2),
     Instr::JumpNonzero(0, 3),
     Instr::Check(0, 7),
+    Instr::Begin(13),
     Instr::Begin(12),
-    Instr::Begin(11),
     Instr::Read(1, 0),
     Instr::ReadAt(1, 0, 0, 1),
     Instr::Write(1, 0),
     Instr::WriteAt(0, 1, 0, 1),
     Instr::Cancel,
+    Instr::CancelOuter(2),
     Instr::Commit,
     Instr::Irrevocable,
     Instr::PrintText(1),
@@ -206,22 +207,23 @@ const LEADS_LISTED: &str = "function worker registers 2
 1 jz r0 >2
 2 jnz r0 >3
 3 check r0 #7
-4 begin >12
-5 begin >11
+4 begin >13
+5 begin >12
 6 rd r1 @0
 7 rdx r1 @0 #1 r0
 8 wr @0 r1
 9 wrx @0 #1 r0 r1
 10 cancel
-11 commit
-12 irrevocable
-13 print.t #1
-14 print.s r0
-15 print.u r1
-16 call f r1 r0
-17 ret
+11 cancelx #2
+12 commit
+13 irrevocable
+14 print.t #1
+15 print.s r0
+16 print.u r1
+17 call f r1 r0
+18 ret
 function f registers 1
-18 ret r0
+19 ret r0
 text 0 \"\\\"\\t\\\"\"
 text 1 \"\\\\\\n\"
 ";
@@ -231,11 +233,11 @@ fn instructions() -> &'static [Row] {
         (&[WORKER], &COMPUTES, &[], COMPUTES_LISTED, (1, 16, 0, 1)),
         (&[WORKER], &BITS, &[], BITS_LISTED, (1, 14, 0, 1)),
         (
-            &[WORKER, ("f", 18, 1, 1)],
+            &[WORKER, ("f", 19, 1, 1)],
             &LEADS,
             &TEXTS,
             LEADS_LISTED,
-            (2, 19, 2, 1),
+            (2, 20, 2, 1),
         ),
     ];
     &ROWS

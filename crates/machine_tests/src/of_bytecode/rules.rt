@@ -210,6 +210,8 @@ const COMMIT: Instr = Instr::Commit;
 
 const CANCEL: Instr = Instr::Cancel;
 
+const CANCEL_TWO: Instr = Instr::CancelOuter(2);
+
 fn begins() -> &'static [Row] {
     static ROWS: [Row; 6] = [
         (
@@ -289,6 +291,247 @@ fn cancels() -> &'static [Row] {
 #[test]
 fn cancels_go_on_under_the_enclosing_begin(rt: HostRuntime) {
     assert_none(&rt, has_another(rt.alloc(), cancels()));
+}
+
+/// How many levels a cancel asks for.
+fn levels() -> &'static [Row] {
+    static ROWS: [Row; 9] = [
+        (
+            "two of two",
+            ALONE,
+            &[],
+            &[Instr::Begin(3), Instr::Begin(3), CANCEL_TWO, END],
+            true,
+        ),
+        (
+            "one of two",
+            ALONE,
+            &[],
+            &[
+                Instr::Begin(4),
+                Instr::Begin(3),
+                Instr::CancelOuter(1),
+                COMMIT,
+                END,
+            ],
+            false,
+        ),
+        (
+            "one of one",
+            ALONE,
+            &[],
+            &[Instr::Begin(2), Instr::CancelOuter(1), END],
+            false,
+        ),
+        (
+            "none of one",
+            ALONE,
+            &[],
+            &[Instr::Begin(2), Instr::CancelOuter(0), END],
+            false,
+        ),
+        (
+            "none of none",
+            ALONE,
+            &[],
+            &[Instr::CancelOuter(0), END],
+            false,
+        ),
+        ("two of none", ALONE, &[], &[CANCEL_TWO, END], false),
+        (
+            "two of one",
+            ALONE,
+            &[],
+            &[Instr::Begin(2), CANCEL_TWO, END],
+            false,
+        ),
+        (
+            "three of two",
+            ALONE,
+            &[],
+            &[Instr::Begin(3), Instr::Begin(3), Instr::CancelOuter(3), END],
+            false,
+        ),
+        (
+            "as many as there are numbers",
+            ALONE,
+            &[],
+            &[
+                Instr::Begin(3),
+                Instr::Begin(3),
+                Instr::CancelOuter(u32::MAX),
+                END,
+            ],
+            false,
+        ),
+    ];
+    &ROWS
+}
+
+#[test]
+fn as_many_begins_are_open_as_a_cancel_takes_away(rt: HostRuntime) {
+    assert_none(&rt, has_another(rt.alloc(), levels()));
+}
+
+/// Where a cancel of several levels leads.
+fn outer_cancels() -> &'static [Row] {
+    static ROWS: [Row; 6] = [
+        (
+            "the last two of three, to the commit of the first",
+            ALONE,
+            &[],
+            &[
+                Instr::Begin(5),
+                Instr::Begin(4),
+                Instr::Begin(5),
+                CANCEL_TWO,
+                COMMIT,
+                END,
+            ],
+            true,
+        ),
+        (
+            "to where the innermost says",
+            ALONE,
+            &[],
+            &[
+                Instr::Begin(5),
+                Instr::Begin(5),
+                Instr::Begin(4),
+                CANCEL_TWO,
+                COMMIT,
+                END,
+            ],
+            false,
+        ),
+        (
+            "to where the first says",
+            ALONE,
+            &[],
+            &[
+                Instr::Begin(5),
+                Instr::Begin(5),
+                Instr::Begin(5),
+                CANCEL_TWO,
+                COMMIT,
+                END,
+            ],
+            false,
+        ),
+        (
+            "all three, to where the first says",
+            ALONE,
+            &[],
+            &[
+                Instr::Begin(5),
+                Instr::Begin(4),
+                Instr::Begin(4),
+                Instr::CancelOuter(3),
+                COMMIT,
+                END,
+            ],
+            true,
+        ),
+        (
+            "two round a begin that was closed",
+            ALONE,
+            &[],
+            &[
+                Instr::Begin(5),
+                Instr::Begin(0),
+                COMMIT,
+                Instr::Begin(0),
+                CANCEL_TWO,
+                END,
+            ],
+            true,
+        ),
+        (
+            "three where one was closed",
+            ALONE,
+            &[],
+            &[
+                Instr::Begin(5),
+                Instr::Begin(0),
+                COMMIT,
+                Instr::Begin(0),
+                Instr::CancelOuter(3),
+                END,
+            ],
+            false,
+        ),
+    ];
+    &ROWS
+}
+
+// a cancel of several levels goes on where the outermost of these says, under those outside it
+#[test]
+fn outer_cancels_go_on_where_the_outermost_begin_says(rt: HostRuntime) {
+    assert_none(&rt, has_another(rt.alloc(), outer_cancels()));
+}
+
+/// Two ways to the place where a cancel of two levels goes on.
+fn second_ways() -> &'static [Row] {
+    static ROWS: [Row; 4] = [
+        (
+            "none is open on the other way too",
+            ALONE,
+            &[],
+            &[
+                Instr::JumpZero(0, 4),
+                Instr::Begin(4),
+                Instr::Begin(4),
+                CANCEL_TWO,
+                Instr::Jump(4),
+            ],
+            true,
+        ),
+        (
+            "both are open on the other way",
+            ALONE,
+            &[],
+            &[
+                Instr::Begin(4),
+                Instr::Begin(4),
+                Instr::JumpZero(0, 4),
+                CANCEL_TWO,
+                Instr::Jump(4),
+            ],
+            false,
+        ),
+        (
+            "one is open on the other way",
+            ALONE,
+            &[],
+            &[
+                Instr::Begin(4),
+                Instr::JumpZero(0, 4),
+                Instr::Begin(4),
+                CANCEL_TWO,
+                Instr::Jump(4),
+            ],
+            false,
+        ),
+        (
+            "two ways to the cancel with other begins",
+            ALONE,
+            &[],
+            &[
+                Instr::Begin(4),
+                Instr::JumpZero(0, 3),
+                Instr::Begin(4),
+                CANCEL_TWO,
+                Instr::Jump(4),
+            ],
+            false,
+        ),
+    ];
+    &ROWS
+}
+
+#[test]
+fn an_outer_cancel_goes_on_with_the_begins_of_other_ways(rt: HostRuntime) {
+    assert_none(&rt, has_another(rt.alloc(), second_ways()));
 }
 
 fn layouts() -> &'static [Row] {

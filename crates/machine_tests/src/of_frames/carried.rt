@@ -63,6 +63,7 @@ fn carry_out<A: Allocator + Copy>(
             frames.go_on(code);
         }
         Doing::Cancel => return Ok(false),
+        Doing::CancelOuter(_) => return Ok(false),
         Doing::End => return Ok(false),
         Doing::Traps(_) => return Ok(false),
     }

@@ -372,7 +372,7 @@ fn cells() -> &'static [Row] {
 }
 
 fn transactions() -> &'static [Row] {
-    static ROWS: [Row; 3] = [
+    static ROWS: [Row; 4] = [
         (
             &[
                 Instr::Begin(3),
@@ -387,6 +387,17 @@ fn transactions() -> &'static [Row] {
         (
             &[Instr::Begin(2), Instr::Cancel, Instr::Return],
             Doing::Cancel,
+            0,
+            0,
+        ),
+        (
+            &[
+                Instr::Begin(3),
+                Instr::Begin(3),
+                Instr::CancelOuter(2),
+                Instr::Return,
+            ],
+            Doing::CancelOuter(2),
             0,
             0,
         ),
