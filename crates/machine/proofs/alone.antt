@@ -2,5 +2,9 @@
 pub mod Unstopped
 -- a thread that steps alone does what its meaning does
 pub mod Alone
+-- a code that uses its cells alone leaves memories
+pub mod Lefts
+-- what a program that a code means finds alone is memories
+pub mod Founds
 -- the world of one thread comes to the end of its meaning, by steps that do not stop
 pub mod OneThread

@@ -2,8 +2,10 @@
 //! depends on: the place, frames and registers of one thread. bounds are the bounds of the cells' words.
 
 ghost use Rattle.std.specs.Prelude.{◌≡◌, ◌≤◌, ◌^◌, ℕ, List, [], Some, None, length, replicate};
-ghost use Rattle.std.specs.List.{AllByRecursion, slice_get};
-ghost use Rattle.syntax.specs.Behaviours.{Memory, IsMemory, Behaviour, Step, Means, founds_of};
+ghost use Rattle.std.specs.List.{slice_get};
+ghost use Rattle.syntax.specs.Behaviours.{Memory, IsMemory, Behaviour, Step, Means};
+ghost use Rattle.syntax.specs.Threads.{thread as source};
+ghost use Rattle.syntax.specs.Tree.{Program};
 ghost use Rattle.syntax.specs.declared.numbers.Status.TheVariants.{Running};
 ghost use Rattle.bytecode.specs.Code.{Code as Plain, Configuration, effect};
 ghost use Rattle.bytecode.specs.Effects.{Effect, FitsCells};
@@ -112,15 +114,14 @@ pub fn drops_are_bounded<C>()
 {}
 
 /// What a thread's meaning does alone, a machine of one thread does in some number of steps, and stays there: the same
-/// end, text and memory, without a step that stops. The same for every program that the code means.
+/// end, text and memory, without a step that stops. The same for every program whose threads the code means.
 pub fn alone<C>()
     ensures code { (code : C → Effect C) (init : ℕ → C) (bounds : List ℕ) (m0 : Memory) (run : List Step) (n : ℕ) →
         FitsCells code bounds → IsMemory bounds m0 →
         ReachesEnd code init (meaning code init) m0 run n }
-    ensures programs { (code : C → Effect C) (init : ℕ → C) (program : Behaviour) (bounds : List ℕ) (m0 : Memory)
+    ensures programs { (code : C → Effect C) (init : ℕ → C) (program : Program) (bounds : List ℕ) (m0 : Memory)
         (run : List Step) (n : ℕ) → FitsCells code bounds → IsMemory bounds m0 →
-        Means bounds (meaning code init) program → AllByRecursion (IsMemory bounds) (founds_of 0 run) →
-        ReachesEnd code init program m0 run n }
+        Means bounds (meaning code init) (source program) → ReachesEnd code init (source program) m0 run n }
 {}
 
 /// How many accesses a transaction makes that nobody disturbs, counted by what its code means on the memory that it finds:

@@ -1,10 +1,8 @@
 mod Contexts
-mod Counted
 mod Expressions
 mod Further
 mod MeaningSteady
 mod Memories
-mod MoreFounds
 mod OneTick
 mod OrderRows
 mod OrderRuns
@@ -12,11 +10,11 @@ mod RefusedRows
 mod RunOrders
 mod Spelled
 mod Steady
-mod ThreadLaws
 mod TotalRows
 mod TypeRows
 mod WordsStay
 pub mod Called
+pub mod Counted
 pub mod Demands
 pub mod Depths
 pub mod Ends
@@ -24,11 +22,13 @@ pub mod ExactLocals
 pub mod Fits
 pub mod Kept
 pub mod Loops
+pub mod MoreFounds
 pub mod MoreRows
 pub mod OlderLocals
 pub mod Pushes
 pub mod Rows
 pub mod Seen
+pub mod ThreadLaws
 pub mod Ticks
 pub mod TypedParts
 pub mod ValueTypes

@@ -8,7 +8,7 @@ use Rattle.bytecode.specs.Valid.{IsValid, bounds_of}
 use Rattle.machine.specs.Standing.{IsThreadOf}
 use Rattle.machine.specs.States.{ThreadState, first_thread}
 use Rattle.machine.specs.Worlds.{new_parts}
-use Rattle.machine.proofs.runs.Programs.{reaches_end_source}
+use Rattle.machine.proofs.runs.Programs.{reaches_end_program}
 use Rattle.world.proofs.Cells.{initial_fits}
 use Rattle.world.specs.Simulations.{EndsAlone}
 use Rattle.world.specs.inner.Kept.{AreFirstFrom, AreOfParts, IsWorldOf}
@@ -41,5 +41,5 @@ opened_as code words threads trace valid few all e f =
     subst (λ (v : List ℕ × List ℕ). IsWorldOf (record { code = code; threads = length threads; trace = v.1 }) 0 v.0 threads 0) (λ i. (sym e i, sym f i)) (opens code threads valid few all)
 
 pub ends_alone : (code : Code) → IsValid code → EndsAlone code
-ends_alone code valid program ss n means all =
-    reaches_end_source (effect code) (beginning code) (bounds_of code) (initial_of code) (initial_fits code) (fits_cells code valid) program means ss n all
+ends_alone code valid program ss n means =
+    reaches_end_program (effect code) (beginning code) (bounds_of code) (initial_of code) (initial_fits code) (fits_cells code valid) program means ss n

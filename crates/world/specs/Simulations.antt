@@ -1,7 +1,9 @@
 -- A world of the machine as its contracts see it: what runs, and the steps that were made. All else follows from these.
 use Rattle.std.specs.Prelude.{◌≡◌, ◌+◌, ◌%◌, ◌⊎◌, ℕ, Bool, true, false, List, ◌∷◌, ◌++◌, Option, None, Some, option_map}
-use Rattle.std.specs.List.{slice_get, AllByRecursion}
-use Rattle.syntax.specs.Behaviours.{Behaviour, IsMemory, Means, Step, founds_of}
+use Rattle.std.specs.List.{slice_get}
+use Rattle.syntax.specs.Behaviours.{Behaviour, Means, Step}
+use Rattle.syntax.specs.Threads.{thread}
+use Rattle.syntax.specs.Tree.{Program}
 use Rattle.syntax.specs.declared.numbers.Status.{Status}
 use Rattle.bytecode.specs.Beginning.{beginning}
 use Rattle.bytecode.specs.Code.{Code, Configuration, effect}
@@ -152,9 +154,9 @@ pub record IsExplained (s : Simulation) : Type 0 where
   pub holders : HoldersNeverAbort (effect s.code) (world_of s)
   pub counts : CountsAccesses s
 
--- What a program that the code means does alone, a world of one thread does in some number of steps, and stays there.
+-- What a program whose threads the code means does alone, a world of one thread does in some number of steps, and stays
+-- there.
 abbrev pub EndsAlone : Code → Type 0
-EndsAlone code = (program : Behaviour) (run : List Step) (n : ℕ) →
-    Means (bounds_of code) (meaning (effect code) (beginning code)) program →
-    AllByRecursion (IsMemory (bounds_of code)) (founds_of 0 run) →
-    ReachesEnd (effect code) (beginning code) program (initial_of code) run n
+EndsAlone code = (program : Program) (run : List Step) (n : ℕ) →
+    Means (bounds_of code) (meaning (effect code) (beginning code)) (thread program) →
+    ReachesEnd (effect code) (beginning code) (thread program) (initial_of code) run n

@@ -19,7 +19,7 @@ founds_first s ss e = rw (eq-eqb s.thread 0 e) refl
 lefts_first : (s : Step) (ss : List Step) → s.thread ≡ 0 → lefts_of 0 (s ∷ ss) ≡ s.left ∷ lefts_of 0 ss
 lefts_first s ss e = rw (eq-eqb s.thread 0 e) refl
 
-fed : (m : List ℕ) (ss : List Step) → IsChained m ss → AllByRecursion (λ (s : Step). s.thread ≡ 0) ss → Feeds m (founds_of 0 ss) (lefts_of 0 ss) × (last_of m (lefts_of 0 ss) ≡ last_memory m ss)
+pub fed : (m : List ℕ) (ss : List Step) → IsChained m ss → AllByRecursion (λ (s : Step). s.thread ≡ 0) ss → Feeds m (founds_of 0 ss) (lefts_of 0 ss) × (last_of m (lefts_of 0 ss) ≡ last_memory m ss)
 fed m [] c all = (tt, refl)
 fed m (s ∷ ss) c all =
     let r = fed s.left ss c.1 all.1 in (

@@ -12,7 +12,7 @@ sized [] (w ∷ m) is = absurd is
 sized (b ∷ bounds) [] is = absurd is
 sized (b ∷ bounds) (w ∷ m) is = ap suc (sized bounds m is.1)
 
-memory-set : (bounds m : List ℕ) (a v : ℕ) → IsMemory bounds m → v < slice_index bounds a → IsMemory bounds (set m a v)
+pub memory-set : (bounds m : List ℕ) (a v : ℕ) → IsMemory bounds m → v < slice_index bounds a → IsMemory bounds (set m a v)
 memory-set [] [] a v is lt = is
 memory-set [] (w ∷ m) a v is lt = absurd is
 memory-set (b ∷ bounds) [] a v is lt = absurd is

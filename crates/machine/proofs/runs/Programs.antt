@@ -3,6 +3,8 @@ use Rattle.std.proofs.Common.{◌≡◌, ◌≤◌, ◌+◌, ◌==◌, ◌^◌, 
 use Rattle.std.specs.List.{AllByRecursion}
 use Rattle.std.proofs.lemmas.Option.{slice_get_within}
 use Rattle.syntax.specs.Behaviours.{Behaviour, IsMemory, IsRun, Matches, Means, Outcome, Stands, Step, founds_of, last_memory, of_thread}
+use Rattle.syntax.specs.Threads.{thread}
+use Rattle.syntax.specs.Tree.{Program}
 use Rattle.bytecode.specs.Effects.{Effect, FitsCells}
 use Rattle.bytecode.specs.Sequential.{meaning}
 use Rattle.machine.specs.Alone.{IsAtEnd, IsOver, ReachesEnd, zeros}
@@ -13,6 +15,8 @@ use Rattle.machine.specs.Worlds.{Part, World}
 use Rattle.machine.proofs.runs.Extended.{extended}
 use Rattle.machine.proofs.runs.InTime.{in_time}
 use Rattle.machine.proofs.runs.Serializable.{serializable}
+use Rattle.machine.proofs.alone.Founds.{founds_memories}
+use Rattle.machine.proofs.alone.Lefts.{leaves_memories}
 use Rattle.machine.proofs.alone.OneThread.{reaches_end}
 
 -- what holds of all steps' memories holds of those that a thread finds
@@ -99,8 +103,13 @@ module _ {C : Type 0} (code : C → Effect C) (init : ℕ → C) (bounds : List 
       extended = extended code init bounds m0 is_memory fits threads ts;
     }
 
-    pub reaches_end_source : (ss : List Step) (n : ℕ) → AllByRecursion (IsMemory bounds) (founds_of 0 ss) → ReachesEnd code init source m0 ss n
+    reaches_end_source : (ss : List Step) (n : ℕ) → AllByRecursion (IsMemory bounds) (founds_of 0 ss) → ReachesEnd code init source m0 ss n
     reaches_end_source ss n all small chain zero_only le ov =
         let c = means.there 0 (founds_of 0 ss) (omega arith) all n in
         let r = reaches_end code init bounds m0 is_memory fits ss c.0 small chain zero_only (ap (λ (o : Outcome). o.lefts) c.1 ∙ le) (subst (λ (o : Outcome). IsOver o.end) (sym c.1) ov) in
         (r.0, λ j. (subst (λ (o : Outcome). IsAtEnd o (last_memory m0 ss) (world_after code init m0 1 (zeros (r.0 + j)))) c.1 (r.1 j).0, (r.1 j).1))
+
+  pub reaches_end_program : (p : Program) → Means bounds (meaning code init) (thread p) → (ss : List Step) (n : ℕ) → ReachesEnd code init (thread p) m0 ss n
+  reaches_end_program p means ss n small chain zero_only le ov =
+      let all = founds_memories bounds (meaning code init) (leaves_memories code bounds fits init) p means m0 ss n is_memory chain zero_only le in
+      reaches_end_source (thread p) means ss n all small chain zero_only le ov
