@@ -1,5 +1,5 @@
 -- What a cancel of several levels leaves of the inner begins: the list without its first ones.
-use Rattle.std.proofs.Common.{◌≡◌, ℕ, zero, suc, List, [], ◌∷◌, ◌++◌, refl, length, drop, arith}
+use Rattle.std.proofs.Common.{◌≡◌, ℕ, zero, suc, List, [], ◌∷◌, ◌++◌, length, drop, arith}
 use Rattle.std.specs.List.{AllByRecursion}
 
 -- what holds of each holds of those left

@@ -1,6 +1,6 @@
 -- What a kept thread asks of the core, by what is to be done.
 use Rattle.std.proofs.Common.{◌≡◌, ◌<◌, ℕ, Bool, true, false, List, [], ◌∷◌, Option, None, Some, refl, sym, ◌∙◌, ap, subst, length, arith}
-use Rattle.std.specs.Prelude.{IfSome, slice_set}
+use Rattle.std.specs.Prelude.{IfSome, IsSomeAnd, slice_set}
 use Rattle.syntax.specs.declared.numbers.Status.{Status}
 use Rattle.syntax.specs.declared.numbers.Status.TheVariants.{Running}
 use Rattle.syntax.specs.declared.numbers.Trap.{Trap}
@@ -20,7 +20,8 @@ use Rattle.norec_core.specs.declared.step.Access.TheVariants.{Local}
 use Rattle.norec_core.specs.declared.step.Answer.{Answer}
 use Rattle.norec_core.specs.Attempts.{Attempt}
 use Rattle.norec_core.specs.Phases.{CoreStep, core_access, core_step}
-use Rattle.norec_core.specs.Cores.{CoreState, stepped, stepped_by}
+use Rattle.norec_core.specs.Accesses.{IsAnswerTo}
+use Rattle.norec_core.specs.Cores.{CoreState, IsAnswered, stepped, stepped_by}
 use Rattle.norec_core.proofs.SavedByMaps.{commutes}
 use Rattle.machine.specs.declared.event.Event.{Event}
 use Rattle.machine.specs.Threads.{Thread, access, access_of, outside_access, inside_access, told, op_of}
@@ -167,6 +168,10 @@ module _ (code : Code) (law : BeginsStayOpen code) (k : Kept) (o : Op) (y : Answ
 
   words : IsWordOf (core_access k.core.attempt o) y
   words = subst (λ (z : Access). IsWordOf z y) (access_is code k o asks_some) word
+
+  -- an answer to the thread's access is one to what the core was asked
+  pub operation_answered : IsAnswerTo (access (effect code) (shown k)) y → IsAnswered k.core y
+  operation_answered fits = subst (λ (z : Option Op). IsSomeAnd z (λ q. IsAnswerTo (core_access k.core.attempt q) y)) (sym core_asked) (subst (λ (z : Access). IsAnswerTo z y) (access_is code k o asks_some) fits)
 
   pub operation_back : (new : CoreState) (q : Outcome) → CoreTold k y new q → MayGoBack code k.configuration new.saved (back_by (effect code k.configuration) q (restored k.configuration new.saved))
   operation_back new q z =
