@@ -76,6 +76,7 @@ pub fn prepare_piece<A: Allocator, B: Allocator>(
 ) -> Result<(), AllocError>
     ensures bytes { string_bytes text.new ≡ string_bytes text.old }
     ensures room { OnOk result (string_len text.new + length (piece_of code.now doing) ≤ string_capacity text.new) }
+    ensures more { string_capacity text.old ≤ string_capacity text.new }
     ensures full { OnErr result (string_capacity text.old < string_len text.old + length (piece_of code.now doing)) }
 {
     let mut digits = Buffer::new();

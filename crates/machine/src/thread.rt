@@ -1,6 +1,7 @@
 //! A thread of the machine.
 
-ghost use Rattle.std.specs.Prelude.{◌≡◌, ◌≢◌, ◌+◌, ◌<◌, ◌≤◌, ◌^◌, ◌↔◌, ℕ, [], None, Some, true, false, IfOk, IfNone, IfSome, OnOk, OnSome};
+ghost use Rattle.std.specs.Prelude.{◌≡◌, ◌≢◌, ◌+◌, ◌<◌, ◌≤◌, ◌^◌, ◌↔◌, ℕ, [], None, Some, true, false, IfOk, IfNone, IfSome, OnOk, OnErr, OnSome};
+ghost use Rattle.syntax.specs.declared.numbers.Status.TheVariants.{Running};
 ghost use Rattle.bytecode.specs.Beginning.{beginning};
 ghost use Rattle.bytecode.specs.Code.{effect};
 ghost use Rattle.norec_core.specs.Accesses.{IsAnswerTo, cost, stops};
@@ -149,6 +150,7 @@ impl<A: Allocator + Copy> Thread<A> {
         ensures accesses { self.new.accesses ≡ self.old.accesses }
         ensures access { IfOk result (λ x. (x ≡ access (effect code.now) self.old.thread) × (stops x ≡ false)) }
         ensures prepared { OnOk result (IsPrepared code.now self.new) }
+        ensures err { OnErr result ((self.old.thread.status ≡ Running) × (self.new.prepared ≡ self.old.prepared) × (IsPrepared code.now self.old → IsPrepared code.now self.new)) }
         ensures used_up { (result ≡ Err Stop.SequenceUsedUp) ↔ (stops (access (effect code.now) self.old.thread) ≡ true) }
     {
         let doing = self.doing(code);
@@ -175,8 +177,8 @@ impl<A: Allocator + Copy> Thread<A> {
     /// Names the access of the next step, by what is to be done in it, and makes all ready for its answer. A thread that is
     /// over makes local steps that change nothing.
     ///
-    /// An error leaves the thread as it was: `OutOfMemory` where room was refused, `SequenceUsedUp` where the step would swap
-    /// the lock from its last even value.
+    /// An error comes only where the thread runs, and leaves it as it was, with what was prepared before: `OutOfMemory` where room
+    /// was refused, `SequenceUsedUp` where the step would swap the lock from its last even value.
     #[inline(always)]
     pub fn prepare_at<B: Allocator>(&mut self, code: &Code<B>, doing: Doing) -> Result<Access, Stop>
         requires of { IsThreadOf code.now self.old.thread }
@@ -185,6 +187,7 @@ impl<A: Allocator + Copy> Thread<A> {
         ensures accesses { self.new.accesses ≡ self.old.accesses }
         ensures access { IfOk result (λ x. (x ≡ access (effect code.now) self.old.thread) × (stops x ≡ false)) }
         ensures prepared { OnOk result (IsPrepared code.now self.new) }
+        ensures err { OnErr result ((self.old.thread.status ≡ Running) × (self.new.prepared ≡ self.old.prepared) × (IsPrepared code.now self.old → IsPrepared code.now self.new)) }
         ensures used_up { (result ≡ Err Stop.SequenceUsedUp) ↔ (stops (access (effect code.now) self.old.thread) ≡ true) }
     {
         // The prover learns here that the code is valid.

@@ -1,6 +1,6 @@
 //! An attempt: its logs and its begins.
 
-ghost use Rattle.std.specs.Prelude.{◌≡◌, ◌+◌, ◌-◌, ◌<◌, ◌≤◌, ◌^◌, suc, [], ◌∷◌, ◌++◌, true, false, if◌then◌else◌, OnOk, OnErr, OnSome, length, take, drop, vec_len};
+ghost use Rattle.std.specs.Prelude.{◌≡◌, ◌⊎◌, ◌+◌, ◌-◌, ◌<◌, ◌≤◌, ◌^◌, suc, [], ◌∷◌, ◌++◌, true, false, if◌then◌else◌, OnOk, OnErr, OnSome, length, take, drop, vec_len};
 ghost use Rattle.std.specs.List.{slice_get};
 ghost use Rattle.write_log.specs.Overlay.{written, put};
 ghost use Rattle.nesting.specs.Nests.{GainsRoom, IsCancelled};
@@ -56,6 +56,7 @@ fn reserve_inner<A: Allocator + Copy>(
     ensures room { OnOk result (depth < vec_len inner.new) }
     ensures open { take depth inner.new.items ≡ take depth inner.old.items }
     ensures more { vec_len inner.old ≤ vec_len inner.new }
+    ensures full { OnErr result (vec_len inner.old ≡ depth) }
 {
     if inner.len() == depth {
         inner.push(Saved::new(alloc))?;
@@ -103,8 +104,8 @@ impl<A: Allocator + Copy> Attempt<A> {
         }
     }
 
-    /// Sets aside what the next begin saves, and makes room for that begin. The error comes only where there is none and
-    /// the allocator refuses it.
+    /// Sets aside what the next begin saves, and makes room for that begin. The error comes only where there is no room for an
+    /// inner begin, or more registers are to be saved than were set aside before, and the allocator refuses it.
     pub fn prepare_begin(
         &mut self,
         registers: &[u64],
@@ -115,6 +116,7 @@ impl<A: Allocator + Copy> Attempt<A> {
         ensures aside { OnOk result (self.new.aside ≡ record { registers = registers.now; frames = frames; place = place }) }
         ensures err { OnErr result (self.new.aside ≡ self.old.aside) }
         ensures others { GainsRoom (record self.old { aside = self.new.aside }) self.new }
+        ensures full { OnErr result ((self.old.begin_room ≡ 0) ⊎ (length self.old.aside.registers < length registers.now)) }
     {
         reserve_inner(&mut self.inner, self.depth, self.alloc)?;
         self.writes.reserve_one()?;
@@ -122,7 +124,7 @@ impl<A: Allocator + Copy> Attempt<A> {
     }
 
     /// Sets aside what the next outermost begin saves, which needs no room beside that of the registers. The error comes only where
-    /// these have none and the allocator refuses it.
+    /// these are more than were set aside before, and the allocator refuses it.
     #[inline(always)]
     pub fn prepare_outermost(
         &mut self,
@@ -133,6 +135,7 @@ impl<A: Allocator + Copy> Attempt<A> {
         ensures aside { OnOk result (self.new.aside ≡ record { registers = registers.now; frames = frames; place = place }) }
         ensures err { OnErr result (self.new.aside ≡ self.old.aside) }
         ensures others { GainsRoom (record self.old { aside = self.new.aside }) self.new }
+        ensures full { OnErr result (length self.old.aside.registers < length registers.now) }
     {
         if self.turned {
             self.one.save(registers, frames, place)

@@ -1,6 +1,6 @@
 //! What a begin saves.
 
-ghost use Rattle.std.specs.Prelude.{◌≡◌, ◌≤◌, [], OnOk, OnErr, length, vec_capacity};
+ghost use Rattle.std.specs.Prelude.{◌≡◌, ◌<◌, ◌≤◌, [], OnOk, OnErr, length, vec_capacity, vec_len};
 
 use std::alloc::{AllocError, Allocator, Global};
 use std::marker::Model;
@@ -34,11 +34,13 @@ fn refill<A: Allocator>(registers: &mut Vec<u64, A>, from: &[u64])
     }
 }
 
-// The same where memory may be wanted. The error comes only where the registers have no room and the allocator refuses it.
+// Puts these registers in place of those that were there, with more room where they need it. The error comes only where there is
+// none and the allocator refuses it.
 #[inline(never)]
 fn regrow<A: Allocator>(registers: &mut Vec<u64, A>, from: &[u64]) -> Result<(), AllocError>
     ensures ok { OnOk result (registers.new.items ≡ from.now) }
     ensures err { OnErr result (registers.new.items ≡ registers.old.items) }
+    ensures full { OnErr result (vec_len registers.old < length from.now) }
 {
     if registers.capacity() < from.len() {
         let more = from.len().saturating_sub(registers.len());
@@ -58,8 +60,8 @@ impl<A: Allocator + Copy> Saved<A> {
         }
     }
 
-    // Saves these in place of what was saved. The error comes only where the registers have no room and the allocator
-    // refuses it.
+    // Saves these in place of what was saved. The error comes only where there are more registers than were saved, and the
+    // allocator refuses them room.
     #[inline(always)]
     pub(crate) fn save(
         &mut self,
@@ -69,6 +71,7 @@ impl<A: Allocator + Copy> Saved<A> {
     ) -> Result<(), AllocError>
         ensures ok { OnOk result (self.new ≡ record { registers = registers.now; frames = frames; place = place }) }
         ensures err { OnErr result (self.new ≡ self.old) }
+        ensures full { OnErr result (length self.old.registers < length registers.now) }
     {
         // A thread mostly saves as many as it saved before.
         if self.registers.len() == registers.len() {
