@@ -2,7 +2,7 @@
 
 ghost use Rattle.std.specs.Prelude.{◌≡◌, ◌++◌, ◌<◌, []};
 ghost use Rattle.seats.specs.Views.{first_of, without_first};
-ghost use Rattle.seats.specs.Rule.{MeetsBoth};
+ghost use Rattle.seats.specs.Rule.{Floored, MeetsBoth};
 
 use crate::access::Words;
 use crate::rule::{First, Joined, Met, Rest, View, Whole};
@@ -29,6 +29,15 @@ pub fn join<A: Allocator>(words: &Words<A>, seat: &mut Seat<(), View>, other: Se
     words.join_seat::<Joined>(seat, other);
 }
 
+// Loads the lock for all threads that the seat speaks for. The value found is given: it is a floor for their later answers.
+fn floor<A: Allocator>(words: &Words<A>, seat: &mut Seat<(), View>) -> u64
+    requires { (seat.old.table_id ≡ words.now.table_id) × (0 < words.now.table_id.words) }
+    ensures table { seat.new.table_id ≡ seat.old.table_id }
+    ensures floor { Floored seat.old.me result seat.new.me }
+{
+    words.load::<Met>(seat, 0)
+}
+
 /// Two seats, which speak for one thread each, meet: the lock is loaded for each of the two, by a seat that speaks for both for
 /// that long. The value found last is given: it is a floor for both threads' later answers.
 pub fn meet<A: Allocator>(
@@ -42,8 +51,8 @@ pub fn meet<A: Allocator>(
 {
     let whole = words.split_seat::<Whole>(theirs);
     words.join_seat::<Joined>(mine, whole);
-    let _first = words.load::<Met>(mine, 0);
-    let found = words.load::<Met>(mine, 0);
+    let _first = floor(words, mine);
+    let found = floor(words, mine);
     let back = words.split_seat::<Rest>(mine);
     words.join_seat::<Joined>(theirs, back);
     found
