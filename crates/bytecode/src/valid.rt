@@ -42,6 +42,17 @@ fn are_shaped<A: Allocator>(globals: &[Global<A>]) -> bool
     globals.iter().all(|g| is_shaped(g))
 }
 
+impl<A: Allocator> PartsFault<A> {
+    /// The fault's number: 0.
+    pub fn number(&self) -> u32
+        ensures { result ≡ 0 }
+    {
+        match self {
+            PartsFault::OutOfMemory(_) => 0,
+        }
+    }
+}
+
 // The number of a global's cells, or of its initialisers where these are more.
 fn cells_of<A: Allocator>(g: &Global<A>) -> usize
     ensures { result ≡ length (first_words (global_of g.now)) }

@@ -5,20 +5,25 @@ ghost use Rattle.lower.specs.Faults.{number_of, span_of};
 
 use lex::token::Span;
 use std::alloc::AllocError;
+use thiserror::Error;
 
 /// Why no code is given.
-#[derive(Clone, Copy, PartialEq, Eq, Debug)]
+#[derive(Clone, Copy, PartialEq, Eq, Debug, Error)]
 pub enum LowerFault {
     /// A growth was refused. It says nothing of the program.
+    #[error("out of memory")]
     OutOfMemory,
 
     /// A function needs more than 65,535 registers: its name.
+    #[error("too many registers")]
     TooManyRegisters(Span),
 
     /// The code has more than 1,048,576 instructions: the name of the function in which that number is passed.
+    #[error("too much code")]
     TooMuchCode(Span),
 
     /// Transactions lie in one another more than 16 deep in a function's text: the keyword of the 17th.
+    #[error("transactions nested too deep")]
     NestedTooDeep(Span),
 }
 

@@ -26,6 +26,6 @@ mod words;
 
 pub use orders::run_order;
 pub use outcome::{
-    MeaningFault, OutOfMemory, SourceOutcome, ThreadEnd, ThreadOutcome, ThreadReport,
+    MeaningFault, SourceOutcome, ThreadEnd, ThreadOutcome, ThreadReport,
 };
 pub use threads::thread;

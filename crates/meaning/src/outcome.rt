@@ -46,10 +46,6 @@ pub struct SourceOutcome<A: Allocator = std::alloc::Global> {
     pub threads: Vec<ThreadReport<A>, A>,
 }
 
-/// Memory was refused.
-#[derive(Clone, Copy)]
-pub struct OutOfMemory;
-
 /// Why threads don't run in an order.
 #[derive(Clone, Copy, PartialEq, Eq, Debug, Error)]
 pub enum MeaningFault {

@@ -12,14 +12,14 @@ ghost use Rattle.meaning.specs.inner.Machine.{Means, context_in, program_in, sta
 
 use crate::calls::entered;
 use crate::machine::{Context, Halted, Machine, tick};
-use crate::outcome::{OutOfMemory, ThreadEnd, ThreadOutcome};
+use crate::outcome::{ThreadEnd, ThreadOutcome};
 use crate::program::Source;
 use crate::tables::source;
 use crate::words::{narrow_all, widen_all};
 use lex::token::Scalar;
 use separation::Accepted;
 use separation::laws::never_astray;
-use std::alloc::Allocator;
+use std::alloc::{AllocError, Allocator};
 use syntax::numbers::{Halt, Value};
 
 /// `worker(t)`, in the first of 64 frames, and then the tick of the thread's end.
@@ -100,19 +100,19 @@ pub(crate) fn run_thread<A: Allocator + Copy>(
     t: u32,
     founds: &[Vec<u32, A>],
     ticks: u64,
-) -> Result<Seen<A>, OutOfMemory>
+) -> Result<Seen<A>, AllocError>
     ensures { IfOk result (λ o. seen_in o ≡ thread_due (program_of accepted.now.safe.typed.unit) t (memories_in founds.now) ticks) }
 {
     never_astray(); // the law by which an end is told below
     let Ok(source) = source(alloc, accepted.safe().typed()) else {
-        return Err(OutOfMemory);
+        return Err(AllocError);
     };
     let mut m = start(alloc, founds, ticks);
     match work(&source, t, &mut m) {
         Ok(()) => Ok(finish(alloc, ThreadEnd::Ended, m)),
         Err(_) => match m.why {
             Some(why) => Ok(finish(alloc, end_of(why), m)),
-            None => Err(OutOfMemory),
+            None => Err(AllocError),
         },
     }
 }
@@ -126,17 +126,17 @@ pub fn thread<A: Allocator + Copy>(
     t: u32,
     founds: &[Vec<u64, A>],
     ticks: u64,
-) -> Result<ThreadOutcome<A>, OutOfMemory>
+) -> Result<ThreadOutcome<A>, AllocError>
     requires { AreWords founds.now }
     ensures value { IfOk result (λ o. outcome_in o ≡ thread_due (program_of accepted.now.safe.typed.unit) t (memories_in founds.now) ticks) }
     ensures words { IfOk result (λ o. AreWords o.lefts.items) }
 {
     let Ok(found) = narrow_all(alloc, founds) else {
-        return Err(OutOfMemory);
+        return Err(AllocError);
     };
     let seen = run_thread(alloc, accepted, t, found.as_slice(), ticks)?;
     let Ok(lefts) = widen_all(alloc, seen.lefts.as_slice()) else {
-        return Err(OutOfMemory);
+        return Err(AllocError);
     };
     Ok(ThreadOutcome {
         lefts,

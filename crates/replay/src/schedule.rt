@@ -7,15 +7,19 @@ ghost use Rattle.replay.specs.Schedules.{AreLines, IsFaultOfRows};
 use crate::line::{Line, MOST_STEPS};
 use crate::row::{Row, read_row};
 use std::alloc::{AllocError, Allocator};
+use thiserror::Error;
 
 /// Why a schedule is refused.
-#[derive(Clone, Copy, PartialEq, Eq)]
+#[derive(Clone, Copy, PartialEq, Eq, Debug, Error)]
 pub enum ScheduleFault {
     /// Memory was refused.
+    #[error("out of memory")]
     OutOfMemory,
     /// This line, from 1 on, is none.
+    #[error("bad schedule line")]
     BadLine(usize),
     /// The counts of its lines are more than 1,048,576, added.
+    #[error("schedule too long")]
     TooLong,
 }
 
