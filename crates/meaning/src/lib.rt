@@ -25,7 +25,5 @@ mod word;
 mod words;
 
 pub use orders::run_order;
-pub use outcome::{
-    MeaningFault, SourceOutcome, ThreadEnd, ThreadOutcome, ThreadReport,
-};
+pub use outcome::{MeaningFault, SourceOutcome, ThreadEnd, ThreadOutcome, ThreadReport};
 pub use threads::thread;

@@ -1,12 +1,13 @@
 -- A code that uses its cells alone leaves memories where it finds memories.
-use Rattle.std.proofs.Common.{◌≡◌, ℕ, zero, suc, Bool, true, false, List, [], ◌∷◌, ◌++◌, Option, None, Some, refl}
+use Rattle.std.proofs.Common.{◌≡◌, ℕ, zero, suc, Bool, true, false, List, [], ◌∷◌, ◌++◌, ◌-◌, drop, Option, None, Some, refl}
 use Rattle.std.specs.List.{AllByRecursion}
 use Rattle.syntax.specs.declared.numbers.Status.{Status}
 use Rattle.syntax.specs.declared.numbers.Status.TheVariants.{Running, Ended as HasEnded, Trapped as HasTrapped}
 use Rattle.syntax.specs.Behaviours.{IsMemory}
 use Rattle.bytecode.specs.Effects.{Effect, FitsCells}
-use Rattle.bytecode.specs.Effects.Effect.{Begin, Cancel, Commit, End, Irrevocable, Print, Pure, Read, Traps, Write}
+use Rattle.bytecode.specs.Effects.Effect.{Begin, Cancel, CancelOuter, Commit, End, Irrevocable, Print, Pure, Read, Traps, Write}
 use Rattle.bytecode.specs.Sequential.{InnerTransaction, OpenTransaction, Sequential, cancel_step, commit_step, found_next, inside_step, meaning, next, outside_step, print_step, sequential_step, steps}
+use Rattle.machine.proofs.Levels.{all_left}
 use Rattle.machine.proofs.parts.Memories.{memory-set}
 use Rattle.machine.proofs.parts.Part.{each_append}
 
@@ -55,6 +56,7 @@ module _ {C : Type 0} (code : C → Effect C) (bounds : List ℕ) (fits : FitsCe
       inside_ok (Write a v c) e = ((inner_ok.0, memory-set bounds i.mem a v inner_ok.1 (fits.writes s.configuration c a v e).1, inner_ok.2), ok.1, ok.2)
       inside_ok (Commit c) e = commits c i.inner inner_ok.2
       inside_ok Cancel e = cancels i.inner i.kept inner_ok.2
+      inside_ok (CancelOuter levels) e = cancels (drop (levels - 1) i.inner) i.kept (all_left (λ (l : InnerTransaction C). IsMemory bounds l.mem) (levels - 1) i.inner inner_ok.2)
       inside_ok (Irrevocable c) e = (inner_ok, ok.1, ok.2)
       inside_ok (Traps cause) e = (tt, ok.1, leaves i.found inner_ok.0)
       inside_ok End e = ok
