@@ -1,10 +1,11 @@
 -- What each function of a thread leaves is what the instruction comes to.
-use Rattle.std.proofs.Common.{◌≡◌, ◌<◌, ℕ, false, List, [], ◌∷◌, ◌++◌, Option, None, Some, refl, sym, ◌∙◌, ap, subst, length, slice_index}
+use Rattle.std.proofs.Common.{◌≡◌, ◌<◌, ◌-◌, ℕ, true, false, List, [], ◌∷◌, ◌++◌, Option, None, Some, refl, sym, ◌∙◌, ap, subst, length, map, take, drop, slice_index, append_assoc}
 use Rattle.std.specs.Prelude.{Vec, slice_set}
+use Rattle.std.proofs.lemmas.List.{map-append, take-append-drop}
 use Rattle.syntax.specs.declared.numbers.Status.TheVariants.{Running}
 use Rattle.syntax.specs.Behaviours.{Memory, IsMemory}
 use Rattle.nesting.specs.Begins.{Saved}
-use Rattle.bytecode.specs.Effects.Effect.{Pure, Print, Begin, Read, Write, Commit, Cancel, Irrevocable}
+use Rattle.bytecode.specs.Effects.Effect.{Pure, Print, Begin, Read, Write, Commit, Irrevocable}
 use Rattle.bytecode.specs.Code.{Code, Configuration, effect}
 use Rattle.bytecode.specs.Sequential.{OpenTransaction, InnerTransaction}
 use Rattle.bytecode.specs.Valid.{IsValid, bounds_of}
@@ -14,7 +15,7 @@ use Rattle.frames.specs.Open.{CanRestore, IsConfigurationOf, MayStand, restored,
 use Rattle.atomic_code.specs.declared.kept.Signal.{Signal}
 use Rattle.atomic_code.specs.declared.kept.Signal.TheVariants.{Goes, Leaves}
 use Rattle.atomic_code.specs.Threads.{Thread, AreMemories, Runs, begins_of, cancelled_from}
-use Rattle.atomic_code.specs.inner.Making.{Makes, MayPrint, at_hand, begun_in, made_irrevocable, with_memory}
+use Rattle.atomic_code.specs.inner.Making.{Cancels, Makes, MayPrint, at_hand, begun_in, made_irrevocable, with_memory}
 use Rattle.atomic_code.proofs.Memories.{sized}
 use Rattle.atomic_code.proofs.Making as making
 use Rattle.atomic_code.proofs.Making.{at, same_thread}
@@ -76,9 +77,6 @@ module _ (code : Code) (v : IsValid code) (k : Thread) (running : k.status ≡ R
       pub commit_inner : {A : Type 0} (l : Thread) (d : Configuration) → effect code c ≡ Commit d → l.configuration ≡ d → l.open_in ≡ Some o → l.text ≡ k.text → l.status ≡ k.status → Makes {A = A} code m k Goes l
       commit_inner l d e cl ol tl sl = goes (Some (with_memory o o.mem (i ∷ o.inner))) (Some o) d k.text Goes some (making.commit_inner code v m c o i o.inner k.text deep d e) l cl ol tl sl
 
-      pub cancel_inner : {A : Type 0} (l : Thread) → effect code c ≡ Cancel → l.configuration ≡ cancelled_from code c i.cancelled → l.open_in ≡ Some (with_memory o i.mem o.inner) → l.text ≡ k.text → l.status ≡ k.status → Makes {A = A} code m k Goes l
-      cancel_inner l e cl ol tl sl = goes (Some (with_memory o o.mem (i ∷ o.inner))) (Some (with_memory o i.mem o.inner)) (cancelled_from code c i.cancelled) k.text Goes some (making.cancel_inner code v m c o i o.inner k.text deep e) l cl ol tl sl
-
     -- the outermost is closed
     module _ (o : OpenTransaction Saved) (some : k.open_in ≡ Some o) (last : o.inner ≡ []) where
       whole : k.open_in ≡ Some (with_memory o o.mem [])
@@ -90,8 +88,24 @@ module _ (code : Code) (v : IsValid code) (k : Thread) (running : k.status ≡ R
       pub commit_outermost : {A : Type 0} (l : Thread) (d : Configuration) (left : Vec ℕ A) → effect code c ≡ Commit d → left.items ≡ o.mem → l.configuration ≡ d → l.open_in ≡ None → l.text ≡ k.text → l.status ≡ k.status → Makes {A = A} code m k (Leaves left) l
       commit_outermost l d left e h cl ol tl sl = goes (Some (with_memory o o.mem [])) None d k.text (Leaves left) whole (making.commit_outermost code v m c o k.text one d left e h) l cl ol tl sl
 
-      pub cancel_outermost : {A : Type 0} (l : Thread) (left : Vec ℕ A) → effect code c ≡ Cancel → o.kept ≡ false → left.items ≡ o.found → l.configuration ≡ cancelled_from code c o.cancelled → l.open_in ≡ None → l.text ≡ k.text → l.status ≡ k.status → Makes {A = A} code m k (Leaves left) l
-      cancel_outermost l left e f h cl ol tl sl = goes (Some (with_memory o o.mem [])) None (cancelled_from code c o.cancelled) k.text (Leaves left) whole (making.cancel_outermost code v m c o k.text one left e f h) l cl ol tl sl
+    -- a cancel of so many levels
+    module _ (n : ℕ) (cancels : Cancels (effect code c) n) where
+      pub cancel_outside : {A : Type 0} (l : Thread) → k.open_in ≡ None → l.configuration ≡ c → l.open_in ≡ None → l.text ≡ k.text → l.status ≡ k.status → Makes {A = A} code m k Goes l
+      cancel_outside l none cl ol tl sl = goes None None c k.text Goes none (making.cancel_outside code v m c k.text (runs_at None none) n cancels) l cl ol tl sl
+
+      -- p is what is left of o where the levels are closed, and i is the outermost one of them
+      pub cancel_inner : {A : Type 0} (l : Thread) (o p : OpenTransaction Saved) (i : InnerTransaction Saved) → k.open_in ≡ Some o → with_memory o o.mem (drop (n - 1) o.inner) ≡ with_memory p p.mem (i ∷ p.inner) →
+          l.configuration ≡ cancelled_from code c i.cancelled → l.open_in ≡ Some (with_memory p i.mem p.inner) → l.text ≡ k.text → l.status ≡ k.status → Makes {A = A} code m k Goes l
+      cancel_inner l o p i some e cl ol tl sl =
+          goes (Some o) (Some (with_memory o i.mem p.inner)) (cancelled_from code c i.cancelled) k.text Goes some
+          (making.cancel_inner code v m c o k.text (runs_at (Some o) some) n cancels i p.inner (ap (λ (t : OpenTransaction Saved). t.inner) e)) l cl (ol ∙ ap (λ (t : OpenTransaction Saved). Some (with_memory t i.mem p.inner)) (sym e)) tl sl
+
+      module _ (o : OpenTransaction Saved) (some : k.open_in ≡ Some o) (all : drop (n - 1) o.inner ≡ []) where
+        pub cancel_outermost : {A : Type 0} (l : Thread) (left : Vec ℕ A) → o.kept ≡ false → left.items ≡ o.found → l.configuration ≡ cancelled_from code c o.cancelled → l.open_in ≡ None → l.text ≡ k.text → l.status ≡ k.status → Makes {A = A} code m k (Leaves left) l
+        cancel_outermost l left f h cl ol tl sl = goes (Some o) None (cancelled_from code c o.cancelled) k.text (Leaves left) some (making.cancel_outermost code v m c o k.text (runs_at (Some o) some) n cancels all left f h) l cl ol tl sl
+
+        pub cancel_kept : {A : Type 0} (l : Thread) → o.kept ≡ true → l.configuration ≡ c → l.open_in ≡ Some o → l.text ≡ k.text → l.status ≡ k.status → Makes {A = A} code m k Goes l
+        cancel_kept l f cl ol tl sl = goes (Some o) (Some o) c k.text Goes some (making.cancel_kept code v m c o k.text (runs_at (Some o) some) n cancels all f) l cl ol tl sl
 
   -- a shared access is to a cell of the memory
   module _ (o : OpenTransaction Saved) (some : k.open_in ≡ Some o) where
@@ -105,7 +119,23 @@ module _ (code : Code) (v : IsValid code) (k : Thread) (running : k.status ≡ R
     cell_written a w d e = subst (λ n. a < n) (sym (sized (bounds_of code) o.mem words.now)) ((fits_cells code v).writes c d a w e).0
 
   -- a begin that is open can be gone back to
-  pub goes_back : (s : Saved) (ss : List Saved) → begins_of k.open_in ≡ s ∷ ss → CanRestore c s × IsConfigurationOf code (restored c s)
-  goes_back s ss e =
-      let g = (begins_stay_open code v).goes_back c [] s ss (subst (MayStand code c) e runs.stands) in
+  pub goes_back : (inner : List Saved) (s : Saved) (ss : List Saved) → begins_of k.open_in ≡ inner ++ s ∷ ss → CanRestore c s × IsConfigurationOf code (restored c s)
+  goes_back inner s ss e =
+      let g = (begins_stay_open code v).goes_back c inner s ss (subst (MayStand code c) e runs.stands) in
       (g.2, (ss, g.0))
+
+  -- the inner begins are those that are left out, and the others
+  module _ (o : OpenTransaction Saved) (some : k.open_in ≡ Some o) (n : ℕ) where
+    abbrev saved : InnerTransaction Saved → Saved
+    saved j = j.cancelled
+
+    begins_at : (is : List (InnerTransaction Saved)) → drop n o.inner ≡ is → begins_of k.open_in ≡ map saved (take n o.inner) ++ (map saved is ++ o.cancelled ∷ [])
+    begins_at is e =
+        ap begins_of some ∙ ap (λ js. map saved js ++ o.cancelled ∷ []) (sym (take-append-drop n o.inner)) ∙ ap (λ js. js ++ o.cancelled ∷ []) (map-append saved (take n o.inner) (drop n o.inner))
+        ∙ append_assoc (map saved (take n o.inner)) (map saved (drop n o.inner)) (o.cancelled ∷ []) ∙ ap (λ js. map saved (take n o.inner) ++ (map saved js ++ o.cancelled ∷ [])) e
+
+    pub goes_back_inside : (i : InnerTransaction Saved) (is : List (InnerTransaction Saved)) → drop n o.inner ≡ i ∷ is → CanRestore c i.cancelled × IsConfigurationOf code (restored c i.cancelled)
+    goes_back_inside i is e = goes_back (map saved (take n o.inner)) i.cancelled (map saved is ++ o.cancelled ∷ []) (begins_at (i ∷ is) e)
+
+    pub goes_back_outermost : drop n o.inner ≡ [] → CanRestore c o.cancelled × IsConfigurationOf code (restored c o.cancelled)
+    goes_back_outermost e = goes_back (map saved (take n o.inner)) o.cancelled [] (begins_at [] e)

@@ -1,9 +1,9 @@
 -- Many instructions, for every code.
-use Rattle.std.proofs.Common.{◌≡◌, ◌+◌, ◌≤◌, ℕ, zero, suc, Bool, true, false, List, [], ◌∷◌, ◌++◌, Option, None, Some, refl, ◌∙◌, ap, arith}
+use Rattle.std.proofs.Common.{◌≡◌, ◌+◌, ◌-◌, ◌≤◌, ℕ, zero, suc, Bool, true, false, List, [], ◌∷◌, ◌++◌, Option, None, Some, refl, ◌∙◌, ap, drop, arith}
 use Rattle.syntax.specs.declared.numbers.Status.{Status}
 use Rattle.syntax.specs.declared.numbers.Status.TheVariants.{Running, Ended as HasEnded, Trapped as HasTrapped}
 use Rattle.bytecode.specs.Effects.{Effect}
-use Rattle.bytecode.specs.Effects.Effect.{Print, Begin, Commit, Cancel, Traps}
+use Rattle.bytecode.specs.Effects.Effect.{Print, Begin, Commit, Cancel, CancelOuter, Traps}
 use Rattle.bytecode.specs.Sequential.{Sequential, OpenTransaction, InnerTransaction, next, steps, sequential_step, found_next, commit_step, cancel_step, print_step}
 use Rattle.atomic_code.specs.Carried.{IsGoing}
 
@@ -22,6 +22,11 @@ module _ {C : Type 0} (code : C → Effect C) where
 
   -- a thread that goes on after an instruction went on before it
   module _ (s : Sequential C) where
+    cancel_before : (i : OpenTransaction C) (is : List (InnerTransaction C)) (b : Bool) → (cancel_step s i is b).lefts ≡ [] → s.lefts ≡ []
+    cancel_before i [] true e = e
+    cancel_before i [] false e = more_left s.lefts i.found e
+    cancel_before i (l ∷ ls) b e = e
+
     lefts_before : (w : Bool) (st : Status) (o : Option (OpenTransaction C)) (x : Effect C) → (sequential_step s w st o x).lefts ≡ [] → s.lefts ≡ []
     lefts_before false Running None (Begin c d) e = by s.founds e
       where
@@ -38,12 +43,8 @@ module _ {C : Type 0} (code : C → Effect C) where
         by : (is : List (InnerTransaction C)) → (commit_step s i c is).lefts ≡ [] → s.lefts ≡ []
         by [] e = more_left s.lefts i.mem e
         by (l ∷ ls) e = e
-    lefts_before false Running (Some i) Cancel e = by i.inner i.kept e
-      where
-        by : (is : List (InnerTransaction C)) (b : Bool) → (cancel_step s i is b).lefts ≡ [] → s.lefts ≡ []
-        by [] true e = e
-        by [] false e = more_left s.lefts i.found e
-        by (l ∷ ls) b e = e
+    lefts_before false Running (Some i) Cancel e = cancel_before i i.inner i.kept e
+    lefts_before false Running (Some i) (CancelOuter n) e = cancel_before i (drop (n - 1) i.inner) i.kept e
     lefts_before false Running (Some i) (Traps cause) e = more_left s.lefts i.found e
     lefts_before w st o x e = e
 

@@ -1,10 +1,10 @@
 -- A thread with more memories to find, and with some left before.
-use Rattle.std.proofs.Common.{◌≡◌, ℕ, zero, suc, Bool, true, false, List, [], ◌∷◌, ◌++◌, Option, None, Some, refl, ◌∙◌, ap, append_assoc}
+use Rattle.std.proofs.Common.{◌≡◌, ◌-◌, ℕ, zero, suc, Bool, true, false, List, [], ◌∷◌, ◌++◌, Option, None, Some, refl, ◌∙◌, ap, drop, append_assoc}
 use Rattle.syntax.specs.declared.numbers.Status.{Status}
 use Rattle.syntax.specs.declared.numbers.Status.TheVariants.{Running, Ended as HasEnded, Trapped as HasTrapped}
 use Rattle.syntax.specs.Behaviours.{Memory}
 use Rattle.bytecode.specs.Effects.{Effect}
-use Rattle.bytecode.specs.Effects.Effect.{Print, Begin, Commit, Cancel, Traps}
+use Rattle.bytecode.specs.Effects.Effect.{Print, Begin, Commit, Cancel, CancelOuter, Traps}
 use Rattle.bytecode.specs.Sequential.{Sequential, OpenTransaction, InnerTransaction, next, steps, sequential_step, found_next, commit_step, cancel_step, print_step}
 
 module _ {C : Type 0} (code : C → Effect C) where
@@ -15,6 +15,11 @@ module _ {C : Type 0} (code : C → Effect C) where
   module _ (ls : List Memory) (s : Sequential C) where
     leaving : (m : Memory) → (ls ++ s.lefts) ++ m ∷ [] ≡ ls ++ (s.lefts ++ m ∷ [])
     leaving m = append_assoc ls s.lefts (m ∷ [])
+
+    left_cancel : (i : OpenTransaction C) (is : List (InnerTransaction C)) (b : Bool) → cancel_step (after_lefts ls s) i is b ≡ after_lefts ls (cancel_step s i is b)
+    left_cancel i [] true = refl
+    left_cancel i [] false = ap (λ l. record { configuration = i.cancelled; inside = None; founds = s.founds; lefts = l; text = s.text; status = s.status; wants = s.wants }) (leaving i.found)
+    left_cancel i (j ∷ is) b = refl
 
     left_step : (w : Bool) (st : Status) (o : Option (OpenTransaction C)) (x : Effect C) → sequential_step (after_lefts ls s) w st o x ≡ after_lefts ls (sequential_step s w st o x)
     left_step false Running None (Begin c d) = by s.founds
@@ -32,12 +37,8 @@ module _ {C : Type 0} (code : C → Effect C) where
         by : (is : List (InnerTransaction C)) → commit_step (after_lefts ls s) i c is ≡ after_lefts ls (commit_step s i c is)
         by [] = ap (λ l. record { configuration = c; inside = None; founds = s.founds; lefts = l; text = s.text; status = s.status; wants = s.wants }) (leaving i.mem)
         by (j ∷ is) = refl
-    left_step false Running (Some i) Cancel = by i.inner i.kept
-      where
-        by : (is : List (InnerTransaction C)) (b : Bool) → cancel_step (after_lefts ls s) i is b ≡ after_lefts ls (cancel_step s i is b)
-        by [] true = refl
-        by [] false = ap (λ l. record { configuration = i.cancelled; inside = None; founds = s.founds; lefts = l; text = s.text; status = s.status; wants = s.wants }) (leaving i.found)
-        by (j ∷ is) b = refl
+    left_step false Running (Some i) Cancel = left_cancel i i.inner i.kept
+    left_step false Running (Some i) (CancelOuter n) = left_cancel i (drop (n - 1) i.inner) i.kept
     left_step false Running (Some i) (Traps cause) = ap (λ l. record { configuration = s.configuration; inside = None; founds = s.founds; lefts = l; text = s.text; status = HasTrapped cause; wants = s.wants }) (leaving i.found)
     left_step w st o x = refl
 
@@ -50,6 +51,11 @@ module _ {C : Type 0} (code : C → Effect C) where
   with_founds fs s = record { configuration = s.configuration; inside = s.inside; founds = s.founds ++ fs; lefts = s.lefts; text = s.text; status = s.status; wants = s.wants }
 
   module _ (fs : List Memory) (s : Sequential C) where
+    found_cancel : (i : OpenTransaction C) (is : List (InnerTransaction C)) (b : Bool) → cancel_step (with_founds fs s) i is b ≡ with_founds fs (cancel_step s i is b)
+    found_cancel i [] true = refl
+    found_cancel i [] false = refl
+    found_cancel i (j ∷ is) b = refl
+
     found_step : (w : Bool) (st : Status) (o : Option (OpenTransaction C)) (x : Effect C) → s.wants ≡ w → (sequential_step s w st o x).wants ≡ false → sequential_step (with_founds fs s) w st o x ≡ with_founds fs (sequential_step s w st o x)
     found_step false Running None (Begin c d) e h = by s.founds h
       where
@@ -66,12 +72,8 @@ module _ {C : Type 0} (code : C → Effect C) where
         by : (is : List (InnerTransaction C)) → commit_step (with_founds fs s) i c is ≡ with_founds fs (commit_step s i c is)
         by [] = refl
         by (j ∷ is) = refl
-    found_step false Running (Some i) Cancel e h = by i.inner i.kept
-      where
-        by : (is : List (InnerTransaction C)) (b : Bool) → cancel_step (with_founds fs s) i is b ≡ with_founds fs (cancel_step s i is b)
-        by [] true = refl
-        by [] false = refl
-        by (j ∷ is) b = refl
+    found_step false Running (Some i) Cancel e h = found_cancel i i.inner i.kept
+    found_step false Running (Some i) (CancelOuter n) e h = found_cancel i (drop (n - 1) i.inner) i.kept
     found_step w st o x e h = refl
 
   wanted : (s : Sequential C) (w : Bool) → s.wants ≡ w → (sequential_step s w s.status s.inside (code s.configuration)).wants ≡ false → s.wants ≡ false

@@ -16,3 +16,5 @@ mod Threads
 mod Growing
 -- a whole thread
 mod Wholes
+-- inner transactions that are closed
+mod Closing

@@ -1,11 +1,13 @@
 -- What each instruction of a thread comes to.
-use Rattle.std.proofs.Common.{◌≡◌, ◌-◌, ℕ, suc, false, List, [], ◌∷◌, ◌++◌, Option, None, Some, refl, sym, ◌∙◌, ap, subst, map, length, drop, arith}
+use Rattle.std.proofs.Common.{◌≡◌, ◌-◌, ℕ, zero, suc, Bool, true, false, List, [], ◌∷◌, ◌++◌, Option, None, Some, refl, sym, ◌∙◌, ap, subst, map, length, drop, arith}
 use Rattle.std.specs.Prelude.{slice_index, slice_set}
+use Rattle.std.specs.List.{AllByRecursion}
+use Rattle.std.proofs.lemmas.List.{drop-map}
 use Rattle.syntax.specs.declared.numbers.Status.TheVariants.{Running}
 use Rattle.syntax.specs.Behaviours.{Memory, IsMemory}
 use Rattle.nesting.specs.Begins.{Saved}
 use Rattle.bytecode.specs.Effects.{Effect, FitsCells, after_cancel}
-use Rattle.bytecode.specs.Effects.Effect.{Pure, Print, Begin, Read, Write, Commit, Cancel, Irrevocable}
+use Rattle.bytecode.specs.Effects.Effect.{Pure, Print, Begin, Read, Write, Commit, Cancel, CancelOuter, Irrevocable}
 use Rattle.bytecode.specs.Code.{Code, Configuration, effect}
 use Rattle.bytecode.specs.Sequential.{Sequential, OpenTransaction, InnerTransaction, next, sequential_step, found_next, cancel_step, print_step}
 use Rattle.bytecode.specs.Valid.{IsValid, bounds_of, cells_of}
@@ -17,7 +19,7 @@ use Rattle.atomic_code.specs.declared.kept.Signal.TheVariants.{Goes, Leaves}
 use Rattle.std.specs.Prelude.{Vec}
 use Rattle.atomic_code.specs.Threads.{Thread, cancelled_from, inner_by, transaction_by, open_by, begins_of, AreMemories, HasMemories, Runs}
 use Rattle.atomic_code.specs.Carried.{finding, to_find}
-use Rattle.atomic_code.specs.inner.Making.{Makes, with_memory, made_irrevocable, begun_in, MayPrint}
+use Rattle.atomic_code.specs.inner.Making.{Makes, Cancels, with_memory, made_irrevocable, begun_in, MayPrint}
 use Rattle.atomic_code.proofs.Memories.{written, word_at}
 use Rattle.atomic_code.proofs.Moves.{shown_there}
 
@@ -27,6 +29,25 @@ restored_saved c = ap (λ n. record { place = c.place; registers = c.registers; 
   where
     zero_left : suc (length c.frames) - suc (length c.frames) ≡ 0
     zero_left = omega arith
+
+-- The begins that are open, where those inside one of them are left out: it is the first of these transactions, or, where none is
+-- left, the outermost one.
+abbrev Parted : Saved → List (InnerTransaction Saved) → Saved → List Saved → Type 0
+Parted outermost [] s rest = (s ≡ outermost) × (rest ≡ [])
+Parted outermost (i ∷ is) s rest = (s ≡ i.cancelled) × (rest ≡ map (λ (j : InnerTransaction Saved). j.cancelled) is ++ outermost ∷ [])
+
+parts : (outermost : Saved) (is : List (InnerTransaction Saved)) (inner : List Saved) (s : Saved) (rest : List Saved) →
+    map (λ (j : InnerTransaction Saved). j.cancelled) is ++ outermost ∷ [] ≡ inner ++ s ∷ rest → Parted outermost (drop (length inner) is) s rest
+parts outermost [] [] s rest e = ((let h : s ≡ outermost = cc in h), (let h : rest ≡ [] = cc in h))
+parts outermost [] (j ∷ []) s rest e = absurd (cc)
+parts outermost [] (j ∷ k ∷ inner) s rest e = absurd (cc)
+parts outermost (i ∷ is) [] s rest e = ((let h : s ≡ i.cancelled = cc in h), (let h : rest ≡ map (λ (j : InnerTransaction Saved). j.cancelled) is ++ outermost ∷ [] = cc in h))
+parts outermost (i ∷ is) (j ∷ inner) s rest e = parts outermost is inner s rest (let h : map (λ (j : InnerTransaction Saved). j.cancelled) is ++ outermost ∷ [] ≡ inner ++ s ∷ rest = cc in h)
+
+all_dropped : {X : Type 0} (P : X → Type 0) (n : ℕ) (xs : List X) → AllByRecursion P xs → AllByRecursion P (drop n xs)
+all_dropped P zero xs h = h
+all_dropped P (suc n) [] h = h
+all_dropped P (suc n) (x ∷ xs) h = all_dropped P n xs h.1
 
 -- a thread that runs
 abbrev pub at : Configuration → Option (OpenTransaction Saved) → List ℕ → Thread
@@ -97,6 +118,15 @@ module _ (code : Code) (v : IsValid code) (m : Option Memory) where
     pub irrevocable_outside : {A : Type 0} (d : Configuration) → effect code c ≡ Irrevocable d → Makes {A = A} code m (at c None t) Goes (at d None t)
     irrevocable_outside d e = moves c None t runs d None t (goes_by c None t runs (Irrevocable d) d e refl) refl tt (by_effect c None t runs (Irrevocable d) e)
 
+    -- a cancel stands still outside
+    pub cancel_outside : {A : Type 0} (n : ℕ) → Cancels (effect code c) n → Makes {A = A} code m (at c None t) Goes (at c None t)
+    cancel_outside n h = record { makes = by_effect c None t runs (effect code c) refl ∙ is (effect code c) h; of = runs; left = tt }
+      where
+        is : (x : Effect Configuration) → Cancels x n → sequential_step (finding code m (at c None t)) false Running None x ≡ finding code m (at c None t)
+        is Cancel e = refl
+        is (CancelOuter k) e = refl
+        is x e = absurd e
+
   module _ (c : Configuration) (o : OpenTransaction Saved) (t : List ℕ) (runs : Runs code (at c (Some o) t)) where
     abbrev words : AreMemories (bounds_of code) o
     words = runs.memories
@@ -147,16 +177,6 @@ module _ (code : Code) (v : IsValid code) (m : Option Memory) where
         let tl = tail_is o.mem r.0 r.1 r.2 in
         goes_to c (Some whole) t runs d (Some (rest o.mem)) t (subst (MayStand code d) tl r.3) (subst (AreRestored c d) tl r.4) (record { found = all.found; now = all.now; inner = all.inner.1 }) (by_effect c (Some whole) t runs (Commit d) e)
 
-    pub cancel_inner : {A : Type 0} → effect code c ≡ Cancel → Makes {A = A} code m (at c (Some whole) t) Goes (at (cancelled_from code c i.cancelled) (Some (rest i.mem)) t)
-    cancel_inner e =
-        let r = law.cancels c (begins_of (Some whole)) runs.stands e in
-        let tl = tail_is i.mem r.0 r.1 r.2 in
-        let hd = head_is r.0 r.1 r.2 in
-        goes_to c (Some whole) t runs (cancelled_from code c i.cancelled) (Some (rest i.mem)) t
-        (subst (MayStand code (cancelled_from code c i.cancelled)) tl (subst (λ (z : Saved). MayStand code (cancelled_from code c z) r.1) hd r.3))
-        (subst (AreRestored c (cancelled_from code c i.cancelled)) tl (subst (λ (z : Saved). AreRestored c (cancelled_from code c z) r.1) hd r.4))
-        (record { found = all.found; now = all.inner.0; inner = all.inner.1 }) (by_effect c (Some whole) t runs Cancel e)
-
   -- the outermost alone
   module _ (c : Configuration) (o : OpenTransaction Saved) (t : List ℕ) (runs : Runs code (at c (Some (with_memory o o.mem [])) t)) where
     abbrev alone : OpenTransaction Saved
@@ -175,17 +195,69 @@ module _ (code : Code) (v : IsValid code) (m : Option Memory) where
           left = (subst (IsMemory (bounds_of code)) (sym l) both.now, refl);
         }
 
-    pub cancel_outermost : {A : Type 0} (left : Vec ℕ A) → effect code c ≡ Cancel → o.kept ≡ false → left.items ≡ o.found → Makes {A = A} code m (at c (Some alone) t) (Leaves left) (at (cancelled_from code c o.cancelled) None t)
-    cancel_outermost left e h l =
-        let r = law.cancels c (begins_of (Some alone)) runs.stands e in
-        let tl : r.1 ≡ [] = (let h = r.2 in cc) in
-        let hd : r.0 ≡ o.cancelled = (let h = r.2 in cc) in
-        record {
-          makes = by_effect c (Some alone) t runs Cancel e ∙ ap (λ b. cancel_step (finding code m (at c (Some alone) t)) (transaction_by (cancelled_from code c) alone) [] b) h
-              ∙ ap (λ (x : Memory). record { configuration = cancelled_from code c o.cancelled; inside = None; founds = []; lefts = x ∷ []; text = t; status = Running; wants = false }) (sym l);
-          of = record { stands = subst (MayStand code (cancelled_from code c o.cancelled)) tl (subst (λ (z : Saved). MayStand code (cancelled_from code c z) r.1) hd r.3); memories = tt };
-          left = (subst (IsMemory (bounds_of code)) (sym l) both.found, refl);
-        }
+  -- a cancel of so many levels
+  module _ (c : Configuration) (o : OpenTransaction Saved) (t : List ℕ) (runs : Runs code (at c (Some o) t)) (n : ℕ) (cancels : Cancels (effect code c) n) where
+    abbrev those : AreMemories (bounds_of code) o
+    those = runs.memories
+
+    abbrev step_from : List (InnerTransaction Saved) → Bool → Sequential Configuration
+    step_from is kept = cancel_step (finding code m (at c (Some o) t)) (transaction_by (cancelled_from code c) o) (map (inner_by (cancelled_from code c)) is) kept
+
+    by_levels : next (effect code) (finding code m (at c (Some o) t)) ≡ step_from (drop (n - 1) o.inner) o.kept
+    by_levels = by_effect c (Some o) t runs (effect code c) refl ∙ is (effect code c) cancels
+      where
+        is : (x : Effect Configuration) → Cancels x n → sequential_step (finding code m (at c (Some o) t)) false Running (open_by (cancelled_from code c) (Some o)) x ≡ step_from (drop (n - 1) o.inner) o.kept
+        is Cancel h = ap (λ k. step_from (drop (k - 1) o.inner) o.kept) (sym h)
+        is (CancelOuter k) h = ap (λ ls. cancel_step (finding code m (at c (Some o) t)) (transaction_by (cancelled_from code c) o) ls o.kept) (drop-map (inner_by (cancelled_from code c)) (k - 1) o.inner) ∙ ap (λ j. step_from (drop (j - 1) o.inner) o.kept) (sym h)
+        is x h = absurd h
+
+    -- where it goes on, the begins outside are open
+    abbrev Left : Type 0
+    Left = (inner : List Saved) × (s : Saved) × (rest : List Saved) × (n - 1 ≡ length inner) × (begins_of (Some o) ≡ inner ++ s ∷ rest)
+        × MayStand code (cancelled_from code c s) rest × AreRestored c (cancelled_from code c s) rest
+
+    left_open : Left
+    left_open = is (effect code c) refl cancels
+      where
+        is : (x : Effect Configuration) → effect code c ≡ x → Cancels x n → Left
+        is Cancel e h = let r = law.cancels c (begins_of (Some o)) runs.stands e in ([], r.0, r.1, ap (λ k. k - 1) h, r.2, r.3, r.4)
+        is (CancelOuter k) e h = let r = law.cancels_outer k c (begins_of (Some o)) runs.stands e in (r.0, r.1, r.2, (let one = r.3 in let z : n - 1 ≡ length r.0 = omega (arith, h) in z), r.4, r.5, r.6)
+        is x e h = absurd h
+
+    parted : (is : List (InnerTransaction Saved)) → drop (n - 1) o.inner ≡ is → Parted o.cancelled is left_open.1 left_open.2
+    parted is e = subst (λ js. Parted o.cancelled js left_open.1 left_open.2) (ap (λ k. drop k o.inner) (sym left_open.3) ∙ e) (parts o.cancelled o.inner left_open.0 left_open.1 left_open.2 left_open.4)
+
+    goes_from : (s : Saved) (rest : List Saved) → left_open.1 ≡ s → left_open.2 ≡ rest → MayStand code (cancelled_from code c s) rest × AreRestored c (cancelled_from code c s) rest
+    goes_from s rest hd tl = (
+      subst (MayStand code (cancelled_from code c s)) tl (subst (λ (z : Saved). MayStand code (cancelled_from code c z) left_open.2) hd left_open.5),
+      subst (AreRestored c (cancelled_from code c s)) tl (subst (λ (z : Saved). AreRestored c (cancelled_from code c z) left_open.2) hd left_open.6),
+    )
+
+    pub cancel_inner : {A : Type 0} (i : InnerTransaction Saved) (is : List (InnerTransaction Saved)) → drop (n - 1) o.inner ≡ i ∷ is →
+        Makes {A = A} code m (at c (Some o) t) Goes (at (cancelled_from code c i.cancelled) (Some (with_memory o i.mem is)) t)
+    cancel_inner i is e =
+        let p = parted (i ∷ is) e in
+        let g = goes_from i.cancelled (begins_of (Some (with_memory o i.mem is))) p.0 p.1 in
+        let words = subst (AllByRecursion (λ (j : InnerTransaction Saved). IsMemory (bounds_of code) j.mem)) e (all_dropped (λ (j : InnerTransaction Saved). IsMemory (bounds_of code) j.mem) (n - 1) o.inner those.inner) in
+        goes_to c (Some o) t runs (cancelled_from code c i.cancelled) (Some (with_memory o i.mem is)) t g.0 g.1
+        (record { found = those.found; now = words.0; inner = words.1 }) (by_levels ∙ ap (λ js. step_from js o.kept) e)
+
+    -- the outermost one is among them
+    module _ (all : drop (n - 1) o.inner ≡ []) where
+      pub cancel_outermost : {A : Type 0} (left : Vec ℕ A) → o.kept ≡ false → left.items ≡ o.found → Makes {A = A} code m (at c (Some o) t) (Leaves left) (at (cancelled_from code c o.cancelled) None t)
+      cancel_outermost left h l =
+          let p = parted [] all in
+          let g = goes_from o.cancelled [] p.0 p.1 in
+          record {
+            makes = by_levels ∙ ap (λ js. step_from js o.kept) all ∙ ap (λ b. step_from [] b) h
+                ∙ ap (λ (x : Memory). record { configuration = cancelled_from code c o.cancelled; inside = None; founds = []; lefts = x ∷ []; text = t; status = Running; wants = false }) (sym l);
+            of = record { stands = g.0; memories = tt };
+            left = (subst (IsMemory (bounds_of code)) (sym l) those.found, refl);
+          }
+
+      -- with the lock kept it stands still
+      pub cancel_kept : {A : Type 0} → o.kept ≡ true → Makes {A = A} code m (at c (Some o) t) Goes (at c (Some o) t)
+      cancel_kept h = record { makes = by_levels ∙ ap (λ js. step_from js o.kept) all ∙ ap (λ b. step_from [] b) h; of = runs; left = tt }
 
   -- the same, of threads that are said otherwise
   pub makes_of : {A : Type 0} (k l p q : Thread) (s : Signal A) → k ≡ p → l ≡ q → Makes code m p s q → Makes code m k s l

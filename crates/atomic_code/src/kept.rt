@@ -9,9 +9,11 @@ ghost use Rattle.bytecode.specs.Valid.{IsValid, bounds_of};
 ghost use Rattle.frames.specs.Open.{CanRestore, IsConfigurationOf, restored};
 ghost use Rattle.frames.specs.Told.{IsCall, IsLocalStep, piece_of};
 ghost use Rattle.atomic_code.specs.Threads.{Runs, cancelled_from};
-ghost use Rattle.atomic_code.specs.inner.Making.{HasMemoryAtHand, Makes, MayPrint, at_hand, thread_of, saved_by, transaction_of};
+ghost use Rattle.atomic_code.specs.inner.Making.{Cancels, HasMemoryAtHand, Makes, MayPrint, at_hand, thread_of, saved_by, transaction_of};
 
-use crate::open::{Begun, Open, close_inner, open_inner, open_outermost, set_word, word_in};
+use crate::open::{
+    Begun, Open, close_inner, close_several, open_inner, open_outermost, set_word, word_in,
+};
 use bytecode::Code;
 use frames::{Doing, Frames, push_piece};
 use std::alloc::{AllocError, Allocator};
@@ -259,17 +261,18 @@ impl<A: Allocator + Copy> KeptThread<A> {
         }
     }
 
-    // A cancel stands still outside transactions, and where the outermost one was made irrevocable.
-    fn cancel<B: Allocator>(&mut self, code: &Code<B>) -> Signal<A>
+    // A cancel of so many levels stands still outside transactions, and where it would undo the outermost one after that was
+    // made irrevocable.
+    fn cancel<B: Allocator>(&mut self, code: &Code<B>, levels: u32) -> Signal<A>
         requires valid { IsValid code.now }
         requires running { self.old.status ≡ Running }
         requires runs { Runs code.now (thread_of self.old) }
-        requires cancels { effect code.now self.old.frames.configuration ≡ Effect.Cancel }
+        requires cancels { Cancels (effect code.now self.old.frames.configuration) levels }
         ensures { (m : Option Memory) → Makes code.now m (thread_of self.old) result (thread_of self.new) }
     {
         match self.open_in.take() {
             None => Signal::Goes,
-            Some(mut open) => match close_inner(&mut open) {
+            Some(mut open) => match close_several(&mut open, levels) {
                 Some(inner) => {
                     go_back(&mut self.frames, code, &inner);
                     open.memory = inner.found;
@@ -342,7 +345,8 @@ impl<A: Allocator + Copy> KeptThread<A> {
             Doing::Write(cell, word) => Ok(self.write(code, cell, word)),
             Doing::Begin(to) => self.begin(alloc, code, found, to),
             Doing::Commit => Ok(self.commit(code)),
-            Doing::Cancel => Ok(self.cancel(code)),
+            Doing::Cancel => Ok(self.cancel(code, 1)),
+            Doing::CancelOuter(levels) => Ok(self.cancel(code, levels)),
             Doing::Irrevocable => Ok(self.make_irrevocable(code)),
             Doing::PrintText(k) => self.print(code, Doing::PrintText(k)),
             Doing::PrintNumber(z) => self.print(code, Doing::PrintNumber(z)),

@@ -1,6 +1,6 @@
 //! Open transactions.
 
-ghost use Rattle.std.specs.Prelude.{◌≡◌, ◌∷◌, ◌<◌, ◌≤◌, [], List, ℕ, length, IfOk, IfSome, IfNone, OnOk, OnErr, slice_index, slice_set};
+ghost use Rattle.std.specs.Prelude.{◌≡◌, ◌∷◌, ◌-◌, ◌<◌, ◌≤◌, [], List, ℕ, length, drop, IfOk, IfSome, IfNone, OnOk, OnErr, slice_index, slice_set};
 ghost use Rattle.frames.specs.Open.{saved_in};
 ghost use Rattle.atomic_code.specs.inner.Making.{begun_in, inner_of, saved_by, transaction_of, with_memory};
 
@@ -88,6 +88,32 @@ pub(crate) fn close_inner<A: Allocator>(transaction: &mut Open<A>) -> Option<Beg
     ensures same { IfNone result (transaction_of transaction.new ≡ transaction_of transaction.old) }
 {
     transaction.inner.pop()
+}
+
+// Closes so many inner transactions, the innermost ones.
+fn close_inside<A: Allocator>(transaction: &mut Open<A>, count: usize)
+    requires { count ≤ length (transaction_of transaction.old).inner }
+    ensures { transaction_of transaction.new ≡ with_memory (transaction_of transaction.old) (transaction_of transaction.old).mem (drop count (transaction_of transaction.old).inner) }
+{
+    let left = transaction.inner.len() - count;
+    transaction.inner.truncate(left);
+}
+
+/// Closes so many inner transactions, the innermost ones, if there are as many: what the begin of the outermost of these saved.
+pub(crate) fn close_several<A: Allocator>(
+    transaction: &mut Open<A>,
+    levels: u32,
+) -> Option<Begun<A>>
+    ensures some { IfSome result (λ b. with_memory (transaction_of transaction.old) (transaction_of transaction.old).mem (drop (levels - 1) (transaction_of transaction.old).inner) ≡ with_memory (transaction_of transaction.new) (transaction_of transaction.new).mem (inner_of b ∷ (transaction_of transaction.new).inner)) }
+    ensures none { IfNone result (drop (levels - 1) (transaction_of transaction.old).inner ≡ []) }
+    ensures same { IfNone result (transaction_of transaction.new ≡ transaction_of transaction.old) }
+{
+    let inside = (levels as usize).saturating_sub(1);
+    if transaction.inner.len() <= inside {
+        return None;
+    }
+    close_inside(transaction, inside);
+    close_inner(transaction)
 }
 
 /// The word of a cell.
