@@ -1,0 +1,2 @@
+-- What a picture promises of its marks.
+pub mod Marks

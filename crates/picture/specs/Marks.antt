@@ -1,0 +1,64 @@
+-- The marks of a picture: which steps have one, and what they are titled by.
+use Rattle.std.specs.Prelude.{ℕ, ◌≡◌, ◌==◌, List, [], ◌∷◌, ◌++◌, Bool, true, false, ◌||◌, ◌&&◌, nat_le, codes, flat_map, map, if◌then◌else◌}
+use Rattle.norec_core.specs.declared.step.Access.{Access}
+use Rattle.norec_core.specs.declared.step.Access.TheVariants.{Local, LoadLock, LoadWord, Swap, StoreWord, StoreLock}
+use Rattle.picture.specs.declared.step.Deed.{Deed}
+use Rattle.picture.specs.declared.step.Deed.TheVariants.{Begin, Commit, Print, Other}
+use Rattle.picture.specs.declared.step.Happening.{Happening}
+use Rattle.picture.specs.declared.step.Happening.TheVariants.{Quiet, Commit as Committed, Abort, Cancel, Trap}
+
+-- a byte of words for people, as XML wants it; what is not printable ASCII is shown as `?`
+abbrev pub escaped : ℕ → List ℕ
+escaped b =
+    if b == 38 then codes "&amp;" else
+    if b == 60 then codes "&lt;" else
+    if b == 62 then codes "&gt;" else
+    if nat_le 32 b && nat_le b 126 then b ∷ [] else 63 ∷ []
+
+abbrev pub xml : List ℕ → List ℕ
+xml words = flat_map escaped words
+
+abbrev pub is_access : Access → Bool
+is_access Local = false
+is_access LoadLock = true
+is_access (LoadWord _) = true
+is_access (Swap _) = true
+is_access (StoreWord _ _) = true
+is_access (StoreLock _) = true
+
+abbrev pub is_told : Happening → Bool
+is_told Quiet = false
+is_told Committed = true
+is_told Abort = true
+is_told Cancel = true
+is_told (Trap _) = true
+
+abbrev pub has_mark_alone : Deed → Bool
+has_mark_alone Begin = true
+has_mark_alone Commit = true
+has_mark_alone Print = true
+has_mark_alone Other = false
+
+-- a step has a mark where it is an access, where something happens in it, and where it begins, ends or prints
+abbrev pub is_noted : Access → Happening → Deed → Bool
+is_noted access happening deed = is_access access || is_told happening || has_mark_alone deed
+
+-- a step is drawn where it has a mark and is made up to the 400th access
+abbrev pub is_drawn : ℕ → Access → Happening → Deed → Bool
+is_drawn accesses access happening deed = nat_le accesses 400 && is_noted access happening deed
+
+-- the title of a step's mark, if it is drawn: its line
+abbrev pub title_of : Bool → List ℕ → List (List ℕ)
+title_of drawn line = if drawn then xml line ∷ [] else []
+
+-- a mark's text: its title, and what is drawn
+abbrev pub mark_text : List ℕ → List ℕ → List ℕ
+mark_text title drawn = codes "<g><title>" ++ title ++ codes "</title>" ++ drawn ++ codes "</g>\n"
+
+-- a picture's text: marks with these titles, one for each and in their order, with something in front of them and behind
+pub record IsPicture (titles : List (List ℕ)) (svg : List ℕ) : Type 0 where
+  pub front : List ℕ
+  pub marks : List (List ℕ × List ℕ)
+  pub back : List ℕ
+  pub titled : map (λ m. m.0) marks ≡ titles
+  pub text : svg ≡ front ++ flat_map (λ m. mark_text m.0 m.1) marks ++ back

@@ -1,0 +1,10 @@
+//! Laws of pictures. A law has no code: its contract is what it says.
+
+ghost use Rattle.std.specs.Prelude.{◌≡◌, ◌==◌, ℕ, List, false};
+ghost use Rattle.std.specs.List.{list_any};
+ghost use Rattle.picture.specs.Marks.{xml};
+
+/// No title holds a `<`: no line of a timeline can end its title, or begin another mark.
+pub fn no_title_holds_a_bracket()
+    ensures { (line : List ℕ) → list_any (λ b. b == 60) (xml line) ≡ false }
+{}

@@ -1,0 +1,23 @@
+//! The picture of a replay: one SVG in which time goes from top to bottom, a row for each access or event. A lane for
+//! each thread has a box for each attempt at a transaction, with what became of it; a column has the lock; an arrow
+//! leads from a store to the attempt that was dropped for it; and at the foot stands the order in which transactions
+//! took effect.
+#![tactic(auto)]
+
+mod attempt;
+mod boxes;
+pub mod laws;
+mod layout;
+mod legend;
+mod lock;
+mod make;
+mod mark;
+mod pieces;
+mod sheet;
+mod step;
+mod svg;
+mod words;
+
+pub use sheet::Cell;
+pub use step::{Deed, Happening, Step};
+pub use svg::picture;

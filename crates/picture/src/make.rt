@@ -1,0 +1,498 @@
+//! What is drawn of an access to the lock or to a word.
+
+use crate::attempt::{Attempt, Load, Phase};
+use crate::layout::{BOX, lane, middle};
+use crate::mark::Look;
+use crate::pieces::{Piece, put, put_line};
+use crate::sheet::{Effect, Fold, Sheet, Store};
+use crate::step::{Happening, Step};
+use crate::words::{put_name, put_value, said, words};
+use norec_core::{Access, Answer};
+use std::alloc::{AllocError, Allocator};
+
+/// The first of these loads of a cell.
+fn first_load(loads: &[Load], cell: u32) -> Option<Load> {
+    'loads: for load in loads {
+        if load.cell == cell {
+            return Some(*load);
+        }
+    }
+    None
+}
+
+/// The last of these stores to a cell.
+fn last_store(stores: &[Store], cell: u32) -> Option<Store> {
+    let mut last = None;
+    'stores: for store in stores {
+        if store.cell == cell {
+            last = Some(*store);
+        }
+    }
+    last
+}
+
+impl<'p, A: Allocator + Copy> Sheet<'p, A> {
+    /// What a thread's next load of the lock is for, and the moment of its attempt, where it is in one.
+    fn phase(&self, thread: u32) -> Option<(Phase, u64)> {
+        let attempt = self.lanes.get(thread as usize)?.open.as_ref()?;
+        Some((attempt.phase, attempt.snapshot))
+    }
+
+    /// Sets what a thread's next load of the lock is for.
+    fn set_phase(&mut self, thread: u32, phase: Phase) {
+        let Some(lane) = self.lane(thread) else {
+            return;
+        };
+        if let Some(attempt) = &mut lane.open {
+            attempt.phase = phase;
+        }
+    }
+
+    /// A thread begins an attempt at an even lock.
+    fn begin(
+        &mut self,
+        alloc: A,
+        to: &mut Vec<u8, A>,
+        step: &Step<A>,
+        value: u64,
+    ) -> Result<(), AllocError> {
+        let tries = match self.lane(step.thread) {
+            Some(lane) => {
+                lane.tries = lane.tries.saturating_add(1);
+                lane.tries
+            }
+            None => 1,
+        };
+        let mut said = words(alloc, &[Piece::Plain(b"begin at "), Piece::Number(value)])?;
+        if tries > 1 {
+            put(&mut said, &[Piece::Plain(b", try "), Piece::Number(tries)])?;
+        }
+        self.mark(
+            to,
+            step.thread,
+            Look::new(b"lock", said.as_slice(), b"b", Some(step.accesses)),
+        )?;
+        let row = self.last();
+        if let Some(lane) = self.lane(step.thread) {
+            lane.open = Some(Attempt {
+                row,
+                snapshot: value,
+                reads: Vec::new(alloc),
+                phase: Phase::Open,
+                inner: Vec::new(alloc),
+                is_kept: false,
+            });
+        }
+        Ok(())
+    }
+
+    /// A thread waits.
+    fn wait(&mut self, to: &mut Vec<u8, A>, step: &Step<A>) -> Result<(), AllocError> {
+        let look = Look::new(b"wait", b"waits", b"g", Some(step.accesses));
+        self.mark(to, step.thread, look.folded(Fold::Waits))
+    }
+
+    /// A load of the lock that is told by these words.
+    fn see_lock(
+        &mut self,
+        alloc: A,
+        to: &mut Vec<u8, A>,
+        step: &Step<A>,
+        what: &[Piece<'_>],
+        phase: Phase,
+    ) -> Result<(), AllocError> {
+        self.set_phase(step.thread, phase);
+        let said = words(alloc, what)?;
+        self.mark(
+            to,
+            step.thread,
+            Look::new(b"lock", said.as_slice(), b"", Some(step.accesses)),
+        )
+    }
+
+    /// A read is done.
+    fn end_read(
+        &mut self,
+        alloc: A,
+        to: &mut Vec<u8, A>,
+        step: &Step<A>,
+        load: Load,
+    ) -> Result<(), AllocError> {
+        if let Some(lane) = self.lane(step.thread) {
+            if let Some(attempt) = &mut lane.open {
+                if first_load(attempt.reads.as_slice(), load.cell).is_none() {
+                    attempt.reads.push(load)?;
+                }
+            }
+        }
+        self.set_phase(step.thread, Phase::Open);
+        let value = self.snapshot(step.thread);
+        let said = words(alloc, &[Piece::Plain(b"lock = "), Piece::Number(value)])?;
+        let look = Look::new(b"lock", said.as_slice(), b"g", Some(step.accesses));
+        self.mark(to, step.thread, look.folded(Fold::Read(step.thread)))
+    }
+
+    /// The words that were read are of the moment of another lock.
+    fn end_validation(
+        &mut self,
+        alloc: A,
+        to: &mut Vec<u8, A>,
+        step: &Step<A>,
+        value: u64,
+    ) -> Result<(), AllocError> {
+        if let Some(lane) = self.lane(step.thread) {
+            if let Some(attempt) = &mut lane.open {
+                attempt.snapshot = value;
+            }
+        }
+        let what = [
+            Piece::Plain(b"lock = "),
+            Piece::Number(value),
+            Piece::Plain(b", goes on"),
+        ];
+        self.see_lock(alloc, to, step, &what, Phase::Open)
+    }
+
+    /// A load of the lock.
+    fn load_lock(
+        &mut self,
+        alloc: A,
+        to: &mut Vec<u8, A>,
+        step: &Step<A>,
+        value: u64,
+    ) -> Result<(), AllocError> {
+        let is_odd = value % 2 == 1;
+        let lock = Piece::Plain(b"lock = ");
+        match self.phase(step.thread) {
+            None if is_odd => self.wait(to, step),
+            None => self.begin(alloc, to, step, value),
+            Some((Phase::Check(load), moment)) if value == moment => self.end_read(
+                alloc, to, step, load,
+            ),
+            Some((Phase::Compare(time), _)) if value == time => self.end_validation(
+                alloc, to, step, value,
+            ),
+            Some((Phase::Check(_), seen)) | Some((Phase::Compare(seen), _)) => {
+                let what = [
+                    lock,
+                    Piece::Number(value),
+                    Piece::Plain(b", not "),
+                    Piece::Number(seen),
+                ];
+                self.see_lock(alloc, to, step, &what, Phase::Wait)
+            }
+            Some(_) if is_odd => self.wait(to, step),
+            Some(_) => {
+                let what = [lock, Piece::Number(value), Piece::Plain(b", compares")];
+                self.see_lock(alloc, to, step, &what, Phase::Compare(value))
+            }
+        }
+    }
+
+    /// A load of a word.
+    fn load_word(
+        &mut self,
+        alloc: A,
+        to: &mut Vec<u8, A>,
+        step: &Step<A>,
+        cell: u32,
+        word: u64,
+    ) -> Result<(), AllocError> {
+        let (thread, depth) = (step.thread, self.depth(step.thread));
+        if step.event == Happening::Abort {
+            let said = said(alloc, self.cells, b"again", cell, word, depth)?;
+            self.mark(
+                to,
+                thread,
+                Look::new(b"load", said.as_slice(), b"b", Some(step.accesses)),
+            )?;
+            return self.drop_attempt(alloc, to, step, cell, word);
+        }
+        if let Some((Phase::Compare(_), _)) = self.phase(thread) {
+            let look = Look::new(b"load", b"same", b"g", Some(step.accesses));
+            return self.mark(to, thread, look.folded(Fold::Same(thread)));
+        }
+        let said = said(alloc, self.cells, b"load", cell, word, depth)?;
+        let look = Look::new(b"load", said.as_slice(), b"", Some(step.accesses));
+        self.fold = Fold::Never;
+        self.mark(to, thread, look.folded(Fold::Read(thread)))?;
+        let row = self.last();
+        let Some(lane) = self.lane(thread) else {
+            return Ok(());
+        };
+        if let Some(attempt) = &mut lane.open {
+            if !attempt.is_kept {
+                attempt.phase = Phase::Check(Load { cell, row, word });
+            }
+        }
+        Ok(())
+    }
+
+    /// The bracket of a drop, from the read to the load that differs, in the last row.
+    fn draw_bracket(&mut self, thread: u32, read: Load) -> Result<(), AllocError> {
+        let (inner, outer) = (
+            lane(thread).wrapping_add(BOX - 9),
+            lane(thread).wrapping_add(BOX - 4),
+        );
+        let (from, to) = (middle(read.row), middle(self.last()));
+        put_line(
+            &mut self.lines,
+            &[(inner, from), (outer, from), (outer, to), (inner, to)],
+            b"was",
+        )
+    }
+
+    /// The arrow of a drop, from the store to the last row, where the load that differs stands.
+    fn draw_arrow(&mut self, thread: u32, store: Store) -> Result<(), AllocError> {
+        let drops = match self.lane(thread) {
+            Some(lane) => {
+                let before = lane.drops;
+                lane.drops = before.saturating_add(1);
+                before
+            }
+            None => 0,
+        };
+        let (from, to, aside) = (
+            middle(store.row),
+            middle(self.last()),
+            (drops % 4).wrapping_mul(4),
+        );
+        let own = lane(thread);
+        let (start, gutter, end) = if store.thread < thread {
+            (
+                lane(store.thread).wrapping_add(BOX),
+                own.wrapping_sub(6).wrapping_sub(aside),
+                own,
+            )
+        } else {
+            (
+                lane(store.thread),
+                own.wrapping_add(BOX).wrapping_add(6).wrapping_add(aside),
+                own.wrapping_add(BOX),
+            )
+        };
+        put_line(
+            &mut self.lines,
+            &[(start, from), (gutter, from), (gutter, to), (end, to)],
+            b"why",
+        )?;
+        put(
+            &mut self.lines,
+            &[
+                Piece::Plain(b"<circle cx=\""),
+                Piece::Number(start),
+                Piece::Plain(b"\" cy=\""),
+                Piece::Number(from),
+                Piece::Plain(b"\" r=\"2.5\" class=\"dot\"/>\n"),
+            ],
+        )
+    }
+
+    /// Tells of a drop in a sentence.
+    fn tell_drop(
+        &mut self,
+        step: &Step<A>,
+        cell: u32,
+        word: u64,
+        read: Load,
+        store: Store,
+    ) -> Result<(), AllocError> {
+        put(
+            &mut self.told,
+            &[
+                Piece::Plain(b" Access "),
+                Piece::Number(step.accesses),
+                Piece::Plain(b": thread "),
+                Piece::Number(u64::from(step.thread)),
+                Piece::Plain(b" is dropped; "),
+            ],
+        )?;
+        put_name(&mut self.told, self.cells, cell)?;
+        self.told.extend_from_slice(b" was ")?;
+        put_value(&mut self.told, self.cells, cell, read.word)?;
+        self.told.extend_from_slice(b" and is ")?;
+        put_value(&mut self.told, self.cells, cell, word)?;
+        put(
+            &mut self.told,
+            &[
+                Piece::Plain(b", stored by thread "),
+                Piece::Number(u64::from(store.thread)),
+                Piece::Plain(b" in access "),
+                Piece::Number(store.access),
+                Piece::Plain(b"."),
+            ],
+        )
+    }
+
+    /// What a thread has read first of a cell.
+    fn read_of(&self, thread: u32, cell: u32) -> Option<Load> {
+        let attempt = self.lanes.get(thread as usize)?.open.as_ref()?;
+        first_load(attempt.reads.as_slice(), cell)
+    }
+
+    /// An attempt is dropped, since a word that it has read has changed.
+    fn drop_attempt(
+        &mut self,
+        alloc: A,
+        to: &mut Vec<u8, A>,
+        step: &Step<A>,
+        cell: u32,
+        word: u64,
+    ) -> Result<(), AllocError> {
+        self.dropped = self.dropped.saturating_add(1);
+        let mut said = words(alloc, &[Piece::Plain(b"dropped")])?;
+        if let Some(read) = self.read_of(step.thread, cell) {
+            said.extend_from_slice(b": was ")?;
+            put_value(&mut said, self.cells, cell, read.word)?;
+            self.draw_bracket(step.thread, read)?;
+            if let Some(store) = last_store(self.stores.as_slice(), cell) {
+                self.draw_arrow(step.thread, store)?;
+                self.tell_drop(step, cell, word, read, store)?;
+            }
+        }
+        self.leave(
+            alloc,
+            to,
+            step.thread,
+            b"dropped",
+            b"cross",
+            said.as_slice(),
+        )
+    }
+
+    /// A swap of the lock.
+    fn swap(
+        &mut self,
+        alloc: A,
+        to: &mut Vec<u8, A>,
+        step: &Step<A>,
+        from: u64,
+    ) -> Result<(), AllocError> {
+        let swap = Piece::Plain(b"swap ");
+        if let Answer::Lost(value) = step.answer {
+            self.set_phase(step.thread, Phase::Wait);
+            let said = words(
+                alloc,
+                &[
+                    swap,
+                    Piece::Number(from),
+                    Piece::Plain(b": lost, "),
+                    Piece::Number(value),
+                ],
+            )?;
+            return self.mark(
+                to,
+                step.thread,
+                Look::new(b"miss", said.as_slice(), b"", Some(step.accesses)),
+            );
+        }
+        let said = words(alloc, &[swap, Piece::Number(from), Piece::Plain(b": won")])?;
+        self.mark(
+            to,
+            step.thread,
+            Look::new(b"take", said.as_slice(), b"b", Some(step.accesses)),
+        )?;
+        if let Some(lane) = self.lane(step.thread) {
+            if let Some(attempt) = &mut lane.open {
+                attempt.is_kept = true;
+            }
+        }
+        self.take_lock(step.thread, from.saturating_add(1))
+    }
+
+    /// A store of a word.
+    fn store_word(
+        &mut self,
+        alloc: A,
+        to: &mut Vec<u8, A>,
+        step: &Step<A>,
+        cell: u32,
+        word: u64,
+    ) -> Result<(), AllocError> {
+        let said = said(
+            alloc,
+            self.cells,
+            b"store",
+            cell,
+            word,
+            self.depth(step.thread),
+        )?;
+        self.mark(
+            to,
+            step.thread,
+            Look::new(b"store", said.as_slice(), b"b", Some(step.accesses)),
+        )?;
+        let row = self.last();
+        self.stores.push(Store {
+            cell,
+            thread: step.thread,
+            row,
+            access: step.accesses,
+        })?;
+        Ok(())
+    }
+
+    /// A store of the lock, with which a transaction took effect.
+    fn store_lock(
+        &mut self,
+        alloc: A,
+        to: &mut Vec<u8, A>,
+        step: &Step<A>,
+        value: u64,
+    ) -> Result<(), AllocError> {
+        let said = words(
+            alloc,
+            &[Piece::Plain(b"store lock = "), Piece::Number(value)],
+        )?;
+        self.mark(
+            to,
+            step.thread,
+            Look::new(b"give", said.as_slice(), b"", Some(step.accesses)),
+        )?;
+        self.release_lock(value)?;
+        self.effects.push(Effect {
+            snapshot: value.saturating_sub(2),
+            took_lock: true,
+            thread: step.thread,
+            access: step.accesses,
+        })?;
+        let number = [Piece::Plain(b", #"), Piece::Number(value / 2)];
+        match step.event {
+            Happening::Trap(trap) => {
+                let mut said = words(
+                    alloc,
+                    &[
+                        Piece::Plain(b"trap "),
+                        Piece::Number(u64::from(trap.number())),
+                    ],
+                )?;
+                put(&mut said, &number)?;
+                self.leave(alloc, to, step.thread, b"trapped", b"trap", said.as_slice())
+            }
+            _ => {
+                let mut said = words(alloc, &[Piece::Plain(b"commit")])?;
+                put(&mut said, &number)?;
+                self.leave(alloc, to, step.thread, b"wrote", b"done", said.as_slice())
+            }
+        }
+    }
+
+    /// Draws the mark of an access.
+    pub(crate) fn make(
+        &mut self,
+        alloc: A,
+        to: &mut Vec<u8, A>,
+        step: &Step<A>,
+    ) -> Result<(), AllocError> {
+        match (step.access, step.answer) {
+            (Access::LoadLock, Answer::Value(value)) => self.load_lock(alloc, to, step, value),
+            (Access::LoadWord(cell), Answer::Value(word)) => self.load_word(
+                alloc, to, step, cell, word,
+            ),
+            (Access::Swap(from), _) => self.swap(alloc, to, step, from),
+            (Access::StoreWord(cell, word), _) => self.store_word(alloc, to, step, cell, word),
+            (Access::StoreLock(value), _) => self.store_lock(alloc, to, step, value),
+            _ => Ok(()),
+        }
+    }
+}

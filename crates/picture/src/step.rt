@@ -1,0 +1,236 @@
+//! What is drawn of a step.
+
+ghost use Rattle.std.specs.Prelude.{◌≡◌};
+ghost use Rattle.picture.specs.Marks.{is_noted};
+
+use crate::boxes::Fate;
+use crate::layout::CHARACTERS;
+use crate::mark::Look;
+use crate::pieces::Piece;
+use crate::sheet::{Effect, Fold, Sheet};
+use crate::words::words;
+use norec_core::{Access, Answer};
+use std::alloc::{AllocError, Allocator, Global};
+use syntax::numbers::Trap;
+
+/// What the instruction of a local step does, where that has a mark.
+#[derive(Clone, Copy, PartialEq, Eq)]
+pub enum Deed {
+    /// It begins a transaction.
+    Begin,
+    /// It ends one.
+    Commit,
+    Print,
+    /// It has no mark.
+    Other,
+}
+
+/// What happened in a step.
+#[derive(Clone, Copy, PartialEq, Eq)]
+pub enum Happening {
+    /// Nothing that is told.
+    Quiet,
+    /// An outermost transaction committed.
+    Commit,
+    /// An attempt was dropped.
+    Abort,
+    /// A transaction, outermost or inner, was cancelled.
+    Cancel,
+    Trap(Trap),
+}
+
+/// A step of a replay.
+#[derive(Drop)]
+pub struct Step<A: Allocator = Global> {
+    /// How many accesses all threads had made with it.
+    pub accesses: u64,
+    pub thread: u32,
+    /// Its line of the timeline, without the LF.
+    pub line: Vec<u8, A>,
+    pub deed: Deed,
+    pub access: Access,
+    pub answer: Answer,
+    pub event: Happening,
+    /// What it printed.
+    pub printed: Vec<u8, A>,
+}
+
+impl<A: Allocator> Step<A> {
+    /// Whether the step has a mark: it is an access, something happens in it, or it begins, ends or prints.
+    pub fn is_noted(&self) -> bool
+        ensures { result ≡ is_noted self.now.access self.now.event self.now.deed }
+    {
+        self.access != Access::Local || self.event != Happening::Quiet || self.deed != Deed::Other
+    }
+}
+
+/// Spells a byte that is printed.
+fn put_spelled<A: Allocator>(to: &mut Vec<u8, A>, byte: u8) -> Result<(), AllocError> {
+    match byte {
+        b'\n' => to.extend_from_slice(b"\\n"),
+        b'\t' => to.extend_from_slice(b"\\t"),
+        _ => Ok(to.push(byte)?),
+    }
+}
+
+impl<'p, A: Allocator + Copy> Sheet<'p, A> {
+    /// A transaction of a thread takes effect: as of its moment, without the lock.
+    fn take_effect(&mut self, thread: u32, access: u64) -> Result<(), AllocError> {
+        let snapshot = self.snapshot(thread);
+        self.effects.push(Effect {
+            snapshot,
+            took_lock: false,
+            thread,
+            access,
+        })?;
+        Ok(())
+    }
+
+    /// The even lock of whose moment a thread's attempt is.
+    pub(crate) fn snapshot(&self, thread: u32) -> u64 {
+        match self.lanes.get(thread as usize) {
+            Some(lane) => match &lane.open {
+                Some(attempt) => attempt.snapshot,
+                None => 0,
+            },
+            None => 0,
+        }
+    }
+
+    /// Whether a thread is in an attempt.
+    pub(crate) fn is_open(&self, thread: u32) -> bool {
+        match self.lanes.get(thread as usize) {
+            Some(lane) => lane.open.is_some(),
+            None => false,
+        }
+    }
+
+    /// The inner begin of a thread.
+    fn begin_inner(&mut self, to: &mut Vec<u8, A>, thread: u32) -> Result<(), AllocError> {
+        self.mark(to, thread, Look::new(b"in", b"begin inner", b"", None))?;
+        let row = self.last();
+        let Some(lane) = self.lane(thread) else {
+            return Ok(());
+        };
+        match &mut lane.open {
+            Some(attempt) => Ok(attempt.inner.push(row)?),
+            None => Ok(()),
+        }
+    }
+
+    /// The end of a thread's attempt without the lock: what it is called, then of which moment it is.
+    fn leave_after(
+        &mut self,
+        alloc: A,
+        to: &mut Vec<u8, A>,
+        step: &Step<A>,
+        class: &'static [u8],
+        symbol: &'static [u8],
+        what: &[Piece<'_>],
+    ) -> Result<(), AllocError> {
+        let moment = self.snapshot(step.thread) / 2;
+        self.take_effect(step.thread, step.accesses)?;
+        let mut said = words(alloc, what)?;
+        crate::pieces::put(
+            &mut said,
+            &[Piece::Plain(b", after #"), Piece::Number(moment)],
+        )?;
+        self.leave(alloc, to, step.thread, class, symbol, said.as_slice())
+    }
+
+    /// A print of a thread.
+    fn print(&mut self, alloc: A, to: &mut Vec<u8, A>, step: &Step<A>) -> Result<(), AllocError> {
+        let fold = Fold::Print(step.thread);
+        let standing = match self.lanes.get(step.thread as usize) {
+            Some(lane) if self.fold == fold => lane.standing.unwrap_or(0),
+            _ => 0,
+        };
+        let room = CHARACTERS.saturating_sub(standing);
+        let mut spelled = Vec::new(alloc);
+        'bytes: for byte in step.printed.iter() {
+            put_spelled(&mut spelled, *byte)?;
+        }
+        if spelled.len() > room {
+            spelled.truncate(room.saturating_sub(2));
+            spelled.extend_from_slice(b"..".get(..room.min(2)).unwrap_or(b""))?;
+        }
+        let look = Look::new(b"print", spelled.as_slice(), b"i", None);
+        self.mark(to, step.thread, look.folded(fold))
+    }
+
+    /// A cancel of a thread.
+    fn cancel(&mut self, alloc: A, to: &mut Vec<u8, A>, step: &Step<A>) -> Result<(), AllocError> {
+        if self.depth(step.thread) == 0 {
+            return self.leave_after(
+                alloc,
+                to,
+                step,
+                b"cancelled",
+                b"not",
+                &[Piece::Plain(b"cancel")],
+            );
+        }
+        self.mark(
+            to,
+            step.thread,
+            Look::new(b"not", b"cancel inner", b"b", None),
+        )?;
+        self.close_inner(alloc, step.thread, self.last(), Fate::Over(b"cancelled"))
+    }
+
+    /// A commit of a thread that wrote nothing, or the end of an inner transaction.
+    fn commit(&mut self, alloc: A, to: &mut Vec<u8, A>, step: &Step<A>) -> Result<(), AllocError> {
+        if self.depth(step.thread) == 0 {
+            return self.leave_after(
+                alloc,
+                to,
+                step,
+                b"taken",
+                b"done",
+                &[Piece::Plain(b"commit")],
+            );
+        }
+        self.mark(to, step.thread, Look::new(b"done", b"end inner", b"", None))?;
+        self.close_inner(alloc, step.thread, self.last(), Fate::Over(b"inner"))
+    }
+
+    /// A trap of a thread without the lock.
+    fn trap(
+        &mut self,
+        alloc: A,
+        to: &mut Vec<u8, A>,
+        step: &Step<A>,
+        number: u64,
+    ) -> Result<(), AllocError> {
+        let what = [Piece::Plain(b"trap "), Piece::Number(number)];
+        if self.is_open(step.thread) {
+            return self.leave_after(alloc, to, step, b"trapped", b"trap", &what);
+        }
+        let said = words(alloc, &what)?;
+        self.mark(
+            to,
+            step.thread,
+            Look::new(b"trap", said.as_slice(), b"b", None),
+        )
+    }
+
+    /// Draws the mark of a step that has one.
+    pub(crate) fn draw(
+        &mut self,
+        alloc: A,
+        to: &mut Vec<u8, A>,
+        step: &Step<A>,
+    ) -> Result<(), AllocError> {
+        if step.access != Access::Local {
+            return self.make(alloc, to, step);
+        }
+        match (step.event, step.deed) {
+            (Happening::Trap(trap), _) => self.trap(alloc, to, step, u64::from(trap.number())),
+            (Happening::Cancel, _) => self.cancel(alloc, to, step),
+            (_, Deed::Begin) => self.begin_inner(to, step.thread),
+            (_, Deed::Commit) => self.commit(alloc, to, step),
+            (_, Deed::Print) => self.print(alloc, to, step),
+            _ => Ok(()),
+        }
+    }
+}
