@@ -3,6 +3,7 @@
 mod built;
 mod driven;
 mod growths;
+mod levels;
 mod pieces;
 mod programs;
 mod transactions;

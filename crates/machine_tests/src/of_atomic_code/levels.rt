@@ -1,0 +1,152 @@
+//! Cancels of several levels: of 2 to 16, into a level that is left and out of the outermost one, with the lock kept and without.
+
+ghost use Rattle.atomic_code.specs.Threads.{IsThreadOf};
+
+use crate::asserted::assert_that;
+use crate::of_atomic_code::driven::{begin, go};
+use atomic_code::{AtomicThread, End};
+use bytecode::Code;
+use refusing::Refusing;
+use std::alloc::{AllocError, Allocator, Global};
+use written_codes::{Levels, NUMBERS, cancels_levels, code_of, over_x};
+
+// What a call comes to: how many instructions it makes, the word that it leaves, and how the thread is over.
+type Came = Option<(u64, Option<u64>, Option<End>)>;
+
+// What the cancel comes to, whose transaction has found 9; where the outermost one was among the levels and the lock is kept it
+// stands still.
+fn cancelled(levels: Levels) -> Came {
+    if levels.left() == 0 && !levels.kept {
+        Some((1, Some(9), None))
+    } else {
+        Some((1, None, None))
+    }
+}
+
+// What the commits of the levels that are left come to.
+fn committed(levels: Levels) -> Came {
+    let left = u64::from(levels.left());
+    if left > 0 {
+        Some((left, Some(left), None))
+    } else if levels.kept {
+        Some((100, None, None))
+    } else {
+        Some((2, None, Some(End::Ended)))
+    }
+}
+
+// What it prints then: register 1, as it was at the begin of the outermost level that was cancelled.
+fn printed(levels: Levels) -> Option<&'static str> {
+    if levels.left() == 0 && levels.kept {
+        Some("")
+    } else {
+        NUMBERS.get(levels.left() as usize).copied()
+    }
+}
+
+// Whether a thread that stands at the cancel makes it without a growth.
+fn cancels_in_place<A: Allocator + Copy, B: Allocator>(
+    thread: &mut AtomicThread<A>,
+    code: &Code<A>,
+    refusing: &Refusing<B>,
+    levels: Levels,
+) -> bool
+    requires { IsThreadOf code.now thread.old.thread }
+    ensures { IsThreadOf code.now thread.new.thread }
+{
+    refusing.refuse(1);
+    let made = go(thread, code, 9, 1);
+    let waits = refusing.is_waiting();
+    refusing.refuse(0);
+    waits && made == cancelled(levels)
+}
+
+// Whether it then comes to what it should.
+fn goes_on<A: Allocator + Copy>(
+    thread: &mut AtomicThread<A>,
+    code: &Code<A>,
+    levels: Levels,
+) -> bool
+    requires { IsThreadOf code.now thread.old.thread }
+    ensures { IsThreadOf code.now thread.new.thread }
+{
+    let made = go(thread, code, 9, 100);
+    let _rest = go(thread, code, 9, 100);
+    made == committed(levels) && Some(thread.output()) == printed(levels)
+}
+
+// Whether a thread opens its levels, and then does both.
+fn does_both<A: Allocator + Copy, B: Allocator>(
+    thread: &mut AtomicThread<A>,
+    code: &Code<A>,
+    refusing: &Refusing<B>,
+    levels: Levels,
+) -> bool
+    requires { IsThreadOf code.now thread.old.thread }
+{
+    let opened = go(thread, code, 9, levels.opening());
+    if opened != Some((u64::from(levels.opening()), None, None)) {
+        return false;
+    }
+    let cancels = cancels_in_place(thread, code, refusing, levels);
+    cancels && goes_on(thread, code, levels)
+}
+
+// The same of thread 5 of a code.
+fn a_thread_does<A: Allocator + Copy, B: Allocator>(
+    alloc: A,
+    code: &Code<A>,
+    refusing: &Refusing<B>,
+    levels: Levels,
+) -> bool {
+    match begin(alloc, code, 5) {
+        None => false,
+        Some(mut thread) => does_both(&mut thread, code, refusing, levels),
+    }
+}
+
+// The same of the code that cancels so many levels.
+fn a_code_does<A: Allocator + Copy, B: Allocator>(
+    alloc: A,
+    refusing: &Refusing<B>,
+    levels: Levels,
+) -> Result<bool, AllocError> {
+    let instructions = cancels_levels(alloc, levels)?;
+    match code_of(alloc, &over_x(instructions.as_slice())) {
+        None => Ok(false),
+        Some(code) => Ok(a_thread_does(alloc, &code, refusing, levels)),
+    }
+}
+
+// The same by a new allocator.
+fn is_done(inner: Global, levels: Levels) -> bool {
+    let alloc = Refusing::new(inner, 0);
+    a_code_does(&alloc, &alloc, levels) == Ok(true)
+}
+
+// The same with the lock kept and without.
+fn are_done(inner: Global, depth: u32, cancelled: u32) -> bool {
+    let free = Levels {
+        depth,
+        cancelled,
+        kept: false,
+    };
+    is_done(inner, free) && is_done(inner, Levels { kept: true, ..free })
+}
+
+// The first depth at which a cancel comes to something else.
+fn done_otherwise(inner: Global) -> Option<u32> {
+    for depth in 2..17u32 {
+        for cancelled in 2..depth.saturating_add(1) {
+            if !are_done(inner, depth, cancelled) {
+                return Some(depth);
+            }
+        }
+    }
+    None
+}
+
+#[test]
+fn several_levels_are_cancelled(rt: HostRuntime) {
+    assert_that(&rt, done_otherwise(rt.alloc()).is_none());
+}
