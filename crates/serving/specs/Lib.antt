@@ -8,5 +8,7 @@ pub mod Runs
 pub mod Replays
 -- what is answered to a request
 pub mod Answers
+-- the files that a request names
+pub mod Files
 -- what only private functions speak of
 pub mod inner

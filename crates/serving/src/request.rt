@@ -39,7 +39,7 @@ use std::thread::Threads;
 /// The source's text is read from `source`, and a schedule from `schedule`, once the source has code. The report, `accepted` or
 /// what a fault means goes to `out`, and faults to `err`; what `err` does not take is lost. Where `err` is a terminal, or the words
 /// ask for it, the line of the source or of the schedule follows its fault. The status is 0 where all threads ended, the source
-/// is accepted or a fault is explained, 1 where the source is refused, 2 where it or the schedule cannot be read or is not
+/// is accepted or a fault is explained, 1 where the source is refused and nothing is printed, 2 where it or the schedule cannot be read or is not
 /// UTF-8, the schedule or an order is refused, or the words are of no use, 3 where a thread trapped, and 4 where one did neither,
 /// a step was not made, or memory or `out` was refused.
 pub fn serve<H: Threads + Wait + Sync, R: Read + Drop, S: Read + Drop, W: Write, E: Write>(
@@ -55,6 +55,7 @@ pub fn serve<H: Threads + Wait + Sync, R: Read + Drop, S: Read + Drop, W: Write,
     ensures status { result ≤ 4 }
     ensures answer { IfSome (R.remaining source) (λ bytes. AnswersRequest request.now (S.remaining schedule) bytes result (W.contents out.old) (W.contents out.new)) }
     ensures refused { result ≡ 1 → IfSome (R.remaining source) (λ bytes. IsRefused bytes) }
+    ensures untouched { result ≡ 1 → W.contents out.new ≡ W.contents out.old }
 {
     match request {
         Request::Program {
@@ -83,7 +84,13 @@ pub fn serve<H: Threads + Wait + Sync, R: Read + Drop, S: Read + Drop, W: Write,
 }
 
 /// Does what is asked with the program in a file.
-fn serve_program<H: Threads + Wait + Sync, R: Read + Drop, S: Read + Drop, W: Write, E: Write>(
+pub(crate) fn serve_program<
+    H: Threads + Wait + Sync,
+    R: Read + Drop,
+    S: Read + Drop,
+    W: Write,
+    E: Write,
+>(
     rt: &H,
     alloc: Global,
     file: &str,
@@ -97,6 +104,7 @@ fn serve_program<H: Threads + Wait + Sync, R: Read + Drop, S: Read + Drop, W: Wr
     ensures status { result ≤ 4 }
     ensures answer { IfSome (R.remaining source) (λ bytes. Answers task.now (S.remaining schedule) bytes result (W.contents out.old) (W.contents out.new)) }
     ensures refused { result ≡ 1 → IfSome (R.remaining source) (λ bytes. IsRefused bytes) }
+    ensures untouched { result ≡ 1 → W.contents out.new ≡ W.contents out.old }
 {
     match read_source(alloc, source) {
         Ok(Source::Text(text)) => work(rt, alloc, task, text.as_str(), schedule, detail, out, err),
@@ -120,6 +128,7 @@ fn work<H: Threads + Wait + Sync, S: Read + Drop, W: Write, E: Write>(
     ensures status { result ≤ 4 }
     ensures answer { Answers task.now (S.remaining schedule) text.now result (W.contents out.old) (W.contents out.new) }
     ensures refused { result ≡ 1 → IsRefused text.now }
+    ensures untouched { result ≡ 1 → W.contents out.new ≡ W.contents out.old }
 {
     match task {
         Task::Check => check(alloc, text, detail, out, err),
@@ -176,6 +185,7 @@ fn run<H: Threads + Wait + Sync, W: Write, E: Write>(
     ensures status { result ≤ 4 }
     ensures report { PrintsReport (RunsAtOnce threads budget text.now) result (W.contents out.old) (W.contents out.new) }
     ensures refused { result ≡ 1 → IsRefused text.now }
+    ensures untouched { result ≡ 1 → W.contents out.new ≡ W.contents out.old }
 {
     match run_threads(rt, alloc, text, threads, budget) {
         Ok(printed) => print_report(alloc, &printed, out, err),
@@ -198,6 +208,7 @@ fn replay_source<A: Allocator + Copy, S: Read + Drop, W: Write, E: Write>(
     ensures status { result ≤ 4 }
     ensures report { PrintsReport (Replays threads steps.now (S.remaining schedule) text.now) result (W.contents out.old) (W.contents out.new) }
     ensures refused { result ≡ 1 → IsRefused text.now }
+    ensures untouched { result ≡ 1 → W.contents out.new ≡ W.contents out.old }
 {
     match replay_text(alloc, text, threads, steps, schedule, detail, err) {
         Ok((_compiled, replayed)) => print_replay(alloc, &replayed, out, err),
@@ -219,6 +230,7 @@ fn show_steps<A: Allocator + Copy, S: Read + Drop, W: Write, E: Write>(
     ensures status { result ≤ 4 }
     ensures timeline { PrintsTimeline (ReplaysShown threads steps.now (S.remaining schedule) text.now) result (W.contents out.old) (W.contents out.new) }
     ensures refused { result ≡ 1 → IsRefused text.now }
+    ensures untouched { result ≡ 1 → W.contents out.new ≡ W.contents out.old }
 {
     match replay_text(alloc, text, threads, steps, schedule, detail, err) {
         Ok((compiled, replayed)) => {
@@ -267,6 +279,7 @@ fn print_schedule<A: Allocator + Copy, W: Write, E: Write>(
     ensures status { result ≤ 4 }
     ensures schedule { PrintsSchedule (lines_of_seed seed threads count) text.now result (W.contents out.old) (W.contents out.new) }
     ensures refused { result ≡ 1 → IsRefused text.now }
+    ensures untouched { result ≡ 1 → W.contents out.new ≡ W.contents out.old }
 {
     match compile(alloc, text) {
         Ok(_compiled) => match lines_picked(alloc, seed, threads, count, detail, err) {
@@ -291,6 +304,7 @@ fn list<A: Allocator + Copy, W: Write, E: Write>(
     ensures status { result ≤ 4 }
     ensures listing { PrintsListing text.now result (W.contents out.old) (W.contents out.new) }
     ensures refused { result ≡ 1 → IsRefused text.now }
+    ensures untouched { result ≡ 1 → W.contents out.new ≡ W.contents out.old }
 {
     match list_source(alloc, text) {
         Ok(listed) => print_text(listed.as_str().as_bytes(), out, err),
@@ -312,6 +326,7 @@ fn in_order<A: Allocator + Copy, W: Write, E: Write>(
     ensures status { result ≤ 4 }
     ensures report { PrintsReport (RunsInOrder threads ticks order.now text.now) result (W.contents out.old) (W.contents out.new) }
     ensures refused { result ≡ 1 → IsRefused text.now }
+    ensures untouched { result ≡ 1 → W.contents out.new ≡ W.contents out.old }
 {
     match run_in_order(alloc, text, threads, order, ticks) {
         Ok(printed) => print_report(alloc, &printed, out, err),
@@ -331,6 +346,7 @@ fn check<A: Allocator + Copy, W: Write, E: Write>(
     ensures status { result ≤ 4 }
     ensures accepted { SaysAccepted text.now result (W.contents out.old) (W.contents out.new) }
     ensures refused { result ≡ 1 → IsRefused text.now }
+    ensures untouched { result ≡ 1 → W.contents out.new ≡ W.contents out.old }
 {
     match check_source(alloc, text) {
         Ok(()) => print_text(b"accepted\n", out, err),
@@ -413,7 +429,7 @@ fn print_timeline<A: Allocator + Copy, W: Write, E: Write>(
 }
 
 /// Says what a fault means.
-fn explain<W: Write, E: Write>(number: u32, out: &mut W, err: &mut E) -> u8
+pub(crate) fn explain<W: Write, E: Write>(number: u32, out: &mut W, err: &mut E) -> u8
     ensures { (result ≡ 0) ⊎ (result ≡ 2) ⊎ (result ≡ 4) }
 {
     match explanation(number) {

@@ -3,6 +3,7 @@
 ghost use Rattle.std.specs.Prelude.{◌≡◌, ◌≢◌, ◌≤◌, ◌⊎◌, OnOk, is_some, true};
 ghost use Rattle.serving.specs.Runs.{span_of_source};
 ghost use Rattle.std.specs.Io.KnownBytes.{Appends};
+ghost use Rattle.std.specs.IoError.{error_kind};
 ghost use Rattle.serving.specs.Usage.{IsHelp, IsWrong};
 
 use crate::run::SourceFault;
@@ -101,7 +102,7 @@ pub(crate) fn cannot_write<E: Write>(err: &mut E) -> u8
 }
 
 /// Says that a file cannot be read, and why where that is wanted.
-pub fn cannot_read<E: Write>(file: &str, error: &io::Error, detail: Detail, err: &mut E) -> u8
+fn cannot_read<E: Write>(file: &str, error: &io::Error, detail: Detail, err: &mut E) -> u8
     ensures { result ≡ 2 }
 {
     if detail.reasons {
@@ -112,9 +113,11 @@ pub fn cannot_read<E: Write>(file: &str, error: &io::Error, detail: Detail, err:
     UNUSABLE
 }
 
-/// Says why a file's text was not read: memory was refused, or the file cannot be read.
-pub(crate) fn not_read<E: Write>(file: &str, error: &io::Error, detail: Detail, err: &mut E) -> u8
-    ensures { (result ≡ 2) ⊎ (result ≡ 4) }
+/// Says why a file was not opened or not read: memory was refused, or the file cannot be read.
+pub fn not_read<E: Write>(file: &str, error: &io::Error, detail: Detail, err: &mut E) -> u8
+    ensures told { (result ≡ 2) ⊎ (result ≡ 4) }
+    ensures memory { error_kind error.now ≡ ErrorKind.OutOfMemory → result ≡ 4 }
+    ensures others { error_kind error.now ≢ ErrorKind.OutOfMemory → result ≡ 2 }
 {
     match error.kind() {
         ErrorKind::OutOfMemory => out_of_memory(err),
@@ -220,15 +223,23 @@ fn span_of_line(text: &[u8], line: usize) -> Span {
 
 /// Says why an order is refused.
 pub(crate) fn refuse_order<E: Write>(fault: MeaningFault, err: &mut E) -> u8
-    ensures { (result ≡ 2) ⊎ (result ≡ 4) }
+    ensures told { (result ≡ 2) ⊎ (result ≡ 4) }
+    ensures stranger { fault ≡ MeaningFault.Stranger → result ≡ 2 }
+    ensures threads { fault ≡ MeaningFault.WrongThreads → result ≡ 4 }
 {
     match fault {
         MeaningFault::OutOfMemory => out_of_memory(err),
-        MeaningFault::Stranger | MeaningFault::WrongThreads => {
-            let _ = writeln!(err, "txc: fault {}", fault.number());
-            UNUSABLE
-        }
+        MeaningFault::Stranger => tell_number(fault.number(), UNUSABLE, err),
+        MeaningFault::WrongThreads => tell_number(fault.number(), STOPPED, err),
     }
+}
+
+/// Says the number of a fault that stands nowhere, and gives this exit status.
+fn tell_number<E: Write>(number: u32, status: u8, err: &mut E) -> u8
+    ensures { result ≡ status }
+{
+    let _ = writeln!(err, "txc: fault {number}");
+    status
 }
 
 /// Says that words are of no use.

@@ -2,6 +2,8 @@
 #![tactic(auto)]
 
 #[cfg(test)]
+mod opened;
+#[cfg(test)]
 mod refusals;
 #[cfg(test)]
 mod served;

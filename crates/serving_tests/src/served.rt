@@ -4,7 +4,7 @@ use command::{Request, UsageFault};
 use refusing::Refusing;
 use report::report_text;
 use serving::{
-    Detail, OrderFault, cannot_read as tell_unread, list_source, run_in_order, serve, tell_usage,
+    Detail, OrderFault, list_source, not_read as tell_unread, run_in_order, serve, tell_usage,
 };
 use serving_in_memory::{
     ADDS, Answer, Broken, Row, answers, is_answer, request_of, serve_bytes, wrong_row,
@@ -439,7 +439,7 @@ fn ends_before<A: Allocator + Copy>(inner: A, call: Call, nth: u64) -> Option<bo
     let alloc = Refusing::new(inner, nth);
     match is_right(&alloc, call) {
         Ok(true) if alloc.is_waiting() => Some(true),
-        Err(0) if is_right(&alloc, call).is_ok() => Some(false),
+        Err(0) if is_right(&alloc, call) == Ok(true) => Some(false),
         _ => None,
     }
 }

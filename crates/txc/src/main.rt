@@ -1,15 +1,17 @@
-//! The program: opens the file that is asked for, runs it and prints the report.
+//! The program: reads its words, and does what they ask with files of the system.
 #![tactic(auto)]
 
-use command::{Request, Steps, Task, UsageFault, command};
-use serving::{Detail, cannot_read, serve, tell_usage};
+ghost use Rattle.std.specs.Prelude.{None};
+
+use command::{Request, UsageFault, command};
+use serving::{Files, serve_files, tell_usage};
 use std::alloc::Global;
-use std::env;
 use std::fs::File;
-use std::io::{ErrorKind, IsTerminal, Read};
+use std::io::ErrorKind;
 use std::process::ExitCode;
 use std::sync::Wait;
 use std::thread::Threads;
+use std::{env, io};
 
 fn main(rt: HostRuntime) -> ExitCode {
     ExitCode::from(answer(&rt, &rt))
@@ -18,7 +20,14 @@ fn main(rt: HostRuntime) -> ExitCode {
 /// Reads the command line and does what it asks; `handle` starts threads and waits for them. Gives the exit status.
 fn answer<H: Threads + Wait + Sync>(rt: &HostRuntime, handle: &H) -> u8 {
     match request(rt) {
-        Ok(request) => open(rt, handle, &request),
+        Ok(request) => serve_files(
+            handle,
+            rt.alloc(),
+            &request,
+            &SystemFiles { rt },
+            &mut rt.stdout(),
+            &mut rt.stderr(),
+        ),
         Err(fault) => tell_usage(&fault, &mut rt.stdout(), &mut rt.stderr()),
     }
 }
@@ -45,69 +54,18 @@ fn no_words(alloc: Global, kind: ErrorKind) -> UsageFault {
     }
 }
 
-/// Opens the file that is asked for, if there is one, and a schedule, and serves the request.
-fn open<H: Threads + Wait + Sync>(rt: &HostRuntime, handle: &H, request: &Request) -> u8 {
-    match request {
-        Request::Program {
-            file,
-            verbose,
-            task,
-        } => {
-            let detail = Detail {
-                lines: false,
-                reasons: *verbose,
-            };
-            match File::open(rt, file.as_str()) {
-                Ok(source) => open_schedule(rt, handle, request, task, source, detail),
-                Err(error) => cannot_read(file.as_str(), &error, detail, &mut rt.stderr()),
-            }
-        }
-        Request::Explain { .. } => answer_from(rt, handle, request, b"".as_slice(), b"".as_slice()),
-    }
+/// The files of the system.
+#[derive(Drop)]
+struct SystemFiles<'a> {
+    rt: &'a HostRuntime,
 }
 
-/// Opens the schedule of a task, if it has one, and serves the request.
-fn open_schedule<H: Threads + Wait + Sync>(
-    rt: &HostRuntime,
-    handle: &H,
-    request: &Request,
-    task: &Task,
-    source: File,
-    detail: Detail,
-) -> u8 {
-    match task {
-        Task::Replay {
-            steps: Steps::Schedule { file },
-            ..
-        }
-        | Task::Timeline {
-            steps: Steps::Schedule { file },
-            ..
-        } => match File::open(rt, file.as_str()) {
-            Ok(schedule) => answer_from(rt, handle, request, source, schedule),
-            Err(error) => cannot_read(file.as_str(), &error, detail, &mut rt.stderr()),
-        },
-        _ => answer_from(rt, handle, request, source, b"".as_slice()),
-    }
-}
+impl Files for SystemFiles<'_> {
+    type File = File;
 
-/// Serves a request over the program's own streams.
-fn answer_from<H: Threads + Wait + Sync, R: Read + Drop, S: Read + Drop>(
-    rt: &HostRuntime,
-    handle: &H,
-    request: &Request,
-    source: R,
-    schedule: S,
-) -> u8 {
-    let is_terminal = rt.stderr().is_terminal();
-    serve(
-        handle,
-        rt.alloc(),
-        request,
-        source,
-        schedule,
-        &mut rt.stdout(),
-        &mut rt.stderr(),
-        is_terminal,
-    )
+    ghost contents = { λ _ _. None };
+
+    fn open(&self, name: &str) -> io::Result<File> {
+        File::open(self.rt, name)
+    }
 }

@@ -8,4 +8,4 @@ pub returns-in-Ok-TooLong-clause-refused : goal.returns-in-Ok-TooLong-clause-ref
 returns-in-Ok-TooLong-clause-refused g c = λ e. long_refused (g.R.Read.remaining c.args.source) (subst (λ s. IfSome (g.R.Read.remaining c.args.source) (λ bytes. IsTextOf bytes s)) c.in-Ok-TooLong.field-0-is c.in-Ok-TooLong.ensures)
 
 pub returns-in-Err-clause-answer : goal.returns-in-Err-clause-answer
-returns-in-Err-clause-answer g c = not_read_answers (g.R.Read.remaining c.args.source) c.args.task.now (g.S.Read.remaining c.args.schedule) c.not_read.result _ _ c.not_read.ensures
+returns-in-Err-clause-answer g c = not_read_answers (g.R.Read.remaining c.args.source) c.args.task.now (g.S.Read.remaining c.args.schedule) c.not_read.result _ _ c.not_read.ensures.told

@@ -1,0 +1,35 @@
+-- The files that a request names.
+use Rattle.std.specs.Prelude.{ℕ, List, [], Option, Some, None, IfSome, string_bytes}
+use Rattle.command.specs.declared.request.Request.{Request}
+use Rattle.command.specs.declared.request.Request.TheVariants.{Program, Explain}
+use Rattle.command.specs.declared.request.Steps.TheVariants.{Schedule}
+use Rattle.command.specs.declared.request.Task.{Task}
+use Rattle.command.specs.declared.request.Task.TheVariants.{Replay, Timeline}
+use Rattle.serving.specs.Answers.{Answers}
+use Rattle.serving.specs.Runs.{IsRefused}
+
+-- the bytes of the file of each name, where they are known
+abbrev pub Contents : Type 0
+Contents = List ℕ → Option (List ℕ)
+
+-- the name of the schedule that a task reads, if it reads one
+abbrev pub schedule_of : Task → Option (List ℕ)
+schedule_of (Replay threads (Schedule file)) = Some (string_bytes file)
+schedule_of (Timeline threads (Schedule file)) = Some (string_bytes file)
+schedule_of _ = None
+
+-- the bytes of the file of this name; where there is no name, there is no byte
+abbrev pub schedule_in : Contents → Option (List ℕ) → Option (List ℕ)
+schedule_in contents (Some name) = contents name
+schedule_in contents None = Some []
+
+-- a request, where these are the bytes of files: what a status says of what was printed
+abbrev pub AnswersFiles : Request → Contents → (status : ℕ) → (old new : Option (List ℕ)) → Type 0
+AnswersFiles (Program file verbose task) contents status old new = IfSome (contents (string_bytes file))
+    (λ bytes. Answers task (schedule_in contents (schedule_of task)) bytes status old new)
+AnswersFiles (Explain number) contents status old new = Unit {0}
+
+-- a source is named, and it is refused
+abbrev pub RefusesSource : Request → Contents → Type 0
+RefusesSource (Program file verbose task) contents = IfSome (contents (string_bytes file)) (λ bytes. IsRefused bytes)
+RefusesSource (Explain number) contents = ⊥

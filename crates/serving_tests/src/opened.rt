@@ -1,0 +1,210 @@
+//! Which files are opened for a request, and what is said of those that are not.
+
+use serving::{Files, serve_files};
+use serving_in_memory::{ADDS, Answer, request_of};
+use std::alloc::Global;
+use std::io;
+use std::io::{ErrorKind, IsTerminal, Read, Write};
+use std::sync::Wait;
+use std::thread::Threads;
+
+/// What is found of a file's name: the bytes of the file, or why it is not opened.
+type Found = Result<&'static [u8], ErrorKind>;
+
+/// The two files that there are.
+#[derive(Drop)]
+struct TwoFiles {
+    /// The file `a.c`.
+    source: Found,
+    /// The file `s.txt`.
+    schedule: Found,
+}
+
+/// A file that was opened.
+#[derive(Drop)]
+struct Opened {
+    rest: &'static [u8],
+}
+
+impl Read for Opened {
+    fn read(&mut self, buf: &mut [u8]) -> io::Result<usize> {
+        self.rest.read(buf)
+    }
+}
+
+impl Files for TwoFiles {
+    type File = Opened;
+
+    ghost use Rattle.std.specs.Prelude.{None};
+
+    ghost contents = { λ _ _. None };
+
+    fn open(&self, name: &str) -> io::Result<Opened> {
+        let found = match name {
+            "a.c" => self.source,
+            "s.txt" => self.schedule,
+            _ => Err(ErrorKind::NotFound),
+        };
+        match found {
+            Ok(rest) => Ok(Opened { rest }),
+            Err(kind) => Err(io::Error::from(kind)),
+        }
+    }
+}
+
+/// Standard error, on a terminal or not.
+#[derive(Drop)]
+struct Told {
+    bytes: Vec<u8>,
+    is_terminal: bool,
+}
+
+impl Write for Told {
+    fn write(&mut self, buf: &[u8]) -> io::Result<usize> {
+        self.bytes.write(buf)
+    }
+
+    fn flush(&mut self) -> io::Result<()> {
+        Ok(())
+    }
+}
+
+impl IsTerminal for Told {
+    fn is_terminal(&self) -> bool {
+        self.is_terminal
+    }
+}
+
+/// A command line, what is found of its two files, whether standard error is a terminal, and what is answered.
+type Row = (&'static str, Found, Found, bool, Answer<'static>);
+
+const REPLAY: &str = "txc replay a.c --threads 2 --schedule s.txt";
+
+const TIMELINE: &str = "txc replay a.c --timeline --schedule s.txt";
+
+const RUN: &str = "txc run a.c";
+
+const NONE: Found = Err(ErrorKind::NotFound);
+
+const REFUSED: Found = Err(ErrorKind::OutOfMemory);
+
+const OUT_OF_MEMORY: Answer<'static> = (4, b"", b"txc: out of memory\n");
+
+fn rows() -> &'static [Row] {
+    static ROWS: [Row; 11] = [
+        // the source is opened first
+        (
+            REPLAY,
+            NONE,
+            NONE,
+            false,
+            (2, b"", b"txc: cannot read a.c\n"),
+        ),
+        // and a schedule before the source is read
+        (
+            REPLAY,
+            Ok(b"int"),
+            NONE,
+            false,
+            (2, b"", b"txc: cannot read s.txt\n"),
+        ),
+        (
+            TIMELINE,
+            Ok(ADDS),
+            NONE,
+            false,
+            (2, b"", b"txc: cannot read s.txt\n"),
+        ),
+        (REPLAY, REFUSED, NONE, false, OUT_OF_MEMORY),
+        (REPLAY, Ok(ADDS), REFUSED, false, OUT_OF_MEMORY),
+        // both are read
+        (
+            REPLAY,
+            Ok(ADDS),
+            Ok(b"1 a9\n"),
+            false,
+            (
+                4,
+                b"== events\n6 1 commit\n== thread 0: running\n== thread 1: ended\n== memory\nx = 1\n",
+                b"",
+            ),
+        ),
+        (
+            TIMELINE,
+            Ok(b"void worker(int self) { }"),
+            Ok(b"0 1\n"),
+            false,
+            (
+                0,
+                b"== timeline\n0 0 0 ret\n== events\n== thread 0: ended\n== memory\n",
+                b"",
+            ),
+        ),
+        // a task with no schedule opens none
+        (
+            RUN,
+            Ok(ADDS),
+            NONE,
+            false,
+            (0, b"== thread 0: ended\n== memory\nx = 1\n", b""),
+        ),
+        (
+            "txc replay a.c --seed 1",
+            Ok(b"void worker(int self) { }"),
+            NONE,
+            false,
+            (0, b"== events\n== thread 0: ended\n== memory\n", b""),
+        ),
+        // the line of a fault follows it on a terminal
+        (
+            RUN,
+            Ok(b"int x;"),
+            NONE,
+            true,
+            (
+                1,
+                b"",
+                b"txc: fault 28 at 1:7: no worker\nint x;\n      ^\n",
+            ),
+        ),
+        (
+            RUN,
+            Ok(b"int x;"),
+            NONE,
+            false,
+            (1, b"", b"txc: fault 28 at 1:7: no worker\n"),
+        ),
+    ];
+    &ROWS
+}
+
+// Whether a row is answered as it should be.
+fn is_answered<H: Threads + Wait + Sync>(rt: &H, alloc: Global, row: &Row) -> bool {
+    let (line, source, schedule, is_terminal, wanted) = *row;
+    let Ok(request) = request_of(alloc, line) else {
+        return false;
+    };
+    let files = TwoFiles { source, schedule };
+    let mut out = Vec::new(alloc);
+    let mut told = Told {
+        bytes: Vec::new(alloc),
+        is_terminal,
+    };
+    let status = serve_files(rt, alloc, &request, &files, &mut out, &mut told);
+    status == wanted.0 && out.as_slice() == wanted.1 && told.bytes.as_slice() == wanted.2
+}
+
+// The number, from 0, of the first row that is answered otherwise.
+fn wrong_files<H: Threads + Wait + Sync>(rt: &H, alloc: Global) -> Option<usize> {
+    for (number, row) in rows().iter().enumerate() {
+        if !is_answered(rt, alloc, row) {
+            return Some(number);
+        }
+    }
+    None
+}
+
+#[test]
+fn files_are_opened_in_turn(rt: HostRuntime) {
+    assert_eq!(rt; wrong_files(&rt, rt.alloc()), None);
+}
