@@ -14,8 +14,8 @@ use Rattle.seats.specs.Saying.{code_does}
 use Rattle.report.specs.Printed.{Printed}
 use Rattle.workers.specs.Driving.{Ran}
 use Rattle.workers.specs.declared.run.RunReport.{RunReport}
-use Rattle.serving.specs.Shows.{at_once_shown, thread_at_once, threads_at_once}
-use Rattle.serving.specs.Runs.{IsCodeOf, IsRunAtOnce}
+use Rattle.serving.specs.Codes.{IsCodeOf}
+use Rattle.serving.specs.Runs.{IsRunAtOnce, at_once_shown, thread_at_once, threads_at_once}
 use Rattle.serving.proofs.Found.{thread_shown}
 
 pub run_at_once : (p : Program) (code : Code) (threads budget : ℕ) (r : RunReport Global) (shown : Printed) → IsCodeOf p code → ((does : Behaviour) → Means (bounds_of code) (code_does code) does → Ran does (record { code = code; threads = threads }) budget r) → shown ≡ at_once_shown p threads r → IsRunAtOnce p code threads budget shown

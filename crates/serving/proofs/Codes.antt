@@ -3,7 +3,8 @@ use Rattle.std.proofs.Common.{ℕ, List}
 use Rattle.syntax.specs.Views.{program_of}
 use Rattle.parse.specs.Faults.{source_of}
 use Rattle.serving.specs.declared.compiled.Compiled.{Compiled}
-use Rattle.serving.specs.Runs.{Compiles, IsCodeOf, IsSourceOf}
+use Rattle.serving.specs.Codes.{Compiles, IsCodeOf}
+use Rattle.serving.specs.Checks.{IsSourceOf}
 
 abbrev pub compiles : {A : Type 0} (text : List ℕ) (c : Compiled A) → IsSourceOf text (source_of c.accepted.safe.typed.unit) → IsCodeOf (program_of c.accepted.safe.typed.unit) c.code → Compiles text c.code
 compiles text c spelled compiled = record {

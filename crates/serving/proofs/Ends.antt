@@ -1,15 +1,25 @@
 -- Tests of ends, over the threads that a report shows.
-use Rattle.std.proofs.Common.{◌≡◌, Bool, true, false, List, [], ◌∷◌, ◌||◌, map, refl, ap}
+use Rattle.std.proofs.Common.{◌≡◌, ◌⊎◌, inl, inr, ℕ, Bool, true, false, List, [], ◌∷◌, ◌||◌, map, refl, ap, arith}
 use Rattle.std.specs.List.{list_any}
+use Rattle.std.specs.Prelude.{if◌then◌else◌}
 use Rattle.report.specs.declared.printed.End.{End}
 use Rattle.report.specs.declared.printed.ThreadShown.{ThreadShown}
 use Rattle.report.specs.Printed as plain
 use Rattle.report.specs.Views.{thread_of}
-use Rattle.serving.specs.Runs.{is_stopped, is_trapped, exit_status}
+use Rattle.serving.specs.Reports.{exit_status, has_stopped, has_trapped, is_stopped, is_trapped}
 
 pub any_shown : {A : Type 0} (p : End → Bool) (threads : List (ThreadShown A)) → list_any (λ (t : plain.ThreadShown). p t.end) (map thread_of threads) ≡ list_any (λ (t : ThreadShown A). p t.end) threads
 any_shown p [] = refl
 any_shown p (t ∷ threads) = ap (λ b. p t.end || b) (any_shown p threads)
+
+-- where the status is 0 or 3 no thread has stopped
+none_by : (stopped trapped : Bool) (status : ℕ) → (status ≡ 0) ⊎ (status ≡ 3) → status ≡ (if stopped then 4 else if trapped then 3 else 0) → stopped ≡ false
+none_by false trapped status is e = refl
+none_by true trapped status (inl is) e = absurd (omega (arith, is, e))
+none_by true trapped status (inr is) e = absurd (omega (arith, is, e))
+
+pub none_stopped : (status : ℕ) (shown : plain.Printed) → (status ≡ 0) ⊎ (status ≡ 3) → status ≡ exit_status shown → has_stopped shown ≡ false
+none_stopped status shown is e = none_by (has_stopped shown) (has_trapped shown) status is e
 
 -- some thread stopped; none did, and some trapped; none did either
 pub some_stopped : (shown : plain.Printed) → list_any (λ (t : plain.ThreadShown). is_stopped t.end) shown.threads ≡ true → 4 ≡ exit_status shown

@@ -23,8 +23,7 @@ use Rattle.workers.specs.declared.run.Ending.{Ending}
 use Rattle.workers.specs.declared.run.RunReport.{RunReport}
 use Rattle.workers.specs.declared.worker.Worker.{Worker}
 use Rattle.syntax.specs.Behaviours.{Behaviour}
-use Rattle.serving.specs.Shows.{end_at_once, thread_at_once}
-use Rattle.serving.specs.Runs.{IsThreadAtOnce}
+use Rattle.serving.specs.Runs.{IsThreadAtOnce, end_at_once, thread_at_once}
 
 apart : (a b : ℕ) → (a == b) ≡ false → a ≢ b
 apart a b e same = let t : true ≡ false = sym (eq-eqb a b same) ∙ e in cc

@@ -3,7 +3,7 @@ use Rattle.std.proofs.Common.{◌≡◌, ℕ, List, Option, subst}
 use Rattle.std.specs.Prelude.{IfSome}
 use Rattle.command.specs.declared.request.Task.{Task}
 use Rattle.serving.specs.Answers.{Answers}
-use Rattle.serving.specs.Runs.{IsRefused}
+use Rattle.serving.specs.Refusals.{IsRefused}
 
 -- the schedule has the bytes that are known of it
 pub answers_scheduled : (known : Option (List ℕ)) (task : Task) (schedule file : Option (List ℕ)) (status : ℕ) (old new : Option (List ℕ)) → schedule ≡ file → IfSome known (λ bytes. Answers task schedule bytes status old new) → IfSome known (λ bytes. Answers task file bytes status old new)

@@ -1,13 +1,45 @@
 -- What a status says of a text, and what it does not say of what was printed.
-use Rattle.std.proofs.Common.{◌≡◌, ◌≢◌, ◌<◌, ◌⊎◌, inl, inr, ℕ, List, length, Option, Some, None, refl, arith}
-use Rattle.std.specs.Prelude.{IfSome}
+use Rattle.std.proofs.Common.{◌≡◌, ◌≢◌, ◌<◌, ◌⊎◌, inl, inr, ℕ, List, ◌∷◌, length, Option, Some, None, refl, sym, subst, arith}
+use Rattle.std.specs.Prelude.{Contains, IfSome}
+use Rattle.std.proofs.lemmas.List.Elements.{Contains-append_right}
+use Rattle.syntax.specs.Grammar.{Source as Spelled}
+use Rattle.syntax.specs.Tree.{Defines, Program}
+use Rattle.separation.specs.Touching.{IsAccepted}
 use Rattle.command.specs.declared.request.Task.{Task}
 use Rattle.command.specs.declared.request.Task.TheVariants.{Check, Listing, Run, Replay, Timeline, PrintSchedule, Source}
 use Rattle.lex.specs.declared.fault.LexFault.TheVariants.{FileTooLong}
 use Rattle.lex.specs.declared.lexer.TheConstants.{MOST_BYTES}
+use Rattle.lower.specs.Faults.{IsFaultOf}
+use Rattle.lower.specs.declared.fault.LowerFault.{LowerFault}
+use Rattle.lower.specs.declared.fault.LowerFault.TheVariants as limit
 use Rattle.serving.specs.declared.run.SourceFault.TheVariants.{Lex}
 use Rattle.serving.specs.Answers.{Answers}
-use Rattle.serving.specs.Runs.{IsRefused}
+use Rattle.serving.specs.Checks.{IsSourceOf}
+use Rattle.serving.specs.Refusals.{IsLimit, IsRefused, IsUncoded}
+
+-- what is said of a limit by the code that is picked says what the source tells of it
+limit_of : (p : Program) (fault : LowerFault) → IsFaultOf p fault → IsLimit p fault
+limit_of p limit.OutOfMemory is = tt
+limit_of p (limit.TooManyRegisters at) is = (is.0, record { function = is.1.function; is_of = is.1.is_of; is_at = is.1.is_at })
+limit_of p (limit.TooMuchCode at) is = (
+  is.0,
+  record {
+    function = is.1.function;
+    is_of = subst (λ (items : Program). Contains items (Defines is.1.function)) (sym is.1.is_of)
+        (Contains-append_right is.1.before (Defines is.1.function ∷ is.1.after) (Defines is.1.function) (0, omega arith, refl));
+    is_at = is.1.is_at;
+  },
+)
+limit_of p (limit.NestedTooDeep at) is = is
+
+-- the accepted program of a text has no code
+pub uncoded : (text : List ℕ) (source : Spelled) (fault : LowerFault) → IsSourceOf text source → ∥ IsAccepted source.program ∥₁ → IsFaultOf source.program fault → IsUncoded text fault
+uncoded text source fault spelled accepted is = record {
+  source = source;
+  spelled = spelled;
+  accepted = accepted;
+  because = limit_of source.program fault is;
+}
 
 -- a file that is too long is refused
 pub long_refused : (known : Option (List ℕ)) → IfSome known (λ bytes. MOST_BYTES < length bytes) → IfSome known (λ bytes. IsRefused bytes)

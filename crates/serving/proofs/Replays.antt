@@ -26,7 +26,8 @@ use Rattle.replay.specs.Seeds.{generator_of, one_step}
 use Rattle.report.specs.Printed.{Printed}
 use Rattle.report.specs.Timeline.{timeline_text}
 use Rattle.serving.specs.declared.compiled.Compiled.{Compiled}
-use Rattle.serving.specs.Runs.{IsCodeOf, IsSourceOf}
+use Rattle.serving.specs.Codes.{IsCodeOf}
+use Rattle.serving.specs.Checks.{IsSourceOf}
 use Rattle.serving.specs.Replays.{AreLinesOf, IsReplayOf, IsReplayOfText, Replays, ReplaysShown, lines_of_seed}
 use Rattle.serving.specs.inner.Replayed.{report_shown}
 use Rattle.serving.proofs.Codes.{compiles}

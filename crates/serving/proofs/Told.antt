@@ -11,7 +11,7 @@ use Rattle.meaning.specs.InOrder.{IsInOrder, NamesThreads}
 use Rattle.meaning.specs.declared.outcome.SourceOutcome.{SourceOutcome}
 use Rattle.report.specs.Printed.{Printed}
 use Rattle.serving.specs.Shows.{thread_shown, program_shown}
-use Rattle.serving.specs.Runs.{IsOrderOf}
+use Rattle.serving.specs.Orders.{IsOrderOf}
 use Rattle.serving.specs.inner.Told.{told_shown, report_shown}
 
 reports-told : {A : Type 0} (rs : List (ThreadReport A)) → map report_shown rs ≡ map told_shown (map report_in rs)

@@ -4,8 +4,12 @@ use Rattle.command.specs.declared.request.Request.{Request}
 use Rattle.command.specs.declared.request.Request.TheVariants.{Program, Explain}
 use Rattle.command.specs.declared.request.Task.{Task}
 use Rattle.command.specs.declared.request.Task.TheVariants.{Check, Listing, Run, Replay, Timeline, PrintSchedule, Source}
-use Rattle.serving.specs.Runs.{PrintsListing, PrintsReport, RunsAtOnce, RunsInOrder, SaysAccepted}
-use Rattle.serving.specs.Replays.{PrintsSchedule, PrintsTimeline, Replays, ReplaysShown, lines_of_seed}
+use Rattle.serving.specs.Checks.{SaysAccepted}
+use Rattle.serving.specs.Listings.{PrintsListing}
+use Rattle.serving.specs.Reports.{PrintsReport}
+use Rattle.serving.specs.Orders.{RunsInOrder, RunsInSomeOrder}
+use Rattle.serving.specs.Runs.{RunsAtOnce}
+use Rattle.serving.specs.Replays.{PrintsSchedule, PrintsTimeline, Replays, ReplaysShown, behind_events, lines_of_seed}
 
 -- a task with a text: the bytes that the writer had, if they are known, and those that it has then; a replay may have a
 -- schedule, whose bytes may be known
@@ -13,11 +17,14 @@ abbrev pub Answers : Task → (schedule : Option (List ℕ)) → (text : List �
     (old new : Option (List ℕ)) → Type 0
 Answers Check schedule text status old new = SaysAccepted text status old new
 Answers Listing schedule text status old new = PrintsListing text status old new
-Answers (Run threads budget) schedule text status old new = PrintsReport (RunsAtOnce threads budget text) status old new
+Answers (Run threads budget) schedule text status old new =
+    PrintsReport (λ shown. RunsInSomeOrder threads text shown × RunsAtOnce threads budget text shown) status old new
 Answers (Replay threads steps) schedule text status old new =
-    PrintsReport (Replays threads steps schedule text) status old new
+    PrintsReport (λ shown. RunsInSomeOrder threads text (behind_events shown)
+    × Replays threads steps schedule text shown) status old new
 Answers (Timeline threads steps) schedule text status old new =
-    PrintsTimeline (ReplaysShown threads steps schedule text) status old new
+    PrintsTimeline (λ lines shown. RunsInSomeOrder threads text (behind_events shown)
+    × ReplaysShown threads steps schedule text lines shown) status old new
 Answers (PrintSchedule threads seed count) schedule text status old new =
     PrintsSchedule (lines_of_seed seed threads count) text status old new
 Answers (Source threads order ticks) schedule text status old new =

@@ -6,7 +6,7 @@ use Rattle.command.specs.declared.request.Steps.TheVariants.{Schedule}
 use Rattle.command.specs.declared.request.Task.{Task}
 use Rattle.command.specs.declared.request.Task.TheVariants.{Replay, Timeline}
 use Rattle.serving.specs.Answers.{Answers}
-use Rattle.serving.specs.Runs.{IsRefused}
+use Rattle.serving.specs.Refusals.{IsRefused}
 
 -- the bytes of the file of each name, where they are known
 abbrev pub Contents : Type 0

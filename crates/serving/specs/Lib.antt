@@ -1,11 +1,27 @@
 -- words that are no request
 pub mod Usage
--- what the report of a run shows
+-- what a status says of a report
+pub mod Reports
+-- which sources are accepted
+pub mod Checks
+-- what the report of an order shows
 pub mod Shows
--- sources that are accepted, run or refused
+-- threads in an order
+pub mod Orders
+-- the code of a source
+pub mod Codes
+-- listings of code
+pub mod Listings
+-- all threads at once
 pub mod Runs
--- replays of sources
+-- replays
 pub mod Replays
+-- why a source is refused
+pub mod Refusals
+-- why a program has no code
+pub mod Limits
+-- laws of reports
+pub mod Laws
 -- what is answered to a request
 pub mod Answers
 -- the files that a request names

@@ -1,10 +1,12 @@
 -- Replaying steps of the threads of a source's text.
-use Rattle.std.specs.Prelude.{◌≡◌, ◌⊎◌, ◌++◌, ◌%◌, ℕ, List, map, Option, None, IfSome}
+use Rattle.std.specs.Prelude.{◌≡◌, ◌⊎◌, ◌++◌, ◌%◌, ℕ, List, map, Option, None, Some, IfSome}
 use Rattle.std.specs.Io.KnownBytes.{Appends}
 use Rattle.std.specs.Str.Lines.{lines}
 use Rattle.rand_core.specs.Steps.{first_words}
 use Rattle.rand_pcg.specs.Pcg.{pcg32}
 use Rattle.syntax.specs.Tree.{Program}
+use Rattle.syntax.specs.Names.{globals}
+use Rattle.syntax.specs.Behaviours.{Memory}
 use Rattle.syntax.specs.Threads.{thread}
 use Rattle.bytecode.specs.Beginning.{beginning}
 use Rattle.bytecode.specs.Code.{Code, effect}
@@ -13,20 +15,25 @@ use Rattle.bytecode.specs.Valid.{bounds_of}
 use Rattle.machine.specs.Serializable.{IsOpaque}
 use Rattle.world.specs.declared.stop.StopReason.{StopReason}
 use Rattle.world.specs.declared.stop.WorldStop.{WorldStop}
-use Rattle.world.specs.Reports.{stop_with}
-use Rattle.world.specs.Simulations.{IsHolder, world_of}
+use Rattle.world.specs.declared.report.End.{End as WorldEnd}
+use Rattle.world.specs.declared.report.End.TheVariants as world
+use Rattle.world.specs.Reports.{stop_with, threads_shown}
+use Rattle.world.specs.Simulations.{IsHolder, Simulation, world_of}
 use Rattle.replay.specs.declared.line.Line.{Line}
 use Rattle.replay.specs.declared.line.TheConstants.{MOST_STEPS}
-use Rattle.replay.specs.Replays.{EndsAt, first_world, played, steps_of, timeline_of}
+use Rattle.replay.specs.Replays.{EndsAt, events_of, first_world, played, steps_of, timeline_of}
 use Rattle.replay.specs.Schedules.{AreLines}
 use Rattle.replay.specs.Seeds.{generator_of, one_step}
 use Rattle.command.specs.declared.request.Steps.{Steps}
 use Rattle.command.specs.declared.request.Steps.TheVariants.{Schedule, Seed}
-use Rattle.report.specs.Printed.{Printed}
+use Rattle.report.specs.Printed.{Event, ThreadShown, Printed}
 use Rattle.report.specs.Report.{report_text}
 use Rattle.report.specs.Timeline.{timeline_text}
-use Rattle.serving.specs.Shows.{world_shown}
-use Rattle.serving.specs.Runs.{Compiles, exit_status}
+use Rattle.report.specs.declared.printed.End.{End}
+use Rattle.report.specs.declared.printed.End.TheVariants as end
+use Rattle.serving.specs.Codes.{Compiles}
+use Rattle.serving.specs.Reports.{exit_status}
+use Rattle.serving.specs.Shows.{shown_globals}
 
 -- the lines of a schedule, where its bytes are known
 abbrev pub IsSchedule : Option (List ℕ) → List Line → Type 0
@@ -40,6 +47,37 @@ lines_of_seed seed threads count = map (λ w. one_step (w % threads)) (first_wor
 abbrev pub AreLinesOf : Steps → (threads : ℕ) → (schedule : Option (List ℕ)) → List Line → Type 0
 AreLinesOf (Schedule file) threads schedule found = IsSchedule schedule found
 AreLinesOf (Seed seed count) threads schedule found = found ≡ lines_of_seed seed threads count
+
+-- how a thread is found after a replay
+abbrev pub end_after_replay : WorldEnd → End
+end_after_replay world.Ended = end.Ended
+end_after_replay (world.Trapped k) = end.Trapped k
+end_after_replay world.OutOfMemory = end.OutOfMemory
+end_after_replay world.SequenceUsedUp = end.SequenceUsedUp
+end_after_replay world.Running = end.Running
+
+-- a thread of a world: how it is found, and what it has printed
+abbrev pub thread_found : WorldEnd × List ℕ → ThreadShown
+thread_found found = record { end = end_after_replay found.0; text = found.1 }
+
+-- a replay: what happened in its steps, how each thread is found and what it has printed, the words, and who has the
+-- lock
+abbrev pub replay_shown : Program → List (ℕ × ℕ × Event) → List (WorldEnd × List ℕ) → Memory → (holder : Option ℕ) →
+    Printed
+replay_shown p events found words holder = record {
+  events = Some events;
+  threads = map thread_found found;
+  globals = shown_globals (globals p) words;
+  holder = holder;
+}
+
+-- the world that steps have led to, where the next step of a thread may have been refused
+abbrev pub world_shown : Program → Option (ℕ × StopReason) → (holder : Option ℕ) → Simulation → Printed
+world_shown p stop holder s = replay_shown p (events_of s) (threads_shown stop s) (world_of s).words holder
+
+-- what a report of a replay shows behind what happened
+abbrev pub behind_events : Printed → Printed
+behind_events shown = record shown { events = None }
 
 -- What a report shows of a replay: of the steps that the lines name, at most 1,048,576, these were made, up to the
 -- first that could not be; these are explained by runs of the program; and the report shows the world that they lead

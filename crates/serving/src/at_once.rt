@@ -5,8 +5,8 @@ ghost use Rattle.std.specs.List.{find};
 ghost use Rattle.std.specs.Option.{option_and_then};
 ghost use Rattle.syntax.specs.Views.{program_of};
 ghost use Rattle.report.specs.Views.{printed_of, shown_of, thread_of};
-ghost use Rattle.serving.specs.Shows as spec;
-ghost use Rattle.serving.specs.Shows.{at_once_shown, globals_left, held_by, stopped_of, threads_at_once};
+ghost use Rattle.serving.specs.Runs as spec;
+ghost use Rattle.serving.specs.Runs.{at_once_shown, globals_left, held_by, stopped_of, threads_at_once};
 
 use crate::shown::globals_shown;
 use containers::Items;

@@ -4,7 +4,8 @@ ghost use Rattle.std.specs.Prelude.{◌≡◌, IfOk, IfErr};
 ghost use Rattle.syntax.specs.Views.{program_of};
 ghost use Rattle.report.specs.Views.{printed_of};
 ghost use Rattle.workers.specs.Driving.{IsRunRefused};
-ghost use Rattle.serving.specs.Runs.{IsCodeOf, IsRunAtOnce, RunsAtOnce};
+ghost use Rattle.serving.specs.Codes.{IsCodeOf};
+ghost use Rattle.serving.specs.Runs.{IsRunAtOnce, RunsAtOnce};
 ghost use Rattle.serving.specs.inner.Threads.{IsFaultAtOnce};
 
 use crate::at_once::shown_at_once;

@@ -5,6 +5,7 @@
 mod at_once;
 mod compiled;
 mod concurrent;
+pub mod laws;
 mod listed;
 mod opened;
 mod order;

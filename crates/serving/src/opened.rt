@@ -3,7 +3,7 @@
 ghost use Rattle.std.specs.Prelude.{◌≡◌, ◌≤◌, ℕ, IfOk, IfSome, List, Option, option_map};
 ghost use Rattle.serving.specs.Answers.{Answers};
 ghost use Rattle.serving.specs.Files.{AnswersFiles, RefusesSource, schedule_in, schedule_of};
-ghost use Rattle.serving.specs.Runs.{IsRefused};
+ghost use Rattle.serving.specs.Refusals.{IsRefused};
 
 use crate::request::{explain, serve_program};
 use crate::tell::{Detail, not_read};

@@ -4,7 +4,8 @@ ghost use Rattle.std.specs.Prelude.{◌≡◌, IfOk, IfErr};
 ghost use Rattle.syntax.specs.Views.{program_of};
 ghost use Rattle.report.specs.Views.{printed_of};
 ghost use Rattle.meaning.specs.InOrder.{IsFaultOfOrder};
-ghost use Rattle.serving.specs.Runs.{IsOrderOf, IsFaultInOrder, RunsInOrder};
+ghost use Rattle.serving.specs.Orders.{IsOrderOf, RunsInOrder};
+ghost use Rattle.serving.specs.Refusals.{IsFaultInOrder};
 
 use crate::run::{SourceFault, read_accepted};
 use crate::shown::shown_in_order;

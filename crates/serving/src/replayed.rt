@@ -4,10 +4,9 @@ ghost use Rattle.std.specs.Prelude.{◌≡◌, ◌<◌, ◌⊎◌, Err, IfOk, ma
 ghost use Rattle.syntax.specs.Views.{program_of};
 ghost use Rattle.report.specs.Views.{printed_of, thread_of};
 ghost use Rattle.world.specs.Reports.{threads_of};
-ghost use Rattle.serving.specs.Shows as spec;
-ghost use Rattle.serving.specs.Shows.{thread_found};
-ghost use Rattle.serving.specs.Replays.{IsReplayOf};
-ghost use Rattle.serving.specs.Runs.{IsCodeOf};
+ghost use Rattle.serving.specs.Codes.{IsCodeOf};
+ghost use Rattle.serving.specs.Replays as spec;
+ghost use Rattle.serving.specs.Replays.{IsReplayOf, thread_found};
 ghost use Rattle.serving.specs.inner.Replayed.{report_shown};
 
 use crate::compiled::Compiled;

@@ -6,12 +6,18 @@ ghost use Rattle.serving.specs.Answers.{Answers, AnswersRequest};
 ghost use Rattle.replay.specs.Replays.{played, timeline_of};
 ghost use Rattle.report.specs.Timeline.{timeline_text};
 ghost use Rattle.report.specs.Views.{printed_of};
-ghost use Rattle.serving.specs.Replays.{IsReplayOfText, PrintsSchedule, PrintsTimeline, Replays, ReplaysShown, lines_of_seed};
-ghost use Rattle.serving.specs.Runs.{IsRefused, PrintsListing, PrintsReport, RunsAtOnce, RunsInOrder, SaysAccepted};
+ghost use Rattle.serving.specs.Checks.{SaysAccepted};
+ghost use Rattle.serving.specs.Listings.{PrintsListing};
+ghost use Rattle.serving.specs.Orders.{RunsInOrder, RunsInSomeOrder};
+ghost use Rattle.serving.specs.Refusals.{IsRefused};
+ghost use Rattle.serving.specs.Replays.{IsReplayOfText, PrintsSchedule, PrintsTimeline, Replays, ReplaysShown, behind_events, lines_of_seed};
+ghost use Rattle.serving.specs.Reports.{PrintsReport};
+ghost use Rattle.serving.specs.Runs.{RunsAtOnce};
 ghost use Rattle.serving.specs.inner.Printing.{PrintsBehind, PrintsShown};
 
 use crate::compiled::{Compiled, compile};
 use crate::concurrent::{ThreadsFault, run_threads};
+use crate::laws::reports_are_orders;
 use crate::listed::list_source;
 use crate::order::{OrderFault, run_in_order};
 use crate::replayed::{Replayed, replay_code};
@@ -183,10 +189,11 @@ fn run<H: Threads + Wait + Sync, W: Write, E: Write>(
     err: &mut E,
 ) -> u8
     ensures status { result ≤ 4 }
-    ensures report { PrintsReport (RunsAtOnce threads budget text.now) result (W.contents out.old) (W.contents out.new) }
+    ensures report { PrintsReport (λ shown. RunsInSomeOrder threads text.now shown × RunsAtOnce threads budget text.now shown) result (W.contents out.old) (W.contents out.new) }
     ensures refused { result ≡ 1 → IsRefused text.now }
     ensures untouched { result ≡ 1 → W.contents out.new ≡ W.contents out.old }
 {
+    reports_are_orders();
     match run_threads(rt, alloc, text, threads, budget) {
         Ok(printed) => print_report(alloc, &printed, out, err),
         Err(ThreadsFault::Source(fault)) => refuse(alloc, text, fault, detail, err),
@@ -206,10 +213,11 @@ fn replay_source<A: Allocator + Copy, S: Read + Drop, W: Write, E: Write>(
     err: &mut E,
 ) -> u8
     ensures status { result ≤ 4 }
-    ensures report { PrintsReport (Replays threads steps.now (S.remaining schedule) text.now) result (W.contents out.old) (W.contents out.new) }
+    ensures report { PrintsReport (λ shown. RunsInSomeOrder threads text.now (behind_events shown) × Replays threads steps.now (S.remaining schedule) text.now shown) result (W.contents out.old) (W.contents out.new) }
     ensures refused { result ≡ 1 → IsRefused text.now }
     ensures untouched { result ≡ 1 → W.contents out.new ≡ W.contents out.old }
 {
+    reports_are_orders();
     match replay_text(alloc, text, threads, steps, schedule, detail, err) {
         Ok((_compiled, replayed)) => print_replay(alloc, &replayed, out, err),
         Err(status) => status,
@@ -228,10 +236,11 @@ fn show_steps<A: Allocator + Copy, S: Read + Drop, W: Write, E: Write>(
     err: &mut E,
 ) -> u8
     ensures status { result ≤ 4 }
-    ensures timeline { PrintsTimeline (ReplaysShown threads steps.now (S.remaining schedule) text.now) result (W.contents out.old) (W.contents out.new) }
+    ensures timeline { PrintsTimeline (λ lines shown. RunsInSomeOrder threads text.now (behind_events shown) × ReplaysShown threads steps.now (S.remaining schedule) text.now lines shown) result (W.contents out.old) (W.contents out.new) }
     ensures refused { result ≡ 1 → IsRefused text.now }
     ensures untouched { result ≡ 1 → W.contents out.new ≡ W.contents out.old }
 {
+    reports_are_orders();
     match replay_text(alloc, text, threads, steps, schedule, detail, err) {
         Ok((compiled, replayed)) => {
             print_timeline(alloc, &compiled.code, threads, &replayed, out, err)

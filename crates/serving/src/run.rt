@@ -2,7 +2,9 @@
 
 ghost use Rattle.std.specs.Prelude.{◌≡◌, IfOk, IfErr, OnOk};
 ghost use Rattle.parse.specs.Faults.{source_of};
-ghost use Rattle.serving.specs.Runs.{IsSourceOf, Accepts, IsFaultOfText, number_of_source, span_of_source};
+ghost use Rattle.serving.specs.Checks.{Accepts, IsSourceOf};
+ghost use Rattle.serving.specs.Refusals.{IsFaultOfText, number_of_source, span_of_source};
+ghost use Rattle.serving.specs.inner.Early.{IsEarly};
 
 use lex::token::Span;
 use lex::{LexFault, lex};
@@ -72,6 +74,7 @@ impl SourceFault {
 fn read<A: Allocator + Copy>(alloc: A, text: &str) -> Result<Unit<A>, SourceFault>
     ensures ok { IfOk result (λ u. IsSourceOf text.now (source_of u)) }
     ensures err { IfErr result (λ f. IsFaultOfText text.now f) }
+    ensures early { IfErr result (λ f. IsEarly f) }
 {
     match lex(alloc, text) {
         Ok(tokens) => match parse(alloc, tokens.as_slice()) {
@@ -86,6 +89,7 @@ fn read<A: Allocator + Copy>(alloc: A, text: &str) -> Result<Unit<A>, SourceFaul
 fn read_typed<A: Allocator + Copy>(alloc: A, text: &str) -> Result<Typed<A>, SourceFault>
     ensures ok { IfOk result (λ t. IsSourceOf text.now (source_of t.unit)) }
     ensures err { IfErr result (λ f. IsFaultOfText text.now f) }
+    ensures early { IfErr result (λ f. IsEarly f) }
 {
     match check(alloc, read(alloc, text)?) {
         Ok(typed) => Ok(typed),
@@ -98,6 +102,7 @@ fn read_typed<A: Allocator + Copy>(alloc: A, text: &str) -> Result<Typed<A>, Sou
 fn read_safe<A: Allocator + Copy>(alloc: A, text: &str) -> Result<Safe<A>, SourceFault>
     ensures ok { IfOk result (λ s. IsSourceOf text.now (source_of s.typed.unit)) }
     ensures err { IfErr result (λ f. IsFaultOfText text.now f) }
+    ensures early { IfErr result (λ f. IsEarly f) }
 {
     match safe(alloc, read_typed(alloc, text)?) {
         Ok(safe) => Ok(safe),
@@ -113,6 +118,7 @@ pub(crate) fn read_accepted<A: Allocator + Copy>(
 ) -> Result<Accepted<A>, SourceFault>
     ensures ok { IfOk result (λ a. IsSourceOf text.now (source_of a.safe.typed.unit)) }
     ensures err { IfErr result (λ f. IsFaultOfText text.now f) }
+    ensures early { IfErr result (λ f. IsEarly f) }
 {
     match accept(alloc, read_safe(alloc, text)?) {
         Ok(accepted) => Ok(accepted),

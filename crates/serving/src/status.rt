@@ -3,7 +3,7 @@
 ghost use Rattle.std.specs.Prelude.{◌≡◌};
 ghost use Rattle.std.specs.List.{list_any};
 ghost use Rattle.report.specs.Views.{printed_of};
-ghost use Rattle.serving.specs.Runs.{exit_status, is_stopped, is_trapped};
+ghost use Rattle.serving.specs.Reports.{exit_status, is_stopped, is_trapped};
 
 use report::{End, Printed, ThreadShown};
 use std::alloc::Allocator;

@@ -1,7 +1,7 @@
 //! What standard error is told.
 
 ghost use Rattle.std.specs.Prelude.{◌≡◌, ◌≢◌, ◌≤◌, ◌⊎◌, OnOk, is_some, true};
-ghost use Rattle.serving.specs.Runs.{span_of_source};
+ghost use Rattle.serving.specs.Refusals.{span_of_source};
 ghost use Rattle.std.specs.Io.KnownBytes.{Appends};
 ghost use Rattle.std.specs.IoError.{error_kind};
 ghost use Rattle.serving.specs.Usage.{IsHelp, IsWrong};

@@ -3,7 +3,7 @@ use Rattle.std.specs.Prelude.{◌≡◌, ◌⊎◌, ◌++◌, ℕ, List, Option}
 use Rattle.std.specs.Io.KnownBytes.{Appends}
 use Rattle.report.specs.Printed.{Printed}
 use Rattle.report.specs.Report.{report_text}
-use Rattle.serving.specs.Runs.{exit_status}
+use Rattle.serving.specs.Reports.{exit_status}
 
 -- the status tells of a report that was written: the bytes that the writer had, if they are known, and then the report
 abbrev pub PrintsShown : Printed → ℕ → Option (List ℕ) → Option (List ℕ) → Type 0

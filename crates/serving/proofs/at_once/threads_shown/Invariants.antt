@@ -1,6 +1,6 @@
 use Rattle.std.proofs.Common.{◌≡◌, map}
 use Rattle.report.specs.Views.{thread_of}
-use Rattle.serving.specs.Shows.{threads_at_once}
+use Rattle.serving.specs.Runs.{threads_at_once}
 use Rattle.serving.proofs.at_once.threads_shown.Given as goal
 
 -- the threads so far

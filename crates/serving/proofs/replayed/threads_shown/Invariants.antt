@@ -1,7 +1,7 @@
 use Rattle.std.proofs.Common.{◌≡◌, map}
 use Rattle.world.specs.Reports.{threads_of}
 use Rattle.report.specs.Views.{thread_of}
-use Rattle.serving.specs.Shows.{thread_found}
+use Rattle.serving.specs.Replays.{thread_found}
 use Rattle.serving.proofs.replayed.threads_shown.Given as goal
 
 -- what is shown is that of the threads so far

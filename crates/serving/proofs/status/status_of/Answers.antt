@@ -2,7 +2,7 @@ use Rattle.std.proofs.Common.{◌∙◌, sym, ap}
 use Rattle.std.specs.List.{list_any}
 use Rattle.report.specs.declared.printed.ThreadShown.{ThreadShown}
 use Rattle.report.specs.Views.{printed_of}
-use Rattle.serving.specs.Runs.{is_stopped, is_trapped}
+use Rattle.serving.specs.Reports.{is_stopped, is_trapped}
 use Rattle.serving.proofs.Ends.{any_shown, some_stopped, some_trapped, all_ended}
 use Rattle.serving.proofs.status.status_of.Goals as goal
 

@@ -1,0 +1,33 @@
+-- Laws of reports: what a report says of the machine, and what it says of the source.
+use Rattle.std.specs.Prelude.{◌≡◌, ℕ, List, Option, None, false}
+use Rattle.syntax.specs.Tree.{Program}
+use Rattle.bytecode.specs.Code.{Code}
+use Rattle.world.specs.declared.stop.WorldStop.{WorldStop}
+use Rattle.replay.specs.declared.line.Line.{Line}
+use Rattle.command.specs.declared.request.Steps.{Steps}
+use Rattle.report.specs.Printed.{Printed}
+use Rattle.serving.specs.Codes.{IsCodeOf}
+use Rattle.serving.specs.Reports.{has_stopped}
+use Rattle.serving.specs.Orders.{LeavesSomeOrder, RunsInSomeOrder}
+use Rattle.serving.specs.Runs.{RunsAtOnce}
+use Rattle.serving.specs.Replays.{IsReplayOf, Replays, behind_events}
+
+-- what a run of all threads shows, where each of them has ended or trapped, they show in some order
+abbrev pub RunsAreOrders : Type 0
+RunsAreOrders =
+    (threads budget : ℕ) (text : List ℕ) (shown : Printed) → RunsAtOnce threads budget text shown →
+    has_stopped shown ≡ false → RunsInSomeOrder threads text shown
+
+-- and so it is behind the events of a replay
+abbrev pub ReplaysAreOrders : Type 0
+ReplaysAreOrders =
+    (threads : ℕ) (steps : Steps) (schedule : Option (List ℕ)) (text : List ℕ) (shown : Printed) →
+    Replays threads steps schedule text shown → has_stopped shown ≡ false →
+    RunsInSomeOrder threads text (behind_events shown)
+
+-- a replay that leaves the lock free, though threads may still run, leaves what some order leaves
+abbrev pub ReplaysLeaveOrders : Type 0
+ReplaysLeaveOrders =
+    (p : Program) (code : Code) (threads : ℕ) (found : List Line) (made : List ℕ) (stopped : Option WorldStop)
+    (shown : Printed) → IsCodeOf p code → IsReplayOf p code threads found made stopped shown →
+    shown.holder ≡ None → LeavesSomeOrder p threads shown

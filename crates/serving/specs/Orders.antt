@@ -1,0 +1,44 @@
+-- Running the threads of a source's text in an order, one whole transaction after another.
+use Rattle.std.specs.Prelude.{◌≡◌, ℕ, List, map, Some, false}
+use Rattle.std.specs.List.{slice_get}
+use Rattle.syntax.specs.Tree.{Program}
+use Rattle.syntax.specs.Names.{globals, initial_memory}
+use Rattle.syntax.specs.Orders.{in_order}
+use Rattle.syntax.specs.Threads.{thread}
+use Rattle.syntax.specs.Grammar.{Source}
+use Rattle.separation.specs.Touching.{IsAccepted}
+use Rattle.meaning.specs.InOrder.{NamesThreads}
+use Rattle.report.specs.Printed.{ThreadShown, Printed}
+use Rattle.serving.specs.Checks.{IsSourceOf}
+use Rattle.serving.specs.Reports.{is_stopped}
+use Rattle.serving.specs.Shows.{order_shown, shown_globals, thread_shown}
+
+-- what a report shows of so many threads in an order, each with so many ticks
+pub record IsOrderOf (p : Program) (count ticks : ℕ) (order : List ℕ) (shown : Printed) : Type 0 where
+  pub named : NamesThreads count order
+  pub shows : shown ≡ order_shown p (in_order (thread p) (initial_memory p) count ticks order)
+
+-- the text spells an accepted program, and this is what the report of its threads in this order shows
+pub record RunsInOrder (count ticks : ℕ) (order text : List ℕ) (shown : Printed) : Type 0 where
+  pub source : Source
+  pub spelled : IsSourceOf text source
+  pub accepted : ∥ IsAccepted source.program ∥₁
+  pub run : IsOrderOf source.program count ticks order shown
+
+-- the text spells an accepted program, and this is what the report of its threads shows in some order, each with some
+-- number of ticks
+pub record RunsInSomeOrder (count : ℕ) (text : List ℕ) (shown : Printed) : Type 0 where
+  pub ticks : ℕ
+  pub order : List ℕ
+  pub in_order : RunsInOrder count ticks order text shown
+
+-- In some order, each with some number of ticks, so many threads leave the globals shown; and each thread that is shown
+-- to have ended or trapped shows this there.
+pub record LeavesSomeOrder (p : Program) (count : ℕ) (shown : Printed) : Type 0 where
+  pub ticks : ℕ
+  pub order : List ℕ
+  pub named : NamesThreads count order
+  pub globals : shown.globals
+      ≡ shown_globals (globals p) (in_order (thread p) (initial_memory p) count ticks order).memory
+  pub each : (t : ℕ) (this : ThreadShown) → slice_get shown.threads t ≡ Some this → is_stopped this.end ≡ false →
+      slice_get (map thread_shown (in_order (thread p) (initial_memory p) count ticks order).threads) t ≡ Some this

@@ -1,0 +1,43 @@
+//! Laws of programs, their code and reports. A law has no code: its contract is what it says.
+
+ghost use Rattle.std.specs.Prelude.{◌≤◌, ◌^◌, ℕ, List};
+ghost use Rattle.syntax.specs.Names.{bounds, initial_memory};
+ghost use Rattle.syntax.specs.Threads.{thread};
+ghost use Rattle.syntax.specs.Tree.{Program};
+ghost use Rattle.separation.specs.Touching.{IsAccepted};
+ghost use Rattle.bytecode.specs.Beginning.{beginning};
+ghost use Rattle.bytecode.specs.Code.{Code as Plain, effect};
+ghost use Rattle.bytecode.specs.Valid.{IsValid};
+ghost use Rattle.machine.specs.Serializable.{IsOpaque};
+ghost use Rattle.serving.specs.Codes.{IsCodeOf};
+ghost use Rattle.serving.specs.Laws.{ReplaysAreOrders, ReplaysLeaveOrders, RunsAreOrders};
+
+use bytecode::laws::valid_code_fits_its_cells;
+use syntax::laws::{orders_show_runs, threads_go_on, threads_leave_memories};
+
+/// The theorem about the machine, of programs: for every accepted program, every valid code that means it and has its globals,
+/// every number of threads and every list of steps there is a run of the source, in which each transaction is a single step, that
+/// explains what the threads have printed, how they have ended, the words, and each attempt (`machine::laws::opaque` says how).
+/// `lower` makes such code.
+pub fn accepted_programs_are_opaque()
+    ensures { (p : Program) (code : Plain) (threads : ℕ) (steps : List ℕ) →
+        IsAccepted p → IsValid code → IsCodeOf p code → threads ≤ 2 ^ 32 →
+        IsOpaque (effect code) (beginning code) (thread p) (bounds p) (initial_memory p) threads steps }
+{
+    valid_code_fits_its_cells();
+    threads_leave_memories();
+}
+
+/// What was printed is what an order prints. Where each thread has ended or trapped, a run of all threads at once shows just what
+/// the source's threads show in some order of whole transactions, with some number of ticks, and so does a replay behind its
+/// events. Where threads of a replay still run, but none has the lock, the globals are those that some order leaves, and each
+/// thread that has ended or trapped shows what it shows there.
+pub fn reports_are_orders()
+    ensures runs { RunsAreOrders }
+    ensures replays { ReplaysAreOrders }
+    ensures left { ReplaysLeaveOrders }
+{
+    orders_show_runs();
+    threads_go_on();
+    threads_leave_memories();
+}
