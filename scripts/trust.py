@@ -1,15 +1,17 @@
 #!/usr/bin/env python3
-"""Counts the definitions that must be believed, file by file, and keeps the tables of docs/TRUST.md.
+"""Counts the definitions that must be believed, one by one, and keeps the tables of docs/TRUST.md.
 
   scripts/trust.py           fails where docs/TRUST.md is out of date
   scripts/trust.py --write   writes its tables anew
 
 A definition must be believed where a public contract speaks by it. So the clauses of each crate's public functions are read (and
-of an `impl Model` the type of its values; how private fields keep a value is the proof's), the names in them are led to the files
-of `specs/` that their `ghost use` lines name, and from there every import is followed. Counted are lines that are neither blank
-nor a comment. Fails where one of these files stands in `specs/inner/`.
+of an `impl Model` the type of its values; how private fields keep a value is the proof's), the names in them are led by their
+`ghost use` lines to the definitions of `specs/`, and from each of these every name is followed in turn: to a definition, or to the
+Rust type or constant that a path through `declared` stands for. Where a name could be two things, both are followed. Counted are
+lines that are neither blank, nor a comment, nor an import. Fails where a definition that is followed stands in `specs/inner/`.
 """
 
+import functools
 import os
 import re
 import sys
@@ -17,9 +19,25 @@ import sys
 TOP = os.path.dirname(os.path.dirname(os.path.abspath(__file__)))
 PAGE = f"{TOP}/docs/TRUST.md"
 BEGIN, END = "<!-- counted: begin -->\n", "<!-- counted: end -->\n"
-WORD = re.compile(r"[^\s(){}\[\],;.]+")
+WORD = re.compile(r"[^\s(){}\[\],;]+")
+
+# What a call of `txc` promises, and the definitions of `crates/serving/specs` that say it: `serve`'s clauses name these.
+PROMISES = (
+    ("`txc run`, by the source alone", "PrintsReport RunsInSomeOrder"),
+    ("`txc run`, all", "PrintsReport RunsInSomeOrder RunsAtOnce"),
+    ("`txc source`", "PrintsReport RunsInOrder"),
+    ("`txc replay`, by the source alone", "PrintsReport RunsInSomeOrder behind_events"),
+    ("`txc replay`, all", "PrintsReport RunsInSomeOrder behind_events Replays"),
+    ("`txc replay --timeline`", "PrintsTimeline RunsInSomeOrder behind_events ReplaysShown"),
+    ("`txc replay --print-schedule`", "PrintsSchedule lines_of_seed"),
+    ("`txc check`", "SaysAccepted"),
+    ("`txc listing`", "PrintsListing"),
+    ("a refusal (status 1)", "IsRefused"),
+    ("`serve`: all of these", "AnswersRequest IsRefused"),
+)
 
 
+@functools.lru_cache(maxsize=None)
 def read(path):
     with open(path, encoding="utf-8") as file:
         return file.read()
@@ -31,29 +49,172 @@ def crates():
     return [it.partition(":")[0].split()[0] for it in lines if ":" in it]
 
 
+def counted(lines):
+    """How many of these lines are neither blank nor a comment."""
+    return sum(1 for it in lines if it.strip() and not it.strip().startswith(("--", "//", "#[")))
+
+
+# ---- definitions
+
+
 def file_of(path):
-    """The file of specs/ that an import's path lies in, if it is one of the repository's."""
+    """The file of specs/ that a path lies in, if it is one of the repository's, and what the path names in it."""
     parts = path.split(".")
     if len(parts) < 4 or parts[0] != "Rattle" or parts[2] != "specs" or not os.path.isdir(f"{TOP}/crates/{parts[1]}"):
-        return None
+        return None, []
     for to in range(len(parts), 3, -1):
         file = f"crates/{parts[1]}/specs/{'/'.join(parts[3:to])}.antt"
         if os.path.isfile(f"{TOP}/{file}"):
-            return file
-    return None
+            return file, parts[to:]
+    return None, []
 
 
 def imports(text, keyword):
-    """What a file imports: the path of each import and the name that it has here, or None where a whole module has no other name."""
+    """What a file imports: each path with the name that it has here, and whether this is a module's."""
     found = []
     for path, names, alias in re.findall(rf"(?m)^\s*{keyword} ([\w.«»]+?)(?:\.\{{([^}}]*)\}})?(?: as (\w+))?;?\s*$", text):
         if names:
             for name in re.split(r",\s*", names.strip().rstrip(",")):
                 plain, _, other = name.partition(" as ")
-                found.append((f"{path}.{plain}", path, (other or plain).strip()))
+                found.append((f"{path}.{plain}", (other or plain).strip(), False))
         else:
-            found.append((path, path, alias or path.split(".")[-1]))
+            found.append((path, alias or path.split(".")[-1], True))
     return found
+
+
+def names_of(lines):
+    """The names that an item defines: its own, and those of the constructors and definitions in it, but no fields."""
+    own = re.compile(r"\s*(?:unfoldable )?(?:abbrev )?(?:pub )?(?:record |data )?([^\s(){}]+)(?= [:({]| where|$)")
+    head = lines[0].strip()
+    if head.startswith(("module ", "infix")):
+        return []
+    inner = re.match(r"(pub )?data |(abbrev )?mutual", head)
+    starts = [it for it in lines[1:] if inner and re.match(r" +(pub |abbrev |record |data |[^\s=]+ :( |$))", it)]
+    return [it[1] for it in (own.match(line) for line in ([] if head.endswith("mutual") else lines[:1]) + starts) if it]
+
+
+def is_start(line, depth):
+    """Whether a line begins an item at this depth."""
+    if len(line) - len(line.lstrip()) != depth or not line.strip() or line.strip().startswith("--"):
+        return False
+    return re.match(r"(abbrev|pub|unfoldable|record|data|module|mutual|use|infix\w?)\b|\S+ : ", line.strip()) is not None
+
+
+@functools.lru_cache(maxsize=None)
+def items(file):
+    """The items of a file: the lines and names of each. A module's head is one, and what stands in it are more."""
+    out, depths, in_head = [], [0], False
+    for line in read(f"{TOP}/{file}").split("\n"):
+        if not line.strip() or line.strip().startswith("--") or re.match(r"\s*(pub )?(unfoldable )?use ", line):
+            continue
+        indent = len(line) - len(line.lstrip())
+        while not in_head and indent < depths[-1]:
+            depths.pop()
+        if in_head or out and not is_start(line, depths[-1]):
+            out[-1].append(line)
+        else:
+            out.append([line])
+        is_head = in_head or re.match(r" *module ", line) and indent == depths[-1]
+        in_head = bool(is_head) and not line.rstrip().endswith("where")
+        if is_head and not in_head:
+            depths.append(2 + len(out[-1][0]) - len(out[-1][0].lstrip()))
+    return tuple((tuple(lines), tuple(names_of(lines))) for lines in out)
+
+
+def parts_of(name):
+    """What stands for a name in a text: a name with gaps is written by its parts."""
+    return [it for it in name.split("◌") if it]
+
+
+def is_named(name, words, text):
+    """Whether a text has a name."""
+    parts = parts_of(name)
+    return bool(parts) and all(it in words or (not it.isidentifier() and it in text) for it in parts)
+
+
+def words_of(text):
+    """The words of a text, each up to its first full stop: behind it stand fields."""
+    return {it.split(".")[0] for it in WORD.findall(text)}
+
+
+def item_at(file, names):
+    """The items of a file that have one of these names, through what it passes on."""
+    found = set()
+    for at, (_, own) in enumerate(items(file)):
+        if any(it in own for it in names):
+            found.add((file, at))
+    if not found:
+        for path, name, _ in imports(read(f"{TOP}/{file}"), "pub use"):
+            if name in names:
+                found |= meant(path)
+    return found
+
+
+def meant(path):
+    """What a path means: definitions, or a Rust type or constant."""
+    parts = path.split(".")
+    if len(parts) > 4 and parts[0] == "Rattle" and parts[2:4] == ["specs", "declared"]:
+        return rust_at(parts[1], parts[4:])
+    file, rest = file_of(path)
+    return item_at(file, rest[:1]) if file and rest else set()
+
+
+def led(text, keyword, here):
+    """What the words of a text lead to, by the imports of its file."""
+    lines = "\n".join(it.split("--")[0] for it in text.split("\n"))
+    words, out = words_of(lines), set()
+    for path, name, is_module in imports(here, keyword):
+        if not is_module:
+            if is_named(name, words, lines):
+                out |= meant(path)
+        else:
+            for inner in re.findall(rf"(?<![\w.]){re.escape(name)}\.([\w'«»-]+)", lines):
+                out |= meant(f"{path}.{inner}")
+    return out
+
+
+# ---- Rust types and constants
+
+
+@functools.lru_cache(maxsize=None)
+def sources(crate):
+    """The files of a crate's code."""
+    src = f"{TOP}/crates/{crate}/src"
+    return tuple(sorted(f"crates/{crate}/src/{it}" for it in os.listdir(src) if it.endswith(".rt"))) if os.path.isdir(src) else ()
+
+
+def block(file, name):
+    """The lines of a type or constant of this name in a file."""
+    found = re.search(rf"(?ms)^(?:pub(?:\(crate\))? )?(?:enum|struct) {name}\b.*?(?:^\}}|;)$|^(?:pub(?:\(crate\))? )?const {name}\b.*?;$", read(f"{TOP}/{file}"))
+    return found[0].split("\n") if found else None
+
+
+def rust_at(crate, parts):
+    """The Rust types and constants that a path behind `declared` names."""
+    names = [it for it in parts if re.match(r"[A-Z]", it) and it not in ("TheVariants", "TheConstants")]
+    for name in names[:1]:
+        files = [it for it in sources(crate) if it.endswith(f"/{parts[0]}.rt")] + list(sources(crate))
+        for file in files:
+            if block(file, name):
+                return {(file, name)}
+    return set()
+
+
+def rust_led(file, name):
+    """The types of the repository that a type's fields name."""
+    text, out = "\n".join(it.split("//")[0] for it in block(file, name)), set()
+    crate = file.split("/")[1]
+    for word in set(re.findall(r"\b[A-Z]\w+", text)) - {name}:
+        homes = [file] + [it for it in sources(crate)]
+        for other in re.findall(rf"(?m)^use (\w+)::[^;]*\b{word}\b", read(f"{TOP}/{file}")):
+            homes += sources(other)
+        found = [it for it in homes if block(it, word)]
+        if found:
+            out.add((found[0], word))
+    return out
+
+
+# ---- what public contracts lead to
 
 
 def shows_fields(text, name):
@@ -62,7 +223,7 @@ def shows_fields(text, name):
     return found is not None and re.search(r"(?m)^    pub \w+:", found[0]) is not None
 
 
-def clauses(text, is_named):
+def clauses(text, is_public):
     """The clauses of the public functions of a file, of its traits, and of its models the values."""
     out, lines, in_model, at = [], text.split("\n"), "", 0
     while at < len(lines):
@@ -79,7 +240,7 @@ def clauses(text, is_named):
         elif line == "}":
             in_model = ""
         named = re.match(r"\s*pub (?:const )?(?:unsafe )?fn (\w+)", line)
-        if named and (line.startswith(" ") or is_named(named[1])) or of_trait:
+        if named and (line.startswith(" ") or is_public(named[1])) or of_trait:
             at += 1
             while at < len(lines) and lines[at].strip() not in ("{", "{}", "") and not (lines[at].endswith("{") and not re.match(r"\s*(requires|ensures)", lines[at])):
                 out.append(lines[at])
@@ -91,7 +252,7 @@ def clauses(text, is_named):
 def public_modules(crate):
     """The files of a crate's public functions, each with a test of which of its free functions are public."""
     src = f"{TOP}/crates/{crate}/src"
-    files = sorted(it for it in os.listdir(src) if it.endswith(".rt")) if os.path.isdir(src) else []
+    files = [it.split("/")[-1] for it in sources(crate)]
     root = "main.rt" if "main.rt" in files else "lib.rt"
     top = read(f"{src}/{root}") if root in files else ""
     named = {}
@@ -109,39 +270,48 @@ def public_modules(crate):
 
 
 def cited(crate):
-    """The files of specs/ that the crate's public clauses name."""
-    files = set()
-    for text, is_named in public_modules(crate):
-        said = clauses(text, is_named)
-        words = set(WORD.findall(said)) | set(re.findall(r"\w+", said))
-        for path, module, name in imports(text, "ghost use"):
-            parts = [it for it in name.split("◌") if it]
-            file = file_of(path) or file_of(module)
-            if file and parts and all(it in words or it in said and not it.isidentifier() for it in parts):
-                files.add(file)
-    return files
+    """What the crate's public clauses name."""
+    out = set()
+    for text, is_public in public_modules(crate):
+        out |= led(clauses(text, is_public), "ghost use", text)
+    return out
 
 
-def reached(files):
-    """The files, and those that they import, over and over."""
-    todo, seen = sorted(files), set(files)
+def is_rust(it):
+    return isinstance(it[1], str)
+
+
+@functools.lru_cache(maxsize=None)
+def next_of(it):
+    """What one definition or type leads to."""
+    file, at = it
+    if is_rust(it):
+        return frozenset(rust_led(file, at))
+    lines, own = items(file)[at]
+    text = "\n".join(line.split("--")[0] for line in lines)
+    words = words_of(text)
+    here = {(file, n) for n, (_, names) in enumerate(items(file)) if n != at and any(is_named(name, words, text) for name in names)}
+    heads = {(file, n) for n in range(at) if items(file)[n][0][0].lstrip().startswith("module ") and lines[0].startswith(" ")}
+    return frozenset(here | ({max(heads)} if heads else set()) | led(text, r"(?:pub )?(?:unfoldable )?use", read(f"{TOP}/{file}")))
+
+
+def reached(begin):
+    """These, and all that they lead to."""
+    todo, seen = list(begin), set(begin)
     while todo:
-        text = read(f"{TOP}/{todo.pop()}")
-        for path, module, _ in imports(text, r"(?:pub )?(?:unfoldable )?use"):
-            file = file_of(path) or file_of(module)
-            if file and file not in seen:
-                seen.add(file)
-                todo.append(file)
+        for it in next_of(todo.pop()) - seen:
+            seen.add(it)
+            todo.append(it)
     return seen
 
 
-def lines_of(file):
-    """The lines of a file that are neither blank nor a comment."""
-    return [it for it in read(f"{TOP}/{file}").split("\n") if it.strip() and not it.strip().startswith("--")]
+def lines_in(believed):
+    """How many lines these have: of definitions, and of Rust types and constants."""
+    definitions = sum(counted(items(file)[at][0]) for file, at in believed if not is_rust((file, at)))
+    return definitions, sum(counted(block(file, name)) for file, name in believed if is_rust((file, name)))
 
 
-def count(file):
-    return len(lines_of(file))
+# ---- the tables
 
 
 def says(file):
@@ -155,45 +325,87 @@ def says(file):
     return text.replace("|", "\\|") or "no word on it yet"
 
 
-def tables():
-    """The tables, and what is to be said about the rooms."""
-    by_crate = {crate: cited(crate) for crate in crates()}
-    believed = reached(set().union(*by_crate.values()))
-    home = lambda file: file.split("/")[1]
-    out, whole = [], 0
+def promised(names):
+    """The definitions of `serving` that say a promise: names that the clauses of `serve` have, or its answers."""
+    specs = f"{TOP}/crates/serving/specs"
+    said = words_of(read(f"{specs}/Answers.antt") + read(f"{TOP}/crates/serving/src/request.rt"))
+    out = set()
+    for name in names.split():
+        if name not in said:
+            sys.exit(f"serve does not speak of {name}")
+        found = set().union(*(item_at(f"crates/serving/specs/{it}", [name]) for it in sorted(os.listdir(specs)) if it.endswith(".antt")))
+        if not found:
+            sys.exit(f"no definition of serving has the name {name}")
+        out |= found
+    return out
+
+
+def home(it):
+    return it[0].split("/")[1]
+
+
+def row(first, begin):
+    """A row of a table: the lines that these lead to."""
+    believed = reached(begin)
+    definitions, rust = lines_in(believed)
+    return f"| {first} | {definitions:,} | {rust:,} | {len({file for file, _ in believed})} |"
+
+
+def promise_table():
+    out = ["| Promise | Begins at | Lines of definitions | Lines of Rust types and limits | Files |", "|---|---|---|---|---|"]
+    for title, names in PROMISES:
+        out.append(row(f"{title} | {', '.join(f'`{it}`' for it in names.split())}", promised(names)))
+    return out + [""]
+
+
+def crate_table(by_crate):
+    out = ["| Crate | Lines of definitions that its public contracts stand on | Lines of Rust types and limits | Files |", "|---|---|---|---|"]
+    return out + [row(f"`{crate}`", begin) for crate, begin in by_crate.items() if begin] + [""]
+
+
+def file_tables(by_crate, believed):
+    out = []
     for crate in by_crate:
-        here = sorted(it for it in believed if home(it) == crate)
+        here = {it for it in believed if home(it) == crate}
         if here:
-            lines = sum(count(it) for it in here)
-            whole += lines
-            out += [f"### `{crate}`: {lines:,} lines", "", "| File of `specs/` | Lines | Says |", "|---|---|---|"]
-            out += [f"| `{it.split('/specs/')[1]}` | {count(it)} | {says(it)} |" for it in here]
+            definitions, rust = lines_in(here)
+            out += [f"### `{crate}`: {definitions:,} lines, and {rust:,} of Rust types and limits", "", "| File | Lines | Says |", "|---|---|---|"]
+            for file in sorted({file for file, _ in here}):
+                lines = sum(lines_in({it for it in here if it[0] == file}))
+                short = file.split("/", 2)[2]
+                names = ", ".join(f"`{it[1]}`" for it in sorted(here, key=str) if it[0] == file and is_rust(it))
+                out.append(f"| `{short}` | {lines} | {says(file) if file.endswith('.antt') else names} |")
             out.append("")
-    head = [f"**{whole:,} lines in {len(believed)} files** must be believed for all public contracts together. What each crate's own stand on:", ""]
-    head += ["| Crate | Lines that its public contracts stand on | Files |", "|---|---|---|"]
-    for crate, files in by_crate.items():
-        if files:
-            below = reached(files)
-            head.append(f"| `{crate}` | {sum(count(it) for it in below):,} | {len(below)} |")
-    head.append("")
+    return out
+
+
+def rest_of(by_crate, believed):
+    """The definitions of `specs/` that no public contract leads to, by their files; and those of `specs/inner/` that one does."""
     rest, hidden = [], []
     for crate in by_crate:
         for at, _, names in sorted(os.walk(f"{TOP}/crates/{crate}/specs")):
-            for name in sorted(names):
-                file = os.path.relpath(f"{at}/{name}", TOP)
-                if all(it.startswith("pub mod ") for it in lines_of(file)):
-                    continue
-                if "/specs/inner/" in file:
-                    hidden += [file] if file in believed else []
-                elif file not in believed:
-                    rest.append(file)
-    tail = []
-    if rest:
-        tail.append(f"In `specs/` and behind no public contract, {sum(count(it) for it in rest):,} lines: " + ", ".join(f"`{it[len('crates/'):]}`" for it in rest) + ".")
-        tail.append("")
+            for file in (os.path.relpath(f"{at}/{it}", TOP) for it in sorted(names) if it.endswith(".antt")):
+                own = {(file, n) for n, (lines, _) in enumerate(items(file)) if counted(lines) and not all(re.match(r"\s*(--|pub mod |infix)", it) for it in lines)}
+                if "/specs/inner" in file:
+                    hidden += [f"{file}: {', '.join(items(file)[n][1])}" for _, n in sorted(own & believed)]
+                elif own - believed:
+                    rest.append((file, lines_in(own - believed)[0]))
+    return rest, hidden
+
+
+def tables():
+    by_crate = {crate: cited(crate) for crate in crates()}
+    believed = reached(set().union(*by_crate.values()))
+    definitions, rust = lines_in(believed)
+    rest, hidden = rest_of(by_crate, believed)
     if hidden:
-        sys.exit("behind a public contract, and yet in specs/inner/: " + ", ".join(hidden))
-    return "\n".join(head + out + tail)
+        sys.exit("behind a public contract, and yet in specs/inner/: " + "; ".join(hidden))
+    out = promise_table()
+    out += [f"**{definitions:,} lines of definitions and {rust:,} of Rust types and limits** must be believed for all public contracts together. What each crate's own stand on:", ""]
+    out += crate_table(by_crate) + file_tables(by_crate, believed)
+    if rest:
+        out += [f"In `specs/` and behind no public contract, {sum(it for _, it in rest):,} lines: " + ", ".join(f"`{file[len('crates/'):]}` ({lines})" for file, lines in rest) + ".", ""]
+    return "\n".join(out)
 
 
 def main():
