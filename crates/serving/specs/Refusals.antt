@@ -18,7 +18,7 @@ use Rattle.separation.specs.declared.fault.Violation.{Violation as SeparationVio
 use Rattle.separation.specs.Touching.{IsAccepted, IsSeparationFault}
 use Rattle.separation.specs.Answers as separation
 use Rattle.parse.specs.Faults.{IsFaultOf as IsParseFault}
-use Rattle.meaning.specs.InOrder.{IsFaultOfOrder}
+use Rattle.meaning.specs.InOrder.{IsFaultOfOrder, number_in as order_number}
 use Rattle.serving.specs.declared.run.SourceFault.{SourceFault}
 use Rattle.serving.specs.declared.run.SourceFault.TheVariants.{OutOfMemory, Lex, Parse, IllTyped, Unsafe, NotSeparate, NoCode}
 use Rattle.lower.specs.Faults as lower
@@ -97,6 +97,10 @@ number_of_source (IllTyped fault) = number_in fault
 number_of_source (Unsafe fault) = safety.number_in fault
 number_of_source (NotSeparate fault) = separation.number_in fault
 number_of_source (NoCode fault) = lower.number_of fault
+
+abbrev pub number_of_order : OrderFault → ℕ
+number_of_order (OfSource fault) = number_of_source fault
+number_of_order (OfOrder fault) = order_number fault
 
 abbrev pub span_of_source : SourceFault → Option Span
 span_of_source OutOfMemory = None

@@ -5,7 +5,7 @@ ghost use Rattle.syntax.specs.Views.{program_of};
 ghost use Rattle.report.specs.Views.{printed_of};
 ghost use Rattle.meaning.specs.InOrder.{IsFaultOfOrder};
 ghost use Rattle.serving.specs.Orders.{IsOrderOf, RunsInOrder};
-ghost use Rattle.serving.specs.Refusals.{IsFaultInOrder};
+ghost use Rattle.serving.specs.Refusals.{IsFaultInOrder, number_of_order};
 
 use crate::run::{SourceFault, read_accepted};
 use crate::shown::shown_in_order;
@@ -25,6 +25,18 @@ pub enum OrderFault {
     /// The order is.
     #[error("{0}")]
     Order(MeaningFault),
+}
+
+impl OrderFault {
+    /// The fault's number: that of the source's or of the order's.
+    pub fn number(&self) -> u32
+        ensures { result ≡ number_of_order self.now }
+    {
+        match self {
+            OrderFault::Source(fault) => fault.number(),
+            OrderFault::Order(fault) => fault.number(),
+        }
+    }
 }
 
 /// Runs threads of a source's text in an order, and gives what their report shows. The order is looked at last.

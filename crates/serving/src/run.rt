@@ -34,7 +34,7 @@ pub enum SourceFault {
     Unsafe(safety::Violation),
     #[error("{0}")]
     NotSeparate(separation::Violation),
-    #[error("no code")]
+    #[error("{0}")]
     NoCode(LowerFault),
 }
 

@@ -145,13 +145,13 @@ pub(crate) fn too_long<E: Write>(err: &mut E) -> u8
 pub fn refuse_run<E: Write>(fault: RunFault, err: &mut E) -> u8
     ensures { result ≡ 4 }
 {
-    let number = match fault {
-        RunFault::OutOfMemory => return out_of_memory(err),
-        RunFault::Threads => 72,
-        RunFault::NotStarted => 73,
-    };
-    let _ = writeln!(err, "txc: fault {number}");
-    STOPPED
+    match fault {
+        RunFault::OutOfMemory => out_of_memory(err),
+        RunFault::Threads | RunFault::NotStarted => {
+            let _ = writeln!(err, "txc: fault {}", fault.number());
+            STOPPED
+        }
+    }
 }
 
 /// Says why nothing was replayed.
@@ -161,7 +161,7 @@ pub(crate) fn refuse_replay<E: Write>(fault: WorldFault, err: &mut E) -> u8
     match fault {
         WorldFault::OutOfMemory => out_of_memory(err),
         WorldFault::WrongThreads => {
-            let _ = writeln!(err, "txc: fault 72");
+            let _ = writeln!(err, "txc: fault {}", fault.number());
             STOPPED
         }
     }
@@ -172,7 +172,7 @@ pub(crate) fn refuse_step<E: Write>(stop: WorldStop, err: &mut E) -> u8
     ensures { result ≡ 4 }
 {
     if stop.reason == StopReason::Stranger {
-        let _ = writeln!(err, "txc: fault 71 at step {}", stop.step);
+        let _ = writeln!(err, "txc: fault {} at step {}", stop.number(), stop.step);
     }
     STOPPED
 }
@@ -190,13 +190,13 @@ pub(crate) fn refuse_schedule<A: Allocator + Copy, E: Write>(
     match fault {
         ScheduleFault::OutOfMemory => return out_of_memory(err),
         ScheduleFault::BadLine(line) => {
-            let _ = writeln!(err, "txc: fault 80 at line {line}");
+            let _ = writeln!(err, "txc: fault {} at line {line}", fault.number());
             if detail.lines {
                 show_line(alloc, text, span_of_line(text.as_bytes(), line), err);
             }
         }
         ScheduleFault::TooLong => {
-            let _ = writeln!(err, "txc: fault 81");
+            let _ = writeln!(err, "txc: fault {}", fault.number());
         }
     }
     UNUSABLE

@@ -83,3 +83,8 @@ module _ {A : Type 0} where
   IsReason OutOfMemory threads ws = Unit {0}
   IsReason Missing threads ws = (n : ℕ) × (n < threads) × NoWorker ws n
   IsReason (LockHeld n) threads ws = Holds ws n × AllHere ws threads
+
+abbrev pub reason_number : CloseReason → ℕ
+reason_number OutOfMemory = 0
+reason_number Missing = 91
+reason_number (LockHeld n) = 90

@@ -1,5 +1,5 @@
 -- Workers after their loops, and what a run of all threads reports.
-use Rattle.std.specs.Prelude.{◌≡◌, ◌⊎◌, ◌<◌, ℕ, List, [], ◌∷◌, Option, None, Some}
+use Rattle.std.specs.Prelude.{◌≡◌, ◌⊎◌, ◌<◌, ◌≤◌, ℕ, List, [], ◌∷◌, Option, None, Some}
 use Rattle.std.specs.declared.thread.PromisedHandle.{PromisedHandle}
 use Rattle.atomic_table.specs.Seated.{TableId}
 use Rattle.syntax.specs.Behaviours.{Behaviour}
@@ -31,16 +31,27 @@ abbrev pub IsNumbered : {X : Type 0} → (X → ℕ) → List X → ℕ → Type
 IsNumbered number [] n = ⊥
 IsNumbered number (x ∷ xs) n = (number x ≡ n) ⊎ IsNumbered number xs n
 
--- a thread that no stop ended is over, or has made all its steps
+-- a thread that no stop ended is over, or has made all its steps; one that a stop ended runs still, has made fewer, and
+-- its next step was not made for this reason
 abbrev pub EndsBy : Option Stop → Access → Status → ℕ → ℕ → Type 0
 EndsBy None x st all steps = st ≡ Running → steps ≡ all
-EndsBy (Some e) x st all steps = Because e x
+EndsBy (Some e) x st all steps = (st ≡ Running) × (steps < all) × Because e x
 
--- the number of threads is refused exactly where it is not 1 to 64
+-- so many threads can be run
+abbrev pub IsThreadCount : ℕ → Type 0
+IsThreadCount threads = (0 < threads) × (threads ≤ 64)
+
+-- why nothing is reported: the number of threads is refused exactly where it is not 1 to 64, and no thread is started
+-- where it is refused
 abbrev pub IsRunRefused : RunFault → ℕ → Type 0
 IsRunRefused OutOfMemory threads = Unit {0}
 IsRunRefused Threads threads = (threads ≡ 0) ⊎ (64 < threads)
-IsRunRefused NotStarted threads = Unit {0}
+IsRunRefused NotStarted threads = IsThreadCount threads
+
+abbrev pub run_number : RunFault → ℕ
+run_number OutOfMemory = 0
+run_number Threads = 72
+run_number NotStarted = 73
 
 -- the words, where no thread has the lock; else the thread that has it
 abbrev pub TellsMemory : RunMemory → List ℕ → Option ℕ → Type 0

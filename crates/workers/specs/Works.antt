@@ -2,6 +2,7 @@
 use Rattle.std.specs.Prelude.{◌≡◌, ℕ, ◌≤◌, List, [], ◌∷◌, ◌++◌, length, drop, true, None, Some}
 use Rattle.syntax.specs.Behaviours.{Behaviour, IsRun, Stands}
 use Rattle.bytecode.specs.Beginning.{beginning}
+use Rattle.syntax.specs.declared.numbers.Status.TheVariants.{Running}
 use Rattle.bytecode.specs.Code.{Code, Configuration, effect}
 use Rattle.bytecode.specs.Initial.{initial_of}
 use Rattle.bytecode.specs.Valid.{IsValid}
@@ -13,7 +14,7 @@ use Rattle.norec_core.specs.Attempts.{Attempt}
 use Rattle.machine.specs.Answered.{Heard, LocksFrom, Replays, paused}
 use Rattle.machine.specs.Computes.{HasComputed}
 use Rattle.machine.specs.Merges.{Entry, own, run_of}
-use Rattle.machine.specs.Threads.{Thread}
+use Rattle.machine.specs.Threads.{Thread, access}
 use Rattle.machine.specs.Worlds.{Part, Record}
 use Rattle.machine.specs.Standing.{IsThreadOf}
 use Rattle.machine.specs.States.{first_thread}
@@ -76,6 +77,10 @@ pub record StandsInARun (does : Behaviour) (key : Setup) (number : ℕ) (earlier
 abbrev pub Because : Stop → Access → Type 0
 Because OutOfMemory x = Unit {0}
 Because SequenceUsedUp x = stops x ≡ true
+
+-- the thread runs still, and its next step was not made for this reason
+abbrev pub StopsAt : Code → Thread Configuration → Stop → Type 0
+StopsAt code th e = (th.status ≡ Running) × Because e (access (effect code) th)
 
 -- the part with a new floor, which is at least the old one, and at least all that it settles
 pub record MeetsAt (n : ℕ) (p : ViewPart) (now : Part Configuration) (q : ViewPart) (later : Part Configuration)

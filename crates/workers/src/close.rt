@@ -4,7 +4,7 @@ ghost use Rattle.std.specs.Prelude.{◌≡◌, ◌<◌, ◌≤◌, ℕ, [], IfOk
 ghost use Rattle.std.specs.Vec.{vec_capacity};
 ghost use Rattle.bytecode.specs.Valid.{cells_of};
 ghost use Rattle.workers.specs.Workers.{AreWorkersOf};
-ghost use Rattle.workers.specs.Closing.{HasWorker, NoWorker, AllHere, NoneHolds, Holds, Closes, parts_back, finished_back};
+ghost use Rattle.workers.specs.Closing.{reason_number, HasWorker, NoWorker, AllHere, NoneHolds, Holds, Closes, parts_back, finished_back};
 
 use crate::hall::Hall;
 use crate::worker::Worker;
@@ -13,6 +13,7 @@ use machine::Thread;
 use seats::{View, Words, join};
 use std::alloc::{Allocator, Global};
 use syntax::numbers::Status;
+use thiserror::Error;
 
 fn has<A: Allocator>(workers: &Vec<Worker<A>, A>, number: u32) -> bool
     ensures { MatchBool result (HasWorker workers.now.items number) (NoWorker workers.now.items number) }
@@ -101,14 +102,30 @@ pub struct Outcome<A: Allocator = Global> {
 }
 
 /// Why a hall was not closed.
-#[derive(Clone, Copy, PartialEq, Eq)]
+#[derive(Clone, Copy, PartialEq, Eq, Debug, Error)]
 pub enum CloseReason {
     /// A growth was refused.
+    #[error("out of memory")]
     OutOfMemory,
     /// A thread of the hall has no worker here.
+    #[error("worker missing")]
     Missing,
     /// This thread has the lock.
+    #[error("lock held")]
     LockHeld(u32),
+}
+
+impl CloseReason {
+    /// The fault's number: 0, 90 or 91.
+    pub fn number(self) -> u32
+        ensures { result ≡ reason_number self }
+    {
+        match self {
+            CloseReason::OutOfMemory => 0,
+            CloseReason::Missing => 91,
+            CloseReason::LockHeld(_) => 90,
+        }
+    }
 }
 
 /// Why a hall was not closed, with the hall and the workers as they were.
@@ -117,6 +134,15 @@ pub struct CloseFault<A: Allocator = Global> {
     pub reason: CloseReason,
     pub hall: Hall<A>,
     pub workers: Vec<Worker<A>, A>,
+}
+
+impl<A: Allocator> CloseFault<A> {
+    /// The fault's number: that of its reason.
+    pub fn number(&self) -> u32
+        ensures { result ≡ reason_number self.now.reason }
+    {
+        self.reason.number()
+    }
 }
 
 // Takes in the seats, and gives the words.

@@ -6,7 +6,7 @@ ghost use Rattle.machine.specs.Standing.{IsThreadOf};
 ghost use Rattle.machine.specs.States.{first_thread};
 ghost use Rattle.seats.specs.Views.{first_part, first_view};
 ghost use Rattle.workers.specs.Workers.{AreWorkersFrom};
-ghost use Rattle.workers.specs.Opening.{IsRefused};
+ghost use Rattle.workers.specs.Opening.{IsRefused, hall_number};
 
 use crate::hall::Hall;
 use crate::worker::Worker;
@@ -15,17 +15,32 @@ use bytecode::Code;
 use machine::Thread;
 use seats::{Setup, View, Words, split_first};
 use std::alloc::{AllocError, Allocator};
+use thiserror::Error;
 
 /// The most threads of a hall.
 const MOST_THREADS: u32 = 64;
 
 /// Why a hall was not opened.
-#[derive(Clone, Copy, PartialEq, Eq)]
+#[derive(Clone, Copy, PartialEq, Eq, Debug, Error)]
 pub enum HallFault {
     /// A growth was refused.
+    #[error("out of memory")]
     OutOfMemory,
     /// There are to be 1 to 64 threads.
+    #[error("wrong number of threads")]
     Threads,
+}
+
+impl HallFault {
+    /// The fault's number: 0 or 72.
+    pub fn number(self) -> u32
+        ensures { result ≡ hall_number self }
+    {
+        match self {
+            HallFault::OutOfMemory => 0,
+            HallFault::Threads => 72,
+        }
+    }
 }
 
 fn worker<A: Allocator + Copy>(

@@ -5,7 +5,7 @@ ghost use Rattle.syntax.specs.Behaviours.{Behaviour, Means};
 ghost use Rattle.bytecode.specs.Valid.{bounds_of};
 ghost use Rattle.seats.specs.Saying.{code_does};
 ghost use Rattle.workers.specs.Workers.{IsWorkerOf, AreWorkersOf, StepsOn};
-ghost use Rattle.workers.specs.Driving.{AreDrivenOf, AreFresh, AreEnded, AllPromise, EndsAt, IsNumbered, IsRunRefused, Ran, TellsMemory, worker_number, driven_number, handle_number};
+ghost use Rattle.workers.specs.Driving.{AreDrivenOf, AreFresh, AreEnded, AllPromise, EndsAt, IsNumbered, IsRunRefused, IsThreadCount, Ran, TellsMemory, run_number, worker_number, driven_number, handle_number};
 
 use crate::close::{Finished, Outcome, gather, holder};
 use crate::hall::Hall;
@@ -18,6 +18,7 @@ use std::sync::Wait;
 use std::thread;
 use std::thread::{Promise, PromisedHandle, Scope, Threads};
 use syntax::numbers::Status;
+use thiserror::Error;
 
 /// Holds threads of a run back, so that a test can choose an order of their steps.
 pub trait Gate {
@@ -236,14 +237,30 @@ fn join_driven<'s, R: Threads>(
 }
 
 /// Why nothing was reported of a run.
-#[derive(Clone, Copy, PartialEq, Eq)]
+#[derive(Clone, Copy, PartialEq, Eq, Debug, Error)]
 pub enum RunFault {
     /// A growth was refused, but for those of steps, whose threads stop.
+    #[error("out of memory")]
     OutOfMemory,
     /// There are to be 1 to 64 threads.
+    #[error("wrong number of threads")]
     Threads,
     /// A thread of the program could not be started, for whatever cause.
+    #[error("thread not started")]
     NotStarted,
+}
+
+impl RunFault {
+    /// The fault's number: 0, 72 or 73.
+    pub fn number(self) -> u32
+        ensures { result ≡ run_number self }
+    {
+        match self {
+            RunFault::OutOfMemory => 0,
+            RunFault::Threads => 72,
+            RunFault::NotStarted => 73,
+        }
+    }
 }
 
 // Why the workers were not driven.
@@ -400,8 +417,8 @@ fn run_workers<R: Threads + Wait + Sync, G: Gate + Sync>(
 /// Runs each thread of the code in a thread of the program's own, with so many steps each, and waits until all of them are over,
 /// have made their steps or were stopped. Nothing else here waits. The report is one run of every program that the code means.
 ///
-/// A fault is `Threads` only where the number is not 1 to 64; `NotStarted` where a thread could not be started, in which case
-/// those that were are waited for; `OutOfMemory` where a growth was refused.
+/// A fault is `Threads` exactly where the number is not 1 to 64. Where it is one of these, `NotStarted` says that a thread could
+/// not be started, in which case those that were are waited for, and `OutOfMemory` that a growth was refused.
 pub fn run_all<R: Threads + Wait + Sync, G: Gate + Sync>(
     rt: &R,
     alloc: Global,
@@ -411,6 +428,7 @@ pub fn run_all<R: Threads + Wait + Sync, G: Gate + Sync>(
     gate: &G,
 ) -> Result<RunReport, RunFault>
     ensures report { IfOk result (λ r. (does : Behaviour) → Means (bounds_of code.now) (code_does code.now) does → Ran does (record { code = code.now; threads = threads }) budget r) }
+    ensures few { OnOk result (IsThreadCount threads) }
     ensures fault { IfErr result (λ e. IsRunRefused e threads) }
 {
     let (hall, workers) = match Hall::open(alloc, code, threads) {

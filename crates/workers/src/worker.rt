@@ -8,7 +8,7 @@ ghost use Rattle.machine.specs.Threads.{access as access_of};
 ghost use Rattle.machine.specs.Standing.{IsThreadOf};
 ghost use Rattle.machine.specs.States.{ComparesEntry, ComparesNext, StandsAt, StandsStill, StoresNext, WaitsNext};
 ghost use Rattle.seats.specs.Setup.{Setup};
-ghost use Rattle.workers.specs.Works.{Because};
+ghost use Rattle.workers.specs.Works.{StopsAt};
 
 use crate::hall::Hall;
 use crate::loads::SeatLoads;
@@ -94,7 +94,7 @@ impl<A: Allocator + Copy> Worker<A> {
         requires stands { StandsAt code.now self.old.thread doing }
         ensures ok { OnOk result (StepsBy words.now.table_id words.now.key 1 self.old self.new) }
         ensures err { OnErr result (StepsBy words.now.table_id words.now.key 0 self.old self.new) }
-        ensures stop { IfErr result (λ e. Because e (access_of (effect code.now) self.new.thread.thread)) }
+        ensures stop { IfErr result (λ e. StopsAt code.now self.new.thread.thread e) }
     {
         let access = match self.thread.prepare_at(code, doing) {
             Ok(access) => access,
@@ -113,7 +113,7 @@ impl<A: Allocator + Copy> Worker<A> {
         requires worker { CanStep words.now.table_id words.now.key 1 self.old }
         ensures ok { OnOk result (StepsBy words.now.table_id words.now.key 1 self.old self.new) }
         ensures err { OnErr result (StepsBy words.now.table_id words.now.key 0 self.old self.new) }
-        ensures stop { IfErr result (λ e. Because e (access_of (effect code.now) self.new.thread.thread)) }
+        ensures stop { IfErr result (λ e. StopsAt code.now self.new.thread.thread e) }
     {
         let doing = self.thread.doing(code);
         self.step_at(words, code, doing)
@@ -128,7 +128,7 @@ impl<A: Allocator + Copy> Worker<A> {
         ensures goes_on { (self.new.number ≡ self.old.number) × StepsOn words.now.table_id words.now.key self.old self.new }
         ensures ok { OnOk result (self.new.steps ≡ self.old.steps + 1) }
         ensures err { OnErr result (self.new.steps ≡ self.old.steps) }
-        ensures stop { IfErr result (λ e. Because e (access_of (effect code.now) self.new.thread.thread)) }
+        ensures stop { IfErr result (λ e. StopsAt code.now self.new.thread.thread e) }
     {
         match self.step_on(words, code) {
             Ok(()) => {
@@ -403,7 +403,7 @@ impl<A: Allocator + Copy> Worker<A> {
         requires stands { StandsAt code.now self.old.thread doing }
         ensures ok { IfOk result (λ made. (0 < made) × (made ≤ most) × StepsBy words.now.table_id words.now.key made self.old self.new) }
         ensures err { OnErr result (StepsBy words.now.table_id words.now.key 0 self.old self.new) }
-        ensures stop { IfErr result (λ e. Because e (access_of (effect code.now) self.new.thread.thread)) }
+        ensures stop { IfErr result (λ e. StopsAt code.now self.new.thread.thread e) }
     {
         let made = self.complete(words, code, doing, most);
         if made > 0 {
@@ -440,7 +440,7 @@ impl<A: Allocator + Copy> Worker<A> {
         ensures goes_on { StepsBy hall.now.table.shared.table_id hall.now.setup result.0 self.old self.new }
         ensures few { result.0 ≤ budget }
         ensures status { IfOk result.1 (λ s. Reports s self.new.thread.thread.status budget result.0) }
-        ensures stop { IfErr result.1 (λ e. Because e (access_of (effect hall.now.setup.code) self.new.thread.thread)) }
+        ensures stop { IfErr result.1 (λ e. StopsAt hall.now.setup.code self.new.thread.thread e × (result.0 < budget)) }
     {
         let mut left = budget;
         'turns: while left > 0 {
@@ -468,7 +468,8 @@ impl<A: Allocator + Copy> Worker<A> {
     /// cell is one atomic step on the hall's table. It waits for no other thread.
     ///
     /// A stop, `OutOfMemory` where the memory that a step wants was refused and `SequenceUsedUp` where the lock has no value
-    /// left, leaves all earlier steps, and the same call may go on from there.
+    /// left, comes only where the thread runs still and has made fewer steps than the budget. It leaves all earlier steps, and
+    /// the same call may go on from there.
     ///
     /// After it there is a run of every program that the code means in which the thread stands as it is then, local steps
     /// since its last access and commits without a write among them, and in which its earlier transactions come first among
@@ -481,7 +482,7 @@ impl<A: Allocator + Copy> Worker<A> {
         ensures runs { StandsOn hall.now.table.shared.table_id hall.now.setup self.old self.new }
         ensures steps { (self.old.steps ≤ self.new.steps) × (self.new.steps ≤ self.old.steps + budget) }
         ensures status { IfOk result (λ s. Reports s self.new.thread.thread.status (self.old.steps + budget) self.new.steps) }
-        ensures stop { IfErr result (λ e. Because e (access_of (effect hall.now.setup.code) self.new.thread.thread)) }
+        ensures stop { IfErr result (λ e. StopsAt hall.now.setup.code self.new.thread.thread e × (self.new.steps < self.old.steps + budget)) }
     {
         let (made, ended) = self.run_on(hall, budget);
         self.steps += made;
