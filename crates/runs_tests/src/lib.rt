@@ -5,6 +5,8 @@
 #[cfg(test)]
 mod asserted;
 #[cfg(test)]
+mod levels;
+#[cfg(test)]
 mod of_workers;
 #[cfg(test)]
 mod replays;

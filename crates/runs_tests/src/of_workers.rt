@@ -4,6 +4,7 @@ mod closing;
 mod gates;
 mod growths;
 mod hall;
+mod levels;
 mod programs;
 mod reports;
 mod sums;

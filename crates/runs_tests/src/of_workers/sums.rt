@@ -9,8 +9,9 @@ use std::thread::Threads;
 use syntax::numbers::{Status, Trap};
 use workers::{Gate, RunFault};
 
+/// A gate that never holds.
 #[derive(Drop)]
-struct Never;
+pub struct Never;
 
 impl Gate for Never {
     const HOLDS: bool = false;
