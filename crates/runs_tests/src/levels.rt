@@ -11,9 +11,9 @@ use std::alloc::{AllocError, Allocator, Global};
 use world::{End, World};
 use written_codes::{Levels, NUMBERS, cancels_levels, code_of, over_x};
 
-// Whether the report of one thread that makes all its steps is as wanted.
+// Whether the report of one thread that makes a hundred steps is as wanted.
 fn replays(alloc: Global, code: &Code, wanted: &Wanted) -> bool {
-    match read_schedule(alloc, "0 a99") {
+    match read_schedule(alloc, "0 100") {
         Ok(lines) => match replay(alloc, code, 1, lines.as_slice()) {
             Ok(report) => is_as(&report, wanted),
             Err(_) => false,
