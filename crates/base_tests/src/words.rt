@@ -171,7 +171,11 @@ fn refuses_orders(rt: HostRuntime) {
 
 /// Replays, and where their steps come from.
 fn replays() -> &'static [Row] {
-    static ROWS: [Row; 3] = [
+    static ROWS: [Row; 4] = [
+        (
+            "txc|replay|--picture|--schedule=s|a.c",
+            br#"Ok(Program { file: "a.c", verbose: false, task: Picture { threads: 1, steps: Schedule { file: "s" } } })"#,
+        ),
         (
             "txc|replay|a.c|--schedule|s.txt",
             br#"Ok(Program { file: "a.c", verbose: false, task: Replay { threads: 1, steps: Schedule { file: "s.txt" } } })"#,
@@ -224,14 +228,22 @@ fn reads_seeds(rt: HostRuntime) {
 
 /// Replays that the program itself refuses.
 fn refused_replays() -> &'static [Row] {
-    static ROWS: [Row; 9] = [
+    static ROWS: [Row; 11] = [
+        (
+            "txc|replay|a.c|--picture|--seed=1|--timeline",
+            br#"Err(Wrong { text: "txc: usage: one of --picture, --print-schedule and --timeline\n" })"#,
+        ),
+        (
+            "txc|replay|a.c|--picture|--seed=1|--print-schedule",
+            br#"Err(Wrong { text: "txc: usage: one of --picture, --print-schedule and --timeline\n" })"#,
+        ),
         (
             "txc|replay|a.c|--timeline",
             br#"Err(Wrong { text: "txc: usage: one of --schedule and --seed\n" })"#,
         ),
         (
             "txc|replay|a.c|--timeline|--seed=1|--print-schedule",
-            br#"Err(Wrong { text: "txc: usage: one of --print-schedule and --timeline\n" })"#,
+            br#"Err(Wrong { text: "txc: usage: one of --picture, --print-schedule and --timeline\n" })"#,
         ),
         (
             "txc|replay|a.c|--threads=2",
@@ -343,6 +355,6 @@ fn helps(rt: HostRuntime) {
 
 #[test]
 fn tells_its_version(rt: HostRuntime) {
-    let told = br#"Err(Help { text: "txc 0.1.0\n" })"#;
+    let told = br#"Err(Help { text: "txc 0.2.0\n" })"#;
     assert_that(&rt, asks(rt.alloc(), "txc|--version", told.as_slice()));
 }

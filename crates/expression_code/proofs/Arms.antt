@@ -5,6 +5,7 @@ use Rattle.lex.specs.declared.token.Span.{Span}
 use Rattle.syntax.specs.declared.tree.UnaryOp.{UnaryOp}
 use Rattle.syntax.specs.declared.tree.BinaryOp.{BinaryOp}
 use Rattle.syntax.specs.declared.tree.LogicalOp.{LogicalOp}
+use Rattle.syntax.specs.declared.tree.Mode.{Mode}
 use Rattle.syntax.specs.declared.tree.Name as N
 use Rattle.syntax.specs.declared.tree.Expr as E
 use Rattle.syntax.specs.declared.tree.Expr.TheOpen.{Expr-F}
@@ -12,7 +13,7 @@ use Rattle.syntax.specs.declared.tree.Expr.TheFolds.{fold-roll-Expr}
 use Rattle.syntax.specs.declared.tree.Expr.TheVariants as EV
 use Rattle.syntax.specs.Tree as Tree
 use Rattle.syntax.specs.Views.{name_of, expr_step, expr_of, exprs_of}
-use Rattle.syntax.proofs.Seen.{expr_of_variable, expr_of_call, expr_of_element, expr_of_parenthesized, expr_of_cast, expr_of_unary, expr_of_binary, expr_of_logical, expr_of_conditional}
+use Rattle.syntax.proofs.Seen.{expr_of_variable, expr_of_call, expr_of_element, expr_of_parenthesized, expr_of_cast, expr_of_unary, expr_of_binary, expr_of_logical, expr_of_conditional, expr_of_in_transaction}
 use Rattle.bytecode.specs.declared.instr.Instr.{Instr}
 use Rattle.bytecode.specs.declared.instr.Instr.TheVariants as own
 use Rattle.lowered.specs.Expressions.{LocalScope, arranged}
@@ -220,3 +221,6 @@ module _ {A : Type 0} where
   conditional_is e c a b c' a' b' at is k f g =
       ap expr_of is ∙ expr_of_conditional c a b at ∙ ap (λ y. Tree.Conditional (expr_of y) (expr_of a) (expr_of b) at) (sym k)
       ∙ ap (λ y. Tree.Conditional (expr_of c') (expr_of y) (expr_of b) at) (sym f) ∙ ap (λ y. Tree.Conditional (expr_of c') (expr_of a') (expr_of y) at) (sym g)
+
+  pub in_transaction_is : (e : E.Expr A) (mode : Mode) (keyword : Span) (a a' : E.Expr A) (at : Span) → e ≡ E.InTransaction mode keyword a at → a' ≡ a → expr_of e ≡ Tree.InTransaction mode keyword (expr_of a') at
+  in_transaction_is e mode keyword a a' at is f = ap expr_of is ∙ expr_of_in_transaction mode keyword a at ∙ ap (λ y. Tree.InTransaction mode keyword (expr_of y) at) (sym f)

@@ -11,7 +11,7 @@ ghost use Rattle.picked.specs.Lists.{used, holding};
 ghost use Rattle.picked.specs.declared.draft.Draft.TheVariants as draft;
 ghost use Rattle.picked.specs.Conditions as conditions;
 ghost use Rattle.picked.specs.Conditions.{test_in, tested_by};
-ghost use Rattle.picked.specs.Expressions.{constant, variable, settled, answered, called, emitted, operand, condition, both_conditions, conditional, all_emitted};
+ghost use Rattle.picked.specs.Expressions.{constant, variable, settled, answered, called, in_own_transaction, emitted, operand, condition, both_conditions, conditional, all_emitted};
 ghost use Rattle.expression_code.specs.Limits.{NeedsMore};
 ghost use Rattle.expression_code.specs.Lists.{lists_of};
 ghost use Rattle.expression_code.specs.inner.Tables.{callee_in, shared_in};
@@ -25,7 +25,7 @@ use crate::names::{Callee, Shared, called, cells_of, global};
 use crate::program::Names;
 use crate::put::{
     above, after, put, put_answers, put_both, put_chosen, put_compared, put_complemented,
-    put_constant, put_negated, settle, take,
+    put_constant, put_in_transaction, put_negated, settle, take,
 };
 use crate::ready::constant_ready;
 use crate::scope::Scope;
@@ -379,6 +379,9 @@ pub fn lower_expr<A: Allocator + Copy>(
                 free,
             )
         }
+        Expr::InTransaction(_, _, e, _) => {
+            lower_in_transaction(names, scope, lists, code, e.get(), from, into, free)
+        }
     }
 }
 
@@ -521,6 +524,29 @@ fn lower_settled<A: Allocator + Copy>(
     settle(lists, code, held, into)
 }
 
+/// A value that is computed in a transaction of its own.
+#[cycle(lower_expr)]
+fn lower_in_transaction<A: Allocator + Copy>(
+    names: &Names<'_, A>,
+    scope: &Scope<'_, A>,
+    lists: &mut Lists<A>,
+    code: &mut Vec<Instr, A>,
+    e: &Expr<A>,
+    from: u32,
+    into: usize,
+    free: usize,
+) -> Result<Held, Failure>
+    ensures code { OnOk result (code.new.items ≡ code.old.items ++ (in_own_transaction (emitted (program_in names.now) (scope_in scope.now) (expr_of e.now) (from + 1) into free (lists_of lists.old))).code) }
+    ensures lists { OnOk result (lists_of lists.new ≡ (in_own_transaction (emitted (program_in names.now) (scope_in scope.now) (expr_of e.now) (from + 1) into free (lists_of lists.old))).lists) }
+    ensures held { IfOk result (λ held. held ≡ (in_own_transaction (emitted (program_in names.now) (scope_in scope.now) (expr_of e.now) (from + 1) into free (lists_of lists.old))).held) }
+    ensures fails { IfErr result (λ why. NeedsMore why (in_own_transaction (emitted (program_in names.now) (scope_in scope.now) (expr_of e.now) (from + 1) into free (lists_of lists.old))).lists.registers) }
+{
+    let next = after(from, 1)?;
+    let mut operand = Vec::new(names.alloc);
+    let held = lower_expr(names, scope, lists, &mut operand, e, next, into, free)?;
+    put_in_transaction(code, &mut operand, held)
+}
+
 /// A condition that is tested by its value.
 #[cycle(lower_expr)]
 fn lower_value<A: Allocator + Copy>(
@@ -632,6 +658,7 @@ pub fn lower_condition<A: Allocator + Copy>(
         Expr::Element(_, _, _) => lower_value(names, scope, lists, drafts, e, from, free),
         Expr::Call(_, _, _) => lower_value(names, scope, lists, drafts, e, from, free),
         Expr::Conditional(_, _, _, _) => lower_value(names, scope, lists, drafts, e, from, free),
+        Expr::InTransaction(_, _, _, _) => lower_value(names, scope, lists, drafts, e, from, free),
     }
 }
 

@@ -370,3 +370,24 @@ pub(crate) fn put_chosen<A: Allocator>(
         to: b.to,
     })
 }
+
+/// The instructions of a value between the begin and the commit of a transaction of its own.
+pub(crate) fn put_in_transaction<A: Allocator>(
+    code: &mut Vec<Instr, A>,
+    operand: &mut Vec<Instr, A>,
+    held: Held,
+) -> Result<Held, Failure>
+    ensures code { OnOk result (code.new.items ≡ code.old.items ++ instr.Begin (held.to + 1) ∷ operand.old.items ++ instr.Commit ∷ []) }
+    ensures held { IfOk result (λ now. now ≡ record { register = held.register; of = held.of; to = held.to + 1 }) }
+    ensures fails { IfErr result (λ why. NeedsMore why 0) }
+{
+    let to = after(held.to, 1)?;
+    put(code, Instr::Begin(to))?;
+    append(code, operand)?;
+    put(code, Instr::Commit)?;
+    Ok(Held {
+        register: held.register,
+        of: held.of,
+        to,
+    })
+}

@@ -75,6 +75,12 @@ pub fn explanation(number: u32) -> Option<&'static str> {
         43 => Some(
             "fault 43: transaction_safe on an unsafe function\nWhen: a function that one of its declarations says is safe, and is not\nPlace: its name, where it is defined\nExample: __attribute__((transaction_safe)) void f(void) { printf(\"a\"); } void worker(int self) { }\nIt is told at: 1:40\n",
         ),
+        44 => Some(
+            "fault 44: outer in atomic\nWhen: an outer transaction that stands lexically in an atomic one, or a call there of a function that leads to an outer transaction\nPlace: its keyword; the name called\nExample: void worker(int self) { __transaction_atomic { __transaction_atomic [[outer]] { } } }\nIt is told at: 1:48\n",
+        ),
+        45 => Some(
+            "fault 45: outer cancel outside outer\nWhen: an outer cancel that stands lexically in no outer transaction\nPlace: its keyword\nExample: void worker(int self) { __transaction_atomic { __transaction_cancel [[outer]]; } }\nIt is told at: 1:48\n",
+        ),
         50 => Some(
             "fault 50: shared access outside a transaction\nWhen: a bare access to a global in `worker`\nPlace: the name\nExample: int x; void worker(int self) { x = 1; }\nIt is told at: 1:32\n",
         ),

@@ -27,6 +27,8 @@ pub fn words(number: u32) -> &'static str {
         41 => "relaxed in atomic",
         42 => "cancel outside atomic",
         43 => "transaction_safe on an unsafe function",
+        44 => "outer in atomic",
+        45 => "outer cancel outside outer",
         50 => "shared access outside a transaction",
         51 => "call touches shared data outside a transaction",
         55 => "stranger thread in an order",

@@ -1,5 +1,6 @@
 -- A failure of a part is one of the whole.
 use Rattle.std.proofs.Common.{◌≡◌, ℕ, ◌+◌, ◌≤◌, List, length, Option, ap, ◌∙◌, arith}
+use Rattle.syntax.specs.declared.tree.Kind.{Kind}
 use Rattle.syntax.specs.Tree as Tree
 use Rattle.syntax.specs.Tree.{Program}
 use Rattle.syntax.specs.Formats.{Piece}
@@ -105,9 +106,9 @@ module _ (p : Program) (x : Exits) (s : LocalScope) (from : ℕ) (l : Lists) whe
         let d = ap (λ (u : Condition). u.lists.registers) same in
         omega (arith, d)
 
-  pub transaction_body : (ss : Tree.Stmts) (exits : Exits) (start : ℕ) → exits ≡ in_transaction x → start ≡ from + 1 → (all_written p ss exits s start l).lists.registers ≤ (transacted (all_written p ss (in_transaction x) s (from + 1) l)).lists.registers
-  transaction_body ss exits start ex et =
-      let same : all_written p ss exits s start l ≡ all_written p ss (in_transaction x) s (from + 1) l = (λ j. all_written p ss (ex j) s (et j) l) in
+  pub transaction_body : (kind : Kind) (ss : Tree.Stmts) (exits : Exits) (start : ℕ) → exits ≡ in_transaction kind x → start ≡ from + 1 → (all_written p ss exits s start l).lists.registers ≤ (transacted (all_written p ss (in_transaction kind x) s (from + 1) l)).lists.registers
+  transaction_body kind ss exits start ex et =
+      let same : all_written p ss exits s start l ≡ all_written p ss (in_transaction kind x) s (from + 1) l = (λ j. all_written p ss (ex j) s (et j) l) in
       let d = ap (λ (u : Written). u.lists.registers) same in
       omega (arith, d)
 

@@ -21,7 +21,8 @@ use Rattle.picked.proofs.GrowingStmts.{stmts_more}
 use Rattle.lower.specs.declared.fault.LowerFault.{LowerFault}
 use Rattle.lower.specs.declared.fault.LowerFault.TheVariants.{OutOfMemory, TooManyRegisters, TooMuchCode, NestedTooDeep}
 use Rattle.lower.specs.Nested.{nested_too_deep}
-use Rattle.lower.specs.Faults.{picked_for, IsFaultOf}
+use Rattle.lower.specs.Limits.{picked_for}
+use Rattle.lower.specs.Faults.{IsFaultOf}
 use Rattle.lower.specs.inner.Parts.{IsOfDefinition, IsOfItem, IsOfCode}
 use Rattle.lower.proofs.Better.{body_more}
 use Rattle.lower.proofs.Bodies.{definition_made, code_grows, codes_among, front_code, one_more}

@@ -2,7 +2,7 @@
 use Rattle.std.proofs.Common.{◌≡◌, ℕ, ◌+◌, ◌≤◌, List, [], ◌∷◌, ◌++◌, length, take, sym, ap, ◌∙◌, append_assoc, append-nil, length-append, arith, refl}
 use Rattle.std.proofs.Math.Seq.{take-append_seam}
 use Rattle.lex.specs.declared.token.Scalar.{Scalar}
-use Rattle.syntax.specs.Tree.{Declarator, Start, Nothing, Declares, Does, Stmt, Stmts, Empty, Declare, Do, Block, Print, If, IfElse, While, DoWhile, For, Break, Continue, Return, Transaction, Cancel}
+use Rattle.syntax.specs.Tree.{Declarator, Start, Nothing, Declares, Does, Stmt, Stmts, Empty, Declare, Do, Block, Print, If, IfElse, While, DoWhile, For, Break, Continue, Return, Transaction, Cancel, CancelOuter}
 use Rattle.lowered.specs.Expressions.{LocalScope}
 use Rattle.lowered.specs.Statements.{with_local, with_declared, locals_of_start, locals_after, locals_at_end}
 
@@ -41,8 +41,9 @@ grows_stmt (For start c step a) scope = grows_not scope
 grows_stmt (Break at) scope = grows_not scope
 grows_stmt (Continue at) scope = grows_not scope
 grows_stmt (Return e at) scope = grows_not scope
-grows_stmt (Transaction mode ss at) scope = grows_not scope
+grows_stmt (Transaction kind ss at) scope = grows_not scope
 grows_stmt (Cancel at) scope = grows_not scope
+grows_stmt (CancelOuter at) scope = grows_not scope
 
 grows_stmts : (ss : Stmts) (scope : LocalScope) → Grows scope (locals_at_end ss scope)
 grows_stmts Stmts.[] scope = grows_not scope

@@ -1,7 +1,7 @@
 -- How the parts of a statement's code are put together, and the clean tree of a statement by the parts that are read of it.
 use Rattle.std.proofs.Common.{◌≡◌, ℕ, ◌+◌, List, [], ◌∷◌, ◌++◌, length, map, Option, Some, None, option_map, Result, OnOk, IfOk, IfErr, sym, ap, subst, ◌∙◌, append_assoc}
 use Rattle.lex.specs.declared.token.Span.{Span}
-use Rattle.syntax.specs.declared.tree.Mode.{Mode}
+use Rattle.syntax.specs.declared.tree.Kind.{Kind}
 use Rattle.syntax.specs.declared.tree.Expr as E
 use Rattle.syntax.specs.declared.tree.Stmt as S
 use Rattle.syntax.specs.declared.tree.Stmt.TheOpen.{Stmt-F}
@@ -170,10 +170,10 @@ module _ (p : Program) (x : Exits) (s : LocalScope) (from : ℕ) (l : Lists) (ol
         place = last_to;
       }
 
-  pub transaction_made : (ss : Tree.Stmts) (empty body : List Instr) (l1 : Lists) (exits : Exits) (start last to : ℕ) → exits ≡ in_transaction x → start ≡ from + 1 → empty ≡ [] →
-      Makes (all_written p ss exits s start l) empty body l1 last → to ≡ last + 1 → new ≡ old ++ own.Begin to ∷ body ++ own.Commit ∷ [] → Makes (transacted (all_written p ss (in_transaction x) s (from + 1) l)) old new l1 to
-  transaction_made ss empty body l1 exits start last to ex et e0 made eo n =
-      let B = all_written p ss (in_transaction x) s (from + 1) l in
+  pub transaction_made : (kind : Kind) (ss : Tree.Stmts) (empty body : List Instr) (l1 : Lists) (exits : Exits) (start last to : ℕ) → exits ≡ in_transaction kind x → start ≡ from + 1 → empty ≡ [] →
+      Makes (all_written p ss exits s start l) empty body l1 last → to ≡ last + 1 → new ≡ old ++ own.Begin to ∷ body ++ own.Commit ∷ [] → Makes (transacted (all_written p ss (in_transaction kind x) s (from + 1) l)) old new l1 to
+  transaction_made kind ss empty body l1 exits start last to ex et e0 made eo n =
+      let B = all_written p ss (in_transaction kind x) s (from + 1) l in
       let b = alone (all_written p ss exits s start l) B empty body l1 last e0 (λ j. all_written p ss (ex j) s (et j) l) made in
       let place : to ≡ B.to + 1 = eo ∙ ap (λ (k : ℕ). k + 1) b.place in
       let same : old ++ own.Begin to ∷ body ++ own.Commit ∷ [] ≡ old ++ own.Begin (B.to + 1) ∷ B.code ++ own.Commit ∷ [] = (λ j. old ++ own.Begin (place j) ∷ b.code j ++ own.Commit ∷ []) in
@@ -229,5 +229,5 @@ module _ {A : Type 0} where
       ∙ ap (λ (y : H.ForHead A). Tree.For (start_of y.start) (option_map expr_of y.condition) (option_map simple_of y.step) (stmt_of a)) (sym f)
       ∙ ap (λ (y : S.Stmt A). Tree.For (start_of h'.start) (option_map expr_of h'.condition) (option_map simple_of h'.step) (stmt_of y)) (sym k)
 
-  pub transaction_is : (s : S.Stmt A) (mode : Mode) (ss ss' : List (S.Stmt A)) (at : Span) → s ≡ S.Transaction mode ss at → ss' ≡ ss → stmt_of s ≡ Tree.Transaction mode (stmts_of ss') at
-  transaction_is s mode ss ss' at is e = ap stmt_of is ∙ stmt_of_transaction mode ss at ∙ ap (λ y. Tree.Transaction mode (stmts_of y) at) (sym e)
+  pub transaction_is : (s : S.Stmt A) (kind : Kind) (ss ss' : List (S.Stmt A)) (at : Span) → s ≡ S.Transaction kind ss at → ss' ≡ ss → stmt_of s ≡ Tree.Transaction kind (stmts_of ss') at
+  transaction_is s kind ss ss' at is e = ap stmt_of is ∙ stmt_of_transaction kind ss at ∙ ap (λ y. Tree.Transaction kind (stmts_of y) at) (sym e)

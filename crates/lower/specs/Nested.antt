@@ -1,19 +1,66 @@
--- Transactions that lie in one another in a function's text. At most 16 may; a call begins anew.
+-- Transactions that lie in one another in a function's text, statements and expressions. At most 16 may; a call begins
+-- anew.
 use Rattle.std.specs.Prelude.{ℕ, zero, suc, List, [], ◌∷◌, Option, Some, None}
 use Rattle.std.specs.Option.{option_or}
-use Rattle.syntax.specs.Tree.{Span, Stmt, Stmts, Block, If, IfElse, While, DoWhile, For, Transaction, Item, Defines, Shares, Program}
+use Rattle.syntax.specs.Tree.{Span, Expr, Exprs, Element, Call, Parenthesized, Cast, Unary, Binary, Logical, Conditional, InTransaction, Simple, Evaluate, Assign, Adjust, Declarator, Start, Nothing, Declares, Does, Stmt, Stmts, Declare, Do, Block, Print, If, IfElse, While, DoWhile, For, Return, Transaction, Item, Defines, Shares, Program}
 
--- the keyword of the first transaction of a statement that lies in so many others
+-- the keyword of the first transaction of an expression that lies in so many others
+abbrev mutual
+  pub expr_too_deep : Expr → ℕ → Option Span
+  expr_too_deep (Element x i at) n = expr_too_deep i n
+  expr_too_deep (Call f es at) n = exprs_too_deep es n
+  expr_too_deep (Parenthesized e at) n = expr_too_deep e n
+  expr_too_deep (Cast t e at) n = expr_too_deep e n
+  expr_too_deep (Unary op e at) n = expr_too_deep e n
+  expr_too_deep (Binary op a b at) n = option_or (expr_too_deep a n) (expr_too_deep b n)
+  expr_too_deep (Logical op a b at) n = option_or (expr_too_deep a n) (expr_too_deep b n)
+  expr_too_deep (Conditional c a b at) n =
+      option_or (expr_too_deep c n) (option_or (expr_too_deep a n) (expr_too_deep b n))
+  expr_too_deep (InTransaction mode keyword e at) zero = Some keyword
+  expr_too_deep (InTransaction mode keyword e at) (suc n) = expr_too_deep e n
+  expr_too_deep e n = None
+
+  pub exprs_too_deep : Exprs → ℕ → Option Span
+  exprs_too_deep Exprs.[] n = None
+  exprs_too_deep (Exprs.◌∷◌ e es) n = option_or (expr_too_deep e n) (exprs_too_deep es n)
+
+-- of what may be missing
+abbrev pub too_deep_if_any : {A : Type 0} → (A → ℕ → Option Span) → Option A → ℕ → Option Span
+too_deep_if_any deep None n = None
+too_deep_if_any deep (Some x) n = deep x n
+
+abbrev pub simple_too_deep : Simple → ℕ → Option Span
+simple_too_deep (Evaluate e) n = expr_too_deep e n
+simple_too_deep (Assign to op e) n = option_or (expr_too_deep to n) (expr_too_deep e n)
+simple_too_deep (Adjust to by) n = expr_too_deep to n
+
+abbrev pub declarators_too_deep : List Declarator → ℕ → Option Span
+declarators_too_deep [] n = None
+declarators_too_deep (d ∷ ds) n = option_or (too_deep_if_any expr_too_deep d.first n) (declarators_too_deep ds n)
+
+abbrev pub start_too_deep : Start → ℕ → Option Span
+start_too_deep Nothing n = None
+start_too_deep (Declares d) n = declarators_too_deep d.declarators n
+start_too_deep (Does s) n = simple_too_deep s n
+
+-- the keyword of the first transaction of a statement that lies in so many others, in the order of the text
 abbrev mutual
   pub too_deep : Stmt → ℕ → Option Span
+  too_deep (Declare d) n = declarators_too_deep d.declarators n
+  too_deep (Do s) n = simple_too_deep s n
   too_deep (Block ss) n = any_too_deep ss n
-  too_deep (If c a) n = too_deep a n
-  too_deep (IfElse c a b) n = option_or (too_deep a n) (too_deep b n)
-  too_deep (While c a) n = too_deep a n
-  too_deep (DoWhile a c) n = too_deep a n
-  too_deep (For start c step a) n = too_deep a n
-  too_deep (Transaction mode ss at) zero = Some at
-  too_deep (Transaction mode ss at) (suc n) = any_too_deep ss n
+  too_deep (Print at format format_at es) n = exprs_too_deep es n
+  too_deep (If c a) n = option_or (expr_too_deep c n) (too_deep a n)
+  too_deep (IfElse c a b) n = option_or (expr_too_deep c n) (option_or (too_deep a n) (too_deep b n))
+  too_deep (While c a) n = option_or (expr_too_deep c n) (too_deep a n)
+  too_deep (DoWhile a c) n = option_or (too_deep a n) (expr_too_deep c n)
+  too_deep (For start c step a) n =
+      option_or (start_too_deep start n)
+      (option_or (too_deep_if_any expr_too_deep c n)
+      (option_or (too_deep_if_any simple_too_deep step n) (too_deep a n)))
+  too_deep (Return e at) n = too_deep_if_any expr_too_deep e n
+  too_deep (Transaction kind ss at) zero = Some at
+  too_deep (Transaction kind ss at) (suc n) = any_too_deep ss n
   too_deep s n = None
 
   pub any_too_deep : Stmts → ℕ → Option Span

@@ -1,7 +1,7 @@
 //! Why no code is made.
 
 ghost use Rattle.std.specs.Prelude.{◌≡◌};
-ghost use Rattle.lower.specs.Faults.{number_of, span_of};
+ghost use Rattle.lower.specs.Answers.{number_of, span_of};
 
 use lex::token::Span;
 use std::alloc::AllocError;

@@ -62,6 +62,7 @@ fn lower_body<'p, A: Allocator + Copy>(
         continue_to: 0,
         in_loop: 0,
         in_function: 0,
+        to_outer: 0,
     };
     let last = lower_stmts(names, &mut scope, lists, code, body, exits, from)?;
     put(code, Instr::Return)?;

@@ -6,7 +6,7 @@ ghost use Rattle.syntax.specs.Names as Source;
 ghost use Rattle.syntax.specs.Views.{program_of, item_of, function_of, global_of, stmts_of};
 ghost use Rattle.bytecode.specs.Valid.{HasWorker};
 ghost use Rattle.bytecode.specs.Views.{code_of, function_of as code_function};
-ghost use Rattle.lowered.specs.Laws.{MeansItsProgram};
+ghost use Rattle.lowered.specs.Means.{MeansItsProgram};
 ghost use Rattle.picked.specs.Programs.{body_written, function_code, all_made, picked_code};
 ghost use Rattle.lower.specs.Nested.{nested_too_deep};
 ghost use Rattle.lower.specs.Faults.{IsFaultOf};

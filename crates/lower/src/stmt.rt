@@ -31,7 +31,7 @@ use expression_code::simple::{lower_declarators, lower_simple, lower_start};
 use picked::draft::Draft;
 use picked::held::{Exits, Tested};
 use std::alloc::{AllocError, Allocator};
-use syntax::tree::{Expr, ForHead, Simple, Stmt};
+use syntax::tree::{Expr, ForHead, Kind, Simple, Stmt};
 
 /// So many commits, and then an instruction; the place behind.
 fn leave<A: Allocator>(
@@ -52,9 +52,31 @@ fn leave<A: Allocator>(
     after(to, 1)
 }
 
+/// How many transactions are open from the innermost outer one on, inside one more of this kind.
+fn level_in(kind: Kind, levels: u32) -> Result<u32, AllocError>
+    ensures { IfOk result (λ n. n ≡ statements.level_in kind levels) }
+{
+    match kind {
+        Kind::Outer => Ok(1),
+        Kind::Plain(_) if levels == 0 => Ok(0),
+        Kind::Plain(_) => after(levels, 1),
+    }
+}
+
+/// The instruction that cancels so many transactions as one.
+fn cancelling(levels: u32) -> Instr
+    ensures { result ≡ statements.cancelling levels }
+{
+    if levels == 1 {
+        Instr::Cancel
+    } else {
+        Instr::CancelOuter(levels)
+    }
+}
+
 /// One transaction more. No count is as large as the number of instructions, which memory bounds.
-fn entered(exits: Exits) -> Result<Exits, AllocError>
-    ensures { IfOk result (λ x. x ≡ statements.in_transaction exits) }
+fn entered(kind: Kind, exits: Exits) -> Result<Exits, AllocError>
+    ensures { IfOk result (λ x. x ≡ statements.in_transaction kind exits) }
 {
     if exits.in_function >= 4_294_967_295 || exits.in_loop >= 4_294_967_295 {
         return Err(AllocError);
@@ -64,6 +86,7 @@ fn entered(exits: Exits) -> Result<Exits, AllocError>
         continue_to: exits.continue_to,
         in_loop: exits.in_loop + 1,
         in_function: exits.in_function + 1,
+        to_outer: level_in(kind, exits.to_outer)?,
     })
 }
 
@@ -75,6 +98,7 @@ fn looping(exits: Exits, break_to: u32, continue_to: u32) -> Exits
         continue_to,
         in_loop: 0,
         in_function: exits.in_function,
+        to_outer: exits.to_outer,
     }
 }
 
@@ -433,13 +457,19 @@ pub(crate) fn lower_stmt<'p, A: Allocator + Copy>(
         Stmt::Return(e, _) => {
             lower_return(names, scope, lists, code, e, exits.in_function, from)
         }
-        Stmt::Transaction(_, body, _) => {
+        Stmt::Transaction(kind, body, _) => {
             let mut inner = Vec::new(names.alloc);
             let all = body.as_slice();
-            lower_transaction(names, scope, lists, code, &mut inner, all, exits, from)
+            lower_transaction(
+                names, scope, lists, code, &mut inner, all, *kind, exits, from,
+            )
         }
         Stmt::Cancel(_) => {
             put(code, Instr::Cancel)?;
+            Ok(after(from, 1)?)
+        }
+        Stmt::CancelOuter(_) => {
+            put(code, cancelling(exits.to_outer))?;
             Ok(after(from, 1)?)
         }
     }
@@ -580,17 +610,18 @@ fn lower_transaction<'p, A: Allocator + Copy>(
     code: &mut Vec<Instr, A>,
     inner: &mut Vec<Instr, A>,
     body: &'p [Stmt<A>],
+    kind: Kind,
     exits: Exits,
     from: u32,
 ) -> Result<u32, Failure>
     requires { inner.old.items ≡ [] }
     ensures scope { OnOk result (scope_in scope.new ≡ scope_in scope.old) }
-    ensures code { OnOk result (code.new.items ≡ code.old.items ++ (transacted (all_written (program_in names.now) (stmts_of body.now) (statements.in_transaction exits) (scope_in scope.old) (from + 1) (lists_of lists.old))).code) }
-    ensures lists { OnOk result (lists_of lists.new ≡ (transacted (all_written (program_in names.now) (stmts_of body.now) (statements.in_transaction exits) (scope_in scope.old) (from + 1) (lists_of lists.old))).lists) }
-    ensures place { IfOk result (λ p. p ≡ (transacted (all_written (program_in names.now) (stmts_of body.now) (statements.in_transaction exits) (scope_in scope.old) (from + 1) (lists_of lists.old))).to) }
-    ensures fails { IfErr result (λ why. NeedsMore why ((transacted (all_written (program_in names.now) (stmts_of body.now) (statements.in_transaction exits) (scope_in scope.old) (from + 1) (lists_of lists.old))).lists).registers) }
+    ensures code { OnOk result (code.new.items ≡ code.old.items ++ (transacted (all_written (program_in names.now) (stmts_of body.now) (statements.in_transaction kind exits) (scope_in scope.old) (from + 1) (lists_of lists.old))).code) }
+    ensures lists { OnOk result (lists_of lists.new ≡ (transacted (all_written (program_in names.now) (stmts_of body.now) (statements.in_transaction kind exits) (scope_in scope.old) (from + 1) (lists_of lists.old))).lists) }
+    ensures place { IfOk result (λ p. p ≡ (transacted (all_written (program_in names.now) (stmts_of body.now) (statements.in_transaction kind exits) (scope_in scope.old) (from + 1) (lists_of lists.old))).to) }
+    ensures fails { IfErr result (λ why. NeedsMore why ((transacted (all_written (program_in names.now) (stmts_of body.now) (statements.in_transaction kind exits) (scope_in scope.old) (from + 1) (lists_of lists.old))).lists).registers) }
 {
-    let exits = entered(exits)?;
+    let exits = entered(kind, exits)?;
     let start = after(from, 1)?;
     let last = lower_block(names, scope, lists, inner, body, exits, start)?;
     let to = after(last, 1)?;

@@ -16,7 +16,7 @@ use Rattle.syntax.specs.Laws.{shape}
 use Rattle.syntax.specs.declared.numbers.Status.TheVariants.{Running}
 use Rattle.syntax.specs.Behaviours.{Memory, IsMemory, Outcome, Ended, Means}
 use Rattle.syntax.specs.Actions.{Outside, Answer, Gives, Action, go_on, ◌>>=◌, ◌>>◌, tick, or_astray, locals, put_locals}
-use Rattle.syntax.specs.Meaning.{End, Next, Breaks, Continues, Returns, Cancels, stmts, entered, result_of, calls}
+use Rattle.syntax.specs.Meaning.{End, Next, Breaks, Continues, Returns, Cancels, CancelsOuter, stmts, entered, result_of, calls}
 use Rattle.syntax.specs.Threads.{outcome_of, first_state, thread}
 use Rattle.bytecode.specs.Effects.{Effect}
 use Rattle.bytecode.specs.Sequential.{start, meaning, sequential_step, outside}
@@ -29,7 +29,7 @@ use Rattle.lowered.proofs.Agreement.{Agrees, NeverAstray, astray, same, fewer, s
 use Rattle.lowered.proofs.Runs.{Around, Bare, Shared, context_of, holding, state, IsSeen, on_seen, AreWords, IsGood, registers_in, Holds, configuration, effect_at, goes_by, traps, less, all}
 use Rattle.lowered.proofs.Expressions.{CallsFollow, word_same}
 use Rattle.lowered.proofs.Locals.{length_like}
-use Rattle.lowered.proofs.Flow.{word_in, ArrivedAt, HereAt, MoreAt, TurnsFall, stmts_follow}
+use Rattle.lowered.proofs.Flow.{GoesEnd, word_in, ArrivedAt, HereAt, MoreAt, TurnsFall, stmts_follow}
 use Rattle.lowered.proofs.Turns.{while_falls, do_falls, for_falls}
 
 -- locals that a call begins with: its arguments, where a parameter's name binds them
@@ -217,6 +217,7 @@ module _ (p : Program) (code : Code) where
       let same_word : word_of (number v.of v.word) ≡ v.word = word_same v.of v.word arrived.3 in
       go (converted (unwrap_or u Int) v) sh text rs q arrived.0 arrived.1 (arrived.2 ∙ sym same_word) refl (subst (λ w. w < 2 ^ 32) (sym same_word) arrived.3) good
   body_ends N K layout a ls frames u after scope later last i s go Cancels sh text ls1 rs q good arrived = astray (effect code) 0 (s.astray _)
+  body_ends N K layout a ls frames u after scope later last i s go CancelsOuter sh text ls1 rs q good arrived = absurd arrived
 
   -- the constants are set
   constants_run : {N K : ℕ} (ws : List ℕ) (r from to : ℕ) (a : Around) (sh : Shared) (text rs : List ℕ) (frames : List Frame) {does : ℕ → Outcome} → ConstantsCode code r ws from to → Agrees (effect code) N K (holding a sh text (configuration code to (set_from r ws rs) frames)) does → Agrees (effect code) N K (holding a sh text (configuration code from rs frames)) does
@@ -225,13 +226,16 @@ module _ (p : Program) (code : Code) where
       goes_by code a sh text (configuration code from rs frames) (configuration code (suc from) (slice_set rs r w) frames) (effect_at code from (Instr.Constant r w) rs frames c.0)
       (constants_run ws (suc r) (suc from) to a sh text (slice_set rs r w) frames c.1 go)
 
+  body_goes : (k : ℕ) (frames : List Frame) (layout : Layout) (cf : CallsFollow p (calls p k) code layout frames) (N K : ℕ) (a : Around) (ls : List Local) (u : Option Scalar) (after : Answer Value → Outcome) (scope later : LocalScope) (last : ℕ) → At code last (Instr.Return None) → IsSeen a after → GoesReturn N K a after ls frames u → GoesEnd p (calls p k) code layout frames cf N K a (λ q. after (go_on q (leaving ls u))) no_exits (HereAt p code layout later) (MoreAt p code layout scope) last
+  body_goes k frames layout cf N K a ls u after scope later last i s go = record { ends = body_ends N K layout a ls frames u after scope later last i s go; outer = tt }
+
   body_follows : (k : ℕ) (frames : List Frame) (g : FunctionCode) (f : Function) (body : Stmts) → (c : FunctionIsLowered p code g f body) → CallsFollow p (calls p k) code c.layout frames → (N K : ℕ) (vs : List Value) (rs : List ℕ) (o : Option (List Local)) → EnteredSo f.parameters vs o → (length vs ≡ length f.parameters → rs ≡ first_registers g (arranged f.parameters (map (λ (v : Value). v.word) vs))) → AllByRecursion (λ (v : Value). v.word < 2 ^ 32) vs → (a : Around) (sh : Shared) (text : List ℕ) (ls : List Local) (after : Answer Value → Outcome) → IsGood a sh → IsSeen a after → GoesReturn N K a after ls frames f.result → Agrees (effect code) N K (holding a sh text (configuration code g.first rs frames)) (λ n. after (go_on (or_astray o (state n ls (context_of a sh) text)) (λ mine. locals >>= λ outer. put_locals mine >> (stmts p (calls p k) body >>= leaving outer f.result))))
   body_follows k frames g f body c cf N K vs rs None h e b a sh text ls after good s go = astray (effect code) 0 (s.astray _)
   body_follows k frames g f body c cf N K vs rs (Some mine) h e b a sh text ls after good s go =
       constants_run c.layout.constants c.layout.writable g.first c.begins a sh text rs frames c.sets
       (stmts_follow p (calls p k) code c.layout frames cf (turns_fall k c.layout frames cf) body N K no_exits (parameter_locals f.parameters) c.begins c.last a sh text mine (set_from c.layout.writable c.layout.constants rs) (λ q. after (go_on q (leaving ls f.result))) c.runs
       (subst (λ xs. Holds (parameter_locals f.parameters) mine c.layout (length (parameter_locals f.parameters)) (set_from c.layout.writable c.layout.constants xs)) (sym (e h.count)) (entered_holds g c.layout f.parameters vs mine h b c.parameters c.fits c.registers)) good (on_seen a after (leaving ls f.result) s)
-      (body_ends N K c.layout a ls frames f.result after (parameter_locals f.parameters) (locals_at_end body (parameter_locals f.parameters)) c.last c.returns s go))
+      (body_goes k frames c.layout cf N K a ls f.result after (parameter_locals f.parameters) (locals_at_end body (parameter_locals f.parameters)) c.last c.returns s go))
 
   -- calls, with so many further frames to come
   enters_frame : (frames : List Frame) (q d : ℕ) (rs : List ℕ) (args : List ℕ) (g : FunctionCode) (i : Instr) → length frames < 63 → effect_of code (configuration code q rs frames) (Some i) ≡ called (configuration code q rs frames) d args (Some g) → At code q i → effect code (configuration code q rs frames) ≡ Effect.Pure (configuration code g.first (first_registers g (map (slice_index rs) args)) (record { place = suc q; result = d; registers = rs } ∷ frames))

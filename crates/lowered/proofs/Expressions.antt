@@ -1,5 +1,5 @@
 -- The instructions of an expression do what the expression does.
-use Rattle.std.proofs.Common.{◌≡◌, ℕ, suc, ◌+◌, ◌-◌, ◌<◌, ◌^◌, ◌%◌, Bool, true, false, List, [], ◌∷◌, length, Option, Some, None, Result, Ok, Err, refl, sym, ap, ◌∙◌, subst, arith, inl, inr, pos, ◌-ℤ◌}
+use Rattle.std.proofs.Common.{◌≡◌, ◌++◌, ℕ, zero, suc, ◌+◌, ◌-◌, ◌<◌, ◌^◌, ◌%◌, Bool, true, false, List, [], ◌∷◌, length, Option, Some, None, Result, Ok, Err, refl, sym, ap, ◌∙◌, subst, arith, inl, inr, pos, ◌-ℤ◌}
 use Rattle.std.specs.Prelude.{slice_get, slice_index, slice_set, map, if◌then◌else◌, nat_lt, ◌==◌, not, unsigned_abs, IfOk}
 use Rattle.std.proofs.lemmas.List.{get_or-set_same, get_or-set_other, length-set, length-map}
 use Rattle.std.proofs.lemmas.Int.{int_rem_euclid_is, ints}
@@ -14,7 +14,10 @@ use Rattle.std.specs.List.{AllByRecursion}
 use Rattle.std.specs.Prelude.{unwrap_or}
 use Rattle.syntax.specs.Names.{definition_of}
 use Rattle.bytecode.specs.Code.{FunctionCode}
-use Rattle.syntax.specs.Tree.{Exprs, Stmts, Function, Expr, Variable, Constant, Element, Call, Parenthesized, Cast, Unary, Binary, Logical, Conditional, Program}
+use Rattle.syntax.specs.Tree.{Exprs, Stmts, Function, Expr, Variable, Constant, Element, Call, Parenthesized, Cast, Unary, Binary, Logical, Conditional, InTransaction, Program}
+use Rattle.syntax.specs.declared.tree.Mode.{Mode}
+use Rattle.syntax.specs.declared.tree.Kind.TheVariants.{Plain}
+use Rattle.syntax.specs.declared.numbers.Halt.TheVariants.{Wants, Astray}
 use Rattle.syntax.specs.declared.numbers.Trap.{Trap}
 use Rattle.syntax.specs.declared.numbers.Trap.TheVariants.{Index}
 use Rattle.syntax.specs.declared.numbers.Value.{Value}
@@ -22,18 +25,18 @@ use Rattle.syntax.specs.Numbers.{number, word_of, number_of, computed, typed, op
 use Rattle.syntax.specs.Names.{Local, newest, newest_from, word_at, global_of, cells, GlobalCells}
 use Rattle.syntax.specs.Types.{type_of, running_scope}
 use Rattle.syntax.specs.Laws.{shape}
-use Rattle.syntax.specs.Behaviours.{Outcome}
-use Rattle.syntax.specs.Actions.{State, Answer, Gives, Action, pure, go_on, ◌>>=◌, ◌>>◌, tick, trap, or_trap, or_astray, locals}
-use Rattle.syntax.specs.Meaning.{Spot, InLocal, InCell, fetch, Caller, spot_from, expr, exprs}
+use Rattle.syntax.specs.Behaviours.{Memory, Outcome}
+use Rattle.syntax.specs.Actions.{Outside, Inside, State, Answer, Gives, Stops, Action, pure, stop, go_on, ◌>>=◌, ◌>>◌, tick, trap, or_trap, or_astray, locals}
+use Rattle.syntax.specs.Meaning.{Spot, InLocal, InCell, End, Returns, fetch, close_inner, close, transaction, value_at, value_transaction, Caller, spot_from, expr, exprs}
 use Rattle.std.specs.Option.{option_or}
 use Rattle.std.specs.Prelude.{bytes_eq, neg_ℤ}
 use Rattle.syntax.specs.Numbers.{fitted}
 use Rattle.syntax.proofs.Words.{gives_words, fitted_below, word_below}
 use Rattle.bytecode.specs.Effects.{Effect}
 use Rattle.bytecode.specs.Code.{Code, Configuration, Frame, Instr, effect, effect_of, or_traps, setting}
-use Rattle.lowered.specs.Expressions.{LocalScope, IsLike, At, LeadsTo, Branching, MayTake, computing, arranged, Layout, GivenBy, LiesReady, OperandCode, VariableCode, ElementAt, Branches, BothHold, EitherHolds, ComparedWithZero, TruthCode, BranchCode, ConditionalCode, ExprCode, OwnTests, ArgsCode, CondCode}
+use Rattle.lowered.specs.Expressions.{ValueTransactionCode, LocalScope, IsLike, At, LeadsTo, Branching, MayTake, computing, arranged, Layout, GivenBy, LiesReady, OperandCode, VariableCode, ElementAt, Branches, BothHold, EitherHolds, ComparedWithZero, TruthCode, BranchCode, ConditionalCode, ExprCode, OwnTests, ArgsCode, CondCode}
 use Rattle.lowered.proofs.Agreement.{Agrees, astray, same, fewer}
-use Rattle.lowered.proofs.Runs.{Around, Bare, Within, Shared, context_of, holding, state, IsSeen, on_seen, IsGood, registers_in, Holds, Keeps, keeps_all, keeps_more, keeps_set, keeps_on, holds_on, configuration, effect_at, goes, goes_by, reads_by, tick_goes, traps}
+use Rattle.lowered.proofs.Runs.{Enters, enters, Held, inner_held, outermost_held, begins_inner, begins_outermost, wants_one, commits_inner, leaves_outermost, next_commit, AreWords, Around, Bare, Within, Shared, context_of, holding, state, IsSeen, on_seen, IsGood, registers_in, Holds, Keeps, keeps_all, keeps_more, keeps_set, keeps_on, holds_on, configuration, effect_at, goes, goes_by, reads_by, tick_goes, traps}
 
 -- the number that a word below 2^32 stands for has that word
 word_of_either : (b : Bool) (w : ℕ) → w < 2 ^ 32 → word_of (if b then pos w else pos w -ℤ pos (2 ^ 32)) ≡ w
@@ -391,6 +394,61 @@ module _ (p : Program) (call : Caller) (code : Code) (layout : Layout) (frames :
           (branch_follows home whole scope x ihx N K c.met c.last free r t a sh1 text1 ls new after c.then_code is (holds_on scope ls layout free free old new (omega arith) h k) g s
           (λ w sh2 text2 rs2 d. leads a sh2 text2 c.last to rs2 c.then_leads (goes_after a after ls to home free r t old new k go w sh2 text2 rs2 d)))
 
+  -- a value that is computed in a transaction of its own: its body's end is the value
+  returning : Value → Action End
+  returning v = pure (Returns v)
+
+  -- a value that is known in a transaction is known outside it
+  given_there : {a b : Around} {t : Scalar} {r : ℕ} {home : Option ℕ} {free : ℕ} {old : List ℕ} {v : Value} {sh sh1 : Shared} {new : List ℕ} → IsGood b sh1 → Computed a t r home free old v sh new → Computed b t r home free old v sh1 new
+  given_there g d = record { typed_so = d.typed_so; word = d.word; here = d.here; keeps = d.keeps; good = g }
+
+  bare_value : {N K : ℕ} (mode : Mode) (home : Option ℕ) (scope : LocalScope) (e : Expr) → AlwaysFollows home scope e → (from to free r : ℕ) (t : Scalar) (founds lefts : List Memory) (memory : Memory) (kept : Bool) (text : List ℕ) (ls : List Local) (old : List ℕ) (after : Answer Value → Outcome) → ValueTransactionCode code layout (ExprCode code layout p home scope e) from to free r t → Holds scope ls layout free old → AllByRecursion AreWords founds → IsSeen Bare after → GoesOn N K Bare after ls to home free r t old → Does N K Bare (record { founds = founds; lefts = lefts; memory = memory; kept = kept }) text ls from old (λ s. after (value_transaction mode (expr p call e) s))
+  unfolding returning
+  bare_value mode home scope e ih from to free r t [] lefts memory kept text ls old after c h g s go =
+      same (effect code) (λ n. after (go_on (tick (state n ls (Outside [] lefts) text)) (λ u. stop Wants))) wanted
+      (wants_one code after lefts memory kept text ls (configuration code from old frames) (configuration code (suc from) old frames) (configuration code to old frames) s (effect_at code from (Instr.Begin to) old frames c.begins))
+    where
+      wanted : (n : ℕ) → after (value_transaction mode (expr p call e) (state n ls (Outside [] lefts) text)) ≡ after (go_on (tick (state n ls (Outside [] lefts) text)) (λ u. stop Wants))
+      wanted zero = refl
+      wanted (suc n) = refl
+  bare_value {N = N} {K = K} mode home scope e ih from to free r t (found ∷ founds) lefts memory kept text ls old after c h g s go =
+      let held : Held = outermost_held code mode (configuration code to old frames) found founds lefts in
+      let after1 : Answer Value → Outcome = λ q. after (go_on (close (Plain mode) founds lefts ls found (go_on q returning)) value_at) in
+      let seen1 : IsSeen (Within held) after1 = record { spent = λ u. s.spent _; wants = λ u. s.wants _; trapped = λ k u. s.trapped k _; astray = λ u. s.astray _ } in
+      tick_goes code Bare after (transaction (Plain mode) (expr p call e >>= returning) >>= value_at) (record { founds = found ∷ founds; lefts = lefts; memory = memory; kept = kept }) ls text (configuration code from old frames) s
+      (begins_outermost code found founds lefts memory kept text mode (configuration code from old frames) (configuration code (suc from) old frames) (configuration code to old frames) (effect_at code from (Instr.Begin to) old frames c.begins)
+      (ih N K (suc from) c.last free r t (Within held) (record { founds = founds; lefts = lefts; memory = found; kept = false }) text ls old after1 c.computes h (g.0, (λ d. (refl, d)), (λ d. cc)) seen1
+      (λ v sh1 text1 new d.
+      let after2 : Answer End → Outcome = λ q. after (go_on q value_at) in
+      let sh2 : Shared = record { founds = founds; lefts = lefts ++ sh1.memory ∷ []; memory = sh1.memory; kept = sh1.kept } in
+      leaves_outermost code after2 (Gives (Returns v)) mode found sh1.memory founds lefts sh1 text1 ls ls (configuration code c.last new frames) (configuration code (suc c.last) new frames) (configuration code to old frames)
+      (next_commit code mode found founds lefts sh1 text1 (configuration code c.last new frames) (configuration code (suc c.last) new frames) (configuration code to old frames) (effect_at code c.last Instr.Commit new frames c.commits))
+      (on_seen Bare after value_at s)
+      (go_at Bare after ls to (suc c.last) home free r t t old c.to_is refl go v sh2 text1 new (given_there g.1 d)))))
+
+  inner_value : {N K : ℕ} (mode : Mode) (home : Option ℕ) (scope : LocalScope) (e : Expr) → AlwaysFollows home scope e → (from to free r : ℕ) (t : Scalar) (k : Held) (sh : Shared) (text : List ℕ) (ls : List Local) (old : List ℕ) (after : Answer Value → Outcome) → Enters k.mode (Plain mode) → ValueTransactionCode code layout (ExprCode code layout p home scope e) from to free r t → Holds scope ls layout free old → IsGood (Within k) sh → IsSeen (Within k) after → GoesOn N K (Within k) after ls to home free r t old → Does N K (Within k) sh text ls from old (λ s. after (value_transaction mode (expr p call e) s))
+  unfolding returning
+  inner_value mode home scope e ih from to free r t k sh text ls old after (inr f) c h g s go =
+      same (effect code) (λ n. after (Stops Astray (state n ls (Inside k.mode sh.memory) text))) (λ n. ap (λ q. after (go_on q value_at)) (f sh.memory (expr p call e >>= returning) (state n ls (Inside k.mode sh.memory) text)))
+      (astray (effect code) 0 (s.astray _))
+  inner_value {N = N} {K = K} mode home scope e ih from to free r t k sh text ls old after (inl f) c h g s go =
+      let held : Held = inner_held code k mode sh.memory (configuration code to old frames) in
+      let after1 : Answer Value → Outcome = λ q. after (go_on (close_inner k.mode (Plain mode) ls sh.memory (go_on q returning)) value_at) in
+      let seen1 : IsSeen (Within held) after1 = record { spent = s.spent; wants = s.wants; trapped = s.trapped; astray = s.astray } in
+      same (effect code) (λ n. after1 (expr p call e (state n ls (Inside mode sh.memory) text))) (λ n. ap (λ q. after (go_on q value_at)) (f.0 sh.memory (expr p call e >>= returning) (state n ls (Inside k.mode sh.memory) text)))
+      (begins_inner code k sh text mode (configuration code from old frames) (configuration code (suc from) old frames) (configuration code to old frames) (effect_at code from (Instr.Begin to) old frames c.begins)
+      (ih N K (suc from) c.last free r t (Within held) sh text ls old after1 c.computes h (g.0, (λ d. ((g.1 d).0, f.1 (g.1 d).1)), g.2) seen1
+      (λ v sh1 text1 new d.
+      let good1 : IsGood (Within k) sh1 = (d.good.0, (λ z. ((d.good.1 z).0, (g.1 z).1)), d.good.2) in
+      commits_inner code k sh1 text1 mode sh.memory (configuration code c.last new frames) (configuration code (suc c.last) new frames) (configuration code to old frames) (effect_at code c.last Instr.Commit new frames c.commits)
+      (go_at (Within k) after ls to (suc c.last) home free r t t old c.to_is refl go v sh1 text1 new (given_there good1 d)))))
+
+  value_transaction_follows : (mode : Mode) (home : Option ℕ) (scope : LocalScope) (e : Expr) → AlwaysFollows home scope e → (N K from to free r : ℕ) (t : Scalar) (a : Around) (sh : Shared) (text : List ℕ) (ls : List Local) (old : List ℕ) (after : Answer Value → Outcome) → ValueTransactionCode code layout (ExprCode code layout p home scope e) from to free r t → Holds scope ls layout free old → IsGood a sh → IsSeen a after → GoesOn N K a after ls to home free r t old → Does N K a sh text ls from old (λ s. after (value_transaction mode (expr p call e) s))
+  value_transaction_follows mode home scope e ih N K from to free r t Bare sh text ls old after c h g s go =
+      bare_value mode home scope e ih from to free r t sh.founds sh.lefts sh.memory sh.kept text ls old after c h g s go
+  value_transaction_follows mode home scope e ih N K from to free r t (Within k) sh text ls old after c h g s go =
+      inner_value mode home scope e ih from to free r t k sh text ls old after (enters k.mode (Plain mode)) c h g s go
+
   -- what a call's code does
   abbrev pub CallsFollow : Type 0
   CallsFollow =
@@ -499,6 +557,8 @@ module _ (p : Program) (call : Caller) (code : Code) (layout : Layout) (frames :
           conditional_follows home (Conditional b x y at) scope (expr p call b) x y (Branches code layout (ExprCode code layout p None scope b) (OwnTests code layout p scope b))
           (branches_follow scope b _ (expr_follows None scope b) (own_follows scope b)) (λ k. expr_follows k scope x) (λ k. expr_follows k scope y)
           N K from to free r t a sh text ls old after c.0 (c.1 ls h.like) h good s go
+      expr_follows home scope (InTransaction mode keyword e at) N K from to free r t a sh text ls old after c h good s go =
+          value_transaction_follows mode home scope e (expr_follows home scope e) N K from to free r t a sh text ls old after c h good s go
 
       -- conditions that lead on by themselves
       pub own_follows : (scope : LocalScope) (e : Expr) → BranchingFollows scope (expr p call e) (OwnTests code layout p scope e)

@@ -1,38 +1,33 @@
 -- The instructions of a statement do what the statement does: control.
 use Rattle.std.proofs.Common.{◌≡◌, ◌≢◌, ◌⊎◌, ℕ, zero, suc, ◌+◌, ◌<◌, ◌≤◌, ◌^◌, Bool, true, false, List, [], ◌∷◌, ◌++◌, length, take, Option, Some, None, refl, sym, ap, ◌∙◌, subst, arith, inl, inr, append_assoc, append-nil}
-use Rattle.std.specs.Prelude.{slice_index, slice_set, map, if◌then◌else◌, not}
+use Rattle.std.specs.Prelude.{slice_index, slice_set, if◌then◌else◌, not}
 use Rattle.std.specs.List.{AllByRecursion}
 use Rattle.std.proofs.lemmas.List.{get_or-set_same, get_or-set_other, length-set, length-append}
 use Rattle.std.proofs.lemmas.Bool.{cases_eq}
-use Rattle.lowered.proofs.Expressions.{CallsFollow}
+use Rattle.lowered.proofs.Expressions.{CallsFollow, passes, leads}
 use Rattle.lex.specs.declared.token.Scalar.{Scalar}
 use Rattle.syntax.specs.declared.tree.Mode.{Mode}
-use Rattle.syntax.specs.declared.tree.Mode.TheVariants.{Atomic, Relaxed}
-use Rattle.syntax.specs.Tree.{Expr, Simple, Declarator, Start, Nothing, Declares, Does, Stmt, Stmts, Empty, Declare, Do, Block, Print, If, IfElse, While, DoWhile, For, Break, Continue, Return, Transaction, Cancel, Program}
+use Rattle.syntax.specs.declared.tree.Mode.TheVariants.{Atomic}
+use Rattle.syntax.specs.declared.tree.Kind.{Kind}
+use Rattle.syntax.specs.declared.tree.Kind.TheVariants.{Plain, Outer}
+use Rattle.syntax.specs.Tree.{Expr, Simple, Declarator, Start, Nothing, Declares, Does, Stmt, Stmts, Empty, Declare, Do, Block, Print, If, IfElse, While, DoWhile, For, Break, Continue, Return, Transaction, Cancel, CancelOuter, Program}
 use Rattle.syntax.specs.declared.numbers.Value.{Value}
 use Rattle.syntax.specs.declared.numbers.Halt.TheVariants.{Wants, Astray}
 use Rattle.syntax.specs.Numbers.{is_zero, flag}
 use Rattle.syntax.specs.Names.{Local, word_at}
 use Rattle.syntax.specs.Behaviours.{Memory, Outcome}
-use Rattle.syntax.specs.Actions.{Outside, Inside, State, Answer, Gives, Stops, Action, pure, stop, go_on, ◌>>=◌, ◌>>◌, tick, locals, put_locals}
-use Rattle.syntax.specs.Meaning.{assign, InLocal, End, Next, Breaks, Continues, Returns, Cancels, on_next, scoped, after_turn, loop, after_body, close_inner, close, leave, enter, transaction, Caller, expr, simple, first_value, declare, holds, stepped, start_with, print_pieces, stmt, stmts}
-use Rattle.bytecode.specs.Effects.{Effect}
+use Rattle.bytecode.specs.Sequential.{cancel_step}
+use Rattle.lowered.proofs.Agreement.{quiet, Agrees, astray, same, fewer, none_left}
+use Rattle.lowered.proofs.OuterCancels.{opened, OuterGoes, outer_as, outer_fewer, through_plain, through_bare, leaves_by, outer_follows}
+use Rattle.syntax.specs.Actions.{Outside, Inside, Answer, Gives, Stops, Action, pure, stop, go_on, ◌>>=◌, ◌>>◌, tick, locals, put_locals, may_print}
+use Rattle.syntax.specs.Meaning.{assign, InLocal, End, Next, Breaks, Continues, Returns, Cancels, CancelsOuter, mode_of, on_next, scoped, after_turn, loop, after_body, close_inner, close, leave, transaction, Caller, expr, simple, first_value, declare, holds, stepped, start_with, stmt, stmts}
 use Rattle.bytecode.specs.Code.{Code, Configuration, Frame, Instr, effect}
 use Rattle.lowered.specs.Expressions.{LocalScope, IsLike, At, LeadsTo, Layout}
-use Rattle.lowered.specs.Statements.{LocalAt, Exits, in_transaction, looping, with_local, with_declared, locals_of_start, locals_after, locals_at_end, Testing, Leaves, FirstValueCode, DeclareCode, IfCode, IfElseCode, WhileCode, DoWhileCode, HoldsCode, SteppedCode, StartCode, ForCode, PiecesCode, PrintCode, TransactionCode, StmtCode, StmtsCode}
-use Rattle.lowered.proofs.Agreement.{Agrees, astray, same, fewer, none_left}
-use Rattle.lowered.proofs.Runs.{Held, Around, Bare, Within, Shared, context_of, holding, state, IsSeen, on_seen, AreWords, IsGood, Holds, configuration, effect_at, goes, goes_by, seen_spent, tick_goes, tick_counts, inner_held, outermost_held, begins_inner, begins_outermost, wants_one, commits_inner, cancels_inner, leaves_outermost, next_commit, next_cancel}
-use Rattle.std.specs.Fmt.{signed_decimal}
-use Rattle.syntax.specs.Tree.{Exprs}
-use Rattle.syntax.specs.Numbers.{number}
-use Rattle.syntax.specs.Formats.{Piece, Literal, Figure, pieces}
-use Rattle.syntax.specs.Actions.{may_print, may_print_at}
-use Rattle.syntax.specs.Meaning.{exprs}
-use Rattle.bytecode.specs.Code.{printed}
-use Rattle.lowered.proofs.Runs.{PrintsIn, prints_piece, irrevocable_bare, irrevocable_within}
-use Rattle.lowered.proofs.Expressions.{args_follow, passes, leads}
+use Rattle.lowered.specs.Statements.{LocalAt, Exits, with_level, in_transaction, looping, with_local, with_declared, locals_of_start, locals_after, locals_at_end, Testing, Leaves, FirstValueCode, DeclareCode, IfCode, IfElseCode, WhileCode, DoWhileCode, HoldsCode, SteppedCode, StartCode, ForCode, TransactionCode, StmtCode, StmtsCode}
+use Rattle.lowered.proofs.Runs.{Enters, enters, Held, Around, Bare, Within, Shared, context_of, holding, state, IsSeen, on_seen, AreWords, IsGood, Holds, configuration, effect_at, goes, goes_by, seen_spent, tick_goes, tick_counts, inner_held, outermost_held, begins_inner, begins_outermost, wants_one, commits_inner, cancels_inner, leaves_outermost, next_commit, next_cancel}
 use Rattle.lowered.proofs.Locals.{length_like, word_taken, words_taken, shape_taken, word_new, word_last, words_new, shape_new}
-use Rattle.lowered.proofs.Statements.{raised, lowered, stores, Goes, GoesNext, GoesTest, expression_follows, value_follows, test_follows, simple_follows}
+use Rattle.lowered.proofs.Statements.{raised, stores, Goes, GoesNext, GoesTest, expression_follows, value_follows, test_follows, simple_follows}
+use Rattle.lowered.proofs.Prints.{print_rest, print_follows}
 use Rattle.lowered.proofs.Turns.{while_turn, do_turn, for_turn, Falls}
 use Rattle.syntax.proofs.Loops.{loop_is_its_turns}
 
@@ -84,6 +79,7 @@ after_grows (Continue at) scope = ([], sym (append-nil scope))
 after_grows (Return e at) scope = ([], sym (append-nil scope))
 after_grows (Transaction m ss at) scope = ([], sym (append-nil scope))
 after_grows (Cancel at) scope = ([], sym (append-nil scope))
+after_grows (CancelOuter at) scope = ([], sym (append-nil scope))
 
 pub end_grows : (ss : Stmts) (scope : LocalScope) → (more : LocalScope) × (locals_at_end ss scope ≡ scope ++ more)
 end_grows Stmts.[] scope = ([], sym (append-nil scope))
@@ -105,6 +101,7 @@ module _ (p : Program) (code : Code) (layout : Layout) where
   ArrivedAt x after others to Continues q ls rs = Leaves code layout p q x.in_loop (Instr.Jump x.continue_to) × others ls rs
   ArrivedAt x after others to (Returns v) q ls rs = (r : Option ℕ) × Leaves code layout p q x.in_function (Instr.Return r) × (word_in r rs ≡ v.word) × (v.word < 2 ^ 32)
   ArrivedAt x after others to Cancels q ls rs = (x.innermost ≡ Some Atomic) × At code q Instr.Cancel
+  ArrivedAt x after others to CancelsOuter q ls rs = ⊥
 
   abbrev pub HereAt : LocalScope → Holding
   HereAt scope ls rs = Holds scope ls layout (length scope) rs
@@ -122,10 +119,15 @@ module _ (p : Program) (call : Caller) (code : Code) (layout : Layout) (frames :
   abbrev pub More : LocalScope → Holding
   More scope ls rs = MoreAt p code layout scope ls rs
 
-  abbrev pub GoesEnd : ℕ → ℕ → (a : Around) → (Answer End → Outcome) → Exits → (next others : Holding) → (to : ℕ) → Type 0
-  GoesEnd N K a after x later others to =
+  -- where control goes by the end: no place of the code is an outer cancel's, so that one is said by itself
+  abbrev EndsGo : ℕ → ℕ → (a : Around) → (Answer End → Outcome) → Exits → (next others : Holding) → (to : ℕ) → Type 0
+  EndsGo N K a after x later others to =
       (end : End) (sh : Shared) (text : List ℕ) (ls : List Local) (rs : List ℕ) (q : ℕ) → IsGood a sh → Arrived x later others to end q ls rs →
       Goes p call code layout frames cf N K a sh text ls q rs (λ s. after (Gives end s))
+
+  pub record GoesEnd (N K : ℕ) (a : Around) (after : Answer End → Outcome) (x : Exits) (later others : Holding) (to : ℕ) : Type 0 where
+    pub ends : EndsGo N K a after x later others to
+    pub outer : OuterGoes code N K a after x.in_outer
 
   abbrev pub StmtFollows : Stmt → Type 0
   StmtFollows st =
@@ -149,16 +151,22 @@ module _ (p : Program) (call : Caller) (code : Code) (layout : Layout) (frames :
   ends_scope x scope later Continues to q ls rs g a = (a.0, holds_taken scope a.1.more ls layout (length (scope ++ a.1.more)) rs a.1.holds)
   ends_scope x scope later (Returns v) to q ls rs g a = a
   ends_scope x scope later Cancels to q ls rs g a = a
+  ends_scope x scope later CancelsOuter to q ls rs g a = a
+
+  scope_goes : {N K : ℕ} (ss : Stmts) (x : Exits) (scope : LocalScope) (to : ℕ) (a : Around) (ls : List Local) (after : Answer End → Outcome) → length ls ≡ length scope → GoesEnd N K a after x (Here scope) (Here scope) to → GoesEnd N K a (λ q. after (go_on q (closing ls))) x (Here (locals_at_end ss scope)) (More scope) to
+  unfolding closing
+  scope_goes ss x scope to a ls after len go = record {
+    ends = λ end sh1 text1 ls1 rs1 q good1 arrived.
+        same (effect code) (λ n. after (Gives end (state n (take (length scope) ls1) (context_of a sh1) text1))) (λ n. ap (λ k. after (Gives end (state n (take k ls1) (context_of a sh1) text1))) len)
+        (go.ends end sh1 text1 (take (length scope) ls1) rs1 q good1 (ends_scope x scope (locals_at_end ss scope) end to q ls1 rs1 (end_grows ss scope) arrived));
+    outer = outer_as code _ _ a after (λ q. after (go_on q (closing ls))) (take (length ls)) (λ k ms m mode text. refl) x.in_outer go.outer;
+  }
 
   scoped_follows : (ss : Stmts) → StmtsFollow ss → (N K : ℕ) (x : Exits) (scope : LocalScope) (from to : ℕ) (a : Around) (sh : Shared) (text : List ℕ) (ls : List Local) (old : List ℕ) (after : Answer End → Outcome) → StmtsCode code layout p x scope ss from to → Here scope ls old → IsGood a sh → IsSeen a after → GoesEnd N K a after x (Here scope) (Here scope) to → Goes p call code layout frames cf N K a sh text ls from old (λ s. after (scoped (stmts p call ss) s))
   unfolding closing
   scoped_follows ss ih N K x scope from to a sh text ls old after c h good s go =
       ih N K x scope from to a sh text ls old (λ q. after (go_on q (closing ls))) c h good (on_seen a after (closing ls) s)
-      (λ end sh1 text1 ls1 rs1 q good1 arrived.
-      let len : length ls ≡ length scope = length_like scope ls h.like in
-      same (effect code) (λ n. after (Gives end (state n (take (length scope) ls1) (context_of a sh1) text1)))
-      (λ n. ap (λ k. after (Gives end (state n (take k ls1) (context_of a sh1) text1))) len)
-      (go end sh1 text1 (take (length scope) ls1) rs1 q good1 (ends_scope x scope (locals_at_end ss scope) end to q ls1 rs1 (end_grows ss scope) arrived)))
+      (scope_goes ss x scope to a ls after (length_like scope ls h.like) go)
 
   -- a branch or a loop's body is a scope of its own
   part_ends : (x : Exits) (scope : LocalScope) (st : Stmt) (end : End) (to q : ℕ) (ls : List Local) (rs : List ℕ) → Arrived x (Here (locals_after st scope)) (Here scope) to end q ls rs → Arrived x (Here scope) (Here scope) to end q (take (length scope) ls) rs
@@ -167,16 +175,22 @@ module _ (p : Program) (call : Caller) (code : Code) (layout : Layout) (frames :
   part_ends x scope st Continues to q ls rs a = (a.0, holds_taken scope [] ls layout (length scope) rs (subst (λ y. Holds y ls layout (length scope) rs) (sym (append-nil scope)) a.1))
   part_ends x scope st (Returns v) to q ls rs a = a
   part_ends x scope st Cancels to q ls rs a = a
+  part_ends x scope st CancelsOuter to q ls rs a = a
+
+  part_goes : {N K : ℕ} (x : Exits) (scope : LocalScope) (st : Stmt) (to : ℕ) (a : Around) (ls : List Local) (after : Answer End → Outcome) → length ls ≡ length scope → GoesEnd N K a after x (Here scope) (Here scope) to → GoesEnd N K a (λ q. after (go_on q (closing ls))) x (Here (locals_after st scope)) (Here scope) to
+  unfolding closing
+  part_goes x scope st to a ls after len go = record {
+    ends = λ end sh1 text1 ls1 rs1 q good1 arrived.
+        same (effect code) (λ n. after (Gives end (state n (take (length scope) ls1) (context_of a sh1) text1))) (λ n. ap (λ k. after (Gives end (state n (take k ls1) (context_of a sh1) text1))) len)
+        (go.ends end sh1 text1 (take (length scope) ls1) rs1 q good1 (part_ends x scope st end to q ls1 rs1 arrived));
+    outer = outer_as code _ _ a after (λ q. after (go_on q (closing ls))) (take (length ls)) (λ k ms m mode text. refl) x.in_outer go.outer;
+  }
 
   part_follows : (st : Stmt) → StmtFollows st → (N K : ℕ) (x : Exits) (scope : LocalScope) (from to : ℕ) (a : Around) (sh : Shared) (text : List ℕ) (ls : List Local) (old : List ℕ) (after : Answer End → Outcome) → StmtCode code layout p x scope st from to → Here scope ls old → IsGood a sh → IsSeen a after → GoesEnd N K a after x (Here scope) (Here scope) to → Goes p call code layout frames cf N K a sh text ls from old (λ s. after (scoped (stmt p call st) s))
   unfolding closing
   part_follows st ih N K x scope from to a sh text ls old after c h good s go =
       ih N K x scope from to a sh text ls old (λ q. after (go_on q (closing ls))) c h good (on_seen a after (closing ls) s)
-      (λ end sh1 text1 ls1 rs1 q good1 arrived.
-      let len : length ls ≡ length scope = length_like scope ls h.like in
-      same (effect code) (λ n. after (Gives end (state n (take (length scope) ls1) (context_of a sh1) text1)))
-      (λ n. ap (λ k. after (Gives end (state n (take k ls1) (context_of a sh1) text1))) len)
-      (go end sh1 text1 (take (length scope) ls1) rs1 q good1 (part_ends x scope st end to q ls1 rs1 arrived)))
+      (part_goes x scope st to a ls after (length_like scope ls h.like) go)
 
   -- statements one after another
   later_ends : (x : Exits) (scope mid later : LocalScope) (end : End) (to q : ℕ) (ls : List Local) (rs : List ℕ) → (more : LocalScope) × (mid ≡ scope ++ more) → Arrived x (Here later) (More mid) to end q ls rs → Arrived x (Here later) (More scope) to end q ls rs
@@ -191,18 +205,32 @@ module _ (p : Program) (call : Caller) (code : Code) (layout : Layout) (frames :
       more_of scope mid ls rs g h = record { more = g.0 ++ h.more; holds = subst (λ y. Holds y ls layout (length y) rs) (ap (λ y. y ++ h.more) g.1 ∙ append_assoc scope g.0 h.more) h.holds }
   later_ends x scope mid later (Returns v) to q ls rs g a = a
   later_ends x scope mid later Cancels to q ls rs g a = a
+  later_ends x scope mid later CancelsOuter to q ls rs g a = a
 
   no_more : (scope : LocalScope) (ls : List Local) (rs : List ℕ) → Here scope ls rs → More scope ls rs
   no_more scope ls rs h = record { more = []; holds = subst (λ y. Holds y ls layout (length y) rs) (sym (append-nil scope)) h }
 
-  sequence : (N K : ℕ) (x : Exits) (st : Stmt) (ss : Stmts) → StmtsFollow ss → (scope : LocalScope) (mid to : ℕ) (a : Around) (after : Answer End → Outcome) → StmtsCode code layout p x (locals_after st scope) ss mid to → IsSeen a after → GoesEnd N K a after x (Here (locals_at_end ss (locals_after st scope))) (More scope) to → GoesEnd N K a (λ q. after (go_on q (on_next (stmts p call ss)))) x (Here (locals_after st scope)) (Here scope) mid
-  sequence N K x st ss ih scope mid to a after c s go Next sh text ls rs q good arrived =
+  later_goes : {N K : ℕ} (x : Exits) (scope mid later : LocalScope) (to : ℕ) (a : Around) (after : Answer End → Outcome) → (more : LocalScope) × (mid ≡ scope ++ more) → GoesEnd N K a after x (Here later) (More scope) to → GoesEnd N K a after x (Here later) (More mid) to
+  later_goes x scope mid later to a after grown go = record {
+    ends = λ end sh1 text1 ls1 rs1 q1 good1 arrived1. go.ends end sh1 text1 ls1 rs1 q1 good1 (later_ends x scope mid later end to q1 ls1 rs1 grown arrived1);
+    outer = go.outer;
+  }
+
+  sequence_ends : (N K : ℕ) (x : Exits) (st : Stmt) (ss : Stmts) → StmtsFollow ss → (scope : LocalScope) (mid to : ℕ) (a : Around) (after : Answer End → Outcome) → StmtsCode code layout p x (locals_after st scope) ss mid to → IsSeen a after → GoesEnd N K a after x (Here (locals_at_end ss (locals_after st scope))) (More scope) to → EndsGo N K a (λ q. after (go_on q (on_next (stmts p call ss)))) x (Here (locals_after st scope)) (Here scope) mid
+  sequence_ends N K x st ss ih scope mid to a after c s go Next sh text ls rs q good arrived =
       ih N K x (locals_after st scope) q to a sh text ls rs after (subst (λ y. StmtsCode code layout p x (locals_after st scope) ss y to) (sym arrived.0) c) arrived.1 good s
-      (λ end sh1 text1 ls1 rs1 q1 good1 arrived1. go end sh1 text1 ls1 rs1 q1 good1 (later_ends x scope (locals_after st scope) (locals_at_end ss (locals_after st scope)) end to q1 ls1 rs1 (after_grows st scope) arrived1))
-  sequence N K x st ss ih scope mid to a after c s go Breaks sh text ls rs q good arrived = go Breaks sh text ls rs q good (arrived.0, no_more scope ls rs arrived.1)
-  sequence N K x st ss ih scope mid to a after c s go Continues sh text ls rs q good arrived = go Continues sh text ls rs q good (arrived.0, no_more scope ls rs arrived.1)
-  sequence N K x st ss ih scope mid to a after c s go (Returns v) sh text ls rs q good arrived = go (Returns v) sh text ls rs q good arrived
-  sequence N K x st ss ih scope mid to a after c s go Cancels sh text ls rs q good arrived = go Cancels sh text ls rs q good arrived
+      (later_goes x scope (locals_after st scope) (locals_at_end ss (locals_after st scope)) to a after (after_grows st scope) go)
+  sequence_ends N K x st ss ih scope mid to a after c s go Breaks sh text ls rs q good arrived = go.ends Breaks sh text ls rs q good (arrived.0, no_more scope ls rs arrived.1)
+  sequence_ends N K x st ss ih scope mid to a after c s go Continues sh text ls rs q good arrived = go.ends Continues sh text ls rs q good (arrived.0, no_more scope ls rs arrived.1)
+  sequence_ends N K x st ss ih scope mid to a after c s go (Returns v) sh text ls rs q good arrived = go.ends (Returns v) sh text ls rs q good arrived
+  sequence_ends N K x st ss ih scope mid to a after c s go Cancels sh text ls rs q good arrived = go.ends Cancels sh text ls rs q good arrived
+  sequence_ends N K x st ss ih scope mid to a after c s go CancelsOuter sh text ls rs q good arrived = absurd arrived
+
+  sequence : (N K : ℕ) (x : Exits) (st : Stmt) (ss : Stmts) → StmtsFollow ss → (scope : LocalScope) (mid to : ℕ) (a : Around) (after : Answer End → Outcome) → StmtsCode code layout p x (locals_after st scope) ss mid to → IsSeen a after → GoesEnd N K a after x (Here (locals_at_end ss (locals_after st scope))) (More scope) to → GoesEnd N K a (λ q. after (go_on q (on_next (stmts p call ss)))) x (Here (locals_after st scope)) (Here scope) mid
+  sequence N K x st ss ih scope mid to a after c s go = record {
+    ends = sequence_ends N K x st ss ih scope mid to a after c s go;
+    outer = outer_as code _ _ a after (λ q. after (go_on q (on_next (stmts p call ss)))) (λ ms. ms) (λ k ms m mode text. refl) x.in_outer go.outer;
+  }
 
   -- a declaration: its register is 0, and then has its first value
   zeroed : (scope : LocalScope) (x : List ℕ) (t : Scalar) (ls : List Local) (rs : List ℕ) → length scope < layout.writable → Here scope ls rs → Here (with_local scope x t) (ls ++ record { name = x; of = t; word = 0 } ∷ []) (slice_set rs (length scope) 0)
@@ -264,17 +292,22 @@ module _ (p : Program) (call : Caller) (code : Code) (layout : Layout) (frames :
       Goes p call code layout frames cf N K a sh text ls head rs (λ s. after (loop turn s))
 
   fewer_end : {N K N' K' : ℕ} (a : Around) (after : Answer End → Outcome) (x : Exits) (later others : Holding) (to : ℕ) → N' ≤ N → K' ≤ K → GoesEnd N K a after x later others to → GoesEnd N' K' a after x later others to
-  fewer_end a after x later others to b d go end sh text ls rs q good arrived = fewer (effect code) b d (go end sh text ls rs q good arrived)
+  fewer_end a after x later others to b d go =
+      record { ends = λ end sh text ls rs q good arrived. fewer (effect code) b d (go.ends end sh text ls rs q good arrived); outer = outer_fewer code a after b d x.in_outer go.outer }
 
   -- where a stretch leads to its end
-  leads_end : {N K : ℕ} (a : Around) (after : Answer End → Outcome) (x : Exits) (scope : LocalScope) (last to : ℕ) → LeadsTo code last to → GoesEnd N K a after x (Here scope) (Here scope) to → GoesEnd N K a after x (Here scope) (Here scope) last
-  leads_end {N = N} {K = K} a after x scope last to j go Next sh text ls rs q good arrived =
+  leads_ends : {N K : ℕ} (a : Around) (after : Answer End → Outcome) (x : Exits) (scope : LocalScope) (last to : ℕ) → LeadsTo code last to → GoesEnd N K a after x (Here scope) (Here scope) to → EndsGo N K a after x (Here scope) (Here scope) last
+  leads_ends {N = N} {K = K} a after x scope last to j go Next sh text ls rs q good arrived =
       subst (λ y. Goes p call code layout frames cf N K a sh text ls y rs (λ s. after (Gives Next s))) (sym arrived.0)
-      (leads p call code layout frames a sh text last to rs j (go Next sh text ls rs to good (refl, arrived.1)))
-  leads_end a after x scope last to j go Breaks sh text ls rs q good arrived = go Breaks sh text ls rs q good arrived
-  leads_end a after x scope last to j go Continues sh text ls rs q good arrived = go Continues sh text ls rs q good arrived
-  leads_end a after x scope last to j go (Returns v) sh text ls rs q good arrived = go (Returns v) sh text ls rs q good arrived
-  leads_end a after x scope last to j go Cancels sh text ls rs q good arrived = go Cancels sh text ls rs q good arrived
+      (leads p call code layout frames a sh text last to rs j (go.ends Next sh text ls rs to good (refl, arrived.1)))
+  leads_ends a after x scope last to j go Breaks sh text ls rs q good arrived = go.ends Breaks sh text ls rs q good arrived
+  leads_ends a after x scope last to j go Continues sh text ls rs q good arrived = go.ends Continues sh text ls rs q good arrived
+  leads_ends a after x scope last to j go (Returns v) sh text ls rs q good arrived = go.ends (Returns v) sh text ls rs q good arrived
+  leads_ends a after x scope last to j go Cancels sh text ls rs q good arrived = go.ends Cancels sh text ls rs q good arrived
+  leads_ends a after x scope last to j go CancelsOuter sh text ls rs q good arrived = absurd arrived
+
+  leads_end : {N K : ℕ} (a : Around) (after : Answer End → Outcome) (x : Exits) (scope : LocalScope) (last to : ℕ) → LeadsTo code last to → GoesEnd N K a after x (Here scope) (Here scope) to → GoesEnd N K a after x (Here scope) (Here scope) last
+  leads_end a after x scope last to j go = record { ends = leads_ends a after x scope last to j go; outer = go.outer }
 
   -- what one turn does, from the head of the loop on: there is an instruction in it
   abbrev TurnFollows : (a : Around) → (Answer End → Outcome) → Exits → LocalScope → (head to : ℕ) → Action (Option End) → Type 0
@@ -304,18 +337,27 @@ module _ (p : Program) (call : Caller) (code : Code) (layout : Layout) (frames :
       h good (fewer_end a after x (Here scope) (Here scope) to (omega arith) (omega arith) go)))
 
   -- the end of a body whose turn goes on with `rest`
+  turn_ends : {N K : ℕ} (x : Exits) (scope : LocalScope) (turn : Action (Option End)) (rest : Action (Option End)) (break_to continue_to next_at to last : ℕ) (a : Around) (after : Answer End → Outcome) → LeadsTo code break_to to → LeadsTo code continue_to next_at → LeadsTo code last next_at
+      → ((sh : Shared) (text : List ℕ) (ls : List Local) (rs : List ℕ) → IsGood a sh → Here scope ls rs → Goes p call code layout frames cf N K a sh text ls next_at rs (λ s. after (go_on (rest s) (after_turn (loop turn)))))
+      → GoesEnd N K a after x (Here scope) (Here scope) to → EndsGo N K a (λ q. after (go_on (go_on q (after_body rest)) (after_turn (loop turn)))) (looping x break_to continue_to) (Here scope) (Here scope) last
+  turn_ends {N = N} {K = K} x scope turn rest break_to continue_to next_at to last a after breaks continues goes_on on go Next sh text ls rs q good arrived =
+      subst (λ y. Goes p call code layout frames cf N K a sh text ls y rs (λ s. after (go_on (rest s) (after_turn (loop turn))))) (sym arrived.0)
+      (leads p call code layout frames a sh text last next_at rs goes_on (on sh text ls rs good arrived.1))
+  turn_ends x scope turn rest break_to continue_to next_at to last a after breaks continues goes_on on go Breaks sh text ls rs q good arrived =
+      passes p call code layout frames a sh text q break_to rs arrived.0 (leads p call code layout frames a sh text break_to to rs breaks (go.ends Next sh text ls rs to good (refl, arrived.1)))
+  turn_ends x scope turn rest break_to continue_to next_at to last a after breaks continues goes_on on go Continues sh text ls rs q good arrived =
+      passes p call code layout frames a sh text q continue_to rs arrived.0 (leads p call code layout frames a sh text continue_to next_at rs continues (on sh text ls rs good arrived.1))
+  turn_ends x scope turn rest break_to continue_to next_at to last a after breaks continues goes_on on go (Returns v) sh text ls rs q good arrived = go.ends (Returns v) sh text ls rs q good arrived
+  turn_ends x scope turn rest break_to continue_to next_at to last a after breaks continues goes_on on go Cancels sh text ls rs q good arrived = go.ends Cancels sh text ls rs q good arrived
+  turn_ends x scope turn rest break_to continue_to next_at to last a after breaks continues goes_on on go CancelsOuter sh text ls rs q good arrived = absurd arrived
+
   body_ends : {N K : ℕ} (x : Exits) (scope : LocalScope) (turn : Action (Option End)) (rest : Action (Option End)) (break_to continue_to next_at to last : ℕ) (a : Around) (after : Answer End → Outcome) → LeadsTo code break_to to → LeadsTo code continue_to next_at → LeadsTo code last next_at
       → ((sh : Shared) (text : List ℕ) (ls : List Local) (rs : List ℕ) → IsGood a sh → Here scope ls rs → Goes p call code layout frames cf N K a sh text ls next_at rs (λ s. after (go_on (rest s) (after_turn (loop turn)))))
       → GoesEnd N K a after x (Here scope) (Here scope) to → GoesEnd N K a (λ q. after (go_on (go_on q (after_body rest)) (after_turn (loop turn)))) (looping x break_to continue_to) (Here scope) (Here scope) last
-  body_ends {N = N} {K = K} x scope turn rest break_to continue_to next_at to last a after breaks continues goes_on on go Next sh text ls rs q good arrived =
-      subst (λ y. Goes p call code layout frames cf N K a sh text ls y rs (λ s. after (go_on (rest s) (after_turn (loop turn))))) (sym arrived.0)
-      (leads p call code layout frames a sh text last next_at rs goes_on (on sh text ls rs good arrived.1))
-  body_ends x scope turn rest break_to continue_to next_at to last a after breaks continues goes_on on go Breaks sh text ls rs q good arrived =
-      passes p call code layout frames a sh text q break_to rs arrived.0 (leads p call code layout frames a sh text break_to to rs breaks (go Next sh text ls rs to good (refl, arrived.1)))
-  body_ends x scope turn rest break_to continue_to next_at to last a after breaks continues goes_on on go Continues sh text ls rs q good arrived =
-      passes p call code layout frames a sh text q continue_to rs arrived.0 (leads p call code layout frames a sh text continue_to next_at rs continues (on sh text ls rs good arrived.1))
-  body_ends x scope turn rest break_to continue_to next_at to last a after breaks continues goes_on on go (Returns v) sh text ls rs q good arrived = go (Returns v) sh text ls rs q good arrived
-  body_ends x scope turn rest break_to continue_to next_at to last a after breaks continues goes_on on go Cancels sh text ls rs q good arrived = go Cancels sh text ls rs q good arrived
+  body_ends x scope turn rest break_to continue_to next_at to last a after breaks continues goes_on on go = record {
+    ends = turn_ends x scope turn rest break_to continue_to next_at to last a after breaks continues goes_on on go;
+    outer = outer_as code _ _ a after (λ q. after (go_on (go_on q (after_body rest)) (after_turn (loop turn)))) (λ ms. ms) (λ k ms m mode text. refl) x.in_outer go.outer;
+  }
 
   -- `while`
   while_follows : (x : Exits) (scope : LocalScope) (e : Expr) (st : Stmt) → StmtFollows st → (from to : ℕ) (c : WhileCode code layout p x scope (Testing code layout p scope e) (λ y. StmtCode code layout p y scope st) from to) (a : Around) (after : Answer End → Outcome) → IsSeen a after → TurnFollows a after x scope c.test_at to (while_turn p call e st)
@@ -339,7 +381,7 @@ module _ (p : Program) (call : Caller) (code : Code) (layout : Layout) (frames :
       places v true sh1 text1 rs1 z h1 good1 =
           same (effect code) (λ n. after (Gives Next (state n ls (context_of a sh1) text1)))
           (λ n. ap (λ b. after1 ((if b then pure (Some Next) else (scoped (stmt p call st) >>= after_body (pure None))) (state n ls (context_of a sh1) text1))) z)
-          (leads p call code layout frames a sh1 text1 c.out to rs1 c.ends (fewer (effect code) (omega arith) less (go Next sh1 text1 ls rs1 to good1 (refl, h1))))
+          (leads p call code layout frames a sh1 text1 c.out to rs1 c.ends (fewer (effect code) (omega arith) less (go.ends Next sh1 text1 ls rs1 to good1 (refl, h1))))
       places v false sh1 text1 rs1 z h1 good1 =
           same (effect code) (λ n. after1 ((scoped (stmt p call st) >>= after_body (pure None)) (state n ls (context_of a sh1) text1)))
           (λ n. ap (λ b. after1 ((if b then pure (Some Next) else (scoped (stmt p call st) >>= after_body (pure None))) (state n ls (context_of a sh1) text1))) z)
@@ -374,7 +416,7 @@ module _ (p : Program) (call : Caller) (code : Code) (layout : Layout) (frames :
       places ls v true sh1 text1 rs1 z h1 good1 =
           same (effect code) (λ n. after (Gives Next (state n ls (context_of a sh1) text1)))
           (λ n. ap (λ b. after1 (Gives (if b then Some Next else None) (state n ls (context_of a sh1) text1))) z)
-          (leads p call code layout frames a sh1 text1 c.out to rs1 c.ends (fewer (effect code) (omega arith) less (go Next sh1 text1 ls rs1 to good1 (refl, h1))))
+          (leads p call code layout frames a sh1 text1 c.out to rs1 c.ends (fewer (effect code) (omega arith) less (go.ends Next sh1 text1 ls rs1 to good1 (refl, h1))))
       places ls v false sh1 text1 rs1 z h1 good1 =
           same (effect code) (λ n. after (loop (do_turn p call st e) (state n ls (context_of a sh1) text1)))
           (λ n. ap (λ b. after1 (Gives (if b then Some Next else None) (state n ls (context_of a sh1) text1))) z)
@@ -417,7 +459,7 @@ module _ (p : Program) (call : Caller) (code : Code) (layout : Layout) (frames :
       (body_ends x scope turn (stepped p call step) c.break_to c.continue_to c.step_at to c.last a after c.breaks c.continues c.goes_on
       (λ sh2 text2 ls2 rs2 good2 h2. stepped_follows scope turn step c.step_at c.stepped c.test_at c.steps c.again a sh2 text2 ls2 rs2 after s again h2 good2)
       (fewer_end a after x (Here scope) (Here scope) to (omega arith) less go)))
-      (λ sh1 text1 rs1 good1 h1. leads p call code layout frames a sh1 text1 c.out to rs1 c.ends (fewer (effect code) (omega arith) less (go Next sh1 text1 ls rs1 to good1 (refl, h1)))))
+      (λ sh1 text1 rs1 good1 h1. leads p call code layout frames a sh1 text1 c.out to rs1 c.ends (fewer (effect code) (omega arith) less (go.ends Next sh1 text1 ls rs1 to good1 (refl, h1)))))
 
   -- the head of a `for`
   start_follows : {N K : ℕ} (st : Start) (x : Exits) (scope : LocalScope) (from to : ℕ) → StartCode code layout p scope st from to → (a : Around) (sh : Shared) (text : List ℕ) (ls : List Local) (old : List ℕ) (after : Answer End → Outcome) → Here scope ls old → IsGood a sh → IsSeen a after → GoesNext p call code layout frames cf N K a after (locals_of_start st scope) to → Goes p call code layout frames cf N K a sh text ls from old (λ s. after (start_with p call st s))
@@ -438,6 +480,16 @@ module _ (p : Program) (call : Caller) (code : Code) (layout : Layout) (frames :
   shrinks x scope later Continues to q ls rs g a = (a.0, holds_taken scope g.0 ls layout (length later) rs (subst (λ y. Holds y ls layout (length later) rs) g.1 a.1))
   shrinks x scope later (Returns v) to q ls rs g a = a
   shrinks x scope later Cancels to q ls rs g a = a
+  shrinks x scope later CancelsOuter to q ls rs g a = a
+
+  for_goes : {N K : ℕ} (x : Exits) (scope later : LocalScope) (to : ℕ) (a : Around) (ls : List Local) (after : Answer End → Outcome) → length ls ≡ length scope → (more : LocalScope) × (later ≡ scope ++ more) → GoesEnd N K a after x (Here scope) (Here scope) to → GoesEnd N K a (λ q. after (go_on q (closing ls))) x (Here later) (Here later) to
+  unfolding closing
+  for_goes x scope later to a ls after len grown go = record {
+    ends = λ end sh2 text2 ls2 rs2 q good2 arrived.
+        same (effect code) (λ n. after (Gives end (state n (take (length scope) ls2) (context_of a sh2) text2))) (λ n. ap (λ k. after (Gives end (state n (take k ls2) (context_of a sh2) text2))) len)
+        (go.ends end sh2 text2 (take (length scope) ls2) rs2 q good2 (shrinks x scope later end to q ls2 rs2 grown arrived));
+    outer = outer_as code _ _ a after (λ q. after (go_on q (closing ls))) (take (length ls)) (λ k ms m mode text. refl) x.in_outer go.outer;
+  }
 
   whole_for : (x : Exits) (scope : LocalScope) (start : Start) (o : Option Expr) (step : Option Simple) (st : Stmt) → StmtFollows st → Falls (for_turn p call o step st) → (N K from to : ℕ) (c : ForCode code layout p x (locals_of_start start scope) (StartCode code layout p scope start) o step (λ y. StmtCode code layout p y (locals_of_start start scope) st) from to) (a : Around) (sh : Shared) (text : List ℕ) (ls : List Local) (old : List ℕ) (after : Answer End → Outcome) → Here scope ls old → IsGood a sh → IsSeen a after → GoesEnd N K a after x (Here scope) (Here scope) to → Goes p call code layout frames cf N K a sh text ls from old (λ s. after (scoped (start_with p call start >> loop (for_turn p call o step st)) s))
   unfolding closing
@@ -450,85 +502,7 @@ module _ (p : Program) (call : Caller) (code : Code) (layout : Layout) (frames :
       (λ sh1 text1 ls1 rs1 good1 h1.
       leads p call code layout frames a sh1 text1 c.started c.test_at rs1 c.enters
       (loop_follows (N + K) N K (omega arith) x inner turn c.test_at to a sh1 text1 ls1 rs1 after1 f (for_follows x inner (StartCode code layout p scope start) o step st ih from to c a after1 seen1) h1 good1 seen1
-      (λ end sh2 text2 ls2 rs2 q good2 arrived.
-      let len : length ls ≡ length scope = length_like scope ls h.like in
-      same (effect code) (λ n. after (Gives end (state n (take (length scope) ls2) (context_of a sh2) text2)))
-      (λ n. ap (λ k. after (Gives end (state n (take k ls2) (context_of a sh2) text2))) len)
-      (go end sh2 text2 (take (length scope) ls2) rs2 q good2 (shrinks x scope inner end to q ls2 rs2 (start_grows start scope) arrived)))))
-
-  -- printing: where it is allowed, an irrevocable was carried out
-  abbrev MayPrint : Around → Shared → Type 0
-  MayPrint Bare sh = Unit {0}
-  MayPrint (Within k) sh = sh.kept ≡ true
-
-  -- the figures' registers, one for each value
-  pieces_follow : {N K : ℕ} (ps : List Piece) (rs : List ℕ) (vs : List Value) (from to : ℕ) → PiecesCode code layout p ps rs from to → (a : Around) (sh : Shared) (text : List ℕ) (ls : List Local) (registers : List ℕ) (after : Answer (Unit {0}) → Outcome) → map (slice_index registers) rs ≡ map (λ (v : Value). v.word) vs → MayPrint a sh → IsSeen a after → ((text1 : List ℕ) → Goes p call code layout frames cf N K a sh text1 ls to registers (λ s. after (Gives tt s))) → Goes p call code layout frames cf N K a sh text ls from registers (λ s. after (print_pieces ps vs s))
-  pieces_follow {N = N} {K = K} [] rs vs from to c a sh text ls registers after words may s go =
-      subst (λ q. Goes p call code layout frames cf N K a sh text ls q registers (λ s. after (Gives tt s))) c (go text)
-  pieces_follow (Literal piece ∷ ps) rs vs from to c a sh text ls registers after words may s go =
-      prints_piece code a after (print_pieces ps vs) sh ls text piece (configuration code from registers frames) (configuration code (suc from) registers frames) s (may_of a sh may)
-      (effect_at code from (Instr.PrintText c.0.number) registers frames c.0.prints ∙ ap (printed (configuration code from registers frames)) c.0.known)
-      (pieces_follow ps rs vs (suc from) to c.1 a sh (text ++ piece) ls registers after words may s go)
-    where
-      may_of : (a : Around) (sh : Shared) → MayPrint a sh → PrintsIn code a sh
-      may_of Bare sh m = m
-      may_of (Within k) sh m = m
-  pieces_follow (Figure t ∷ ps) [] vs from to c a sh text ls registers after words may s go = absurd c
-  pieces_follow (Figure t ∷ ps) (r ∷ rs) [] from to c a sh text ls registers after words may s go = astray (effect code) 0 (s.astray _)
-  pieces_follow (Figure t ∷ ps) (r ∷ rs) (v ∷ vs) from to c a sh text ls registers after words may s go =
-      prints_piece code a after (print_pieces ps vs) sh ls text (signed_decimal (number t v.word)) (configuration code from registers frames) (configuration code (suc from) registers frames) s (may_of a sh may)
-      (effect_at code from (Instr.PrintNumber t r) registers frames c.0 ∙ ap (λ w. Effect.Print (signed_decimal (number t w)) (configuration code (suc from) registers frames)) (ap (first_or 0) words))
-      (pieces_follow ps rs vs (suc from) to c.1 a sh (text ++ signed_decimal (number t v.word)) ls registers after (ap others_of words) may s go)
-    where
-      may_of : (a : Around) (sh : Shared) → MayPrint a sh → PrintsIn code a sh
-      may_of Bare sh m = m
-      may_of (Within k) sh m = m
-
-      first_or : ℕ → List ℕ → ℕ
-      first_or d [] = d
-      first_or d (x ∷ xs) = x
-
-      others_of : List ℕ → List ℕ
-      others_of [] = []
-      others_of (x ∷ xs) = xs
-
-  -- what may be printed inside a transaction that runs so
-  prints_inside : (o : Mode) → (((m : Memory) (s : State) → may_print_at (Inside o m) s ≡ Gives tt s) × (o ≡ Atomic → ⊥)) ⊎ ((m : Memory) (s : State) → may_print_at (Inside o m) s ≡ Stops Astray s)
-  prints_inside Relaxed = inl ((λ m s. refl), apart)
-    where
-      apart : Relaxed ≡ Atomic → ⊥
-      apart e = cc
-  prints_inside Atomic = inr (λ m s. refl)
-
-  -- the arguments and the pieces, once the irrevocable is carried out
-  abbrev print_rest : List ℕ → Exprs → Action End
-  print_rest format es = exprs p call es >>= λ vs. print_pieces (pieces format) vs >> pure Next
-
-  print_goes : {N K : ℕ} (scope : LocalScope) (format : List ℕ) (es : Exprs) (from to : ℕ) (c : PrintCode code layout p scope format es from to) (a : Around) (sh : Shared) (text : List ℕ) (ls : List Local) (old : List ℕ) (after : Answer End → Outcome) → ((sh1 : Shared) → IsGood a sh1 → MayPrint a sh1) → Here scope ls old → IsGood a sh → IsSeen a after → GoesNext p call code layout frames cf N K a after scope to → Goes p call code layout frames cf N K a sh text ls (suc from) old (λ s. after (print_rest format es s))
-  print_goes {N = N} {K = K} scope format es from to c a sh text ls old after may h good s go =
-      let rest : List Value → Action End = λ vs. print_pieces (pieces format) vs >> pure Next in
-      args_follow p call code layout frames cf scope es N K (suc from) c.mid c.free c.rs a sh text ls old (λ q. after (go_on q rest)) c.args (raised scope ls layout c.free old c.room h) good (on_seen a after rest s)
-      (λ vs sh1 text1 rs1 words below keeps good1.
-      pieces_follow (pieces format) c.rs vs c.mid to c.prints a sh1 text1 ls rs1 (λ q. after (go_on q (λ u. pure Next))) words (may sh1 good1) (on_seen a after (λ u. pure Next) s)
-      (λ text2. go sh1 text2 ls rs1 good1 (lowered scope ls layout c.free old rs1 c.room h keeps)))
-
-  print_follows : {N K : ℕ} (scope : LocalScope) (format : List ℕ) (es : Exprs) (from to : ℕ) (c : PrintCode code layout p scope format es from to) (a : Around) (sh : Shared) (text : List ℕ) (ls : List Local) (old : List ℕ) (after : Answer End → Outcome) → Here scope ls old → IsGood a sh → IsSeen a after → GoesNext p call code layout frames cf N K a after scope to → Goes p call code layout frames cf N K a sh text ls from old (λ s. after (go_on (may_print s) (λ u. print_rest format es)))
-  print_follows scope format es from to c Bare sh text ls old after h good s go =
-      irrevocable_bare code sh text (configuration code from old frames) (configuration code (suc from) old frames) (effect_at code from Instr.Irrevocable old frames c.irrevocable)
-      (print_goes scope format es from to c Bare sh text ls old after (λ sh1 g. tt) h good s go)
-  print_follows scope format es from to c (Within k) sh text ls old after h good s go = inside_print k sh good go s (prints_inside k.mode)
-    where
-      inside_print : {N K : ℕ} (k : Held) (sh : Shared) → IsGood (Within k) sh → GoesNext p call code layout frames cf N K (Within k) after scope to → IsSeen (Within k) after → (((m : Memory) (s : State) → may_print_at (Inside k.mode m) s ≡ Gives tt s) × (k.mode ≡ Atomic → ⊥)) ⊎ ((m : Memory) (s : State) → may_print_at (Inside k.mode m) s ≡ Stops Astray s) → Goes p call code layout frames cf N K (Within k) sh text ls from old (λ s. after (go_on (may_print s) (λ u. print_rest format es)))
-      inside_print k sh good go s (inr e) =
-          same (effect code) (λ n. after (Stops Astray (state n ls (Inside k.mode sh.memory) text))) (λ n. ap (λ q. after (go_on q (λ u. print_rest format es))) (e sh.memory (state n ls (Inside k.mode sh.memory) text)))
-          (astray (effect code) 0 (s.astray _))
-      inside_print k sh good go s (inl e) =
-          let kept : Held = record k { must = true } in
-          let sh1 : Shared = record sh { kept = true } in
-          same (effect code) (λ n. after (print_rest format es (state n ls (Inside k.mode sh.memory) text))) (λ n. ap (λ q. after (go_on q (λ u. print_rest format es))) (e.0 sh.memory (state n ls (Inside k.mode sh.memory) text)))
-          (irrevocable_within code k sh text (configuration code from old frames) (configuration code (suc from) old frames) (effect_at code from Instr.Irrevocable old frames c.irrevocable)
-          (print_goes scope format es from to c (Within kept) sh1 text ls old after (λ sh2 g. g.2 refl) h (good.0, (λ d. absurd (e.1 (good.1 d).1)), (λ d. refl)) (record { spent = s.spent; wants = s.wants; trapped = s.trapped; astray = s.astray })
-          (λ sh2 text2 ls2 rs2 good2 h2. go sh2 text2 ls2 rs2 (good2.0, good2.1, (λ d. good2.2 refl)) h2)))
+      (for_goes x scope inner to a ls after (length_like scope ls h.like) (start_grows start scope) go)))
 
   -- what a transaction's code needs: the body from the place behind its begin
   abbrev BodyCode : LocalScope → Stmts → Exits → (from to : ℕ) → Type 0
@@ -543,94 +517,120 @@ module _ (p : Program) (call : Caller) (code : Code) (layout : Layout) (frames :
   atomic_of mode e = ap some_mode e
 
   -- an outermost transaction is left by a commit
-  bare_commits : {N K : ℕ} (end : End) (mode : Mode) (found : Memory) (founds lefts : List Memory) (to : ℕ) (sh : Shared) (text : List ℕ) (ls : List Local) (old rs : List ℕ) (q : ℕ) (after : Answer End → Outcome) → At code q Instr.Commit → IsSeen Bare after → AllByRecursion AreWords founds → Goes p call code layout frames cf N K Bare (record { founds = founds; lefts = lefts ++ sh.memory ∷ []; memory = sh.memory; kept = sh.kept }) text ls (suc q) rs (λ s. after (Gives end s)) → Agrees (effect code) N K (holding (Within (outermost_held code mode (configuration code to old frames) found founds lefts)) sh text (configuration code q rs frames)) (λ n. after (leave founds lefts (record { end = end; locals = ls; memory = sh.memory }) (state n ls (Inside mode sh.memory) text)))
-  bare_commits end mode found founds lefts to sh text ls old rs q after i s g go =
-      leaves_outermost code after (Gives end) mode found sh.memory founds lefts sh text ls ls (configuration code q rs frames) (configuration code (suc q) rs frames) (configuration code to old frames)
-      (next_commit code mode found founds lefts sh text (configuration code q rs frames) (configuration code (suc q) rs frames) (configuration code to old frames) (effect_at code q Instr.Commit rs frames i)) s go
+  bare_commits : {N K : ℕ} (end : End) (kind : Kind) (found : Memory) (founds lefts : List Memory) (to : ℕ) (sh : Shared) (text : List ℕ) (ls : List Local) (old rs : List ℕ) (q : ℕ) (after : Answer End → Outcome) → At code q Instr.Commit → IsSeen Bare after → AllByRecursion AreWords founds → Goes p call code layout frames cf N K Bare (record { founds = founds; lefts = lefts ++ sh.memory ∷ []; memory = sh.memory; kept = sh.kept }) text ls (suc q) rs (λ s. after (Gives end s)) → Agrees (effect code) N K (holding (Within (outermost_held code (mode_of kind) (configuration code to old frames) found founds lefts)) sh text (configuration code q rs frames)) (λ n. after (leave founds lefts (record { end = end; locals = ls; memory = sh.memory }) (state n ls (Inside (mode_of kind) sh.memory) text)))
+  bare_commits end kind found founds lefts to sh text ls old rs q after i s g go =
+      leaves_outermost code after (Gives end) (mode_of kind) found sh.memory founds lefts sh text ls ls (configuration code q rs frames) (configuration code (suc q) rs frames) (configuration code to old frames)
+      (next_commit code (mode_of kind) found founds lefts sh text (configuration code q rs frames) (configuration code (suc q) rs frames) (configuration code to old frames) (effect_at code q Instr.Commit rs frames i)) s go
 
-  bare_ends : {N K : ℕ} (mode : Mode) (x : Exits) (scope : LocalScope) (ss : Stmts) (from to : ℕ) (c : TransactionCode code layout p mode x (BodyCode scope ss) from to) (found : Memory) (founds lefts : List Memory) (ls : List Local) (old : List ℕ) (after : Answer End → Outcome) → Here scope ls old → IsSeen Bare after → AllByRecursion AreWords founds → GoesEnd N K Bare after x (Here scope) (Here scope) to → GoesEnd N K (Within (outermost_held code mode (configuration code to old frames) found founds lefts)) (λ q. after (close founds lefts ls found q)) (in_transaction mode x) (Here scope) (Here scope) c.last
-  bare_ends mode x scope ss from to c found founds lefts ls old after h s g go Next sh text ls1 rs q good arrived =
-      bare_commits Next mode found founds lefts to sh text ls1 old rs q after (subst (λ y. At code y Instr.Commit) (sym arrived.0) c.commits) s g
-      (go Next (record { founds = founds; lefts = lefts ++ sh.memory ∷ []; memory = sh.memory; kept = sh.kept }) text ls1 rs (suc q) g (ap suc arrived.0 ∙ sym c.to_is, arrived.1))
-  bare_ends mode x scope ss from to c found founds lefts ls old after h s g go Breaks sh text ls1 rs q good arrived =
-      bare_commits Breaks mode found founds lefts to sh text ls1 old rs q after arrived.0.0 s g (go Breaks (record { founds = founds; lefts = lefts ++ sh.memory ∷ []; memory = sh.memory; kept = sh.kept }) text ls1 rs (suc q) g (arrived.0.1, arrived.1))
-  bare_ends mode x scope ss from to c found founds lefts ls old after h s g go Continues sh text ls1 rs q good arrived =
-      bare_commits Continues mode found founds lefts to sh text ls1 old rs q after arrived.0.0 s g (go Continues (record { founds = founds; lefts = lefts ++ sh.memory ∷ []; memory = sh.memory; kept = sh.kept }) text ls1 rs (suc q) g (arrived.0.1, arrived.1))
-  bare_ends mode x scope ss from to c found founds lefts ls old after h s g go (Returns v) sh text ls1 rs q good arrived =
-      bare_commits (Returns v) mode found founds lefts to sh text ls1 old rs q after arrived.1.0 s g (go (Returns v) (record { founds = founds; lefts = lefts ++ sh.memory ∷ []; memory = sh.memory; kept = sh.kept }) text ls1 rs (suc q) g (arrived.0, arrived.1.1, arrived.2, arrived.3))
-  bare_ends mode x scope ss from to c found founds lefts ls old after h s g go Cancels sh text ls1 rs q good arrived =
-      leaves_outermost code after (Gives Next) mode found found founds lefts sh text ls1 ls (configuration code q rs frames) (configuration code to old frames) (configuration code to old frames)
-      (next_cancel code mode found founds lefts sh text (configuration code q rs frames) (configuration code to old frames) (effect_at code q Instr.Cancel rs frames arrived.1) (good.1 (atomic_of mode arrived.0)).0) s
-      (go Next (record { founds = founds; lefts = lefts ++ found ∷ []; memory = sh.memory; kept = sh.kept }) text ls old to g (refl, h))
+  bare_each : {N K : ℕ} (kind : Kind) (x : Exits) (scope : LocalScope) (ss : Stmts) (from to : ℕ) (c : TransactionCode code layout p kind x (BodyCode scope ss) from to) (found : Memory) (founds lefts : List Memory) (ls : List Local) (old : List ℕ) (after : Answer End → Outcome) → Here scope ls old → IsSeen Bare after → AllByRecursion AreWords founds → GoesEnd N K Bare after x (Here scope) (Here scope) to → EndsGo N K (Within (outermost_held code (mode_of kind) (configuration code to old frames) found founds lefts)) (λ q. after (close kind founds lefts ls found q)) (in_transaction kind x) (Here scope) (Here scope) c.last
+  bare_each kind x scope ss from to c found founds lefts ls old after h s g go Next sh text ls1 rs q good arrived =
+      bare_commits Next kind found founds lefts to sh text ls1 old rs q after (subst (λ y. At code y Instr.Commit) (sym arrived.0) c.commits) s g
+      (go.ends Next (record { founds = founds; lefts = lefts ++ sh.memory ∷ []; memory = sh.memory; kept = sh.kept }) text ls1 rs (suc q) g (ap suc arrived.0 ∙ sym c.to_is, arrived.1))
+  bare_each kind x scope ss from to c found founds lefts ls old after h s g go Breaks sh text ls1 rs q good arrived =
+      bare_commits Breaks kind found founds lefts to sh text ls1 old rs q after arrived.0.0 s g (go.ends Breaks (record { founds = founds; lefts = lefts ++ sh.memory ∷ []; memory = sh.memory; kept = sh.kept }) text ls1 rs (suc q) g (arrived.0.1, arrived.1))
+  bare_each kind x scope ss from to c found founds lefts ls old after h s g go Continues sh text ls1 rs q good arrived =
+      bare_commits Continues kind found founds lefts to sh text ls1 old rs q after arrived.0.0 s g (go.ends Continues (record { founds = founds; lefts = lefts ++ sh.memory ∷ []; memory = sh.memory; kept = sh.kept }) text ls1 rs (suc q) g (arrived.0.1, arrived.1))
+  bare_each kind x scope ss from to c found founds lefts ls old after h s g go (Returns v) sh text ls1 rs q good arrived =
+      bare_commits (Returns v) kind found founds lefts to sh text ls1 old rs q after arrived.1.0 s g (go.ends (Returns v) (record { founds = founds; lefts = lefts ++ sh.memory ∷ []; memory = sh.memory; kept = sh.kept }) text ls1 rs (suc q) g (arrived.0, arrived.1.1, arrived.2, arrived.3))
+  bare_each kind x scope ss from to c found founds lefts ls old after h s g go Cancels sh text ls1 rs q good arrived =
+      leaves_outermost code after (Gives Next) (mode_of kind) found found founds lefts sh text ls1 ls (configuration code q rs frames) (configuration code to old frames) (configuration code to old frames)
+      (next_cancel code (mode_of kind) found founds lefts sh text (configuration code q rs frames) (configuration code to old frames) (effect_at code q Instr.Cancel rs frames arrived.1) (good.1 (atomic_of (mode_of kind) arrived.0)).0) s
+      (go.ends Next (record { founds = founds; lefts = lefts ++ found ∷ []; memory = sh.memory; kept = sh.kept }) text ls old to g (refl, h))
+  bare_each kind x scope ss from to c found founds lefts ls old after h s g go CancelsOuter sh text ls1 rs q good arrived = absurd arrived
 
-  bare_transaction : (mode : Mode) (ss : Stmts) → StmtsFollow ss → (N K : ℕ) (x : Exits) (scope : LocalScope) (from to : ℕ) (founds lefts : List Memory) (memory : Memory) (kept : Bool) (text : List ℕ) (ls : List Local) (old : List ℕ) (after : Answer End → Outcome) → TransactionCode code layout p mode x (BodyCode scope ss) from to → Here scope ls old → AllByRecursion AreWords founds → IsSeen Bare after → GoesEnd N K Bare after x (Here scope) (Here scope) to → Goes p call code layout frames cf N K Bare (record { founds = founds; lefts = lefts; memory = memory; kept = kept }) text ls from old (λ s. after (go_on (tick s) (λ u. transaction mode (scoped (stmts p call ss)))))
-  bare_transaction mode ss ih N K x scope from to [] lefts memory kept text ls old after c h g s go =
-      same (effect code) (λ n. after (go_on (tick (state n ls (Outside [] lefts) text)) (λ u. stop Wants))) (wanted mode (scoped (stmts p call ss)) lefts text ls after)
+  bare_outer : {N K : ℕ} (kind : Kind) (x : Exits) (scope : LocalScope) (ss : Stmts) (from to : ℕ) (c : TransactionCode code layout p kind x (BodyCode scope ss) from to) (found : Memory) (founds lefts : List Memory) (ls : List Local) (old : List ℕ) (after : Answer End → Outcome) → Here scope ls old → IsSeen Bare after → AllByRecursion AreWords founds → GoesEnd N K Bare after x (Here scope) (Here scope) to → OuterGoes code N K (Within (outermost_held code (mode_of kind) (configuration code to old frames) found founds lefts)) (λ q. after (close kind founds lefts ls found q)) (with_level kind x.in_outer)
+  bare_outer Outer x scope ss from to c found founds lefts ls old after h s g go = (
+    (λ e. refl),
+    λ sh text ls1 s0 good cancels.
+        leaves_by code after (Gives Next) found founds lefts text ls1 ls (configuration code to old frames) s0
+        (cancels.next_is ∙ ap (λ b. cancel_step (holding (Within (outermost_held code Atomic (configuration code to old frames) found founds lefts)) sh text s0.configuration) (opened code (outermost_held code Atomic (configuration code to old frames) found founds lefts) sh) [] b) (cancels.free refl))
+        cancels.seen s
+        (go.ends Next (record { founds = founds; lefts = lefts ++ found ∷ []; memory = sh.memory; kept = sh.kept }) text ls old to g (refl, h)),
+  )
+  bare_outer (Plain mode) x scope ss from to c found founds lefts ls old after h s g go =
+      through_bare code _ _ (outermost_held code mode (configuration code to old frames) found founds lefts) after (λ q. after (close (Plain mode) founds lefts ls found q)) x.in_outer go.outer
+
+  bare_ends : {N K : ℕ} (kind : Kind) (x : Exits) (scope : LocalScope) (ss : Stmts) (from to : ℕ) (c : TransactionCode code layout p kind x (BodyCode scope ss) from to) (found : Memory) (founds lefts : List Memory) (ls : List Local) (old : List ℕ) (after : Answer End → Outcome) → Here scope ls old → IsSeen Bare after → AllByRecursion AreWords founds → GoesEnd N K Bare after x (Here scope) (Here scope) to → GoesEnd N K (Within (outermost_held code (mode_of kind) (configuration code to old frames) found founds lefts)) (λ q. after (close kind founds lefts ls found q)) (in_transaction kind x) (Here scope) (Here scope) c.last
+  bare_ends kind x scope ss from to c found founds lefts ls old after h s g go = record {
+    ends = bare_each kind x scope ss from to c found founds lefts ls old after h s g go;
+    outer = bare_outer kind x scope ss from to c found founds lefts ls old after h s g go;
+  }
+
+  bare_transaction : (kind : Kind) (ss : Stmts) → StmtsFollow ss → (N K : ℕ) (x : Exits) (scope : LocalScope) (from to : ℕ) (founds lefts : List Memory) (memory : Memory) (kept : Bool) (text : List ℕ) (ls : List Local) (old : List ℕ) (after : Answer End → Outcome) → TransactionCode code layout p kind x (BodyCode scope ss) from to → Here scope ls old → AllByRecursion AreWords founds → IsSeen Bare after → GoesEnd N K Bare after x (Here scope) (Here scope) to → Goes p call code layout frames cf N K Bare (record { founds = founds; lefts = lefts; memory = memory; kept = kept }) text ls from old (λ s. after (go_on (tick s) (λ u. transaction kind (scoped (stmts p call ss)))))
+  bare_transaction kind ss ih N K x scope from to [] lefts memory kept text ls old after c h g s go =
+      same (effect code) (λ n. after (go_on (tick (state n ls (Outside [] lefts) text)) (λ u. stop Wants))) (wanted kind (scoped (stmts p call ss)) lefts text ls after)
       (wants_one code after lefts memory kept text ls (configuration code from old frames) (configuration code (suc from) old frames) (configuration code to old frames) s (effect_at code from (Instr.Begin to) old frames c.begins))
     where
-      wanted : (mode : Mode) (run : Action End) (lefts : List Memory) (text : List ℕ) (ls : List Local) (after : Answer End → Outcome) (n : ℕ) → after (go_on (tick (state n ls (Outside [] lefts) text)) (λ u. transaction mode run)) ≡ after (go_on (tick (state n ls (Outside [] lefts) text)) (λ u. stop Wants))
-      wanted mode run lefts text ls after zero = refl
-      wanted mode run lefts text ls after (suc n) = refl
-  bare_transaction mode ss ih N K x scope from to (found ∷ founds) lefts memory kept text ls old after c h g s go =
-      let held : Held = outermost_held code mode (configuration code to old frames) found founds lefts in
-      let after1 : Answer End → Outcome = λ q. after (close founds lefts ls found q) in
+      wanted : (kind : Kind) (run : Action End) (lefts : List Memory) (text : List ℕ) (ls : List Local) (after : Answer End → Outcome) (n : ℕ) → after (go_on (tick (state n ls (Outside [] lefts) text)) (λ u. transaction kind run)) ≡ after (go_on (tick (state n ls (Outside [] lefts) text)) (λ u. stop Wants))
+      wanted kind run lefts text ls after zero = refl
+      wanted kind run lefts text ls after (suc n) = refl
+  bare_transaction kind ss ih N K x scope from to (found ∷ founds) lefts memory kept text ls old after c h g s go =
+      let held : Held = outermost_held code (mode_of kind) (configuration code to old frames) found founds lefts in
+      let after1 : Answer End → Outcome = λ q. after (close kind founds lefts ls found q) in
       let seen1 : IsSeen (Within held) after1 = record { spent = λ t. s.spent _; wants = λ t. s.wants _; trapped = λ k t. s.trapped k _; astray = λ t. s.astray _ } in
-      tick_goes code Bare after (transaction mode (scoped (stmts p call ss))) (record { founds = found ∷ founds; lefts = lefts; memory = memory; kept = kept }) ls text (configuration code from old frames) s
-      (begins_outermost code found founds lefts memory kept text mode (configuration code from old frames) (configuration code (suc from) old frames) (configuration code to old frames) (effect_at code from (Instr.Begin to) old frames c.begins)
-      (scoped_follows ss ih N K (in_transaction mode x) scope (suc from) c.last (Within held) (record { founds = founds; lefts = lefts; memory = found; kept = false }) text ls old after1 c.runs h (g.0, (λ e. (refl, e)), (λ e. e)) seen1
-      (bare_ends mode x scope ss from to c found founds lefts ls old after h s g.1 go)))
-
-  -- a transaction inside another: an atomic one holds only atomic ones
-  enters : (o mode : Mode) → (((m : Memory) (run : Action End) (s : State) → enter (Inside o m) mode run s ≡ close_inner o s.locals m (run (record s { context = Inside mode m }))) × (o ≡ Atomic → mode ≡ Atomic)) ⊎ ((m : Memory) (run : Action End) (s : State) → enter (Inside o m) mode run s ≡ Stops Astray s)
-  enters Relaxed mode = inl ((λ m run s. refl), (λ e. absurd (apart e)))
-    where
-      apart : Relaxed ≡ Atomic → ⊥
-      apart e = cc
-  enters Atomic Atomic = inl ((λ m run s. refl), (λ e. refl))
-  enters Atomic Relaxed = inr (λ m run s. refl)
+      tick_goes code Bare after (transaction kind (scoped (stmts p call ss))) (record { founds = found ∷ founds; lefts = lefts; memory = memory; kept = kept }) ls text (configuration code from old frames) s
+      (begins_outermost code found founds lefts memory kept text (mode_of kind) (configuration code from old frames) (configuration code (suc from) old frames) (configuration code to old frames) (effect_at code from (Instr.Begin to) old frames c.begins)
+      (scoped_follows ss ih N K (in_transaction kind x) scope (suc from) c.last (Within held) (record { founds = founds; lefts = lefts; memory = found; kept = false }) text ls old after1 c.runs h (g.0, (λ e. (refl, e)), (λ e. e)) seen1
+      (bare_ends kind x scope ss from to c found founds lefts ls old after h s g.1 go)))
 
   -- what is good in an inner transaction is good outside it
-  good_out : (h : Held) (mode : Mode) (sh sh1 : Shared) (m : Memory) (d : Configuration) → IsGood (Within h) sh → IsGood (Within (inner_held code h mode m d)) sh1 → IsGood (Within h) sh1
-  good_out h mode sh sh1 m d g g1 = (g1.0, (λ e. ((g1.1 e).0, (g.1 e).1)), g1.2)
+  good_out : (h : Held) (kind : Kind) (sh sh1 : Shared) (m : Memory) (d : Configuration) → IsGood (Within h) sh → IsGood (Within (inner_held code h (mode_of kind) m d)) sh1 → IsGood (Within h) sh1
+  good_out h kind sh sh1 m d g g1 = (g1.0, (λ e. ((g1.1 e).0, (g.1 e).1)), g1.2)
 
-  inner_ends : {N K : ℕ} (k : Held) (mode : Mode) (x : Exits) (scope : LocalScope) (ss : Stmts) (from to : ℕ) (c : TransactionCode code layout p mode x (BodyCode scope ss) from to) (sh : Shared) (ls : List Local) (old : List ℕ) (after : Answer End → Outcome) → Here scope ls old → IsGood (Within k) sh → GoesEnd N K (Within k) after x (Here scope) (Here scope) to → GoesEnd N K (Within (inner_held code k mode sh.memory (configuration code to old frames))) (λ q. after (close_inner k.mode ls sh.memory q)) (in_transaction mode x) (Here scope) (Here scope) c.last
-  inner_ends k mode x scope ss from to c sh ls old after h g go Next sh1 text ls1 rs q good arrived =
-      commits_inner code k sh1 text mode sh.memory (configuration code q rs frames) (configuration code (suc q) rs frames) (configuration code to old frames) (effect_at code q Instr.Commit rs frames (subst (λ y. At code y Instr.Commit) (sym arrived.0) c.commits))
-      (go Next sh1 text ls1 rs (suc q) (good_out k mode sh sh1 sh.memory (configuration code to old frames) g good) (ap suc arrived.0 ∙ sym c.to_is, arrived.1))
-  inner_ends k mode x scope ss from to c sh ls old after h g go Breaks sh1 text ls1 rs q good arrived =
-      commits_inner code k sh1 text mode sh.memory (configuration code q rs frames) (configuration code (suc q) rs frames) (configuration code to old frames) (effect_at code q Instr.Commit rs frames arrived.0.0)
-      (go Breaks sh1 text ls1 rs (suc q) (good_out k mode sh sh1 sh.memory (configuration code to old frames) g good) (arrived.0.1, arrived.1))
-  inner_ends k mode x scope ss from to c sh ls old after h g go Continues sh1 text ls1 rs q good arrived =
-      commits_inner code k sh1 text mode sh.memory (configuration code q rs frames) (configuration code (suc q) rs frames) (configuration code to old frames) (effect_at code q Instr.Commit rs frames arrived.0.0)
-      (go Continues sh1 text ls1 rs (suc q) (good_out k mode sh sh1 sh.memory (configuration code to old frames) g good) (arrived.0.1, arrived.1))
-  inner_ends k mode x scope ss from to c sh ls old after h g go (Returns v) sh1 text ls1 rs q good arrived =
-      commits_inner code k sh1 text mode sh.memory (configuration code q rs frames) (configuration code (suc q) rs frames) (configuration code to old frames) (effect_at code q Instr.Commit rs frames arrived.1.0)
-      (go (Returns v) sh1 text ls1 rs (suc q) (good_out k mode sh sh1 sh.memory (configuration code to old frames) g good) (arrived.0, arrived.1.1, arrived.2, arrived.3))
-  inner_ends k mode x scope ss from to c sh ls old after h g go Cancels sh1 text ls1 rs q good arrived =
-      cancels_inner code k sh1 text mode sh.memory (configuration code q rs frames) (configuration code to old frames) (effect_at code q Instr.Cancel rs frames arrived.1)
-      (go Next (record sh1 { memory = sh.memory }) text ls old to (g.0, (λ e. ((good.1 e).0, (g.1 e).1)), good.2) (refl, h))
+  inner_each : {N K : ℕ} (k : Held) (kind : Kind) (x : Exits) (scope : LocalScope) (ss : Stmts) (from to : ℕ) (c : TransactionCode code layout p kind x (BodyCode scope ss) from to) (sh : Shared) (ls : List Local) (old : List ℕ) (after : Answer End → Outcome) → Here scope ls old → IsGood (Within k) sh → GoesEnd N K (Within k) after x (Here scope) (Here scope) to → EndsGo N K (Within (inner_held code k (mode_of kind) sh.memory (configuration code to old frames))) (λ q. after (close_inner k.mode kind ls sh.memory q)) (in_transaction kind x) (Here scope) (Here scope) c.last
+  inner_each k kind x scope ss from to c sh ls old after h g go Next sh1 text ls1 rs q good arrived =
+      commits_inner code k sh1 text (mode_of kind) sh.memory (configuration code q rs frames) (configuration code (suc q) rs frames) (configuration code to old frames) (effect_at code q Instr.Commit rs frames (subst (λ y. At code y Instr.Commit) (sym arrived.0) c.commits))
+      (go.ends Next sh1 text ls1 rs (suc q) (good_out k kind sh sh1 sh.memory (configuration code to old frames) g good) (ap suc arrived.0 ∙ sym c.to_is, arrived.1))
+  inner_each k kind x scope ss from to c sh ls old after h g go Breaks sh1 text ls1 rs q good arrived =
+      commits_inner code k sh1 text (mode_of kind) sh.memory (configuration code q rs frames) (configuration code (suc q) rs frames) (configuration code to old frames) (effect_at code q Instr.Commit rs frames arrived.0.0)
+      (go.ends Breaks sh1 text ls1 rs (suc q) (good_out k kind sh sh1 sh.memory (configuration code to old frames) g good) (arrived.0.1, arrived.1))
+  inner_each k kind x scope ss from to c sh ls old after h g go Continues sh1 text ls1 rs q good arrived =
+      commits_inner code k sh1 text (mode_of kind) sh.memory (configuration code q rs frames) (configuration code (suc q) rs frames) (configuration code to old frames) (effect_at code q Instr.Commit rs frames arrived.0.0)
+      (go.ends Continues sh1 text ls1 rs (suc q) (good_out k kind sh sh1 sh.memory (configuration code to old frames) g good) (arrived.0.1, arrived.1))
+  inner_each k kind x scope ss from to c sh ls old after h g go (Returns v) sh1 text ls1 rs q good arrived =
+      commits_inner code k sh1 text (mode_of kind) sh.memory (configuration code q rs frames) (configuration code (suc q) rs frames) (configuration code to old frames) (effect_at code q Instr.Commit rs frames arrived.1.0)
+      (go.ends (Returns v) sh1 text ls1 rs (suc q) (good_out k kind sh sh1 sh.memory (configuration code to old frames) g good) (arrived.0, arrived.1.1, arrived.2, arrived.3))
+  inner_each k kind x scope ss from to c sh ls old after h g go Cancels sh1 text ls1 rs q good arrived =
+      cancels_inner code k sh1 text (mode_of kind) sh.memory (configuration code q rs frames) (configuration code to old frames) (effect_at code q Instr.Cancel rs frames arrived.1)
+      (go.ends Next (record sh1 { memory = sh.memory }) text ls old to (g.0, (λ e. ((good.1 e).0, (g.1 e).1)), good.2) (refl, h))
+  inner_each k kind x scope ss from to c sh ls old after h g go CancelsOuter sh1 text ls1 rs q good arrived = absurd arrived
 
-  inner_transaction : (mode : Mode) (ss : Stmts) → StmtsFollow ss → (N K : ℕ) (x : Exits) (scope : LocalScope) (from to : ℕ) (k : Held) (sh : Shared) (text : List ℕ) (ls : List Local) (old : List ℕ) (after : Answer End → Outcome) → (((m : Memory) (run : Action End) (s : State) → enter (Inside k.mode m) mode run s ≡ close_inner k.mode s.locals m (run (record s { context = Inside mode m }))) × (k.mode ≡ Atomic → mode ≡ Atomic)) ⊎ ((m : Memory) (run : Action End) (s : State) → enter (Inside k.mode m) mode run s ≡ Stops Astray s) → TransactionCode code layout p mode x (BodyCode scope ss) from to → Here scope ls old → IsGood (Within k) sh → IsSeen (Within k) after → GoesEnd N K (Within k) after x (Here scope) (Here scope) to → Goes p call code layout frames cf N K (Within k) sh text ls from old (λ s. after (transaction mode (scoped (stmts p call ss)) s))
-  inner_transaction mode ss ih N K x scope from to k sh text ls old after (inl e) c h g s go =
+  inner_outer : {N K : ℕ} (k : Held) (kind : Kind) (x : Exits) (scope : LocalScope) (ss : Stmts) (from to : ℕ) (c : TransactionCode code layout p kind x (BodyCode scope ss) from to) (sh : Shared) (ls : List Local) (old : List ℕ) (after : Answer End → Outcome) → Here scope ls old → IsGood (Within k) sh → GoesEnd N K (Within k) after x (Here scope) (Here scope) to → OuterGoes code N K (Within (inner_held code k (mode_of kind) sh.memory (configuration code to old frames))) (λ q. after (close_inner k.mode kind ls sh.memory q)) (with_level kind x.in_outer)
+  inner_outer k Outer x scope ss from to c sh ls old after h g go = (
+    (λ e. absurd (cc e)),
+    λ sh1 text ls1 s0 good cancels.
+        fewer (effect code) (omega arith) (omega arith)
+        (quiet (effect code) cancels.next_is (sym cancels.seen)
+        (go.ends Next (record sh1 { memory = sh.memory }) text ls old to (g.0, (λ e. ((good.1 e).0, (g.1 e).1)), good.2) (refl, h))),
+  )
+  inner_outer k (Plain mode) x scope ss from to c sh ls old after h g go =
+      through_plain code _ _ k mode sh.memory (configuration code to old frames) sh ls after g x.in_outer go.outer
+
+  inner_ends : {N K : ℕ} (k : Held) (kind : Kind) (x : Exits) (scope : LocalScope) (ss : Stmts) (from to : ℕ) (c : TransactionCode code layout p kind x (BodyCode scope ss) from to) (sh : Shared) (ls : List Local) (old : List ℕ) (after : Answer End → Outcome) → Here scope ls old → IsGood (Within k) sh → GoesEnd N K (Within k) after x (Here scope) (Here scope) to → GoesEnd N K (Within (inner_held code k (mode_of kind) sh.memory (configuration code to old frames))) (λ q. after (close_inner k.mode kind ls sh.memory q)) (in_transaction kind x) (Here scope) (Here scope) c.last
+  inner_ends k kind x scope ss from to c sh ls old after h g go =
+      record { ends = inner_each k kind x scope ss from to c sh ls old after h g go; outer = inner_outer k kind x scope ss from to c sh ls old after h g go }
+
+  inner_transaction : (kind : Kind) (ss : Stmts) → StmtsFollow ss → (N K : ℕ) (x : Exits) (scope : LocalScope) (from to : ℕ) (k : Held) (sh : Shared) (text : List ℕ) (ls : List Local) (old : List ℕ) (after : Answer End → Outcome) → Enters k.mode kind → TransactionCode code layout p kind x (BodyCode scope ss) from to → Here scope ls old → IsGood (Within k) sh → IsSeen (Within k) after → GoesEnd N K (Within k) after x (Here scope) (Here scope) to → Goes p call code layout frames cf N K (Within k) sh text ls from old (λ s. after (transaction kind (scoped (stmts p call ss)) s))
+  inner_transaction kind ss ih N K x scope from to k sh text ls old after (inl e) c h g s go =
       let run : Action End = scoped (stmts p call ss) in
-      let held : Held = inner_held code k mode sh.memory (configuration code to old frames) in
-      let after1 : Answer End → Outcome = λ q. after (close_inner k.mode ls sh.memory q) in
+      let held : Held = inner_held code k (mode_of kind) sh.memory (configuration code to old frames) in
+      let after1 : Answer End → Outcome = λ q. after (close_inner k.mode kind ls sh.memory q) in
       let seen1 : IsSeen (Within held) after1 = record { spent = s.spent; wants = s.wants; trapped = s.trapped; astray = s.astray } in
-      same (effect code) (λ n. after1 (run (state n ls (Inside mode sh.memory) text))) (λ n. ap after (e.0 sh.memory run (state n ls (Inside k.mode sh.memory) text)))
-      (begins_inner code k sh text mode (configuration code from old frames) (configuration code (suc from) old frames) (configuration code to old frames) (effect_at code from (Instr.Begin to) old frames c.begins)
-      (scoped_follows ss ih N K (in_transaction mode x) scope (suc from) c.last (Within held) sh text ls old after1 c.runs h (g.0, (λ d. ((g.1 d).0, e.1 (g.1 d).1)), g.2) seen1
-      (inner_ends k mode x scope ss from to c sh ls old after h g go)))
-  inner_transaction mode ss ih N K x scope from to k sh text ls old after (inr e) c h g s go =
+      same (effect code) (λ n. after1 (run (state n ls (Inside (mode_of kind) sh.memory) text))) (λ n. ap after (e.0 sh.memory run (state n ls (Inside k.mode sh.memory) text)))
+      (begins_inner code k sh text (mode_of kind) (configuration code from old frames) (configuration code (suc from) old frames) (configuration code to old frames) (effect_at code from (Instr.Begin to) old frames c.begins)
+      (scoped_follows ss ih N K (in_transaction kind x) scope (suc from) c.last (Within held) sh text ls old after1 c.runs h (g.0, (λ d. ((g.1 d).0, e.1 (g.1 d).1)), g.2) seen1
+      (inner_ends k kind x scope ss from to c sh ls old after h g go)))
+  inner_transaction kind ss ih N K x scope from to k sh text ls old after (inr e) c h g s go =
       let run : Action End = scoped (stmts p call ss) in
       same (effect code) (λ n. after (Stops Astray (state n ls (Inside k.mode sh.memory) text))) (λ n. ap after (e sh.memory run (state n ls (Inside k.mode sh.memory) text)))
       (astray (effect code) 0 (s.astray _))
 
-  transaction_follows : (mode : Mode) (ss : Stmts) → StmtsFollow ss → (N K : ℕ) (x : Exits) (scope : LocalScope) (from to : ℕ) (a : Around) (sh : Shared) (text : List ℕ) (ls : List Local) (old : List ℕ) (after : Answer End → Outcome) → TransactionCode code layout p mode x (BodyCode scope ss) from to → Here scope ls old → IsGood a sh → IsSeen a after → GoesEnd N K a after x (Here scope) (Here scope) to → Goes p call code layout frames cf N K a sh text ls from old (λ s. after (go_on (tick s) (λ u. transaction mode (scoped (stmts p call ss)))))
-  transaction_follows mode ss ih N K x scope from to Bare sh text ls old after c h g s go =
-      bare_transaction mode ss ih N K x scope from to sh.founds sh.lefts sh.memory sh.kept text ls old after c h g s go
-  transaction_follows mode ss ih N K x scope from to (Within k) sh text ls old after c h g s go =
-      tick_goes code (Within k) after (transaction mode (scoped (stmts p call ss))) sh ls text (configuration code from old frames) s
-      (inner_transaction mode ss ih N K x scope from to k sh text ls old after (enters k.mode mode) c h g s go)
+  transaction_follows : (kind : Kind) (ss : Stmts) → StmtsFollow ss → (N K : ℕ) (x : Exits) (scope : LocalScope) (from to : ℕ) (a : Around) (sh : Shared) (text : List ℕ) (ls : List Local) (old : List ℕ) (after : Answer End → Outcome) → TransactionCode code layout p kind x (BodyCode scope ss) from to → Here scope ls old → IsGood a sh → IsSeen a after → GoesEnd N K a after x (Here scope) (Here scope) to → Goes p call code layout frames cf N K a sh text ls from old (λ s. after (go_on (tick s) (λ u. transaction kind (scoped (stmts p call ss)))))
+  transaction_follows kind ss ih N K x scope from to Bare sh text ls old after c h g s go =
+      bare_transaction kind ss ih N K x scope from to sh.founds sh.lefts sh.memory sh.kept text ls old after c h g s go
+  transaction_follows kind ss ih N K x scope from to (Within k) sh text ls old after c h g s go =
+      tick_goes code (Within k) after (transaction kind (scoped (stmts p call ss))) sh ls text (configuration code from old frames) s
+      (inner_transaction kind ss ih N K x scope from to k sh text ls old after (enters k.mode kind) c h g s go)
 
   -- `if` and `else`
   if_follows : {N K : ℕ} (x : Exits) (scope : LocalScope) (e : Expr) (st : Stmt) → StmtFollows st → (from to : ℕ) (c : IfCode code layout p scope (Testing code layout p scope e) (StmtCode code layout p x scope st) from to) (a : Around) (sh : Shared) (text : List ℕ) (ls : List Local) (old : List ℕ) (after : Answer End → Outcome) → Here scope ls old → IsGood a sh → IsSeen a after → GoesEnd N K a after x (Here scope) (Here scope) to → Goes p call code layout frames cf N K a sh text ls from old (λ s. after ((expr p call e >>= λ v. if is_zero v then pure Next else scoped (stmt p call st)) s))
@@ -645,7 +645,7 @@ module _ (p : Program) (call : Caller) (code : Code) (layout : Layout) (frames :
       places v true sh1 text1 rs1 z h1 good1 =
           same (effect code) (λ n. after (Gives Next (state n ls (context_of a sh1) text1)))
           (λ n. ap (λ b. after ((if b then pure Next else scoped (stmt p call st)) (state n ls (context_of a sh1) text1))) z)
-          (leads p call code layout frames a sh1 text1 c.unmet to rs1 c.else_leads (go Next sh1 text1 ls rs1 to good1 (refl, h1)))
+          (leads p call code layout frames a sh1 text1 c.unmet to rs1 c.else_leads (go.ends Next sh1 text1 ls rs1 to good1 (refl, h1)))
       places v false sh1 text1 rs1 z h1 good1 =
           same (effect code) (λ n. after (scoped (stmt p call st) (state n ls (context_of a sh1) text1)))
           (λ n. ap (λ b. after ((if b then pure Next else scoped (stmt p call st)) (state n ls (context_of a sh1) text1))) z)
@@ -682,19 +682,19 @@ module _ (p : Program) (call : Caller) (code : Code) (layout : Layout) (frames :
     mutual
       pub stmt_follows : (st : Stmt) → StmtFollows st
       stmt_follows Empty N K x scope from to a sh text ls old after c h good s go =
-          timed (pure Next) N K from a sh text ls old after s (go Next sh text ls old from good (sym c, h))
+          timed (pure Next) N K from a sh text ls old after s (go.ends Next sh text ls old from good (sym c, h))
       stmt_follows (Declare d) N K x scope from to a sh text ls old after c h good s go =
           timed (declare p call d.of d.declarators) N K from a sh text ls old after s
-          (declare_follows d.of d.declarators x scope from to c a sh text ls old after h good s (λ sh1 text1 ls1 rs1 good1 h1. go Next sh1 text1 ls1 rs1 to good1 (refl, h1)))
+          (declare_follows d.of d.declarators x scope from to c a sh text ls old after h good s (λ sh1 text1 ls1 rs1 good1 h1. go.ends Next sh1 text1 ls1 rs1 to good1 (refl, h1)))
       stmt_follows (Do st) N K x scope from to a sh text ls old after c h good s go =
           timed (simple p call st) N K from a sh text ls old after s
-          (simple_follows p call code layout frames cf scope st from to c a sh text ls old after h good s (λ sh1 text1 ls1 rs1 good1 h1. go Next sh1 text1 ls1 rs1 to good1 (refl, h1)))
+          (simple_follows p call code layout frames cf scope st from to c a sh text ls old after h good s (λ sh1 text1 ls1 rs1 good1 h1. go.ends Next sh1 text1 ls1 rs1 to good1 (refl, h1)))
       stmt_follows (Block ss) N K x scope from to a sh text ls old after c h good s go =
           timed (scoped (stmts p call ss)) N K from a sh text ls old after s
           (scoped_follows ss (stmts_follow ss) N K x scope from to a sh text ls old after c h good s go)
       stmt_follows (Print at f g es) N K x scope from to a sh text ls old after c h good s go =
-          timed (may_print >> print_rest f es) N K from a sh text ls old after s
-          (print_follows scope f es from to c a sh text ls old after h good s (λ sh1 text1 ls1 rs1 good1 h1. go Next sh1 text1 ls1 rs1 to good1 (refl, h1)))
+          timed (may_print >> print_rest p call code layout frames cf f es) N K from a sh text ls old after s
+          (print_follows p call code layout frames cf scope f es from to c a sh text ls old after h good s (λ sh1 text1 ls1 rs1 good1 h1. go.ends Next sh1 text1 ls1 rs1 to good1 (refl, h1)))
       stmt_follows (If e st) N K x scope from to a sh text ls old after c h good s go =
           timed (expr p call e >>= λ v. if is_zero v then pure Next else scoped (stmt p call st)) N K from a sh text ls old after s
           (if_follows x scope e st (stmt_follows st) from to c a sh text ls old after h good s go)
@@ -713,23 +713,25 @@ module _ (p : Program) (call : Caller) (code : Code) (layout : Layout) (frames :
           timed (scoped (start_with p call b >> loop (for_turn p call e d st))) N K from a sh text ls old after s
           (whole_for x scope b e d st (stmt_follows st) (fall.for_falls e d st) N K from to c a sh text ls old after h good s go)
       stmt_follows (Break at) N K x scope from to a sh text ls old after c h good s go =
-          timed (pure Breaks) N K from a sh text ls old after s (go Breaks sh text ls old from good (c, h))
+          timed (pure Breaks) N K from a sh text ls old after s (go.ends Breaks sh text ls old from good (c, h))
       stmt_follows (Continue at) N K x scope from to a sh text ls old after c h good s go =
-          timed (pure Continues) N K from a sh text ls old after s (go Continues sh text ls old from good (c, h))
+          timed (pure Continues) N K from a sh text ls old after s (go.ends Continues sh text ls old from good (c, h))
       stmt_follows (Return None at) N K x scope from to a sh text ls old after c h good s go =
-          timed (pure (Returns (flag false))) N K from a sh text ls old after s (go (Returns (flag false)) sh text ls old from good (None, c, refl, omega arith))
+          timed (pure (Returns (flag false))) N K from a sh text ls old after s (go.ends (Returns (flag false)) sh text ls old from good (None, c, refl, omega arith))
       stmt_follows (Return (Some e) at) N K x scope from to a sh text ls old after c h good s go =
           let rest : Value → Action End = λ v. pure (Returns v) in
           timed (expr p call e >>= rest) N K from a sh text ls old after s
           (value_follows p call code layout frames cf scope e from c.0 c.1 c.2 a sh text ls old (λ q. after (go_on q rest)) h good (on_seen a after rest s)
-          (λ v sh1 text1 rs1 b here h1 good1. go (Returns v) sh1 text1 ls rs1 c.0 good1 (Some c.1, c.3, here, b)))
-      stmt_follows (Transaction mode ss at) N K x scope from to a sh text ls old after c h good s go =
-          transaction_follows mode ss (stmts_follow ss) N K x scope from to a sh text ls old after c h good s go
+          (λ v sh1 text1 rs1 b here h1 good1. go.ends (Returns v) sh1 text1 ls rs1 c.0 good1 (Some c.1, c.3, here, b)))
+      stmt_follows (Transaction kind ss at) N K x scope from to a sh text ls old after c h good s go =
+          transaction_follows kind ss (stmts_follow ss) N K x scope from to a sh text ls old after c h good s go
       stmt_follows (Cancel at) N K x scope from to a sh text ls old after c h good s go =
-          timed (pure Cancels) N K from a sh text ls old after s (go Cancels sh text ls old from good c)
+          timed (pure Cancels) N K from a sh text ls old after s (go.ends Cancels sh text ls old from good c)
+      stmt_follows (CancelOuter at) N K x scope from to a sh text ls old after c h good s go =
+          timed (pure CancelsOuter) N K from a sh text ls old after s (outer_follows code p layout frames x.in_outer from c a sh text ls old after good go.outer)
 
       pub stmts_follow : (ss : Stmts) → StmtsFollow ss
-      stmts_follow Stmts.[] N K x scope from to a sh text ls old after c h good s go = go Next sh text ls old from good (sym c, h)
+      stmts_follow Stmts.[] N K x scope from to a sh text ls old after c h good s go = go.ends Next sh text ls old from good (sym c, h)
       stmts_follow (Stmts.◌∷◌ st ss) N K x scope from to a sh text ls old after c h good s go =
           stmt_follows st N K x scope from c.0 a sh text ls old (λ q. after (go_on q (on_next (stmts p call ss)))) c.1 h good (on_seen a after (on_next (stmts p call ss)) s)
           (sequence N K x st ss (stmts_follow ss) scope c.0 to a after c.2 s go)

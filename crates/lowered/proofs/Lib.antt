@@ -4,6 +4,8 @@ mod Locals
 mod Expressions
 mod Statements
 mod Turns
+mod OuterCancels
+mod Prints
 mod Flow
 pub mod Calls
 mod Sample

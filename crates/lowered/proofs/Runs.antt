@@ -1,16 +1,19 @@
 -- A thread of a code that stands where a run of the source stands, and one instruction of it.
-use Rattle.std.proofs.Common.{◌≡◌, ◌≢◌, inl, inr, Option, ℕ, suc, ◌+◌, ◌<◌, ◌≤◌, ◌^◌, Bool, true, false, List, [], ◌∷◌, ◌++◌, length, Some, None, refl, ap, ◌∙◌, arith}
+use Rattle.std.proofs.Common.{◌≡◌, ◌≢◌, ◌⊎◌, inl, inr, Option, ℕ, suc, ◌+◌, ◌<◌, ◌≤◌, ◌^◌, Bool, true, false, List, [], ◌∷◌, ◌++◌, length, Some, None, refl, ap, ◌∙◌, arith}
 use Rattle.std.specs.Prelude.{slice_get, slice_index, slice_set}
 use Rattle.std.specs.List.{AllByRecursion}
 use Rattle.std.proofs.lemmas.List.{get_or-set_other, length-set}
 use Rattle.syntax.specs.declared.tree.Mode.{Mode}
-use Rattle.syntax.specs.declared.tree.Mode.TheVariants.{Atomic}
+use Rattle.syntax.specs.declared.tree.Mode.TheVariants.{Atomic, Relaxed}
+use Rattle.syntax.specs.declared.tree.Kind.{Kind}
+use Rattle.syntax.specs.declared.tree.Kind.TheVariants.{Plain, Outer}
 use Rattle.syntax.specs.declared.numbers.Trap.{Trap}
 use Rattle.syntax.specs.declared.numbers.Halt.TheVariants.{Trapped, Wants, Spent, Astray}
 use Rattle.syntax.specs.Names.{Local, word_at}
 use Rattle.syntax.specs.declared.numbers.Status.TheVariants.{Running, Trapped as HasTrapped}
 use Rattle.syntax.specs.Behaviours.{Memory, Outcome, Stopped}
 use Rattle.syntax.specs.Actions.{Context, Outside, Inside, State, Answer, Stops, Action, stop, go_on, tick, trap, lefts_in, print_piece, ◌>>◌}
+use Rattle.syntax.specs.Meaning.{End, mode_of, close_inner, enter}
 use Rattle.bytecode.specs.Effects.{Effect}
 use Rattle.bytecode.specs.Sequential.{Sequential, InnerTransaction, next, outcome_of, sequential_step, cancel_step, print_step, outside}
 use Rattle.bytecode.specs.Code.{Code, Configuration, Frame, Instr, effect, effect_of}
@@ -68,6 +71,21 @@ pub record IsSeen (a : Around) {A : Type 0} (after : Answer A → Outcome) : Typ
 
 pub on_seen : {A B : Type 0} (a : Around) (after : Answer B → Outcome) (rest : A → Action B) → IsSeen a after → IsSeen a (λ r. after (go_on r rest))
 on_seen a after rest s = record { spent = s.spent; wants = s.wants; trapped = s.trapped; astray = s.astray }
+
+-- a transaction inside another: an atomic one holds only atomic ones
+abbrev pub Enters : Mode → Kind → Type 0
+Enters o kind =
+    (((m : Memory) (run : Action End) (s : State) → enter (Inside o m) kind run s ≡ close_inner o kind s.locals m (run (record s { context = Inside (mode_of kind) m }))) × (o ≡ Atomic → mode_of kind ≡ Atomic))
+    ⊎ ((m : Memory) (run : Action End) (s : State) → enter (Inside o m) kind run s ≡ Stops Astray s)
+
+pub enters : (o : Mode) (kind : Kind) → Enters o kind
+enters Relaxed kind = inl ((λ m run s. refl), (λ e. absurd (apart e)))
+  where
+    apart : Relaxed ≡ Atomic → ⊥
+    apart e = cc
+enters Atomic (Plain Atomic) = inl ((λ m run s. refl), (λ e. refl))
+enters Atomic Outer = inl ((λ m run s. refl), (λ e. refl))
+enters Atomic (Plain Relaxed) = inr (λ m run s. refl)
 
 -- words
 abbrev pub AreWords : List ℕ → Type 0

@@ -7,6 +7,7 @@ use Rattle.lex.specs.declared.token.Scalar.TheVariants.{Int}
 use Rattle.syntax.specs.declared.tree.BinaryOp.TheVariants.{Add, Less}
 use Rattle.syntax.specs.declared.tree.IncDec.TheVariants.{Increment}
 use Rattle.syntax.specs.declared.tree.Mode.TheVariants.{Atomic}
+use Rattle.syntax.specs.declared.tree.Kind.TheVariants.{Plain}
 use Rattle.syntax.specs.Tree.{Name, Variable, Constant, Binary, Assign, Adjust, Stmt, Stmts, Declare, Block, Do, While, Transaction, Function, Global, Defines, Shares, Program}
 use Rattle.syntax.specs.Names.{definition_of}
 use Rattle.syntax.specs.Threads.{thread}
@@ -23,7 +24,7 @@ abbrev named : List ℕ → Name
 named text = record { text = text; at = nowhere }
 
 abbrev adding : Stmt
-adding = Transaction Atomic (Stmts.◌∷◌ (Do (Assign (Variable (named (codes "x"))) (Some Add) (Variable (named (codes "i"))))) Stmts.[]) nowhere
+adding = Transaction (Plain Atomic) (Stmts.◌∷◌ (Do (Assign (Variable (named (codes "x"))) (Some Add) (Variable (named (codes "i"))))) Stmts.[]) nowhere
 
 abbrev stepping : Stmt
 stepping = Do (Adjust (Variable (named (codes "i"))) Increment)

@@ -4,7 +4,7 @@ use Rattle.std.specs.Prelude.{if◌then◌else◌}
 use Rattle.syntax.specs.Tree.{Expr, Simple, Stmt, Program}
 use Rattle.syntax.specs.Numbers.{is_zero}
 use Rattle.syntax.specs.Actions.{State, Action, state_of, pure, ◌>>=◌}
-use Rattle.syntax.specs.Meaning.{End, Next, Breaks, Continues, Returns, Cancels, scoped, after_body, Caller, expr, simple, stmt, holds, stepped, calls}
+use Rattle.syntax.specs.Meaning.{End, Next, Breaks, Continues, Returns, Cancels, CancelsOuter, scoped, after_body, Caller, expr, simple, stmt, holds, stepped, calls}
 use Rattle.syntax.proofs.Ticks.{on_falls, ticks_never_grow, simples_never_grow}
 
 abbrev pub while_turn : Program → Caller → Expr → Stmt → Action (Option End)
@@ -36,6 +36,7 @@ after_body_falls go g Continues s = g s
 after_body_falls go g Breaks s = omega arith
 after_body_falls go g (Returns v) s = omega arith
 after_body_falls go g Cancels s = omega arith
+after_body_falls go g CancelsOuter s = omega arith
 
 module _ (p : Program) (k : ℕ) where
   body_falls : (st : Stmt) (go : Action (Option End)) → Falls go → Falls (scoped (stmt p (calls p k) st) >>= after_body go)

@@ -9,7 +9,7 @@ use Rattle.syntax.specs.declared.tree.UnaryOp.TheVariants.{Negate, Keep, Not, Co
 use Rattle.syntax.specs.declared.tree.BinaryOp.{BinaryOp}
 use Rattle.syntax.specs.declared.tree.BinaryOp.TheVariants.{And, Or, Xor, Equal, NotEqual, Less, Greater, LessEqual, GreaterEqual}
 use Rattle.syntax.specs.declared.tree.LogicalOp.TheVariants.{AndThen, OrElse}
-use Rattle.syntax.specs.Tree.{Expr, Exprs, Variable, Constant, Element, Call, Parenthesized, Cast, Unary, Binary, Logical, Conditional, Stmts, Parameter, Function, Program}
+use Rattle.syntax.specs.Tree.{Expr, Exprs, Variable, Constant, Element, Call, Parenthesized, Cast, Unary, Binary, Logical, Conditional, InTransaction, Stmts, Parameter, Function, Program}
 use Rattle.syntax.specs.Numbers.{word_of, operand_type, result_type}
 use Rattle.syntax.specs.Names.{Local, newest, global_of, cells, GlobalCells, definition_of}
 use Rattle.syntax.specs.Types.{type_of, running_scope}
@@ -257,6 +257,14 @@ module _ (code : Code) (layout : Layout) where
     pub named : function.name ≡ x
     pub defined : definition_of p x ≡ Some (f, body)
 
+  -- a value that is computed in a transaction of its own
+  pub record ValueTransactionCode (e : Coded) (from to free r : ℕ) (t : Scalar) : Type 0 where
+    pub last : ℕ
+    pub begins : At code from (Instr.Begin to)
+    pub computes : e (suc from) last free r t
+    pub commits : At code last Instr.Commit
+    pub to_is : to ≡ suc last
+
   module _ (p : Program) where
     abbrev mutual
       -- an expression's value comes into the register r; its type is t
@@ -286,6 +294,7 @@ module _ (code : Code) (layout : Layout) where
           ConditionalCode home (Branches (ExprCode None scope c) (OwnTests scope c))
           (λ h. ExprCode h scope a) (λ h. ExprCode h scope b) from to free r t
           × ((ls : List Local) → IsLike scope ls → type_of (running_scope p ls) (Conditional c a b at) ≡ Some t)
+      ExprCode home scope (InTransaction mode keyword e at) = ValueTransactionCode (ExprCode home scope e)
 
       -- a condition whose operator leads on by itself, without a value
       pub OwnTests : LocalScope → Expr → Branching

@@ -4,5 +4,7 @@ pub mod Expressions
 pub mod Statements
 -- which code stands for a program
 pub mod Programs
+-- when a code means a program
+pub mod Means
 -- what is proved of it
 pub mod Laws

@@ -15,7 +15,7 @@ parameter_locals (q ∷ qs) =
 
 -- a function's own statements stand in no loop and in no transaction
 abbrev pub no_exits : Exits
-no_exits = record { break_to = 0; continue_to = 0; in_loop = 0; in_function = 0; innermost = None }
+no_exits = record { break_to = 0; continue_to = 0; in_loop = 0; in_function = 0; innermost = None; in_outer = None }
 
 -- words are set in registers from one on, one after another
 abbrev pub ConstantsCode : Code → ℕ → List ℕ → (from to : ℕ) → Type 0

@@ -1,12 +1,14 @@
 -- Which instructions stand for a statement: by cases on the tree. Locals lie in registers 0, 1, .. as they come.
-use Rattle.std.specs.Prelude.{◌≡◌, ◌⊎◌, ℕ, zero, suc, ◌<◌, ◌≤◌, List, [], ◌∷◌, ◌++◌, length, Option, Some, None, slice_get}
+use Rattle.std.specs.Prelude.{◌≡◌, ◌⊎◌, ℕ, zero, suc, ◌<◌, ◌≤◌, List, [], ◌∷◌, ◌++◌, length, Option, Some, None, slice_get, option_map}
 use Rattle.lex.specs.declared.token.Scalar.{Scalar}
 use Rattle.lex.specs.declared.token.Scalar.TheVariants.{Int}
 use Rattle.syntax.specs.declared.tree.BinaryOp.{BinaryOp}
 use Rattle.syntax.specs.declared.tree.Mode.{Mode}
 use Rattle.syntax.specs.declared.tree.Mode.TheVariants.{Atomic}
-use Rattle.syntax.specs.Tree.{Expr, Exprs, Variable, Element, Simple, Evaluate, Assign, Adjust, Declarator, Start, Nothing, Declares, Does, Stmt, Stmts, Empty, Declare, Do, Block, Print, If, IfElse, While, DoWhile, For, Break, Continue, Return, Transaction, Cancel, Program}
-use Rattle.syntax.specs.Meaning.{op_of}
+use Rattle.syntax.specs.declared.tree.Kind.{Kind}
+use Rattle.syntax.specs.declared.tree.Kind.TheVariants.{Plain, Outer}
+use Rattle.syntax.specs.Tree.{Expr, Exprs, Variable, Element, Simple, Evaluate, Assign, Adjust, Declarator, Start, Nothing, Declares, Does, Stmt, Stmts, Empty, Declare, Do, Block, Print, If, IfElse, While, DoWhile, For, Break, Continue, Return, Transaction, Cancel, CancelOuter, Program}
+use Rattle.syntax.specs.Meaning.{op_of, mode_of}
 use Rattle.syntax.specs.Formats.{Piece, Literal, Figure, pieces}
 use Rattle.syntax.specs.Numbers.{operand_type, result_type}
 use Rattle.syntax.specs.Names.{newest, global_of, cells, GlobalCells}
@@ -34,18 +36,32 @@ abbrev pub Spares : Target → ℕ → Type 0
 Spares (ElementOf g ri) later = ri < later
 Spares target later = Unit {0}
 
--- where break and continue lead, how many transactions are open in the loop and in the function, and how the
--- innermost of them runs
+-- where break and continue lead, how many transactions are open in the loop and in the function, how the innermost of
+-- them runs, and how many are open inside the innermost outer one, if there is one
 pub record Exits : Type 0 where
   pub break_to : ℕ
   pub continue_to : ℕ
   pub in_loop : ℕ
   pub in_function : ℕ
   pub innermost : Option Mode
+  pub in_outer : Option ℕ
 
-abbrev pub in_transaction : Mode → Exits → Exits
-in_transaction mode x =
-    record x { in_loop = suc x.in_loop; in_function = suc x.in_function; innermost = Some mode }
+abbrev pub with_level : Kind → Option ℕ → Option ℕ
+with_level Outer levels = Some 0
+with_level (Plain mode) levels = option_map suc levels
+
+abbrev pub in_transaction : Kind → Exits → Exits
+in_transaction kind x = record x {
+  in_loop = suc x.in_loop;
+  in_function = suc x.in_function;
+  innermost = Some (mode_of kind);
+  in_outer = with_level kind x.in_outer;
+}
+
+-- the instruction that cancels a transaction, and as one with it so many that are open inside it
+abbrev pub cancelling : ℕ → Instr
+cancelling zero = Instr.Cancel
+cancelling (suc n) = Instr.CancelOuter (suc (suc n))
 
 abbrev pub looping : Exits → (break_to continue_to : ℕ) → Exits
 looping x break_to continue_to = record x { break_to = break_to; continue_to = continue_to; in_loop = 0 }
@@ -341,12 +357,16 @@ module _ (code : Code) (layout : Layout) (p : Program) where
     pub args : ArgsCode code layout p scope es (suc from) mid free rs
     pub prints : PiecesCode (pieces format) rs mid to
 
-  pub record TransactionCode (mode : Mode) (x : Exits) (body : Exits → ℕ → ℕ → Type 0) (from to : ℕ) : Type 0 where
+  pub record TransactionCode (kind : Kind) (x : Exits) (body : Exits → ℕ → ℕ → Type 0) (from to : ℕ) : Type 0 where
     pub last : ℕ
     pub begins : At code from (Instr.Begin to)
-    pub runs : body (in_transaction mode x) (suc from) last
+    pub runs : body (in_transaction kind x) (suc from) last
     pub commits : At code last Instr.Commit
     pub to_is : to ≡ suc last
+
+  abbrev pub OuterCancelCode : Option ℕ → ℕ → Type 0
+  OuterCancelCode None q = ⊥
+  OuterCancelCode (Some n) q = At code q (cancelling n)
 
   abbrev mutual
     pub StmtCode : Exits → LocalScope → Stmt → (from to : ℕ) → Type 0
@@ -369,8 +389,9 @@ module _ (code : Code) (layout : Layout) (p : Program) where
     StmtCode x scope (Return (Some e) at) from to =
         (mid : ℕ) × (r : ℕ) × ValueCode scope (Coding None scope e) from mid r
         × Leaves mid x.in_function (Instr.Return (Some r))
-    StmtCode x scope (Transaction mode ss at) from to = TransactionCode mode x (λ y. StmtsCode y scope ss) from to
+    StmtCode x scope (Transaction kind ss at) from to = TransactionCode kind x (λ y. StmtsCode y scope ss) from to
     StmtCode x scope (Cancel at) from to = (x.innermost ≡ Some Atomic) × At code from Instr.Cancel
+    StmtCode x scope (CancelOuter at) from to = OuterCancelCode x.in_outer from
 
     pub StmtsCode : Exits → LocalScope → Stmts → (from to : ℕ) → Type 0
     StmtsCode x scope Stmts.[] from to = to ≡ from

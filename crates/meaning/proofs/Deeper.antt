@@ -1,7 +1,7 @@
 -- A part of a tree is less deep than the whole.
 use Rattle.std.proofs.Common.{◌≡◌, ℕ, ◌+◌, ◌<◌, ◌≤◌, List, Option, Some, None, max, map, option_map, length, get_or, zero, suc, [], ◌∷◌, sym, ap, ◌∙◌, arith}
 use Rattle.lex.specs.declared.token.Span.{Span}
-use Rattle.syntax.specs.declared.tree.Mode.{Mode}
+use Rattle.syntax.specs.declared.tree.Kind.{Kind}
 use Rattle.syntax.specs.declared.tree.Expr as E
 use Rattle.syntax.specs.declared.tree.Declarator as R
 use Rattle.syntax.specs.declared.tree.Stmt as S
@@ -13,7 +13,7 @@ use Rattle.syntax.specs.declared.tree.Stmt.TheVariants as SV
 use Rattle.syntax.specs.Views.{expr_of, exprs_of, simple_of, declarator_of, stmt_step, stmt_of, stmts_of}
 use Rattle.syntax.specs.Depth.{expr_depth, deepest, optional_depth, simple_depth, deepest_value, stmt_depth, block_depth}
 use Rattle.syntax.proofs.Seen.{stmt_of_block, stmt_of_transaction}
-use Rattle.meaning.specs.inner.Does.{else_depth, if_of}
+use Rattle.meaning.specs.inner.Does.{else_depth}
 use Rattle.meaning.proofs.Parts.{if_is}
 
 one : (d part whole : ℕ) → whole ≡ part + 1 → d ≡ part → d + 1 ≤ whole
@@ -26,8 +26,8 @@ module _ {A : Type 0} where
   pub block_deep : (s : S.Stmt A) (ss ss' : List (S.Stmt A)) → s ≡ S.Block ss → ss' ≡ ss → block_depth (stmts_of ss') ≤ stmt_depth (stmt_of s)
   block_deep s ss ss' is a = same _ _ _ (ap (λ y. stmt_depth (stmt_of y)) is ∙ ap stmt_depth (stmt_of_block ss)) (ap (λ y. block_depth (stmts_of y)) a)
 
-  pub transaction_deep : (s : S.Stmt A) (mode : Mode) (ss ss' : List (S.Stmt A)) (at : Span) → s ≡ S.Transaction mode ss at → ss' ≡ ss → block_depth (stmts_of ss') + 1 ≤ stmt_depth (stmt_of s)
-  transaction_deep s mode ss ss' at is a = one _ _ _ (ap (λ y. stmt_depth (stmt_of y)) is ∙ ap stmt_depth (stmt_of_transaction mode ss at)) (ap (λ y. block_depth (stmts_of y)) a)
+  pub transaction_deep : (s : S.Stmt A) (kind : Kind) (ss ss' : List (S.Stmt A)) (at : Span) → s ≡ S.Transaction kind ss at → ss' ≡ ss → block_depth (stmts_of ss') + 1 ≤ stmt_depth (stmt_of s)
+  transaction_deep s kind ss ss' at is a = one _ _ _ (ap (λ y. stmt_depth (stmt_of y)) is ∙ ap stmt_depth (stmt_of_transaction kind ss at)) (ap (λ y. block_depth (stmts_of y)) a)
 
   pub do_deep : (s : S.Stmt A) (a : Simple A) → s ≡ S.Do a → stmt_depth (stmt_of s) ≡ simple_depth (simple_of a)
   do_deep s a is = ap (λ y. stmt_depth (stmt_of y)) (is ∙ sym (SV.rolls-Do a)) ∙ ap stmt_depth (fold-roll-Stmt A Tree.Stmt stmt_step (Stmt-F.Do a))

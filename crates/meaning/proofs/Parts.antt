@@ -6,6 +6,7 @@ use Rattle.syntax.specs.declared.tree.UnaryOp.{UnaryOp}
 use Rattle.syntax.specs.declared.tree.BinaryOp.{BinaryOp}
 use Rattle.syntax.specs.declared.tree.LogicalOp.{LogicalOp}
 use Rattle.syntax.specs.declared.tree.Mode.{Mode}
+use Rattle.syntax.specs.declared.tree.Kind.{Kind}
 use Rattle.syntax.specs.declared.tree.Name as N
 use Rattle.syntax.specs.declared.tree.Expr as E
 use Rattle.syntax.specs.declared.tree.Declaration as D
@@ -14,7 +15,7 @@ use Rattle.syntax.specs.declared.tree.ForHead as H
 use Rattle.syntax.specs.declared.tree.Stmt as S
 use Rattle.syntax.specs.Tree as Tree
 use Rattle.syntax.specs.Views.{name_of, expr_of, exprs_of, simple_of, declarator_of, start_of, stmt_of, stmts_of}
-use Rattle.syntax.proofs.Seen.{expr_of_call, expr_of_element, expr_of_parenthesized, expr_of_cast, expr_of_unary, expr_of_binary, expr_of_logical, expr_of_conditional, stmt_of_declare, stmt_of_block, stmt_of_print, stmt_of_if, stmt_of_if_else, stmt_of_while, stmt_of_do_while, stmt_of_for, stmt_of_return, stmt_of_transaction}
+use Rattle.syntax.proofs.Seen.{expr_of_call, expr_of_element, expr_of_parenthesized, expr_of_cast, expr_of_unary, expr_of_binary, expr_of_logical, expr_of_conditional, expr_of_in_transaction, stmt_of_declare, stmt_of_block, stmt_of_print, stmt_of_if, stmt_of_if_else, stmt_of_while, stmt_of_do_while, stmt_of_for, stmt_of_return, stmt_of_transaction}
 use Rattle.meaning.specs.inner.Does.{if_of}
 
 module _ {A : Type 0} where
@@ -46,6 +47,9 @@ module _ {A : Type 0} where
       ap expr_of is ∙ expr_of_conditional c a b at ∙ ap (λ y. Tree.Conditional (expr_of y) (expr_of a) (expr_of b) at) (sym k)
       ∙ ap (λ y. Tree.Conditional (expr_of c') (expr_of y) (expr_of b) at) (sym f) ∙ ap (λ y. Tree.Conditional (expr_of c') (expr_of a') (expr_of y) at) (sym g)
 
+  pub in_transaction_is : (e : E.Expr A) (mode : Mode) (keyword : Span) (a a' : E.Expr A) (at : Span) → e ≡ E.InTransaction mode keyword a at → a' ≡ a → expr_of e ≡ Tree.InTransaction mode keyword (expr_of a') at
+  in_transaction_is e mode keyword a a' at is f = ap expr_of is ∙ expr_of_in_transaction mode keyword a at ∙ ap (λ y. Tree.InTransaction mode keyword (expr_of y) at) (sym f)
+
   pub declare_is : (s : S.Stmt A) (d : D.Declaration A) (ds : List (R.Declarator A)) → s ≡ S.Declare d → ds ≡ d.declarators → stmt_of s ≡ Tree.Declare (record { of = d.of; declarators = map declarator_of ds })
   declare_is s d ds is a = ap stmt_of is ∙ stmt_of_declare d ∙ ap (λ y. Tree.Declare (record { of = d.of; declarators = map declarator_of y })) (sym a)
 
@@ -75,5 +79,5 @@ module _ {A : Type 0} where
   pub return_is : (s : S.Stmt A) (e : Option (E.Expr A)) (at : Span) → s ≡ S.Return e at → stmt_of s ≡ Tree.Return (option_map expr_of e) at
   return_is s e at is = ap stmt_of is ∙ stmt_of_return e at
 
-  pub transaction_is : (s : S.Stmt A) (mode : Mode) (ss ss' : List (S.Stmt A)) (at : Span) → s ≡ S.Transaction mode ss at → ss' ≡ ss → stmt_of s ≡ Tree.Transaction mode (stmts_of ss') at
-  transaction_is s mode ss ss' at is a = ap stmt_of is ∙ stmt_of_transaction mode ss at ∙ ap (λ y. Tree.Transaction mode (stmts_of y) at) (sym a)
+  pub transaction_is : (s : S.Stmt A) (kind : Kind) (ss ss' : List (S.Stmt A)) (at : Span) → s ≡ S.Transaction kind ss at → ss' ≡ ss → stmt_of s ≡ Tree.Transaction kind (stmts_of ss') at
+  transaction_is s kind ss ss' at is a = ap stmt_of is ∙ stmt_of_transaction kind ss at ∙ ap (λ y. Tree.Transaction kind (stmts_of y) at) (sym a)

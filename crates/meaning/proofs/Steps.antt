@@ -9,6 +9,8 @@ use Rattle.syntax.specs.declared.tree.BinaryOp.{BinaryOp}
 use Rattle.syntax.specs.declared.tree.IncDec.{IncDec}
 use Rattle.syntax.specs.declared.tree.Mode.{Mode}
 use Rattle.syntax.specs.declared.tree.Mode.TheVariants.{Atomic, Relaxed}
+use Rattle.syntax.specs.declared.tree.Kind.{Kind}
+use Rattle.syntax.specs.declared.tree.Kind.TheVariants.{Plain, Outer}
 use Rattle.std.specs.Prelude.{Bool, if◌then◌else◌}
 use Rattle.syntax.specs.Numbers.{converted, is_zero, binary}
 use Rattle.syntax.specs.Types.{common_of, type_of, running_scope}
@@ -18,7 +20,7 @@ use Rattle.syntax.specs.Names.{Local, definition_of}
 use Rattle.syntax.specs.Behaviours.{Memory}
 use Rattle.syntax.specs.Formats.{pieces}
 use Rattle.syntax.specs.Actions.{Context, Outside, Inside, State, Answer, Gives, Stops, Action, pure, go_on, or_trap, or_astray, locals, put_locals, tick, may_print, ◌>>=◌, ◌>>◌}
-use Rattle.syntax.specs.Meaning.{Caller, Spot, fetch, assign, spot, changed, op_of, int_one, End, Next, Breaks, Continues, Returns, Cancels, scoped, loop, simple, declare, return_value, expr, stmt, stmts, exprs, print_pieces, transaction, enter, leave, left_by, leave_inner, close, close_inner, entered, invoke, calls, result_of}
+use Rattle.syntax.specs.Meaning.{Caller, Spot, fetch, assign, spot, changed, op_of, int_one, End, Next, Breaks, Continues, Returns, Cancels, CancelsOuter, mode_of, scoped, loop, simple, declare, return_value, expr, stmt, stmts, exprs, print_pieces, transaction, begin_value, value_at, value_transaction, enter, leave, left_by, leave_inner, close, close_inner, entered, invoke, calls, result_of}
 use Rattle.meaning.specs.inner.Calls.{Begins, begun}
 use Rattle.meaning.specs.Outcomes.{memories_in}
 use Rattle.meaning.specs.inner.Does.{is_forbidden, while_turn, do_turn, for_all}
@@ -46,8 +48,9 @@ spent_first p call (tree.For start c step a) s0 s1 why t = halts (tick s0) (λ _
 spent_first p call (tree.Break at) s0 s1 why t = halts (tick s0) (λ _. pure Breaks) why s1 t
 spent_first p call (tree.Continue at) s0 s1 why t = halts (tick s0) (λ _. pure Continues) why s1 t
 spent_first p call (tree.Return e at) s0 s1 why t = halts (tick s0) (λ _. return_value p call e >>= (λ v. pure (Returns v))) why s1 t
-spent_first p call (tree.Transaction mode ss at) s0 s1 why t = halts (tick s0) (λ _. transaction mode (scoped (stmts p call ss))) why s1 t
+spent_first p call (tree.Transaction kind ss at) s0 s1 why t = halts (tick s0) (λ _. transaction kind (scoped (stmts p call ss))) why s1 t
 spent_first p call (tree.Cancel at) s0 s1 why t = halts (tick s0) (λ _. pure Cancels) why s1 t
+spent_first p call (tree.CancelOuter at) s0 s1 why t = halts (tick s0) (λ _. pure CancelsOuter) why s1 t
 
 -- a print, up to its pieces
 pub print_until : (p : Program) (call : Caller) (at format_at : Span) (format : List ℕ) (es : Exprs) (s0 s1 s2 s3 : State) (vs : List Value) →
@@ -131,46 +134,70 @@ module _ (p : Program) (n k : ℕ) (x : List ℕ) (vs : List Value) (s0 s1 : Sta
   call_stops s2 why h = call_begun ∙ halts _ (λ end. put_locals outer >> result_of b.of end) why s2 h
 
 -- transactions
-pub transaction_at : (mode : Mode) (run : Action End) (s : State) (before : Context) (r : Answer End) → s.context ≡ before → enter before mode run (record s { context = before }) ≡ r → transaction mode run s ≡ r
-transaction_at mode run s before r is d = ap (λ k. enter k mode run (record s { context = k })) is ∙ d
+pub transaction_at : (kind : Kind) (run : Action End) (s : State) (before : Context) (r : Answer End) → s.context ≡ before → enter before kind run (record s { context = before }) ≡ r → transaction kind run s ≡ r
+transaction_at kind run s before r is d = ap (λ k. enter k kind run (record s { context = k })) is ∙ d
 
-pub outermost_none : (mode : Mode) (founds lefts : List Memory) (run : Action End) (s : State) (r : Answer End) → founds ≡ [] → enter (Outside [] lefts) mode run s ≡ r → enter (Outside founds lefts) mode run s ≡ r
-outermost_none mode founds lefts run s r none d = ap (λ ms. enter (Outside ms lefts) mode run s) none ∙ d
+pub outermost_none : (kind : Kind) (founds lefts : List Memory) (run : Action End) (s : State) (r : Answer End) → founds ≡ [] → enter (Outside [] lefts) kind run s ≡ r → enter (Outside founds lefts) kind run s ≡ r
+outermost_none kind founds lefts run s r none d = ap (λ ms. enter (Outside ms lefts) kind run s) none ∙ d
 
-module _ (mode : Mode) (all founds lefts : List Memory) (found memory : Memory) (run : Action End) (s now : State) (is : all ≡ found ∷ founds) (copied : memory ≡ found) where
-  pub outermost_gives : (mine : List Local) (e : End) (r : Answer End) → mine ≡ s.locals → run (record s { context = Inside mode memory }) ≡ Gives e now → leave founds lefts (left_by mine found e now) now ≡ r → enter (Outside all lefts) mode run s ≡ r
+module _ (kind : Kind) (mode : Mode) (all founds lefts : List Memory) (found memory : Memory) (run : Action End) (s now : State) (runs : mode ≡ mode_of kind) (is : all ≡ found ∷ founds) (copied : memory ≡ found) where
+  pub outermost_gives : (mine : List Local) (e : End) (r : Answer End) → mine ≡ s.locals → run (record s { context = Inside mode memory }) ≡ Gives e now → leave founds lefts (left_by kind mine found e now) now ≡ r → enter (Outside all lefts) kind run s ≡ r
   outermost_gives mine e r same h d =
-      ap (λ ms. enter (Outside ms lefts) mode run s) is
-      ∙ ap (λ m. close founds lefts s.locals found (run (record s { context = Inside mode m }))) (sym copied)
-      ∙ ap (close founds lefts s.locals found) h ∙ ap (λ ls. leave founds lefts (left_by ls found e now) now) (sym same) ∙ d
+      ap (λ ms. enter (Outside ms lefts) kind run s) is
+      ∙ ap (λ m. close kind founds lefts s.locals found (run (record s { context = Inside (mode_of kind) m }))) (sym copied)
+      ∙ ap (λ k. close kind founds lefts s.locals found (run (record s { context = Inside k memory }))) (sym runs)
+      ∙ ap (close kind founds lefts s.locals found) h ∙ ap (λ ls. leave founds lefts (left_by kind ls found e now) now) (sym same) ∙ d
 
-  pub outermost_stops : (why : Halt) (r : Answer End) → run (record s { context = Inside mode memory }) ≡ Stops why now → close founds lefts s.locals found (Stops why now) ≡ r → enter (Outside all lefts) mode run s ≡ r
+  pub outermost_stops : (why : Halt) (r : Answer End) → run (record s { context = Inside mode memory }) ≡ Stops why now → close kind founds lefts s.locals found (Stops why now) ≡ r → enter (Outside all lefts) kind run s ≡ r
   outermost_stops why r h d =
-      ap (λ ms. enter (Outside ms lefts) mode run s) is
-      ∙ ap (λ m. close founds lefts s.locals found (run (record s { context = Inside mode m }))) (sym copied)
-      ∙ ap (close founds lefts s.locals found) h ∙ d
+      ap (λ ms. enter (Outside ms lefts) kind run s) is
+      ∙ ap (λ m. close kind founds lefts s.locals found (run (record s { context = Inside (mode_of kind) m }))) (sym copied)
+      ∙ ap (λ k. close kind founds lefts s.locals found (run (record s { context = Inside k memory }))) (sym runs)
+      ∙ ap (close kind founds lefts s.locals found) h ∙ d
 
 false_is_true : false ≡ true → ⊥
 false_is_true e = cc
 
-pub nested_astray : (outer mode : Mode) (found : Memory) (run : Action End) (s : State) → is_forbidden outer mode ≡ true → enter (Inside outer found) mode run s ≡ Stops Astray s
-nested_astray Atomic Relaxed found run s h = refl
-nested_astray Atomic Atomic found run s h = absurd (false_is_true h)
-nested_astray Relaxed mode found run s h = absurd (false_is_true h)
+pub nested_astray : (outer : Mode) (kind : Kind) (found : Memory) (run : Action End) (s : State) → is_forbidden outer (mode_of kind) ≡ true → enter (Inside outer found) kind run s ≡ Stops Astray s
+nested_astray Atomic (Plain Relaxed) found run s h = refl
+nested_astray Atomic (Plain Atomic) found run s h = absurd (false_is_true h)
+nested_astray Atomic Outer found run s h = absurd (false_is_true h)
+nested_astray Relaxed kind found run s h = absurd (false_is_true h)
 
-inner_is : (outer mode : Mode) (found memory : Memory) (run : Action End) (s : State) → is_forbidden outer mode ≡ false → memory ≡ found →
-    enter (Inside outer found) mode run s ≡ close_inner outer s.locals found (run (record s { context = Inside mode memory }))
-inner_is Atomic Relaxed found memory run s h c = absurd (false_is_true (sym h))
-inner_is Atomic Atomic found memory run s h c = ap (λ m. close_inner Atomic s.locals found (run (record s { context = Inside Atomic m }))) (sym c)
-inner_is Relaxed mode found memory run s h c = ap (λ m. close_inner Relaxed s.locals found (run (record s { context = Inside mode m }))) (sym c)
+inner_is : (outer : Mode) (kind : Kind) (found memory : Memory) (run : Action End) (s : State) → is_forbidden outer (mode_of kind) ≡ false → memory ≡ found →
+    enter (Inside outer found) kind run s ≡ close_inner outer kind s.locals found (run (record s { context = Inside (mode_of kind) memory }))
+inner_is Atomic (Plain Relaxed) found memory run s h c = absurd (false_is_true (sym h))
+inner_is Atomic (Plain Atomic) found memory run s h c = ap (λ m. close_inner Atomic (Plain Atomic) s.locals found (run (record s { context = Inside Atomic m }))) (sym c)
+inner_is Atomic Outer found memory run s h c = ap (λ m. close_inner Atomic Outer s.locals found (run (record s { context = Inside Atomic m }))) (sym c)
+inner_is Relaxed kind found memory run s h c = ap (λ m. close_inner Relaxed kind s.locals found (run (record s { context = Inside (mode_of kind) m }))) (sym c)
 
-module _ (outer mode : Mode) (found memory : Memory) (run : Action End) (s now : State) (may : is_forbidden outer mode ≡ false) (copied : memory ≡ found) where
-  pub nested_gives : (mine : List Local) (e : End) (r : Answer End) → mine ≡ s.locals → run (record s { context = Inside mode memory }) ≡ Gives e now → leave_inner outer (left_by mine found e now) now ≡ r → enter (Inside outer found) mode run s ≡ r
+-- as this mode, which is that of the kind
+module _ (outer : Mode) (kind : Kind) (mode : Mode) (found memory : Memory) (run : Action End) (s now : State) (runs : mode ≡ mode_of kind) (may : is_forbidden outer mode ≡ false) (copied : memory ≡ found) where
+  within_is : enter (Inside outer found) kind run s ≡ close_inner outer kind s.locals found (run (record s { context = Inside mode memory }))
+  within_is =
+      inner_is outer kind found memory run s (ap (is_forbidden outer) (sym runs) ∙ may) copied
+      ∙ ap (λ k. close_inner outer kind s.locals found (run (record s { context = Inside k memory }))) (sym runs)
+
+  pub nested_gives : (mine : List Local) (e : End) (r : Answer End) → mine ≡ s.locals → run (record s { context = Inside mode memory }) ≡ Gives e now → leave_inner outer (left_by kind mine found e now) now ≡ r → enter (Inside outer found) kind run s ≡ r
   nested_gives mine e r same h d =
-      inner_is outer mode found memory run s may copied ∙ ap (close_inner outer s.locals found) h ∙ ap (λ ls. leave_inner outer (left_by ls found e now) now) (sym same) ∙ d
+      within_is ∙ ap (close_inner outer kind s.locals found) h ∙ ap (λ ls. leave_inner outer (left_by kind ls found e now) now) (sym same) ∙ d
 
-  pub nested_stops : (why : Halt) → run (record s { context = Inside mode memory }) ≡ Stops why now → enter (Inside outer found) mode run s ≡ Stops why now
-  nested_stops why h = inner_is outer mode found memory run s may copied ∙ ap (close_inner outer s.locals found) h
+  pub nested_stops : (why : Halt) → run (record s { context = Inside mode memory }) ≡ Stops why now → enter (Inside outer found) kind run s ≡ Stops why now
+  nested_stops why h = within_is ∙ ap (close_inner outer kind s.locals found) h
+
+-- a transaction that is an expression, where it begins and where its body's end is known
+abbrev value_of_body : Mode → Action Value → Action Value
+value_of_body mode run = transaction (Plain mode) (do v ← run; pure (Returns v)) >>= value_at
+
+module _ (mode : Mode) (run : Action Value) (s0 s1 : State) where
+  pub value_unbegun : (why : Halt) → begin_value s0 ≡ Stops why s1 → value_transaction mode run s0 ≡ Stops why s1
+  value_unbegun why d = halts (begin_value s0) (λ _. value_of_body mode run) why s1 d
+
+  pub value_gives : (s2 : State) (e : End) (r : Answer Value) → begin_value s0 ≡ Gives tt s1 → transaction (Plain mode) (do v ← run; pure (Returns v)) s1 ≡ Gives e s2 → value_at e s2 ≡ r → value_transaction mode run s0 ≡ r
+  value_gives s2 e r begun d last = after (begin_value s0) (λ _. value_of_body mode run) tt s1 begun ∙ after _ value_at e s2 d ∙ last
+
+  pub value_stops : (s2 : State) (why : Halt) → begin_value s0 ≡ Gives tt s1 → transaction (Plain mode) (do v ← run; pure (Returns v)) s1 ≡ Stops why s2 → value_transaction mode run s0 ≡ Stops why s2
+  value_stops s2 why begun d = after (begin_value s0) (λ _. value_of_body mode run) tt s1 begun ∙ halts _ value_at why s2 d
 
 -- the memories to be found
 module _ {A : Type 0} where

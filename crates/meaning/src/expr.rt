@@ -12,6 +12,7 @@ use crate::calls::call;
 use crate::machine::{Halted, Machine, Spot, fetch, operate, operate_unary};
 use crate::places::{indexed, joined, variable};
 use crate::program::Source;
+use crate::transactions::value_transaction;
 use crate::word::{Word, constant, convert_word, flag, is_zero};
 use std::alloc::Allocator;
 use syntax::tree::{Expr, LogicalOp, Name};
@@ -50,6 +51,7 @@ pub(crate) fn eval<'p, A: Allocator + Copy>(
         }
         Expr::Logical(op, a, b, _) => logical(source, frames, *op, a.get(), b.get(), m),
         Expr::Conditional(c, a, b, _) => conditional(source, frames, c.get(), a.get(), b.get(), m),
+        Expr::InTransaction(mode, _, e, _) => value_transaction(source, frames, *mode, e.get(), m),
     }
 }
 

@@ -55,6 +55,7 @@ pub(crate) enum End {
     Continues,
     Returns(Word),
     Cancels,
+    CancelsOuter,
 }
 
 /// Where a value stands.

@@ -271,5 +271,6 @@ pub(crate) fn type_of<A: Allocator + Copy>(
             type_of(source, locals, a.get()),
             type_of(source, locals, b.get()),
         ),
+        Expr::InTransaction(_, _, e, _) => type_of(source, locals, e.get()),
     }
 }

@@ -16,7 +16,7 @@ use crate::machine::{End, Halted, Machine, tick};
 use crate::print::{may_print, print_pieces};
 use crate::program::Source;
 use crate::simple::{declare, simple};
-use crate::transactions::transaction;
+use crate::transactions::{Body, transaction};
 use crate::word::{flag, is_zero};
 use containers::Boxed;
 use std::alloc::Allocator;
@@ -54,8 +54,11 @@ fn stmt<'p, A: Allocator + Copy>(
         Stmt::Break(_) => Ok(End::Breaks),
         Stmt::Continue(_) => Ok(End::Continues),
         Stmt::Return(e, _) => returned(source, frames, e, m),
-        Stmt::Transaction(mode, ss, _) => transaction(source, frames, *mode, ss.as_slice(), m),
+        Stmt::Transaction(kind, ss, _) => {
+            transaction(source, frames, *kind, &Body::Block(ss.as_slice()), m)
+        }
         Stmt::Cancel(_) => Ok(End::Cancels),
+        Stmt::CancelOuter(_) => Ok(End::CancelsOuter),
     }
 }
 

@@ -1,20 +1,29 @@
-//! Transactions: what they do, and what they leave.
+//! Transactions, as statements and as expressions: what they do, and what they leave.
 
 ghost use Rattle.std.specs.Prelude.{◌≡◌, List, map, IfOk};
 ghost use Rattle.syntax.specs.Actions as act;
 ghost use Rattle.syntax.specs.Meaning as meaning;
 ghost use Rattle.syntax.specs.Names as Names;
 ghost use Rattle.meaning.specs.Outcomes.{memories_in};
-ghost use Rattle.meaning.specs.inner.Does.{does_stmts, is_forbidden as is_forbidden_due};
-ghost use Rattle.meaning.specs.inner.Machine.{local_in, end_of, MeansEnd, context_in, state_in, items_in, left_too, Happened, halt_of};
+ghost use Rattle.meaning.specs.inner.Does.{does_body, does_expr, is_forbidden as is_forbidden_due};
+ghost use Rattle.meaning.specs.inner.Machine.{local_in, end_of, Means, MeansEnd, MeansWord, context_in, state_in, items_in, left_too, Happened, halt_of};
 
+use crate::expr::eval;
 use crate::machine::{Context, End, Halted, Local, Machine, tick};
 use crate::program::Source;
 use crate::stmt::block;
+use crate::word::Word;
 use std::alloc::{AllocError, Allocator};
 use std::mem;
 use syntax::numbers::Halt;
-use syntax::tree::{Mode, Stmt};
+use syntax::tree::{Expr, Kind, Mode, Stmt};
+
+/// What a transaction does: its statements, or its operand where it is an expression.
+#[derive(Drop)]
+pub(crate) enum Body<'p, A: Allocator> {
+    Block(&'p [Stmt<A>]),
+    Value(&'p Expr<A>),
+}
 
 /// Copies locals.
 fn copy_locals<'p, A: Allocator + Copy>(
@@ -63,34 +72,56 @@ fn memory_of<A: Allocator + Copy>(alloc: A, context: Context<A>) -> Vec<u32, A>
     }
 }
 
+/// How a transaction of this kind runs.
+fn mode_of(kind: Kind) -> Mode
+    ensures { result ≡ meaning.mode_of kind }
+{
+    match kind {
+        Kind::Plain(mode) => mode,
+        Kind::Outer => Mode::Atomic,
+    }
+}
+
+/// Whether a transaction of this kind is undone where its body ends so: an outer cancel undoes an outer one alone.
+fn is_undone(end: End, kind: Kind) -> bool
+    ensures { result ≡ meaning.undoes (end_of end) kind }
+{
+    match end {
+        End::Cancels => true,
+        End::CancelsOuter => match kind {
+            Kind::Outer => true,
+            Kind::Plain(_) => false,
+        },
+        _ => false,
+    }
+}
+
 /// What a nested transaction does at its end.
 fn leave_inner<'p, A: Allocator + Copy>(
     alloc: A,
     outer: Mode,
+    kind: Kind,
     before: Vec<Local<'p>, A>,
     found: Vec<u32, A>,
     end: End,
     m: &mut Machine<'p, A>,
 ) -> End
-    ensures { meaning.leave_inner outer (meaning.left_by (items_in before.entry) found.items (end_of end) (state_in m.old)) (state_in m.old) ≡ act.Gives (end_of result) (state_in m.new) }
+    ensures { meaning.leave_inner outer (meaning.left_by kind (items_in before.entry) found.items (end_of end) (state_in m.old)) (state_in m.old) ≡ act.Gives (end_of result) (state_in m.new) }
 {
-    match end {
-        End::Cancels => {
-            m.locals = before;
-            m.context = Context::Inside(outer, found);
-            End::Next
-        }
-        end => {
-            let inside = mem::replace(&mut m.context, Context::Inside(outer, Vec::new(alloc)));
-            m.context = Context::Inside(outer, memory_of(alloc, inside));
-            end
-        }
+    if is_undone(end, kind) {
+        m.locals = before;
+        m.context = Context::Inside(outer, found);
+        return End::Next;
     }
+    let inside = mem::replace(&mut m.context, Context::Inside(outer, Vec::new(alloc)));
+    m.context = Context::Inside(outer, memory_of(alloc, inside));
+    end
 }
 
 /// What an outermost transaction does at its end.
 fn leave<'p, A: Allocator + Copy>(
     alloc: A,
+    kind: Kind,
     founds: &'p [Vec<u32, A>],
     lefts: Vec<Vec<u32, A>, A>,
     mine: Vec<Local<'p>, A>,
@@ -99,33 +130,31 @@ fn leave<'p, A: Allocator + Copy>(
     m: &mut Machine<'p, A>,
 ) -> Result<End, Halted>
     ensures { MeansEnd result
-        (meaning.leave (memories_in founds.now) (memories_in lefts.items) (meaning.left_by (items_in mine.entry) found.now (end_of end) (state_in m.old)) (state_in m.old))
+        (meaning.leave (memories_in founds.now) (memories_in lefts.items) (meaning.left_by kind (items_in mine.entry) found.now (end_of end) (state_in m.old)) (state_in m.old))
         m.new }
 {
     let inside = mem::replace(&mut m.context, Context::Outside(founds, lefts));
     tick(m)?;
-    match end {
-        End::Cancels => {
-            m.locals = mine;
-            let Ok(memory) = copy_memory(alloc, found) else {
-                m.why = None;
-                return Err(Halted {});
-            };
-            match add_left(m, memory) {
-                Ok(()) => Ok(End::Next),
-                Err(_) => {
-                    m.why = None;
-                    Err(Halted {})
-                }
-            }
-        }
-        end => match add_left(m, memory_of(alloc, inside)) {
-            Ok(()) => Ok(end),
+    if is_undone(end, kind) {
+        m.locals = mine;
+        let Ok(memory) = copy_memory(alloc, found) else {
+            m.why = None;
+            return Err(Halted {});
+        };
+        return match add_left(m, memory) {
+            Ok(()) => Ok(End::Next),
             Err(_) => {
                 m.why = None;
                 Err(Halted {})
             }
-        },
+        };
+    }
+    match add_left(m, memory_of(alloc, inside)) {
+        Ok(()) => Ok(end),
+        Err(_) => {
+            m.why = None;
+            Err(Halted {})
+        }
     }
 }
 
@@ -151,8 +180,8 @@ fn close_stopped<'p, A: Allocator + Copy>(
     m: &mut Machine<'p, A>,
 )
     ensures known { Happened m.new.why → Happened m.old.why }
-    ensures value { Happened m.new.why → (mine : List Names.Local) →
-        meaning.close (memories_in founds.now) (memories_in lefts.items) mine found.now (act.Stops (halt_of m.old.why) (state_in m.old)) ≡ act.Stops (halt_of m.new.why) (state_in m.new) }
+    ensures value { Happened m.new.why → (kind : Kind) (mine : List Names.Local) →
+        meaning.close kind (memories_in founds.now) (memories_in lefts.items) mine found.now (act.Stops (halt_of m.old.why) (state_in m.old)) ≡ act.Stops (halt_of m.new.why) (state_in m.new) }
 {
     m.context = Context::Outside(founds, lefts); // what was written goes
     if let Some(Halt::Trapped(_)) = m.why {
@@ -175,22 +204,64 @@ fn is_forbidden(outer: Mode, mode: Mode) -> bool
     }
 }
 
+/// Outside transactions one that is an expression takes a tick before its memory is wanted.
+fn begin_value<A: Allocator>(m: &mut Machine<A>) -> Result<(), Halted>
+    ensures { Means result (meaning.begin_value (state_in m.old)) m.new }
+{
+    if let Context::Outside(_, _) = &m.context {
+        return tick(m);
+    }
+    Ok(())
+}
+
+/// What an expression gives that is a transaction, by its body's end.
+fn value_at<A: Allocator>(m: &mut Machine<A>, end: End) -> Result<Word, Halted>
+    ensures { MeansWord result (meaning.value_at (end_of end) (state_in m.old)) m.new }
+{
+    match end {
+        End::Returns(v) => Ok(v),
+        _ => {
+            m.why = Some(Halt::Astray);
+            Err(Halted {})
+        }
+    }
+}
+
+/// A transaction that is an expression.
+#[cycle(run)]
+#[inline(never)]
+pub(crate) fn value_transaction<'p, A: Allocator + Copy>(
+    source: &Source<'p, A>,
+    frames: u64,
+    mode: Mode,
+    e: &'p Expr<A>,
+    m: &mut Machine<'p, A>,
+) -> Result<Word, Halted>
+    ensures { MeansWord result
+        (meaning.value_transaction mode (does_expr source.now frames e.now) (state_in m.old))
+        m.new }
+{
+    begin_value(m)?;
+    let end = transaction(source, frames, Kind::Plain(mode), &Body::Value(e), m)?;
+    value_at(m, end)
+}
+
 /// A transaction: what it does counts as a whole, or not at all.
 #[cycle(run)]
 #[inline(never)]
 pub(crate) fn transaction<'p, A: Allocator + Copy>(
     source: &Source<'p, A>,
     frames: u64,
-    mode: Mode,
-    ss: &'p [Stmt<A>],
+    kind: Kind,
+    body: &Body<'p, A>,
     m: &mut Machine<'p, A>,
 ) -> Result<End, Halted>
-    ensures { MeansEnd result (meaning.transaction mode (meaning.scoped (does_stmts source.now frames ss.now)) (state_in m.old)) m.new }
+    ensures { MeansEnd result (meaning.transaction kind (does_body source.now frames body.now) (state_in m.old)) m.new }
 {
-    let none = Context::Inside(mode, Vec::new(source.alloc));
+    let none = Context::Inside(Mode::Atomic, Vec::new(source.alloc));
     match mem::replace(&mut m.context, none) {
-        Context::Outside(founds, lefts) => outermost(source, frames, mode, founds, lefts, ss, m),
-        Context::Inside(outer, found) => nested(source, frames, outer, found, mode, ss, m),
+        Context::Outside(founds, lefts) => outermost(source, frames, kind, founds, lefts, body, m),
+        Context::Inside(outer, found) => nested(source, frames, outer, found, kind, body, m),
     }
 }
 
@@ -200,13 +271,13 @@ pub(crate) fn transaction<'p, A: Allocator + Copy>(
 fn outermost<'p, A: Allocator + Copy>(
     source: &Source<'p, A>,
     frames: u64,
-    mode: Mode,
+    kind: Kind,
     founds: &'p [Vec<u32, A>],
     lefts: Vec<Vec<u32, A>, A>,
-    ss: &'p [Stmt<A>],
+    body: &Body<'p, A>,
     m: &mut Machine<'p, A>,
 ) -> Result<End, Halted>
-    ensures { MeansEnd result (let before = act.Outside (memories_in founds.now) (memories_in lefts.items) in meaning.enter before mode (meaning.scoped (does_stmts source.now frames ss.now)) (record (state_in m.old) { context = before })) m.new }
+    ensures { MeansEnd result (let before = act.Outside (memories_in founds.now) (memories_in lefts.items) in meaning.enter before kind (does_body source.now frames body.now) (record (state_in m.old) { context = before })) m.new }
 {
     let [found, rest @ ..] = founds else {
         m.context = Context::Outside(founds, lefts);
@@ -221,9 +292,18 @@ fn outermost<'p, A: Allocator + Copy>(
         m.why = None;
         return Err(Halted {});
     };
-    m.context = Context::Inside(mode, memory);
-    match block(source, frames, ss, m) {
-        Ok(end) => leave(source.alloc, rest, lefts, mine, found.as_slice(), end, m),
+    m.context = Context::Inside(mode_of(kind), memory);
+    match run_body(source, frames, body, m) {
+        Ok(end) => leave(
+            source.alloc,
+            kind,
+            rest,
+            lefts,
+            mine,
+            found.as_slice(),
+            end,
+            m,
+        ),
         Err(halted) => {
             close_stopped(source.alloc, rest, lefts, found.as_slice(), m);
             Err(halted)
@@ -239,12 +319,13 @@ fn nested<'p, A: Allocator + Copy>(
     frames: u64,
     outer: Mode,
     found: Vec<u32, A>,
-    mode: Mode,
-    ss: &'p [Stmt<A>],
+    kind: Kind,
+    body: &Body<'p, A>,
     m: &mut Machine<'p, A>,
 ) -> Result<End, Halted>
-    ensures { MeansEnd result (let before = act.Inside outer found.items in meaning.enter before mode (meaning.scoped (does_stmts source.now frames ss.now)) (record (state_in m.old) { context = before })) m.new }
+    ensures { MeansEnd result (let before = act.Inside outer found.items in meaning.enter before kind (does_body source.now frames body.now) (record (state_in m.old) { context = before })) m.new }
 {
+    let mode = mode_of(kind);
     if is_forbidden(outer, mode) {
         m.context = Context::Inside(outer, found);
         m.why = Some(Halt::Astray);
@@ -259,6 +340,25 @@ fn nested<'p, A: Allocator + Copy>(
         return Err(Halted {});
     };
     m.context = Context::Inside(mode, memory);
-    let end = block(source, frames, ss, m)?;
-    Ok(leave_inner(source.alloc, outer, mine, found, end, m))
+    let end = run_body(source, frames, body, m)?;
+    Ok(leave_inner(source.alloc, outer, kind, mine, found, end, m))
+}
+
+/// What a transaction does between its begin and its end.
+#[cycle(run)]
+fn run_body<'p, A: Allocator + Copy>(
+    source: &Source<'p, A>,
+    frames: u64,
+    body: &Body<'p, A>,
+    m: &mut Machine<'p, A>,
+) -> Result<End, Halted>
+    ensures { MeansEnd result (does_body source.now frames body.now (state_in m.old)) m.new }
+{
+    match body {
+        Body::Block(ss) => block(source, frames, ss, m),
+        Body::Value(e) => {
+            let v = eval(source, frames, e, m)?;
+            Ok(End::Returns(v))
+        }
+    }
 }

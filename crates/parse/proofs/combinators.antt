@@ -7,6 +7,8 @@ pub mod Exact
 pub mod Starts
 -- One phrase or another, as the first token says.
 pub mod Choices
+-- What is read behind a first token that is known.
+pub mod Rest
 -- What stands behind or before a fixed token, and what may be left out.
 pub mod Parts
 -- A list of phrases, up to a token that stops it, is read exactly where one phrase is. T: what else may be said of that token.

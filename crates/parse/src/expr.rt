@@ -9,17 +9,17 @@ ghost use Rattle.syntax.specs.Tree as E;
 ghost use Rattle.syntax.specs.Depth.{expr_depth, deepest};
 ghost use Rattle.syntax.specs.Views.{expr_of, exprs_of};
 ghost use Rattle.parse.specs.inner.Reading.{Fails, Gives, GivesOp, behind, head, is_other, many_until, mapped, next_op, sunk, take};
-ghost use Rattle.parse.specs.inner.Expressions.{arguments, conditional_at, expr_at, named, opened, operand, operators, outcomes, prefixed, starts_expr, the_constant, the_prefix, whole_at};
+ghost use Rattle.parse.specs.inner.Expressions.{arguments, conditional_at, expr_at, named, opened, operand, operators, outcomes, prefixed, starts_expr, the_constant, the_prefix, transaction, whole_at};
 
 use crate::cursor::{closed_at, counted, eat, expect, is_next, name, spot};
 use crate::fault::Failure;
-use crate::lead::{Infix, Operand, infix_of, operand_at, precedence};
+use crate::lead::{Infix, Operand, infix_of, mode_keyword, operand_at, precedence};
 use crate::node;
 use crate::scalar::{scalar, starts_type};
 use containers::Items;
 use lex::token::{Fixed, Kind, Punctuator, Span, Token};
 use std::alloc::Allocator;
-use syntax::tree::{Expr, UnaryOp};
+use syntax::tree::{Expr, Mode, UnaryOp};
 
 /// An expression, its depth, and the tokens after it.
 type Found<'t, 'a, A> = (Expr<A>, usize, &'t [Token<'a>]);
@@ -146,6 +146,30 @@ fn opened<'t, 'a, A: Allocator + Copy>(
     Ok((node::group(alloc, at, inner, last)?, deep + 1, rest))
 }
 
+/// `mode ( expr )`
+#[cycle(climbing)]
+fn transaction<'t, 'a, A: Allocator + Copy>(
+    alloc: A,
+    tokens: &'t [Token<'a>],
+    mode: Mode,
+    depth: usize,
+) -> Result<Found<'t, 'a, A>, Failure<'t, 'a>>
+    requires { depth < 2 ^ 32 }
+    ensures value { Gives (λ x. (expr_of x.0, toks x.2.now)) result
+        (transaction (whole_at depth) (expr_at depth 11) mode (toks tokens.now)) }
+    ensures deep { IfOk result (λ x. x.1 ≡ expr_depth (expr_of x.0)) }
+    ensures within { IfOk result (λ x. x.1 ≤ depth + 1) }
+{
+    let (at, rest) = spot(tokens, mode_keyword(mode))?;
+    let (inner, deep, rest) = behind(alloc, rest, Fixed::Punctuator(Punctuator::OpenParen), depth)?;
+    let ((inner, last), rest) = closed_at(inner, rest, Fixed::Punctuator(Punctuator::CloseParen))?;
+    Ok((
+        node::transaction(alloc, mode, at, inner, last)?,
+        deep + 1,
+        rest,
+    ))
+}
+
 /// `fixed expr`
 #[cycle(climbing)]
 fn behind<'t, 'a, A: Allocator + Copy>(
@@ -258,7 +282,7 @@ fn named<'t, 'a, A: Allocator + Copy>(
     Ok((Expr::Variable(name), 1, rest))
 }
 
-/// `named | constant | opened | prefixed`
+/// `named | constant | opened | prefixed | transaction`
 #[cycle(climbing)]
 fn operand<'t, 'a, A: Allocator + Copy>(
     alloc: A,
@@ -276,6 +300,7 @@ fn operand<'t, 'a, A: Allocator + Copy>(
         Operand::Constant => constant(tokens),
         Operand::Open => opened(alloc, tokens, depth),
         Operand::Prefix => prefixed(alloc, tokens, depth),
+        Operand::Transaction(mode) => transaction(alloc, tokens, mode, depth),
         Operand::None => Err(Failure::Wrong(tokens)),
     }
 }

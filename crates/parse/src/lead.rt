@@ -2,7 +2,7 @@
 
 ghost use Rattle.std.specs.Prelude.{◌≡◌};
 ghost use Rattle.lex.specs.Tokens.{toks};
-ghost use Rattle.syntax.specs.Grammar.{binary_of, logical_of};
+ghost use Rattle.syntax.specs.Grammar.{binary_of, logical_of, mode_keyword};
 ghost use Rattle.parse.specs.inner.Reading.{head};
 ghost use Rattle.parse.specs.inner.Expressions.{infix_of, infix_precedence, operand_at};
 ghost use Rattle.parse.specs.inner.Statements.{lead_fixed, lead_at};
@@ -26,6 +26,8 @@ pub enum Operand {
     Open,
     /// An operator before its operand.
     Prefix,
+    /// `__transaction_atomic` or `__transaction_relaxed`: an expression that is a transaction.
+    Transaction(Mode),
     None,
 }
 
@@ -42,6 +44,8 @@ pub enum Lead {
     Break,
     Continue,
     Return,
+    /// `__transaction_atomic` or `__transaction_relaxed`: a transaction, or an expression that begins with one, as the
+    /// next token says.
     Transaction(Mode),
     Cancel,
     /// An expression or an assignment, if anything.
@@ -96,9 +100,21 @@ pub fn operand_at(tokens: &[Token]) -> Operand
             Kind::Punctuator(
                 Punctuator::Minus | Punctuator::Plus | Punctuator::Not | Punctuator::Complement,
             ) => Operand::Prefix,
+            Kind::Keyword(Keyword::Atomic) => Operand::Transaction(Mode::Atomic),
+            Kind::Keyword(Keyword::Relaxed) => Operand::Transaction(Mode::Relaxed),
             _ => Operand::None,
         },
         [] => Operand::None,
+    }
+}
+
+/// The keyword that begins a transaction.
+pub fn mode_keyword(mode: Mode) -> Fixed
+    ensures { result ≡ mode_keyword mode }
+{
+    match mode {
+        Mode::Atomic => Fixed::Keyword(Keyword::Atomic),
+        Mode::Relaxed => Fixed::Keyword(Keyword::Relaxed),
     }
 }
 

@@ -10,6 +10,7 @@ mod globals;
 mod lead;
 mod list;
 mod node;
+mod outer;
 mod plain;
 mod scalar;
 mod simple;

@@ -1,7 +1,7 @@
 //! Nodes of an expression, by their parts.
 
 ghost use Rattle.std.specs.Prelude.{◌≡◌, IfOk};
-ghost use Rattle.syntax.specs.Tree.{Element, Call, Parenthesized, Cast, Unary, Conditional};
+ghost use Rattle.syntax.specs.Tree.{Element, Call, Parenthesized, Cast, Unary, Conditional, InTransaction};
 ghost use Rattle.syntax.specs.Typing.{span_of};
 ghost use Rattle.syntax.specs.Views.{expr_of, exprs_of, name_of};
 ghost use Rattle.parse.specs.inner.Reading.{across};
@@ -11,7 +11,7 @@ use crate::lead::Infix;
 use containers::{Boxed, Items};
 use lex::token::{Scalar, Span};
 use std::alloc::{AllocError, Allocator};
-use syntax::tree::{Expr, Name, UnaryOp};
+use syntax::tree::{Expr, Mode, Name, UnaryOp};
 
 /// From the start of one place to the end of another.
 pub fn across(first: Span, last: Span) -> Span
@@ -37,7 +37,8 @@ pub fn span_of<A: Allocator>(e: &Expr<A>) -> Span
         | Expr::Unary(_, _, at)
         | Expr::Binary(_, _, _, at)
         | Expr::Logical(_, _, _, at)
-        | Expr::Conditional(_, _, _, at) => *at,
+        | Expr::Conditional(_, _, _, at)
+        | Expr::InTransaction(_, _, _, at) => *at,
     }
 }
 
@@ -73,6 +74,21 @@ pub fn group<A: Allocator + Copy>(
 {
     let at = across(first, last);
     Ok(Expr::Parenthesized(Boxed::new(alloc, inner)?, at))
+}
+
+/// An expression that is a transaction: its keyword, which stands at a place, and its operand, up to the place of its
+/// closing parenthesis.
+pub fn transaction<A: Allocator + Copy>(
+    alloc: A,
+    mode: Mode,
+    first: Span,
+    inner: Expr<A>,
+    last: Span,
+) -> Result<Expr<A>, AllocError>
+    ensures { IfOk result (λ e. expr_of e ≡ InTransaction mode first (expr_of inner) (across first last)) }
+{
+    let at = across(first, last);
+    Ok(Expr::InTransaction(mode, first, Boxed::new(alloc, inner)?, at))
 }
 
 /// A cast of an operand, from the place of its opening parenthesis.

@@ -5,15 +5,16 @@ ghost use Rattle.lex.specs.declared.token.Fixed.TheVariants as token;
 ghost use Rattle.lex.specs.declared.token.Keyword.TheVariants as key;
 ghost use Rattle.lex.specs.declared.token.Punctuator.TheVariants as punct;
 ghost use Rattle.lex.specs.Tokens.{toks};
-ghost use Rattle.syntax.specs.Tree.{Empty, Do, Break, Continue, Cancel};
+ghost use Rattle.syntax.specs.Tree.{Empty, Do, Break, Continue};
 ghost use Rattle.syntax.specs.Views.{expr_of, stmt_of};
 ghost use Rattle.syntax.specs.Grammar.{the_text};
 ghost use Rattle.parse.specs.inner.Reading.{Gives, take, mapped, before, expect, spot};
-ghost use Rattle.parse.specs.inner.Statements.{simple_at, printed, print_stmt, return_stmt};
+ghost use Rattle.parse.specs.inner.Statements.{simple_at, printed, print_stmt, cancel_stmt, return_stmt};
 
 use crate::cursor::{closed, expect, spot};
 use crate::expr::further;
 use crate::fault::Failure;
+use crate::outer::marked;
 use crate::simple::{last_expression, simple_before};
 use containers::{Items, Text};
 use lex::token::{Fixed, Keyword, Kind, Punctuator, Span, Token};
@@ -139,16 +140,20 @@ pub fn continue_stmt<'t, 'a, A: Allocator + Copy>(
     Ok((Stmt::Continue(at), rest))
 }
 
-/// `__transaction_cancel ;`
+/// `__transaction_cancel [outer_mark] ;`
 pub fn cancel_stmt<'t, 'a, A: Allocator + Copy>(
     tokens: &'t [Token<'a>],
 ) -> Result<(Stmt<A>, &'t [Token<'a>]), Failure<'t, 'a>>
-    ensures { Gives (λ x. (stmt_of x.0, toks x.1.now)) result
-        (mapped Cancel (before (token.Punctuator punct.Semicolon) (spot (token.Keyword key.Cancel)))
-        (toks tokens.now)) }
+    ensures { Gives (λ x. (stmt_of x.0, toks x.1.now)) result (cancel_stmt (toks tokens.now)) }
 {
-    let (at, rest) = alone(tokens, Fixed::Keyword(Keyword::Cancel))?;
-    Ok((Stmt::Cancel(at), rest))
+    let (at, rest) = spot(tokens, Fixed::Keyword(Keyword::Cancel))?;
+    let (outer, rest) = marked(rest)?;
+    let rest = expect(rest, Fixed::Punctuator(Punctuator::Semicolon))?;
+    if outer {
+        Ok((Stmt::CancelOuter(at), rest))
+    } else {
+        Ok((Stmt::Cancel(at), rest))
+    }
 }
 
 /// `return [expr] ;`

@@ -1,22 +1,22 @@
 //! Statements, and the blocks that they stand in.
 
-ghost use Rattle.std.specs.Prelude.{◌≡◌, ◌^◌, ◌<◌, [], ◌∷◌, ◌++◌, map, option_map, IfOk};
+ghost use Rattle.std.specs.Prelude.{◌≡◌, ◌^◌, ◌<◌, ◌+◌, [], ◌∷◌, ◌++◌, map, option_map, IfOk};
 ghost use Rattle.syntax.specs.Tree.{While, DoWhile, For};
 ghost use Rattle.lex.specs.declared.token.Fixed.TheVariants as token;
 ghost use Rattle.lex.specs.declared.token.Keyword.TheVariants as key;
 ghost use Rattle.lex.specs.declared.token.Punctuator.TheVariants as punct;
 ghost use Rattle.lex.specs.Tokens.{toks};
 ghost use Rattle.syntax.specs.Views.{expr_of, simple_of, start_of, stmt_of};
-ghost use Rattle.syntax.specs.Grammar.{mode_keyword};
 ghost use Rattle.parse.specs.inner.Reading.{Gives, GivesOn, expect, head, mapped, perhaps, behind};
 ghost use Rattle.parse.specs.inner.Expressions.{whole_at};
 ghost use Rattle.parse.specs.inner.Headings.{branches_of};
-ghost use Rattle.parse.specs.inner.Statements.{in_parens, entry, branches, if_tree, if_stmt, while_stmt, do_stmt, end_of_do, rest_of_head, head_of_for, for_stmt, transaction_stmt, starts_stmt, stmt_at, block_at};
+ghost use Rattle.parse.specs.inner.Statements.{in_parens, entry, branches, if_tree, if_stmt, while_stmt, do_stmt, end_of_do, rest_of_head, head_of_for, for_stmt, kind, transaction_stmt, starts_stmt, stmt_at, block_at};
 
 use crate::cursor::{closed, eat, expect, is_next, spot};
 use crate::expr::expression;
 use crate::fault::Failure;
-use crate::lead::{Lead, lead_at};
+use crate::lead::{Lead, lead_at, mode_keyword};
+use crate::outer::marked;
 use crate::plain::{
     break_stmt, cancel_stmt, continue_stmt, empty_stmt, print_stmt, return_stmt, simple_stmt,
 };
@@ -25,7 +25,7 @@ use crate::simple::{declaration, last_expression, last_simple, start, starts_sim
 use containers::{Boxed, Items};
 use lex::token::{Fixed, Keyword, Punctuator, Token};
 use std::alloc::Allocator;
-use syntax::tree::{Expr, ForHead, Mode, Simple, Stmt};
+use syntax::tree::{Expr, ForHead, Kind, Mode, Simple, Stmt};
 
 /// What an `if` chooses from.
 #[derive(Drop)]
@@ -361,17 +361,27 @@ fn for_stmt<'t, 'a, A: Allocator + Copy>(
     for_of(head, boxed_stmt(alloc, rest, depth))
 }
 
-/// The keyword that begins a transaction.
-fn mode_keyword(mode: Mode) -> Fixed
-    ensures { result ≡ mode_keyword mode }
+/// `[outer_mark]`, behind the keyword of a transaction: what kind it is. A relaxed one has no mark.
+fn kind<'t, 'a>(
+    tokens: &'t [Token<'a>],
+    mode: Mode,
+) -> Result<(Kind, &'t [Token<'a>]), Failure<'t, 'a>>
+    ensures { Gives (λ x. (x.0, toks x.1.now)) result (kind mode (toks tokens.now)) }
 {
     match mode {
-        Mode::Atomic => Fixed::Keyword(Keyword::Atomic),
-        Mode::Relaxed => Fixed::Keyword(Keyword::Relaxed),
+        Mode::Relaxed => Ok((Kind::Plain(Mode::Relaxed), tokens)),
+        Mode::Atomic => {
+            let (outer, rest) = marked(tokens)?;
+            if outer {
+                Ok((Kind::Outer, rest))
+            } else {
+                Ok((Kind::Plain(Mode::Atomic), rest))
+            }
+        }
     }
 }
 
-/// `mode block`
+/// `mode kind block`, or `simple ;` where that begins with `mode (`.
 #[cycle(statements)]
 fn transaction_stmt<'t, 'a, A: Allocator + Copy>(
     alloc: A,
@@ -379,13 +389,20 @@ fn transaction_stmt<'t, 'a, A: Allocator + Copy>(
     mode: Mode,
     depth: usize,
 ) -> Result<(Stmt<A>, &'t [Token<'a>]), Failure<'t, 'a>>
-    requires { depth < 2 ^ 32 }
+    requires { depth + 1 < 2 ^ 32 }
     ensures { Gives (λ x. (stmt_of x.0, toks x.1.now)) result
         (transaction_stmt depth (stmt_at depth) (block_at depth) mode (toks tokens.now)) }
 {
     let (at, rest) = spot(tokens, mode_keyword(mode))?;
+    if is_next(rest, Fixed::Punctuator(Punctuator::OpenParen)) {
+        if depth == 0 {
+            return Err(Failure::Deep(rest));
+        }
+        return simple_stmt(alloc, tokens, depth + 1);
+    }
+    let (kind, rest) = kind(rest, mode)?;
     let (body, rest) = block(alloc, rest, depth)?;
-    Ok((Stmt::Transaction(mode, body, at), rest))
+    Ok((Stmt::Transaction(kind, body, at), rest))
 }
 
 /// `declaration | stmt`

@@ -3,7 +3,7 @@ use Rattle.std.proofs.Common.{ℕ, suc, ◌+◌, ◌≤◌, length, max, Option,
 use Rattle.std.specs.Option.{IfSome}
 use Rattle.lex.specs.declared.token.Scalar.{Scalar}
 use Rattle.syntax.specs.declared.tree.UnaryOp.TheVariants.{Negate, Keep, Not, Complement}
-use Rattle.syntax.specs.Tree.{Expr, Exprs, Variable, Constant, Element, Call, Parenthesized, Cast, Unary, Binary, Logical, Conditional, Program}
+use Rattle.syntax.specs.Tree.{Expr, Exprs, Variable, Constant, Element, Call, Parenthesized, Cast, Unary, Binary, Logical, Conditional, InTransaction, Program}
 use Rattle.syntax.specs.Names.{newest, global_of, GlobalCells}
 use Rattle.bytecode.specs.declared.instr.Instr.TheVariants as own
 use Rattle.lowered.specs.Expressions.{LocalScope, arranged}
@@ -117,6 +117,7 @@ module _ (p : Program) (scope : LocalScope) where
         let x = emitted_more b ((settled into first).held.to + 1) into free (settled into first).lists in
         let y = settled_more into second in
         omega (arith, u, v, w, x, y)
+    emitted_more (InTransaction mode keyword e at) from into free l = emitted_more e (from + 1) into free l
 
     own_more : (e : Expr) (from free : ℕ) (l : Lists) → IfSome (own_condition p scope e from free l) (HasMore l)
     own_more (Parenthesized e at) from free l = by_parts e from free l (own_more e from free l) (emitted_more e from free free l)

@@ -3,7 +3,7 @@ use Rattle.std.proofs.Common.{◌≡◌, ℕ, suc, ◌+◌, ◌≤◌, List, [],
 use Rattle.lex.specs.declared.token.Scalar.{Scalar}
 use Rattle.lex.specs.declared.token.Scalar.TheVariants.{Int}
 use Rattle.syntax.specs.declared.tree.BinaryOp.{BinaryOp}
-use Rattle.syntax.specs.Tree.{Expr, Variable, Element, Simple, Evaluate, Assign, Adjust, Declarator, Start, Nothing, Declares, Does, Stmt, Stmts, Empty, Declare, Do, Block, Print, If, IfElse, While, DoWhile, For, Break, Continue, Return, Transaction, Cancel, Function, Program}
+use Rattle.syntax.specs.Tree.{Expr, Variable, Element, Simple, Evaluate, Assign, Adjust, Declarator, Start, Nothing, Declares, Does, Stmt, Stmts, Empty, Declare, Do, Block, Print, If, IfElse, While, DoWhile, For, Break, Continue, Return, Transaction, Cancel, CancelOuter, Function, Program}
 use Rattle.syntax.specs.Names.{newest, global_of, cells, GlobalCells}
 use Rattle.syntax.specs.Formats.{Piece, Literal, Figure, pieces}
 use Rattle.syntax.specs.Meaning.{op_of}
@@ -216,8 +216,9 @@ module _ (p : Program) where
     written_leaner (Continue at) x y scope from to l m h = h
     written_leaner (Return None at) x y scope from to l m h = h
     written_leaner (Return (Some e) at) x y scope from to l m h = emitted_leaner p scope e from to (length scope) (length scope) l m h
-    written_leaner (Transaction mode ss at) x y scope from to l m h = stmts_leaner ss (in_transaction x) (in_transaction y) scope (from + 1) (to + 1) l m h
+    written_leaner (Transaction kind ss at) x y scope from to l m h = stmts_leaner ss (in_transaction kind x) (in_transaction kind y) scope (from + 1) (to + 1) l m h
     written_leaner (Cancel at) x y scope from to l m h = h
+    written_leaner (CancelOuter at) x y scope from to l m h = h
 
     stmts_leaner : (ss : Stmts) (x y : Exits) (scope : LocalScope) (from to : ℕ) (l m : Lists) → IsLeaner l m → IsLeaner (all_written p ss x scope from l).lists (all_written p ss y scope to m).lists
     stmts_leaner Stmts.[] x y scope from to l m h = h

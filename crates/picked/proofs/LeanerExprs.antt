@@ -3,7 +3,7 @@
 use Rattle.std.proofs.Common.{◌≡◌, ℕ, suc, pos, ◌+◌, ◌≤◌, List, [], ◌∷◌, length, max, Option, Some, None, Bool, true, false, if◌then◌else◌, ◌==◌, refl, sym, ap, ◌∙◌, subst, arith}
 use Rattle.lex.specs.declared.token.Scalar.{Scalar}
 use Rattle.syntax.specs.declared.tree.UnaryOp.TheVariants.{Negate, Keep, Not, Complement}
-use Rattle.syntax.specs.Tree.{Expr, Exprs, Variable, Constant, Element, Call, Parenthesized, Cast, Unary, Binary, Logical, Conditional, Program}
+use Rattle.syntax.specs.Tree.{Expr, Exprs, Variable, Constant, Element, Call, Parenthesized, Cast, Unary, Binary, Logical, Conditional, InTransaction, Program}
 use Rattle.syntax.specs.Numbers.{word_of}
 use Rattle.syntax.specs.Names.{newest, global_of, GlobalCells}
 use Rattle.bytecode.specs.declared.instr.Instr.TheVariants as own
@@ -127,6 +127,7 @@ module _ (p : Program) (scope : LocalScope) where
   same_register (Binary op a b at) from to into free l m = refl
   same_register (Logical op a b at) from to into free l m = refl
   same_register (Conditional c a b at) from to into free l m = refl
+  same_register (InTransaction mode keyword e at) from to into free l m = same_register e (from + 1) (to + 1) into free l m
 
   pub same_registers : (es : Exprs) (from to free : ℕ) (l m : Lists) → (all_emitted p scope es from free l).registers ≡ (all_emitted p scope es to free m).registers
   same_registers Exprs.[] from to free l m = refl
@@ -187,6 +188,7 @@ module _ (p : Program) (scope : LocalScope) where
         let w = emitted_leaner b u u' into free (settled into first).lists (settled into first').lists z in
         settled_leaner into (emitted p scope b u into free (settled into first).lists) (emitted p scope b u' into free (settled into first').lists)
         (same_register b u u' into free (settled into first).lists (settled into first').lists) w
+    emitted_leaner (InTransaction mode keyword e at) from to into free l m h = emitted_leaner e (from + 1) (to + 1) into free l m h
 
     own_leaner : (e : Expr) (from to free : ℕ) (l m : Lists) → IsLeaner l m → BothLeaner (own_condition p scope e from free l) (own_condition p scope e to free m)
     own_leaner (Parenthesized e at) from to free l m h = by_parts e from to free l m (own_leaner e from to free l m h) (emitted_leaner e from to free free l m h)

@@ -3,7 +3,7 @@ use Rattle.std.proofs.Common.{ℕ, suc, ◌+◌, List, [], ◌∷◌, ◌++◌, 
 use Rattle.lex.specs.declared.token.Scalar.{Scalar}
 use Rattle.lex.specs.declared.token.Scalar.TheVariants.{Int}
 use Rattle.syntax.specs.declared.tree.BinaryOp.{BinaryOp}
-use Rattle.syntax.specs.Tree.{Expr, Variable, Element, Simple, Evaluate, Assign, Adjust, Declarator, Start, Nothing, Declares, Does, Stmt, Stmts, Empty, Declare, Do, Block, Print, If, IfElse, While, DoWhile, For, Break, Continue, Return, Transaction, Cancel, Program}
+use Rattle.syntax.specs.Tree.{Expr, Variable, Element, Simple, Evaluate, Assign, Adjust, Declarator, Start, Nothing, Declares, Does, Stmt, Stmts, Empty, Declare, Do, Block, Print, If, IfElse, While, DoWhile, For, Break, Continue, Return, Transaction, Cancel, CancelOuter, Program}
 use Rattle.syntax.specs.Names.{newest, global_of, GlobalCells}
 use Rattle.syntax.specs.Formats.{Piece, Literal, Figure, pieces}
 use Rattle.syntax.specs.Meaning.{op_of}
@@ -156,8 +156,9 @@ module _ (p : Program) where
     written_longer (Continue at) x scope from l = grows_same l
     written_longer (Return None at) x scope from l = grows_same l
     written_longer (Return (Some e) at) x scope from l = emitted_longer p scope e from (length scope) (length scope) l
-    written_longer (Transaction mode ss at) x scope from l = stmts_longer ss (in_transaction x) scope (from + 1) l
+    written_longer (Transaction kind ss at) x scope from l = stmts_longer ss (in_transaction kind x) scope (from + 1) l
     written_longer (Cancel at) x scope from l = grows_same l
+    written_longer (CancelOuter at) x scope from l = grows_same l
 
     pub stmts_longer : (ss : Stmts) (x : Exits) (scope : LocalScope) (from : ℕ) (l : Lists) → Grows l (all_written p ss x scope from l).lists
     stmts_longer Stmts.[] x scope from l = grows_same l

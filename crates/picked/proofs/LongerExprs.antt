@@ -3,7 +3,7 @@ use Rattle.std.proofs.Common.{ℕ, ◌+◌, List, ◌++◌, length, Option, Some
 use Rattle.std.specs.Option.{IfSome}
 use Rattle.lex.specs.declared.token.Scalar.{Scalar}
 use Rattle.syntax.specs.declared.tree.UnaryOp.TheVariants.{Negate, Keep, Not, Complement}
-use Rattle.syntax.specs.Tree.{Expr, Exprs, Variable, Constant, Element, Call, Parenthesized, Cast, Unary, Binary, Logical, Conditional, Program}
+use Rattle.syntax.specs.Tree.{Expr, Exprs, Variable, Constant, Element, Call, Parenthesized, Cast, Unary, Binary, Logical, Conditional, InTransaction, Program}
 use Rattle.syntax.specs.Names.{newest, global_of, GlobalCells}
 use Rattle.bytecode.specs.declared.instr.Instr.TheVariants as own
 use Rattle.lowered.specs.Expressions.{LocalScope, arranged}
@@ -102,6 +102,7 @@ module _ (p : Program) (scope : LocalScope) where
         let v = settled_longer into made test.lists (emitted_longer a (test.to + 1) into free test.lists) in
         let w = settled_longer into second first.lists (emitted_longer b (first.held.to + 1) into free first.lists) in
         grows_further l test.lists (settled into second).lists u (grows_further test.lists first.lists (settled into second).lists v w)
+    emitted_longer (InTransaction mode keyword e at) from into free l = emitted_longer e (from + 1) into free l
 
     own_longer : (e : Expr) (from free : ℕ) (l : Lists) → IfSome (own_condition p scope e from free l) (IsLonger l)
     own_longer (Parenthesized e at) from free l = by_parts e from free l (own_longer e from free l) (emitted_longer e from free free l)

@@ -7,8 +7,9 @@ use Rattle.syntax.specs.declared.tree.UnaryOp.TheVariants.{Not}
 use Rattle.lex.specs.declared.token.Scalar.TheVariants.{Int}
 use Rattle.syntax.specs.declared.tree.LogicalOp.TheVariants.{AndThen}
 use Rattle.syntax.specs.declared.tree.Mode.TheVariants.{Atomic, Relaxed}
+use Rattle.syntax.specs.declared.tree.Kind.TheVariants.{Plain, Outer}
 use Rattle.syntax.specs.declared.tree.IncDec.TheVariants.{Increment}
-use Rattle.syntax.specs.Tree.{Expr, Exprs, Print, If, While, For, Declares, Break, Name, Variable, Constant, Element, Call, Unary, Parenthesized, Binary, Logical, Assign, Adjust, Stmts, Do, Transaction, Return, Function, Global, Defines, Shares}
+use Rattle.syntax.specs.Tree.{Expr, Exprs, Print, If, While, For, Declares, Break, Name, Variable, Constant, Element, Call, Unary, Parenthesized, Binary, Logical, InTransaction, Assign, Adjust, Stmts, Do, Transaction, CancelOuter, Return, Function, Global, Defines, Shares}
 use Rattle.bytecode.specs.Code.{Code, Instr}
 use Rattle.picked.specs.Lists.{Lists}
 use Rattle.picked.specs.Expressions.{emitted}
@@ -41,9 +42,30 @@ abbrev a : Global
 a = record { of = Int; name = named (codes "a"); length = Some (4, no_span); first = [] }
 
 -- int x; void worker(int self) { __transaction_atomic { x = x + 1; } }
-first_code : (picked_code (Shares (x ∷ []) ∷ Defines (body (Stmts.◌∷◌ (Transaction Atomic (Stmts.◌∷◌ (Do (Assign (var (codes "x")) None (Binary Add (var (codes "x")) (num 1) no_span))) Stmts.[]) no_span) Stmts.[])) ∷ [])).instructions ≡
+first_code : (picked_code (Shares (x ∷ []) ∷ Defines (body (Stmts.◌∷◌ (Transaction (Plain Atomic) (Stmts.◌∷◌ (Do (Assign (var (codes "x")) None (Binary Add (var (codes "x")) (num 1) no_span))) Stmts.[]) no_span) Stmts.[])) ∷ [])).instructions ≡
     Instr.Begin 6 ∷ (Instr.Read 1 0 ∷ (Instr.Constant 2 1 ∷ (Instr.Compute Add Int 1 1 2 ∷ (Instr.Write 0 1 ∷ (Instr.Commit ∷ (Instr.Return None ∷ []))))))
 first_code = refl
+
+-- x + __transaction_relaxed(x + x), to be had in register 1
+in_its_own : (emitted (Shares (x ∷ []) ∷ []) [] (Binary Add (var (codes "x")) (InTransaction Relaxed no_span (Binary Add (var (codes "x")) (var (codes "x")) no_span) no_span) no_span) 7 1 1 no_lists).code ≡
+    own.Read 1 0 ∷ own.Begin 13 ∷ own.Read 2 0 ∷ own.Read 3 0 ∷ own.AddSigned 2 2 3 ∷ own.Commit ∷ own.AddSigned 1 1 2 ∷ []
+in_its_own = refl
+
+abbrev atomic : Stmts → Stmts
+atomic ss = Stmts.◌∷◌ (Transaction (Plain Atomic) ss no_span) Stmts.[]
+
+abbrev outer_cancel : Stmts → Stmts
+outer_cancel ss = Stmts.◌∷◌ (CancelOuter no_span) ss
+
+-- void worker(int self) {
+--   __transaction_atomic [[outer]] {
+--     __transaction_cancel [[outer]];
+--     __transaction_atomic { __transaction_atomic { __transaction_cancel [[outer]]; } }
+--   }
+-- }
+three_levels : (picked_code (Defines (body (Stmts.◌∷◌ (Transaction Outer (outer_cancel (atomic (atomic (outer_cancel Stmts.[])))) no_span) Stmts.[])) ∷ [])).instructions ≡
+    Instr.Begin 8 ∷ (Instr.Cancel ∷ (Instr.Begin 7 ∷ (Instr.Begin 6 ∷ (Instr.CancelOuter 3 ∷ (Instr.Commit ∷ (Instr.Commit ∷ (Instr.Commit ∷ (Instr.Return None ∷ []))))))))
+three_levels = refl
 
 -- 90 ones, added from left to right behind two locals, need four registers
 abbrev ones : ℕ → Expr
@@ -71,7 +93,7 @@ abbrev turn : Stmts
 turn = Stmts.◌∷◌ (Do (Assign element (Some Add) (Call (named (codes "f")) (Exprs.◌∷◌ (var (codes "i")) Exprs.[]) no_span))) (Stmts.◌∷◌ (Print no_span (codes "%d!") no_span (Exprs.◌∷◌ element Exprs.[])) (Stmts.◌∷◌ (Break no_span) Stmts.[]))
 
 abbrev counting : Stmts
-counting = Stmts.◌∷◌ (For (Declares (record { of = Int; declarators = record { name = named (codes "i"); first = Some (num 0) } ∷ [] })) (Some (Binary Less (var (codes "i")) (num 3) no_span)) (Some (Adjust (var (codes "i")) Increment)) (Transaction Relaxed turn no_span)) Stmts.[]
+counting = Stmts.◌∷◌ (For (Declares (record { of = Int; declarators = record { name = named (codes "i"); first = Some (num 0) } ∷ [] })) (Some (Binary Less (var (codes "i")) (num 3) no_span)) (Some (Adjust (var (codes "i")) Increment)) (Transaction (Plain Relaxed) turn no_span)) Stmts.[]
 
 abbrev second : Code
 second = picked_code (Shares (a ∷ []) ∷ Defines f ∷ Defines (body counting) ∷ [])

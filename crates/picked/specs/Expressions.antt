@@ -8,7 +8,7 @@ use Rattle.syntax.specs.declared.tree.UnaryOp.TheVariants.{Negate, Keep, Not, Co
 use Rattle.syntax.specs.declared.tree.BinaryOp.{BinaryOp}
 use Rattle.syntax.specs.declared.tree.BinaryOp.TheVariants.{Or, Xor, And, Equal, NotEqual, Less, Greater, LessEqual, GreaterEqual, ShiftLeft, ShiftRight, Add, Subtract, Multiply, Divide, Remainder}
 use Rattle.syntax.specs.declared.tree.LogicalOp.{LogicalOp}
-use Rattle.syntax.specs.Tree.{Expr, Exprs, Variable, Constant, Element, Call, Parenthesized, Cast, Unary, Binary, Logical, Conditional, Program}
+use Rattle.syntax.specs.Tree.{Expr, Exprs, Variable, Constant, Element, Call, Parenthesized, Cast, Unary, Binary, Logical, Conditional, InTransaction, Program}
 use Rattle.syntax.specs.Numbers.{word_of, common, operand_type, result_type}
 use Rattle.syntax.specs.Names.{newest, global_of, cells, GlobalCells}
 use Rattle.bytecode.specs.declared.instr.Instr.{Instr}
@@ -121,6 +121,14 @@ element None i from into l = constant 0 Int from into l
 abbrev pub converted_to : Scalar → Emitted → Emitted
 converted_to t e = record e { held = record { register = e.held.register; of = t; to = e.held.to } }
 
+-- a value that is computed in a transaction of its own
+abbrev pub in_own_transaction : Emitted → Emitted
+in_own_transaction e = record {
+  code = own.Begin (e.held.to + 1) ∷ e.code ++ own.Commit ∷ [];
+  lists = e.lists;
+  held = record { register = e.held.register; of = e.held.of; to = e.held.to + 1 };
+}
+
 abbrev pub negated : Emitted → ℕ → Emitted
 negated e into = then_one e (negating e.held.of into e.held.register) into e.held.of
 
@@ -230,6 +238,8 @@ module _ (p : Program) (scope : LocalScope) where
         let test = tested (own_condition c from free l) (emitted c from free free l) in
         let first = settled into (emitted a (test.to + 1) into free test.lists) in
         chosen test first (settled into (emitted b (first.held.to + 1) into free first.lists)) into
+    emitted (InTransaction mode keyword e at) from into free l =
+        in_own_transaction (emitted e (from + 1) into free l)
 
     -- a condition whose operator says how it is tested
     pub own_condition : Expr → (from free : ℕ) → Lists → Option Condition

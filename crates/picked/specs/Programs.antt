@@ -16,7 +16,7 @@ use Rattle.picked.specs.Loops.{in_loops}
 use Rattle.picked.specs.Statements.{all_written}
 
 abbrev pub no_exits : Exits
-no_exits = record { break_to = 0; continue_to = 0; in_loop = 0; in_function = 0 }
+no_exits = record { break_to = 0; continue_to = 0; in_loop = 0; in_function = 0; to_outer = 0 }
 
 -- a function's body with these constants, and a return where that runs off its end
 abbrev pub body_with : Layout → Program → Function → Stmts → ℕ → Lists → Written

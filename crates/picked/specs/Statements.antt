@@ -1,9 +1,11 @@
 -- The instructions that are picked for statements. A loop is tested at its bottom. In front of it stand a jump and
 -- pads: places that are known before the body is made, from which a break and a continue go on.
-use Rattle.std.specs.Prelude.{ℕ, ◌+◌, List, [], ◌∷◌, ◌++◌, length, replicate, Option, Some, None}
+use Rattle.std.specs.Prelude.{ℕ, zero, suc, ◌+◌, List, [], ◌∷◌, ◌++◌, length, replicate, Option, Some, None}
 use Rattle.lex.specs.declared.token.Scalar.{Scalar}
 use Rattle.lex.specs.declared.token.Scalar.TheVariants.{Int, Unsigned}
-use Rattle.syntax.specs.Tree.{Expr, Simple, Stmt, Stmts, Empty, Declare, Do, Block, Print, If, IfElse, While, DoWhile, For, Break, Continue, Return, Transaction, Cancel, Program}
+use Rattle.syntax.specs.declared.tree.Kind.{Kind}
+use Rattle.syntax.specs.declared.tree.Kind.TheVariants.{Plain, Outer}
+use Rattle.syntax.specs.Tree.{Expr, Simple, Stmt, Stmts, Empty, Declare, Do, Block, Print, If, IfElse, While, DoWhile, For, Break, Continue, Return, Transaction, Cancel, CancelOuter, Program}
 use Rattle.syntax.specs.Formats.{Piece, Literal, Figure, pieces}
 use Rattle.bytecode.specs.declared.instr.Instr.{Instr}
 use Rattle.bytecode.specs.declared.instr.Instr.TheVariants as own
@@ -19,8 +21,23 @@ use Rattle.picked.specs.Simples.{Written, nothing_written, one_written, and_then
 abbrev pub left_by : ℕ → Instr → ℕ → Lists → Written
 left_by n i from l = record { code = replicate n own.Commit ++ i ∷ []; lists = l; to = from + n + 1 }
 
-abbrev pub in_transaction : Exits → Exits
-in_transaction x = record x { in_loop = x.in_loop + 1; in_function = x.in_function + 1 }
+-- how many transactions are open from the innermost outer one on, it too; 0 where there is none
+abbrev pub level_in : Kind → ℕ → ℕ
+level_in Outer n = 1
+level_in (Plain mode) zero = 0
+level_in (Plain mode) (suc n) = suc (suc n)
+
+abbrev pub in_transaction : Kind → Exits → Exits
+in_transaction kind x = record x {
+  in_loop = x.in_loop + 1;
+  in_function = x.in_function + 1;
+  to_outer = level_in kind x.to_outer;
+}
+
+-- the instruction that cancels so many transactions as one
+abbrev pub cancelling : ℕ → Instr
+cancelling (suc zero) = own.Cancel
+cancelling n = own.CancelOuter n
 
 abbrev pub looping : Exits → (break_to continue_to : ℕ) → Exits
 looping x break_to continue_to = record x { break_to = break_to; continue_to = continue_to; in_loop = 0 }
@@ -140,9 +157,10 @@ module _ (p : Program) where
     written (Break at) x scope from l = left_by x.in_loop (own.Jump x.break_to) from l
     written (Continue at) x scope from l = left_by x.in_loop (own.Jump x.continue_to) from l
     written (Return e at) x scope from l = return_written scope e x.in_function from l
-    written (Transaction mode ss at) x scope from l =
-        transacted (all_written ss (in_transaction x) scope (from + 1) l)
+    written (Transaction kind ss at) x scope from l =
+        transacted (all_written ss (in_transaction kind x) scope (from + 1) l)
     written (Cancel at) x scope from l = one_written own.Cancel from l
+    written (CancelOuter at) x scope from l = one_written (cancelling x.to_outer) from l
 
     pub all_written : Stmts → Exits → LocalScope → ℕ → Lists → Written
     all_written Stmts.[] x scope from l = nothing_written from l

@@ -41,4 +41,6 @@ pub struct Exits {
     pub continue_to: u32,
     pub in_loop: u32,
     pub in_function: u32,
+    /// From the innermost outer transaction on; 0 where there is none.
+    pub to_outer: u32,
 }

@@ -11,8 +11,8 @@ use Rattle.syntax.specs.Types.{file_scope}
 use Rattle.syntax.specs.Typing.{demand, first_unmet, is_unknown, is_worker, IsTypedItem, IsTypedFunction, AreTypedItems, AreDefined, IsTypedProgram}
 use Rattle.syntax.proofs.Demands.{AreMet, all_met, none_unmet, met_before, met_behind, is_met}
 use Rattle.types.proofs.Items.{AllDefined, all_defined_function, all_defined_shared, first_prototype}
-use Rattle.safety.specs.Sites.{Construct, Prints, Relaxes, Cancels, Calls, Uses, Site, body_sites, sites_of, attributes_of}
-use Rattle.safety.specs.Safe.{FunctionSet, TellsSafe, IsSafeConstruct, IsSafe, KeepsAtomic, IsSafeProgram}
+use Rattle.safety.specs.Sites.{Construct, Prints, Relaxes, OpensOuter, Cancels, CancelsOuter, Calls, Uses, Site, body_sites, sites_of, attributes_of}
+use Rattle.safety.specs.Safe.{FunctionSet, TellsSafe, TellsOuter, IsSafeConstruct, IsSafe, Opens, LeadsToOuter, IsSafeProgram}
 use Rattle.safety.specs.Faults.{demands_at, says_safe, function_demands, item_demands, safety_demands}
 use Rattle.safety.proofs.Unsafe.{by_name, safe_contained}
 
@@ -27,35 +27,51 @@ or_right : (a b : Bool) → IsTrue (not a || b) → a ≡ true → IsTrue b
 or_right true b h e = h
 or_right false b h e = no e
 
-module _ (p : Program) (safe : FunctionSet) (tells : TellsSafe p safe) where
-  kept_by : (s : Site) (c : Construct) → AreMet (demands_at safe s c) → (s.atomic ≡ true → IsSafeConstruct (IsSafe p) c) × (c ≡ Cancels → s.atomic ≡ true)
-  kept_by s Prints h = (no_and s.atomic (is_met 40 s.at (not s.atomic) h), λ e. absurd cc)
-  kept_by s Relaxes h = (no_and s.atomic (is_met 41 s.at (not s.atomic) h), λ e. absurd cc)
-  kept_by s Cancels h = (λ e. tt, λ e. is_met 42 s.at s.atomic h)
-  kept_by s (Calls f) h = (λ e. (tells f).0 (or_right s.atomic (safe f) (is_met 40 s.at (not s.atomic || safe f) h) e), λ e. absurd cc)
-  kept_by s (Uses x) h = (λ e. tt, λ e. absurd cc)
+-- what a safe program keeps to at a site
+abbrev KeepsAs : Program → Site → Construct → Type 0
+KeepsAs p s c =
+    ((s.atomic ≡ true → IsSafeConstruct (IsSafe p) c) × (c ≡ Cancels → s.atomic ≡ true))
+    × ((s.atomic ≡ true → Opens (LeadsToOuter p) c → ⊥) × (c ≡ CancelsOuter → s.outer ≡ true))
 
-  sites_keep : (ss : List Site) → AreMet (flat_map (λ s. demands_at safe s s.construct) ss) → All (KeepsAtomic p) ss
-  sites_keep [] h = All-nil (KeepsAtomic p)
+abbrev Keeps : Program → Site → Type 0
+Keeps p s = KeepsAs p s s.construct
+
+module _ (p : Program) (safe outer : FunctionSet) (tells : TellsSafe p safe) (leads : TellsOuter p outer) where
+  kept_by : (s : Site) (c : Construct) → AreMet (demands_at safe outer s c) → KeepsAs p s c
+  kept_by s Prints h = ((no_and s.atomic (is_met 40 s.at (not s.atomic) h), λ e. absurd cc), (λ e o. o, λ e. absurd cc))
+  kept_by s Relaxes h = ((no_and s.atomic (is_met 41 s.at (not s.atomic) h), λ e. absurd cc), (λ e o. o, λ e. absurd cc))
+  kept_by s OpensOuter h = ((λ e. tt, λ e. absurd cc), (λ e o. no_and s.atomic (is_met 44 s.at (not s.atomic) h) e, λ e. absurd cc))
+  kept_by s Cancels h = ((λ e. tt, λ e. is_met 42 s.at s.atomic h), (λ e o. o, λ e. absurd cc))
+  kept_by s CancelsOuter h = ((λ e. tt, λ e. absurd cc), (λ e o. o, λ e. is_met 45 s.at s.outer h))
+  kept_by s (Calls f) h =
+      let first = demand 40 s.at (not s.atomic || safe f) in
+      let second = demand 44 s.at (not s.atomic || not (outer f)) in (
+        (λ e. (tells f).0 (or_right s.atomic (safe f) (is_met 40 s.at (not s.atomic || safe f) (met_before first second h)) e), λ e. absurd cc),
+        (λ e o. no_and (outer f) (or_right s.atomic (not (outer f)) (is_met 44 s.at (not s.atomic || not (outer f)) (met_behind first second h)) e) ((leads f).1 o), λ e. absurd cc),
+      )
+  kept_by s (Uses x) h = ((λ e. tt, λ e. absurd cc), (λ e o. o, λ e. absurd cc))
+
+  sites_keep : (ss : List Site) → AreMet (flat_map (λ s. demands_at safe outer s s.construct) ss) → All (Keeps p) ss
+  sites_keep [] h = All-nil (Keeps p)
   sites_keep (s ∷ ss) h =
-      let own = demands_at safe s s.construct in
-      let rest = flat_map (λ s. demands_at safe s s.construct) ss in
-      All-cons (KeepsAtomic p) s ss (kept_by s s.construct (met_before own rest h)) (sites_keep ss (met_behind own rest h))
+      let own = demands_at safe outer s s.construct in
+      let rest = flat_map (λ s. demands_at safe outer s s.construct) ss in
+      All-cons (Keeps p) s ss (kept_by s s.construct (met_before own rest h)) (sites_keep ss (met_behind own rest h))
 
-  if_own : (b : Bool) (own : List Site) → All (KeepsAtomic p) own → All (KeepsAtomic p) (if b then own else [])
+  if_own : (b : Bool) (own : List Site) → All (Keeps p) own → All (Keeps p) (if b then own else [])
   if_own true own h = h
-  if_own false own h = All-nil (KeepsAtomic p)
+  if_own false own h = All-nil (Keeps p)
 
-  items_keep : (items : List Item) (f : List ℕ) → AreMet (flat_map (item_demands p safe) items) → All (KeepsAtomic p) (sites_of items f)
-  items_keep [] f h = All-nil (KeepsAtomic p)
+  items_keep : (items : List Item) (f : List ℕ) → AreMet (flat_map (item_demands p safe outer) items) → All (Keeps p) (sites_of items f)
+  items_keep [] f h = All-nil (Keeps p)
   items_keep (Shares gs ∷ items) f h = items_keep items f h
   items_keep (Defines g ∷ items) f h =
       let own = body_sites g.parameters g.body in
       let claim = demand 43 g.name.at (is_none g.body || not (says_safe (attributes_of p g.name.text)) || safe g.name.text) in
-      let here = met_before (function_demands p safe g) (flat_map (item_demands p safe) items) h in
-      All-append (KeepsAtomic p) (if bytes_eq g.name.text f then own else []) (sites_of items f)
-      (if_own (bytes_eq g.name.text f) own (sites_keep own (met_behind claim (flat_map (λ s. demands_at safe s s.construct) own) here)))
-      (items_keep items f (met_behind (function_demands p safe g) (flat_map (item_demands p safe) items) h))
+      let here = met_before (function_demands p safe outer g) (flat_map (item_demands p safe outer) items) h in
+      All-append (Keeps p) (if bytes_eq g.name.text f then own else []) (sites_of items f)
+      (if_own (bytes_eq g.name.text f) own (sites_keep own (met_behind claim (flat_map (λ s. demands_at safe outer s s.construct) own) here)))
+      (items_keep items f (met_behind (function_demands p safe outer g) (flat_map (item_demands p safe outer) items) h))
 
   claimed : (none says is : Bool) → IsTrue (none || not says || is) → none ≡ false → says ≡ true → IsTrue is
   claimed true says is h e g = no (sym e)
@@ -63,16 +79,16 @@ module _ (p : Program) (safe : FunctionSet) (tells : TellsSafe p safe) where
   claimed false false is h e g = no g
 
   -- a definition of a function that is declared safe is safe
-  definition_safe : (items : List Item) (f : List ℕ) → AreMet (flat_map (item_demands p safe) items) → is_some (definition_of items f) ≡ true → says_safe (attributes_of p f) ≡ true → IsTrue (safe f)
+  definition_safe : (items : List Item) (f : List ℕ) → AreMet (flat_map (item_demands p safe outer) items) → is_some (definition_of items f) ≡ true → says_safe (attributes_of p f) ≡ true → IsTrue (safe f)
   definition_safe [] f h d says = no d
   definition_safe (Shares gs ∷ items) f h d says = definition_safe items f h d says
-  definition_safe (Defines g ∷ items) f h d says = here (λ d. definition_safe items f (met_behind (function_demands p safe g) (flat_map (item_demands p safe) items) h) d says) g.body refl d
+  definition_safe (Defines g ∷ items) f h d says = here (λ d. definition_safe items f (met_behind (function_demands p safe outer g) (flat_map (item_demands p safe outer) items) h) d says) g.body refl d
     where
       met : IsTrue (is_none g.body || not (says_safe (attributes_of p g.name.text)) || safe g.name.text)
       met =
           let claim = demand 43 g.name.at (is_none g.body || not (says_safe (attributes_of p g.name.text)) || safe g.name.text) in
           is_met 43 g.name.at (is_none g.body || not (says_safe (attributes_of p g.name.text)) || safe g.name.text)
-          (met_before claim (flat_map (λ s. demands_at safe s s.construct) (body_sites g.parameters g.body)) (met_before (function_demands p safe g) (flat_map (item_demands p safe) items) h))
+          (met_before claim (flat_map (λ s. demands_at safe outer s s.construct) (body_sites g.parameters g.body)) (met_before (function_demands p safe outer g) (flat_map (item_demands p safe outer) items) h))
 
       own : (b : Stmts) → g.body ≡ Some b → g.name.text ≡ f → IsTrue (safe f)
       own b e same =
@@ -115,14 +131,15 @@ module _ (p : Program) where
   none_defined : AllDefined p []
   none_defined x e = no e
 
-  pub met_is_safe : IsTypedProgram p → (safe : FunctionSet) → TellsSafe p safe → None ≡ first_unmet (safety_demands p safe) → IsSafeProgram p
-  met_is_safe typed safe tells none =
-      let met = all_met (safety_demands p safe) none in
+  pub met_is_safe : IsTypedProgram p → (safe outer : FunctionSet) → TellsSafe p safe → TellsOuter p outer → None ≡ first_unmet (safety_demands p safe outer) → IsSafeProgram p
+  met_is_safe typed safe outer tells leads none =
+      let met = all_met (safety_demands p safe outer) none in
       let worker = demand 28 (record { start = 0; end = 0 }) (is_worker (file_scope p (codes "worker"))) in
       let both = met_before (AreTypedItems [] p ++ AreDefined p [] p) worker typed in
       record {
-        atomic = λ f. items_keep p safe tells p f met;
-        declared = λ f c. (tells f).0 (definition_safe p safe tells p f met
+        atomic = λ f k d below. (items_keep p safe outer tells leads p f met k d below).0;
+        outer = λ f k d below. (items_keep p safe outer tells leads p f met k d below).1;
+        declared = λ f c. (tells f).0 (definition_safe p safe outer tells leads p f met
             (declared_defined [] p f none_defined (met_before (AreTypedItems [] p) (AreDefined p [] p) both) (met_behind (AreTypedItems [] p) (AreDefined p [] p) both) c)
             (safe_contained (attributes_of p f) c));
       }

@@ -9,6 +9,8 @@ pub mod Judged
 pub mod Greatest
 pub mod LeastSet
 pub mod Linked
+pub mod Opening
 pub mod SameNames
+pub mod Spread
 pub mod Unsafe
 pub mod Walks

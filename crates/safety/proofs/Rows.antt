@@ -3,6 +3,7 @@ use Rattle.std.proofs.Common.{◌≡◌, refl, ℕ, ◌+◌, List, [], ◌∷◌
 use Rattle.std.specs.Prelude.{codes, bytes_eq, not}
 use Rattle.lex.specs.declared.token.Span.{Span}
 use Rattle.syntax.specs.declared.tree.Mode.TheVariants.{Relaxed}
+use Rattle.syntax.specs.declared.tree.Kind.TheVariants.{Plain}
 use Rattle.syntax.specs.declared.tree.Attribute.TheVariants.{Safe}
 use Rattle.syntax.specs.Tree as Tree
 use Rattle.syntax.specs.Tree.{Evaluate, Call, Stmts, Do, Print, Transaction, Cancel, Item, Defines, Program}
@@ -14,14 +15,14 @@ use Rattle.safety.specs.Safe.{FunctionSet}
 use Rattle.safety.specs.Faults.{safety_demands}
 
 abbrev site : Construct → Bool → Bool → Site
-site c atomic in_any = record { construct = c; at = here; atomic = atomic; in_any = in_any }
+site c atomic in_any = record { construct = c; at = here; atomic = atomic; outer = false; in_any = in_any }
 
 -- all functions but this one
 abbrev but : List ℕ → FunctionSet
 but f g = not (bytes_eq f g)
 
 abbrev fault : Program → FunctionSet → Option (ℕ × Span)
-fault p safe = first_unmet (safety_demands p safe)
+fault p safe = first_unmet (safety_demands p safe (λ f. false))
 
 abbrev at : ℕ → Span
 at n = record { start = n; end = n + 1 }
@@ -35,14 +36,14 @@ sets_one_safe = refl
 
 -- W{ atomic { relaxed { } } }
 abbrev relaxed_inside : Program
-relaxed_inside = worker_with (just (atomic (just (Transaction Relaxed Tree.[] (at 5))))) ∷ []
+relaxed_inside = worker_with (just (atomic (just (Transaction (Plain Relaxed) Tree.[] (at 5))))) ∷ []
 
 relaxed_in_atomic : fault relaxed_inside (but (codes "worker")) ≡ Some (41, at 5)
 relaxed_in_atomic = refl
 
 -- W{ relaxed { cancel; } }
 abbrev cancels_relaxed : Program
-cancels_relaxed = worker_with (just (Transaction Relaxed (just (Cancel (at 6))) here)) ∷ []
+cancels_relaxed = worker_with (just (Transaction (Plain Relaxed) (just (Cancel (at 6))) here)) ∷ []
 
 cancel_outside_atomic : fault cancels_relaxed (but (codes "worker")) ≡ Some (42, at 6)
 cancel_outside_atomic = refl

@@ -6,7 +6,7 @@ use Rattle.std.proofs.lemmas.Slice.Eq.{bytes_eq-Decides}
 use Rattle.syntax.specs.declared.tree.Attribute.{Attribute}
 use Rattle.syntax.specs.declared.tree.Attribute.TheVariants.{Safe, Unsafe, Callable}
 use Rattle.syntax.specs.Tree.{Item, Defines, Shares, Program}
-use Rattle.safety.specs.Sites.{Construct, Prints, Relaxes, Cancels, Calls, Uses, Site, body_sites, sites_of, attributes_of}
+use Rattle.safety.specs.Sites.{Construct, Prints, Relaxes, OpensOuter, Cancels, CancelsOuter, Calls, Uses, Site, body_sites, sites_of, attributes_of}
 use Rattle.safety.specs.Safe.{FunctionSet, TellsSafe, IsSafeConstruct}
 use Rattle.safety.specs.Faults.{says_safe}
 use Rattle.safety.specs.Links.{KeepsTo, IsLeast}
@@ -68,7 +68,9 @@ module _ (set : FunctionSet) where
   construct_kept f Prints h u = kept_if set true f h refl
   construct_kept f Relaxes h u = kept_if set true f h refl
   construct_kept f (Calls g) h u = h (record { caller = f; callee = Some g }) (0, omega arith, refl) u
+  construct_kept f OpensOuter h u = absurd u
   construct_kept f Cancels h u = absurd u
+  construct_kept f CancelsOuter h u = absurd u
   construct_kept f (Uses x) h u = absurd u
 
   sites_kept : (f : List ℕ) (ss : List Site) (s : Site) → KeepsTo (sites_links f ss) set → Contains ss s → IsUnsafeIn set s.construct → IsTrue (set f)
@@ -124,7 +126,9 @@ module _ (set : FunctionSet) where
   construct_keeps f Prints h = keeps_if rest_of true f (λ e. unless (set f) h)
   construct_keeps f Relaxes h = keeps_if rest_of true f (λ e. unless (set f) h)
   construct_keeps f (Calls g) h = keeps_one rest_of (record { caller = f; callee = Some g }) (λ u. unless (set f) (λ k. not_both (set g) (h k) u))
+  construct_keeps f OpensOuter h = keeps_none rest_of
   construct_keeps f Cancels h = keeps_none rest_of
+  construct_keeps f CancelsOuter h = keeps_none rest_of
   construct_keeps f (Uses x) h = keeps_none rest_of
 
   sites_keep : (f : List ℕ) (ss : List Site) → ((s : Site) → Contains ss s → IsTrue (set f) → IsSafeConstruct (λ g. IsTrue (set g)) s.construct) → KeepsTo (sites_links f ss) rest_of
@@ -154,7 +158,9 @@ module _ (set : FunctionSet) where
 safe_rest : (set : FunctionSet) (c : Construct) → (IsUnsafeIn set c → ⊥) → IsSafeConstruct (λ g. IsTrue (not (set g))) c
 safe_rest set Prints h = h tt
 safe_rest set Relaxes h = h tt
+safe_rest set OpensOuter h = tt
 safe_rest set Cancels h = tt
+safe_rest set CancelsOuter h = tt
 safe_rest set (Calls f) h = unless (set f) h
 safe_rest set (Uses x) h = tt
 

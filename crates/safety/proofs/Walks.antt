@@ -15,14 +15,14 @@ use Rattle.syntax.specs.declared.tree.Stmt.TheOpen.{Stmt-F}
 use Rattle.syntax.specs.declared.tree.Stmt.TheFolds.{fold-roll-Stmt}
 use Rattle.syntax.specs.declared.tree.Stmt.TheVariants as SV
 use Rattle.syntax.specs.declared.tree.{UnaryOp.UnaryOp, BinaryOp.BinaryOp, LogicalOp.LogicalOp}
-use Rattle.syntax.proofs.Seen.{expr_of_variable, expr_of_element, expr_of_call, expr_of_parenthesized, expr_of_cast, expr_of_unary, expr_of_binary, expr_of_logical, expr_of_conditional, stmt_of_declare, stmt_of_block, stmt_of_print, stmt_of_while, stmt_of_do_while, stmt_of_for, stmt_of_return, stmt_of_transaction}
+use Rattle.syntax.proofs.Seen.{expr_of_variable, expr_of_element, expr_of_call, expr_of_parenthesized, expr_of_cast, expr_of_unary, expr_of_binary, expr_of_logical, expr_of_conditional, expr_of_in_transaction, stmt_of_declare, stmt_of_block, stmt_of_print, stmt_of_while, stmt_of_do_while, stmt_of_for, stmt_of_return, stmt_of_transaction}
 use Rattle.syntax.specs.Tree as Tree
 use Rattle.syntax.specs.Tree.{Span}
-use Rattle.syntax.specs.declared.tree.{Mode.Mode, Mode.TheVariants.Atomic, Mode.TheVariants.Relaxed}
+use Rattle.syntax.specs.declared.tree.{Mode.Mode, Mode.TheVariants.Atomic, Mode.TheVariants.Relaxed, Kind.Kind, Kind.TheVariants.Plain, Kind.TheVariants.Outer}
 use Rattle.syntax.specs.Views.{name_of, expr_of, exprs_of, declarator_of, declaration_of, start_of, simple_of, stmt_step, stmt_of, stmts_of, parameter_of}
 use Rattle.syntax.specs.Typing.{names_of, parameter_names}
 use Rattle.safety.specs.declared.site.Site.{Site as OwnSite}
-use Rattle.safety.specs.Sites.{Calls, Cancels, Prints, Site, names_of_start, Around, site, uses, with_names, in_transaction, expr_sites, exprs_sites, sites_if_any, simple_sites, declarator_sites, mode_site, stmt_sites, stmts_sites}
+use Rattle.safety.specs.Sites.{Calls, Cancels, CancelsOuter, Prints, Site, names_of_start, Around, site, uses, with_names, in_transaction, expr_sites, exprs_sites, sites_if_any, simple_sites, declarator_sites, kind_site, stmt_sites, stmts_sites}
 use Rattle.safety.specs.Views.{sites_of_own}
 use Rattle.safety.specs.declared.site.TransactionsAround.{TransactionsAround}
 use Rattle.safety.specs.inner.Known.{around}
@@ -85,6 +85,9 @@ module _ {A : Type 0} (w : Around) where
   pub conditional_sites : (e : E.Expr A) (a b c a' b' c' : E.Expr A) (at : Span) → e ≡ E.Conditional a b c at → a' ≡ a → b' ≡ b → c' ≡ c → expr_sites (expr_of e) w ≡ expr_sites (expr_of a') w ++ expr_sites (expr_of b') w ++ expr_sites (expr_of c') w
   conditional_sites e a b c a' b' c' at is h k l = ap (λ t. expr_sites t w) (ap expr_of is ∙ expr_of_conditional a b c at) ∙ (λ i. expr_sites (expr_of (sym h i)) w ++ expr_sites (expr_of (sym k i)) w ++ expr_sites (expr_of (sym l i)) w)
 
+  pub in_transaction_sites : (e : E.Expr A) (mode : Mode) (keyword : Span) (a b : E.Expr A) (at : Span) → e ≡ E.InTransaction mode keyword a at → b ≡ a → expr_sites (expr_of e) w ≡ kind_site (Plain mode) w keyword ++ expr_sites (expr_of b) (in_transaction (Plain mode) w)
+  in_transaction_sites e mode keyword a b at is h = ap (λ t. expr_sites t w) (ap expr_of is ∙ expr_of_in_transaction mode keyword a at) ∙ ap (λ k. kind_site (Plain mode) w keyword ++ expr_sites (expr_of k) (in_transaction (Plain mode) w)) (sym h)
+
   pub exprs_more : (es : List (E.Expr A)) (i : ℕ) (e : E.Expr A) → e ≡ get_or es i e → i < length es → exprs_sites (exprs_of (drop i es)) w ≡ expr_sites (expr_of e) w ++ exprs_sites (exprs_of (drop (i + 1) es)) w
   exprs_more es i e is h = at_drop_more (λ xs. exprs_sites (exprs_of xs) w) es i e h ∙ ap (λ x. expr_sites (expr_of x) w ++ exprs_sites (exprs_of (drop (i + 1) es)) w) (sym is)
 
@@ -106,14 +109,17 @@ module _ {A : Type 0} (w : Around) where
   pub cancel_sites : (s : S.Stmt A) (at : Span) → s ≡ S.Cancel at → stmt_sites (stmt_of s) w ≡ site w Cancels at
   cancel_sites s at is = ap (λ t. stmt_sites t w) (ap stmt_of (is ∙ sym (SV.rolls-Cancel at)) ∙ fold-roll-Stmt A Tree.Stmt stmt_step (Stmt-F.Cancel at))
 
+  pub cancel_outer_sites : (s : S.Stmt A) (at : Span) → s ≡ S.CancelOuter at → stmt_sites (stmt_of s) w ≡ site w CancelsOuter at
+  cancel_outer_sites s at is = ap (λ t. stmt_sites t w) (ap stmt_of (is ∙ sym (SV.rolls-CancelOuter at)) ∙ fold-roll-Stmt A Tree.Stmt stmt_step (Stmt-F.CancelOuter at))
+
   pub block_sites : (s : S.Stmt A) (ss ts : List (S.Stmt A)) → s ≡ S.Block ss → ts ≡ ss → stmt_sites (stmt_of s) w ≡ stmts_sites (stmts_of ts) w
   block_sites s ss ts is h = ap (λ t. stmt_sites t w) (ap stmt_of is ∙ stmt_of_block ss) ∙ ap (λ us. stmts_sites (stmts_of us) w) (sym h)
 
   pub print_sites : (s : S.Stmt A) (at : Span) (text : List ℕ) (text_at : Span) (es fs : List (E.Expr A)) → s ≡ S.Print at text text_at es → fs ≡ es → stmt_sites (stmt_of s) w ≡ site w Prints at ++ exprs_sites (exprs_of fs) w
   print_sites s at text text_at es fs is h = ap (λ t. stmt_sites t w) (ap stmt_of is ∙ stmt_of_print at text text_at es) ∙ ap (λ us. site w Prints at ++ exprs_sites (exprs_of us) w) (sym h)
 
-  pub transaction_sites : (s : S.Stmt A) (mode : Mode) (ss ts : List (S.Stmt A)) (at : Span) → s ≡ S.Transaction mode ss at → ts ≡ ss → stmt_sites (stmt_of s) w ≡ mode_site mode w at ++ stmts_sites (stmts_of ts) (in_transaction mode w)
-  transaction_sites s mode ss ts at is h = ap (λ t. stmt_sites t w) (ap stmt_of is ∙ stmt_of_transaction mode ss at) ∙ ap (λ us. mode_site mode w at ++ stmts_sites (stmts_of us) (in_transaction mode w)) (sym h)
+  pub transaction_sites : (s : S.Stmt A) (kind : Kind) (ss ts : List (S.Stmt A)) (at : Span) → s ≡ S.Transaction kind ss at → ts ≡ ss → stmt_sites (stmt_of s) w ≡ kind_site kind w at ++ stmts_sites (stmts_of ts) (in_transaction kind w)
+  transaction_sites s kind ss ts at is h = ap (λ t. stmt_sites t w) (ap stmt_of is ∙ stmt_of_transaction kind ss at) ∙ ap (λ us. kind_site kind w at ++ stmts_sites (stmts_of us) (in_transaction kind w)) (sym h)
 
   pub for_sites : (s : S.Stmt A) (head head' : H.ForHead A) (a a' : S.Stmt A) → s ≡ S.For head a → head' ≡ head → a' ≡ a → stmt_sites (stmt_of s) w ≡ head_sites (start_of head'.start) (option_map expr_of head'.condition) (option_map simple_of head'.step) w ++ stmt_sites (stmt_of a') (with_names (names_of_start (start_of head'.start)) w)
   for_sites s head head' a a' is h k =
@@ -123,17 +129,18 @@ module _ {A : Type 0} (w : Around) where
 -- names that are declared in order
 module _ (place : TransactionsAround) where
   pub first_sites : (e : Option Tree.Expr) (old new names : List (List ℕ)) → new ≡ old ++ names → sites_if_any expr_sites e (with_names names (around old place)) ≡ sites_if_any expr_sites e (around new place)
-  first_sites e old new names is = expr_if_any_same e place.atomic place.in_any (names ++ old) new (behind old new names is)
+  first_sites e old new names is = expr_if_any_same e (around old place) (names ++ old) new (behind old new names is)
 
   pub step_sites : (e : Option Tree.Simple) (old new names : List (List ℕ)) → new ≡ old ++ names → sites_if_any simple_sites e (with_names names (around old place)) ≡ sites_if_any simple_sites e (around new place)
-  step_sites e old new names is = simple_if_any_same e place.atomic place.in_any (names ++ old) new (behind old new names is)
+  step_sites e old new names is = simple_if_any_same e (around old place) (names ++ old) new (behind old new names is)
 
   pub body_behind : (s : Tree.Stmt) (old new names : List (List ℕ)) → new ≡ old ++ names → stmt_sites s (with_names names (around old place)) ≡ stmt_sites s (around new place)
-  body_behind s old new names is = stmt_same s place.atomic place.in_any (names ++ old) new (behind old new names is)
+  body_behind s old new names is = stmt_same s (around old place) (names ++ old) new (behind old new names is)
 
-  pub mode_anywhere : (mode : Mode) (at : Span) (names : List (List ℕ)) → mode_site mode (around names place) at ≡ mode_site mode (around [] place) at
-  mode_anywhere Atomic at names = refl
-  mode_anywhere Relaxed at names = refl
+  pub kind_anywhere : (kind : Kind) (at : Span) (names : List (List ℕ)) → kind_site kind (around names place) at ≡ kind_site kind (around [] place) at
+  kind_anywhere (Plain Atomic) at names = refl
+  kind_anywhere (Plain Relaxed) at names = refl
+  kind_anywhere Outer at names = refl
 
 module _ {A : Type 0} (place : TransactionsAround) where
   pub declarators_more : (ds : List (R.Declarator A)) (i : ℕ) (d : R.Declarator A) (old new : List (List ℕ)) → d ≡ get_or ds i d → i < length ds → new ≡ old ++ d.name.text ∷ [] → declarator_sites (map declarator_of (drop i ds)) (around old place) ≡ sites_if_any expr_sites (option_map expr_of d.first) (with_names (d.name.text ∷ []) (around old place)) ++ declarator_sites (map declarator_of (drop (i + 1) ds)) (around new place)
@@ -141,14 +148,14 @@ module _ {A : Type 0} (place : TransactionsAround) where
       let rest = map declarator_of (drop (i + 1) ds) in
       at_drop_more (λ es. declarator_sites (map declarator_of es) (around old place)) ds i d h
       ∙ ap (λ e. sites_if_any expr_sites (option_map expr_of e.first) (with_names (e.name.text ∷ []) (around old place)) ++ declarator_sites rest (with_names (e.name.text ∷ []) (around old place))) (sym is)
-      ∙ ap (λ ss. sites_if_any expr_sites (option_map expr_of d.first) (with_names (d.name.text ∷ []) (around old place)) ++ ss) (declarators_same rest place.atomic place.in_any (d.name.text ∷ old) new (behind old new (d.name.text ∷ []) names))
+      ∙ ap (λ ss. sites_if_any expr_sites (option_map expr_of d.first) (with_names (d.name.text ∷ []) (around old place)) ++ ss) (declarators_same rest (around old place) (d.name.text ∷ old) new (behind old new (d.name.text ∷ []) names))
 
   pub stmts_more : (ss : List (S.Stmt A)) (i : ℕ) (s : S.Stmt A) (old new : List (List ℕ)) → s ≡ get_or ss i s → i < length ss → new ≡ old ++ names_of (stmt_of s) → stmts_sites (stmts_of (drop i ss)) (around old place) ≡ stmt_sites (stmt_of s) (around old place) ++ stmts_sites (stmts_of (drop (i + 1) ss)) (around new place)
   stmts_more ss i s old new is h names =
       let rest = stmts_of (drop (i + 1) ss) in
       at_drop_more (λ ts. stmts_sites (stmts_of ts) (around old place)) ss i s h
       ∙ ap (λ t. stmt_sites (stmt_of t) (around old place) ++ stmts_sites rest (with_names (names_of (stmt_of t)) (around old place))) (sym is)
-      ∙ ap (λ xs. stmt_sites (stmt_of s) (around old place) ++ xs) (stmts_same rest place.atomic place.in_any (names_of (stmt_of s) ++ old) new (behind old new (names_of (stmt_of s)) names))
+      ∙ ap (λ xs. stmt_sites (stmt_of s) (around old place) ++ xs) (stmts_same rest (around old place) (names_of (stmt_of s) ++ old) new (behind old new (names_of (stmt_of s)) names))
 
 parameters_split : (q : Tree.Parameter) (qs : List Tree.Parameter) (o : Option Tree.Name) → unwrap_or (option_map (λ x. x.text ∷ parameter_names qs) o) (parameter_names qs) ≡ unwrap_or (option_map (λ x. x.text ∷ []) o) [] ++ parameter_names qs
 parameters_split q qs None = refl

@@ -4,7 +4,7 @@ use Rattle.syntax.specs.Tree.{Span}
 use Rattle.syntax.specs.Views.{program_of}
 use Rattle.types.specs.declared.typed.Typed.{Typed}
 use Rattle.safety.specs.declared.fault.Violation.{Violation}
-use Rattle.safety.specs.declared.fault.Violation.TheVariants.{UnsafeInAtomic, RelaxedInAtomic, CancelOutsideAtomic, NotSafe}
+use Rattle.safety.specs.declared.fault.Violation.TheVariants.{UnsafeInAtomic, RelaxedInAtomic, CancelOutsideAtomic, NotSafe, OuterInAtomic, CancelOutsideOuter}
 use Rattle.safety.specs.declared.fault.SafetyFault.{SafetyFault}
 use Rattle.safety.specs.declared.fault.SafetyFault.TheVariants as fault
 use Rattle.safety.specs.declared.checked.Safe.{Safe}
@@ -16,12 +16,16 @@ number_in (UnsafeInAtomic at) = 40
 number_in (RelaxedInAtomic at) = 41
 number_in (CancelOutsideAtomic at) = 42
 number_in (NotSafe at) = 43
+number_in (OuterInAtomic at) = 44
+number_in (CancelOutsideOuter at) = 45
 
 abbrev pub span_in : Violation → Span
 span_in (UnsafeInAtomic at) = at
 span_in (RelaxedInAtomic at) = at
 span_in (CancelOutsideAtomic at) = at
 span_in (NotSafe at) = at
+span_in (OuterInAtomic at) = at
+span_in (CancelOutsideOuter at) = at
 
 module _ {A : Type 0} where
   abbrev pub number_of : SafetyFault A → ℕ

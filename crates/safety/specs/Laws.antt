@@ -3,7 +3,7 @@ use Rattle.std.specs.Prelude.{◌≡◌, ◌≢◌, ℕ, List, Some}
 use Rattle.syntax.specs.Tree.{Span, Stmts, Function, Program}
 use Rattle.syntax.specs.Names.{definition_of}
 use Rattle.syntax.specs.Actions.{State}
-use Rattle.syntax.specs.Meaning.{Cancels, stmts, calls}
+use Rattle.syntax.specs.Meaning.{Cancels, CancelsOuter, stmts, calls}
 use Rattle.syntax.specs.Laws.{WhereGiven}
 use Rattle.safety.specs.Safe.{IsSafeSet, IsSafe, IsSafeProgram}
 use Rattle.safety.specs.Faults.{IsSafetyFault}
@@ -16,9 +16,9 @@ SafeIsSafeSet = (p : Program) → IsSafeSet p (IsSafe p)
 abbrev pub SafeHasNoFault : Type 0
 SafeHasNoFault = (p : Program) → IsSafeProgram p → (n : ℕ) (at : Span) → IsSafetyFault n at p → ⊥
 
--- in a safe program no cancel leaves the body of a definition
+-- in a safe program no cancel and no outer cancel leaves the body of a definition
 abbrev pub CancelsStay : Type 0
 CancelsStay =
     (p : Program) → IsSafeProgram p → (x : List ℕ) (d : Function × Stmts) → definition_of p x ≡ Some d →
     (frames : ℕ) (s : State) →
-    WhereGiven (stmts p (calls p frames) d.1 s) (λ end now. end ≢ Cancels)
+    WhereGiven (stmts p (calls p frames) d.1 s) (λ end now. (end ≢ Cancels) × (end ≢ CancelsOuter))

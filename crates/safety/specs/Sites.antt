@@ -1,40 +1,48 @@
 -- The sites of a function's body: where the constructs stand of which the rules on transactions speak, in the order of
 -- the text.
 use Rattle.std.specs.Prelude.{ℕ, List, [], ◌∷◌, ◌++◌, Option, Some, None, Bool, true, false, if◌then◌else◌, bytes_eq}
-use Rattle.syntax.specs.declared.tree.{Mode.Mode, Mode.TheVariants.Atomic, Mode.TheVariants.Relaxed, Attribute.Attribute}
-use Rattle.syntax.specs.Tree.{Span, Name, Expr, Exprs, Variable, Constant, Element, Call, Parenthesized, Cast, Unary, Binary, Logical, Conditional, Simple, Evaluate, Assign, Adjust, Declarator, Start, Nothing, Declares, Does, Stmt, Stmts, Declare, Do, Block, Print, If, IfElse, While, DoWhile, For, Return, Transaction, Cancel, Parameter, Defines, Shares, Program}
+use Rattle.syntax.specs.declared.tree.{Mode.TheVariants.Atomic, Mode.TheVariants.Relaxed, Kind.Kind, Kind.TheVariants.Plain, Kind.TheVariants.Outer, Attribute.Attribute}
+use Rattle.syntax.specs.Tree.{Span, Name, Expr, Exprs, Variable, Constant, Element, Call, Parenthesized, Cast, Unary, Binary, Logical, Conditional, InTransaction, Simple, Evaluate, Assign, Adjust, Declarator, Start, Nothing, Declares, Does, Stmt, Stmts, Declare, Do, Block, Print, If, IfElse, While, DoWhile, For, Return, Transaction, Cancel, CancelOuter, Parameter, Defines, Shares, Program}
 use Rattle.syntax.specs.Typing.{has_name, names_of, parameter_names}
 
--- what of a function's body the rules on transactions speak of: a print, a relaxed transaction, a cancel,
--- a call of a function, and an access to a global
+-- what of a function's body the rules on transactions speak of: a print, a relaxed transaction, an outer one, a cancel,
+-- an outer cancel, a call of a function, and an access to a global
 pub data Construct : Type 0 where
-  Prints Relaxes Cancels : Construct
+  Prints Relaxes OpensOuter Cancels CancelsOuter : Construct
   Calls : (f : List ℕ) → Construct
   Uses : (x : List ℕ) → Construct
 
--- where a construct stands: inside an atomic transaction of its function, and inside any
+-- where a construct stands: inside an atomic transaction of its function, inside an outer one, and inside any
 pub record Site : Type 0 where
   pub construct : Construct
   pub at : Span
   pub atomic : Bool
+  pub outer : Bool
   pub in_any : Bool
 
 -- what surrounds a place in a body: the names of locals, and the transactions
 pub record Around : Type 0 where
   pub locals : List (List ℕ)
   pub atomic : Bool
+  pub outer : Bool
   pub in_any : Bool
 
 -- a construct in these surroundings
 abbrev pub site : Around → Construct → Span → List Site
-site w c at = record { construct = c; at = at; atomic = w.atomic; in_any = w.in_any } ∷ []
+site w c at = record { construct = c; at = at; atomic = w.atomic; outer = w.outer; in_any = w.in_any } ∷ []
 
 abbrev pub with_names : List (List ℕ) → Around → Around
 with_names xs w = record w { locals = xs ++ w.locals }
 
-abbrev pub in_transaction : Mode → Around → Around
-in_transaction Atomic w = record w { atomic = true; in_any = true }
-in_transaction Relaxed w = record w { in_any = true }
+abbrev pub in_transaction : Kind → Around → Around
+in_transaction (Plain Atomic) w = record w { atomic = true; in_any = true }
+in_transaction (Plain Relaxed) w = record w { in_any = true }
+in_transaction Outer w = record w { atomic = true; outer = true; in_any = true }
+
+abbrev pub kind_site : Kind → Around → Span → List Site
+kind_site (Plain Atomic) w at = []
+kind_site (Plain Relaxed) w at = site w Relaxes at
+kind_site Outer w at = site w OpensOuter at
 
 -- a name that is no local's is a global's
 abbrev pub uses : Name → Around → List Site
@@ -53,6 +61,8 @@ abbrev mutual
   expr_sites (Binary op a b at) w = expr_sites a w ++ expr_sites b w
   expr_sites (Logical op a b at) w = expr_sites a w ++ expr_sites b w
   expr_sites (Conditional c a b at) w = expr_sites c w ++ expr_sites a w ++ expr_sites b w
+  expr_sites (InTransaction mode keyword e at) w =
+      kind_site (Plain mode) w keyword ++ expr_sites e (in_transaction (Plain mode) w)
 
   pub exprs_sites : Exprs → Around → List Site
   exprs_sites Exprs.[] w = []
@@ -83,10 +93,6 @@ abbrev pub names_of_start : Start → List (List ℕ)
 names_of_start (Declares d) = names_of (Declare d)
 names_of_start start = []
 
-abbrev pub mode_site : Mode → Around → Span → List Site
-mode_site Atomic w at = []
-mode_site Relaxed w at = site w Relaxes at
-
 abbrev mutual
   pub stmt_sites : Stmt → Around → List Site
   stmt_sites (Declare d) w = declarator_sites d.declarators w
@@ -101,8 +107,9 @@ abbrev mutual
       let w' = with_names (names_of_start start) w in
       start_sites start w ++ sites_if_any expr_sites c w' ++ sites_if_any simple_sites step w' ++ stmt_sites a w'
   stmt_sites (Return e at) w = sites_if_any expr_sites e w
-  stmt_sites (Transaction mode ss at) w = mode_site mode w at ++ stmts_sites ss (in_transaction mode w)
+  stmt_sites (Transaction kind ss at) w = kind_site kind w at ++ stmts_sites ss (in_transaction kind w)
   stmt_sites (Cancel at) w = site w Cancels at
+  stmt_sites (CancelOuter at) w = site w CancelsOuter at
   stmt_sites s w = []
 
   pub stmts_sites : Stmts → Around → List Site
@@ -111,7 +118,8 @@ abbrev mutual
 
 abbrev pub body_sites : List Parameter → Option Stmts → List Site
 body_sites qs None = []
-body_sites qs (Some ss) = stmts_sites ss (record { locals = parameter_names qs; atomic = false; in_any = false })
+body_sites qs (Some ss) =
+    stmts_sites ss (record { locals = parameter_names qs; atomic = false; outer = false; in_any = false })
 
 -- the sites of a function, by its name; a prototype has none
 abbrev pub sites_of : Program → List ℕ → List Site

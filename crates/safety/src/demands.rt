@@ -1,10 +1,10 @@
 //! The demands of safety, in the order of the text.
 
-ghost use Rattle.std.specs.Prelude.{◌≡◌, map, IfOk};
+ghost use Rattle.std.specs.Prelude.{◌≡◌, ◌++◌, ◌||◌, not, map, IfOk};
 ghost use Rattle.std.specs.List.{flat_map};
 ghost use Rattle.syntax.specs.Tree.{Program};
 ghost use Rattle.syntax.specs.Views.{function_of, item_of};
-ghost use Rattle.syntax.specs.Typing.{first_unmet};
+ghost use Rattle.syntax.specs.Typing.{demand, first_unmet};
 ghost use Rattle.safety.specs.Views.{site_of, sites_of_own};
 ghost use Rattle.safety.specs.Sets.{set_of};
 ghost use Rattle.safety.specs.Faults.{demands_at, function_demands, item_demands};
@@ -14,31 +14,53 @@ ghost use Rattle.safety.specs.inner.Rest.{rest_of, Claims};
 use crate::closure::least;
 use crate::fault::{Violation, unless_met};
 use crate::links::{safe_links, unsafe_links};
+use crate::outer_links::outer_links;
 use crate::set::FunctionSet;
 use crate::site::{Construct, Site};
 use crate::stmt::body_sites;
+use lex::token::Span;
 use std::alloc::{AllocError, Allocator};
 use syntax::tree::{Function, Item};
 
-/// The rule that a site breaks, where these functions are not safe.
+/// The rule that a call of a function breaks, inside an atomic transaction or not.
+fn fault_of_call<'a, A: Allocator + Copy>(
+    not_safe: &FunctionSet<'a, A>,
+    outer: &FunctionSet<'a, A>,
+    atomic: bool,
+    f: &'a str,
+    span: Span,
+) -> Option<Violation>
+    ensures { unmet_in result
+        ≡ first_unmet (demand 40 span (not atomic || rest_of (set_of not_safe.now) f.now)
+        ++ demand 44 span (not atomic || not (set_of outer.now f.now))) }
+{
+    let unsafe_call = not_safe.contains(f);
+    let opens = outer.contains(f);
+    let found = unless_met(!atomic || !unsafe_call, Violation::UnsafeInAtomic(span));
+    if found.is_some() {
+        return found;
+    }
+    unless_met(!atomic || !opens, Violation::OuterInAtomic(span))
+}
+
+/// The rule that a site breaks, where these functions are not safe, and these lead to an outer transaction.
 fn fault_at<'a, A: Allocator + Copy>(
     not_safe: &FunctionSet<'a, A>,
+    outer: &FunctionSet<'a, A>,
     site: Site<'a>,
 ) -> Option<Violation>
     ensures { unmet_in result
-        ≡ first_unmet (demands_at (rest_of (set_of not_safe.now)) (site_of site.entry) (site_of site.entry).construct) }
+        ≡ first_unmet
+        (demands_at (rest_of (set_of not_safe.now)) (set_of outer.now) (site_of site.entry)
+        (site_of site.entry).construct) }
 {
     match site.construct {
         Construct::Prints => unless_met(!site.atomic, Violation::UnsafeInAtomic(site.span)),
         Construct::Relaxes => unless_met(!site.atomic, Violation::RelaxedInAtomic(site.span)),
+        Construct::OpensOuter => unless_met(!site.atomic, Violation::OuterInAtomic(site.span)),
         Construct::Cancels => unless_met(site.atomic, Violation::CancelOutsideAtomic(site.span)),
-        Construct::Calls(f) => {
-            let unsafe_call = not_safe.contains(f);
-            unless_met(
-                !site.atomic || !unsafe_call,
-                Violation::UnsafeInAtomic(site.span),
-            )
-        }
+        Construct::CancelsOuter => unless_met(site.outer, Violation::CancelOutsideOuter(site.span)),
+        Construct::Calls(f) => fault_of_call(not_safe, outer, site.atomic, f, site.span),
         Construct::Uses(_) => None,
     }
 }
@@ -46,14 +68,16 @@ fn fault_at<'a, A: Allocator + Copy>(
 /// The first rule that a site of a body breaks.
 fn fault_among<'a, A: Allocator + Copy>(
     not_safe: &FunctionSet<'a, A>,
+    outer: &FunctionSet<'a, A>,
     sites: &[Site<'a>],
 ) -> Option<Violation>
     ensures { unmet_in result
         ≡ first_unmet
-        (flat_map (λ s. demands_at (rest_of (set_of not_safe.now)) s s.construct) (sites_of_own sites.now)) }
+        (flat_map (λ s. demands_at (rest_of (set_of not_safe.now)) (set_of outer.now) s s.construct)
+        (sites_of_own sites.now)) }
 {
     'each: for site in sites {
-        let found = fault_at(not_safe, *site);
+        let found = fault_at(not_safe, outer, *site);
         if found.is_some() {
             return found;
         }
@@ -65,13 +89,14 @@ fn fault_among<'a, A: Allocator + Copy>(
 fn fault_of_function<'a, A: Allocator + Copy>(
     alloc: A,
     not_safe: &FunctionSet<'a, A>,
+    outer: &FunctionSet<'a, A>,
     claims: &FunctionSet<'a, A>,
     f: &'a Function<A>,
 ) -> Result<Option<Violation>, AllocError>
     ensures { (p : Program) → Claims p (set_of claims.now) →
         IfOk result
         (λ found. unmet_in found
-        ≡ first_unmet (function_demands p (rest_of (set_of not_safe.now)) (function_of f.now))) }
+        ≡ first_unmet (function_demands p (rest_of (set_of not_safe.now)) (set_of outer.now) (function_of f.now))) }
 {
     let name = f.name.text.as_str();
     let claimed = claims.contains(name);
@@ -81,23 +106,25 @@ fn fault_of_function<'a, A: Allocator + Copy>(
         return Ok(Some(Violation::NotSafe(f.name.span)));
     }
     let sites = body_sites(alloc, f)?;
-    Ok(fault_among(not_safe, sites.as_slice()))
+    Ok(fault_among(not_safe, outer, sites.as_slice()))
 }
 
 /// The first rule that an item breaks.
 fn fault_of_item<'a, A: Allocator + Copy>(
     alloc: A,
     not_safe: &FunctionSet<'a, A>,
+    outer: &FunctionSet<'a, A>,
     claims: &FunctionSet<'a, A>,
     item: &'a Item<A>,
 ) -> Result<Option<Violation>, AllocError>
     ensures { (p : Program) → Claims p (set_of claims.now) →
         IfOk result
-        (λ found. unmet_in found ≡ first_unmet (item_demands p (rest_of (set_of not_safe.now)) (item_of item.now))) }
+        (λ found. unmet_in found
+        ≡ first_unmet (item_demands p (rest_of (set_of not_safe.now)) (set_of outer.now) (item_of item.now))) }
 {
     match item {
         Item::Function(f) => {
-            let found = fault_of_function(alloc, not_safe, claims, f)?;
+            let found = fault_of_function(alloc, not_safe, outer, claims, f)?;
             Ok(found)
         }
         Item::Globals(_) => Ok(None),
@@ -108,16 +135,18 @@ fn fault_of_item<'a, A: Allocator + Copy>(
 fn fault_of_items<'a, A: Allocator + Copy>(
     alloc: A,
     not_safe: &FunctionSet<'a, A>,
+    outer: &FunctionSet<'a, A>,
     claims: &FunctionSet<'a, A>,
     items: &'a [Item<A>],
 ) -> Result<Option<Violation>, AllocError>
     ensures { (p : Program) → Claims p (set_of claims.now) →
         IfOk result
         (λ found. unmet_in found
-        ≡ first_unmet (flat_map (item_demands p (rest_of (set_of not_safe.now))) (map item_of items.now))) }
+        ≡ first_unmet
+        (flat_map (item_demands p (rest_of (set_of not_safe.now)) (set_of outer.now)) (map item_of items.now))) }
 {
     'each: for item in items {
-        let found = fault_of_item(alloc, not_safe, claims, item)?;
+        let found = fault_of_item(alloc, not_safe, outer, claims, item)?;
         if found.is_some() {
             return Ok(found);
         }
@@ -134,8 +163,10 @@ pub(crate) fn fault_of<'a, A: Allocator + Copy>(
 {
     let links = unsafe_links(alloc, items)?;
     let not_safe = least(alloc, links.as_slice())?;
+    let openings = outer_links(alloc, items)?;
+    let outer = least(alloc, openings.as_slice())?;
     let declared = safe_links(alloc, items)?;
     let claims = least(alloc, declared.as_slice())?;
-    let found = fault_of_items(alloc, &not_safe, &claims, items)?;
+    let found = fault_of_items(alloc, &not_safe, &outer, &claims, items)?;
     Ok(found)
 }

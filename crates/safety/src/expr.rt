@@ -1,10 +1,10 @@
 //! The sites of an expression.
 
-ghost use Rattle.std.specs.Prelude.{◌≡◌, ◌∷◌, [], map, option_map, OnOk};
+ghost use Rattle.std.specs.Prelude.{◌≡◌, ◌∷◌, [], ℕ, List, map, option_map, OnOk};
 ghost use Rattle.syntax.specs.Views.{name_of, expr_of, exprs_of, simple_of};
 ghost use Rattle.safety.specs.Views.{construct_of};
-ghost use Rattle.safety.specs.Sites.{uses, expr_sites, exprs_sites, simple_sites, sites_if_any};
-ghost use Rattle.safety.specs.inner.Known.{around_in};
+ghost use Rattle.safety.specs.Sites.{in_transaction, kind_site, uses, expr_sites, exprs_sites, simple_sites, sites_if_any};
+ghost use Rattle.safety.specs.inner.Known.{around, around_in};
 ghost use Rattle.safety.specs.inner.Walks.{Appends};
 
 use crate::site::{Construct, Site, TransactionsAround};
@@ -12,7 +12,7 @@ use crate::table::Locals;
 use containers::Items;
 use lex::token::Span;
 use std::alloc::{AllocError, Allocator};
-use syntax::tree::{Expr, Name, Simple};
+use syntax::tree::{Expr, Kind, Mode, Name, Simple};
 
 /// One site more.
 pub(crate) fn add<'a, A: Allocator + Copy>(
@@ -23,16 +23,67 @@ pub(crate) fn add<'a, A: Allocator + Copy>(
 ) -> Result<(), AllocError>
     ensures { OnOk result
         (Appends sites.old sites.new
-        (record { construct = construct_of construct.entry; at = span; atomic = place.atomic; in_any = place.in_any }
-        ∷ [])) }
+        (record {
+          construct = construct_of construct.entry;
+          at = span;
+          atomic = place.atomic;
+          outer = place.outer;
+          in_any = place.in_any;
+        } ∷ [])) }
 {
     sites.push(Site {
         construct,
         span,
         atomic: place.atomic,
+        outer: place.outer,
         in_any: place.in_any,
     })?;
     Ok(())
+}
+
+/// A relaxed transaction is a site itself, and so is an outer one.
+pub(crate) fn add_kind<'a, A: Allocator + Copy>(
+    sites: &mut Items<Site<'a>, A>,
+    place: TransactionsAround,
+    kind: Kind,
+    at: Span,
+) -> Result<(), AllocError>
+    ensures { OnOk result (Appends sites.old sites.new (kind_site kind (around [] place) at)) }
+{
+    match kind {
+        Kind::Plain(Mode::Atomic) => Ok(()),
+        Kind::Plain(Mode::Relaxed) => {
+            add(sites, place, Construct::Relaxes, at)?;
+            Ok(())
+        }
+        Kind::Outer => {
+            add(sites, place, Construct::OpensOuter, at)?;
+            Ok(())
+        }
+    }
+}
+
+/// The place inside a transaction that stands at a place.
+pub(crate) fn inside(kind: Kind, place: TransactionsAround) -> TransactionsAround
+    ensures { (names : List (List ℕ)) → around names result ≡ in_transaction kind (around names place) }
+{
+    match kind {
+        Kind::Plain(Mode::Atomic) => TransactionsAround {
+            atomic: true,
+            outer: place.outer,
+            in_any: true,
+        },
+        Kind::Plain(Mode::Relaxed) => TransactionsAround {
+            atomic: place.atomic,
+            outer: place.outer,
+            in_any: true,
+        },
+        Kind::Outer => TransactionsAround {
+            atomic: true,
+            outer: true,
+            in_any: true,
+        },
+    }
 }
 
 /// A name that is no local's is a global's.
@@ -87,6 +138,11 @@ pub(crate) fn add_expr<'a, A: Allocator + Copy>(
             add_expr(locals, sites, place, c.get())?;
             add_expr(locals, sites, place, a.get())?;
             add_expr(locals, sites, place, b.get())
+        }
+        Expr::InTransaction(mode, keyword, e, _) => {
+            let kind = Kind::Plain(*mode);
+            add_kind(sites, place, kind, *keyword)?;
+            add_expr(locals, sites, inside(kind, place), e.get())
         }
     }
 }

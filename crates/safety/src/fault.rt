@@ -25,6 +25,12 @@ pub enum Violation {
     /// A function that is declared safe and is not, by its name where it is defined.
     #[error("transaction_safe on an unsafe function")]
     NotSafe(Span),
+    /// An outer transaction, or a call of a function that leads to one, in an atomic transaction.
+    #[error("outer in atomic")]
+    OuterInAtomic(Span),
+    /// An outer cancel in no outer transaction.
+    #[error("outer cancel outside outer")]
+    CancelOutsideOuter(Span),
 }
 
 impl Violation {
@@ -37,6 +43,8 @@ impl Violation {
             Violation::RelaxedInAtomic(_) => 41,
             Violation::CancelOutsideAtomic(_) => 42,
             Violation::NotSafe(_) => 43,
+            Violation::OuterInAtomic(_) => 44,
+            Violation::CancelOutsideOuter(_) => 45,
         }
     }
 
@@ -48,7 +56,9 @@ impl Violation {
             Violation::UnsafeInAtomic(span)
             | Violation::RelaxedInAtomic(span)
             | Violation::CancelOutsideAtomic(span)
-            | Violation::NotSafe(span) => span,
+            | Violation::NotSafe(span)
+            | Violation::OuterInAtomic(span)
+            | Violation::CancelOutsideOuter(span) => span,
         }
     }
 }
@@ -70,7 +80,7 @@ pub enum SafetyFault<A: Allocator = std::alloc::Global> {
 }
 
 impl<A: Allocator> SafetyFault<A> {
-    /// The fault's number: 0, or 40 to 43.
+    /// The fault's number: 0, or 40 to 45.
     pub fn number(&self) -> u32
         ensures { result ≡ number_of self.now }
     {

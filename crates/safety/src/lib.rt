@@ -10,6 +10,7 @@ mod graph;
 pub mod laws;
 mod links;
 mod locals;
+mod outer_links;
 mod program;
 mod set;
 mod site;

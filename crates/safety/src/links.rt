@@ -41,7 +41,7 @@ fn says_safe(all: &[Attribute]) -> bool
 }
 
 /// That a function is in the set, if this holds.
-fn add_if<'a, A: Allocator + Copy>(
+pub(crate) fn add_if<'a, A: Allocator + Copy>(
     links: &mut Items<Link<'a>, A>,
     holds: bool,
     caller: &'a str,
@@ -77,7 +77,8 @@ fn add_construct<'a, A: Allocator + Copy>(
             })?;
             Ok(())
         }
-        Construct::Cancels | Construct::Uses(_) => Ok(()),
+        Construct::OpensOuter | Construct::Cancels | Construct::CancelsOuter | Construct::Uses(_) =>
+            Ok(()),
     }
 }
 

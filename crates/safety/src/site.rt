@@ -9,8 +9,12 @@ pub enum Construct<'a> {
     Prints,
     /// A relaxed transaction.
     Relaxes,
+    /// An outer transaction.
+    OpensOuter,
     /// A cancel.
     Cancels,
+    /// An outer cancel.
+    CancelsOuter,
     /// A call of the function of this name.
     Calls(&'a str),
     /// An access to the global of this name.
@@ -26,6 +30,9 @@ pub struct Site<'a> {
     /// Whether an atomic transaction of the same body is round it.
     pub atomic: bool,
 
+    /// Whether an outer transaction of the same body is round it.
+    pub outer: bool,
+
     /// Whether any transaction of the same body is round it.
     pub in_any: bool,
 }
@@ -34,5 +41,6 @@ pub struct Site<'a> {
 #[derive(Clone, Copy)]
 pub(crate) struct TransactionsAround {
     pub(crate) atomic: bool,
+    pub(crate) outer: bool,
     pub(crate) in_any: bool,
 }

@@ -5,17 +5,19 @@ ghost use Rattle.syntax.specs.Views.{expr_of, simple_of, declarator_of, declarat
 ghost use Rattle.syntax.specs.Typing.{names_of, parameter_names};
 ghost use Rattle.types.specs.inner.BlockItems.{declaration_in};
 ghost use Rattle.safety.specs.Views.{sites_of_own};
-ghost use Rattle.safety.specs.Sites.{with_names, in_transaction, sites_if_any, expr_sites, declarator_sites, start_sites, names_of_start, mode_site, stmt_sites, stmts_sites, body_sites};
-ghost use Rattle.safety.specs.inner.Known.{names_in, around, around_in};
+ghost use Rattle.safety.specs.Sites.{with_names, sites_if_any, expr_sites, declarator_sites, start_sites, names_of_start, stmt_sites, stmts_sites, body_sites};
+ghost use Rattle.safety.specs.inner.Known.{names_in, around_in};
 ghost use Rattle.safety.specs.inner.Walks.{Appends, head_sites};
 
-use crate::expr::{add, add_expr, add_expr_if_any, add_exprs, add_simple, add_simple_if_any};
+use crate::expr::{
+    add, add_expr, add_expr_if_any, add_exprs, add_kind, add_simple, add_simple_if_any, inside,
+};
 use crate::site::{Construct, Site, TransactionsAround};
 use crate::table::Locals;
 use containers::Items;
 use lex::token::Span;
 use std::alloc::{AllocError, Allocator};
-use syntax::tree::{Declaration, Declarator, ForHead, Function, Mode, Parameter, Start, Stmt};
+use syntax::tree::{Declaration, Declarator, ForHead, Function, Parameter, Start, Stmt};
 
 /// A name that is declared, and its first value.
 fn add_declarator<'a, A: Allocator + Copy>(
@@ -97,40 +99,6 @@ fn add_head<'a, A: Allocator + Copy>(
     Ok(())
 }
 
-/// A relaxed transaction is a site itself.
-fn add_mode<'a, A: Allocator + Copy>(
-    sites: &mut Items<Site<'a>, A>,
-    place: TransactionsAround,
-    mode: Mode,
-    at: Span,
-) -> Result<(), AllocError>
-    ensures { OnOk result (Appends sites.old sites.new (mode_site mode (around [] place) at)) }
-{
-    match mode {
-        Mode::Atomic => Ok(()),
-        Mode::Relaxed => {
-            add(sites, place, Construct::Relaxes, at)?;
-            Ok(())
-        }
-    }
-}
-
-/// The place inside a transaction that stands at a place.
-fn inside(mode: Mode, place: TransactionsAround) -> TransactionsAround
-    ensures { (names : List (List ℕ)) → around names result ≡ in_transaction mode (around names place) }
-{
-    match mode {
-        Mode::Atomic => TransactionsAround {
-            atomic: true,
-            in_any: true,
-        },
-        Mode::Relaxed => TransactionsAround {
-            atomic: place.atomic,
-            in_any: true,
-        },
-    }
-}
-
 /// A declaration that is a statement: its names are forgotten behind it.
 fn add_lone_declaration<'a, A: Allocator + Copy>(
     locals: &mut Locals<'a, A>,
@@ -196,11 +164,12 @@ fn add_stmt<'a, A: Allocator + Copy>(
             Ok(())
         }
         Stmt::Return(e, _) => add_expr_if_any(locals, sites, place, e),
-        Stmt::Transaction(mode, body, at) => {
-            add_mode(sites, place, *mode, *at)?;
-            add_block(locals, sites, inside(*mode, place), body.as_slice())
+        Stmt::Transaction(kind, body, at) => {
+            add_kind(sites, place, *kind, *at)?;
+            add_block(locals, sites, inside(*kind, place), body.as_slice())
         }
         Stmt::Cancel(at) => add(sites, place, Construct::Cancels, *at),
+        Stmt::CancelOuter(at) => add(sites, place, Construct::CancelsOuter, *at),
     }
 }
 
@@ -304,6 +273,7 @@ pub fn body_sites<'a, A: Allocator + Copy>(
             add_parameters(&mut locals, f.parameters.as_slice())?;
             let place = TransactionsAround {
                 atomic: false,
+                outer: false,
                 in_any: false,
             };
             add_block(&mut locals, &mut sites, place, body.as_slice())?;

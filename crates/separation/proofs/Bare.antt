@@ -1,18 +1,18 @@
 -- The least set that keeps to the links of touching functions tells which touch.
 use Rattle.std.proofs.Common.{◌≡◌, refl, arith, sym, subst, ◌∙◌, inl, inr, ℕ, List, [], ◌∷◌, Some, None, Bool, true, false, IsTrue}
-use Rattle.std.specs.Prelude.{not, ◌&&◌, ◌||◌, bytes_eq, codes, Contains, if◌then◌else◌}
-use Rattle.std.proofs.lemmas.List.Elements.{Contains-append_right, Contains-append_cases}
+use Rattle.std.specs.Prelude.{not, ◌&&◌, ◌||◌, bytes_eq, codes, Contains}
+use Rattle.std.proofs.lemmas.List.Elements.{Contains-append_cases}
 use Rattle.std.proofs.Math.Logic.{∥∥₁_elim}
 use Rattle.std.proofs.lemmas.Slice.Eq.{bytes_eq-Decides}
-use Rattle.syntax.specs.Tree.{Item, Defines, Shares, Program}
+use Rattle.syntax.specs.Tree.{Program}
 use Rattle.syntax.specs.Typing.{first_unmet, IsTypedProgram}
 use Rattle.syntax.proofs.Demands.{AreMet, all_met, met_before, met_behind, is_met}
-use Rattle.safety.specs.Sites.{Construct, Prints, Relaxes, Cancels, Calls, Uses, Site, body_sites, sites_of}
+use Rattle.safety.specs.Sites.{Construct, Prints, Relaxes, OpensOuter, Cancels, CancelsOuter, Calls, Uses, Site, sites_of}
 use Rattle.safety.specs.Safe.{FunctionSet, IsSafeProgram}
 use Rattle.safety.specs.Links.{KeepsTo, IsLeast}
-use Rattle.safety.proofs.Linked.{only, keeps_none, keeps_one, keeps_both, keeps_left, keeps_right, keeps_if, kept_if}
-use Rattle.safety.proofs.Unsafe.{by_name, own_name}
-use Rattle.separation.specs.inner.TouchingLinks.{bare_links, sites_links, touching_links}
+use Rattle.safety.proofs.Linked.{only, keeps_none, keeps_one, keeps_if, kept_if}
+use Rattle.safety.proofs.Spread.{tells_least}
+use Rattle.separation.specs.inner.TouchingLinks.{bare_links, links_at, touching_links}
 use Rattle.separation.specs.Touching.{IsAccess, Touches, IsTouchingSet, IsTouching, TellsTouching, IsAccepted, demands_at, separation_demands}
 
 no : {X : Type 0} → false ≡ true → X
@@ -28,28 +28,9 @@ module _ (set : FunctionSet) where
   bare_kept f false (Calls g) h e u = h (record { caller = f; callee = Some g }) (0, omega arith, refl) u
   bare_kept f false Prints h e u = absurd u
   bare_kept f false Relaxes h e u = absurd u
+  bare_kept f false OpensOuter h e u = absurd u
   bare_kept f false Cancels h e u = absurd u
-
-  sites_kept : (f : List ℕ) (ss : List Site) (s : Site) → KeepsTo (sites_links f ss) set → Contains ss s → Touches In s → In f
-  sites_kept f [] s h c u = absurd (omega (arith, c.1))
-  sites_kept f (t ∷ ss) s h c u =
-      let own = bare_links f t.in_any t.construct in
-      elim (Contains-append_cases (t ∷ []) ss s c) [
-        | inl d ↦ (let v = subst (Touches In) (only t s d) u in bare_kept f t.in_any t.construct (keeps_left set own (sites_links f ss) h) v.0 v.1)
-        | inr d ↦ sites_kept f ss s (keeps_right set own (sites_links f ss) h) d u
-      ]
-
-  -- a set that keeps to the links is a touching set
-  closed : (items : List Item) (f : List ℕ) (s : Site) → KeepsTo (touching_links items) set → Contains (sites_of items f) s → Touches In s → In f
-  closed [] f s h c u = absurd (omega (arith, c.1))
-  closed (Shares gs ∷ items) f s h c u = closed items f s h c u
-  closed (Defines g ∷ items) f s h c u =
-      let sites = body_sites g.parameters g.body in
-      let own = sites_links g.name.text sites in
-      elim (by_name g.name.text f sites (sites_of items f) s c) [
-        | inl d ↦ subst In d.0 (sites_kept g.name.text sites s (keeps_left set own (touching_links items) h) d.1 u)
-        | inr d ↦ closed items f s (keeps_right set own (touching_links items) h) d u
-      ]
+  bare_kept f false CancelsOuter h e u = absurd u
 
   bare_keeps : (f : List ℕ) (b : Bool) (c : Construct) → (b ≡ false → IsAccess In c → In f) → KeepsTo (bare_links f b c) set
   bare_keeps f true c h = keeps_none set
@@ -57,31 +38,15 @@ module _ (set : FunctionSet) where
   bare_keeps f false (Calls g) h = keeps_one set (record { caller = f; callee = Some g }) (h refl)
   bare_keeps f false Prints h = keeps_none set
   bare_keeps f false Relaxes h = keeps_none set
+  bare_keeps f false OpensOuter h = keeps_none set
   bare_keeps f false Cancels h = keeps_none set
-
-  sites_keep : (f : List ℕ) (ss : List Site) → ((s : Site) → Contains ss s → Touches In s → In f) → KeepsTo (sites_links f ss) set
-  sites_keep f [] h = keeps_none set
-  sites_keep f (s ∷ ss) h =
-      keeps_both set (bare_links f s.in_any s.construct) (sites_links f ss)
-      (bare_keeps f s.in_any s.construct (λ e u. h s (0, omega arith, refl) (e, u)))
-      (sites_keep f ss (λ t c. h t (Contains-append_right (s ∷ []) ss t c)))
-
-  -- a touching set keeps to the links
-  keeps : (items : List Item) → ((f : List ℕ) (s : Site) → Contains (sites_of items f) s → Touches In s → In f) → KeepsTo (touching_links items) set
-  keeps [] h = keeps_none set
-  keeps (Shares gs ∷ items) h = keeps items h
-  keeps (Defines g ∷ items) h =
-      let name = g.name.text in
-      let sites = body_sites g.parameters g.body in
-      keeps_both set (sites_links name sites) (touching_links items)
-      (sites_keep name sites (λ s c. h name s (own_name name sites (sites_of items name) s c)))
-      (keeps items (λ f s c. h f s (Contains-append_right (if bytes_eq name f then sites else []) (sites_of items f) s c)))
+  bare_keeps f false CancelsOuter h = keeps_none set
 
 pub tells_touching : (p : Program) (set : FunctionSet) → IsLeast (touching_links p) set → TellsTouching p set
-tells_touching p set h f = (
-  λ m other touching. h.least other (keeps other p touching) f m,
-  λ t. t set (λ g s c u. closed set p g s h.keeps c u),
-)
+tells_touching p set h =
+    tells_least links_at (λ s t. Touches (λ g. IsTrue (s g)) t)
+    (λ s f t kept u. bare_kept s f t.in_any t.construct kept u.0 u.1)
+    (λ s f t led. bare_keeps s f t.in_any t.construct (λ e u. led (e, u))) p set h
 
 -- where no demand is unmet, worker doesn't touch
 module _ (p : Program) (touching : FunctionSet) (tells : TellsTouching p touching) (met : None ≡ first_unmet (separation_demands touching (sites_of p (codes "worker")))) where
@@ -112,14 +77,18 @@ module _ (p : Program) (touching : FunctionSet) (tells : TellsTouching p touchin
   access_more (Uses x) u = tt
   access_more Prints u = u
   access_more Relaxes u = u
+  access_more OpensOuter u = u
   access_more Cancels u = u
+  access_more CancelsOuter u = u
 
   not_bare : (s : Site) (c : Construct) → AreMet (demands_at touching s c) → s.in_any ≡ false → IsAccess (λ g. IsTrue (touching g)) c → ⊥
   not_bare s (Uses x) h e u = no (sym e ∙ is_met 50 s.at s.in_any h)
   not_bare s (Calls g) h e u = or_not s.in_any (touching g) (is_met 51 s.at (s.in_any || not (touching g)) h) e u
   not_bare s Prints h e u = u
   not_bare s Relaxes h e u = u
+  not_bare s OpensOuter h e u = u
   not_bare s Cancels h e u = u
+  not_bare s CancelsOuter h e u = u
 
   none_bare : (ss : List Site) (s : Site) → AreMet (separation_demands touching ss) → Contains ss s → Touches (λ g. IsTrue (touching g)) s → ⊥
   none_bare [] s h c u = omega (arith, c.1)
@@ -145,7 +114,9 @@ module _ (p : Program) (touching : FunctionSet) (tells : TellsTouching p touchin
           larger set t (Uses x) u = tt
           larger set t Prints u = u
           larger set t Relaxes u = u
+          larger set t OpensOuter u = u
           larger set t Cancels u = u
+          larger set t CancelsOuter u = u
 
   pub worker_separate : IsTouching p (codes "worker") → ⊥
   worker_separate t =

@@ -3,6 +3,8 @@ use Rattle.std.proofs.Common.{◌≡◌, refl, sym, ap, subst, ◌∙◌, ℕ, z
 use Rattle.std.specs.Prelude.{if◌then◌else◌, is_some}
 use Rattle.std.specs.Fmt.{signed_decimal}
 use Rattle.lex.specs.declared.token.Scalar.{Scalar}
+use Rattle.syntax.specs.declared.tree.Kind.{Kind}
+use Rattle.syntax.specs.declared.tree.Kind.TheVariants.{Plain, Outer}
 use Rattle.syntax.specs.declared.tree.Mode.{Mode}
 use Rattle.syntax.specs.declared.tree.Mode.TheVariants.{Atomic, Relaxed}
 use Rattle.syntax.specs.declared.numbers.Trap.{Trap}
@@ -14,7 +16,7 @@ use Rattle.syntax.specs.Names.{Local, word_at, with_word}
 use Rattle.syntax.specs.Formats.{Piece, Literal, Figure, figures}
 use Rattle.syntax.specs.Behaviours.{Memory}
 use Rattle.syntax.specs.Actions.{Context, Outside, Inside, State, Answer, Gives, Stops, Action, pure, go_on, ◌>>=◌, ◌>>◌, spend, tick, trap, or_trap, or_astray, locals, put_locals, load_at, load, store_at, store, may_print_at, may_print, print_piece}
-use Rattle.syntax.specs.Meaning.{Spot, InLocal, InCell, fetch, assign, print_pieces, End, Next, Breaks, Continues, Returns, Cancels, on_next, scoped, after_turn, turns, loop, after_body, Left, left_by, close_inner, close, enter, transaction}
+use Rattle.syntax.specs.Meaning.{Spot, InLocal, InCell, fetch, assign, print_pieces, End, Next, Breaks, Continues, Returns, Cancels, CancelsOuter, on_next, scoped, after_turn, turns, loop, after_body, Left, mode_of, left_by, close_inner, close, enter, transaction, begin_at, begin_value, value_at, value_transaction}
 use Rattle.syntax.specs.Laws.{shape}
 use Rattle.syntax.proofs.OlderLocals.{same_shapes}
 use Rattle.syntax.proofs.ExactLocals.{same_taken}
@@ -189,82 +191,98 @@ on_open w ls os P Q (Stops why now) rest f h = f
 pub on_opens : {A B : Type 0} {w : Option Mode} {ls os : Shapes} {P : A → Type 0} {Q : B → Type 0} {run : Action A} {rest : A → Action B} → Opens w ls P run → ((a : A) → P a → (ms : Shapes) → Goes w ms os Q (rest a)) → Goes w ls os Q (run >>= rest)
 on_opens {w = w} {ls = ls} {os = os} {P = P} {Q = Q} {run = run} {rest = rest} g h = record { goes = λ s e f. on_open w ls os P Q (run s) rest (g.opens s e f) h }
 
--- how a statement ends: a break or a continue only in a loop, a cancel only in a transaction
-abbrev pub EndFits : (looping in_atomic : Bool) → End → Type 0
-EndFits looping in_atomic Next = Unit {0}
-EndFits looping in_atomic Breaks = IsTrue looping
-EndFits looping in_atomic Continues = IsTrue looping
-EndFits looping in_atomic (Returns v) = Unit {0}
-EndFits looping in_atomic Cancels = IsTrue in_atomic
+-- how a statement ends: a break or a continue only in a loop, a cancel only in an atomic transaction, an outer cancel only
+-- in an outer one
+abbrev pub EndFits : (looping in_atomic in_outer : Bool) → End → Type 0
+EndFits looping in_atomic in_outer Next = Unit {0}
+EndFits looping in_atomic in_outer Breaks = IsTrue looping
+EndFits looping in_atomic in_outer Continues = IsTrue looping
+EndFits looping in_atomic in_outer (Returns v) = Unit {0}
+EndFits looping in_atomic in_outer Cancels = IsTrue in_atomic
+EndFits looping in_atomic in_outer CancelsOuter = IsTrue in_outer
 
-abbrev pub TurnFits : (looping in_atomic : Bool) → Option End → Type 0
-TurnFits looping in_atomic None = Unit {0}
-TurnFits looping in_atomic (Some end) = EndFits looping in_atomic end
+abbrev pub TurnFits : (looping in_atomic in_outer : Bool) → Option End → Type 0
+TurnFits looping in_atomic in_outer None = Unit {0}
+TurnFits looping in_atomic in_outer (Some end) = EndFits looping in_atomic in_outer end
 
 -- one statement, and others behind it
-open_further : (w : Option Mode) (l b : Bool) (ls more : Shapes) (r : Answer End) → FineOpen w (ls ++ more) (EndFits l b) r → FineOpen w ls (EndFits l b) r
-open_further w l b ls more (Gives end now) f = (f.0, (more ++ f.1.0, f.1.1 ∙ append_assoc ls more f.1.0), f.2)
-open_further w l b ls more (Stops why now) f = f
+open_further : (w : Option Mode) (l b u : Bool) (ls more : Shapes) (r : Answer End) → FineOpen w (ls ++ more) (EndFits l b u) r → FineOpen w ls (EndFits l b u) r
+open_further w l b u ls more (Gives end now) f = (f.0, (more ++ f.1.0, f.1.1 ∙ append_assoc ls more f.1.0), f.2)
+open_further w l b u ls more (Stops why now) f = f
 
-next_fine : (w : Option Mode) (l b : Bool) (ls more : Shapes) (rest : Action End) → Opens w (ls ++ more) (EndFits l b) rest → (r : Answer End) → Fine w (ls ++ more) (EndFits l b) r → FineOpen w ls (EndFits l b) (go_on r (on_next rest))
-next_fine w l b ls more rest h (Gives Next now) f = open_further w l b ls more (rest now) (h.opens now f.0 f.1)
-next_fine w l b ls more rest h (Gives Breaks now) f = (f.0, (more, f.1), f.2)
-next_fine w l b ls more rest h (Gives Continues now) f = (f.0, (more, f.1), f.2)
-next_fine w l b ls more rest h (Gives (Returns v) now) f = (f.0, (more, f.1), f.2)
-next_fine w l b ls more rest h (Gives Cancels now) f = (f.0, (more, f.1), f.2)
-next_fine w l b ls more rest h (Stops why now) f = f
+next_fine : (w : Option Mode) (l b u : Bool) (ls more : Shapes) (rest : Action End) → Opens w (ls ++ more) (EndFits l b u) rest → (r : Answer End) → Fine w (ls ++ more) (EndFits l b u) r → FineOpen w ls (EndFits l b u) (go_on r (on_next rest))
+next_fine w l b u ls more rest h (Gives Next now) f = open_further w l b u ls more (rest now) (h.opens now f.0 f.1)
+next_fine w l b u ls more rest h (Gives Breaks now) f = (f.0, (more, f.1), f.2)
+next_fine w l b u ls more rest h (Gives Continues now) f = (f.0, (more, f.1), f.2)
+next_fine w l b u ls more rest h (Gives (Returns v) now) f = (f.0, (more, f.1), f.2)
+next_fine w l b u ls more rest h (Gives Cancels now) f = (f.0, (more, f.1), f.2)
+next_fine w l b u ls more rest h (Gives CancelsOuter now) f = (f.0, (more, f.1), f.2)
+next_fine w l b u ls more rest h (Stops why now) f = f
 
-pub next_opens : {w : Option Mode} {ls : Shapes} {run rest : Action End} (l b : Bool) (more : Shapes) → Goes w ls (ls ++ more) (EndFits l b) run → Opens w (ls ++ more) (EndFits l b) rest → Opens w ls (EndFits l b) (run >>= on_next rest)
-next_opens {w = w} {ls = ls} {run = run} {rest = rest} l b more g h = record { opens = λ s e f. next_fine w l b ls more rest h (run s) (g.goes s e f) }
+pub next_opens : {w : Option Mode} {ls : Shapes} {run rest : Action End} (l b u : Bool) (more : Shapes) → Goes w ls (ls ++ more) (EndFits l b u) run → Opens w (ls ++ more) (EndFits l b u) rest → Opens w ls (EndFits l b u) (run >>= on_next rest)
+next_opens {w = w} {ls = ls} {run = run} {rest = rest} l b u more g h = record { opens = λ s e f. next_fine w l b u ls more rest h (run s) (g.goes s e f) }
 
 -- loops
-pub after_body_goes : {w : Option Mode} {ls : Shapes} (l b : Bool) {go : Action (Option End)} → Goes w ls ls (TurnFits l b) go → (end : End) → EndFits true b end → Goes w ls ls (TurnFits l b) (after_body go end)
-after_body_goes l b h Next f = h
-after_body_goes l b h Breaks f = pure_goes (Some Next) tt
-after_body_goes l b h Continues f = h
-after_body_goes l b h (Returns v) f = pure_goes (Some (Returns v)) tt
-after_body_goes l b h Cancels f = pure_goes (Some Cancels) f
+pub after_body_goes : {w : Option Mode} {ls : Shapes} (l b u : Bool) {go : Action (Option End)} → Goes w ls ls (TurnFits l b u) go → (end : End) → EndFits true b u end → Goes w ls ls (TurnFits l b u) (after_body go end)
+after_body_goes l b u h Next f = h
+after_body_goes l b u h Breaks f = pure_goes (Some Next) tt
+after_body_goes l b u h Continues f = h
+after_body_goes l b u h (Returns v) f = pure_goes (Some (Returns v)) tt
+after_body_goes l b u h Cancels f = pure_goes (Some Cancels) f
+after_body_goes l b u h CancelsOuter f = pure_goes (Some CancelsOuter) f
 
-after_turn_goes : {w : Option Mode} {ls : Shapes} (l b : Bool) {rest : Action End} → Goes w ls ls (EndFits l b) rest → (o : Option End) → TurnFits l b o → Goes w ls ls (EndFits l b) (after_turn rest o)
-after_turn_goes l b h None f = h
-after_turn_goes l b h (Some end) f = pure_goes end f
+after_turn_goes : {w : Option Mode} {ls : Shapes} (l b u : Bool) {rest : Action End} → Goes w ls ls (EndFits l b u) rest → (o : Option End) → TurnFits l b u o → Goes w ls ls (EndFits l b u) (after_turn rest o)
+after_turn_goes l b u h None f = h
+after_turn_goes l b u h (Some end) f = pure_goes end f
 
-turns_go : {w : Option Mode} {ls : Shapes} (l b : Bool) {turn : Action (Option End)} → Goes w ls ls (TurnFits l b) turn → (n : ℕ) → Goes w ls ls (EndFits l b) (turns n turn)
-turns_go l b h zero = record { goes = λ s e f. tt }
-turns_go l b h (suc n) = then_goes tick_goes (on_goes h (after_turn_goes l b (turns_go l b h n)))
+turns_go : {w : Option Mode} {ls : Shapes} (l b u : Bool) {turn : Action (Option End)} → Goes w ls ls (TurnFits l b u) turn → (n : ℕ) → Goes w ls ls (EndFits l b u) (turns n turn)
+turns_go l b u h zero = record { goes = λ s e f. tt }
+turns_go l b u h (suc n) = then_goes tick_goes (on_goes h (after_turn_goes l b u (turns_go l b u h n)))
 
-pub loop_goes : {w : Option Mode} {ls : Shapes} (l b : Bool) {turn : Action (Option End)} → Goes w ls ls (TurnFits l b) turn → Goes w ls ls (EndFits l b) (loop turn)
-loop_goes l b h = record { goes = λ s e f. (turns_go l b h s.ticks).goes s e f }
+pub loop_goes : {w : Option Mode} {ls : Shapes} (l b u : Bool) {turn : Action (Option End)} → Goes w ls ls (TurnFits l b u) turn → Goes w ls ls (EndFits l b u) (loop turn)
+loop_goes l b u h = record { goes = λ s e f. (turns_go l b u h s.ticks).goes s e f }
 
--- transactions: a cancel goes no further
-left_fits : (l b b' : Bool) (mine : List Local) (found : Memory) (end : End) (now : State) → EndFits l b end → EndFits l b' (left_by mine found end now).end
-left_fits l b b' mine found Cancels now h = tt
-left_fits l b b' mine found Next now h = h
-left_fits l b b' mine found Breaks now h = h
-left_fits l b b' mine found Continues now h = h
-left_fits l b b' mine found (Returns v) now h = h
+-- transactions: a cancel goes no further, and an outer cancel not out of an outer one
+abbrev pub in_outer : Kind → Bool → Bool
+in_outer Outer u = true
+in_outer (Plain mode) u = u
 
-left_shapes : (ls : Shapes) (mine : List Local) (found : Memory) (end : End) (now : State) → map shape mine ≡ ls → map shape now.locals ≡ ls → map shape (left_by mine found end now).locals ≡ ls
-left_shapes ls mine found Cancels now g h = g
-left_shapes ls mine found Next now g h = h
-left_shapes ls mine found Breaks now g h = h
-left_shapes ls mine found Continues now g h = h
-left_shapes ls mine found (Returns v) now g h = h
+left_fits : (l b b' u : Bool) (kind : Kind) (mine : List Local) (found : Memory) (end : End) (now : State) → EndFits l b (in_outer kind u) end → EndFits l b' u (left_by kind mine found end now).end
+left_fits l b b' u kind mine found Cancels now h = tt
+left_fits l b b' u Outer mine found CancelsOuter now h = tt
+left_fits l b b' u (Plain mode) mine found CancelsOuter now h = h
+left_fits l b b' u kind mine found Next now h = h
+left_fits l b b' u kind mine found Breaks now h = h
+left_fits l b b' u kind mine found Continues now h = h
+left_fits l b b' u kind mine found (Returns v) now h = h
+
+left_shapes : (ls : Shapes) (kind : Kind) (mine : List Local) (found : Memory) (end : End) (now : State) → map shape mine ≡ ls → map shape now.locals ≡ ls → map shape (left_by kind mine found end now).locals ≡ ls
+left_shapes ls kind mine found Cancels now g h = g
+left_shapes ls Outer mine found CancelsOuter now g h = g
+left_shapes ls (Plain mode) mine found CancelsOuter now g h = h
+left_shapes ls kind mine found Next now g h = h
+left_shapes ls kind mine found Breaks now g h = h
+left_shapes ls kind mine found Continues now g h = h
+left_shapes ls kind mine found (Returns v) now g h = h
 
 leave_fine : (w : Option Mode) (ls : Shapes) (P : End → Type 0) (n : ℕ) (founds lefts : List Memory) (left : Left) (now : State) → None ≡ w → map shape left.locals ≡ ls → P left.end → Fine w ls P (go_on (spend n (record now { context = Outside founds lefts })) (λ u then_. Gives left.end (record then_ { locals = left.locals; context = Outside founds (lefts ++ left.memory ∷ []) })))
 leave_fine w ls P zero founds lefts left now e f h = tt
 leave_fine w ls P (suc n) founds lefts left now e f h = (e, f, h)
 
-module _ (l b b' : Bool) (ls : Shapes) (mode : Mode) (mine : List Local) (found : Memory) (same : map shape mine ≡ ls) where
-  close_fine : (w : Option Mode) (founds lefts : List Memory) (r : Answer End) → None ≡ w → Fine (Some mode) ls (EndFits l b) r → Fine w ls (EndFits l b') (close founds lefts mine found r)
-  close_fine w founds lefts (Gives end now) e f = leave_fine w ls (EndFits l b') now.ticks founds lefts (left_by mine found end now) now e (left_shapes ls mine found end now same f.1) (left_fits l b b' mine found end now f.2)
+-- how a body ends fits how its transaction then does
+abbrev Handed : Kind → (P Q : End → Type 0) → Type 0
+Handed kind P Q = (mine : List Local) (found : Memory) (end : End) (now : State) → P end → Q (left_by kind mine found end now).end
+
+module _ (kind : Kind) (P Q : End → Type 0) (handed : Handed kind P Q) (ls : Shapes) (mine : List Local) (found : Memory) (same : map shape mine ≡ ls) where
+  close_fine : (w : Option Mode) (founds lefts : List Memory) (r : Answer End) → None ≡ w → Fine (Some (mode_of kind)) ls P r → Fine w ls Q (close kind founds lefts mine found r)
+  close_fine w founds lefts (Gives end now) e f = leave_fine w ls Q now.ticks founds lefts (left_by kind mine found end now) now e (left_shapes ls kind mine found end now same f.1) (handed mine found end now f.2)
   close_fine w founds lefts (Stops (Trapped k) now) e f = tt
   close_fine w founds lefts (Stops Wants now) e f = tt
   close_fine w founds lefts (Stops Spent now) e f = tt
   close_fine w founds lefts (Stops Astray now) e f = f
 
-  inner_fine : (w : Option Mode) (outer : Mode) (r : Answer End) → Some outer ≡ w → Fine (Some mode) ls (EndFits l b) r → Fine w ls (EndFits l b') (close_inner outer mine found r)
-  inner_fine w outer (Gives end now) e f = (e, left_shapes ls mine found end now same f.1, left_fits l b b' mine found end now f.2)
+  inner_fine : (w : Option Mode) (outer : Mode) (r : Answer End) → Some outer ≡ w → Fine (Some (mode_of kind)) ls P r → Fine w ls Q (close_inner outer kind mine found r)
+  inner_fine w outer (Gives end now) e f = (e, left_shapes ls kind mine found end now same f.1, handed mine found end now f.2)
   inner_fine w outer (Stops why now) e f = f
 
 relaxed_absurd : {A : Type 0} (w : Option Mode) → MayBegin w Relaxed → Some Atomic ≡ w → A
@@ -272,15 +290,53 @@ relaxed_absurd None h e = absurd (cc)
 relaxed_absurd (Some Relaxed) h e = absurd (cc)
 relaxed_absurd (Some Atomic) h e = absurd h
 
-enter_fine : (l b b' : Bool) (w : Option Mode) (ls : Shapes) (mode : Mode) (run : Action End) → Goes (Some mode) ls ls (EndFits l b) run → MayBegin w mode → (pl : Context) (s : State) → mode_at pl ≡ w → map shape s.locals ≡ ls → Fine w ls (EndFits l b') (enter pl mode run s)
-enter_fine l b b' w ls mode run h g (Outside [] lefts) s e f = tt
-enter_fine l b b' w ls mode run h g (Outside (m ∷ founds) lefts) s e f =
-    close_fine l b b' ls mode s.locals m f w founds lefts (run (record s { context = Inside mode m })) e (h.goes (record s { context = Inside mode m }) refl f)
-enter_fine l b b' w ls mode run h g (Inside Relaxed m) s e f =
-    inner_fine l b b' ls mode s.locals m f w Relaxed (run (record s { context = Inside mode m })) e (h.goes (record s { context = Inside mode m }) refl f)
-enter_fine l b b' w ls Atomic run h g (Inside Atomic m) s e f =
-    inner_fine l b b' ls Atomic s.locals m f w Atomic (run (record s { context = Inside Atomic m })) e (h.goes (record s { context = Inside Atomic m }) refl f)
-enter_fine l b b' w ls Relaxed run h g (Inside Atomic m) s e f = relaxed_absurd w g e
+module _ (P Q : End → Type 0) where
+  enter_fine : (w : Option Mode) (ls : Shapes) (kind : Kind) → Handed kind P Q → (run : Action End) → Goes (Some (mode_of kind)) ls ls P run → MayBegin w (mode_of kind) → (pl : Context) (s : State) → mode_at pl ≡ w → map shape s.locals ≡ ls → Fine w ls Q (enter pl kind run s)
+  enter_fine w ls kind handed run h g (Outside [] lefts) s e f = tt
+  enter_fine w ls kind handed run h g (Outside (m ∷ founds) lefts) s e f =
+      close_fine kind P Q handed ls s.locals m f w founds lefts (run (record s { context = Inside (mode_of kind) m })) e (h.goes (record s { context = Inside (mode_of kind) m }) refl f)
+  enter_fine w ls kind handed run h g (Inside Relaxed m) s e f =
+      inner_fine kind P Q handed ls s.locals m f w Relaxed (run (record s { context = Inside (mode_of kind) m })) e (h.goes (record s { context = Inside (mode_of kind) m }) refl f)
+  enter_fine w ls (Plain Relaxed) handed run h g (Inside Atomic m) s e f = relaxed_absurd w g e
+  enter_fine w ls (Plain Atomic) handed run h g (Inside Atomic m) s e f =
+      inner_fine (Plain Atomic) P Q handed ls s.locals m f w Atomic (run (record s { context = Inside Atomic m })) e (h.goes (record s { context = Inside Atomic m }) refl f)
+  enter_fine w ls Outer handed run h g (Inside Atomic m) s e f =
+      inner_fine Outer P Q handed ls s.locals m f w Atomic (run (record s { context = Inside Atomic m })) e (h.goes (record s { context = Inside Atomic m }) refl f)
 
-pub transaction_goes : {w : Option Mode} {ls : Shapes} (l b b' : Bool) (mode : Mode) {run : Action End} → MayBegin w mode → Goes (Some mode) ls ls (EndFits l b) run → Goes w ls ls (EndFits l b') (transaction mode run)
-transaction_goes {w = w} {ls = ls} l b b' mode {run = run} g h = record { goes = λ s e f. enter_fine l b b' w ls mode run h g s.context s e f }
+  enters : {w : Option Mode} {ls : Shapes} (kind : Kind) → Handed kind P Q → {run : Action End} → MayBegin w (mode_of kind) → Goes (Some (mode_of kind)) ls ls P run → Goes w ls ls Q (transaction kind run)
+  enters {w = w} {ls = ls} kind handed {run = run} g h = record { goes = λ s e f. enter_fine w ls kind handed run h g s.context s e f }
+
+pub transaction_goes : {w : Option Mode} {ls : Shapes} (l b b' u : Bool) (kind : Kind) {run : Action End} → MayBegin w (mode_of kind) → Goes (Some (mode_of kind)) ls ls (EndFits l b (in_outer kind u)) run → Goes w ls ls (EndFits l b' u) (transaction kind run)
+transaction_goes l b b' u kind g h = enters (EndFits l b (in_outer kind u)) (EndFits l b' u) kind (left_fits l b b' u kind) g h
+
+-- a transaction that is an expression: its body returns the value, and ends in no other way
+abbrev IsReturn : End → Type 0
+IsReturn (Returns v) = Unit {0}
+IsReturn end = ⊥
+
+left_returns : (mode : Mode) → Handed (Plain mode) IsReturn IsReturn
+left_returns mode mine found (Returns v) now h = tt
+left_returns mode mine found Next now h = h
+left_returns mode mine found Breaks now h = h
+left_returns mode mine found Continues now h = h
+left_returns mode mine found Cancels now h = absurd h
+left_returns mode mine found CancelsOuter now h = h
+
+begin_fine : (w : Option Mode) (ls : Shapes) (pl : Context) (s : State) → mode_at s.context ≡ w → map shape s.locals ≡ ls → Fine w ls Any (begin_at pl s)
+begin_fine w ls (Outside founds lefts) s e f = spend_fine w ls s.ticks s e f
+begin_fine w ls (Inside mode m) s e f = (e, f, tt)
+
+begin_value_goes : {w : Option Mode} {ls : Shapes} → Goes w ls ls Any begin_value
+begin_value_goes {w = w} {ls = ls} = record { goes = λ s e f. begin_fine w ls s.context s e f }
+
+value_at_goes : {w : Option Mode} {ls : Shapes} (end : End) → IsReturn end → Goes w ls ls Any (value_at end)
+value_at_goes (Returns v) h = pure_goes v tt
+value_at_goes Next h = absurd h
+value_at_goes Breaks h = absurd h
+value_at_goes Continues h = absurd h
+value_at_goes Cancels h = absurd h
+value_at_goes CancelsOuter h = absurd h
+
+pub value_transaction_goes : {w : Option Mode} {ls : Shapes} (mode : Mode) {run : Action Value} → MayBegin w mode → Goes (Some mode) ls ls Any run → Goes w ls ls Any (value_transaction mode run)
+value_transaction_goes mode g h =
+    then_goes begin_value_goes (on_goes (enters IsReturn IsReturn (Plain mode) (left_returns mode) g (on_goes h (λ v _. pure_goes (Returns v) tt))) value_at_goes)

@@ -7,7 +7,7 @@ use Rattle.lex.specs.declared.token.Span.{Span}
 use Rattle.syntax.specs.Tree.{Program}
 use Rattle.syntax.specs.Typing.{first_unmet}
 use Rattle.syntax.proofs.Demands.{first_of_two}
-use Rattle.safety.specs.Sites.{Construct, Prints, Relaxes, Cancels, Calls, Uses, Site, sites_of}
+use Rattle.safety.specs.Sites.{Construct, Prints, Relaxes, OpensOuter, Cancels, CancelsOuter, Calls, Uses, Site, sites_of}
 use Rattle.safety.specs.Safe.{FunctionSet}
 use Rattle.separation.specs.Touching.{IsAccess, Touches, IsTouching, TellsTouching, demands_at, separation_demands}
 use Rattle.separation.specs.Laws.{TouchingIsTouchingSet, FaultTouches}
@@ -18,7 +18,9 @@ access_in_larger small large within (Calls f) h = within f h
 access_in_larger small large within (Uses x) h = tt
 access_in_larger small large within Prints h = h
 access_in_larger small large within Relaxes h = h
+access_in_larger small large within OpensOuter h = h
 access_in_larger small large within Cancels h = h
+access_in_larger small large within CancelsOuter h = h
 
 pub least_is_touching : TouchingIsTouchingSet
 least_is_touching p f s there bare set touching =
@@ -48,7 +50,9 @@ module _ (p : Program) (touching : FunctionSet) (tells : TellsTouching p touchin
   at_site s (Calls f) e = let h = bare_call s.in_any (touching f) (unmet (51, s.at) (n, at) (s.in_any || not (touching f)) e) in (h.0, (tells f).0 h.1)
   at_site s Prints e = absurd (nothing_is (n, at) e)
   at_site s Relaxes e = absurd (nothing_is (n, at) e)
+  at_site s OpensOuter e = absurd (nothing_is (n, at) e)
   at_site s Cancels e = absurd (nothing_is (n, at) e)
+  at_site s CancelsOuter e = absurd (nothing_is (n, at) e)
 
   abbrev Found : List Site → Type 0
   Found all = (s : Site) × Contains all s × Touches (IsTouching p) s

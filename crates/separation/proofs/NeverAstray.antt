@@ -9,13 +9,14 @@ use Rattle.lex.specs.declared.token.Scalar.{Scalar}
 use Rattle.lex.specs.declared.token.Scalar.TheVariants.{Int, Unsigned}
 use Rattle.syntax.specs.declared.tree.BinaryOp.{BinaryOp}
 use Rattle.syntax.specs.declared.tree.LogicalOp.TheVariants.{AndThen, OrElse}
+use Rattle.syntax.specs.declared.tree.Kind.TheVariants.{Plain, Outer}
 use Rattle.syntax.specs.declared.tree.Mode.{Mode}
 use Rattle.syntax.specs.declared.tree.Mode.TheVariants.{Atomic, Relaxed}
 use Rattle.syntax.specs.declared.numbers.Trap.TheVariants.{Index, Frames}
 use Rattle.syntax.specs.declared.numbers.Halt.TheVariants.{Astray}
 use Rattle.syntax.specs.declared.numbers.Value.{Value}
 use Rattle.syntax.specs.Tree as Tree
-use Rattle.syntax.specs.Tree.{Name, Expr, Exprs, Variable, Constant, Element, Call, Parenthesized, Cast, Unary, Binary, Logical, Conditional, Simple, Evaluate, Assign, Adjust, Declarator, Start, Nothing, Declares, Does, Stmt, Stmts, Empty, Declare, Do, Block, Print, If, IfElse, While, DoWhile, For, Break, Continue, Return, Transaction, Cancel, Parameter, Function, Program}
+use Rattle.syntax.specs.Tree.{Name, Expr, Exprs, Variable, Constant, Element, Call, Parenthesized, Cast, Unary, Binary, Logical, Conditional, InTransaction, Simple, Evaluate, Assign, Adjust, Declarator, Start, Nothing, Declares, Does, Stmt, Stmts, Empty, Declare, Do, Block, Print, If, IfElse, While, DoWhile, For, Break, Continue, Return, Transaction, Cancel, CancelOuter, Parameter, Function, Program}
 use Rattle.syntax.specs.Numbers.{word_of, converted, flag, is_zero, unary, binary}
 use Rattle.syntax.specs.Names.{Local, newest, global_of, definition_of, cells}
 use Rattle.syntax.specs.Formats.{pieces, figures}
@@ -23,7 +24,7 @@ use Rattle.syntax.specs.Types.{Known, Unknown, Number, Array, Callable, Scope, k
 use Rattle.syntax.specs.Typing.{has_name, is_unknown, may_be_number, may_be_array, may_be_function, may_be_assigned, takes_so_many, count, is_void, is_worker, knows, scope_after, names_of, scope_of_start, parameter_names}
 use Rattle.syntax.specs.Behaviours.{Stopped}
 use Rattle.syntax.specs.Actions.{Answer, Stops, Action, pure}
-use Rattle.syntax.specs.Meaning.{Spot, InLocal, InCell, End, Next, Breaks, Continues, Returns, Cancels, scoped, op_of, int_one, Caller, spot_from, named, element, expr, exprs, spot, changed, assigned, simple, first_value, declare, start_with, holds, stepped, return_value, stmt, stmts, entered, result_of, invoke, calls}
+use Rattle.syntax.specs.Meaning.{Spot, InLocal, InCell, End, Next, Breaks, Continues, Returns, Cancels, CancelsOuter, scoped, op_of, int_one, Caller, spot_from, named, element, expr, exprs, spot, changed, assigned, simple, first_value, declare, start_with, holds, stepped, return_value, stmt, stmts, entered, result_of, invoke, calls}
 use Rattle.syntax.specs.Threads.{outcome_of, first_state, worker_run}
 use Rattle.syntax.specs.Laws.{shape}
 use Rattle.syntax.specs.ScopeLaws.{Agrees, declared_by, body_scope}
@@ -31,11 +32,11 @@ use Rattle.syntax.proofs.TypedParts.{TypedExpr, TypedExprs, TypedTarget, TypedSi
 use Rattle.syntax.proofs.ValueTypes.{Found, found, shared_type}
 use Rattle.syntax.proofs.Fits.{newest_in, newest_by_shape, newest_behind, scope_in, agrees_by_shape, shape_agrees, one_more_fits, declared_fit, same_type_of, has_type}
 use Rattle.syntax.proofs.Called.{called_are_defined, bodies_are_typed, worker_known, all_enter, shapes_of, entered_shapes}
-use Rattle.safety.specs.Sites.{Prints, Relaxes, Cancels as CancelConstruct, Calls, Uses, Around, site, with_names, in_transaction, uses, expr_sites, exprs_sites, sites_if_any, simple_sites, declarator_sites, start_sites, names_of_start, stmt_sites, stmts_sites}
+use Rattle.safety.specs.Sites.{Prints, Relaxes, OpensOuter, Cancels as CancelConstruct, CancelsOuter as OuterCancelConstruct, Calls, Uses, Around, site, with_names, in_transaction, uses, expr_sites, exprs_sites, sites_if_any, simple_sites, declarator_sites, start_sites, names_of_start, stmt_sites, stmts_sites}
 use Rattle.safety.proofs.CancelsStay.{definition_sites}
 use Rattle.separation.specs.Touching.{IsAccepted}
 use Rattle.separation.specs.Laws.{NeverAstray}
-use Rattle.separation.proofs.Goes.{Shapes, Goes, Opens, Any, Fine, IsInside, SpotFits, EndFits, TurnFits, on_goes, then_goes, pure_goes, if_goes, tick_goes, trap_goes, or_trap_goes, there_goes, locals_goes, put_goes, may_print_goes, fetch_goes, assign_goes, pieces_go, opened, no_further, scoped_goes, on_opens, next_opens, after_body_goes, loop_goes, transaction_goes}
+use Rattle.separation.proofs.Goes.{Shapes, Goes, Opens, Any, Fine, IsInside, SpotFits, EndFits, TurnFits, on_goes, then_goes, pure_goes, if_goes, tick_goes, trap_goes, or_trap_goes, there_goes, locals_goes, put_goes, may_print_goes, fetch_goes, assign_goes, pieces_go, opened, no_further, scoped_goes, on_opens, next_opens, after_body_goes, loop_goes, transaction_goes, value_transaction_goes}
 use Rattle.separation.proofs.Permitted.{Permits, mode_in, AllPermitted, front_permitted, back_permitted, one_permitted, may_print, is_inside, may_begin_atomic, may_begin_relaxed, relaxed_inside, all_permitted, worker_permitted}
 
 -- what a name that is typed is known as
@@ -154,6 +155,7 @@ here_after p known ls a (Continue at) h = here_still p known ls a h
 here_after p known ls a (Return e at) h = here_still p known ls a h
 here_after p known ls a (Transaction mode ss at) h = here_still p known ls a h
 here_after p known ls a (Cancel at) h = here_still p known ls a h
+here_after p known ls a (CancelOuter at) h = here_still p known ls a h
 
 abbrev started_by : Start → Shapes
 started_by Nothing = []
@@ -178,7 +180,7 @@ module _ (p : Program) (call : Caller) (called : CallsGo p call) (outer : Option
   -- a shared name
   shared_inside : (x : Name) (a : Around) (b : Bool) → b ≡ false → AllPermitted p outer (if b then [] else site a (Uses x.text) x.at) → IsInside (mode_of a)
   shared_inside x a true e h = absurd (cc)
-  shared_inside x a false e h = is_inside p (mode_of a) x.text (one_permitted (record { construct = Uses x.text; at = x.at; atomic = a.atomic; in_any = a.in_any }) h).0
+  shared_inside x a false e h = is_inside p (mode_of a) x.text (one_permitted (record { construct = Uses x.text; at = x.at; atomic = a.atomic; outer = a.outer; in_any = a.in_any }) h).0
 
   no_local : (names : List (List ℕ)) (ls : Shapes) (x : List ℕ) → Named names ls → newest_in ls x ≡ None → has_name names x ≡ false
   no_local names ls x h e = by_name (has_name names x) refl
@@ -196,107 +198,119 @@ module _ (p : Program) (call : Caller) (called : CallsGo p call) (outer : Option
       let here : Found (global_of p x) t = found p x t (ap shared_type (over_number (newest_in ls x) (file_scope p x) t (sym g) e)) in
       on_goes (there_goes (global_of p x) (is_there (global_of p x) here.0 here.1)) (λ c f. pure_goes (InCell c.cell c.global.of) (inside (sym g)))
 
-  module _ (known : Scope) (ls : Shapes) (a : Around) (here : Here p known ls a) where
-    named_goes : (x : Name) → IsTrue (not (is_unknown (known x.text))) → IsTrue (may_be_number (known x.text)) → AllPermitted p outer (uses x a) → Goes (mode_of a) ls ls (SpotFits (mode_of a)) (named p call x.text)
-    named_goes x g h m =
-        let number = known_number (known x.text) g h in
-        on_goes locals_goes (λ mine e. spot_goes (mode_of a) ls x.text number.0 (used_inside known ls a x here m) (here.fits x.text g ∙ number.1) (newest mine x.text) (newest_by_shape 0 mine x.text ∙ ap (λ ms. newest_in ms x.text) e))
+  module _ (known : Scope) (ls : Shapes) where
+    module _ (a : Around) (here : Here p known ls a) where
+      named_goes : (x : Name) → IsTrue (not (is_unknown (known x.text))) → IsTrue (may_be_number (known x.text)) → AllPermitted p outer (uses x a) → Goes (mode_of a) ls ls (SpotFits (mode_of a)) (named p call x.text)
+      named_goes x g h m =
+          let number = known_number (known x.text) g h in
+          on_goes locals_goes (λ mine e. spot_goes (mode_of a) ls x.text number.0 (used_inside known ls a x here m) (here.fits x.text g ∙ number.1) (newest mine x.text) (newest_by_shape 0 mine x.text ∙ ap (λ ms. newest_in ms x.text) e))
 
-    element_goes : (x : Name) (k : Value) → IsTrue (not (is_unknown (known x.text))) → IsTrue (may_be_array (known x.text)) → AllPermitted p outer (uses x a) → Goes (mode_of a) ls ls (SpotFits (mode_of a)) (element p call x.text k)
-    element_goes x k g h m =
-        let array = known_array (known x.text) g h in
-        let hidden = over_array (newest_in ls x.text) (file_scope p x.text) array.0 array.1 (here.fits x.text g ∙ array.2) in
-        let cell : Found (global_of p x.text) array.0 = found p x.text array.0 (ap shared_type hidden.1) in
-        on_goes (there_goes (global_of p x.text) (is_there (global_of p x.text) cell.0 cell.1))
-        (λ c f. if_goes (nat_lt k.word (cells c.global)) (pure_goes (InCell (c.cell + k.word) c.global.of) (used_inside known ls a x here m hidden.0)) (trap_goes Index))
+      element_goes : (x : Name) (k : Value) → IsTrue (not (is_unknown (known x.text))) → IsTrue (may_be_array (known x.text)) → AllPermitted p outer (uses x a) → Goes (mode_of a) ls ls (SpotFits (mode_of a)) (element p call x.text k)
+      element_goes x k g h m =
+          let array = known_array (known x.text) g h in
+          let hidden = over_array (newest_in ls x.text) (file_scope p x.text) array.0 array.1 (here.fits x.text g ∙ array.2) in
+          let cell : Found (global_of p x.text) array.0 = found p x.text array.0 (ap shared_type hidden.1) in
+          on_goes (there_goes (global_of p x.text) (is_there (global_of p x.text) cell.0 cell.1))
+          (λ c f. if_goes (nat_lt k.word (cells c.global)) (pure_goes (InCell (c.cell + k.word) c.global.of) (used_inside known ls a x here m hidden.0)) (trap_goes Index))
 
-    call_goes : (f : Name) (es : Exprs) (vs : List Value) → IsTrue (not (is_unknown (known f.text))) → IsTrue (may_be_function (known f.text)) → IsTrue (takes_so_many (known f.text) (count es)) → length vs ≡ count es → AllPermitted p outer (site a (Calls f.text) f.at) → Goes (mode_of a) ls ls Any (call f.text vs)
-    call_goes f es vs g h e n m =
-        let function = known_callable (known f.text) (count es) g h e in
-        called (mode_of a) ls f.text vs function.0 function.1 (over_callable (newest_in ls f.text) (file_scope p f.text) function.0 function.1 (here.fits f.text g ∙ function.2)) (n ∙ function.3)
-        (one_permitted (record { construct = Calls f.text; at = f.at; atomic = a.atomic; in_any = a.in_any }) m).0
+      call_goes : (f : Name) (es : Exprs) (vs : List Value) → IsTrue (not (is_unknown (known f.text))) → IsTrue (may_be_function (known f.text)) → IsTrue (takes_so_many (known f.text) (count es)) → length vs ≡ count es → AllPermitted p outer (site a (Calls f.text) f.at) → Goes (mode_of a) ls ls Any (call f.text vs)
+      call_goes f es vs g h e n m =
+          let function = known_callable (known f.text) (count es) g h e in
+          called (mode_of a) ls f.text vs function.0 function.1 (over_callable (newest_in ls f.text) (file_scope p f.text) function.0 function.1 (here.fits f.text g ∙ function.2)) (n ∙ function.3)
+          (one_permitted (record { construct = Calls f.text; at = f.at; atomic = a.atomic; outer = a.outer; in_any = a.in_any }) m).0
 
-    -- the type of a conditional expression is there
-    typed_there : (e : Expr) → TypedExpr known e → IsTrue (not (is_void known e)) → (mine : List Local) → map shape mine ≡ ls → IsTrue (is_some (type_of (running_scope p mine) e))
-    typed_there e h g mine f =
-        subst (λ t. IsTrue (is_some t)) (sym (same_type_of known (running_scope p mine) (agrees_by_shape p known mine (subst (λ ms. Agrees known (scope_in p ms)) (sym f) here.fits)) e h)) (has_type known e h g)
+      -- the type of a conditional expression is there
+      typed_there : (e : Expr) → TypedExpr known e → IsTrue (not (is_void known e)) → (mine : List Local) → map shape mine ≡ ls → IsTrue (is_some (type_of (running_scope p mine) e))
+      typed_there e h g mine f =
+          subst (λ t. IsTrue (is_some t)) (sym (same_type_of known (running_scope p mine) (agrees_by_shape p known mine (subst (λ ms. Agrees known (scope_in p ms)) (sym f) here.fits)) e h)) (has_type known e h g)
 
     mutual
-      expr_goes : (e : Expr) → TypedExpr known e → AllPermitted p outer (expr_sites e a) → Goes (mode_of a) ls ls Any (expr p call e)
-      expr_goes (Variable x) h m = on_goes (named_goes x h.0 h.1 m) (λ at f. fetch_goes at f)
-      expr_goes (Constant n t at) h m = pure_goes (record { of = t; word = word_of (pos n) }) tt
-      expr_goes (Element x i at) h m =
-          on_goes (expr_goes i h.1 (back_permitted (uses x a) (expr_sites i a) m)) (λ k _. on_goes (element_goes x k h.0 h.2 (front_permitted (uses x a) (expr_sites i a) m)) (λ at f. fetch_goes at f))
-      expr_goes (Call f es at) h m =
-          on_goes (exprs_go es h.1 (back_permitted (site a (Calls f.text) f.at) (exprs_sites es a) m))
-          (λ vs n. then_goes tick_goes (call_goes f es vs h.0 h.2 h.3 n (front_permitted (site a (Calls f.text) f.at) (exprs_sites es a) m)))
-      expr_goes (Parenthesized e at) h m = expr_goes e h m
-      expr_goes (Cast t e at) h m = on_goes (expr_goes e h m) (λ v _. pure_goes (converted t v) tt)
-      expr_goes (Unary op e at) h m = on_goes (expr_goes e h.0 m) (λ v _. or_trap_goes (unary op v))
-      expr_goes (Binary op x y at) h m =
-          on_goes (expr_goes x h.0 (front_permitted (expr_sites x a) (expr_sites y a) m)) (λ v _. on_goes (expr_goes y h.2 (back_permitted (expr_sites x a) (expr_sites y a) m)) (λ w _. or_trap_goes (binary op v w)))
-      expr_goes (Logical AndThen x y at) h m =
-          on_goes (expr_goes x h.0 (front_permitted (expr_sites x a) (expr_sites y a) m)) (λ v _. on_goes (if_goes (is_zero v) (pure_goes v tt) (expr_goes y h.1 (back_permitted (expr_sites x a) (expr_sites y a) m))) (λ w _. pure_goes (flag (not (is_zero w))) tt))
-      expr_goes (Logical OrElse x y at) h m =
-          on_goes (expr_goes x h.0 (front_permitted (expr_sites x a) (expr_sites y a) m)) (λ v _. on_goes (if_goes (is_zero v) (expr_goes y h.1 (back_permitted (expr_sites x a) (expr_sites y a) m)) (pure_goes v tt)) (λ w _. pure_goes (flag (not (is_zero w))) tt))
-      expr_goes (Conditional c x y at) h m =
+      expr_goes : (a : Around) → Here p known ls a → (e : Expr) → TypedExpr known e → AllPermitted p outer (expr_sites e a) → Goes (mode_of a) ls ls Any (expr p call e)
+      expr_goes a here (Variable x) h m = on_goes (named_goes a here x h.0 h.1 m) (λ at f. fetch_goes at f)
+      expr_goes a here (Constant n t at) h m = pure_goes (record { of = t; word = word_of (pos n) }) tt
+      expr_goes a here (Element x i at) h m =
+          on_goes (expr_goes a here i h.1 (back_permitted (uses x a) (expr_sites i a) m)) (λ k _. on_goes (element_goes a here x k h.0 h.2 (front_permitted (uses x a) (expr_sites i a) m)) (λ at f. fetch_goes at f))
+      expr_goes a here (Call f es at) h m =
+          on_goes (exprs_go a here es h.1 (back_permitted (site a (Calls f.text) f.at) (exprs_sites es a) m))
+          (λ vs n. then_goes tick_goes (call_goes a here f es vs h.0 h.2 h.3 n (front_permitted (site a (Calls f.text) f.at) (exprs_sites es a) m)))
+      expr_goes a here (Parenthesized e at) h m = expr_goes a here e h m
+      expr_goes a here (Cast t e at) h m = on_goes (expr_goes a here e h m) (λ v _. pure_goes (converted t v) tt)
+      expr_goes a here (Unary op e at) h m = on_goes (expr_goes a here e h.0 m) (λ v _. or_trap_goes (unary op v))
+      expr_goes a here (Binary op x y at) h m =
+          on_goes (expr_goes a here x h.0 (front_permitted (expr_sites x a) (expr_sites y a) m)) (λ v _. on_goes (expr_goes a here y h.2 (back_permitted (expr_sites x a) (expr_sites y a) m)) (λ w _. or_trap_goes (binary op v w)))
+      expr_goes a here (Logical AndThen x y at) h m =
+          on_goes (expr_goes a here x h.0 (front_permitted (expr_sites x a) (expr_sites y a) m)) (λ v _. on_goes (if_goes (is_zero v) (pure_goes v tt) (expr_goes a here y h.1 (back_permitted (expr_sites x a) (expr_sites y a) m))) (λ w _. pure_goes (flag (not (is_zero w))) tt))
+      expr_goes a here (Logical OrElse x y at) h m =
+          on_goes (expr_goes a here x h.0 (front_permitted (expr_sites x a) (expr_sites y a) m)) (λ v _. on_goes (if_goes (is_zero v) (expr_goes a here y h.1 (back_permitted (expr_sites x a) (expr_sites y a) m)) (pure_goes v tt)) (λ w _. pure_goes (flag (not (is_zero w))) tt))
+      expr_goes a here (Conditional c x y at) h m =
           let first = front_permitted (expr_sites c a ++ expr_sites x a) (expr_sites y a) m in
-          on_goes (expr_goes c h.0 (front_permitted (expr_sites c a) (expr_sites x a) first))
-          (λ v _. on_goes (if_goes (is_zero v) (expr_goes y h.3 (back_permitted (expr_sites c a ++ expr_sites x a) (expr_sites y a) m)) (expr_goes x h.1 (back_permitted (expr_sites c a) (expr_sites x a) first)))
-          (λ w _. on_goes locals_goes (λ mine f. on_goes (there_goes (type_of (running_scope p mine) (Conditional c x y at)) (typed_there (Conditional c x y at) h refl mine f)) (λ t _. pure_goes (converted t w) tt))))
+          on_goes (expr_goes a here c h.0 (front_permitted (expr_sites c a) (expr_sites x a) first))
+          (λ v _. on_goes (if_goes (is_zero v) (expr_goes a here y h.3 (back_permitted (expr_sites c a ++ expr_sites x a) (expr_sites y a) m)) (expr_goes a here x h.1 (back_permitted (expr_sites c a) (expr_sites x a) first)))
+          (λ w _. on_goes locals_goes (λ mine f. on_goes (there_goes (type_of (running_scope p mine) (Conditional c x y at)) (typed_there a here (Conditional c x y at) h refl mine f)) (λ t _. pure_goes (converted t w) tt))))
+      expr_goes a here (InTransaction Atomic keyword e at) h m =
+          let a' = in_transaction (Plain Atomic) a in
+          value_transaction_goes Atomic (may_begin_atomic (mode_of a))
+          (expr_goes a' (record { fits = here.fits; named = here.named }) e h.0 (back_permitted [] (expr_sites e a') m))
+      expr_goes a here (InTransaction Relaxed keyword e at) h m =
+          let a' = in_transaction (Plain Relaxed) a in
+          let permit = (one_permitted (record { construct = Relaxes; at = keyword; atomic = a.atomic; outer = a.outer; in_any = a.in_any }) (front_permitted (site a Relaxes keyword) (expr_sites e a') m)).0 in
+          value_transaction_goes Relaxed (may_begin_relaxed p (mode_of a) permit)
+          (subst (λ w. Goes w ls ls Any (expr p call e)) (relaxed_inside p outer a.atomic a.in_any permit)
+          (expr_goes a' (record { fits = here.fits; named = here.named }) e h.0 (back_permitted (site a Relaxes keyword) (expr_sites e a') m)))
 
-      exprs_go : (es : Exprs) → TypedExprs known es → AllPermitted p outer (exprs_sites es a) → Goes (mode_of a) ls ls (λ vs. length vs ≡ count es) (exprs p call es)
-      exprs_go Tree.[] h m = pure_goes [] refl
-      exprs_go (Tree.◌∷◌ e es) h m =
-          on_goes (expr_goes e h.0 (front_permitted (expr_sites e a) (exprs_sites es a) m)) (λ v _. on_goes (exprs_go es h.1 (back_permitted (expr_sites e a) (exprs_sites es a) m)) (λ vs n. pure_goes (v ∷ vs) (omega (arith, n))))
+      exprs_go : (a : Around) → Here p known ls a → (es : Exprs) → TypedExprs known es → AllPermitted p outer (exprs_sites es a) → Goes (mode_of a) ls ls (λ vs. length vs ≡ count es) (exprs p call es)
+      exprs_go a here Tree.[] h m = pure_goes [] refl
+      exprs_go a here (Tree.◌∷◌ e es) h m =
+          on_goes (expr_goes a here e h.0 (front_permitted (expr_sites e a) (exprs_sites es a) m)) (λ v _. on_goes (exprs_go a here es h.1 (back_permitted (expr_sites e a) (exprs_sites es a) m)) (λ vs n. pure_goes (v ∷ vs) (omega (arith, n))))
 
-    target_goes : (to : Expr) → TypedTarget known to → IsTrue (may_be_assigned known to) → AllPermitted p outer (expr_sites to a) → Goes (mode_of a) ls ls (SpotFits (mode_of a)) (spot p call to)
-    target_goes (Variable x) h g m = named_goes x h g m
-    target_goes (Element x i at) h g m =
-        on_goes (expr_goes i h.1 (back_permitted (uses x a) (expr_sites i a) m)) (λ k _. element_goes x k h.0 h.2 (front_permitted (uses x a) (expr_sites i a) m))
-    target_goes to h g m = absurd (cc)
+    module _ (a : Around) (here : Here p known ls a) where
+      target_goes : (to : Expr) → TypedTarget known to → IsTrue (may_be_assigned known to) → AllPermitted p outer (expr_sites to a) → Goes (mode_of a) ls ls (SpotFits (mode_of a)) (spot p call to)
+      target_goes (Variable x) h g m = named_goes a here x h g m
+      target_goes (Element x i at) h g m =
+          on_goes (expr_goes a here i h.1 (back_permitted (uses x a) (expr_sites i a) m)) (λ k _. element_goes a here x k h.0 h.2 (front_permitted (uses x a) (expr_sites i a) m))
+      target_goes to h g m = absurd (cc)
 
-    changed_goes : (at : Spot) {by : Action Value} → SpotFits (mode_of a) at → Goes (mode_of a) ls ls Any by → (op : BinaryOp) → Goes (mode_of a) ls ls Any (changed p call at by op)
-    changed_goes at f g op = on_goes (fetch_goes at f) (λ old _. on_goes g (λ v _. on_goes (or_trap_goes (binary op old v)) (λ new _. assign_goes at new f)))
+      changed_goes : (at : Spot) {by : Action Value} → SpotFits (mode_of a) at → Goes (mode_of a) ls ls Any by → (op : BinaryOp) → Goes (mode_of a) ls ls Any (changed p call at by op)
+      changed_goes at f g op = on_goes (fetch_goes at f) (λ old _. on_goes g (λ v _. on_goes (or_trap_goes (binary op old v)) (λ new _. assign_goes at new f)))
 
-    assigned_goes : (at : Spot) {by : Action Value} → SpotFits (mode_of a) at → Goes (mode_of a) ls ls Any by → (op : Option BinaryOp) → Goes (mode_of a) ls ls Any (assigned p call at by op)
-    assigned_goes at f g None = on_goes g (λ v _. assign_goes at v f)
-    assigned_goes at f g (Some op) = changed_goes at f g op
+      assigned_goes : (at : Spot) {by : Action Value} → SpotFits (mode_of a) at → Goes (mode_of a) ls ls Any by → (op : Option BinaryOp) → Goes (mode_of a) ls ls Any (assigned p call at by op)
+      assigned_goes at f g None = on_goes g (λ v _. assign_goes at v f)
+      assigned_goes at f g (Some op) = changed_goes at f g op
 
-    simple_goes : (l b : Bool) (s : Simple) → TypedSimple known s → AllPermitted p outer (simple_sites s a) → Goes (mode_of a) ls ls (EndFits l b) (simple p call s)
-    simple_goes l b (Evaluate e) h m = then_goes (expr_goes e h m) (pure_goes Next tt)
-    simple_goes l b (Assign to op e) h m =
-        on_goes (target_goes to h.0 h.2 (front_permitted (expr_sites to a) (expr_sites e a) m))
-        (λ at f. then_goes (assigned_goes at f (expr_goes e h.1 (back_permitted (expr_sites to a) (expr_sites e a) m)) op) (pure_goes Next tt))
-    simple_goes l b (Adjust to by) h m =
-        on_goes (target_goes to h.0 h.1 m) (λ at f. then_goes (changed_goes at f (pure_goes int_one tt) (op_of by)) (pure_goes Next tt))
+      simple_goes : (l b u : Bool) (s : Simple) → TypedSimple known s → AllPermitted p outer (simple_sites s a) → Goes (mode_of a) ls ls (EndFits l b u) (simple p call s)
+      simple_goes l b u (Evaluate e) h m = then_goes (expr_goes a here e h m) (pure_goes Next tt)
+      simple_goes l b u (Assign to op e) h m =
+          on_goes (target_goes to h.0 h.2 (front_permitted (expr_sites to a) (expr_sites e a) m))
+          (λ at f. then_goes (assigned_goes at f (expr_goes a here e h.1 (back_permitted (expr_sites to a) (expr_sites e a) m)) op) (pure_goes Next tt))
+      simple_goes l b u (Adjust to by) h m =
+          on_goes (target_goes to h.0 h.1 m) (λ at f. then_goes (changed_goes at f (pure_goes int_one tt) (op_of by)) (pure_goes Next tt))
 
-    first_goes : (i : ℕ) (t : Scalar) (o : Option Expr) → IfSome o (TypedExpr known) → AllPermitted p outer (sites_if_any expr_sites o a) → Goes (mode_of a) ls ls Any (first_value p call (InLocal i t) o)
-    first_goes i t None h m = pure_goes tt tt
-    first_goes i t (Some e) h m = on_goes (expr_goes e h m) (λ v _. assign_goes (InLocal i t) v tt)
+      first_goes : (i : ℕ) (t : Scalar) (o : Option Expr) → IfSome o (TypedExpr known) → AllPermitted p outer (sites_if_any expr_sites o a) → Goes (mode_of a) ls ls Any (first_value p call (InLocal i t) o)
+      first_goes i t None h m = pure_goes tt tt
+      first_goes i t (Some e) h m = on_goes (expr_goes a here e h m) (λ v _. assign_goes (InLocal i t) v tt)
 
-    holds_goes : (o : Option Expr) → IfSome o (TypedExpr known) → AllPermitted p outer (sites_if_any expr_sites o a) → Goes (mode_of a) ls ls Any (holds p call o)
-    holds_goes None h m = pure_goes true tt
-    holds_goes (Some e) h m = on_goes (expr_goes e h m) (λ v _. pure_goes (not (is_zero v)) tt)
+      holds_goes : (o : Option Expr) → IfSome o (TypedExpr known) → AllPermitted p outer (sites_if_any expr_sites o a) → Goes (mode_of a) ls ls Any (holds p call o)
+      holds_goes None h m = pure_goes true tt
+      holds_goes (Some e) h m = on_goes (expr_goes a here e h m) (λ v _. pure_goes (not (is_zero v)) tt)
 
-    stepped_goes : (l b : Bool) (o : Option Simple) → IfSome o (TypedSimple known) → AllPermitted p outer (sites_if_any simple_sites o a) → Goes (mode_of a) ls ls (TurnFits l b) (stepped p call o)
-    stepped_goes l b None h m = pure_goes None tt
-    stepped_goes l b (Some s) h m = then_goes (simple_goes l b s h m) (pure_goes None tt)
+      stepped_goes : (l b u : Bool) (o : Option Simple) → IfSome o (TypedSimple known) → AllPermitted p outer (sites_if_any simple_sites o a) → Goes (mode_of a) ls ls (TurnFits l b u) (stepped p call o)
+      stepped_goes l b u None h m = pure_goes None tt
+      stepped_goes l b u (Some s) h m = then_goes (simple_goes l b u s h m) (pure_goes None tt)
 
-    return_goes : (o : Option Expr) → IfSome o (TypedExpr known) → AllPermitted p outer (sites_if_any expr_sites o a) → Goes (mode_of a) ls ls Any (return_value p call o)
-    return_goes None h m = pure_goes (flag false) tt
-    return_goes (Some e) h m = expr_goes e h m
+      return_goes : (o : Option Expr) → IfSome o (TypedExpr known) → AllPermitted p outer (sites_if_any expr_sites o a) → Goes (mode_of a) ls ls Any (return_value p call o)
+      return_goes None h m = pure_goes (flag false) tt
+      return_goes (Some e) h m = expr_goes a here e h m
 
   same_count : (n k i : ℕ) → IsTrue (n == k) → i ≡ k → n ≡ i
   same_count n k i h e = (Decides-eqb n k).0 h ∙ sym e
 
-  tested_goes : {w : Option Mode} {ls : Shapes} (l b more : Bool) → Goes w ls ls (TurnFits l b) (pure (if more then Some Next else None))
-  tested_goes l b true = pure_goes (Some Next) tt
-  tested_goes l b false = pure_goes None tt
+  tested_goes : {w : Option Mode} {ls : Shapes} (l b u more : Bool) → Goes w ls ls (TurnFits l b u) (pure (if more then Some Next else None))
+  tested_goes l b u true = pure_goes (Some Next) tt
+  tested_goes l b u false = pure_goes None tt
 
-  declare_goes : (l b : Bool) (t : Scalar) (ds : List Declarator) (known : Scope) (ls : Shapes) (a : Around) → Here p known ls a → TypedDeclarators known t ds → AllPermitted p outer (declarator_sites ds a) → Goes (mode_of a) ls (ls ++ map (λ d. (d.name.text, t)) ds) (EndFits l b) (declare p call t ds)
-  declare_goes l b t [] known ls a here h m = no_further (pure_goes Next tt)
-  declare_goes l b t (d ∷ ds) known ls a here h m =
+  declare_goes : (l b u : Bool) (t : Scalar) (ds : List Declarator) (known : Scope) (ls : Shapes) (a : Around) → Here p known ls a → TypedDeclarators known t ds → AllPermitted p outer (declarator_sites ds a) → Goes (mode_of a) ls (ls ++ map (λ d. (d.name.text, t)) ds) (EndFits l b u) (declare p call t ds)
+  declare_goes l b u t [] known ls a here h m = no_further (pure_goes Next tt)
+  declare_goes l b u t (d ∷ ds) known ls a here h m =
       let x = d.name.text in
       let a' = with_names (x ∷ []) a in
       let known' = with_number x t known in
@@ -305,22 +319,22 @@ module _ (p : Program) (call : Caller) (called : CallsGo p call) (outer : Option
       let own = sites_if_any expr_sites d.first a' in
       on_goes locals_goes (λ mine e. then_goes (put_goes (mine ++ record { name = x; of = t; word = 0 } ∷ []) (map-append shape mine (record { name = x; of = t; word = 0 } ∷ []) ∙ ap (λ ms. ms ++ (x, t) ∷ []) e))
       (then_goes (first_goes known' (ls ++ (x, t) ∷ []) a' here' (length mine) t d.first h.0 (front_permitted own (declarator_sites ds a') m))
-      (subst (λ ms. Goes (mode_of a) (ls ++ (x, t) ∷ []) ms (EndFits l b) (declare p call t ds)) (append_assoc ls ((x, t) ∷ []) more)
-      (declare_goes l b t ds known' (ls ++ (x, t) ∷ []) a' here' h.1 (back_permitted own (declarator_sites ds a') m)))))
+      (subst (λ ms. Goes (mode_of a) (ls ++ (x, t) ∷ []) ms (EndFits l b u) (declare p call t ds)) (append_assoc ls ((x, t) ∷ []) more)
+      (declare_goes l b u t ds known' (ls ++ (x, t) ∷ []) a' here' h.1 (back_permitted own (declarator_sites ds a') m)))))
 
-  start_goes : (l b : Bool) (s : Start) (known : Scope) (ls : Shapes) (a : Around) → Here p known ls a → TypedStart known s → AllPermitted p outer (start_sites s a) → Goes (mode_of a) ls (ls ++ started_by s) (EndFits l b) (start_with p call s)
-  start_goes l b Nothing known ls a here h m = no_further (pure_goes Next tt)
-  start_goes l b (Declares d) known ls a here h m = declare_goes l b d.of d.declarators known ls a here h m
-  start_goes l b (Does s) known ls a here h m = no_further (simple_goes known ls a here l b s h m)
+  start_goes : (l b u : Bool) (s : Start) (known : Scope) (ls : Shapes) (a : Around) → Here p known ls a → TypedStart known s → AllPermitted p outer (start_sites s a) → Goes (mode_of a) ls (ls ++ started_by s) (EndFits l b u) (start_with p call s)
+  start_goes l b u Nothing known ls a here h m = no_further (pure_goes Next tt)
+  start_goes l b u (Declares d) known ls a here h m = declare_goes l b u d.of d.declarators known ls a here h m
+  start_goes l b u (Does s) known ls a here h m = no_further (simple_goes known ls a here l b u s h m)
 
   mutual
-    stmt_goes : (s : Stmt) (known : Scope) (ls : Shapes) (a : Around) (l : Bool) → Here p known ls a → TypedStmt s known l → AllPermitted p outer (stmt_sites s a) → Goes (mode_of a) ls (ls ++ declared_by s) (EndFits l a.atomic) (stmt p call s)
+    stmt_goes : (s : Stmt) (known : Scope) (ls : Shapes) (a : Around) (l : Bool) → Here p known ls a → TypedStmt s known l → AllPermitted p outer (stmt_sites s a) → Goes (mode_of a) ls (ls ++ declared_by s) (EndFits l a.atomic a.outer) (stmt p call s)
     stmt_goes Empty known ls a l here h m = no_further (then_goes tick_goes (pure_goes Next tt))
-    stmt_goes (Declare d) known ls a l here h m = then_goes tick_goes (declare_goes l a.atomic d.of d.declarators known ls a here h m)
-    stmt_goes (Do s) known ls a l here h m = no_further (then_goes tick_goes (simple_goes known ls a here l a.atomic s h m))
+    stmt_goes (Declare d) known ls a l here h m = then_goes tick_goes (declare_goes l a.atomic a.outer d.of d.declarators known ls a here h m)
+    stmt_goes (Do s) known ls a l here h m = no_further (then_goes tick_goes (simple_goes known ls a here l a.atomic a.outer s h m))
     stmt_goes (Block ss) known ls a l here h m = no_further (then_goes tick_goes (scoped_goes (stmts_open ss known ls a l here h m)))
     stmt_goes (Print at format format_at es) known ls a l here h m =
-        let may = may_print p (mode_of a) (one_permitted (record { construct = Prints; at = at; atomic = a.atomic; in_any = a.in_any }) (front_permitted (site a Prints at) (exprs_sites es a) m)).0 in
+        let may = may_print p (mode_of a) (one_permitted (record { construct = Prints; at = at; atomic = a.atomic; outer = a.outer; in_any = a.in_any }) (front_permitted (site a Prints at) (exprs_sites es a) m)).0 in
         no_further (then_goes tick_goes (then_goes (may_print_goes may) (on_goes (exprs_go known ls a here es h.0 (back_permitted (site a Prints at) (exprs_sites es a) m))
         (λ vs n. then_goes (pieces_go (pieces format) vs (same_count (length (figures (pieces format))) (count es) (length vs) h.1 n)) (pure_goes Next tt)))))
     stmt_goes (If c s) known ls a l here h m =
@@ -332,12 +346,12 @@ module _ (p : Program) (call : Caller) (called : CallsGo p call) (outer : Option
         (λ v _. if_goes (is_zero v) (scoped_goes (opened (declared_by s') (stmt_goes s' known ls a l here h.2 (back_permitted (expr_sites c a ++ stmt_sites s a) (stmt_sites s' a) m))))
         (scoped_goes (opened (declared_by s) (stmt_goes s known ls a l here h.1 (back_permitted (expr_sites c a) (stmt_sites s a) first)))))))
     stmt_goes (While c s) known ls a l here h m =
-        no_further (then_goes tick_goes (loop_goes l a.atomic (on_goes (expr_goes known ls a here c h.0 (front_permitted (expr_sites c a) (stmt_sites s a) m))
+        no_further (then_goes tick_goes (loop_goes l a.atomic a.outer (on_goes (expr_goes known ls a here c h.0 (front_permitted (expr_sites c a) (stmt_sites s a) m))
         (λ v _. if_goes (is_zero v) (pure_goes (Some Next) tt) (on_goes (scoped_goes (opened (declared_by s) (stmt_goes s known ls a true here h.1 (back_permitted (expr_sites c a) (stmt_sites s a) m))))
-        (after_body_goes l a.atomic (pure_goes None tt)))))))
+        (after_body_goes l a.atomic a.outer (pure_goes None tt)))))))
     stmt_goes (DoWhile s c) known ls a l here h m =
-        no_further (then_goes tick_goes (loop_goes l a.atomic (on_goes (scoped_goes (opened (declared_by s) (stmt_goes s known ls a true here h.0 (front_permitted (stmt_sites s a) (expr_sites c a) m))))
-        (after_body_goes l a.atomic (on_goes (expr_goes known ls a here c h.1 (back_permitted (stmt_sites s a) (expr_sites c a) m)) (λ v _. tested_goes l a.atomic (is_zero v)))))))
+        no_further (then_goes tick_goes (loop_goes l a.atomic a.outer (on_goes (scoped_goes (opened (declared_by s) (stmt_goes s known ls a true here h.0 (front_permitted (stmt_sites s a) (expr_sites c a) m))))
+        (after_body_goes l a.atomic a.outer (on_goes (expr_goes known ls a here c h.1 (back_permitted (stmt_sites s a) (expr_sites c a) m)) (λ v _. tested_goes l a.atomic a.outer (is_zero v)))))))
     stmt_goes (For start c step s) known ls a l here h m =
         let a' = with_names (names_of_start start) a in
         let known' = scope_of_start start known in
@@ -347,40 +361,47 @@ module _ (p : Program) (call : Caller) (called : CallsGo p call) (outer : Option
         let three = front_permitted (begin ++ test ++ further) (stmt_sites s a') m in
         let two = front_permitted (begin ++ test) further three in
         let here' = here_started p known ls a start here in
-        no_further (then_goes tick_goes (scoped_goes (opened (started_by start) (then_goes (start_goes l a.atomic start known ls a here h.0 (front_permitted begin test two))
-        (loop_goes l a.atomic (on_goes (holds_goes known' (ls ++ started_by start) a' here' c h.1 (back_permitted begin test two))
+        no_further (then_goes tick_goes (scoped_goes (opened (started_by start) (then_goes (start_goes l a.atomic a.outer start known ls a here h.0 (front_permitted begin test two))
+        (loop_goes l a.atomic a.outer (on_goes (holds_goes known' (ls ++ started_by start) a' here' c h.1 (back_permitted begin test two))
         (λ more _. if_goes more (on_goes (scoped_goes (opened (declared_by s) (stmt_goes s known' (ls ++ started_by start) a' true here' h.3 (back_permitted (begin ++ test ++ further) (stmt_sites s a') m))))
-        (after_body_goes l a.atomic (stepped_goes known' (ls ++ started_by start) a' here' l a.atomic step h.2 (back_permitted (begin ++ test) further three)))) (pure_goes (Some Next) tt))))))))
+        (after_body_goes l a.atomic a.outer (stepped_goes known' (ls ++ started_by start) a' here' l a.atomic a.outer step h.2 (back_permitted (begin ++ test) further three)))) (pure_goes (Some Next) tt))))))))
     stmt_goes (Break at) known ls a l here h m = no_further (then_goes tick_goes (pure_goes Breaks h))
     stmt_goes (Continue at) known ls a l here h m = no_further (then_goes tick_goes (pure_goes Continues h))
     stmt_goes (Return e at) known ls a l here h m = no_further (then_goes tick_goes (on_goes (return_goes known ls a here e h m) (λ v _. pure_goes (Returns v) tt)))
-    stmt_goes (Transaction Atomic ss at) known ls a l here h m =
-        let a' = in_transaction Atomic a in
-        no_further (then_goes tick_goes (transaction_goes l true a.atomic Atomic (may_begin_atomic (mode_of a))
+    stmt_goes (Transaction (Plain Atomic) ss at) known ls a l here h m =
+        let a' = in_transaction (Plain Atomic) a in
+        no_further (then_goes tick_goes (transaction_goes l true a.atomic a.outer (Plain Atomic) (may_begin_atomic (mode_of a))
         (scoped_goes (stmts_open ss known ls a' l (record { fits = here.fits; named = here.named }) h (back_permitted [] (stmts_sites ss a') m)))))
-    stmt_goes (Transaction Relaxed ss at) known ls a l here h m =
-        let a' = in_transaction Relaxed a in
-        let permit = (one_permitted (record { construct = Relaxes; at = at; atomic = a.atomic; in_any = a.in_any }) (front_permitted (site a Relaxes at) (stmts_sites ss a') m)).0 in
-        no_further (then_goes tick_goes (transaction_goes l a.atomic a.atomic Relaxed (may_begin_relaxed p (mode_of a) permit)
-        (subst (λ w. Goes w ls ls (EndFits l a.atomic) (scoped (stmts p call ss))) (relaxed_inside p outer a.atomic a.in_any permit)
+    stmt_goes (Transaction (Plain Relaxed) ss at) known ls a l here h m =
+        let a' = in_transaction (Plain Relaxed) a in
+        let permit = (one_permitted (record { construct = Relaxes; at = at; atomic = a.atomic; outer = a.outer; in_any = a.in_any }) (front_permitted (site a Relaxes at) (stmts_sites ss a') m)).0 in
+        no_further (then_goes tick_goes (transaction_goes l a.atomic a.atomic a.outer (Plain Relaxed) (may_begin_relaxed p (mode_of a) permit)
+        (subst (λ w. Goes w ls ls (EndFits l a.atomic a.outer) (scoped (stmts p call ss))) (relaxed_inside p outer a.atomic a.in_any permit)
         (scoped_goes (stmts_open ss known ls a' l (record { fits = here.fits; named = here.named }) h (back_permitted (site a Relaxes at) (stmts_sites ss a') m))))))
+    stmt_goes (Transaction Outer ss at) known ls a l here h m =
+        let a' = in_transaction Outer a in
+        no_further (then_goes tick_goes (transaction_goes l true a.atomic a.outer Outer (may_begin_atomic (mode_of a))
+        (scoped_goes (stmts_open ss known ls a' l (record { fits = here.fits; named = here.named }) h (back_permitted (site a OpensOuter at) (stmts_sites ss a') m)))))
     stmt_goes (Cancel at) known ls a l here h m =
-        no_further (then_goes tick_goes (pure_goes Cancels ((one_permitted (record { construct = CancelConstruct; at = at; atomic = a.atomic; in_any = a.in_any }) m).1 refl)))
+        no_further (then_goes tick_goes (pure_goes Cancels ((one_permitted (record { construct = CancelConstruct; at = at; atomic = a.atomic; outer = a.outer; in_any = a.in_any }) m).1 refl)))
+    stmt_goes (CancelOuter at) known ls a l here h m =
+        no_further (then_goes tick_goes (pure_goes CancelsOuter ((one_permitted (record { construct = OuterCancelConstruct; at = at; atomic = a.atomic; outer = a.outer; in_any = a.in_any }) m).2 refl)))
 
-    stmts_open : (ss : Stmts) (known : Scope) (ls : Shapes) (a : Around) (l : Bool) → Here p known ls a → TypedStmts ss known l → AllPermitted p outer (stmts_sites ss a) → Opens (mode_of a) ls (EndFits l a.atomic) (stmts p call ss)
+    stmts_open : (ss : Stmts) (known : Scope) (ls : Shapes) (a : Around) (l : Bool) → Here p known ls a → TypedStmts ss known l → AllPermitted p outer (stmts_sites ss a) → Opens (mode_of a) ls (EndFits l a.atomic a.outer) (stmts p call ss)
     stmts_open Tree.[] known ls a l here h m = opened [] (no_further (pure_goes Next tt))
     stmts_open (Tree.◌∷◌ s ss) known ls a l here h m =
         let a' = with_names (names_of s) a in
-        next_opens l a.atomic (declared_by s) (stmt_goes s known ls a l here h.0 (front_permitted (stmt_sites s a) (stmts_sites ss a') m))
+        next_opens l a.atomic a.outer (declared_by s) (stmt_goes s known ls a l here h.0 (front_permitted (stmt_sites s a) (stmts_sites ss a') m))
         (stmts_open ss (scope_after s known) (ls ++ declared_by s) a' l (here_after p known ls a s here) h.1 (back_permitted (stmt_sites s a) (stmts_sites ss a') m))
 
 -- a function that is called goes well: its body is typed, and all its sites are permitted
-result_goes : {w : Option Mode} {ls : Shapes} (t : Option Scalar) (end : End) → EndFits false false end → Goes w ls ls Any (result_of t end)
+result_goes : {w : Option Mode} {ls : Shapes} (t : Option Scalar) (end : End) → EndFits false false false end → Goes w ls ls Any (result_of t end)
 result_goes t Next h = pure_goes (converted (unwrap_or t Int) (flag false)) tt
 result_goes t Breaks h = absurd (cc)
 result_goes t Continues h = absurd (cc)
 result_goes t (Returns v) h = pure_goes (converted (unwrap_or t Int) v) tt
 result_goes t Cancels h = absurd (cc)
+result_goes t CancelsOuter h = absurd (cc)
 
 abbrev takes_of : Known → List Scalar
 takes_of (Callable r ts) = ts
@@ -390,11 +411,11 @@ takes_as_many : (d : Function) (result : Option Scalar) (takes : List Scalar) (n
 takes_as_many d result takes n e h = h ∙ ap (λ k. length (takes_of k)) (sym e) ∙ length-map d.parameters (λ q. q.of)
 
 module _ (p : Program) (accepted : IsAccepted p) where
-  body_goes : (call : Caller) → CallsGo p call → (w : Option Mode) (x : List ℕ) (d : Function × Stmts) (vs : List Value) (mine : List Local) → definition_of p x ≡ Some d → entered d.0.parameters vs ≡ Some mine → Permits p w (Calls x) → (ms : Shapes) → map shape mine ≡ ms → Opens w ms (EndFits false false) (stmts p call d.1)
+  body_goes : (call : Caller) → CallsGo p call → (w : Option Mode) (x : List ℕ) (d : Function × Stmts) (vs : List Value) (mine : List Local) → definition_of p x ≡ Some d → entered d.0.parameters vs ≡ Some mine → Permits p w (Calls x) → (ms : Shapes) → map shape mine ≡ ms → Opens w ms (EndFits false false false) (stmts p call d.1)
   body_goes call called w x d vs mine e g h ms same =
       let typed = bodies_are_typed p accepted.typed x d e in
       let known = body_scope typed.earlier d.0 in
-      let around : Around = record { locals = parameter_names d.0.parameters; atomic = false; in_any = false } in
+      let around : Around = record { locals = parameter_names d.0.parameters; atomic = false; outer = false; in_any = false } in
       stmts_open p call called w d.1 known ms around false
       (record {
         fits = subst (λ os. Agrees known (scope_in p os)) same (shape_agrees p known mine (typed.fits vs mine g));

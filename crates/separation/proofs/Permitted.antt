@@ -5,8 +5,8 @@ use Rattle.std.proofs.lemmas.List.Elements.{All-contains, Contains-append_left, 
 use Rattle.syntax.specs.declared.tree.Mode.{Mode}
 use Rattle.syntax.specs.declared.tree.Mode.TheVariants.{Atomic, Relaxed}
 use Rattle.syntax.specs.Tree.{Program}
-use Rattle.safety.specs.Sites.{Construct, Prints, Relaxes, Cancels, Calls, Uses, Site, sites_of}
-use Rattle.safety.specs.Safe.{IsSafeConstruct, IsSafe, KeepsAtomic}
+use Rattle.safety.specs.Sites.{Construct, Prints, Relaxes, OpensOuter, Cancels, CancelsOuter, Calls, Uses, Site, sites_of}
+use Rattle.safety.specs.Safe.{IsSafeConstruct, IsSafe, KeepsAtomic, KeepsOuter}
 use Rattle.separation.specs.Touching.{IsAccess, IsTouching, IsAccepted}
 use Rattle.safety.proofs.Greatest.{the_law as safe_is_safe_set}
 use Rattle.separation.proofs.Least.{least_is_touching}
@@ -18,7 +18,9 @@ PermitsOutside p (Uses x) = ⊥
 PermitsOutside p (Calls f) = IsTouching p f → ⊥
 PermitsOutside p Prints = Unit {0}
 PermitsOutside p Relaxes = Unit {0}
+PermitsOutside p OpensOuter = Unit {0}
 PermitsOutside p Cancels = Unit {0}
+PermitsOutside p CancelsOuter = Unit {0}
 
 -- and inside an atomic one nothing is unsafe
 abbrev pub Permits : Program → Option Mode → Construct → Type 0
@@ -37,7 +39,10 @@ mode_in outer false true = inside_of outer
 mode_in outer false false = outer
 
 abbrev pub IsPermitted : Program → Option Mode → Site → Type 0
-IsPermitted p outer m = Permits p (mode_in outer m.atomic m.in_any) m.construct × (m.construct ≡ Cancels → IsTrue m.atomic)
+IsPermitted p outer m =
+    Permits p (mode_in outer m.atomic m.in_any) m.construct
+    × (m.construct ≡ Cancels → IsTrue m.atomic)
+    × (m.construct ≡ CancelsOuter → IsTrue m.outer)
 
 pub record AllPermitted (p : Program) (outer : Option Mode) (ms : List Site) : Type 0 where
   pub each : (m : Site) → Contains ms m → IsPermitted p outer m
@@ -85,13 +90,18 @@ module _ (p : Program) (accepted : IsAccepted p) where
   keeps : (f : List ℕ) (m : Site) → Contains (sites_of p f) m → KeepsAtomic p m
   keeps f m c = All-contains (KeepsAtomic p) (sites_of p f) m (accepted.safe.atomic f) c
 
+  keeps_outer : (f : List ℕ) (m : Site) → Contains (sites_of p f) m → KeepsOuter p m
+  keeps_outer f m c = All-contains (KeepsOuter p) (sites_of p f) m (accepted.safe.outer f) c
+
   -- outside transactions
   bare : (f : List ℕ) → (IsTouching p f → ⊥) → (m : Construct) (at : Site) → at.construct ≡ m → at.in_any ≡ false → Contains (sites_of p f) at → PermitsOutside p m
   bare f h (Uses x) at e g c = h (least_is_touching p f at c (g, subst (λ k. IsAccess (IsTouching p) k) (sym e) tt))
   bare f h (Calls x) at e g c = λ t. h (least_is_touching p f at c (g, subst (λ k. IsAccess (IsTouching p) k) (sym e) t))
   bare f h Prints at e g c = tt
   bare f h Relaxes at e g c = tt
+  bare f h OpensOuter at e g c = tt
   bare f h Cancels at e g c = tt
+  bare f h CancelsOuter at e g c = tt
 
   permits : (outer : Option Mode) (f : List ℕ) → Permits p outer (Calls f) → (m : Site) → Contains (sites_of p f) m → (atomic in_any : Bool) → m.atomic ≡ atomic → m.in_any ≡ in_any → Permits p (mode_in outer atomic in_any) m.construct
   permits outer f h m c true in_any e g = (keeps f m c).0 e
@@ -103,7 +113,7 @@ module _ (p : Program) (accepted : IsAccepted p) where
   permits (Some Atomic) f h m c false false e g = All-contains (λ k. IsSafeConstruct (IsSafe p) k.construct) (sites_of p f) m (safe_is_safe_set p f h).1 c
 
   pub all_permitted : (outer : Option Mode) (f : List ℕ) → Permits p outer (Calls f) → AllPermitted p outer (sites_of p f)
-  all_permitted outer f h = record { each = λ m c. (permits outer f h m c m.atomic m.in_any refl refl, λ e. (keeps f m c).1 e) }
+  all_permitted outer f h = record { each = λ m c. (permits outer f h m c m.atomic m.in_any refl refl, (keeps f m c).1, (keeps_outer f m c).1) }
 
   pub worker_permitted : Permits p None (Calls (codes "worker"))
   worker_permitted = accepted.separate

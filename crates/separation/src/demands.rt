@@ -30,7 +30,11 @@ fn fault_at<'a, A: Allocator + Copy>(
             let touches = touching.contains(f);
             unless_met(site.in_any || !touches, Violation::BareCall(site.span))
         }
-        Construct::Prints | Construct::Relaxes | Construct::Cancels => None,
+        Construct::Prints
+        | Construct::Relaxes
+        | Construct::OpensOuter
+        | Construct::Cancels
+        | Construct::CancelsOuter => None,
     }
 }
 

@@ -38,7 +38,11 @@ fn add_site<'a, A: Allocator + Copy>(
             })?;
             Ok(())
         }
-        Construct::Prints | Construct::Relaxes | Construct::Cancels => Ok(()),
+        Construct::Prints
+        | Construct::Relaxes
+        | Construct::OpensOuter
+        | Construct::Cancels
+        | Construct::CancelsOuter => Ok(()),
     }
 }
 

@@ -2,11 +2,13 @@
 use Rattle.std.proofs.Common.{refl, sym, ap, ◌∙◌, ℕ, zero, suc, List, [], ◌∷◌, ◌++◌, length-append, append_assoc, append-nil, Option, Some, None, arith}
 use Rattle.syntax.specs.declared.tree.Mode.{Mode}
 use Rattle.syntax.specs.declared.tree.Mode.TheVariants.{Atomic, Relaxed}
+use Rattle.syntax.specs.declared.tree.Kind.{Kind}
+use Rattle.syntax.specs.declared.tree.Kind.TheVariants.{Plain, Outer}
 use Rattle.syntax.specs.declared.numbers.Halt.TheVariants.{Trapped}
 use Rattle.syntax.specs.Names.{Local}
 use Rattle.syntax.specs.Behaviours.{Memory}
 use Rattle.syntax.specs.Actions.{Context, Outside, Inside, State, Answer, Gives, Stops, Action, stop, go_on, ◌>>=◌, spend, tick, load_at, store, may_print_at, write}
-use Rattle.syntax.specs.Meaning.{End, after_turn, turns, Left, left_by, close_inner, close, enter}
+use Rattle.syntax.specs.Meaning.{End, after_turn, turns, Left, left_by, close_inner, close, enter, mode_of, begin_at}
 use Rattle.syntax.specs.Laws.{WhereGiven, StaysIn, StaysInContext}
 use Rattle.syntax.proofs.Kept.{IsAlwaysKept, each_expr_holds, each_stmt_holds}
 
@@ -70,21 +72,26 @@ leave_given : (n : ℕ) (now : State) (m : Memory) (founds lefts : List Memory) 
 leave_given zero now m founds lefts left = tt
 leave_given (suc n) now m founds lefts left = (m ∷ [], left.memory ∷ [], refl, refl, refl)
 
-close_given : (m : Memory) (founds lefts : List Memory) (mine : List Local) (r : Answer End) → Given (Outside (m ∷ founds) lefts) (close founds lefts mine m r)
-close_given m founds lefts mine (Gives end now) = leave_given now.ticks now m founds lefts (left_by mine m end now)
-close_given m founds lefts mine (Stops (Trapped k) now) = tt
-close_given m founds lefts mine r = tt
+close_given : (kind : Kind) (m : Memory) (founds lefts : List Memory) (mine : List Local) (r : Answer End) → Given (Outside (m ∷ founds) lefts) (close kind founds lefts mine m r)
+close_given kind m founds lefts mine (Gives end now) = leave_given now.ticks now m founds lefts (left_by kind mine m end now)
+close_given kind m founds lefts mine (Stops (Trapped k) now) = tt
+close_given kind m founds lefts mine r = tt
 
-close_inner_given : (outer : Mode) (m : Memory) (mine : List Local) (r : Answer End) → Given (Inside outer m) (close_inner outer mine m r)
-close_inner_given outer m mine (Gives end now) = refl
-close_inner_given outer m mine (Stops why now) = tt
+close_inner_given : (outer : Mode) (kind : Kind) (m : Memory) (mine : List Local) (r : Answer End) → Given (Inside outer m) (close_inner outer kind mine m r)
+close_inner_given outer kind m mine (Gives end now) = refl
+close_inner_given outer kind m mine (Stops why now) = tt
 
-enter_given : (mode : Mode) (run : Action End) → (p : Context) (n : ℕ) (ls : List Local) (t : List ℕ) → Given p (enter p mode run (record { ticks = n; locals = ls; context = p; text = t }))
-enter_given mode run (Outside [] lefts) n ls t = tt
-enter_given mode run (Outside (m ∷ founds) lefts) n ls t = close_given m founds lefts ls (run (record { ticks = n; locals = ls; context = Inside mode m; text = t }))
-enter_given mode run (Inside Relaxed m) n ls t = close_inner_given Relaxed m ls (run (record { ticks = n; locals = ls; context = Inside mode m; text = t }))
-enter_given Atomic run (Inside Atomic m) n ls t = close_inner_given Atomic m ls (run (record { ticks = n; locals = ls; context = Inside Atomic m; text = t }))
-enter_given Relaxed run (Inside Atomic m) n ls t = tt
+begin_given : (p : Context) (s : State) → Given s.context (begin_at p s)
+begin_given (Outside founds lefts) s = spend_given s.ticks s
+begin_given (Inside mode m) s = stays_refl s.context
+
+enter_given : (kind : Kind) (run : Action End) → (p : Context) (n : ℕ) (ls : List Local) (t : List ℕ) → Given p (enter p kind run (record { ticks = n; locals = ls; context = p; text = t }))
+enter_given kind run (Outside [] lefts) n ls t = tt
+enter_given kind run (Outside (m ∷ founds) lefts) n ls t = close_given kind m founds lefts ls (run (record { ticks = n; locals = ls; context = Inside (mode_of kind) m; text = t }))
+enter_given kind run (Inside Relaxed m) n ls t = close_inner_given Relaxed kind m ls (run (record { ticks = n; locals = ls; context = Inside (mode_of kind) m; text = t }))
+enter_given (Plain Atomic) run (Inside Atomic m) n ls t = close_inner_given Atomic (Plain Atomic) m ls (run (record { ticks = n; locals = ls; context = Inside Atomic m; text = t }))
+enter_given Outer run (Inside Atomic m) n ls t = close_inner_given Atomic Outer m ls (run (record { ticks = n; locals = ls; context = Inside Atomic m; text = t }))
+enter_given (Plain Relaxed) run (Inside Atomic m) n ls t = tt
 
 pub stays_kept : IsAlwaysKept (λ A run. Stays run)
 stays_kept = record {
@@ -100,7 +107,8 @@ stays_kept = record {
   may_print_holds = record { stays = λ s. may_print_given s.context s };
   print_piece_holds = λ text shown. record { stays = λ s. on_given s.context (tick s) (λ _. write text) (spend_given s.ticks s) (λ _ u. stays_refl u.context) };
   loop_holds = λ h. record { stays = λ s. turns_given _ h s.ticks s };
-  transaction_holds = λ mode h. record { stays = λ s. enter_given mode _ s.context s.ticks s.locals s.text };
+  transaction_holds = λ kind h. record { stays = λ s. enter_given kind _ s.context s.ticks s.locals s.text };
+  begin_value_holds = record { stays = λ s. begin_given s.context s };
 }
 
 pub stays_in_context : StaysInContext

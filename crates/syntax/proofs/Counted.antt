@@ -2,12 +2,14 @@
 use Rattle.std.proofs.Common.{◌≡◌, ℕ, zero, suc, ◌+◌, List, [], ◌∷◌, ◌++◌, ◌≤◌, length, length-append, Option, Some, None, refl, ◌∙◌, arith}
 use Rattle.syntax.specs.declared.tree.Mode.{Mode}
 use Rattle.syntax.specs.declared.tree.Mode.TheVariants.{Atomic, Relaxed}
+use Rattle.syntax.specs.declared.tree.Kind.{Kind}
+use Rattle.syntax.specs.declared.tree.Kind.TheVariants.{Plain, Outer}
 use Rattle.syntax.specs.declared.numbers.Halt.TheVariants.{Trapped, Wants, Spent, Astray}
 use Rattle.syntax.specs.Tree.{Program}
 use Rattle.syntax.specs.Names.{Local}
 use Rattle.syntax.specs.Behaviours.{Memory}
 use Rattle.syntax.specs.Actions.{Context, Outside, Inside, State, Answer, Gives, Stops, Action, stop, go_on, ◌>>=◌, spend, tick, load_at, store, may_print_at, write}
-use Rattle.syntax.specs.Meaning.{End, after_turn, turns, Left, left_by, close_inner, close, enter}
+use Rattle.syntax.specs.Meaning.{End, after_turn, turns, Left, left_by, close_inner, close, enter, mode_of, begin_at}
 use Rattle.syntax.specs.Actions.{lefts_in}
 use Rattle.syntax.specs.Behaviours.{Stopped}
 use Rattle.syntax.specs.Laws.{IsPieceOf, LeftAsManyAsFound, NeverMoreLeft}
@@ -116,23 +118,28 @@ leave_counted : (n : ℕ) (now : State) (m : Memory) (founds lefts : List Memory
 leave_counted zero now m founds lefts left = omega arith
 leave_counted (suc n) now m founds lefts left = omega (arith, length-append lefts (left.memory ∷ []))
 
-close_counted : (mode : Mode) (m : Memory) (founds lefts : List Memory) (mine : List Local) (r : Answer End) → Counted (Inside mode m) r → Counted (Outside (m ∷ founds) lefts) (close founds lefts mine m r)
-close_counted mode m founds lefts mine (Gives end now) c = leave_counted now.ticks now m founds lefts (left_by mine m end now)
-close_counted mode m founds lefts mine (Stops (Trapped k) now) c = omega (arith, length-append lefts (m ∷ []))
-close_counted mode m founds lefts mine (Stops Wants now) c = absurd c
-close_counted mode m founds lefts mine (Stops Spent now) c = omega arith
-close_counted mode m founds lefts mine (Stops Astray now) c = omega arith
+close_counted : (kind : Kind) (m : Memory) (founds lefts : List Memory) (mine : List Local) (r : Answer End) → Counted (Inside (mode_of kind) m) r → Counted (Outside (m ∷ founds) lefts) (close kind founds lefts mine m r)
+close_counted kind m founds lefts mine (Gives end now) c = leave_counted now.ticks now m founds lefts (left_by kind mine m end now)
+close_counted kind m founds lefts mine (Stops (Trapped k) now) c = omega (arith, length-append lefts (m ∷ []))
+close_counted kind m founds lefts mine (Stops Wants now) c = absurd c
+close_counted kind m founds lefts mine (Stops Spent now) c = omega arith
+close_counted kind m founds lefts mine (Stops Astray now) c = omega arith
 
-close_inner_counted : (outer mode : Mode) (old m : Memory) (mine : List Local) (r : Answer End) → Counted (Inside mode m) r → Counted (Inside outer old) (close_inner outer mine m r)
-close_inner_counted outer mode old m mine (Stops Wants now) c = c
-close_inner_counted outer mode old m mine r c = tt
+close_inner_counted : (outer : Mode) (kind : Kind) (old m : Memory) (mine : List Local) (r : Answer End) → Counted (Inside (mode_of kind) m) r → Counted (Inside outer old) (close_inner outer kind mine m r)
+close_inner_counted outer kind old m mine (Stops Wants now) c = c
+close_inner_counted outer kind old m mine r c = tt
 
-enter_counted : (mode : Mode) (run : Action End) → IsCounted run → (p : Context) (n : ℕ) (ls : List Local) (t : List ℕ) → Counted p (enter p mode run (record { ticks = n; locals = ls; context = p; text = t }))
-enter_counted mode run h (Outside [] lefts) n ls t = omega arith
-enter_counted mode run h (Outside (m ∷ founds) lefts) n ls t = close_counted mode m founds lefts ls _ (h.counts (record { ticks = n; locals = ls; context = Inside mode m; text = t }))
-enter_counted mode run h (Inside Relaxed m) n ls t = close_inner_counted Relaxed mode m m ls _ (h.counts (record { ticks = n; locals = ls; context = Inside mode m; text = t }))
-enter_counted Atomic run h (Inside Atomic m) n ls t = close_inner_counted Atomic Atomic m m ls _ (h.counts (record { ticks = n; locals = ls; context = Inside Atomic m; text = t }))
-enter_counted Relaxed run h (Inside Atomic m) n ls t = tt
+enter_counted : (kind : Kind) (run : Action End) → IsCounted run → (p : Context) (n : ℕ) (ls : List Local) (t : List ℕ) → Counted p (enter p kind run (record { ticks = n; locals = ls; context = p; text = t }))
+enter_counted kind run h (Outside [] lefts) n ls t = omega arith
+enter_counted kind run h (Outside (m ∷ founds) lefts) n ls t = close_counted kind m founds lefts ls _ (h.counts (record { ticks = n; locals = ls; context = Inside (mode_of kind) m; text = t }))
+enter_counted kind run h (Inside Relaxed m) n ls t = close_inner_counted Relaxed kind m m ls _ (h.counts (record { ticks = n; locals = ls; context = Inside (mode_of kind) m; text = t }))
+enter_counted (Plain Atomic) run h (Inside Atomic m) n ls t = close_inner_counted Atomic (Plain Atomic) m m ls _ (h.counts (record { ticks = n; locals = ls; context = Inside Atomic m; text = t }))
+enter_counted Outer run h (Inside Atomic m) n ls t = close_inner_counted Atomic Outer m m ls _ (h.counts (record { ticks = n; locals = ls; context = Inside Atomic m; text = t }))
+enter_counted (Plain Relaxed) run h (Inside Atomic m) n ls t = tt
+
+begin_counted : (p : Context) (s : State) → Counted s.context (begin_at p s)
+begin_counted (Outside f l) s = spend_counted s.ticks s
+begin_counted (Inside mode m) s = keeps_refl s.context
 
 counted_kept : (IsPiece : List ℕ → Type 0) → IsKept IsPiece (λ A run. IsCounted run)
 counted_kept IsPiece = record {
@@ -148,7 +155,8 @@ counted_kept IsPiece = record {
   may_print_holds = record { counts = λ s. may_print_counted s.context s };
   print_piece_holds = λ text shown. record { counts = λ s. on_counted s.context (tick s) (λ _. write text) (spend_counted s.ticks s) (λ _ u. keeps_refl u.context) };
   loop_holds = λ h. record { counts = λ s. turns_counted _ h s.ticks s };
-  transaction_holds = λ mode h. record { counts = λ s. enter_counted mode _ h s.context s.ticks s.locals s.text };
+  transaction_holds = λ kind h. record { counts = λ s. enter_counted kind _ h s.context s.ticks s.locals s.text };
+  begin_value_holds = record { counts = λ s. begin_counted s.context s };
 }
 
 wants_counted : (founds : List Memory) (r : Answer (Unit {0})) → Counted (Outside founds []) r → (outcome_of r).end ≡ Stopped Wants → length (outcome_of r).lefts ≡ length founds

@@ -6,17 +6,19 @@ use Rattle.lex.specs.declared.token.Scalar.{Scalar}
 use Rattle.syntax.specs.declared.tree.BinaryOp.{BinaryOp}
 use Rattle.syntax.specs.declared.tree.Mode.{Mode}
 use Rattle.syntax.specs.declared.tree.Mode.TheVariants.{Atomic, Relaxed}
+use Rattle.syntax.specs.declared.tree.Kind.{Kind}
+use Rattle.syntax.specs.declared.tree.Kind.TheVariants.{Plain, Outer}
 use Rattle.syntax.specs.declared.numbers.Halt.{Halt}
 use Rattle.syntax.specs.declared.numbers.Halt.TheVariants.{Trapped, Spent, Astray}
 use Rattle.syntax.specs.declared.numbers.Value.{Value}
-use Rattle.syntax.specs.Tree.{Expr, Variable, Element, Simple, Evaluate, Assign, Adjust, Declarator, Stmt, Empty, Declare, Do, Block, Print, If, IfElse, While, DoWhile, For, Break, Continue, Return, Transaction, Cancel, Program}
+use Rattle.syntax.specs.Tree.{Expr, Variable, Element, Simple, Evaluate, Assign, Adjust, Declarator, Stmt, Empty, Declare, Do, Block, Print, If, IfElse, While, DoWhile, For, Break, Continue, Return, Transaction, Cancel, CancelOuter, Program}
 use Rattle.syntax.specs.Names.{Local}
 use Rattle.syntax.specs.Formats.{Piece, Literal, Figure, pieces}
 use Rattle.syntax.specs.Types.{Scope, running_scope}
 use Rattle.syntax.specs.Typing.{scope_after}
 use Rattle.syntax.specs.Behaviours.{Memory}
 use Rattle.syntax.specs.Actions.{Context, Outside, Inside, State, Answer, Gives, Stops, Action, pure, stop, go_on, ◌>>=◌, ◌>>◌, spend, tick, store_at, may_print_at, may_print, print_piece}
-use Rattle.syntax.specs.Meaning.{Spot, InLocal, InCell, assign, print_pieces, End, Next, Breaks, Continues, Returns, Cancels, scoped, after_turn, turns, loop, after_body, Left, left_by, close_inner, close, enter, transaction, op_of, int_one, Caller, expr, spot, changed, assigned, simple, first_value, declare, return_value, stmt, calls}
+use Rattle.syntax.specs.Meaning.{Spot, InLocal, InCell, assign, print_pieces, End, Next, Breaks, Continues, Returns, Cancels, CancelsOuter, mode_of, scoped, after_turn, turns, loop, after_body, Left, undoes, left_or, left_by, close_inner, close, enter, transaction, op_of, int_one, Caller, expr, spot, changed, assigned, simple, first_value, declare, return_value, stmt, calls}
 use Rattle.syntax.specs.Laws.{WhereGiven, shape, BeginsWithLocals}
 use Rattle.syntax.specs.ScopeLaws.{LocalsExact, ScopeFits, Agrees, declared_by}
 use Rattle.syntax.proofs.Expressions.{LeavesLocals, named_holds, element_holds, expr_holds, exprs_holds, fetch_holds, or_trap_holds, calls_holds}
@@ -118,6 +120,7 @@ after_body_same h Breaks = pure_same (Some Next)
 after_body_same h Continues = h
 after_body_same h (Returns v) = pure_same (Some (Returns v))
 after_body_same h Cancels = pure_same (Some Cancels)
+after_body_same h CancelsOuter = pure_same (Some CancelsOuter)
 
 after_turn_same : {rest : Action End} → KeepsShape rest → (o : Option End) → KeepsShape (after_turn rest o)
 after_turn_same h None = h
@@ -130,36 +133,34 @@ turns_same h (suc n) = then_same tick_same (on_same h (after_turn_same (turns_sa
 loop_same : {turn : Action (Option End)} → KeepsShape turn → KeepsShape (loop turn)
 loop_same h = record { keeps = λ s. (turns_same h s.ticks).keeps s }
 
--- a transaction that is cancelled puts the locals back, and another leaves its body's
-left_same : (mine : List Local) (found : Memory) (end : End) (now : State) → map shape now.locals ≡ map shape mine → map shape (left_by mine found end now).locals ≡ map shape mine
-left_same mine found Cancels now h = refl
-left_same mine found Next now h = h
-left_same mine found Breaks now h = h
-left_same mine found Continues now h = h
-left_same mine found (Returns v) now h = h
+-- a transaction that is undone puts the locals back, and another leaves its body's
+left_same : (undone : Bool) (mine : List Local) (found : Memory) (end : End) (now : State) → map shape now.locals ≡ map shape mine → map shape (left_or undone mine found end now).locals ≡ map shape mine
+left_same true mine found end now h = refl
+left_same false mine found end now h = h
 
 leave_same : (n : ℕ) (mine : List Local) (founds lefts : List Memory) (left : Left) (now : State) → map shape left.locals ≡ map shape mine → WhereGiven (go_on (spend n (record now { context = Outside founds lefts })) (λ u then_. Gives left.end (record then_ { locals = left.locals; context = Outside founds (lefts ++ left.memory ∷ []) }))) (λ a last. map shape last.locals ≡ map shape mine)
 leave_same zero mine founds lefts left now h = tt
 leave_same (suc n) mine founds lefts left now h = h
 
-close_same : (founds lefts : List Memory) (mine : List Local) (found : Memory) (r : Answer End) → WhereGiven r (λ a now. map shape now.locals ≡ map shape mine) → WhereGiven (close founds lefts mine found r) (λ a now. map shape now.locals ≡ map shape mine)
-close_same founds lefts mine found (Gives end now) h = leave_same now.ticks mine founds lefts (left_by mine found end now) now (left_same mine found end now h)
-close_same founds lefts mine found (Stops (Trapped k) now) h = tt
-close_same founds lefts mine found r h = tt
+close_same : (kind : Kind) (founds lefts : List Memory) (mine : List Local) (found : Memory) (r : Answer End) → WhereGiven r (λ a now. map shape now.locals ≡ map shape mine) → WhereGiven (close kind founds lefts mine found r) (λ a now. map shape now.locals ≡ map shape mine)
+close_same kind founds lefts mine found (Gives end now) h = leave_same now.ticks mine founds lefts (left_by kind mine found end now) now (left_same (undoes end kind) mine found end now h)
+close_same kind founds lefts mine found (Stops (Trapped k) now) h = tt
+close_same kind founds lefts mine found r h = tt
 
-inner_same : (outer : Mode) (mine : List Local) (found : Memory) (r : Answer End) → WhereGiven r (λ a now. map shape now.locals ≡ map shape mine) → WhereGiven (close_inner outer mine found r) (λ a now. map shape now.locals ≡ map shape mine)
-inner_same outer mine found (Gives end now) h = left_same mine found end now h
-inner_same outer mine found (Stops why now) h = tt
+inner_same : (outer : Mode) (kind : Kind) (mine : List Local) (found : Memory) (r : Answer End) → WhereGiven r (λ a now. map shape now.locals ≡ map shape mine) → WhereGiven (close_inner outer kind mine found r) (λ a now. map shape now.locals ≡ map shape mine)
+inner_same outer kind mine found (Gives end now) h = left_same (undoes end kind) mine found end now h
+inner_same outer kind mine found (Stops why now) h = tt
 
-enter_same : (run : Action End) → KeepsShape run → (mode : Mode) (p : Context) (s : State) → WhereGiven (enter p mode run s) (λ a now. map shape now.locals ≡ map shape s.locals)
-enter_same run h mode (Outside [] lefts) s = tt
-enter_same run h mode (Outside (m ∷ founds) lefts) s = close_same founds lefts s.locals m (run (record s { context = Inside mode m })) (h.keeps (record s { context = Inside mode m }))
-enter_same run h mode (Inside Relaxed m) s = inner_same Relaxed s.locals m (run (record s { context = Inside mode m })) (h.keeps (record s { context = Inside mode m }))
-enter_same run h Atomic (Inside Atomic m) s = inner_same Atomic s.locals m (run (record s { context = Inside Atomic m })) (h.keeps (record s { context = Inside Atomic m }))
-enter_same run h Relaxed (Inside Atomic m) s = tt
+enter_same : (run : Action End) → KeepsShape run → (kind : Kind) (p : Context) (s : State) → WhereGiven (enter p kind run s) (λ a now. map shape now.locals ≡ map shape s.locals)
+enter_same run h kind (Outside [] lefts) s = tt
+enter_same run h kind (Outside (m ∷ founds) lefts) s = close_same kind founds lefts s.locals m (run (record s { context = Inside (mode_of kind) m })) (h.keeps (record s { context = Inside (mode_of kind) m }))
+enter_same run h kind (Inside Relaxed m) s = inner_same Relaxed kind s.locals m (run (record s { context = Inside (mode_of kind) m })) (h.keeps (record s { context = Inside (mode_of kind) m }))
+enter_same run h (Plain Atomic) (Inside Atomic m) s = inner_same Atomic (Plain Atomic) s.locals m (run (record s { context = Inside Atomic m })) (h.keeps (record s { context = Inside Atomic m }))
+enter_same run h Outer (Inside Atomic m) s = inner_same Atomic Outer s.locals m (run (record s { context = Inside Atomic m })) (h.keeps (record s { context = Inside Atomic m }))
+enter_same run h (Plain Relaxed) (Inside Atomic m) s = tt
 
-transaction_same : (mode : Mode) {run : Action End} → KeepsShape run → KeepsShape (transaction mode run)
-transaction_same mode {run} h = record { keeps = λ s. enter_same run h mode s.context s }
+transaction_same : (kind : Kind) {run : Action End} → KeepsShape run → KeepsShape (transaction kind run)
+transaction_same kind {run} h = record { keeps = λ s. enter_same run h kind s.context s }
 
 module _ (p : Program) (call : Caller) (h : (x : List ℕ) (vs : List Value) → LeavesLocals (call x vs)) where
   expr_same : (e : Expr) → KeepsShape (expr p call e)
@@ -236,8 +237,9 @@ module _ (p : Program) (call : Caller) (h : (x : List ℕ) (vs : List Value) →
   stmt_adds (Break at) = exact [] refl (then_same tick_same (pure_same Breaks))
   stmt_adds (Continue at) = exact [] refl (then_same tick_same (pure_same Continues))
   stmt_adds (Return e at) = exact [] refl (then_same tick_same (on_same (return_same e) (λ v. pure_same _)))
-  stmt_adds (Transaction mode ss at) = exact [] refl (then_same tick_same (transaction_same mode (scoped_same (stmts_older p call h ss))))
+  stmt_adds (Transaction kind ss at) = exact [] refl (then_same tick_same (transaction_same kind (scoped_same (stmts_older p call h ss))))
   stmt_adds (Cancel at) = exact [] refl (then_same tick_same (pure_same Cancels))
+  stmt_adds (CancelOuter at) = exact [] refl (then_same tick_same (pure_same CancelsOuter))
 
 pub locals_exact : LocalsExact
 locals_exact p frames st s = stmt_adds p (calls p frames) (calls_holds p frames) st s
@@ -263,8 +265,9 @@ after_agrees p st known ls ms g e = agrees_by_shape p (scope_after st known) ms 
     behind (Break at) h = none h
     behind (Continue at) h = none h
     behind (Return e at) h = none h
-    behind (Transaction mode ss at) h = none h
+    behind (Transaction kind ss at) h = none h
     behind (Cancel at) h = none h
+    behind (CancelOuter at) h = none h
 
 pub scope_fits : ScopeFits
 scope_fits p frames st s known g = fit (stmt p (calls p frames) st s) (locals_exact p frames st s)

@@ -7,7 +7,7 @@ use Rattle.syntax.specs.declared.tree.UnaryOp.{UnaryOp}
 use Rattle.syntax.specs.declared.tree.UnaryOp.TheVariants.{Negate, Keep, Not, Complement}
 use Rattle.syntax.specs.declared.tree.BinaryOp.{BinaryOp}
 use Rattle.syntax.specs.declared.tree.BinaryOp.TheVariants.{ShiftLeft, ShiftRight}
-use Rattle.syntax.specs.Tree.{Expr, Variable, Constant, Element, Call, Parenthesized, Cast, Unary, Binary, Logical, Conditional, Declarator, Program}
+use Rattle.syntax.specs.Tree.{Expr, Variable, Constant, Element, Call, Parenthesized, Cast, Unary, Binary, Logical, Conditional, InTransaction, Declarator, Program}
 use Rattle.syntax.specs.Names.{Local, newest_from}
 use Rattle.syntax.specs.Types.{Known, Unknown, Number, Array, Callable, Scope, file_scope, with_number, number_type, element_type, call_type, common_of, unary_type, binary_type, type_of, running_scope}
 use Rattle.syntax.specs.Typing.{is_unknown, may_be_number, may_be_array, may_be_function, gives_nothing, is_void, knows}
@@ -28,6 +28,7 @@ module _ (known other : Scope) (agrees : Agrees known other) where
   same_type_of (Binary op a b at) h = ap (λ t. binary_type op t (type_of other b)) (same_type_of a h.0) ∙ ap (binary_type op (type_of known a)) (same_type_of b h.2)
   same_type_of (Logical op a b at) h = refl
   same_type_of (Conditional c a b at) h = ap (λ t. common_of t (type_of other b)) (same_type_of a h.1) ∙ ap (common_of (type_of known a)) (same_type_of b h.3)
+  same_type_of (InTransaction mode keyword e at) h = same_type_of e h.0
 
 -- a typed expression that is not void has a type
 abbrev HasOne : Option Scalar → Type 0
@@ -82,6 +83,7 @@ module _ (known : Scope) where
   has_type (Binary op a b at) h g = binary_has_one op (type_of known a) (type_of known b) (has_type a h.0 h.1) (has_type b h.2 h.3)
   has_type (Logical op a b at) h g = refl
   has_type (Conditional c a b at) h g = common_has_one (type_of known a) (type_of known b) (has_type a h.1 h.2) (has_type b h.3 h.4)
+  has_type (InTransaction mode keyword e at) h g = has_type e h.0 h.1
 
 pub types_agree : TypesAgree
 types_agree known other agrees e h = (same_type_of known other agrees e (expr_parts known e h), λ g. has_type known e (expr_parts known e h) g)

@@ -8,9 +8,10 @@ use Rattle.syntax.specs.declared.tree.BinaryOp.{BinaryOp}
 use Rattle.syntax.specs.declared.tree.LogicalOp.TheVariants.{AndThen, OrElse}
 use Rattle.syntax.specs.declared.numbers.Trap.{Trap}
 use Rattle.syntax.specs.declared.numbers.Trap.TheVariants.{Index, Frames}
-use Rattle.syntax.specs.declared.tree.Mode.{Mode}
+use Rattle.syntax.specs.declared.tree.Kind.{Kind}
+use Rattle.syntax.specs.declared.tree.Kind.TheVariants.{Plain}
 use Rattle.syntax.specs.Tree as Tree
-use Rattle.syntax.specs.Tree.{Expr, Exprs, Variable, Constant, Element, Call, Parenthesized, Cast, Unary, Binary, Logical, Conditional, Simple, Evaluate, Assign, Adjust, Declarator, Start, Nothing, Declares, Does, Stmt, Stmts, Empty, Declare, Do, Block, Print, If, IfElse, While, DoWhile, For, Break, Continue, Return, Transaction, Cancel, Program}
+use Rattle.syntax.specs.Tree.{Expr, Exprs, Variable, Constant, Element, Call, Parenthesized, Cast, Unary, Binary, Logical, Conditional, InTransaction, Simple, Evaluate, Assign, Adjust, Declarator, Start, Nothing, Declares, Does, Stmt, Stmts, Empty, Declare, Do, Block, Print, If, IfElse, While, DoWhile, For, Break, Continue, Return, Transaction, Cancel, CancelOuter, Program}
 use Rattle.syntax.specs.declared.numbers.Value.{Value}
 use Rattle.syntax.specs.Numbers.{number, number_of}
 use Rattle.syntax.specs.Names.{Local, newest, global_of, definition_of}
@@ -18,7 +19,7 @@ use Rattle.syntax.specs.declared.numbers.Halt.TheVariants.{Astray}
 use Rattle.syntax.specs.Actions.{Action, pure, stop, ◌>>=◌, ◌>>◌, tick, trap, or_trap, or_astray, locals, put_locals, load, store, may_print, print_piece}
 use Rattle.syntax.specs.Formats.{Piece, Literal, Figure, pieces, formats_in, formats_among, IsFormatOf}
 use Rattle.syntax.specs.Laws.{IsPieceOf}
-use Rattle.syntax.specs.Meaning.{Spot, InLocal, InCell, fetch, assign, print_pieces, End, Next, Breaks, Continues, Returns, Cancels, on_next, scoped, loop, after_body, transaction, op_of, int_one, Caller, spot_from, named, element, expr, exprs, spot, changed, assigned, simple, first_value, declare, start_with, holds, stepped, return_value, stmt, stmts, entered, result_of, invoke, calls}
+use Rattle.syntax.specs.Meaning.{Spot, InLocal, InCell, fetch, assign, print_pieces, End, Next, Breaks, Continues, Returns, Cancels, CancelsOuter, on_next, scoped, loop, after_body, transaction, begin_value, value_at, op_of, int_one, Caller, spot_from, named, element, expr, exprs, spot, changed, assigned, simple, first_value, declare, start_with, holds, stepped, return_value, stmt, stmts, entered, result_of, invoke, calls}
 use Rattle.syntax.proofs.Words.{word_below}
 use Rattle.syntax.specs.Threads.{worker_run}
 
@@ -36,7 +37,8 @@ pub record IsKept (IsPiece : List ℕ → Type 0) (Q : (A : Type 0) → Action A
   pub may_print_holds : Q (Unit {0}) may_print
   pub print_piece_holds : (text : List ℕ) → IsPiece text → Q (Unit {0}) (print_piece text)
   pub loop_holds : {turn : Action (Option End)} → Q (Option End) turn → Q End (loop turn)
-  pub transaction_holds : (mode : Mode) {run : Action End} → Q End run → Q End (transaction mode run)
+  pub transaction_holds : (kind : Kind) {run : Action End} → Q End run → Q End (transaction kind run)
+  pub begin_value_holds : Q (Unit {0}) begin_value
 
 contains_first : {X : Type 0} (x : X) (xs : List X) → Contains (x ∷ xs) x
 contains_first x xs = (0, omega arith, refl)
@@ -46,7 +48,7 @@ contains_later x xs y c = (suc c.0, omega (arith, c.1), c.2)
 
 -- numbers are such pieces, and so is the literal text of the program's formats
 module _ (p : Program) (IsPiece : List ℕ → Type 0) (number_piece : (z : ℤ) → IsPiece (signed_decimal z)) (literal_piece : (format : List ℕ) → IsFormatOf p format → (text : List ℕ) → Contains (pieces format) (Literal text) → IsPiece text) (Q : (A : Type 0) → Action A → Type 0) (kept : IsKept IsPiece Q) where
-  open kept use {pure_holds, on_holds, astray_holds, trap_holds, tick_holds, locals_holds, put_locals_holds, load_holds, store_holds, may_print_holds, print_piece_holds, loop_holds, transaction_holds}
+  open kept use {pure_holds, on_holds, astray_holds, trap_holds, tick_holds, locals_holds, put_locals_holds, load_holds, store_holds, may_print_holds, print_piece_holds, loop_holds, transaction_holds, begin_value_holds}
 
   then_holds : {A B : Type 0} {run : Action A} {rest : Action B} → Q A run → Q B rest → Q B (run >> rest)
   then_holds g h = on_holds g (λ _. h)
@@ -98,6 +100,15 @@ module _ (p : Program) (IsPiece : List ℕ → Type 0) (number_piece : (z : ℤ)
   on_next_holds h Continues = pure_holds Continues
   on_next_holds h (Returns v) = pure_holds (Returns v)
   on_next_holds h Cancels = pure_holds Cancels
+  on_next_holds h CancelsOuter = pure_holds CancelsOuter
+
+  value_at_holds : (end : End) → Q _ (value_at end)
+  value_at_holds (Returns v) = pure_holds v
+  value_at_holds Next = astray_holds
+  value_at_holds Breaks = astray_holds
+  value_at_holds Continues = astray_holds
+  value_at_holds Cancels = astray_holds
+  value_at_holds CancelsOuter = astray_holds
 
   pub scoped_holds : {run : Action End} → Q _ run → Q _ (scoped run)
   scoped_holds h = on_holds locals_holds (λ outer. on_holds h (λ end. on_holds locals_holds (λ all. then_holds (put_locals_holds _) (pure_holds end))))
@@ -108,6 +119,7 @@ module _ (p : Program) (IsPiece : List ℕ → Type 0) (number_piece : (z : ℤ)
   after_body_holds h Continues = h
   after_body_holds h (Returns v) = pure_holds (Some (Returns v))
   after_body_holds h Cancels = pure_holds (Some Cancels)
+  after_body_holds h CancelsOuter = pure_holds (Some CancelsOuter)
 
   -- every expression and every statement, where each call is steady
   module _ (call : Caller) (h : (x : List ℕ) (vs : List Value) → Q Value (call x vs)) where
@@ -134,6 +146,7 @@ module _ (p : Program) (IsPiece : List ℕ → Type 0) (number_piece : (z : ℤ)
       expr_holds (Logical AndThen a b at) = on_holds (expr_holds a) (λ v. on_holds (if_holds _ (pure_holds v) (expr_holds b)) (λ w. pure_holds _))
       expr_holds (Logical OrElse a b at) = on_holds (expr_holds a) (λ v. on_holds (if_holds _ (expr_holds b) (pure_holds v)) (λ w. pure_holds _))
       expr_holds (Conditional c a b at) = on_holds (expr_holds c) (λ v. on_holds (if_holds _ (expr_holds b) (expr_holds a)) (λ w. on_holds locals_holds (λ mine. on_holds (or_astray_holds _) (λ t. pure_holds _))))
+      expr_holds (InTransaction mode keyword e at) = then_holds begin_value_holds (on_holds (transaction_holds (Plain mode) (on_holds (expr_holds e) (λ v. pure_holds (Returns v)))) value_at_holds)
 
       pub exprs_holds : (es : Exprs) → Q _ (exprs p call es)
       exprs_holds Tree.[] = pure_holds []
@@ -196,8 +209,9 @@ module _ (p : Program) (IsPiece : List ℕ → Type 0) (number_piece : (z : ℤ)
       stmt_holds (Break at) st = then_holds tick_holds (pure_holds Breaks)
       stmt_holds (Continue at) st = then_holds tick_holds (pure_holds Continues)
       stmt_holds (Return e at) st = then_holds tick_holds (on_holds (return_value_holds e) (λ v. pure_holds _))
-      stmt_holds (Transaction mode ss at) st = then_holds tick_holds (transaction_holds mode (scoped_holds (stmts_holds ss st)))
+      stmt_holds (Transaction kind ss at) st = then_holds tick_holds (transaction_holds kind (scoped_holds (stmts_holds ss st)))
       stmt_holds (Cancel at) st = then_holds tick_holds (pure_holds Cancels)
+      stmt_holds (CancelOuter at) st = then_holds tick_holds (pure_holds CancelsOuter)
 
       pub stmts_holds : (ss : Stmts) → Stand (formats_among ss) → Q _ (stmts p call ss)
       stmts_holds Tree.[] st = pure_holds Next
@@ -209,6 +223,7 @@ module _ (p : Program) (IsPiece : List ℕ → Type 0) (number_piece : (z : ℤ)
     result_of_holds t Breaks = astray_holds
     result_of_holds t Continues = astray_holds
     result_of_holds t Cancels = astray_holds
+    result_of_holds t CancelsOuter = astray_holds
 
     invoke_holds : (x : List ℕ) (vs : List Value) → Q _ (invoke p call x vs)
     invoke_holds x vs = found_holds (definition_of p x) (λ f e. on_holds (or_astray_holds (entered f.0.parameters vs)) (λ mine. on_holds locals_holds (λ outer. then_holds (put_locals_holds mine) (on_holds (stmts_holds f.1 (λ format c. literal_piece format (x, f, e, c))) (λ end. then_holds (put_locals_holds outer) (result_of_holds f.0.result end))))))
@@ -233,6 +248,11 @@ module _ (p : Program) (Q : (A : Type 0) → Action A → Type 0) (kept : IsAlwa
   block_holds call h ss =
       scoped_holds p (λ text. Unit {0}) (λ z. tt) (λ format is text c. tt) Q kept
       (stmts_holds p (λ text. Unit {0}) (λ z. tt) (λ format is text c. tt) Q kept call h ss (λ format c text d. tt))
+
+  -- an expression, as the body of a transaction
+  pub returned_holds : (call : Caller) → ((x : List ℕ) (vs : List Value) → Q Value (call x vs)) → (e : Expr) → Q End (expr p call e >>= λ v. pure (Returns v))
+  returned_holds call h e =
+      kept.on_holds (expr_holds p (λ text. Unit {0}) (λ z. tt) (λ format is text c. tt) Q kept call h e) (λ v. kept.pure_holds (Returns v))
 
 module _ (p : Program) (Q : (A : Type 0) → Action A → Type 0) (kept : IsAlwaysKept Q) (frames : ℕ) where
   pub called_holds : (x : List ℕ) (vs : List Value) → Q Value (calls p frames x vs)

@@ -6,12 +6,14 @@ mod Memories
 mod OneTick
 mod OrderRows
 mod OrderRuns
+mod OuterRows
 mod RefusedRows
 mod RunOrders
 mod Spelled
 mod Steady
 mod TotalRows
 mod TypeRows
+mod ValueRows
 mod WordsStay
 pub mod Called
 pub mod Counted

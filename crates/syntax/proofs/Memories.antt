@@ -1,15 +1,17 @@
 -- A thread that finds memories of its program leaves memories of its program.
-use Rattle.std.proofs.Common.{ℕ, zero, suc, ◌<◌, ◌^◌, List, [], ◌∷◌, ◌++◌, Option, Some, None}
+use Rattle.std.proofs.Common.{ℕ, zero, suc, ◌<◌, ◌^◌, List, [], ◌∷◌, ◌++◌, Option, Some, None, Bool, true, false}
 use Rattle.std.specs.Prelude.{All, length, replicate, slice_set}
 use Rattle.std.proofs.lemmas.List.Elements.{All-nil, All-from_recursion, recursion_from_All, All-head, All-tail, All-push}
 use Rattle.syntax.specs.declared.tree.Mode.{Mode}
 use Rattle.syntax.specs.declared.tree.Mode.TheVariants.{Atomic, Relaxed}
+use Rattle.syntax.specs.declared.tree.Kind.{Kind}
+use Rattle.syntax.specs.declared.tree.Kind.TheVariants.{Plain, Outer}
 use Rattle.syntax.specs.declared.numbers.Halt.TheVariants.{Trapped, Wants, Spent, Astray}
 use Rattle.syntax.specs.Tree.{Program}
 use Rattle.syntax.specs.Names.{Local, initial_memory, bounds}
 use Rattle.syntax.specs.Behaviours.{Memory, IsMemory}
 use Rattle.syntax.specs.Actions.{Context, Outside, Inside, State, Answer, Gives, Stops, Action, stop, go_on, ◌>>=◌, spend, tick, load_at, store, may_print_at, write, lefts_in, memory_in}
-use Rattle.syntax.specs.Meaning.{End, Next, Breaks, Continues, Returns, Cancels, after_turn, turns, Left, left_by, close_inner, close, enter}
+use Rattle.syntax.specs.Meaning.{End, after_turn, turns, Left, undoes, left_or, left_by, close_inner, close, enter, mode_of, begin_at}
 use Rattle.syntax.specs.Threads.{outcome_of, first_state, worker_run, thread}
 use Rattle.syntax.specs.Laws.{IsPieceOf, LeavesMemories}
 use Rattle.syntax.proofs.Further.{state_of}
@@ -77,34 +79,36 @@ module _ (M : Memory → Type 0) (written : (m : Memory) (c w : ℕ) → w < 2 ^
   memory_kept mode m (Outside f l) c h = absurd c
   memory_kept mode m (Inside mode' m') c h = c h
 
-  left_kept : (mode : Mode) (m : Memory) (mine : List Local) (end : End) (now : State) → Keeps (Inside mode m) now.context → M m → M (left_by mine m end now).memory
-  left_kept mode m mine Cancels now c h = h
-  left_kept mode m mine Next now c h = memory_kept mode m now.context c h
-  left_kept mode m mine Breaks now c h = memory_kept mode m now.context c h
-  left_kept mode m mine Continues now c h = memory_kept mode m now.context c h
-  left_kept mode m mine (Returns v) now c h = memory_kept mode m now.context c h
+  left_kept : (undone : Bool) (mode : Mode) (m : Memory) (mine : List Local) (end : End) (now : State) → Keeps (Inside mode m) now.context → M m → M (left_or undone mine m end now).memory
+  left_kept true mode m mine end now c h = h
+  left_kept false mode m mine end now c h = memory_kept mode m now.context c h
 
   leave_keeps : (n : ℕ) (now : State) (m : Memory) (founds lefts : List Memory) (left : Left) → (M m → M left.memory) → Keeps (Outside (m ∷ founds) lefts) (state_of (go_on (spend n (record now { context = Outside founds lefts })) (λ u then_. Gives left.end (record then_ { locals = left.locals; context = Outside founds (lefts ++ left.memory ∷ []) })))).context
   leave_keeps zero now m founds lefts left h = λ f l. (All-tail M m founds f, l)
   leave_keeps (suc n) now m founds lefts left h = λ f l. (All-tail M m founds f, All-push M lefts left.memory l (h (All-head M m founds f)))
 
-  close_keeps : (mode : Mode) (m : Memory) (founds lefts : List Memory) (mine : List Local) (r : Answer End) → Keeps (Inside mode m) (state_of r).context → Keeps (Outside (m ∷ founds) lefts) (state_of (close founds lefts mine m r)).context
-  close_keeps mode m founds lefts mine (Gives end now) c = leave_keeps now.ticks now m founds lefts (left_by mine m end now) (left_kept mode m mine end now c)
-  close_keeps mode m founds lefts mine (Stops (Trapped k) now) c = λ f l. (All-tail M m founds f, All-push M lefts m l (All-head M m founds f))
-  close_keeps mode m founds lefts mine (Stops Wants now) c = λ f l. (All-tail M m founds f, l)
-  close_keeps mode m founds lefts mine (Stops Spent now) c = λ f l. (All-tail M m founds f, l)
-  close_keeps mode m founds lefts mine (Stops Astray now) c = λ f l. (All-tail M m founds f, l)
+  close_keeps : (kind : Kind) (m : Memory) (founds lefts : List Memory) (mine : List Local) (r : Answer End) → Keeps (Inside (mode_of kind) m) (state_of r).context → Keeps (Outside (m ∷ founds) lefts) (state_of (close kind founds lefts mine m r)).context
+  close_keeps kind m founds lefts mine (Gives end now) c = leave_keeps now.ticks now m founds lefts (left_by kind mine m end now) (left_kept (undoes end kind) (mode_of kind) m mine end now c)
+  close_keeps kind m founds lefts mine (Stops (Trapped k) now) c = λ f l. (All-tail M m founds f, All-push M lefts m l (All-head M m founds f))
+  close_keeps kind m founds lefts mine (Stops Wants now) c = λ f l. (All-tail M m founds f, l)
+  close_keeps kind m founds lefts mine (Stops Spent now) c = λ f l. (All-tail M m founds f, l)
+  close_keeps kind m founds lefts mine (Stops Astray now) c = λ f l. (All-tail M m founds f, l)
 
-  close_inner_keeps : (outer mode : Mode) (m : Memory) (mine : List Local) (r : Answer End) → Keeps (Inside mode m) (state_of r).context → Keeps (Inside outer m) (state_of (close_inner outer mine m r)).context
-  close_inner_keeps outer mode m mine (Gives end now) c = λ h. left_kept mode m mine end now c h
-  close_inner_keeps outer mode m mine (Stops why now) c = c
+  close_inner_keeps : (outer : Mode) (kind : Kind) (m : Memory) (mine : List Local) (r : Answer End) → Keeps (Inside (mode_of kind) m) (state_of r).context → Keeps (Inside outer m) (state_of (close_inner outer kind mine m r)).context
+  close_inner_keeps outer kind m mine (Gives end now) c = λ h. left_kept (undoes end kind) (mode_of kind) m mine end now c h
+  close_inner_keeps outer kind m mine (Stops why now) c = c
 
-  enter_keeps : (mode : Mode) (run : Action End) → IsKeeping run → (p : Context) (n : ℕ) (ls : List Local) (t : List ℕ) → Keeps p (state_of (enter p mode run (record { ticks = n; locals = ls; context = p; text = t }))).context
-  enter_keeps mode run h (Outside [] lefts) n ls t = keeps_refl (Outside [] lefts)
-  enter_keeps mode run h (Outside (m ∷ founds) lefts) n ls t = close_keeps mode m founds lefts ls (run (record { ticks = n; locals = ls; context = Inside mode m; text = t })) (h.keeps (record { ticks = n; locals = ls; context = Inside mode m; text = t }))
-  enter_keeps mode run h (Inside Relaxed m) n ls t = close_inner_keeps Relaxed mode m ls (run (record { ticks = n; locals = ls; context = Inside mode m; text = t })) (h.keeps (record { ticks = n; locals = ls; context = Inside mode m; text = t }))
-  enter_keeps Atomic run h (Inside Atomic m) n ls t = close_inner_keeps Atomic Atomic m ls (run (record { ticks = n; locals = ls; context = Inside Atomic m; text = t })) (h.keeps (record { ticks = n; locals = ls; context = Inside Atomic m; text = t }))
-  enter_keeps Relaxed run h (Inside Atomic m) n ls t = keeps_refl (Inside Atomic m)
+  enter_keeps : (kind : Kind) (run : Action End) → IsKeeping run → (p : Context) (n : ℕ) (ls : List Local) (t : List ℕ) → Keeps p (state_of (enter p kind run (record { ticks = n; locals = ls; context = p; text = t }))).context
+  enter_keeps kind run h (Outside [] lefts) n ls t = keeps_refl (Outside [] lefts)
+  enter_keeps kind run h (Outside (m ∷ founds) lefts) n ls t = close_keeps kind m founds lefts ls (run (record { ticks = n; locals = ls; context = Inside (mode_of kind) m; text = t })) (h.keeps (record { ticks = n; locals = ls; context = Inside (mode_of kind) m; text = t }))
+  enter_keeps kind run h (Inside Relaxed m) n ls t = close_inner_keeps Relaxed kind m ls (run (record { ticks = n; locals = ls; context = Inside (mode_of kind) m; text = t })) (h.keeps (record { ticks = n; locals = ls; context = Inside (mode_of kind) m; text = t }))
+  enter_keeps (Plain Atomic) run h (Inside Atomic m) n ls t = close_inner_keeps Atomic (Plain Atomic) m ls (run (record { ticks = n; locals = ls; context = Inside Atomic m; text = t })) (h.keeps (record { ticks = n; locals = ls; context = Inside Atomic m; text = t }))
+  enter_keeps Outer run h (Inside Atomic m) n ls t = close_inner_keeps Atomic Outer m ls (run (record { ticks = n; locals = ls; context = Inside Atomic m; text = t })) (h.keeps (record { ticks = n; locals = ls; context = Inside Atomic m; text = t }))
+  enter_keeps (Plain Relaxed) run h (Inside Atomic m) n ls t = keeps_refl (Inside Atomic m)
+
+  begin_keeps : (p : Context) (s : State) → Keeps s.context (state_of (begin_at p s)).context
+  begin_keeps (Outside f l) s = spend_keeps s.ticks s
+  begin_keeps (Inside mode m) s = keeps_refl s.context
 
   keeping_kept : (IsPiece : List ℕ → Type 0) → IsKept IsPiece (λ A run. IsKeeping run)
   keeping_kept IsPiece = record {
@@ -120,7 +124,8 @@ module _ (M : Memory → Type 0) (written : (m : Memory) (c w : ℕ) → w < 2 ^
     may_print_holds = record { keeps = λ s. may_print_keeps s.context s };
     print_piece_holds = λ text shown. record { keeps = λ s. on_keeps s.context (tick s) (λ _. write text) (spend_keeps s.ticks s) (λ _ u. keeps_refl u.context) };
     loop_holds = λ h. record { keeps = λ s. turns_keep _ h s.ticks s };
-    transaction_holds = λ mode h. record { keeps = λ s. enter_keeps mode _ h s.context s.ticks s.locals s.text };
+    transaction_holds = λ kind h. record { keeps = λ s. enter_keeps kind _ h s.context s.ticks s.locals s.text };
+    begin_value_holds = record { keeps = λ s. begin_keeps s.context s };
   }
 
   lefts_kept : (founds : List Memory) (q : Context) → Keeps (Outside founds []) q → All M founds → All M (lefts_in q)

@@ -1,13 +1,15 @@
 -- A thread that wants no memory does the same with further ones, in the same ticks; also where it is spent.
-use Rattle.std.proofs.Common.{◌≡◌, ◌≢◌, ℕ, zero, suc, List, [], ◌∷◌, ◌++◌, Option, Some, None, refl, sym, ap, ◌∙◌, subst}
+use Rattle.std.proofs.Common.{◌≡◌, ◌≢◌, ℕ, zero, suc, List, [], ◌∷◌, ◌++◌, Option, Some, None, Bool, true, false, refl, sym, ap, ◌∙◌, subst}
 use Rattle.syntax.specs.declared.tree.Mode.{Mode}
 use Rattle.syntax.specs.declared.tree.Mode.TheVariants.{Atomic, Relaxed}
+use Rattle.syntax.specs.declared.tree.Kind.{Kind}
+use Rattle.syntax.specs.declared.tree.Kind.TheVariants.{Plain, Outer}
 use Rattle.syntax.specs.Tree.{Program}
 use Rattle.syntax.specs.Names.{Local}
 use Rattle.syntax.specs.declared.numbers.Halt.TheVariants.{Trapped, Wants, Spent, Astray}
 use Rattle.syntax.specs.Behaviours.{Memory, Ended, Stopped}
 use Rattle.syntax.specs.Actions.{Context, Outside, Inside, State, Answer, Gives, Stops, Action, go_on, ◌>>=◌, spend, tick, load_at, store_at, may_print_at, memory_in, lefts_in}
-use Rattle.syntax.specs.Meaning.{End, Next, Breaks, Continues, Returns, Cancels, after_turn, turns, Left, left_by, leave_inner, close_inner, inner, close, enter}
+use Rattle.syntax.specs.Meaning.{End, after_turn, turns, Left, undoes, left_or, left_by, leave_inner, close_inner, inner, close, enter, mode_of, begin_at}
 use Rattle.syntax.specs.Threads.{outcome_of, first_state, worker_run}
 use Rattle.syntax.specs.Laws.{IsPieceOf, MoreFounds}
 use Rattle.syntax.proofs.Kept.{IsKept, worker_holds}
@@ -78,25 +80,22 @@ memory_further extra (Inside mode m) = refl
 abbrev left_with : End → List Local → Memory → Left
 left_with end ls m = record { end = end; locals = ls; memory = m }
 
-left_further : (extra : List Memory) (mine : List Local) (found : Memory) (end : End) (now : State) → left_by mine found end (further extra now) ≡ left_by mine found end now
-left_further extra mine found Cancels now = refl
-left_further extra mine found Next now = ap (λ m. left_with Next now.locals m) (memory_further extra now.context)
-left_further extra mine found Breaks now = ap (λ m. left_with Breaks now.locals m) (memory_further extra now.context)
-left_further extra mine found Continues now = ap (λ m. left_with Continues now.locals m) (memory_further extra now.context)
-left_further extra mine found (Returns v) now = ap (λ m. left_with (Returns v) now.locals m) (memory_further extra now.context)
+left_further : (extra : List Memory) (undone : Bool) (mine : List Local) (found : Memory) (end : End) (now : State) → left_or undone mine found end (further extra now) ≡ left_or undone mine found end now
+left_further extra true mine found end now = refl
+left_further extra false mine found end now = ap (λ m. left_with end now.locals m) (memory_further extra now.context)
 
-close_inner_alike : (outer : Mode) (mine : List Local) (found : Memory) (extra : List Memory) (r more : Answer End) → Alike extra r more → Alike extra (close_inner outer mine found r) (close_inner outer mine found more)
-close_inner_alike outer mine found extra (Gives end now) more e =
-    ap (close_inner outer mine found) e ∙ ap (λ l. leave_inner outer l (further extra now)) (left_further extra mine found end now)
-close_inner_alike outer mine found extra (Stops (Trapped t) s) more e = ap (close_inner outer mine found) e
-close_inner_alike outer mine found extra (Stops Astray s) more e = ap (close_inner outer mine found) e
-close_inner_alike outer mine found extra (Stops Spent s) more e = ap (close_inner outer mine found) e
-close_inner_alike outer mine found extra (Stops Wants s) more e = tt
+close_inner_alike : (outer : Mode) (kind : Kind) (mine : List Local) (found : Memory) (extra : List Memory) (r more : Answer End) → Alike extra r more → Alike extra (close_inner outer kind mine found r) (close_inner outer kind mine found more)
+close_inner_alike outer kind mine found extra (Gives end now) more e =
+    ap (close_inner outer kind mine found) e ∙ ap (λ l. leave_inner outer l (further extra now)) (left_further extra (undoes end kind) mine found end now)
+close_inner_alike outer kind mine found extra (Stops (Trapped t) s) more e = ap (close_inner outer kind mine found) e
+close_inner_alike outer kind mine found extra (Stops Astray s) more e = ap (close_inner outer kind mine found) e
+close_inner_alike outer kind mine found extra (Stops Spent s) more e = ap (close_inner outer kind mine found) e
+close_inner_alike outer kind mine found extra (Stops Wants s) more e = tt
 
-inner_alike : (extra : List Memory) (outer mode : Mode) (found : Memory) (run : Action End) → IsAlike run → (s : State) → Alike extra (inner outer mode found run s) (inner outer mode found run (further extra s))
-inner_alike extra outer mode found run h s =
-    let start = record s { context = Inside mode found } in
-    close_inner_alike outer s.locals found extra (run start) (run (further extra start)) (h.alike extra start)
+inner_alike : (extra : List Memory) (outer : Mode) (kind : Kind) (found : Memory) (run : Action End) → IsAlike run → (s : State) → Alike extra (inner outer kind found run s) (inner outer kind found run (further extra s))
+inner_alike extra outer kind found run h s =
+    let start = record s { context = Inside (mode_of kind) found } in
+    close_inner_alike outer kind s.locals found extra (run start) (run (further extra start)) (h.alike extra start)
 
 abbrev leave_at : ℕ → State → List Memory → List Memory → Left → Answer End
 leave_at n now founds lefts left =
@@ -107,27 +106,32 @@ leave_alike : (extra : List Memory) (n : ℕ) (now : State) (founds lefts : List
 leave_alike extra zero now founds lefts left = refl
 leave_alike extra (suc n) now founds lefts left = refl
 
-close_alike : (extra founds lefts : List Memory) (mine : List Local) (found : Memory) (r more : Answer End) → Alike extra r more → Alike extra (close founds lefts mine found r) (close (founds ++ extra) lefts mine found more)
-close_alike extra founds lefts mine found (Gives end now) more e =
-    let left = left_by mine found end now in
-    let same = ap (close (founds ++ extra) lefts mine found) e ∙ ap (λ l. leave_at now.ticks (further extra now) (founds ++ extra) lefts l) (left_further extra mine found end now) in
+close_alike : (kind : Kind) (extra founds lefts : List Memory) (mine : List Local) (found : Memory) (r more : Answer End) → Alike extra r more → Alike extra (close kind founds lefts mine found r) (close kind (founds ++ extra) lefts mine found more)
+close_alike kind extra founds lefts mine found (Gives end now) more e =
+    let left = left_by kind mine found end now in
+    let same = ap (close kind (founds ++ extra) lefts mine found) e ∙ ap (λ l. leave_at now.ticks (further extra now) (founds ++ extra) lefts l) (left_further extra (undoes end kind) mine found end now) in
     subst (λ x. Alike extra (leave_at now.ticks now founds lefts left) x) (sym same) (leave_alike extra now.ticks now founds lefts left)
-close_alike extra founds lefts mine found (Stops (Trapped t) s) more e = ap (close (founds ++ extra) lefts mine found) e
-close_alike extra founds lefts mine found (Stops Astray s) more e = ap (close (founds ++ extra) lefts mine found) e
-close_alike extra founds lefts mine found (Stops Spent s) more e = ap (close (founds ++ extra) lefts mine found) e
-close_alike extra founds lefts mine found (Stops Wants s) more e = tt
+close_alike kind extra founds lefts mine found (Stops (Trapped t) s) more e = ap (close kind (founds ++ extra) lefts mine found) e
+close_alike kind extra founds lefts mine found (Stops Astray s) more e = ap (close kind (founds ++ extra) lefts mine found) e
+close_alike kind extra founds lefts mine found (Stops Spent s) more e = ap (close kind (founds ++ extra) lefts mine found) e
+close_alike kind extra founds lefts mine found (Stops Wants s) more e = tt
 
 abbrev state : ℕ → List Local → Context → List ℕ → State
 state n ls p t = record { ticks = n; locals = ls; context = p; text = t }
 
-enter_alike : (extra : List Memory) (mode : Mode) (run : Action End) → IsAlike run → (p : Context) (n : ℕ) (ls : List Local) (t : List ℕ) → Alike extra (enter p mode run (state n ls p t)) (enter (with_founds extra p) mode run (further extra (state n ls p t)))
-enter_alike extra mode run h (Outside [] lefts) n ls t = tt
-enter_alike extra mode run h (Outside (found ∷ founds) lefts) n ls t =
-    let start = state n ls (Inside mode found) t in
-    close_alike extra founds lefts ls found (run start) (run (further extra start)) (h.alike extra start)
-enter_alike extra mode run h (Inside Relaxed found) n ls t = inner_alike extra Relaxed mode found run h (state n ls (Inside Relaxed found) t)
-enter_alike extra Atomic run h (Inside Atomic found) n ls t = inner_alike extra Atomic Atomic found run h (state n ls (Inside Atomic found) t)
-enter_alike extra Relaxed run h (Inside Atomic found) n ls t = refl
+enter_alike : (extra : List Memory) (kind : Kind) (run : Action End) → IsAlike run → (p : Context) (n : ℕ) (ls : List Local) (t : List ℕ) → Alike extra (enter p kind run (state n ls p t)) (enter (with_founds extra p) kind run (further extra (state n ls p t)))
+enter_alike extra kind run h (Outside [] lefts) n ls t = tt
+enter_alike extra kind run h (Outside (found ∷ founds) lefts) n ls t =
+    let start = state n ls (Inside (mode_of kind) found) t in
+    close_alike kind extra founds lefts ls found (run start) (run (further extra start)) (h.alike extra start)
+enter_alike extra kind run h (Inside Relaxed found) n ls t = inner_alike extra Relaxed kind found run h (state n ls (Inside Relaxed found) t)
+enter_alike extra (Plain Atomic) run h (Inside Atomic found) n ls t = inner_alike extra Atomic (Plain Atomic) found run h (state n ls (Inside Atomic found) t)
+enter_alike extra Outer run h (Inside Atomic found) n ls t = inner_alike extra Atomic Outer found run h (state n ls (Inside Atomic found) t)
+enter_alike extra (Plain Relaxed) run h (Inside Atomic found) n ls t = refl
+
+begin_alike : (extra : List Memory) (p : Context) (s : State) → Alike extra (begin_at p s) (begin_at (with_founds extra p) (further extra s))
+begin_alike extra (Outside founds lefts) s = tick_alike.alike extra s
+begin_alike extra (Inside mode m) s = refl
 
 alike_kept : (p : Program) → IsKept (IsPieceOf p) (λ A run. IsAlike run)
 alike_kept p = record {
@@ -143,7 +147,8 @@ alike_kept p = record {
   may_print_holds = record { alike = λ extra s. may_print_alike extra s.context s };
   print_piece_holds = λ text shown. on_all tick_alike (λ _. record { alike = λ extra s. refl });
   loop_holds = λ h. record { alike = λ extra s. turns_alike _ h extra s.ticks s };
-  transaction_holds = λ mode h. record { alike = λ extra s. enter_alike extra mode _ h s.context s.ticks s.locals s.text };
+  transaction_holds = λ kind h. record { alike = λ extra s. enter_alike extra kind _ h s.context s.ticks s.locals s.text };
+  begin_value_holds = record { alike = λ extra s. begin_alike extra s.context s };
 }
 
 further_lefts : (extra : List Memory) (p : Context) → lefts_in (with_founds extra p) ≡ lefts_in p

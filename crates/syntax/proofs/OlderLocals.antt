@@ -5,16 +5,18 @@ use Rattle.lex.specs.declared.token.Scalar.{Scalar}
 use Rattle.syntax.specs.declared.tree.BinaryOp.{BinaryOp}
 use Rattle.syntax.specs.declared.tree.Mode.{Mode}
 use Rattle.syntax.specs.declared.tree.Mode.TheVariants.{Atomic, Relaxed}
+use Rattle.syntax.specs.declared.tree.Kind.{Kind}
+use Rattle.syntax.specs.declared.tree.Kind.TheVariants.{Plain, Outer}
 use Rattle.syntax.specs.declared.numbers.Halt.{Halt}
 use Rattle.syntax.specs.declared.numbers.Halt.TheVariants.{Trapped, Spent, Astray}
 use Rattle.syntax.specs.declared.numbers.Value.{Value}
 use Rattle.syntax.specs.Tree as Tree
-use Rattle.syntax.specs.Tree.{Expr, Variable, Element, Simple, Evaluate, Assign, Adjust, Declarator, Start, Nothing, Declares, Does, Stmt, Stmts, Empty, Declare, Do, Block, Print, If, IfElse, While, DoWhile, For, Break, Continue, Return, Transaction, Cancel, Program}
+use Rattle.syntax.specs.Tree.{Expr, Variable, Element, Simple, Evaluate, Assign, Adjust, Declarator, Start, Nothing, Declares, Does, Stmt, Stmts, Empty, Declare, Do, Block, Print, If, IfElse, While, DoWhile, For, Break, Continue, Return, Transaction, Cancel, CancelOuter, Program}
 use Rattle.syntax.specs.Names.{Local, with_word}
 use Rattle.syntax.specs.Formats.{Piece, Literal, Figure, pieces}
 use Rattle.syntax.specs.Behaviours.{Memory}
 use Rattle.syntax.specs.Actions.{Context, Outside, Inside, State, Answer, Gives, Stops, Action, pure, stop, go_on, ◌>>=◌, ◌>>◌, spend, tick, store_at, may_print_at, may_print, write, print_piece}
-use Rattle.syntax.specs.Meaning.{Spot, InLocal, InCell, assign, print_pieces, End, Next, Breaks, Continues, Returns, Cancels, on_next, scoped, after_turn, turns, loop, after_body, Left, left_by, close_inner, close, enter, transaction, op_of, int_one, Caller, expr, spot, changed, assigned, simple, first_value, declare, start_with, holds, stepped, return_value, stmt, stmts, calls}
+use Rattle.syntax.specs.Meaning.{Spot, InLocal, InCell, assign, print_pieces, End, Next, Breaks, Continues, Returns, Cancels, CancelsOuter, mode_of, on_next, scoped, after_turn, turns, loop, after_body, Left, undoes, left_or, left_by, close_inner, close, enter, transaction, op_of, int_one, Caller, expr, spot, changed, assigned, simple, first_value, declare, start_with, holds, stepped, return_value, stmt, stmts, calls}
 use Rattle.syntax.specs.Laws.{WhereGiven, shape, KeepsOlderLocals, BeginsWithLocals}
 use Rattle.syntax.proofs.Expressions.{LeavesLocals, named_holds, element_holds, expr_holds, exprs_holds, fetch_holds, or_trap_holds, calls_holds}
 
@@ -106,6 +108,7 @@ on_next_older h Breaks = pure_older Breaks
 on_next_older h Continues = pure_older Continues
 on_next_older h (Returns v) = pure_older (Returns v)
 on_next_older h Cancels = pure_older Cancels
+on_next_older h CancelsOuter = pure_older CancelsOuter
 
 -- the locals of the beginning, taken again at a scope's end
 taken : (ls ms : List Local) → BeginsWithLocals ls ms → BeginsWithLocals ls (take (length ls) ms)
@@ -136,6 +139,7 @@ after_body_older h Breaks = pure_older (Some Next)
 after_body_older h Continues = h
 after_body_older h (Returns v) = pure_older (Some (Returns v))
 after_body_older h Cancels = pure_older (Some Cancels)
+after_body_older h CancelsOuter = pure_older (Some CancelsOuter)
 
 after_turn_older : {rest : Action End} → KeepsOlder rest → (o : Option End) → KeepsOlder (after_turn rest o)
 after_turn_older h None = h
@@ -148,36 +152,34 @@ turns_older h (suc n) = then_older tick_older (on_older h (after_turn_older (tur
 pub loop_older : {turn : Action (Option End)} → KeepsOlder turn → KeepsOlder (loop turn)
 loop_older h = record { keeps = λ s. (turns_older h s.ticks).keeps s }
 
--- a transaction that is cancelled puts the locals back, and another leaves its body's
-left_older : (mine : List Local) (found : Memory) (end : End) (now : State) → BeginsWithLocals mine now.locals → BeginsWithLocals mine (left_by mine found end now).locals
-left_older mine found Cancels now h = begins_same mine mine refl
-left_older mine found Next now h = h
-left_older mine found Breaks now h = h
-left_older mine found Continues now h = h
-left_older mine found (Returns v) now h = h
+-- a transaction that is undone puts the locals back, and another leaves its body's
+left_older : (undone : Bool) (mine : List Local) (found : Memory) (end : End) (now : State) → BeginsWithLocals mine now.locals → BeginsWithLocals mine (left_or undone mine found end now).locals
+left_older true mine found end now h = begins_same mine mine refl
+left_older false mine found end now h = h
 
 leave_older : (n : ℕ) (mine : List Local) (founds lefts : List Memory) (left : Left) (now : State) → BeginsWithLocals mine left.locals → WhereGiven (go_on (spend n (record now { context = Outside founds lefts })) (λ u then_. Gives left.end (record then_ { locals = left.locals; context = Outside founds (lefts ++ left.memory ∷ []) }))) (λ a last. BeginsWithLocals mine last.locals)
 leave_older zero mine founds lefts left now h = tt
 leave_older (suc n) mine founds lefts left now h = h
 
-close_older : (founds lefts : List Memory) (mine : List Local) (found : Memory) (r : Answer End) → WhereGiven r (λ a now. BeginsWithLocals mine now.locals) → WhereGiven (close founds lefts mine found r) (λ a now. BeginsWithLocals mine now.locals)
-close_older founds lefts mine found (Gives end now) h = leave_older now.ticks mine founds lefts (left_by mine found end now) now (left_older mine found end now h)
-close_older founds lefts mine found (Stops (Trapped k) now) h = tt
-close_older founds lefts mine found r h = tt
+close_older : (kind : Kind) (founds lefts : List Memory) (mine : List Local) (found : Memory) (r : Answer End) → WhereGiven r (λ a now. BeginsWithLocals mine now.locals) → WhereGiven (close kind founds lefts mine found r) (λ a now. BeginsWithLocals mine now.locals)
+close_older kind founds lefts mine found (Gives end now) h = leave_older now.ticks mine founds lefts (left_by kind mine found end now) now (left_older (undoes end kind) mine found end now h)
+close_older kind founds lefts mine found (Stops (Trapped k) now) h = tt
+close_older kind founds lefts mine found r h = tt
 
-inner_older : (outer : Mode) (mine : List Local) (found : Memory) (r : Answer End) → WhereGiven r (λ a now. BeginsWithLocals mine now.locals) → WhereGiven (close_inner outer mine found r) (λ a now. BeginsWithLocals mine now.locals)
-inner_older outer mine found (Gives end now) h = left_older mine found end now h
-inner_older outer mine found (Stops why now) h = tt
+inner_older : (outer : Mode) (kind : Kind) (mine : List Local) (found : Memory) (r : Answer End) → WhereGiven r (λ a now. BeginsWithLocals mine now.locals) → WhereGiven (close_inner outer kind mine found r) (λ a now. BeginsWithLocals mine now.locals)
+inner_older outer kind mine found (Gives end now) h = left_older (undoes end kind) mine found end now h
+inner_older outer kind mine found (Stops why now) h = tt
 
-enter_older : (run : Action End) → KeepsOlder run → (mode : Mode) (p : Context) (s : State) → WhereGiven (enter p mode run s) (λ a now. BeginsWithLocals s.locals now.locals)
-enter_older run h mode (Outside [] lefts) s = tt
-enter_older run h mode (Outside (m ∷ founds) lefts) s = close_older founds lefts s.locals m (run (record s { context = Inside mode m })) (h.keeps (record s { context = Inside mode m }))
-enter_older run h mode (Inside Relaxed m) s = inner_older Relaxed s.locals m (run (record s { context = Inside mode m })) (h.keeps (record s { context = Inside mode m }))
-enter_older run h Atomic (Inside Atomic m) s = inner_older Atomic s.locals m (run (record s { context = Inside Atomic m })) (h.keeps (record s { context = Inside Atomic m }))
-enter_older run h Relaxed (Inside Atomic m) s = tt
+enter_older : (run : Action End) → KeepsOlder run → (kind : Kind) (p : Context) (s : State) → WhereGiven (enter p kind run s) (λ a now. BeginsWithLocals s.locals now.locals)
+enter_older run h kind (Outside [] lefts) s = tt
+enter_older run h kind (Outside (m ∷ founds) lefts) s = close_older kind founds lefts s.locals m (run (record s { context = Inside (mode_of kind) m })) (h.keeps (record s { context = Inside (mode_of kind) m }))
+enter_older run h kind (Inside Relaxed m) s = inner_older Relaxed kind s.locals m (run (record s { context = Inside (mode_of kind) m })) (h.keeps (record s { context = Inside (mode_of kind) m }))
+enter_older run h (Plain Atomic) (Inside Atomic m) s = inner_older Atomic (Plain Atomic) s.locals m (run (record s { context = Inside Atomic m })) (h.keeps (record s { context = Inside Atomic m }))
+enter_older run h Outer (Inside Atomic m) s = inner_older Atomic Outer s.locals m (run (record s { context = Inside Atomic m })) (h.keeps (record s { context = Inside Atomic m }))
+enter_older run h (Plain Relaxed) (Inside Atomic m) s = tt
 
-transaction_older : (mode : Mode) {run : Action End} → KeepsOlder run → KeepsOlder (transaction mode run)
-transaction_older mode {run} h = record { keeps = λ s. enter_older run h mode s.context s }
+transaction_older : (kind : Kind) {run : Action End} → KeepsOlder run → KeepsOlder (transaction kind run)
+transaction_older kind {run} h = record { keeps = λ s. enter_older run h kind s.context s }
 
 module _ (p : Program) (call : Caller) (h : (x : List ℕ) (vs : List Value) → LeavesLocals (call x vs)) where
   pub expr_older : (e : Expr) → KeepsOlder (expr p call e)
@@ -256,8 +258,9 @@ module _ (p : Program) (call : Caller) (h : (x : List ℕ) (vs : List Value) →
     stmt_older (Break at) = then_older tick_older (pure_older Breaks)
     stmt_older (Continue at) = then_older tick_older (pure_older Continues)
     stmt_older (Return e at) = then_older tick_older (on_older (return_older e) (λ v. pure_older _))
-    stmt_older (Transaction mode ss at) = then_older tick_older (transaction_older mode (scoped_older (stmts_older ss)))
+    stmt_older (Transaction kind ss at) = then_older tick_older (transaction_older kind (scoped_older (stmts_older ss)))
     stmt_older (Cancel at) = then_older tick_older (pure_older Cancels)
+    stmt_older (CancelOuter at) = then_older tick_older (pure_older CancelsOuter)
 
     pub stmts_older : (ss : Stmts) → KeepsOlder (stmts p call ss)
     stmts_older Tree.[] = pure_older Next

@@ -1,14 +1,16 @@
 -- One tick more shows at most one piece of what the program prints, or one memory left more.
-use Rattle.std.proofs.Common.{◌≡◌, ℕ, zero, suc, ◌+◌, ◌≤◌, ◌⊎◌, inl, inr, refl, sym, ap, subst, ◌∙◌, arith, List, [], ◌∷◌, ◌++◌, Option, Some, None}
+use Rattle.std.proofs.Common.{◌≡◌, ℕ, zero, suc, ◌+◌, ◌≤◌, ◌⊎◌, inl, inr, refl, sym, ap, subst, ◌∙◌, arith, List, [], ◌∷◌, ◌++◌, Option, Some, None, Bool, true, false}
 use Rattle.syntax.specs.declared.tree.Mode.{Mode}
 use Rattle.syntax.specs.declared.tree.Mode.TheVariants.{Atomic, Relaxed}
+use Rattle.syntax.specs.declared.tree.Kind.{Kind}
+use Rattle.syntax.specs.declared.tree.Kind.TheVariants.{Plain, Outer}
 use Rattle.syntax.specs.declared.numbers.Trap.{Trap}
 use Rattle.syntax.specs.declared.numbers.Halt.TheVariants.{Trapped, Wants, Spent, Astray}
 use Rattle.syntax.specs.Tree.{Program}
 use Rattle.syntax.specs.Names.{Local}
 use Rattle.syntax.specs.Behaviours.{Memory, Outcome}
 use Rattle.syntax.specs.Actions.{Context, Outside, Inside, State, Answer, Gives, Stops, Action, stop, go_on, ◌>>=◌, spend, tick, trap, load_at, store, may_print_at, write, print_piece, lefts_in}
-use Rattle.syntax.specs.Meaning.{End, Next, Breaks, Continues, Returns, Cancels, after_turn, turns, loop, Left, left_by, leave_inner, close_inner, close, enter}
+use Rattle.syntax.specs.Meaning.{End, after_turn, turns, loop, Left, undoes, left_or, left_by, leave_inner, close_inner, close, enter, mode_of, begin_at}
 use Rattle.syntax.specs.Threads.{outcome_of, first_state, worker_run, thread}
 use Rattle.syntax.specs.Laws.{IsPieceOf, ShowsOneMore, OneTickMore}
 use Rattle.syntax.proofs.Further.{state_of}
@@ -358,12 +360,9 @@ module _ (program : Program) where
       go_on (spend n (record now { context = Outside founds lefts }))
       (λ u then_. Gives left.end (record then_ { locals = left.locals; context = Outside founds (lefts ++ left.memory ∷ []) }))
 
-  left_later : (mine : List Local) (found : Memory) (end : End) (now : State) → left_by mine found end (later now) ≡ left_by mine found end now
-  left_later mine found Next now = refl
-  left_later mine found Breaks now = refl
-  left_later mine found Continues now = refl
-  left_later mine found (Returns v) now = refl
-  left_later mine found Cancels now = refl
+  left_later : (undone : Bool) (mine : List Local) (found : Memory) (end : End) (now : State) → left_or undone mine found end (later now) ≡ left_or undone mine found end now
+  left_later true mine found end now = refl
+  left_later false mine found end now = refl
 
   -- what an answer inside shows is shown outside, where nothing is left
   carried : {A B : Type 0} (t : State) (r : Answer A) (founds lefts : List Memory) (r' : Answer B) → IsInside t.context → Shown t r → (state_of r').text ≡ (state_of r).text → Quiet (Outside founds lefts) (state_of r').context → NoTrap r' → Shown (record t { context = Outside founds lefts }) r'
@@ -398,52 +397,52 @@ module _ (program : Program) where
     leave_shown t zero end u left e i f x = (f, carried {A = End} {B = End} t (Gives end u) founds lefts (Stops Spent (record u { context = Outside founds lefts })) i x refl refl tt)
     leave_shown t (suc n) end u left e i f x = absurd (cc)
 
-    module _ (mine : List Local) (found : Memory) where
-      close_falls : (n : ℕ) (r : Answer End) → (state_of r).ticks ≤ n → (state_of (close founds lefts mine found r)).ticks ≤ n
-      close_falls n (Gives end now) b = let c : (state_of (leave_at now.ticks now founds lefts (left_by mine found end now))).ticks ≤ now.ticks = leave_falls now.ticks now (left_by mine found end now) refl in omega (arith, b, c)
+    module _ (kind : Kind) (mine : List Local) (found : Memory) where
+      close_falls : (n : ℕ) (r : Answer End) → (state_of r).ticks ≤ n → (state_of (close kind founds lefts mine found r)).ticks ≤ n
+      close_falls n (Gives end now) b = let c : (state_of (leave_at now.ticks now founds lefts (left_by kind mine found end now))).ticks ≤ now.ticks = leave_falls now.ticks now (left_by kind mine found end now) refl in omega (arith, b, c)
       close_falls n (Stops (Trapped k) now) b = b
       close_falls n r b = b
 
-      close_side : (f l : List Memory) (r : Answer End) → SameSide (Outside f l) (state_of (close founds lefts mine found r)).context
-      close_side f l (Gives end now) = leave_side now.ticks now (left_by mine found end now) f l
+      close_side : (f l : List Memory) (r : Answer End) → SameSide (Outside f l) (state_of (close kind founds lefts mine found r)).context
+      close_side f l (Gives end now) = leave_side now.ticks now (left_by kind mine found end now) f l
       close_side f l (Stops (Trapped k) now) = tt
       close_side f l r = tt
 
-      close_idle : (mode : Mode) (k : ℕ) (ls : List Local) (t : List ℕ) (r : Answer End) → IsIdle (state k ls (Inside mode found) t) r → IsIdle (state k ls (Outside (found ∷ founds) lefts) t) (close founds lefts mine found r)
-      close_idle mode k ls t (Gives end now) g = leave_idle k ls t found now.ticks now (left_by mine found end now) g.ticks g.ticks g.text
+      close_idle : (mode : Mode) (k : ℕ) (ls : List Local) (t : List ℕ) (r : Answer End) → IsIdle (state k ls (Inside mode found) t) r → IsIdle (state k ls (Outside (found ∷ founds) lefts) t) (close kind founds lefts mine found r)
+      close_idle mode k ls t (Gives end now) g = leave_idle k ls t found now.ticks now (left_by kind mine found end now) g.ticks g.ticks g.text
       close_idle mode k ls t (Stops (Trapped x) now) g = absurd g.free
       close_idle mode k ls t (Stops Wants now) g = record { ticks = g.ticks; text = g.text; context = refl; free = tt }
       close_idle mode k ls t (Stops Spent now) g = record { ticks = g.ticks; text = g.text; context = refl; free = tt }
       close_idle mode k ls t (Stops Astray now) g = record { ticks = g.ticks; text = g.text; context = refl; free = tt }
 
-      close_shown : (t : State) (more : Answer End) → IsInside t.context → (state_of more).ticks ≡ 0 → Shown t more → ((state_of (close founds lefts mine found more)).ticks ≡ 0) × Shown (record t { context = Outside founds lefts }) (close founds lefts mine found more)
-      close_shown t (Gives end u) i e x = leave_shown t u.ticks end u (left_by mine found end u) e i e x
+      close_shown : (t : State) (more : Answer End) → IsInside t.context → (state_of more).ticks ≡ 0 → Shown t more → ((state_of (close kind founds lefts mine found more)).ticks ≡ 0) × Shown (record t { context = Outside founds lefts }) (close kind founds lefts mine found more)
+      close_shown t (Gives end u) i e x = leave_shown t u.ticks end u (left_by kind mine found end u) e i e x
       close_shown t (Stops (Trapped k) u) i e x = (e, trap_carried k t u founds lefts found i x)
       close_shown t (Stops Wants u) i e x = (e, carried {A = End} {B = End} t (Stops Wants u) founds lefts (Stops Wants (record u { context = Outside founds lefts })) i x refl refl tt)
       close_shown t (Stops Spent u) i e x = (e, carried {A = End} {B = End} t (Stops Spent u) founds lefts (Stops Spent (record u { context = Outside founds lefts })) i x refl refl tt)
       close_shown t (Stops Astray u) i e x = (e, carried {A = End} {B = End} t (Stops Astray u) founds lefts (Stops Astray (record u { context = Outside founds lefts })) i x refl refl tt)
 
-      close_one : (r more : Answer End) → IsInside (state_of r).context → OneMore r more → OneMore (close founds lefts mine found r) (close founds lefts mine found more)
+      close_one : (r more : Answer End) → IsInside (state_of r).context → OneMore r more → OneMore (close kind founds lefts mine found r) (close kind founds lefts mine found more)
       close_one (Gives end now) more i e =
-          let left = left_by mine found end now in
-          let same = ap (close founds lefts mine found) e ∙ ap (λ l. leave_at (suc now.ticks) (later now) founds lefts l) (left_later mine found end now) in
+          let left = left_by kind mine found end now in
+          let same = ap (close kind founds lefts mine found) e ∙ ap (λ l. leave_at (suc now.ticks) (later now) founds lefts l) (left_later (undoes end kind) mine found end now) in
           subst (λ x. OneMore (leave_at now.ticks now founds lefts left) x) (sym same) (leave_one now.ticks now left)
-      close_one (Stops (Trapped k) t) more i e = ap (close founds lefts mine found) e
-      close_one (Stops Wants t) more i e = ap (close founds lefts mine found) e
-      close_one (Stops Astray t) more i e = ap (close founds lefts mine found) e
+      close_one (Stops (Trapped k) t) more i e = ap (close kind founds lefts mine found) e
+      close_one (Stops Wants t) more i e = ap (close kind founds lefts mine found) e
+      close_one (Stops Astray t) more i e = ap (close kind founds lefts mine found) e
       close_one (Stops Spent t) more i e = close_shown t more i e.0 e.1
 
   -- an inner transaction
-  module _ (outer : Mode) (mine : List Local) (found : Memory) where
-    inner_falls : (n : ℕ) (r : Answer End) → (state_of r).ticks ≤ n → (state_of (close_inner outer mine found r)).ticks ≤ n
+  module _ (outer : Mode) (kind : Kind) (mine : List Local) (found : Memory) where
+    inner_falls : (n : ℕ) (r : Answer End) → (state_of r).ticks ≤ n → (state_of (close_inner outer kind mine found r)).ticks ≤ n
     inner_falls n (Gives end now) b = b
     inner_falls n (Stops why now) b = b
 
-    inner_side : (mode : Mode) (r : Answer End) → SameSide (Inside mode found) (state_of r).context → SameSide (Inside outer found) (state_of (close_inner outer mine found r)).context
+    inner_side : (mode : Mode) (r : Answer End) → SameSide (Inside mode found) (state_of r).context → SameSide (Inside outer found) (state_of (close_inner outer kind mine found r)).context
     inner_side mode (Gives end now) c = tt
     inner_side mode (Stops why now) c = c
 
-    inner_idle : (mode : Mode) (k : ℕ) (ls : List Local) (t : List ℕ) (r : Answer End) → IsIdle (state k ls (Inside mode found) t) r → IsIdle (state k ls (Inside outer found) t) (close_inner outer mine found r)
+    inner_idle : (mode : Mode) (k : ℕ) (ls : List Local) (t : List ℕ) (r : Answer End) → IsIdle (state k ls (Inside mode found) t) r → IsIdle (state k ls (Inside outer found) t) (close_inner outer kind mine found r)
     inner_idle mode k ls t (Gives end now) g = record { ticks = g.ticks; text = g.text; context = tt; free = tt }
     inner_idle mode k ls t (Stops why now) g = record { ticks = g.ticks; text = g.text; context = g.context; free = g.free }
 
@@ -452,17 +451,17 @@ module _ (program : Program) where
     inner_carried t end end' u u' i e j q (inr (inl x)) = inr (inl (x.0, e ∙ x.1, q, tt, x.4))
     inner_carried t end end' u u' i e j q (inr (inr x)) = absurd (inside_leaves t.context u.context i x.1)
 
-    inner_shown : (t : State) (more : Answer End) → IsInside t.context → (state_of more).ticks ≡ 0 → Shown t more → ((state_of (close_inner outer mine found more)).ticks ≡ 0) × Shown t (close_inner outer mine found more)
+    inner_shown : (t : State) (more : Answer End) → IsInside t.context → (state_of more).ticks ≡ 0 → Shown t more → ((state_of (close_inner outer kind mine found more)).ticks ≡ 0) × Shown t (close_inner outer kind mine found more)
     inner_shown t (Gives end u) i e x =
-        let left = left_by mine found end u in
+        let left = left_by kind mine found end u in
         (e, inner_carried t end left.end u (record u { locals = left.locals; context = Inside outer left.memory }) i refl tt (inside_quiet t.context outer left.memory i) x)
     inner_shown t (Stops why u) i e x = (e, x)
 
-    inner_one : (r more : Answer End) → IsInside (state_of r).context → OneMore r more → OneMore (close_inner outer mine found r) (close_inner outer mine found more)
-    inner_one (Gives end now) more i e = ap (close_inner outer mine found) e ∙ ap (λ l. leave_inner outer l (later now)) (left_later mine found end now)
-    inner_one (Stops (Trapped k) t) more i e = ap (close_inner outer mine found) e
-    inner_one (Stops Wants t) more i e = ap (close_inner outer mine found) e
-    inner_one (Stops Astray t) more i e = ap (close_inner outer mine found) e
+    inner_one : (r more : Answer End) → IsInside (state_of r).context → OneMore r more → OneMore (close_inner outer kind mine found r) (close_inner outer kind mine found more)
+    inner_one (Gives end now) more i e = ap (close_inner outer kind mine found) e ∙ ap (λ l. leave_inner outer l (later now)) (left_later (undoes end kind) mine found end now)
+    inner_one (Stops (Trapped k) t) more i e = ap (close_inner outer kind mine found) e
+    inner_one (Stops Wants t) more i e = ap (close_inner outer kind mine found) e
+    inner_one (Stops Astray t) more i e = ap (close_inner outer kind mine found) e
     inner_one (Stops Spent t) more i e = inner_shown t more i e.0 e.1
 
   module _ (run : Action End) (h : IsSlow run) where
@@ -472,33 +471,53 @@ module _ (program : Program) where
     stays_in : (mode : Mode) (m : Memory) (n : ℕ) (ls : List Local) (t : List ℕ) → IsInside (state_of (run (from mode m n ls t))).context
     stays_in mode m n ls t = inside_side mode m (state_of (run (from mode m n ls t))).context (h.side (from mode m n ls t))
 
-    enter_falls : (mode : Mode) (p : Context) (n : ℕ) (ls : List Local) (t : List ℕ) → (state_of (enter p mode run (state n ls p t))).ticks ≤ n
-    enter_falls mode (Outside [] lefts) n ls t = omega arith
-    enter_falls mode (Outside (m ∷ founds) lefts) n ls t = close_falls founds lefts ls m n (run (from mode m n ls t)) (h.falls (from mode m n ls t))
-    enter_falls mode (Inside Relaxed m) n ls t = inner_falls Relaxed ls m n (run (from mode m n ls t)) (h.falls (from mode m n ls t))
-    enter_falls Atomic (Inside Atomic m) n ls t = inner_falls Atomic ls m n (run (from Atomic m n ls t)) (h.falls (from Atomic m n ls t))
-    enter_falls Relaxed (Inside Atomic m) n ls t = omega arith
+    enter_falls : (kind : Kind) (p : Context) (n : ℕ) (ls : List Local) (t : List ℕ) → (state_of (enter p kind run (state n ls p t))).ticks ≤ n
+    enter_falls kind (Outside [] lefts) n ls t = omega arith
+    enter_falls kind (Outside (m ∷ founds) lefts) n ls t = close_falls founds lefts kind ls m n (run (from (mode_of kind) m n ls t)) (h.falls (from (mode_of kind) m n ls t))
+    enter_falls kind (Inside Relaxed m) n ls t = inner_falls Relaxed kind ls m n (run (from (mode_of kind) m n ls t)) (h.falls (from (mode_of kind) m n ls t))
+    enter_falls (Plain Atomic) (Inside Atomic m) n ls t = inner_falls Atomic (Plain Atomic) ls m n (run (from Atomic m n ls t)) (h.falls (from Atomic m n ls t))
+    enter_falls Outer (Inside Atomic m) n ls t = inner_falls Atomic Outer ls m n (run (from Atomic m n ls t)) (h.falls (from Atomic m n ls t))
+    enter_falls (Plain Relaxed) (Inside Atomic m) n ls t = omega arith
 
-    enter_side : (mode : Mode) (p : Context) (n : ℕ) (ls : List Local) (t : List ℕ) → SameSide p (state_of (enter p mode run (state n ls p t))).context
-    enter_side mode (Outside [] lefts) n ls t = tt
-    enter_side mode (Outside (m ∷ founds) lefts) n ls t = close_side founds lefts ls m (m ∷ founds) lefts (run (from mode m n ls t))
-    enter_side mode (Inside Relaxed m) n ls t = inner_side Relaxed ls m mode (run (from mode m n ls t)) (h.side (from mode m n ls t))
-    enter_side Atomic (Inside Atomic m) n ls t = inner_side Atomic ls m Atomic (run (from Atomic m n ls t)) (h.side (from Atomic m n ls t))
-    enter_side Relaxed (Inside Atomic m) n ls t = tt
+    enter_side : (kind : Kind) (p : Context) (n : ℕ) (ls : List Local) (t : List ℕ) → SameSide p (state_of (enter p kind run (state n ls p t))).context
+    enter_side kind (Outside [] lefts) n ls t = tt
+    enter_side kind (Outside (m ∷ founds) lefts) n ls t = close_side founds lefts kind ls m (m ∷ founds) lefts (run (from (mode_of kind) m n ls t))
+    enter_side kind (Inside Relaxed m) n ls t = inner_side Relaxed kind ls m (mode_of kind) (run (from (mode_of kind) m n ls t)) (h.side (from (mode_of kind) m n ls t))
+    enter_side (Plain Atomic) (Inside Atomic m) n ls t = inner_side Atomic (Plain Atomic) ls m Atomic (run (from Atomic m n ls t)) (h.side (from Atomic m n ls t))
+    enter_side Outer (Inside Atomic m) n ls t = inner_side Atomic Outer ls m Atomic (run (from Atomic m n ls t)) (h.side (from Atomic m n ls t))
+    enter_side (Plain Relaxed) (Inside Atomic m) n ls t = tt
 
-    enter_idle : (mode : Mode) (p : Context) (n : ℕ) (ls : List Local) (t : List ℕ) → n ≡ 0 → IsIdle (state n ls p t) (enter p mode run (state n ls p t))
-    enter_idle mode (Outside [] lefts) n ls t e = record { ticks = e; text = refl; context = refl; free = tt }
-    enter_idle mode (Outside (m ∷ founds) lefts) n ls t e = close_idle founds lefts ls m mode n ls t (run (from mode m n ls t)) (h.idle (from mode m n ls t) e)
-    enter_idle mode (Inside Relaxed m) n ls t e = inner_idle Relaxed ls m mode n ls t (run (from mode m n ls t)) (h.idle (from mode m n ls t) e)
-    enter_idle Atomic (Inside Atomic m) n ls t e = inner_idle Atomic ls m Atomic n ls t (run (from Atomic m n ls t)) (h.idle (from Atomic m n ls t) e)
-    enter_idle Relaxed (Inside Atomic m) n ls t e = record { ticks = e; text = refl; context = tt; free = tt }
+    enter_idle : (kind : Kind) (p : Context) (n : ℕ) (ls : List Local) (t : List ℕ) → n ≡ 0 → IsIdle (state n ls p t) (enter p kind run (state n ls p t))
+    enter_idle kind (Outside [] lefts) n ls t e = record { ticks = e; text = refl; context = refl; free = tt }
+    enter_idle kind (Outside (m ∷ founds) lefts) n ls t e = close_idle founds lefts kind ls m (mode_of kind) n ls t (run (from (mode_of kind) m n ls t)) (h.idle (from (mode_of kind) m n ls t) e)
+    enter_idle kind (Inside Relaxed m) n ls t e = inner_idle Relaxed kind ls m (mode_of kind) n ls t (run (from (mode_of kind) m n ls t)) (h.idle (from (mode_of kind) m n ls t) e)
+    enter_idle (Plain Atomic) (Inside Atomic m) n ls t e = inner_idle Atomic (Plain Atomic) ls m Atomic n ls t (run (from Atomic m n ls t)) (h.idle (from Atomic m n ls t) e)
+    enter_idle Outer (Inside Atomic m) n ls t e = inner_idle Atomic Outer ls m Atomic n ls t (run (from Atomic m n ls t)) (h.idle (from Atomic m n ls t) e)
+    enter_idle (Plain Relaxed) (Inside Atomic m) n ls t e = record { ticks = e; text = refl; context = tt; free = tt }
 
-    enter_one : (mode : Mode) (p : Context) (n : ℕ) (ls : List Local) (t : List ℕ) → OneMore (enter p mode run (state n ls p t)) (enter p mode run (state (suc n) ls p t))
-    enter_one mode (Outside [] lefts) n ls t = refl
-    enter_one mode (Outside (m ∷ founds) lefts) n ls t = close_one founds lefts ls m (run (from mode m n ls t)) (run (from mode m (suc n) ls t)) (stays_in mode m n ls t) (h.one (from mode m n ls t))
-    enter_one mode (Inside Relaxed m) n ls t = inner_one Relaxed ls m (run (from mode m n ls t)) (run (from mode m (suc n) ls t)) (stays_in mode m n ls t) (h.one (from mode m n ls t))
-    enter_one Atomic (Inside Atomic m) n ls t = inner_one Atomic ls m (run (from Atomic m n ls t)) (run (from Atomic m (suc n) ls t)) (stays_in Atomic m n ls t) (h.one (from Atomic m n ls t))
-    enter_one Relaxed (Inside Atomic m) n ls t = refl
+    enter_one : (kind : Kind) (p : Context) (n : ℕ) (ls : List Local) (t : List ℕ) → OneMore (enter p kind run (state n ls p t)) (enter p kind run (state (suc n) ls p t))
+    enter_one kind (Outside [] lefts) n ls t = refl
+    enter_one kind (Outside (m ∷ founds) lefts) n ls t = close_one founds lefts kind ls m (run (from (mode_of kind) m n ls t)) (run (from (mode_of kind) m (suc n) ls t)) (stays_in (mode_of kind) m n ls t) (h.one (from (mode_of kind) m n ls t))
+    enter_one kind (Inside Relaxed m) n ls t = inner_one Relaxed kind ls m (run (from (mode_of kind) m n ls t)) (run (from (mode_of kind) m (suc n) ls t)) (stays_in (mode_of kind) m n ls t) (h.one (from (mode_of kind) m n ls t))
+    enter_one (Plain Atomic) (Inside Atomic m) n ls t = inner_one Atomic (Plain Atomic) ls m (run (from Atomic m n ls t)) (run (from Atomic m (suc n) ls t)) (stays_in Atomic m n ls t) (h.one (from Atomic m n ls t))
+    enter_one Outer (Inside Atomic m) n ls t = inner_one Atomic Outer ls m (run (from Atomic m n ls t)) (run (from Atomic m (suc n) ls t)) (stays_in Atomic m n ls t) (h.one (from Atomic m n ls t))
+    enter_one (Plain Relaxed) (Inside Atomic m) n ls t = refl
+
+  begin_falls : (p : Context) (s : State) → (state_of (begin_at p s)).ticks ≤ s.ticks
+  begin_falls (Outside f l) s = tick_slow.falls s
+  begin_falls (Inside mode m) s = omega arith
+
+  begin_side : (p : Context) (s : State) → SameSide s.context (state_of (begin_at p s)).context
+  begin_side (Outside f l) s = tick_slow.side s
+  begin_side (Inside mode m) s = side_refl s.context
+
+  begin_idle : (p : Context) (s : State) → s.ticks ≡ 0 → IsIdle s (begin_at p s)
+  begin_idle (Outside f l) s e = tick_slow.idle s e
+  begin_idle (Inside mode m) s e = still s tt e
+
+  begin_one : (p : Context) (s : State) → OneMore (begin_at p s) (begin_at p (later s))
+  begin_one (Outside f l) s = tick_slow.one s
+  begin_one (Inside mode m) s = refl
 
   slow_kept : IsKept (IsPieceOf program) (λ A run. IsSlow run)
   slow_kept = record {
@@ -514,12 +533,13 @@ module _ (program : Program) where
     may_print_holds = record { falls = λ s. may_print_falls s.context s; side = λ s. may_print_side s.context s; idle = λ s e. may_print_idle s.context s e; one = λ s. may_print_one s.context s };
     print_piece_holds = piece_slow;
     loop_holds = loop_slow;
-    transaction_holds = λ mode h. record {
-      falls = λ s. enter_falls _ h mode s.context s.ticks s.locals s.text;
-      side = λ s. enter_side _ h mode s.context s.ticks s.locals s.text;
-      idle = λ s e. enter_idle _ h mode s.context s.ticks s.locals s.text e;
-      one = λ s. enter_one _ h mode s.context s.ticks s.locals s.text;
+    transaction_holds = λ kind h. record {
+      falls = λ s. enter_falls _ h kind s.context s.ticks s.locals s.text;
+      side = λ s. enter_side _ h kind s.context s.ticks s.locals s.text;
+      idle = λ s e. enter_idle _ h kind s.context s.ticks s.locals s.text e;
+      one = λ s. enter_one _ h kind s.context s.ticks s.locals s.text;
     };
+    begin_value_holds = record { falls = λ s. begin_falls s.context s; side = λ s. begin_side s.context s; idle = λ s e. begin_idle s.context s e; one = λ s. begin_one s.context s };
   }
 
   same_shown : (o after : Outcome) → after ≡ o → ShowsOneMore program o after

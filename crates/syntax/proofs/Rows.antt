@@ -4,6 +4,7 @@ use Rattle.std.specs.Prelude.{codes}
 use Rattle.lex.specs.declared.token.Span.{Span}
 use Rattle.lex.specs.declared.token.Scalar.TheVariants.{Int}
 use Rattle.syntax.specs.declared.tree.Mode.TheVariants.{Atomic}
+use Rattle.syntax.specs.declared.tree.Kind.TheVariants.{Plain}
 use Rattle.syntax.specs.Tree as Tree
 use Rattle.syntax.specs.Tree.{Name, Expr, Variable, Constant, Assign, Stmt, Stmts, Do, Transaction, Item, Defines, Shares, Program}
 use Rattle.syntax.specs.declared.numbers.Halt.TheVariants.{Wants, Spent}
@@ -26,7 +27,7 @@ abbrev pub set_to : List ℕ → Expr → Stmt
 set_to x e = Do (Assign (var x) None e)
 
 abbrev pub atomic : Stmts → Stmt
-atomic ss = Transaction Atomic ss here
+atomic ss = Transaction (Plain Atomic) ss here
 
 abbrev pub just : Stmt → Stmts
 just s = Tree.◌∷◌ s Tree.[]

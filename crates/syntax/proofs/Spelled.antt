@@ -1,5 +1,6 @@
 -- Small texts and their trees.
 use Rattle.std.proofs.Common.{ℕ, ◌+◌, List, [], ◌∷◌, None, refl, inl}
+use Rattle.std.specs.Prelude.{codes}
 use Rattle.lex.specs.declared.token.Fixed.{Fixed}
 use Rattle.lex.specs.declared.token.Fixed.TheVariants.{Keyword, Punctuator}
 use Rattle.lex.specs.declared.token.Keyword.TheVariants as key
@@ -7,8 +8,9 @@ use Rattle.lex.specs.declared.token.Punctuator.TheVariants as punct
 use Rattle.lex.specs.declared.token.Scalar.TheVariants.{Int}
 use Rattle.lex.specs.declared.token.Span.{Span}
 use Rattle.lex.specs.Tokens.{name, fixed, Tok}
-use Rattle.syntax.specs.Tree.{Name, Expr, Variable, Stmt, Empty, If, IfElse, Shares}
-use Rattle.syntax.specs.Grammar.{Spells, in_parens, stmt}
+use Rattle.syntax.specs.declared.tree.Mode.TheVariants.{Atomic}
+use Rattle.syntax.specs.Tree.{Name, Expr, Variable, InTransaction, Stmt, Empty, CancelOuter, If, IfElse, Shares}
+use Rattle.syntax.specs.Grammar.{Spells, in_parens, outer_mark, expr, stmt}
 
 -- one byte from here on
 abbrev byte : ℕ → Span
@@ -60,6 +62,66 @@ parens n = record {
   whole = refl;
   first = record { token = sign (Punctuator punct.OpenParen) n; has = refl; whole = refl };
   second = record { front = x_token (n + 1) ∷ []; back = sign (Punctuator punct.CloseParen) (n + 2) ∷ []; whole = refl; first = record { token = x_token (n + 1); has = refl; whole = refl }; second = record { token = sign (Punctuator punct.CloseParen) (n + 2); has = refl; whole = refl } };
+}
+
+-- `__transaction_atomic (x)`, of tokens one byte long: the keyword's place stands beside the whole's
+pub one_transaction : expr (InTransaction Atomic (byte 0) (Variable (x_name 2)) (record { start = 0; «end» = 4 })) (sign (Keyword key.Atomic) 0 ∷ sign (Punctuator punct.OpenParen) 1 ∷ x_token 2 ∷ sign (Punctuator punct.CloseParen) 3 ∷ [])
+one_transaction = (
+  refl,
+  record {
+    front = sign (Keyword key.Atomic) 0 ∷ [];
+    back = _;
+    whole = refl;
+    first = record { token = sign (Keyword key.Atomic) 0; has = refl; whole = refl };
+    second = parens 1;
+  },
+)
+
+-- `[[outer]]`
+abbrev outer_token : ℕ → Tok
+outer_token n = record { terminal = name (codes "outer"); span = byte n }
+
+marked : (n : ℕ) → outer_mark (sign (Punctuator punct.OpenBracket) n ∷ sign (Punctuator punct.OpenBracket) (n + 1) ∷ outer_token (n + 2) ∷ sign (Punctuator punct.CloseBracket) (n + 3) ∷ sign (Punctuator punct.CloseBracket) (n + 4) ∷ [])
+marked n = inl (record {
+  front = sign (Punctuator punct.OpenBracket) n ∷ [];
+  back = _;
+  whole = refl;
+  first = record { token = sign (Punctuator punct.OpenBracket) n; has = refl; whole = refl };
+  second = record {
+    front = sign (Punctuator punct.OpenBracket) (n + 1) ∷ [];
+    back = _;
+    whole = refl;
+    first = record { token = sign (Punctuator punct.OpenBracket) (n + 1); has = refl; whole = refl };
+    second = record {
+      front = outer_token (n + 2) ∷ [];
+      back = _;
+      whole = refl;
+      first = record { token = outer_token (n + 2); has = refl; whole = refl };
+      second = record {
+        front = sign (Punctuator punct.CloseBracket) (n + 3) ∷ [];
+        back = _;
+        whole = refl;
+        first = record { token = sign (Punctuator punct.CloseBracket) (n + 3); has = refl; whole = refl };
+        second = record { token = sign (Punctuator punct.CloseBracket) (n + 4); has = refl; whole = refl };
+      };
+    };
+  };
+})
+
+-- `__transaction_cancel [[outer]];`, of tokens one byte long
+pub one_outer_cancel : stmt (CancelOuter (byte 0)) (sign (Keyword key.Cancel) 0 ∷ sign (Punctuator punct.OpenBracket) 1 ∷ sign (Punctuator punct.OpenBracket) 2 ∷ outer_token 3 ∷ sign (Punctuator punct.CloseBracket) 4 ∷ sign (Punctuator punct.CloseBracket) 5 ∷ sign (Punctuator punct.Semicolon) 6 ∷ [])
+one_outer_cancel = record {
+  front = sign (Keyword key.Cancel) 0 ∷ [];
+  back = _;
+  whole = refl;
+  first = record { token = sign (Keyword key.Cancel) 0; has = refl; whole = refl };
+  second = record {
+    front = sign (Punctuator punct.OpenBracket) 1 ∷ sign (Punctuator punct.OpenBracket) 2 ∷ outer_token 3 ∷ sign (Punctuator punct.CloseBracket) 4 ∷ sign (Punctuator punct.CloseBracket) 5 ∷ [];
+    back = sign (Punctuator punct.Semicolon) 6 ∷ [];
+    whole = refl;
+    first = marked 1;
+    second = record { token = sign (Punctuator punct.Semicolon) 6; has = refl; whole = refl };
+  };
 }
 
 -- an `else` behind two `if`s belongs to the second

@@ -2,12 +2,14 @@
 use Rattle.std.proofs.Common.{ℕ, zero, suc, ◌≤◌, List, [], ◌∷◌, ◌++◌, Option, Some, None, arith}
 use Rattle.syntax.specs.declared.tree.Mode.{Mode}
 use Rattle.syntax.specs.declared.tree.Mode.TheVariants.{Atomic, Relaxed}
+use Rattle.syntax.specs.declared.tree.Kind.{Kind}
+use Rattle.syntax.specs.declared.tree.Kind.TheVariants.{Plain, Outer}
 use Rattle.syntax.specs.declared.numbers.Halt.TheVariants.{Trapped}
 use Rattle.syntax.specs.Names.{Local}
 use Rattle.syntax.specs.Behaviours.{Memory}
 use Rattle.syntax.specs.Actions.{Context, Outside, Inside, State, Answer, Gives, Stops, state_of, Action, stop, go_on, ◌>>=◌, spend, tick, load_at, store_at, may_print_at, write}
 use Rattle.syntax.specs.Tree.{Program, Simple}
-use Rattle.syntax.specs.Meaning.{simple, calls, End, after_turn, turns, Left, left_by, close_inner, close, enter}
+use Rattle.syntax.specs.Meaning.{simple, calls, End, after_turn, turns, Left, left_by, close_inner, close, enter, mode_of, begin_at}
 use Rattle.syntax.specs.Laws.{TicksNeverGrow}
 use Rattle.syntax.proofs.Kept.{IsAlwaysKept, each_expr_holds, each_simple_holds, each_stmt_holds}
 
@@ -49,21 +51,30 @@ leave_falls : (n k : ℕ) (now : State) (founds lefts : List Memory) (left : Lef
 leave_falls n zero now founds lefts left h k = h
 leave_falls n (suc k) now founds lefts left h below = omega (arith, below)
 
-close_falls : (n : ℕ) (m : Memory) (founds lefts : List Memory) (mine : List Local) (r : Answer End) → (state_of r).ticks ≤ n → (state_of (close founds lefts mine m r)).ticks ≤ n
-close_falls n m founds lefts mine (Gives end now) c = leave_falls n now.ticks now founds lefts (left_by mine m end now) c c
-close_falls n m founds lefts mine (Stops (Trapped k) now) c = c
-close_falls n m founds lefts mine r c = c
+close_falls : (n : ℕ) (kind : Kind) (m : Memory) (founds lefts : List Memory) (mine : List Local) (r : Answer End) → (state_of r).ticks ≤ n → (state_of (close kind founds lefts mine m r)).ticks ≤ n
+close_falls n kind m founds lefts mine (Gives end now) c = leave_falls n now.ticks now founds lefts (left_by kind mine m end now) c c
+close_falls n kind m founds lefts mine (Stops (Trapped k) now) c = c
+close_falls n kind m founds lefts mine r c = c
 
-close_inner_falls : (n : ℕ) (outer : Mode) (m : Memory) (mine : List Local) (r : Answer End) → (state_of r).ticks ≤ n → (state_of (close_inner outer mine m r)).ticks ≤ n
-close_inner_falls n outer m mine (Gives end now) c = c
-close_inner_falls n outer m mine (Stops why now) c = c
+close_inner_falls : (n : ℕ) (outer : Mode) (kind : Kind) (m : Memory) (mine : List Local) (r : Answer End) → (state_of r).ticks ≤ n → (state_of (close_inner outer kind mine m r)).ticks ≤ n
+close_inner_falls n outer kind m mine (Gives end now) c = c
+close_inner_falls n outer kind m mine (Stops why now) c = c
 
-enter_falls : (mode : Mode) (run : Action End) → Falls run → (p : Context) (s : State) → (state_of (enter p mode run s)).ticks ≤ s.ticks
-enter_falls mode run h (Outside [] lefts) s = omega arith
-enter_falls mode run h (Outside (m ∷ founds) lefts) s = close_falls s.ticks m founds lefts s.locals (run (record s { context = Inside mode m })) (h.falls (record s { context = Inside mode m }))
-enter_falls mode run h (Inside Relaxed m) s = close_inner_falls s.ticks Relaxed m s.locals (run (record s { context = Inside mode m })) (h.falls (record s { context = Inside mode m }))
-enter_falls Atomic run h (Inside Atomic m) s = close_inner_falls s.ticks Atomic m s.locals (run (record s { context = Inside Atomic m })) (h.falls (record s { context = Inside Atomic m }))
-enter_falls Relaxed run h (Inside Atomic m) s = omega arith
+begin_falls : (p : Context) (s : State) → (state_of (begin_at p s)).ticks ≤ s.ticks
+begin_falls (Outside founds lefts) s = spend_falls s.ticks s (omega arith)
+begin_falls (Inside mode m) s = omega arith
+
+inside : (kind : Kind) (m : Memory) → State → State
+inside kind m s = record s { context = Inside (mode_of kind) m }
+
+enter_falls : (kind : Kind) (run : Action End) → Falls run → (p : Context) (s : State) → (state_of (enter p kind run s)).ticks ≤ s.ticks
+unfolding inside
+enter_falls kind run h (Outside [] lefts) s = omega arith
+enter_falls kind run h (Outside (m ∷ founds) lefts) s = close_falls s.ticks kind m founds lefts s.locals (run (inside kind m s)) (h.falls (inside kind m s))
+enter_falls kind run h (Inside Relaxed m) s = close_inner_falls s.ticks Relaxed kind m s.locals (run (inside kind m s)) (h.falls (inside kind m s))
+enter_falls (Plain Atomic) run h (Inside Atomic m) s = close_inner_falls s.ticks Atomic (Plain Atomic) m s.locals (run (inside (Plain Atomic) m s)) (h.falls (inside (Plain Atomic) m s))
+enter_falls Outer run h (Inside Atomic m) s = close_inner_falls s.ticks Atomic Outer m s.locals (run (inside Outer m s)) (h.falls (inside Outer m s))
+enter_falls (Plain Relaxed) run h (Inside Atomic m) s = omega arith
 
 on_falling : {A B : Type 0} {run : Action A} {rest : A → Action B} → Falls run → ((a : A) → Falls (rest a)) → Falls (run >>= rest)
 on_falling {run = run} {rest = rest} g h = record { falls = λ s. on_falls s.ticks (run s) rest (g.falls s) (λ a t. (h a).falls t) }
@@ -82,7 +93,8 @@ falls_kept = record {
   may_print_holds = record { falls = λ s. may_print_falls s.context s };
   print_piece_holds = λ text shown. record { falls = λ s. on_falls s.ticks (tick s) (λ _. write text) (spend_falls s.ticks s (omega arith)) (λ _ u. omega arith) };
   loop_holds = λ h. record { falls = λ s. turns_fall _ h s.ticks s };
-  transaction_holds = λ mode h. record { falls = λ s. enter_falls mode _ h s.context s };
+  transaction_holds = λ kind h. record { falls = λ s. enter_falls kind _ h s.context s };
+  begin_value_holds = record { falls = λ s. begin_falls s.context s };
 }
 
 pub ticks_never_grow : TicksNeverGrow

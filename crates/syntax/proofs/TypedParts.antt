@@ -5,7 +5,7 @@ use Rattle.std.specs.Option.{IfSome}
 use Rattle.lex.specs.declared.token.Span.{Span}
 use Rattle.lex.specs.declared.token.Scalar.{Scalar}
 use Rattle.syntax.specs.Tree as Tree
-use Rattle.syntax.specs.Tree.{Name, Expr, Exprs, Variable, Constant, Element, Call, Parenthesized, Cast, Unary, Binary, Logical, Conditional, Simple, Evaluate, Assign, Adjust, Declarator, Start, Nothing, Declares, Does, Stmt, Stmts, Empty, Declare, Do, Block, Print, If, IfElse, While, DoWhile, For, Break, Continue, Return, Transaction, Cancel}
+use Rattle.syntax.specs.Tree.{Name, Expr, Exprs, Variable, Constant, Element, Call, Parenthesized, Cast, Unary, Binary, Logical, Conditional, InTransaction, Simple, Evaluate, Assign, Adjust, Declarator, Start, Nothing, Declares, Does, Stmt, Stmts, Empty, Declare, Do, Block, Print, If, IfElse, While, DoWhile, For, Break, Continue, Return, Transaction, Cancel, CancelOuter}
 use Rattle.syntax.specs.Types.{Scope, with_number}
 use Rattle.syntax.specs.Formats.{pieces, is_format, figures}
 use Rattle.syntax.specs.Typing.{is_unknown, may_be_number, may_be_array, may_be_function, takes_so_many, count, span_of, is_void, has_name, scope_after, names_of, scope_of_start, returns_right, may_be_assigned, Demand, demand, demands_of, IsKnown, GivesNumber, IsTyped, AreNumbers, IsNumber, IsTypedTarget, IsAssignable, IsTypedSimple, HaveTypes, IsTypedPrint, AreTypedDeclarators, IsTypedStart, IsTypedStmt, AreTypedStmts}
@@ -31,6 +31,7 @@ module _ (known : Scope) where
     TypedExpr (Binary op a b at) = TypedExpr a × Gives a × TypedExpr b × Gives b
     TypedExpr (Logical op a b at) = TypedExpr a × TypedExpr b
     TypedExpr (Conditional c a b at) = TypedExpr c × TypedExpr a × Gives a × TypedExpr b × Gives b
+    TypedExpr (InTransaction mode keyword e at) = TypedExpr e × Gives e
 
     pub TypedExprs : Exprs → Type 0
     TypedExprs Exprs.[] = Unit {0}
@@ -85,6 +86,7 @@ module _ (known : Scope) where
         let g = met_behind (IsNumber known c) (IsNumber known a) first in
         let k = met_behind (IsNumber known c ++ IsNumber known a) (IsNumber known b) h in
         (expr_parts c (number_part c f), expr_parts a (number_part a g), gives_part a g, expr_parts b (number_part b k), gives_part b k)
+    expr_parts (InTransaction mode keyword e at) h = (expr_parts e (number_part e h), gives_part e h)
 
     exprs_parts : (es : Exprs) → AreMet (AreNumbers known es) → TypedExprs es
     exprs_parts Tree.[] h = tt
@@ -118,6 +120,7 @@ module _ (known : Scope) where
   target_parts (Binary op a b at) h = expr_parts (Binary op a b at) h
   target_parts (Logical op a b at) h = expr_parts (Logical op a b at) h
   target_parts (Conditional c a b at) h = expr_parts (Conditional c a b at) h
+  target_parts (InTransaction mode keyword e at) h = expr_parts (InTransaction mode keyword e at) h
 
   pub simple_parts : (s : Simple) → AreMet (IsTypedSimple known s) → TypedSimple s
   simple_parts (Evaluate e) h = expr_parts e h
@@ -192,8 +195,9 @@ abbrev mutual
   TypedStmt (Break at) known looping = IsTrue looping
   TypedStmt (Continue at) known looping = IsTrue looping
   TypedStmt (Return e at) known looping = IfSome e (TypedExpr known)
-  TypedStmt (Transaction mode ss at) known looping = TypedStmts ss known looping
+  TypedStmt (Transaction kind ss at) known looping = TypedStmts ss known looping
   TypedStmt (Cancel at) known looping = Unit {0}
+  TypedStmt (CancelOuter at) known looping = Unit {0}
 
   pub TypedStmts : Stmts → Scope → (looping : Bool) → Type 0
   TypedStmts Stmts.[] known looping = Unit {0}
@@ -246,8 +250,9 @@ module _ (gives : Option Scalar) where
         let own = demands_of e (IsTyped known) in
         let right = demand 22 at (returns_right gives e) in
         parts_of (TypedExpr known) (IsTyped known) e (expr_parts known) (met_before own right (met_before (own ++ right) (demands_of e (GivesNumber known)) h))
-    stmt_parts (Transaction mode ss at) known declared looping h = stmts_parts ss known [] looping h
+    stmt_parts (Transaction kind ss at) known declared looping h = stmts_parts ss known [] looping h
     stmt_parts (Cancel at) known declared looping h = tt
+    stmt_parts (CancelOuter at) known declared looping h = tt
 
     pub stmts_parts : (ss : Stmts) (known : Scope) (declared : List (List ℕ)) (looping : Bool) → AreMet (AreTypedStmts gives ss known declared looping) → TypedStmts ss known looping
     stmts_parts Tree.[] known declared looping h = tt

@@ -15,16 +15,16 @@ use Rattle.syntax.specs.declared.numbers.Trap.{Trap}
 use Rattle.syntax.specs.declared.numbers.Trap.TheVariants.{Index, Frames}
 use Rattle.syntax.specs.declared.numbers.Halt.TheVariants.{Trapped}
 use Rattle.syntax.specs.declared.numbers.Value.{Value}
-use Rattle.syntax.specs.Tree.{Expr, Variable, Constant, Element, Call, Parenthesized, Cast, Unary, Binary, Logical, Conditional, Function, Global, Item, Defines, Shares, Stmts, Program}
+use Rattle.syntax.specs.Tree.{Expr, Variable, Constant, Element, Call, Parenthesized, Cast, Unary, Binary, Logical, Conditional, InTransaction, Function, Global, Item, Defines, Shares, Stmts, Program}
 use Rattle.syntax.specs.Numbers.{common, converted, result_type, operand_type, typed, unary, binary, is_zero, flag}
 use Rattle.syntax.specs.Names.{Local, GlobalCells, globals, cells, global_from, global_of, defined, definition_of, newest}
 use Rattle.syntax.specs.Types.{Known, Unknown, Number, Array, Callable, known_global, known_function, known_among, file_scope, number_type, element_type, call_type, Scope, common_of, unary_type, binary_type, type_of, running_scope}
 use Rattle.syntax.specs.Typing.{same_type, same_result, agrees, may_be_function, has_name, defined_names, is_worker, demand, AreDistinct, IsTypedBody, IsTypedFunction, IsTypedItem, AreTypedItems, AreDefined, IsTypedProgram}
 use Rattle.syntax.proofs.Demands.{AreMet, met_before, met_behind, is_met}
 use Rattle.syntax.specs.Actions.{Context, Outside, Inside, State, Answer, Gives, Stops, Action, pure, stop, go_on, ◌>>=◌, ◌>>◌, spend, tick, trap, or_trap, or_astray, locals, put_locals, load_at}
-use Rattle.syntax.specs.Meaning.{Spot, InLocal, InCell, fetch, End, Next, Breaks, Continues, Returns, Cancels, spot_from, element, expr, exprs, stmts, entered, result_of, Caller, calls}
+use Rattle.syntax.specs.Meaning.{Spot, InLocal, InCell, fetch, End, Next, Breaks, Continues, Returns, Cancels, CancelsOuter, spot_from, element, expr, exprs, stmts, entered, result_of, Caller, calls}
 use Rattle.syntax.specs.Laws.{WhereGiven, GivesItsType}
-use Rattle.syntax.proofs.Expressions.{expr_holds, calls_holds}
+use Rattle.syntax.proofs.Expressions.{expr_holds, calls_holds, value_transaction_gives}
 
 some_same : (s t : Scalar) → Some s ≡ Some t → s ≡ t
 some_same s t e = ap (λ o. unwrap_or o s) e
@@ -292,6 +292,7 @@ returned_typed o result h outer (Gives (Returns v) now) = λ t e. ap (λ x. unwr
 returned_typed o result h outer (Gives Breaks now) = tt
 returned_typed o result h outer (Gives Continues now) = tt
 returned_typed o result h outer (Gives Cancels now) = tt
+returned_typed o result h outer (Gives CancelsOuter now) = tt
 returned_typed o result h outer (Stops why now) = tt
 
 module _ (p : Program) (checked : IsTypedProgram p) where
@@ -373,6 +374,9 @@ module _ (p : Program) (checked : IsTypedProgram p) where
         on_locals s.locals o (expr p (calls p n) c s) (λ v. (if is_zero v then expr p (calls p n) b else expr p (calls p n) a) >>= λ w. locals >>= λ mine. or_astray (type_at mine (Conditional c a b at)) >>= λ t. pure (converted t w)) (at_locals c s)
         (λ v u e. on_locals u.locals o ((if is_zero v then expr p (calls p n) b else expr p (calls p n) a) u) (λ w. locals >>= λ mine. or_astray (type_at mine (Conditional c a b at)) >>= λ t. pure (converted t w)) (branch_locals (is_zero v) b a u)
         (λ w x f. converted_typed o (type_at x.locals (Conditional c a b at)) w x (ap (λ ls. type_at ls (Conditional c a b at)) (f ∙ e))))
+    expr_typed (InTransaction mode keyword e at) s =
+        let o = type_at s.locals e in
+        value_transaction_gives (λ v ls. HasType o v) s.locals (expr p (calls p n) e) (λ t same. subst (λ ls. GivesType (type_at ls e) (expr p (calls p n) e t)) same (expr_typed e t)) mode s refl
 
 given_is : (o : Option Scalar) (t : Scalar) → o ≡ Some t → (r : Answer Value) → GivesType o r → WhereGiven r (λ v now. v.of ≡ t)
 given_is o t e (Gives v u) h = h t e

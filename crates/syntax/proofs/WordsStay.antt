@@ -11,23 +11,25 @@ use Rattle.syntax.specs.declared.tree.BinaryOp.{BinaryOp}
 use Rattle.syntax.specs.declared.tree.LogicalOp.TheVariants.{AndThen, OrElse}
 use Rattle.syntax.specs.declared.tree.Mode.{Mode}
 use Rattle.syntax.specs.declared.tree.Mode.TheVariants.{Atomic, Relaxed}
+use Rattle.syntax.specs.declared.tree.Kind.{Kind}
+use Rattle.syntax.specs.declared.tree.Kind.TheVariants.{Plain, Outer}
 use Rattle.syntax.specs.declared.numbers.Trap.{Trap}
 use Rattle.syntax.specs.declared.numbers.Trap.TheVariants.{Index, Frames}
 use Rattle.syntax.specs.declared.numbers.Halt.{Halt}
 use Rattle.syntax.specs.declared.numbers.Halt.TheVariants.{Trapped, Spent, Astray}
 use Rattle.syntax.specs.declared.numbers.Value.{Value}
 use Rattle.syntax.specs.Tree as Tree
-use Rattle.syntax.specs.Tree.{Expr, Exprs, Variable, Constant, Element, Call, Parenthesized, Cast, Unary, Binary, Logical, Conditional, Simple, Evaluate, Assign, Adjust, Declarator, Start, Nothing, Declares, Does, Stmt, Stmts, Empty, Declare, Do, Block, Print, If, IfElse, While, DoWhile, For, Break, Continue, Return, Transaction, Cancel, Parameter, Program}
+use Rattle.syntax.specs.Tree.{Expr, Exprs, Variable, Constant, Element, Call, Parenthesized, Cast, Unary, Binary, Logical, Conditional, InTransaction, Simple, Evaluate, Assign, Adjust, Declarator, Start, Nothing, Declares, Does, Stmt, Stmts, Empty, Declare, Do, Block, Print, If, IfElse, While, DoWhile, For, Break, Continue, Return, Transaction, Cancel, CancelOuter, Parameter, Program}
 use Rattle.syntax.specs.Numbers.{number_of, is_zero, flag, converted, fitted, computed, typed, operand_type, result_type, unary, binary}
 use Rattle.syntax.specs.Types.{type_of, running_scope}
 use Rattle.syntax.specs.Names.{Local, newest, word_at, with_word, global_of, definition_of}
 use Rattle.syntax.specs.Behaviours.{Memory}
 use Rattle.syntax.specs.Actions.{Context, Outside, Inside, State, Answer, Gives, Stops, Action, pure, stop, go_on, ◌>>=◌, ◌>>◌, spend, tick, trap, or_trap, or_astray, locals, put_locals, load_at, load, store, may_print_at, may_print, write, print_piece, memory_in}
 use Rattle.syntax.specs.Formats.{Piece, Literal, Figure, pieces}
-use Rattle.syntax.specs.Meaning.{Spot, InLocal, InCell, fetch, assign, print_pieces, End, Next, Breaks, Continues, Returns, Cancels, on_next, scoped, after_turn, turns, loop, after_body, Left, left_by, close_inner, close, enter, transaction, op_of, int_one, Caller, spot_from, named, element, expr, exprs, spot, changed, assigned, simple, first_value, declare, start_with, holds, stepped, return_value, stmt, stmts, bound, entered, result_of, invoke, calls}
+use Rattle.syntax.specs.Meaning.{Spot, InLocal, InCell, fetch, assign, print_pieces, End, Next, Breaks, Continues, Returns, Cancels, CancelsOuter, mode_of, begin_at, value_at, on_next, scoped, after_turn, turns, loop, after_body, Left, undoes, left_or, left_by, close_inner, close, enter, transaction, op_of, int_one, Caller, spot_from, named, element, expr, exprs, spot, changed, assigned, simple, first_value, declare, start_with, holds, stepped, return_value, stmt, stmts, bound, entered, result_of, invoke, calls}
 use Rattle.syntax.specs.Laws.{WhereGiven, StaysIn, memories_of, HoldsWords, HasWords, WordsStay}
 use Rattle.syntax.proofs.Words.{word_below, truth_below, fitted_below, computed_below}
-use Rattle.syntax.proofs.Kept.{block_holds, called_holds}
+use Rattle.syntax.proofs.Kept.{block_holds, returned_holds, called_holds}
 use Rattle.syntax.proofs.Contexts.{Stays, stays_kept}
 
 abbrev IsWord : ℕ → Type 0
@@ -218,6 +220,19 @@ module _ (cells : ℕ) where
   on_next_keeps h Continues e = pure_keeps IsEnd Continues tt
   on_next_keeps h (Returns v) e = pure_keeps IsEnd (Returns v) e
   on_next_keeps h Cancels e = pure_keeps IsEnd Cancels tt
+  on_next_keeps h CancelsOuter e = pure_keeps IsEnd CancelsOuter tt
+
+  value_at_keeps : (end : End) → IsEnd end → Keeps IsValue (value_at end)
+  value_at_keeps (Returns v) e = pure_keeps IsValue v e
+  value_at_keeps Next e = stop_keeps IsValue Astray
+  value_at_keeps Breaks e = stop_keeps IsValue Astray
+  value_at_keeps Continues e = stop_keeps IsValue Astray
+  value_at_keeps Cancels e = stop_keeps IsValue Astray
+  value_at_keeps CancelsOuter e = stop_keeps IsValue Astray
+
+  begin_keeps : (c : Context) (s : State) → HasWords cells s → WhereGiven (begin_at c s) (λ u now. IsAny u × HasWords cells now)
+  begin_keeps (Outside f l) s w = tick_keeps.keeps s w
+  begin_keeps (Inside mode m) s w = (tt, w)
 
   scoped_keeps : {run : Action End} → Keeps IsEnd run → Keeps IsEnd (scoped run)
   scoped_keeps g =
@@ -229,6 +244,7 @@ module _ (cells : ℕ) where
   after_body_keeps h Continues e = h
   after_body_keeps h (Returns v) e = pure_keeps IsTurn (Some (Returns v)) e
   after_body_keeps h Cancels e = pure_keeps IsTurn (Some Cancels) tt
+  after_body_keeps h CancelsOuter e = pure_keeps IsTurn (Some CancelsOuter) tt
 
   after_turn_keeps : {rest : Action End} → Keeps IsEnd rest → (o : Option End) → IsTurn o → Keeps IsEnd (after_turn rest o)
   after_turn_keeps h None e = h
@@ -251,12 +267,9 @@ module _ (cells : ℕ) where
   inside_memory mode m (Outside f l) e h = absurd e
   inside_memory mode m (Inside mode' m') e h = h.0
 
-  is_left : (mode : Mode) (mine : List Local) (m : Memory) (end : End) (now : State) → AreLocals mine → HoldsWords cells m → StaysIn (Inside mode m) now.context → IsEnd end → HasWords cells now → IsLeft (left_by mine m end now)
-  is_left mode mine m Cancels now h k in_ e w = record { end = tt; locals = h; memory = k }
-  is_left mode mine m Next now h k in_ e w = record { end = e; locals = w.locals; memory = inside_memory mode m now.context in_ w.memories }
-  is_left mode mine m Breaks now h k in_ e w = record { end = e; locals = w.locals; memory = inside_memory mode m now.context in_ w.memories }
-  is_left mode mine m Continues now h k in_ e w = record { end = e; locals = w.locals; memory = inside_memory mode m now.context in_ w.memories }
-  is_left mode mine m (Returns v) now h k in_ e w = record { end = e; locals = w.locals; memory = inside_memory mode m now.context in_ w.memories }
+  is_left : (undone : Bool) (mode : Mode) (mine : List Local) (m : Memory) (end : End) (now : State) → AreLocals mine → HoldsWords cells m → StaysIn (Inside mode m) now.context → IsEnd end → HasWords cells now → IsLeft (left_or undone mine m end now)
+  is_left true mode mine m end now h k in_ e w = record { end = tt; locals = h; memory = k }
+  is_left false mode mine m end now h k in_ e w = record { end = e; locals = w.locals; memory = inside_memory mode m now.context in_ w.memories }
 
   leave_keeps : (n : ℕ) (founds lefts : List Memory) (left : Left) (now : State) → IsLeft left → AllByRecursion (HoldsWords cells) (founds ++ lefts) → WhereGiven (go_on (spend n (record now { context = Outside founds lefts })) (λ u then_. Gives left.end (record then_ { locals = left.locals; context = Outside founds (lefts ++ left.memory ∷ []) }))) (λ end last. IsEnd end × HasWords cells last)
   leave_keeps zero founds lefts left now h k = tt
@@ -264,32 +277,35 @@ module _ (cells : ℕ) where
       let M = HoldsWords cells in
       (h.end, record { locals = h.locals; memories = all_joined M founds (lefts ++ left.memory ∷ []) (all_before M founds lefts k) (all_joined M lefts (left.memory ∷ []) (all_behind M founds lefts k) (h.memory, tt)) })
 
-  close_keeps : (mode : Mode) (founds lefts : List Memory) (mine : List Local) (m : Memory) (r : Answer End) → AreLocals mine → HoldsWords cells m → AllByRecursion (HoldsWords cells) (founds ++ lefts) → WhereGiven r (λ end now. StaysIn (Inside mode m) now.context) → WhereGiven r (λ end now. IsEnd end × HasWords cells now) → WhereGiven (close founds lefts mine m r) (λ end now. IsEnd end × HasWords cells now)
-  close_keeps mode founds lefts mine m (Gives end now) h k ms in_ w = leave_keeps now.ticks founds lefts (left_by mine m end now) now (is_left mode mine m end now h k in_ w.0 w.1) ms
-  close_keeps mode founds lefts mine m (Stops (Trapped t) now) h k ms in_ w = tt
-  close_keeps mode founds lefts mine m r h k ms in_ w = tt
+  close_keeps : (kind : Kind) (founds lefts : List Memory) (mine : List Local) (m : Memory) (r : Answer End) → AreLocals mine → HoldsWords cells m → AllByRecursion (HoldsWords cells) (founds ++ lefts) → WhereGiven r (λ end now. StaysIn (Inside (mode_of kind) m) now.context) → WhereGiven r (λ end now. IsEnd end × HasWords cells now) → WhereGiven (close kind founds lefts mine m r) (λ end now. IsEnd end × HasWords cells now)
+  close_keeps kind founds lefts mine m (Gives end now) h k ms in_ w = leave_keeps now.ticks founds lefts (left_by kind mine m end now) now (is_left (undoes end kind) (mode_of kind) mine m end now h k in_ w.0 w.1) ms
+  close_keeps kind founds lefts mine m (Stops (Trapped t) now) h k ms in_ w = tt
+  close_keeps kind founds lefts mine m r h k ms in_ w = tt
 
-  inner_keeps : (outer mode : Mode) (mine : List Local) (m : Memory) (r : Answer End) → AreLocals mine → HoldsWords cells m → WhereGiven r (λ end now. StaysIn (Inside mode m) now.context) → WhereGiven r (λ end now. IsEnd end × HasWords cells now) → WhereGiven (close_inner outer mine m r) (λ end now. IsEnd end × HasWords cells now)
-  inner_keeps outer mode mine m (Gives end now) h k in_ w =
-      let left = is_left mode mine m end now h k in_ w.0 w.1 in
+  inner_keeps : (outer : Mode) (kind : Kind) (mine : List Local) (m : Memory) (r : Answer End) → AreLocals mine → HoldsWords cells m → WhereGiven r (λ end now. StaysIn (Inside (mode_of kind) m) now.context) → WhereGiven r (λ end now. IsEnd end × HasWords cells now) → WhereGiven (close_inner outer kind mine m r) (λ end now. IsEnd end × HasWords cells now)
+  inner_keeps outer kind mine m (Gives end now) h k in_ w =
+      let left = is_left (undoes end kind) (mode_of kind) mine m end now h k in_ w.0 w.1 in
       (left.end, record { locals = left.locals; memories = (left.memory, tt) })
-  inner_keeps outer mode mine m (Stops why now) h k in_ w = tt
+  inner_keeps outer kind mine m (Stops why now) h k in_ w = tt
 
-  enter_keeps : (mode : Mode) (run : Action End) → Stays run → Keeps IsEnd run → (p : Context) (n : ℕ) (ls : List Local) (t : List ℕ) → AreLocals ls → AllByRecursion (HoldsWords cells) (memories_of p) → WhereGiven (enter p mode run (record { ticks = n; locals = ls; context = p; text = t })) (λ end now. IsEnd end × HasWords cells now)
-  enter_keeps mode run g h (Outside [] lefts) n ls t w ms = tt
-  enter_keeps mode run g h (Outside (m ∷ founds) lefts) n ls t w ms =
-      let s : State = record { ticks = n; locals = ls; context = Inside mode m; text = t } in
-      close_keeps mode founds lefts ls m (run s) w ms.0 ms.1 (g.stays s) (h.keeps s (record { locals = w; memories = (ms.0, tt) }))
-  enter_keeps mode run g h (Inside Relaxed m) n ls t w ms =
-      let s : State = record { ticks = n; locals = ls; context = Inside mode m; text = t } in
-      inner_keeps Relaxed mode ls m (run s) w ms.0 (g.stays s) (h.keeps s (record { locals = w; memories = ms }))
-  enter_keeps Atomic run g h (Inside Atomic m) n ls t w ms =
+  enter_keeps : (kind : Kind) (run : Action End) → Stays run → Keeps IsEnd run → (p : Context) (n : ℕ) (ls : List Local) (t : List ℕ) → AreLocals ls → AllByRecursion (HoldsWords cells) (memories_of p) → WhereGiven (enter p kind run (record { ticks = n; locals = ls; context = p; text = t })) (λ end now. IsEnd end × HasWords cells now)
+  enter_keeps kind run g h (Outside [] lefts) n ls t w ms = tt
+  enter_keeps kind run g h (Outside (m ∷ founds) lefts) n ls t w ms =
+      let s : State = record { ticks = n; locals = ls; context = Inside (mode_of kind) m; text = t } in
+      close_keeps kind founds lefts ls m (run s) w ms.0 ms.1 (g.stays s) (h.keeps s (record { locals = w; memories = (ms.0, tt) }))
+  enter_keeps kind run g h (Inside Relaxed m) n ls t w ms =
+      let s : State = record { ticks = n; locals = ls; context = Inside (mode_of kind) m; text = t } in
+      inner_keeps Relaxed kind ls m (run s) w ms.0 (g.stays s) (h.keeps s (record { locals = w; memories = ms }))
+  enter_keeps Outer run g h (Inside Atomic m) n ls t w ms =
       let s : State = record { ticks = n; locals = ls; context = Inside Atomic m; text = t } in
-      inner_keeps Atomic Atomic ls m (run s) w ms.0 (g.stays s) (h.keeps s (record { locals = w; memories = ms }))
-  enter_keeps Relaxed run g h (Inside Atomic m) n ls t w ms = tt
+      inner_keeps Atomic Outer ls m (run s) w ms.0 (g.stays s) (h.keeps s (record { locals = w; memories = ms }))
+  enter_keeps (Plain Atomic) run g h (Inside Atomic m) n ls t w ms =
+      let s : State = record { ticks = n; locals = ls; context = Inside Atomic m; text = t } in
+      inner_keeps Atomic (Plain Atomic) ls m (run s) w ms.0 (g.stays s) (h.keeps s (record { locals = w; memories = ms }))
+  enter_keeps (Plain Relaxed) run g h (Inside Atomic m) n ls t w ms = tt
 
-  transaction_keeps : (mode : Mode) {run : Action End} → Stays run → Keeps IsEnd run → Keeps IsEnd (transaction mode run)
-  transaction_keeps mode {run} g h = record { keeps = λ s w. enter_keeps mode run g h s.context s.ticks s.locals s.text w.locals w.memories }
+  transaction_keeps : (kind : Kind) {run : Action End} → Stays run → Keeps IsEnd run → Keeps IsEnd (transaction kind run)
+  transaction_keeps kind {run} g h = record { keeps = λ s w. enter_keeps kind run g h s.context s.ticks s.locals s.text w.locals w.memories }
 
   -- the parameters hold words
   bound_words : (q : Parameter) (v : Value) (o : Option Tree.Name) (ls : List Local) → AreLocals ls → AreLocals (unwrap_or (option_map (λ (x : Tree.Name). record { name = x.text; of = q.of; word = (converted q.of v).word } ∷ []) o) [] ++ ls)
@@ -339,6 +355,9 @@ module _ (cells : ℕ) where
       expr_keeps (Logical AndThen a b at) = on IsValue IsValue (expr_keeps a) (λ v w. on IsValue IsValue (if_keeps IsValue _ (pure_keeps IsValue v w) (expr_keeps b)) (λ x _. pure_keeps IsValue (flag (not (is_zero x))) (truth_below (not (is_zero x)))))
       expr_keeps (Logical OrElse a b at) = on IsValue IsValue (expr_keeps a) (λ v w. on IsValue IsValue (if_keeps IsValue _ (expr_keeps b) (pure_keeps IsValue v w)) (λ x _. pure_keeps IsValue (flag (not (is_zero x))) (truth_below (not (is_zero x)))))
       expr_keeps (Conditional c a b at) = on IsValue IsValue (expr_keeps c) (λ v _. on IsValue IsValue (if_keeps IsValue _ (expr_keeps b) (expr_keeps a)) (λ w _. on AreLocals IsValue locals_keeps (λ mine _. on IsAny IsValue (any_or_astray (type_of (running_scope p mine) (Conditional c a b at))) (λ t _. pure_keeps IsValue (converted t w) (word_below (number_of w))))))
+      expr_keeps (InTransaction mode keyword e at) =
+          then_ IsAny IsValue (record { keeps = λ s w. begin_keeps s.context s w })
+          (on IsEnd IsValue (transaction_keeps (Plain mode) (returned_holds p (λ A run. Stays run) stays_kept call g e) (on IsValue IsEnd (expr_keeps e) (λ v w. pure_keeps IsEnd (Returns v) w))) value_at_keeps)
 
       exprs_keep : (es : Exprs) → Keeps IsAny (exprs p call es)
       exprs_keep Tree.[] = pure_keeps IsAny [] tt
@@ -414,8 +433,9 @@ module _ (cells : ℕ) where
       stmt_keeps (Break at) = then_ IsAny IsEnd tick_keeps (pure_keeps IsEnd Breaks tt)
       stmt_keeps (Continue at) = then_ IsAny IsEnd tick_keeps (pure_keeps IsEnd Continues tt)
       stmt_keeps (Return e at) = then_ IsAny IsEnd tick_keeps (on IsValue IsEnd (return_keeps e) (λ v w. pure_keeps IsEnd (Returns v) w))
-      stmt_keeps (Transaction mode ss at) = then_ IsAny IsEnd tick_keeps (transaction_keeps mode (block_holds p (λ A run. Stays run) stays_kept call g ss) (scoped_keeps (stmts_keep ss)))
+      stmt_keeps (Transaction kind ss at) = then_ IsAny IsEnd tick_keeps (transaction_keeps kind (block_holds p (λ A run. Stays run) stays_kept call g ss) (scoped_keeps (stmts_keep ss)))
       stmt_keeps (Cancel at) = then_ IsAny IsEnd tick_keeps (pure_keeps IsEnd Cancels tt)
+      stmt_keeps (CancelOuter at) = then_ IsAny IsEnd tick_keeps (pure_keeps IsEnd CancelsOuter tt)
 
       stmts_keep : (ss : Stmts) → Keeps IsEnd (stmts p call ss)
       stmts_keep Tree.[] = pure_keeps IsEnd Next tt
@@ -427,6 +447,7 @@ module _ (cells : ℕ) where
     result_keeps t Breaks = stop_keeps IsValue Astray
     result_keeps t Continues = stop_keeps IsValue Astray
     result_keeps t Cancels = stop_keeps IsValue Astray
+    result_keeps t CancelsOuter = stop_keeps IsValue Astray
 
     invoke_keeps : (x : List ℕ) (vs : List Value) → Keeps IsValue (invoke p call x vs)
     invoke_keeps x vs =

@@ -1,6 +1,6 @@
 -- How deep a tree is.
 use Rattle.std.specs.Prelude.{ℕ, ◌+◌, max, List, [], ◌∷◌, Option, Some, None}
-use Rattle.syntax.specs.Tree.{Expr, Exprs, Element, Call, Parenthesized, Cast, Unary, Binary, Logical, Conditional, Simple, Evaluate, Assign, Adjust, Declarator, Declaration, Start, Nothing, Declares, Does, Stmt, Stmts, Declare, Do, Block, Print, If, IfElse, While, DoWhile, For, Return, Transaction, Item, Defines, Shares, Program}
+use Rattle.syntax.specs.Tree.{Expr, Exprs, Element, Call, Parenthesized, Cast, Unary, Binary, Logical, Conditional, InTransaction, Simple, Evaluate, Assign, Adjust, Declarator, Declaration, Start, Nothing, Declares, Does, Stmt, Stmts, Declare, Do, Block, Print, If, IfElse, While, DoWhile, For, Return, Transaction, Item, Defines, Shares, Program}
 
 abbrev mutual
   pub expr_depth : Expr → ℕ
@@ -12,6 +12,7 @@ abbrev mutual
   expr_depth (Binary op a b at) = max (expr_depth a) (expr_depth b) + 1
   expr_depth (Logical op a b at) = max (expr_depth a) (expr_depth b) + 1
   expr_depth (Conditional c a b at) = max (expr_depth c) (max (expr_depth a) (expr_depth b)) + 1
+  expr_depth (InTransaction mode keyword e at) = expr_depth e + 1
   expr_depth _ = 1
 
   pub deepest : Exprs → ℕ
@@ -58,7 +59,7 @@ abbrev mutual
       max (max (start_depth start) (optional_depth c)) (max (optional_simple_depth step) (stmt_depth a)) + 1
   stmt_depth (Return e at) = optional_depth e + 1
   -- its block is a part of it
-  stmt_depth (Transaction mode ss at) = block_depth ss + 1
+  stmt_depth (Transaction kind ss at) = block_depth ss + 1
   stmt_depth _ = 1
 
   pub block_depth : Stmts → ℕ

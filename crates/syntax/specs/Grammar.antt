@@ -4,7 +4,7 @@ use Rattle.lex.specs.{declared.token.Fixed.Fixed, Tokens.Terminal, Tokens.Tok, T
 use Rattle.lex.specs.declared.token.Fixed.TheVariants.{Keyword, Punctuator}
 use Rattle.lex.specs.declared.token.Keyword.TheVariants as key
 use Rattle.lex.specs.declared.token.Punctuator.TheVariants as punct
-use Rattle.syntax.specs.Tree.{Span, Scalar, Int, Unsigned, UnaryOp, Negate, Keep, Not, Complement, BinaryOp, Or, Xor, And, Equal, NotEqual, Less, Greater, LessEqual, GreaterEqual, ShiftLeft, ShiftRight, Add, Subtract, Multiply, Divide, Remainder, LogicalOp, AndThen, OrElse, IncDec, Increment, Decrement, Mode, Atomic, Relaxed, Attribute, Safe, Unsafe, Callable, First, Name, Expr, Exprs, Variable, Constant, Element, Call, Parenthesized, Cast, Unary, Binary, Logical, Conditional, Simple, Evaluate, Assign, Adjust, Declarator, Declaration, Start, Nothing, Declares, Does, Stmt, Stmts, Empty, Declare, Do, Block, Print, If, IfElse, While, DoWhile, For, Break, Continue, Return, Transaction, Cancel, Parameter, Function, Global, Item, Defines, Shares, Program}
+use Rattle.syntax.specs.Tree.{Span, Scalar, Int, Unsigned, UnaryOp, Negate, Keep, Not, Complement, BinaryOp, Or, Xor, And, Equal, NotEqual, Less, Greater, LessEqual, GreaterEqual, ShiftLeft, ShiftRight, Add, Subtract, Multiply, Divide, Remainder, LogicalOp, AndThen, OrElse, IncDec, Increment, Decrement, Mode, Atomic, Relaxed, Kind, Plain, Outer, Attribute, Safe, Unsafe, Callable, First, Name, Expr, Exprs, Variable, Constant, Element, Call, Parenthesized, Cast, Unary, Binary, Logical, Conditional, InTransaction, Simple, Evaluate, Assign, Adjust, Declarator, Declaration, Start, Nothing, Declares, Does, Stmt, Stmts, Empty, Declare, Do, Block, Print, If, IfElse, While, DoWhile, For, Break, Continue, Return, Transaction, Cancel, CancelOuter, Parameter, Function, Global, Item, Defines, Shares, Program}
 use Rattle.syntax.specs.Depth.{program_depth}
 use Rattle.syntax.specs.Phrases.{Phrase, One, Nil, never, ◌⨾◌, ◌∣◌, given, Many, Sign, Word, IsAt, Listed, spanning, end_of}
 
@@ -55,6 +55,14 @@ attribute_in _ = None
 
 abbrev pub the_attribute : Tok → Option Attribute
 the_attribute t = attribute_in t.terminal
+
+-- the word that makes a transaction, or a cancel, an outer one
+abbrev pub outer_in : Terminal → Option (Unit {0})
+outer_in (Terminal.name s) = if bytes_eq s (codes "outer") then Some tt else None
+outer_in _ = None
+
+abbrev pub the_outer : Tok → Option (Unit {0})
+the_outer t = outer_in t.terminal
 
 abbrev pub unary_of : Fixed → Option UnaryOp
 unary_of (Punctuator punct.Minus) = Some Negate
@@ -168,6 +176,10 @@ scalar Unsigned = Word key.Unsigned ∣ Word key.Unsigned ⨾ Word key.Int
 abbrev pub named : Name → Phrase
 named = One the_name
 
+abbrev pub mode_keyword : Mode → Fixed
+mode_keyword Atomic = (Keyword key.Atomic)
+mode_keyword Relaxed = (Keyword key.Relaxed)
+
 abbrev mutual
   pub expr : Expr → Phrase
   expr (Variable x) = named x
@@ -183,6 +195,8 @@ abbrev mutual
       given (Groups (logical_precedence op) a b) (spanning at (expr a ⨾ One the_logical op ⨾ expr b))
   expr (Conditional c a b at) =
       given (1 ≤ level c) (spanning at (expr c ⨾ Sign punct.Question ⨾ expr a ⨾ Sign punct.Colon ⨾ expr b))
+  expr (InTransaction mode keyword e at) =
+      spanning at (IsAt (mode_keyword mode) keyword ⨾ Sign punct.OpenParen ⨾ expr e ⨾ Sign punct.CloseParen)
 
   pub arguments : Exprs → Phrase
   arguments Exprs.[] = Nil
@@ -215,9 +229,18 @@ start Nothing = Sign punct.Semicolon
 start (Declares d) = declaration d
 start (Does s) = simple s ⨾ Sign punct.Semicolon
 
-abbrev pub mode_keyword : Mode → Fixed
-mode_keyword Atomic = (Keyword key.Atomic)
-mode_keyword Relaxed = (Keyword key.Relaxed)
+-- `[[outer]]`, or the same written otherwise
+abbrev pub outer_mark : Phrase
+outer_mark =
+    Sign punct.OpenBracket ⨾ Sign punct.OpenBracket ⨾ One the_outer tt ⨾ Sign punct.CloseBracket
+    ⨾ Sign punct.CloseBracket
+    ∣ Word key.Attribute ⨾ Sign punct.OpenParen ⨾ Sign punct.OpenParen ⨾ One the_outer tt ⨾ Sign punct.CloseParen
+    ⨾ Sign punct.CloseParen
+
+-- how a transaction's statement begins, with its keyword at this place
+abbrev pub kind : Kind → Span → Phrase
+kind (Plain mode) at = IsAt (mode_keyword mode) at
+kind Outer at = IsAt (mode_keyword Atomic) at ⨾ outer_mark
 
 -- a statement that a further else would belong to
 abbrev pub ends_open : Stmt → Bool
@@ -249,8 +272,9 @@ abbrev mutual
   stmt (Break at) = IsAt (Keyword key.Break) at ⨾ Sign punct.Semicolon
   stmt (Continue at) = IsAt (Keyword key.Continue) at ⨾ Sign punct.Semicolon
   stmt (Return e at) = IsAt (Keyword key.Return) at ⨾ optional expr e ⨾ Sign punct.Semicolon
-  stmt (Transaction mode ss at) = IsAt (mode_keyword mode) at ⨾ Sign punct.OpenBrace ⨾ stmts ss ⨾ Sign punct.CloseBrace
+  stmt (Transaction k ss at) = kind k at ⨾ Sign punct.OpenBrace ⨾ stmts ss ⨾ Sign punct.CloseBrace
   stmt (Cancel at) = IsAt (Keyword key.Cancel) at ⨾ Sign punct.Semicolon
+  stmt (CancelOuter at) = IsAt (Keyword key.Cancel) at ⨾ outer_mark ⨾ Sign punct.Semicolon
 
   -- what stands in a block: declarations too
   pub stmts : Stmts → Phrase

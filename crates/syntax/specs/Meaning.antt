@@ -1,7 +1,7 @@
 -- What expressions and statements do (C11 6.5, 6.8), from left to right.
 use Rattle.std.specs.Prelude.{ℕ, zero, suc, ◌+◌, pos, List, [], ◌∷◌, ◌++◌, length, take, Option, Some, None, if◌then◌else◌, Bool, true, false, not, nat_lt, unwrap_or, option_map}
 use Rattle.std.specs.Fmt.{signed_decimal}
-use Rattle.syntax.specs.Tree.{Scalar, Int, BinaryOp, Add, Subtract, AndThen, OrElse, IncDec, Increment, Decrement, Mode, Atomic, Relaxed, Expr, Exprs, Variable, Constant, Element, Call, Parenthesized, Cast, Unary, Binary, Logical, Conditional, Simple, Evaluate, Assign, Adjust, Declarator, Start, Nothing, Declares, Does, Stmt, Stmts, Empty, Declare, Do, Block, Print, If, IfElse, While, DoWhile, For, Break, Continue, Return, Transaction, Cancel, Parameter, Program}
+use Rattle.syntax.specs.Tree.{Scalar, Int, BinaryOp, Add, Subtract, AndThen, OrElse, IncDec, Increment, Decrement, Mode, Atomic, Relaxed, Kind, Plain, Outer, Expr, Exprs, Variable, Constant, Element, Call, Parenthesized, Cast, Unary, Binary, Logical, Conditional, InTransaction, Simple, Evaluate, Assign, Adjust, Declarator, Start, Nothing, Declares, Does, Stmt, Stmts, Empty, Declare, Do, Block, Print, If, IfElse, While, DoWhile, For, Break, Continue, Return, Transaction, Cancel, CancelOuter, Parameter, Program}
 use Rattle.syntax.specs.Numbers.{Value, Index, Frames, word_of, number, converted, is_zero, flag, unary, binary}
 use Rattle.syntax.specs.Names.{Local, newest, word_at, with_word, global_of, cells, definition_of}
 use Rattle.syntax.specs.Formats.{Piece, Literal, Figure, pieces}
@@ -33,7 +33,7 @@ print_pieces (Figure t ∷ ps) (v ∷ vs) = print_piece (signed_decimal (number 
 pub data End : Type 0 where
   Next Breaks Continues : End
   Returns : (v : Value) → End
-  Cancels : End
+  Cancels CancelsOuter : End
 
 -- the rest follows where the first has come to its end
 abbrev pub on_next : Action End → End → Action End
@@ -70,26 +70,41 @@ after_body go Continues = go
 after_body go Breaks = pure (Some Next)
 after_body go end = pure (Some end)
 
--- what a transaction leaves: a cancel undoes shared memory and locals, and the run goes on after it
+-- how a transaction of this kind runs
+abbrev pub mode_of : Kind → Mode
+mode_of (Plain mode) = mode
+mode_of Outer = Atomic
+
+-- a cancel undoes the innermost transaction, and an outer cancel the innermost outer one with all in it
+abbrev pub undoes : End → Kind → Bool
+undoes Cancels kind = true
+undoes CancelsOuter Outer = true
+undoes end kind = false
+
+-- what a transaction leaves: one that is undone leaves shared memory and locals as they were, and the run goes on after it
 pub record Left : Type 0 where
   pub end : End
   pub locals : List Local
   pub memory : Memory
 
-abbrev pub left_by : List Local → Memory → End → State → Left
-left_by mine found Cancels now = record { end = Next; locals = mine; memory = found }
-left_by mine found end now = record { end = end; locals = now.locals; memory = memory_in now.context }
+abbrev pub left_or : Bool → List Local → Memory → End → State → Left
+left_or true mine found end now = record { end = Next; locals = mine; memory = found }
+left_or false mine found end now = record { end = end; locals = now.locals; memory = memory_in now.context }
+
+abbrev pub left_by : Kind → List Local → Memory → End → State → Left
+left_by kind mine found end now = left_or (undoes end kind) mine found end now
 
 -- a transaction that lies in another, which runs as outer: what it leaves is seen there
 abbrev pub leave_inner : Mode → Left → State → Answer End
 leave_inner outer left now = Gives left.end (record now { locals = left.locals; context = Inside outer left.memory })
 
-abbrev pub close_inner : Mode → List Local → Memory → Answer End → Answer End
-close_inner outer mine found (Gives end now) = leave_inner outer (left_by mine found end now) now
-close_inner outer mine found (Stops why now) = Stops why now
+abbrev pub close_inner : Mode → Kind → List Local → Memory → Answer End → Answer End
+close_inner outer kind mine found (Gives end now) = leave_inner outer (left_by kind mine found end now) now
+close_inner outer kind mine found (Stops why now) = Stops why now
 
-abbrev pub inner : (outer mode : Mode) → Memory → Action End → Action End
-inner outer mode found run s = close_inner outer s.locals found (run (record s { context = Inside mode found }))
+abbrev pub inner : (outer : Mode) (kind : Kind) → Memory → Action End → Action End
+inner outer kind found run s =
+    close_inner outer kind s.locals found (run (record s { context = Inside (mode_of kind) found }))
 
 -- an outermost transaction that is left: its tick is due before the memory left is added
 abbrev pub leave : List Memory → List Memory → Left → Action End
@@ -99,26 +114,45 @@ leave founds lefts left now =
     (record then_ { locals = left.locals; context = Outside founds (lefts ++ left.memory ∷ []) }))
 
 -- a trap leaves the memory that was found, and a run that otherwise stops leaves none
-abbrev pub close : List Memory → List Memory → List Local → Memory → Answer End → Answer End
-close founds lefts mine found (Gives end now) = leave founds lefts (left_by mine found end now) now
-close founds lefts mine found (Stops (Trapped k) now) =
+abbrev pub close : Kind → List Memory → List Memory → List Local → Memory → Answer End → Answer End
+close kind founds lefts mine found (Gives end now) = leave founds lefts (left_by kind mine found end now) now
+close kind founds lefts mine found (Stops (Trapped k) now) =
     Stops (Trapped k) (record now { context = Outside founds (lefts ++ found ∷ []) })
-close founds lefts mine found (Stops why now) = Stops why (record now { context = Outside founds lefts })
+close kind founds lefts mine found (Stops why now) = Stops why (record now { context = Outside founds lefts })
 
-abbrev pub outermost : Mode → Memory → List Memory → List Memory → Action End → Action End
-outermost mode found founds lefts run s =
-    close founds lefts s.locals found (run (record s { context = Inside mode found }))
+abbrev pub outermost : Kind → Memory → List Memory → List Memory → Action End → Action End
+outermost kind found founds lefts run s =
+    close kind founds lefts s.locals found (run (record s { context = Inside (mode_of kind) found }))
 
 -- a transaction that begins here: outside it takes the next memory, and inside an atomic one no relaxed one begins
-abbrev pub enter : Context → Mode → Action End → Action End
-enter (Outside [] lefts) mode run = stop Wants
-enter (Outside (found ∷ founds) lefts) mode run = outermost mode found founds lefts run
-enter (Inside Relaxed found) mode run = inner Relaxed mode found run
-enter (Inside Atomic found) Atomic run = inner Atomic Atomic found run
-enter (Inside Atomic found) Relaxed run = stop Astray
+abbrev pub enter : Context → Kind → Action End → Action End
+enter (Outside [] lefts) kind run = stop Wants
+enter (Outside (found ∷ founds) lefts) kind run = outermost kind found founds lefts run
+enter (Inside Relaxed found) kind run = inner Relaxed kind found run
+enter (Inside Atomic found) (Plain Relaxed) run = stop Astray
+enter (Inside Atomic found) kind run = inner Atomic kind found run
 
-abbrev pub transaction : Mode → Action End → Action End
-transaction mode run s = enter s.context mode run s
+abbrev pub transaction : Kind → Action End → Action End
+transaction kind run s = enter s.context kind run s
+
+-- outside transactions one that is an expression takes a tick before its memory is wanted
+abbrev pub begin_at : Context → Action (Unit {0})
+begin_at (Outside founds lefts) = tick
+begin_at (Inside mode memory) = pure tt
+
+abbrev pub begin_value : Action (Unit {0})
+begin_value s = begin_at s.context s
+
+-- what an expression gives that is a transaction: its body's end is the value
+abbrev pub value_at : End → Action Value
+value_at (Returns v) = pure v
+value_at end = stop Astray
+
+abbrev pub value_transaction : Mode → Action Value → Action Value
+value_transaction mode run = do
+  begin_value
+  end ← transaction (Plain mode) (do v ← run; pure (Returns v))
+  value_at end
 
 abbrev pub op_of : IncDec → BinaryOp
 op_of Increment = Add
@@ -169,6 +203,8 @@ module _ (p : Program) (call : Caller) where
       mine ← locals
       t ← or_astray (type_of (running_scope p mine) (Conditional c a b at))
       pure (converted t w)
+    -- a transaction of its own, as one step
+    expr (InTransaction mode keyword e at) = value_transaction mode (expr e)
 
     pub exprs : Exprs → Action (List Value)
     exprs Exprs.[] = pure []
@@ -253,9 +289,10 @@ module _ (p : Program) (call : Caller) where
     stmt (Break at) = do tick; pure Breaks
     stmt (Continue at) = do tick; pure Continues
     stmt (Return e at) = do tick; v ← return_value e; pure (Returns v)
-    -- transactions run as one step, and a cancel ends the innermost one
-    stmt (Transaction mode ss at) = do tick; transaction mode (scoped (stmts ss))
+    -- transactions run as one step; a cancel ends the innermost one, an outer cancel the innermost outer one
+    stmt (Transaction kind ss at) = do tick; transaction kind (scoped (stmts ss))
     stmt (Cancel at) = do tick; pure Cancels
+    stmt (CancelOuter at) = do tick; pure CancelsOuter
 
     pub stmts : Stmts → Action End
     stmts Stmts.[] = pure Next

@@ -4,7 +4,7 @@
 -- they are looked at: a program is typed where every demand is met, and its fault is the first that is not.
 use Rattle.std.specs.Prelude.{ℕ, ◌+◌, List, [], ◌∷◌, ◌++◌, length, map, drop, sum_by, Option, Some, None, Bool, true, false, not, ◌&&◌, ◌||◌, IsTrue, is_some, is_none, if◌then◌else◌, codes, option_map, unwrap_or, ◌==◌, nat_le, bytes_eq, All}
 use Rattle.std.specs.List.{list_any}
-use Rattle.syntax.specs.Tree.{Span, Scalar, Int, Unsigned, First, Name, Expr, Exprs, Variable, Constant, Element, Call, Parenthesized, Cast, Unary, Binary, Logical, Conditional, Simple, Evaluate, Assign, Adjust, Declarator, Start, Nothing, Declares, Does, Stmt, Stmts, Declare, Do, Block, Print, If, IfElse, While, DoWhile, For, Break, Continue, Return, Transaction, Parameter, Function, Global, Item, Defines, Shares, Program}
+use Rattle.syntax.specs.Tree.{Span, Scalar, Int, Unsigned, First, Name, Expr, Exprs, Variable, Constant, Element, Call, Parenthesized, Cast, Unary, Binary, Logical, Conditional, InTransaction, Simple, Evaluate, Assign, Adjust, Declarator, Start, Nothing, Declares, Does, Stmt, Stmts, Declare, Do, Block, Print, If, IfElse, While, DoWhile, For, Break, Continue, Return, Transaction, Parameter, Function, Global, Item, Defines, Shares, Program}
 use Rattle.syntax.specs.Names.{cells, definition_of}
 use Rattle.syntax.specs.Types.{Known, Unknown, Callable, Scope, file_scope, with_number, number_type, element_type, type_of}
 use Rattle.syntax.specs.Formats.{pieces, is_format, figures}
@@ -78,6 +78,7 @@ span_of (Unary op e at) = at
 span_of (Binary op a b at) = at
 span_of (Logical op a b at) = at
 span_of (Conditional c a b at) = at
+span_of (InTransaction mode keyword e at) = at
 
 -- no value: a call of a function that gives none
 abbrev pub gives_nothing : Known → Bool
@@ -170,6 +171,7 @@ module _ (known : Scope) where
     IsTyped (Logical op a b at) = (IsTyped a ++ GivesNumber a) ++ (IsTyped b ++ GivesNumber b)
     IsTyped (Conditional c a b at) =
         (IsTyped c ++ GivesNumber c) ++ (IsTyped a ++ GivesNumber a) ++ (IsTyped b ++ GivesNumber b)
+    IsTyped (InTransaction mode keyword e at) = IsTyped e ++ GivesNumber e
 
     pub AreNumbers : Exprs → List Demand
     AreNumbers Exprs.[] = []
@@ -244,7 +246,7 @@ module _ (gives : Option Scalar) where
     IsTypedStmt (Continue at) known declared looping = demand 26 at looping
     IsTypedStmt (Return e at) known declared looping =
         demands_of e (IsTyped known) ++ demand 22 at (returns_right gives e) ++ demands_of e (GivesNumber known)
-    IsTypedStmt (Transaction mode ss at) known declared looping = AreTypedStmts ss known [] looping
+    IsTypedStmt (Transaction kind ss at) known declared looping = AreTypedStmts ss known [] looping
     IsTypedStmt s known declared looping = []
 
     pub AreTypedStmts : Stmts → (known : Scope) (declared : List (List ℕ)) (looping : Bool) → List Demand

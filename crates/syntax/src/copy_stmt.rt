@@ -93,11 +93,12 @@ impl<A: Allocator + Copy> Stmt<A> {
             Stmt::Break(at) => Ok(Stmt::Break(*at)),
             Stmt::Continue(at) => Ok(Stmt::Continue(*at)),
             Stmt::Return(e, at) => Ok(Stmt::Return(e.copy(alloc)?, *at)),
-            Stmt::Transaction(mode, body, at) => {
+            Stmt::Transaction(kind, body, at) => {
                 let body = copy_stmts(alloc, body.as_slice())?;
-                Ok(Stmt::Transaction(*mode, body, *at))
+                Ok(Stmt::Transaction(*kind, body, *at))
             }
             Stmt::Cancel(at) => Ok(Stmt::Cancel(*at)),
+            Stmt::CancelOuter(at) => Ok(Stmt::CancelOuter(*at)),
         }
     }
 }

@@ -21,6 +21,7 @@ impl<A: Allocator> Expr<A> {
             Expr::Element(_, i, _) => i.get().depth().saturating_add(1),
             Expr::Call(_, args, _) => deepest_of(args.as_slice()).saturating_add(1),
             Expr::Parenthesized(e, _) => e.get().depth().saturating_add(1),
+            Expr::InTransaction(_, _, e, _) => e.get().depth().saturating_add(1),
             Expr::Cast(_, e, _) => e.get().depth().saturating_add(1),
             Expr::Unary(_, e, _) => e.get().depth().saturating_add(1),
             Expr::Binary(_, a, b, _) => a.get().depth().max(b.get().depth()).saturating_add(1),

@@ -106,7 +106,7 @@ impl<A: Allocator> Stmt<A> {
             Stmt::Continue(_) => 1,
             Stmt::Return(e, _) => option_depth(e).saturating_add(1),
             Stmt::Transaction(_, body, _) => block_depth_of(body.as_slice()).saturating_add(1),
-            Stmt::Cancel(_) => 1,
+            Stmt::Cancel(_) | Stmt::CancelOuter(_) => 1,
         }
     }
 }

@@ -38,6 +38,9 @@ impl<A: Allocator> Same for Expr<A> {
             (Expr::Conditional(a, b, c, at), Expr::Conditional(d, e, f, to)) => {
                 a.same(d) && b.same(e) && c.same(f) && *at == *to
             }
+            (Expr::InTransaction(f, k, a, at), Expr::InTransaction(g, l, b, to)) => {
+                *f == *g && *k == *l && a.same(b) && *at == *to
+            }
             _ => false,
         }
     }
@@ -108,6 +111,7 @@ impl<A: Allocator> Same for Stmt<A> {
                 *f == *g && a.same(b) && *at == *to
             }
             (Stmt::Cancel(at), Stmt::Cancel(to)) => *at == *to,
+            (Stmt::CancelOuter(at), Stmt::CancelOuter(to)) => *at == *to,
             _ => false,
         }
     }

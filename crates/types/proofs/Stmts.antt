@@ -4,7 +4,7 @@ use Rattle.std.proofs.lemmas.List.{at_drop_more}
 use Rattle.std.specs.Option.{option_or}
 use Rattle.lex.specs.declared.token.Scalar.{Scalar}
 use Rattle.syntax.specs.Tree.{Span, Stmts, Function, Item, Defines}
-use Rattle.syntax.specs.declared.tree.Mode.{Mode}
+use Rattle.syntax.specs.declared.tree.Kind.{Kind}
 use Rattle.syntax.specs.declared.tree.Expr as E
 use Rattle.syntax.specs.declared.tree.ForHead as H
 use Rattle.syntax.specs.declared.tree.Declaration as D
@@ -34,8 +34,8 @@ module _ {A : Type 0} (g : Option Scalar) (known : Scope) (ns : List (List ℕ))
   pub typed_block : (ss : List (S.Stmt A)) → s ≡ S.Block ss → first_unmet (IsTypedStmt g (stmt_of s) known ns looping) ≡ first_unmet (AreTypedStmts g (stmts_of ss) known [] looping)
   typed_block ss is = ap (λ x. first_unmet (IsTypedStmt g x known ns looping)) (ap stmt_of is ∙ stmt_of_block ss)
 
-  pub typed_transaction : (mode : Mode) (ss : List (S.Stmt A)) (at : Span) → s ≡ S.Transaction mode ss at → first_unmet (IsTypedStmt g (stmt_of s) known ns looping) ≡ first_unmet (AreTypedStmts g (stmts_of ss) known [] looping)
-  typed_transaction mode ss at is = ap (λ x. first_unmet (IsTypedStmt g x known ns looping)) (ap stmt_of is ∙ stmt_of_transaction mode ss at)
+  pub typed_transaction : (kind : Kind) (ss : List (S.Stmt A)) (at : Span) → s ≡ S.Transaction kind ss at → first_unmet (IsTypedStmt g (stmt_of s) known ns looping) ≡ first_unmet (AreTypedStmts g (stmts_of ss) known [] looping)
+  typed_transaction kind ss at is = ap (λ x. first_unmet (IsTypedStmt g x known ns looping)) (ap stmt_of is ∙ stmt_of_transaction kind ss at)
 
   pub typed_print : (at : Span) (format : List ℕ) (format_at : Span) (es : List (E.Expr A)) → s ≡ S.Print at format format_at es → first_unmet (IsTypedStmt g (stmt_of s) known ns looping) ≡ first_unmet (IsTypedPrint known format format_at (exprs_of es))
   typed_print at format format_at es is = ap (λ x. first_unmet (IsTypedStmt g x known ns looping)) (ap stmt_of is ∙ stmt_of_print at format format_at es)

@@ -30,7 +30,8 @@ pub(crate) fn place_of<A: Allocator>(e: &Expr<A>) -> Span
         | Expr::Unary(_, _, at)
         | Expr::Binary(_, _, _, at)
         | Expr::Logical(_, _, _, at)
-        | Expr::Conditional(_, _, _, at) => *at,
+        | Expr::Conditional(_, _, _, at)
+        | Expr::InTransaction(_, _, _, at) => *at,
     }
 }
 
@@ -179,6 +180,7 @@ pub(crate) fn check_expr<'a, A: Allocator + Copy>(
             check_number(names, a.get())?;
             check_number(names, b.get())
         }
+        Expr::InTransaction(_, _, e, _) => check_number(names, e.get()),
     }
 }
 

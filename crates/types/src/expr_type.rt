@@ -96,5 +96,6 @@ pub(crate) fn type_of<'a, A: Allocator + Copy>(
         ),
         Expr::Logical(_, _, _, _) => Some(Scalar::Int),
         Expr::Conditional(_, a, b, _) => common(type_of(names, a.get()), type_of(names, b.get())),
+        Expr::InTransaction(_, _, e, _) => type_of(names, e.get()),
     }
 }

@@ -174,7 +174,7 @@ pub(crate) fn check_stmt<'a, A: Allocator + Copy>(
         }
         Stmt::Return(e, at) => as_failure(check_return(names, context.gives, e, *at)),
         Stmt::Transaction(_, body, _) => check_block(names, body.as_slice(), context),
-        Stmt::Cancel(_) => Ok(()),
+        Stmt::Cancel(_) | Stmt::CancelOuter(_) => Ok(()),
     }
 }
 

@@ -22,11 +22,11 @@ fn is_too_deep(alloc: Global, pieces: &[Piece]) -> bool {
     matches!(fault_in(alloc, Stage::Parse, pieces), Some(Some((11, _))))
 }
 
-// A worker with a declaration whose first value stands in so many pairs of parentheses.
-fn nested(pairs: usize) -> [Piece; 5] {
+// A worker with a declaration whose first value stands in so many pairs of parentheses, of which this opens each.
+fn nested(open: &'static str, pairs: usize) -> [Piece; 5] {
     [
         Piece::Times("void worker(int self) { int a = ", 1),
-        Piece::Times("(", pairs),
+        Piece::Times(open, pairs),
         Piece::Times("1", 1),
         Piece::Times(")", pairs),
         Piece::Times("; }", 1),
@@ -39,13 +39,20 @@ fn a_program_may_be_100_deep(rt: HostRuntime) {
         start: 130,
         end: 131,
     };
-    let deep = has_shape_in(rt.alloc(), &nested(97), Shape::Depth(100));
-    let deeper = fault_in(rt.alloc(), Stage::Parse, &nested(98));
+    let deep = has_shape_in(rt.alloc(), &nested("(", 97), Shape::Depth(100));
+    let deeper = fault_in(rt.alloc(), Stage::Parse, &nested("(", 98));
+    let atomic = nested("__transaction_atomic (", 97);
+    let relaxed = nested("__transaction_relaxed (", 98);
     assert_all(
         &rt,
         &[
             ("100", deep),
             ("101", deeper == Some(Some((11, Some(one))))),
+            (
+                "100 by transactions",
+                has_shape_in(rt.alloc(), &atomic, Shape::Depth(100)),
+            ),
+            ("101 by transactions", is_too_deep(rt.alloc(), &relaxed)),
         ],
     );
 }

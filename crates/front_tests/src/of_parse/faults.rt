@@ -5,7 +5,7 @@ use crate::stages::{Row, Stage, has_another};
 
 /// The rows stand in a function, so that no proof but its own looks at them.
 fn rows() -> &'static [Row] {
-    static ROWS: [Row; 30] = [
+    static ROWS: [Row; 56] = [
         // what stands where no program goes on
         ("int x = ;", 10, 8, 9),
         ("int = 3;", 10, 4, 5),
@@ -34,10 +34,88 @@ fn rows() -> &'static [Row] {
         ("void f(void) { f(,); }", 10, 17, 18),
         ("void f(void) { for (int a;;) ; ) }", 10, 31, 32),
         ("void f(void) { printf(a); }", 10, 22, 23),
+        // a transaction is a block, or an operand in parentheses
+        ("void f(void) { __transaction_atomic a; }", 10, 36, 37),
+        ("void f(void) { __transaction_relaxed ; }", 10, 37, 38),
+        ("void f(void) { __transaction_atomic (); }", 10, 37, 38),
+        ("void f(void) { __transaction_atomic (a, b); }", 10, 38, 39),
+        ("void f(void) { __transaction_atomic (a; }", 10, 38, 39),
+        ("void f(void) { __transaction_atomic (a = b); }", 10, 39, 40),
+        ("void f(void) { __transaction_relaxed (a) b; }", 10, 41, 42),
+        (
+            "void f(void) { a = __transaction_atomic { a; }; }",
+            10,
+            40,
+            41,
+        ),
+        ("void f(void) { __transaction_atomic { } * 1; }", 10, 40, 41),
+        ("void f(void) { a = __transaction_cancel; }", 10, 19, 39),
+        ("int x = __transaction_atomic (1);", 10, 8, 28),
+        ("int x[__transaction_atomic (1)];", 10, 6, 26),
+        // one word, once, on an atomic transaction and a cancel alone
+        (
+            "void f(void) { __transaction_atomic [[outer]] (1); }",
+            10,
+            46,
+            47,
+        ),
+        (
+            "void f(void) { __transaction_atomic [[outer, outer]] { } }",
+            10,
+            43,
+            44,
+        ),
+        (
+            "void f(void) { __transaction_atomic [[outer]] [[outer]] { } }",
+            10,
+            46,
+            47,
+        ),
+        (
+            "void f(void) { __transaction_atomic [[transaction_safe]] { } }",
+            10,
+            38,
+            54,
+        ),
+        ("void f(void) { __transaction_atomic [[]] { } }", 10, 38, 39),
+        (
+            "void f(void) { __transaction_relaxed [[outer]] { } }",
+            10,
+            37,
+            38,
+        ),
+        (
+            "void f(void) { __transaction_relaxed __attribute__((outer)) { } }",
+            10,
+            37,
+            50,
+        ),
+        (
+            "void f(void) { __transaction_relaxed [[outer]] (1); }",
+            10,
+            37,
+            38,
+        ),
+        (
+            "void f(void) { __transaction_atomic { __transaction_cancel [[inner]]; } }",
+            10,
+            61,
+            66,
+        ),
+        (
+            "void f(void) { a = __transaction_atomic [[outer]] (1); }",
+            10,
+            40,
+            41,
+        ),
+        ("[[outer]] void f(void);", 10, 2, 7),
         // the end where a program is begun
         ("int", 12, 3, 3),
         ("int x", 12, 5, 5),
         ("void worker(int self) { ", 12, 23, 23),
+        ("void f(void) { __transaction_atomic", 12, 35, 35),
+        ("void f(void) { __transaction_relaxed (", 12, 38, 38),
+        ("void f(void) { __transaction_atomic (a)", 12, 39, 39),
     ];
     &ROWS
 }

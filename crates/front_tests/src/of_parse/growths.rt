@@ -10,7 +10,8 @@ use std::alloc::{Allocator, Global};
 const SAMPLE: &str =
     "int x = -2, a[2] = {1, 2,}; [[transaction_safe]] int f(int b, unsigned) __attribute__((transaction_callable)); \
 void worker(int self) { int c = f(x, (int)-a[1]) ? 1 : 2; if (c) ; else x++; while (c) break; do c = 1; while (c); \
-for (int i = 0; i < 2; i++) { } __transaction_atomic { x += 1; } printf(\"%d\", c && x | 1); return; }";
+for (int i = 0; i < 2; i++) { } __transaction_atomic { x += 1; } \
+__transaction_relaxed (x) + 1; c = -__transaction_atomic (f(x, __transaction_atomic (c))); printf(\"%d\", c && x | 1); return; }";
 
 // The number of the fault of tokens.
 fn number_of<A: Allocator + Copy>(alloc: A, tokens: &[Token]) -> Option<u32> {

@@ -44,7 +44,7 @@ fn items() -> &'static [&'static str] {
 }
 
 fn statements() -> &'static [&'static str] {
-    static ROWS: [&str; 51] = [
+    static ROWS: [&str; 65] = [
         // statements in a function: the empty one, blocks, declarations
         "void f() { ; }",
         "void f() { { } }",
@@ -103,6 +103,22 @@ fn statements() -> &'static [&'static str] {
         "void f() { a = b && c || d; }",
         "void f() { a = b ? c : d ? e : f; }",
         "void f() { a = b ? c ? d : e : f; }",
+        // transactions that are expressions: as a statement, before an operator, in one another, and where any expression stands
+        "void f() { __transaction_atomic (a); }",
+        "void f() { __transaction_atomic(a) + 1; }",
+        "void f() { __transaction_atomic (a)++; --__transaction_relaxed (a); __transaction_atomic (a) = __transaction_relaxed (b); }",
+        "void f() { __transaction_atomic { __transaction_atomic (a); __transaction_relaxed (b) * 2; } __transaction_relaxed { } }",
+        "void f() { int a = -__transaction_atomic (b + 1) * !__transaction_relaxed (c), d = (int)__transaction_atomic (e); }",
+        "void f() { a[__transaction_relaxed (b)] += __transaction_atomic (__transaction_atomic (c ? d : e)); }",
+        "void f() { if (__transaction_atomic (a)) while (__transaction_atomic (b)) ; else do ; while (__transaction_relaxed (c)); }",
+        "void f() { for (__transaction_atomic (a); __transaction_atomic (b); __transaction_atomic (c)) ; }",
+        "void f() { for (int i = __transaction_atomic (a);;) printf(\"%d\", __transaction_atomic (i)); }",
+        "void f() { return __transaction_relaxed (a) && __transaction_atomic (b) ? f(__transaction_atomic (c), 1) : __transaction_relaxed ((d)); }",
+        // outer transactions and outer cancels, in both spellings; the word is a name elsewhere
+        "void f() { __transaction_atomic [[outer]] { } }",
+        "void f() { __transaction_atomic __attribute__((outer)) { __transaction_cancel [[outer]]; } }",
+        "void f() { __transaction_atomic [[outer]] { __transaction_atomic { if (a) __transaction_cancel __attribute__ ( ( outer ) ) ; else __transaction_cancel; } } }",
+        "void f() { int outer = 1; outer = outer + __transaction_atomic (outer); }",
     ];
     &ROWS
 }

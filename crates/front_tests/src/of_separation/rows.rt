@@ -5,7 +5,7 @@ use crate::stages::{Row, Stage, faulty, has_another};
 
 /// The rows stand in a function, so that no proof but its own looks at them.
 fn faults() -> &'static [Row] {
-    static ROWS: [Row; 20] = [
+    static ROWS: [Row; 25] = [
         ("int x; void worker(int k) { x = 1; }", 50, 28, 29),
         ("int a[3]; void worker(int k) { k = a[1]; }", 50, 35, 36),
         // a bare access that is dead
@@ -119,12 +119,43 @@ fn faults() -> &'static [Row] {
             59,
             60,
         ),
+        // beside a transaction that is an expression, and round one
+        (
+            "int x; void worker(int k) { k = __transaction_atomic (x) + x; }",
+            50,
+            59,
+            60,
+        ),
+        (
+            "int x, a[2]; void worker(int k) { a[__transaction_atomic (x)] = 1; }",
+            50,
+            34,
+            35,
+        ),
+        (
+            "int x; void worker(int k) { x += __transaction_relaxed (x); }",
+            50,
+            28,
+            29,
+        ),
+        (
+            "int x; int get(void) { return x; } void worker(int k) { k = __transaction_relaxed (get()) + get(); }",
+            51,
+            92,
+            95,
+        ),
+        (
+            "int x; int same(int n) { return n - x; } void worker(int k) { k = same(__transaction_atomic (x)); }",
+            51,
+            66,
+            70,
+        ),
     ];
     &ROWS
 }
 
 fn accepted_programs() -> &'static [&'static str] {
-    static ROWS: [&str; 11] = [
+    static ROWS: [&str; 13] = [
         // a call in a transaction
         "int x; int get(void) { return x; } void worker(int k) { __transaction_atomic { get(); } }",
         // accesses in either transaction, and in nested ones
@@ -147,6 +178,9 @@ fn accepted_programs() -> &'static [&'static str] {
         "int x; void f(void) { x = 1; printf(\"a\"); } void worker(int k) { if (0) __transaction_relaxed { f(); } }",
         // a name called is no access
         "int x; int f(void) { return 1; } void worker(int k) { k = f(); }",
+        // accesses and calls in transactions that are expressions
+        "int x, a[2]; int get(void) { return x; } void worker(int k) { if (__transaction_atomic (x)) k = __transaction_relaxed (a[x] + get()) * __transaction_atomic (__transaction_atomic (x)); printf(\"%d\", __transaction_atomic (x)); }",
+        "int x; int get(void) { return __transaction_atomic (x); } void worker(int k) { for (; __transaction_atomic (x) < get(); get()) ; }",
     ];
     &ROWS
 }

@@ -53,6 +53,6 @@ fn growths(inner: Global) -> Option<u64> {
 
 #[test]
 fn each_growth_of_a_copy_is_refused_once(rt: HostRuntime) {
-    // the tree has 25 texts, 22 boxes and 13 lists that hold something
-    assert_that(&rt, growths(rt.alloc()) >= Some(60));
+    // the tree has 29 texts, 27 boxes and 13 lists that hold something
+    assert_that(&rt, growths(rt.alloc()) >= Some(69));
 }

@@ -11,7 +11,7 @@ use std::alloc::Global;
 type Row = (&'static str, usize);
 
 fn rows() -> &'static [Row] {
-    static ROWS: [Row; 30] = [
+    static ROWS: [Row; 35] = [
         ("int g;", 0),
         ("void f();", 0),
         ("void f() {}", 1),
@@ -47,6 +47,20 @@ fn rows() -> &'static [Row] {
         (
             "void f() { if (x) ; else while (x) do x += x; while (x); }",
             6,
+        ),
+        ("void f() { __transaction_atomic (x); }", 4),
+        (
+            "void f() { __transaction_atomic ((__transaction_relaxed (x))); }",
+            6,
+        ),
+        ("void f() { x = __transaction_atomic (x) + 1; }", 5),
+        (
+            "void f() { __transaction_atomic { __transaction_atomic (x); } }",
+            6,
+        ),
+        (
+            "void f() { __transaction_atomic [[outer]] { __transaction_cancel [[outer]]; } }",
+            4,
         ),
     ];
     &ROWS

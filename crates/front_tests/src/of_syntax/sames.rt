@@ -27,7 +27,7 @@ fn are_same(alloc: Global, one: &str, other: &str) -> Option<bool> {
 type Row = (&'static str, &'static str, bool);
 
 fn rows() -> &'static [Row] {
-    static ROWS: [Row; 8] = [
+    static ROWS: [Row; 13] = [
         ("int g;", " int g;", false),
         ("int g;", "int h;", false),
         ("int f;", "int f();", false),
@@ -35,6 +35,31 @@ fn rows() -> &'static [Row] {
         ("void f() { break; }", "void f() {  break;}", false),
         ("void f() { x + 1; }", "void f() { x - 1; }", false),
         ("void f() { return; }", "void f() { ; }", false),
+        (
+            "void f() { __transaction_atomic(x); }",
+            "void f() { __transaction_relaxed(x); }",
+            false,
+        ),
+        (
+            "void f() { __transaction_atomic (x); }",
+            "void f() { __transaction_atomic(x) ; }",
+            false,
+        ),
+        (
+            "void f() { __transaction_atomic(x); }",
+            "void f() { __transaction_atomic(y); }",
+            false,
+        ),
+        (
+            "void f() { __transaction_atomic [[outer]] { } }",
+            "void f() { __transaction_atomic { } }",
+            false,
+        ),
+        (
+            "void f() { __transaction_atomic [[outer]] { } }",
+            "void f() { __transaction_atomic [[ outer]]{ } }",
+            true,
+        ),
         // a tree keeps neither spaces nor how a type is spelled
         ("signed g;", "int    g;", true),
     ];

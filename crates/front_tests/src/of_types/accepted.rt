@@ -8,7 +8,7 @@ use types::{Typed, check};
 
 /// The rows stand in a function, so that no proof but its own looks at them.
 fn rows() -> &'static [&'static str] {
-    static ROWS: [&str; 10] = [
+    static ROWS: [&str; 12] = [
         "void worker(int self) { }",
         "void worker(int); void worker(int self) { }",
         // a local is known in its own initialiser, also where it hides a global or a function
@@ -25,6 +25,9 @@ fn rows() -> &'static [&'static str] {
         // loops in loops, and returns of both kinds
         "int f(int a) { while (1) { do { break; } while (0); continue; } return a; } void worker(int self) { return; }",
         "int a[4095] = {1, -2,}, b = 3; void worker(int self) { a[b] = a[a[0]]; b += 1; a[1]++; --b; }",
+        // a transaction that is an expression has its operand's type
+        "unsigned u; void worker(int self) { printf(\"%d%u%d%u\", __transaction_atomic (self), __transaction_atomic (u), __transaction_relaxed (u < 1), __transaction_atomic (self) + __transaction_relaxed (u)); }",
+        "unsigned u; int f(int n) { return __transaction_atomic (n); } void worker(int self) { __transaction_atomic (1) + 1; printf(\"%u%d\", __transaction_atomic (u) >> 1, -__transaction_relaxed (f(__transaction_atomic (self ? 1 : 2)))); }",
     ];
     &ROWS
 }

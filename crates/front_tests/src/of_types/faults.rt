@@ -5,7 +5,7 @@ use crate::stages::{Row, Stage, has_another};
 
 /// The rows stand in a function, so that no proof but its own looks at them.
 fn rows() -> &'static [Row] {
-    static ROWS: [Row; 74] = [
+    static ROWS: [Row; 88] = [
         // a name that is not known
         ("void worker(int self) { x = 1; }", 20, 24, 25),
         ("void worker(int self) { int v = f(1); }", 20, 32, 33),
@@ -205,6 +205,91 @@ fn rows() -> &'static [Row] {
             23,
             41,
             42,
+        ),
+        // a transaction that is an expression: its operand is a number, and comes first
+        (
+            "void f(void) { } void worker(int self) { __transaction_atomic (f()); }",
+            22,
+            63,
+            66,
+        ),
+        (
+            "void f(void) { } void worker(int self) { __transaction_relaxed ((f())); }",
+            22,
+            64,
+            69,
+        ),
+        (
+            "void f(void) { } void worker(int self) { int v = __transaction_atomic (__transaction_relaxed (f())); }",
+            22,
+            94,
+            97,
+        ),
+        (
+            "int a[2]; void worker(int self) { __transaction_atomic (a); }",
+            22,
+            56,
+            57,
+        ),
+        (
+            "void worker(int self) { int v = __transaction_atomic (worker); }",
+            22,
+            54,
+            60,
+        ),
+        (
+            "void worker(int self) { __transaction_atomic (z); }",
+            20,
+            46,
+            47,
+        ),
+        (
+            "void f(void) { } void worker(int self) { int v = __transaction_atomic (f()) + z; }",
+            22,
+            71,
+            74,
+        ),
+        (
+            "void worker(int self) { __transaction_atomic (self) = 1; }",
+            24,
+            24,
+            51,
+        ),
+        (
+            "void worker(int self) { __transaction_relaxed (self)++; }",
+            24,
+            24,
+            52,
+        ),
+        (
+            "void worker(int self) { __transaction_atomic (z) = 1; }",
+            20,
+            46,
+            47,
+        ),
+        (
+            "void worker(int self) { printf(\"%u\", __transaction_atomic (1)); }",
+            27,
+            37,
+            61,
+        ),
+        (
+            "void worker(int self) { printf(\"%d\", __transaction_relaxed (1u)); }",
+            27,
+            37,
+            63,
+        ),
+        (
+            "void f(void) { return __transaction_atomic (1); } void worker(int self) { }",
+            22,
+            15,
+            21,
+        ),
+        (
+            "int f(int n) { return n; } void worker(int self) { __transaction_atomic (f(1, 2)); }",
+            23,
+            73,
+            74,
         ),
     ];
     &ROWS

@@ -4,7 +4,7 @@ use Rattle.syntax.specs.Tree.{Function, Item, Defines, Program}
 use Rattle.bytecode.specs.Code.{FunctionCode}
 use Rattle.lower.specs.declared.fault.LowerFault.{LowerFault}
 use Rattle.lower.specs.declared.fault.LowerFault.TheVariants.{OutOfMemory, TooManyRegisters, TooMuchCode, NestedTooDeep}
-use Rattle.lower.specs.Faults.{NeedsTooMany, PassesWith, IsTooMuch}
+use Rattle.lower.specs.Limits.{NeedsTooMany, PassesWith, IsTooMuch}
 
 -- of a definition that needs so many registers, behind which there are so many instructions
 abbrev pub IsOfDefinition : Function → (registers instructions : ℕ) → LowerFault → Type 0

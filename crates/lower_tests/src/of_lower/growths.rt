@@ -10,7 +10,9 @@ use std::alloc::{Allocator, Global};
 const SAMPLE: &str =
     "int x, a[3]; int f(int n, int m) { return n ? m : 2; } void worker(int self) { int i; \
 for (i = 0; i < 3 && self; i++) { __transaction_relaxed { a[i] += f(i, x); printf(\"%d!%u\", a[i], 7u); } } \
-while (i) i--; }";
+while (i) i--; if (__transaction_atomic (x) + __transaction_atomic (a[__transaction_atomic (x & 1)])) \
+__transaction_atomic [[outer]] { __transaction_atomic { x++; if (i) __transaction_cancel [[outer]]; } } \
+i = __transaction_relaxed (f(__transaction_atomic (a[1]), 5)) * 7; }";
 
 // Whether a program has its code; `None` where it has another fault than want of memory.
 fn has_code<A: Allocator + Copy>(alloc: A, accepted: &Accepted<A>) -> Option<bool> {

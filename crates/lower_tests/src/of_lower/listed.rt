@@ -9,7 +9,7 @@ pub type Listed = (&'static str, &'static str);
 
 /// The rows stand in a function, so that no proof but its own looks at them.
 pub fn rows() -> &'static [Listed] {
-    static ROWS: [Listed; 12] = [
+    static ROWS: [Listed; 15] = [
         (
             "int x; void worker(int self) { __transaction_atomic { x = x + 1; } }",
             "function worker registers 3\n0 begin >6\n1 rd r1 @0\n2 const r2 #1\n3 add.s r1 r1 r2\n4 wr @0 r1\n5 commit\n6 ret\n",
@@ -57,6 +57,18 @@ pub fn rows() -> &'static [Listed] {
         (
             "void worker(int n) { do n = n + 1 + 2 + 3 + 4 + 5 + 6 + 7 + 8 + 9 + 10 + 11 + 12 + 13 + 14 + 15 + 16 + 17; while (!n); }",
             "function worker registers 19\n0 const r3 #17\n1 const r4 #16\n2 const r5 #15\n3 const r6 #14\n4 const r7 #13\n5 const r8 #12\n6 const r9 #11\n7 const r10 #10\n8 const r11 #9\n9 const r12 #8\n10 const r13 #7\n11 const r14 #6\n12 const r15 #5\n13 const r16 #4\n14 const r17 #3\n15 const r18 #2\n16 jump >19\n17 jump >38\n18 jump >37\n19 const r1 #1\n20 add.s r1 r0 r1\n21 add.s r1 r1 r18\n22 add.s r1 r1 r17\n23 add.s r1 r1 r16\n24 add.s r1 r1 r15\n25 add.s r1 r1 r14\n26 add.s r1 r1 r13\n27 add.s r1 r1 r12\n28 add.s r1 r1 r11\n29 add.s r1 r1 r10\n30 add.s r1 r1 r9\n31 add.s r1 r1 r8\n32 add.s r1 r1 r7\n33 add.s r1 r1 r6\n34 add.s r1 r1 r5\n35 add.s r1 r1 r4\n36 add.s r0 r1 r3\n37 jz r0 >19\n38 ret\n",
+        ),
+        (
+            "int a[3], i; int f(int n) { return __transaction_atomic (a[__transaction_atomic (i)] * n); } void worker(int self) { while (__transaction_atomic (i < self)) { int v = __transaction_relaxed (f(7) + __transaction_atomic (i)); if (!__transaction_atomic (v) || self) __transaction_atomic { i++; } } __transaction_atomic (i); }",
+            "function f registers 2\n0 begin >7\n1 begin >4\n2 rd r1 @3\n3 commit\n4 rdx r1 @0 #3 r1\n5 mul.s r1 r1 r0\n6 commit\n7 ret r1\n8 ret\nfunction worker registers 5\n9 const r4 #1\n10 jump >30\n11 jump >35\n12 const r1 #0\n13 begin >21\n14 const r2 #7\n15 call f r2 r2\n16 begin >19\n17 rd r3 @3\n18 commit\n19 add.s r1 r2 r3\n20 commit\n21 begin >23\n22 commit\n23 jz r1 >25\n24 jz r0 >30\n25 begin >30\n26 rd r2 @3\n27 add.s r2 r2 r4\n28 wr @3 r2\n29 commit\n30 begin >34\n31 rd r1 @3\n32 lt.s r1 r1 r0\n33 commit\n34 jnz r1 >12\n35 begin >38\n36 rd r1 @3\n37 commit\n38 ret\n",
+        ),
+        (
+            "int x = 2; unsigned u = 2; void worker(int self) { int v = 4; v = __transaction_atomic (x); for (; v && __transaction_atomic (x) != 0; v = __transaction_atomic (u) > 1 ? __transaction_atomic (-v + 2) : v) printf(\"%d%u\", __transaction_relaxed (v + x), __transaction_relaxed (u)); }",
+            "function worker registers 6\n0 const r4 #2\n1 const r5 #1\n2 const r1 #0\n3 const r1 #4\n4 begin >7\n5 rd r1 @0\n6 commit\n7 jump >30\n8 jump >35\n9 jump >20\n10 irrevocable\n11 begin >15\n12 rd r2 @0\n13 add.s r2 r1 r2\n14 commit\n15 begin >18\n16 rd r3 @1\n17 commit\n18 print.s r2\n19 print.u r3\n20 begin >23\n21 rd r2 @1\n22 commit\n23 lt.u r2 r5 r2\n24 jz r2 >30\n25 begin >29\n26 neg.s r2 r1\n27 add.s r1 r2 r4\n28 commit\n29 jump >30\n30 jz r1 >35\n31 begin >34\n32 rd r2 @0\n33 commit\n34 jnz r2 >10\n35 ret\n",
+        ),
+        (
+            "int x; void worker(int self) { int i, n; for (i = 0; i < 3; i++) { __transaction_atomic [[outer]] { n = n + 1; __transaction_atomic { if (i) __transaction_cancel; __transaction_atomic { x = x + n; if (x > 1) __transaction_cancel [[outer]]; } } if (n == 4) __transaction_cancel [[outer]]; } } }",
+            "function worker registers 8\n0 const r5 #3\n1 const r6 #1\n2 const r7 #4\n3 const r1 #0\n4 const r2 #0\n5 const r1 #0\n6 jump >29\n7 jump >31\n8 jump >28\n9 begin >28\n10 add.s r2 r2 r6\n11 begin >24\n12 jz r1 >14\n13 cancel\n14 begin >23\n15 rd r3 @0\n16 add.s r3 r3 r2\n17 wr @0 r3\n18 rd r3 @0\n19 lt.s r3 r6 r3\n20 jz r3 >22\n21 cancelx #3\n22 commit\n23 commit\n24 eq r3 r2 r7\n25 jz r3 >27\n26 cancel\n27 commit\n28 add.s r1 r1 r6\n29 lt.s r3 r1 r5\n30 jnz r3 >9\n31 ret\n",
         ),
     ];
     &ROWS

@@ -63,3 +63,37 @@ fn calls_begin_anew_and_branches_do_not(rt: HostRuntime) {
     let deeper = fault_at(rt.alloc(), &branches()).0;
     assert_all(&rt, &[("calls", anew == 0), ("branches", deeper == 62)]);
 }
+
+// A worker in which so many blocks of transactions lie round so many that are expressions.
+fn round(blocks: u32, expressions: u32) -> [Piece; 9] {
+    [
+        Piece::Times("void worker(int self) { ", 1),
+        Piece::Times("__transaction_atomic { ", blocks),
+        Piece::Times("if (self) self = 1 + ", 1),
+        Piece::Times("__transaction_atomic (", expressions),
+        Piece::Times("1", 1),
+        Piece::Times(")", expressions),
+        Piece::Times("; ", 1),
+        Piece::Times("} ", blocks),
+        Piece::Times("}", 1),
+    ]
+}
+
+#[test]
+fn expressions_count_as_blocks_do(rt: HostRuntime) {
+    let keyword = Span {
+        start: 397,
+        end: 417,
+    };
+    let last = fault_at(rt.alloc(), &round(0, 17));
+    assert_all(
+        &rt,
+        &[
+            ("16 expressions", fault_at(rt.alloc(), &round(0, 16)).0 == 0),
+            ("17 expressions", last == (62, Some(keyword))),
+            ("10 round 6", fault_at(rt.alloc(), &round(10, 6)).0 == 0),
+            ("10 round 7", fault_at(rt.alloc(), &round(10, 7)).0 == 62),
+            ("16 round 1", fault_at(rt.alloc(), &round(16, 1)).0 == 62),
+        ],
+    );
+}

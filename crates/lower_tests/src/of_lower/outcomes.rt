@@ -277,7 +277,7 @@ fn listed_show_others(alloc: Global, rows: &[Listed]) -> Option<&'static str> {
 
 /// Programs with one way of ending, of printing, of jumping or of leaving loops each.
 fn texts() -> &'static [&'static str] {
-    static TEXTS: [&str; 9] = [
+    static TEXTS: [&str; 15] = [
         "void worker(int self) { for (int i = 0; i < self; i++) { if (i == 1) continue; printf(\"%d;\", i); } }",
         "int f(int n) { if (n < 2) return n; printf(\"f\"); return f(n - 1) + f(n - 2); } void worker(int self) { printf(\"%d %u\", f(self + 1), 7u); }",
         "void worker(int self) { int v = 2147483640; do { v += self; printf(\"%d\\n\", v); } while (1); }",
@@ -287,6 +287,12 @@ fn texts() -> &'static [&'static str] {
         "int x; void worker(int self) { printf(\"%d\", self > 2 ? self || 1 / 0 : 0); __transaction_atomic { x = 1; } printf(\"z\"); }",
         "void worker(int self) { int a = 1, b; b = a > 0 && self; while (1) { if (b) { { int a = 5; b = a - 5; } continue; } break; } printf(\"%d%d\", a, b); }",
         "void worker(int self) { for (int i = 0; i < 8; i++) { int a = i & 1, b = i & 2, c = i & 4; if (a && b || !(c || b != 0)) printf(\"%d\", i); while ((a || b) && !(c && a)) { a = 0; b = 0; } printf(\"%d%d\", a ? b || c : c && self, (a && (b || c)) == 0 ? 1 : 2); } }",
+        "int x = 1; int a[3] = {4, 5, 6}; void worker(int self) { while (__transaction_atomic (x < self)) { __transaction_atomic { if (__transaction_atomic (x) == 2) x = 9; else x++; } } int v = __transaction_atomic (a[__transaction_atomic (x & 1)]); printf(\"%d%d\", v, __transaction_atomic (x) ? __transaction_atomic (x + 1) : __transaction_atomic (0)); __transaction_atomic (v); }",
+        "int x = 2; int f(int n) { return __transaction_atomic (x * n); } int g(void) { __transaction_relaxed { printf(\"g\"); return __transaction_relaxed (x + 1); } } void worker(int self) { printf(\"%d\", f(self) + __transaction_relaxed (f(4))); int a = 3; printf(\"%d\", a * 100 + __transaction_relaxed (g() * 10 + __transaction_atomic (x))); a = a && __transaction_atomic (x) || __transaction_relaxed (!x); for (; __transaction_atomic (a < 9 ? x : 0); a = __transaction_atomic (x + a)) printf(\"%d\", a); }",
+        "int x = 2147483645; int f(void) { __transaction_atomic { x = x + 1; return x; } } void worker(int self) { printf(\"a\"); while (1) { int v = 1 + __transaction_atomic (f() - __transaction_atomic (f())); printf(\"%d\", v + __transaction_atomic (x + 1)); } }",
+        "int x; int g(void) { printf(\"g\"); return 6 / (2 - x); } void worker(int self) { while (1) { int v = __transaction_relaxed (g() + __transaction_atomic (x)); printf(\"%d\", v); __transaction_atomic { x++; } } }",
+        "int x; void worker(int self) { int i, n; for (i = 0; i < 3; i++) { int k = i; __transaction_atomic [[outer]] { n = n + 1; x = x + 1; __transaction_atomic { n = n + 10; __transaction_atomic { k = 99; x = x + 100; if (i == 1) __transaction_cancel [[outer]]; if (i == 2) __transaction_cancel; } x = x + k; } } printf(\"%d %d,\", n, k); } }",
+        "int x = 1; int f(void) { __transaction_atomic [[outer]] { x = x + 1; while (1) { __transaction_atomic { x = x + x; if (x > 40) __transaction_cancel [[outer]]; if (x > 20) break; } } x++; } return __transaction_atomic (x); } void worker(int self) { printf(\"%d\", f() + __transaction_relaxed (f())); __transaction_relaxed { x = 3; printf(\"b\"); __transaction_atomic [[outer]] { x = 2; __transaction_atomic { __transaction_cancel [[outer]]; } } x = x + 4; } }",
     ];
     &TEXTS
 }

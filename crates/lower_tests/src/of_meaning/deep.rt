@@ -18,7 +18,7 @@ type Shape = (
 );
 
 fn shapes() -> &'static [Shape] {
-    static SHAPES: [Shape; 17] = [
+    static SHAPES: [Shape; 18] = [
         ("int f(int a) { return ", "(", "f(a)", ")", "; }", 96),
         ("int f(int a) { return ", "!", "f(a)", "", "; }", 96),
         ("int f(int a) { return ", "(int)", "f(a)", "", "; }", 96),
@@ -105,6 +105,14 @@ fn shapes() -> &'static [Shape] {
             "}",
             " return a; }",
             48,
+        ),
+        (
+            "int f(int a) { return ",
+            "__transaction_atomic (",
+            "f(a)",
+            ")",
+            "; }",
+            96,
         ),
     ];
     &SHAPES

@@ -10,7 +10,7 @@ type Row = (&'static str, &'static str, u64);
 
 // `p` prints its argument and gives it back
 fn rows() -> &'static [Row] {
-    static ROWS: [Row; 13] = [
+    static ROWS: [Row; 15] = [
         // arguments from the left
         (
             "int x; int p(int n) { printf(\"%d\", n); return n; } int f(int a, int b) { return a - b; }
@@ -94,6 +94,17 @@ fn rows() -> &'static [Row] {
             "int x; void worker(int self) { int k = 1; __transaction_atomic { k = 2; __transaction_atomic { k = 3; __transaction_cancel; } x = k; } printf(\"%d\", k); }",
             "2",
             2,
+        ),
+        // a transaction that is an expression is computed in its place, and keeps its type
+        (
+            "int x; int p(int n) { printf(\"%d\", n); return n; } void worker(int self) { __transaction_relaxed { int k = p(5) - __transaction_relaxed (p(3) - __transaction_relaxed (p(1))); x = k; } }",
+            "531",
+            3,
+        ),
+        (
+            "int x; void worker(int self) { __transaction_atomic { x = __transaction_atomic (1u) > -1; x = 1 - x; } }",
+            "",
+            1,
         ),
     ];
     &ROWS

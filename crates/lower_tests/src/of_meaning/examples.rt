@@ -10,7 +10,7 @@ use std::alloc::Global;
 type Row = (&'static str, u32, &'static str, &'static [u32]);
 
 fn examples() -> &'static [Row] {
-    static EXAMPLES: [Row; 10] = [
+    static EXAMPLES: [Row; 13] = [
         (
             "// A cancel of an inner transaction undoes the inner one alone: who finds no seat in the train takes one in the bus, and what the\n// outer transaction wrote before stays. Each thread books twice.\nint train = 1, bus = 9, asked, by_train, by_bus;\n\nvoid worker(int self) {\n    int i;\n    for (i = 0; i < 2; i++) {\n        __transaction_atomic {\n            int seated = 0;\n            asked = asked + 1;\n            __transaction_atomic {\n                train = train - 1;\n                by_train = by_train + 1;\n                if (train < 0) __transaction_cancel;\n                seated = 1;\n            }\n            if (!seated) {\n                bus = bus - 1;\n                by_bus = by_bus + 1;\n            }\n        }\n    }\n}\n",
             0,
@@ -18,10 +18,22 @@ fn examples() -> &'static [Row] {
             &[0, 8, 2, 1, 1],
         ),
         (
+            "// A cart is built as a whole or not at all: where the wheels are too few, in the inner transaction, one cancel undoes both.\nint frames = 3, wheels = 9, built;\n\nvoid worker(int self) {\n    int i;\n    for (i = 0; i < 3; i++) {\n        __transaction_atomic [[outer]] {\n            frames = frames - 1;\n            __transaction_atomic {\n                wheels = wheels - 4;\n                if (wheels < 0) __transaction_cancel [[outer]];\n            }\n            built = built + 1;\n        }\n    }\n}\n",
+            0,
+            "",
+            &[1, 1, 2],
+        ),
+        (
             "// Each thread adds one, three times. No addition is lost, whatever the threads do.\nint x;\n\nvoid worker(int self) {\n    int i;\n    for (i = 0; i < 3; i++) {\n        __transaction_atomic { x = x + 1; }\n    }\n}\n",
             0,
             "",
             &[3],
+        ),
+        (
+            "// Threads empty a queue together. The loop's condition reads the head in a transaction of its own, and so the next one, which\n// takes a number, has to look again.\nint queue[2] = {7, 9}, head, total;\n\nvoid worker(int self) {\n    int taken = 0;\n    while (__transaction_atomic (head) < 2) {\n        __transaction_atomic {\n            if (head < 2) {\n                total = total + queue[head];\n                head++;\n                taken++;\n            }\n        }\n    }\n    printf(\"%d taken, %d left\\n\", taken, 2 - __transaction_atomic (head));\n}\n",
+            0,
+            "2 taken, 0 left\n",
+            &[7, 9, 2, 16],
         ),
         (
             "int x = 40, y; void worker(int self) { __transaction_atomic { x = x + 2; y = x - 1; } }\n",
@@ -58,6 +70,12 @@ fn examples() -> &'static [Row] {
             0,
             "ticket 1, 9 left\n",
             &[1, 9],
+        ),
+        (
+            "int x = 5; void worker(int self) { int v = __transaction_atomic (x + 1) * 2; printf(\"%d\\n\", v); }\n",
+            0,
+            "12\n",
+            &[5],
         ),
         (
             "// Both accounts change in one step, or neither does.\nint checking = 120, savings = 40;\n\nvoid worker(int self) {\n    __transaction_atomic {\n        checking = checking - 50;\n        savings = savings + 50;\n    }\n    __transaction_atomic {\n        savings = savings + 1;\n    }\n}\n",

@@ -73,12 +73,38 @@ const CANCELS: &str =
 // an inner transaction takes no tick as it is left, and its cancel undoes what it did alone
 const CANCELS_INNER: &str =
     "int x; void worker(int self) { __transaction_atomic { x = 1; __transaction_atomic { x = 2; __transaction_cancel; } } }";
+// an outer cancel undoes the outer transaction with the one in it, and only where that is the outermost one a tick is taken
+const CANCELS_OUTER: &str =
+    "int x, y; void worker(int self) { __transaction_atomic [[outer]] { x = 2; __transaction_atomic { y = x; __transaction_cancel [[outer]]; } y = 9; } }";
+
+const CANCELS_IN_RELAXED: &str =
+    "int x, y; void worker(int self) { __transaction_relaxed { x = 1; printf(\"a\"); __transaction_atomic [[outer]] { x = 2; __transaction_atomic { y = 2; __transaction_cancel [[outer]]; } } y = x; } }";
+// both kinds of cancels give back the locals that their begin found
+const CANCELS_BOTH: &str =
+    "int x; void worker(int self) { int v = 3; __transaction_atomic [[outer]] { v = 9; __transaction_atomic { __transaction_atomic { v = 8; __transaction_cancel; } x = v; __transaction_cancel [[outer]]; } } printf(\"%d\", v); }";
 // a return leaves both transactions
 const RETURNS: &str =
     "int x; int f(void) { __transaction_atomic { __transaction_atomic { x = 7; return x; } } } void worker(int self) { printf(\"%d\", f()); }";
 // to want a memory takes no tick
 const TWICE: &str =
     "int x; void worker(int self) { __transaction_atomic { x = 1; } __transaction_atomic { x = 2; } }";
+// outside transactions one that is an expression takes a tick before it wants its memory, and one as it is left
+const READS: &str = "int x; void worker(int self) { int v = __transaction_atomic (x); }";
+// inside one it takes none
+const READS_INSIDE: &str =
+    "int x; void worker(int self) { __transaction_atomic { x = __transaction_atomic (x) + 1; } }";
+// so it is with those in its operand, and with one whose value is dropped
+const NESTS: &str =
+    "int x; void worker(int self) { int v = __transaction_atomic (__transaction_atomic (__transaction_atomic (x)) + __transaction_atomic (x)); __transaction_relaxed (v); }";
+// a call's tick comes before that of the transaction which its function returns the value of
+const RETURNS_VALUE: &str =
+    "int x; int f(int n) { return __transaction_atomic (x + n); } void worker(int self) { printf(\"%d\", f(3) + __transaction_relaxed (f(4))); }";
+// a trap in one leaves the memory that it found, for the trap's tick alone
+const TRAPS_IN_VALUE: &str =
+    "int x; void worker(int self) { int v = __transaction_atomic (1 / x); }";
+// one in a loop's condition comes behind the tick of the turn
+const TESTS: &str =
+    "int x; void worker(int self) { while (__transaction_atomic (x < 1)) { __transaction_atomic { x = 1; } if (__transaction_atomic (x)) break; } }";
 
 const BRANCH: &str = "void worker(int self) { if (self) printf(\"a\"); else printf(\"b\"); }";
 
@@ -216,7 +242,7 @@ fn calls_and_traps_take_their_ticks(rt: HostRuntime) {
 }
 
 fn transactions() -> &'static [Row] {
-    static ROWS: [Row; 15] = [
+    static ROWS: [Row; 25] = [
         (CANCELS, 1, 5, 0, 0, "", SPENT),
         (CANCELS, 1, 6, 1, 0, "", SPENT),
         (CANCELS, 1, 8, 1, 0, "5", SPENT),
@@ -232,6 +258,16 @@ fn transactions() -> &'static [Row] {
         (TWICE, 1, 4, 1, 1, "", WANTS),
         (TWICE, 2, 6, 2, 2, "", SPENT),
         (TWICE, 2, 7, 2, 2, "", ENDED),
+        (CANCELS_OUTER, 1, 5, 0, 0, "", SPENT),
+        (CANCELS_OUTER, 1, 6, 1, 0, "", SPENT),
+        (CANCELS_OUTER, 1, 7, 1, 0, "", ENDED),
+        (CANCELS_IN_RELAXED, 1, 10, 0, 0, "a", SPENT),
+        (CANCELS_IN_RELAXED, 1, 11, 1, 1, "a", SPENT),
+        (CANCELS_IN_RELAXED, 1, 12, 1, 1, "a", ENDED),
+        (CANCELS_BOTH, 1, 9, 0, 0, "", SPENT),
+        (CANCELS_BOTH, 1, 10, 1, 0, "", SPENT),
+        (CANCELS_BOTH, 1, 12, 1, 0, "3", SPENT),
+        (CANCELS_BOTH, 1, 13, 1, 0, "3", ENDED),
     ];
     &ROWS
 }
@@ -239,4 +275,39 @@ fn transactions() -> &'static [Row] {
 #[test]
 fn transactions_take_their_ticks(rt: HostRuntime) {
     assert_all_so(&rt, rt.alloc(), transactions());
+}
+
+fn transactions_that_are_expressions() -> &'static [Row] {
+    static ROWS: [Row; 24] = [
+        (READS, 0, 0, 0, 0, "", SPENT),
+        (READS, 0, 1, 0, 0, "", SPENT),
+        (READS, 0, 2, 0, 0, "", WANTS),
+        (READS, 1, 2, 0, 0, "", SPENT),
+        (READS, 1, 3, 1, 0, "", SPENT),
+        (READS, 1, 4, 1, 0, "", ENDED),
+        (READS_INSIDE, 1, 2, 0, 0, "", SPENT),
+        (READS_INSIDE, 1, 3, 1, 1, "", SPENT),
+        (READS_INSIDE, 1, 4, 1, 1, "", ENDED),
+        (NESTS, 1, 3, 1, 0, "", SPENT),
+        (NESTS, 1, 5, 1, 0, "", WANTS),
+        (NESTS, 2, 6, 2, 0, "", SPENT),
+        (NESTS, 2, 7, 2, 0, "", ENDED),
+        (RETURNS_VALUE, 1, 4, 0, 0, "", SPENT),
+        (RETURNS_VALUE, 1, 5, 1, 0, "", SPENT),
+        (RETURNS_VALUE, 1, 6, 1, 0, "", WANTS),
+        (RETURNS_VALUE, 2, 9, 2, 0, "", SPENT),
+        (RETURNS_VALUE, 2, 10, 2, 0, "7", SPENT),
+        (RETURNS_VALUE, 2, 11, 2, 0, "7", ENDED),
+        (TRAPS_IN_VALUE, 1, 2, 0, 0, "", SPENT),
+        (TRAPS_IN_VALUE, 1, 3, 1, 0, "", DIVIDES),
+        (TESTS, 0, 2, 0, 0, "", SPENT),
+        (TESTS, 0, 3, 0, 0, "", WANTS),
+        (TESTS, 1, 4, 1, 0, "", SPENT),
+    ];
+    &ROWS
+}
+
+#[test]
+fn transactions_that_are_expressions_take_their_ticks(rt: HostRuntime) {
+    assert_all_so(&rt, rt.alloc(), transactions_that_are_expressions());
 }

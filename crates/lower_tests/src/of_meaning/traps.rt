@@ -79,8 +79,8 @@ void worker(int self) {
         if (k > self + 2) break;
         __transaction_relaxed {
             a[k % 3] = k + 1;
-            __transaction_atomic { total = sum(3); if (k == self + 1) __transaction_cancel; }
-            printf(\"%d:%d \", k, total && a[0] || 0);
+            __transaction_atomic [[outer]] { __transaction_atomic { total = sum(3); if (k == self + 1) __transaction_cancel [[outer]]; } }
+            printf(\"%d:%d \", k, __transaction_atomic (total && a[0]) || 0);
         }
         k++;
     }

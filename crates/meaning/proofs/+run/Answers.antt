@@ -12,14 +12,14 @@ use Rattle.syntax.specs.Meaning.{expr, exprs, stmt, simple, declare, scoped, tur
 use Rattle.meaning.specs.inner.Calls.{begun_in}
 use Rattle.meaning.specs.Outcomes.{memories_in}
 use Rattle.meaning.specs.inner.Machine.{context_in, end_of, items_in, local_in, program_in, spot_of, state_in}
-use Rattle.meaning.specs.inner.Does.{called, does_stmt, does_stmts, does_turn, do_turn, else_depth, for_all, joined_to, loop_depth, while_turn}
+use Rattle.meaning.specs.inner.Does.{called, does_expr, does_stmt, does_stmts, does_turn, do_turn, else_depth, does_body, depth_within, for_all, is_forbidden, joined_to, loop_depth, while_turn}
 use Rattle.meaning.specs.inner.Word.{value_of}
 use Rattle.meaning.proofs.Stops.{err_of, stops_as}
 use Rattle.meaning.proofs.Bodies.{weight_less}
 use Rattle.meaning.proofs.Deeper.{block_deep, do_deep, if_deep, transaction_deep, argument_deep, statement_deep, declarator_deep}
-use Rattle.meaning.proofs.Parts.{call_is, element_is, parenthesized_is, cast_is, unary_is, binary_is, logical_is, conditional_is, declare_is, block_is, print_is, if_is, while_is, do_while_is, for_is, return_is, transaction_is}
+use Rattle.meaning.proofs.Parts.{call_is, element_is, parenthesized_is, cast_is, unary_is, binary_is, logical_is, conditional_is, in_transaction_is, declare_is, block_is, print_is, if_is, while_is, do_while_is, for_is, return_is, transaction_is}
 use Rattle.meaning.proofs.Sequences.{after, halts, twice, stmts_next, stmts_left, stmts_halt, stmts_end, values_next, values_halt, values_end, values_start, declare_next, declare_halt, scoped_gives, scoped_stops, truncated, turns_spent, turns_next, turns_ended}
-use Rattle.meaning.proofs.Steps.{ticks_then, spent_first, changed_gives, adjusted_gives, print_until, call_gives, call_stops, transaction_at, outermost_none, outermost_gives, outermost_stops, nested_astray, nested_gives, nested_stops, found_none, found_first, conditional_gives, branch_gives}
+use Rattle.meaning.proofs.Steps.{ticks_then, spent_first, changed_gives, adjusted_gives, print_until, call_gives, call_stops, transaction_at, outermost_none, outermost_gives, outermost_stops, nested_astray, nested_gives, nested_stops, value_unbegun, value_gives, value_stops, found_none, found_first, conditional_gives, branch_gives}
 use Rattle.meaning.proofs.+run.Goals as goal
 use Rattle.meaning.proofs.+run.Goals.{expr::conditional-then-is_zero+in_ok-w, expr::conditional-else-is_zero+in_ok-w-2}
 
@@ -91,6 +91,11 @@ expr::eval-returns-in-Call g t c done =
 pub expr::eval-returns-in-Conditional : goal.expr::eval-returns-in-Conditional
 expr::eval-returns-in-Conditional g t c done =
     ap (λ x. expr (program_in c.args.source.now) (called c.args.source.now c.args.frames) x (state_in c.args.m.now)) (conditional_is c.args.e.now c.in-Conditional.c c.in-Conditional.a c.in-Conditional.b c.get-in-Conditional.result.now c.get-in-Conditional-2.result.now c.get-in-Conditional-3.result.now c.in-Conditional.field-3 c.in-Conditional.is c.get-in-Conditional.ensures c.get-in-Conditional-2.ensures c.get-in-Conditional-3.ensures) ∙ c.conditional.ensures c.in-Conditional.field-3 done
+
+pub expr::eval-returns-in-InTransaction : goal.expr::eval-returns-in-InTransaction
+expr::eval-returns-in-InTransaction g t c done =
+    ap (λ x. expr (program_in c.args.source.now) (called c.args.source.now c.args.frames) x (state_in c.args.m.now)) (in_transaction_is c.args.e.now c.in-InTransaction.mode c.in-InTransaction.field-1 c.in-InTransaction.e c.get-in-InTransaction.result.now c.in-InTransaction.field-3 c.in-InTransaction.is c.get-in-InTransaction.ensures)
+    ∙ c.value_transaction.ensures done
 
 pub expr::eval-returns-in-Logical : goal.expr::eval-returns-in-Logical
 expr::eval-returns-in-Logical g t c done =
@@ -168,28 +173,28 @@ loops::for_scoped-returns g t c done =
 
 pub transactions::nested-returns : goal.transactions::nested-returns
 transactions::nested-returns g t c done =
-    nested_gives c.args.outer c.args.mode c.args.found.items c.in-Ok-copy_memory.memory.items (scoped (does_stmts c.args.source.now c.args.frames c.args.ss.now)) (record (state_in c.args.m.now) { context = act.Inside c.args.outer c.args.found.items }) (state_in c.block.new.m) (sym c.is_forbidden.ensures ∙ c.if-is_forbidden.false) (c.in-Ok-copy_memory.ensures ∙ c.as_slice-2.ensures.value) (items_in c.in-Ok.mine) (end_of c.in_ok-end.end) _ (c.in-Ok.ensures ∙ ap (map local_in) c.as_slice.ensures.value) (c.in_ok-end.ensures tt) c.leave_inner.ensures
+    nested_gives c.args.outer c.args.kind c.mode_of-mode.result c.args.found.items c.in-Ok-copy_memory.memory.items (does_body c.args.source.now c.args.frames c.args.body.now) (record (state_in c.args.m.now) { context = act.Inside c.args.outer c.args.found.items }) (state_in c.run_body.new.m) c.mode_of-mode.ensures (sym c.is_forbidden.ensures ∙ c.if-is_forbidden.false) (c.in-Ok-copy_memory.ensures ∙ c.as_slice-2.ensures.value) (items_in c.in-Ok.mine) (end_of c.in_ok-end.end) _ (c.in-Ok.ensures ∙ ap (map local_in) c.as_slice.ensures.value) (c.in_ok-end.ensures tt) c.leave_inner.ensures
 
 pub transactions::nested-returns-in_err-end : goal.transactions::nested-returns-in_err-end
 transactions::nested-returns-in_err-end g t c =
     let is : c.from_residual.result ≡ Err c.in_err-end.field-0.0 = err_of c.from_residual.result c.in_err-end.field-0.0 c.from_residual.ensures.1 in
-    stops_as end_of c.from_residual.result c.in_err-end.field-0.0 _ c.block.new.m is (λ d. nested_stops c.args.outer c.args.mode c.args.found.items c.in-Ok-copy_memory.memory.items (scoped (does_stmts c.args.source.now c.args.frames c.args.ss.now)) (record (state_in c.args.m.now) { context = act.Inside c.args.outer c.args.found.items }) (state_in c.block.new.m) (sym c.is_forbidden.ensures ∙ c.if-is_forbidden.false) (c.in-Ok-copy_memory.ensures ∙ c.as_slice-2.ensures.value) _ (c.in_err-end.ensures d))
+    stops_as end_of c.from_residual.result c.in_err-end.field-0.0 _ c.run_body.new.m is (λ d. nested_stops c.args.outer c.args.kind c.mode_of-mode.result c.args.found.items c.in-Ok-copy_memory.memory.items (does_body c.args.source.now c.args.frames c.args.body.now) (record (state_in c.args.m.now) { context = act.Inside c.args.outer c.args.found.items }) (state_in c.run_body.new.m) c.mode_of-mode.ensures (sym c.is_forbidden.ensures ∙ c.if-is_forbidden.false) (c.in-Ok-copy_memory.ensures ∙ c.as_slice-2.ensures.value) _ (c.in_err-end.ensures d))
 
 pub transactions::nested-returns-then-is_forbidden : goal.transactions::nested-returns-then-is_forbidden
 transactions::nested-returns-then-is_forbidden g t c done =
-    nested_astray c.args.outer c.args.mode c.args.found.items (scoped (does_stmts c.args.source.now c.args.frames c.args.ss.now)) _ (sym c.is_forbidden.ensures ∙ c.if-is_forbidden.true)
+    nested_astray c.args.outer c.args.kind c.args.found.items (does_body c.args.source.now c.args.frames c.args.body.now) _ (ap (is_forbidden c.args.outer) (sym c.mode_of-mode.ensures) ∙ sym c.is_forbidden.ensures ∙ c.if-is_forbidden.true)
 
 pub transactions::outermost-returns-in-Err : goal.transactions::outermost-returns-in-Err
 transactions::outermost-returns-in-Err g t c done =
-    outermost_stops c.args.mode (memories_in c.args.founds.now) (memories_in (take (length c.args.founds.now - 1) (drop 1 c.args.founds.now))) (memories_in c.args.lefts.items) c.as_slice-in-Err.result.now c.in-Ok-copy_memory.memory.items (scoped (does_stmts c.args.source.now c.args.frames c.args.ss.now)) (record (state_in c.args.m.now) { context = act.Outside (memories_in c.args.founds.now) (memories_in c.args.lefts.items) }) (state_in c.block.new.m) (found_first c.args.founds.now c.found-item.result c.as_slice-in-Err.result.now c.in-len1-up.len_at_least c.found-item.is c.as_slice-in-Err.ensures.value) (c.in-Ok-copy_memory.ensures ∙ c.as_slice-2.ensures.value ∙ sym c.as_slice-in-Err.ensures.value) _ _ (c.in-Err.ensures (c.close_stopped.ensures.known done)) (c.close_stopped.ensures.value done (items_in c.args.m.now.locals))
+    outermost_stops c.args.kind c.mode_of.result (memories_in c.args.founds.now) (memories_in (take (length c.args.founds.now - 1) (drop 1 c.args.founds.now))) (memories_in c.args.lefts.items) c.as_slice-in-Err.result.now c.in-Ok-copy_memory.memory.items (does_body c.args.source.now c.args.frames c.args.body.now) (record (state_in c.args.m.now) { context = act.Outside (memories_in c.args.founds.now) (memories_in c.args.lefts.items) }) (state_in c.run_body.new.m) c.mode_of.ensures (found_first c.args.founds.now c.found-item.result c.as_slice-in-Err.result.now c.in-len1-up.len_at_least c.found-item.is c.as_slice-in-Err.ensures.value) (c.in-Ok-copy_memory.ensures ∙ c.as_slice-2.ensures.value ∙ sym c.as_slice-in-Err.ensures.value) _ _ (c.in-Err.ensures (c.close_stopped.ensures.known done)) (c.close_stopped.ensures.value done c.args.kind (items_in c.args.m.now.locals))
 
-pub transactions::outermost-returns-in-Ok-block : goal.transactions::outermost-returns-in-Ok-block
-transactions::outermost-returns-in-Ok-block g t c done =
-    outermost_gives c.args.mode (memories_in c.args.founds.now) (memories_in (take (length c.args.founds.now - 1) (drop 1 c.args.founds.now))) (memories_in c.args.lefts.items) c.as_slice-in-Ok-block.result.now c.in-Ok-copy_memory.memory.items (scoped (does_stmts c.args.source.now c.args.frames c.args.ss.now)) (record (state_in c.args.m.now) { context = act.Outside (memories_in c.args.founds.now) (memories_in c.args.lefts.items) }) (state_in c.block.new.m) (found_first c.args.founds.now c.found-item.result c.as_slice-in-Ok-block.result.now c.in-len1-up.len_at_least c.found-item.is c.as_slice-in-Ok-block.ensures.value) (c.in-Ok-copy_memory.ensures ∙ c.as_slice-2.ensures.value ∙ sym c.as_slice-in-Ok-block.ensures.value) (items_in c.in-Ok.mine) (end_of c.in-Ok-block.end) _ (c.in-Ok.ensures ∙ ap (map local_in) c.as_slice.ensures.value) (c.in-Ok-block.ensures tt) (c.leave.ensures done)
+pub transactions::outermost-returns-in-Ok-run_body : goal.transactions::outermost-returns-in-Ok-run_body
+transactions::outermost-returns-in-Ok-run_body g t c done =
+    outermost_gives c.args.kind c.mode_of.result (memories_in c.args.founds.now) (memories_in (take (length c.args.founds.now - 1) (drop 1 c.args.founds.now))) (memories_in c.args.lefts.items) c.as_slice-in-Ok-run_body.result.now c.in-Ok-copy_memory.memory.items (does_body c.args.source.now c.args.frames c.args.body.now) (record (state_in c.args.m.now) { context = act.Outside (memories_in c.args.founds.now) (memories_in c.args.lefts.items) }) (state_in c.run_body.new.m) c.mode_of.ensures (found_first c.args.founds.now c.found-item.result c.as_slice-in-Ok-run_body.result.now c.in-len1-up.len_at_least c.found-item.is c.as_slice-in-Ok-run_body.ensures.value) (c.in-Ok-copy_memory.ensures ∙ c.as_slice-2.ensures.value ∙ sym c.as_slice-in-Ok-run_body.ensures.value) (items_in c.in-Ok.mine) (end_of c.in-Ok-run_body.end) _ (c.in-Ok.ensures ∙ ap (map local_in) c.as_slice.ensures.value) (c.in-Ok-run_body.ensures tt) (c.leave.ensures done)
 
 pub transactions::outermost-returns-in_default : goal.transactions::outermost-returns-in_default
 transactions::outermost-returns-in_default g t c done =
-    outermost_none c.args.mode (memories_in c.args.founds.now) (memories_in c.args.lefts.items) (scoped (does_stmts c.args.source.now c.args.frames c.args.ss.now)) _ _ (found_none c.args.founds.now c.in_default.len_below) refl
+    outermost_none c.args.kind (memories_in c.args.founds.now) (memories_in c.args.lefts.items) (does_body c.args.source.now c.args.frames c.args.body.now) _ _ (found_none c.args.founds.now c.in_default.len_below) refl
 
 pub stmt::printed-returns : goal.stmt::printed-returns
 stmt::printed-returns g t c at format_at begun ticked done =
@@ -279,7 +284,7 @@ stmt::stmt-returns-in-For g t c done =
 
 pub stmt::stmt-returns-in-Transaction : goal.stmt::stmt-returns-in-Transaction
 stmt::stmt-returns-in-Transaction g t c done =
-    ticks_then (program_in c.args.source.now) (called c.args.source.now c.args.frames) (stmt_of c.args.s.now) (tree.Transaction c.in-Transaction.mode (stmts_of c.as_slice-in-Transaction.result.now) c.in-Transaction.field-2) (meaning.transaction c.in-Transaction.mode (scoped (does_stmts c.args.source.now c.args.frames c.as_slice-in-Transaction.result.now))) (state_in c.args.m.now) (state_in c.tick.new.m) _ (transaction_is c.args.s.now c.in-Transaction.mode c.in-Transaction.ss c.as_slice-in-Transaction.result.now c.in-Transaction.field-2 c.in-Transaction.is c.as_slice-in-Transaction.ensures) refl (c.in_ok-tick.ensures tt) (c.transaction.ensures done)
+    ticks_then (program_in c.args.source.now) (called c.args.source.now c.args.frames) (stmt_of c.args.s.now) (tree.Transaction c.in-Transaction.kind (stmts_of c.as_slice-in-Transaction.result.now) c.in-Transaction.field-2) (meaning.transaction c.in-Transaction.kind (scoped (does_stmts c.args.source.now c.args.frames c.as_slice-in-Transaction.result.now))) (state_in c.args.m.now) (state_in c.tick.new.m) _ (transaction_is c.args.s.now c.in-Transaction.kind c.in-Transaction.ss c.as_slice-in-Transaction.result.now c.in-Transaction.field-2 c.in-Transaction.is c.as_slice-in-Transaction.ensures) refl (c.in_ok-tick.ensures tt) (c.transaction.ensures done)
 
 pub stmt::stmt-returns-in-While : goal.stmt::stmt-returns-in-While
 stmt::stmt-returns-in-While g t c done =
@@ -287,7 +292,7 @@ stmt::stmt-returns-in-While g t c done =
 
 pub stmt::stmt-transaction-requires : goal.stmt::stmt-transaction-requires
 stmt::stmt-transaction-requires g t c κs within =
-    (omega (arith, transaction_deep c.args.s.now c.in-Transaction.mode c.in-Transaction.ss c.as_slice-in-Transaction.result.now c.in-Transaction.field-2 c.in-Transaction.is c.as_slice-in-Transaction.ensures, c.decreases), within)
+    (omega (arith, transaction_deep c.args.s.now c.in-Transaction.kind c.in-Transaction.ss c.as_slice-in-Transaction.result.now c.in-Transaction.field-2 c.in-Transaction.is c.as_slice-in-Transaction.ensures, c.decreases), within)
 
 pub stmt::stmts-returns : goal.stmt::stmts-returns
 stmt::stmts-returns g t c done =
@@ -312,11 +317,29 @@ stmt::stmts-stmt-requires g t c κs within =
 
 pub transactions::transaction-returns-in-Inside : goal.transactions::transaction-returns-in-Inside
 transactions::transaction-returns-in-Inside g t c done =
-    transaction_at c.args.mode (scoped (does_stmts c.args.source.now c.args.frames c.args.ss.now)) (state_in c.args.m.now) (act.Inside c.in-Inside.outer c.in-Inside.found.items) _ (ap context_in (sym c.replace.ensures.value ∙ c.in-Inside.is)) (c.nested.ensures done)
+    transaction_at c.args.kind (does_body c.args.source.now c.args.frames c.args.body.now) (state_in c.args.m.now) (act.Inside c.in-Inside.outer c.in-Inside.found.items) _ (ap context_in (sym c.replace.ensures.value ∙ c.in-Inside.is)) (c.nested.ensures done)
 
 pub transactions::transaction-returns-in-Outside : goal.transactions::transaction-returns-in-Outside
 transactions::transaction-returns-in-Outside g t c done =
-    transaction_at c.args.mode (scoped (does_stmts c.args.source.now c.args.frames c.args.ss.now)) (state_in c.args.m.now) (act.Outside (memories_in c.in-Outside.founds.now) (memories_in c.in-Outside.lefts.items)) _ (ap context_in (sym c.replace.ensures.value ∙ c.in-Outside.is)) (c.outermost.ensures done)
+    transaction_at c.args.kind (does_body c.args.source.now c.args.frames c.args.body.now) (state_in c.args.m.now) (act.Outside (memories_in c.in-Outside.founds.now) (memories_in c.in-Outside.lefts.items)) _ (ap context_in (sym c.replace.ensures.value ∙ c.in-Outside.is)) (c.outermost.ensures done)
+
+pub transactions::run_body-returns-in-Block : goal.transactions::run_body-returns-in-Block
+transactions::run_body-returns-in-Block g t c done =
+    ap (λ b. does_body c.args.source.now c.args.frames b (state_in c.args.m.now)) c.in-Block.is ∙ c.block.ensures done
+
+pub transactions::value_transaction-returns : goal.transactions::value_transaction-returns
+transactions::value_transaction-returns g t c done =
+    value_gives c.args.mode (does_expr c.args.source.now c.args.frames c.args.e.now) (state_in c.args.m.now) (state_in c.begin_value.new.m) (state_in c.transaction.new.m) (end_of c.in_ok-end.end) _ (c.in_ok-begin_value.ensures tt) (c.in_ok-end.ensures tt) (c.value_at.ensures done)
+
+pub transactions::value_transaction-returns-in_err-begin_value : goal.transactions::value_transaction-returns-in_err-begin_value
+transactions::value_transaction-returns-in_err-begin_value g t c =
+    let is : c.from_residual.result ≡ Err c.in_err-begin_value.field-0.0 = err_of c.from_residual.result c.in_err-begin_value.field-0.0 c.from_residual.ensures.1 in
+    stops_as value_of c.from_residual.result c.in_err-begin_value.field-0.0 _ c.begin_value.new.m is (λ d. value_unbegun c.args.mode (does_expr c.args.source.now c.args.frames c.args.e.now) (state_in c.args.m.now) (state_in c.begin_value.new.m) _ (c.in_err-begin_value.ensures d))
+
+pub transactions::value_transaction-returns-in_err-end : goal.transactions::value_transaction-returns-in_err-end
+transactions::value_transaction-returns-in_err-end g t c =
+    let is : c.from_residual-in_err-end.result ≡ Err c.in_err-end.field-0.0 = err_of c.from_residual-in_err-end.result c.in_err-end.field-0.0 c.from_residual-in_err-end.ensures.1 in
+    stops_as value_of c.from_residual-in_err-end.result c.in_err-end.field-0.0 _ c.transaction.new.m is (λ d. value_stops c.args.mode (does_expr c.args.source.now c.args.frames c.args.e.now) (state_in c.args.m.now) (state_in c.begin_value.new.m) (state_in c.transaction.new.m) _ (c.in_ok-begin_value.ensures tt) (c.in_err-end.ensures d))
 
 pub loops::turn-returns-in-DoWhile : goal.loops::turn-returns-in-DoWhile
 loops::turn-returns-in-DoWhile g t c done =
@@ -378,6 +401,10 @@ expr::eval-eval-requires-in-Binary-2 g t c κs within =
 pub expr::eval-logical-requires : goal.expr::eval-logical-requires
 expr::eval-logical-requires g t c κs within =
     (omega (arith, ap expr_depth (logical_is c.args.e.now c.in-Logical.op c.in-Logical.a c.in-Logical.b c.get-in-Logical.result.now c.get-in-Logical-2.result.now c.in-Logical.field-3 c.in-Logical.is c.get-in-Logical.ensures c.get-in-Logical-2.ensures), c.decreases), within)
+
+pub expr::eval-value_transaction-requires : goal.expr::eval-value_transaction-requires
+expr::eval-value_transaction-requires g t c κs within =
+    (omega (arith, ap expr_depth (in_transaction_is c.args.e.now c.in-InTransaction.mode c.in-InTransaction.field-1 c.in-InTransaction.e c.get-in-InTransaction.result.now c.in-InTransaction.field-3 c.in-InTransaction.is c.get-in-InTransaction.ensures), c.decreases), within)
 
 pub expr::eval-conditional-requires : goal.expr::eval-conditional-requires
 expr::eval-conditional-requires g t c κs within =
@@ -599,10 +626,22 @@ pub transactions::transaction-nested-requires : goal.transactions::transaction-n
 transactions::transaction-nested-requires g t c κs within =
     (omega (arith, c.decreases), within)
 
-pub transactions::outermost-block-requires : goal.transactions::outermost-block-requires
-transactions::outermost-block-requires g t c κs within =
+pub transactions::outermost-run_body-requires : goal.transactions::outermost-run_body-requires
+transactions::outermost-run_body-requires g t c κs within =
     (omega (arith, c.decreases), within)
 
-pub transactions::nested-block-requires : goal.transactions::nested-block-requires
-transactions::nested-block-requires g t c κs within =
+pub transactions::nested-run_body-requires : goal.transactions::nested-run_body-requires
+transactions::nested-run_body-requires g t c κs within =
+    (omega (arith, c.decreases), within)
+
+pub transactions::run_body-block-requires : goal.transactions::run_body-block-requires
+transactions::run_body-block-requires g t c κs within =
+    (omega (arith, ap depth_within c.in-Block.is, c.decreases), within)
+
+pub transactions::run_body-eval-requires : goal.transactions::run_body-eval-requires
+transactions::run_body-eval-requires g t c κs within =
+    (omega (arith, ap depth_within c.in-Value.is, c.decreases), within)
+
+pub transactions::value_transaction-transaction-requires : goal.transactions::value_transaction-transaction-requires
+transactions::value_transaction-transaction-requires g t c κs within =
     (omega (arith, c.decreases), within)

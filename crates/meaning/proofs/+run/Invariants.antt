@@ -4,7 +4,7 @@ use Rattle.syntax.specs.Depth.{expr_depth, deepest, optional_depth, simple_depth
 use Rattle.syntax.specs.Actions.{go_on}
 use Rattle.syntax.specs.Meaning.{turns, exprs, declare}
 use Rattle.meaning.specs.inner.Machine.{program_in, state_in}
-use Rattle.meaning.specs.inner.Does.{weight, loop_depth, else_depth, head_depth, called, does_stmts, does_turn, joined_to}
+use Rattle.meaning.specs.inner.Does.{weight, loop_depth, depth_within, else_depth, head_depth, called, does_stmts, does_turn, joined_to}
 use Rattle.meaning.proofs.+run.Given as goal
 
 abbrev pub decreases-expr::eval : goal.decreases-expr::eval
@@ -101,13 +101,19 @@ abbrev pub decreases-simple::declare_one : goal.decreases-simple::declare_one
 decreases-simple::declare_one g l = weight (program_in l.source.now) l.frames + (8 * (optional_depth (option_map expr_of l.d.now.first)) + 2)
 
 abbrev pub decreases-transactions::transaction : goal.decreases-transactions::transaction
-decreases-transactions::transaction g l = weight (program_in l.source.now) l.frames + (8 * (block_depth (stmts_of l.ss.now)) + 6)
+decreases-transactions::transaction g l = weight (program_in l.source.now) l.frames + (8 * (depth_within l.body.now) + 6)
 
 abbrev pub decreases-transactions::outermost : goal.decreases-transactions::outermost
-decreases-transactions::outermost g l = weight (program_in l.source.now) l.frames + (8 * (block_depth (stmts_of l.ss.now)) + 4)
+decreases-transactions::outermost g l = weight (program_in l.source.now) l.frames + (8 * (depth_within l.body.now) + 4)
 
 abbrev pub decreases-transactions::nested : goal.decreases-transactions::nested
-decreases-transactions::nested g l = weight (program_in l.source.now) l.frames + (8 * (block_depth (stmts_of l.ss.now)) + 4)
+decreases-transactions::nested g l = weight (program_in l.source.now) l.frames + (8 * (depth_within l.body.now) + 4)
+
+abbrev pub decreases-transactions::run_body : goal.decreases-transactions::run_body
+decreases-transactions::run_body g l = weight (program_in l.source.now) l.frames + (8 * (depth_within l.body.now) + 2)
+
+abbrev pub decreases-transactions::value_transaction : goal.decreases-transactions::value_transaction
+decreases-transactions::value_transaction g l = weight (program_in l.source.now) l.frames + (8 * (expr_depth (expr_of l.e.now)) + 7)
 
 -- what is left of the arguments goes behind their values so far
 abbrev pub invariant-calls::values-arguments : goal.invariant-calls::values-arguments

@@ -9,14 +9,16 @@ use Rattle.syntax.specs.Tree.{Program, Expr, Stmt, Simple, If, IfElse, Scalar, D
 use Rattle.syntax.specs.declared.tree.Mode.{Mode}
 use Rattle.syntax.specs.declared.tree.Mode.TheVariants.{Atomic, Relaxed}
 use Rattle.syntax.specs.Views.{expr_of, simple_of, stmt_of, stmts_of}
-use Rattle.syntax.specs.Depth.{program_depth, expr_depth, stmt_depth, start_depth, optional_depth, optional_simple_depth}
+use Rattle.syntax.specs.Depth.{program_depth, expr_depth, stmt_depth, block_depth, start_depth, optional_depth, optional_simple_depth}
 use Rattle.syntax.specs.Views.{start_of}
 use Rattle.syntax.specs.Actions.{Action, Gives, pure, locals, put_locals, ◌>>=◌, ◌>>◌}
-use Rattle.syntax.specs.Meaning.{Caller, End, Next, calls, expr, stmt, stmts, scoped, after_body, holds, stepped, first_value, InLocal, start_with, loop}
+use Rattle.syntax.specs.Meaning.{Caller, End, Next, calls, expr, stmt, stmts, scoped, after_body, holds, stepped, first_value, InLocal, start_with, loop, Returns}
 use Rattle.meaning.specs.declared.machine.End.{End as OwnEnd}
 use Rattle.meaning.specs.declared.program.Source.{Source}
 use Rattle.meaning.specs.declared.loops.Loop.{Loop}
 use Rattle.meaning.specs.declared.loops.Loop.TheVariants as kind
+use Rattle.meaning.specs.declared.transactions.Body.{Body}
+use Rattle.meaning.specs.declared.transactions.Body.TheVariants as body
 use Rattle.meaning.specs.inner.Machine.{program_in, end_of}
 use Rattle.std.specs.Prelude.{◌+◌, ◌*◌, max, Bool, true, false, [], ◌∷◌, ◌++◌, length}
 
@@ -87,6 +89,15 @@ module _ {A : Type 0} where
 
   abbrev pub does_stmts : Source A → ℕ → List (OwnStmt A) → Action End
   does_stmts source frames ss = stmts (program_in source) (called source frames) (stmts_of ss)
+
+  -- what a transaction does: its statements have names of their own, and an operand's value is its end
+  abbrev pub does_body : Source A → ℕ → Body A → Action End
+  does_body source frames (body.Block ss) = scoped (does_stmts source frames ss.now)
+  does_body source frames (body.Value e) = do v ← does_expr source frames e.now; pure (Returns v)
+
+  abbrev pub depth_within : Body A → ℕ
+  depth_within (body.Block ss) = block_depth (stmts_of ss.now)
+  depth_within (body.Value e) = expr_depth (expr_of e.now)
 
   abbrev pub does_turn : Source A → ℕ → Loop A → Action (Option End)
   does_turn source frames (kind.While c a) =

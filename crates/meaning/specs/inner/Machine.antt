@@ -30,6 +30,7 @@ end_of end.Breaks = Meaning.Breaks
 end_of end.Continues = Meaning.Continues
 end_of (end.Returns w) = Meaning.Returns (value_of w)
 end_of end.Cancels = Meaning.Cancels
+end_of end.CancelsOuter = Meaning.CancelsOuter
 
 abbrev pub spot_of : Spot → Meaning.Spot
 spot_of (spot.InLocal i t) = Meaning.InLocal i t

@@ -38,7 +38,8 @@ whole_from : (b : ℕ) (ts : List Tok) → whole_at (suc b) ts ≡ mapped (λ x.
 unfolding expr_at
 whole_from b ts = refl
 
-alone : {A B : Type 0} (x : A) (r : Result (B × List Tok) Fault) → ((r >>= λ (y : B × List Tok). Ok ((x, y.0), y.1)) >>= λ (z : (A × B) × List Tok). Ok (z.0.1, z.1)) ≡ r
+-- what stands behind a part that was read, by itself
+pub alone : {A B : Type 0} (x : A) (r : Result (B × List Tok) Fault) → ((r >>= λ (y : B × List Tok). Ok ((x, y.0), y.1)) >>= λ (z : (A × B) × List Tok). Ok (z.0.1, z.1)) ≡ r
 alone x (Ok y) = refl
 alone x (Err f) = refl
 

@@ -10,7 +10,7 @@ use Rattle.syntax.specs.declared.tree.BinaryOp.{BinaryOp}
 use Rattle.syntax.specs.declared.tree.BinaryOp.TheVariants.{Or}
 use Rattle.syntax.specs.declared.tree.LogicalOp.{LogicalOp}
 use Rattle.syntax.specs.declared.tree.LogicalOp.TheVariants.{AndThen}
-use Rattle.syntax.specs.Tree.{Expr, Variable, Constant, Element, Call, Parenthesized, Cast, Unary, Binary, Logical, Conditional}
+use Rattle.syntax.specs.Tree.{Expr, Variable, Constant, Element, Call, Parenthesized, Cast, Unary, Binary, Logical, Conditional, InTransaction}
 use Rattle.syntax.specs.Depth.{expr_depth}
 use Rattle.syntax.specs.Typing.{span_of}
 use Rattle.syntax.specs.Phrases.{Phrase, Seq, Is, Begins, Covers, is_fixed}
@@ -170,6 +170,7 @@ operand_none whole tight ts h = ap (λ (k : Operand). operand_of whole tight k t
     is_none kind.Constant e = absurd cc
     is_none kind.Open e = absurd cc
     is_none kind.Prefix e = absurd cc
+    is_none (kind.Transaction mode) e = absurd cc
     is_none kind.None e = refl
 
 chain_start : (D b k : ℕ) (ts : List Tok) → 1 ≤ k → b + 1 ≡ D → expr_at D k ts ≡ (operand (expr_at b 0) (expr_at b 11) ts >>= λ x. climb_loop operators (expr_at b) k D D x.0 x.1)
@@ -452,6 +453,7 @@ module _ (d : ℕ) (EW : Exact whole_at expr Fits WholeS WholeS d) where
     upper_comes (Parenthesized e at) p l = plain_comes (Parenthesized e at) p l.0 (lit≤ tt)
     upper_comes (Cast t e at) p l = plain_comes (Cast t e at) p l.0 (lit≤ tt)
     upper_comes (Unary op e at) p l = plain_comes (Unary op e at) p l.0 (lit≤ tt)
+    upper_comes (InTransaction mode keyword e at) p l = plain_comes (InTransaction mode keyword e at) p l.0 (lit≤ tt)
     upper_comes (Binary op a b at) p l = plain_comes (Binary op a b at) p l.0 (over (Computing op))
     upper_comes (Logical op a b at) p l = plain_comes (Logical op a b at) p l.0 (over (Choosing op))
 

@@ -13,25 +13,26 @@ use Rattle.syntax.specs.declared.tree.BinaryOp.TheVariants.{Or, Xor, And, Equal,
 use Rattle.syntax.specs.declared.tree.LogicalOp.{LogicalOp}
 use Rattle.syntax.specs.declared.tree.LogicalOp.TheVariants.{AndThen, OrElse}
 use Rattle.syntax.specs.declared.tree.UnaryOp.{UnaryOp}
+use Rattle.syntax.specs.declared.tree.Mode.{Mode}
 use Rattle.syntax.specs.Tree as Tree
-use Rattle.syntax.specs.Tree.{Name, Expr, Exprs, Variable, Constant, Element, Call, Parenthesized, Cast, Unary, Binary, Logical, Conditional}
+use Rattle.syntax.specs.Tree.{Name, Expr, Exprs, Variable, Constant, Element, Call, Parenthesized, Cast, Unary, Binary, Logical, Conditional, InTransaction}
 use Rattle.syntax.specs.Depth.{expr_depth, deepest}
 use Rattle.syntax.specs.Typing.{span_of}
 use Rattle.syntax.specs.Views.{exprs_from}
 use Rattle.syntax.specs.Phrases.{Phrase, Seq, One, Is, Many, Listed, Begins, Covers, place_of}
-use Rattle.syntax.specs.Grammar.{IntegerConstant, integer_constant_in, the_name, the_unary, precedence, logical_precedence, expr, further}
+use Rattle.syntax.specs.Grammar.{IntegerConstant, integer_constant_in, the_name, the_unary, precedence, logical_precedence, mode_keyword, expr, further}
 use Rattle.syntax.specs.Grammar as Grammar
 use Rattle.parse.specs.declared.lead.Infix.{Infix}
 use Rattle.parse.specs.declared.lead.Infix.TheVariants.{Computing, Choosing}
 use Rattle.parse.specs.declared.lead.Operand.{Operand}
 use Rattle.parse.specs.declared.lead.Operand.TheVariants as kind
 use Rattle.parse.specs.inner.Reading.{Parser, head, give, mapped, either, take, is_next, is_other, at_least, op_at, across}
-use Rattle.parse.specs.inner.Expressions.{starts_type, the_infix, operators, placed, the_prefix, constant_in, the_constant, prefixed, cast_from, group_from, opened, arguments, element_from, call_from, named_from, named, operand_of, operand_at, operand}
+use Rattle.parse.specs.inner.Expressions.{starts_type, the_infix, operators, placed, the_prefix, constant_in, the_constant, prefixed, cast_from, group_from, opened, transaction, arguments, element_from, call_from, named_from, named, operand_of, operand_at, operand}
 use Rattle.parse.proofs.combinators.Exact.{Exact, Always, Nothing, Comes, Two, Dep, Empty, take_exact, give_exact, none_exact, chained_one, two, value_of, restated}
 use Rattle.parse.proofs.combinators.Many.{ManyFit}
 use Rattle.parse.proofs.combinators.FixedTokens.{that_fixed, fixed_is, fixed_has, a_fixed, one_head}
 use Rattle.parse.proofs.code.Ends.{covers_across, covers_one}
-use Rattle.parse.proofs.combinators.Parts.{seq_left, seq_right, is_here, seq_here, seq_not_here, fixed_place, place_fixed, behind_exact, before_exact}
+use Rattle.parse.proofs.combinators.Parts.{seq_left, seq_right, is_here, seq_here, seq_not_here, fixed_place, place_fixed, head_begins, behind_exact, before_exact}
 use Rattle.parse.proofs.combinators.Choices.{kinds_exact, either_exact}
 use Rattle.parse.proofs.combinators.Lists.{Behind, listed_exact}
 use Rattle.parse.proofs.expressions.Scalars.{mark_not_fixed, scalar_exact, scalar_first}
@@ -198,11 +199,16 @@ abbrev pub PrefixL : Expr → Phrase
 PrefixL (Unary op e at) p = expr (Unary op e at) p
 PrefixL _ p = ⊥
 
+abbrev pub TransactionL : Mode → Expr → Phrase
+TransactionL mode (InTransaction of keyword e at) p = (of ≡ mode) × expr (InTransaction of keyword e at) p
+TransactionL mode _ p = ⊥
+
 abbrev pub KindL : Operand → Expr → Phrase
 KindL kind.Name = NamedL
 KindL kind.Constant = ConstantL
 KindL kind.Open = OpenL
 KindL kind.Prefix = PrefixL
+KindL (kind.Transaction mode) = TransactionL mode
 KindL kind.None = Nothing
 
 -- ---- constants
@@ -281,6 +287,61 @@ module _ (whole tight : ℕ → Parser Expr) (d : ℕ) (EW : Exact whole expr Fi
       restated PrefixL Deeper Calm Calm
       (imaged prefix_tree Deeper Calm Calm (two (take_exact the_prefix d) ET (λ a b p q l h. tt) name_tight) (λ x w. (tt, deeper x.1 w)) (λ x w. fitting x.1 w.1) (λ x h s. (none_tight h, s)) (λ x h c. c.1))
       prefix_goes prefix_comes (λ x p l w. w) (λ x p l w. w) (λ x p h l s. s) (λ x p h l c. c)
+    where
+      deeper : (e : Expr) → expr_depth e + 1 ≤ suc d → expr_depth e ≤ d
+      deeper e w = omega arith
+
+      fitting : (e : Expr) → expr_depth e ≤ d → expr_depth e + 1 ≤ suc d
+      fitting e w = omega arith
+
+  -- ---- behind a transaction's keyword
+
+  abbrev ValueP : Mode → Span × (Expr × Span) → Expr
+  ValueP mode x = InTransaction mode x.0 x.1.0 (across x.0 x.1.1)
+
+  abbrev ValueL : Mode → Span × (Expr × Span) → Phrase
+  ValueL mode = Two (Spot (mode_keyword mode)) (Two (λ e. Seq (Is (Punctuator punct.OpenParen)) (expr e)) (Spot (Punctuator punct.CloseParen)))
+
+  value_begins : Begins (Two (λ e. Seq (Is (Punctuator punct.OpenParen)) (expr e)) (Spot (Punctuator punct.CloseParen))) []
+  value_begins =
+      let w = head_begins (Punctuator punct.OpenParen) expr whole_begins in
+      let c = spot_begins (Punctuator punct.CloseParen) in
+      record { value = (w.value, c.value); more = w.more ++ c.more; spelled = record { front = w.more; back = c.more; first = w.spelled; second = c.spelled; whole = refl } }
+
+  value_goes : (mode : Mode) (e : Expr) (p : List Tok) → Image (ValueP mode) (ValueL mode) e p → TransactionL mode e p
+  value_goes mode e p (x, same, s) =
+      let i = s.second in
+      let parts : p ≡ s.front ++ (i.front ++ i.back) = s.whole ∙ ap (λ (z : List Tok). s.front ++ z) i.whole in
+      subst (λ (z : Expr). TransactionL mode z p) (sym same) (
+        refl,
+        (
+          span_covers x.0 x.1.1 p s.front i.front i.back parts (spot_covers (mode_keyword mode) x.0 s.front s.first) (spot_covers (Punctuator punct.CloseParen) x.1.1 i.back i.second),
+          record { front = s.front; back = s.back; first = s.first; second = seq_right (record { front = i.front; back = i.back; first = i.first; second = spot_is (Punctuator punct.CloseParen) x.1.1 i.back i.second; whole = i.whole }); whole = s.whole },
+        ),
+      )
+
+  value_comes : (mode : Mode) (e : Expr) (p : List Tok) → TransactionL mode e p → Image (ValueP mode) (ValueL mode) e p
+  value_comes mode (InTransaction of keyword e at) p l =
+      let s = l.1.1 in
+      let i = seq_left s.second in
+      let c = i.second.token.span in
+      let parts : p ≡ s.front ++ (i.front ++ i.back) = s.whole ∙ ap (λ (z : List Tok). s.front ++ z) i.whole in (
+        (keyword, (e, c)),
+        ap (λ (z : Mode). InTransaction z keyword e at) l.0
+            ∙ ap (InTransaction mode keyword e) (span_is at keyword c p s.front i.front i.back parts l.1.0 (spot_covers (mode_keyword of) keyword s.front s.first) (one_covers i.second)),
+        record { front = s.front; back = s.back; first = subst (λ (z : Mode). Spot (mode_keyword z) keyword s.front) l.0 s.first; second = record { front = i.front; back = i.back; first = i.first; second = spot_of (Punctuator punct.CloseParen) i.second; whole = i.whole }; whole = s.whole },
+      )
+  value_comes mode _ p l = absurd l
+
+  transaction_exact : (mode : Mode) → Exact (λ D. transaction (whole D) (tight D) mode) (TransactionL mode) Deeper Calm Calm d
+  transaction_exact mode =
+      restated (TransactionL mode) Deeper Calm Calm
+      (imaged (ValueP mode) Deeper Calm Calm
+      (two (take_exact (place_of (mode_keyword mode)) d)
+      (two (behind_exact (Punctuator punct.OpenParen) EW whole_begins) (take_exact (place_of (Punctuator punct.CloseParen)) d) (λ a c p q o h. closes_with (Punctuator punct.CloseParen) a c p q o (λ t is. closing_follows a t (Punctuator punct.CloseParen) is refl)) (spot_begins (Punctuator punct.CloseParen)))
+      (λ a b p q l h. tt) value_begins)
+      (λ x w. (tt, (deeper x.1.0 w, tt))) (λ x w. fitting x.1.0 w.1.0) (λ x h s. tt) (λ x h c. tt))
+      (value_goes mode) (value_comes mode) (λ x p l w. w) (λ x p l w. w) (λ x p h l s. s) (λ x p h l c. c)
     where
       deeper : (e : Expr) → expr_depth e + 1 ≤ suc d → expr_depth e ≤ d
       deeper e w = omega arith
@@ -644,6 +705,7 @@ module _ (whole tight : ℕ → Parser Expr) (d : ℕ) (EW : Exact whole expr Fi
   kind_exact kind.Constant = constant_exact d
   kind_exact kind.Open = opened_exact
   kind_exact kind.Prefix = prefix_exact
+  kind_exact (kind.Transaction mode) = transaction_exact mode
   kind_exact kind.None = none_exact Deeper Calm Calm d
 
   -- An operand is read exactly, one level above the expressions in it.
@@ -680,6 +742,7 @@ module _ (whole tight : ℕ → Parser Expr) (d : ℕ) (EW : Exact whole expr Fi
       at_kind (Parenthesized e at) p l = l.0
       at_kind (Cast t e at) p l = l.0
       at_kind (Unary op e at) p l = l.0
+      at_kind (InTransaction mode keyword e at) p l = (refl, l.0)
       at_kind (Binary op a b at) p l = absurd (low op l.1)
       at_kind (Logical op a b at) p l = absurd (lower op l.1)
       at_kind (Conditional c a b at) p l = absurd (let le : 11 ≤ 0 = l.1 in omega arith)
@@ -699,4 +762,6 @@ module _ (whole tight : ℕ → Parser Expr) (d : ℕ) (EW : Exact whole expr Fi
       keep kind.Open _ p l = absurd l
       keep kind.Prefix (Unary op e at) p l = (l, lit≤ tt)
       keep kind.Prefix _ p l = absurd l
+      keep (kind.Transaction mode) (InTransaction of keyword e at) p l = (l.1, lit≤ tt)
+      keep (kind.Transaction mode) _ p l = absurd l
       keep kind.None e p l = absurd l

@@ -9,17 +9,20 @@ use Rattle.lex.specs.Tokens.{Terminal, name, constant, string_literal, fixed, re
 use Rattle.syntax.specs.declared.tree.BinaryOp.{BinaryOp}
 use Rattle.syntax.specs.declared.tree.UnaryOp.{UnaryOp}
 use Rattle.syntax.specs.declared.tree.IncDec.{IncDec}
-use Rattle.syntax.specs.Tree.{Name, Expr, Variable, Constant, Element, Call, Parenthesized, Cast, Unary, Binary, Logical, Conditional}
+use Rattle.syntax.specs.declared.tree.Mode.{Mode}
+use Rattle.syntax.specs.declared.tree.Mode.TheVariants.{Atomic, Relaxed}
+use Rattle.syntax.specs.Tree.{Name, Expr, Variable, Constant, Element, Call, Parenthesized, Cast, Unary, Binary, Logical, Conditional, InTransaction}
 use Rattle.syntax.specs.Depth.{expr_depth}
 use Rattle.syntax.specs.Typing.{span_of}
 use Rattle.syntax.specs.Phrases.{Phrase, Seq, One, Begins, Covers, is_fixed, the_fixed}
-use Rattle.syntax.specs.Grammar.{by_fixed, name_in, the_name, IntegerConstant, integer_constant_in, unary_of, binary_of, logical_of, the_unary, assigning_of, the_assigning, step_of, the_step, level, expr}
+use Rattle.syntax.specs.Grammar.{by_fixed, name_in, the_name, IntegerConstant, integer_constant_in, unary_of, binary_of, logical_of, the_unary, assigning_of, the_assigning, step_of, the_step, level, mode_keyword, expr}
 use Rattle.parse.specs.declared.lead.Infix.{Infix}
 use Rattle.parse.specs.declared.lead.Operand.{Operand}
 use Rattle.parse.specs.declared.lead.Operand.TheVariants as kind
 use Rattle.parse.specs.inner.Reading.{head, is_next, at_least, op_at}
 use Rattle.parse.specs.inner.Expressions.{says, type_of_fixed, starts_type, infix_of, operators, operand_terminal, operand_at, is_operand, starts_expr}
 use Rattle.parse.proofs.combinators.FixedTokens.{that_fixed, fixed_is, fixed_has, a_fixed, one_head, seq_head}
+use Rattle.parse.proofs.combinators.Parts.{fixed_place, place_fixed}
 use Rattle.parse.proofs.expressions.Scalars.{some_name, some_name_token}
 
 -- ---- what may follow
@@ -167,6 +170,10 @@ unary_kind k op h = absurd cc
 open_kind : (t : Tok) (x : Unit {0}) → the_fixed (Punctuator punct.OpenParen) t ≡ Some x → operand_terminal t.terminal ≡ kind.Open
 open_kind t x h = ap operand_terminal (fixed_is (Punctuator punct.OpenParen) t x h)
 
+pub mode_kind : (mode : Mode) → operand_terminal (fixed (mode_keyword mode)) ≡ kind.Transaction mode
+mode_kind Atomic = refl
+mode_kind Relaxed = refl
+
 -- the kind of operand that an expression begins with
 abbrev pub lead_kind : Expr → Operand
 lead_kind (Variable x) = kind.Name
@@ -179,6 +186,7 @@ lead_kind (Unary op e at) = kind.Prefix
 lead_kind (Binary op a b at) = lead_kind a
 lead_kind (Logical op a b at) = lead_kind a
 lead_kind (Conditional c a b at) = lead_kind c
+lead_kind (InTransaction mode keyword e at) = kind.Transaction mode
 
 lead_some : (e : Expr) → is_operand (lead_kind e) ≡ true
 lead_some (Binary op a b at) = lead_some a
@@ -200,6 +208,9 @@ first_kind (Unary op e at) p q l = let o = l.1.1.first in ap operand_at (seq_hea
 first_kind (Binary op a b at) p q l = let s = l.1.1 in ap operand_at (seq_heads s q) ∙ first_kind a s.front (s.back ++ q) s.first
 first_kind (Logical op a b at) p q l = let s = l.1.1 in ap operand_at (seq_heads s q) ∙ first_kind a s.front (s.back ++ q) s.first
 first_kind (Conditional c a b at) p q l = let s = l.1.1 in ap operand_at (seq_heads s q) ∙ first_kind c s.front (s.back ++ q) s.first
+first_kind (InTransaction mode keyword e at) p q l =
+    let t = l.1.first.token in
+    ap operand_at (seq_head l.1 q) ∙ ap operand_terminal (fixed_is (mode_keyword mode) t tt (place_fixed (mode_keyword mode) t keyword l.1.first.has).0) ∙ mode_kind mode
 
 pub whole_first : (e : Expr) (p q : List Tok) → expr e p → starts_expr (head (p ++ q)) ≡ true
 whole_first e p q l = ap is_operand (first_kind e p q l) ∙ lead_some e
@@ -275,6 +286,7 @@ expr_covers (Constant n t at) p l = subst (Covers at) (sym l.whole) (number_plac
 expr_covers (Element x i at) p l = l.0
 expr_covers (Call f es at) p l = l.0
 expr_covers (Parenthesized e at) p l = l.0
+expr_covers (InTransaction mode keyword e at) p l = l.0
 expr_covers e p l = l.1.0
 
 -- ---- what goes on
@@ -288,6 +300,34 @@ name_tight = record { value = Variable some_name; more = some_name_token ∷ [];
 
 abbrev pub whole_begins : Begins expr []
 whole_begins = record { value = name_tight.value; more = name_tight.more; spelled = name_tight.spelled.0 }
+
+-- a transaction's keyword and `(` go on to an operand
+pub transaction_begins : (mode : Mode) (t u : Tok) → t.terminal ≡ fixed (mode_keyword mode) → u.terminal ≡ fixed (Punctuator punct.OpenParen) → Begins TightL (t ∷ u ∷ [])
+transaction_begins mode t u is paren =
+    let close : Tok = a_fixed (Punctuator punct.CloseParen) in
+    record {
+      value = InTransaction mode t.span (Variable some_name) (record { start = t.span.start; «end» = 0 });
+      more = some_name_token ∷ close ∷ [];
+      spelled = (
+        (
+          refl,
+          record {
+            front = t ∷ [];
+            back = u ∷ some_name_token ∷ close ∷ [];
+            first = record { token = t; has = fixed_place (mode_keyword mode) t (fixed_has (mode_keyword mode) t is); whole = refl };
+            second = record {
+              front = u ∷ [];
+              back = some_name_token ∷ close ∷ [];
+              first = record { token = u; has = fixed_has (Punctuator punct.OpenParen) u paren; whole = refl };
+              second = record { front = some_name_token ∷ []; back = close ∷ []; first = record { token = some_name_token; has = refl; whole = refl }; second = record { token = close; has = fixed_has (Punctuator punct.CloseParen) close refl; whole = refl }; whole = refl };
+              whole = refl;
+            };
+            whole = refl;
+          },
+        ),
+        lit≤ tt,
+      );
+    }
 
 -- each first token goes on to an operand
 pub tight_begins : (t : Tok) → starts_expr (Some t) ≡ true → Begins TightL (t ∷ [])
@@ -323,7 +363,15 @@ tight_begins t e = go t.terminal refl e
           );
         }
 
+    in_transaction : (mode : Mode) → t.terminal ≡ fixed (mode_keyword mode) → Begins TightL (t ∷ [])
+    in_transaction mode is =
+        let opening : Tok = a_fixed (Punctuator punct.OpenParen) in
+        let b = transaction_begins mode t opening is refl in
+        record { value = b.value; more = opening ∷ b.more; spelled = b.spelled }
+
     at_fixed : (k : Fixed) → t.terminal ≡ fixed k → is_operand (operand_terminal (fixed k)) ≡ true → Begins TightL (t ∷ [])
+    at_fixed (Keyword key.Atomic) is e = in_transaction Atomic is
+    at_fixed (Keyword key.Relaxed) is e = in_transaction Relaxed is
     at_fixed (Punctuator punct.OpenParen) is e = opened is
     at_fixed (Punctuator punct.Minus) is e = prefixed _ (ap (by_fixed unary_of) is)
     at_fixed (Punctuator punct.Plus) is e = prefixed _ (ap (by_fixed unary_of) is)

@@ -3,24 +3,22 @@ use Rattle.std.proofs.Common.{◌≡◌, ℕ, suc, ◌≤◌, Bool, true, false,
 use Rattle.lex.specs.declared.token.Fixed.TheVariants.{Keyword, Punctuator}
 use Rattle.lex.specs.declared.token.Keyword.TheVariants as key
 use Rattle.lex.specs.declared.token.Punctuator.TheVariants as punct
-use Rattle.lex.specs.declared.token.Span.{Span}
 use Rattle.lex.specs.Tokens.{fixed, Tok}
-use Rattle.syntax.specs.declared.tree.Mode.{Mode}
-use Rattle.syntax.specs.Tree.{Expr, Simple, Start, Stmt, Stmts, Empty, Block, If, IfElse, While, DoWhile, For, Transaction}
+use Rattle.syntax.specs.Tree.{Expr, Simple, Start, Stmt, Stmts, Empty, Block, If, IfElse, While, DoWhile, For}
 use Rattle.syntax.specs.Depth.{expr_depth, optional_depth, simple_depth, optional_simple_depth, start_depth, stmt_depth, block_depth}
 use Rattle.syntax.specs.Views.{stmts_from}
-use Rattle.syntax.specs.Phrases.{Phrase, Seq, One, Is, IsAt, Begins, place_of}
+use Rattle.syntax.specs.Phrases.{Phrase, Seq, Is, Begins}
 use Rattle.syntax.specs.Grammar as Grammar
 use Rattle.syntax.specs.Grammar.{expr, simple, optional, stmt, block, ends_open, mode_keyword}
 use Rattle.parse.specs.inner.Reading.{Parser, head, is_next, seq, perhaps, behind, before, unless}
 use Rattle.parse.specs.inner.Expressions.{whole_at}
-use Rattle.parse.specs.inner.Statements.{if_tree, for_tree, in_parens, entry, start, simple_at, if_stmt, while_stmt, do_stmt, for_stmt, transaction_stmt, block_stmt}
-use Rattle.parse.proofs.combinators.Exact.{Exact, Always, Comes, SeqL, Two, seq_exact, take_exact, two, value_of}
+use Rattle.parse.specs.inner.Statements.{if_tree, for_tree, in_parens, entry, start, simple_at, if_stmt, while_stmt, do_stmt, for_stmt, block_stmt}
+use Rattle.parse.proofs.combinators.Exact.{Exact, Always, Comes, SeqL, Two, seq_exact, two, value_of}
 use Rattle.parse.proofs.combinators.FixedTokens.{one_begins}
 use Rattle.parse.proofs.combinators.Parts.{MaybeW, MaybeS, seq_map, seq_left, seq_right, no_seq, un_seq, seq_here, seq_not_here, head_begins, tail_begins, behind_exact, before_exact, perhaps_exact}
 use Rattle.parse.proofs.combinators.Choices.{UnlessS, unless_exact}
 use Rattle.parse.proofs.statements.Leads.{OpenS}
-use Rattle.parse.proofs.statements.Entries.{Within, Below, BlockL, BlockW, statements, from_statements, entry_exact, braced_exact, block_begins}
+use Rattle.parse.proofs.statements.Entries.{Within, Below, BlockL, BlockW, statements, from_statements, entry_exact, braced_exact}
 use Rattle.parse.proofs.expressions.Wholes.{WholeS, whole_begins, closing_follows, not_fixed}
 use Rattle.parse.proofs.expressions.Levels.{whole_exact}
 use Rattle.parse.proofs.statements.Simples.{EndS, paren_ends, simple_exact, simple_first, simple_not_fixed}
@@ -321,11 +319,6 @@ abbrev pub NestedL : Stmt → Phrase
 NestedL (Block ss) = stmt (Block ss)
 NestedL _ = λ p. ⊥
 
--- a transaction of this mode
-abbrev pub TransactionL : Mode → Stmt → Phrase
-TransactionL mode (Transaction of ss at) p = (of ≡ mode) × stmt (Transaction of ss at) p
-TransactionL mode _ p = ⊥
-
 module _ (P : ℕ → Parser Stmt) (d : ℕ) (E : Exact P stmt Within OpenS OpenS d) (B : ℕ → Parser (List Stmt)) where
   -- A block in a block is read exactly.
   pub block_stmt_exact : Exact (λ D. block_stmt D (P D) (B D)) NestedL Below OpenS OpenS d
@@ -339,26 +332,3 @@ module _ (P : ℕ → Parser Stmt) (d : ℕ) (E : Exact P stmt Within OpenS Open
           let same = sym (from_statements ss) in
           record { value = statements ss; same = ap Block same; spelled = subst (λ (z : Stmts). block z p) same l; within = λ w. subst (λ (z : Stmts). block_depth z ≤ suc d) same w; stops = λ h s. tt }
       comes _ p l = absurd l
-
-module _ (P : ℕ → Parser Stmt) (B : ℕ → Parser (List Stmt)) (d : ℕ) (E : Exact B BlockL BlockW Always Always d) (mode : Mode) where
-  -- A transaction is read exactly.
-  pub transaction_stmt_exact : Exact (λ D. transaction_stmt D (P D) (B D) mode) (TransactionL mode) Below OpenS OpenS d
-  transaction_stmt_exact =
-      value_of (λ x. Transaction mode (stmts_from x.1) x.0) (TransactionL mode) Below OpenS OpenS
-      (two (take_exact (place_of (mode_keyword mode)) d) E (λ a b p q l h. tt) block_begins)
-      comes (λ x p l. (refl, l)) deepens (λ x h s e. absurd cc)
-    where
-      comes : (s : Stmt) (p : List Tok) → TransactionL mode s p → Comes (λ (x : Span × List Stmt). Transaction mode (stmts_from x.1) x.0) (Two (One (place_of (mode_keyword mode))) BlockL) (λ x. Unit {0} × BlockW d x.1) (Below d) (λ x h. Unit {0}) OpenS s p
-      comes (Transaction of ss at) p l =
-          let same = sym (from_statements ss) in
-          record {
-            value = (at, statements ss);
-            same = ap (λ (z : Mode). Transaction z ss at) l.0 ∙ ap (λ (z : Stmts). Transaction mode z at) same;
-            spelled = subst (λ (z : Stmts). Seq (IsAt (mode_keyword mode) at) (block z) p) same (subst (λ (z : Mode). Seq (IsAt (mode_keyword z) at) (block ss) p) l.0 l.1);
-            within = λ w. (tt, subst (λ (z : Stmts). block_depth z ≤ d) same (omega arith));
-            stops = λ h s. tt;
-          }
-      comes _ p l = absurd l
-
-      deepens : (x : Span × List Stmt) → Unit {0} × BlockW d x.1 → Below d (Transaction mode (stmts_from x.1) x.0)
-      deepens x w = let f : block_depth (stmts_from x.1) ≤ d = w.1 in omega arith

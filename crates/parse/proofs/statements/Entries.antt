@@ -5,7 +5,7 @@ use Rattle.lex.specs.declared.token.Keyword.TheVariants as key
 use Rattle.lex.specs.declared.token.Punctuator.TheVariants as punct
 use Rattle.lex.specs.Tokens.{Tok}
 use Rattle.syntax.specs.Tree as Tree
-use Rattle.syntax.specs.Tree.{Stmt, Stmts, Empty, Declare, Do, Block, Print, If, IfElse, While, DoWhile, For, Break, Continue, Return, Transaction, Cancel}
+use Rattle.syntax.specs.Tree.{Stmt, Stmts, Empty, Declare, Do, Block, Print, If, IfElse, While, DoWhile, For, Break, Continue, Return, Transaction, Cancel, CancelOuter}
 use Rattle.syntax.specs.Depth.{declaration_depth, stmt_depth, block_depth}
 use Rattle.syntax.specs.Views.{stmts_from}
 use Rattle.syntax.specs.Phrases.{Phrase, Seq, Is, Begins, Many}
@@ -109,8 +109,9 @@ put_in s ss p l = go s l.front l.first (λ q e. record { front = l.front; back =
     go (Break at) q (inr l) f = f (stmt (Break at)) l
     go (Continue at) q (inr l) f = f (stmt (Continue at)) l
     go (Return e at) q (inr l) f = f (stmt (Return e at)) l
-    go (Transaction mode x at) q (inr l) f = f (stmt (Transaction mode x at)) l
+    go (Transaction k x at) q (inr l) f = f (stmt (Transaction k x at)) l
     go (Cancel at) q (inr l) f = f (stmt (Cancel at)) l
+    go (CancelOuter at) q (inr l) f = f (stmt (CancelOuter at)) l
     go _ q (inl l) f = absurd l
 
 take_out : (s : Stmt) (ss : Stmts) (p : List Tok) → stmts (Tree.◌∷◌ s ss) p → Seq (EntryL s) (stmts ss) p

@@ -1,5 +1,5 @@
 -- Statements that hold no others are read exactly.
-use Rattle.std.proofs.Common.{◌≡◌, ℕ, suc, ◌+◌, ◌≤◌, true, false, List, [], ◌∷◌, ◌++◌, Option, Some, None, refl, sym, ap, arith}
+use Rattle.std.proofs.Common.{◌≡◌, ℕ, suc, ◌+◌, ◌≤◌, Bool, true, false, List, [], ◌∷◌, ◌++◌, Option, Some, None, refl, sym, ap, arith}
 use Rattle.lex.specs.declared.token.Fixed.{Fixed}
 use Rattle.lex.specs.declared.token.Fixed.TheVariants.{Keyword, Punctuator}
 use Rattle.lex.specs.declared.token.Keyword.TheVariants as key
@@ -7,22 +7,23 @@ use Rattle.lex.specs.declared.token.Punctuator.TheVariants as punct
 use Rattle.lex.specs.declared.token.Span.{Span}
 use Rattle.lex.specs.Tokens.{string_literal, fixed, Tok}
 use Rattle.syntax.specs.Tree as Tree
-use Rattle.syntax.specs.Tree.{Expr, Exprs, Stmt, Empty, Do, Print, Break, Continue, Return, Cancel}
+use Rattle.syntax.specs.Tree.{Expr, Exprs, Stmt, Empty, Do, Print, Break, Continue, Return, Cancel, CancelOuter}
 use Rattle.syntax.specs.Depth.{expr_depth, deepest, optional_depth, simple_depth, stmt_depth}
 use Rattle.syntax.specs.Views.{exprs_from}
 use Rattle.syntax.specs.Phrases.{Phrase, Seq, One, Is, Begins, Many, the_fixed, place_of}
 use Rattle.syntax.specs.Grammar.{the_text, expr, further, optional, simple, stmt}
 use Rattle.parse.specs.inner.Reading.{head, is_next, is_other}
-use Rattle.parse.specs.inner.Statements.{print_tree, print_stmt, alone_stmt, return_stmt, simple_stmt, empty_stmt}
+use Rattle.parse.specs.inner.Statements.{cancel_tree, cancel_stmt, print_tree, print_stmt, alone_stmt, return_stmt, simple_stmt, empty_stmt}
 use Rattle.parse.proofs.combinators.Exact.{Exact, Always, Comes, Two, take_exact, two, value_of}
 use Rattle.parse.proofs.combinators.Many.{ManyFit}
 use Rattle.parse.proofs.combinators.Choices.{UnlessS, shift_exact, unless_exact}
 use Rattle.parse.proofs.combinators.Lists.{Behind, further_exact}
 use Rattle.parse.proofs.combinators.FixedTokens.{that_fixed}
-use Rattle.parse.proofs.combinators.Parts.{MaybeW, seq_map, seq_left, seq_right, head_begins, tail_begins, behind_exact, before_exact}
+use Rattle.parse.proofs.combinators.Parts.{MaybeW, seq_map, seq_left, seq_right, un_seq_left, head_begins, tail_begins, behind_exact, before_exact}
 use Rattle.parse.proofs.expressions.Wholes.{WholeS, whole_begins, not_fixed, closing_follows}
 use Rattle.parse.proofs.expressions.Levels.{whole_exact}
 use Rattle.parse.proofs.statements.Simples.{simple_exact, semicolon_ends}
+use Rattle.parse.proofs.statements.Marks.{MarkedL, MarkedS, marked_begins, marked_exact}
 
 -- ---- expressions behind commas
 
@@ -146,6 +147,7 @@ ContinueL _ p = ⊥
 
 abbrev pub CancelL : Stmt → Phrase
 CancelL (Cancel at) p = stmt (Cancel at) p
+CancelL (CancelOuter at) p = stmt (CancelOuter at) p
 CancelL _ p = ⊥
 
 pub break_exact : (d : ℕ) → Exact (λ D. alone_stmt D (Keyword key.Break) Break) BreakL StmtW Always Always d
@@ -162,12 +164,31 @@ continue_exact d = alone_stmt_exact (Keyword key.Continue) Continue ContinueL d 
     comes (Continue at) p l = (at, refl, l)
     comes _ p l = absurd l
 
-pub cancel_exact : (d : ℕ) → Exact (λ D. alone_stmt D (Keyword key.Cancel) Cancel) CancelL StmtW Always Always d
-cancel_exact d = alone_stmt_exact (Keyword key.Cancel) Cancel CancelL d comes (λ at p l. l) (λ at. refl)
+abbrev CancelPart : Span × Bool → Phrase
+CancelPart = Two (One (place_of (Keyword key.Cancel))) (λ b. Seq (MarkedL b) (Is (Punctuator punct.Semicolon)))
+
+pub cancel_exact : (d : ℕ) → Exact (λ D. cancel_stmt) CancelL StmtW Always Always d
+cancel_exact d =
+    value_of cancel_tree CancelL StmtW Always Always
+    (two (take_exact (place_of (Keyword key.Cancel)) d) (before_exact (Punctuator punct.Semicolon) (marked_exact d) ends) (λ a b p q l h. tt) (tail_begins (Punctuator punct.Semicolon) MarkedL marked_begins))
+    comes goes (λ x w. flat x) (λ x h c. tt)
   where
-    comes : (s : Stmt) (p : List Tok) → CancelL s p → (at : Span) × (s ≡ Cancel at) × JumpPart (Keyword key.Cancel) at p
-    comes (Cancel at) p l = (at, refl, l)
+    ends : (b : Bool) (t : Tok) → t.terminal ≡ fixed (Punctuator punct.Semicolon) → MarkedS b (Some t)
+    ends true t is = tt
+    ends false t is = rw is refl
+
+    comes : (s : Stmt) (p : List Tok) → CancelL s p → Comes cancel_tree CancelPart (λ x. Unit {0} × Unit {0}) (StmtW d) (λ x h. Unit {0}) Always s p
+    comes (Cancel at) p l = record { value = (at, false); same = refl; spelled = seq_map l (λ q o. o) (λ q o. record { front = []; back = q; first = refl; second = o; whole = refl }); within = λ w. (tt, tt); stops = λ h s. tt }
+    comes (CancelOuter at) p l = record { value = (at, true); same = refl; spelled = l; within = λ w. (tt, tt); stops = λ h s. tt }
     comes _ p l = absurd l
+
+    goes : (x : Span × Bool) (p : List Tok) → CancelPart x p → CancelL (cancel_tree x) p
+    goes (at, true) p l = l
+    goes (at, false) p l = seq_map l (λ q o. o) (λ q o. un_seq_left o)
+
+    flat : (x : Span × Bool) → StmtW d (cancel_tree x)
+    flat (at, true) = omega arith
+    flat (at, false) = omega arith
 
 -- ---- `return`
 

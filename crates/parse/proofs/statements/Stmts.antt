@@ -1,14 +1,15 @@
 -- Statements and blocks are read exactly.
-use Rattle.std.proofs.Common.{◌≡◌, ℕ, zero, suc, ◌≤◌, true, false, List, [], ◌∷◌, ◌++◌, Some, None, Err, refl, sym, ap, subst, ◌∙◌, arith}
+use Rattle.std.proofs.Common.{◌≡◌, ℕ, zero, suc, ◌≤◌, true, false, List, [], ◌∷◌, ◌++◌, Some, None, Err, refl, sym, ap, subst, ◌∙◌, arith, inl, inr}
 use Rattle.lex.specs.declared.token.Fixed.{Fixed}
 use Rattle.lex.specs.declared.token.Fixed.TheVariants.{Keyword, Punctuator}
 use Rattle.lex.specs.declared.token.Keyword.TheVariants as key
 use Rattle.lex.specs.declared.token.Punctuator.TheVariants as punct
 use Rattle.lex.specs.declared.token.Span.{Span}
 use Rattle.lex.specs.Tokens.{Terminal, name, constant, string_literal, fixed, reserved, Tok}
+use Rattle.syntax.specs.declared.tree.Kind.TheVariants.{Plain}
 use Rattle.syntax.specs.declared.tree.Mode.TheVariants.{Atomic, Relaxed}
 use Rattle.syntax.specs.Tree as Tree
-use Rattle.syntax.specs.Tree.{Expr, Simple, Evaluate, Assign, Adjust, Stmt, Empty, Declare, Do, Block, Print, If, IfElse, While, DoWhile, For, Break, Continue, Return, Transaction, Cancel}
+use Rattle.syntax.specs.Tree.{Expr, Simple, Evaluate, Assign, Adjust, Stmt, Empty, Declare, Do, Block, Print, If, IfElse, While, DoWhile, For, Break, Continue, Return, Transaction, Cancel, CancelOuter}
 use Rattle.syntax.specs.Depth.{stmt_depth, block_depth}
 use Rattle.syntax.specs.Views.{stmts_from}
 use Rattle.syntax.specs.Phrases.{Phrase, Seq, One, Is, IsAt, Begins}
@@ -25,9 +26,10 @@ use Rattle.parse.proofs.combinators.Choices.{kinds_exact}
 use Rattle.parse.proofs.code.Braces.{expect_not}
 use Rattle.parse.proofs.combinators.Starts.{stops_exact}
 use Rattle.parse.proofs.combinators.Knot.{knot_exact, base_exact}
-use Rattle.parse.proofs.statements.Leads.{OpenS, made, lead_of, stmt_lead}
+use Rattle.parse.proofs.statements.Leads.{OpenS, made, LeadsTo, lead_of, stmt_lead, simple_lead, simple_stmt_starts, stmt_solid}
 use Rattle.parse.proofs.statements.Entries.{Within, Below, BlockL, BlockW, InnerL, inner_begins, block_begins, entry_exact, braced_exact}
-use Rattle.parse.proofs.statements.Compounds.{IfL, WhileL, DoL, ForL, NestedL, TransactionL, UntilL, HeadL, body_begins, until_begins, for_begins, head_goes, if_stmt_exact, while_stmt_exact, do_stmt_exact, for_stmt_exact, block_stmt_exact, transaction_stmt_exact}
+use Rattle.parse.proofs.statements.Compounds.{IfL, WhileL, DoL, ForL, NestedL, UntilL, HeadL, body_begins, until_begins, for_begins, head_goes, if_stmt_exact, while_stmt_exact, do_stmt_exact, for_stmt_exact, block_stmt_exact}
+use Rattle.parse.proofs.statements.Transactions.{BegunL, begun_stmt, begun_ends, transaction_stmt_exact}
 use Rattle.parse.proofs.statements.Simples.{simple_exact, simple_first, simple_starts}
 use Rattle.parse.proofs.statements.Leaves.{EmptyL, PrintL, BreakL, ContinueL, CancelL, ReturnL, DoesL, empty_stmt_exact, print_stmt_exact, break_exact, continue_exact, cancel_exact, return_stmt_exact, simple_stmt_exact}
 
@@ -45,7 +47,7 @@ LeadL lead.For = ForL
 LeadL lead.Break = BreakL
 LeadL lead.Continue = ContinueL
 LeadL lead.Return = ReturnL
-LeadL (lead.Transaction mode) = TransactionL mode
+LeadL (lead.Transaction mode) = BegunL mode
 LeadL lead.Cancel = CancelL
 LeadL lead.Simple = DoesL
 
@@ -71,30 +73,37 @@ keep lead.Continue (Continue at) p l = l
 keep lead.Continue _ p l = absurd l
 keep lead.Return (Return e at) p l = l
 keep lead.Return _ p l = absurd l
-keep (lead.Transaction mode) (Transaction of ss at) p l = l.1
-keep (lead.Transaction mode) _ p l = absurd l
+keep (lead.Transaction mode) s p l = begun_stmt mode s p l
 keep lead.Cancel (Cancel at) p l = l
+keep lead.Cancel (CancelOuter at) p l = l
 keep lead.Cancel _ p l = absurd l
 keep lead.Simple (Do s) p l = l
 keep lead.Simple _ p l = absurd l
 
--- a statement is of the kind that its first token says
-led : (s : Stmt) (p : List Tok) → stmt s p → LeadL (lead_of s) s p
-led Empty p l = l
-led (Declare x) p l = absurd l
-led (Do s) p l = l
-led (Block ss) p l = l
-led (Print at t t_at es) p l = l
-led (If c a) p l = l
-led (IfElse c a b) p l = l
-led (While c a) p l = l
-led (DoWhile a c) p l = l
-led (For first c step a) p l = l
-led (Break at) p l = l
-led (Continue at) p l = l
-led (Return e at) p l = l
-led (Transaction mode ss at) p l = (refl, l)
-led (Cancel at) p l = l
+-- an expression or an assignment is of the kind that its first token says
+simple_led : (s : Simple) (p q : List Tok) → stmt (Do s) p → (k : Lead) → LeadsTo (head (p ++ q)) k → LeadL k (Do s) p
+simple_led s p q l k (inl is) = rw is l
+simple_led s [] q l k (inr x) = absurd (stmt_solid (Do s) [] l)
+simple_led s (t ∷ p) q l k (inr x) = rw x.1 (inr (l, x.2))
+
+-- so is each statement
+led : (s : Stmt) (p q : List Tok) → stmt s p → LeadL (lead_of s (head (p ++ q))) s p
+led Empty p q l = l
+led (Declare x) p q l = absurd l
+led (Do s) p q l = simple_led s p q l (lead_at (head (p ++ q))) (simple_lead (head (p ++ q)) (simple_stmt_starts s p q l))
+led (Block ss) p q l = l
+led (Print at t t_at es) p q l = l
+led (If c a) p q l = l
+led (IfElse c a b) p q l = l
+led (While c a) p q l = l
+led (DoWhile a c) p q l = l
+led (For first c step a) p q l = l
+led (Break at) p q l = l
+led (Continue at) p q l = l
+led (Return e at) p q l = l
+led (Transaction k ss at) p q l = inl (refl, l)
+led (Cancel at) p q l = l
+led (CancelOuter at) p q l = l
 
 -- no else belongs to a statement that has none in it
 module _ {P : ℕ → Parser Stmt} {L : Stmt → List Tok → Type 0} {d : ℕ} (E : Exact P L Below Always Always d) (ends : (s : Stmt) (p : List Tok) → L s p → ends_open s ≡ false) where
@@ -119,6 +128,7 @@ continue_ends _ p l = absurd l
 
 cancel_ends : (s : Stmt) (p : List Tok) → CancelL s p → ends_open s ≡ false
 cancel_ends (Cancel at) p l = refl
+cancel_ends (CancelOuter at) p l = refl
 cancel_ends _ p l = absurd l
 
 return_stmt_ends : (s : Stmt) (p : List Tok) → ReturnL s p → ends_open s ≡ false
@@ -141,14 +151,14 @@ module _ (P : ℕ → Parser Stmt) (B : ℕ → Parser (List Stmt)) (d : ℕ) (E
   kind_exact lead.Break = leaf (break_exact d) break_ends
   kind_exact lead.Continue = leaf (continue_exact d) continue_ends
   kind_exact lead.Return = leaf (return_stmt_exact d) return_stmt_ends
-  kind_exact (lead.Transaction mode) = transaction_stmt_exact P B d EB mode
+  kind_exact (lead.Transaction mode) = leaf (transaction_stmt_exact mode P B d EB) (begun_ends mode)
   kind_exact lead.Cancel = leaf (cancel_exact d) cancel_ends
   kind_exact lead.Simple = leaf (simple_stmt_exact d) simple_stmt_ends
 
   any_exact : Exact (λ D. any_stmt D (P D) (B D)) stmt Below OpenS OpenS d
   any_exact =
       kinds_exact lead_at (λ k D. stmt_of D (P D) (B D) k) LeadL stmt OpenS kind_exact
-      (λ s p q l h. subst (λ (k : Lead). LeadL k s p) (sym (stmt_lead s p q l)) (led s p l)) keep (λ s p r l c. c)
+      (λ s p q l h. subst (λ (k : Lead). LeadL k s p) (sym (stmt_lead s p q l)) (led s p q l)) keep (λ s p r l c. c)
 
 -- ---- what a statement's first token begins
 
@@ -212,8 +222,8 @@ stmt_begun t h = go t.terminal refl h
     go (fixed (Keyword key.Continue)) is h = alone_stmt (Keyword key.Continue) Continue (λ p l. l) is
     go (fixed (Keyword key.Cancel)) is h = alone_stmt (Keyword key.Cancel) Cancel (λ p l. l) is
     go (fixed (Keyword key.Return)) is h = as_stmt (λ x. Return None t.span) (λ x p l. l) (from_place (Keyword key.Return) t is nothing_begins)
-    go (fixed (Keyword key.Atomic)) is h = as_stmt (λ xs. Transaction Atomic (stmts_from xs) t.span) (λ x p l. l) (from_place {M = BlockL} (Keyword key.Atomic) t is block_begins)
-    go (fixed (Keyword key.Relaxed)) is h = as_stmt (λ xs. Transaction Relaxed (stmts_from xs) t.span) (λ x p l. l) (from_place {M = BlockL} (Keyword key.Relaxed) t is block_begins)
+    go (fixed (Keyword key.Atomic)) is h = as_stmt (λ xs. Transaction (Plain Atomic) (stmts_from xs) t.span) (λ x p l. l) (from_place {M = BlockL} (Keyword key.Atomic) t is block_begins)
+    go (fixed (Keyword key.Relaxed)) is h = as_stmt (λ xs. Transaction (Plain Relaxed) (stmts_from xs) t.span) (λ x p l. l) (from_place {M = BlockL} (Keyword key.Relaxed) t is block_begins)
     go (fixed _) is h = plain _ is h
     go (name s) is h = plain (name s) is h
     go (constant n of) is h = plain (constant n of) is h

@@ -11,11 +11,13 @@ use Rattle.lex.specs.Tokens.{Terminal, name, constant, string_literal, fixed, re
 use Rattle.syntax.specs.declared.tree.BinaryOp.{BinaryOp}
 use Rattle.syntax.specs.declared.tree.LogicalOp.{LogicalOp}
 use Rattle.syntax.specs.declared.tree.UnaryOp.{UnaryOp}
-use Rattle.syntax.specs.Tree.{Name, Expr, Variable, Constant, Element, Call, Parenthesized, Cast, Unary, Binary, Logical, Conditional}
+use Rattle.syntax.specs.declared.tree.Mode.{Mode}
+use Rattle.syntax.specs.declared.tree.Mode.TheVariants.{Atomic, Relaxed}
+use Rattle.syntax.specs.Tree.{Name, Expr, Variable, Constant, Element, Call, Parenthesized, Cast, Unary, Binary, Logical, Conditional, InTransaction}
 use Rattle.syntax.specs.Depth.{expr_depth}
 use Rattle.syntax.specs.Typing.{span_of}
 use Rattle.syntax.specs.Views.{exprs_from}
-use Rattle.syntax.specs.Grammar.{by_fixed, the_name, the_binary, the_logical, the_unary, unary_of, precedence, logical_precedence}
+use Rattle.syntax.specs.Grammar.{by_fixed, the_name, the_binary, the_logical, the_unary, unary_of, precedence, logical_precedence, mode_keyword}
 use Rattle.parse.specs.declared.lead.Infix.{Infix}
 use Rattle.parse.specs.declared.lead.Infix.TheVariants.{Computing, Choosing}
 use Rattle.parse.specs.declared.lead.Operand.{Operand}
@@ -108,6 +110,12 @@ module _ (whole tight : Parser Expr) where
       mapped (λ x. x.1)
       (chained (spot (Punctuator punct.OpenParen)) (λ at. either starts_type (cast_from at) (group_from at)))
 
+  abbrev pub transaction : Mode → Parser Expr
+  transaction mode =
+      mapped (λ x. InTransaction mode x.0 x.1.0 (across x.0 x.1.1))
+      (seq (spot (mode_keyword mode))
+      (seq (behind (Punctuator punct.OpenParen) whole) (spot (Punctuator punct.CloseParen))))
+
   abbrev pub arguments : Parser (List Expr)
   arguments = either (is_next (Punctuator punct.CloseParen)) (give []) (listed whole)
 
@@ -135,10 +143,13 @@ module _ (whole tight : Parser Expr) where
   operand_of kind.Constant = take the_constant
   operand_of kind.Open = opened
   operand_of kind.Prefix = prefixed
+  operand_of (kind.Transaction mode) = transaction mode
   operand_of kind.None = none
 
 abbrev pub operand_fixed : Fixed → Option UnaryOp → Operand
 operand_fixed (Punctuator punct.OpenParen) op = kind.Open
+operand_fixed (Keyword key.Atomic) op = kind.Transaction Atomic
+operand_fixed (Keyword key.Relaxed) op = kind.Transaction Relaxed
 operand_fixed _ (Some op) = kind.Prefix
 operand_fixed _ None = kind.None
 
@@ -163,6 +174,7 @@ is_operand kind.Name = true
 is_operand kind.Constant = true
 is_operand kind.Open = true
 is_operand kind.Prefix = true
+is_operand (kind.Transaction mode) = true
 
 abbrev pub starts_expr : Option Tok → Bool
 starts_expr h = is_operand (operand_at h)

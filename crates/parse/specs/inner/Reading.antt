@@ -77,6 +77,11 @@ either test P Q ts = if test (head ts) then P ts else Q ts
 abbrev pub sunk : {A : Type 0} → (Option Tok → Bool) → Parser A
 sunk starts ts = if starts (head ts) then Err (deep ts) else Err (wrong ts)
 
+-- too deep, where no depth is left
+abbrev pub unless_sunk : {A : Type 0} → ℕ → Parser A → Parser A
+unless_sunk zero P ts = Err (deep ts)
+unless_sunk (suc d) P ts = P ts
+
 -- at most n, up to a token that stops
 abbrev pub many : {A : Type 0} → (Option Tok → Bool) → ℕ → Parser A → Parser (List A)
 many stop zero P ts = if stop (head ts) then Ok ([], ts) else Err (wrong ts)

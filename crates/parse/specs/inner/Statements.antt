@@ -1,5 +1,5 @@
 -- What the parser's functions over statements answer, as functions on lists.
-use Rattle.std.specs.Prelude.{◌≡◌, ℕ, zero, suc, Bool, true, false, List, Option, Some, None, Ok, if◌then◌else◌}
+use Rattle.std.specs.Prelude.{◌≡◌, ℕ, zero, suc, Bool, true, false, List, ◌∷◌, Option, Some, None, Ok, if◌then◌else◌}
 use Rattle.std.specs.Borrow.{Bor}
 use Rattle.lex.specs.declared.token.Fixed.{Fixed}
 use Rattle.lex.specs.declared.token.Fixed.TheVariants.{Keyword, Punctuator}
@@ -9,14 +9,16 @@ use Rattle.lex.specs.declared.token.Scalar.{Scalar}
 use Rattle.lex.specs.declared.token.Span.{Span}
 use Rattle.lex.specs.declared.token.Token.{Token}
 use Rattle.lex.specs.Tokens.{Terminal, name, constant, string_literal, fixed, reserved, Tok, toks}
+use Rattle.syntax.specs.declared.tree.Kind.{Kind}
+use Rattle.syntax.specs.declared.tree.Kind.TheVariants.{Plain, Outer}
 use Rattle.syntax.specs.declared.tree.Mode.{Mode}
 use Rattle.syntax.specs.declared.tree.Mode.TheVariants.{Atomic, Relaxed}
-use Rattle.syntax.specs.Tree.{Name, Expr, Simple, Evaluate, Assign, Adjust, Declarator, Declaration, Start, Nothing, Declares, Does, Stmt, Empty, Declare, Do, Block, Print, If, IfElse, While, DoWhile, For, Break, Continue, Return, Transaction, Cancel}
+use Rattle.syntax.specs.Tree.{Name, Expr, Simple, Evaluate, Assign, Adjust, Declarator, Declaration, Start, Nothing, Declares, Does, Stmt, Empty, Declare, Do, Block, Print, If, IfElse, While, DoWhile, For, Break, Continue, Return, Transaction, Cancel, CancelOuter}
 use Rattle.syntax.specs.Views.{exprs_from, stmts_from}
-use Rattle.syntax.specs.Grammar.{the_name, the_text, the_assigning, the_step, mode_keyword}
+use Rattle.syntax.specs.Grammar.{the_name, the_text, the_outer, the_assigning, the_step, mode_keyword}
 use Rattle.parse.specs.declared.lead.Lead.{Lead}
 use Rattle.parse.specs.declared.lead.Lead.TheVariants as lead
-use Rattle.parse.specs.inner.Reading.{Parser, head, give, chained, seq, mapped, choice, either, sunk, many_until, unless, listed, take, expect, spot, is_next, is_other, perhaps, behind, before}
+use Rattle.parse.specs.inner.Reading.{Parser, head, give, chained, seq, mapped, choice, either, sunk, unless_sunk, many_until, unless, listed, take, expect, spot, is_next, is_other, perhaps, behind, before}
 use Rattle.parse.specs.inner.Expressions.{says, starts_type, scalar, starts_expr, whole_at}
 
 -- what a function found at the front: a token that says something of this kind, and the tokens after it, or none
@@ -111,6 +113,40 @@ is_lead _ h = true
 abbrev pub starts_stmt : Option Tok → Bool
 starts_stmt h = is_lead (lead_at h) h
 
+-- ---- the mark of an outer transaction, and of what cancels it
+
+abbrev pub is_marked : Option Tok → Bool
+is_marked h = if is_next (Punctuator punct.OpenBracket) h then true else is_next (Keyword key.Attribute) h
+
+abbrev pub enclosed_outer : Fixed → Fixed → Parser (Unit {0})
+enclosed_outer opening closing = behind opening (behind opening (before closing (before closing (take the_outer))))
+
+abbrev pub outer_mark : Parser (Unit {0})
+outer_mark =
+    either (is_next (Punctuator punct.OpenBracket))
+    (enclosed_outer (Punctuator punct.OpenBracket) (Punctuator punct.CloseBracket))
+    (behind (Keyword key.Attribute) (enclosed_outer (Punctuator punct.OpenParen) (Punctuator punct.CloseParen)))
+
+-- whether the mark stands here
+abbrev pub marked : Parser Bool
+marked = either is_marked (mapped (λ x. true) outer_mark) (give false)
+
+abbrev pub atomic_kind : Bool → Kind
+atomic_kind true = Outer
+atomic_kind false = Plain Atomic
+
+-- behind the keyword of a transaction: what kind it is
+abbrev pub kind : Mode → Parser Kind
+kind Atomic = mapped atomic_kind marked
+kind Relaxed = give (Plain Relaxed)
+
+abbrev pub cancel_tree : Span × Bool → Stmt
+cancel_tree (at, true) = CancelOuter at
+cancel_tree (at, false) = Cancel at
+
+abbrev pub cancel_stmt : Parser Stmt
+cancel_stmt = mapped cancel_tree (seq (spot (Keyword key.Cancel)) (before (Punctuator punct.Semicolon) marked))
+
 -- ---- statements
 
 abbrev pub if_tree : Expr × (Stmt × Option Stmt) → Stmt
@@ -135,6 +171,10 @@ braced P =
 -- what an if chooses from; stmt: a statement
 abbrev pub branches : Parser Stmt → Parser (Stmt × Option Stmt)
 branches stmt = seq stmt (perhaps (Keyword key.Else) (behind (Keyword key.Else) stmt))
+
+-- the keyword of a transaction, at a place
+abbrev pub mode_token : Mode → Span → Tok
+mode_token mode at = record { terminal = fixed (mode_keyword mode); span = at }
 
 -- d: the depth of a statement's parts
 module _ (d : ℕ) where
@@ -188,6 +228,10 @@ module _ (d : ℕ) where
   abbrev pub simple_stmt : Parser Stmt
   simple_stmt = mapped Do (before (Punctuator punct.Semicolon) (simple_at (suc d)))
 
+  -- behind the keyword of a transaction, which stands at a place: an expression begins with it
+  abbrev pub value_stmt : Mode → Span → Parser Stmt
+  value_stmt mode at = unless_sunk d (λ ts. simple_stmt (mode_token mode at ∷ ts))
+
   -- stmt: a statement; block: statements in braces
   module _ (stmt : Parser Stmt) (block : Parser (List Stmt)) where
     abbrev pub if_stmt : Parser Stmt
@@ -202,8 +246,14 @@ module _ (d : ℕ) where
     abbrev pub for_stmt : Parser Stmt
     for_stmt = mapped for_tree (behind (Keyword key.For) (seq head_of_for stmt))
 
+    -- behind the keyword, which stands at a place
+    abbrev pub transaction_from : Mode → Span → Parser Stmt
+    transaction_from mode at =
+        either (is_next (Punctuator punct.OpenParen)) (value_stmt mode at)
+        (mapped (λ x. Transaction x.0 (stmts_from x.1) at) (seq (kind mode) block))
+
     abbrev pub transaction_stmt : Mode → Parser Stmt
-    transaction_stmt mode = mapped (λ x. Transaction mode (stmts_from x.1) x.0) (seq (spot (mode_keyword mode)) block)
+    transaction_stmt mode = mapped (λ x. x.1) (chained (spot (mode_keyword mode)) (transaction_from mode))
 
     abbrev pub block_stmt : Parser Stmt
     block_stmt = mapped (λ x. Block (stmts_from x)) (braced (entry stmt))
@@ -220,7 +270,7 @@ module _ (d : ℕ) where
     stmt_of lead.Continue = alone_stmt (Keyword key.Continue) Continue
     stmt_of lead.Return = return_stmt
     stmt_of (lead.Transaction mode) = transaction_stmt mode
-    stmt_of lead.Cancel = alone_stmt (Keyword key.Cancel) Cancel
+    stmt_of lead.Cancel = cancel_stmt
     stmt_of lead.Simple = simple_stmt
 
     abbrev pub any_stmt : Parser Stmt

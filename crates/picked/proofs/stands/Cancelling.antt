@@ -1,22 +1,24 @@
--- In a safe program a cancel stands directly in an atomic transaction.
-use Rattle.std.proofs.Common.{◌≡◌, refl, ℕ, List, ◌++◌, arith, Option, Some, None, true, false}
-use Rattle.std.specs.Prelude.{Contains}
+-- In a safe program a cancel stands directly in an atomic transaction, and an outer cancel in an outer one.
+use Rattle.std.proofs.Common.{◌≡◌, refl, ℕ, suc, List, ◌++◌, arith, Option, Some, None, true, false}
+use Rattle.std.specs.Prelude.{option_map, Contains}
 use Rattle.std.proofs.Math.Logic.{∥∥₁_elim, ∥∥₁_prop}
 use Rattle.std.proofs.lemmas.List.Elements.{All-contains, Contains-append_left, Contains-append_right}
 use Rattle.syntax.specs.declared.tree.Mode.{Mode}
 use Rattle.syntax.specs.declared.tree.Mode.TheVariants.{Atomic, Relaxed}
+use Rattle.syntax.specs.declared.tree.Kind.{Kind}
+use Rattle.syntax.specs.declared.tree.Kind.TheVariants.{Plain, Outer}
 use Rattle.syntax.specs.Tree as Tree
-use Rattle.syntax.specs.Tree.{Stmt, Stmts, Empty, Declare, Do, Block, Print, If, IfElse, While, DoWhile, For, Break, Continue, Return, Transaction, Cancel, Function, Program}
+use Rattle.syntax.specs.Tree.{Stmt, Stmts, Empty, Declare, Do, Block, Print, If, IfElse, While, DoWhile, For, Break, Continue, Return, Transaction, Cancel, CancelOuter, Function, Program}
 use Rattle.syntax.specs.Names.{definition_of}
 use Rattle.syntax.specs.Typing.{names_of, parameter_names}
-use Rattle.safety.specs.Sites.{Cancels, Relaxes, Site, Around, with_names, in_transaction, mode_site, expr_sites, simple_sites, sites_if_any, start_sites, names_of_start, stmt_sites, stmts_sites, sites_of}
-use Rattle.safety.specs.Safe.{KeepsAtomic, IsSafeProgram}
+use Rattle.safety.specs.Sites.{Cancels, CancelsOuter, Relaxes, Site, Around, with_names, in_transaction, kind_site, expr_sites, simple_sites, sites_if_any, start_sites, names_of_start, stmt_sites, stmts_sites, sites_of}
+use Rattle.safety.specs.Safe.{KeepsAtomic, KeepsOuter, IsSafeProgram}
 use Rattle.safety.proofs.CancelsStay.{definition_sites}
-use Rattle.picked.proofs.stands.Statements.{CancelsFit, AllCancelsFit}
+use Rattle.picked.proofs.stands.Statements.{Enclosing, not_enclosed, enclosed_in, IsInOuter, CancelsFit, AllCancelsFit}
 
 module _ (p : Program) where
   record AllKeep (ms : List Site) : Type 0 where
-    each : (m : Site) → Contains ms m → KeepsAtomic p m
+    each : (m : Site) → Contains ms m → KeepsAtomic p m × KeepsOuter p m
 
   before : (ms os : List Site) → AllKeep (ms ++ os) → AllKeep ms
   before ms os h = record { each = λ m c. h.each m (Contains-append_left ms os m c) }
@@ -24,16 +26,28 @@ module _ (p : Program) where
   after : (ms os : List Site) → AllKeep (ms ++ os) → AllKeep os
   after ms os h = record { each = λ m c. h.each m (Contains-append_right ms os m c) }
 
-  -- how the innermost transaction runs, where it is known to be inside an atomic one
-  abbrev IsInnermost : Around → Option Mode → Type 0
-  IsInnermost a m = a.atomic ≡ true → m ≡ Some Atomic
+  -- the transactions round a place, where it is known to be inside an atomic one, and where inside an outer one
+  record Encloses (a : Around) (m : Enclosing) : Type 0 where
+    innermost : a.atomic ≡ true → m.innermost ≡ Some Atomic
+    in_outer : a.outer ≡ true → IsInOuter m.in_outer
 
-  in_mode : (mode : Mode) (a : Around) (at : Tree.Span) → AllKeep (mode_site mode a at) → IsInnermost (in_transaction mode a) (Some mode)
-  in_mode Atomic a at h e = refl
-  in_mode Relaxed a at h e = absurd ((h.each (record { construct = Relaxes; at = at; atomic = a.atomic; in_any = a.in_any }) (0, omega arith, refl)).0 e)
+  with_more : (xs : List (List ℕ)) (a : Around) (m : Enclosing) → Encloses a m → Encloses (with_names xs a) m
+  with_more xs a m n = record { innermost = n.innermost; in_outer = n.in_outer }
+
+  one_deeper : (levels : Option ℕ) → IsInOuter levels → IsInOuter (option_map suc levels)
+  one_deeper None inside = inside
+  one_deeper (Some n) inside = tt
+
+  in_kind : (kind : Kind) (a : Around) (m : Enclosing) (at : Tree.Span) → AllKeep (kind_site kind a at) → Encloses a m → Encloses (in_transaction kind a) (enclosed_in kind m)
+  in_kind (Plain Atomic) a m at h n = record { innermost = λ e. refl; in_outer = λ e. one_deeper m.in_outer (n.in_outer e) }
+  in_kind (Plain Relaxed) a m at h n = record {
+    innermost = λ e. absurd ((h.each (record { construct = Relaxes; at = at; atomic = a.atomic; outer = a.outer; in_any = a.in_any }) (0, omega arith, refl)).0.0 e);
+    in_outer = λ e. one_deeper m.in_outer (n.in_outer e);
+  }
+  in_kind Outer a m at h n = record { innermost = λ e. refl; in_outer = λ e. tt }
 
   mutual
-    cancels_fit : (s : Stmt) (a : Around) (m : Option Mode) → IsInnermost a m → AllKeep (stmt_sites s a) → CancelsFit s m
+    cancels_fit : (s : Stmt) (a : Around) (m : Enclosing) → Encloses a m → AllKeep (stmt_sites s a) → CancelsFit s m
     cancels_fit Empty a m n h = tt
     cancels_fit (Declare d) a m n h = tt
     cancels_fit (Do s) a m n h = tt
@@ -48,29 +62,36 @@ module _ (p : Program) where
     cancels_fit (DoWhile s e) a m n h = cancels_fit s a m n (before (stmt_sites s a) (expr_sites e a) h)
     cancels_fit (For start e step s) a m n h =
         let a' = with_names (names_of_start start) a in
-        cancels_fit s a' m n (after (start_sites start a ++ sites_if_any expr_sites e a' ++ sites_if_any simple_sites step a') (stmt_sites s a') h)
+        cancels_fit s a' m (with_more (names_of_start start) a m n) (after (start_sites start a ++ sites_if_any expr_sites e a' ++ sites_if_any simple_sites step a') (stmt_sites s a') h)
     cancels_fit (Break at) a m n h = tt
     cancels_fit (Continue at) a m n h = tt
     cancels_fit (Return e at) a m n h = tt
-    cancels_fit (Transaction mode ss at) a m n h =
-        all_cancels_fit ss (in_transaction mode a) (Some mode) (in_mode mode a at (before (mode_site mode a at) (stmts_sites ss (in_transaction mode a)) h))
-        (after (mode_site mode a at) (stmts_sites ss (in_transaction mode a)) h)
-    cancels_fit (Cancel at) a m n h = n ((h.each (record { construct = Cancels; at = at; atomic = a.atomic; in_any = a.in_any }) (0, omega arith, refl)).1 refl)
+    cancels_fit (Transaction kind ss at) a m n h =
+        let a' = in_transaction kind a in
+        all_cancels_fit ss a' (enclosed_in kind m) (in_kind kind a m at (before (kind_site kind a at) (stmts_sites ss a') h) n) (after (kind_site kind a at) (stmts_sites ss a') h)
+    cancels_fit (Cancel at) a m n h =
+        n.innermost ((h.each (record { construct = Cancels; at = at; atomic = a.atomic; outer = a.outer; in_any = a.in_any }) (0, omega arith, refl)).0.1 refl)
+    cancels_fit (CancelOuter at) a m n h =
+        n.in_outer ((h.each (record { construct = CancelsOuter; at = at; atomic = a.atomic; outer = a.outer; in_any = a.in_any }) (0, omega arith, refl)).1.1 refl)
 
-    all_cancels_fit : (ss : Stmts) (a : Around) (m : Option Mode) → IsInnermost a m → AllKeep (stmts_sites ss a) → AllCancelsFit ss m
+    all_cancels_fit : (ss : Stmts) (a : Around) (m : Enclosing) → Encloses a m → AllKeep (stmts_sites ss a) → AllCancelsFit ss m
     all_cancels_fit Tree.[] a m n h = tt
     all_cancels_fit (Tree.◌∷◌ s ss) a m n h =
         let a' = with_names (names_of s) a in
-        (cancels_fit s a m n (before (stmt_sites s a) (stmts_sites ss a') h), all_cancels_fit ss a' m n (after (stmt_sites s a) (stmts_sites ss a') h))
+        (cancels_fit s a m n (before (stmt_sites s a) (stmts_sites ss a') h), all_cancels_fit ss a' m (with_more (names_of s) a m n) (after (stmt_sites s a) (stmts_sites ss a') h))
 
-  -- each cancel in a definition stands directly in an atomic transaction
+  -- in a definition each cancel stands directly in an atomic transaction, and each outer cancel in an outer one
   abbrev pub CancelsAreFit : Type 0
-  CancelsAreFit = (x : List ℕ) (d : Function × Stmts) → definition_of p x ≡ Some d → AllCancelsFit d.1 None
+  CancelsAreFit = (x : List ℕ) (d : Function × Stmts) → definition_of p x ≡ Some d → AllCancelsFit d.1 not_enclosed
 
   pub safe_cancels_fit : IsSafeProgram p → CancelsAreFit
   safe_cancels_fit safe x d e =
-      all_cancels_fit d.1 (record { locals = parameter_names d.0.parameters; atomic = false; in_any = false }) None (λ f. absurd (cc))
-      (record { each = λ m c. All-contains (KeepsAtomic p) (sites_of p x) m (safe.atomic x) (definition_sites p x d e m c) })
+      all_cancels_fit d.1 (record { locals = parameter_names d.0.parameters; atomic = false; outer = false; in_any = false }) not_enclosed (record { innermost = λ f. absurd (cc); in_outer = λ f. absurd (cc) })
+      (record {
+        each = λ m c.
+            let at = definition_sites p x d e m c in
+            (All-contains (KeepsAtomic p) (sites_of p x) m (safe.atomic x) at, All-contains (KeepsOuter p) (sites_of p x) m (safe.outer x) at);
+      })
 
 -- that cancels fit has no more than one proof
 part : {P Q : Type 0} → (P → Q) → ∥ P ∥₁ → ∥ Q ∥₁
@@ -87,8 +108,12 @@ innermost_sure None h = absurd (∥∥₁_elim h (λ x y. absurd x) (not_atomic 
 innermost_sure (Some Relaxed) h = absurd (∥∥₁_elim h (λ x y. absurd x) (not_relaxed (Some Relaxed) (Some Atomic) refl refl))
 innermost_sure (Some Atomic) h = refl
 
+outer_sure : (levels : Option ℕ) → ∥ IsInOuter levels ∥₁ → IsInOuter levels
+outer_sure None h = ∥∥₁_elim h (λ x y. absurd x) (λ x. x)
+outer_sure (Some n) h = tt
+
 mutual
-  fit_sure : (s : Stmt) (m : Option Mode) → ∥ CancelsFit s m ∥₁ → CancelsFit s m
+  fit_sure : (s : Stmt) (m : Enclosing) → ∥ CancelsFit s m ∥₁ → CancelsFit s m
   fit_sure Empty m h = tt
   fit_sure (Declare d) m h = tt
   fit_sure (Do s) m h = tt
@@ -102,12 +127,13 @@ mutual
   fit_sure (Break at) m h = tt
   fit_sure (Continue at) m h = tt
   fit_sure (Return e at) m h = tt
-  fit_sure (Transaction mode ss at) m h = all_sure ss (Some mode) h
-  fit_sure (Cancel at) m h = innermost_sure m h
+  fit_sure (Transaction kind ss at) m h = all_sure ss (enclosed_in kind m) h
+  fit_sure (Cancel at) m h = innermost_sure m.innermost h
+  fit_sure (CancelOuter at) m h = outer_sure m.in_outer h
 
-  all_sure : (ss : Stmts) (m : Option Mode) → ∥ AllCancelsFit ss m ∥₁ → AllCancelsFit ss m
+  all_sure : (ss : Stmts) (m : Enclosing) → ∥ AllCancelsFit ss m ∥₁ → AllCancelsFit ss m
   all_sure Tree.[] m h = tt
   all_sure (Tree.◌∷◌ s ss) m h = (fit_sure s m (part (λ x. x.0) h), all_sure ss m (part (λ x. x.1) h))
 
 pub cancels_surely_fit : (p : Program) → ∥ IsSafeProgram p ∥₁ → CancelsAreFit p
-cancels_surely_fit p h x d e = all_sure d.1 None (part (λ safe. safe_cancels_fit p safe x d e) h)
+cancels_surely_fit p h x d e = all_sure d.1 not_enclosed (part (λ safe. safe_cancels_fit p safe x d e) h)

@@ -15,9 +15,9 @@ use Rattle.bytecode.specs.declared.instr.Instr.TheVariants as own
 use Rattle.bytecode.specs.Code.{Code, Instr as Plain}
 use Rattle.bytecode.specs.Views.{instr_of}
 use Rattle.lowered.specs.Expressions as Lowered
-use Rattle.lowered.specs.Expressions.{Coded, Layout, MayTake, GivenBy, LocalIs, LiesReady, OperandCode, VariableCode, ElementCode, CastCode, UnaryCode, NotCode, BinaryCode, MovedCode, BranchCode}
+use Rattle.lowered.specs.Expressions.{Coded, Layout, MayTake, GivenBy, LocalIs, LiesReady, OperandCode, VariableCode, ElementCode, CastCode, ValueTransactionCode, UnaryCode, NotCode, BinaryCode, MovedCode, BranchCode}
 use Rattle.picked.specs.Lists.{Lists, used}
-use Rattle.picked.specs.Expressions.{computing, negating, Emitted, above, one, then_one, ready_from, ready, constant_ready, ready_or, in_local, converted_to, negated, complemented, compared, both, settled}
+use Rattle.picked.specs.Expressions.{computing, negating, Emitted, above, one, then_one, ready_from, ready, constant_ready, ready_or, in_local, converted_to, in_own_transaction, negated, complemented, compared, both, settled}
 use Rattle.picked.proofs.stands.Standing.{Stand, front, behind, Grows, grows_same, grows_further, grows_used, max_left, max_right, Fits, fits_before, is_register, given}
 
 -- operators have the instructions of the relation
@@ -94,6 +94,26 @@ module _ (code : Code) (arguments : List ℕ) (layout : Layout) where
     grows = h.grows;
     stands = λ f st. record { te = e.held.of; computes = h.stands f st; type_is = refl };
   }
+
+  pub in_own_emits : (A : Coded) (from free : ℕ) (l : Lists) (e : Emitted) → Emits A (from + 1) free l e → Emits (ValueTransactionCode code layout A) from free l (in_own_transaction e)
+  in_own_emits A from free l e h =
+      let begin : Instr = own.Begin (e.held.to + 1) in
+      let x = h.to_is in
+      let next : from + 1 ≡ suc from = omega arith in
+      let mid_is : e.held.to ≡ suc from + length e.code = omega (arith, x) in
+      record {
+        to_is = let u : length (begin ∷ e.code ++ own.Commit ∷ []) ≡ length (begin ∷ e.code) + 1 = length-append (begin ∷ e.code) (own.Commit ∷ []) in omega (arith, x, u);
+        grows = h.grows;
+        stands = λ f st.
+            let inner = front code arguments (suc from) e.code (own.Commit ∷ []) st.1 in
+            record {
+              last = e.held.to;
+              begins = st.0;
+              computes = subst (λ q. A q e.held.to free e.held.register e.held.of) next (h.stands f (subst (λ q. Stand code arguments q e.code) (sym next) inner));
+              commits = (behind code arguments (suc from) e.held.to e.code (own.Commit ∷ []) mid_is st.1).0;
+              to_is = omega arith;
+            };
+      }
 
   pub negated_emits : (home : Option ℕ) (A : Coded) (from free into : ℕ) (l : Lists) (e : Emitted) → Emits A from free l e → MayTake home free into →
       Emits (λ from to free r t. UnaryCode code layout home (λ ta ra. Plain.Negate ta r ra) A from to free r t) from free l (negated e into)

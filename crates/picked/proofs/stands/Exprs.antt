@@ -10,7 +10,7 @@ use Rattle.syntax.specs.declared.tree.UnaryOp.TheVariants.{Negate, Keep, Not, Co
 use Rattle.syntax.specs.declared.tree.BinaryOp.{BinaryOp}
 use Rattle.syntax.specs.declared.tree.BinaryOp.TheVariants.{ShiftLeft}
 use Rattle.syntax.specs.declared.tree.LogicalOp.TheVariants.{AndThen, OrElse}
-use Rattle.syntax.specs.Tree.{Name, Expr, Exprs, Variable, Constant, Element, Call, Parenthesized, Cast, Unary, Binary, Logical, Conditional, Stmts, Function, Program}
+use Rattle.syntax.specs.Tree.{Name, Expr, Exprs, Variable, Constant, Element, Call, Parenthesized, Cast, Unary, Binary, Logical, Conditional, InTransaction, Stmts, Function, Program}
 use Rattle.syntax.specs.Numbers.{word_of, common, operand_type, result_type}
 use Rattle.syntax.specs.Names.{Local, GlobalCells, newest, global_of, definition_of}
 use Rattle.syntax.specs.Types.{Callable, Scope, number_type, element_type, call_type, common_of, binary_type, type_of, running_scope, known_function}
@@ -31,7 +31,7 @@ use Rattle.picked.specs.Conditions.{joined}
 use Rattle.picked.specs.Expressions.{Emitted, AllEmitted, above, then_one, ready_from, constant_ready, ready_or, variable, element, called, settled, emitted, own_condition, condition, all_emitted}
 use Rattle.picked.proofs.stands.Standing.{Stand, front, behind, front_same, front_more, max_left, Grows, grows_same, grows_further, grows_used, Fits, fits_before, is_register, given}
 use Rattle.picked.proofs.stands.Named.{VariableFound, variable_found, array_found, function_found, known_number, known_array, known_callable}
-use Rattle.picked.proofs.stands.Emitting.{above_free, above_it, Emits, one_emits, in_local_emits, element_emits, cast_emits, negated_emits, complemented_emits, compared_emits, operand_emits, both_emits, settled_emits}
+use Rattle.picked.proofs.stands.Emitting.{above_free, above_it, Emits, one_emits, in_local_emits, element_emits, cast_emits, in_own_emits, negated_emits, complemented_emits, compared_emits, operand_emits, both_emits, settled_emits}
 use Rattle.picked.proofs.stands.Conds.{Decides, same_decides, opposite_decides, and_decides, or_decides, tested_decides, zero_decides, answered_emits, chosen_emits}
 
 -- a callee's number is that of a function of its name
@@ -176,6 +176,7 @@ module _ (p : Program) (code : Code) (arguments : List ℕ) (layout : Layout) (t
         let y = emitted p scope b (first.held.to + 1) into free first.lists in
         ap (λ o. common_of o (type_of known b)) (type_is a h.1 h.2 (test.to + 1) into free test.lists ∙ ap Some (sym (settled_of into x)))
         ∙ ap (λ o. common_of (Some first.held.of) o) (type_is b h.3 h.4 (first.held.to + 1) into free first.lists ∙ ap Some (sym (settled_of into y)))
+    type_is (InTransaction mode keyword e at) h g from into free l = type_is e h.0 h.1 (from + 1) into free l
     type_is e h g from into free l = refl
 
     call_emits : (home : Option ℕ) (x : List ℕ) (A : (from to free : ℕ) → List ℕ → Type 0) (c : Calls x) (o : Option Callee) → o ≡ Some (callee_at c.number c.definition.0) → (from into free : ℕ) (l : Lists) (args : AllEmitted) → AllEmits A from free l args → MayTake home free into →
@@ -237,6 +238,8 @@ module _ (p : Program) (code : Code) (arguments : List ℕ) (layout : Layout) (t
     elsewhere (Cast t e at) h from into free l =
         ⊎_elim (λ g. inl (cast_emits code arguments layout t (ExprCode code layout p None scope e) from free l (emitted p scope e from into free l) g)) (λ g. inr g) (elsewhere e h from into free l)
     elsewhere (Unary Keep e at) h from into free l = elsewhere e h.0 from into free l
+    elsewhere (InTransaction mode keyword e at) h from into free l =
+        ⊎_elim (λ g. inl (in_own_emits code arguments layout (ExprCode code layout p None scope e) from free l (emitted p scope e (from + 1) into free l) g)) (λ g. inr g) (elsewhere e h.0 (from + 1) into free l)
     elsewhere e h from into free l = inr refl
 
     abbrev Tests : Expr → Branching
@@ -311,6 +314,8 @@ module _ (p : Program) (code : Code) (arguments : List ℕ) (layout : Layout) (t
                   ∙ type_is (Conditional c a b at) h refl from into free l,
             );
           }
+      expr_emits home (InTransaction mode keyword e at) h from into free l m =
+          in_own_emits code arguments layout (ExprCode code layout p home scope e) from free l (emitted p scope e (from + 1) into free l) (expr_emits home e h.0 (from + 1) into free l m)
 
       own_decides : (e : Expr) → TypedExpr known e → (from free : ℕ) (l : Lists) → IfSome (own_condition p scope e from free l) (Decides code arguments layout (Tests e) from free l)
       own_decides (Parenthesized e at) h from free l =

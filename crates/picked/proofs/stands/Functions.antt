@@ -169,7 +169,7 @@ module _ (p : Program) (typed : IsTypedProgram p) (cancels : CancelsAreFit p) wh
       let made = all_written p body no_exits scope from first in
       let writes : (layout : Layout) → Writes p code final.arguments layout (StmtsCode code layout p Lowered.no_exits scope body) from first made = (λ layout.
       stmts_write p code final.arguments layout typed (callees_stand p) (defined_are_callees p) body known false scope no_exits Lowered.no_exits agrees
-      (record { break_to = refl; continue_to = refl; in_loop = refl; in_function = refl })
+      (record { break_to = refl; continue_to = refl; in_loop = refl; in_function = refl; to_outer = refl })
       (stmts_parts f.result body known (parameter_names f.parameters) false t.body) (cancels f.name.text (f, body) e) from first) in
       let w = writes found in
       record {

@@ -7,7 +7,10 @@ use Rattle.lex.specs.declared.token.Scalar.{Scalar}
 use Rattle.lex.specs.declared.token.Scalar.TheVariants.{Int, Unsigned}
 use Rattle.syntax.specs.declared.tree.Mode.{Mode}
 use Rattle.syntax.specs.declared.tree.Mode.TheVariants.{Atomic}
-use Rattle.syntax.specs.Tree.{Expr, Exprs, Simple, Stmt, Stmts, Empty, Declare, Do, Block, Print, If, IfElse, While, DoWhile, For, Break, Continue, Return, Transaction, Cancel, Program}
+use Rattle.syntax.specs.declared.tree.Kind.{Kind}
+use Rattle.syntax.specs.declared.tree.Kind.TheVariants as kinds
+use Rattle.syntax.specs.Tree.{Expr, Exprs, Simple, Stmt, Stmts, Empty, Declare, Do, Block, Print, If, IfElse, While, DoWhile, For, Break, Continue, Return, Transaction, Cancel, CancelOuter, Program}
+use Rattle.syntax.specs.Meaning.{mode_of}
 use Rattle.syntax.specs.Formats.{Piece, Literal, Figure, pieces, figures}
 use Rattle.syntax.specs.Types.{Scope, running_scope}
 use Rattle.syntax.specs.Typing as Typing
@@ -20,12 +23,12 @@ use Rattle.bytecode.specs.Code.{Code, Instr as Plain}
 use Rattle.bytecode.specs.Views.{instr_of}
 use Rattle.lowered.specs.Expressions.{LocalScope, Layout, At, ExprCode, CondCode, ArgsCode}
 use Rattle.lowered.specs.Statements as Lowered
-use Rattle.lowered.specs.Statements.{StartCode, IfCode, IfElseCode, WhileCode, DoWhileCode, ForCode, PrintCode, TransactionCode, Exits, in_transaction, looping, locals_of_start, locals_after, Leaves, ValueCode, TestCode, HoldsCode, SteppedCode, PiecesCode, StmtCode, StmtsCode}
+use Rattle.lowered.specs.Statements.{StartCode, IfCode, IfElseCode, WhileCode, DoWhileCode, ForCode, PrintCode, TransactionCode, OuterCancelCode, Exits, with_level, in_transaction, cancelling, looping, locals_of_start, locals_after, Leaves, ValueCode, TestCode, HoldsCode, SteppedCode, PiecesCode, StmtCode, StmtsCode}
 use Rattle.picked.specs.declared.held.Exits.{Exits as OwnExits}
 use Rattle.picked.specs.Lists.{Lists}
 use Rattle.picked.specs.Expressions.{above, emitted, all_emitted, condition}
 use Rattle.picked.specs.Conditions.{Condition, test_in, going_on}
-use Rattle.picked.specs.Simples.{Written, evaluated, start_written}
+use Rattle.picked.specs.Simples.{Written, one_written, evaluated, start_written}
 use Rattle.picked.specs.Statements as Own
 use Rattle.picked.specs.Statements.{left_by, branched, branched_twice, tested_back, while_written, do_written, for_written, transacted, returned, printing, pieces_written, print_written, for_test, for_step, written, all_written}
 use Rattle.picked.proofs.stands.Standing.{Stand, front, behind, front_same, front_more, Grows, grows_same, grows_further, Fits, fits_before}
@@ -34,22 +37,53 @@ use Rattle.picked.proofs.stands.Conds.{Decides, on_is, goes_on, back_is, goes_ba
 use Rattle.picked.proofs.stands.Writing.{Writes, nothing_writes, one_writes, then_writes, evaluated_writes}
 use Rattle.picked.proofs.stands.Simply.{simple_writes, declared_agrees, declared_writes, start_agrees, start_writes}
 
--- a cancel stands directly in an atomic transaction
+-- the transactions of a body round a place: how the innermost one runs, and how many are open inside the innermost
+-- outer one, if there is one
+pub record Enclosing : Type 0 where
+  pub innermost : Option Mode
+  pub in_outer : Option ℕ
+
+abbrev pub not_enclosed : Enclosing
+not_enclosed = record { innermost = None; in_outer = None }
+
+abbrev pub enclosed_in : Kind → Enclosing → Enclosing
+enclosed_in kind m = record { innermost = Some (mode_of kind); in_outer = with_level kind m.in_outer }
+
+abbrev pub enclosing : Exits → Enclosing
+enclosing y = record { innermost = y.innermost; in_outer = y.in_outer }
+
+-- an outer transaction is among them
+abbrev pub IsInOuter : Option ℕ → Type 0
+IsInOuter None = ⊥
+IsInOuter (Some n) = Unit {0}
+
+-- a cancel stands directly in an atomic transaction, and an outer cancel in an outer one
 abbrev mutual
-  pub CancelsFit : Stmt → Option Mode → Type 0
+  pub CancelsFit : Stmt → Enclosing → Type 0
   CancelsFit (Block ss) m = AllCancelsFit ss m
   CancelsFit (If c a) m = CancelsFit a m
   CancelsFit (IfElse c a b) m = CancelsFit a m × CancelsFit b m
   CancelsFit (While c a) m = CancelsFit a m
   CancelsFit (DoWhile a c) m = CancelsFit a m
   CancelsFit (For start c step a) m = CancelsFit a m
-  CancelsFit (Transaction mode ss at) m = AllCancelsFit ss (Some mode)
-  CancelsFit (Cancel at) m = m ≡ Some Atomic
+  CancelsFit (Transaction kind ss at) m = AllCancelsFit ss (enclosed_in kind m)
+  CancelsFit (Cancel at) m = m.innermost ≡ Some Atomic
+  CancelsFit (CancelOuter at) m = IsInOuter m.in_outer
   CancelsFit s m = Unit {0}
 
-  pub AllCancelsFit : Stmts → Option Mode → Type 0
+  pub AllCancelsFit : Stmts → Enclosing → Type 0
   AllCancelsFit Stmts.[] m = Unit {0}
   AllCancelsFit (Stmts.◌∷◌ s ss) m = CancelsFit s m × AllCancelsFit ss m
+
+-- how many transactions are open from the innermost outer one on
+abbrev pub level_of : Option ℕ → ℕ
+level_of None = 0
+level_of (Some n) = suc n
+
+pub level_inside : (kind : Kind) (levels : Option ℕ) → Own.level_in kind (level_of levels) ≡ level_of (with_level kind levels)
+level_inside kinds.Outer levels = refl
+level_inside (kinds.Plain mode) None = refl
+level_inside (kinds.Plain mode) (Some n) = refl
 
 -- where control goes, as the generator keeps it
 pub record SameExits (x : OwnExits) (y : Exits) : Type 0 where
@@ -57,17 +91,19 @@ pub record SameExits (x : OwnExits) (y : Exits) : Type 0 where
   pub continue_to : y.continue_to ≡ x.continue_to
   pub in_loop : y.in_loop ≡ x.in_loop
   pub in_function : y.in_function ≡ x.in_function
+  pub to_outer : x.to_outer ≡ level_of y.in_outer
 
-same_in_transaction : (mode : Mode) (x : OwnExits) (y : Exits) → SameExits x y → SameExits (Own.in_transaction x) (in_transaction mode y)
-same_in_transaction mode x y h = record {
+same_in_transaction : (kind : Kind) (x : OwnExits) (y : Exits) → SameExits x y → SameExits (Own.in_transaction kind x) (in_transaction kind y)
+same_in_transaction kind x y h = record {
   break_to = h.break_to;
   continue_to = h.continue_to;
   in_loop = let a = h.in_loop in omega (arith, a);
   in_function = let a = h.in_function in omega (arith, a);
+  to_outer = ap (Own.level_in kind) h.to_outer ∙ level_inside kind y.in_outer;
 }
 
 same_looping : (x : OwnExits) (y : Exits) (b c : ℕ) → SameExits x y → SameExits (Own.looping x b c) (looping y b c)
-same_looping x y b c h = record { break_to = refl; continue_to = refl; in_loop = refl; in_function = h.in_function }
+same_looping x y b c h = record { break_to = refl; continue_to = refl; in_loop = refl; in_function = h.in_function; to_outer = h.to_outer }
 
 -- as many registers as arguments
 pub registers_are : (p : Program) (scope : LocalScope) (es : Exprs) (from free : ℕ) (l : Lists) → length (all_emitted p scope es from free l).registers ≡ count es
@@ -93,8 +129,9 @@ module _ (p : Program) where
   after_agrees (Break at) known scope h = h
   after_agrees (Continue at) known scope h = h
   after_agrees (Return e at) known scope h = h
-  after_agrees (Transaction mode ss at) known scope h = h
+  after_agrees (Transaction kind ss at) known scope h = h
   after_agrees (Cancel at) known scope h = h
+  after_agrees (CancelOuter at) known scope h = h
 
 module _ (p : Program) (code : Code) (arguments : List ℕ) (layout : Layout) where
   leaves_stand : (n from : ℕ) (i : Instr) → Stand code arguments from (replicate n own.Commit ++ i ∷ []) → Leaves code layout p from n (instr_of arguments i)
@@ -389,9 +426,9 @@ module _ (p : Program) (code : Code) (arguments : List ℕ) (layout : Layout) (t
             };
       }
 
-  transaction_writes : (mode : Mode) (x : Exits) (A : Exits → ℕ → ℕ → Type 0) (from : ℕ) (l : Lists) (a : Written) → Writes p code arguments layout (A (in_transaction mode x)) (from + 1) l a →
-      Writes p code arguments layout (λ from to. TransactionCode code layout p mode x A from to) from l (transacted a)
-  transaction_writes mode x A from l a g =
+  transaction_writes : (kind : Kind) (x : Exits) (A : Exits → ℕ → ℕ → Type 0) (from : ℕ) (l : Lists) (a : Written) → Writes p code arguments layout (A (in_transaction kind x)) (from + 1) l a →
+      Writes p code arguments layout (λ from to. TransactionCode code layout p kind x A from to) from l (transacted a)
+  transaction_writes kind x A from l a g =
       let begins : List Instr = own.Begin (a.to + 1) ∷ a.code in
       let last_is : a.to ≡ from + length begins = (let y = g.to_is in omega (arith, y)) in
       record {
@@ -402,14 +439,26 @@ module _ (p : Program) (code : Code) (arguments : List ℕ) (layout : Layout) (t
             record {
               last = a.to;
               begins = first.0;
-              runs = subst (λ q. A (in_transaction mode x) q a.to) (omega arith) (g.stands f (subst (λ q. Stand code arguments q a.code) (omega arith) first.1));
+              runs = subst (λ q. A (in_transaction kind x) q a.to) (omega arith) (g.stands f (subst (λ q. Stand code arguments q a.code) (omega arith) first.1));
               commits = (behind code arguments from a.to begins (own.Commit ∷ []) last_is st).0;
               to_is = omega arith;
             };
       }
 
+  -- an outer cancel
+  cancelling_is : (n : ℕ) → instr_of arguments (Own.cancelling (suc n)) ≡ cancelling n
+  cancelling_is zero = refl
+  cancelling_is (suc n) = refl
+
+  outer_cancel_writes : (levels : Option ℕ) → IsInOuter levels → (n : ℕ) → n ≡ level_of levels → (from : ℕ) (l : Lists) →
+      Writes p code arguments layout (λ from to. OuterCancelCode code layout p levels from) from l (one_written (Own.cancelling n) from l)
+  outer_cancel_writes None inside n e from l = absurd inside
+  outer_cancel_writes (Some levels) inside n e from l =
+      subst (λ n. Writes p code arguments layout (λ from to. At code from (cancelling levels)) from l (one_written (Own.cancelling n) from l)) (sym e)
+      (one_writes p code arguments layout (λ from to. At code from (cancelling levels)) (Own.cancelling (suc levels)) from l (λ a. subst (λ i. At code from i) (cancelling_is levels) a))
+
   mutual
-    pub stmt_writes : (s : Stmt) (known : Scope) (looping : Bool) (scope : LocalScope) (x : OwnExits) (y : Exits) → Agrees known (running_scope p scope) → SameExits x y → TypedStmt s known looping → CancelsFit s y.innermost → (from : ℕ) (l : Lists) →
+    pub stmt_writes : (s : Stmt) (known : Scope) (looping : Bool) (scope : LocalScope) (x : OwnExits) (y : Exits) → Agrees known (running_scope p scope) → SameExits x y → TypedStmt s known looping → CancelsFit s (enclosing y) → (from : ℕ) (l : Lists) →
         Writes p code arguments layout (StmtCode code layout p y scope s) from l (written p s x scope from l)
     stmt_writes Empty known looping scope x y agrees same h c from l = nothing_writes p code arguments layout from l
     stmt_writes (Declare d) known looping scope x y agrees same h c from l = declared_writes p code arguments layout typed stand defined d.of d.declarators known scope agrees h from l
@@ -460,12 +509,13 @@ module _ (p : Program) (code : Code) (arguments : List ℕ) (layout : Layout) (t
         subst (λ n. Writes p code arguments layout (λ from to. Leaves code layout p from n (Plain.Return None)) from l (left_by x.in_function own.Return from l)) (sym same.in_function)
         (left_writes p code arguments layout x.in_function own.Return from l)
     stmt_writes (Return (Some e) at) known looping scope x y agrees same h c from l = return_writes known scope agrees e h x.in_function y.in_function from same.in_function l
-    stmt_writes (Transaction mode ss at) known looping scope x y agrees same h c from l =
-        transaction_writes mode y (λ z. StmtsCode code layout p z scope ss) from l (all_written p ss (Own.in_transaction x) scope (from + 1) l)
-        (stmts_write ss known looping scope (Own.in_transaction x) (Lowered.in_transaction mode y) agrees (same_in_transaction mode x y same) h c (from + 1) l)
+    stmt_writes (Transaction kind ss at) known looping scope x y agrees same h c from l =
+        transaction_writes kind y (λ z. StmtsCode code layout p z scope ss) from l (all_written p ss (Own.in_transaction kind x) scope (from + 1) l)
+        (stmts_write ss known looping scope (Own.in_transaction kind x) (Lowered.in_transaction kind y) agrees (same_in_transaction kind x y same) h c (from + 1) l)
     stmt_writes (Cancel at) known looping scope x y agrees same h c from l = one_writes p code arguments layout (StmtCode code layout p y scope (Cancel at)) own.Cancel from l (λ a. (c, a))
+    stmt_writes (CancelOuter at) known looping scope x y agrees same h c from l = outer_cancel_writes y.in_outer c x.to_outer same.to_outer from l
 
-    pub stmts_write : (ss : Stmts) (known : Scope) (looping : Bool) (scope : LocalScope) (x : OwnExits) (y : Exits) → Agrees known (running_scope p scope) → SameExits x y → TypedStmts ss known looping → AllCancelsFit ss y.innermost → (from : ℕ) (l : Lists) →
+    pub stmts_write : (ss : Stmts) (known : Scope) (looping : Bool) (scope : LocalScope) (x : OwnExits) (y : Exits) → Agrees known (running_scope p scope) → SameExits x y → TypedStmts ss known looping → AllCancelsFit ss (enclosing y) → (from : ℕ) (l : Lists) →
         Writes p code arguments layout (StmtsCode code layout p y scope ss) from l (all_written p ss x scope from l)
     stmts_write Stmts.[] known looping scope x y agrees same h c from l = nothing_writes p code arguments layout from l
     stmts_write (Stmts.◌∷◌ s ss) known looping scope x y agrees same h c from l =

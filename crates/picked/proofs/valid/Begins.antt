@@ -44,7 +44,7 @@ module _ (arguments : List ℕ) where
   opens_many q bs [] = refl
   opens_many q bs (i ∷ is) = ap suc (opens_many (suc q) (through (instr_of arguments i) q bs) is)
 
-  left_append : (q : ℕ) (bs : List ℕ) (a b : List Instr) → left_open q bs (a ++ b) ≡ left_open (q + length a) (left_open q bs a) b
+  pub left_append : (q : ℕ) (bs : List ℕ) (a b : List Instr) → left_open q bs (a ++ b) ≡ left_open (q + length a) (left_open q bs a) b
   left_append q bs [] b = let same : q ≡ q + 0 = omega arith in ap (λ n. left_open n bs b) same
   left_append q bs (i ∷ a) b =
       let more : List ℕ = through (instr_of arguments i) q bs in

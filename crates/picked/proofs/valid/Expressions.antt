@@ -6,7 +6,7 @@ use Rattle.std.proofs.lemmas.List.{length-map}
 use Rattle.lex.specs.declared.token.Scalar.{Scalar}
 use Rattle.lex.specs.declared.token.Scalar.TheVariants.{Int}
 use Rattle.syntax.specs.declared.tree.UnaryOp.TheVariants.{Negate, Keep, Not, Complement}
-use Rattle.syntax.specs.Tree.{Name, Expr, Exprs, Variable, Constant, Element, Call, Parenthesized, Cast, Unary, Binary, Logical, Conditional, Program}
+use Rattle.syntax.specs.Tree.{Name, Expr, Exprs, Variable, Constant, Element, Call, Parenthesized, Cast, Unary, Binary, Logical, Conditional, InTransaction, Program}
 use Rattle.syntax.specs.Numbers.{word_of}
 use Rattle.syntax.specs.Names.{GlobalCells, cells, newest, global_of, globals, initial_from}
 use Rattle.syntax.specs.Types.{Known, Number, Callable, Scope, file_scope, running_scope}
@@ -26,7 +26,7 @@ use Rattle.picked.proofs.stands.Standing.{grows_same}
 use Rattle.picked.proofs.stands.Named.{known_number, known_callable, function_found}
 use Rattle.picked.proofs.stands.Exprs.{DefinedAreCallees}
 use Rattle.picked.proofs.stands.Statements.{registers_are}
-use Rattle.picked.proofs.valid.Sounds.{settled_into, Sound, TestSound, AllSound, one_sound, in_local_sound, then_sound, cast_sound, negated_sound, complemented_sound, compared_sound, operand_sound, both_sound, opposite_sound, joined_sound, tested_sound, zero_sound, answered_sound, settled_sound, chosen_sound, followed_sound, called_sound}
+use Rattle.picked.proofs.valid.Sounds.{settled_into, Sound, TestSound, AllSound, one_sound, in_local_sound, then_sound, cast_sound, in_own_sound, negated_sound, complemented_sound, compared_sound, operand_sound, both_sound, opposite_sound, joined_sound, tested_sound, zero_sound, answered_sound, settled_sound, chosen_sound, followed_sound, called_sound}
 use Rattle.picked.proofs.valid.Shared.{cells_lie, variable_has_one}
 
 -- a callee's number is that of a function of so many parameters
@@ -117,6 +117,8 @@ module _ (p : Program) (code : Code) (arguments : List ℕ) (f : FunctionCode) (
           (by_parts c from free l (own_sound c h.0 from free l) (expr_sound c h.0 from free free l))
           (settled_sound code arguments f end into (test.to + 1) test.lists x (expr_sound a h.1 (test.to + 1) into free test.lists))
           (settled_sound code arguments f end into (first.held.to + 1) first.lists y (expr_sound b h.3 (first.held.to + 1) into free first.lists)) (settled_into into y)
+      expr_sound (InTransaction mode keyword e at) h from into free l =
+          in_own_sound code arguments f end from l (emitted p scope e (from + 1) into free l) (expr_sound e h.0 (from + 1) into free l)
 
       own_sound : (e : Expr) → TypedExpr known e → (from free : ℕ) (l : Lists) → IfSome (own_condition p scope e from free l) (TestSound code arguments f end from l)
       own_sound (Parenthesized e at) h from free l = by_parts e from free l (own_sound e h from free l) (expr_sound e h from free free l)

@@ -1,20 +1,23 @@
 -- Parts of a body, with the begins that are open at each of their places, and how they are put together.
-use Rattle.std.proofs.Common.{◌≡◌, refl, sym, ap, subst, ◌∙◌, ℕ, zero, suc, ◌+◌, ◌≤◌, ◌<◌, List, [], ◌∷◌, ◌++◌, length, replicate, drop, arith, Option, Some, Bool, IsTrue}
+use Rattle.std.proofs.Common.{◌≡◌, refl, sym, ap, subst, ◌∙◌, ℕ, zero, suc, ◌+◌, ◌-◌, ◌≤◌, ◌<◌, List, [], ◌∷◌, ◌++◌, length, replicate, drop, arith, Option, Some, None, Bool, IsTrue}
 use Rattle.std.specs.List.{AllByRecursion}
 use Rattle.std.proofs.lemmas.List.{length-append, length-replicate}
-use Rattle.syntax.specs.declared.tree.Mode.{Mode}
 use Rattle.syntax.specs.declared.tree.Mode.TheVariants.{Atomic}
+use Rattle.syntax.specs.declared.tree.Kind.{Kind}
+use Rattle.syntax.specs.declared.tree.Kind.TheVariants as kinds
 use Rattle.bytecode.specs.declared.instr.Instr.{Instr}
 use Rattle.bytecode.specs.declared.instr.Instr.TheVariants as own
 use Rattle.bytecode.specs.Code.{Code, FunctionCode, Instr as Plain}
-use Rattle.bytecode.specs.Valid.{cancel_of}
+use Rattle.bytecode.specs.Valid.{cancel_of, cancelled_in}
 use Rattle.bytecode.specs.Views.{instr_of}
 use Rattle.lowered.specs.Expressions.{At}
+use Rattle.lowered.specs.Statements.{with_level}
 use Rattle.picked.specs.declared.held.Exits.{Exits}
 use Rattle.picked.specs.Lists.{Lists}
 use Rattle.picked.specs.Simples.{Written, one_written, and_then}
-use Rattle.picked.specs.Statements.{in_transaction, left_by, transacted}
+use Rattle.picked.specs.Statements.{in_transaction, level_in, cancelling, left_by, transacted}
 use Rattle.picked.proofs.stands.Standing.{Stand, front, behind, Grows, grows_same, grows_further}
+use Rattle.picked.proofs.stands.Statements.{Enclosing, enclosed_in, IsInOuter, level_of, level_inside}
 use Rattle.picked.proofs.valid.Fitting.{Fits, fits_before}
 use Rattle.picked.proofs.valid.Begins.{Are, are_front, are_behind, opens as opens_along, opens_many, opens_first}
 use Rattle.picked.proofs.valid.Goods.{IsGood, AreGood, good_append, Meets, Runs, runs_to}
@@ -30,13 +33,23 @@ lowering_many zero bs = refl
 lowering_many (suc n) bs = ap suc (lowering_many n (drop 1 bs))
 
 module _ (code : Code) (arguments : List ℕ) (f : FunctionCode) (end : ℕ) where
+  -- more begins than so many are open, and where a cancel of so many and the next one leads to, the others are
+  abbrev pub IsCancelled : ℕ → List ℕ → (ℕ → List ℕ) → Type 0
+  IsCancelled n bs open_at = (n < length bs) × AllByRecursion (Meets code arguments f end open_at) (cancelled_in code (drop n bs))
+
+  abbrev pub IsOuterCancelled : Option ℕ → List ℕ → (ℕ → List ℕ) → Type 0
+  IsOuterCancelled None bs open_at = Unit {0}
+  IsOuterCancelled (Some n) bs open_at = IsCancelled n bs open_at
+
   -- where control goes from a place where these begins are open
-  pub record Exiting (bs : List ℕ) (x : Exits) (loops : Bool) (innermost : Option Mode) (open_at : ℕ → List ℕ) : Type 0 where
+  pub record Exiting (bs : List ℕ) (x : Exits) (loops : Bool) (m : Enclosing) (open_at : ℕ → List ℕ) : Type 0 where
     pub in_function : length bs ≡ x.in_function
     pub in_loop : IsTrue loops → x.in_loop ≤ length bs
     pub breaks : IsTrue loops → Meets code arguments f end open_at (x.break_to, drop x.in_loop bs)
     pub continues : IsTrue loops → Meets code arguments f end open_at (x.continue_to, drop x.in_loop bs)
-    pub cancels : innermost ≡ Some Atomic → (b : ℕ) × (rest : List ℕ) × (to : ℕ) × (bs ≡ b ∷ rest) × At code b (Plain.Begin to) × Meets code arguments f end open_at (to, rest)
+    pub cancels : m.innermost ≡ Some Atomic → IsCancelled 0 bs open_at
+    pub to_outer : x.to_outer ≡ level_of m.in_outer
+    pub outer_cancels : IsOuterCancelled m.in_outer bs open_at
 
   -- what is written from a place on is in order, where those begins are open that should be
   pub record Part (P : (ℕ → List ℕ) → Type 0) (bs : List ℕ) (from : ℕ) (l : Lists) (w : Written) : Type 0 where
@@ -150,28 +163,46 @@ module _ (code : Code) (arguments : List ℕ) (f : FunctionCode) (end : ℕ) whe
         goods = λ o k st first last are e holds. left_good o n from bs i (low o holds) are first (omega (arith, last)) (make o k holds);
       }
 
-  pub cancel_part : (bs : List ℕ) (x : Exits) (loops : Bool) (innermost : Option Mode) → innermost ≡ Some Atomic → (from : ℕ) (l : Lists) → Part (Exiting bs x loops innermost) bs from l (one_written own.Cancel from l)
-  cancel_part bs x loops innermost inside from l =
-      one_part (Exiting bs x loops innermost) bs own.Cancel from l
-      (λ o k first last are e exits.
-      let c = exits.cancels inside in
-      record {
-        begins = c.0 ∷ c.1;
-        are = are ∙ c.3;
-        written = tt;
-        asks = λ h. cc h;
-        leads = subst (λ s. AllByRecursion (Meets code arguments f end o) (cancel_of s [] (λ to. (to, c.1) ∷ []))) (sym c.4) (c.5, tt);
-      })
+  -- a cancel of so many transactions and the next one
+  cancel_good : (open_at : ℕ → List ℕ) (n q : ℕ) (bs : List ℕ) → open_at q ≡ bs → IsCancelled n bs open_at → IsGood code arguments f end open_at q (instr_of arguments (cancelling (suc n)))
+  cancel_good o zero q bs are there =
+      record { begins = bs; are = are; written = tt; asks = λ none. let low = there.0 in let many = ap length none in absurd (omega (arith, low, many)); leads = there.1 }
+  cancel_good o (suc n) q bs are there =
+      let one_less : suc n ≡ suc (suc n) - 1 = omega arith in
+      record { begins = bs; are = are; written = omega arith; asks = there.0; leads = subst (λ k. AllByRecursion (Meets code arguments f end o) (cancelled_in code (drop k bs))) one_less there.1 }
+
+  pub cancel_part : (bs : List ℕ) (x : Exits) (loops : Bool) (m : Enclosing) → m.innermost ≡ Some Atomic → (from : ℕ) (l : Lists) → Part (Exiting bs x loops m) bs from l (one_written own.Cancel from l)
+  cancel_part bs x loops m inside from l =
+      one_part (Exiting bs x loops m) bs own.Cancel from l (λ o k first last are e exits. cancel_good o 0 from bs are (exits.cancels inside))
+
+  outer_cancel_good : (open_at : ℕ → List ℕ) (levels : Option ℕ) (n q : ℕ) (bs : List ℕ) → IsInOuter levels → n ≡ level_of levels → open_at q ≡ bs → IsOuterCancelled levels bs open_at → IsGood code arguments f end open_at q (instr_of arguments (cancelling n))
+  outer_cancel_good o None n q bs inside e are there = absurd inside
+  outer_cancel_good o (Some levels) n q bs inside e are there =
+      subst (λ n. IsGood code arguments f end o q (instr_of arguments (cancelling n))) (sym e) (cancel_good o levels q bs are there)
+
+  pub outer_cancel_part : (bs : List ℕ) (x : Exits) (loops : Bool) (m : Enclosing) → IsInOuter m.in_outer → (from : ℕ) (l : Lists) → Part (Exiting bs x loops m) bs from l (one_written (cancelling x.to_outer) from l)
+  outer_cancel_part bs x loops m inside from l =
+      one_part (Exiting bs x loops m) bs (cancelling x.to_outer) from l (λ o k first last are e exits. outer_cancel_good o m.in_outer x.to_outer from bs inside exits.to_outer are exits.outer_cancels)
+
+  -- what a cancel leads to in one transaction more
+  cancelled_here : (open_at : ℕ → List ℕ) (b to : ℕ) (bs : List ℕ) → At code b (Plain.Begin to) → Meets code arguments f end open_at (to, bs) → IsCancelled 0 (b ∷ bs) open_at
+  cancelled_here o b to bs begins out =
+      (omega arith, subst (λ s. AllByRecursion (Meets code arguments f end o) (cancel_of s [] (λ (to : ℕ). (to, bs) ∷ []))) (sym begins) (out, tt))
+
+  outer_inside : (open_at : ℕ → List ℕ) (kind : Kind) (levels : Option ℕ) (b : ℕ) (bs : List ℕ) → IsCancelled 0 (b ∷ bs) open_at → IsOuterCancelled levels bs open_at → IsOuterCancelled (with_level kind levels) (b ∷ bs) open_at
+  outer_inside o kinds.Outer levels b bs here there = here
+  outer_inside o (kinds.Plain mode) None b bs here there = tt
+  outer_inside o (kinds.Plain mode) (Some n) b bs here there = let low = there.0 in (omega (arith, low), there.1)
 
   -- a transaction
-  pub transaction_part : (bs : List ℕ) (x : Exits) (loops : Bool) (innermost : Option Mode) (mode : Mode) (from : ℕ) (l : Lists) (a : Written) → Part (Exiting (from ∷ bs) (in_transaction x) loops (Some mode)) (from ∷ bs) (from + 1) l a → Part (Exiting bs x loops innermost) bs from l (transacted a)
-  transaction_part bs x loops innermost mode from l a h =
+  pub transaction_part : (bs : List ℕ) (x : Exits) (loops : Bool) (m : Enclosing) (kind : Kind) (from : ℕ) (l : Lists) (a : Written) → Part (Exiting (from ∷ bs) (in_transaction kind x) loops (enclosed_in kind m)) (from ∷ bs) (from + 1) l a → Part (Exiting bs x loops m) bs from l (transacted a)
+  transaction_part bs x loops m kind from l a h =
       let begin : Instr = own.Begin (a.to + 1) in
       let last_begins : List (List ℕ) = (from ∷ bs) ∷ [] in
       let y = h.to_is in
-      let m = h.many in
+      let many = h.many in
       let last_is : a.to ≡ from + length (begin ∷ a.code) = omega (arith, y) in
-      let opens_is : a.to ≡ from + length (bs ∷ h.opens) = omega (arith, y, m) in
+      let opens_is : a.to ≡ from + length (bs ∷ h.opens) = omega (arith, y, many) in
       let one_more : suc from ≡ from + 1 = omega arith in
       record {
         to_is = let u : length (begin ∷ a.code ++ own.Commit ∷ []) ≡ length (begin ∷ a.code) + 1 = length-append (begin ∷ a.code) (own.Commit ∷ []) in omega (arith, last_is, u);
@@ -180,7 +211,7 @@ module _ (code : Code) (arguments : List ℕ) (f : FunctionCode) (end : ℕ) whe
         many =
             let u : length (begin ∷ a.code ++ own.Commit ∷ []) ≡ length (begin ∷ a.code) + 1 = length-append (begin ∷ a.code) (own.Commit ∷ []) in
             let v : length (bs ∷ h.opens ++ last_begins) ≡ length (bs ∷ h.opens) + 1 = length-append (bs ∷ h.opens) last_begins in
-            omega (arith, m, u, v);
+            omega (arith, many, u, v);
         enters = λ o are e. are.0;
         goods = λ o k st first last are e exits.
             let own_stand = front code arguments from (begin ∷ a.code) (own.Commit ∷ []) st in
@@ -189,14 +220,17 @@ module _ (code : Code) (arguments : List ℕ) (f : FunctionCode) (end : ℕ) whe
             let inner_are = subst (λ q. Are o q h.opens) one_more inner.1 in
             let start = h.enters o inner_are at_end in
             let out : Meets code arguments f end o (a.to + 1, bs) = ((omega (arith, first, y), last), e) in
+            let here = cancelled_here o from (a.to + 1) bs own_stand.0 out in
             let function_is = exits.in_function in
             let deeper : suc x.in_loop ≡ x.in_loop + 1 = omega arith in
-            let inner_exits : Exiting (from ∷ bs) (in_transaction x) loops (Some mode) o = (record {
+            let inner_exits : Exiting (from ∷ bs) (in_transaction kind x) loops (enclosed_in kind m) o = (record {
               in_function = omega (arith, function_is);
               in_loop = λ t. let i = exits.in_loop t in omega (arith, i);
               breaks = λ t. subst (λ n. Meets code arguments f end o (x.break_to, drop n (from ∷ bs))) deeper (exits.breaks t);
               continues = λ t. subst (λ n. Meets code arguments f end o (x.continue_to, drop n (from ∷ bs))) deeper (exits.continues t);
-              cancels = λ t. (from, bs, a.to + 1, refl, own_stand.0, out);
+              cancels = λ t. here;
+              to_outer = ap (level_in kind) exits.to_outer ∙ level_inside kind m.in_outer;
+              outer_cancels = outer_inside o kind m.in_outer from bs here exits.outer_cancels;
             }) in
             good_append code arguments f end o from a.to (begin ∷ a.code) (own.Commit ∷ []) last_is (
               record { begins = bs; are = are.0; written = out.0; asks = tt; leads = (((omega (arith, first), omega (arith, last, y)), subst (λ q. o q ≡ from ∷ bs) (sym one_more) start), tt) },

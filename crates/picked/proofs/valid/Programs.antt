@@ -34,6 +34,7 @@ use Rattle.picked.specs.Programs.{no_exits, body_with, nothing_ready, all_set, b
 use Rattle.picked.specs.Laws.{IsWithinLimits}
 use Rattle.picked.proofs.Leaner.{body_leaner}
 use Rattle.picked.proofs.stands.Standing.{Stand, front, behind, IsFront, front_same}
+use Rattle.picked.proofs.stands.Statements.{not_enclosed}
 use Rattle.picked.proofs.stands.Cancelling.{CancelsAreFit}
 use Rattle.picked.proofs.stands.Functions.{callee_is_there, defined_are_callees, parameters_are, GoesOn, on_same, on_further, or_false, names_apart, own_first, Firsts, firsts_from, items_met, all_stand, callable_worker, sets_length}
 use Rattle.picked.proofs.valid.Fitting.{AreFoundBelow, nothing_below, all_below, Fits}
@@ -140,7 +141,7 @@ module _ (p : Program) (typed : IsTypedProgram p) (cancels : CancelsAreFit p) (c
       let first : Lists = record l { registers = n; layout = layout } in
       let made = all_written p body no_exits scope from first in
       let end : ℕ = made.to + 1 in
-      let part = stmts_part code arguments g end p typed takes (defined_are_callees p) shares body known false scope no_exits None agrees
+      let part = stmts_part code arguments g end p typed takes (defined_are_callees p) shares body known false scope no_exits not_enclosed agrees
       (stmts_parts f.result body known (parameter_names f.parameters) false t.body) (cancels f.name.text (f, body) e) [] from first in
       let a = part.to_is in
       let b = part.many in
@@ -156,7 +157,7 @@ module _ (p : Program) (typed : IsTypedProgram p) (cancels : CancelsAreFit p) (c
         enters = λ o are. part.enters o (are_front o from part.opens last_list are) (are_behind o from made.to part.opens last_list opens_is are).0;
         goods = λ o are low few ready handed texts st.
             let at_end = (are_behind o from made.to part.opens last_list opens_is are).0 in
-            let exits : Exiting code arguments g end [] no_exits false None o = (record { in_function = refl; in_loop = λ t. absurd (cc); breaks = λ t. absurd (cc); continues = λ t. absurd (cc); cancels = λ t. absurd (cc) }) in
+            let exits : Exiting code arguments g end [] no_exits false not_enclosed o = (record { in_function = refl; in_loop = λ t. absurd (cc); breaks = λ t. absurd (cc); continues = λ t. absurd (cc); cancels = λ t. absurd (cc); to_outer = refl; outer_cancels = tt }) in
             let fits : Fits code arguments g.registers made.lists = (record { arguments = handed; texts = texts; registers = few; ready = subst (AreFoundBelow g.registers) (sym part.grows.layout) ready }) in
             good_append code arguments g end o from made.to made.code (own.Return ∷ []) a
             (part.goods o fits (front code arguments from made.code (own.Return ∷ []) st) low (omega arith) (are_front o from part.opens last_list are) at_end exits)

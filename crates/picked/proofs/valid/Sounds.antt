@@ -1,5 +1,5 @@
 -- The parts of an expression, as they are picked, are in order.
-use Rattle.std.proofs.Common.{◌≡◌, refl, sym, ap, subst, ◌∙◌, ℕ, suc, pos, ◌+◌, ◌≤◌, ◌<◌, List, [], ◌∷◌, ◌++◌, length, map, arith, Option, Some, None, Bool, true, false, eqb-true}
+use Rattle.std.proofs.Common.{◌≡◌, refl, sym, ap, subst, ◌∙◌, ℕ, suc, pos, ◌+◌, ◌≤◌, ◌<◌, List, [], ◌∷◌, ◌++◌, length, map, drop, arith, Option, Some, None, Bool, true, false, eqb-true}
 use Rattle.std.specs.Prelude.{if◌then◌else◌, ◌==◌, is_some, option_map}
 use Rattle.std.specs.List.{AllByRecursion}
 use Rattle.std.specs.Option.{IfSome}
@@ -23,14 +23,14 @@ use Rattle.picked.specs.Lists.{Lists, used, holding}
 use Rattle.picked.specs.Names.{Callee}
 use Rattle.picked.specs.declared.draft.Draft.TheVariants as draft
 use Rattle.picked.specs.Conditions.{Condition, test_in, jump_if, jump_if_not, completed, turned, going_on, going_back, by_value, opposite, first_of, joined, zero_tested}
-use Rattle.picked.specs.Expressions.{computing, negating, Emitted, AllEmitted, above, one, then_one, ready_from, ready, constant_ready, ready_or, in_local, converted_to, negated, complemented, compared, both, answered, tested, settled, chosen, followed, called}
+use Rattle.picked.specs.Expressions.{computing, negating, Emitted, AllEmitted, above, one, then_one, ready_from, ready, constant_ready, ready_or, in_local, converted_to, in_own_transaction, negated, complemented, compared, both, answered, tested, settled, chosen, followed, called}
 use Rattle.picked.proofs.Drafted.{whole_are, turned_are, first_and, first_or, completed_length, on_length, back_length, first_length}
 use Rattle.picked.proofs.stands.Standing.{front_same, front_more, Grows, grows_same, grows_further, grows_used, max_left, max_right}
 use Rattle.picked.proofs.stands.Emitting.{computing_is}
 use Rattle.picked.proofs.stands.Exprs.{handed_over}
 use Rattle.picked.proofs.valid.Fitting.{Fits, fits_before, is_register}
-use Rattle.picked.proofs.valid.Begins.{IsBalanced, balanced_append}
-use Rattle.picked.proofs.valid.Goods.{GoesOn, IsGood, AreGood, good_append, balanced_one, Meets, Runs, meets_first, meets_out, parted, good_parts, next_run, good_on, good_jump, good_zero, good_nonzero}
+use Rattle.picked.proofs.valid.Begins.{IsBalanced, left_append, balanced_append, opens_split}
+use Rattle.picked.proofs.valid.Goods.{GoesOn, IsGood, AreGood, good_append, balanced_one, Meets, Runs, runs_to, meets_first, meets_out, parted, good_parts, next_run, good_on, good_jump, good_zero, good_nonzero}
 
 -- registers that are below a number
 abbrev pub AreBelow : ℕ → List ℕ → Type 0
@@ -148,6 +148,38 @@ module _ (code : Code) (arguments : List ℕ) (f : FunctionCode) (end : ℕ) whe
 
   pub cast_sound : (t : Scalar) (from : ℕ) (l : Lists) (e : Emitted) → Sound from l e → Sound from l (converted_to t e)
   cast_sound t from l e h = record { to_is = h.to_is; grows = h.grows; held = h.held; balanced = h.balanced; goods = h.goods }
+
+  balanced_within : (to : ℕ) (a : List Instr) → IsBalanced arguments a → IsBalanced arguments (own.Begin to ∷ a ++ own.Commit ∷ [])
+  balanced_within to a h = λ q bs. left_append arguments (suc q) (q ∷ bs) a (own.Commit ∷ []) ∙ ap (λ xs. drop 1 xs) (h (suc q) (q ∷ bs))
+
+  -- a value's transaction: the begin is open along the operand, and the commit leaves it
+  pub in_own_sound : (from : ℕ) (l : Lists) (e : Emitted) → Sound (from + 1) l e → Sound from l (in_own_transaction e)
+  in_own_sound from l e h =
+      let begin : Instr = own.Begin (e.held.to + 1) in
+      let x = h.to_is in
+      let next : from + 1 ≡ suc from = omega arith in
+      let mid_is : e.held.to ≡ suc from + length e.code = omega (arith, x) in
+      let last_is : e.held.to ≡ from + length (begin ∷ e.code) = omega (arith, x) in
+      let whole : length (begin ∷ e.code ++ own.Commit ∷ []) ≡ length (begin ∷ e.code) + 1 = length-append (begin ∷ e.code) (own.Commit ∷ []) in
+      let to_is : e.held.to + 1 ≡ from + length (begin ∷ e.code ++ own.Commit ∷ []) = omega (arith, last_is, whole) in
+      record {
+        to_is = to_is;
+        grows = h.grows;
+        held = h.held;
+        balanced = balanced_within (e.held.to + 1) e.code h.balanced;
+        goods = λ o bs k run.
+            let first = run.first in
+            let two = opens_split arguments o (suc from) e.held.to (from ∷ bs) e.code (own.Commit ∷ []) mid_is run.are.1 in
+            let at_commit : o e.held.to ≡ from ∷ bs = two.1.0 ∙ h.balanced (suc from) (from ∷ bs) in
+            let out = meets_out code arguments f end o (e.held.to + 1) from bs (begin ∷ e.code ++ own.Commit ∷ []) to_is run in
+            let last = out.0.1 in
+            let inner : Runs code arguments f end o (suc from) (from ∷ bs) e.code = runs_to code arguments f end o (suc from) e.held.to (from ∷ bs) e.code mid_is (omega (arith, first)) (omega (arith, last)) two.0 at_commit in
+            good_append code arguments f end o from e.held.to (begin ∷ e.code) (own.Commit ∷ []) last_is (
+              record { begins = bs; are = run.are.0; written = out.0; asks = tt; leads = (meets_first code arguments f end o (suc from) (suc from) (from ∷ bs) e.code refl inner, tt) },
+              subst (λ q. AreGood code arguments f end o q e.code) next (h.goods o (from ∷ bs) k (subst (λ q. Runs code arguments f end o q (from ∷ bs) e.code) (sym next) inner)),
+            )
+            (record { begins = from ∷ bs; are = at_commit; written = tt; asks = λ t. cc t; leads = (((omega (arith, first, x), omega (arith, last)), let same : e.held.to + 1 ≡ suc e.held.to = omega arith in subst (λ q. o q ≡ bs) same out.1), tt) }, tt);
+      }
 
   pub negated_sound : (into from : ℕ) (l : Lists) (e : Emitted) → Sound from l e → Sound from l (negated e into)
   negated_sound into from l e h = by e.held.of

@@ -1,11 +1,10 @@
--- What is picked for statements of a typed program, whose cancels stand in atomic transactions, is in order.
+-- What is picked for statements of a typed program, whose cancels stand where they should, is in order.
 use Rattle.std.proofs.Common.{◌≡◌, refl, ap, subst, ◌∙◌, ℕ, zero, suc, ◌+◌, List, [], ◌∷◌, ◌++◌, length, drop, arith, Option, Some, None, Bool, true}
 use Rattle.std.specs.Option.{IfSome}
 use Rattle.std.proofs.lemmas.List.{length-append}
 use Rattle.lex.specs.declared.token.Scalar.{Scalar}
 use Rattle.lex.specs.declared.token.Scalar.TheVariants.{Int, Unsigned}
-use Rattle.syntax.specs.declared.tree.Mode.{Mode}
-use Rattle.syntax.specs.Tree.{Expr, Exprs, Simple, Stmt, Stmts, Empty, Declare, Do, Block, Print, If, IfElse, While, DoWhile, For, Break, Continue, Return, Transaction, Cancel, Program}
+use Rattle.syntax.specs.Tree.{Expr, Exprs, Simple, Stmt, Stmts, Empty, Declare, Do, Block, Print, If, IfElse, While, DoWhile, For, Break, Continue, Return, Transaction, Cancel, CancelOuter, Program}
 use Rattle.syntax.specs.Formats.{Piece, Literal, Figure, pieces}
 use Rattle.syntax.specs.Names.{globals}
 use Rattle.syntax.specs.Types.{Scope, running_scope}
@@ -27,14 +26,14 @@ use Rattle.picked.specs.Statements.{in_transaction, looping, left_by, branched, 
 use Rattle.picked.proofs.stands.Standing.{Grows, grows_further, front_same, front_more}
 use Rattle.picked.proofs.stands.Exprs.{DefinedAreCallees}
 use Rattle.picked.proofs.stands.Simply.{start_agrees}
-use Rattle.picked.proofs.stands.Statements.{CancelsFit, AllCancelsFit, after_agrees}
+use Rattle.picked.proofs.stands.Statements.{Enclosing, enclosed_in, CancelsFit, AllCancelsFit, after_agrees}
 use Rattle.picked.proofs.valid.Fitting.{fits_before}
 use Rattle.picked.proofs.valid.Begins.{Are, are_front, are_behind, balanced_append}
 use Rattle.picked.proofs.valid.Goods.{Meets, good_parts, good_on}
 use Rattle.picked.proofs.valid.Sounds.{Sound, TestSound, AreBelow, in_size, test_on_is, test_back_is, going_on_good, going_back_good}
 use Rattle.picked.proofs.valid.Expressions.{CalleesTake, expr_sound, all_sound, test_sound}
 use Rattle.picked.proofs.valid.Simples.{Flat, nothing_flat, one_flat, then_flat, evaluated_flat, simple_flat, declared_flat, start_flat}
-use Rattle.picked.proofs.valid.Parts.{Exiting, Part, along_part, flat_part, knowing, given, then_part, jump_part, left_part, cancel_part, transaction_part}
+use Rattle.picked.proofs.valid.Parts.{Exiting, Part, along_part, flat_part, knowing, given, then_part, jump_part, left_part, cancel_part, outer_cancel_part, transaction_part}
 
 -- a condition with its jump, and the values of arguments, as what is written
 abbrev leading : Condition → ℕ → Written
@@ -130,16 +129,18 @@ module _ (code : Code) (arguments : List ℕ) (f : FunctionCode) (end : ℕ) whe
     test_at : Open bs test open_at
     out_at : Open bs out open_at
 
-  in_loop : (bs : List ℕ) (x : Exits) (loops : Bool) (m : Option Mode) (breaks continues body test out : ℕ) (open_at : ℕ → List ℕ) → Exiting code arguments f end bs x loops m open_at → InLoop bs breaks continues body test out open_at → Exiting code arguments f end bs (looping x breaks continues) true m open_at
+  in_loop : (bs : List ℕ) (x : Exits) (loops : Bool) (m : Enclosing) (breaks continues body test out : ℕ) (open_at : ℕ → List ℕ) → Exiting code arguments f end bs x loops m open_at → InLoop bs breaks continues body test out open_at → Exiting code arguments f end bs (looping x breaks continues) true m open_at
   in_loop bs x loops m breaks continues body test out o e h = record {
     in_function = e.in_function;
     in_loop = λ t. omega arith;
     breaks = λ t. h.breaks_at;
     continues = λ t. h.continues_at;
     cancels = e.cancels;
+    to_outer = e.to_outer;
+    outer_cancels = e.outer_cancels;
   }
 
-  while_part : (bs : List ℕ) (x : Exits) (loops : Bool) (m : Option Mode) (from : ℕ) (l : Lists) (a test : Written) → Part code arguments f end (Exiting code arguments f end bs (looping x (from + 1) from) true m) bs (from + 2) l a →
+  while_part : (bs : List ℕ) (x : Exits) (loops : Bool) (m : Enclosing) (from : ℕ) (l : Lists) (a test : Written) → Part code arguments f end (Exiting code arguments f end bs (looping x (from + 1) from) true m) bs (from + 2) l a →
       Part code arguments f end (Open bs (from + 2)) bs a.to a.lists test → Part code arguments f end (Exiting code arguments f end bs x loops m) bs from l (while_written a test)
   while_part bs x loops m from l a test g w =
       let P : (ℕ → List ℕ) → Type 0 = Exiting code arguments f end bs x loops m in
@@ -183,7 +184,7 @@ module _ (code : Code) (arguments : List ℕ) (f : FunctionCode) (end : ℕ) whe
       (then_part code arguments f end Q bs (from + 1) (from + 2) l (one_written (own.Jump t2) (from + 1) l) (and_then (one_written (own.Jump t3) (from + 2) l) a) (omega arith) (jump_part code arguments f end Q bs t2 (from + 1) l m2)
       (then_part code arguments f end Q bs (from + 2) (from + 3) l (one_written (own.Jump t3) (from + 2) l) a (omega arith) (jump_part code arguments f end Q bs t3 (from + 2) l m3) g))
 
-  do_part : (bs : List ℕ) (x : Exits) (loops : Bool) (m : Option Mode) (from : ℕ) (l : Lists) (a test : Written) → Part code arguments f end (Exiting code arguments f end bs (looping x (from + 1) (from + 2)) true m) bs (from + 3) l a →
+  do_part : (bs : List ℕ) (x : Exits) (loops : Bool) (m : Enclosing) (from : ℕ) (l : Lists) (a test : Written) → Part code arguments f end (Exiting code arguments f end bs (looping x (from + 1) (from + 2)) true m) bs (from + 3) l a →
       Part code arguments f end (Open bs (from + 3)) bs a.to a.lists test → Part code arguments f end (Exiting code arguments f end bs x loops m) bs from l (do_written (from + 3) a test)
   do_part bs x loops m from l a test g w =
       let P : (ℕ → List ℕ) → Type 0 = Exiting code arguments f end bs x loops m in
@@ -214,7 +215,7 @@ module _ (code : Code) (arguments : List ℕ) (f : FunctionCode) (end : ℕ) whe
         },
       ))
 
-  for_part : (bs : List ℕ) (x : Exits) (loops : Bool) (m : Option Mode) (from : ℕ) (l : Lists) (start a next test : Written) → Flat code arguments f end from l start →
+  for_part : (bs : List ℕ) (x : Exits) (loops : Bool) (m : Enclosing) (from : ℕ) (l : Lists) (start a next test : Written) → Flat code arguments f end from l start →
       Part code arguments f end (Exiting code arguments f end bs (looping x (start.to + 1) (start.to + 2)) true m) bs (start.to + 3) start.lists a → Flat code arguments f end a.to a.lists next →
       Part code arguments f end (Open bs (start.to + 3)) bs next.to next.lists test → Part code arguments f end (Exiting code arguments f end bs x loops m) bs from l (for_written start a next test)
   for_part bs x loops m from l start a next test s g n w =
@@ -293,7 +294,7 @@ module _ (code : Code) (arguments : List ℕ) (f : FunctionCode) (end : ℕ) whe
           (then_flat code arguments f end from l first (handed args) (one_flat code arguments f end own.Irrevocable from l (λ q bs. (refl, tt)) (λ k. tt)) (record { to_is = g.to_is; grows = g.grows; balanced = g.balanced; goods = g.goods }))
           (pieces_flat (pieces format) args.registers args.to args.lists g.held)
 
-      return_part : (bs : List ℕ) (x : Exits) (loops : Bool) (m : Option Mode) (e : Expr) → TypedExpr known e → (from : ℕ) (l : Lists) →
+      return_part : (bs : List ℕ) (x : Exits) (loops : Bool) (m : Enclosing) (e : Expr) → TypedExpr known e → (from : ℕ) (l : Lists) →
           Part code arguments f end (Exiting code arguments f end bs x loops m) bs from l (returned x.in_function (emitted p scope e from (length scope) (length scope) l))
       return_part bs x loops m e h from l =
           let v = emitted p scope e from (length scope) (length scope) l in
@@ -305,7 +306,7 @@ module _ (code : Code) (arguments : List ℕ) (f : FunctionCode) (end : ℕ) whe
           (λ o k exits r are. record { begins = []; are = are ∙ all_left bs x.in_function exits.in_function; written = in_size code arguments f end v.held.register v.lists s.held k; asks = refl; leads = tt }))
 
     mutual
-      pub stmt_part : (s : Stmt) (known : Scope) (loops : Bool) (scope : LocalScope) (x : Exits) (m : Option Mode) → Agrees known (running_scope p scope) → TypedStmt s known loops → CancelsFit s m → (bs : List ℕ) (from : ℕ) (l : Lists) →
+      pub stmt_part : (s : Stmt) (known : Scope) (loops : Bool) (scope : LocalScope) (x : Exits) (m : Enclosing) → Agrees known (running_scope p scope) → TypedStmt s known loops → CancelsFit s m → (bs : List ℕ) (from : ℕ) (l : Lists) →
           Part code arguments f end (Exiting code arguments f end bs x loops m) bs from l (written p s x scope from l)
       stmt_part Empty known loops scope x m agrees h c bs from l = flat_part code arguments f end (Exiting code arguments f end bs x loops m) bs from l (nothing_written from l) (nothing_flat code arguments f end from l)
       stmt_part (Declare d) known loops scope x m agrees h c bs from l =
@@ -354,12 +355,13 @@ module _ (code : Code) (arguments : List ℕ) (f : FunctionCode) (end : ℕ) whe
           left_part code arguments f end (Exiting code arguments f end bs x loops m) bs x.in_function own.Return from l (λ o exits. let i = exits.in_function in omega (arith, i))
           (λ o k exits r are. record { begins = []; are = are ∙ all_left bs x.in_function exits.in_function; written = tt; asks = refl; leads = tt })
       stmt_part (Return (Some e) at) known loops scope x m agrees h c bs from l = return_part known scope agrees bs x loops m e h from l
-      stmt_part (Transaction mode ss at) known loops scope x m agrees h c bs from l =
-          transaction_part code arguments f end bs x loops m mode from l (all_written p ss (in_transaction x) scope (from + 1) l)
-          (stmts_part ss known loops scope (in_transaction x) (Some mode) agrees h c (from ∷ bs) (from + 1) l)
+      stmt_part (Transaction kind ss at) known loops scope x m agrees h c bs from l =
+          transaction_part code arguments f end bs x loops m kind from l (all_written p ss (in_transaction kind x) scope (from + 1) l)
+          (stmts_part ss known loops scope (in_transaction kind x) (enclosed_in kind m) agrees h c (from ∷ bs) (from + 1) l)
       stmt_part (Cancel at) known loops scope x m agrees h c bs from l = cancel_part code arguments f end bs x loops m c from l
+      stmt_part (CancelOuter at) known loops scope x m agrees h c bs from l = outer_cancel_part code arguments f end bs x loops m c from l
 
-      pub stmts_part : (ss : Stmts) (known : Scope) (loops : Bool) (scope : LocalScope) (x : Exits) (m : Option Mode) → Agrees known (running_scope p scope) → TypedStmts ss known loops → AllCancelsFit ss m → (bs : List ℕ) (from : ℕ) (l : Lists) →
+      pub stmts_part : (ss : Stmts) (known : Scope) (loops : Bool) (scope : LocalScope) (x : Exits) (m : Enclosing) → Agrees known (running_scope p scope) → TypedStmts ss known loops → AllCancelsFit ss m → (bs : List ℕ) (from : ℕ) (l : Lists) →
           Part code arguments f end (Exiting code arguments f end bs x loops m) bs from l (all_written p ss x scope from l)
       stmts_part Stmts.[] known loops scope x m agrees h c bs from l = flat_part code arguments f end (Exiting code arguments f end bs x loops m) bs from l (nothing_written from l) (nothing_flat code arguments f end from l)
       stmts_part (Stmts.◌∷◌ s ss) known loops scope x m agrees h c bs from l =

@@ -6,7 +6,7 @@ use Rattle.safety.specs.Sites.{Around}
 
 -- these locals and transactions are round a place
 abbrev pub around : List (List ℕ) → TransactionsAround → Around
-around names place = record { locals = names; atomic = place.atomic; in_any = place.in_any }
+around names place = record { locals = names; atomic = place.atomic; outer = place.outer; in_any = place.in_any }
 
 module _ {A : Type 0} where
   -- their names, in order of declaration

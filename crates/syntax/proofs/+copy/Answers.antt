@@ -79,6 +79,11 @@ tree::Expr::copy-copy_boxed-requires-in-Conditional-3 g t c κs within =
     let size = simp the_lemmas at (ap (the_size g.row.A g.A.Allocator g.A.laws) c.in-Conditional.is) in
     (omega (arith, size, c.decreases), within)
 
+pub tree::Expr::copy-copy_boxed-requires-in-InTransaction : goal.tree::Expr::copy-copy_boxed-requires-in-InTransaction
+tree::Expr::copy-copy_boxed-requires-in-InTransaction g t c κs within =
+    let size = simp the_lemmas at (ap (the_size g.row.A g.A.Allocator g.A.laws) c.in-InTransaction.is) in
+    (omega (arith, size, c.decreases), within)
+
 pub tree::Expr::copy-returns-in_ok-x-in-Element : goal.tree::Expr::copy-returns-in_ok-x-in-Element
 tree::Expr::copy-returns-in_ok-x-in-Element g t c =
     let copies = c.in_ok-x-in-Element.ensures in

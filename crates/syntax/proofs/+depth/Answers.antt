@@ -4,7 +4,7 @@ use Rattle.syntax.specs.declared.tree.Expr.{the_lemmas}
 use Rattle.syntax.proofs.tree.Expr.TheLaws.{the_size}
 use Rattle.syntax.specs.Depth.{deepest, expr_depth}
 use Rattle.syntax.specs.Views.{expr_of, exprs_of}
-use Rattle.syntax.proofs.Seen.{expr_of_element, expr_of_parenthesized, expr_of_cast, expr_of_unary, expr_of_binary, expr_of_logical, expr_of_conditional}
+use Rattle.syntax.proofs.Seen.{expr_of_element, expr_of_parenthesized, expr_of_cast, expr_of_unary, expr_of_binary, expr_of_logical, expr_of_conditional, expr_of_in_transaction}
 use Rattle.syntax.proofs.Depths.{cut_max, read_depth, ord_max_is, cut_more, cut_all, cut_one_more, deepest_more, deepest_all, depth_call}
 use Rattle.syntax.proofs.+depth.Goals as goal
 
@@ -31,6 +31,12 @@ pub tree::Expr::depth-depth-requires-in-Parenthesized : goal.tree::Expr::depth-d
 tree::Expr::depth-depth-requires-in-Parenthesized g t c κs within =
     let size = simp the_lemmas at (ap (the_size g.row.A g.A.Allocator g.A.laws) c.in-Parenthesized.is) in
     let here = ap (the_size g.row.A g.A.Allocator g.A.laws) c.get-in-Parenthesized.ensures in
+    (omega (arith, size, here, c.decreases), within)
+
+pub tree::Expr::depth-depth-requires-in-InTransaction : goal.tree::Expr::depth-depth-requires-in-InTransaction
+tree::Expr::depth-depth-requires-in-InTransaction g t c κs within =
+    let size = simp the_lemmas at (ap (the_size g.row.A g.A.Allocator g.A.laws) c.in-InTransaction.is) in
+    let here = ap (the_size g.row.A g.A.Allocator g.A.laws) c.get-in-InTransaction.ensures in
     (omega (arith, size, here, c.decreases), within)
 
 pub tree::Expr::depth-depth-requires-in-Cast : goal.tree::Expr::depth-depth-requires-in-Cast
@@ -111,6 +117,11 @@ pub tree::Expr::depth-returns-in-Parenthesized : goal.tree::Expr::depth-returns-
 tree::Expr::depth-returns-in-Parenthesized g t c =
     let is = ap expr_depth (ap expr_of c.in-Parenthesized.is ∙ expr_of_parenthesized c.in-Parenthesized.e c.in-Parenthesized.field-1) in
     cut_one_more (2 ^ 64 - 1) _ _ c.depth-in-Parenthesized.result c.saturating_add-in-Parenthesized.result is (read_depth (2 ^ 64 - 1) c.get-in-Parenthesized.result.now c.in-Parenthesized.e c.depth-in-Parenthesized.result c.depth-in-Parenthesized.ensures c.get-in-Parenthesized.ensures) c.saturating_add-in-Parenthesized.ensures
+
+pub tree::Expr::depth-returns-in-InTransaction : goal.tree::Expr::depth-returns-in-InTransaction
+tree::Expr::depth-returns-in-InTransaction g t c =
+    let is = ap expr_depth (ap expr_of c.in-InTransaction.is ∙ expr_of_in_transaction c.in-InTransaction.field-0 c.in-InTransaction.field-1 c.in-InTransaction.e c.in-InTransaction.field-3) in
+    cut_one_more (2 ^ 64 - 1) _ _ c.depth-in-InTransaction.result c.saturating_add-in-InTransaction.result is (read_depth (2 ^ 64 - 1) c.get-in-InTransaction.result.now c.in-InTransaction.e c.depth-in-InTransaction.result c.depth-in-InTransaction.ensures c.get-in-InTransaction.ensures) c.saturating_add-in-InTransaction.ensures
 
 pub tree::Expr::depth-returns-in-Cast : goal.tree::Expr::depth-returns-in-Cast
 tree::Expr::depth-returns-in-Cast g t c =

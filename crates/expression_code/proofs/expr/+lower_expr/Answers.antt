@@ -20,7 +20,7 @@ use Rattle.expression_code.specs.inner.Tables.{callee_in, shared_in}
 use Rattle.expression_code.specs.Lists.{lists_of}
 use Rattle.expression_code.specs.Views.{program_in, scope_in}
 use Rattle.expression_code.specs.Limits.{NeedsMore}
-use Rattle.expression_code.proofs.Arms.{same_answer, same_telling, by_its_value, by_its_own, tail_made, tails_made, variable_is, constant_is, parenthesized_is, cast_is, joined_made, logical_made, chosen_made, called_code, called_lists, called_held, call_is, element_is, unary_is, binary_is, logical_is, conditional_is}
+use Rattle.expression_code.proofs.Arms.{same_answer, same_telling, by_its_value, by_its_own, tail_made, tails_made, variable_is, constant_is, parenthesized_is, cast_is, joined_made, logical_made, chosen_made, called_code, called_lists, called_held, call_is, element_is, unary_is, binary_is, logical_is, conditional_is, in_transaction_is}
 use Rattle.expression_code.proofs.Needing.{passed_on}
 use Rattle.expression_code.proofs.Failing.{binary_first, binary_second, cast_first, unary_first, element_first, logical_first, joined_first, call_args, conditional_first, conditional_second, conditional_third}
 use Rattle.expression_code.proofs.Rows.{first_within, next_code, next_registers, next_lists, next_place, last_code, last_registers}
@@ -233,6 +233,12 @@ lower_expr-lower_conditional-requires g t c κs within =
     let parts = c.in-Conditional.is ∙ (λ j. own_expr.Conditional (sym c.get-in-Conditional.ensures j) (sym c.get-in-Conditional-2.ensures j) (sym c.get-in-Conditional-3.ensures j) c.in-Conditional.at) in
     (omega (arith, c.decreases), (within, (c.new-test-in-Conditional.ensures.items, (c.new-first.ensures.items, (c.new-second.ensures.items, parts)))))
 
+pub lower_expr-lower_in_transaction-requires : goal.lower_expr-lower_in_transaction-requires
+lower_expr-lower_in_transaction-requires g t c κs within =
+    let size = simp the_lemmas at (ap (the_size g.row.A g.A.Allocator g.A.laws) c.in-InTransaction.is) in
+    let here = ap (the_size g.row.A g.A.Allocator g.A.laws) c.get-in-InTransaction.ensures in
+    (omega (arith, size, here, c.decreases), within)
+
 pub lower_operand-lower_expr-requires : goal.lower_operand-lower_expr-requires
 lower_operand-lower_expr-requires g t c κs within = (omega (arith, c.decreases), within)
 
@@ -241,6 +247,9 @@ lower_call-lower_all-requires g t c κs within = (omega (arith, c.decreases), wi
 
 pub lower_settled-lower_expr-requires : goal.lower_settled-lower_expr-requires
 lower_settled-lower_expr-requires g t c κs within = (omega (arith, c.decreases), within)
+
+pub lower_in_transaction-lower_expr-requires : goal.lower_in_transaction-lower_expr-requires
+lower_in_transaction-lower_expr-requires g t c κs within = (omega (arith, c.decreases), within)
 
 pub lower_value-lower_expr-requires : goal.lower_value-lower_expr-requires
 lower_value-lower_expr-requires g t c κs within = (omega (arith, c.decreases), within)
@@ -348,6 +357,9 @@ lower_condition-lower_value-requires-in-Call g t c κs within = (omega (arith, c
 pub lower_condition-lower_value-requires-in-Conditional : goal.lower_condition-lower_value-requires-in-Conditional
 lower_condition-lower_value-requires-in-Conditional g t c κs within = (omega (arith, c.decreases), within)
 
+pub lower_condition-lower_value-requires-in-InTransaction : goal.lower_condition-lower_value-requires-in-InTransaction
+lower_condition-lower_value-requires-in-InTransaction g t c κs within = (omega (arith, c.decreases), within)
+
 pub lower_all-lower_expr-requires : goal.lower_all-lower_expr-requires
 lower_all-lower_expr-requires g t c κs within =
     let size = the_size g.row.A g.A.Allocator g.A.laws in
@@ -362,6 +374,15 @@ lower_expr-returns-in-Parenthesized g t c =
     let k = same_answer _ _ c.args.code.now.items c.lower_expr-in-Parenthesized.new.code.items (lists_of c.lower_expr-in-Parenthesized.new.lists) c.lower_expr-in-Parenthesized.result (sym (ap f is))
     (record { code = c.lower_expr-in-Parenthesized.ensures.code; lists = c.lower_expr-in-Parenthesized.ensures.lists; held = c.lower_expr-in-Parenthesized.ensures.held; fails = c.lower_expr-in-Parenthesized.ensures.fails }) in
     record { code = k.code; lists = k.lists; held = k.held; fails = k.fails }
+
+pub lower_expr-returns-in-InTransaction : goal.lower_expr-returns-in-InTransaction
+lower_expr-returns-in-InTransaction g t c =
+    let did = c.lower_in_transaction.ensures in
+    let whole : Tree.Expr → Emitted = (λ y. emitted (program_in c.args.names.now) (scope_in c.args.scope.now) y c.args.from c.args.into c.args.free (lists_of c.args.lists.now)) in
+    let is = in_transaction_is c.args.e.now c.in-InTransaction.field-0 c.in-InTransaction.field-1 c.in-InTransaction.e c.get-in-InTransaction.result.now c.in-InTransaction.field-3 c.in-InTransaction.is c.get-in-InTransaction.ensures in
+    let all = same_answer _ (whole (expr_of c.args.e.now)) c.args.code.now.items c.lower_in_transaction.new.code.items (lists_of c.lower_in_transaction.new.lists) c.lower_in_transaction.result (sym (ap whole is))
+    (record { code = did.code; lists = did.lists; held = did.held; fails = did.fails }) in
+    record { code = all.code; lists = all.lists; held = all.held; fails = all.fails }
 
 pub lower_expr-returns-in-Keep : goal.lower_expr-returns-in-Keep
 lower_expr-returns-in-Keep g t c =
@@ -432,6 +453,13 @@ lower_condition-returns-in-Conditional g t c =
     let own = ap (λ y. own_condition (program_in c.args.names.now) (scope_in c.args.scope.now) y c.args.from c.args.free (lists_of c.args.lists.now)) (conditional_is c.args.e.now c.in-Conditional.field-0 c.in-Conditional.field-1 c.in-Conditional.field-2 c.in-Conditional.field-0 c.in-Conditional.field-1 c.in-Conditional.field-2 c.in-Conditional.field-3 c.in-Conditional.is refl refl refl) in
     let k = same_telling (by_value (emitted (program_in c.args.names.now) (scope_in c.args.scope.now) (expr_of c.args.e.now) c.args.from c.args.free c.args.free (lists_of c.args.lists.now)).code (emitted (program_in c.args.names.now) (scope_in c.args.scope.now) (expr_of c.args.e.now) c.args.from c.args.free c.args.free (lists_of c.args.lists.now)).lists (emitted (program_in c.args.names.now) (scope_in c.args.scope.now) (expr_of c.args.e.now) c.args.from c.args.free c.args.free (lists_of c.args.lists.now)).held) (condition (program_in c.args.names.now) (scope_in c.args.scope.now) (expr_of c.args.e.now) c.args.from c.args.free (lists_of c.args.lists.now)) c.args.drafts.now.items c.lower_value-in-Conditional.new.drafts.items (lists_of c.lower_value-in-Conditional.new.lists) c.lower_value-in-Conditional.result (by_its_value (program_in c.args.names.now) (scope_in c.args.scope.now) (expr_of c.args.e.now) c.args.from c.args.free (lists_of c.args.lists.now) own)
     (record { code = c.lower_value-in-Conditional.ensures.code; lists = c.lower_value-in-Conditional.ensures.lists; tested = c.lower_value-in-Conditional.ensures.tested; fails = c.lower_value-in-Conditional.ensures.fails }) in
+    record { code = k.code; lists = k.lists; tested = k.tested; fails = k.fails }
+
+pub lower_condition-returns-in-InTransaction : goal.lower_condition-returns-in-InTransaction
+lower_condition-returns-in-InTransaction g t c =
+    let own = ap (λ y. own_condition (program_in c.args.names.now) (scope_in c.args.scope.now) y c.args.from c.args.free (lists_of c.args.lists.now)) (in_transaction_is c.args.e.now c.in-InTransaction.field-0 c.in-InTransaction.field-1 c.in-InTransaction.field-2 c.in-InTransaction.field-2 c.in-InTransaction.field-3 c.in-InTransaction.is refl) in
+    let k = same_telling (by_value (emitted (program_in c.args.names.now) (scope_in c.args.scope.now) (expr_of c.args.e.now) c.args.from c.args.free c.args.free (lists_of c.args.lists.now)).code (emitted (program_in c.args.names.now) (scope_in c.args.scope.now) (expr_of c.args.e.now) c.args.from c.args.free c.args.free (lists_of c.args.lists.now)).lists (emitted (program_in c.args.names.now) (scope_in c.args.scope.now) (expr_of c.args.e.now) c.args.from c.args.free c.args.free (lists_of c.args.lists.now)).held) (condition (program_in c.args.names.now) (scope_in c.args.scope.now) (expr_of c.args.e.now) c.args.from c.args.free (lists_of c.args.lists.now)) c.args.drafts.now.items c.lower_value-in-InTransaction.new.drafts.items (lists_of c.lower_value-in-InTransaction.new.lists) c.lower_value-in-InTransaction.result (by_its_value (program_in c.args.names.now) (scope_in c.args.scope.now) (expr_of c.args.e.now) c.args.from c.args.free (lists_of c.args.lists.now) own)
+    (record { code = c.lower_value-in-InTransaction.ensures.code; lists = c.lower_value-in-InTransaction.ensures.lists; tested = c.lower_value-in-InTransaction.ensures.tested; fails = c.lower_value-in-InTransaction.ensures.fails }) in
     record { code = k.code; lists = k.lists; tested = k.tested; fails = k.fails }
 
 pub lower_expr-returns-in-Variable : goal.lower_expr-returns-in-Variable

@@ -263,19 +263,19 @@ lower_do_while-returns-clause-place g t c =
 
 pub lower_transaction-returns-clause-code : goal.lower_transaction-returns-clause-code
 lower_transaction-returns-clause-code g t c =
-    (transaction_made (program_in c.args.names.now) c.args.exits (scope_in c.args.scope.now) c.args.from (lists_of c.args.lists.now) c.args.code.now.items c.put_transaction.new.code.items (stmts_of c.args.body.now)
+    (transaction_made (program_in c.args.names.now) c.args.exits (scope_in c.args.scope.now) c.args.from (lists_of c.args.lists.now) c.args.code.now.items c.put_transaction.new.code.items c.args.kind (stmts_of c.args.body.now)
     c.args.inner.now.items c.lower_block.new.code.items (lists_of c.lower_block.new.lists) c.in_ok-exits.exits c.in_ok-start.start c.in_ok-last.last c.in_ok-to.to
     c.in_ok-exits.ensures c.in_ok-start.ensures c.requires (record { code = c.in_ok-last.ensures.code; lists = c.in_ok-last.ensures.lists; place = c.in_ok-last.ensures.place }) c.in_ok-to.ensures c.in_ok-put_transaction.ensures).code
 
 pub lower_transaction-returns-clause-lists : goal.lower_transaction-returns-clause-lists
 lower_transaction-returns-clause-lists g t c =
-    (transaction_made (program_in c.args.names.now) c.args.exits (scope_in c.args.scope.now) c.args.from (lists_of c.args.lists.now) c.args.code.now.items c.put_transaction.new.code.items (stmts_of c.args.body.now)
+    (transaction_made (program_in c.args.names.now) c.args.exits (scope_in c.args.scope.now) c.args.from (lists_of c.args.lists.now) c.args.code.now.items c.put_transaction.new.code.items c.args.kind (stmts_of c.args.body.now)
     c.args.inner.now.items c.lower_block.new.code.items (lists_of c.lower_block.new.lists) c.in_ok-exits.exits c.in_ok-start.start c.in_ok-last.last c.in_ok-to.to
     c.in_ok-exits.ensures c.in_ok-start.ensures c.requires (record { code = c.in_ok-last.ensures.code; lists = c.in_ok-last.ensures.lists; place = c.in_ok-last.ensures.place }) c.in_ok-to.ensures c.in_ok-put_transaction.ensures).lists
 
 pub lower_transaction-returns-clause-place : goal.lower_transaction-returns-clause-place
 lower_transaction-returns-clause-place g t c =
-    (transaction_made (program_in c.args.names.now) c.args.exits (scope_in c.args.scope.now) c.args.from (lists_of c.args.lists.now) c.args.code.now.items c.put_transaction.new.code.items (stmts_of c.args.body.now)
+    (transaction_made (program_in c.args.names.now) c.args.exits (scope_in c.args.scope.now) c.args.from (lists_of c.args.lists.now) c.args.code.now.items c.put_transaction.new.code.items c.args.kind (stmts_of c.args.body.now)
     c.args.inner.now.items c.lower_block.new.code.items (lists_of c.lower_block.new.lists) c.in_ok-exits.exits c.in_ok-start.start c.in_ok-last.last c.in_ok-to.to
     c.in_ok-exits.ensures c.in_ok-start.ensures c.requires (record { code = c.in_ok-last.ensures.code; lists = c.in_ok-last.ensures.lists; place = c.in_ok-last.ensures.place }) c.in_ok-to.ensures c.in_ok-put_transaction.ensures).place
 
@@ -327,7 +327,7 @@ lower_do_while-returns-in_err-to-clause-fails g t c =
 pub lower_transaction-returns-in_err-last-clause-fails : goal.lower_transaction-returns-in_err-last-clause-fails
 lower_transaction-returns-in_err-last-clause-fails g t c =
     passed_on c.lower_block.result c.from_residual-in_err-last.result c.in_err-last.field-0.0 _ _ c.lower_block.ensures.fails c.in_err-last.was c.from_residual-in_err-last.ensures
-    (transaction_body (program_in c.args.names.now) c.args.exits (scope_in c.args.scope.now) c.args.from (lists_of c.args.lists.now) (stmts_of c.args.body.now) c.in_ok-exits.exits c.in_ok-start.start c.in_ok-exits.ensures c.in_ok-start.ensures)
+    (transaction_body (program_in c.args.names.now) c.args.exits (scope_in c.args.scope.now) c.args.from (lists_of c.args.lists.now) c.args.kind (stmts_of c.args.body.now) c.in_ok-exits.exits c.in_ok-start.start c.in_ok-exits.ensures c.in_ok-start.ensures)
 
 pub lower_stmt-lower_transaction-requires : goal.lower_stmt-lower_transaction-requires
 lower_stmt-lower_transaction-requires g t c κs within =
@@ -428,7 +428,7 @@ lower_stmt-returns-in-Return g t c =
 pub lower_stmt-returns-in-Transaction : goal.lower_stmt-returns-in-Transaction
 lower_stmt-returns-in-Transaction g t c =
     let did = c.lower_transaction in
-    let is = transaction_is c.args.s.now c.in-Transaction.field-0 c.in-Transaction.body c.as_slice-all.result.now c.in-Transaction.field-2 c.in-Transaction.is c.as_slice-all.ensures in
+    let is = transaction_is c.args.s.now c.in-Transaction.kind c.in-Transaction.body c.as_slice-all.result.now c.in-Transaction.field-2 c.in-Transaction.is c.as_slice-all.ensures in
     let all = same_lowering (program_in c.args.names.now) c.args.exits (scope_in c.args.scope.now) c.args.from (lists_of c.args.lists.now) c.args.code.now.items (stmt_of c.args.s.now) _ (scope_in did.new.scope) did.new.code.items (lists_of did.new.lists) did.result is
     (record { scope = did.ensures.scope; code = did.ensures.code; lists = did.ensures.lists; place = did.ensures.place; fails = did.ensures.fails }) in
     record { scope = all.scope; code = all.code; lists = all.lists; place = all.place; fails = all.fails }

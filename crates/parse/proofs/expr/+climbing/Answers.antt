@@ -43,6 +43,12 @@ operand-opened-requires g t c κs within = (omega (arith, c.decreases), (within,
 pub operand-prefixed-requires : goal.operand-prefixed-requires
 operand-prefixed-requires g t c κs within = (omega (arith, c.decreases), (within, c.requires))
 
+pub operand-transaction-requires : goal.operand-transaction-requires
+operand-transaction-requires g t c κs within = (omega (arith, c.decreases), (within, c.requires))
+
+pub transaction-behind-requires : goal.transaction-behind-requires
+transaction-behind-requires g t c κs within = (omega (arith, c.decreases), (within, c.requires))
+
 pub outcomes-whole-requires : goal.outcomes-whole-requires
 outcomes-whole-requires g t c κs within = (omega (arith, c.decreases), (within, c.requires))
 

@@ -36,6 +36,9 @@ decreases-named g l = 7 * l.depth + 5
 abbrev pub decreases-opened : goal.decreases-opened
 decreases-opened g l = 7 * l.depth + 5
 
+abbrev pub decreases-transaction : goal.decreases-transaction
+decreases-transaction g l = 7 * l.depth + 5
+
 abbrev pub decreases-prefixed : goal.decreases-prefixed
 decreases-prefixed g l = 7 * l.depth + 5
 

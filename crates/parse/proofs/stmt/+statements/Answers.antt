@@ -13,7 +13,7 @@ use Rattle.parse.proofs.code.Within.{stmt_none, stmt_deep, stmt_start, block_non
 use Rattle.parse.proofs.code.Loops.{all_turns}
 use Rattle.parse.proofs.code.Made.{made_same, fails_before}
 use Rattle.parse.proofs.code.Braces.{expect_not, braced_is}
-use Rattle.parse.proofs.code.Nodes.{while_stmt_none, while_stmt_unless, while_stmt_left, do_stmt_none, do_stmt_fails, do_stmt_left, if_stmt_none, if_stmt_unless, if_stmt_left, branches_fail, branches_left, no_else, else_fails, else_is, for_stmt_none, for_stmt_unless, for_stmt_left, transaction_stmt_none, transaction_stmt_fails, transaction_stmt_is, entry_stmt, entry_fails}
+use Rattle.parse.proofs.code.Nodes.{while_stmt_none, while_stmt_unless, while_stmt_left, do_stmt_none, do_stmt_fails, do_stmt_left, if_stmt_none, if_stmt_unless, if_stmt_left, branches_fail, branches_left, no_else, else_fails, else_is, for_stmt_none, for_stmt_unless, for_stmt_left, transaction_stmt_none, kind_fails, transaction_stmt_fails, transaction_stmt_is, value_stmt_deep, value_stmt_is, entry_stmt, entry_fails}
 use Rattle.parse.proofs.code.Rounds.{round_starts, round_goes_to, round_fails, round_bad, round_good}
 use Rattle.parse.proofs.stmt.+statements.Goals.{block-else-turns-test, block-then-turns-test+then-is_next}
 use Rattle.parse.proofs.stmt.+statements.Goals as goal
@@ -94,18 +94,30 @@ for_stmt-returns g t c = rw (for_stmt_left c.args.depth (toks c.args.tokens.now)
 
 pub transaction_stmt-returns : goal.transaction_stmt-returns
 transaction_stmt-returns g t c =
-    transaction_stmt_is c.args.depth c.args.mode (toks c.args.tokens.now) (toks c.in_ok-at.rest.now) (toks c.in_ok-body.rest.now) c.in_ok-at.at (map stmt_of c.in_ok-body.body) (ap (λ k. spot k (toks c.args.tokens.now)) (sym c.mode_keyword.ensures) ∙ c.in_ok-at.ensures) c.in_ok-body.ensures
-    ∙ ap (λ s. Ok (s, toks c.in_ok-body.rest.now)) (sym (stmt_of_transaction c.args.mode c.in_ok-body.body c.in_ok-at.at))
+    transaction_stmt_is c.args.depth c.args.mode (toks c.args.tokens.now) (toks c.in_ok-at.rest.now) c.in_ok-at.at (ap (λ k. spot k (toks c.args.tokens.now)) (sym c.mode_keyword.ensures) ∙ c.in_ok-at.ensures) (sym c.is_next.ensures ∙ c.if-is_next.false) c.in_ok-kind.kind (toks c.in_ok-kind.rest.now) c.in_ok-kind.ensures (map stmt_of c.in_ok-body.body) (toks c.in_ok-body.rest.now) c.in_ok-body.ensures
+    ∙ ap (λ s. Ok (s, toks c.in_ok-body.rest.now)) (sym (stmt_of_transaction c.in_ok-kind.kind c.in_ok-body.body c.in_ok-at.at))
+
+pub transaction_stmt-returns-then-depth-eq0 : goal.transaction_stmt-returns-then-depth-eq0
+transaction_stmt-returns-then-depth-eq0 g t c = value_stmt_deep c.args.depth c.args.mode (toks c.args.tokens.now) (toks c.in_ok-at.rest.now) c.in_ok-at.at (ap (λ k. spot k (toks c.args.tokens.now)) (sym c.mode_keyword.ensures) ∙ c.in_ok-at.ensures) (sym c.is_next.ensures ∙ c.if-is_next.true) c.if-depth-eq0.true
+
+pub transaction_stmt-returns-then-is_next : goal.transaction_stmt-returns-then-is_next
+transaction_stmt-returns-then-is_next g t c =
+    rw (value_stmt_is c.args.depth c.args.mode (toks c.args.tokens.now) (toks c.in_ok-at.rest.now) c.in_ok-at.at (ap (λ k. spot k (toks c.args.tokens.now)) (sym c.mode_keyword.ensures) ∙ c.in_ok-at.ensures) (sym c.is_next.ensures ∙ c.if-is_next.true) (c.args.depth - 1) (omega (arith, c.if-depth-eq0.false))) c.simple_stmt.ensures
 
 pub transaction_stmt-returns-in_err-at : goal.transaction_stmt-returns-in_err-at
 transaction_stmt-returns-in_err-at g t c =
     let p = err_from_is_err_and c.from_residual.result c.from_residual.ensures.1 in
     rw (p.1, p.2) (fails_along c.in_err-at.field-0.0 _ _ (λ f e. transaction_stmt_none c.args.depth (toks c.args.tokens.now) c.args.mode f (ap (λ k. spot k (toks c.args.tokens.now)) (sym c.mode_keyword.ensures) ∙ e)) c.in_err-at.ensures)
 
+pub transaction_stmt-returns-in_err-kind : goal.transaction_stmt-returns-in_err-kind
+transaction_stmt-returns-in_err-kind g t c =
+    let p = err_from_is_err_and c.from_residual-in_err-kind.result c.from_residual-in_err-kind.ensures.1 in
+    rw (p.1, p.2) (fails_along c.in_err-kind.field-0.0 _ _ (λ f e. kind_fails c.args.depth c.args.mode (toks c.args.tokens.now) (toks c.in_ok-at.rest.now) c.in_ok-at.at (ap (λ k. spot k (toks c.args.tokens.now)) (sym c.mode_keyword.ensures) ∙ c.in_ok-at.ensures) (sym c.is_next.ensures ∙ c.if-is_next.false) f e) c.in_err-kind.ensures)
+
 pub transaction_stmt-returns-in_err-body : goal.transaction_stmt-returns-in_err-body
 transaction_stmt-returns-in_err-body g t c =
     let p = err_from_is_err_and c.from_residual-in_err-body.result c.from_residual-in_err-body.ensures.1 in
-    rw (p.1, p.2) (fails_along c.in_err-body.field-0.0 _ _ (λ f e. transaction_stmt_fails c.args.depth (toks c.args.tokens.now) c.args.mode (toks c.in_ok-at.rest.now) c.in_ok-at.at f (ap (λ k. spot k (toks c.args.tokens.now)) (sym c.mode_keyword.ensures) ∙ c.in_ok-at.ensures) e) c.in_err-body.ensures)
+    rw (p.1, p.2) (fails_along c.in_err-body.field-0.0 _ _ (λ f e. transaction_stmt_fails c.args.depth c.args.mode (toks c.args.tokens.now) (toks c.in_ok-at.rest.now) c.in_ok-at.at (ap (λ k. spot k (toks c.args.tokens.now)) (sym c.mode_keyword.ensures) ∙ c.in_ok-at.ensures) (sym c.is_next.ensures ∙ c.if-is_next.false) c.in_ok-kind.kind (toks c.in_ok-kind.rest.now) c.in_ok-kind.ensures f e) c.in_err-body.ensures)
 
 pub entry-returns-then-starts_type : goal.entry-returns-then-starts_type
 entry-returns-then-starts_type g t c =
@@ -244,7 +256,7 @@ pub for_stmt-boxed_stmt-requires : goal.for_stmt-boxed_stmt-requires
 for_stmt-boxed_stmt-requires g t c κs within = (omega (arith, c.decreases), (within, c.requires))
 
 pub transaction_stmt-block-requires : goal.transaction_stmt-block-requires
-transaction_stmt-block-requires g t c κs within = (omega (arith, c.decreases), (within, c.requires))
+transaction_stmt-block-requires g t c κs within = (omega (arith, c.decreases), (within, omega (arith, c.requires)))
 
 pub entry-stmt-requires : goal.entry-stmt-requires
 entry-stmt-requires g t c κs within = (omega (arith, c.decreases), (within, c.requires))
@@ -268,4 +280,4 @@ pub stmt-for_stmt-requires : goal.stmt-for_stmt-requires
 stmt-for_stmt-requires g t c κs within = (omega (arith, c.decreases, c.if-depth-eq0.false), (within, omega (arith, c.requires)))
 
 pub stmt-transaction_stmt-requires : goal.stmt-transaction_stmt-requires
-stmt-transaction_stmt-requires g t c κs within = (omega (arith, c.decreases, c.if-depth-eq0.false), (within, omega (arith, c.requires)))
+stmt-transaction_stmt-requires g t c κs within = (omega (arith, c.decreases, c.if-depth-eq0.false), (within, omega (arith, c.requires, c.if-depth-eq0.false)))

@@ -8,4 +8,4 @@ use Rattle.safety.specs.inner.Rest.{rest_of}
 use Rattle.safety.proofs.demands.fault_among.Given as goal
 
 abbrev pub invariant-each : goal.invariant-each
-invariant-each g l = first_unmet (flat_map (λ s. demands_at (rest_of (set_of l.not_safe)) s s.construct) (sites_of_own (drop l.site-index l.sites))) ≡ first_unmet (flat_map (λ s. demands_at (rest_of (set_of l.not_safe)) s s.construct) (sites_of_own l.sites))
+invariant-each g l = first_unmet (flat_map (λ s. demands_at (rest_of (set_of l.not_safe)) (set_of l.outer) s s.construct) (sites_of_own (drop l.site-index l.sites))) ≡ first_unmet (flat_map (λ s. demands_at (rest_of (set_of l.not_safe)) (set_of l.outer) s s.construct) (sites_of_own l.sites))

@@ -8,22 +8,22 @@ use Rattle.safety.specs.Sets.{set_of}
 use Rattle.safety.specs.Answers.{number_in, span_in}
 use Rattle.safety.specs.inner.Unmet.{unmet_in}
 use Rattle.safety.specs.inner.Rest.{rest_of}
-use Rattle.safety.proofs.Found.{items_more, found_first, found_later}
+use Rattle.safety.proofs.Found.{more, found_first, found_later}
 use Rattle.safety.proofs.demands.fault_of_items.Goals as goal
 
 pub returns-then-is_some : goal.returns-then-is_some
 returns-then-is_some g c = λ p k.
-    let demands = item_demands p (rest_of (set_of c.args.not_safe.now)) in
+    let demands = item_demands p (rest_of (set_of c.args.not_safe.now)) (set_of c.args.outer.now) in
     found_first unmet_in refl (λ b. ((number_in b, span_in b), refl)) c.in_ok-found.found _ _ _ (sym c.is_some.ensures ∙ c.if-is_some.true)
-    (sym (c.each.invariant p k) ∙ items_more demands c.args.items.now c.each.item-index c.item-item.result c.item-item.is c.each-test.true) (c.in_ok-found.ensures p k)
+    (sym (c.each.invariant p k) ∙ more item_of demands c.args.items.now c.each.item-index c.item-item.result c.item-item.is c.each-test.true) (c.in_ok-found.ensures p k)
 
 pub each-preserved : goal.each-preserved
 each-preserved g c = λ p k.
-    let demands = item_demands p (rest_of (set_of c.args.not_safe.now)) in
+    let demands = item_demands p (rest_of (set_of c.args.not_safe.now)) (set_of c.args.outer.now) in
     found_later unmet_in refl (λ b. ((number_in b, span_in b), refl)) c.in_ok-found.found _ _ _ (sym c.is_some.ensures ∙ c.if-is_some.false)
-    (sym (c.each.invariant p k) ∙ items_more demands c.args.items.now c.each.item-index c.item-item.result c.item-item.is c.each-test.true) (c.in_ok-found.ensures p k)
+    (sym (c.each.invariant p k) ∙ more item_of demands c.args.items.now c.each.item-index c.item-item.result c.item-item.is c.each-test.true) (c.in_ok-found.ensures p k)
 
 pub returns : goal.returns
 returns g c = λ p k.
-    let demands = item_demands p (rest_of (set_of c.args.not_safe.now)) in
+    let demands = item_demands p (rest_of (set_of c.args.not_safe.now)) (set_of c.args.outer.now) in
     sym (at_drop_all (λ xs. first_unmet (flat_map demands (map item_of xs))) c.args.items.now c.each.item-index c.each-test.false) ∙ c.each.invariant p k

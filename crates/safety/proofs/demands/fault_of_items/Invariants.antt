@@ -9,4 +9,4 @@ use Rattle.safety.specs.inner.Rest.{rest_of, Claims}
 use Rattle.safety.proofs.demands.fault_of_items.Given as goal
 
 abbrev pub invariant-each : goal.invariant-each
-invariant-each g l = (p : Program) → Claims p (set_of l.claims) → first_unmet (flat_map (item_demands p (rest_of (set_of l.not_safe))) (map item_of (drop l.item-index l.items))) ≡ first_unmet (flat_map (item_demands p (rest_of (set_of l.not_safe))) (map item_of l.items))
+invariant-each g l = (p : Program) → Claims p (set_of l.claims) → first_unmet (flat_map (item_demands p (rest_of (set_of l.not_safe)) (set_of l.outer)) (map item_of (drop l.item-index l.items))) ≡ first_unmet (flat_map (item_demands p (rest_of (set_of l.not_safe)) (set_of l.outer)) (map item_of l.items))

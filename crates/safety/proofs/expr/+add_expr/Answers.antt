@@ -1,13 +1,14 @@
-use Rattle.std.proofs.Common.{ap, sym, refl, arith}
+use Rattle.std.proofs.Common.{◌++◌, ap, sym, refl, ◌∙◌, arith}
 use denote.Param.Weighed.{most, at_most}
 use Rattle.std.proofs.lemmas.List.{at_drop_all}
 use Rattle.std.proofs.lemmas.Result.{on_ok_weaker}
-use Rattle.syntax.specs.Views.{exprs_of}
+use Rattle.syntax.specs.Views.{expr_of, exprs_of}
 use Rattle.syntax.specs.declared.tree.Expr.{the_lemmas}
+use Rattle.syntax.specs.declared.tree.Kind.TheVariants.{Plain}
 use Rattle.syntax.proofs.tree.Expr.TheLaws.{the_size}
-use Rattle.safety.specs.Sites.{exprs_sites}
-use Rattle.safety.specs.inner.Known.{around_in}
-use Rattle.safety.proofs.Walks.{two, same, next, done, variable_sites, element_sites, call_sites, parenthesized_sites, cast_sites, unary_sites, binary_sites, logical_sites, conditional_sites, exprs_more}
+use Rattle.safety.specs.Sites.{expr_sites, exprs_sites}
+use Rattle.safety.specs.inner.Known.{names_in, around_in}
+use Rattle.safety.proofs.Walks.{two, same, next, done, variable_sites, element_sites, call_sites, parenthesized_sites, cast_sites, unary_sites, binary_sites, logical_sites, conditional_sites, in_transaction_sites, kind_anywhere, exprs_more}
 use Rattle.safety.proofs.expr.+add_expr.Goals as goal
 
 pub add_expr-add_expr-requires : goal.add_expr-add_expr-requires
@@ -76,6 +77,12 @@ add_expr-add_expr-requires-in-Conditional-3 g t c κs within =
     let here = ap (the_size g.row.A g.A.Allocator g.A.laws) c.get-in-Conditional-3.ensures in
     (omega (arith, size, here, c.decreases), within)
 
+pub add_expr-add_expr-requires-in-InTransaction : goal.add_expr-add_expr-requires-in-InTransaction
+add_expr-add_expr-requires-in-InTransaction g t c κs within =
+    let size = simp the_lemmas at (ap (the_size g.row.A g.A.Allocator g.A.laws) c.in-InTransaction.is) in
+    let here = ap (the_size g.row.A g.A.Allocator g.A.laws) c.get-in-InTransaction.ensures in
+    (omega (arith, size, here, c.decreases), within)
+
 pub add_expr-add_exprs-requires : goal.add_expr-add_exprs-requires
 add_expr-add_exprs-requires g t c κs within =
     let size = simp the_lemmas at (ap (the_size g.row.A g.A.Allocator g.A.laws) c.in-Call.is) in
@@ -128,6 +135,17 @@ add_expr-returns-in_ok-add_expr-in-Conditional-2 g t c =
     let is = conditional_sites w c.args.e.now c.in-Conditional.c c.in-Conditional.a c.in-Conditional.b c.get-in-Conditional.result.now c.get-in-Conditional-2.result.now c.get-in-Conditional-3.result.now c.in-Conditional.field-3 c.in-Conditional.is c.get-in-Conditional.ensures c.get-in-Conditional-2.ensures c.get-in-Conditional-3.ensures in
     let first = two c.args.sites.now c.add_expr-in-Conditional.new.sites c.add_expr-in-Conditional-2.new.sites _ _ _ refl c.in_ok-add_expr-in-Conditional.ensures c.in_ok-add_expr-in-Conditional-2.ensures in
     on_ok_weaker c.add_expr-in-Conditional-3.result (two c.args.sites.now c.add_expr-in-Conditional-2.new.sites c.add_expr-in-Conditional-3.new.sites _ _ _ is first) c.add_expr-in-Conditional-3.ensures
+
+pub add_expr-returns-in_ok-add_kind-in-InTransaction : goal.add_expr-returns-in_ok-add_kind-in-InTransaction
+add_expr-returns-in_ok-add_kind-in-InTransaction g t c =
+    let names = names_in c.args.locals.now in
+    let w = around_in c.args.locals.now c.args.place in
+    let kind = Plain c.in-InTransaction.mode in
+    let e = expr_of c.get-in-InTransaction.result.now in
+    let is =
+    in_transaction_sites w c.args.e.now c.in-InTransaction.mode c.in-InTransaction.keyword c.in-InTransaction.e c.get-in-InTransaction.result.now c.in-InTransaction.field-3 c.in-InTransaction.is c.get-in-InTransaction.ensures
+    ∙ (λ i. kind_anywhere c.args.place kind c.in-InTransaction.keyword names i ++ expr_sites e (sym (c.inside.ensures names) i)) in
+    on_ok_weaker c.add_expr-in-InTransaction.result (two c.args.sites.now c.add_kind.new.sites c.add_expr-in-InTransaction.new.sites _ _ _ is c.in_ok-add_kind-in-InTransaction.ensures) c.add_expr-in-InTransaction.ensures
 
 pub add_exprs-add_expr-requires : goal.add_exprs-add_expr-requires
 add_exprs-add_expr-requires g t c κs within =

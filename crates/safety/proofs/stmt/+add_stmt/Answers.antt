@@ -10,7 +10,7 @@ use Rattle.safety.specs.Sites.{names_of_start, stmts_sites}
 use Rattle.safety.specs.inner.Known.{names_in, around, around_in}
 use Rattle.safety.specs.inner.Walks.{head_sites}
 use Rattle.safety.proofs.Counts.{left, room}
-use Rattle.safety.proofs.Walks.{two, same, held, next, done, declare_sites, do_sites, block_sites, print_sites, while_sites, do_while_sites, return_sites, cancel_sites, transaction_sites, for_sites, body_behind, stmts_more, mode_anywhere, item_sites, item_names}
+use Rattle.safety.proofs.Walks.{two, same, held, next, done, declare_sites, do_sites, block_sites, print_sites, while_sites, do_while_sites, return_sites, cancel_sites, cancel_outer_sites, transaction_sites, for_sites, body_behind, stmts_more, kind_anywhere, item_sites, item_names}
 use Rattle.safety.proofs.stmt.+add_stmt.Goals as goal
 
 pub add_stmt-add_stmt-requires : goal.add_stmt-add_stmt-requires
@@ -118,6 +118,14 @@ add_stmt-returns-in-Cancel g t c =
       names = held c.add-in-Cancel.result refl;
     }
 
+pub add_stmt-returns-in-CancelOuter : goal.add_stmt-returns-in-CancelOuter
+add_stmt-returns-in-CancelOuter g t c =
+    let w = around_in c.args.locals.now c.args.place in
+    record {
+      sites = on_ok_weaker c.add-in-CancelOuter.result (same c.args.sites.now c.add-in-CancelOuter.new.sites _ _ (cancel_outer_sites w c.args.stmt.now c.in-CancelOuter.at c.in-CancelOuter.is)) c.add-in-CancelOuter.ensures;
+      names = held c.add-in-CancelOuter.result refl;
+    }
+
 pub add_stmt-returns-in_ok-add_stmt-in-For-clause-sites : goal.add_stmt-returns-in_ok-add_stmt-in-For-clause-sites
 add_stmt-returns-in_ok-add_stmt-in-For-clause-sites g t c =
     let old = names_in c.args.locals.now in
@@ -132,17 +140,17 @@ add_stmt-returns-in_ok-add_stmt-in-For-clause-sites g t c =
     ∙ ap (λ ss. head_sites (start_of head.start) (option_map expr_of head.condition) (option_map simple_of head.step) w ++ ss) (body_behind c.args.place (stmt_of body) old new names ok.names))
     ok.sites c.in_ok-add_stmt-in-For.ensures.sites
 
-pub add_stmt-returns-in_ok-add_mode-in-Transaction : goal.add_stmt-returns-in_ok-add_mode-in-Transaction
-add_stmt-returns-in_ok-add_mode-in-Transaction g t c =
+pub add_stmt-returns-in_ok-add_kind-in-Transaction : goal.add_stmt-returns-in_ok-add_kind-in-Transaction
+add_stmt-returns-in_ok-add_kind-in-Transaction g t c =
     let names = names_in c.args.locals.now in
     let w = around_in c.args.locals.now c.args.place in
-    let mode = c.in-Transaction.mode in
+    let kind = c.in-Transaction.kind in
     let ss = stmts_of c.as_slice-in-Transaction.result.now in
     let is =
-    transaction_sites w c.args.stmt.now mode c.in-Transaction.body c.as_slice-in-Transaction.result.now c.in-Transaction.at c.in-Transaction.is c.as_slice-in-Transaction.ensures
-    ∙ (λ i. mode_anywhere c.args.place mode c.in-Transaction.at names i ++ stmts_sites ss (sym (c.inside.ensures names) i)) in
+    transaction_sites w c.args.stmt.now kind c.in-Transaction.body c.as_slice-in-Transaction.result.now c.in-Transaction.at c.in-Transaction.is c.as_slice-in-Transaction.ensures
+    ∙ (λ i. kind_anywhere c.args.place kind c.in-Transaction.at names i ++ stmts_sites ss (sym (c.inside.ensures names) i)) in
     record {
-      sites = on_ok_weaker c.add_block-in-Transaction.result (two c.args.sites.now c.add_mode.new.sites c.add_block-in-Transaction.new.sites _ _ _ is c.in_ok-add_mode-in-Transaction.ensures) c.add_block-in-Transaction.ensures.sites;
+      sites = on_ok_weaker c.add_block-in-Transaction.result (two c.args.sites.now c.add_kind.new.sites c.add_block-in-Transaction.new.sites _ _ _ is c.in_ok-add_kind-in-Transaction.ensures) c.add_block-in-Transaction.ensures.sites;
       names = c.add_block-in-Transaction.ensures.names;
     }
 

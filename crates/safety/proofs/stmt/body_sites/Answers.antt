@@ -11,5 +11,5 @@ returns-in_ok-add_block-in-Some g c =
     let qs = map parameter_of c.args.f.now.parameters in
     let names : names_in c.add_parameters.new.locals ≡ parameter_names qs = c.in_ok-add_parameters-in-Some.ensures ∙ (λ i. c.new-locals.ensures i ++ parameter_names (map parameter_of (c.as_slice.ensures i))) in
     c.in_ok-add_block-in-Some.ensures.sites
-    ∙ (λ i. sites_of_own (c.new-sites.ensures i) ++ stmts_sites (stmts_of (c.as_slice-in-Some.ensures i)) (record { locals = names i; atomic = false; in_any = false }))
+    ∙ (λ i. sites_of_own (c.new-sites.ensures i) ++ stmts_sites (stmts_of (c.as_slice-in-Some.ensures i)) (record { locals = names i; atomic = false; outer = false; in_any = false }))
     ∙ sym (ap (λ o. body_sites qs (option_map stmts_of o)) c.in-Some.is)

@@ -76,6 +76,12 @@ check_expr-check_number-requires-in-Conditional-3 g t c κs within =
     let here = ap (the_size g.row.A g.A.Allocator g.A.laws) c.get-in-Conditional-3.ensures in
     (omega (arith, size, here, c.decreases), within)
 
+pub check_expr-check_number-requires-in-InTransaction : goal.check_expr-check_number-requires-in-InTransaction
+check_expr-check_number-requires-in-InTransaction g t c κs within =
+    let size = simp the_lemmas at (ap (the_size g.row.A g.A.Allocator g.A.laws) c.in-InTransaction.is) in
+    let here = ap (the_size g.row.A g.A.Allocator g.A.laws) c.get-in-InTransaction.ensures in
+    (omega (arith, size, here, c.decreases), within)
+
 pub check_expr-check_call-requires : goal.check_expr-check_call-requires
 check_expr-check_call-requires g t c κs within =
     let size = simp the_lemmas at (ap (the_size g.row.A g.A.Allocator g.A.laws) c.in-Call.is) in

@@ -1,0 +1,166 @@
+-- The mark of an outer transaction, and of what cancels it, is read exactly.
+use Rattle.std.proofs.Common.{◌≡◌, ℕ, Bool, true, false, if◌then◌else◌, List, [], ◌∷◌, ◌++◌, Option, codes, refl, sym, ap, subst, ◌∙◌, ◌⊎◌, inl, inr}
+use Rattle.lex.specs.declared.token.Fixed.{Fixed}
+use Rattle.lex.specs.declared.token.Fixed.TheVariants.{Keyword, Punctuator}
+use Rattle.lex.specs.declared.token.Keyword.TheVariants as key
+use Rattle.lex.specs.declared.token.Punctuator.TheVariants as punct
+use Rattle.lex.specs.Tokens.{name, fixed, Tok}
+use Rattle.syntax.specs.declared.tree.Kind.{Kind}
+use Rattle.syntax.specs.declared.tree.Kind.TheVariants.{Plain, Outer}
+use Rattle.syntax.specs.declared.tree.Mode.{Mode}
+use Rattle.syntax.specs.declared.tree.Mode.TheVariants.{Atomic, Relaxed}
+use Rattle.syntax.specs.Phrases.{Phrase, Seq, One, Is, Begins, is_fixed}
+use Rattle.syntax.specs.Grammar as Grammar
+use Rattle.syntax.specs.Grammar.{the_outer}
+use Rattle.parse.specs.inner.Reading.{head, is_next}
+use Rattle.parse.specs.inner.Statements.{is_marked, enclosed_outer, outer_mark, marked, atomic_kind, kind}
+use Rattle.parse.proofs.combinators.Exact.{Exact, Always, Shallow, Comes, Empty, take_exact, give_exact, value_of, restated}
+use Rattle.parse.proofs.combinators.Parts.{seq_map, seq_left, seq_right, seq_here, seq_not_here, head_begins, tail_begins, behind_exact, before_exact}
+use Rattle.parse.proofs.combinators.Choices.{either_exact}
+
+-- ---- the word and what encloses it
+
+abbrev WordL : Unit {0} → Phrase
+WordL = One the_outer
+
+word_begins : Begins WordL []
+word_begins = let t : Tok = record { terminal = name (codes "outer"); span = record { start = 0; «end» = 0 } } in record { value = tt; more = t ∷ []; spelled = record { token = t; has = refl; whole = refl } }
+
+abbrev ClosedL : Fixed → Unit {0} → Phrase
+ClosedL closing x = Seq (Seq (WordL x) (Is closing)) (Is closing)
+
+abbrev EnclosedL : Fixed → Fixed → Unit {0} → Phrase
+EnclosedL opening closing x = Seq (Is opening) (Seq (Is opening) (ClosedL closing x))
+
+closed_begins : (k : Fixed) → Begins (ClosedL k) []
+closed_begins k = tail_begins k (λ x. Seq (WordL x) (Is k)) (tail_begins k WordL word_begins)
+
+enclosed_begins : (opening closing : Fixed) → Begins (EnclosedL opening closing) []
+enclosed_begins opening closing = head_begins opening (λ x. Seq (Is opening) (ClosedL closing x)) (head_begins opening (ClosedL closing) (closed_begins closing))
+
+enclosed_exact : (opening closing : Fixed) (d : ℕ) → Exact (λ D. enclosed_outer opening closing) (EnclosedL opening closing) (λ D. Shallow D) Always Always d
+enclosed_exact opening closing d =
+    behind_exact opening
+    (behind_exact opening (before_exact closing (before_exact closing (take_exact the_outer d) (λ a t is. tt)) (λ a t is. tt)) (closed_begins closing))
+    (head_begins opening (ClosedL closing) (closed_begins closing))
+
+-- ---- the mark
+
+abbrev BracketsL : Unit {0} → Phrase
+BracketsL = EnclosedL (Punctuator punct.OpenBracket) (Punctuator punct.CloseBracket)
+
+abbrev ParensL : Unit {0} → Phrase
+ParensL x = Seq (Is (Keyword key.Attribute)) (EnclosedL (Punctuator punct.OpenParen) (Punctuator punct.CloseParen) x)
+
+abbrev pub MarkL : Unit {0} → Phrase
+MarkL x = Grammar.outer_mark
+
+mark_goes : (x : Unit {0}) (p : List Tok) → BracketsL x p ⊎ ParensL x p → Grammar.outer_mark p
+mark_goes x p (inl l) = inl (seq_map l (λ q o. o) (λ q a. seq_map a (λ r o. o) (λ r b. seq_right b)))
+mark_goes x p (inr l) = inr (seq_map l (λ q o. o) (λ q a. seq_map a (λ r o. o) (λ r b. seq_map b (λ u o. o) (λ u c. seq_right c))))
+
+mark_comes : (x : Unit {0}) (p : List Tok) → Grammar.outer_mark p → BracketsL x p ⊎ ParensL x p
+mark_comes x p (inl l) = inl (seq_map l (λ q o. o) (λ q a. seq_map a (λ r o. o) (λ r b. seq_left b)))
+mark_comes x p (inr l) = inr (seq_map l (λ q o. o) (λ q a. seq_map a (λ r o. o) (λ r b. seq_map b (λ u o. o) (λ u c. seq_left c))))
+
+mark_exact : (d : ℕ) → Exact (λ D. outer_mark) MarkL (λ D. Shallow D) Always Always d
+mark_exact d =
+    restated MarkL (λ D. Shallow D) Always Always
+    (either_exact (is_next (Punctuator punct.OpenBracket)) Always
+    (enclosed_exact (Punctuator punct.OpenBracket) (Punctuator punct.CloseBracket) d)
+    (behind_exact (Keyword key.Attribute) (enclosed_exact (Punctuator punct.OpenParen) (Punctuator punct.CloseParen) d) (enclosed_begins (Punctuator punct.OpenParen) (Punctuator punct.CloseParen)))
+    (λ x p q l h. seq_here (Punctuator punct.OpenBracket) _ p q l) (λ x p q l h. seq_not_here (Keyword key.Attribute) (Punctuator punct.OpenBracket) _ p q refl l)
+    (λ x p r l e c. tt) (λ x p r l e c. tt))
+    mark_goes mark_comes (λ x p l w. tt) (λ x p l w. tt) (λ x p h l s. tt) (λ x p h l c. tt)
+
+mark_here : (p q : List Tok) → Grammar.outer_mark p → is_marked (head (p ++ q)) ≡ true
+mark_here p q (inl l) = ap (λ (b : Bool). if b then true else is_next (Keyword key.Attribute) (head (p ++ q))) (seq_here (Punctuator punct.OpenBracket) _ p q l)
+mark_here p q (inr l) =
+    ap (λ (b : Bool). if b then true else is_next (Keyword key.Attribute) (head (p ++ q))) (seq_not_here (Keyword key.Attribute) (Punctuator punct.OpenBracket) _ p q refl l)
+    ∙ seq_here (Keyword key.Attribute) _ p q l
+
+-- a mark begins with no other fixed token
+pub mark_not_here : (k : Fixed) → is_fixed k (fixed (Punctuator punct.OpenBracket)) ≡ false → is_fixed k (fixed (Keyword key.Attribute)) ≡ false → (p q : List Tok) → Grammar.outer_mark p → is_next k (head (p ++ q)) ≡ false
+mark_not_here k a b p q (inl l) = seq_not_here (Punctuator punct.OpenBracket) k _ p q a l
+mark_not_here k a b p q (inr l) = seq_not_here (Keyword key.Attribute) k _ p q b l
+
+-- where neither of its first tokens is, no mark begins
+pub not_marked : (h : Option Tok) → is_next (Punctuator punct.OpenBracket) h ≡ false → is_next (Keyword key.Attribute) h ≡ false → is_marked h ≡ false
+not_marked h b a = ap (λ (c : Bool). if c then true else is_next (Keyword key.Attribute) h) b ∙ a
+
+-- ---- with or without it
+
+abbrev pub MarkedL : Bool → Phrase
+MarkedL true p = Grammar.outer_mark p
+MarkedL false p = p ≡ []
+
+-- nothing is read where a mark stands
+abbrev pub MarkedS : Bool → Option Tok → Type 0
+MarkedS true h = Unit {0}
+MarkedS false h = is_marked h ≡ false
+
+abbrev OuterL : Bool → Phrase
+OuterL b p = (b ≡ true) × Grammar.outer_mark p
+
+pub marked_begins : Begins MarkedL []
+marked_begins = record { value = false; more = []; spelled = refl }
+
+pub marked_exact : (d : ℕ) → Exact (λ D. marked) MarkedL (λ D. Shallow D) MarkedS Always d
+marked_exact d =
+    restated MarkedL (λ D. Shallow D) MarkedS Always
+    (either_exact is_marked Always
+    (value_of (λ (x : Unit {0}). true) OuterL (λ D. Shallow D) MarkedS Always (mark_exact d) (λ b p l. record { value = tt; same = l.0; spelled = l.1; within = λ w. tt; stops = λ h s. tt }) (λ x p l. (refl, l)) (λ x w. tt) (λ x h c. tt))
+    (give_exact false (λ D. Shallow D) MarkedS Always d tt (λ h. tt))
+    (λ b p q l s. mark_here p q l.1) none (λ b p r l e c. tt) (λ b p r l e c. tt))
+    goes comes (λ b p l w. tt) (λ b p l w. tt) (λ b p h l s. s) (λ b p h l c. tt)
+  where
+    none : (b : Bool) (p q : List Tok) → Empty false b p → MarkedS b (head q) → is_marked (head (p ++ q)) ≡ false
+    none b p q l s =
+        let s' : MarkedS false (head q) = subst (λ (z : Bool). MarkedS z (head q)) l.0 s in
+        ap (λ (z : List Tok). is_marked (head (z ++ q))) l.1 ∙ s'
+
+    goes : (b : Bool) (p : List Tok) → OuterL b p ⊎ Empty false b p → MarkedL b p
+    goes true p (inl l) = l.1
+    goes false p (inl l) = absurd (let e = l.0 in cc)
+    goes true p (inr l) = absurd (let e = l.0 in cc)
+    goes false p (inr l) = l.1
+
+    comes : (b : Bool) (p : List Tok) → MarkedL b p → OuterL b p ⊎ Empty false b p
+    comes true p l = inl (refl, l)
+    comes false p l = inr (refl, l)
+
+-- ---- the kind of a transaction
+
+-- behind the keyword of this mode
+abbrev pub KindL : Mode → Kind → Phrase
+KindL mode (Plain of) p = (of ≡ mode) × (p ≡ [])
+KindL Atomic Outer p = Grammar.outer_mark p
+KindL Relaxed Outer p = ⊥
+
+abbrev pub KindS : Kind → Option Tok → Type 0
+KindS k h = is_marked h ≡ false
+
+pub kind_exact : (mode : Mode) (d : ℕ) → Exact (λ D. kind mode) (KindL mode) (λ D. Shallow D) KindS Always d
+kind_exact Atomic d = value_of atomic_kind (KindL Atomic) (λ D. Shallow D) KindS Always (marked_exact d) comes goes (λ x w. tt) (λ x h c. tt)
+  where
+    stops : (b : Bool) (h : Option Tok) → is_marked h ≡ false → MarkedS b h
+    stops true h s = tt
+    stops false h s = s
+
+    comes : (k : Kind) (p : List Tok) → KindL Atomic k p → Comes atomic_kind MarkedL (λ b. Unit {0}) (λ k. Unit {0}) MarkedS KindS k p
+    comes (Plain of) p l = record { value = false; same = ap Plain l.0; spelled = l.1; within = λ w. tt; stops = stops false }
+    comes Outer p l = record { value = true; same = refl; spelled = l; within = λ w. tt; stops = stops true }
+
+    goes : (b : Bool) (p : List Tok) → MarkedL b p → KindL Atomic (atomic_kind b) p
+    goes true p l = l
+    goes false p l = (refl, l)
+kind_exact Relaxed d =
+    restated (KindL Relaxed) (λ D. Shallow D) KindS Always (give_exact (Plain Relaxed) (λ D. Shallow D) KindS Always d tt (λ h. tt))
+    goes comes (λ k p l w. tt) (λ k p l w. tt) (λ k p h l s. s) (λ k p h l c. tt)
+  where
+    goes : (k : Kind) (p : List Tok) → Empty (Plain Relaxed) k p → KindL Relaxed k p
+    goes k p l = subst (λ (z : Kind). KindL Relaxed z p) (sym l.0) (refl, l.1)
+
+    comes : (k : Kind) (p : List Tok) → KindL Relaxed k p → Empty (Plain Relaxed) k p
+    comes (Plain of) p l = (ap Plain l.0, l.1)
+    comes Outer p l = absurd l

@@ -1,0 +1,91 @@
+//! The mark of an outer transaction, and of what cancels it.
+
+ghost use Rattle.std.specs.Prelude.{◌≡◌, bytes_eq, codes};
+ghost use Rattle.lex.specs.Tokens.{toks};
+ghost use Rattle.syntax.specs.Grammar.{the_outer};
+ghost use Rattle.parse.specs.inner.Reading.{Gives, head, take};
+ghost use Rattle.parse.specs.inner.Statements.{enclosed_outer, is_marked, marked, outer_mark};
+
+use crate::cursor::{expect, is_next};
+use crate::fault::Failure;
+use lex::token::{Fixed, Keyword, Kind, Punctuator, Token};
+
+/// Whether a name is `outer`.
+fn is_outer(text: &str) -> bool
+    ensures { result ≡ bytes_eq text.now (codes "outer") }
+{
+    match text {
+        "outer" => true,
+        _ => false,
+    }
+}
+
+/// `outer`
+fn outer<'t, 'a>(tokens: &'t [Token<'a>]) -> Result<&'t [Token<'a>], Failure<'t, 'a>>
+    ensures { Gives (λ x. (tt, toks x.now)) result (take the_outer (toks tokens.now)) }
+{
+    let [first, rest @ ..] = tokens else {
+        return Err(Failure::Wrong(tokens));
+    };
+    let Kind::Name(text) = first.kind else {
+        return Err(Failure::Wrong(tokens));
+    };
+    if is_outer(text) {
+        Ok(rest)
+    } else {
+        Err(Failure::Wrong(tokens))
+    }
+}
+
+/// `outer` between two of the one and two of the other.
+fn enclosed<'t, 'a>(
+    tokens: &'t [Token<'a>],
+    opening: Fixed,
+    closing: Fixed,
+) -> Result<&'t [Token<'a>], Failure<'t, 'a>>
+    ensures { Gives (λ x. (tt, toks x.now)) result (enclosed_outer opening closing (toks tokens.now)) }
+{
+    let rest = expect(tokens, opening)?;
+    let rest = expect(rest, opening)?;
+    let rest = outer(rest)?;
+    let rest = expect(rest, closing)?;
+    expect(rest, closing)
+}
+
+/// `[[ outer ]]` or `__attribute__ (( outer ))`
+fn outer_mark<'t, 'a>(tokens: &'t [Token<'a>]) -> Result<&'t [Token<'a>], Failure<'t, 'a>>
+    ensures { Gives (λ x. (tt, toks x.now)) result (outer_mark (toks tokens.now)) }
+{
+    if is_next(tokens, Fixed::Punctuator(Punctuator::OpenBracket)) {
+        return enclosed(
+            tokens,
+            Fixed::Punctuator(Punctuator::OpenBracket),
+            Fixed::Punctuator(Punctuator::CloseBracket),
+        );
+    }
+    let rest = expect(tokens, Fixed::Keyword(Keyword::Attribute))?;
+    enclosed(
+        rest,
+        Fixed::Punctuator(Punctuator::OpenParen),
+        Fixed::Punctuator(Punctuator::CloseParen),
+    )
+}
+
+/// Whether a mark begins here.
+fn is_marked(tokens: &[Token]) -> bool
+    ensures { result ≡ is_marked (head (toks tokens.now)) }
+{
+    is_next(tokens, Fixed::Punctuator(Punctuator::OpenBracket))
+        || is_next(tokens, Fixed::Keyword(Keyword::Attribute))
+}
+
+/// `[outer_mark]`: whether it stands here.
+pub fn marked<'t, 'a>(tokens: &'t [Token<'a>]) -> Result<(bool, &'t [Token<'a>]), Failure<'t, 'a>>
+    ensures { Gives (λ x. (x.0, toks x.1.now)) result (marked (toks tokens.now)) }
+{
+    if !is_marked(tokens) {
+        return Ok((false, tokens));
+    }
+    let rest = outer_mark(tokens)?;
+    Ok((true, rest))
+}
