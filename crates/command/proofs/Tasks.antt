@@ -1,8 +1,8 @@
 -- What is given for arguments makes no task.
-use Rattle.std.proofs.Common.{◌≡◌, ℕ, List, Option, Some, length, ap, subst, arith}
+use Rattle.std.proofs.Common.{◌≡◌, ℕ, List, Some, length, ap, subst, arith}
 use Rattle.std.specs.Prelude.{codes, slice_index}
 use Rattle.clap.specs.Words.{Row, Text, first_of}
-use Rattle.command.specs.declared.request.Task.TheVariants.{Check, Listing, Run, Replay, Timeline, PrintSchedule, Source}
+use Rattle.command.specs.declared.request.Task.TheVariants.{Check, Listing, Run, Replay, Timeline, Picture, PrintSchedule, Source}
 use Rattle.command.specs.declared.request.Steps.{Steps}
 use Rattle.command.specs.declared.request.Steps.TheVariants.{Seed}
 use Rattle.command.specs.Asked.{AreSteps, IsOrder, IsOrderGiven}
@@ -15,6 +15,7 @@ no_replay given none Listing is = let e : 114 ≡ 108 = ap (λ l. slice_index l 
 no_replay given none (Run threads budget) is = let e : 6 ≡ 3 = ap length is.0 in absurd (omega (arith, e))
 no_replay given none (Replay threads steps) is = none steps is.2
 no_replay given none (Timeline threads steps) is = none steps is.2
+no_replay given none (Picture threads steps) is = none steps is.2
 no_replay given none (PrintSchedule threads seed count) is = none (Seed seed count) is.2
 no_replay given none (Source threads order ticks) is = let e : 114 ≡ 115 = ap (λ l. slice_index l 0) is.0 in absurd (omega (arith, e))
 
@@ -25,6 +26,7 @@ no_source given none Listing is = let e : 115 ≡ 108 = ap (λ l. slice_index l 
 no_source given none (Run threads budget) is = let e : 115 ≡ 114 = ap (λ l. slice_index l 0) is.0 in absurd (omega (arith, e))
 no_source given none (Replay threads steps) is = let e : 115 ≡ 114 = ap (λ l. slice_index l 0) is.0 in absurd (omega (arith, e))
 no_source given none (Timeline threads steps) is = let e : 115 ≡ 114 = ap (λ l. slice_index l 0) is.0 in absurd (omega (arith, e))
+no_source given none (Picture threads steps) is = let e : 115 ≡ 114 = ap (λ l. slice_index l 0) is.0 in absurd (omega (arith, e))
 no_source given none (PrintSchedule threads seed count) is = let e : 115 ≡ 114 = ap (λ l. slice_index l 0) is.0 in absurd (omega (arith, e))
 no_source given none (Source threads order ticks) is = none order.items is.2
 

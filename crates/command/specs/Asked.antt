@@ -1,5 +1,5 @@
 -- What words ask.
-use Rattle.std.specs.Prelude.{◌≡◌, ◌≢◌, ◌⊎◌, ◌↔◌, ◌≤◌, ◌<◌, ◌==◌, ℕ, IsTrue, IsSomeAnd, List, [], ◌∷◌, Option, Some, None, codes, string_bytes}
+use Rattle.std.specs.Prelude.{◌≡◌, ◌≢◌, ◌⊎◌, ◌↔◌, ◌≤◌, ◌<◌, ◌==◌, ℕ, Bool, true, false, IsTrue, IsSomeAnd, List, [], ◌∷◌, Option, Some, None, codes, string_bytes}
 use Rattle.std.specs.List.{slice_split}
 use Rattle.std.specs.Str.Parse.{IsNumeral, digits_value, without_leading_plus}
 use Rattle.clap.specs.Words.{IsAmong, Row, Text, fault_of, first_of, one_of, subcommand_of}
@@ -8,7 +8,7 @@ use Rattle.clap.specs.declared.error.kind.ErrorKind.TheVariants.{DisplayHelp, Di
 use Rattle.command.specs.declared.request.Request.{Request}
 use Rattle.command.specs.declared.request.Request.TheVariants.{Program, Explain}
 use Rattle.command.specs.declared.request.Task.{Task}
-use Rattle.command.specs.declared.request.Task.TheVariants.{Check, Listing, Run, Replay, Timeline, PrintSchedule, Source}
+use Rattle.command.specs.declared.request.Task.TheVariants.{Check, Listing, Run, Replay, Timeline, Picture, PrintSchedule, Source}
 use Rattle.command.specs.declared.request.Steps.{Steps}
 use Rattle.command.specs.declared.request.Steps.TheVariants.{Schedule, Seed}
 use Rattle.command.specs.declared.request.UsageFault.{UsageFault}
@@ -69,6 +69,12 @@ pub record IsOrderGiven (given : List Row) (order : List ℕ) : Type 0 where
 abbrev pub IsFlagged : List Row → Text → Type 0
 IsFlagged given id = first_of id given ≡ Some (codes "true")
 
+-- these of a replay's flags are given
+pub record AreFlagged (given : List Row) (timeline picture print_schedule : Bool) : Type 0 where
+  pub timeline_is : IsTrue timeline ↔ IsFlagged given (codes "timeline")
+  pub picture_is : IsTrue picture ↔ IsFlagged given (codes "picture")
+  pub print_schedule_is : IsTrue print_schedule ↔ IsFlagged given (codes "print-schedule")
+
 -- what is done with a program
 
 abbrev pub IsTask : Text → List Row → Task → Type 0
@@ -77,14 +83,13 @@ IsTask name given Listing = name ≡ codes "listing"
 IsTask name given (Run threads budget) = (name ≡ codes "run") × AreThreadsGiven given threads
     × IsNumber given (codes "budget") 4294967295 0 4294967295 budget
 IsTask name given (Replay threads steps) = (name ≡ codes "replay")
-    × AreThreadsGiven given threads × AreSteps given steps
-    × (IsFlagged given (codes "timeline") → ⊥) × (IsFlagged given (codes "print-schedule") → ⊥)
+    × AreThreadsGiven given threads × AreSteps given steps × AreFlagged given false false false
 IsTask name given (Timeline threads steps) = (name ≡ codes "replay")
-    × AreThreadsGiven given threads × AreSteps given steps
-    × IsFlagged given (codes "timeline") × (IsFlagged given (codes "print-schedule") → ⊥)
+    × AreThreadsGiven given threads × AreSteps given steps × AreFlagged given true false false
+IsTask name given (Picture threads steps) = (name ≡ codes "replay")
+    × AreThreadsGiven given threads × AreSteps given steps × AreFlagged given false true false
 IsTask name given (PrintSchedule threads seed count) = (name ≡ codes "replay") × AreThreadsGiven given threads
-    × AreSteps given (Seed seed count)
-    × (IsFlagged given (codes "timeline") → ⊥) × IsFlagged given (codes "print-schedule")
+    × AreSteps given (Seed seed count) × AreFlagged given false false true
 IsTask name given (Source threads order ticks) = (name ≡ codes "source") × AreThreadsGiven given threads
     × IsOrderGiven given order.items
     × IsNumber given (codes "ticks") 100000 0 1000000 ticks

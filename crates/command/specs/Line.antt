@@ -55,7 +55,8 @@ replay_steps_app =
 
 abbrev pub replay_app : App
 replay_app =
-    with_rule (with_rule replay_steps_app (flag_rule (codes "timeline"))) (flag_rule (codes "print-schedule"))
+    let timeline = with_rule replay_steps_app (flag_rule (codes "timeline")) in
+    with_rule (with_rule timeline (flag_rule (codes "picture"))) (flag_rule (codes "print-schedule"))
 
 abbrev pub source_app : App
 source_app =

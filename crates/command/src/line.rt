@@ -10,7 +10,7 @@ use std::alloc::{AllocError, Global};
 use std::mem;
 
 /// The version that `txc --version` prints.
-const VERSION: &str = "0.1.0";
+const VERSION: &str = "0.2.0";
 
 /// The file with the program.
 fn file<'a>(alloc: Global) -> Arg<'a>
@@ -220,6 +220,12 @@ fn replay<'a>(alloc: Global) -> Result<Command<'a>, AllocError>
         "Shows each step, a line each, before the report",
     );
     let command = with(command, timeline);
+    let picture = flag(
+        alloc,
+        "picture",
+        "Draws the steps as one SVG, in place of the report",
+    );
+    let command = with(command, picture);
     let print_schedule = flag(
         alloc,
         "print-schedule",

@@ -43,6 +43,11 @@ pub enum Task {
         threads: u32,
         steps: Steps,
     },
+    /// Makes steps of 1 to 64 threads, and draws them.
+    Picture {
+        threads: u32,
+        steps: Steps,
+    },
     /// Prints the steps of a seed for 1 to 64 threads as a schedule.
     PrintSchedule {
         threads: u32,

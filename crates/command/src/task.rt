@@ -1,6 +1,6 @@
 //! What a command does with a program.
 
-ghost use Rattle.std.specs.Prelude.{◌≡◌, ◌≤◌, ℕ, List, IfOk, IfErr, Some, None, codes, if◌then◌else◌};
+ghost use Rattle.std.specs.Prelude.{◌≡◌, ◌≤◌, ℕ, List, IfOk, IfErr, Some, None, codes};
 ghost use Rattle.clap.specs.Words.{first_of, found_of, rows_of};
 ghost use Rattle.command.specs.Asked.{AreSteps, IsNumber, IsTask, AreThreadsGiven, IsOrderGiven};
 ghost use Rattle.command.specs.declared.request.Steps.{Steps};
@@ -78,18 +78,7 @@ fn steps(alloc: Global, given: &ArgMatches<'_>) -> Result<Steps, UsageFault>
     }
 }
 
-/// A replay, with a timeline or without.
-fn replay_of(threads: u32, steps: Steps, timeline: bool) -> Task
-    ensures { result ≡ (if timeline then Task.Timeline threads steps else Task.Replay threads steps) }
-{
-    if timeline {
-        Task::Timeline { threads, steps }
-    } else {
-        Task::Replay { threads, steps }
-    }
-}
-
-/// A replay, or what it would make.
+/// A replay, by which of its flags is given: it is shown step by step, drawn, or what it would make is printed.
 fn replay(alloc: Global, given: &ArgMatches<'_>) -> Result<Task, UsageFault>
     ensures ok { IfOk result (IsTask (codes "replay") (rows_of (found_of given.now))) }
     ensures err { IfErr result (IsOwn (AreNoTask (codes "replay") (rows_of (found_of given.now)))) }
@@ -97,19 +86,21 @@ fn replay(alloc: Global, given: &ArgMatches<'_>) -> Result<Task, UsageFault>
     let threads = threads(alloc, given)?;
     let steps = steps(alloc, given)?;
     let timeline = flag_given(given, "timeline");
-    if !flag_given(given, "print-schedule") {
-        return Ok(replay_of(threads, steps, timeline));
-    }
-    if timeline {
-        return Err(wrong(alloc, "one of --print-schedule and --timeline"));
-    }
-    match steps {
-        Steps::Seed { seed, count } => Ok(Task::PrintSchedule {
-            threads,
-            seed,
-            count,
-        }),
-        Steps::Schedule { .. } => Err(wrong(alloc, "--print-schedule wants --seed")),
+    let picture = flag_given(given, "picture");
+    let print_schedule = flag_given(given, "print-schedule");
+    match (timeline, picture, print_schedule) {
+        (false, false, false) => Ok(Task::Replay { threads, steps }),
+        (true, false, false) => Ok(Task::Timeline { threads, steps }),
+        (false, true, false) => Ok(Task::Picture { threads, steps }),
+        (false, false, true) => match steps {
+            Steps::Seed { seed, count } => Ok(Task::PrintSchedule {
+                threads,
+                seed,
+                count,
+            }),
+            Steps::Schedule { .. } => Err(wrong(alloc, "--print-schedule wants --seed")),
+        },
+        _ => Err(wrong(alloc, "one of --picture, --print-schedule and --timeline")),
     }
 }
 

@@ -1,2 +1,4 @@
 -- What a picture promises of its marks.
 pub mod Marks
+-- the marks of a replay
+pub mod Replayed

@@ -4,8 +4,8 @@ use Rattle.norec_core.specs.declared.step.Access.{Access}
 use Rattle.norec_core.specs.declared.step.Access.TheVariants.{Local, LoadLock, LoadWord, Swap, StoreWord, StoreLock}
 use Rattle.picture.specs.declared.step.Deed.{Deed}
 use Rattle.picture.specs.declared.step.Deed.TheVariants.{Begin, Commit, Print, Other}
-use Rattle.picture.specs.declared.step.Happening.{Happening}
-use Rattle.picture.specs.declared.step.Happening.TheVariants.{Quiet, Commit as Committed, Abort, Cancel, Trap}
+use Rattle.machine.specs.declared.event.Event.{Event}
+use Rattle.machine.specs.declared.event.Event.TheVariants.{Quiet, Commit as Committed, Abort, Cancel, Trap}
 
 -- a byte of words for people, as XML wants it; what is not printable ASCII is shown as `?`
 abbrev pub escaped : ℕ → List ℕ
@@ -26,7 +26,7 @@ is_access (Swap _) = true
 is_access (StoreWord _ _) = true
 is_access (StoreLock _) = true
 
-abbrev pub is_told : Happening → Bool
+abbrev pub is_told : Event → Bool
 is_told Quiet = false
 is_told Committed = true
 is_told Abort = true
@@ -40,11 +40,11 @@ has_mark_alone Print = true
 has_mark_alone Other = false
 
 -- a step has a mark where it is an access, where something happens in it, and where it begins, ends or prints
-abbrev pub is_noted : Access → Happening → Deed → Bool
+abbrev pub is_noted : Access → Event → Deed → Bool
 is_noted access happening deed = is_access access || is_told happening || has_mark_alone deed
 
 -- a step is drawn where it has a mark and is made up to the 400th access
-abbrev pub is_drawn : ℕ → Access → Happening → Deed → Bool
+abbrev pub is_drawn : ℕ → Access → Event → Deed → Bool
 is_drawn accesses access happening deed = nat_le accesses 400 && is_noted access happening deed
 
 -- the title of a step's mark, if it is drawn: its line

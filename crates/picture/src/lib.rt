@@ -6,6 +6,7 @@
 
 mod attempt;
 mod boxes;
+mod cells;
 pub mod laws;
 mod layout;
 mod legend;
@@ -13,11 +14,10 @@ mod lock;
 mod make;
 mod mark;
 mod pieces;
+mod replayed;
 mod sheet;
 mod step;
 mod svg;
 mod words;
 
-pub use sheet::Cell;
-pub use step::{Deed, Happening, Step};
-pub use svg::picture;
+pub use replayed::replay_picture;

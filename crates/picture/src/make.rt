@@ -5,8 +5,9 @@ use crate::layout::{BOX, lane, middle};
 use crate::mark::Look;
 use crate::pieces::{Piece, put, put_line};
 use crate::sheet::{Effect, Fold, Sheet, Store};
-use crate::step::{Happening, Step};
+use crate::step::Step;
 use crate::words::{put_name, put_value, said, words};
+use machine::Event;
 use norec_core::{Access, Answer};
 use std::alloc::{AllocError, Allocator};
 
@@ -199,7 +200,7 @@ impl<'p, A: Allocator + Copy> Sheet<'p, A> {
         word: u64,
     ) -> Result<(), AllocError> {
         let (thread, depth) = (step.thread, self.depth(step.thread));
-        if step.event == Happening::Abort {
+        if step.event == Event::Abort {
             let said = said(alloc, self.cells, b"again", cell, word, depth)?;
             self.mark(
                 to,
@@ -458,7 +459,7 @@ impl<'p, A: Allocator + Copy> Sheet<'p, A> {
         })?;
         let number = [Piece::Plain(b", #"), Piece::Number(value / 2)];
         match step.event {
-            Happening::Trap(trap) => {
+            Event::Trap(trap) => {
                 let mut said = words(
                     alloc,
                     &[

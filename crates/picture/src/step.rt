@@ -9,6 +9,7 @@ use crate::mark::Look;
 use crate::pieces::Piece;
 use crate::sheet::{Effect, Fold, Sheet};
 use crate::words::words;
+use machine::Event;
 use norec_core::{Access, Answer};
 use std::alloc::{AllocError, Allocator, Global};
 use syntax::numbers::Trap;
@@ -25,20 +26,6 @@ pub enum Deed {
     Other,
 }
 
-/// What happened in a step.
-#[derive(Clone, Copy, PartialEq, Eq)]
-pub enum Happening {
-    /// Nothing that is told.
-    Quiet,
-    /// An outermost transaction committed.
-    Commit,
-    /// An attempt was dropped.
-    Abort,
-    /// A transaction, outermost or inner, was cancelled.
-    Cancel,
-    Trap(Trap),
-}
-
 /// A step of a replay.
 #[derive(Drop)]
 pub struct Step<A: Allocator = Global> {
@@ -48,9 +35,11 @@ pub struct Step<A: Allocator = Global> {
     /// Its line of the timeline, without the LF.
     pub line: Vec<u8, A>,
     pub deed: Deed,
+    /// How many transactions a cancel in it takes away.
+    pub levels: u32,
     pub access: Access,
     pub answer: Answer,
-    pub event: Happening,
+    pub event: Event,
     /// What it printed.
     pub printed: Vec<u8, A>,
 }
@@ -60,7 +49,7 @@ impl<A: Allocator> Step<A> {
     pub fn is_noted(&self) -> bool
         ensures { result ≡ is_noted self.now.access self.now.event self.now.deed }
     {
-        self.access != Access::Local || self.event != Happening::Quiet || self.deed != Deed::Other
+        self.access != Access::Local || self.event != Event::Quiet || self.deed != Deed::Other
     }
 }
 
@@ -160,7 +149,7 @@ impl<'p, A: Allocator + Copy> Sheet<'p, A> {
 
     /// A cancel of a thread.
     fn cancel(&mut self, alloc: A, to: &mut Vec<u8, A>, step: &Step<A>) -> Result<(), AllocError> {
-        if self.depth(step.thread) == 0 {
+        if step.levels as usize > self.depth(step.thread) {
             return self.leave_after(
                 alloc,
                 to,
@@ -175,7 +164,10 @@ impl<'p, A: Allocator + Copy> Sheet<'p, A> {
             step.thread,
             Look::new(b"not", b"cancel inner", b"b", None),
         )?;
-        self.close_inner(alloc, step.thread, self.last(), Fate::Over(b"cancelled"))
+        'levels: for _ in 0..step.levels {
+            self.close_inner(alloc, step.thread, self.last(), Fate::Over(b"cancelled"))?;
+        }
+        Ok(())
     }
 
     /// A commit of a thread that wrote nothing, or the end of an inner transaction.
@@ -225,8 +217,8 @@ impl<'p, A: Allocator + Copy> Sheet<'p, A> {
             return self.make(alloc, to, step);
         }
         match (step.event, step.deed) {
-            (Happening::Trap(trap), _) => self.trap(alloc, to, step, u64::from(trap.number())),
-            (Happening::Cancel, _) => self.cancel(alloc, to, step),
+            (Event::Trap(trap), _) => self.trap(alloc, to, step, u64::from(trap.number())),
+            (Event::Cancel, _) => self.cancel(alloc, to, step),
             (_, Deed::Begin) => self.begin_inner(to, step.thread),
             (_, Deed::Commit) => self.commit(alloc, to, step),
             (_, Deed::Print) => self.print(alloc, to, step),

@@ -44,9 +44,12 @@ abbrev pub shown_words : Code → StepShown → List ℕ
 shown_words code s =
     place_words code s.status s.place ++ access_words s.access ++ answer_words s.answer ++ happened_words s.event
 
--- a step's line: the shared accesses made so far, the thread, and what is shown
+-- what a step's line says: the shared accesses made so far, the thread, and what is shown
+abbrev pub step_words : Code → ℕ × ℕ × StepShown → List ℕ
+step_words code s = decimal s.0 ++ codes " " ++ decimal s.1 ++ codes " " ++ shown_words code s.2
+
 abbrev pub step_line : Code → ℕ × ℕ × StepShown → List ℕ
-step_line code s = decimal s.0 ++ codes " " ++ decimal s.1 ++ codes " " ++ shown_words code s.2 ++ codes "\n"
+step_line code s = step_words code s ++ codes "\n"
 
 abbrev pub timeline_text : Code → List (ℕ × ℕ × StepShown) → List ℕ
 timeline_text code steps = codes "== timeline\n" ++ flat_map (step_line code) steps

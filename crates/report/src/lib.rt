@@ -8,4 +8,4 @@ mod timeline;
 
 pub use printed::{End, Printed, Shown, ThreadShown};
 pub use report::report_text;
-pub use timeline::timeline_text;
+pub use timeline::{step_text, timeline_text};

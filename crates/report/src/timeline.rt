@@ -1,7 +1,7 @@
 //! The text of a timeline.
 
 ghost use Rattle.std.specs.Prelude.{◌≡◌, ◌++◌, OnOk, IfOk, decimal};
-ghost use Rattle.report.specs.Timeline.{access_words, answer_words, happened_words, place_words, shown_words, step_line};
+ghost use Rattle.report.specs.Timeline.{access_words, answer_words, happened_words, place_words, shown_words, step_line, step_words};
 ghost use Rattle.report.specs.Timeline as spec;
 
 use crate::printed::End;
@@ -111,8 +111,23 @@ fn push_shown<A: Allocator + Copy>(
     push_told_event(report, shown.event)
 }
 
-/// Adds the line of a step.
+/// Adds what the line of a step says.
 fn push_step<A: Allocator + Copy>(
+    alloc: A,
+    report: &mut Vec<u8, A>,
+    code: &Code<A>,
+    accesses: u64,
+    thread: u32,
+    shown: &StepShown,
+) -> Result<(), AllocError>
+    ensures { OnOk result (report.new.items ≡ report.old.items ++ step_words code.now (accesses, thread, shown.now)) }
+{
+    push_told(report, accesses, thread)?;
+    push_shown(alloc, report, code, shown)
+}
+
+/// Adds the line of a step.
+fn push_line<A: Allocator + Copy>(
     alloc: A,
     report: &mut Vec<u8, A>,
     code: &Code<A>,
@@ -122,13 +137,27 @@ fn push_step<A: Allocator + Copy>(
 ) -> Result<(), AllocError>
     ensures { OnOk result (report.new.items ≡ report.old.items ++ step_line code.now (accesses, thread, shown.now)) }
 {
-    push_told(report, accesses, thread)?;
-    push_shown(alloc, report, code, shown)?;
+    push_step(alloc, report, code, accesses, thread, shown)?;
     push_bytes(report, b"\n")
 }
 
-/// The text of a timeline: a line for each step, with the accesses to the lock or the words that all threads had made with it,
-/// its thread, what stands at the thread's place in the code, the step's access with its answer, and what happened.
+/// The line of a step in a timeline, without the LF: the accesses to the lock or the words that all threads had made with it, its
+/// thread, what stands at the thread's place in the code, the step's access with its answer, and what happened.
+pub fn step_text<A: Allocator + Copy>(
+    alloc: A,
+    code: &Code<A>,
+    accesses: u64,
+    thread: u32,
+    shown: &StepShown,
+) -> Result<Vec<u8, A>, AllocError>
+    ensures { IfOk result (λ r. r.items ≡ step_words code.now (accesses, thread, shown.now)) }
+{
+    let mut line = Vec::new(alloc);
+    push_step(alloc, &mut line, code, accesses, thread, shown)?;
+    Ok(line)
+}
+
+/// The text of a timeline: a line for each step.
 pub fn timeline_text<A: Allocator + Copy>(
     alloc: A,
     code: &Code<A>,
@@ -139,7 +168,7 @@ pub fn timeline_text<A: Allocator + Copy>(
     let mut report = Vec::new(alloc);
     push_bytes(&mut report, b"== timeline\n")?;
     'steps: for (accesses, thread, shown) in steps {
-        push_step(alloc, &mut report, code, *accesses, *thread, shown)?;
+        push_line(alloc, &mut report, code, *accesses, *thread, shown)?;
     }
     Ok(report)
 }

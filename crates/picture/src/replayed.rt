@@ -1,0 +1,178 @@
+//! The steps of a replay, as they are drawn.
+
+ghost use Rattle.std.specs.Prelude.{◌≡◌, ◌++◌, IfOk, IfSome, OnSome, flat_map, slice_get};
+ghost use Rattle.replay.specs.Replays.{played, timeline_of};
+ghost use Rattle.picture.specs.Marks.{IsPicture, is_drawn, title_of};
+ghost use Rattle.picture.specs.Replayed.{deed_at, deed_of, step_title, titles};
+
+use crate::cells::cells_of;
+use crate::step::{Deed, Step};
+use crate::svg::picture;
+use bytecode::{Code, Instr};
+use machine::StepShown;
+use replay::timeline;
+use report::step_text;
+use std::alloc::{AllocError, Allocator};
+use syntax::numbers::Status;
+use syntax::tree::Unit;
+use world::World;
+
+/// What an instruction does, where a local step of it has a mark.
+fn deed_of<A: Allocator>(code: &Code<A>, place: u32) -> Deed
+    ensures { result ≡ deed_of (slice_get code.now.instructions place) }
+{
+    match code.parts().instructions.as_slice().get(place as usize) {
+        Some(Instr::Begin(_)) => Deed::Begin,
+        Some(Instr::Commit) => Deed::Commit,
+        Some(Instr::PrintText(_) | Instr::PrintSigned(_) | Instr::PrintUnsigned(_)) => Deed::Print,
+        _ => Deed::Other,
+    }
+}
+
+/// What the instruction at a thread's place does; a thread that is over does nothing.
+fn deed_at<A: Allocator>(code: &Code<A>, status: Status, place: u32) -> Deed
+    ensures { result ≡ deed_at code.now status place }
+{
+    match status {
+        Status::Running => deed_of(code, place),
+        Status::Ended | Status::Trapped(_) => Deed::Other,
+    }
+}
+
+/// How many transactions the instruction at a place takes away, where it cancels.
+fn levels_at<A: Allocator>(code: &Code<A>, place: u32) -> u32 {
+    match code.parts().instructions.as_slice().get(place as usize) {
+        Some(Instr::CancelOuter(levels)) => *levels,
+        _ => 1,
+    }
+}
+
+/// A step as it is drawn.
+fn drawn_step<A: Allocator + Copy>(
+    alloc: A,
+    code: &Code<A>,
+    accesses: u64,
+    thread: u32,
+    shown: &StepShown,
+    printed: Vec<u8, A>,
+) -> Result<Step<A>, AllocError>
+    ensures { IfOk result (λ s. title_of (is_drawn s.accesses s.access s.event s.deed) s.line.items ≡ step_title code.now (accesses, thread, shown.now)) }
+{
+    Ok(Step {
+        accesses,
+        thread,
+        line: step_text(alloc, code, accesses, thread, shown)?,
+        deed: deed_at(code, shown.status, shown.place),
+        levels: levels_at(code, shown.place),
+        access: shown.access,
+        answer: shown.answer,
+        event: shown.event,
+        printed,
+    })
+}
+
+/// Makes the next step of a thread, and gives what it printed.
+fn printed_by<A: Allocator + Copy>(
+    alloc: A,
+    world: &mut World<A>,
+    thread: u32,
+) -> Option<Vec<u8, A>> {
+    if thread >= world.threads() {
+        return None;
+    }
+    let before = world.output(thread).len();
+    let Ok(_) = world.step(thread) else {
+        return None;
+    };
+    let output = world.output(thread).as_bytes();
+    let printed = &output[before.min(output.len())..];
+    match Vec::from_slice(alloc, printed) {
+        Ok(printed) => Some(printed),
+        Err(_) => None,
+    }
+}
+
+/// Adds a step as it is drawn, which the world makes too.
+fn add_step<A: Allocator + Copy>(
+    alloc: A,
+    steps: &mut Vec<Step<A>, A>,
+    code: &Code<A>,
+    world: &mut World<A>,
+    accesses: u64,
+    thread: u32,
+    shown: &StepShown,
+) -> Option<()>
+    ensures { OnSome result (flat_map (λ s. title_of (is_drawn s.accesses s.access s.event s.deed) s.line.items) steps.new.items ≡ flat_map (λ s. title_of (is_drawn s.accesses s.access s.event s.deed) s.line.items) steps.old.items ++ step_title code.now (accesses, thread, shown.now)) }
+{
+    let printed = printed_by(alloc, world, thread)?;
+    let Ok(step) = drawn_step(alloc, code, accesses, thread, shown, printed) else {
+        return None;
+    };
+    match steps.push(step) {
+        Ok(()) => Some(()),
+        Err(_) => None,
+    }
+}
+
+/// Steps as they are drawn. The world is one in which none of them is made.
+fn drawn_steps<A: Allocator + Copy>(
+    alloc: A,
+    code: &Code<A>,
+    world: &mut World<A>,
+    shown: &[(u64, u32, StepShown)],
+) -> Option<Vec<Step<A>, A>>
+    ensures { IfSome result (λ v. flat_map (λ s. title_of (is_drawn s.accesses s.access s.event s.deed) s.line.items) v.items ≡ titles code.now shown.now) }
+{
+    let mut steps = Vec::new(alloc);
+    'shown: for (accesses, thread, step) in shown {
+        add_step(alloc, &mut steps, code, world, *accesses, *thread, step)?;
+    }
+    Some(steps)
+}
+
+/// How each thread of a world is found.
+fn ends_of<A: Allocator + Copy>(alloc: A, world: &World<A>) -> Result<Vec<Status, A>, AllocError> {
+    let mut ends = Vec::new(alloc);
+    'threads: for thread in 0..world.threads() {
+        ends.push(world.status(thread))?;
+    }
+    Ok(ends)
+}
+
+/// Draws steps as they are drawn, with how the threads of their world are found.
+fn drawn<A: Allocator + Copy>(
+    alloc: A,
+    unit: &Unit<A>,
+    steps: &[Step<A>],
+    world: &World<A>,
+    file: &[u8],
+) -> Result<Vec<u8, A>, AllocError>
+    ensures { IfOk result (λ v. IsPicture (flat_map (λ s. title_of (is_drawn s.accesses s.access s.event s.deed) s.line.items) steps.now) v.items) }
+{
+    let cells = cells_of(alloc, unit)?;
+    let ends = ends_of(alloc, world)?;
+    picture(alloc, cells.as_slice(), steps, ends.as_slice(), file)
+}
+
+/// The picture of these steps of 1 to 64 threads of a program's code. `file` is the program's name. At most 400 accesses are
+/// drawn. There is no answer where memory was refused, and where one of the steps cannot be made.
+pub fn replay_picture<A: Allocator + Copy>(
+    alloc: A,
+    unit: &Unit<A>,
+    code: &Code<A>,
+    threads: u32,
+    made: &[u32],
+    file: &str,
+) -> Option<Vec<u8, A>>
+    ensures { IfSome result (λ v. IsPicture (titles code.now (timeline_of (played code.now threads made.now))) v.items) }
+{
+    let shown = timeline(alloc, code, threads, made)?;
+    let Ok(mut world) = World::new(alloc, code, threads) else {
+        return None;
+    };
+    let steps = drawn_steps(alloc, code, &mut world, shown.as_slice())?;
+    match drawn(alloc, unit, steps.as_slice(), &world, file.as_bytes()) {
+        Ok(svg) => Some(svg),
+        Err(_) => None,
+    }
+}

@@ -1,0 +1,123 @@
+#!/usr/bin/env python3
+"""Holds pictures of replays against their timelines and their sources, and the pictures of the documents against what is drawn now.
+
+  scripts/pictures.py [SEEDS [TXC]]     each program of examples/ by so many seeds (20), with two to four threads
+  scripts/pictures.py --write [TXC]     draws the pictures of docs/pictures/ anew
+
+TXC is the program, crates/txc/out/txc if it is not given, which `cd crates/txc && rt run -- --version` builds; the one of
+scripts/quick_build.py will do. Of each picture it is shown that
+
+  - it is XML;
+  - its marks are titled by the lines of the timeline that have one: accesses, what happens, begins, ends and prints, up to access 400;
+  - it has an arrow for each abort;
+  - where all threads are over and nothing is cut off, the order at its foot, given to `txc source --order`, leaves what the replay left.
+"""
+
+import glob
+import os
+import re
+import subprocess
+import sys
+import xml.etree.ElementTree as xml
+
+TOP = os.path.dirname(os.path.dirname(os.path.abspath(__file__)))
+SVG = "{http://www.w3.org/2000/svg}"
+MOST = 400
+LINE = re.compile(r"(\d+) (\d+) (.*)")
+MARKED = re.compile(r"; |^\d+ (begin|commit|print)")
+IN_ORDER = re.compile(r"T(\d+) \((\d+)\)")
+# Each picture of the documents, and what draws it.
+SHOWN = {
+    "counter.svg": ["counter.c", "--threads", "2", "--schedule", "schedules/counter.txt"],
+    "booking.svg": ["booking.c", "--threads", "2", "--seed", "3"],
+}
+
+
+def out_of(txc, *words):
+    """What the program prints."""
+    done = subprocess.run([txc, *words], capture_output=True, text=True, check=False, cwd=f"{TOP}/examples")
+    if done.stderr:
+        sys.exit(f"{' '.join(words)}: {done.stderr}")
+    return done.stdout
+
+
+def marked(timeline):
+    """The lines of a timeline that have a mark, up to the last access that is drawn."""
+    for line in timeline.splitlines()[1:]:
+        accesses, _, said = LINE.fullmatch(line).groups()
+        if int(accesses) <= MOST and MARKED.search(said):
+            yield line
+
+
+def order_at_foot(root):
+    """The threads of the order at the foot of a picture."""
+    texts = ["".join(it.itertext()) for it in root.iter(f"{SVG}text")]
+    listed = texts[texts.index("In order:") + 1:]
+    return [found[1] for found in map(IN_ORDER.search, listed) if found]
+
+
+def left_by(report):
+    """What a report tells behind what happened."""
+    return report[report.index("== thread 0"):]
+
+
+def differs(txc, file, words):
+    """Why the picture of a replay is not what it should be, if it is not."""
+    replay = ["replay", file, *words]
+    drawn = out_of(txc, *replay, "--picture")
+    shown = out_of(txc, *replay, "--timeline")
+    timeline, _, report = shown.partition("== events\n")
+    try:
+        root = xml.fromstring(drawn)
+    except xml.ParseError as why:
+        return f"is not XML: {why}"
+    titles = [it.text for it in root.iter(f"{SVG}title") if it.get("id") is None]
+    lines = list(marked(timeline))
+    if titles != lines:
+        return "has other marks than the timeline"
+    arrows = [it for it in root.iter(f"{SVG}polyline") if it.get("class") == "why"]
+    if len(arrows) != sum(line.endswith("; abort") for line in lines):
+        return "has not an arrow for each abort"
+    cut = int(timeline.splitlines()[-1].split()[0]) > MOST
+    if not cut and ": running" not in report and ": stop" not in report:
+        threads = words[words.index("--threads") + 1]
+        order = ",".join(order_at_foot(root))
+        if out_of(txc, "source", file, "--threads", threads, "--order", order) != left_by(report):
+            return "has an order that leaves something else"
+    return None
+
+
+def main():
+    write = "--write" in sys.argv
+    words = [word for word in sys.argv[1:] if word != "--write"]
+    seeds = int(words.pop(0)) if words and words[0].isdigit() else 20
+    txc = os.path.abspath(words[0]) if words else f"{TOP}/crates/txc/out/txc"
+    if not os.path.isfile(txc):
+        sys.exit(f"{txc} is not there: cd crates/txc && rt run -- --version")
+    wrong = 0
+    for name, replay in SHOWN.items():
+        drawn = out_of(txc, "replay", *replay, "--picture")
+        path = f"{TOP}/docs/pictures/{name}"
+        if write:
+            with open(path, "w", encoding="utf-8") as file:
+                file.write(drawn)
+        elif open(path, encoding="utf-8").read() != drawn:
+            wrong += 1
+            print(f"docs/pictures/{name} is not what is drawn: scripts/pictures.py --write")
+    if write:
+        return
+    for path in sorted(glob.glob(f"{TOP}/examples/*.c")):
+        file, count = os.path.basename(path), 0
+        for seed in range(1, seeds + 1):
+            why = differs(txc, file, ["--threads", str(2 + seed % 3), "--seed", str(seed), "--steps", str(60 * seed)])
+            if why:
+                wrong += 1
+                print(f"{file}, seed {seed}: the picture {why}")
+            else:
+                count += 1
+        print(f"{file}: {count} pictures")
+    sys.exit(wrong > 0)
+
+
+if __name__ == "__main__":
+    main()
