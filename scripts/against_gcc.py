@@ -44,7 +44,7 @@ __attribute__((transaction_pure)) void against_pause(void);
 #define printf against_print
 #line 1 "program.c"
 """
-TRANSACTION = re.compile(r"(__transaction_(?:atomic|relaxed)\s*\{)")
+TRANSACTION = re.compile(r"(__transaction_(?:atomic|relaxed)(?:\s*\[\[outer\]\])?\s*\{)")
 GLOBAL = re.compile(r"(unsigned int|signed int|unsigned|signed|int)\b(.*)$", re.S)
 DECLARATOR = re.compile(r"\s*(\w+)\s*(?:\[\s*(\w+?)[uU]?\s*\])?")
 

@@ -13,10 +13,10 @@ import re
 Expr = collections.namedtuple("Expr", "form parts")
 Stmt = collections.namedtuple("Stmt", "form parts body tail")
 # Where a statement stands: how many transactions and blocks are around it; whether an atomic one is around it in the text;
-# whether what is unsafe, shared data, and leaving a loop may stand here; and what a `return` gives.
-Place = collections.namedtuple("Place", "transactions depth is_atomic may_unsafe may_share in_loop returns")
+# whether what is unsafe, shared data, and leaving a loop may stand here; what a `return` gives; and whether an outer one is around it.
+Place = collections.namedtuple("Place", "transactions depth is_atomic may_unsafe may_share in_loop returns in_outer")
 # How often what is drawn, beside what is always drawn; `room` is how many statements a transaction has.
-WEIGHTS = {"nest": 3, "relaxed": 2, "cancel": 2, "leave": 1, "call": 2, "room": 8, "wide": 2, "return": 1}
+WEIGHTS = {"nest": 3, "relaxed": 2, "cancel": 2, "leave": 1, "call": 2, "room": 8, "wide": 2, "return": 1, "value": 2, "outer": 1}
 NUMBERS = ["0u", "1u", "2u", "3u", "5u", "7u", "10u", "100u", "4294967295u"]
 # What GCC may make one wide access of, or a call of `memset`: {a}, {b} are arrays, {i} a new counter, {op} an assignment.
 WIDE = 2 * ["for (int {i} = 0; {i} < 8; {i}++) {{ {a}[{i}] = 0u; }}"] + [
@@ -45,6 +45,7 @@ class Program:
     def __init__(self, seed, threads, weights):
         self.chance, self.threads, self.weights = random.Random(seed), threads, {**WEIGHTS, **weights}
         self.names, self.functions, self.arrays, self.scalars, self.ints = 0, [], [], [], []
+        self.compares = True
 
     def pick(self, things):
         return self.chance.choice(list(things))
@@ -70,8 +71,18 @@ class Program:
                 return Expr(self.pick(self.arrays) + "[{}]", [self.index(names, depth, shared)])
         return self.pick(atoms)
 
+    def value(self, names, depth):
+        """A transaction that is an expression: in it shared data may stand, wherever it stands itself."""
+        # GCC 12.2.0 ends with an internal error where a comparison stands in one
+        kept, self.compares = self.compares, False
+        made = Expr("__transaction_atomic ({})", [self.expr(names, depth)])
+        self.compares = kept
+        return made
+
     def expr(self, names, depth, shared=True):
         draw = self.chance.random()
+        if depth > 0 and self.happens(self.weights["value"] * 0.04):
+            return self.value(names, depth - 1)
         if depth <= 0 or draw < 0.35:
             return self.atom(names, depth, shared)
 
@@ -82,7 +93,7 @@ class Program:
             return Expr("({} " + self.pick("+-*^&|+-") + " {})", [inner(), inner()])
         if draw < 0.9:
             return Expr("({} " + self.pick(["<<", ">>"]) + " " + self.pick("123") + ")", [inner()])
-        if draw < 0.95:
+        if draw < 0.95 or not self.compares:
             return Expr("({} " + self.pick("/%") + " ({} | 1u))", [inner(), inner()])
         return Expr("({} ? {} : {})", [self.condition(names, depth - 1, shared), inner(), inner()])
 
@@ -118,6 +129,7 @@ class Program:
             "for": 2 if place.depth < 5 else 0,
             "atomic": (weights["nest"] if place.transactions else 8) if nests else 0,
             "relaxed": weights["relaxed"] if nests and place.may_unsafe else 0,
+            "outer": weights["outer"] if nests and not place.transactions else 0,
             "cancel": weights["cancel"] if place.is_atomic else 0,
             "leave": weights["leave"] if place.in_loop else 0,
             "return": weights["return"] if place.returns else 0,
@@ -129,6 +141,8 @@ class Program:
     def stmt(self, names, room, place):
         shared = place.transactions > 0 or place.may_share
         able = [it for it in self.functions if it["unsafe"] <= place.may_unsafe and (shared or not it["shares"])]
+        # GCC 12.2.0 has no outer transaction in another one
+        able = [it for it in able if not (it["outer"] and place.transactions)]
         kind = self.pick(self.kinds(place, able))
         own = [it for it in names if it[0] in "lp"]
         if kind == "declare" or kind == "local" and not own:
@@ -170,10 +184,14 @@ class Program:
         if kind == "call":
             function = self.pick(able)
             parts = [self.expr(names, 1, shared) for _ in range(function["params"])]
-            form = f"{function['name']}({', '.join('{}' for _ in parts)});"
-            return line(self.pick(own) + " = " + form if own and self.happens(0.8) else form, *parts)
+            form = f"{function['name']}({', '.join('{}' for _ in parts)})"
+            mode = "relaxed" if function["unsafe"] else "atomic"
+            if not function["outer"] and self.happens(self.weights["value"] * 0.1):
+                # in parentheses, since GCC 12.2.0 takes it for a block where a statement begins with it
+                form = f"(__transaction_{mode} ({form}))"
+            return line(f"{self.pick(own)} = {form};" if own and self.happens(0.8) else f"{form};", *parts)
         if kind == "cancel":
-            cancel = line("__transaction_cancel;")
+            cancel = line("__transaction_cancel" + (" [[outer]];" if place.in_outer and self.happens(0.5) else ";"))
             return cancel if self.happens(0.25) else block("if {} {{", [self.condition(names, 1)], [cancel])
         if kind == "leave":
             back = line(self.pick(["break;", "continue;"]))
@@ -190,10 +208,11 @@ class Program:
             name = self.name("i")
             form = f"for (int {name} = 0; {name} < {self.pick('1233')}; {name}++) {{{{"
             return block(form, [], self.stmts([*names, f"(unsigned){name}"], room, inside._replace(in_loop=True)))
-        inside = inside._replace(transactions=place.transactions + 1, is_atomic=kind == "atomic")
-        if kind == "atomic":
-            inside = inside._replace(may_unsafe=False)
-        return block(f"__transaction_{kind} {{{{/*pause*/", [], self.stmts(names, room, inside))
+        inside = inside._replace(transactions=place.transactions + 1, is_atomic=kind != "relaxed")
+        if kind != "relaxed":
+            inside = inside._replace(may_unsafe=False, in_outer=place.in_outer or kind == "outer")
+        word = "atomic [[outer]]" if kind == "outer" else kind
+        return block(f"__transaction_{word} {{{{/*pause*/", [], self.stmts(names, room, inside))
 
     # ---- the whole -----------------------------------------------------------------------------------------------------
 
@@ -209,29 +228,39 @@ class Program:
             self.ints.append(self.name("n"))
             yield line(f"int {self.ints[-1]}" + self.pick(["", " = 5"]) + ";")
 
+    def leads_to_outer(self, body):
+        """Whether an outer transaction, or a call of a function that leads to one, stands in these statements."""
+        marks = ["atomic [[outer]]"] + [f"{it['name']}(" for it in self.functions if it["outer"]]
+        return any(mark in it.form for it in body for mark in marks) or any(self.leads_to_outer(it.body or []) for it in body)
+
     def function(self, place):
         unsafe = self.weights["relaxed"] > 0 and self.happens(0.25)
         names = [self.name("p") for _ in range(self.chance.randint(0, 2))]
-        made = {"name": self.name("f"), "params": len(names), "shares": self.happens(0.7), "unsafe": unsafe}
+        made = {"name": self.name("f"), "params": len(names), "shares": self.happens(0.7), "unsafe": unsafe, "outer": False}
         place = place._replace(may_share=made["shares"], may_unsafe=unsafe, returns="value")
         body = self.stmts(names, [6], place) + [line("return {};", self.expr(names, 1, made["shares"]))]
+        made["outer"] = self.leads_to_outer(body)
         self.functions.append(made)
         return block(f"unsigned {made['name']}({', '.join('unsigned ' + it for it in names)}) {{{{", [], body)
 
     def transaction(self, names, place):
+        if self.happens(self.weights["value"] * 0.06):
+            return [line("l = {};", self.value(names, 2)), line('printf("v %u\\n", {});', Expr("l", []))]
         mode = "relaxed" if self.happens(self.weights["relaxed"] * 0.12) else "atomic"
+        is_outer = mode == "atomic" and self.happens(self.weights["outer"] * 0.2)
         inside = place._replace(transactions=1, is_atomic=mode == "atomic", may_unsafe=mode == "relaxed", depth=1)
+        inside = inside._replace(in_outer=is_outer)
         body = self.stmts(names, [self.weights["room"]], inside)
         if self.happens(0.7):
             body.append(line("l = {};", self.expr(names, 2)))
-        made = block(f"__transaction_{mode} {{{{/*pause*/", [], body)
+        made = block(f"__transaction_{mode}{' [[outer]]' * is_outer} {{{{/*pause*/", [], body)
         if self.happens(0.15):
             made = block("for (int i0 = 0; i0 < 2; i0++) {{", [], [made])
         return [made, line('printf("v %u\\n", {});', Expr("l", []))] if self.happens(0.7) else [made]
 
     def items(self):
         """Globals, functions, and a worker whose threads do one or two transactions each."""
-        place = Place(0, 0, False, False, False, False, None)
+        place = Place(0, 0, False, False, False, False, None, False)
         items = list(self.globals())
         for _ in range(self.chance.randint(0, 2) if self.weights["call"] else 0):
             items.append(self.function(place))

@@ -35,15 +35,16 @@ def report(txc, *words):
 
 
 def cancels_inside(source):
-    """Whether the program's cancels are of transactions that stand in others. They have to be all of one kind."""
+    """Whether the program's cancels are of transactions that stand in others. They have to be all of one kind. An outer cancel is taken
+    for one of an outermost transaction."""
     kinds, blocks, opens = set(), [], False
-    for word in re.findall(r"//.*|__transaction_\w+|[{}]", source):
+    for word in re.findall(r"//.*|__transaction_cancel \[\[outer\]\]|__transaction_\w+|[{}]", source):
         if word == "{":
             blocks.append(opens)
         elif word == "}":
             blocks.pop()
-        elif word == "__transaction_cancel":
-            kinds.add(sum(blocks) > 1)
+        elif word.startswith("__transaction_cancel"):
+            kinds.add(sum(blocks) > 1 and "outer" not in word)
         opens = word in ("__transaction_atomic", "__transaction_relaxed")
     assert len(kinds) < 2
     return kinds == {True}

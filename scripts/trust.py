@@ -29,11 +29,13 @@ PROMISES = (
     ("`txc replay`, by the source alone", "PrintsReport RunsInSomeOrder behind_events"),
     ("`txc replay`, all", "PrintsReport RunsInSomeOrder behind_events Replays"),
     ("`txc replay --timeline`", "PrintsTimeline RunsInSomeOrder behind_events ReplaysShown"),
+    ("`txc replay --picture`", "PrintsPicture ReplaysDrawn"),
     ("`txc replay --print-schedule`", "PrintsSchedule lines_of_seed"),
     ("`txc check`", "SaysAccepted"),
     ("`txc listing`", "PrintsListing"),
     ("a refusal (status 1)", "IsRefused"),
-    ("`serve`: all of these", "AnswersRequest IsRefused"),
+    ("what is written, whatever the status", "WritesFor"),
+    ("`serve`: all of these", "AnswersRequest WritesFor IsRefused"),
 )
 
 

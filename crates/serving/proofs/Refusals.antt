@@ -6,7 +6,7 @@ use Rattle.syntax.specs.Grammar.{Source as Spelled}
 use Rattle.syntax.specs.Tree.{Defines, Program}
 use Rattle.separation.specs.Touching.{IsAccepted}
 use Rattle.command.specs.declared.request.Task.{Task}
-use Rattle.command.specs.declared.request.Task.TheVariants.{Check, Listing, Run, Replay, Timeline, PrintSchedule, Source}
+use Rattle.command.specs.declared.request.Task.TheVariants.{Check, Listing, Run, Replay, Timeline, Picture, PrintSchedule, Source}
 use Rattle.lex.specs.declared.fault.LexFault.TheVariants.{FileTooLong}
 use Rattle.lex.specs.declared.lexer.TheConstants.{MOST_BYTES}
 use Rattle.lower.specs.Faults.{IsFaultOf}
@@ -46,7 +46,7 @@ pub long_refused : (known : Option (List ℕ)) → IfSome known (λ bytes. MOST_
 long_refused None long = tt
 long_refused (Some bytes) long = (Lex FileTooLong, long, refl)
 
-neither : (status : ℕ) → status ≢ 0 → status ≢ 3 → (status ≡ 0) ⊎ (status ≡ 3) → ⊥
+pub neither : (status : ℕ) → status ≢ 0 → status ≢ 3 → (status ≡ 0) ⊎ (status ≡ 3) → ⊥
 neither status zero three (inl e) = zero e
 neither status zero three (inr e) = three e
 
@@ -57,6 +57,7 @@ nothing_printed Listing schedule text status old new zero three = λ e. absurd (
 nothing_printed (Run threads budget) schedule text status old new zero three = λ e. absurd (neither status zero three e)
 nothing_printed (Replay threads steps) schedule text status old new zero three = λ e. absurd (neither status zero three e)
 nothing_printed (Timeline threads steps) schedule text status old new zero three = λ e. absurd (neither status zero three e)
+nothing_printed (Picture threads steps) schedule text status old new zero three = λ e. absurd (neither status zero three e)
 nothing_printed (PrintSchedule threads seed count) schedule text status old new zero three = λ e. absurd (zero e)
 nothing_printed (Source threads order ticks) schedule text status old new zero three = λ e. absurd (neither status zero three e)
 

@@ -29,6 +29,9 @@ use Rattle.serving.specs.declared.compiled.Compiled.{Compiled}
 use Rattle.serving.specs.Codes.{IsCodeOf}
 use Rattle.serving.specs.Checks.{IsSourceOf}
 use Rattle.serving.specs.Replays.{AreLinesOf, IsReplayOf, IsReplayOfText, Replays, ReplaysShown, lines_of_seed}
+use Rattle.picture.specs.Marks.{IsPicture}
+use Rattle.picture.specs.Replayed.{titles}
+use Rattle.serving.specs.Pictures.{ReplaysDrawn}
 use Rattle.serving.specs.inner.Replayed.{report_shown}
 use Rattle.serving.proofs.Codes.{compiles}
 
@@ -93,6 +96,15 @@ lines_of seed threads count rows found slice is same few asked =
     let words = first_words pcg32 count (generator_of seed) in
     let counted : counts (lines_of_seed seed threads count) ≡ count = counts_of_words threads words ∙ words_counted count (generator_of seed) in
     (subst (λ (ls : List Line). AreRows rows ls) (same ∙ is) asked, omega (arith, counted, few))
+
+-- with its picture
+pub replays_drawn : (threads : ℕ) (steps : Steps) (schedule : Option (List ℕ)) (text : List ℕ) (code : Code) (made : List ℕ) (stop : Option WorldStop) (shown : Printed) (svg : List ℕ) → stop ≡ None → IsReplayOfText threads steps schedule text code made stop shown → IsPicture (titles code (timeline_of (played code threads made))) svg → ReplaysDrawn threads steps schedule text svg shown
+replays_drawn threads steps schedule text code made stop shown svg whole replay drawn = record {
+  code = code;
+  made = made;
+  replay = subst (λ (s : Option WorldStop). IsReplayOfText threads steps schedule text code made s shown) whole replay;
+  drawn = drawn;
+}
 
 -- what is written behind other bytes
 pub appends_more : (a b c : Option (List ℕ)) (bs cs : List ℕ) → Appends a b bs → Appends b c cs → Appends a c (bs ++ cs)

@@ -3,12 +3,13 @@ use Rattle.std.specs.Prelude.{ℕ, List, Option}
 use Rattle.command.specs.declared.request.Request.{Request}
 use Rattle.command.specs.declared.request.Request.TheVariants.{Program, Explain}
 use Rattle.command.specs.declared.request.Task.{Task}
-use Rattle.command.specs.declared.request.Task.TheVariants.{Check, Listing, Run, Replay, Timeline, PrintSchedule, Source}
+use Rattle.command.specs.declared.request.Task.TheVariants.{Check, Listing, Run, Replay, Timeline, Picture, PrintSchedule, Source}
 use Rattle.serving.specs.Checks.{SaysAccepted}
 use Rattle.serving.specs.Listings.{PrintsListing}
 use Rattle.serving.specs.Reports.{PrintsReport}
 use Rattle.serving.specs.Orders.{RunsInOrder, RunsInSomeOrder}
 use Rattle.serving.specs.Runs.{RunsAtOnce}
+use Rattle.serving.specs.Pictures.{PrintsPicture, ReplaysDrawn}
 use Rattle.serving.specs.Replays.{PrintsSchedule, PrintsTimeline, Replays, ReplaysShown, behind_events, lines_of_seed}
 
 -- a task with a text: the bytes that the writer had, if they are known, and those that it has then; a replay may have a
@@ -25,6 +26,8 @@ Answers (Replay threads steps) schedule text status old new =
 Answers (Timeline threads steps) schedule text status old new =
     PrintsTimeline (λ lines shown. RunsInSomeOrder threads text (behind_events shown)
     × ReplaysShown threads steps schedule text lines shown) status old new
+Answers (Picture threads steps) schedule text status old new =
+    PrintsPicture (λ svg shown. ReplaysDrawn threads steps schedule text svg shown) status old new
 Answers (PrintSchedule threads seed count) schedule text status old new =
     PrintsSchedule (lines_of_seed seed threads count) text status old new
 Answers (Source threads order ticks) schedule text status old new =

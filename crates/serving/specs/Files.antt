@@ -4,9 +4,10 @@ use Rattle.command.specs.declared.request.Request.{Request}
 use Rattle.command.specs.declared.request.Request.TheVariants.{Program, Explain}
 use Rattle.command.specs.declared.request.Steps.TheVariants.{Schedule}
 use Rattle.command.specs.declared.request.Task.{Task}
-use Rattle.command.specs.declared.request.Task.TheVariants.{Replay, Timeline}
+use Rattle.command.specs.declared.request.Task.TheVariants.{Picture, Replay, Timeline}
 use Rattle.serving.specs.Answers.{Answers}
 use Rattle.serving.specs.Refusals.{IsRefused}
+use Rattle.serving.specs.Written.{IsAskedFor, WritesPart}
 
 -- the bytes of the file of each name, where they are known
 abbrev pub Contents : Type 0
@@ -16,6 +17,7 @@ Contents = List ℕ → Option (List ℕ)
 abbrev pub schedule_of : Task → Option (List ℕ)
 schedule_of (Replay threads (Schedule file)) = Some (string_bytes file)
 schedule_of (Timeline threads (Schedule file)) = Some (string_bytes file)
+schedule_of (Picture threads (Schedule file)) = Some (string_bytes file)
 schedule_of _ = None
 
 -- the bytes of the file of this name; where there is no name, there is no byte
@@ -28,6 +30,12 @@ abbrev pub AnswersFiles : Request → Contents → (status : ℕ) → (old new :
 AnswersFiles (Program file verbose task) contents status old new = IfSome (contents (string_bytes file))
     (λ bytes. Answers task (schedule_in contents (schedule_of task)) bytes status old new)
 AnswersFiles (Explain number) contents status old new = Unit {0}
+
+-- what is written for a request, where these are the bytes of files
+abbrev pub WritesForFiles : Request → Contents → (old new : Option (List ℕ)) → Type 0
+WritesForFiles (Program file verbose task) contents old new = IfSome (contents (string_bytes file))
+    (λ bytes. WritesPart (IsAskedFor task (schedule_in contents (schedule_of task)) bytes) old new)
+WritesForFiles (Explain number) contents old new = Unit {0}
 
 -- a source is named, and it is refused
 abbrev pub RefusesSource : Request → Contents → Type 0

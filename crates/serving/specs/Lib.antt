@@ -16,12 +16,16 @@ pub mod Listings
 pub mod Runs
 -- replays
 pub mod Replays
+-- pictures of replays
+pub mod Pictures
 -- why a source is refused
 pub mod Refusals
 -- why a program has no code
 pub mod Limits
 -- laws of reports
 pub mod Laws
+-- what is written for a request
+pub mod Written
 -- what is answered to a request
 pub mod Answers
 -- the files that a request names

@@ -2,8 +2,9 @@
 
 ghost use Rattle.std.specs.Prelude.{◌≡◌, ◌≤◌, ℕ, IfOk, IfSome, List, Option, option_map};
 ghost use Rattle.serving.specs.Answers.{Answers};
-ghost use Rattle.serving.specs.Files.{AnswersFiles, RefusesSource, schedule_in, schedule_of};
+ghost use Rattle.serving.specs.Files.{AnswersFiles, RefusesSource, WritesForFiles, schedule_in, schedule_of};
 ghost use Rattle.serving.specs.Refusals.{IsRefused};
+ghost use Rattle.serving.specs.Written.{IsAskedFor, WritesPart};
 
 use crate::request::{explain, serve_program};
 use crate::tell::{Detail, not_read};
@@ -41,6 +42,7 @@ pub fn serve_files<H: Threads + Wait + Sync, F: Files, W: Write, E: Write + IsTe
 ) -> u8
     ensures status { result ≤ 4 }
     ensures answer { AnswersFiles request.now (F.contents files.now) result (W.contents out.old) (W.contents out.new) }
+    ensures written { WritesForFiles request.now (F.contents files.now) (W.contents out.old) (W.contents out.new) }
     ensures refused { result ≡ 1 → RefusesSource request.now (F.contents files.now) }
     ensures untouched { result ≡ 1 → W.contents out.new ≡ W.contents out.old }
 {
@@ -73,6 +75,7 @@ fn open_source<H: Threads + Wait + Sync, F: Files, W: Write, E: Write>(
 ) -> u8
     ensures status { result ≤ 4 }
     ensures answer { IfSome (F.contents files.now file.now) (λ bytes. Answers task.now (schedule_in (F.contents files.now) (schedule_of task.now)) bytes result (W.contents out.old) (W.contents out.new)) }
+    ensures written { IfSome (F.contents files.now file.now) (λ bytes. WritesPart (IsAskedFor task.now (schedule_in (F.contents files.now) (schedule_of task.now)) bytes) (W.contents out.old) (W.contents out.new)) }
     ensures refused { result ≡ 1 → IfSome (F.contents files.now file.now) (λ bytes. IsRefused bytes) }
     ensures untouched { result ≡ 1 → W.contents out.new ≡ W.contents out.old }
 {
@@ -96,6 +99,7 @@ fn open_schedule<H: Threads + Wait + Sync, F: Files, R: Read + Drop, W: Write, E
 ) -> u8
     ensures status { result ≤ 4 }
     ensures answer { IfSome (R.remaining source) (λ bytes. Answers task.now (schedule_in (F.contents files.now) (schedule_of task.now)) bytes result (W.contents out.old) (W.contents out.new)) }
+    ensures written { IfSome (R.remaining source) (λ bytes. WritesPart (IsAskedFor task.now (schedule_in (F.contents files.now) (schedule_of task.now)) bytes) (W.contents out.old) (W.contents out.new)) }
     ensures refused { result ≡ 1 → IfSome (R.remaining source) (λ bytes. IsRefused bytes) }
     ensures untouched { result ≡ 1 → W.contents out.new ≡ W.contents out.old }
 {
@@ -130,6 +134,10 @@ fn schedule_of(task: &Task) -> Option<&str>
             ..
         }
         | Task::Timeline {
+            steps: Steps::Schedule { file },
+            ..
+        }
+        | Task::Picture {
             steps: Steps::Schedule { file },
             ..
         } => Some(file.as_str()),

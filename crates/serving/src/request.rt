@@ -1,25 +1,30 @@
 //! Answers a request over readers and writers.
 
-ghost use Rattle.std.specs.Prelude.{◌≡◌, ◌≢◌, ◌≤◌, ◌⊎◌, IfErr, IfOk, IfSome, None};
+ghost use Rattle.std.specs.Prelude.{◌≡◌, ◌≢◌, ◌≤◌, ◌⊎◌, ◌++◌, IfErr, IfOk, IfSome, None, codes};
 ghost use Rattle.std.specs.Io.KnownBytes.{Appends};
 ghost use Rattle.serving.specs.Answers.{Answers, AnswersRequest};
 ghost use Rattle.replay.specs.Replays.{played, timeline_of};
+ghost use Rattle.report.specs.Report.{report_text};
 ghost use Rattle.report.specs.Timeline.{timeline_text};
 ghost use Rattle.report.specs.Views.{printed_of};
-ghost use Rattle.serving.specs.Checks.{SaysAccepted};
-ghost use Rattle.serving.specs.Listings.{PrintsListing};
+ghost use Rattle.serving.specs.Checks.{Accepts, SaysAccepted};
+ghost use Rattle.serving.specs.Listings.{Lists, PrintsListing};
+ghost use Rattle.picture.specs.Marks.{IsPicture};
+ghost use Rattle.picture.specs.Replayed.{titles};
 ghost use Rattle.serving.specs.Orders.{RunsInOrder, RunsInSomeOrder};
+ghost use Rattle.serving.specs.Pictures.{PrintsPicture, ReplaysDrawn};
 ghost use Rattle.serving.specs.Refusals.{IsRefused};
 ghost use Rattle.serving.specs.Replays.{IsReplayOfText, PrintsSchedule, PrintsTimeline, Replays, ReplaysShown, behind_events, lines_of_seed};
-ghost use Rattle.serving.specs.Reports.{PrintsReport};
+ghost use Rattle.serving.specs.Reports.{PrintsReport, exit_status};
 ghost use Rattle.serving.specs.Runs.{RunsAtOnce};
+ghost use Rattle.serving.specs.Written.{AppendsBeginning, IsAskedFor, IsReplayPicture, IsReplayReport, IsReplayTimeline, IsReportOf, IsSeedSchedule, WritesFor, WritesPart};
 ghost use Rattle.serving.specs.inner.Printing.{PrintsBehind, PrintsShown};
 
 use crate::compiled::{Compiled, compile};
 use crate::concurrent::{ThreadsFault, run_threads};
 use crate::laws::reports_are_orders;
 use crate::listed::list_source;
-use crate::order::{OrderFault, run_in_order};
+use crate::order::{OrderFault, run_in_order, unit_of};
 use crate::replayed::{Replayed, replay_code};
 use crate::run::check_source;
 use crate::scheduled::{lines_of, lines_picked};
@@ -33,6 +38,7 @@ use crate::timeline::lines_shown;
 use bytecode::Code;
 use command::{Request, Steps, Task};
 use faults::explanation;
+use picture::replay_picture;
 use replay::write_schedule;
 use report::{Printed, report_text};
 use std::alloc::{Allocator, Global};
@@ -61,6 +67,7 @@ pub fn serve<H: Threads + Wait + Sync, R: Read + Drop, S: Read + Drop, W: Write,
     ensures status { result ≤ 4 }
     ensures answer { IfSome (R.remaining source) (λ bytes. AnswersRequest request.now (S.remaining schedule) bytes result (W.contents out.old) (W.contents out.new)) }
     ensures refused { result ≡ 1 → IfSome (R.remaining source) (λ bytes. IsRefused bytes) }
+    ensures written { WritesFor request.now (S.remaining schedule) (R.remaining source) (W.contents out.old) (W.contents out.new) }
     ensures untouched { result ≡ 1 → W.contents out.new ≡ W.contents out.old }
 {
     match request {
@@ -110,20 +117,32 @@ pub(crate) fn serve_program<
     ensures status { result ≤ 4 }
     ensures answer { IfSome (R.remaining source) (λ bytes. Answers task.now (S.remaining schedule) bytes result (W.contents out.old) (W.contents out.new)) }
     ensures refused { result ≡ 1 → IfSome (R.remaining source) (λ bytes. IsRefused bytes) }
+    ensures written { IfSome (R.remaining source) (λ bytes. WritesPart (IsAskedFor task.now (S.remaining schedule) bytes) (W.contents out.old) (W.contents out.new)) }
     ensures untouched { result ≡ 1 → W.contents out.new ≡ W.contents out.old }
 {
     match read_source(alloc, source) {
-        Ok(Source::Text(text)) => work(rt, alloc, task, text.as_str(), schedule, detail, out, err),
+        Ok(Source::Text(text)) => work(
+            rt,
+            alloc,
+            file,
+            task,
+            text.as_str(),
+            schedule,
+            detail,
+            out,
+            err,
+        ),
         Ok(Source::NotText) => not_text(file, err),
         Ok(Source::TooLong) => too_long(err),
         Err(error) => not_read(file, &error, detail, err),
     }
 }
 
-/// Does what is asked with the text of a program.
+/// Does what is asked with the text of the program in a file.
 fn work<H: Threads + Wait + Sync, S: Read + Drop, W: Write, E: Write>(
     rt: &H,
     alloc: Global,
+    file: &str,
     task: &Task,
     text: &str,
     schedule: S,
@@ -134,6 +153,7 @@ fn work<H: Threads + Wait + Sync, S: Read + Drop, W: Write, E: Write>(
     ensures status { result ≤ 4 }
     ensures answer { Answers task.now (S.remaining schedule) text.now result (W.contents out.old) (W.contents out.new) }
     ensures refused { result ≡ 1 → IsRefused text.now }
+    ensures written { WritesPart (IsAskedFor task.now (S.remaining schedule) text.now) (W.contents out.old) (W.contents out.new) }
     ensures untouched { result ≡ 1 → W.contents out.new ≡ W.contents out.old }
 {
     match task {
@@ -154,6 +174,9 @@ fn work<H: Threads + Wait + Sync, S: Read + Drop, W: Write, E: Write>(
         ),
         Task::Timeline { threads, steps } => show_steps(
             alloc, text, *threads, steps, schedule, detail, out, err,
+        ),
+        Task::Picture { threads, steps } => draw(
+            alloc, file, text, *threads, steps, schedule, detail, out, err,
         ),
         Task::PrintSchedule {
             threads,
@@ -191,6 +214,7 @@ fn run<H: Threads + Wait + Sync, W: Write, E: Write>(
     ensures status { result ≤ 4 }
     ensures report { PrintsReport (λ shown. RunsInSomeOrder threads text.now shown × RunsAtOnce threads budget text.now shown) result (W.contents out.old) (W.contents out.new) }
     ensures refused { result ≡ 1 → IsRefused text.now }
+    ensures written { WritesPart (IsReportOf (RunsAtOnce threads budget text.now)) (W.contents out.old) (W.contents out.new) }
     ensures untouched { result ≡ 1 → W.contents out.new ≡ W.contents out.old }
 {
     reports_are_orders();
@@ -215,11 +239,12 @@ fn replay_source<A: Allocator + Copy, S: Read + Drop, W: Write, E: Write>(
     ensures status { result ≤ 4 }
     ensures report { PrintsReport (λ shown. RunsInSomeOrder threads text.now (behind_events shown) × Replays threads steps.now (S.remaining schedule) text.now shown) result (W.contents out.old) (W.contents out.new) }
     ensures refused { result ≡ 1 → IsRefused text.now }
+    ensures written { WritesPart (IsReplayReport threads steps.now (S.remaining schedule) text.now) (W.contents out.old) (W.contents out.new) }
     ensures untouched { result ≡ 1 → W.contents out.new ≡ W.contents out.old }
 {
     reports_are_orders();
     match replay_text(alloc, text, threads, steps, schedule, detail, err) {
-        Ok((_compiled, replayed)) => print_replay(alloc, &replayed, out, err),
+        Ok((_compiled, replayed)) => print_replay(alloc, &replayed, detail, out, err),
         Err(status) => status,
     }
 }
@@ -238,12 +263,39 @@ fn show_steps<A: Allocator + Copy, S: Read + Drop, W: Write, E: Write>(
     ensures status { result ≤ 4 }
     ensures timeline { PrintsTimeline (λ lines shown. RunsInSomeOrder threads text.now (behind_events shown) × ReplaysShown threads steps.now (S.remaining schedule) text.now lines shown) result (W.contents out.old) (W.contents out.new) }
     ensures refused { result ≡ 1 → IsRefused text.now }
+    ensures written { WritesPart (IsReplayTimeline threads steps.now (S.remaining schedule) text.now) (W.contents out.old) (W.contents out.new) }
     ensures untouched { result ≡ 1 → W.contents out.new ≡ W.contents out.old }
 {
     reports_are_orders();
     match replay_text(alloc, text, threads, steps, schedule, detail, err) {
         Ok((compiled, replayed)) => {
-            print_timeline(alloc, &compiled.code, threads, &replayed, out, err)
+            print_timeline(alloc, &compiled.code, threads, &replayed, detail, out, err)
+        }
+        Err(status) => status,
+    }
+}
+
+/// Replays steps of a source's threads, and draws them.
+fn draw<A: Allocator + Copy, S: Read + Drop, W: Write, E: Write>(
+    alloc: A,
+    file: &str,
+    text: &str,
+    threads: u32,
+    steps: &Steps,
+    schedule: S,
+    detail: Detail,
+    out: &mut W,
+    err: &mut E,
+) -> u8
+    ensures status { result ≤ 4 }
+    ensures picture { PrintsPicture (λ svg shown. ReplaysDrawn threads steps.now (S.remaining schedule) text.now svg shown) result (W.contents out.old) (W.contents out.new) }
+    ensures refused { result ≡ 1 → IsRefused text.now }
+    ensures written { WritesPart (IsReplayPicture threads steps.now (S.remaining schedule) text.now) (W.contents out.old) (W.contents out.new) }
+    ensures untouched { result ≡ 1 → W.contents out.new ≡ W.contents out.old }
+{
+    match replay_text(alloc, text, threads, steps, schedule, detail, err) {
+        Ok((compiled, replayed)) => {
+            print_picture(alloc, file, &compiled, threads, &replayed, detail, out, err)
         }
         Err(status) => status,
     }
@@ -288,6 +340,7 @@ fn print_schedule<A: Allocator + Copy, W: Write, E: Write>(
     ensures status { result ≤ 4 }
     ensures schedule { PrintsSchedule (lines_of_seed seed threads count) text.now result (W.contents out.old) (W.contents out.new) }
     ensures refused { result ≡ 1 → IsRefused text.now }
+    ensures written { WritesPart (IsSeedSchedule seed threads count text.now) (W.contents out.old) (W.contents out.new) }
     ensures untouched { result ≡ 1 → W.contents out.new ≡ W.contents out.old }
 {
     match compile(alloc, text) {
@@ -313,6 +366,7 @@ fn list<A: Allocator + Copy, W: Write, E: Write>(
     ensures status { result ≤ 4 }
     ensures listing { PrintsListing text.now result (W.contents out.old) (W.contents out.new) }
     ensures refused { result ≡ 1 → IsRefused text.now }
+    ensures written { WritesPart (Lists text.now) (W.contents out.old) (W.contents out.new) }
     ensures untouched { result ≡ 1 → W.contents out.new ≡ W.contents out.old }
 {
     match list_source(alloc, text) {
@@ -335,12 +389,13 @@ fn in_order<A: Allocator + Copy, W: Write, E: Write>(
     ensures status { result ≤ 4 }
     ensures report { PrintsReport (RunsInOrder threads ticks order.now text.now) result (W.contents out.old) (W.contents out.new) }
     ensures refused { result ≡ 1 → IsRefused text.now }
+    ensures written { WritesPart (IsReportOf (RunsInOrder threads ticks order.now text.now)) (W.contents out.old) (W.contents out.new) }
     ensures untouched { result ≡ 1 → W.contents out.new ≡ W.contents out.old }
 {
     match run_in_order(alloc, text, threads, order, ticks) {
         Ok(printed) => print_report(alloc, &printed, out, err),
         Err(OrderFault::Source(fault)) => refuse(alloc, text, fault, detail, err),
-        Err(OrderFault::Order(fault)) => refuse_order(fault, err),
+        Err(OrderFault::Order(fault)) => refuse_order(fault, detail, err),
     }
 }
 
@@ -355,6 +410,7 @@ fn check<A: Allocator + Copy, W: Write, E: Write>(
     ensures status { result ≤ 4 }
     ensures accepted { SaysAccepted text.now result (W.contents out.old) (W.contents out.new) }
     ensures refused { result ≡ 1 → IsRefused text.now }
+    ensures written { WritesPart (λ written. Accepts text.now × (written ≡ codes "accepted\n")) (W.contents out.old) (W.contents out.new) }
     ensures untouched { result ≡ 1 → W.contents out.new ≡ W.contents out.old }
 {
     match check_source(alloc, text) {
@@ -367,6 +423,7 @@ fn check<A: Allocator + Copy, W: Write, E: Write>(
 fn print_text<W: Write, E: Write>(text: &[u8], out: &mut W, err: &mut E) -> u8
     ensures status { (result ≡ 0) ⊎ (result ≡ 4) }
     ensures printed { result ≡ 0 → Appends (W.contents out.old) (W.contents out.new) text.now }
+    ensures written { AppendsBeginning (W.contents out.old) (W.contents out.new) text.now }
 {
     match print(text, out) {
         Ok(()) => ENDED,
@@ -383,6 +440,7 @@ fn print_report<A: Allocator + Copy, W: Write, E: Write>(
 ) -> u8
     ensures status { result ≤ 4 }
     ensures report { PrintsShown (printed_of printed.now) result (W.contents out.old) (W.contents out.new) }
+    ensures written { WritesPart (λ written. written ≡ report_text (printed_of printed.now)) (W.contents out.old) (W.contents out.new) }
     ensures not_refused { result ≢ 1 }
 {
     match report_text(alloc, printed) {
@@ -398,17 +456,19 @@ fn print_report<A: Allocator + Copy, W: Write, E: Write>(
 fn print_replay<A: Allocator + Copy, W: Write, E: Write>(
     alloc: A,
     replayed: &Replayed<A>,
+    detail: Detail,
     out: &mut W,
     err: &mut E,
 ) -> u8
     ensures status { result ≤ 4 }
     ensures whole { (result ≡ 0) ⊎ (result ≡ 3) → replayed.now.stop ≡ None }
     ensures report { PrintsShown (printed_of replayed.now.printed) result (W.contents out.old) (W.contents out.new) }
+    ensures written { WritesPart (λ written. written ≡ report_text (printed_of replayed.now.printed)) (W.contents out.old) (W.contents out.new) }
     ensures not_refused { result ≢ 1 }
 {
     let status = print_report(alloc, &replayed.printed, out, err);
     match replayed.stop {
-        Some(stop) => refuse_step(stop, err),
+        Some(stop) => refuse_step(stop, detail, err),
         None => status,
     }
 }
@@ -419,19 +479,76 @@ fn print_timeline<A: Allocator + Copy, W: Write, E: Write>(
     code: &Code<A>,
     threads: u32,
     replayed: &Replayed<A>,
+    detail: Detail,
     out: &mut W,
     err: &mut E,
 ) -> u8
     ensures status { result ≤ 4 }
     ensures whole { (result ≡ 0) ⊎ (result ≡ 3) → replayed.now.stop ≡ None }
     ensures report { PrintsBehind (timeline_text code.now (timeline_of (played code.now threads replayed.now.made.items))) (printed_of replayed.now.printed) result (W.contents out.old) (W.contents out.new) }
+    ensures written { WritesPart (λ written. written ≡ timeline_text code.now (timeline_of (played code.now threads replayed.now.made.items)) ++ report_text (printed_of replayed.now.printed)) (W.contents out.old) (W.contents out.new) }
     ensures not_refused { result ≢ 1 }
 {
     match lines_shown(alloc, code, threads, replayed.made.as_slice()) {
         Some(lines) => match print(lines.as_slice(), out) {
-            Ok(()) => print_replay(alloc, replayed, out, err),
+            Ok(()) => print_replay(alloc, replayed, detail, out, err),
             Err(_) => cannot_write(err),
         },
+        // The steps were made once, so memory was refused.
+        None => out_of_memory(err),
+    }
+}
+
+/// Prints a text in place of the report of a replay. Gives the exit status as `print_replay` does.
+fn print_for_replay<A: Allocator, W: Write, E: Write>(
+    text: &[u8],
+    replayed: &Replayed<A>,
+    detail: Detail,
+    out: &mut W,
+    err: &mut E,
+) -> u8
+    ensures status { result ≤ 4 }
+    ensures whole { (result ≡ 0) ⊎ (result ≡ 3) → replayed.now.stop ≡ None }
+    ensures printed { (result ≡ 0) ⊎ (result ≡ 3) → (result ≡ exit_status (printed_of replayed.now.printed)) × Appends (W.contents out.old) (W.contents out.new) text.now }
+    ensures written { AppendsBeginning (W.contents out.old) (W.contents out.new) text.now }
+    ensures not_refused { result ≢ 1 }
+{
+    match print(text, out) {
+        Ok(()) => match replayed.stop {
+            Some(why) => refuse_step(why, detail, err),
+            None => status_of(&replayed.printed),
+        },
+        Err(_) => cannot_write(err),
+    }
+}
+
+/// Prints the picture of a replay. Gives the exit status as `print_replay` does.
+fn print_picture<A: Allocator + Copy, W: Write, E: Write>(
+    alloc: A,
+    file: &str,
+    compiled: &Compiled<A>,
+    threads: u32,
+    replayed: &Replayed<A>,
+    detail: Detail,
+    out: &mut W,
+    err: &mut E,
+) -> u8
+    ensures status { result ≤ 4 }
+    ensures whole { (result ≡ 0) ⊎ (result ≡ 3) → replayed.now.stop ≡ None }
+    ensures picture { PrintsPicture (λ svg shown. IsPicture (titles compiled.now.code (timeline_of (played compiled.now.code threads replayed.now.made.items))) svg × (shown ≡ printed_of replayed.now.printed)) result (W.contents out.old) (W.contents out.new) }
+    ensures written { WritesPart (λ written. IsPicture (titles compiled.now.code (timeline_of (played compiled.now.code threads replayed.now.made.items))) written) (W.contents out.old) (W.contents out.new) }
+    ensures not_refused { result ≢ 1 }
+{
+    let unit = unit_of(&compiled.accepted);
+    match replay_picture(
+        alloc,
+        unit,
+        &compiled.code,
+        threads,
+        replayed.made.as_slice(),
+        file,
+    ) {
+        Some(svg) => print_for_replay(svg.as_slice(), replayed, detail, out, err),
         // The steps were made once, so memory was refused.
         None => out_of_memory(err),
     }

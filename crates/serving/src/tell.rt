@@ -5,11 +5,13 @@ ghost use Rattle.serving.specs.Refusals.{span_of_source};
 ghost use Rattle.std.specs.Io.KnownBytes.{Appends};
 ghost use Rattle.std.specs.IoError.{error_kind};
 ghost use Rattle.serving.specs.Usage.{IsHelp, IsWrong};
+ghost use Rattle.serving.specs.Written.{AppendsBeginning};
 
 use crate::run::SourceFault;
 use crate::status::{ENDED, REFUSED, STOPPED, UNUSABLE};
 use command::UsageFault;
 use faults::{underlined, words};
+use hints::hints;
 use lex::place;
 use lex::token::Span;
 use meaning::MeaningFault;
@@ -71,6 +73,7 @@ pub(crate) fn refuse<A: Allocator + Copy, E: Write>(
             );
             if detail.lines {
                 show_line(alloc, text, span, err);
+                show_hints(alloc, text, number, span, err);
             }
             REFUSED
         }
@@ -82,6 +85,27 @@ pub(crate) fn refuse<A: Allocator + Copy, E: Write>(
 fn show_line<A: Allocator + Copy, E: Write>(alloc: A, text: &str, span: Span, err: &mut E) {
     if let Ok(shown) = underlined(alloc, text, span) {
         let _ = err.write_all(shown.as_slice());
+    }
+}
+
+/// Shows what could stand at the place of a fault, or is meant there, and where more is said. Where memory is refused it shows
+/// nothing.
+fn show_hints<A: Allocator + Copy, E: Write>(
+    alloc: A,
+    text: &str,
+    number: u32,
+    span: Span,
+    err: &mut E,
+) {
+    if let Ok(shown) = hints(alloc, text, number, span) {
+        let _ = err.write_all(shown.as_slice());
+    }
+}
+
+/// Says what a fault's number means, where that is wanted, and where more is said.
+fn show_words<E: Write>(number: u32, detail: Detail, err: &mut E) {
+    if detail.lines {
+        let _ = writeln!(err, "{}\ntxc explain {number:02} says more", words(number));
     }
 }
 
@@ -168,11 +192,12 @@ pub(crate) fn refuse_replay<E: Write>(fault: WorldFault, err: &mut E) -> u8
 }
 
 /// Says that a step was not made, where that is of a thread that there is not. A report tells the other reasons.
-pub(crate) fn refuse_step<E: Write>(stop: WorldStop, err: &mut E) -> u8
+pub(crate) fn refuse_step<E: Write>(stop: WorldStop, detail: Detail, err: &mut E) -> u8
     ensures { result ≡ 4 }
 {
     if stop.reason == StopReason::Stranger {
         let _ = writeln!(err, "txc: fault {} at step {}", stop.number(), stop.step);
+        show_words(stop.number(), detail, err);
     }
     STOPPED
 }
@@ -199,6 +224,7 @@ pub(crate) fn refuse_schedule<A: Allocator + Copy, E: Write>(
             let _ = writeln!(err, "txc: fault {}", fault.number());
         }
     }
+    show_words(fault.number(), detail, err);
     UNUSABLE
 }
 
@@ -222,23 +248,24 @@ fn span_of_line(text: &[u8], line: usize) -> Span {
 }
 
 /// Says why an order is refused.
-pub(crate) fn refuse_order<E: Write>(fault: MeaningFault, err: &mut E) -> u8
+pub(crate) fn refuse_order<E: Write>(fault: MeaningFault, detail: Detail, err: &mut E) -> u8
     ensures told { (result ≡ 2) ⊎ (result ≡ 4) }
     ensures stranger { fault ≡ MeaningFault.Stranger → result ≡ 2 }
     ensures threads { fault ≡ MeaningFault.WrongThreads → result ≡ 4 }
 {
     match fault {
         MeaningFault::OutOfMemory => out_of_memory(err),
-        MeaningFault::Stranger => tell_number(fault.number(), UNUSABLE, err),
-        MeaningFault::WrongThreads => tell_number(fault.number(), STOPPED, err),
+        MeaningFault::Stranger => tell_number(fault.number(), UNUSABLE, detail, err),
+        MeaningFault::WrongThreads => tell_number(fault.number(), STOPPED, detail, err),
     }
 }
 
 /// Says the number of a fault that stands nowhere, and gives this exit status.
-fn tell_number<E: Write>(number: u32, status: u8, err: &mut E) -> u8
+fn tell_number<E: Write>(number: u32, status: u8, detail: Detail, err: &mut E) -> u8
     ensures { result ≡ status }
 {
     let _ = writeln!(err, "txc: fault {number}");
+    show_words(number, detail, err);
     status
 }
 
@@ -250,10 +277,34 @@ pub(crate) fn unusable<E: Write>(why: &str, err: &mut E) -> u8
     UNUSABLE
 }
 
+/// Writes a text, as `write_all` does. Where that fails a beginning of it is written.
+fn write_text<W: Write>(text: &[u8], out: &mut W) -> io::Result<()>
+    ensures whole { OnOk result (Appends (W.contents out.old) (W.contents out.new) text.now) }
+    ensures part { AppendsBeginning (W.contents out.old) (W.contents out.new) text.now }
+{
+    let mut written = 0;
+    'turns: for _ in 0..u64::MAX {
+        if written >= text.len() {
+            return Ok(());
+        }
+        match out.write(&text[written..]) {
+            Ok(0) => return Err(io::Error::from(ErrorKind::WriteZero)),
+            Ok(count) => written += count,
+            Err(error) => {
+                if error.kind() != ErrorKind::Interrupted {
+                    return Err(error);
+                }
+            }
+        }
+    }
+    Err(io::Error::from(ErrorKind::Interrupted))
+}
+
 /// Writes a text and flushes the writer.
 pub(crate) fn print<W: Write>(text: &[u8], out: &mut W) -> io::Result<()>
-    ensures { OnOk result (Appends (W.contents out.old) (W.contents out.new) text.now) }
+    ensures whole { OnOk result (Appends (W.contents out.old) (W.contents out.new) text.now) }
+    ensures part { AppendsBeginning (W.contents out.old) (W.contents out.new) text.now }
 {
-    out.write_all(text)?;
+    write_text(text, out)?;
     out.flush()
 }

@@ -10,16 +10,26 @@ type Example = (&'static str, &'static [u8], &'static [u8]);
 
 /// The rows stand in a function, so that no proof but its own looks at them.
 fn examples() -> &'static [Example] {
-    static ROWS: [Example; 21] = [
+    static ROWS: [Example; 24] = [
         (
             "examples/booking.c",
             b"// A cancel of an inner transaction undoes the inner one alone: who finds no seat in the train takes one in the bus, and what the\n// outer transaction wrote before stays. Each thread books twice.\nint train = 1, bus = 9, asked, by_train, by_bus;\n\nvoid worker(int self) {\n    int i;\n    for (i = 0; i < 2; i++) {\n        __transaction_atomic {\n            int seated = 0;\n            asked = asked + 1;\n            __transaction_atomic {\n                train = train - 1;\n                by_train = by_train + 1;\n                if (train < 0) __transaction_cancel;\n                seated = 1;\n            }\n            if (!seated) {\n                bus = bus - 1;\n                by_bus = by_bus + 1;\n            }\n        }\n    }\n}\n",
             b"== thread 0: ended\n== memory\ntrain = 0\nbus = 8\nasked = 2\nby_train = 1\nby_bus = 1\n",
         ),
         (
+            "examples/carts.c",
+            b"// A cart is built as a whole or not at all: where the wheels are too few, in the inner transaction, one cancel undoes both.\nint frames = 3, wheels = 9, built;\n\nvoid worker(int self) {\n    int i;\n    for (i = 0; i < 3; i++) {\n        __transaction_atomic [[outer]] {\n            frames = frames - 1;\n            __transaction_atomic {\n                wheels = wheels - 4;\n                if (wheels < 0) __transaction_cancel [[outer]];\n            }\n            built = built + 1;\n        }\n    }\n}\n",
+            b"== thread 0: ended\n== memory\nframes = 1\nwheels = 1\nbuilt = 2\n",
+        ),
+        (
             "examples/counter.c",
             b"// Each thread adds one, three times. No addition is lost, whatever the threads do.\nint x;\n\nvoid worker(int self) {\n    int i;\n    for (i = 0; i < 3; i++) {\n        __transaction_atomic { x = x + 1; }\n    }\n}\n",
             b"== thread 0: ended\n== memory\nx = 3\n",
+        ),
+        (
+            "examples/drain.c",
+            b"// Threads empty a queue together. The loop's condition reads the head in a transaction of its own, and so the next one, which\n// takes a number, has to look again.\nint queue[2] = {7, 9}, head, total;\n\nvoid worker(int self) {\n    int taken = 0;\n    while (__transaction_atomic (head) < 2) {\n        __transaction_atomic {\n            if (head < 2) {\n                total = total + queue[head];\n                head++;\n                taken++;\n            }\n        }\n    }\n    printf(\"%d taken, %d left\\n\", taken, 2 - __transaction_atomic (head));\n}\n",
+            b"== thread 0: ended\n2 taken, 0 left\n== memory\nqueue = 7 9\nhead = 2\ntotal = 16\n",
         ),
         (
             "examples/first.c",
@@ -50,6 +60,11 @@ fn examples() -> &'static [Example] {
             "examples/receipt.c",
             b"// Printing can't be undone, so it stands in a relaxed transaction: from its first piece on no other thread can change what is\n// shared, and the numbers on the receipt are those of one moment.\nint sold, left = 10;\n\nvoid worker(int self) {\n    __transaction_relaxed {\n        sold = sold + 1;\n        left = left - 1;\n        printf(\"ticket %d, %d left\\n\", sold, left);\n    }\n}\n",
             b"== thread 0: ended\nticket 1, 9 left\n== memory\nsold = 1\nleft = 9\n",
+        ),
+        (
+            "examples/sum.c",
+            b"int x = 5; void worker(int self) { int v = __transaction_atomic (x + 1) * 2; printf(\"%d\\n\", v); }\n",
+            b"== thread 0: ended\n12\n== memory\nx = 5\n",
         ),
         (
             "examples/transfer.c",
@@ -147,7 +162,7 @@ fn examples_print_what_they_should(rt: HostRuntime) {
 type Transcript = (&'static str, &'static [u8], &'static [u8], &'static [u8]);
 
 fn transcripts() -> &'static [Transcript] {
-    static ROWS: [Transcript; 29] = [
+    static ROWS: [Transcript; 34] = [
         (
             "txc check examples/queue.c",
             b"// A bounded queue: one transaction puts or takes, and a cancel undoes what does not fit.\nint slots[4], head, count, refused;\n\nint put(int value) {\n    int done = 0;\n    __transaction_atomic {\n        slots[(head + count) % 4] = value;\n        count++;\n        if (count > 4) __transaction_cancel;\n        done = 1;\n    }\n    return done;\n}\n\nvoid worker(int self) {\n    int i;\n    for (i = 1; i <= 6; i++) {\n        if (!put(i * i)) {\n            __transaction_atomic { refused++; }\n        }\n    }\n    __transaction_relaxed {\n        printf(\"%d waiting, %d refused\\n\", count, refused);\n        while (count > 0) {\n            printf(\"%d \", slots[head]);\n            head = (head + 1) % 4;\n            count--;\n        }\n    }\n    printf(\"\\n\");\n}\n",
@@ -158,13 +173,25 @@ fn transcripts() -> &'static [Transcript] {
             "txc check examples/refused/bare.c",
             b"int x;\nvoid worker(int self) { x = 1; }\n",
             b"",
-            b"txc: fault 50 at 2:25: shared access outside a transaction\nvoid worker(int self) { x = 1; }\n                        ^\n",
+            b"txc: fault 50 at 2:25: shared access outside a transaction\nvoid worker(int self) { x = 1; }\n                        ^\ntxc explain 50 says more\n",
+        ),
+        (
+            "txc check examples/refused/carts.c",
+            b"int frames = 3;\n\nvoid worker(int self) {\n    __transaction_atomic {\n        frames = frames - 1;\n        if (frames < 0) __transaction_cancel [[outer]];\n    }\n}\n",
+            b"",
+            b"txc: fault 45 at 6:25: outer cancel outside outer\n        if (frames < 0) __transaction_cancel [[outer]];\n                        ^^^^^^^^^^^^^^^^^^^^\ntxc explain 45 says more\n",
+        ),
+        (
+            "txc check examples/refused/drain.c",
+            b"int head, total;\n\nvoid worker(int self) {\n    while (head < 2) {\n        __transaction_atomic { head++; }\n    }\n}\n",
+            b"",
+            b"txc: fault 50 at 4:12: shared access outside a transaction\n    while (head < 2) {\n           ^^^^\ntxc explain 50 says more\n",
         ),
         (
             "txc check examples/refused/receipt.c",
             b"// The receipt again, in an atomic transaction: a print can not be undone, so this is refused.\nint sold, left = 10;\n\nvoid worker(int self) {\n    __transaction_atomic {\n        sold = sold + 1;\n        left = left - 1;\n        printf(\"ticket %d, %d left\\n\", sold, left);\n    }\n}\n",
             b"",
-            b"txc: fault 40 at 8:9: unsafe in atomic\n        printf(\"ticket %d, %d left\\n\", sold, left);\n        ^^^^^^\n",
+            b"txc: fault 40 at 8:9: unsafe in atomic\n        printf(\"ticket %d, %d left\\n\", sold, left);\n        ^^^^^^\ntxc explain 40 says more\n",
         ),
         (
             "txc explain 20",
@@ -179,10 +206,22 @@ fn transcripts() -> &'static [Transcript] {
             b"function worker registers 3\n0 begin >10\n1 rd r1 @0\n2 const r2 #2\n3 add.s r1 r1 r2\n4 wr @0 r1\n5 rd r1 @0\n6 const r2 #1\n7 sub.s r1 r1 r2\n8 wr @1 r1\n9 commit\n10 ret\n",
         ),
         (
+            "txc listing examples/sum.c",
+            b"int x = 5; void worker(int self) { int v = __transaction_atomic (x + 1) * 2; printf(\"%d\\n\", v); }\n",
+            b"",
+            b"function worker registers 4\n0 const r1 #0\n1 begin >6\n2 rd r2 @0\n3 const r3 #1\n4 add.s r2 r2 r3\n5 commit\n6 const r3 #2\n7 mul.s r1 r2 r3\n8 irrevocable\n9 print.s r1\n10 print.t #0\n11 ret\ntext 0 \"\\n\"\n",
+        ),
+        (
             "txc replay examples/booking.c --schedule examples/schedules/booking.txt",
             b"// A cancel of an inner transaction undoes the inner one alone: who finds no seat in the train takes one in the bus, and what the\n// outer transaction wrote before stays. Each thread books twice.\nint train = 1, bus = 9, asked, by_train, by_bus;\n\nvoid worker(int self) {\n    int i;\n    for (i = 0; i < 2; i++) {\n        __transaction_atomic {\n            int seated = 0;\n            asked = asked + 1;\n            __transaction_atomic {\n                train = train - 1;\n                by_train = by_train + 1;\n                if (train < 0) __transaction_cancel;\n                seated = 1;\n            }\n            if (!seated) {\n                bus = bus - 1;\n                by_bus = by_bus + 1;\n            }\n        }\n    }\n}\n",
             b"0 a100\n",
             b"== events\n12 0 commit\n19 0 cancel\n28 0 commit\n== thread 0: ended\n== memory\ntrain = 0\nbus = 8\nasked = 2\nby_train = 1\nby_bus = 1\n",
+        ),
+        (
+            "txc replay examples/carts.c --schedule examples/schedules/carts.txt",
+            b"// A cart is built as a whole or not at all: where the wheels are too few, in the inner transaction, one cancel undoes both.\nint frames = 3, wheels = 9, built;\n\nvoid worker(int self) {\n    int i;\n    for (i = 0; i < 3; i++) {\n        __transaction_atomic [[outer]] {\n            frames = frames - 1;\n            __transaction_atomic {\n                wheels = wheels - 4;\n                if (wheels < 0) __transaction_cancel [[outer]];\n            }\n            built = built + 1;\n        }\n    }\n}\n",
+            b"0 a99\n",
+            b"== events\n12 0 commit\n24 0 commit\n29 0 cancel\n== thread 0: ended\n== memory\nframes = 1\nwheels = 1\nbuilt = 2\n",
         ),
         (
             "txc replay examples/counter.c --threads 2 --schedule examples/schedules/counter.txt",
@@ -207,6 +246,12 @@ fn transcripts() -> &'static [Transcript] {
             b"// Each thread adds one, three times. No addition is lost, whatever the threads do.\nint x;\n\nvoid worker(int self) {\n    int i;\n    for (i = 0; i < 3; i++) {\n        __transaction_atomic { x = x + 1; }\n    }\n}\n",
             b"",
             b"1 1\n1 1\n1 1\n1 1\n0 1\n0 1\n",
+        ),
+        (
+            "txc replay examples/drain.c --threads 2 --schedule examples/schedules/drain.txt",
+            b"// Threads empty a queue together. The loop's condition reads the head in a transaction of its own, and so the next one, which\n// takes a number, has to look again.\nint queue[2] = {7, 9}, head, total;\n\nvoid worker(int self) {\n    int taken = 0;\n    while (__transaction_atomic (head) < 2) {\n        __transaction_atomic {\n            if (head < 2) {\n                total = total + queue[head];\n                head++;\n                taken++;\n            }\n        }\n    }\n    printf(\"%d taken, %d left\\n\", taken, 2 - __transaction_atomic (head));\n}\n",
+            b"0 a18\n1 a3\n0 a99\n1 a99\n",
+            b"== events\n3 0 commit\n18 0 commit\n24 0 commit\n39 0 commit\n42 0 commit\n45 0 commit\n45 1 commit\n48 1 commit\n51 1 commit\n54 1 commit\n== thread 0: ended\n2 taken, 0 left\n== thread 1: ended\n0 taken, 0 left\n== memory\nqueue = 7 9\nhead = 2\ntotal = 16\n",
         ),
         (
             "txc replay examples/first.c --seed 1 --steps 17 --timeline",

@@ -5,4 +5,8 @@
 #[cfg(test)]
 mod examples;
 #[cfg(test)]
+mod expressions;
+#[cfg(test)]
+mod outer_cancels;
+#[cfg(test)]
 mod replays;

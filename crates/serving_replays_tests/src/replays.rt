@@ -235,27 +235,47 @@ type Refusal = (&'static [u8], &'static [u8], &'static [u8]);
 
 fn refusals() -> &'static [Refusal] {
     static ROWS: [Refusal; 9] = [
-        (b"0 x", b"txc: fault 80 at line 1\n", b"0 x\n^^^\n"),
+        (
+            b"0 x",
+            b"txc: fault 80 at line 1\n",
+            b"0 x\n^^^\nbad schedule line\ntxc explain 80 says more\n",
+        ),
         (
             b"0 1\n\n  1 b2 \n0 1\n",
             b"txc: fault 80 at line 3\n",
-            b"  1 b2 \n^^^^^^^\n",
+            b"  1 b2 \n^^^^^^^\nbad schedule line\ntxc explain 80 says more\n",
         ),
         (
             b"0 1\r\n-1 1\r\n",
             b"txc: fault 80 at line 2\n",
-            b"-1 1\n^^^^\n",
+            b"-1 1\n^^^^\nbad schedule line\ntxc explain 80 says more\n",
         ),
         (
             b"0 4294967296\n",
             b"txc: fault 80 at line 1\n",
-            b"0 4294967296\n^^^^^^^^^^^^\n",
+            b"0 4294967296\n^^^^^^^^^^^^\nbad schedule line\ntxc explain 80 says more\n",
         ),
-        (b"-1 1", b"txc: fault 80 at line 1\n", b"-1 1\n^^^^\n"),
-        (b"0\t1", b"txc: fault 80 at line 1\n", b"0\t1\n^^^\n"),
-        (b"0 1048576\n0 1\n", b"txc: fault 81\n", b""),
+        (
+            b"-1 1",
+            b"txc: fault 80 at line 1\n",
+            b"-1 1\n^^^^\nbad schedule line\ntxc explain 80 says more\n",
+        ),
+        (
+            b"0\t1",
+            b"txc: fault 80 at line 1\n",
+            b"0\t1\n^^^\nbad schedule line\ntxc explain 80 says more\n",
+        ),
+        (
+            b"0 1048576\n0 1\n",
+            b"txc: fault 81\n",
+            b"schedule too long\ntxc explain 81 says more\n",
+        ),
         // the first of two decides
-        (b"0 1048576\n0 1\n0 x\n", b"txc: fault 81\n", b""),
+        (
+            b"0 1048576\n0 1\n0 x\n",
+            b"txc: fault 81\n",
+            b"schedule too long\ntxc explain 81 says more\n",
+        ),
         (b"0 \xff", b"txc: s.txt is not UTF-8\n", b""),
     ];
     &ROWS

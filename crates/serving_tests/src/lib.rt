@@ -2,6 +2,10 @@
 #![tactic(auto)]
 
 #[cfg(test)]
+mod beside;
+#[cfg(test)]
+mod large;
+#[cfg(test)]
 mod opened;
 #[cfg(test)]
 mod refusals;

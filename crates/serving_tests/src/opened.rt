@@ -164,7 +164,7 @@ fn rows() -> &'static [Row] {
             (
                 1,
                 b"",
-                b"txc: fault 28 at 1:7: no worker\nint x;\n      ^\n",
+                b"txc: fault 28 at 1:7: no worker\nint x;\n      ^\nthread T runs worker(T), written void worker(int self)\ntxc explain 28 says more\n",
             ),
         ),
         (

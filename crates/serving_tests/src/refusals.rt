@@ -13,7 +13,7 @@ type Told = (&'static str, u32, &'static str);
 
 /// The faults of sources, each with a short source that has it.
 fn told() -> &'static [Told] {
-    static TOLD: [Told; 27] = [
+    static TOLD: [Told; 36] = [
         ("int x$;", 1, "1:6: bad character"),
         ("int x = 2147483648;", 2, "1:9: constant too large"),
         ("void worker(int self) { } /* end", 3, "1:27: open comment"),
@@ -100,6 +100,21 @@ fn told() -> &'static [Told] {
             "1:40: transaction_safe on an unsafe function",
         ),
         (
+            "void worker(int self) { __transaction_atomic { __transaction_atomic [[outer]] { } } }",
+            44,
+            "1:48: outer in atomic",
+        ),
+        (
+            "void f(void) { __transaction_atomic [[outer]] { } } void worker(int self) { __transaction_atomic { f(); } }",
+            44,
+            "1:100: outer in atomic",
+        ),
+        (
+            "void worker(int self) { __transaction_atomic { __transaction_cancel [[outer]]; } }",
+            45,
+            "1:48: outer cancel outside outer",
+        ),
+        (
             "int x; void worker(int self) { x = 1; }",
             50,
             "1:32: shared access outside a transaction",
@@ -108,6 +123,36 @@ fn told() -> &'static [Told] {
             "int x; int get(void) { return x; } void worker(int self) { get(); }",
             51,
             "1:60: call touches shared data outside a transaction",
+        ),
+        (
+            "void f(void) { } void worker(int self) { __transaction_atomic (f()); }",
+            22,
+            "1:64: wrong type",
+        ),
+        (
+            "void worker(int self) { __transaction_atomic (self) = 1; }",
+            24,
+            "1:25: not assignable",
+        ),
+        (
+            "int f(void) { printf(\"a\"); return 1; } void worker(int self) { int v = __transaction_atomic (f()); }",
+            40,
+            "1:94: unsafe in atomic",
+        ),
+        (
+            "void worker(int self) { int v = __transaction_atomic (__transaction_relaxed (self)); }",
+            41,
+            "1:55: relaxed in atomic",
+        ),
+        (
+            "int x; void worker(int self) { int v = __transaction_atomic (x) + x; }",
+            50,
+            "1:67: shared access outside a transaction",
+        ),
+        (
+            "int x; int get(void) { return x; } void worker(int self) { int v = __transaction_atomic (get()) + get(); }",
+            51,
+            "1:99: call touches shared data outside a transaction",
         ),
     ];
     &TOLD
@@ -118,7 +163,7 @@ type ToldOfLong = (&'static [(&'static str, usize)], u32, &'static str);
 
 /// Those of long sources.
 fn told_of_long() -> &'static [ToldOfLong] {
-    static LONG: [ToldOfLong; 3] = [
+    static LONG: [ToldOfLong; 4] = [
         (&[(" ", 1048577)], 5, "1:1: file too long"),
         (
             &[
@@ -141,12 +186,23 @@ fn told_of_long() -> &'static [ToldOfLong] {
             62,
             "1:393: transactions nested too deep",
         ),
+        (
+            &[
+                ("void worker(int self) { int v = ", 1),
+                ("__transaction_atomic (", 17),
+                ("1", 1),
+                (")", 17),
+                ("; }", 1),
+            ],
+            62,
+            "1:385: transactions nested too deep",
+        ),
     ];
     &LONG
 }
 
 // The text that pieces make.
-fn joined(alloc: Global, pieces: &[(&str, usize)]) -> Result<String, AllocError> {
+pub fn joined(alloc: Global, pieces: &[(&str, usize)]) -> Result<String, AllocError> {
     let mut text = String::new(alloc);
     for (piece, times) in pieces {
         text.push_str(piece.repeat(alloc, *times)?.as_str())?;
@@ -261,7 +317,7 @@ fn what_has_no_code_is_told(rt: HostRuntime) {
 /// What is told on a terminal of a source.
 const UNDERLINED: (&str, &str) = (
     "void worker(int self) { __transaction_atomic { zoo = 1; } }",
-    "txc: fault 20 at 1:48: unknown name\nvoid worker(int self) { __transaction_atomic { zoo = 1; } }\n                                               ^^^\n",
+    "txc: fault 20 at 1:48: unknown name\nvoid worker(int self) { __transaction_atomic { zoo = 1; } }\n                                               ^^^\ntxc explain 20 says more\n",
 );
 
 #[test]

@@ -39,7 +39,7 @@ const RUN: &str = "txc run a.c";
 
 /// The rows stand in functions, so that no proof but theirs looks at them.
 fn sources() -> &'static [Row] {
-    static ROWS: [Row; 15] = [
+    static ROWS: [Row; 19] = [
         (RUN, FIRST, b"", (0, FIRST_REPORT, b"")),
         (
             RUN,
@@ -129,6 +129,39 @@ fn sources() -> &'static [Row] {
             b"int x; void worker(int self) { __transaction_atomic { if (0) if (1) x = 1; else x = 2; } }",
             b"",
             (0, b"== thread 0: ended\n== memory\nx = 0\n", b""),
+        ),
+        // transactions that are expressions: in sums, conditions, initialisers, arguments and in one another
+        (
+            RUN,
+            b"int x = 5; void worker(int self) { int v = __transaction_atomic(x + 1) * 2; printf(\"%d\", v); }",
+            b"",
+            (0, b"== thread 0: ended\n12\n== memory\nx = 5\n", b""),
+        ),
+        (
+            RUN,
+            b"int global = 7; int f(void) { return __transaction_atomic (global + 3) + __transaction_atomic (global + 4); } void worker(int self) { if (__transaction_atomic (global != 7)) printf(\"other\"); int v = __transaction_atomic (__transaction_atomic (global) * 2); printf(\"%d %d\\n\", v, f()); __transaction_atomic { global = __transaction_atomic (global) + 1; } __transaction_atomic (global) + 1; }",
+            b"",
+            (
+                0,
+                b"== thread 0: ended\n14 21\n== memory\nglobal = 8\n",
+                b"",
+            ),
+        ),
+        (
+            RUN,
+            b"int x = 1, a[3] = {4, 5, 6}; int put(int at, int value) { __transaction_atomic { a[at] = value; } return value; } void worker(int self) { int i; for (i = __transaction_atomic (x); __transaction_atomic (x) <= 3 && i < 9; i = __transaction_atomic (x + i)) __transaction_atomic { x += __transaction_atomic (put(__transaction_atomic (i % 3), __transaction_atomic (x + i))); } printf(\"%d %d\", i, __transaction_relaxed (put(0, __transaction_atomic (a[1])))); }",
+            b"",
+            (
+                0,
+                b"== thread 0: ended\n14 7\n== memory\nx = 10\na = 7 7 6\n",
+                b"",
+            ),
+        ),
+        (
+            RUN,
+            b"int x = 3; void worker(int self) { int v = __transaction_atomic (12 / (x - 3)) + 1; printf(\"%d\", v); }",
+            b"",
+            (3, b"== thread 0: trap 2\n== memory\nx = 3\n", b""),
         ),
         (
             RUN,

@@ -7,7 +7,7 @@ use command::{Request, UsageFault, command};
 use serving::{Files, serve_files, tell_usage};
 use std::alloc::Global;
 use std::fs::File;
-use std::io::ErrorKind;
+use std::io::{ErrorKind, Read, Stdin};
 use std::process::ExitCode;
 use std::sync::Wait;
 use std::thread::Threads;
@@ -54,18 +54,40 @@ fn no_words(alloc: Global, kind: ErrorKind) -> UsageFault {
     }
 }
 
-/// The files of the system.
+/// A file of the system, or standard input.
+#[derive(Drop)]
+enum Input {
+    File(File),
+    Standard(Stdin),
+}
+
+impl Read for Input {
+    fn read(&mut self, buf: &mut [u8]) -> io::Result<usize> {
+        match self {
+            Input::File(file) => file.read(buf),
+            Input::Standard(stdin) => stdin.read(buf),
+        }
+    }
+}
+
+/// The files of the system; standard input is named `-`.
 #[derive(Drop)]
 struct SystemFiles<'a> {
     rt: &'a HostRuntime,
 }
 
 impl Files for SystemFiles<'_> {
-    type File = File;
+    type File = Input;
 
     ghost contents = { λ _ _. None };
 
-    fn open(&self, name: &str) -> io::Result<File> {
-        File::open(self.rt, name)
+    fn open(&self, name: &str) -> io::Result<Input> {
+        if name == "-" {
+            return Ok(Input::Standard(self.rt.stdin()));
+        }
+        match File::open(self.rt, name) {
+            Ok(file) => Ok(Input::File(file)),
+            Err(error) => Err(error),
+        }
     }
 }

@@ -1,7 +1,7 @@
 use Rattle.std.proofs.Common.{◌∙◌, Some, ap}
 use Rattle.serving.proofs.Opening.{answers_scheduled}
 use Rattle.serving.proofs.Refusals.{not_read_answers}
-use Rattle.serving.specs.Files.{schedule_in, schedule_of}
+use Rattle.serving.specs.Files.{schedule_in}
 use Rattle.serving.proofs.opened.open_schedule.Goals as goal
 
 pub returns-in-Ok-clause-answer : goal.returns-in-Ok-clause-answer

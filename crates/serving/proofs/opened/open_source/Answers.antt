@@ -1,6 +1,5 @@
 use Rattle.serving.proofs.Opening.{answers_opened, refused_opened}
 use Rattle.serving.proofs.Refusals.{not_read_answers}
-use Rattle.serving.specs.Files.{schedule_in, schedule_of}
 use Rattle.serving.proofs.opened.open_source.Goals as goal
 
 pub returns-in-Ok-clause-answer : goal.returns-in-Ok-clause-answer

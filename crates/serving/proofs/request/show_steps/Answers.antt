@@ -1,9 +1,12 @@
-use Rattle.std.proofs.Common.{ℕ, List}
+use Rattle.std.proofs.Common.{ℕ, List, ◌≡◌, ◌++◌}
 use Rattle.replay.specs.Replays.{played, timeline_of}
 use Rattle.report.specs.Timeline.{timeline_text}
 use Rattle.report.specs.Views.{printed_of}
 use Rattle.serving.proofs.Ends.{none_stopped}
 use Rattle.serving.proofs.Replays.{replays, replays_shown}
+use Rattle.serving.proofs.Parts.{part_so}
+use Rattle.report.specs.Report.{report_text}
+use Rattle.serving.specs.Written.{IsReplayTimeline, ReplayedTo}
 use Rattle.serving.proofs.request.show_steps.Goals as goal
 
 pub returns-in-Ok-clause-timeline : goal.returns-in-Ok-clause-timeline
@@ -16,3 +19,14 @@ returns-in-Ok-clause-timeline g c = λ status.
     let shown = replays_shown c.args.threads c.args.steps.now _ c.args.text.now c.in-Ok.compiled.code made c.in-Ok.replayed.stop report whole c.in-Ok.ensures.ok in
     let replay = replays c.args.threads c.args.steps.now _ c.args.text.now c.in-Ok.compiled.code made c.in-Ok.replayed.stop report whole c.in-Ok.ensures.ok in
     (lines, report, (c.reports_are_orders.ensures.replays c.args.threads c.args.steps.now _ c.args.text.now report replay (none_stopped _ report status printed.0), shown), printed.0, printed.1)
+
+pub returns-in-Ok-clause-written : goal.returns-in-Ok-clause-written
+returns-in-Ok-clause-written g c =
+    let r : ReplayedTo c.args.threads c.args.steps.now (g.S.Read.remaining c.args.schedule) c.args.text.now = record {
+      code = c.in-Ok.compiled.code;
+      made = c.in-Ok.replayed.made.items;
+      stopped = c.in-Ok.replayed.stop;
+      shown = printed_of c.in-Ok.replayed.printed;
+      replay = c.in-Ok.ensures.ok;
+    } in
+    part_so (λ (t : List ℕ). t ≡ timeline_text c.in-Ok.compiled.code (timeline_of (played c.in-Ok.compiled.code c.args.threads c.in-Ok.replayed.made.items)) ++ report_text (printed_of c.in-Ok.replayed.printed)) (IsReplayTimeline c.args.threads c.args.steps.now (g.S.Read.remaining c.args.schedule) c.args.text.now) (g.W.Write.contents c.args.out.now) (g.W.Write.contents c.print_timeline.new.out) (λ t e. (r, e)) c.print_timeline.ensures.written

@@ -1,0 +1,160 @@
+//! The lines that are told beside a fault.
+
+use crate::expected::expected;
+use crate::meant::{of_character, of_name, of_token, of_worker};
+use crate::near::is_near;
+use lex::lex;
+use lex::token::{Kind, Span, Token};
+use std::alloc::{AllocError, Allocator};
+
+/// The most bytes of a source before a place, for which it is looked what could stand there.
+const MOST_BEFORE: usize = 65536;
+
+/// Adds words, the last two of which `or` stands between.
+fn put_listed<A: Allocator>(to: &mut Vec<u8, A>, words: &[&str]) -> Result<(), AllocError> {
+    'words: for (at, word) in words.iter().enumerate() {
+        let left = words.len().saturating_sub(at);
+        let between: &[u8] = match (at, left) {
+            (0, _) => b"",
+            (_, 1) => b" or ",
+            _ => b", ",
+        };
+        to.extend_from_slice(between)?;
+        to.extend_from_slice(word.as_bytes())?;
+    }
+    Ok(())
+}
+
+/// Adds a line.
+fn put_line<A: Allocator>(to: &mut Vec<u8, A>, words: &[u8]) -> Result<(), AllocError> {
+    to.extend_from_slice(words)?;
+    to.push(b'\n')?;
+    Ok(())
+}
+
+/// The tokens that end up to a place.
+fn tokens_before<'t, A: Allocator + Copy>(
+    alloc: A,
+    tokens: &[Token<'t>],
+    place: usize,
+) -> Result<Vec<Token<'t>, A>, AllocError> {
+    let mut before = Vec::new(alloc);
+    'tokens: for token in tokens {
+        if token.span.end <= place {
+            before.push(*token)?;
+        }
+    }
+    Ok(before)
+}
+
+/// The token that begins at a place.
+fn token_at<'t>(tokens: &[Token<'t>], place: usize) -> Option<Token<'t>> {
+    'tokens: for token in tokens {
+        if token.span.start == place {
+            return Some(*token);
+        }
+    }
+    None
+}
+
+/// Tells what could stand at a place, and what is meant there.
+fn tell_token<A: Allocator + Copy>(
+    alloc: A,
+    to: &mut Vec<u8, A>,
+    tokens: &[Token<'_>],
+    word: &[u8],
+    place: usize,
+) -> Result<(), AllocError> {
+    let mut before = tokens_before(alloc, tokens, place)?;
+    if let Some(token) = token_at(tokens, place) {
+        if let Some(words) = of_token(before.last(), &token, word) {
+            put_line(to, words.as_bytes())?;
+        }
+    }
+    if place > MOST_BEFORE {
+        return Ok(());
+    }
+    let words = expected(alloc, &mut before)?;
+    if words.is_empty() {
+        return Ok(());
+    }
+    to.extend_from_slice(b"expected ")?;
+    put_listed(to, words.as_slice())?;
+    to.push(b'\n')?;
+    Ok(())
+}
+
+/// Tells of a name that is not known which one may be meant.
+fn tell_name<A: Allocator + Copy>(
+    alloc: A,
+    to: &mut Vec<u8, A>,
+    tokens: &[Token<'_>],
+    word: &[u8],
+) -> Result<(), AllocError> {
+    if let Some(words) = of_name(word) {
+        return put_line(to, words.as_bytes());
+    }
+    'tokens: for token in tokens {
+        if let Kind::Name(name) = token.kind {
+            if is_near(alloc, word, name.as_bytes())? {
+                to.extend_from_slice(b"there is a name ")?;
+                return put_line(to, name.as_bytes());
+            }
+        }
+    }
+    Ok(())
+}
+
+/// Adds what is told beside the fault of a number at a place of a text.
+fn put_hints<A: Allocator + Copy>(
+    alloc: A,
+    to: &mut Vec<u8, A>,
+    text: &str,
+    number: u32,
+    span: Span,
+) -> Result<(), AllocError> {
+    let word = text.as_bytes().get(span.start..span.end).unwrap_or(b"");
+    match number {
+        1 => match word.first().and_then(|byte| of_character(*byte)) {
+            Some(words) => return put_line(to, words.as_bytes()),
+            None => return Ok(()),
+        },
+        6 => return put_line(
+            to,
+            b"there are no macros: #include lines alone are passed over",
+        ),
+        _ => {}
+    }
+    let Ok(tokens) = lex(alloc, text) else {
+        return Ok(());
+    };
+    match number {
+        10 | 12 => tell_token(alloc, to, tokens.as_slice(), word, span.start),
+        20 => tell_name(alloc, to, tokens.as_slice(), word),
+        28 => put_line(to, of_worker(tokens.as_slice()).as_bytes()),
+        _ => Ok(()),
+    }
+}
+
+/// The lines that are told beside the fault of a number at a place of a text: what could stand there, what is meant, and where more
+/// is said. Each ends with LF.
+pub fn hints<A: Allocator + Copy>(
+    alloc: A,
+    text: &str,
+    number: u32,
+    span: Span,
+) -> Result<Vec<u8, A>, AllocError> {
+    let mut lines = Vec::new(alloc);
+    put_hints(alloc, &mut lines, text, number, span)?;
+    lines.extend_from_slice(b"txc explain ")?;
+    put_number(&mut lines, number)?;
+    lines.extend_from_slice(b" says more\n")?;
+    Ok(lines)
+}
+
+/// Adds the number of a fault, in two digits.
+fn put_number<A: Allocator>(to: &mut Vec<u8, A>, number: u32) -> Result<(), AllocError> {
+    to.push(b'0'.wrapping_add((number / 10 % 10) as u8))?;
+    to.push(b'0'.wrapping_add((number % 10) as u8))?;
+    Ok(())
+}

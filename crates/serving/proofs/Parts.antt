@@ -1,0 +1,52 @@
+-- Beginnings of texts that are written.
+use Rattle.std.proofs.Common.{◌≡◌, ◌∙◌, ◌+◌, ◌-◌, ◌≤◌, arith, ℕ, List, ◌++◌, Option, None, Some, length, take, drop, inl, inr, ap, refl, subst, sym, append_assoc}
+use Rattle.std.proofs.Math.Seq.{take-add, take-append-add, take-append_seam}
+use Rattle.std.proofs.lemmas.List.{append-nil, length-drop, take_rest, take-append-drop}
+use Rattle.std.specs.Io.KnownBytes.{Appends, Keeps}
+use Rattle.serving.specs.Written.{AppendsBeginning, WritesPart}
+use Rattle.serving.proofs.Replays.{appends_more}
+
+-- nothing of a text is written so far
+pub none_yet : (known : Option (List ℕ)) (text : List ℕ) → Appends known known (take 0 text)
+none_yet None text = tt
+none_yet (Some xs) text = sym (append-nil xs)
+
+-- more of a text is written, of what is left of it
+pub part_more : (a b c : Option (List ℕ)) (n m : ℕ) (text : List ℕ) → Appends a b (take n text) → Appends b c (take m (take (length text - n) (drop n text))) → Appends a c (take (n + m) text)
+part_more a b c n m text p q =
+    let rest = subst (λ (l : List ℕ). Appends b c (take m l)) (take_rest text n) q in
+    subst (Appends a c) (sym (take-add n m text)) (appends_more a b c (take n text) (take m (drop n text)) p rest)
+
+pub part_within : (n m : ℕ) (text : List ℕ) → n ≤ length text → m ≤ length (take (length text - n) (drop n text)) → n + m ≤ length text
+part_within n m text h k =
+    let left = ap length (take_rest text n) ∙ length-drop n text in
+    omega (arith, h, k, left)
+
+-- and nothing more
+pub part_kept : (a b c : Option (List ℕ)) (bs : List ℕ) → Appends a b bs → Keeps b c → Appends a c bs
+part_kept None b c bs p q = tt
+part_kept (Some x) None c bs p q = absurd p
+part_kept (Some x) (Some y) None bs p q = absurd q
+part_kept (Some x) (Some y) (Some z) bs p q = q ∙ p
+
+-- a text of one kind is one of another
+pub part_so : (IsSo Is : List ℕ → Type 0) (old new : Option (List ℕ)) → ((text : List ℕ) → IsSo text → Is text) → WritesPart IsSo old new → WritesPart Is old new
+part_so IsSo Is old new weaker (inl e) = inl e
+part_so IsSo Is old new weaker (inr w) = inr (w.0, weaker w.0 w.1, w.2)
+
+-- a beginning of a text is one of the text with more behind it
+pub part_front : (a b : Option (List ℕ)) (front back : List ℕ) → AppendsBeginning a b front → AppendsBeginning a b (front ++ back)
+part_front a b front back part =
+    let first = take part.0 front in
+    let whole = sym (append_assoc first (drop part.0 front) back) ∙ ap (λ (l : List ℕ). l ++ back) (take-append-drop part.0 front) in
+    let cut = ap (λ (l : List ℕ). take (length first) l) (sym whole) ∙ take-append_seam first (drop part.0 front ++ back) in
+    (length first, subst (Appends a b) (sym cut) part.1)
+
+-- a text, and then a beginning of another one
+pub part_behind : (a b c : Option (List ℕ)) (front back : List ℕ) → Appends a b front → WritesPart (λ (t : List ℕ). t ≡ back) b c → WritesPart (λ (t : List ℕ). t ≡ front ++ back) a c
+part_behind a b c front back first (inl e) =
+    let here = subst (λ (o : Option (List ℕ)). Appends a o front) (sym e) first in
+    inr (front ++ back, refl, (length front, subst (Appends a c) (sym (take-append_seam front back)) here))
+part_behind a b c front back first (inr w) =
+    let rest = subst (λ (t : List ℕ). Appends b c (take w.2.0 t)) w.1 w.2.1 in
+    inr (front ++ back, refl, (length front + w.2.0, subst (Appends a c) (sym (take-append-add front back w.2.0)) (appends_more a b c front (take w.2.0 back) first rest)))

@@ -1,0 +1,25 @@
+-- Drawing the steps of a replay.
+use Rattle.std.specs.Prelude.{◌≡◌, ◌⊎◌, ℕ, List, Option, None}
+use Rattle.std.specs.Io.KnownBytes.{Appends}
+use Rattle.bytecode.specs.Code.{Code}
+use Rattle.picture.specs.Marks.{IsPicture}
+use Rattle.picture.specs.Replayed.{titles}
+use Rattle.replay.specs.Replays.{played, timeline_of}
+use Rattle.report.specs.Printed.{Printed}
+use Rattle.command.specs.declared.request.Steps.{Steps}
+use Rattle.serving.specs.Replays.{IsReplayOfText}
+use Rattle.serving.specs.Reports.{exit_status}
+
+-- this is a picture of all steps, a mark for each that has one, in their order, titled by its line of the timeline;
+-- and this is what a report of them would show
+pub record ReplaysDrawn (threads : ℕ) (steps : Steps) (schedule : Option (List ℕ)) (text svg : List ℕ)
+    (shown : Printed) : Type 0 where
+  pub code : Code
+  pub made : List ℕ
+  pub replay : IsReplayOfText threads steps schedule text code made None shown
+  pub drawn : IsPicture (titles code (timeline_of (played code threads made))) svg
+
+-- the picture of something that is so, and the status that its report would have
+abbrev pub PrintsPicture : (List ℕ → Printed → Type 0) → ℕ → Option (List ℕ) → Option (List ℕ) → Type 0
+PrintsPicture AreSo status old new = (status ≡ 0) ⊎ (status ≡ 3) →
+    (svg : List ℕ) × (shown : Printed) × AreSo svg shown × (status ≡ exit_status shown) × Appends old new svg

@@ -1,0 +1,83 @@
+-- What is written for a request, whatever the exit status: nothing, or what is asked for, or a beginning of that.
+use Rattle.std.specs.Prelude.{◌≡◌, ◌⊎◌, ◌++◌, ℕ, List, Option, IfSome, codes, take}
+use Rattle.std.specs.Io.KnownBytes.{Appends}
+use Rattle.std.specs.Str.Lines.{lines}
+use Rattle.bytecode.specs.Code.{Code}
+use Rattle.world.specs.declared.stop.WorldStop.{WorldStop}
+use Rattle.replay.specs.Replays.{played, timeline_of}
+use Rattle.replay.specs.Schedules.{AreLines}
+use Rattle.report.specs.Printed.{Printed}
+use Rattle.report.specs.Report.{report_text}
+use Rattle.report.specs.Timeline.{timeline_text}
+use Rattle.picture.specs.Marks.{IsPicture}
+use Rattle.picture.specs.Replayed.{titles}
+use Rattle.command.specs.declared.request.Request.{Request}
+use Rattle.command.specs.declared.request.Request.TheVariants.{Program, Explain}
+use Rattle.command.specs.declared.request.Steps.{Steps}
+use Rattle.command.specs.declared.request.Task.{Task}
+use Rattle.command.specs.declared.request.Task.TheVariants.{Check, Listing, Run, Replay, Timeline, Picture, PrintSchedule, Source}
+use Rattle.serving.specs.Checks.{Accepts}
+use Rattle.serving.specs.Codes.{Compiles}
+use Rattle.serving.specs.Listings.{Lists}
+use Rattle.serving.specs.Orders.{RunsInOrder}
+use Rattle.serving.specs.Replays.{IsReplayOfText, lines_of_seed}
+use Rattle.serving.specs.Runs.{RunsAtOnce}
+
+-- the report of something that is so
+abbrev pub IsReportOf : (Printed → Type 0) → List ℕ → Type 0
+IsReportOf IsSo written = (shown : Printed) × IsSo shown × (written ≡ report_text shown)
+
+-- a replay of these steps, up to the first that was not made
+pub record ReplayedTo (threads : ℕ) (steps : Steps) (schedule : Option (List ℕ)) (text : List ℕ) : Type 0 where
+  pub code : Code
+  pub made : List ℕ
+  pub stopped : Option WorldStop
+  pub shown : Printed
+  pub replay : IsReplayOfText threads steps schedule text code made stopped shown
+
+-- the report of a replay
+abbrev pub IsReplayReport : ℕ → Steps → Option (List ℕ) → (text : List ℕ) → (written : List ℕ) → Type 0
+IsReplayReport threads steps schedule text written =
+    (r : ReplayedTo threads steps schedule text) × (written ≡ report_text r.shown)
+
+-- what is shown of each of its steps, and then the report
+abbrev pub IsReplayTimeline : ℕ → Steps → Option (List ℕ) → (text : List ℕ) → (written : List ℕ) → Type 0
+IsReplayTimeline threads steps schedule text written = (r : ReplayedTo threads steps schedule text)
+    × (written ≡ timeline_text r.code (timeline_of (played r.code threads r.made)) ++ report_text r.shown)
+
+-- its picture
+abbrev pub IsReplayPicture : ℕ → Steps → Option (List ℕ) → (text : List ℕ) → (written : List ℕ) → Type 0
+IsReplayPicture threads steps schedule text written = (r : ReplayedTo threads steps schedule text)
+    × IsPicture (titles r.code (timeline_of (played r.code threads r.made))) written
+
+-- a schedule of the steps of a seed, for a text that has code
+abbrev pub IsSeedSchedule : (seed threads count : ℕ) → (text : List ℕ) → (written : List ℕ) → Type 0
+IsSeedSchedule seed threads count text written =
+    (code : Code) × Compiles text code × AreLines (lines written) (lines_of_seed seed threads count)
+
+-- what a task asks to be written
+abbrev pub IsAskedFor : Task → (schedule : Option (List ℕ)) → (text : List ℕ) → (written : List ℕ) → Type 0
+IsAskedFor Check schedule text written = Accepts text × (written ≡ codes "accepted\n")
+IsAskedFor Listing schedule text written = Lists text written
+IsAskedFor (Run threads budget) schedule text written = IsReportOf (RunsAtOnce threads budget text) written
+IsAskedFor (Replay threads steps) schedule text written = IsReplayReport threads steps schedule text written
+IsAskedFor (Timeline threads steps) schedule text written = IsReplayTimeline threads steps schedule text written
+IsAskedFor (Picture threads steps) schedule text written = IsReplayPicture threads steps schedule text written
+IsAskedFor (PrintSchedule threads seed count) schedule text written = IsSeedSchedule seed threads count text written
+IsAskedFor (Source threads order ticks) schedule text written =
+    IsReportOf (RunsInOrder threads ticks order.items text) written
+
+-- a text is written, or a beginning of it
+abbrev pub AppendsBeginning : Option (List ℕ) → Option (List ℕ) → List ℕ → Type 0
+AppendsBeginning old new text = (count : ℕ) × Appends old new (take count text)
+
+-- nothing is written, or such a text, or a beginning of it
+abbrev pub WritesPart : (List ℕ → Type 0) → Option (List ℕ) → Option (List ℕ) → Type 0
+WritesPart IsSo old new = (new ≡ old) ⊎ ((text : List ℕ) × IsSo text × AppendsBeginning old new text)
+
+-- what is written for a request, where these bytes are those of the file
+abbrev pub WritesFor : Request → (schedule : Option (List ℕ)) → (bytes : Option (List ℕ)) →
+    (old new : Option (List ℕ)) → Type 0
+WritesFor (Program file verbose task) schedule bytes old new =
+    IfSome bytes (λ text. WritesPart (IsAskedFor task schedule text) old new)
+WritesFor (Explain number) schedule bytes old new = Unit {0}

@@ -1,0 +1,80 @@
+//! What is told beside a fault on a terminal.
+
+use serving_in_memory::answers;
+use std::alloc::Global;
+use std::sync::Wait;
+use std::thread::Threads;
+
+/// A source, and what is told of it behind its line.
+type Row = (&'static str, &'static str);
+
+fn rows() -> &'static [Row] {
+    static ROWS: [Row; 12] = [
+        (
+            "int x y;",
+            "txc: fault 10 at 1:7: unexpected token\nint x y;\n      ^\nexpected ';', ',', '(', '[' or '='\ntxc explain 10 says more\n",
+        ),
+        (
+            "int x; void worker(int self) { transaction_atomic { } }",
+            "txc: fault 10 at 1:51: unexpected token\nint x; void worker(int self) { transaction_atomic { } }\n                                                  ^\nthe words are __transaction_atomic, __transaction_relaxed and __transaction_cancel\nexpected ';', '(', '[', an assignment or an operator\ntxc explain 10 says more\n",
+        ),
+        (
+            "void worker(int self) { switch (self) { } }",
+            "txc: fault 10 at 1:25: unexpected token\nvoid worker(int self) { switch (self) { } }\n                        ^^^^^^\nthere is no switch: write if and else\nexpected '}', a declaration or a statement\ntxc explain 10 says more\n",
+        ),
+        (
+            "char c;",
+            "txc: fault 10 at 1:1: unexpected token\nchar c;\n^^^^\nthe types are int and unsigned\nexpected a declaration\ntxc explain 10 says more\n",
+        ),
+        (
+            "int *p;",
+            "txc: fault 10 at 1:5: unexpected token\nint *p;\n    ^\nthere are no pointers\nexpected a name\ntxc explain 10 says more\n",
+        ),
+        (
+            "void worker(int self) { int a = self",
+            "txc: fault 12 at 1:37: unexpected end\nvoid worker(int self) { int a = self\n                                    ^\nexpected ';', ',', '(', '[' or an operator\ntxc explain 12 says more\n",
+        ),
+        (
+            "int x = 'a';",
+            "txc: fault 01 at 1:9: bad character\nint x = 'a';\n        ^\nthere are no character constants: write the number\ntxc explain 01 says more\n",
+        ),
+        (
+            "#define A 1\n",
+            "txc: fault 06 at 1:1: directive\n#define A 1\n^\nthere are no macros: #include lines alone are passed over\ntxc explain 06 says more\n",
+        ),
+        (
+            "int count; void worker(int self) { __transaction_atomic { coumt = 1; } }",
+            "txc: fault 20 at 1:59: unknown name\nint count; void worker(int self) { __transaction_atomic { coumt = 1; } }\n                                                          ^^^^^\nthere is a name count\ntxc explain 20 says more\n",
+        ),
+        (
+            "void worker(int self) { puts(\"a\"); }",
+            "txc: fault 10 at 1:30: unexpected token\nvoid worker(int self) { puts(\"a\"); }\n                             ^^^\nexpected ')' or an expression\ntxc explain 10 says more\n",
+        ),
+        (
+            "int main(void) { return 0; }",
+            "txc: fault 28 at 1:29: no worker\nint main(void) { return 0; }\n                            ^\nthere is no main: thread T runs worker(T), written void worker(int self)\ntxc explain 28 says more\n",
+        ),
+        (
+            "void worker(void) { }",
+            "txc: fault 28 at 1:22: no worker\nvoid worker(void) { }\n                     ^\nthread T runs worker(T), written void worker(int self)\ntxc explain 28 says more\n",
+        ),
+    ];
+    &ROWS
+}
+
+// The source of the first row that is told otherwise.
+fn told_otherwise<H: Threads + Wait + Sync>(rt: &H, alloc: Global) -> Option<&'static str> {
+    for (source, told) in rows() {
+        let wanted = (1, b"".as_slice(), told.as_bytes());
+        let line = "txc check a.c";
+        if !answers(rt, alloc, line, source.as_bytes(), b"", true, wanted) {
+            return Some(*source);
+        }
+    }
+    None
+}
+
+#[test]
+fn hints_follow_on_a_terminal(rt: HostRuntime) {
+    assert_eq!(rt; told_otherwise(&rt, rt.alloc()), None);
+}

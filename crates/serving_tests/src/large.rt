@@ -1,0 +1,356 @@
+//! Large inputs and broken ones: each is answered, and none for want of something.
+
+use crate::refusals::joined;
+use serving_in_memory::{Answer, Served, answers, serve_line};
+use std::alloc::{AllocError, Global};
+use std::sync::Wait;
+use std::thread::Threads;
+
+/// A text in pieces, each so many times.
+type Pieces = &'static [(&'static str, usize)];
+
+/// Texts in pieces, and what `txc check` answers to them.
+fn checks() -> &'static [(Pieces, Answer<'static>)] {
+    static ROWS: [(Pieces, Answer<'static>); 12] = [
+        // as many tokens as a text can have
+        (
+            &[(";", 1_048_575), (" ", 1)],
+            (1, b"", b"txc: fault 10 at 1:1: unexpected token\n"),
+        ),
+        (
+            &[("void worker(int self) { ", 1), (";", 1_048_551), ("}", 1)],
+            (0, b"accepted\n", b""),
+        ),
+        (
+            &[
+                ("int x; void worker(int self) { __transaction_atomic { ", 1),
+                ("x=1;", 262_129),
+                ("} }", 1),
+            ],
+            (0, b"accepted\n", b""),
+        ),
+        // the most bytes, and one more
+        (
+            &[
+                (
+                    "int x; void worker(int self) { __transaction_atomic { x = x + 1; } }",
+                    1,
+                ),
+                (" ", 1_048_508),
+            ],
+            (0, b"accepted\n", b""),
+        ),
+        (
+            &[
+                (
+                    "int x; void worker(int self) { __transaction_atomic { x = x + 1; } }",
+                    1,
+                ),
+                (" ", 1_048_509),
+            ],
+            (1, b"", b"txc: fault 05 at 1:1: file too long\n"),
+        ),
+        // the deepest, and one more
+        (
+            &[
+                ("void worker(int self) { ", 1),
+                ("(", 97),
+                ("1", 1),
+                (")", 97),
+                ("; }", 1),
+            ],
+            (0, b"accepted\n", b""),
+        ),
+        (
+            &[
+                ("void worker(int self) { ", 1),
+                ("(", 98),
+                ("1", 1),
+                (")", 98),
+                ("; }", 1),
+            ],
+            (1, b"", b"txc: fault 11 at 1:123: nested too deep\n"),
+        ),
+        // the most cells, and more
+        (
+            &[("int a[4096]; void worker(int self) { }", 1)],
+            (0, b"accepted\n", b""),
+        ),
+        (
+            &[("int a[4096], b; void worker(int self) { }", 1)],
+            (1, b"", b"txc: fault 25 at 1:14: bad array length\n"),
+        ),
+        (
+            &[("int a[4097]; void worker(int self) { }", 1)],
+            (1, b"", b"txc: fault 25 at 1:7: bad array length\n"),
+        ),
+        (
+            &[("int a[0]; void worker(int self) { }", 1)],
+            (1, b"", b"txc: fault 25 at 1:7: bad array length\n"),
+        ),
+        (
+            &[("int a[2] = {1,2,3}; void worker(int self) { }", 1)],
+            (1, b"", b"txc: fault 25 at 1:17: bad array length\n"),
+        ),
+    ];
+    &ROWS
+}
+
+// Whether `txc check` answers a text in pieces so.
+fn is_checked<H: Threads + Wait + Sync>(
+    rt: &H,
+    alloc: Global,
+    pieces: &[(&str, usize)],
+    wanted: Answer,
+) -> bool {
+    match joined(alloc, pieces) {
+        Ok(source) => {
+            let source = source.as_str().as_bytes();
+            answers(rt, alloc, "txc check a.c", source, b"", false, wanted)
+        }
+        Err(_) => false,
+    }
+}
+
+// The number, from 0, of the first text that is answered otherwise.
+fn not_checked<H: Threads + Wait + Sync>(rt: &H, alloc: Global) -> Option<usize> {
+    for (number, (pieces, wanted)) in checks().iter().enumerate() {
+        if !is_checked(rt, alloc, pieces, *wanted) {
+            return Some(number);
+        }
+    }
+    None
+}
+
+#[test]
+fn the_largest_sources_are_checked(rt: HostRuntime) {
+    assert_eq!(rt; not_checked(&rt, rt.alloc()), None);
+}
+
+// What is served to a command line with a text in pieces.
+fn served<H: Threads + Wait + Sync>(
+    rt: &H,
+    alloc: Global,
+    line: &str,
+    pieces: &[(&str, usize)],
+) -> Option<Served> {
+    match joined(alloc, pieces) {
+        Ok(source) => serve_line(rt, alloc, line, source.as_str().as_bytes(), b"", false),
+        Err(_) => None,
+    }
+}
+
+// Whether so much is printed, with status 0, and it ends so.
+fn prints<H: Threads + Wait + Sync>(
+    rt: &H,
+    alloc: Global,
+    line: &str,
+    pieces: &[(&str, usize)],
+    least: usize,
+    end: &[u8],
+) -> bool {
+    match served(rt, alloc, line, pieces) {
+        Some(served) => {
+            served.status == 0 && served.out.len() >= least && served.out.as_slice().ends_with(end)
+        }
+        None => false,
+    }
+}
+
+/// Statements whose code is listed in more than a megabyte.
+const LISTED: Pieces = &[
+    ("int x; void worker(int self) { __transaction_atomic { ", 1),
+    ("x=x*x+1;", 20_000),
+    ("} }", 1),
+];
+
+/// Prints of more than a megabyte.
+const PRINTED: Pieces = &[
+    (
+        "void worker(int self) { int i; for (i = 0; i < 1100; i++) printf(\"",
+        1,
+    ),
+    ("0123456789", 100),
+    ("\"); }", 1),
+];
+
+#[test]
+fn a_megabyte_is_printed(rt: HostRuntime) {
+    let alloc = rt.alloc();
+    assert!(rt; prints(&rt, alloc, "txc listing a.c", LISTED, 1_048_576, b" ret\n"));
+    let end = b"0123456789\n== memory\n";
+    assert!(rt; prints(&rt, alloc, "txc run a.c", PRINTED, 1_100_000, end));
+    assert!(rt;
+        prints(
+            &rt,
+            alloc,
+            "txc source a.c --order 0",
+            PRINTED,
+            1_100_000,
+            end
+        )
+    );
+}
+
+// A program of so many functions, which `worker` calls, and which print.
+fn of_functions(alloc: Global, count: u32) -> Result<String, AllocError> {
+    let mut text = String::new(alloc);
+    for number in 0..count {
+        text.push_str(format!(in alloc;
+            "void f{number}(void) {{ printf(\"{number},\"); }}\n"
+        )?.as_str())?;
+    }
+    text.push_str("void worker(int self) { ")?;
+    for number in 0..count {
+        text.push_str(format!(in alloc; "f{number}();")?.as_str())?;
+    }
+    text.push_str(" }")?;
+    Ok(text)
+}
+
+// What so many functions print, each its number.
+fn printed_by(alloc: Global, count: u32) -> Result<String, AllocError> {
+    let mut text = String::from_str(alloc, "== thread 0: ended\n")?;
+    for number in 0..count {
+        text.push_str(format!(in alloc; "{number},")?.as_str())?;
+    }
+    text.push_str("\n== memory\n")?;
+    Ok(text)
+}
+
+// Whether a program of so many functions runs, each called once.
+fn functions_run<H: Threads + Wait + Sync>(rt: &H, alloc: Global, count: u32) -> bool {
+    match (of_functions(alloc, count), printed_by(alloc, count)) {
+        (Ok(source), Ok(report)) => answers(
+            rt,
+            alloc,
+            "txc run a.c",
+            source.as_str().as_bytes(),
+            b"",
+            false,
+            (0, report.as_str().as_bytes(), b""),
+        ),
+        _ => false,
+    }
+}
+
+#[test]
+fn two_thousand_functions_and_texts_run(rt: HostRuntime) {
+    assert!(rt; functions_run(&rt, rt.alloc(), 2_000));
+}
+
+/// Each thread adds one, so many times.
+const COUNTS: &[u8] =
+    b"int x; void worker(int self) { int i; for (i = 0; i < 1000; i++) __transaction_atomic { x = x + 1; } }";
+
+// A command line with an order of so many turns, thread 0 and 1 by turns.
+fn line_of_turns(alloc: Global, turns: usize) -> Result<String, AllocError> {
+    let mut line = String::from_str(alloc, "txc source a.c --threads 2 --order 0")?;
+    line.push_str(",1,0".repeat(alloc, turns / 2)?.as_str())?;
+    Ok(line)
+}
+
+// Whether an order of so many turns is answered so.
+fn turns_give<H: Threads + Wait + Sync>(
+    rt: &H,
+    alloc: Global,
+    turns: usize,
+    source: &[u8],
+    wanted: Answer,
+) -> bool {
+    match line_of_turns(alloc, turns) {
+        Ok(line) => answers(rt, alloc, line.as_str(), source, b"", false, wanted),
+        Err(_) => false,
+    }
+}
+
+#[test]
+fn long_orders_are_answered(rt: HostRuntime) {
+    let alloc = rt.alloc();
+    let both = (
+        0,
+        b"== thread 0: ended\n== thread 1: ended\n== memory\nx = 2\n".as_slice(),
+        b"".as_slice(),
+    );
+    let adds = b"int x; void worker(int self) { __transaction_atomic { x = x + 1; } }";
+    assert!(rt; turns_give(&rt, alloc, 10_000, adds, both));
+    let counted = (
+        0,
+        b"== thread 0: ended\n== thread 1: ended\n== memory\nx = 2000\n".as_slice(),
+        b"".as_slice(),
+    );
+    assert!(rt; turns_give(&rt, alloc, 2_002, COUNTS, counted));
+}
+
+// Whether so many threads each add one.
+fn threads_add<H: Threads + Wait + Sync>(rt: &H, alloc: Global, threads: u32) -> bool {
+    let Ok(line) = format!(in alloc; "txc run a.c --threads {threads}") else {
+        return false;
+    };
+    let Ok(end) = format!(in alloc; "== memory\nx = {threads}\n") else {
+        return false;
+    };
+    let source = b"int x; void worker(int self) { __transaction_atomic { x = x + 1; } }";
+    match serve_line(rt, alloc, line.as_str(), source, b"", false) {
+        Some(served) => served.status == 0
+            && served.out.as_slice().ends_with(end.as_str().as_bytes()),
+        None => false,
+    }
+}
+
+// The first number of threads, from 1 to 64, that do not all add one.
+fn threads_that_do_not_add<H: Threads + Wait + Sync>(rt: &H, alloc: Global) -> Option<u32> {
+    for threads in 1..65u32 {
+        if !threads_add(rt, alloc, threads) {
+            return Some(threads);
+        }
+    }
+    None
+}
+
+#[test]
+fn every_number_of_threads_runs(rt: HostRuntime) {
+    assert_eq!(rt; threads_that_do_not_add(&rt, rt.alloc()), None);
+}
+
+/// A program with all kinds of statements, whose beginnings are checked.
+const WHOLE: &[u8] =
+    b"int f, g = 1, h; void worker(int self) { if (self == 0) { __transaction_atomic { f = 1; h = 1; } } else { __transaction_atomic { __transaction_atomic { if (f == 0) { g = 9; __transaction_cancel; } g = 5; } g = g + h; } } }";
+
+/// How many beginnings are accepted, and how many are refused with 10, 12 and 28.
+type Counts = (u32, u32, u32, u32);
+
+// Counts one more answer of a check; there is none where it is another one.
+fn counted(counts: Counts, served: &Served) -> Option<Counts> {
+    let err = served.err.as_slice();
+    let (accepted, unexpected, unfinished, no_worker) = counts;
+    if served.status == 0 && served.out.as_slice() == b"accepted\n".as_slice() {
+        Some((accepted.wrapping_add(1), unexpected, unfinished, no_worker))
+    } else if served.status != 1 || !served.out.is_empty() {
+        None
+    } else if err.starts_with(b"txc: fault 10 at 1:") {
+        Some((accepted, unexpected.wrapping_add(1), unfinished, no_worker))
+    } else if err.starts_with(b"txc: fault 12 at 1:") {
+        Some((accepted, unexpected, unfinished.wrapping_add(1), no_worker))
+    } else if err.starts_with(b"txc: fault 28 at 1:") {
+        Some((accepted, unexpected, unfinished, no_worker.wrapping_add(1)))
+    } else {
+        None
+    }
+}
+
+// How the beginnings of a source are answered, all of them.
+fn beginnings<H: Threads + Wait + Sync>(rt: &H, alloc: Global, source: &[u8]) -> Option<Counts> {
+    let mut counts = (0, 0, 0, 0);
+    for length in 0..source.len().saturating_add(1) {
+        let beginning = source.get(..length)?;
+        let served = serve_line(rt, alloc, "txc check a.c", beginning, b"", false)?;
+        counts = counted(counts, &served)?;
+    }
+    Some(counts)
+}
+
+#[test]
+fn every_beginning_of_a_source_is_answered(rt: HostRuntime) {
+    assert_eq!(rt; beginnings(&rt, rt.alloc(), WHOLE), Some((1, 9, 210, 3)));
+}
