@@ -252,7 +252,8 @@ def clauses(text, is_public):
 
 
 def public_modules(crate):
-    """The files of a crate's public functions, each with a test of which of its free functions are public."""
+    """The files of a crate's public functions, those too that have methods of a type that another one makes public, each with a test of
+    which of its free functions are public."""
     src = f"{TOP}/crates/{crate}/src"
     files = [it.split("/")[-1] for it in sources(crate)]
     root = "main.rt" if "main.rt" in files else "lib.rt"
@@ -260,6 +261,7 @@ def public_modules(crate):
     named = {}
     for module, names in re.findall(r"(?m)^pub use (\w+)::\{?([^;}]*)\}?;", top):
         named.setdefault(module, set()).update(re.findall(r"\w+", names))
+    types = set().union(*named.values())
     for file in files:
         module = file[: -len(".rt")]
         if "test" in module:
@@ -269,6 +271,8 @@ def public_modules(crate):
             yield text, lambda name: True
         elif module in named:
             yield text, lambda name, names=named[module]: name in names
+        elif any(name in types for name in re.findall(r"(?m)^impl(?:<[^{\n]*>)? (\w+)<", text)):
+            yield text, lambda name: False
 
 
 def cited(crate):

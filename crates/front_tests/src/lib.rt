@@ -10,6 +10,8 @@ mod growths;
 #[cfg(test)]
 mod large;
 #[cfg(test)]
+mod of_name_tables;
+#[cfg(test)]
 mod of_parse;
 #[cfg(test)]
 mod of_safety;
