@@ -1,12 +1,10 @@
 -- What is known after one item more, or one global more.
-use Rattle.std.proofs.Common.{◌≡◌, ℕ, ◌+◌, List, [], ◌∷◌, ◌++◌, length, Option, Some, None, Bool, true, false, refl, sym, ap, ◌∙◌, arith, if◌then◌else◌, ◌||◌, option_map, unwrap_or, bytes_eq, is_some, sum_by, append_assoc}
+use Rattle.std.proofs.Common.{◌≡◌, ℕ, ◌+◌, List, [], ◌∷◌, ◌++◌, Option, Some, None, Bool, true, false, refl, sym, ap, ◌∙◌, arith, if◌then◌else◌, ◌||◌, option_map, unwrap_or, bytes_eq, is_some}
 use Rattle.std.proofs.lemmas.Slice.Eq.{bytes_eq-Decides}
-use Rattle.std.proofs.lemmas.List.Sums.{sum_by-cons, sum_by-append}
 use Rattle.syntax.specs.Tree.{Span, Scalar, Function, Global, Item, Defines, Shares, Stmts}
-use Rattle.syntax.specs.Names.{cells, globals, definition_of, defined}
+use Rattle.syntax.specs.Names.{definition_of, defined}
 use Rattle.syntax.specs.Types.{Known, Unknown, Number, Array, Callable, Scope, file_scope, known_among, known_global, known_function}
 use Rattle.syntax.specs.Typing.{is_unknown, has_name, defined_names, all_cells}
-use Rattle.types.specs.Tables.{definitions_from, cells_from}
 
 -- what is known, and else this
 abbrev pub or_known : Known → Known → Known
@@ -88,34 +86,11 @@ module _ (earlier : List Item) (known : Scope) where
       ∙ ap (or_known (file_scope earlier y)) (sym (among_last before g y))
       ∙ sym (scope_append earlier (Shares (before ++ g ∷ []) ∷ []) y)) i)
 
--- the tables
-pub cells_append : (c : ℕ) (gs hs : List Global) → cells_from c (gs ++ hs) ≡ cells_from c gs ++ cells_from (c + sum_by cells gs) hs
-cells_append c [] hs = ap (λ n. cells_from n hs) (omega arith)
-cells_append c (g ∷ gs) hs = ap (λ cs. c ∷ cs) (cells_append (c + cells g) gs hs ∙ ap (λ n. cells_from (c + cells g) gs ++ cells_from n hs) (let h = sum_by-cons cells g gs in omega (arith, h)))
-
-pub globals_append : (a b : List Item) → globals (a ++ b) ≡ globals a ++ globals b
-globals_append [] b = refl
-globals_append (Defines f ∷ a) b = globals_append a b
-globals_append (Shares gs ∷ a) b = ap (λ hs. gs ++ hs) (globals_append a b) ∙ sym (append_assoc gs (globals a) (globals b))
-
-pub cells_are : (items : List Item) → sum_by cells (globals items) ≡ all_cells items
-cells_are [] = refl
-cells_are (Defines f ∷ items) = cells_are items
-cells_are (Shares gs ∷ items) = sum_by-append cells gs (globals items) ∙ ap (λ n. sum_by cells gs + n) (cells_are items)
-
+-- the cells of globals
 pub all_cells_append : (a b : List Item) → all_cells (a ++ b) ≡ all_cells a + all_cells b
 all_cells_append [] b = omega arith
 all_cells_append (Defines f ∷ a) b = all_cells_append a b
 all_cells_append (Shares gs ∷ a) b = let h = all_cells_append a b in omega (arith, h)
-
-pub definitions_append : (n : ℕ) (a b : List Item) → definitions_from n (a ++ b) ≡ definitions_from n a ++ definitions_from (n + length a) b
-definitions_append n [] b = ap (λ m. definitions_from m b) (omega arith)
-definitions_append n (Shares gs ∷ a) b = definitions_append (n + 1) a b ∙ ap (λ m. definitions_from (n + 1) a ++ definitions_from m b) (omega arith)
-definitions_append n (Defines f ∷ a) b = by (is_some f.body) (definitions_from (n + 1) a) (definitions_from (n + length (Defines f ∷ a)) b) (definitions_from (n + 1) (a ++ b)) (definitions_append (n + 1) a b ∙ ap (λ m. definitions_from (n + 1) a ++ definitions_from m b) (omega arith))
-  where
-    by : (here : Bool) (xs ys zs : List ℕ) → zs ≡ xs ++ ys → (if here then n ∷ zs else zs) ≡ (if here then n ∷ xs else xs) ++ ys
-    by true xs ys zs h = ap (λ x. n ∷ x) h
-    by false xs ys zs h = h
 
 -- names of definitions
 or_assoc : (a b c : Bool) → (a || b) || c ≡ a || (b || c)

@@ -7,7 +7,6 @@ pub mod Formats
 pub mod Found
 pub mod Grown
 pub mod Items
-pub mod Kept
 pub mod Loops
 pub mod Parameters
 pub mod Starts

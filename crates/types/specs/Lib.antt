@@ -1,6 +1,5 @@
--- what the call says, and its tables
+-- what the call says
 pub mod Answers
-pub mod Tables
 -- what a text stands for in a map
 pub mod Maps
 -- what private functions answer

@@ -1,4 +1,4 @@
--- What a text stands for in a map.
+-- What a text stands for in a B-tree map.
 use denote.Ref.{Bor}
 use Rattle.std.specs.Prelude.{ℕ, List, Option}
 use Rattle.std.specs.Ordering.{nat_cmp}

@@ -19,18 +19,18 @@ use crate::symbol::Symbol;
 use crate::table::Names;
 use containers::Items;
 use lex::token::Scalar;
+use name_tables::Table;
 use std::alloc::{AllocError, Allocator};
-use std::collections::BTreeMap;
 use syntax::tree::{Function, Item, Name, Parameter, Stmt};
 
 /// The names of the functions that have a body.
-pub(crate) type Bodies<'a, A> = BTreeMap<&'a str, (), A>;
+pub(crate) type Bodies<'a, A> = Table<'a, (), A>;
 
 /// Whether a function of this name has a body.
-pub(crate) fn has_body<'a, A: Allocator>(bodies: &Bodies<'a, A>, name: &'a str) -> bool
+pub(crate) fn has_body<'a, A: Allocator + Copy>(bodies: &Bodies<'a, A>, name: &'a str) -> bool
     ensures { (items : List Tree.Item) → AreBodies bodies.now items → result ≡ has_name (defined_names items) name.now }
 {
-    bodies.contains_key(&name)
+    bodies.get(name).is_some()
 }
 
 fn same_type(s: Scalar, t: Scalar) -> bool
@@ -266,10 +266,7 @@ fn add_body<'a, A: Allocator + Copy>(
     ensures { OnOk result (AreBodies bodies.new (map item_of earlier.now ++ Tree.Defines (function_of f.now) ∷ [])) }
 {
     if f.body.is_some() {
-        match bodies.insert(f.name.text.as_str(), ()) {
-            Ok(_) => {}
-            Err(_) => return Err(AllocError),
-        }
+        bodies.declare(f.name.text.as_str(), ())?;
     }
     Ok(())
 }

@@ -1,4 +1,4 @@
-//! Which globals are typed, and where their cells stand.
+//! Which globals are typed.
 
 ghost use Rattle.std.specs.Prelude.{◌≡◌, ◌≤◌, ◌+◌, ◌++◌, ◌∷◌, [], map, drop, sum_by, nat_le, true, OnOk};
 ghost use Rattle.syntax.specs.Tree as Tree;
@@ -10,12 +10,10 @@ ghost use Rattle.syntax.specs.Typing.{demand, first_unmet, IsLength, HaveCells, 
 ghost use Rattle.types.specs.inner.Unmet.{Answers, unmet_in};
 ghost use Rattle.types.specs.inner.Known.{known_in, count_in};
 ghost use Rattle.types.specs.inner.Scopes.{known_of};
-ghost use Rattle.types.specs.Tables.{cells_from};
 
 use crate::fault::{Failure, Violation, demand};
 use crate::symbol::Symbol;
 use crate::table::Names;
-use containers::Items;
 use lex::token::Span;
 use std::alloc::{AllocError, Allocator};
 use syntax::tree::{First, Function, Global, Item};
@@ -98,13 +96,11 @@ fn check_global<'a, A: Allocator + Copy>(
     demand(few, Violation::BadLength(g.name.span))
 }
 
-/// A global's name, known from its declaration on, and its first cell.
+/// A global's name, known from its declaration on.
 fn add_global<'a, A: Allocator + Copy>(
     names: &mut Names<'a, A>,
-    first_cells: &mut Items<u32, A>,
     earlier: &[Item<A>],
     before: &[Global<A>],
-    taken: u32,
     g: &'a Global<A>,
 ) -> Result<(), AllocError>
     requires none { count_in names.old ≡ 0 }
@@ -116,16 +112,13 @@ fn add_global<'a, A: Allocator + Copy>(
         ≡ file_scope
         (map item_of earlier.now ++ Tree.Shares (map global_of before.now ++ global_of g.now ∷ []) ∷ [])) }
     ensures none { count_in names.new ≡ 0 }
-    ensures cells { OnOk result (first_cells.new ≡ first_cells.old ++ taken ∷ []) }
 {
-    names.define(g.name.text.as_str(), symbol_of(g))?;
-    first_cells.push(taken)
+    names.define(g.name.text.as_str(), symbol_of(g))
 }
 
 /// The globals of one declaration, behind earlier items that take so many cells.
 pub(crate) fn check_globals<'a, A: Allocator + Copy>(
     names: &mut Names<'a, A>,
-    first_cells: &mut Items<u32, A>,
     taken: &mut u32,
     earlier: &[Item<A>],
     all: &'a [Global<A>],
@@ -137,14 +130,13 @@ pub(crate) fn check_globals<'a, A: Allocator + Copy>(
     ensures known { OnOk result
         (known_in names.new ≡ file_scope (map item_of earlier.now ++ Tree.Shares (map global_of all.now) ∷ [])) }
     ensures none { OnOk result (count_in names.new ≡ 0) }
-    ensures cells { OnOk result (first_cells.new ≡ first_cells.old ++ cells_from taken.old (map global_of all.now)) }
     ensures taken { OnOk result (taken.new ≡ taken.old + sum_by cells (map global_of all.now)) }
     ensures few { OnOk result (taken.new ≤ 4096) }
 {
     'each: for i in 0..all.len() {
         let g = &all[i];
         check_global(names, *taken, g)?;
-        add_global(names, first_cells, earlier, &all[..i], *taken, g)?;
+        add_global(names, earlier, &all[..i], g)?;
         *taken += cells_of(g);
     }
     Ok(())

@@ -1,9 +1,7 @@
 //! Which programs are typed.
 
 ghost use Rattle.std.specs.Prelude.{◌≡◌, ◌≤◌, ◌++◌, ◌∷◌, [], map, codes, None, IfOk, OnOk};
-ghost use Rattle.syntax.specs.Tree as Tree;
-ghost use Rattle.syntax.specs.Views.{function_of, item_of};
-ghost use Rattle.syntax.specs.Names.{globals};
+ghost use Rattle.syntax.specs.Views.{item_of};
 ghost use Rattle.syntax.specs.Types.{file_scope};
 ghost use Rattle.syntax.specs.Typing.{is_worker};
 ghost use Rattle.syntax.specs.Typing.{demand, first_unmet, IsTypedItem, AreTypedItems, AreDefined, Meets};
@@ -12,49 +10,23 @@ ghost use Rattle.types.specs.inner.Unmet.{Answers, unmet_in};
 ghost use Rattle.types.specs.inner.Known.{known_in};
 ghost use Rattle.types.specs.inner.Bodies.{AreBodies};
 ghost use Rattle.types.specs.inner.Found.{IsFound};
-ghost use Rattle.types.specs.Tables.{definitions_from, cells_from};
 
 use crate::fault::{Failure, TypeFault, Violation, demand};
 use crate::function::{Bodies, check_function, has_body, is_worker};
 use crate::global::check_globals;
 use crate::table::Names;
 use crate::typed::Typed;
-use containers::Items;
 use lex::token::Span;
-use std::alloc::{AllocError, Allocator};
-use std::collections::BTreeMap;
-use syntax::tree::{Function, Item, Unit};
-
-/// The tables of a program.
-#[derive(Drop)]
-struct Tables<A: Allocator> {
-    functions: Items<usize, A>,
-    cells: Items<u32, A>,
-}
+use name_tables::Table;
+use std::alloc::Allocator;
+use syntax::tree::{Item, Unit};
 
 /// What is found out item by item.
 #[derive(Drop)]
 struct Found<'a, A: Allocator + Copy> {
     pub(crate) names: Names<'a, A>,
     pub(crate) bodies: Bodies<'a, A>,
-    functions: Items<usize, A>,
-    cells: Items<u32, A>,
     taken: u32,
-}
-
-/// The number of an item that defines a function is kept.
-fn add_number<A: Allocator>(
-    functions: &mut Items<usize, A>,
-    number: usize,
-    f: &Function<A>,
-) -> Result<(), AllocError>
-    ensures { OnOk result
-        (functions.new ≡ functions.old ++ definitions_from number (Tree.Defines (function_of f.now) ∷ [])) }
-{
-    match f.body {
-        Some(_) => functions.push(number),
-        None => Ok(()),
-    }
 }
 
 /// An item behind earlier ones.
@@ -70,17 +42,10 @@ fn check_item<'a, A: Allocator + Copy>(
     match item {
         Item::Function(f) => {
             check_function(&mut found.names, &mut found.bodies, earlier, f)?;
-            add_number(&mut found.functions, earlier.len(), f)?;
             Ok(())
         }
         Item::Globals(all) => {
-            check_globals(
-                &mut found.names,
-                &mut found.cells,
-                &mut found.taken,
-                earlier,
-                all.as_slice(),
-            )?;
+            check_globals(&mut found.names, &mut found.taken, earlier, all.as_slice())?;
             Ok(())
         }
     }
@@ -89,16 +54,15 @@ fn check_item<'a, A: Allocator + Copy>(
 /// The items in order.
 fn check_items<'a, A: Allocator + Copy>(
     alloc: A,
+    key: u64,
     items: &'a [Item<A>],
 ) -> Result<Found<'a, A>, Failure>
     ensures answer { Answers result (AreTypedItems [] (map item_of items.now)) }
     ensures found { IfOk result (λ found. IsFound found (map item_of items.now)) }
 {
     let mut found = Found {
-        names: Names::new(alloc),
-        bodies: BTreeMap::new(alloc),
-        functions: Items::new(alloc),
-        cells: Items::new(alloc),
+        names: Names::new(alloc, key),
+        bodies: Table::new(alloc, key),
         taken: 0,
     };
     'each: for i in 0..items.len() {
@@ -144,37 +108,29 @@ fn check_worker<'a, A: Allocator + Copy>(
     demand(right, Violation::NoWorker(Span { start: end, end }))
 }
 
-/// The whole of a program, and its tables.
+/// The whole of a program, the hashes of whose names are by this key.
 fn check_program<A: Allocator + Copy>(
     alloc: A,
+    key: u64,
     items: &[Item<A>],
     end: usize,
-) -> Result<Tables<A>, Failure>
-    ensures answer { Answers result (Meets end (map item_of items.now)) }
-    ensures functions { IfOk result (λ t. t.functions ≡ definitions_from 0 (map item_of items.now)) }
-    ensures cells { IfOk result (λ t. t.cells ≡ cells_from 0 (globals (map item_of items.now))) }
+) -> Result<(), Failure>
+    ensures { Answers result (Meets end (map item_of items.now)) }
 {
-    let found = check_items(alloc, items)?;
+    let found = check_items(alloc, key, items)?;
     check_defined(&found.bodies, items)?;
     check_worker(&found.names, items, end)?;
-    Ok(Tables {
-        functions: found.functions,
-        cells: found.cells,
-    })
+    Ok(())
 }
 
 /// Checks names and types. The fault is the first rule that the program breaks, in the order of the text; then come
 /// functions that are declared and not defined, and last a missing `worker`. The program is kept in what is given, or
-/// comes back in the fault. Takes memory for the names and the tables.
+/// comes back in the fault. Takes memory for the names.
 pub fn check<A: Allocator + Copy>(alloc: A, unit: Unit<A>) -> Result<Typed<A>, TypeFault<A>>
     ensures { Checks unit result }
 {
-    match check_program(alloc, unit.items.as_slice(), unit.end) {
-        Ok(Tables { functions, cells }) => Ok(Typed {
-            unit,
-            functions,
-            cells,
-        }),
+    match check_program(alloc, 0, unit.items.as_slice(), unit.end) {
+        Ok(()) => Ok(Typed { unit }),
         Err(Failure::OutOfMemory) => Err(TypeFault::OutOfMemory(unit)),
         Err(Failure::Violation(violation)) => Err(TypeFault::IllTyped(unit, violation)),
     }

@@ -1,10 +1,10 @@
-//! Programs whose names and types are right, and their tables.
+//! Programs whose names and types are right.
 
 use crate::asserted::{assert_none, assert_that};
 use crate::stages::{Stage, faulty, unit_of};
 use std::alloc::Global;
 use syntax::tree::Unit;
-use types::{Typed, check};
+use types::check;
 
 /// The rows stand in a function, so that no proof but its own looks at them.
 fn rows() -> &'static [&'static str] {
@@ -37,31 +37,26 @@ fn right_programs_are_accepted(rt: HostRuntime) {
     assert_none(&rt, faulty(rt.alloc(), Stage::Types, rows()));
 }
 
-// Whether these are the functions and the first cells of the tables, and so many the items.
-fn has_tables(typed: &Typed, functions: &[usize], cells: &[u32]) -> bool {
-    typed.functions() == functions && typed.cells() == cells && typed.unit().items.len() == 6
-}
-
-// The same of a tree.
-fn leaves_tables(alloc: Global, unit: Unit, functions: &[usize], cells: &[u32]) -> bool {
+// Whether the program that is kept has so many items.
+fn has_items(alloc: Global, unit: Unit, count: usize) -> bool {
     match check(alloc, unit) {
-        Ok(typed) => has_tables(&typed, functions, cells),
+        Ok(typed) => typed.unit().items.len() == count,
         Err(_) => false,
     }
 }
 
-// The same of a text's tree.
-fn has_tables_of(alloc: Global, text: &str, functions: &[usize], cells: &[u32]) -> bool {
+// Whether what is kept of this text has so many items.
+fn has_items_of(alloc: Global, text: &str, count: usize) -> bool {
     match unit_of(alloc, text) {
-        Some(unit) => leaves_tables(alloc, unit, functions, cells),
+        Some(unit) => has_items(alloc, unit, count),
         None => false,
     }
 }
 
 #[test]
-fn the_tables_name_functions_and_cells(rt: HostRuntime) {
+fn the_program_is_kept(rt: HostRuntime) {
     let text =
         "int x, a[3]; void f(void); unsigned y; void worker(int self) { } void f(void) { } int z;";
-    let holds = has_tables_of(rt.alloc(), text, &[3, 4], &[0, 1, 4, 5]);
+    let holds = has_items_of(rt.alloc(), text, 6);
     assert_that(&rt, holds);
 }

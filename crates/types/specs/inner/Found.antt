@@ -1,20 +1,16 @@
 -- What is found out item by item.
 use Rattle.std.specs.Prelude.{◌≡◌, ◌≤◌, List}
 use Rattle.syntax.specs.Tree.{Item}
-use Rattle.syntax.specs.Names.{globals}
 use Rattle.syntax.specs.Types.{file_scope}
 use Rattle.syntax.specs.Typing.{all_cells}
 use Rattle.types.specs.declared.unit.Found.{Found}
 use Rattle.types.specs.inner.Known.{known_in, count_in}
 use Rattle.types.specs.inner.Bodies.{AreBodies}
-use Rattle.types.specs.Tables.{definitions_from, cells_from}
 
 -- this is what these items say
 pub record IsFound {A : Type 0} (found : Found A) (items : List Item) : Type 0 where
   pub known : known_in found.names ≡ file_scope items
   pub none : count_in found.names ≡ 0
   pub defined : AreBodies found.bodies items
-  pub functions : found.functions ≡ definitions_from 0 items
-  pub cells : found.cells ≡ cells_from 0 (globals items)
   pub taken : found.taken ≡ all_cells items
   pub few : found.taken ≤ 4096

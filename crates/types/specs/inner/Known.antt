@@ -1,42 +1,55 @@
 -- What is known at a place.
+use Rattle.std.specs.Prelude.{◌≡◌, ℕ, List, [], ◌∷◌, Option, Some, None, Bool, false, nat_le, length, take}
 use Rattle.syntax.specs.declared.tree.Function.{Function}
+use Rattle.syntax.specs.Tree.{Scalar, Declarator}
+use Rattle.syntax.specs.Types.{Known, Unknown, Number, Scope}
 use Rattle.syntax.specs.Typing.{has_name}
-use Rattle.syntax.specs.Tree.{Declarator}
-use Rattle.std.specs.Prelude.{[], ◌∷◌, nat_lt, ℕ, List, ◌≡◌, length, take, drop}
-use Rattle.syntax.specs.Types.{Scope}
-use Rattle.types.specs.declared.table.Slot.{Slot}
+use Rattle.name_tables.specs.Named.{first, newest}
+use Rattle.name_tables.specs.Known.{entries_in, locals_in}
+use Rattle.types.specs.declared.symbol.Symbol.{Symbol}
 use Rattle.types.specs.declared.table.Names.{Names}
 use Rattle.types.specs.inner.Scopes.{known_of}
-use Rattle.types.specs.inner.Slots.{table_of, under}
+
+-- the newest local of a name hides what the file declares
+abbrev pub known_as : {A : Type 0} → Option (ℕ × Scalar) → Option (Symbol (Function A)) → Known
+known_as (Some l) declared = Number l.1
+known_as None (Some symbol) = known_of symbol
+known_as None None = Unknown
+
+-- a local that was declared after so many
+abbrev pub is_behind : ℕ → Option (ℕ × Scalar) → Bool
+is_behind start None = false
+is_behind start (Some l) = nat_le start l.0
 
 module _ {A : Type 0} where
-  abbrev pub slot_in : Names A → List ℕ → Slot (Function A)
-  slot_in n = table_of n.slots
+  -- the locals, in order of declaration
+  abbrev pub locals_of : Names A → List (List ℕ × Scalar)
+  locals_of n = locals_in n.locals
+
+  -- the names of the file, as each was first declared
+  abbrev pub file_of : Names A → List (List ℕ × Symbol (Function A))
+  file_of n = entries_in n.file
 
   unfoldable pub known_in : Names A → Scope
-  known_in n x = known_of (slot_in n x).symbol
+  known_in n x = known_as (newest (locals_of n) x) (first (file_of n) x)
 
   -- the number of locals
   abbrev pub count_in : Names A → ℕ
-  count_in n = length n.locals.items
-
-  -- what each name was with so many locals
-  abbrev pub slot_before : ℕ → Names A → List ℕ → Slot (Function A)
-  slot_before k n = under (drop k n.locals.items) (slot_in n)
+  count_in n = length (locals_of n)
 
   -- there may be further locals; without them it is as it was
   pub record Grows (old new : Names A) : Type 0 where
-    pub locals : take (count_in old) new.locals.items ≡ old.locals.items
-    pub slots : slot_before (count_in old) new ≡ slot_in old
+    pub locals : take (count_in old) (locals_of new) ≡ locals_of old
+    pub file : file_of new ≡ file_of old
 
-  -- the same names, as far as a look-up sees
+  -- the same names
   pub record Agrees (old new : Names A) : Type 0 where
-    pub locals : new.locals.items ≡ old.locals.items
-    pub slots : slot_in new ≡ slot_in old
+    pub locals : locals_of new ≡ locals_of old
+    pub file : file_of new ≡ file_of old
 
   -- these are the names declared since there were so many locals
   abbrev pub AreDeclared : ℕ → Names A → List (List ℕ) → Type 0
-  AreDeclared start n declared = (x : List ℕ) → nat_lt start (slot_in n x).place ≡ has_name declared x
+  AreDeclared start n declared = (x : List ℕ) → is_behind start (newest (locals_of n) x) ≡ has_name declared x
 
 -- the names of a scope after these declarators
 abbrev pub declared_by : List Declarator → List (List ℕ) → List (List ℕ)

@@ -3,7 +3,7 @@ use Rattle.std.specs.Option.{option_or}
 use Rattle.syntax.specs.Views.{parameter_of, stmts_of}
 use Rattle.syntax.specs.Typing.{parameter_names, with_parameters}
 use Rattle.syntax.specs.Typing.{first_unmet, demands_of, AreDistinct, AreTypedStmts}
-use Rattle.types.specs.inner.Known.{known_in, slot_before, AreDeclared}
+use Rattle.types.specs.inner.Known.{known_in, locals_of, AreDeclared}
 use Rattle.types.proofs.Steps.{first_of_two, tell_skip, tell_stop, tell_same}
 use Rattle.types.proofs.Grown.{left, grows_on}
 use Rattle.types.proofs.function.check_inside.Goals as goal
@@ -48,4 +48,4 @@ returns-clause-same g c =
     let mid = c.check_parameters.new.names in
     let new = c.check_body.new.names in
     let grown = grows_on old mid new c.in_ok-check_parameters.ensures.count c.in_ok-check_parameters.ensures.grows c.in_ok-check_body.ensures.grows in
-    left old new c.leave.new.self grown (c.leave.ensures.locals ∙ ap (λ n. take n new.locals.items) c.len-outer.ensures) (c.leave.ensures.slots ∙ ap (λ n. slot_before n new) c.len-outer.ensures)
+    left old new c.leave.new.self grown (c.leave.ensures.locals ∙ ap (λ n. take n (locals_of new)) c.len-outer.ensures) c.leave.ensures.file

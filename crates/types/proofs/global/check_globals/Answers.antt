@@ -1,4 +1,4 @@
-use Rattle.std.proofs.Common.{◌≡◌, ◌+◌, ◌∙◌, ◌∷◌, ◌++◌, [], None, map, take, drop, sum_by, refl, sym, ap, arith, append_assoc, append-nil}
+use Rattle.std.proofs.Common.{◌≡◌, ◌+◌, ◌∙◌, ◌∷◌, ◌++◌, [], None, map, take, drop, sum_by, refl, sym, ap, arith}
 use Rattle.std.specs.Prelude.{nat_le}
 use Rattle.std.proofs.lemmas.List.{take_all}
 use Rattle.std.proofs.lemmas.List.Sums.{sum_by-append, sum_by-cons}
@@ -10,9 +10,8 @@ use Rattle.syntax.specs.Typing.{is_unknown}
 use Rattle.types.specs.inner.Unmet.{unmet_in}
 use Rattle.syntax.specs.Typing.{demand, first_unmet, IsLength, HaveCells, AreTypedGlobals}
 use Rattle.types.specs.inner.Known.{known_in}
-use Rattle.types.specs.Tables.{cells_from}
 use Rattle.types.proofs.AllMet.{first_met, last_met, le_true}
-use Rattle.types.proofs.Files.{shares_none, cells_append}
+use Rattle.types.proofs.Files.{shares_none}
 use Rattle.types.proofs.Items.{globals_more, globals_taken}
 use Rattle.types.proofs.Steps.{skip, stop_at}
 use Rattle.types.proofs.global.check_globals.Goals as goal
@@ -21,7 +20,6 @@ pub each-init : goal.each-init
 each-init g c = (
   c.requires.none,
   shares_none (map item_of c.args.earlier.now) (known_in c.args.names.now) c.requires.known,
-  sym (append-nil c.args.first_cells.now),
   omega arith,
   c.requires.few,
   refl,
@@ -31,7 +29,7 @@ pub returns-in_err-check_global-clause-answer : goal.returns-in_err-check_global
 returns-in_err-check_global-clause-answer g c =
     let inv = c.each.invariant in
     let x = c.index-all-i.result in
-    stop_at c.check_global.result _ c.in_err-check_global.field-0.0 _ _ _ (sym inv.5 ∙ globals_more c.args.all.now c.each.i x c.index-all-i.is c.each-test.true (map item_of c.args.earlier.now) c.each.taken) (c.check_global.ensures ∙ ap (λ k. first_unmet (demand 21 x.name.span (is_unknown (k x.name.text)) ++ IsLength x.length ++ HaveCells (drop (cells (global_of x)) x.first) ++ demand 25 x.name.span (nat_le (c.each.taken + cells (global_of x)) 4096))) inv.1) c.in_err-check_global.was c.from_residual.ensures
+    stop_at c.check_global.result _ c.in_err-check_global.field-0.0 _ _ _ (sym inv.4 ∙ globals_more c.args.all.now c.each.i x c.index-all-i.is c.each-test.true (map item_of c.args.earlier.now) c.each.taken) (c.check_global.ensures ∙ ap (λ k. first_unmet (demand 21 x.name.span (is_unknown (k x.name.text)) ++ IsLength x.length ++ HaveCells (drop (cells (global_of x)) x.first) ++ demand 25 x.name.span (nat_le (c.each.taken + cells (global_of x)) 4096))) inv.1) c.in_err-check_global.was c.from_residual.ensures
 
 pub add_global-requires-clause-new : goal.add_global-requires-clause-new
 add_global-requires-clause-new g c =
@@ -54,7 +52,6 @@ each-preserved g c =
     let i = c.each.i in
     let x = c.index-all-i.result in
     let e = map item_of c.args.earlier.now in
-    let t = c.args.taken.now in
     let before = map global_of (take i gs) in
     let n = cells (global_of x) in
     let ok = c.in_ok-add_global.ensures in
@@ -65,12 +62,11 @@ each-preserved g c =
     let sums : sum_by cells (map global_of (take (i + 1) gs)) ≡ sum_by cells before + n = ap (sum_by cells) taken ∙ sum_by-append cells before (global_of x ∷ []) ∙ ap (λ m. sum_by cells before + m) (sum_by-cons cells (global_of x) [] ∙ omega arith) in (
       ok.none,
       ok.known ∙ ap (λ b. file_scope (e ++ Shares b ∷ [])) (sym taken),
-      ok.cells ∙ ap (λ xs. xs ++ c.each.taken ∷ []) inv.2 ∙ append_assoc c.args.first_cells.now (cells_from t before) (c.each.taken ∷ []) ∙ ap (λ xs. c.args.first_cells.now ++ xs) (ap (λ m. cells_from t before ++ m ∷ []) inv.3 ∙ sym (cells_append t before (global_of x ∷ [])) ∙ ap (cells_from t) (sym taken)),
-      (let a = inv.3 in omega (arith, a, count, sums)),
+      (let a = inv.2 in omega (arith, a, count, sums)),
       omega (arith, few, count),
       ap (λ m. first_unmet (AreTypedGlobals e (map global_of (take (i + 1) gs)) (c.each.taken + m) (map global_of (drop (i + 1) gs)))) count
           ∙ sym (skip c.check_global.result _ _ _ _ (globals_more gs i x c.index-all-i.is c.each-test.true e c.each.taken) (c.check_global.ensures ∙ ap (λ k. first_unmet (demand 21 x.name.span (is_unknown (k x.name.text)) ++ IsLength x.length ++ HaveCells (drop n x.first) ++ demand 25 x.name.span (nat_le (c.each.taken + n) 4096))) inv.1) c.in_ok-check_global.was)
-          ∙ inv.5,
+          ∙ inv.4,
     )
 
 pub returns-clause-none : goal.returns-clause-none
@@ -80,13 +76,9 @@ pub returns-clause-known : goal.returns-clause-known
 returns-clause-known g c =
     c.each.invariant.1 ∙ ap (λ gs. file_scope (map item_of c.args.earlier.now ++ Shares (map global_of gs) ∷ [])) (take_all c.each.i c.args.all.now c.each-test.false)
 
-pub returns-clause-cells : goal.returns-clause-cells
-returns-clause-cells g c =
-    c.each.invariant.2 ∙ ap (λ gs. c.args.first_cells.now ++ cells_from c.args.taken.now (map global_of gs)) (take_all c.each.i c.args.all.now c.each-test.false)
-
 pub returns-clause-taken : goal.returns-clause-taken
 returns-clause-taken g c =
-    c.each.invariant.3 ∙ ap (λ gs. c.args.taken.now + sum_by cells (map global_of gs)) (take_all c.each.i c.args.all.now c.each-test.false)
+    c.each.invariant.2 ∙ ap (λ gs. c.args.taken.now + sum_by cells (map global_of gs)) (take_all c.each.i c.args.all.now c.each-test.false)
 
 pub returns-clause-few : goal.returns-clause-few
-returns-clause-few g c = c.each.invariant.4
+returns-clause-few g c = c.each.invariant.3

@@ -1,7 +1,7 @@
 use Rattle.std.proofs.Common.{◌∙◌, ap, map, take}
 use Rattle.syntax.specs.Views.{declarator_of}
 use Rattle.syntax.specs.Typing.{first_unmet, AreTypedDeclarators}
-use Rattle.types.specs.inner.Known.{known_in, slot_before}
+use Rattle.types.specs.inner.Known.{known_in, locals_of}
 use Rattle.types.proofs.Steps.{tell_same}
 use Rattle.types.proofs.Grown.{left}
 use Rattle.types.proofs.scope.check_lone.Goals as goal
@@ -15,4 +15,4 @@ returns-clause-answer g c = λ declared h.
     c.in_ok-check_declarators.ensures.answer declared h ∙ ap (λ ds. first_unmet (AreTypedDeclarators (known_in c.args.names.now) declared c.args.one.now.of (map declarator_of ds))) c.as_slice.ensures
 
 pub returns-clause-same : goal.returns-clause-same
-returns-clause-same g c = left c.args.names.now c.check_declarators.new.names c.leave.new.self c.in_ok-check_declarators.ensures.grows (c.leave.ensures.locals ∙ ap (λ n. take n c.check_declarators.new.names.locals.items) c.len-outer.ensures) (c.leave.ensures.slots ∙ ap (λ n. slot_before n c.check_declarators.new.names) c.len-outer.ensures)
+returns-clause-same g c = left c.args.names.now c.check_declarators.new.names c.leave.new.self c.in_ok-check_declarators.ensures.grows (c.leave.ensures.locals ∙ ap (λ n. take n (locals_of c.check_declarators.new.names)) c.len-outer.ensures) c.leave.ensures.file

@@ -7,7 +7,7 @@ use Rattle.syntax.specs.declared.tree.Stmt.{the_lemmas}
 use Rattle.syntax.proofs.tree.Stmt.TheLaws.{the_size}
 use Rattle.syntax.specs.Typing.{has_name, knows, scope_after, scope_of_start, names_of}
 use Rattle.syntax.specs.Typing.{first_unmet, IsNumber, IsTypedPrint, IsTypedStmt, AreTypedStmts, AreTypedDeclarators}
-use Rattle.types.specs.inner.Known.{known_in, slot_before, declared_by, AreDeclared, Grows, Agrees}
+use Rattle.types.specs.inner.Known.{known_in, locals_of, declared_by, AreDeclared, Grows, Agrees}
 use Rattle.types.proofs.Steps.{skip, stop_at, tell_skip, tell_stop, tell_rest, tell_same}
 use Rattle.types.proofs.Grown.{left, grows_none, grows_on, grows_same, none_declared, agrees_all, same_known, same_declared}
 use Rattle.types.proofs.Stmts.{else_first, stmts_more, typed_declare, typed_do, typed_return, typed_block, typed_transaction, typed_print, typed_if, typed_while, typed_do_while, typed_for}
@@ -25,7 +25,7 @@ check_block-returns-clause-answer g t c =
     c.in_ok-check_stmts.ensures.answer [] none
 
 pub check_block-returns-clause-same : goal.check_block-returns-clause-same
-check_block-returns-clause-same g t c = left c.args.names.now c.check_stmts.new.names c.leave.new.self c.in_ok-check_stmts.ensures.grows (c.leave.ensures.locals ∙ ap (λ n. take n c.check_stmts.new.names.locals.items) c.len-outer.ensures) (c.leave.ensures.slots ∙ ap (λ n. slot_before n c.check_stmts.new.names) c.len-outer.ensures)
+check_block-returns-clause-same g t c = left c.args.names.now c.check_stmts.new.names c.leave.new.self c.in_ok-check_stmts.ensures.grows (c.leave.ensures.locals ∙ ap (λ n. take n (locals_of c.check_stmts.new.names)) c.len-outer.ensures) c.leave.ensures.file
 
 pub check_stmt-check_stmt-requires : goal.check_stmt-check_stmt-requires
 check_stmt-check_stmt-requires g t c κs within =
@@ -190,7 +190,7 @@ check_stmt-returns-in_ok-check_stmt-in-For-clause-same g t c =
     let mid = c.check_head.new.names in
     let new = c.check_stmt-in-For.new.names in
     let grown = grows_on old mid new c.in_ok-check_head-in-For.ensures.count c.in_ok-check_head-in-For.ensures.grows (grows_same mid new c.in_ok-check_stmt-in-For.ensures.same) in
-    left old new c.leave.new.self grown (c.leave.ensures.locals ∙ ap (λ n. take n new.locals.items) c.len-outer.ensures) (c.leave.ensures.slots ∙ ap (λ n. slot_before n new) c.len-outer.ensures)
+    left old new c.leave.new.self grown (c.leave.ensures.locals ∙ ap (λ n. take n (locals_of new)) c.len-outer.ensures) c.leave.ensures.file
 
 pub check_stmt-returns-in-Declare-clause-answer : goal.check_stmt-returns-in-Declare-clause-answer
 check_stmt-returns-in-Declare-clause-answer g t c = λ declared h.

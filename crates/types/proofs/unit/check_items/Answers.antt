@@ -1,9 +1,6 @@
 use Rattle.std.proofs.Common.{◌∙◌, map, take, refl, sym, ap, subst, arith, is_some}
 use Rattle.std.proofs.lemmas.List.{take_all, at_drop_all}
-use Rattle.std.specs.Map.{lookup}
-use Rattle.std.specs.Ordering.{nat_cmp}
-use Rattle.std.specs.Cmp.Lexicographic.{slice_cmp}
-use Rattle.std.specs.BTreeMap.{is_at}
+use Rattle.name_tables.specs.Named.{first}
 use Rattle.syntax.specs.Views.{item_of}
 use Rattle.syntax.specs.Typing.{first_unmet, AreTypedItems}
 use Rattle.types.specs.inner.Found.{IsFound}
@@ -16,9 +13,7 @@ each-init g c = (
   record {
     known = c.new.ensures.known;
     none = c.new.ensures.locals;
-    defined = λ x. ap (λ es. is_some (lookup (is_at (λ k. slice_cmp nat_cmp x k.now)) es)) c.new-2.ensures.empty;
-    functions = c.new-3.ensures;
-    cells = c.new-4.ensures;
+    defined = λ x. ap (λ es. is_some (first es x)) c.new-2.ensures;
     taken = refl;
     few = omega arith;
   },

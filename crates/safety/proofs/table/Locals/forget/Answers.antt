@@ -3,7 +3,7 @@ use Rattle.std.specs.Ordering.{nat_cmp}
 use Rattle.std.specs.Cmp.Lexicographic.{slice_cmp}
 use Rattle.std.specs.BTreeMap.{Updates}
 use Rattle.types.specs.Maps.{value_at}
-use Rattle.types.proofs.Kept.{by_either}
+use Rattle.types.proofs.Grown.{by_either}
 use Rattle.safety.specs.inner.Counts.{AreCounted}
 use Rattle.safety.proofs.Counts.{counted_less, counted_last, not_absent}
 use Rattle.safety.proofs.table.Locals.forget.Goals as goal
