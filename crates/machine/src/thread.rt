@@ -473,7 +473,8 @@ impl<A: Allocator + Copy> Thread<A> {
         self.held.core.entry(time, place)
     }
 
-    /// Makes the step that compares this entry, where its word was loaded again. It takes no memory.
+    /// Makes the step that compares this entry, where its word was loaded again: the entry behind it is compared next. It takes no
+    /// memory.
     #[inline(always)]
     pub fn compared<B: Allocator>(
         &mut self,
@@ -489,6 +490,7 @@ impl<A: Allocator + Copy> Thread<A> {
         requires word { entry.1 < 2 ^ 32 }
         requires count { self.old.accesses + 1 < 2 ^ 64 }
         ensures thread { self.new.thread ≡ (told_spec (effect code.now) self.old.thread (Value entry.1)).thread }
+        ensures next { ComparesNext code.now self.new time (place + 1) }
         ensures of { IsThreadOf code.now self.new.thread }
         ensures still { StandsStill code.now self.old self.new }
         ensures accesses { self.new.accesses ≡ self.old.accesses + 1 }

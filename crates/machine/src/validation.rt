@@ -5,7 +5,7 @@ ghost use Rattle.syntax.specs.declared.numbers.Status.TheVariants.{Running};
 ghost use Rattle.bytecode.specs.Code.{effect};
 ghost use Rattle.bytecode.specs.Valid.{IsValid};
 ghost use Rattle.norec_core.specs.declared.step.Answer.TheVariants.{Value};
-ghost use Rattle.norec_core.specs.Cores.{ComparesWith, IsWaiting};
+ghost use Rattle.norec_core.specs.Cores.{ComparesWith, IsComparing, IsWaiting};
 ghost use Rattle.machine.specs.Threads.{told as told_spec};
 ghost use Rattle.machine.specs.States.{IsValidated, MayValidate, asks};
 ghost use Rattle.machine.specs.inner.Kept.{kept, shown, RunsKept, Makes};
@@ -47,7 +47,7 @@ impl<A: Allocator + Copy> KeptThread<A> {
         self.trapping = false;
     }
 
-    // A step that compares this entry, whose word was loaded again.
+    // A step that compares this entry, whose word was loaded again. The entry behind it is compared next.
     #[inline(always)]
     pub(crate) fn compared<B: Allocator>(
         &mut self,
@@ -64,6 +64,9 @@ impl<A: Allocator + Copy> KeptThread<A> {
         requires next { place + 1 < 2 ^ 64 }
         requires word { entry.1 < 2 ^ 32 }
         ensures makes { Makes code.now (told_spec (effect code.now) (shown (kept self.old)) (Value entry.1)) (kept self.new) Event.Quiet }
+        ensures operation { IsSomeAnd (asks (effect code.now) (shown (kept self.new))) IsValidated }
+        ensures next { IsSomeAnd self.new.core.attempt (λ a. IsComparing time (place + 1) a) }
+        ensures running { self.new.status ≡ Running }
         ensures still { self.new.frames.configuration ≡ self.old.frames.configuration }
     {
         // The prover names by it the code.

@@ -330,12 +330,14 @@ impl<A: Allocator + Copy> Core<A> {
         self.steps.entry(place)
     }
 
-    /// Makes the step that compares this entry, where its word was loaded again. It takes no memory.
+    /// Makes the step that compares this entry, where its word was loaded again: validation compares the one behind it next. It
+    /// takes no memory.
     #[inline(always)]
     pub fn compared(&mut self, time: u64, place: usize, entry: (u32, u64))
         requires entry { IsSomeAnd self.old.attempt (λ a. ComparesWith time place (Some entry) a) }
         requires next { place + 1 < 2 ^ 64 }
         ensures step { (op : Operation) → IsAskedAgain self.old (Value entry.1) op self.new }
+        ensures next { IsSomeAnd self.new.attempt (λ a. IsComparing time (place + 1) a) }
         ensures asked { self.new.asked ≡ None }
     {
         // The prover names by it the word.

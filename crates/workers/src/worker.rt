@@ -313,6 +313,7 @@ impl<A: Allocator + Copy> Worker<A> {
         requires next { place + 1 < 2 ^ 64 }
         requires access { access_of (effect code.now) self.old.thread.thread ≡ Access.LoadWord entry.0 }
         ensures goes_on { StepsBy words.now.table_id words.now.key 1 self.old self.new }
+        ensures next { result ≡ true → ComparesNext code.now self.new.thread time (place + 1) }
         ensures still { result ≡ true → StandsStill code.now self.old.thread self.new.thread }
     {
         let (cell, word) = entry;
@@ -341,23 +342,38 @@ impl<A: Allocator + Copy> Worker<A> {
         self.thread.validated(code, time, place, lock);
     }
 
-    // The step of validation at this lock value and place of the read log: whether the attempt goes on.
+    // Steps of validation at this lock value, from this place of the read log on, one after another, at most so many, up to an entry
+    // whose word is another one, or past the last one: how many were made, and whether the attempt goes on.
     #[inline(always)]
-    fn compare(&mut self, words: &Words<A>, code: &Code<A>, time: u64, place: usize) -> bool
+    fn compare(
+        &mut self,
+        words: &Words<A>,
+        code: &Code<A>,
+        time: u64,
+        from: usize,
+        most: u64,
+    ) -> (u64, bool)
         requires table { words.now.table_id.words ≡ cells_of code.now + 1 }
         requires code { words.now.key.code ≡ code.now }
-        requires worker { CanStep words.now.table_id words.now.key 1 self.old }
-        requires compares { ComparesNext code.now self.old.thread time place }
-        ensures goes_on { StepsBy words.now.table_id words.now.key 1 self.old self.new }
-        ensures still { result ≡ true → StandsStill code.now self.old.thread self.new.thread }
+        requires worker { CanStep words.now.table_id words.now.key most self.old }
+        requires compares { ComparesNext code.now self.old.thread time from }
+        ensures goes_on { StepsBy words.now.table_id words.now.key result.0 self.old self.new }
+        ensures few { result.0 ≤ most }
+        ensures some { 0 < most → 0 < result.0 }
+        ensures still { result.1 ≡ true → StandsStill code.now self.old.thread self.new.thread }
     {
-        match self.thread.entry(code, time, place) {
-            Some(entry) => self.compare_word(words, code, time, place, entry),
-            None => {
+        let mut place = from;
+        'entries: for passed in 0..most {
+            let Some(entry) = self.thread.entry(code, time, place) else {
                 self.confirm(words, code, time, place);
-                true
+                return (passed + 1, true);
+            };
+            if !self.compare_word(words, code, time, place, entry) {
+                return (passed + 1, false);
             }
+            place += 1;
         }
+        (most, true)
     }
 
     // Steps of validation, one after another, at most so many, where what is to be done is under it: how many were made.
@@ -371,17 +387,21 @@ impl<A: Allocator + Copy> Worker<A> {
     {
         // Asked here and not handed over, so that whoever calls keeps it in the processor's registers.
         let doing = self.thread.doing(code);
-        'steps: for passed in 0..most {
+        let mut left = most;
+        'steps: while left > 0 {
             if self.thread.is_waiting(code, doing) {
                 self.wait(words, code);
+                left -= 1;
                 continue;
             }
             let Some((time, place)) = self.thread.comparing(code, doing) else {
-                return passed;
+                return most - left;
             };
-            if !self.compare(words, code, time, place) {
+            let (compared, goes_on) = self.compare(words, code, time, place, left);
+            left -= compared;
+            if !goes_on {
                 back_off();
-                return passed + 1;
+                return most - left;
             }
         }
         most

@@ -1,11 +1,15 @@
-use Rattle.std.proofs.Common.{◌-◌}
+use Rattle.std.proofs.Common.{◌≤◌, ◌-◌}
 use Rattle.workers.specs.Workers.{CanStep, StepsBy}
 use Rattle.machine.specs.States.{StandsAt}
 use Rattle.workers.proofs.worker.Worker.validate.Given as goal
 
 abbrev pub invariant-steps : goal.invariant-steps
 invariant-steps g l = record {
-  can : CanStep l.words.table_id l.words.key (l.most - l.passed) l.self;
-  goes_on : StepsBy l.words.table_id l.words.key l.passed l.initial.self l.self;
+  few : l.left ≤ l.most;
+  can : CanStep l.words.table_id l.words.key l.left l.self;
+  goes_on : StepsBy l.words.table_id l.words.key (l.most - l.left) l.initial.self l.self;
   stands : StandsAt l.code l.self.thread l.doing;
 }
+
+abbrev pub decreases-steps : goal.decreases-steps
+decreases-steps g l = l.left
