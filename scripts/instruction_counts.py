@@ -24,7 +24,10 @@ COUNTED = [
     ('a transaction of `counter`', 'counter', 'i < {}', 500000, (1000, 3000), lambda n: n),
     ('a word that `longread` reads', 'longread', 'i < {}', 5000, (10, 30), lambda n: 512 * n),
     ('a word that `disjoint` adds to', 'disjoint', 'i < {}', 40000, (100, 300), lambda n: 16 * n),
+    ('an operation on `list`', 'list', 'i < {}', 40000, (400, 800), lambda n: n),
+    ('a round of `sieve`', 'sieve', 'r < {}', 200, (2, 4), lambda n: n),
     ('a call in `fib`, with its return', 'fib', 'fib({})', 27, (10, 14), calls),
+    ('a turn of `compute`', 'compute', 'i < {}', 1000, (10, 20), lambda n: 1000 * n),
 ]
 
 

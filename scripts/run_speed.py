@@ -6,7 +6,8 @@ how long the longest replays and many turns of a source take.
 
 All sides run in turn in each of the rounds (9, where nothing is said). With one thread it prints the least processor time of
 each, with four the median time on the clock, and how often the peer's time txc took. The workloads are in examples/bench, what
-the peers have besides in scripts/workloads. The program is crates/txc/out/txc, which `cd crates/txc && rt run -- --version`
+the peers have besides in scripts/workloads. GCC compiles them by -O2 -fgnu-tm, without
+-fwrapv. The program is crates/txc/out/txc, which `cd crates/txc && rt run -- --version`
 builds. What is not installed is named and left out. What a run leaves in memory is compared with what it must be.
 """
 import os, re, shutil, statistics, subprocess, sys, tempfile, time
@@ -15,9 +16,9 @@ TOP = os.path.dirname(os.path.dirname(os.path.abspath(__file__)))
 PROGRAMS = os.path.join(TOP, 'examples', 'bench')
 PEERS = os.path.join(TOP, 'scripts', 'workloads')
 TXC = os.path.join(TOP, 'crates', 'txc', 'out', 'txc')
-LUA = ['primes', 'fib']
+LUA = ['primes', 'fib', 'compute']
 STEPS = 1048576
-SHARED = ['counter', 'bank', 'hashset', 'longread', 'disjoint']
+SHARED = ['counter', 'bank', 'hashset', 'longread', 'disjoint', 'list', 'sieve']
 
 
 def values(report):
@@ -29,12 +30,21 @@ def values(report):
     return found
 
 
+def keys(key, after):
+    """The keys along a list, at most so many as there are nodes."""
+    found, node = [], after[0]
+    while node and len(found) < len(key):
+        found.append(key[node])
+        node = after[node]
+    return found
+
+
 def is_right(name, report, threads):
     """Whether a report of txc says what the workload must leave."""
     if any(f'== thread {t}: ended' not in report for t in range(threads)):
         return False
     if name in LUA:
-        return {'primes': '17984', 'fib': '196418'}[name] in report
+        return {'primes': '17984', 'fib': '196418', 'compute': '1026814725'}[name] in report
     left = values(report)
     if name == 'counter':
         return left['x'] == [500000 * threads]
@@ -44,6 +54,11 @@ def is_right(name, report, threads):
         return left['count'] == [sum(1 for s in left['slot'] if s)]
     if name == 'longread':
         return left['bad'] == [0] and left['a'][5] == 5000
+    if name == 'list':
+        along = keys(left['key'], left['next'])
+        return all(one < other for one, other in zip(along, along[1:])) and left['count'] == [len(along)]
+    if name == 'sieve':
+        return left['count'] == [550] and left['composite'].count(0) == 552
     return left['a'] == [10000] * (64 * threads) + [0] * (512 - 64 * threads)
 
 
@@ -115,7 +130,7 @@ def main():
     if shutil.which('lua5.4'):
         table('One thread, processor time', LUA, 'lua5.4', rounds, 1, lambda name: (name, ['lua5.4', os.path.join(PEERS, name + '.lua')], {}))
     else:
-        print('lua5.4 is not installed: primes and fib are left out')
+        print('lua5.4 is not installed: primes, fib and compute are left out')
     replays(rounds)
     turns(rounds)
     with tempfile.TemporaryDirectory() as place:
@@ -124,7 +139,7 @@ def main():
                 ['gcc', '-O2', '-fgnu-tm', '-pthread', os.path.join(PROGRAMS, name + '.c'), os.path.join(PEERS, 'threads.c'), '-litm', '-o', os.path.join(place, name)],
                 capture_output=True).returncode == 0
             if not built:
-                print('gcc with libitm is not installed: counter, bank, hashset, longread and disjoint are left out')
+                print('gcc with libitm is not installed: ' + ', '.join(SHARED) + ' are left out')
                 return
         peer = lambda threads, more: lambda name: (name, [os.path.join(place, name), str(threads)], more)
         table('One thread, processor time; libitm by its method ml_wt', SHARED, 'libitm', rounds, 1, peer(1, {'ITM_DEFAULT_METHOD': 'ml_wt'}))
