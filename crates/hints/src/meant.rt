@@ -57,15 +57,13 @@ const TRANSACTIONS: &str =
     "the words are __transaction_atomic, __transaction_relaxed and __transaction_cancel";
 
 /// What is told of a name that is not known.
-pub(crate) fn of_name(name: &[u8]) -> Option<&'static str> {
+pub(crate) fn of_name(name: &str) -> Option<&'static str> {
     match name {
-        b"transaction_atomic" | b"transaction_cancel" | b"transaction_relaxed" => Some(
-            TRANSACTIONS,
-        ),
-        b"scanf" | b"malloc" | b"rand" | b"puts" | b"putchar" => Some(
+        "scanf" | "malloc" | "rand" | "puts" | "putchar" => Some(
             "the only function of C's library is printf",
         ),
-        b"NULL" | b"true" | b"false" => Some("numbers alone are constants: write 0 or 1"),
+        "NULL" | "true" | "false" => Some("numbers alone are constants: write 0 or 1"),
+        _ if is_like_a_transaction(name) => Some(TRANSACTIONS),
         _ => None,
     }
 }

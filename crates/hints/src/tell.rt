@@ -89,20 +89,33 @@ fn tell_name<A: Allocator + Copy>(
     alloc: A,
     to: &mut Vec<u8, A>,
     tokens: &[Token<'_>],
-    word: &[u8],
+    unknown: &str,
 ) -> Result<(), AllocError> {
-    if let Some(words) = of_name(word) {
+    if let Some(words) = of_name(unknown) {
         return put_line(to, words.as_bytes());
     }
     'tokens: for token in tokens {
         if let Kind::Name(name) = token.kind {
-            if is_near(alloc, word, name.as_bytes())? {
+            if is_near(alloc, unknown.as_bytes(), name.as_bytes())? {
                 to.extend_from_slice(b"there is a name ")?;
                 return put_line(to, name.as_bytes());
             }
         }
     }
     Ok(())
+}
+
+/// Tells what is meant by the name at a place, if one begins there.
+fn tell_name_at<A: Allocator + Copy>(
+    alloc: A,
+    to: &mut Vec<u8, A>,
+    tokens: &[Token<'_>],
+    place: usize,
+) -> Result<(), AllocError> {
+    match token_at(tokens, place).map(|it| it.kind) {
+        Some(Kind::Name(name)) => tell_name(alloc, to, tokens, name),
+        _ => Ok(()),
+    }
 }
 
 /// Adds what is told beside the fault of a number at a place of a text.
@@ -130,14 +143,14 @@ fn put_hints<A: Allocator + Copy>(
     };
     match number {
         10 | 12 => tell_token(alloc, to, tokens.as_slice(), word, span.start),
-        20 => tell_name(alloc, to, tokens.as_slice(), word),
+        20 => tell_name_at(alloc, to, tokens.as_slice(), span.start),
         28 => put_line(to, of_worker(tokens.as_slice()).as_bytes()),
         _ => Ok(()),
     }
 }
 
-/// The lines that are told beside the fault of a number at a place of a text: what could stand there, what is meant, and where more
-/// is said. Each ends with LF.
+/// The lines that are told beside the fault of a number at a place of a text: what could stand there, and what is meant. Each ends
+/// with LF.
 pub fn hints<A: Allocator + Copy>(
     alloc: A,
     text: &str,
@@ -146,15 +159,5 @@ pub fn hints<A: Allocator + Copy>(
 ) -> Result<Vec<u8, A>, AllocError> {
     let mut lines = Vec::new(alloc);
     put_hints(alloc, &mut lines, text, number, span)?;
-    lines.extend_from_slice(b"txc explain ")?;
-    put_number(&mut lines, number)?;
-    lines.extend_from_slice(b" says more\n")?;
     Ok(lines)
-}
-
-/// Adds the number of a fault, in two digits.
-fn put_number<A: Allocator>(to: &mut Vec<u8, A>, number: u32) -> Result<(), AllocError> {
-    to.push(b'0'.wrapping_add((number / 10 % 10) as u8))?;
-    to.push(b'0'.wrapping_add((number % 10) as u8))?;
-    Ok(())
 }

@@ -74,6 +74,7 @@ pub(crate) fn refuse<A: Allocator + Copy, E: Write>(
             if detail.lines {
                 show_line(alloc, text, span, err);
                 show_hints(alloc, text, number, span, err);
+                show_where_more(number, err);
             }
             REFUSED
         }
@@ -88,8 +89,7 @@ fn show_line<A: Allocator + Copy, E: Write>(alloc: A, text: &str, span: Span, er
     }
 }
 
-/// Shows what could stand at the place of a fault, or is meant there, and where more is said. Where memory is refused it shows
-/// nothing.
+/// Shows what could stand at the place of a fault, or is meant there. Where memory is refused it shows nothing.
 fn show_hints<A: Allocator + Copy, E: Write>(
     alloc: A,
     text: &str,
@@ -102,10 +102,16 @@ fn show_hints<A: Allocator + Copy, E: Write>(
     }
 }
 
+/// Says where more is said of a fault.
+fn show_where_more<E: Write>(number: u32, err: &mut E) {
+    let _ = writeln!(err, "txc explain {number:02} says more");
+}
+
 /// Says what a fault's number means, where that is wanted, and where more is said.
 fn show_words<E: Write>(number: u32, detail: Detail, err: &mut E) {
     if detail.lines {
-        let _ = writeln!(err, "{}\ntxc explain {number:02} says more", words(number));
+        let _ = writeln!(err, "{}", words(number));
+        show_where_more(number, err);
     }
 }
 
