@@ -1,3 +1,5 @@
+-- the arrows of a picture
+pub mod Arrows
 -- What a picture promises of its marks.
 pub mod Marks
 -- the marks of a replay

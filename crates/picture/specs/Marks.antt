@@ -51,14 +51,23 @@ is_drawn accesses access happening deed = nat_le accesses 400 && is_noted access
 abbrev pub title_of : Bool → List ℕ → List (List ℕ)
 title_of drawn line = if drawn then xml line ∷ [] else []
 
--- a mark's text: its title, and what is drawn
+-- the text of a mark or an arrow: its title, and what is drawn
 abbrev pub mark_text : List ℕ → List ℕ → List ℕ
 mark_text title drawn = codes "<g><title>" ++ title ++ codes "</title>" ++ drawn ++ codes "</g>\n"
 
--- a picture's text: marks with these titles, one for each and in their order, with something in front of them and behind
-pub record IsPicture (titles : List (List ℕ)) (svg : List ℕ) : Type 0 where
-  pub front : List ℕ
+-- texts of marks or arrows with these titles, one for each and in their order
+pub record AreTitled (titles : List (List ℕ)) (text : List ℕ) : Type 0 where
   pub marks : List (List ℕ × List ℕ)
-  pub back : List ℕ
   pub titled : map (λ m. m.0) marks ≡ titles
-  pub text : svg ≡ front ++ flat_map (λ m. mark_text m.0 m.1) marks ++ back
+  pub spelled : text ≡ flat_map (λ m. mark_text m.0 m.1) marks
+
+-- a picture's text: arrows with these titles and then marks with these, with something in front of them, between and behind
+pub record IsPicture (arrows titles : List (List ℕ)) (svg : List ℕ) : Type 0 where
+  pub front : List ℕ
+  pub drawn_arrows : List ℕ
+  pub between : List ℕ
+  pub drawn_marks : List ℕ
+  pub back : List ℕ
+  pub arrows_titled : AreTitled arrows drawn_arrows
+  pub marks_titled : AreTitled titles drawn_marks
+  pub text : svg ≡ front ++ drawn_arrows ++ between ++ drawn_marks ++ back

@@ -1,5 +1,5 @@
 -- The titles of the marks of a replay.
-use Rattle.std.specs.Prelude.{ℕ, List, Option, Some, flat_map}
+use Rattle.std.specs.Prelude.{ℕ, List, Option, Some, flat_map, map}
 use Rattle.std.specs.List.{slice_get}
 use Rattle.syntax.specs.declared.numbers.Status.{Status}
 use Rattle.syntax.specs.declared.numbers.Status.TheVariants.{Running}
@@ -8,7 +8,8 @@ use Rattle.machine.specs.declared.event.StepShown.{StepShown}
 use Rattle.report.specs.Timeline.{step_words}
 use Rattle.picture.specs.declared.step.Deed.{Deed}
 use Rattle.picture.specs.declared.step.Deed.TheVariants as deed
-use Rattle.picture.specs.Marks.{is_drawn, title_of}
+use Rattle.picture.specs.Arrows.{arrow_titles}
+use Rattle.picture.specs.Marks.{IsPicture, is_drawn, title_of}
 
 -- what an instruction does, where a local step of it has a mark
 abbrev pub deed_of : Option Instr → Deed
@@ -31,3 +32,11 @@ step_title code s =
 -- the titles of the marks of these steps, in their order
 abbrev pub titles : Code → List (ℕ × ℕ × StepShown) → List (List ℕ)
 titles code steps = flat_map (step_title code) steps
+
+-- the titles of the arrows of these steps, in their order
+abbrev pub arrows : List (ℕ × ℕ × StepShown) → List (List ℕ)
+arrows steps = arrow_titles (map (λ s. (s.0, s.2.access, s.2.event)) steps)
+
+-- a text is a picture of these steps: their arrows, and their marks
+abbrev pub IsDrawn : Code → List (ℕ × ℕ × StepShown) → List ℕ → Type 0
+IsDrawn code steps svg = IsPicture (arrows steps) (titles code steps) svg

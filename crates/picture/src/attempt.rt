@@ -45,7 +45,7 @@ pub(crate) struct Lane<A: Allocator = Global> {
     pub open: Option<Attempt<A>>,
     /// Attempts at the transaction that is under way.
     pub tries: u64,
-    /// Attempts that were dropped.
+    /// Attempts that were dropped, to which an arrow leads.
     pub drops: u64,
     /// Its last row.
     pub latest: u64,

@@ -4,6 +4,7 @@
 //! took effect.
 #![tactic(auto)]
 
+mod arrow;
 mod attempt;
 mod boxes;
 mod cells;

@@ -243,52 +243,6 @@ impl<'p, A: Allocator + Copy> Sheet<'p, A> {
         )
     }
 
-    /// The arrow of a drop, from the store to the last row, where the load that differs stands.
-    fn draw_arrow(&mut self, thread: u32, store: Store) -> Result<(), AllocError> {
-        let drops = match self.lane(thread) {
-            Some(lane) => {
-                let before = lane.drops;
-                lane.drops = before.saturating_add(1);
-                before
-            }
-            None => 0,
-        };
-        let (from, to, aside) = (
-            middle(store.row),
-            middle(self.last()),
-            (drops % 4).wrapping_mul(4),
-        );
-        let own = lane(thread);
-        let (start, gutter, end) = if store.thread < thread {
-            (
-                lane(store.thread).wrapping_add(BOX),
-                own.wrapping_sub(6).wrapping_sub(aside),
-                own,
-            )
-        } else {
-            (
-                lane(store.thread),
-                own.wrapping_add(BOX).wrapping_add(6).wrapping_add(aside),
-                own.wrapping_add(BOX),
-            )
-        };
-        put_line(
-            &mut self.lines,
-            &[(start, from), (gutter, from), (gutter, to), (end, to)],
-            b"why",
-        )?;
-        put(
-            &mut self.lines,
-            &[
-                Piece::Plain(b"<circle cx=\""),
-                Piece::Number(start),
-                Piece::Plain(b"\" cy=\""),
-                Piece::Number(from),
-                Piece::Plain(b"\" r=\"2.5\" class=\"dot\"/>\n"),
-            ],
-        )
-    }
-
     /// Tells of a drop in a sentence.
     fn tell_drop(
         &mut self,
@@ -341,13 +295,13 @@ impl<'p, A: Allocator + Copy> Sheet<'p, A> {
         word: u64,
     ) -> Result<(), AllocError> {
         self.dropped = self.dropped.saturating_add(1);
+        self.dropped_in = self.last();
         let mut said = words(alloc, &[Piece::Plain(b"dropped")])?;
         if let Some(read) = self.read_of(step.thread, cell) {
             said.extend_from_slice(b": was ")?;
             put_value(&mut said, self.cells, cell, read.word)?;
             self.draw_bracket(step.thread, read)?;
             if let Some(store) = last_store(self.stores.as_slice(), cell) {
-                self.draw_arrow(step.thread, store)?;
                 self.tell_drop(step, cell, word, read, store)?;
             }
         }

@@ -1,6 +1,6 @@
 //! Pieces of an SVG's text, each added at the end of a list.
 
-ghost use Rattle.std.specs.Prelude.{◌≡◌, ◌++◌, OnOk};
+ghost use Rattle.std.specs.Prelude.{◌≡◌, ◌++◌, OnOk, decimal};
 ghost use Rattle.picture.specs.Marks.{escaped, xml};
 
 use itoa::Buffer;
@@ -41,7 +41,9 @@ pub(crate) fn put_words<A: Allocator>(to: &mut Vec<u8, A>, words: &[u8]) -> Resu
 }
 
 /// Adds a number.
-pub(crate) fn put_number<A: Allocator>(to: &mut Vec<u8, A>, number: u64) -> Result<(), AllocError> {
+pub(crate) fn put_number<A: Allocator>(to: &mut Vec<u8, A>, number: u64) -> Result<(), AllocError>
+    ensures { OnOk result (to.new.items ≡ to.old.items ++ decimal number) }
+{
     to.extend_from_slice(Buffer::new().format(number).as_bytes())
 }
 

@@ -1,9 +1,10 @@
 //! The steps of a replay, as they are drawn.
 
-ghost use Rattle.std.specs.Prelude.{◌≡◌, ◌++◌, IfOk, IfSome, OnSome, flat_map, slice_get};
+ghost use Rattle.std.specs.Prelude.{◌≡◌, ◌∷◌, ◌++◌, [], IfOk, IfSome, OnSome, flat_map, map, slice_get};
 ghost use Rattle.replay.specs.Replays.{played, timeline_of};
+ghost use Rattle.picture.specs.Arrows.{Moment, arrow_titles};
 ghost use Rattle.picture.specs.Marks.{IsPicture, is_drawn, title_of};
-ghost use Rattle.picture.specs.Replayed.{deed_at, deed_of, step_title, titles};
+ghost use Rattle.picture.specs.Replayed.{IsDrawn, deed_at, deed_of, step_title, titles};
 
 use crate::cells::cells_of;
 use crate::step::{Deed, Step};
@@ -56,7 +57,8 @@ fn drawn_step<A: Allocator + Copy>(
     shown: &StepShown,
     printed: Vec<u8, A>,
 ) -> Result<Step<A>, AllocError>
-    ensures { IfOk result (λ s. title_of (is_drawn s.accesses s.access s.event s.deed) s.line.items ≡ step_title code.now (accesses, thread, shown.now)) }
+    ensures title { IfOk result (λ s. title_of (is_drawn s.accesses s.access s.event s.deed) s.line.items ≡ step_title code.now (accesses, thread, shown.now)) }
+    ensures moment { IfOk result (λ s. (s.accesses ≡ accesses) × (s.access ≡ shown.now.access) × (s.event ≡ shown.now.event)) }
 {
     Ok(Step {
         accesses,
@@ -102,7 +104,8 @@ fn add_step<A: Allocator + Copy>(
     thread: u32,
     shown: &StepShown,
 ) -> Option<()>
-    ensures { OnSome result (flat_map (λ s. title_of (is_drawn s.accesses s.access s.event s.deed) s.line.items) steps.new.items ≡ flat_map (λ s. title_of (is_drawn s.accesses s.access s.event s.deed) s.line.items) steps.old.items ++ step_title code.now (accesses, thread, shown.now)) }
+    ensures titles { OnSome result (flat_map (λ s. title_of (is_drawn s.accesses s.access s.event s.deed) s.line.items) steps.new.items ≡ flat_map (λ s. title_of (is_drawn s.accesses s.access s.event s.deed) s.line.items) steps.old.items ++ step_title code.now (accesses, thread, shown.now)) }
+    ensures moments { OnSome result (map {B = Moment} (λ s. (s.accesses, s.access, s.event)) steps.new.items ≡ map {B = Moment} (λ s. (s.accesses, s.access, s.event)) steps.old.items ++ (accesses, shown.now.access, shown.now.event) ∷ []) }
 {
     let printed = printed_by(alloc, world, thread)?;
     let Ok(step) = drawn_step(alloc, code, accesses, thread, shown, printed) else {
@@ -121,7 +124,8 @@ fn drawn_steps<A: Allocator + Copy>(
     world: &mut World<A>,
     shown: &[(u64, u32, StepShown)],
 ) -> Option<Vec<Step<A>, A>>
-    ensures { IfSome result (λ v. flat_map (λ s. title_of (is_drawn s.accesses s.access s.event s.deed) s.line.items) v.items ≡ titles code.now shown.now) }
+    ensures titles { IfSome result (λ v. flat_map (λ s. title_of (is_drawn s.accesses s.access s.event s.deed) s.line.items) v.items ≡ titles code.now shown.now) }
+    ensures moments { IfSome result (λ v. map {B = Moment} (λ s. (s.accesses, s.access, s.event)) v.items ≡ map {B = Moment} (λ s. (s.0, s.2.access, s.2.event)) shown.now) }
 {
     let mut steps = Vec::new(alloc);
     'shown: for (accesses, thread, step) in shown {
@@ -147,7 +151,7 @@ fn drawn<A: Allocator + Copy>(
     world: &World<A>,
     file: &[u8],
 ) -> Result<Vec<u8, A>, AllocError>
-    ensures { IfOk result (λ v. IsPicture (flat_map (λ s. title_of (is_drawn s.accesses s.access s.event s.deed) s.line.items) steps.now) v.items) }
+    ensures { IfOk result (λ v. IsPicture (arrow_titles (map {B = Moment} (λ s. (s.accesses, s.access, s.event)) steps.now)) (flat_map (λ s. title_of (is_drawn s.accesses s.access s.event s.deed) s.line.items) steps.now) v.items) }
 {
     let cells = cells_of(alloc, unit)?;
     let ends = ends_of(alloc, world)?;
@@ -164,7 +168,7 @@ pub fn replay_picture<A: Allocator + Copy>(
     made: &[u32],
     file: &str,
 ) -> Option<Vec<u8, A>>
-    ensures { IfSome result (λ v. IsPicture (titles code.now (timeline_of (played code.now threads made.now))) v.items) }
+    ensures { IfSome result (λ v. IsDrawn code.now (timeline_of (played code.now threads made.now)) v.items) }
 {
     let shown = timeline(alloc, code, threads, made)?;
     let Ok(mut world) = World::new(alloc, code, threads) else {

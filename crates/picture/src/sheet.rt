@@ -71,10 +71,12 @@ pub(crate) struct Sheet<'p, A: Allocator = Global> {
     pub stores: Vec<Store, A>,
     pub effects: Vec<Effect, A>,
     pub dropped: u64,
+    /// The row of the load for which an attempt was dropped last.
+    pub dropped_in: u64,
     /// Boxes, in the order in which they close; each is a text of its own.
     pub boxes: Vec<Vec<u8, A>, A>,
     pub lock: Vec<u8, A>,
-    /// Numbers of accesses, arrows and brackets.
+    /// Numbers of accesses, and brackets.
     pub lines: Vec<u8, A>,
     /// A sentence for each drop.
     pub told: Vec<u8, A>,
@@ -101,6 +103,7 @@ impl<'p, A: Allocator + Copy> Sheet<'p, A> {
             stores: Vec::new(alloc),
             effects: Vec::new(alloc),
             dropped: 0,
+            dropped_in: 0,
             boxes: Vec::new(alloc),
             lock: Vec::new(alloc),
             lines: Vec::new(alloc),

@@ -14,6 +14,9 @@ use norec_core::{Access, Answer};
 use std::alloc::{AllocError, Allocator, Global};
 use syntax::numbers::Trap;
 
+/// The accesses that are drawn.
+pub(crate) const MOST_ACCESSES: u64 = 400;
+
 /// What the instruction of a local step does, where that has a mark.
 #[derive(Clone, Copy, PartialEq, Eq)]
 pub enum Deed {

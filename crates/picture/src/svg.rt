@@ -1,21 +1,20 @@
 //! The whole picture.
 
 ghost use Rattle.std.specs.Prelude.{◌≡◌, ◌++◌, OnOk, IfOk, flat_map, map};
+ghost use Rattle.picture.specs.Arrows.{arrow_titles};
 ghost use Rattle.picture.specs.Marks.{IsPicture, is_drawn, mark_text, title_of, xml};
 
+use crate::arrow::add_arrow;
 use crate::boxes::Fate;
 use crate::layout::{FIRST, HEADED, PITCH, ROW, TOP, foot, heads, lane};
 use crate::legend::{LEGEND, STYLE};
 use crate::mark::Mark;
 use crate::pieces::{Piece, put, put_line, put_rectangle, put_text, put_words};
 use crate::sheet::{Cell, Effect, Sheet};
-use crate::step::Step;
+use crate::step::{MOST_ACCESSES, Step};
 use crate::words::words;
 use std::alloc::{AllocError, Allocator};
 use syntax::numbers::Status;
-
-/// The accesses that are drawn.
-const MOST_ACCESSES: u64 = 400;
 
 /// Whether a step is drawn: it has a mark, and is made up to the last access that is drawn.
 fn is_drawn<A: Allocator>(step: &Step<A>) -> bool
@@ -54,17 +53,21 @@ fn add_mark<A: Allocator + Copy>(
     Ok(())
 }
 
-/// The marks of the steps that are drawn, in order.
+/// The marks of the steps that are drawn, in order. Arrows that lead to them are added to a list.
 fn marks<A: Allocator + Copy>(
     alloc: A,
     steps: &[Step<A>],
     sheet: &mut Sheet<'_, A>,
+    arrows: &mut Vec<Mark<A>, A>,
 ) -> Result<Vec<Mark<A>, A>, AllocError>
-    ensures { IfOk result (λ ms. map (λ m. m.title.items) ms.items ≡ flat_map (λ s. title_of (is_drawn s.accesses s.access s.event s.deed) s.line.items) steps.now) }
+    ensures marks { IfOk result (λ ms. map (λ m. m.title.items) ms.items ≡ flat_map (λ s. title_of (is_drawn s.accesses s.access s.event s.deed) s.line.items) steps.now) }
+    ensures arrows { OnOk result (map (λ m. m.title.items) arrows.new.items ≡ map (λ m. m.title.items) arrows.old.items ++ arrow_titles (map (λ s. (s.accesses, s.access, s.event)) steps.now)) }
 {
     let mut marks = Vec::new(alloc);
-    'steps: for step in steps {
+    'steps: for at in 0..steps.len() {
+        let step = &steps[at];
         add_mark(alloc, &mut marks, sheet, step)?;
+        add_arrow(alloc, arrows, sheet, &steps[..at], step)?;
     }
     Ok(marks)
 }
@@ -244,11 +247,18 @@ fn put_marks<A: Allocator>(to: &mut Vec<u8, A>, marks: &[Mark<A>]) -> Result<(),
     Ok(())
 }
 
-/// What is drawn below the marks, with the marks.
-fn with_marks<A: Allocator>(below: Vec<u8, A>, marks: &[Mark<A>]) -> Result<Vec<u8, A>, AllocError>
-    ensures { IfOk result (λ v. IsPicture (map (λ m. m.title.items) marks.now) v.items) }
+/// What is drawn below the arrows, with the arrows, what is drawn between, and the marks.
+fn with_marks<A: Allocator>(
+    below: Vec<u8, A>,
+    arrows: &[Mark<A>],
+    between: &[u8],
+    marks: &[Mark<A>],
+) -> Result<Vec<u8, A>, AllocError>
+    ensures { IfOk result (λ v. IsPicture (map (λ m. m.title.items) arrows.now) (map (λ m. m.title.items) marks.now) v.items) }
 {
     let mut svg = below;
+    put_marks(&mut svg, arrows)?;
+    svg.extend_from_slice(between)?;
     put_marks(&mut svg, marks)?;
     svg.extend_from_slice(b"</svg>\n")?;
     Ok(svg)
@@ -369,10 +379,11 @@ fn put_boxes<A: Allocator>(to: &mut Vec<u8, A>, boxes: &[Vec<u8, A>]) -> Result<
     Ok(())
 }
 
-/// Adds all that is drawn below the marks. So many accesses were made.
+/// Adds all that is drawn below the arrows, and what is drawn between these and the marks. So many accesses were made.
 fn put_below<A: Allocator + Copy>(
     alloc: A,
     to: &mut Vec<u8, A>,
+    between: &mut Vec<u8, A>,
     sheet: &mut Sheet<'_, A>,
     ends: &[Status],
     accesses: u64,
@@ -385,22 +396,18 @@ fn put_below<A: Allocator + Copy>(
     let wide = lane(threads);
     let lines = (sheet.effects.len() as u64) / count;
     let height = lines.wrapping_mul(ROW).wrapping_add(54).wrapping_add(lower);
-    let mut listed = Vec::new(alloc);
-    put_cut(alloc, &mut listed, left, lower)?;
-    put_order(alloc, &mut listed, &mut sheet.effects, lower, count)?;
     let mut lanes = Vec::new(alloc);
-    let mut heads = Vec::new(alloc);
-    put_lanes(alloc, &mut lanes, &mut heads, sheet, ends, left > 0, lower)?;
-    put_heads(alloc, &mut heads, threads, sheet.rows.max(1), wide)?;
+    put_lanes(alloc, &mut lanes, between, sheet, ends, left > 0, lower)?;
+    put_heads(alloc, between, threads, sheet.rows.max(1), wide)?;
+    put_cut(alloc, between, left, lower)?;
+    put_order(alloc, between, &mut sheet.effects, lower, count)?;
     let mut title = Vec::new(alloc);
     put_title(&mut title, file, threads, accesses.min(MOST_ACCESSES))?;
     put_front(to, sheet, title.as_slice(), wide.max(660), height)?;
     to.extend_from_slice(lanes.as_slice())?;
     to.extend_from_slice(sheet.lock.as_slice())?;
     put_boxes(to, sheet.boxes.as_slice())?;
-    to.extend_from_slice(sheet.lines.as_slice())?;
-    to.extend_from_slice(heads.as_slice())?;
-    to.extend_from_slice(listed.as_slice())
+    to.extend_from_slice(sheet.lines.as_slice())
 }
 
 /// How many accesses all threads had made behind these steps.
@@ -420,20 +427,28 @@ pub fn picture<A: Allocator + Copy>(
     ends: &[Status],
     file: &[u8],
 ) -> Result<Vec<u8, A>, AllocError>
-    ensures marks { IfOk result (λ v. IsPicture (flat_map (λ s. title_of (is_drawn s.accesses s.access s.event s.deed) s.line.items) steps.now) v.items) }
+    ensures marks { IfOk result (λ v. IsPicture (arrow_titles (map (λ s. (s.accesses, s.access, s.event)) steps.now)) (flat_map (λ s. title_of (is_drawn s.accesses s.access s.event s.deed) s.line.items) steps.now) v.items) }
 {
     let threads = ends.len().min(64) as u32;
     let mut sheet = Sheet::new(alloc, cells, threads)?;
-    let marks = marks(alloc, steps, &mut sheet)?;
+    let mut arrows = Vec::new(alloc);
+    let marks = marks(alloc, steps, &mut sheet, &mut arrows)?;
     close(alloc, &mut sheet, threads)?;
     let mut below = Vec::new(alloc);
+    let mut between = Vec::new(alloc);
     put_below(
         alloc,
         &mut below,
+        &mut between,
         &mut sheet,
         ends,
         accesses_of(steps),
         file,
     )?;
-    with_marks(below, marks.as_slice())
+    with_marks(
+        below,
+        arrows.as_slice(),
+        between.as_slice(),
+        marks.as_slice(),
+    )
 }

@@ -29,8 +29,7 @@ use Rattle.serving.specs.declared.compiled.Compiled.{Compiled}
 use Rattle.serving.specs.Codes.{IsCodeOf}
 use Rattle.serving.specs.Checks.{IsSourceOf}
 use Rattle.serving.specs.Replays.{AreLinesOf, IsReplayOf, IsReplayOfText, Replays, ReplaysShown, lines_of_seed}
-use Rattle.picture.specs.Marks.{IsPicture}
-use Rattle.picture.specs.Replayed.{titles}
+use Rattle.picture.specs.Replayed.{IsDrawn}
 use Rattle.serving.specs.Pictures.{ReplaysDrawn}
 use Rattle.serving.specs.inner.Replayed.{report_shown}
 use Rattle.serving.proofs.Codes.{compiles}
@@ -98,7 +97,7 @@ lines_of seed threads count rows found slice is same few asked =
     (subst (λ (ls : List Line). AreRows rows ls) (same ∙ is) asked, omega (arith, counted, few))
 
 -- with its picture
-pub replays_drawn : (threads : ℕ) (steps : Steps) (schedule : Option (List ℕ)) (text : List ℕ) (code : Code) (made : List ℕ) (stop : Option WorldStop) (shown : Printed) (svg : List ℕ) → stop ≡ None → IsReplayOfText threads steps schedule text code made stop shown → IsPicture (titles code (timeline_of (played code threads made))) svg → ReplaysDrawn threads steps schedule text svg shown
+pub replays_drawn : (threads : ℕ) (steps : Steps) (schedule : Option (List ℕ)) (text : List ℕ) (code : Code) (made : List ℕ) (stop : Option WorldStop) (shown : Printed) (svg : List ℕ) → stop ≡ None → IsReplayOfText threads steps schedule text code made stop shown → IsDrawn code (timeline_of (played code threads made)) svg → ReplaysDrawn threads steps schedule text svg shown
 replays_drawn threads steps schedule text code made stop shown svg whole replay drawn = record {
   code = code;
   made = made;

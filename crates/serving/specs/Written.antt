@@ -9,8 +9,7 @@ use Rattle.replay.specs.Schedules.{AreLines}
 use Rattle.report.specs.Printed.{Printed}
 use Rattle.report.specs.Report.{report_text}
 use Rattle.report.specs.Timeline.{timeline_text}
-use Rattle.picture.specs.Marks.{IsPicture}
-use Rattle.picture.specs.Replayed.{titles}
+use Rattle.picture.specs.Replayed.{IsDrawn}
 use Rattle.command.specs.declared.request.Request.{Request}
 use Rattle.command.specs.declared.request.Request.TheVariants.{Program, Explain}
 use Rattle.command.specs.declared.request.Steps.{Steps}
@@ -48,7 +47,7 @@ IsReplayTimeline threads steps schedule text written = (r : ReplayedTo threads s
 -- its picture
 abbrev pub IsReplayPicture : ℕ → Steps → Option (List ℕ) → (text : List ℕ) → (written : List ℕ) → Type 0
 IsReplayPicture threads steps schedule text written = (r : ReplayedTo threads steps schedule text)
-    × IsPicture (titles r.code (timeline_of (played r.code threads r.made))) written
+    × IsDrawn r.code (timeline_of (played r.code threads r.made)) written
 
 -- a schedule of the steps of a seed, for a text that has code
 abbrev pub IsSeedSchedule : (seed threads count : ℕ) → (text : List ℕ) → (written : List ℕ) → Type 0

@@ -9,8 +9,7 @@ ghost use Rattle.report.specs.Timeline.{timeline_text};
 ghost use Rattle.report.specs.Views.{printed_of};
 ghost use Rattle.serving.specs.Checks.{Accepts, SaysAccepted};
 ghost use Rattle.serving.specs.Listings.{Lists, PrintsListing};
-ghost use Rattle.picture.specs.Marks.{IsPicture};
-ghost use Rattle.picture.specs.Replayed.{titles};
+ghost use Rattle.picture.specs.Replayed.{IsDrawn};
 ghost use Rattle.serving.specs.Orders.{RunsInOrder, RunsInSomeOrder};
 ghost use Rattle.serving.specs.Pictures.{PrintsPicture, ReplaysDrawn};
 ghost use Rattle.serving.specs.Refusals.{IsRefused};
@@ -45,6 +44,7 @@ use std::alloc::{Allocator, Global};
 use std::io::{Read, Write};
 use std::sync::Wait;
 use std::thread::Threads;
+use world::StopReason;
 
 /// Does what is asked over two readers and two writers, and gives the exit status.
 ///
@@ -452,54 +452,7 @@ fn print_report<A: Allocator + Copy, W: Write, E: Write>(
     }
 }
 
-/// Prints the report of a replay, and gives the exit status: by the ends of its threads, or by a step that was not made.
-fn print_replay<A: Allocator + Copy, W: Write, E: Write>(
-    alloc: A,
-    replayed: &Replayed<A>,
-    detail: Detail,
-    out: &mut W,
-    err: &mut E,
-) -> u8
-    ensures status { result ≤ 4 }
-    ensures whole { (result ≡ 0) ⊎ (result ≡ 3) → replayed.now.stop ≡ None }
-    ensures report { PrintsShown (printed_of replayed.now.printed) result (W.contents out.old) (W.contents out.new) }
-    ensures written { WritesPart (λ written. written ≡ report_text (printed_of replayed.now.printed)) (W.contents out.old) (W.contents out.new) }
-    ensures not_refused { result ≢ 1 }
-{
-    let status = print_report(alloc, &replayed.printed, out, err);
-    match replayed.stop {
-        Some(stop) => refuse_step(stop, detail, err),
-        None => status,
-    }
-}
-
-/// Prints what is shown of each step of a replay, and then its report. Gives the exit status as `print_replay` does.
-fn print_timeline<A: Allocator + Copy, W: Write, E: Write>(
-    alloc: A,
-    code: &Code<A>,
-    threads: u32,
-    replayed: &Replayed<A>,
-    detail: Detail,
-    out: &mut W,
-    err: &mut E,
-) -> u8
-    ensures status { result ≤ 4 }
-    ensures whole { (result ≡ 0) ⊎ (result ≡ 3) → replayed.now.stop ≡ None }
-    ensures report { PrintsBehind (timeline_text code.now (timeline_of (played code.now threads replayed.now.made.items))) (printed_of replayed.now.printed) result (W.contents out.old) (W.contents out.new) }
-    ensures written { WritesPart (λ written. written ≡ timeline_text code.now (timeline_of (played code.now threads replayed.now.made.items)) ++ report_text (printed_of replayed.now.printed)) (W.contents out.old) (W.contents out.new) }
-    ensures not_refused { result ≢ 1 }
-{
-    match lines_shown(alloc, code, threads, replayed.made.as_slice()) {
-        Some(lines) => match print(lines.as_slice(), out) {
-            Ok(()) => print_replay(alloc, replayed, detail, out, err),
-            Err(_) => cannot_write(err),
-        },
-        // The steps were made once, so memory was refused.
-        None => out_of_memory(err),
-    }
-}
-
-/// Prints a text in place of the report of a replay. Gives the exit status as `print_replay` does.
+/// Prints what is shown of a replay, and gives the exit status: by the ends of its threads, or by a step that was not made.
 fn print_for_replay<A: Allocator, W: Write, E: Write>(
     text: &[u8],
     replayed: &Replayed<A>,
@@ -522,7 +475,92 @@ fn print_for_replay<A: Allocator, W: Write, E: Write>(
     }
 }
 
-/// Prints the picture of a replay. Gives the exit status as `print_replay` does.
+/// Prints the report of a replay. Gives the exit status as `print_for_replay` does.
+fn print_replay<A: Allocator + Copy, W: Write, E: Write>(
+    alloc: A,
+    replayed: &Replayed<A>,
+    detail: Detail,
+    out: &mut W,
+    err: &mut E,
+) -> u8
+    ensures status { result ≤ 4 }
+    ensures whole { (result ≡ 0) ⊎ (result ≡ 3) → replayed.now.stop ≡ None }
+    ensures report { PrintsShown (printed_of replayed.now.printed) result (W.contents out.old) (W.contents out.new) }
+    ensures written { WritesPart (λ written. written ≡ report_text (printed_of replayed.now.printed)) (W.contents out.old) (W.contents out.new) }
+    ensures not_refused { result ≢ 1 }
+{
+    match report_text(alloc, &replayed.printed) {
+        Ok(report) => print_for_replay(report.as_slice(), replayed, detail, out, err),
+        Err(_) => out_of_memory(err),
+    }
+}
+
+/// What is shown of each step of a replay, and behind it the report. There is no text where memory was refused.
+fn timeline_and_report<A: Allocator + Copy>(
+    alloc: A,
+    code: &Code<A>,
+    threads: u32,
+    replayed: &Replayed<A>,
+) -> Option<Vec<u8, A>>
+    ensures { IfSome result (λ v. v.items ≡ timeline_text code.now (timeline_of (played code.now threads replayed.now.made.items)) ++ report_text (printed_of replayed.now.printed)) }
+{
+    // The steps were made once, so where they have no lines memory was refused.
+    let mut text = lines_shown(alloc, code, threads, replayed.made.as_slice())?;
+    let Ok(report) = report_text(alloc, &replayed.printed) else {
+        return None;
+    };
+    match text.extend_from_slice(report.as_slice()) {
+        Ok(()) => Some(text),
+        Err(_) => None,
+    }
+}
+
+/// Prints what is shown of each step of a replay, and then its report. Gives the exit status as `print_for_replay` does.
+fn print_timeline<A: Allocator + Copy, W: Write, E: Write>(
+    alloc: A,
+    code: &Code<A>,
+    threads: u32,
+    replayed: &Replayed<A>,
+    detail: Detail,
+    out: &mut W,
+    err: &mut E,
+) -> u8
+    ensures status { result ≤ 4 }
+    ensures whole { (result ≡ 0) ⊎ (result ≡ 3) → replayed.now.stop ≡ None }
+    ensures report { PrintsBehind (timeline_text code.now (timeline_of (played code.now threads replayed.now.made.items))) (printed_of replayed.now.printed) result (W.contents out.old) (W.contents out.new) }
+    ensures written { WritesPart (λ written. written ≡ timeline_text code.now (timeline_of (played code.now threads replayed.now.made.items)) ++ report_text (printed_of replayed.now.printed)) (W.contents out.old) (W.contents out.new) }
+    ensures not_refused { result ≢ 1 }
+{
+    match timeline_and_report(alloc, code, threads, replayed) {
+        Some(text) => print_for_replay(text.as_slice(), replayed, detail, out, err),
+        None => out_of_memory(err),
+    }
+}
+
+/// The picture of a replay. There is none where memory was refused, for it or for a step: no picture tells of that.
+fn picture_of<A: Allocator + Copy>(
+    alloc: A,
+    file: &str,
+    compiled: &Compiled<A>,
+    threads: u32,
+    replayed: &Replayed<A>,
+) -> Option<Vec<u8, A>>
+    ensures { IfSome result (λ v. IsDrawn compiled.now.code (timeline_of (played compiled.now.code threads replayed.now.made.items)) v.items) }
+{
+    match replayed.stop {
+        Some(stop) if stop.reason == StopReason::OutOfMemory => None,
+        _ => replay_picture(
+            alloc,
+            unit_of(&compiled.accepted),
+            &compiled.code,
+            threads,
+            replayed.made.as_slice(),
+            file,
+        ),
+    }
+}
+
+/// Prints the picture of a replay. Gives the exit status as `print_for_replay` does.
 fn print_picture<A: Allocator + Copy, W: Write, E: Write>(
     alloc: A,
     file: &str,
@@ -535,21 +573,12 @@ fn print_picture<A: Allocator + Copy, W: Write, E: Write>(
 ) -> u8
     ensures status { result ≤ 4 }
     ensures whole { (result ≡ 0) ⊎ (result ≡ 3) → replayed.now.stop ≡ None }
-    ensures picture { PrintsPicture (λ svg shown. IsPicture (titles compiled.now.code (timeline_of (played compiled.now.code threads replayed.now.made.items))) svg × (shown ≡ printed_of replayed.now.printed)) result (W.contents out.old) (W.contents out.new) }
-    ensures written { WritesPart (λ written. IsPicture (titles compiled.now.code (timeline_of (played compiled.now.code threads replayed.now.made.items))) written) (W.contents out.old) (W.contents out.new) }
+    ensures picture { PrintsPicture (λ svg shown. IsDrawn compiled.now.code (timeline_of (played compiled.now.code threads replayed.now.made.items)) svg × (shown ≡ printed_of replayed.now.printed)) result (W.contents out.old) (W.contents out.new) }
+    ensures written { WritesPart (λ written. IsDrawn compiled.now.code (timeline_of (played compiled.now.code threads replayed.now.made.items)) written) (W.contents out.old) (W.contents out.new) }
     ensures not_refused { result ≢ 1 }
 {
-    let unit = unit_of(&compiled.accepted);
-    match replay_picture(
-        alloc,
-        unit,
-        &compiled.code,
-        threads,
-        replayed.made.as_slice(),
-        file,
-    ) {
+    match picture_of(alloc, file, compiled, threads, replayed) {
         Some(svg) => print_for_replay(svg.as_slice(), replayed, detail, out, err),
-        // The steps were made once, so memory was refused.
         None => out_of_memory(err),
     }
 }

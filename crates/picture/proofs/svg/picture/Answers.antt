@@ -1,4 +1,6 @@
 use Rattle.picture.proofs.svg.picture.Goals as goal
 
 pub returns : goal.returns
-returns g c = record { marks = rw (c.as_slice.ensures.value, c.in_ok-marks.ensures) at c.with_marks.ensures }
+returns g c =
+    let arrows = rw c.new-arrows.ensures.items at c.in_ok-marks.ensures.arrows in
+    record { marks = rw (c.as_slice.ensures.value, c.as_slice-3.ensures.value, arrows, c.in_ok-marks.ensures.marks) at c.with_marks.ensures }
