@@ -1,0 +1,273 @@
+#!/usr/bin/env python3
+"""Puts a program where things go wrong, and fails where it then crashes, tells something else than what went wrong, or prints a report
+that says something else than it does elsewhere.
+
+  scripts/hostile.py [TXC]
+
+TXC is the program, crates/txc/out/txc if it is not given, which `cd crates/txc && rt run -- --version` builds; the one of
+scripts/quick_build.py will do. It takes less than a minute, and needs Linux, and `gcc` for the first part:
+
+  - each growth of each command refused in turn, by a library that is loaded before the system's and counts the calls of `malloc` and
+    its kin: `txc: out of memory`, or fault 73 where a thread is not started, or a whole report in which a step was not made (stop 00)
+  - standard output full after each byte of a report, closed, and a pipe that nobody reads: `txc: cannot write`, behind no more than
+    what fits
+  - sources that are a FIFO, a directory, a file that nobody may read, one that shrinks while it is read
+  - 64 threads of 64 frames each
+  - less address space than the program wants, from 20 MiB up in steps of 4
+"""
+
+import os
+import resource
+import shutil
+import signal
+import subprocess
+import sys
+import tempfile
+import threading
+
+TOP = os.path.dirname(os.path.dirname(os.path.abspath(__file__)))
+MEBIBYTE = 1 << 20
+OUT_OF_MEMORY = b"txc: out of memory\n"
+
+# A program, a schedule for two threads, and an order.
+PROGRAMS = {
+    "cancels": (
+        "int f, g = 1, h; void worker(int self) { if (self == 0) { __transaction_atomic { f = 1; h = 1; } } else {"
+        " __transaction_atomic { __transaction_atomic { if (f == 0) { g = 9; __transaction_cancel; } g = 5; } g = g + h; } } }",
+        "1 a5\n0 a6\n1 a13\n",
+        "0,1",
+    ),
+    "prints": (
+        'int x; void worker(int self) { __transaction_relaxed { x = x + 1; printf("%d\\n", x); } }',
+        "0 a3\n1 a3\n0 a1\n1 a2\n0 a3\n1 a9\n",
+        "0,1",
+    ),
+    "calls": (
+        "void down(int k) { if (k > 0) down(k - 1); } void worker(int self) { down(62 + self); }",
+        "0 9999\n1 9999\n",
+        "",
+    ),
+}
+
+# Refuses the growth whose number the environment's REFUSED has, from 1 on.
+REFUSES = r"""
+#define _GNU_SOURCE
+#include <dlfcn.h>
+#include <errno.h>
+#include <stdatomic.h>
+#include <stdlib.h>
+static atomic_long left;
+__attribute__((constructor)) static void begin(void) { const char *s = getenv("REFUSED"); left = s ? atol(s) : 0; }
+static int refused(void) { return left > 0 && atomic_fetch_sub(&left, 1) == 1; }
+#define NEXT(name) (name##_next ? name##_next : (name##_next = dlsym(RTLD_NEXT, #name)))
+static void *(*malloc_next)(size_t), *(*realloc_next)(void *, size_t), *(*aligned_alloc_next)(size_t, size_t);
+static int (*posix_memalign_next)(void **, size_t, size_t);
+void *malloc(size_t n) { if (refused()) { errno = ENOMEM; return 0; } return NEXT(malloc)(n); }
+void *realloc(void *p, size_t n) { if (refused()) { errno = ENOMEM; return 0; } return NEXT(realloc)(p, n); }
+void *aligned_alloc(size_t a, size_t n) { if (refused()) { errno = ENOMEM; return 0; } return NEXT(aligned_alloc)(a, n); }
+int posix_memalign(void **p, size_t a, size_t n) { return refused() ? ENOMEM : NEXT(posix_memalign)(p, a, n); }
+"""
+
+faults = []
+
+
+def blame(what, done):
+    """Notes that a run went otherwise than it should."""
+    faults.append(f"{what}: status {done.returncode}, output {done.stdout!r}, errors {done.stderr!r}")
+
+
+def run(words, **how):
+    """Runs a command line to its end."""
+    return subprocess.run(words, stdout=how.pop("stdout", subprocess.PIPE), stderr=subprocess.PIPE, timeout=60, check=False, **how)
+
+
+def same(done, other):
+    return (done.returncode, done.stdout, done.stderr) == (other.returncode, other.stdout, other.stderr)
+
+
+def is_stopped(done):
+    """Whether a report is whole, says that a step was refused memory, and is told so."""
+    return done.stdout.startswith(b"== ") and b": stop 00\n" in done.stdout and b"== memory" in done.stdout and not done.stderr
+
+
+def gives_up(done):
+    """Whether a refused growth is told, and nothing else."""
+    told = not done.stdout and (done.stderr == OUT_OF_MEMORY or done.stderr.startswith(b"txc: fault 73"))
+    return done.returncode == 4 and (told or is_stopped(done))
+
+
+def commands(txc, name, order):
+    """What is asked of a program."""
+    file, schedule = f"{name}.c", ["--threads", "2", "--schedule", f"{name}.txt"]
+    yield [txc, "check", file]
+    yield [txc, "listing", file]
+    yield [txc, "source", file, "--threads", "2", "--order", order]
+    yield [txc, "replay", file, *schedule]
+    yield [txc, "replay", file, *schedule, "--timeline"]
+    yield [txc, "replay", file, *schedule, "--picture"]
+    yield [txc, "run", file, "--threads", "2", "--budget", "100000"]
+
+
+def refuse_each(words, library):
+    """Refuses each growth of a command line in turn, until twelve in a row are not met."""
+    whole, refused, spared = run(words), 0, 0
+    while spared < 12:
+        refused += 1
+        done = run(words, env={**os.environ, "LD_PRELOAD": library, "REFUSED": str(refused)})
+        if same(done, whole) or words[1] == "run" and done.returncode == whole.returncode and not done.stderr:
+            spared += 1
+        elif gives_up(done):
+            spared = 0
+        else:
+            return blame(f"{' '.join(words[1:])}, growth {refused} refused", done)
+
+
+def refuse_growths(txc):
+    if not shutil.which("gcc"):
+        print("no gcc: no growth is refused")
+        return
+    with open("refuses.c", "w", encoding="utf-8") as file:
+        file.write(REFUSES)
+    subprocess.run(["gcc", "-shared", "-fPIC", "-O1", "-o", "refuses.so", "refuses.c", "-ldl"], check=True)
+    for name, (_, _, order) in PROGRAMS.items():
+        for words in commands(txc, name, order):
+            refuse_each(words, os.path.abspath("refuses.so"))
+
+
+def fits(room):
+    """Files get no longer than this; a write beyond is an error and no signal."""
+
+    def limit():
+        signal.signal(signal.SIGXFSZ, signal.SIG_IGN)
+        resource.setrlimit(resource.RLIMIT_FSIZE, (room, room))
+
+    return limit
+
+
+def fill_output(txc):
+    """Standard output full after each byte of what it is to take."""
+    for words in commands(txc, "prints", "0,1"):
+        whole = run(words).stdout
+        if words[1] == "run" or len(whole) > 2000:
+            continue
+        for room in range(len(whole)):
+            with open("full", "wb+") as full:
+                done = run(words, stdout=full, preexec_fn=fits(room))
+                full.seek(0)
+                written = full.read()
+            if done.returncode != 4 or done.stderr != b"txc: cannot write\n" or not whole.startswith(written):
+                blame(f"{' '.join(words[1:])}, {room} bytes fit, {written!r} written", done)
+                break
+
+
+def close_output(txc):
+    words = [txc, "run", "cancels.c"]
+    done = run(words, stdout=None, preexec_fn=lambda: os.close(1))
+    if done.returncode != 4 or done.stderr != b"txc: cannot write\n":
+        blame("standard output closed", done)
+    reader, writer = os.pipe()
+    os.close(reader)
+    done = run(words, stdout=writer)
+    os.close(writer)
+    if done.returncode != 4 or done.stderr != b"txc: cannot write\n":
+        blame("a pipe that nobody reads", done)
+
+
+def feed(path, text):
+    """Writes a text into a FIFO, a few bytes at a time."""
+    with open(path, "wb", buffering=0) as fifo:
+        for at in range(0, len(text), 7):
+            fifo.write(text[at : at + 7])
+
+
+def odd_files(txc):
+    os.mkfifo("fifo.c")
+    text = PROGRAMS["prints"][0].encode()
+    feeding = threading.Thread(target=feed, args=("fifo.c", text))
+    feeding.start()
+    done = run([txc, "run", "fifo.c"])
+    feeding.join()
+    if not same(done, run([txc, "run", "prints.c"])):
+        blame("a FIFO", done)
+    os.mkdir("folder.c")
+    shutil.copy("prints.c", "closed.c")
+    os.chmod("closed.c", 0)
+    for name in ("folder.c", "closed.c"):
+        done = run([txc, "check", name])
+        may_read = name == "closed.c" and os.access(name, os.R_OK)
+        if not may_read and (done.returncode, done.stdout, done.stderr) != (2, b"", f"txc: cannot read {name}\n".encode()):
+            blame(name, done)
+
+
+def shrink(path, text, stop):
+    """Makes a file shorter and longer, again and again."""
+    while not stop.is_set():
+        os.truncate(path, len(text) // 2)
+        with open(path, "r+b") as file:
+            file.write(text)
+
+
+def shrinking_file(txc):
+    text = PROGRAMS["prints"][0].encode() + b" " * 1_000_000
+    with open("shrinks.c", "wb") as file:
+        file.write(text)
+    stop = threading.Event()
+    shrinking = threading.Thread(target=shrink, args=("shrinks.c", text, stop))
+    shrinking.start()
+    for _ in range(50):
+        done = run([txc, "check", "shrinks.c"])
+        if not (done.returncode == 0 and done.stdout == b"accepted\n" or done.returncode in (1, 2) and done.stderr.startswith(b"txc: ")):
+            blame("a file that shrinks", done)
+            break
+    stop.set()
+    shrinking.join()
+
+
+def many_frames(txc):
+    with open("frames.c", "w", encoding="utf-8") as file:
+        file.write("void down(int k) { if (k > 0) down(k - 1); } void worker(int self) { down(62); }")
+    done = run([txc, "run", "frames.c", "--threads", "64"])
+    wanted = "".join(f"== thread {number}: ended\n" for number in range(64)) + "== memory\n"
+    if (done.returncode, done.stdout.decode(), done.stderr) != (0, wanted, b""):
+        blame("64 threads of 64 frames", done)
+
+
+def in_space(space):
+    """A program gets no more address space."""
+    return lambda: resource.setrlimit(resource.RLIMIT_AS, (space, space))
+
+
+def little_space(txc):
+    """A report that is whole and the same, or a fault that is told. Where not even the version is told the system has not loaded it."""
+    lines = [words for name, (_, _, order) in PROGRAMS.items() for words in commands(txc, name, order)]
+    whole = [run(words) for words in lines]
+    for space in range(20, 204, 4):
+        if run([txc, "--version"], preexec_fn=in_space(space * MEBIBYTE)).returncode:
+            continue
+        for words, there in zip(lines, whole):
+            done = run(words, preexec_fn=in_space(space * MEBIBYTE))
+            is_whole = same(done, there) or words[1] == "run" and done.returncode == there.returncode and not done.stderr
+            if not is_whole and not gives_up(done):
+                blame(f"{' '.join(words[1:])} in {space} MiB", done)
+
+
+def main():
+    txc = os.path.abspath(sys.argv[1] if len(sys.argv) > 1 else f"{TOP}/crates/txc/out/txc")
+    if not os.path.isfile(txc):
+        sys.exit(f"{txc} is not there: cd crates/txc && rt run -- --version")
+    with tempfile.TemporaryDirectory() as folder:
+        os.chdir(folder)
+        for name, (text, schedule, _) in PROGRAMS.items():
+            for file, content in ((f"{name}.c", text), (f"{name}.txt", schedule)):
+                with open(file, "w", encoding="utf-8") as opened:
+                    opened.write(content)
+        for part in (refuse_growths, fill_output, close_output, odd_files, shrinking_file, many_frames, little_space):
+            part(txc)
+        os.chdir(TOP)
+    if faults:
+        sys.exit("\n".join(faults))
+    print("nothing crashed, and what went wrong was told")
+
+
+if __name__ == "__main__":
+    main()
