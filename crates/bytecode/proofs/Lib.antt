@@ -21,5 +21,10 @@ mod Names
 mod Each
 -- how sums at loops' ends are marked
 mod Marks
+-- words that spell instructions, and flat code
+mod Spelled
+mod FlatCodes
+-- what a code keeps
+mod Held
 -- what a valid code reads and writes
 pub mod Fits

@@ -228,7 +228,8 @@ fn is_valid<A: Allocator + Copy>(alloc: A, parts: &Parts<A>) -> Result<bool, All
 }
 
 /// The code of these very parts, and `None` exactly where they are not valid. Takes memory for an arrival and a place for each of
-/// the longest function's instructions and a name for each function. Where that is refused, the parts come back.
+/// the longest function's instructions and a name for each function; and for the words of a valid code, and the first word of
+/// each of its instructions. Where that is refused, or these words are more than 2^32, the parts come back.
 ///
 /// Takes time for the parts' size, and for each `cancelx #K` that a way comes to for K more, or for the number of begins that are
 /// open there where that is less. So N instructions may take time for the square of N: where a third of them are begins that stay
@@ -241,7 +242,10 @@ pub fn validate<A: Allocator + Copy>(
     ensures refused { IfErr result (λ e. e ≡ OutOfMemory parts) }
 {
     match is_valid(alloc, &parts) {
-        Ok(true) => Ok(Some(Code::from_valid(parts))),
+        Ok(true) => match Code::from_valid(alloc, parts) {
+            Ok(code) => Ok(Some(code)),
+            Err(parts) => Err(PartsFault::OutOfMemory(parts)),
+        },
         Ok(false) => Ok(None),
         Err(_) => Err(PartsFault::OutOfMemory(parts)),
     }

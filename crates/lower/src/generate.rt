@@ -176,10 +176,10 @@ fn lower_parts<'p, A: Allocator + Copy>(names: &Names<'p, A>) -> Result<Parts<A>
     })
 }
 
-/// The code of a program: its functions in file order, each with its instructions. Takes memory for the code, for the code
-/// of the statements that lie round the one that is made, and for tables of the program's names; and time for the program's
-/// size, but for each instruction that of the loops, branches and transactions round it, and for each local's name that of the
-/// locals that are known there.
+/// The code of a program: its functions in file order, each with its instructions. Takes memory for the code, once more for
+/// its words, for the code of the statements that lie round the one that is made, and for tables of the program's names; and
+/// time for the program's size, but for each instruction that of the loops, branches and transactions round it, and for each
+/// local's name that of the locals that are known there.
 pub fn lower<A: Allocator + Copy>(alloc: A, accepted: &Accepted<A>) -> Result<Code<A>, LowerFault>
     ensures means { IfOk result (MeansItsProgram (program_of accepted.now.safe.typed.unit)) }
     ensures globals { IfOk result (λ code. code.globals ≡ Source.globals (program_of accepted.now.safe.typed.unit)) }
@@ -201,5 +201,8 @@ pub fn lower<A: Allocator + Copy>(alloc: A, accepted: &Accepted<A>) -> Result<Co
         Err(_) => return Err(LowerFault::OutOfMemory),
     };
     let parts = lower_parts(&names)?;
-    Ok(Code::from_valid(parts))
+    match Code::from_valid(alloc, parts) {
+        Ok(code) => Ok(code),
+        Err(_) => Err(LowerFault::OutOfMemory),
+    }
 }

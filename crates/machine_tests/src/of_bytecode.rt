@@ -1,6 +1,7 @@
 //! Tests of register code.
 
 mod built;
+mod flat;
 mod growths;
 mod initial;
 mod large;

@@ -142,8 +142,8 @@ fn each_growth_may_be_refused(rt: HostRuntime) {
     assert_all(
         &rt,
         &[
-            ("names, arrivals and work", validated >= Some(3)),
-            ("the lists, names and texts", copied >= Some(8)),
+            ("names, arrivals, work and two lists", validated >= Some(5)),
+            ("the lists, names and texts", copied >= Some(10)),
             ("a listing", listed >= Some(1)),
         ],
     );

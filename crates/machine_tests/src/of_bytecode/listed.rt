@@ -107,7 +107,8 @@ fn a_transaction_is_listed(rt: HostRuntime) {
     assert_that(&rt, is_told(rt.alloc(), transaction()));
 }
 
-const COMPUTES: [Instr; 16] = [
+/// Instructions that compute.
+pub const COMPUTES: [Instr; 16] = [
     Instr::Constant(1, 4294967295),
     Instr::Move(1, 0),
     Instr::AddSigned(1, 0, 1),
@@ -145,7 +146,8 @@ const COMPUTES_LISTED: &str = "function worker registers 2
 15 ret r1
 ";
 
-const BITS: [Instr; 14] = [
+/// Instructions on bits, and comparisons.
+pub const BITS: [Instr; 14] = [
     Instr::ShiftLeftSigned(1, 0, 1),
     Instr::ShiftLeftUnsigned(1, 0, 1),
     Instr::ShiftRightSigned(1, 0, 1),
@@ -179,7 +181,8 @@ const BITS_LISTED: &str = "function worker registers 2
 13 ret
 ";
 
-const LEADS: [Instr; 20] = [
+/// Instructions that lead elsewhere, that access cells, and that print.
+pub const LEADS: [Instr; 20] = [
     Instr::Jump(1),
     Instr::JumpZero(0, 2),
     Instr::JumpNonzero(0, 3),
@@ -259,9 +262,10 @@ fn every_instruction_is_listed(rt: HostRuntime) {
 }
 
 /// `worker` with the registers of a loop.
-const LOOPING: Function<'static> = ("worker", 0, 5, 1);
+pub const LOOPING: Function<'static> = ("worker", 0, 5, 1);
 
-const TURN: [Instr; 4] = [
+/// The end of a loop's turn.
+pub const TURN: [Instr; 4] = [
     Instr::AddSigned(1, 1, 2),
     Instr::LessSigned(3, 1, 4),
     Instr::JumpNonzero(3, 0),
@@ -275,7 +279,8 @@ const TURN_LISTED: &str = "function worker registers 5
 3 ret
 ";
 
-const SUMMED: [Instr; 5] = [
+/// The same, with a sum before it.
+pub const SUMMED: [Instr; 5] = [
     Instr::AddSigned(0, 0, 3),
     Instr::AddSigned(1, 1, 2),
     Instr::LessSigned(3, 1, 4),
@@ -292,7 +297,7 @@ const SUMMED_LISTED: &str = "function worker registers 5
 ";
 
 /// Marks behind which nothing of the kind stands.
-const FALSE_MARKS: [Instr; 5] = [
+pub const FALSE_MARKS: [Instr; 5] = [
     Instr::LoopEnd(1, 2, 4, 3, 0),
     Instr::LessSigned(3, 1, 4),
     Instr::SumLoopEnd(0, 3, 1, 2, 4, 0),

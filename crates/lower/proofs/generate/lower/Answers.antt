@@ -20,24 +20,24 @@ from_valid-requires g c =
     let is : code_of c.in_ok-parts.parts ≡ picked_code p = c.in_ok-parts.ensures.code ∙ ap picked_code (a ∙ b ∙ d) in
     parts_are_valid p c.args.accepted.now.safe.typed.typed c.args.accepted.now.safe.safe c.picked_code_is_valid.ensures c.in_ok-parts.parts is c.in_ok-parts.ensures.few c.in_ok-parts.ensures.short
 
-pub returns-clause-means : goal.returns-clause-means
-returns-clause-means g c =
+pub returns-in-Ok-from_valid-clause-means : goal.returns-in-Ok-from_valid-clause-means
+returns-in-Ok-from_valid-clause-means g c =
     let p = program_of c.args.accepted.now.safe.typed.unit in
     let a : program_in c.in-Ok.names ≡ program_of c.typed-typed.result.now.unit = λ j. program_of (c.in-Ok.ensures j) in
     let b : program_of c.typed-typed.result.now.unit ≡ program_of c.safe.result.now.typed.unit = λ j. program_of ((c.typed-typed.ensures j).unit) in
     let d : program_of c.safe.result.now.typed.unit ≡ p = λ j. program_of ((c.safe.ensures j).typed.unit) in
-    let is : c.from_valid.result ≡ picked_code p = c.from_valid.ensures ∙ c.in_ok-parts.ensures.code ∙ ap picked_code (a ∙ b ∙ d) in
-    code_means p c.args.accepted.now.safe.typed.typed c.args.accepted.now.safe.safe c.picked_code_stands.ensures c.lowered_code_means.ensures c.never_astray.ensures c.args.accepted.now.accepted c.from_valid.result is
+    let is : c.in-Ok-from_valid.code ≡ picked_code p = c.in-Ok-from_valid.ensures.made ∙ c.in_ok-parts.ensures.code ∙ ap picked_code (a ∙ b ∙ d) in
+    code_means p c.args.accepted.now.safe.typed.typed c.args.accepted.now.safe.safe c.picked_code_stands.ensures c.lowered_code_means.ensures c.never_astray.ensures c.args.accepted.now.accepted c.in-Ok-from_valid.code is
 
-pub returns-clause-worker : goal.returns-clause-worker
-returns-clause-worker g c =
+pub returns-in-Ok-from_valid-clause-worker : goal.returns-in-Ok-from_valid-clause-worker
+returns-in-Ok-from_valid-clause-worker g c =
     let p = program_of c.args.accepted.now.safe.typed.unit in
     let a : program_in c.in-Ok.names ≡ program_of c.typed-typed.result.now.unit = λ j. program_of (c.in-Ok.ensures j) in
     let b : program_of c.typed-typed.result.now.unit ≡ program_of c.safe.result.now.typed.unit = λ j. program_of ((c.typed-typed.ensures j).unit) in
     let d : program_of c.safe.result.now.typed.unit ≡ p = λ j. program_of ((c.safe.ensures j).typed.unit) in
     let is : code_of c.in_ok-parts.parts ≡ picked_code p = c.in_ok-parts.ensures.code ∙ ap picked_code (a ∙ b ∙ d) in
-    let valid : IsValid c.from_valid.result =
-    subst IsValid (sym c.from_valid.ensures)
+    let valid : IsValid c.in-Ok-from_valid.code =
+    subst IsValid (sym c.in-Ok-from_valid.ensures.made)
     (parts_are_valid p c.args.accepted.now.safe.typed.typed c.args.accepted.now.safe.safe c.picked_code_is_valid.ensures c.in_ok-parts.parts is c.in_ok-parts.ensures.few c.in_ok-parts.ensures.short) in
     valid.worker
 

@@ -1,0 +1,128 @@
+//! Flat code: each instruction's words, and where they begin.
+
+use crate::asserted::assert_none;
+use crate::of_bytecode::built::{Function, TEXTS, WORKER, code_of_parts};
+use crate::of_bytecode::listed::{BITS, COMPUTES, FALSE_MARKS, LEADS, LOOPING, SUMMED, TURN};
+use bytecode::{Code, Instr};
+use std::alloc::Global;
+
+/// What a row is called; functions and instructions; their words, and the first word of each instruction.
+type Row = (
+    &'static str,
+    &'static [Function<'static>],
+    &'static [Instr],
+    &'static [u32],
+    &'static [u32],
+);
+
+// Whether a code's words, and its instructions' first words, are these.
+fn is_flat(code: &Code, words: &[u32], firsts: &[u32]) -> bool {
+    let flat = code.flat();
+    flat.0 == words && flat.1 == firsts
+}
+
+// Whether a row's words are those of its code and of a copy of it.
+fn is_told(alloc: Global, row: &Row) -> bool {
+    let (_, functions, instructions, words, firsts) = *row;
+    match code_of_parts(alloc, functions, &[1, 0], instructions, &TEXTS) {
+        None => false,
+        Some(code) => match code.copy(alloc) {
+            Err(_) => false,
+            Ok(copy) => is_flat(&code, words, firsts) && is_flat(&copy, words, firsts),
+        },
+    }
+}
+
+const COMPUTES_WORDS: [u32; 57] = [
+    512, 1, 4294967295, 513, 1, 0, 770, 1, 0, 1, 771, 1, 0, 1, 772, 1, 0, 1, 773, 1, 0, 1, 774, 1,
+    0, 1, 775, 1, 0, 1, 776, 1, 0, 1, 777, 1, 0, 1, 778, 1, 0, 1, 779, 1, 0, 1, 537, 1, 0, 538, 1,
+    0, 539, 1, 0, 299, 1,
+];
+
+const COMPUTES_FIRSTS: [u32; 16] = [0, 3, 6, 10, 14, 18, 22, 26, 30, 34, 38, 42, 46, 49, 52, 55];
+
+const BITS_WORDS: [u32; 53] = [
+    780, 1, 0, 1, 781, 1, 0, 1, 782, 1, 0, 1, 783, 1, 0, 1, 784, 1, 0, 1, 785, 1, 0, 1, 786, 1, 0,
+    1, 787, 1, 0, 1, 788, 1, 0, 1, 789, 1, 0, 1, 790, 1, 0, 1, 791, 1, 0, 1, 792, 1, 0, 1, 42,
+];
+
+const BITS_FIRSTS: [u32; 14] = [0, 4, 8, 12, 16, 20, 24, 28, 32, 36, 40, 44, 48, 52];
+
+const LEADS_WORDS: [u32; 49] = [
+    284, 1, 541, 0, 2, 542, 0, 3, 543, 0, 7, 292, 13, 292, 12, 544, 1, 0, 1057, 1, 0, 1, 0, 546, 0,
+    1, 1059, 0, 1, 0, 1, 38, 295, 2, 37, 40, 300, 1, 301, 0, 302, 1, 809, 1, 1, 0, 42, 299, 0,
+];
+
+const LEADS_FIRSTS: [u32; 20] = [
+    0, 2, 5, 8, 11, 13, 15, 18, 23, 26, 31, 32, 34, 35, 36, 38, 40, 42, 46, 47,
+];
+
+const TURN_WORDS: [u32; 12] = [815, 1, 1, 2, 789, 3, 1, 4, 542, 3, 0, 42];
+
+const TURN_FIRSTS: [u32; 4] = [0, 4, 8, 11];
+
+const SUMMED_WORDS: [u32; 16] = [816, 0, 0, 3, 815, 1, 1, 2, 789, 3, 1, 4, 542, 3, 0, 42];
+
+const SUMMED_FIRSTS: [u32; 5] = [0, 4, 8, 12, 15];
+
+const FALSE_MARKS_WORDS: [u32; 17] = [770, 1, 1, 2, 789, 3, 1, 4, 770, 0, 0, 3, 770, 7, 7, 2, 42];
+
+const FALSE_MARKS_FIRSTS: [u32; 5] = [0, 4, 8, 12, 16];
+
+// The rows stand in a function, so that no proof but its own looks at them.
+fn rows() -> &'static [Row] {
+    static ROWS: [Row; 6] = [
+        (
+            "computes",
+            &[WORKER],
+            &COMPUTES,
+            &COMPUTES_WORDS,
+            &COMPUTES_FIRSTS,
+        ),
+        ("bits", &[WORKER], &BITS, &BITS_WORDS, &BITS_FIRSTS),
+        (
+            "leads",
+            &[WORKER, ("f", 19, 1, 1)],
+            &LEADS,
+            &LEADS_WORDS,
+            &LEADS_FIRSTS,
+        ),
+        (
+            "the end of a loop's turn",
+            &[LOOPING],
+            &TURN,
+            &TURN_WORDS,
+            &TURN_FIRSTS,
+        ),
+        (
+            "a sum before it",
+            &[LOOPING],
+            &SUMMED,
+            &SUMMED_WORDS,
+            &SUMMED_FIRSTS,
+        ),
+        (
+            "marks that are not so",
+            &[("worker", 0, 8, 1)],
+            &FALSE_MARKS,
+            &FALSE_MARKS_WORDS,
+            &FALSE_MARKS_FIRSTS,
+        ),
+    ];
+    &ROWS
+}
+
+// The first row that is not told.
+fn told_otherwise(alloc: Global) -> Option<&'static str> {
+    for row in rows() {
+        if !is_told(alloc, row) {
+            return Some(row.0);
+        }
+    }
+    None
+}
+
+#[test]
+fn every_instruction_has_its_words(rt: HostRuntime) {
+    assert_none(&rt, told_otherwise(rt.alloc()));
+}
