@@ -1,0 +1,9 @@
+//! Tests of `outcomes`.
+#![tactic(auto)]
+
+#[cfg(test)]
+mod accepted;
+#[cfg(test)]
+mod asserted;
+#[cfg(test)]
+mod found;
