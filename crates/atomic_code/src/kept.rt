@@ -186,7 +186,7 @@ impl<A: Allocator + Copy> KeptThread<A> {
     }
 
     // A shared access stands still outside transactions.
-    fn read<B: Allocator>(&mut self, code: &Code<B>, d: u16, cell: u32) -> Signal<A>
+    fn read<B: Allocator>(&mut self, code: &Code<B>, d: u32, cell: u32) -> Signal<A>
         requires valid { IsValid code.now }
         requires running { self.old.status ≡ Running }
         requires runs { Runs code.now (thread_of self.old) }

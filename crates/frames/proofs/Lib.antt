@@ -14,6 +14,10 @@ mod Levels
 mod GoesOn
 mod Back
 pub mod Keeping
+-- what a code lends
+mod Views
+-- which words are a call
+mod CallWords
 -- what stands at a place, as it is told
 mod Telling
 -- the frames in one list of registers

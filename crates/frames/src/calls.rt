@@ -6,14 +6,14 @@ ghost use Rattle.bytecode.specs.Valid.{Has};
 ghost use Rattle.bytecode.specs.Views.{function_of};
 ghost use Rattle.frames.specs.Stack.{callee_of};
 
-use bytecode::{Code, FunctionCode, Instr};
+use bytecode::{Code, FunctionCode, kinds};
 use std::alloc::Allocator;
 
 /// A call: the register that takes the value, the registers handed over, and the function.
 #[derive(Drop)]
 pub(crate) struct Call<'c, A: Allocator> {
-    pub result: u16,
-    pub args: &'c [u16],
+    pub result: u32,
+    pub args: &'c [u32],
     pub callee: &'c FunctionCode<A>,
 }
 
@@ -23,19 +23,24 @@ pub(crate) fn called_at<A: Allocator>(code: &Code<A>, place: u32) -> Option<Call
     ensures some { IfSome result (λ call. (f : ℕ) × (slice_get code.now.instructions place ≡ Some (PlainInstr.Call f call.result call.args.now)) × Has code.now f (function_of call.callee.now)) }
     ensures none { IfNone result (callee_of code.now (slice_get code.now.instructions place) ≡ None) }
 {
-    let parts = code.parts();
-    match parts.instructions.as_slice().get(place as usize) {
-        Some(instr) => match instr {
-            Instr::Call(d, count, f, from) => match code.functions().get(*f as usize) {
+    let (words, firsts) = code.flat();
+    match firsts.get(place as usize) {
+        Some(first) => {
+            let w = *first as usize;
+            let head = words[w];
+            if head % 256 != kinds::CALL {
+                return None;
+            }
+            let behind = w + 1 + (head / 256) as usize;
+            match code.functions().get(words[w + 1] as usize) {
                 Some(callee) => Some(Call {
-                    result: *d,
-                    args: parts.handed_over(*from as usize, *count as usize),
+                    result: words[w + 2],
+                    args: &words[w + 3..behind],
                     callee,
                 }),
                 None => None,
-            },
-            _ => None,
-        },
+            }
+        }
         None => None,
     }
 }

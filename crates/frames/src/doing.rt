@@ -15,7 +15,7 @@ pub enum Doing {
     Local,
 
     /// Reads a cell into a register, as `(register, cell)`.
-    Read(u16, u32),
+    Read(u32, u32),
 
     /// Writes a word below 2^32 into a cell, as `(cell, word)`.
     Write(u32, u64),

@@ -32,7 +32,7 @@ pub(crate) fn lay_first<A: Allocator>(
 
 // The values of arguments, which are registers of the frame that begins at `base`. There is room.
 #[inline(always)]
-fn push_arguments<A: Allocator>(registers: &mut Vec<u64, A>, base: usize, args: &[u16])
+fn push_arguments<A: Allocator>(registers: &mut Vec<u64, A>, base: usize, args: &[u32])
     requires room { vec_len registers.old + length args.now ≤ vec_capacity registers.old }
     requires base { base ≤ vec_len registers.old }
     requires there { All (λ r. r < length (drop base registers.old.items)) args.now }
@@ -50,7 +50,7 @@ fn push_arguments<A: Allocator>(registers: &mut Vec<u64, A>, base: usize, args: 
 pub(crate) fn lay_frame<A: Allocator>(
     registers: &mut Vec<u64, A>,
     base: usize,
-    args: &[u16],
+    args: &[u32],
     zeros: usize,
 )
     requires room { vec_len registers.old + (length args.now + zeros) ≤ vec_capacity registers.old }

@@ -8,4 +8,3 @@ mod Turning
 pub mod Ways
 -- steps over a loop's end
 mod Ending
-pub mod Views
