@@ -1,49 +1,15 @@
 -- Look-ups among locals.
-use Rattle.std.proofs.Common.{◌≡◌, ℕ, ◌+◌, ◌<◌, List, [], ◌∷◌, ◌++◌, length, map, take, get_or, length-take, Option, Some, None, true, false, refl, sym, ap, ◌∙◌, arith}
-use Rattle.std.proofs.lemmas.List.{take_more, map-append, length-map}
-use Rattle.std.specs.Prelude.{bytes_eq, if◌then◌else◌}
+use Rattle.std.proofs.Common.{◌≡◌, ℕ, ◌+◌, List, [], ◌∷◌, map, Some, None, refl, ap, bytes_eq, if◌then◌else◌}
 use Rattle.std.specs.Option.{option_or}
 use Rattle.lex.specs.declared.token.Scalar.{Scalar}
-use Rattle.expression_code.specs.declared.scope.Local as L
+use Rattle.name_tables.specs.Named as Named
+use Rattle.syntax.specs.Names as Source
 use Rattle.expression_code.specs.Views.{local_in}
-use Rattle.syntax.specs.Names.{Local, newest_from, newest}
 
-or_none : (a : Option (ℕ × Scalar)) → option_or a None ≡ a
-or_none None = refl
-or_none (Some x) = refl
+-- the newest declaration of a name is the newest local
+newest_from_in : (i : ℕ) (ls : List (List ℕ × Scalar)) (x : List ℕ) → Named.newest_from i ls x ≡ Source.newest_from i (map local_in ls) x
+newest_from_in i [] x = refl
+newest_from_in i (l ∷ ls) x = ap (λ o. option_or o (if bytes_eq l.0 x then Some (i, l.1) else None)) (newest_from_in (i + 1) ls x)
 
-or_assoc : (a b c : Option (ℕ × Scalar)) → option_or (option_or a b) c ≡ option_or a (option_or b c)
-or_assoc None b c = refl
-or_assoc (Some x) b c = refl
-
--- one more local hides the others of its name
-newest_from-append : (n : ℕ) (ls : List Local) (l : Local) (x : List ℕ) → newest_from n (ls ++ l ∷ []) x ≡ option_or (if bytes_eq l.name x then Some (n + length ls, l.of) else None) (newest_from n ls x)
-newest_from-append n [] l x = let e : n ≡ n + 0 = omega arith in ap (λ m. option_or None (if bytes_eq l.name x then Some (m, l.of) else None)) e ∙ sym (or_none _)
-newest_from-append n (k ∷ ls) l x =
-    let e : n + 1 + length ls ≡ n + length (k ∷ ls) = omega arith in
-    ap (λ o. option_or o (if bytes_eq k.name x then Some (n, k.of) else None)) (newest_from-append (n + 1) ls l x ∙ ap (λ m. option_or (if bytes_eq l.name x then Some (m, l.of) else None) (newest_from (n + 1) ls x)) e)
-    ∙ or_assoc (if bytes_eq l.name x then Some (n + length (k ∷ ls), l.of) else None) (newest_from (n + 1) ls x) (if bytes_eq k.name x then Some (n, k.of) else None)
-
-newest-append : (ls : List Local) (l : Local) (x : List ℕ) → newest (ls ++ l ∷ []) x ≡ option_or (if bytes_eq l.name x then Some (0 + length ls, l.of) else None) (newest ls x)
-newest-append ls l x = newest_from-append 0 ls l x
-
--- one more local of a vector
-newest_taken : (ls : List L.Local) (i : ℕ) (name : List ℕ) (d : L.Local) → i < length ls → newest (map local_in (take (i + 1) ls)) name ≡ option_or (if bytes_eq (get_or ls i d).name.now name then Some (i, (get_or ls i d).of) else None) (newest (map local_in (take i ls)) name)
-newest_taken ls i name d h =
-    let l = get_or ls i d in
-    let n : 0 + length (map local_in (take i ls)) ≡ i = omega (arith, length-map (take i ls) local_in, length-take i ls) in
-    ap (λ xs. newest (map local_in xs) name) (take_more ls i d h)
-    ∙ ap (λ xs. newest xs name) (map-append local_in (take i ls) (l ∷ []))
-    ∙ newest-append (map local_in (take i ls)) (local_in l) name
-    ∙ ap (λ m. option_or (if bytes_eq l.name.now name then Some (m, l.of) else None) (newest (map local_in (take i ls)) name)) n
-
--- a local of that name, or another one
-pub newest_here : (ls : List L.Local) (i j : ℕ) (name : List ℕ) (d : L.Local) → i < length ls → j ≡ i + 1 → bytes_eq (get_or ls i d).name.now name ≡ true → newest (map local_in (take j ls)) name ≡ Some (i, (get_or ls i d).of)
-newest_here ls i j name d h more e =
-    ap (λ k. newest (map local_in (take k ls)) name) more ∙ newest_taken ls i name d h
-    ∙ ap (λ b. option_or (if b then Some (i, (get_or ls i d).of) else None) (newest (map local_in (take i ls)) name)) e
-
-pub newest_before : (ls : List L.Local) (i j : ℕ) (name : List ℕ) (d : L.Local) → i < length ls → j ≡ i + 1 → bytes_eq (get_or ls i d).name.now name ≡ false → newest (map local_in (take j ls)) name ≡ newest (map local_in (take i ls)) name
-newest_before ls i j name d h more e =
-    ap (λ k. newest (map local_in (take k ls)) name) more ∙ newest_taken ls i name d h
-    ∙ ap (λ b. option_or (if b then Some (i, (get_or ls i d).of) else None) (newest (map local_in (take i ls)) name)) e
+pub newest_in : (ls : List (List ℕ × Scalar)) (x : List ℕ) → Named.newest ls x ≡ Source.newest (map local_in ls) x
+newest_in ls x = newest_from_in 0 ls x

@@ -1,39 +1,32 @@
 -- What the tables of names say, as they are made and as they are read.
-use denote.Ref.{Bor}
-use Rattle.std.proofs.Common.{◌≡◌, ℕ, ◌+◌, ◌≤◌, List, [], ◌∷◌, Option, Some, None, option_map, Bool, true, false, cond, refl, sym, ap, ◌∙◌, arith, is_some, bytes_eq, if◌then◌else◌}
+use Rattle.std.proofs.Common.{◌≡◌, ℕ, ◌+◌, ◌≤◌, List, [], ◌∷◌, Option, Some, None, option_map, Bool, true, false, refl, ap, ◌∙◌, arith, bytes_eq, if◌then◌else◌}
 use Rattle.std.specs.Option.{option_or}
-use Rattle.std.specs.Ordering.{nat_cmp}
-use Rattle.std.specs.Cmp.Lexicographic.{slice_cmp}
-use Rattle.std.specs.BTreeMap.{BTreeMap, Updates}
-use Rattle.std.proofs.lemmas.Map.Text.{btree_map_updates_str}
-use Rattle.std.proofs.lemmas.Slice.Eq.{bytes_eq-Decides}
+use Rattle.name_tables.specs.Named.{first, declared}
+use Rattle.name_tables.proofs.Firsts.{first_declared}
 use Rattle.syntax.specs.Tree.{Global}
 use Rattle.syntax.specs.Names.{GlobalCells, global_from, cells}
-use Rattle.types.specs.Maps.{value_at}
 use Rattle.expression_code.specs.inner.Tables.{total_cells}
 
--- something is put where there was nothing
-put_last : {W : Type 0} (b : Bool) (v : W) (o rest : Option W) → (b ≡ true → o ≡ None) → option_or (cond b (Some v) o) rest ≡ option_or o (if b then Some v else rest)
-put_last true v o rest h = sym (ap (λ p. option_or p (Some v)) (h refl))
-put_last false v o rest h = refl
+-- with nothing else it is what was found
+pub or_none : {T : Type 0} (o : Option T) → option_or o None ≡ o
+or_none None = refl
+or_none (Some v) = refl
 
-map_cond : {V W : Type 0} (f : V → W) (b : Bool) (s : V) (o : Option V) → option_map f (cond b (Some s) o) ≡ cond b (Some (f s)) (option_map f o)
-map_cond f true s o = refl
-map_cond f false s o = refl
+-- what an option has, or else a value that is put there, or else something more
+put_last : {V W : Type 0} (f : V → W) (b : Bool) (v : V) (o : Option V) (rest : Option W) →
+    option_or (option_map f (option_or o (if b then Some v else None))) rest ≡ option_or (option_map f o) (if b then Some (f v) else rest)
+put_last f true v None rest = refl
+put_last f false v None rest = refl
+put_last f b v (Some w) rest = refl
 
-none_of : {V W : Type 0} (f : V → W) (o : Option V) → is_some o ≡ false → option_map f o ≡ None
-none_of f None h = refl
-none_of f (Some s) h = absurd cc
-
--- one more entry of a table, where its name is new
-pub one_more : {V W : Type 0} (f : V → W) (old new : BTreeMap (Bor (List ℕ)) V) (key : Bor (List ℕ)) (s : V) (y : List ℕ) →
-    Updates (λ a b. slice_cmp nat_cmp a.now b.now) old new key (Some s) → key.now ≡ y → is_some (value_at old key.now) ≡ false →
-    (x : List ℕ) (rest : Option W) → option_or (option_map f (value_at new x)) rest ≡ option_or (option_map f (value_at old x)) (if bytes_eq y x then Some (f s) else rest)
-one_more f old new key s y u name absent x rest =
-    ap (λ o. option_or (option_map f o) rest) (btree_map_updates_str key.now old new (Some s) u x)
-    ∙ ap (λ o. option_or o rest) (map_cond f (bytes_eq key.now x) s (value_at old x))
-    ∙ put_last (bytes_eq key.now x) (f s) (option_map f (value_at old x)) rest (λ same. ap (λ t. option_map f (value_at old t)) (sym ((bytes_eq-Decides key.now x).0 same)) ∙ none_of f (value_at old key.now) absent)
-    ∙ ap (λ t. option_or (option_map f (value_at old x)) (if bytes_eq t x then Some (f s) else rest)) name
+-- one more declaration in a table
+pub one_more : {V W : Type 0} (f : V → W) (old new : List (List ℕ × V)) (name : List ℕ) (v : V) (y : List ℕ) → new ≡ declared old name v → name ≡ y →
+    (x : List ℕ) (rest : Option W) → option_or (option_map f (first new x)) rest ≡ option_or (option_map f (first old x)) (if bytes_eq y x then Some (f v) else rest)
+one_more f old new name v y more same x rest =
+    ap (λ es. option_or (option_map f (first es x)) rest) more
+    ∙ ap (λ o. option_or (option_map f o) rest) (first_declared old name v x)
+    ∙ put_last f (bytes_eq name x) v (first old x) rest
+    ∙ ap (λ z. option_or (option_map f (first old x)) (if bytes_eq z x then Some (f v) else rest)) same
 
 -- a global's first cell is among the cells
 cell_step : (b : Bool) (g : Global) (c : ℕ) (gs : List Global) (x : List ℕ) (v : GlobalCells) → (if b then Some (record { global = g; cell = c }) else global_from (c + cells g) gs x) ≡ Some v → (global_from (c + cells g) gs x ≡ Some v → v.cell ≤ c + cells g + total_cells gs) → v.cell ≤ c + total_cells (g ∷ gs)

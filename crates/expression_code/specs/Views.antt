@@ -1,19 +1,20 @@
 -- What values of the program's own types hold.
-use Rattle.std.specs.Prelude.{map}
+use Rattle.std.specs.Prelude.{ℕ, List, map}
+use Rattle.lex.specs.declared.token.Scalar.{Scalar}
+use Rattle.name_tables.specs.Known.{locals_in}
 use Rattle.syntax.specs.Tree.{Program}
 use Rattle.syntax.specs.Views.{program_of}
 use Rattle.syntax.specs.Names as Source
 use Rattle.lowered.specs.Expressions.{LocalScope}
 use Rattle.expression_code.specs.declared.program.Names.{Names}
-use Rattle.expression_code.specs.declared.scope.Local.{Local}
 use Rattle.expression_code.specs.declared.scope.Scope.{Scope}
 
-abbrev pub local_in : Local → Source.Local
-local_in l = record { name = l.name.now; of = l.of; word = 0 }
+abbrev pub local_in : List ℕ × Scalar → Source.Local
+local_in l = record { name = l.0; of = l.1; word = 0 }
 
 module _ {A : Type 0} where
   abbrev pub program_in : Names A → Program
   program_in names = program_of names.unit.now
 
   abbrev pub scope_in : Scope A → LocalScope
-  scope_in scope = map local_in scope.locals.items
+  scope_in scope = map local_in (locals_in scope.known)

@@ -8,15 +8,15 @@ ghost use Rattle.syntax.specs.Views.{program_of};
 ghost use Rattle.expression_code.specs.inner.Tables.{total_cells, AreGlobals, AreCallees};
 
 use crate::names::{Callee, Shared};
+use name_tables::Table;
 use std::alloc::Allocator;
-use std::collections::BTreeMap;
 use syntax::tree::Unit;
 
 /// Each global, with its first cell.
-pub(crate) type Globals<'p, A> = BTreeMap<&'p str, Shared<'p, A>, A>;
+pub(crate) type Globals<'p, A> = Table<'p, Shared<'p, A>, A>;
 
 /// Each function that is defined.
-pub(crate) type Callees<'p, A> = BTreeMap<&'p str, Callee<'p, A>, A>;
+pub(crate) type Callees<'p, A> = Table<'p, Callee<'p, A>, A>;
 
 /// A program for which code is made, with the tables of its names, and with at most so many cells as an accepted one has.
 #[derive(Drop)]
@@ -26,6 +26,9 @@ pub struct Names<'p, A: Allocator> {
 
     /// The program.
     pub unit: &'p Unit<A>,
+
+    /// The key by which tables of its names hash them.
+    pub(crate) key: u64,
 
     pub(crate) globals: Globals<'p, A>,
     pub(crate) callees: Callees<'p, A>,

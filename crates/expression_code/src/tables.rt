@@ -12,8 +12,8 @@ ghost use Rattle.expression_code.specs.inner.Tables.{total_cells, shared_at, cal
 use crate::names::{Callee, Shared, cells_of};
 use crate::program::{Callees, Globals, Names};
 use lex::token::Scalar;
+use name_tables::Table;
 use std::alloc::{AllocError, Allocator};
-use std::collections::BTreeMap;
 use syntax::tree::{Function, Global, Item};
 use types::Typed;
 
@@ -25,14 +25,8 @@ fn add_global<'p, A: Allocator + Copy>(
 ) -> Result<(), AllocError>
     ensures { OnOk result ((x : List ℕ) (rest : Option GlobalCells) → option_or (shared_at table.new x) rest ≡ option_or (shared_at table.old x) (if bytes_eq g.now.name.text x then Some (record { global = global_of g.now; cell = cell }) else rest)) }
 {
-    let name = g.name.text.as_str();
-    if table.contains_key(name) {
-        return Ok(());
-    }
-    match table.insert(name, Shared { cell, global: g }) {
-        Ok(_) => Ok(()),
-        Err(_) => Err(AllocError),
-    }
+    table.declare(g.name.text.as_str(), Shared { cell, global: g })?;
+    Ok(())
 }
 
 /// Adds the globals of a declaration, from this cell on; the cell behind them.
@@ -56,12 +50,13 @@ fn add_globals<'p, A: Allocator + Copy>(
 /// Each global, with its first cell: the first one of its name.
 fn place_globals<'p, A: Allocator + Copy>(
     alloc: A,
+    key: u64,
     items: &'p [Item<A>],
 ) -> Result<Globals<'p, A>, AllocError>
     requires { total_cells (globals (map item_of items.now)) ≤ 4096 }
     ensures { IfOk result (AreGlobals (map item_of items.now)) }
 {
-    let mut table = BTreeMap::new(alloc);
+    let mut table = Table::new(alloc, key);
     let mut cell = 0;
     'items: for item in items {
         match item {
@@ -95,24 +90,19 @@ fn add_callee<'p, A: Allocator + Copy>(
 ) -> Result<(), AllocError>
     ensures { OnOk result ((x : List ℕ) (rest : Option Named.Callee) → option_or (called_at table.new x) rest ≡ option_or (called_at table.old x) (if bytes_eq f.now.name.text x then Some (Named.callee_at number (function_of f.now)) else rest)) }
 {
-    let name = f.name.text.as_str();
-    if table.contains_key(name) {
-        return Ok(());
-    }
-    match table.insert(name, callee_at(number, f)) {
-        Ok(_) => Ok(()),
-        Err(_) => Err(AllocError),
-    }
+    table.declare(f.name.text.as_str(), callee_at(number, f))?;
+    Ok(())
 }
 
 /// Each function that is defined, with its number: the first one of its name.
 fn number_callees<'p, A: Allocator + Copy>(
     alloc: A,
+    key: u64,
     items: &'p [Item<A>],
 ) -> Result<Callees<'p, A>, AllocError>
     ensures { IfOk result (AreCallees (map item_of items.now)) }
 {
-    let mut table = BTreeMap::new(alloc);
+    let mut table = Table::new(alloc, key);
     let mut number = 0;
     'items: for item in items {
         match item {
@@ -136,11 +126,13 @@ pub fn names<'p, A: Allocator + Copy>(
     ensures { IfOk result (λ n. n.unit.now ≡ typed.now.unit) }
 {
     let unit = typed.unit();
-    let globals = place_globals(alloc, unit.items.as_slice())?;
-    let callees = number_callees(alloc, unit.items.as_slice())?;
+    let key = 0;
+    let globals = place_globals(alloc, key, unit.items.as_slice())?;
+    let callees = number_callees(alloc, key, unit.items.as_slice())?;
     Ok(Names {
         alloc,
         unit,
+        key,
         globals,
         callees,
     })

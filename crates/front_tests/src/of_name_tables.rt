@@ -104,47 +104,73 @@ fn another_key_is_another_hash(rt: HostRuntime) {
     );
 }
 
-/// The numbers from 10,000 up to 20,000, each of five digits, one behind the other.
-fn digits(alloc: Global) -> Result<String, AllocError> {
+/// 10,000 names of 32 letters, one behind the other: all that begin so have one hash, where a hash multiplies eight bytes by eight
+/// with a constant and no key, since behind this beginning one factor is 0.
+fn colliding(alloc: Global) -> Result<String, AllocError> {
     let mut text = String::new(alloc);
-    for number in 10000..20000u32 {
+    for number in 10000000..10010000u32 {
+        text.push_str("aaaaaaaaaaaaassTNo3qMD1o")?;
         text.push_str(format!(in alloc; "{number}")?.as_str())?;
     }
     Ok(text)
 }
 
-/// Declares each of them, and again the oldest in a block behind them; whether each is then found at its place.
-fn finds_each(alloc: Global, digits: &str) -> Option<bool> {
-    let mut table = Table::new(alloc, 7);
-    let mut scope = Scope::new(alloc, 7);
+/// The name at a place among them.
+fn name_at(names: &str, place: usize) -> Option<&str> {
+    let start = place.checked_mul(32)?;
+    names.get(start..start.checked_add(32)?)
+}
+
+/// Declares each name in a table and in a scope, and the oldest once more, in a block behind them; none where one is refused.
+fn declare_each<'a>(
+    names: &'a str,
+    table: &mut Table<'a, usize, Global>,
+    scope: &mut Scope<'a, usize, Global>,
+) -> Option<()> {
     for place in 0..10000usize {
-        let name = digits.get(5 * place..5 * place + 5)?;
+        let name = name_at(names, place)?;
         table.declare(name, place).ok()?;
         scope.declare(name, place).ok()?;
     }
-    let outer = scope.len();
-    scope.declare(digits.get(0..5)?, 0).ok()?;
-    let hidden = scope.newest("10000") == Some((10000, 0));
-    scope.leave(outer);
+    scope.declare(name_at(names, 0)?, 7).ok()
+}
+
+/// Whether each name is found at its place.
+fn are_at_their_places<'a>(
+    names: &str,
+    table: &Table<'a, usize, Global>,
+    scope: &Scope<'a, usize, Global>,
+) -> Option<bool> {
     for place in 0..10000usize {
-        let name = digits.get(5 * place..5 * place + 5)?;
+        let name = name_at(names, place)?;
         if table.place_of(name) != Some(place) || scope.newest(name) != Some((place, place)) {
             return Some(false);
         }
     }
-    Some(hidden)
+    Some(true)
 }
 
-/// Whether 10,000 names are each found at their places.
+/// Whether the oldest name is hidden in the block, and each is found behind it.
+fn finds_each(alloc: Global, names: &str) -> Option<bool> {
+    let mut table = Table::new(alloc, 7);
+    let mut scope = Scope::new(alloc, 7);
+    declare_each(names, &mut table, &mut scope)?;
+    let hidden = scope.newest(name_at(names, 0)?) == Some((10000, 7));
+    scope.leave(scope.len().min(10000));
+    let found = are_at_their_places(names, &table, &scope)?;
+    Some(hidden && found)
+}
+
+/// Whether colliding names are each found at their places.
 fn many_are_found(alloc: Global) -> bool {
-    match digits(alloc) {
-        Ok(digits) => finds_each(alloc, digits.as_str()) == Some(true),
+    match colliding(alloc) {
+        Ok(names) => finds_each(alloc, names.as_str()) == Some(true),
         Err(_) => false,
     }
 }
 
 #[test]
-fn ten_thousand_names_are_found(rt: HostRuntime) {
+fn colliding_names_are_found(rt: HostRuntime) {
     assert_all(&rt, &[("each", many_are_found(rt.alloc()))]);
 }
 

@@ -29,7 +29,7 @@ fn parameter_locals<'p, A: Allocator + Copy>(
 ) -> Result<Scope<'p, A>, AllocError>
     ensures { IfOk result (λ s. scope_in s ≡ parameter_locals (map parameter_of parameters.now)) }
 {
-    let mut scope = Scope::new(names.alloc);
+    let mut scope = Scope::new(names);
     'each: for parameter in parameters {
         match &parameter.name {
             Some(x) => scope.declare(x.text.as_str(), parameter.of)?,

@@ -1,11 +1,11 @@
 -- The tables of a program's names.
-use denote.Ref.{Bor}
 use Rattle.std.specs.Prelude.{◌≡◌, ℕ, ◌+◌, List, [], ◌∷◌, map, Option, option_map}
-use Rattle.std.specs.BTreeMap.{BTreeMap}
+use Rattle.name_tables.specs.declared.kept.Table.{Table}
+use Rattle.name_tables.specs.Known.{entries_in}
+use Rattle.name_tables.specs.Named.{first}
 use Rattle.syntax.specs.Tree.{Global, Program}
 use Rattle.syntax.specs.Views.{global_of, parameter_of}
 use Rattle.syntax.specs.Names as Source
-use Rattle.types.specs.Maps.{value_at}
 use Rattle.picked.specs.Names.{Callee, callee_of}
 use Rattle.expression_code.specs.declared.names.Shared.{Shared}
 use Rattle.expression_code.specs.declared.names.Callee.{Callee as OwnCallee}
@@ -23,15 +23,15 @@ module _ {A : Type 0} where
   callee_in c = record { number = c.number; of = c.of; parameters = map parameter_of c.parameters.now }
 
   -- what a table has at a text
-  abbrev pub shared_at : BTreeMap (Bor (List ℕ)) (Shared A) → List ℕ → Option Source.GlobalCells
-  shared_at m x = option_map shared_in (value_at m x)
+  abbrev pub shared_at : Table (Shared A) A → List ℕ → Option Source.GlobalCells
+  shared_at t x = option_map shared_in (first (entries_in t) x)
 
-  abbrev pub called_at : BTreeMap (Bor (List ℕ)) (OwnCallee A) → List ℕ → Option Callee
-  called_at m x = option_map callee_in (value_at m x)
+  abbrev pub called_at : Table (OwnCallee A) A → List ℕ → Option Callee
+  called_at t x = option_map callee_in (first (entries_in t) x)
 
   -- these are the globals of a program, and its functions
-  abbrev pub AreGlobals : Program → BTreeMap (Bor (List ℕ)) (Shared A) → Type 0
-  AreGlobals p m = (x : List ℕ) → shared_at m x ≡ Source.global_of p x
+  abbrev pub AreGlobals : Program → Table (Shared A) A → Type 0
+  AreGlobals p t = (x : List ℕ) → shared_at t x ≡ Source.global_of p x
 
-  abbrev pub AreCallees : Program → BTreeMap (Bor (List ℕ)) (OwnCallee A) → Type 0
-  AreCallees p m = (x : List ℕ) → called_at m x ≡ callee_of p x
+  abbrev pub AreCallees : Program → Table (OwnCallee A) A → Type 0
+  AreCallees p t = (x : List ℕ) → called_at t x ≡ callee_of p x

@@ -9,6 +9,6 @@ pub returns-in-Some-clause-low : goal.returns-in-Some-clause-low
 returns-in-Some-clause-low g c =
     let names = c.args.names.now in
     let x = c.args.name.now in
-    let few = cell_few 0 (globals (program_of names.unit.now)) x (shared_in c.in-Some.g.now) (sym (names.shared x) ∙ sym (ap (option_map shared_in) c.in-Some.ensures.value)) in
+    let few = cell_few 0 (globals (program_of names.unit.now)) x (shared_in c.in-Some.g.now) (sym (names.shared x) ∙ sym (ap (option_map shared_in) c.in-Some.ensures)) in
     let small = names.small in
     omega (arith, few, small)

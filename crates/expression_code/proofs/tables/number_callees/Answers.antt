@@ -1,8 +1,10 @@
 use Rattle.std.proofs.Common.{ℕ, List, ◌∙◌, ◌+◌, ◌∷◌, map, drop, sym, ap, arith}
 use Rattle.std.specs.Option.{option_or}
+use Rattle.std.proofs.lemmas.List.{at_drop_all}
 use Rattle.syntax.specs.Views.{item_of}
 use Rattle.picked.specs.Names.{callee_from}
 use Rattle.expression_code.specs.inner.Tables.{called_at}
+use Rattle.expression_code.proofs.Placing.{or_none}
 use Rattle.expression_code.proofs.Files.{items_more, defined_here, not_defined_here}
 use Rattle.expression_code.proofs.tables.number_callees.Goals as goal
 use Rattle.expression_code.proofs.tables.number_callees.Goals.{in-Function+then-is_some+in_ok-add_callee-in-Function, in-Function+else-is_some, in-Globals}
@@ -46,3 +48,9 @@ items-preserved g c =
             few = omega (arith, number-is, few);
           })
     ]
+
+pub returns : goal.returns
+returns g c = λ x.
+    sym (or_none (called_at c.items.table x))
+    ∙ sym (at_drop_all (λ items. option_or (called_at c.items.table x) (callee_from c.items.number (map item_of items) x)) c.args.items.now c.items.item-index c.items-test.false)
+    ∙ c.items.invariant.value x

@@ -1,0 +1,65 @@
+#!/usr/bin/env python3
+"""Prints how long txc takes for names that are meant to take long, beside others of the same length and number.
+
+    scripts/names_speed.py [ROUNDS]
+
+First `txc check` of a function with 31,000 locals, a source of 1 MiB: whose names all have one hash, where a hash multiplies eight
+bytes by eight with a constant and no key (behind such a beginning one factor is 0, whatever comes after), and as many others. Then
+`txc listing` of a function with 60,000 locals and 60,000 uses of one, the newest or the oldest. The program is crates/txc/out/txc,
+which `cd crates/txc && rt run -- --version` builds, or what TXC names; the figures are the least processor time of 5 rounds, where
+nothing is said.
+"""
+
+import os
+import subprocess
+import sys
+import tempfile
+
+TOP = os.path.dirname(os.path.dirname(os.path.abspath(__file__)))
+TXC = os.environ.get("TXC", f"{TOP}/crates/txc/out/txc")
+COLLIDING = "aaaaaaaaaaaaassTNo3qMD1o"
+OTHERS = "aaaaaaaaaaaaassTNo3qMD1_"
+
+
+def locals_of(beginning):
+    """A function with 31,000 locals whose names begin so and end in eight digits."""
+    names = ",".join(f"{beginning}{10000000 + number}" for number in range(31000))
+    return f"void worker(int self){{int {names};}}\n"
+
+
+def uses_of(is_oldest):
+    """A function with 60,000 locals, and 60,000 assignments of the oldest or the newest to itself."""
+    others = [f"v{it:x}" for it in range(59999)]
+    names = ",".join(["z", *others] if is_oldest else [*others, "z"])
+    return f"void worker(int self){{int {names};{'z=z;' * 60000}}}\n"
+
+
+def used(words):
+    """The processor time of a command, in seconds."""
+    child = subprocess.Popen(words, stdout=subprocess.DEVNULL)
+    _, status, usage = os.wait4(child.pid, 0)
+    child.returncode = 0
+    if status:
+        sys.exit(f"{' '.join(words)}: status {os.waitstatus_to_exitcode(status)}")
+    return usage.ru_utime + usage.ru_stime
+
+
+def main():
+    rounds = int(sys.argv[1]) if len(sys.argv) > 1 else 5
+    sources = [
+        ("check", "31,000 names of one hash", locals_of(COLLIDING)),
+        ("check", "31,000 others", locals_of(OTHERS)),
+        ("listing", "60,000 locals, the newest used", uses_of(False)),
+        ("listing", "60,000 locals, the oldest used", uses_of(True)),
+    ]
+    with tempfile.TemporaryDirectory() as folder:
+        for at, (command, says, text) in enumerate(sources):
+            path = f"{folder}/{at}.c"
+            with open(path, "w", encoding="ascii") as file:
+                file.write(text)
+            least = min(used([TXC, command, path]) for _ in range(rounds))
+            print(f"txc {command}, {says}: {len(text):,} bytes, {least:.2f} s")
+
+
+if __name__ == "__main__":
+    main()
