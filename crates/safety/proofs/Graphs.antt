@@ -1,17 +1,14 @@
 -- A graph with one more number, and with one more link.
-use denote.Ref.{Bor}
-use Rattle.std.proofs.Common.{◌≡◌, ℕ, zero, suc, ◌+◌, ◌<◌, List, [], ◌∷◌, ◌++◌, length, length-append, drop, get_or, set, take, refl, sym, ap, subst, ◌∙◌, arith, bytes_eq, Bool, true, false, cond, Option, Some, None, ◌⊎◌, inl, inr}
+use Rattle.std.proofs.Common.{◌≡◌, ℕ, zero, suc, ◌+◌, ◌<◌, List, [], ◌∷◌, ◌++◌, length, length-append, drop, get_or, set, take, refl, sym, ap, subst, ◌∙◌, arith, bytes_eq, Bool, true, false, cond, if◌then◌else◌, Option, Some, None, ◌⊎◌, inl, inr}
 use Rattle.std.specs.Prelude.{Contains}
 use Rattle.std.proofs.lemmas.List.{get_or-set_same, get_or-set_other}
 use Rattle.std.proofs.lemmas.List.Elements.{Contains-push, Contains-append_left, Contains-append_cases}
 use Rattle.std.proofs.lemmas.Bool.{cases_eq}
 use Rattle.std.proofs.Math.Seq.{take-append_seam}
 use Rattle.std.proofs.lemmas.Slice.Eq.{bytes_eq-Decides}
-use Rattle.std.specs.Ordering.{nat_cmp}
-use Rattle.std.specs.Cmp.Lexicographic.{slice_cmp}
-use Rattle.std.specs.BTreeMap.{BTreeMap, Updates}
-use Rattle.std.proofs.lemmas.Map.Text.{btree_map_updates_str}
-use Rattle.types.specs.Maps.{value_at}
+use Rattle.std.specs.Option.{option_or}
+use Rattle.name_tables.specs.Named.{first, declared}
+use Rattle.name_tables.proofs.Firsts.{first_declared}
 use Rattle.safety.specs.Links.{Link}
 use Rattle.safety.specs.inner.Graphs.{IsNumbered, IsNumber, IsEdge, callers_at, HasLinks, Extends}
 use Rattle.safety.specs.inner.Closing.{IsWithin}
@@ -83,9 +80,17 @@ module _ (old new : List ℕ → Option ℕ) (callers : List (List ℕ)) (name :
     sound = λ j i c. (let s = k.sound j i (subst (λ cs. Contains cs i) (padded callers j) c) in (s.0, s.1, (number_more old new extended s.0.callee j s.2.0, extended s.0.caller i s.2.1)));
   })
 
--- what is put into the map
-pub put_number : (old new : BTreeMap (Bor (List ℕ)) ℕ) (name : Bor (List ℕ)) (k : ℕ) → Updates (λ a b. slice_cmp nat_cmp a.now b.now) old new name (Some k) → (x : List ℕ) → value_at new x ≡ cond (bytes_eq name.now x) (Some k) (value_at old x)
-put_number old new name k u x = btree_map_updates_str name.now old new (Some k) u x
+-- what a name that is new stands for
+pub put_number : (old new : List (List ℕ × ℕ)) (name : List ℕ) (k : ℕ) → first old name ≡ None → new ≡ declared old name k → (x : List ℕ) → first new x ≡ cond (bytes_eq name x) (Some k) (first old x)
+put_number old new name k none is x = ap (λ es. first es x) is ∙ first_declared old name k x ∙ by (bytes_eq name x) refl
+  where
+    nothing : (o : Option ℕ) → option_or o None ≡ o
+    nothing None = refl
+    nothing (Some n) = refl
+
+    by : (b : Bool) → bytes_eq name x ≡ b → option_or (first old x) (if b then Some k else None) ≡ cond b (Some k) (first old x)
+    by true e = ap (λ o. option_or o (Some k)) (ap (first old) (sym ((bytes_eq-Decides name x).0 e)) ∙ none)
+    by false e = nothing (first old x)
 
 -- one more link
 module _ (numbers : List ℕ → Option ℕ) (callers all : List (List ℕ)) (l : Link) (j i : ℕ) (is : all ≡ set callers j (callers_at callers j ++ i ∷ [])) (less : j < length callers) where

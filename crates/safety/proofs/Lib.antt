@@ -2,7 +2,7 @@ mod NoFault
 mod Rows
 pub mod CancelsStay
 pub mod Closing
-pub mod Counts
+pub mod Named
 pub mod Found
 pub mod Graphs
 pub mod Judged

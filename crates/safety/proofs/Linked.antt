@@ -4,7 +4,7 @@ use Rattle.std.specs.Prelude.{Contains}
 use Rattle.std.proofs.lemmas.List.Elements.{Contains-append_left, Contains-append_right, Contains-append_cases}
 use Rattle.safety.specs.Safe.{FunctionSet}
 use Rattle.safety.specs.Links.{Link, IsIn, KeepsTo}
-use Rattle.safety.specs.inner.UnsafeLinks.{link_if}
+use Rattle.safety.specs.SiteLinks.{link_if}
 
 pub only : {X : Type 0} (x y : X) → Contains (x ∷ []) y → y ≡ x
 only x y (zero, less, e) = sym e

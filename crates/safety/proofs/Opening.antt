@@ -4,7 +4,7 @@ use Rattle.syntax.specs.Tree.{Program}
 use Rattle.safety.specs.Sites.{Construct, Prints, Relaxes, OpensOuter, Cancels, CancelsOuter, Calls, Uses}
 use Rattle.safety.specs.Safe.{FunctionSet, Opens, TellsOuter}
 use Rattle.safety.specs.Links.{KeepsTo, IsLeast}
-use Rattle.safety.specs.inner.OuterLinks.{opening_links, links_at, outer_links}
+use Rattle.safety.specs.inner.OuterLinks.{opening_links, opening_at, outer_links}
 use Rattle.safety.proofs.Linked.{keeps_none, keeps_one, keeps_if, kept_if}
 use Rattle.safety.proofs.Spread.{tells_least}
 
@@ -32,5 +32,5 @@ module _ (set : FunctionSet) where
 
 pub tells_outer : (p : Program) (set : FunctionSet) → IsLeast (outer_links p) set → TellsOuter p set
 tells_outer p set h =
-    tells_least links_at (λ s t. Opens (λ g. IsTrue (s g)) t.construct)
+    tells_least opening_at (λ s t. Opens (λ g. IsTrue (s g)) t.construct)
     (λ s f t. kept s f t.construct) (λ s f t. keep s f t.construct) p set h

@@ -48,8 +48,8 @@ cancels_relaxed = worker_with (just (Transaction (Plain Relaxed) (just (Cancel (
 cancel_outside_atomic : fault cancels_relaxed (but (codes "worker")) ≡ Some (42, at 6)
 cancel_outside_atomic = refl
 
--- safe void f(void) { cancel; printf(""); } W{ atomic { f(); } }: a promise comes before the function's own sites, and a
--- function before those after it
+-- safe void f(void) { cancel; printf(""); } W{ atomic { f(); } }: a promise comes before the function's own sites, and
+-- a function before those after it
 abbrev safe_function : Stmts → Item
 safe_function body = Defines (record { attributes = Safe ∷ []; result = None; name = record { text = codes "f"; at = at 1 }; parameters = []; body = Some body })
 

@@ -1,6 +1,7 @@
 -- The least set that keeps to the links of unsafe functions tells which are safe.
 use Rattle.std.proofs.Common.{◌≡◌, refl, arith, sym, subst, ◌⊎◌, inl, inr, ℕ, List, [], ◌∷◌, ◌++◌, get_or, Some, Bool, true, false, IsTrue}
 use Rattle.std.specs.Prelude.{not, bytes_eq, Contains, if◌then◌else◌}
+use Rattle.std.specs.List.{flat_map}
 use Rattle.std.proofs.lemmas.List.Elements.{All-contains, All-contains_itself, Contains-append_left, Contains-append_right, Contains-append_cases}
 use Rattle.std.proofs.lemmas.Slice.Eq.{bytes_eq-Decides}
 use Rattle.syntax.specs.declared.tree.Attribute.{Attribute}
@@ -10,7 +11,8 @@ use Rattle.safety.specs.Sites.{Construct, Prints, Relaxes, OpensOuter, Cancels, 
 use Rattle.safety.specs.Safe.{FunctionSet, TellsSafe, IsSafeConstruct}
 use Rattle.safety.specs.Faults.{says_safe}
 use Rattle.safety.specs.Links.{KeepsTo, IsLeast}
-use Rattle.safety.specs.inner.UnsafeLinks.{says_unsafe, link_if, construct_links, sites_links, unsafe_links, safe_links}
+use Rattle.safety.specs.inner.UnsafeLinks.{says_unsafe, construct_links, unsafe_at, unsafe_links, safe_links}
+use Rattle.safety.specs.SiteLinks.{link_if}
 use Rattle.safety.proofs.Linked.{only, keeps_none, keeps_one, keeps_both, keeps_left, keeps_right, keeps_if, kept_if}
 
 pub contains_unsafe : (all : List Attribute) → says_unsafe all ≡ true → Contains all Unsafe
@@ -73,11 +75,11 @@ module _ (set : FunctionSet) where
   construct_kept f CancelsOuter h u = absurd u
   construct_kept f (Uses x) h u = absurd u
 
-  sites_kept : (f : List ℕ) (ss : List Site) (s : Site) → KeepsTo (sites_links f ss) set → Contains ss s → IsUnsafeIn set s.construct → IsTrue (set f)
+  sites_kept : (f : List ℕ) (ss : List Site) (s : Site) → KeepsTo (flat_map (unsafe_at f) ss) set → Contains ss s → IsUnsafeIn set s.construct → IsTrue (set f)
   sites_kept f [] s h c u = absurd (omega (arith, c.1))
   sites_kept f (t ∷ ss) s h c u = elim (Contains-append_cases (t ∷ []) ss s c) [
-    | inl d ↦ construct_kept f t.construct (keeps_left set (construct_links f t.construct) (sites_links f ss) h) (subst (λ r. IsUnsafeIn set r.construct) (only t s d) u)
-    | inr d ↦ sites_kept f ss s (keeps_right set (construct_links f t.construct) (sites_links f ss) h) d u
+    | inl d ↦ construct_kept f t.construct (keeps_left set (construct_links f t.construct) (flat_map (unsafe_at f) ss) h) (subst (λ r. IsUnsafeIn set r.construct) (only t s d) u)
+    | inr d ↦ sites_kept f ss s (keeps_right set (construct_links f t.construct) (flat_map (unsafe_at f) ss) h) d u
   ]
 
   -- a set that keeps to the links has each function with anything unsafe
@@ -86,7 +88,7 @@ module _ (set : FunctionSet) where
   attributes_closed (Shares gs ∷ items) f h c = attributes_closed items f h c
   attributes_closed (Defines g ∷ items) f h c =
       let first = link_if (says_unsafe g.attributes) g.name.text in
-      let own = sites_links g.name.text (body_sites g.parameters g.body) in
+      let own = flat_map (unsafe_at g.name.text) (body_sites g.parameters g.body) in
       elim (by_name g.name.text f g.attributes (attributes_of items f) Unsafe c) [
         | inl d ↦ subst (λ x. IsTrue (set x)) d.0 (kept_if set (says_unsafe g.attributes) g.name.text (keeps_left set first own (keeps_left set (first ++ own) (unsafe_links items) h)) (unsafe_contained g.attributes d.1))
         | inr d ↦ attributes_closed items f (keeps_right set (first ++ own) (unsafe_links items) h) d
@@ -97,7 +99,7 @@ module _ (set : FunctionSet) where
   sites_closed (Shares gs ∷ items) f s h c u = sites_closed items f s h c u
   sites_closed (Defines g ∷ items) f s h c u =
       let first = link_if (says_unsafe g.attributes) g.name.text in
-      let own = sites_links g.name.text (body_sites g.parameters g.body) in
+      let own = flat_map (unsafe_at g.name.text) (body_sites g.parameters g.body) in
       elim (by_name g.name.text f (body_sites g.parameters g.body) (sites_of items f) s c) [
         | inl d ↦ subst (λ x. IsTrue (set x)) d.0 (sites_kept g.name.text (body_sites g.parameters g.body) s (keeps_right set first own (keeps_left set (first ++ own) (unsafe_links items) h)) d.1 u)
         | inr d ↦ sites_closed items f s (keeps_right set (first ++ own) (unsafe_links items) h) d u
@@ -131,9 +133,9 @@ module _ (set : FunctionSet) where
   construct_keeps f CancelsOuter h = keeps_none rest_of
   construct_keeps f (Uses x) h = keeps_none rest_of
 
-  sites_keep : (f : List ℕ) (ss : List Site) → ((s : Site) → Contains ss s → IsTrue (set f) → IsSafeConstruct (λ g. IsTrue (set g)) s.construct) → KeepsTo (sites_links f ss) rest_of
+  sites_keep : (f : List ℕ) (ss : List Site) → ((s : Site) → Contains ss s → IsTrue (set f) → IsSafeConstruct (λ g. IsTrue (set g)) s.construct) → KeepsTo (flat_map (unsafe_at f) ss) rest_of
   sites_keep f [] h = keeps_none rest_of
-  sites_keep f (s ∷ ss) h = keeps_both rest_of (construct_links f s.construct) (sites_links f ss) (construct_keeps f s.construct (h s (0, omega arith, refl))) (sites_keep f ss (λ t c. h t (Contains-append_right (s ∷ []) ss t c)))
+  sites_keep f (s ∷ ss) h = keeps_both rest_of (construct_links f s.construct) (flat_map (unsafe_at f) ss) (construct_keeps f s.construct (h s (0, omega arith, refl))) (sites_keep f ss (λ t c. h t (Contains-append_right (s ∷ []) ss t c)))
 
   abbrev AreSafe : List Item → Type 0
   AreSafe items = (f : List ℕ) → IsTrue (set f) → (Contains (attributes_of items f) Unsafe → ⊥) × ((s : Site) → Contains (sites_of items f) s → IsSafeConstruct (λ g. IsTrue (set g)) s.construct)
@@ -145,8 +147,8 @@ module _ (set : FunctionSet) where
       let name = g.name.text in
       let sites = body_sites g.parameters g.body in
       let first = link_if (says_unsafe g.attributes) name in
-      keeps_both rest_of (first ++ sites_links name sites) (unsafe_links items)
-      (keeps_both rest_of first (sites_links name sites)
+      keeps_both rest_of (first ++ flat_map (unsafe_at name) sites) (unsafe_links items)
+      (keeps_both rest_of first (flat_map (unsafe_at name) sites)
       (keeps_if rest_of (says_unsafe g.attributes) name (λ e. unless (set name) (λ k. (h name k).0 (own_name name g.attributes (attributes_of items name) Unsafe (contains_unsafe g.attributes e)))))
       (sites_keep name sites (λ s c k. (h name k).1 s (own_name name sites (sites_of items name) s c))))
       (items_keep items (λ f k. (

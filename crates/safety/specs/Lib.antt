@@ -6,8 +6,9 @@ pub mod Views
 -- which functions and programs are safe
 pub mod Safe
 pub mod Faults
--- the least set that keeps to given links
+-- the least set that keeps to given links, and the links that declarations and sites give
 pub mod Links
+pub mod SiteLinks
 pub mod Sets
 -- laws
 pub mod Laws

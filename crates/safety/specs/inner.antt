@@ -3,12 +3,8 @@
 pub mod Unmet
 -- the links of unsafe functions
 pub mod UnsafeLinks
--- the links that sites give
-pub mod SiteLinks
 -- the links of functions that lead to an outer transaction
 pub mod OuterLinks
--- how many locals have a name
-pub mod Counts
 -- the locals at a place
 pub mod Known
 -- what a walk adds

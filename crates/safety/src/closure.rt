@@ -96,15 +96,16 @@ fn reached<A: Allocator + Copy>(
     Ok(members)
 }
 
-/// The least set that keeps to these links. Takes memory for a number of each name, its callers and whether it is a
-/// member; the time is that of finding each name of each link once.
+/// The least set that keeps to these links; the key is that of the hash of names. Takes memory for a number of each
+/// name, its callers and whether it is a member; the time is that of finding each name of each link once.
 pub fn least<'a, A: Allocator + Copy>(
     alloc: A,
+    key: u64,
     links: &[Link<'a>],
 ) -> Result<FunctionSet<'a, A>, AllocError>
     ensures { IfOk result (λ set. IsLeast (links_of links.now) (set_of set)) }
 {
-    let Graph { numbers, callers } = graph_of(alloc, links)?;
+    let Graph { numbers, callers } = graph_of(alloc, key, links)?;
     let members = reached(alloc, callers.as_slice())?;
     Ok(FunctionSet { numbers, members })
 }

@@ -13,8 +13,8 @@ ghost use Rattle.safety.specs.inner.Rest.{rest_of, Claims};
 
 use crate::closure::least;
 use crate::fault::{Violation, unless_met};
-use crate::links::{safe_links, unsafe_links};
-use crate::outer_links::outer_links;
+use crate::links::links_by;
+use crate::rules::{OuterFunctions, UnsafeFunctions, safe_links};
 use crate::set::FunctionSet;
 use crate::site::{Construct, Site};
 use crate::stmt::body_sites;
@@ -88,6 +88,7 @@ fn fault_among<'a, A: Allocator + Copy>(
 /// The first rule that a declaration of a function breaks, where these functions are declared safe.
 fn fault_of_function<'a, A: Allocator + Copy>(
     alloc: A,
+    key: u64,
     not_safe: &FunctionSet<'a, A>,
     outer: &FunctionSet<'a, A>,
     claims: &FunctionSet<'a, A>,
@@ -105,13 +106,14 @@ fn fault_of_function<'a, A: Allocator + Copy>(
     if !kept {
         return Ok(Some(Violation::NotSafe(f.name.span)));
     }
-    let sites = body_sites(alloc, f)?;
+    let sites = body_sites(alloc, key, f)?;
     Ok(fault_among(not_safe, outer, sites.as_slice()))
 }
 
 /// The first rule that an item breaks.
 fn fault_of_item<'a, A: Allocator + Copy>(
     alloc: A,
+    key: u64,
     not_safe: &FunctionSet<'a, A>,
     outer: &FunctionSet<'a, A>,
     claims: &FunctionSet<'a, A>,
@@ -124,7 +126,7 @@ fn fault_of_item<'a, A: Allocator + Copy>(
 {
     match item {
         Item::Function(f) => {
-            let found = fault_of_function(alloc, not_safe, outer, claims, f)?;
+            let found = fault_of_function(alloc, key, not_safe, outer, claims, f)?;
             Ok(found)
         }
         Item::Globals(_) => Ok(None),
@@ -134,6 +136,7 @@ fn fault_of_item<'a, A: Allocator + Copy>(
 /// The first rule that one of these items breaks.
 fn fault_of_items<'a, A: Allocator + Copy>(
     alloc: A,
+    key: u64,
     not_safe: &FunctionSet<'a, A>,
     outer: &FunctionSet<'a, A>,
     claims: &FunctionSet<'a, A>,
@@ -146,7 +149,7 @@ fn fault_of_items<'a, A: Allocator + Copy>(
         (flat_map (item_demands p (rest_of (set_of not_safe.now)) (set_of outer.now)) (map item_of items.now))) }
 {
     'each: for item in items {
-        let found = fault_of_item(alloc, not_safe, outer, claims, item)?;
+        let found = fault_of_item(alloc, key, not_safe, outer, claims, item)?;
         if found.is_some() {
             return Ok(found);
         }
@@ -154,19 +157,20 @@ fn fault_of_items<'a, A: Allocator + Copy>(
     Ok(None)
 }
 
-/// The first rule that a program breaks.
+/// The first rule that a program breaks, the hashes of whose names are by this key.
 pub(crate) fn fault_of<'a, A: Allocator + Copy>(
     alloc: A,
+    key: u64,
     items: &'a [Item<A>],
 ) -> Result<Option<Violation>, AllocError>
     ensures { IfOk result (λ found. Judges (map item_of items.now) found) }
 {
-    let links = unsafe_links(alloc, items)?;
-    let not_safe = least(alloc, links.as_slice())?;
-    let openings = outer_links(alloc, items)?;
-    let outer = least(alloc, openings.as_slice())?;
+    let links = links_by(alloc, key, &UnsafeFunctions, items)?;
+    let not_safe = least(alloc, key, links.as_slice())?;
+    let openings = links_by(alloc, key, &OuterFunctions, items)?;
+    let outer = least(alloc, key, openings.as_slice())?;
     let declared = safe_links(alloc, items)?;
-    let claims = least(alloc, declared.as_slice())?;
-    let found = fault_of_items(alloc, &not_safe, &outer, &claims, items)?;
+    let claims = least(alloc, key, declared.as_slice())?;
+    let found = fault_of_items(alloc, key, &not_safe, &outer, &claims, items)?;
     Ok(found)
 }

@@ -7,8 +7,8 @@ ghost use Rattle.safety.specs.Sites.{in_transaction, kind_site, uses, expr_sites
 ghost use Rattle.safety.specs.inner.Known.{around, around_in};
 ghost use Rattle.safety.specs.inner.Walks.{Appends};
 
+use crate::locals::Locals;
 use crate::site::{Construct, Site, TransactionsAround};
-use crate::table::Locals;
 use containers::Items;
 use lex::token::Span;
 use std::alloc::{AllocError, Allocator};

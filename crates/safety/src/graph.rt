@@ -1,21 +1,22 @@
 //! Functions by number, with the numbers of their callers.
 
 ghost use Rattle.std.specs.Prelude.{◌≡◌, ◌<◌, ◌++◌, ◌∷◌, [], List, length, option_map, slice_set, OnOk, IfOk};
-ghost use Rattle.types.specs.Maps.{value_at};
+ghost use Rattle.name_tables.specs.Named.{first};
+ghost use Rattle.name_tables.specs.Known.{entries_in};
 ghost use Rattle.safety.specs.Links as Links;
 ghost use Rattle.safety.specs.Sets.{link_of, links_of};
 ghost use Rattle.safety.specs.inner.Graphs.{IsNumbered, HasLinks, Extends, IsNumber, callers_at};
 
 use crate::set::Link;
 use containers::Items;
+use name_tables::Table;
 use std::alloc::{AllocError, Allocator};
-use std::collections::BTreeMap;
 
 /// The numbers of names, and the numbers of the callers of each. Number 0 is no name's: its callers are in the set
 /// anyhow.
 #[derive(Drop)]
 pub(crate) struct Graph<'a, A: Allocator> {
-    pub(crate) numbers: BTreeMap<&'a str, usize, A>,
+    pub(crate) numbers: Table<'a, usize, A>,
     pub(crate) callers: Vec<Items<usize, A>, A>,
 }
 
@@ -39,22 +40,22 @@ fn number<'a, A: Allocator + Copy>(
     graph: &mut Graph<'a, A>,
     name: &'a str,
 ) -> Result<usize, AllocError>
-    requires { IsNumbered (value_at graph.old.numbers) graph.old.callers.items }
-    ensures numbered { OnOk result (IsNumbered (value_at graph.new.numbers) graph.new.callers.items) }
-    ensures number { IfOk result (λ k. value_at graph.new.numbers name.now ≡ Some k) }
-    ensures extends { OnOk result (Extends (value_at graph.old.numbers) (value_at graph.new.numbers)) }
-    ensures links { (links : List Links.Link) → HasLinks links (value_at graph.old.numbers) graph.old.callers.items →
-        OnOk result (HasLinks links (value_at graph.new.numbers) graph.new.callers.items) }
+    requires { IsNumbered (first (entries_in graph.old.numbers)) graph.old.callers.items }
+    ensures numbered { OnOk result (IsNumbered (first (entries_in graph.new.numbers)) graph.new.callers.items) }
+    ensures number { IfOk result (λ k. first (entries_in graph.new.numbers) name.now ≡ Some k) }
+    ensures extends { OnOk result
+        (Extends (first (entries_in graph.old.numbers)) (first (entries_in graph.new.numbers))) }
+    ensures links { (links : List Links.Link) →
+        HasLinks links (first (entries_in graph.old.numbers)) graph.old.callers.items →
+        OnOk result (HasLinks links (first (entries_in graph.new.numbers)) graph.new.callers.items) }
 {
-    match graph.numbers.get(&name) {
+    match graph.numbers.get(name) {
         Some(number) => Ok(*number),
         None => {
             let number = graph.callers.len();
             graph.callers.push(Items::new(alloc))?;
-            match graph.numbers.insert(name, number) {
-                Ok(_) => Ok(number),
-                Err(_) => Err(AllocError),
-            }
+            graph.numbers.declare(name, number)?;
+            Ok(number)
         }
     }
 }
@@ -65,12 +66,15 @@ fn number_of_callee<'a, A: Allocator + Copy>(
     graph: &mut Graph<'a, A>,
     callee: Option<&'a str>,
 ) -> Result<usize, AllocError>
-    requires { IsNumbered (value_at graph.old.numbers) graph.old.callers.items }
-    ensures numbered { OnOk result (IsNumbered (value_at graph.new.numbers) graph.new.callers.items) }
-    ensures number { IfOk result (λ k. IsNumber (value_at graph.new.numbers) (option_map (λ f. f.now) callee.entry) k) }
-    ensures extends { OnOk result (Extends (value_at graph.old.numbers) (value_at graph.new.numbers)) }
-    ensures links { (links : List Links.Link) → HasLinks links (value_at graph.old.numbers) graph.old.callers.items →
-        OnOk result (HasLinks links (value_at graph.new.numbers) graph.new.callers.items) }
+    requires { IsNumbered (first (entries_in graph.old.numbers)) graph.old.callers.items }
+    ensures numbered { OnOk result (IsNumbered (first (entries_in graph.new.numbers)) graph.new.callers.items) }
+    ensures number { IfOk result
+        (λ k. IsNumber (first (entries_in graph.new.numbers)) (option_map (λ f. f.now) callee.entry) k) }
+    ensures extends { OnOk result
+        (Extends (first (entries_in graph.old.numbers)) (first (entries_in graph.new.numbers))) }
+    ensures links { (links : List Links.Link) →
+        HasLinks links (first (entries_in graph.old.numbers)) graph.old.callers.items →
+        OnOk result (HasLinks links (first (entries_in graph.new.numbers)) graph.new.callers.items) }
 {
     match callee {
         Some(name) => {
@@ -87,10 +91,12 @@ fn add_link<'a, A: Allocator + Copy>(
     graph: &mut Graph<'a, A>,
     link: Link<'a>,
 ) -> Result<(), AllocError>
-    requires { IsNumbered (value_at graph.old.numbers) graph.old.callers.items }
-    ensures numbered { OnOk result (IsNumbered (value_at graph.new.numbers) graph.new.callers.items) }
-    ensures links { (links : List Links.Link) → HasLinks links (value_at graph.old.numbers) graph.old.callers.items →
-        OnOk result (HasLinks (links ++ link_of link.entry ∷ []) (value_at graph.new.numbers) graph.new.callers.items) }
+    requires { IsNumbered (first (entries_in graph.old.numbers)) graph.old.callers.items }
+    ensures numbered { OnOk result (IsNumbered (first (entries_in graph.new.numbers)) graph.new.callers.items) }
+    ensures links { (links : List Links.Link) →
+        HasLinks links (first (entries_in graph.old.numbers)) graph.old.callers.items →
+        OnOk result
+        (HasLinks (links ++ link_of link.entry ∷ []) (first (entries_in graph.new.numbers)) graph.new.callers.items) }
 {
     let callee = number_of_callee(alloc, graph, link.callee)?;
     let caller = number(alloc, graph, link.caller)?;
@@ -98,16 +104,18 @@ fn add_link<'a, A: Allocator + Copy>(
     Ok(())
 }
 
-/// The graph of links.
+/// The graph of links, the hashes of whose names are by this key.
 pub(crate) fn graph_of<'a, A: Allocator + Copy>(
     alloc: A,
+    key: u64,
     links: &[Link<'a>],
 ) -> Result<Graph<'a, A>, AllocError>
-    ensures numbered { IfOk result (λ graph. IsNumbered (value_at graph.numbers) graph.callers.items) }
-    ensures links { IfOk result (λ graph. HasLinks (links_of links.now) (value_at graph.numbers) graph.callers.items) }
+    ensures numbered { IfOk result (λ graph. IsNumbered (first (entries_in graph.numbers)) graph.callers.items) }
+    ensures links { IfOk result
+        (λ graph. HasLinks (links_of links.now) (first (entries_in graph.numbers)) graph.callers.items) }
 {
     let mut graph = Graph {
-        numbers: BTreeMap::new(alloc),
+        numbers: Table::new(alloc, key),
         callers: Vec::new(alloc),
     };
     graph.callers.push(Items::new(alloc))?;

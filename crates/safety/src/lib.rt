@@ -10,15 +10,15 @@ mod graph;
 pub mod laws;
 mod links;
 mod locals;
-mod outer_links;
 mod program;
+mod rules;
 mod set;
 mod site;
 mod stmt;
-mod table;
 
 pub use closure::least;
 pub use fault::{SafetyFault, Violation};
+pub use links::{LinkRule, links_by};
 pub use program::safe;
 pub use set::{FunctionSet, Link};
 pub use site::{Construct, Site};

@@ -1,10 +1,10 @@
 //! Sets of functions, and the links that they keep to.
 
-ghost use Rattle.std.specs.Prelude.{◌≡◌};
-ghost use Rattle.safety.specs.Sets.{set_of};
+ghost use Rattle.std.specs.Prelude.{◌≡◌, Some, None};
+ghost use Rattle.safety.specs.Sets.{link_of, set_of};
 
+use name_tables::Table;
 use std::alloc::Allocator;
-use std::collections::BTreeMap;
 
 /// Where the callee is in a set, so is the caller; without a callee the caller is in it anyhow.
 #[derive(Clone, Copy)]
@@ -13,10 +13,32 @@ pub struct Link<'a> {
     pub callee: Option<&'a str>,
 }
 
+impl<'a> Link<'a> {
+    /// That this function is in the set.
+    pub fn member(caller: &'a str) -> Link<'a>
+        ensures { link_of result ≡ record { caller = caller.now; callee = None } }
+    {
+        Link {
+            caller,
+            callee: None,
+        }
+    }
+
+    /// That this function is in the set where that one is, which it calls.
+    pub fn call(caller: &'a str, callee: &'a str) -> Link<'a>
+        ensures { link_of result ≡ record { caller = caller.now; callee = Some callee.now } }
+    {
+        Link {
+            caller,
+            callee: Some(callee),
+        }
+    }
+}
+
 /// A set of functions, which tells of a name whether it is in it.
 #[derive(Drop)]
 pub struct FunctionSet<'a, A: Allocator = std::alloc::Global> {
-    pub(crate) numbers: BTreeMap<&'a str, usize, A>,
+    pub(crate) numbers: Table<'a, usize, A>,
     pub(crate) members: Vec<bool, A>,
 }
 
@@ -25,7 +47,7 @@ impl<'a, A: Allocator + Copy> FunctionSet<'a, A> {
     pub fn contains(&self, name: &'a str) -> bool
         ensures { result ≡ set_of self.now name.now }
     {
-        match self.numbers.get(&name) {
+        match self.numbers.get(name) {
             Some(number) => self.members.get(*number).copied().unwrap_or(false),
             None => false,
         }

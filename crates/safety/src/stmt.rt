@@ -12,8 +12,8 @@ ghost use Rattle.safety.specs.inner.Walks.{Appends, head_sites};
 use crate::expr::{
     add, add_expr, add_expr_if_any, add_exprs, add_kind, add_simple, add_simple_if_any, inside,
 };
+use crate::locals::Locals;
 use crate::site::{Construct, Site, TransactionsAround};
-use crate::table::Locals;
 use containers::Items;
 use lex::token::Span;
 use std::alloc::{AllocError, Allocator};
@@ -107,7 +107,8 @@ fn add_lone_declaration<'a, A: Allocator + Copy>(
     one: &'a Declaration<A>,
 ) -> Result<(), AllocError>
     ensures sites { OnOk result
-        (Appends sites.old sites.new (declarator_sites (map declarator_of one.now.declarators) (around_in locals.old place))) }
+        (Appends sites.old sites.new
+        (declarator_sites (map declarator_of one.now.declarators) (around_in locals.old place))) }
     ensures names { OnOk result (names_in locals.new ≡ names_in locals.old) }
 {
     let outer = locals.len();
@@ -256,10 +257,11 @@ fn add_parameters<'a, A: Allocator + Copy>(
     Ok(())
 }
 
-/// The sites of a function's body, in order of the text; a prototype has none. Takes memory for them, and for the names
-/// of locals.
+/// The sites of a function's body, in order of the text; a prototype has none. The key is that of the hash of names.
+/// Takes memory for them, and for the names of locals.
 pub fn body_sites<'a, A: Allocator + Copy>(
     alloc: A,
+    key: u64,
     f: &'a Function<A>,
 ) -> Result<Items<Site<'a>, A>, AllocError>
     ensures { IfOk result
@@ -269,7 +271,7 @@ pub fn body_sites<'a, A: Allocator + Copy>(
     let mut sites = Items::new(alloc);
     match &f.body {
         Some(body) => {
-            let mut locals = Locals::new(alloc);
+            let mut locals = Locals::new(alloc, key);
             add_parameters(&mut locals, f.parameters.as_slice())?;
             let place = TransactionsAround {
                 atomic: false,

@@ -1,4 +1,5 @@
--- Runs that do not go astray: from a place of this kind and locals of these names and types to such a place and such locals.
+-- Runs that do not go astray: from a place of this kind and locals of these names and types to such a place and such
+-- locals.
 use Rattle.std.proofs.Common.{◌≡◌, refl, sym, ap, subst, ◌∙◌, ℕ, zero, suc, List, [], ◌∷◌, ◌++◌, append-nil, append_assoc, length, map, take, arith, Option, Some, None, Bool, true, false, IsTrue, Result, Ok, Err}
 use Rattle.std.specs.Prelude.{if◌then◌else◌, is_some}
 use Rattle.std.specs.Fmt.{signed_decimal}
@@ -191,8 +192,8 @@ on_open w ls os P Q (Stops why now) rest f h = f
 pub on_opens : {A B : Type 0} {w : Option Mode} {ls os : Shapes} {P : A → Type 0} {Q : B → Type 0} {run : Action A} {rest : A → Action B} → Opens w ls P run → ((a : A) → P a → (ms : Shapes) → Goes w ms os Q (rest a)) → Goes w ls os Q (run >>= rest)
 on_opens {w = w} {ls = ls} {os = os} {P = P} {Q = Q} {run = run} {rest = rest} g h = record { goes = λ s e f. on_open w ls os P Q (run s) rest (g.opens s e f) h }
 
--- how a statement ends: a break or a continue only in a loop, a cancel only in an atomic transaction, an outer cancel only
--- in an outer one
+-- how a statement ends: a break or a continue only in a loop, a cancel only in an atomic transaction, an outer cancel
+-- only in an outer one
 abbrev pub EndFits : (looping in_atomic in_outer : Bool) → End → Type 0
 EndFits looping in_atomic in_outer Next = Unit {0}
 EndFits looping in_atomic in_outer Breaks = IsTrue looping

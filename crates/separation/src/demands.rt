@@ -11,8 +11,8 @@ ghost use Rattle.separation.specs.inner.Unmet.{unmet_in, Judges};
 ghost use Rattle.separation.specs.inner.OwnSites.{own_sites};
 
 use crate::fault::{Violation, unless_met};
-use crate::links::touching_links;
-use safety::{Construct, FunctionSet, Site, body_sites, least};
+use crate::links::TouchingFunctions;
+use safety::{Construct, FunctionSet, Site, body_sites, least, links_by};
 use std::alloc::{AllocError, Allocator};
 use syntax::tree::Item;
 
@@ -57,6 +57,7 @@ fn fault_among<'a, A: Allocator + Copy>(
 /// The first rule that an item breaks, where it declares `worker`.
 fn fault_of_item<'a, A: Allocator + Copy>(
     alloc: A,
+    key: u64,
     touching: &FunctionSet<'a, A>,
     item: &'a Item<A>,
 ) -> Result<Option<Violation>, AllocError>
@@ -69,7 +70,7 @@ fn fault_of_item<'a, A: Allocator + Copy>(
             if f.name.text.as_str() != "worker" {
                 return Ok(None);
             }
-            let sites = body_sites(alloc, f)?;
+            let sites = body_sites(alloc, key, f)?;
             Ok(fault_among(touching, sites.as_slice()))
         }
         Item::Globals(_) => Ok(None),
@@ -79,6 +80,7 @@ fn fault_of_item<'a, A: Allocator + Copy>(
 /// The first rule that one of these items breaks.
 fn fault_of_items<'a, A: Allocator + Copy>(
     alloc: A,
+    key: u64,
     touching: &FunctionSet<'a, A>,
     items: &'a [Item<A>],
 ) -> Result<Option<Violation>, AllocError>
@@ -87,7 +89,7 @@ fn fault_of_items<'a, A: Allocator + Copy>(
         ≡ first_unmet (separation_demands (set_of touching.now) (sites_of (map item_of items.now) (codes "worker")))) }
 {
     'each: for item in items {
-        let found = fault_of_item(alloc, touching, item)?;
+        let found = fault_of_item(alloc, key, touching, item)?;
         if found.is_some() {
             return Ok(found);
         }
@@ -95,15 +97,16 @@ fn fault_of_items<'a, A: Allocator + Copy>(
     Ok(None)
 }
 
-/// The first rule that a program breaks.
+/// The first rule that a program breaks, the hashes of whose names are by this key.
 pub(crate) fn fault_of<'a, A: Allocator + Copy>(
     alloc: A,
+    key: u64,
     items: &'a [Item<A>],
 ) -> Result<Option<Violation>, AllocError>
     ensures { IfOk result (λ found. Judges (map item_of items.now) found) }
 {
-    let links = touching_links(alloc, items)?;
-    let touching = least(alloc, links.as_slice())?;
-    let found = fault_of_items(alloc, &touching, items)?;
+    let links = links_by(alloc, key, &TouchingFunctions, items)?;
+    let touching = least(alloc, key, links.as_slice())?;
+    let found = fault_of_items(alloc, key, &touching, items)?;
     Ok(found)
 }

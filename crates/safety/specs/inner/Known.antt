@@ -1,6 +1,7 @@
 -- The locals that are known at a place.
 use Rattle.std.specs.Prelude.{ℕ, List, map}
-use Rattle.safety.specs.declared.table.Locals.{Locals}
+use Rattle.name_tables.specs.Known.{locals_in}
+use Rattle.safety.specs.declared.locals.Locals.{Locals}
 use Rattle.safety.specs.declared.site.TransactionsAround.{TransactionsAround}
 use Rattle.safety.specs.Sites.{Around}
 
@@ -11,7 +12,7 @@ around names place = record { locals = names; atomic = place.atomic; outer = pla
 module _ {A : Type 0} where
   -- their names, in order of declaration
   abbrev pub names_in : Locals A → List (List ℕ)
-  names_in l = map (λ n. n.now) l.names.items
+  names_in l = map (λ n. n.0) (locals_in l.scope)
 
   abbrev pub around_in : Locals A → TransactionsAround → Around
   around_in l place = around (names_in l) place

@@ -1,11 +1,9 @@
 -- The links to which the touching functions keep.
 use Rattle.std.specs.Prelude.{ℕ, List, [], ◌∷◌, Some, Bool, true, false}
-use Rattle.std.specs.List.{flat_map}
 use Rattle.syntax.specs.Tree.{Item}
 use Rattle.safety.specs.Sites.{Construct, Calls, Uses, Site}
 use Rattle.safety.specs.Links.{Link}
-use Rattle.safety.specs.inner.UnsafeLinks.{link_if}
-use Rattle.safety.specs.inner.SiteLinks.{item_links, site_links}
+use Rattle.safety.specs.SiteLinks.{link_if, site_links}
 
 -- a function with a bare access touches, and so does one with a bare call of a touching one
 abbrev pub bare_links : List ℕ → Bool → Construct → List Link
@@ -16,12 +14,6 @@ bare_links f false c = []
 
 abbrev pub links_at : List ℕ → Site → List Link
 links_at f s = bare_links f s.in_any s.construct
-
-abbrev pub sites_links : List ℕ → List Site → List Link
-sites_links f sites = flat_map (links_at f) sites
-
-abbrev pub touching_links_of : Item → List Link
-touching_links_of = item_links links_at
 
 abbrev pub touching_links : List Item → List Link
 touching_links = site_links links_at

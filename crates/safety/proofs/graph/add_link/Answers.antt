@@ -1,6 +1,7 @@
 use Rattle.std.proofs.Common.{◌≡◌, ◌++◌, ◌∷◌, [], length, set, vec_len, ap, subst, sym, ◌∙◌, rules}
 use Rattle.std.proofs.lemmas.List.{length-set}
-use Rattle.types.specs.Maps.{value_at}
+use Rattle.name_tables.specs.Named.{first}
+use Rattle.name_tables.specs.Known.{entries_in}
 use Rattle.safety.specs.Sets.{link_of}
 use Rattle.safety.specs.inner.Graphs.{callers_at, HasLinks}
 use Rattle.safety.proofs.Graphs.{number_more, callee_within, linked_one, written_back}
@@ -8,9 +9,9 @@ use Rattle.safety.proofs.graph.add_link.Goals as goal
 
 pub returns-clause-links : goal.returns-clause-links
 returns-clause-links g c = λ links k.
-    let mid = value_at c.number_of_callee.new.graph.numbers in
+    let mid = first (entries_in c.number_of_callee.new.graph.numbers) in
     let graph = c.number.new.graph in
-    let numbers = value_at graph.numbers in
+    let numbers = first (entries_in graph.numbers) in
     let items = graph.callers.items in
     let callee = c.in_ok-callee.callee in
     let caller = c.in_ok-caller.caller in

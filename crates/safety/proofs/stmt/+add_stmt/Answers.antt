@@ -9,7 +9,7 @@ use Rattle.syntax.proofs.tree.Stmt.TheLaws.{the_size}
 use Rattle.safety.specs.Sites.{names_of_start, stmts_sites}
 use Rattle.safety.specs.inner.Known.{names_in, around, around_in}
 use Rattle.safety.specs.inner.Walks.{head_sites}
-use Rattle.safety.proofs.Counts.{left, room}
+use Rattle.safety.proofs.Named.{left, room}
 use Rattle.safety.proofs.Walks.{two, same, held, next, done, declare_sites, do_sites, block_sites, print_sites, while_sites, do_while_sites, return_sites, cancel_sites, cancel_outer_sites, transaction_sites, for_sites, body_behind, stmts_more, kind_anywhere, item_sites, item_names}
 use Rattle.safety.proofs.stmt.+add_stmt.Goals as goal
 

@@ -2,7 +2,7 @@ use Rattle.std.proofs.Common.{ap, sym, map}
 use Rattle.syntax.specs.Views.{declarator_of}
 use Rattle.safety.specs.Sites.{declarator_sites}
 use Rattle.safety.specs.inner.Known.{names_in, around_in}
-use Rattle.safety.proofs.Counts.{left, room}
+use Rattle.safety.proofs.Named.{left, room}
 use Rattle.safety.proofs.Walks.{same}
 use Rattle.safety.proofs.stmt.add_lone_declaration.Goals as goal
 

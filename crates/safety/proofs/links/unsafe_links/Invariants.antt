@@ -1,8 +1,0 @@
-use Rattle.std.proofs.Common.{◌≡◌, ◌++◌, map, drop}
-use Rattle.syntax.specs.Views.{item_of}
-use Rattle.safety.specs.Sets.{links_of}
-use Rattle.safety.specs.inner.UnsafeLinks.{unsafe_links}
-use Rattle.safety.proofs.links.unsafe_links.Given as goal
-
-abbrev pub invariant-each : goal.invariant-each
-invariant-each g l = links_of l.links ++ unsafe_links (map item_of (drop l.item-index l.items)) ≡ unsafe_links (map item_of l.items)
