@@ -3,7 +3,7 @@
 ghost use Rattle.norec_core.specs.Accesses.{IsAnswerTo};
 
 use crate::asserted::assert_that;
-use norec_core::{Access, Answer, Core, Op, Outcome, Saved, Stop};
+use norec_core::{Access, Answer, Core, Op, Outcome, ReadStep, Saved, Stop};
 use refusing::Refusing;
 use std::alloc::{Allocator, Global};
 
@@ -329,10 +329,10 @@ fn reads<A: Allocator + Copy>(
     word: u64,
     lock: u64,
 ) -> Option<Outcome> {
-    if !core.prepare_read(cell) {
-        return None;
+    match core.read(cell) {
+        ReadStep::Loads => Some(core.take_read(cell, word, lock)),
+        ReadStep::Written(_) | ReadStep::Other => None,
     }
-    Some(core.take_read(cell, word, lock))
 }
 
 // Whether a read is made whole where nothing disturbs it, leaves validation where the lock has moved, and is not made there.
@@ -378,12 +378,27 @@ fn commits_at_once<A: Allocator + Copy>(core: &mut Core<A>) -> bool {
     !outside && begun && core.commit() && !core.has_attempt()
 }
 
-// Whether a write is made at once, and then neither a commit, which takes the lock, nor a read of what was written.
+// Whether a read of this cell is made at once, with this word.
+fn reads_at_once<A: Allocator + Copy>(core: &mut Core<A>, cell: u32, word: u64) -> bool {
+    core.read(cell) == ReadStep::Written(word)
+}
+
+// Whether what is written next is read at once, and a cell beside it is loaded.
+fn reads_what_it_wrote<A: Allocator + Copy>(core: &mut Core<A>) -> bool {
+    core.write(5, 8)
+        && core.write(6, 7)
+        && core.write(5, 9)
+        && reads_at_once(core, 5, 9)
+        && reads_at_once(core, 6, 7)
+        && core.read(7) == ReadStep::Loads
+}
+
+// Whether a write is made at once, and then reads of what was written, but no commit, which takes the lock.
 fn writes_at_once<A: Allocator + Copy>(core: &mut Core<A>) -> bool {
+    let outside = core.read(5) == ReadStep::Other;
     let begun = makes(core, Op::Begin, 2);
-    let written = core.write(5, 9);
-    let later = core.commit() || core.prepare_read(5);
-    begun && written && !later && plays(core, read_in_place())
+    let written = reads_what_it_wrote(core);
+    outside && begun && written && !core.commit() && plays(core, read_in_place())
 }
 
 // Whether both are.

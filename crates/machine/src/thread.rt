@@ -109,9 +109,9 @@ impl<A: Allocator + Copy> Thread<A> {
         }
     }
 
-    /// Makes local steps, at most so many steps: those in its registers and frames, calls and returns too, writes in a transaction, and
-    /// commits that make no access; and between them the two steps of each read at which nothing disturbs it, with what is loaded
-    /// for it. It ends before the first instruction that does something else, or that wants memory which is refused: how many steps
+    /// Makes local steps, at most so many steps: those in its registers and frames, calls and returns too, writes in a transaction, reads
+    /// of what was written in it, and commits that make no access; and between them the two steps of each other read at which nothing
+    /// disturbs it, with what is loaded for it. It ends before the first instruction that does something else, or that wants memory which is refused: how many steps
     /// it made, and where they are fewer what stands there to be done.
     #[inline(always)]
     pub fn advance<B: Allocator, L: Loads>(

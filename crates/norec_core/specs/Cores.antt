@@ -6,6 +6,7 @@ use Rattle.norec_core.specs.declared.step.Op.{Op}
 use Rattle.norec_core.specs.declared.step.Access.TheVariants.{Local}
 use Rattle.norec_core.specs.declared.step.Answer.{Answer}
 use Rattle.norec_core.specs.declared.step.Answer.TheVariants.{Done}
+use Rattle.norec_core.specs.declared.step.Outcome.{Outcome}
 use Rattle.norec_core.specs.declared.step.Outcome.TheVariants as outcome
 use Rattle.norec_core.specs.declared.step.Phase.{Phase}
 use Rattle.norec_core.specs.declared.step.Phase.TheVariants.{AtOperation, Stores, ValidatesTime, ValidatesEntry}
@@ -44,11 +45,11 @@ IsStoring place a = a.phase ≡ Stores place
 abbrev pub stepped_twice : CoreState → Op → (first second : Answer) → CoreStep Saved
 stepped_twice c op first second = core_step c.saved (core_step c.saved c.attempt op first).attempt op second
 
--- a step without an access, in which the operation is done, and after which nothing is gone back to
-pub record IsDoneAtOnce (c : CoreState) (op : Op) (d : CoreState) : Type 0 where
+-- a step without an access, in which the operation is done with this outcome, and after which nothing is gone back to
+pub record IsDoneAtOnce (c : CoreState) (op : Op) (result : Outcome) (d : CoreState) : Type 0 where
   pub access : core_access c.attempt op ≡ Local
   pub attempt : d.attempt ≡ (core_step c.saved c.attempt op Done).attempt
-  pub outcome : (core_step c.saved c.attempt op Done).outcome ≡ outcome.Done
+  pub outcome : (core_step c.saved c.attempt op Done).outcome ≡ result
   pub back : (core_step c.saved c.attempt op Done).back ≡ None
 
 -- whether an attempt is under way whose lock is kept

@@ -1,6 +1,6 @@
 //! The core of a thread: an operation's step is prepared, then told the answer to its access.
 
-ghost use Rattle.std.specs.Prelude.{◌≡◌, ◌≢◌, ◌↔◌, ◌+◌, ◌^◌, ◌<◌, true, false, None, Some, IsTrue, IsSome, IsSomeAnd, IfOk, IfSome, OnOk, OnErr, OnSome};
+ghost use Rattle.std.specs.Prelude.{◌≡◌, ◌≢◌, ◌↔◌, ◌+◌, ◌^◌, ◌<◌, ℕ, true, false, None, Some, IsTrue, IsSome, IsSomeAnd, IfOk, IfSome, OnOk, OnErr, OnSome};
 ghost use Rattle.norec_core.specs.Accesses.{stops};
 ghost use Rattle.norec_core.specs.Phases.{core_access, core_step};
 ghost use Rattle.norec_core.specs.Cores.{ComparesWith, IsAnswered, IsAskedAgain, IsComparing, IsDoneAtOnce, IsDropped, IsStoring, IsWaiting, LoadsBoth, stepped, stepped_twice, is_kept, has_lock};
@@ -8,7 +8,7 @@ ghost use Rattle.norec_core.specs.declared.step.Answer.{Answer as Reply};
 ghost use Rattle.norec_core.specs.declared.step.Op.{Op as Operation};
 ghost use Rattle.norec_core.specs.declared.step.Answer.TheVariants.{Value};
 
-use super::step::{Access, Answer, Op, Outcome, Stop};
+use super::step::{Access, Answer, Op, Outcome, ReadStep, Stop};
 use super::steps::Steps;
 use nesting::Saved;
 use std::alloc::{Allocator, Global};
@@ -116,15 +116,24 @@ impl<A: Allocator + Copy> Core<A> {
         self.steps.told(op, answer)
     }
 
-    /// Prepares both steps of a read of this cell, where it loads the cell's word and then the lock: whether it did. It does not
-    /// either where the room for the read's entry is refused.
+    /// Makes the step of a read of this cell whose word the write log has, where it stands at an operation without the lock, or
+    /// prepares both steps of one that loads the cell's word and then the lock. Where the room for the read's entry is refused it
+    /// does neither.
     #[inline(always)]
-    pub fn prepare_read(&mut self, cell: u32) -> bool
-        ensures loads { result ≡ true → IsSomeAnd self.old.attempt (λ a. LoadsBoth a cell) }
-        ensures room { result ≡ true → 0 < self.new.read_room }
+    pub fn read(&mut self, cell: u32) -> ReadStep
+        ensures written { (word : ℕ) → result ≡ ReadStep.Written word → IsDoneAtOnce self.old (Op.Read cell) (Outcome.Read word) self.new }
+        ensures loads { result ≡ ReadStep.Loads → IsSomeAnd self.old.attempt (λ a. LoadsBoth a cell) }
+        ensures room { result ≡ ReadStep.Loads → 0 < self.new.read_room }
         ensures attempt { self.new.attempt ≡ self.old.attempt }
     {
-        self.steps.loads_both(cell) && self.steps.make_read_room()
+        match self.steps.reading(cell) {
+            ReadStep::Written(word) => {
+                self.is_asked = false;
+                ReadStep::Written(word)
+            }
+            ReadStep::Loads if self.steps.make_read_room() => ReadStep::Loads,
+            _ => ReadStep::Other,
+        }
     }
 
     /// Makes both steps of a read that were prepared, with the word and the lock's value that were loaded. It takes no memory.
@@ -144,7 +153,7 @@ impl<A: Allocator + Copy> Core<A> {
     /// write needs; where that is refused nothing changes.
     #[inline(always)]
     pub fn write(&mut self, cell: u32, word: u64) -> bool
-        ensures done { result ≡ true → IsDoneAtOnce self.old (Op.Write cell word) self.new }
+        ensures done { result ≡ true → IsDoneAtOnce self.old (Op.Write cell word) Outcome.Done self.new }
         ensures not_done { result ≡ false → self.new.attempt ≡ self.old.attempt }
     {
         if !self.steps.is_plain() || !self.steps.make_write_room() {
@@ -159,7 +168,7 @@ impl<A: Allocator + Copy> Core<A> {
     /// nothing: whether it did. It takes no memory.
     #[inline(always)]
     pub fn commit(&mut self) -> bool
-        ensures done { result ≡ true → IsDoneAtOnce self.old Op.Commit self.new }
+        ensures done { result ≡ true → IsDoneAtOnce self.old Op.Commit Outcome.Done self.new }
         ensures not_done { result ≡ false → self.new.attempt ≡ self.old.attempt }
     {
         if !self.steps.is_plain() || !self.steps.commits_at_once() {

@@ -1,15 +1,15 @@
 //! The steps of an attempt, phase by phase: the access of each, and what comes of its answer.
 
-ghost use Rattle.std.specs.Prelude.{◌≡◌, ◌≢◌, ◌+◌, ◌-◌, ◌^◌, ◌<◌, ◌≤◌, true, false, None, IfSome, OnOk, OnErr, OnSome, drop, slice_get};
+ghost use Rattle.std.specs.Prelude.{◌≡◌, ◌≢◌, ◌+◌, ◌-◌, ◌^◌, ◌<◌, ◌≤◌, ℕ, true, false, None, IfSome, OnOk, OnErr, OnSome, drop, slice_get};
 ghost use Rattle.write_log.specs.Overlay.{put, written};
 ghost use Rattle.norec_core.specs.Accesses.{stops};
 ghost use Rattle.norec_core.specs.Phases.{core_access, core_step, core_phase, core_operation, core_read, core_commit, core_cancel, core_store, core_swap, core_check, core_time, core_compare, operation_access, commit_access, entry_access, store_access};
 ghost use Rattle.norec_core.specs.Cores.{LoadsBoth, holds};
 ghost use Rattle.norec_core.specs.declared.step.Answer.TheVariants.{Value};
 ghost use Rattle.norec_core.specs.declared.step.Phase.TheVariants.{ReadsLock};
-ghost use Rattle.norec_core.specs.inner.Runs.{attempt_of, IsStep, GainsRoom, HasRoom, CanRelease, SwapsLock};
+ghost use Rattle.norec_core.specs.inner.Runs.{attempt_of, IsStep, IsWritten, GainsRoom, HasRoom, CanRelease, SwapsLock};
 
-use super::step::{Access, Answer, Op, Outcome, Phase};
+use super::step::{Access, Answer, Op, Outcome, Phase, ReadStep};
 use nesting::{Attempt, Saved};
 use std::alloc::{AllocError, Allocator};
 use std::marker::Model;
@@ -104,12 +104,19 @@ impl<A: Allocator + Copy> Steps<A> {
         self.logs.aside()
     }
 
-    // Whether a read of this cell loads its word and then the lock.
+    // How a read of this cell is made next, where it is known to stand at an operation without the lock.
     #[inline(always)]
-    pub(crate) fn loads_both(&self, cell: u32) -> bool
-        ensures { result ≡ true → (self.now.begun ≡ true) × LoadsBoth self.now.attempt cell }
+    pub(crate) fn reading(&self, cell: u32) -> ReadStep
+        ensures written { (word : ℕ) → result ≡ ReadStep.Written word → (self.now.begun ≡ true) × IsWritten self.now.attempt cell word }
+        ensures loads { result ≡ ReadStep.Loads → (self.now.begun ≡ true) × LoadsBoth self.now.attempt cell }
     {
-        self.plain && self.logs.written(cell).is_none()
+        if !self.plain {
+            return ReadStep::Other;
+        }
+        match self.logs.written(cell) {
+            Some(word) => ReadStep::Written(word),
+            None => ReadStep::Loads,
+        }
     }
 
     // Makes room for a read's entry: whether there is.

@@ -229,6 +229,17 @@ module _ {S : Type 0} (now : S) (a : Attempt S) (w : GivesWords a) where
   phase (Stores i) op.Irrevocable z e g h = stays op.Irrevocable
   phase (Stores i) op.Release z e g h = stays op.Release
 
+-- a word that a read has is a word
+pub reads_word : {S : Type 0} (now : S) (old : List S) (o : Op) (n : CoreStep S) (v : ℕ) → Does now old o n → n.outcome ≡ outcome.Read v → v < 2 ^ 32
+reads_word now old o n v (reads w r lt e f b g) h = let same : w ≡ v = cc in subst (λ x. x < 2 ^ 32) same lt
+reads_word now old o n v (goes e f b g) h = absurd (cc)
+reads_word now old o n v (works r e f b g) h = absurd (cc)
+reads_word now old o n v (begins r e f b g) h = absurd (cc)
+reads_word now old o n v (commits s r e f b g d) h = absurd (cc)
+reads_word now old o n v (cancels inner s r e f b g) h = absurd (cc)
+reads_word now old o n v (drops inner s e f b a) h = absurd (cc)
+reads_word now old o n v (releases r e f a) h = absurd (cc)
+
 -- outside transactions
 module _ {S : Type 0} (now : S) where
   still : (o : Op) → Does now [] o idle

@@ -1,5 +1,6 @@
 -- The attempt of a core as the code of its steps sees it, and what that code keeps true.
 use Rattle.std.specs.Prelude.{◌≡◌, ◌+◌, ◌^◌, ◌%◌, ◌<◌, ◌≤◌, ℕ, Bool, true, false, Option, None, Some, IfSome, if◌then◌else◌}
+use Rattle.write_log.specs.Overlay.{written}
 use Rattle.nesting.specs.Begins.{Saved}
 use Rattle.nesting.specs.Nests.{Nest}
 use Rattle.norec_core.specs.declared.step.Op.{Op}
@@ -71,6 +72,11 @@ asked_of true op = Some op
 abbrev pub IsPrepared : Option Op → Run → Type 0
 IsPrepared None r = Unit {0}
 IsPrepared (Some op) r = HasRoom op r × (stops (core_access (attempt_of r) op) ≡ false)
+
+-- the attempt stands at an operation, and has written this word to the cell
+pub record IsWritten (a : Attempt Saved) (cell word : ℕ) : Type 0 where
+  pub phase : a.phase ≡ AtOperation
+  pub has : written cell a.writes ≡ Some word
 
 -- the lock, kept or taken, has a value left for its release
 abbrev pub CanRelease : ℕ → Type 0
