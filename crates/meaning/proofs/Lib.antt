@@ -16,3 +16,7 @@ pub mod Symbols
 pub mod Memories
 pub mod Turns
 pub mod Figures
+pub mod Framed
+pub mod FramedSteps
+pub mod Going
+pub mod GoesOn

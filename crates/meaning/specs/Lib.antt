@@ -2,5 +2,7 @@
 pub mod Outcomes
 -- threads in an order
 pub mod InOrder
+-- what stands round a run
+pub mod Frames
 -- what private functions say
 pub mod inner

@@ -18,3 +18,5 @@ pub mod Printing
 pub mod Seen
 -- threads that take turns
 pub mod Turns
+-- what a thread has still to do
+pub mod Going

@@ -7,6 +7,7 @@
 mod arithmetic;
 mod calls;
 mod expr;
+pub mod laws;
 mod loops;
 mod machine;
 mod memory;
