@@ -13,3 +13,5 @@ mod Faulty
 mod Deeper
 -- the code of a whole program
 mod Whole
+-- the locals of parameters
+mod Parameters

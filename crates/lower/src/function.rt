@@ -22,6 +22,19 @@ use picked::held::Exits;
 use std::alloc::{AllocError, Allocator};
 use syntax::tree::{Function, Parameter, Stmt};
 
+/// Declares a parameter, where it has a name.
+fn declare_parameter<'p, A: Allocator + Copy>(
+    scope: &mut Scope<'p, A>,
+    parameter: &'p Parameter<A>,
+) -> Result<(), AllocError>
+    ensures { OnOk result (scope_in scope.new ≡ scope_in scope.old ++ parameter_locals (parameter_of parameter.now ∷ [])) }
+{
+    match &parameter.name {
+        Some(x) => scope.declare(x.text.as_str(), parameter.of),
+        None => Ok(()),
+    }
+}
+
 /// The locals that a function begins with: its parameters, where they have names.
 fn parameter_locals<'p, A: Allocator + Copy>(
     names: &Names<'p, A>,
@@ -31,10 +44,7 @@ fn parameter_locals<'p, A: Allocator + Copy>(
 {
     let mut scope = Scope::new(names);
     'each: for parameter in parameters {
-        match &parameter.name {
-            Some(x) => scope.declare(x.text.as_str(), parameter.of)?,
-            None => {}
-        }
+        declare_parameter(&mut scope, parameter)?;
     }
     Ok(scope)
 }
