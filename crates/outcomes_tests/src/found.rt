@@ -87,12 +87,12 @@ fn rows() -> &'static [Row] {
 }
 
 // Whether the first cell of an outcome holds this.
-fn begins_with(one: &Listed, cell: u64) -> bool {
+fn begins_with<A: Allocator>(one: &Listed<A>, cell: u64) -> bool {
     one.memory.first().copied() == Some(cell)
 }
 
 // Whether one of these outcomes has the cell.
-fn have(listed: &[Listed], cell: Option<u64>) -> bool {
+fn have<A: Allocator>(listed: &[Listed<A>], cell: Option<u64>) -> bool {
     match cell {
         Some(cell) => listed.iter().any(|one| begins_with(one, cell)),
         None => listed.is_empty(),
@@ -100,7 +100,7 @@ fn have(listed: &[Listed], cell: Option<u64>) -> bool {
 }
 
 // Whether these are the outcomes that a row tells.
-fn are_so(found: &Outcomes, row: &Row) -> bool {
+fn are_so<A: Allocator>(found: &Outcomes<A>, row: &Row) -> bool {
     found.listed.len() == row.4
         && found.orders == row.5
         && found.is_whole == row.6
@@ -122,11 +122,11 @@ fn same_memory(wide: &[u64], narrow: &[u32]) -> bool {
 }
 
 // Whether two threads have printed the same and end alike.
-fn same_report(a: &ThreadReport, b: &ThreadReport) -> bool {
+fn same_report<A: Allocator>(a: &ThreadReport<A>, b: &ThreadReport<A>) -> bool {
     a.text.as_slice() == b.text.as_slice() && a.end == b.end
 }
 
-fn same_reports(a: &[ThreadReport], b: &[ThreadReport]) -> bool {
+fn same_reports<A: Allocator>(a: &[ThreadReport<A>], b: &[ThreadReport<A>]) -> bool {
     if a.len() != b.len() {
         return false;
     }
@@ -138,20 +138,30 @@ fn same_reports(a: &[ThreadReport], b: &[ThreadReport]) -> bool {
     true
 }
 
-fn same_outcome(one: &Listed, ran: &SourceOutcome) -> bool {
+fn same_outcome<A: Allocator>(one: &Listed<A>, ran: &SourceOutcome<A>) -> bool {
     same_memory(one.memory.as_slice(), ran.memory.as_slice())
         && same_reports(one.threads.as_slice(), ran.threads.as_slice())
 }
 
 // Whether an order gives the outcome that it is listed with.
-fn is_given(alloc: Global, accepted: &Accepted, one: &Listed, row: &Row) -> bool {
+fn is_given<A: Allocator + Copy>(
+    alloc: A,
+    accepted: &Accepted<A>,
+    one: &Listed<A>,
+    row: &Row,
+) -> bool {
     match run_order(alloc, accepted, row.1, one.order.as_slice(), row.2) {
         Ok(ran) => same_outcome(one, &ran),
         Err(_) => false,
     }
 }
 
-fn are_given(alloc: Global, accepted: &Accepted, found: &Outcomes, row: &Row) -> bool {
+fn are_given<A: Allocator + Copy>(
+    alloc: A,
+    accepted: &Accepted<A>,
+    found: &Outcomes<A>,
+    row: &Row,
+) -> bool {
     for one in &found.listed {
         if !is_given(alloc, accepted, one, row) {
             return false;
@@ -160,39 +170,49 @@ fn are_given(alloc: Global, accepted: &Accepted, found: &Outcomes, row: &Row) ->
     true
 }
 
-fn finds(alloc: Global, accepted: &Accepted, row: &Row) -> bool {
-    let mut told = Vec::new(alloc);
+fn finds<A: Allocator + Copy>(alloc: A, inner: Global, accepted: &Accepted<A>, row: &Row) -> bool {
+    let mut told = Vec::new(inner);
     match outcomes_of(alloc, accepted, row.1, row.2, row.3, true, &mut told) {
         Ok(found) => are_so(&found, row) && are_given(alloc, accepted, &found, row),
         Err(_) => false,
     }
 }
 
-fn is_so(alloc: Global, row: &Row) -> bool {
+fn is_so<A: Allocator + Copy>(alloc: A, inner: Global, row: &Row) -> bool {
     match accepted_of(alloc, row.0) {
-        Some(accepted) => finds(alloc, &accepted, row),
+        Some(accepted) => finds(alloc, inner, &accepted, row),
         None => false,
     }
 }
 
 // The text and the threads of the first row that is not so.
-fn first_other(alloc: Global, rows: &[Row]) -> Option<(&'static str, u32, usize)> {
+fn first_other<A: Allocator + Copy>(
+    alloc: A,
+    inner: Global,
+    rows: &[Row],
+) -> Option<(&'static str, u32, usize)> {
     for row in rows {
-        if !is_so(alloc, row) {
+        if !is_so(alloc, inner, row) {
             return Some((row.0, row.1, row.3));
         }
     }
     None
 }
 
+// The same over an allocator that refuses nothing. The prover has less to look through in one that is lent.
+fn first_other_of_all(inner: Global) -> Option<(&'static str, u32, usize)> {
+    let alloc = Refusing::new(inner, 0);
+    first_other(&alloc, inner, rows())
+}
+
 #[test]
 fn outcomes_are_listed(rt: HostRuntime) {
-    assert_eq!(rt; first_other(rt.alloc(), rows()), None);
+    assert_eq!(rt; first_other_of_all(rt.alloc()), None);
 }
 
 // The number of the fault of so many threads.
-fn fault_of(alloc: Global, threads: u32) -> Option<u32> {
-    let mut told = Vec::new(alloc);
+fn fault_in<A: Allocator + Copy>(alloc: A, inner: Global, threads: u32) -> Option<u32> {
+    let mut told = Vec::new(inner);
     match accepted_of(alloc, ADDS) {
         Some(accepted) => {
             match outcomes_of(alloc, &accepted, threads, 100, 10, false, &mut told) {
@@ -202,6 +222,12 @@ fn fault_of(alloc: Global, threads: u32) -> Option<u32> {
         }
         None => None,
     }
+}
+
+// The same over an allocator that refuses nothing.
+fn fault_of(inner: Global, threads: u32) -> Option<u32> {
+    let alloc = Refusing::new(inner, 0);
+    fault_in(&alloc, inner, threads)
 }
 
 #[test]
