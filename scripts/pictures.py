@@ -9,7 +9,7 @@ scripts/quick_build.py will do. Of each picture it is shown that
 
   - it is XML;
   - its marks are titled by the lines of the timeline that have one: accesses, what happens, begins, ends and prints, up to access 400;
-  - it has an arrow for each abort;
+  - it has an arrow for each abort, titled by the accesses of the last store to the word that had changed and of the load that found it;
   - where all threads are over and nothing is cut off, the order at its foot, given to `txc source --order`, leaves what the replay left.
 """
 
@@ -25,6 +25,8 @@ SVG = "{http://www.w3.org/2000/svg}"
 MOST = 400
 LINE = re.compile(r"(\d+) (\d+) (.*)")
 MARKED = re.compile(r"; |^\d+ (begin|commit|print)")
+STORED = re.compile(r"; store (@\d+) = ")
+LOADED = re.compile(r"; load (@\d+) = ")
 IN_ORDER = re.compile(r"T(\d+) \((\d+)\)")
 # Each picture of the documents, and what draws it.
 SHOWN = {
@@ -49,6 +51,17 @@ def marked(timeline):
             yield line
 
 
+def arrows_of(timeline):
+    """The titles of the arrows: for each abort, up to the last access that is drawn, the last store to its word and its load."""
+    stored = {}
+    for line in timeline.splitlines()[1:]:
+        accesses, _, said = LINE.fullmatch(line).groups()
+        if store := STORED.search(said):
+            stored[store[1]] = accesses
+        if said.endswith("; abort") and int(accesses) <= MOST:
+            yield f"access {stored[LOADED.search(said)[1]]}, then access {accesses}"
+
+
 def order_at_foot(root):
     """The threads of the order at the foot of a picture."""
     texts = ["".join(it.itertext()) for it in root.iter(f"{SVG}text")]
@@ -71,13 +84,14 @@ def differs(txc, file, words):
         root = xml.fromstring(drawn)
     except xml.ParseError as why:
         return f"is not XML: {why}"
-    titles = [it.text for it in root.iter(f"{SVG}title") if it.get("id") is None]
+    titled = [it for it in root.iter(f"{SVG}g") if it.find(f"{SVG}title") is not None]
+    arrows = [it.find(f"{SVG}title").text for it in titled if it.find(f"{SVG}polyline[@class='why']") is not None]
+    titles = [it.find(f"{SVG}title").text for it in titled if it.find(f"{SVG}polyline[@class='why']") is None]
     lines = list(marked(timeline))
     if titles != lines:
         return "has other marks than the timeline"
-    arrows = [it for it in root.iter(f"{SVG}polyline") if it.get("class") == "why"]
-    if len(arrows) != sum(line.endswith("; abort") for line in lines):
-        return "has not an arrow for each abort"
+    if arrows != list(arrows_of(timeline)):
+        return "has not an arrow for each abort, from the last store to its word"
     cut = int(timeline.splitlines()[-1].split()[0]) > MOST
     if not cut and ": running" not in report and ": stop" not in report:
         threads = words[words.index("--threads") + 1]
