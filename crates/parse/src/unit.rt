@@ -15,8 +15,9 @@ use crate::fault::{Failure, ParseFault};
 use crate::functions::{Heading, function, header};
 use crate::globals::globals;
 use containers::Items;
-use lex::token::{Fixed, Punctuator, Span, Token};
+use lex::token::{Fixed, Kind, Punctuator, Span, Token};
 use std::alloc::Allocator;
+use std::hash::{DefaultHasher, Hash, Hasher};
 use syntax::tree::{Item, Unit};
 
 /// How deep a program may be.
@@ -91,6 +92,18 @@ fn end_of(tokens: &[Token]) -> usize
     }
 }
 
+/// The hash of all names among the tokens, in order: so no name can be chosen for the key that it will have a part in.
+fn key_of(tokens: &[Token]) -> u64 {
+    let mut hasher = DefaultHasher::new();
+    'each: for token in tokens {
+        match token.kind {
+            Kind::Name(name) => name.hash(&mut hasher),
+            _ => {}
+        }
+    }
+    hasher.finish()
+}
+
 /// The program that the tokens spell, all of them.
 ///
 /// The tree owns its names: it outlives the tokens and their text. Only a refused growth can stop it where the tokens
@@ -110,6 +123,7 @@ pub fn parse<A: Allocator + Copy>(alloc: A, tokens: &[Token<'_>]) -> Result<Unit
         Ok(items) => Ok(Unit {
             items,
             end: end_of(tokens),
+            key: key_of(tokens),
         }),
         Err(Failure::Memory) => Err(ParseFault::OutOfMemory),
         Err(Failure::Wrong([])) => {

@@ -14,7 +14,7 @@ use types::Typed;
 pub fn safe<A: Allocator + Copy>(alloc: A, typed: Typed<A>) -> Result<Safe<A>, SafetyFault<A>>
     ensures { Checks typed result }
 {
-    match fault_of(alloc, 0, typed.unit().items.as_slice()) {
+    match fault_of(alloc, typed.unit().key, typed.unit().items.as_slice()) {
         Ok(None) => Ok(Safe { typed }),
         Ok(Some(violation)) => Err(SafetyFault::Unsafe(typed, violation)),
         Err(_) => Err(SafetyFault::OutOfMemory(typed)),

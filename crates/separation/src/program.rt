@@ -18,7 +18,11 @@ pub fn accept<A: Allocator + Copy>(
 ) -> Result<Accepted<A>, SeparationFault<A>>
     ensures { Checks safe result }
 {
-    match fault_of(alloc, 0, safe.typed().unit().items.as_slice()) {
+    match fault_of(
+        alloc,
+        safe.typed().unit().key,
+        safe.typed().unit().items.as_slice(),
+    ) {
         Ok(None) => Ok(Accepted { safe }),
         Ok(Some(violation)) => Err(SeparationFault::NotSeparate(safe, violation)),
         Err(_) => Err(SeparationFault::OutOfMemory(safe)),

@@ -34,7 +34,7 @@ pub lower_all-each-preserved : goal.lower_all-each-preserved
 lower_all-each-preserved g t c = record {
   code = next_code (program_in c.args.names.now) (scope_in c.args.scope.now) c.args.all.now c.each.one-index c.each.to c.each.later (lists_of c.each.lists) c.one-item.result _ _ _ _ _ _ c.each-test.true c.one-item.is c.in_ok-held.ensures.code c.in_ok-held.ensures.lists c.in_ok-held.ensures.held c.above-later.ensures c.each.invariant.code;
   lists = next_lists (program_in c.args.names.now) (scope_in c.args.scope.now) c.args.all.now c.each.one-index c.each.to c.each.later (lists_of c.each.lists) c.one-item.result _ _ _ _ c.each-test.true c.one-item.is c.in_ok-held.ensures.lists c.in_ok-held.ensures.held c.above-later.ensures c.each.invariant.lists;
-  registers = next_registers (program_in c.args.names.now) (scope_in c.args.scope.now) c.args.all.now c.each.one-index c.each.to c.each.later (lists_of c.each.lists) c.one-item.result _ _ _ _ _ _ c.each-test.true c.one-item.is c.in_ok-push.ensures c.in_ok-held.ensures.lists c.in_ok-held.ensures.held c.above-later.ensures c.each.invariant.registers;
+  registers = next_registers (program_in c.args.names.now) (scope_in c.args.scope.now) c.args.all.now c.each.one-index c.each.to c.each.later (lists_of c.each.lists) c.one-item.result _ _ _ _ _ _ c.each-test.true c.one-item.is c.in_ok-add_operand.ensures c.in_ok-held.ensures.lists c.in_ok-held.ensures.held c.above-later.ensures c.each.invariant.registers;
   place = next_place (program_in c.args.names.now) (scope_in c.args.scope.now) c.args.all.now c.each.one-index c.each.to c.each.later (lists_of c.each.lists) c.one-item.result _ _ _ _ c.each-test.true c.one-item.is c.in_ok-held.ensures.lists c.in_ok-held.ensures.held c.above-later.ensures c.each.invariant.place;
 }
 
@@ -74,25 +74,25 @@ lower_condition-returns-in_ok-next-in-Logical g t c =
 pub lower_call-returns-clause-code : goal.lower_call-returns-clause-code
 lower_call-returns-clause-code g t c =
     subst (λ z. OnOk c.put_call.result (c.put_call.new.code.items ≡ z))
-    (called_code (callee_in c.args.f) (all_emitted (program_in c.args.names.now) (scope_in c.args.scope.now) (exprs_of c.args.all.now) c.args.from c.args.free (lists_of c.args.lists.now)) c.args.from c.args.into (lists_of c.args.lists.now) (lists_of c.lower_all.new.lists) c.args.registers.now.items c.lower_all.new.registers.items c.as_slice.result.now c.in_ok-to.ensures.lists c.requires c.in_ok-to.ensures.registers c.as_slice.ensures.value c.args.code.now.items c.lower_all.new.code.items c.in_ok-to.ensures.code)
+    (called_code (callee_in c.args.f) (all_emitted (program_in c.args.names.now) (scope_in c.args.scope.now) (exprs_of c.args.all.now) c.args.from c.args.free (lists_of c.args.lists.now)) c.args.from c.args.into (lists_of c.args.lists.now) (lists_of c.lower_all.new.lists) c.args.registers.now.items c.lower_all.new.registers.items c.as_slice.result.now c.in_ok-to.ensures.lists c.requires c.in_ok-to.ensures.registers c.as_slice.ensures c.args.code.now.items c.lower_all.new.code.items c.in_ok-to.ensures.code)
     c.put_call.ensures.code
 
 pub lower_call-returns-clause-lists : goal.lower_call-returns-clause-lists
 lower_call-returns-clause-lists g t c =
     subst (λ z. OnOk c.put_call.result (lists_of c.put_call.new.lists ≡ z))
-    (called_lists (callee_in c.args.f) (all_emitted (program_in c.args.names.now) (scope_in c.args.scope.now) (exprs_of c.args.all.now) c.args.from c.args.free (lists_of c.args.lists.now)) c.args.from c.args.into (lists_of c.args.lists.now) (lists_of c.lower_all.new.lists) c.args.registers.now.items c.lower_all.new.registers.items c.as_slice.result.now c.in_ok-to.ensures.lists c.requires c.in_ok-to.ensures.registers c.as_slice.ensures.value)
+    (called_lists (callee_in c.args.f) (all_emitted (program_in c.args.names.now) (scope_in c.args.scope.now) (exprs_of c.args.all.now) c.args.from c.args.free (lists_of c.args.lists.now)) c.args.from c.args.into (lists_of c.args.lists.now) (lists_of c.lower_all.new.lists) c.args.registers.now.items c.lower_all.new.registers.items c.as_slice.result.now c.in_ok-to.ensures.lists c.requires c.in_ok-to.ensures.registers c.as_slice.ensures)
     c.put_call.ensures.lists
 
 pub lower_call-returns-clause-held : goal.lower_call-returns-clause-held
 lower_call-returns-clause-held g t c =
     subst (λ z. IfOk c.put_call.result (λ held. held ≡ z))
-    (called_held (callee_in c.args.f) (all_emitted (program_in c.args.names.now) (scope_in c.args.scope.now) (exprs_of c.args.all.now) c.args.from c.args.free (lists_of c.args.lists.now)) c.args.from c.args.into (lists_of c.args.lists.now) (lists_of c.lower_all.new.lists) c.args.registers.now.items c.lower_all.new.registers.items c.as_slice.result.now c.in_ok-to.ensures.lists c.requires c.in_ok-to.ensures.registers c.as_slice.ensures.value c.in_ok-to.to c.in_ok-to.ensures.place)
+    (called_held (callee_in c.args.f) (all_emitted (program_in c.args.names.now) (scope_in c.args.scope.now) (exprs_of c.args.all.now) c.args.from c.args.free (lists_of c.args.lists.now)) c.args.from c.args.into (lists_of c.args.lists.now) (lists_of c.lower_all.new.lists) c.args.registers.now.items c.lower_all.new.registers.items c.as_slice.result.now c.in_ok-to.ensures.lists c.requires c.in_ok-to.ensures.registers c.as_slice.ensures c.in_ok-to.to c.in_ok-to.ensures.place)
     c.put_call.ensures.held
 
 pub lower_call-returns-clause-fails : goal.lower_call-returns-clause-fails
 lower_call-returns-clause-fails g t c =
     subst (λ (z : Lists). IfErr c.put_call.result (λ why. NeedsMore why z.registers))
-    (called_lists (callee_in c.args.f) (all_emitted (program_in c.args.names.now) (scope_in c.args.scope.now) (exprs_of c.args.all.now) c.args.from c.args.free (lists_of c.args.lists.now)) c.args.from c.args.into (lists_of c.args.lists.now) (lists_of c.lower_all.new.lists) c.args.registers.now.items c.lower_all.new.registers.items c.as_slice.result.now c.in_ok-to.ensures.lists c.requires c.in_ok-to.ensures.registers c.as_slice.ensures.value)
+    (called_lists (callee_in c.args.f) (all_emitted (program_in c.args.names.now) (scope_in c.args.scope.now) (exprs_of c.args.all.now) c.args.from c.args.free (lists_of c.args.lists.now)) c.args.from c.args.into (lists_of c.args.lists.now) (lists_of c.lower_all.new.lists) c.args.registers.now.items c.lower_all.new.registers.items c.as_slice.result.now c.in_ok-to.ensures.lists c.requires c.in_ok-to.ensures.registers c.as_slice.ensures)
     c.put_call.ensures.fails
 
 pub lower_call-returns-in_err-to-clause-fails : goal.lower_call-returns-in_err-to-clause-fails
@@ -167,7 +167,7 @@ pub lower_expr-lower_call-requires : goal.lower_expr-lower_call-requires
 lower_expr-lower_call-requires g t c κs within =
     let size = simp the_lemmas at (ap (the_size g.row.A g.A.Allocator g.A.laws) c.in-Call.is) in
     let here = ap (most (the_size g.row.A g.A.Allocator g.A.laws)) c.as_slice-all.ensures in
-    (omega (arith, size, here, c.decreases), (within, c.new-registers.ensures.items))
+    (omega (arith, size, here, c.decreases), (within, (omega arith, c.new-registers.ensures.items)))
 
 pub lower_expr-lower_expr-requires : goal.lower_expr-lower_expr-requires
 lower_expr-lower_expr-requires g t c κs within =
@@ -243,7 +243,7 @@ pub lower_operand-lower_expr-requires : goal.lower_operand-lower_expr-requires
 lower_operand-lower_expr-requires g t c κs within = (omega (arith, c.decreases), within)
 
 pub lower_call-lower_all-requires : goal.lower_call-lower_all-requires
-lower_call-lower_all-requires g t c κs within = (omega (arith, c.decreases), within)
+lower_call-lower_all-requires g t c κs within = (omega (arith, c.decreases), (within, omega arith))
 
 pub lower_settled-lower_expr-requires : goal.lower_settled-lower_expr-requires
 lower_settled-lower_expr-requires g t c κs within = (omega (arith, c.decreases), within)
