@@ -3,7 +3,7 @@
 
 use command::{Request, UsageFault, command};
 use serving::serve;
-use std::alloc::Global;
+use std::alloc::{AllocError, Global};
 use std::io;
 use std::io::{ErrorKind, Read};
 use std::sync::Wait;
@@ -94,11 +94,57 @@ pub fn answers<H: Threads + Wait + Sync>(
     }
 }
 
-/// The number, from 0, of the first of these rows that is answered otherwise.
-pub fn wrong_row<H: Threads + Wait + Sync>(rt: &H, alloc: Global, rows: &[Row]) -> Option<usize> {
+/// A row that is answered otherwise than it says: its number, from 0, its command line, and what was answered in
+/// place of what.
+#[derive(Debug, Drop, PartialEq)]
+pub struct Otherwise {
+    pub row: usize,
+    pub line: &'static str,
+    pub answered: Option<String>,
+    pub wanted: Option<String>,
+}
+
+// What is answered, in a line of text.
+fn shown(alloc: Global, answer: Answer) -> Result<String, AllocError> {
+    let (status, out, err) = answer;
+    let out = String::from_utf8_lossy(alloc, out)?;
+    let err = String::from_utf8_lossy(alloc, err)?;
+    format!(in alloc;
+        "status {status}, output {:?}, errors {:?}",
+        out.as_str(),
+        err.as_str()
+    )
+}
+
+// A row in place of whose answer this was served, or nothing, since its words are wrong.
+fn otherwise(alloc: Global, row: usize, rows: &[Row], served: Option<Served>) -> Option<Otherwise> {
+    let (line, _, _, wanted) = rows.get(row)?;
+    let answered = match served {
+        Some(served) => {
+            let answer = (served.status, served.out.as_slice(), served.err.as_slice());
+            shown(alloc, answer).ok()
+        }
+        None => None,
+    };
+    Some(Otherwise {
+        row,
+        line: *line,
+        answered,
+        wanted: shown(alloc, *wanted).ok(),
+    })
+}
+
+/// The first of these rows that is answered otherwise.
+pub fn first_otherwise<H: Threads + Wait + Sync>(
+    rt: &H,
+    alloc: Global,
+    rows: &[Row],
+) -> Option<Otherwise> {
     for (number, (line, source, schedule, wanted)) in rows.iter().enumerate() {
-        if !answers(rt, alloc, line, source, schedule, false, *wanted) {
-            return Some(number);
+        let served = serve_line(rt, alloc, line, source, schedule, false);
+        match served {
+            Some(served) if is_answer(&served, *wanted) => {}
+            served => return otherwise(alloc, number, rows, served),
         }
     }
     None

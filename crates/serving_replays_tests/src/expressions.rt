@@ -1,6 +1,6 @@
 //! Replays of transactions that are expressions.
 
-use serving_in_memory::{Row, wrong_row};
+use serving_in_memory::{Row, first_otherwise};
 
 /// The rows stand in a function, so that no proof but its own looks at them.
 fn schedules() -> &'static [Row] {
@@ -139,5 +139,5 @@ fn schedules() -> &'static [Row] {
 
 #[test]
 fn replays_expressions(rt: HostRuntime) {
-    assert_eq!(rt; wrong_row(&rt, rt.alloc(), schedules()), None);
+    assert_eq!(rt; first_otherwise(&rt, rt.alloc(), schedules()), None);
 }

@@ -6,8 +6,8 @@ use replay::{Line, read_schedule};
 use report::{Printed, report_text};
 use serving::{Compiled, Replayed, compile, lines_shown, replay_code};
 use serving_in_memory::{
-    ADDS, Answer, Broken, Row, Served, answers, is_answer, request_of, serve_bytes, serve_line,
-    wrong_row,
+    ADDS, Answer, Broken, Row, Served, answers, first_otherwise, is_answer, request_of,
+    serve_bytes, serve_line,
 };
 use std::alloc::{AllocError, Allocator, Global};
 use std::str;
@@ -227,7 +227,7 @@ fn schedules() -> &'static [Row] {
 
 #[test]
 fn replays_schedules(rt: HostRuntime) {
-    assert_eq!(rt; wrong_row(&rt, rt.alloc(), schedules()), None);
+    assert_eq!(rt; first_otherwise(&rt, rt.alloc(), schedules()), None);
 }
 
 /// A schedule that is refused, what is told of it, and what follows on a terminal.
@@ -438,7 +438,7 @@ fn printed_schedules() -> &'static [Row] {
 
 #[test]
 fn prints_schedules(rt: HostRuntime) {
-    assert_eq!(rt; wrong_row(&rt, rt.alloc(), printed_schedules()), None);
+    assert_eq!(rt; first_otherwise(&rt, rt.alloc(), printed_schedules()), None);
 }
 
 // Whether the steps of a seed, which one line replays and the other prints as a schedule, are read back to the same report.
@@ -524,15 +524,34 @@ fn push_order(line: &mut String, report: &str) -> Result<(), AllocError> {
     Ok(())
 }
 
+// What a report says that a thread has printed, behind the line that begins so.
+fn text_of<'a>(report: &'a str, begins: &str) -> Option<&'a str> {
+    let (_, line) = report.split_once(begins)?;
+    let (_, behind) = line.split_once('\n')?;
+    let (text, _) = behind.split_once("== ")?;
+    Some(text.strip_suffix("\n").unwrap_or(text))
+}
+
+// Whether the text of one thread in a replay begins that in a run of the source.
+fn is_begun(replayed: &str, ran: &str, begins: &str) -> bool {
+    match (text_of(replayed, begins), text_of(ran, begins)) {
+        (Some(text), Some(whole)) => whole.starts_with(text),
+        _ => false,
+    }
+}
+
 // Whether a run of the source leaves what a replay does, if that tells it, and each thread's text there begins the one here.
 fn agrees(replayed: &str, ran: &str) -> bool {
     let Some((_, left)) = replayed.split_once("== memory\n") else {
         return true;
     };
-    let texts = replayed.lines().filter(|line| line.starts_with("0 "));
-    let others = ran.lines().filter(|line| line.starts_with("0 "));
-    for (text, other) in texts.zip(others) {
-        if !other.starts_with(text) {
+    for begins in [
+        "== thread 0: ",
+        "== thread 1: ",
+        "== thread 2: ",
+        "== thread 3: ",
+    ] {
+        if !is_begun(replayed, ran, begins) {
             return false;
         }
     }
@@ -574,7 +593,7 @@ fn runs_as_replayed<H: Threads + Wait + Sync>(rt: &H, alloc: Global, line: &str)
 
 // The same of the steps of a seed.
 fn runs_as_seeded<H: Threads + Wait + Sync>(rt: &H, alloc: Global, seed: u32) -> bool {
-    match format!(in alloc; "txc replay a.c --threads=4 --seed={seed}") {
+    match format!(in alloc; "txc replay a.c --threads=4 --seed={seed} --steps=100000") {
         Ok(line) => runs_as_replayed(rt, alloc, line.as_str()),
         Err(_) => false,
     }

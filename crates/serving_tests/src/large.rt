@@ -11,7 +11,7 @@ type Pieces = &'static [(&'static str, usize)];
 
 /// Texts in pieces, and what `txc check` answers to them.
 fn checks() -> &'static [(Pieces, Answer<'static>)] {
-    static ROWS: [(Pieces, Answer<'static>); 12] = [
+    static ROWS: [(Pieces, Answer<'static>); 14] = [
         // as many tokens as a text can have
         (
             &[(";", 1_048_575), (" ", 1)],
@@ -48,6 +48,14 @@ fn checks() -> &'static [(Pieces, Answer<'static>)] {
                 ),
                 (" ", 1_048_509),
             ],
+            (1, b"", b"txc: fault 05 at 1:1: file too long\n"),
+        ),
+        (
+            &[("void worker(int self) { }", 1), (" ", 1_048_551)],
+            (0, b"accepted\n", b""),
+        ),
+        (
+            &[("void worker(int self) { }", 1), (" ", 1_048_552)],
             (1, b"", b"txc: fault 05 at 1:1: file too long\n"),
         ),
         // the deepest, and one more

@@ -11,3 +11,5 @@ mod opened;
 mod refusals;
 #[cfg(test)]
 mod served;
+#[cfg(test)]
+mod worked;

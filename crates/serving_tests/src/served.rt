@@ -7,7 +7,7 @@ use serving::{
     Detail, OrderFault, list_source, not_read as tell_unread, run_in_order, serve, tell_usage,
 };
 use serving_in_memory::{
-    ADDS, Answer, Broken, Row, answers, is_answer, request_of, serve_bytes, wrong_row,
+    ADDS, Answer, Broken, Row, answers, first_otherwise, is_answer, request_of, serve_bytes,
 };
 use std::alloc::{Allocator, Global};
 use std::fs::File;
@@ -176,7 +176,7 @@ fn sources() -> &'static [Row] {
 
 #[test]
 fn serves_sources(rt: HostRuntime) {
-    assert_eq!(rt; wrong_row(&rt, rt.alloc(), sources()), None);
+    assert_eq!(rt; first_otherwise(&rt, rt.alloc(), sources()), None);
 }
 
 fn checked() -> &'static [Row] {
@@ -204,7 +204,7 @@ fn checked() -> &'static [Row] {
 
 #[test]
 fn says_what_is_accepted(rt: HostRuntime) {
-    assert_eq!(rt; wrong_row(&rt, rt.alloc(), checked()), None);
+    assert_eq!(rt; first_otherwise(&rt, rt.alloc(), checked()), None);
 }
 
 /// A transaction that never ends.
@@ -309,7 +309,7 @@ fn orders() -> &'static [Row] {
 
 #[test]
 fn serves_threads_in_an_order(rt: HostRuntime) {
-    assert_eq!(rt; wrong_row(&rt, rt.alloc(), orders()), None);
+    assert_eq!(rt; first_otherwise(&rt, rt.alloc(), orders()), None);
 }
 
 // Whether why words are refused is told so: with this status, output that begins so and this standard error.
@@ -545,7 +545,7 @@ fn at_once() -> &'static [Row] {
 /// Threads that run at once: the sum of what all of them add, whatever their order.
 #[test]
 fn serves_threads_at_once(rt: HostRuntime) {
-    assert_eq!(rt; wrong_row(&rt, rt.alloc(), at_once()), None);
+    assert_eq!(rt; first_otherwise(&rt, rt.alloc(), at_once()), None);
 }
 
 /// Threads that each write a cell of their own, of which the last one prints.

@@ -4,6 +4,7 @@ ghost use Rattle.std.specs.Prelude.{◌≡◌, ◌+◌, ◌^◌, ◌<◌, ◌≤
 ghost use Rattle.syntax.specs.Behaviours.{Behaviour, Means};
 ghost use Rattle.bytecode.specs.Valid.{bounds_of};
 ghost use Rattle.seats.specs.Saying.{code_does};
+ghost use Rattle.workers.specs.Seen.{number_of, setup_of, table_of};
 ghost use Rattle.workers.specs.Workers.{IsWorkerOf, AreWorkersOf, StepsOn};
 ghost use Rattle.workers.specs.Driving.{AreDrivenOf, AreFresh, AreEnded, AllPromise, EndsAt, IsNumbered, IsRunRefused, IsThreadCount, Ran, TellsMemory, run_number, worker_number, driven_number, handle_number};
 
@@ -137,7 +138,7 @@ pub struct OfHall<'a, A: Allocator = Global> {
 }
 
 impl<'a> Promise<Driven> for OfHall<'a> {
-    ghost kept_by = { λ p r. IsWorkerOf p.hall.now.table.shared.table_id p.hall.now.setup r.worker × EndsAt p.hall.now.setup p.budget r.stopped r.worker × (r.worker.number ≡ p.number) };
+    ghost kept_by = { λ p r. IsWorkerOf (table_of p.hall.now) (setup_of p.hall.now) r.worker × EndsAt (setup_of p.hall.now) p.budget r.stopped r.worker × (number_of r.worker ≡ p.number) };
 }
 
 // Starts a thread for each worker, and joins them.
