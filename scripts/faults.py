@@ -5,10 +5,12 @@
   scripts/faults.py --write   writes crates/faults/src/explanations.rt, which is what `txc explain` prints, from the page
 
 Each example of the page's first table has to stand in crates/serving_tests/src/refusals.rt, with the same number, place and words,
-in TOLD or LONG; each number of the page has the words of crates/faults/src/table.rt. Prints what differs, and ends in status 1
-where something does.
+in TOLD or LONG; each number of the page has the words of crates/faults/src/table.rt, and so has each variant of a type of faults
+(`#[error("..")]`) for its number; one of a type without numbers has the words of some number. Prints what differs, and ends in
+status 1 where something does.
 """
 
+import glob
 import os
 import re
 import sys
@@ -106,6 +108,21 @@ pub fn explanation(number: u32) -> Option<&'static str> {{
 """
 
 
+def said_otherwise(words):
+    """The variants of types of faults whose words are not those of their number."""
+    wrong = []
+    for path in sorted(glob.glob("crates/*/src/**/*.rt", root_dir=TOP, recursive=True)):
+        code = read(path)
+        numbers = {name: int(number) for name, number in re.findall(r"\b(\w+::\w+)(?:\(_\))? => (\d+),", code)}
+        for kind, body in re.findall(r"pub enum (\w+)[^{]*\{\n(.*?)\n\}\n", code, re.S):
+            for text, variant in re.findall(rf"#\[error\({TEXT}\)\]\n\s*(\w+)", body):
+                name = f"{kind}::{variant}"
+                wanted = [words.get(numbers[name])] if name in numbers else list(words.values())
+                if "{" not in text and text not in wanted:
+                    wrong.append(f"{path}: `{name}` says {text!r}, which are not the words of its number")
+    return wrong
+
+
 def main():
     if sys.argv[1:] == ["--write"]:
         with open(os.path.join(TOP, EXPLANATIONS), "w", encoding="utf-8") as file:
@@ -120,6 +137,7 @@ def main():
     words = {int(number): text for number, text in re.findall(rf"(\d+) => {TEXT}", read("crates/faults/src/table.rt"))}
     shown = {int(number): text for number, text in re.findall(r"^\| (\d\d) \| ([^|]*?) \|", page, re.M)}
     wrong += [f"{number:02}: the page says {shown.get(number)!r}, the program {words.get(number)!r}" for number in sorted({*words, *shown}) if words.get(number) != shown.get(number)]
+    wrong += said_otherwise(words)
     underlined = re.search(rf"const UNDERLINED: .*?= \(\s*{TEXT},\s*{TEXT},\s*\);", code, re.S)
     if not underlined or f"```\n{plain(underlined[2])}```" not in page:
         wrong.append("the page does not show what the test has of a source's line and its carets")
