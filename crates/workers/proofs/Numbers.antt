@@ -5,7 +5,8 @@ use Rattle.seats.specs.Setup.{Setup}
 use Rattle.workers.specs.declared.worker.Worker.{Worker}
 use Rattle.workers.specs.Workers.{AreWorkersFrom}
 use Rattle.workers.specs.Closing.{AllHere, HasWorker}
-use Rattle.workers.specs.Driving.{IsNumbered, worker_number}
+use Rattle.workers.specs.Driving.{IsNumbered}
+use Rattle.workers.specs.Seen.{worker_number}
 
 module _ {A : Type 0} (f : A → ℕ) where
   numbered_last : (xs : List A) (x : A) (n : ℕ) → IsNumbered f (xs ++ x ∷ []) n → IsNumbered f xs n ⊎ (f x ≡ n)

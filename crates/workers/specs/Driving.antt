@@ -60,9 +60,6 @@ TellsMemory (LockHeld n) cells held = held ≡ Some n
 
 -- A is the allocator
 module _ {A : Type 0} where
-  abbrev pub worker_number : Worker A → ℕ
-  worker_number w = w.number
-
   abbrev pub driven_number : Driven A → ℕ
   driven_number d = d.worker.number
 

@@ -1,3 +1,5 @@
+-- what contracts see of halls, workers and threads of closed halls
+pub mod Seen
 -- what a worker has done
 pub mod Works
 -- workers of a hall

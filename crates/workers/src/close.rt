@@ -3,6 +3,7 @@
 ghost use Rattle.std.specs.Prelude.{◌≡◌, ◌<◌, ◌≤◌, ℕ, [], IfOk, IfErr, OnOk, MatchOption, MatchBool, vec_len};
 ghost use Rattle.std.specs.Vec.{vec_capacity};
 ghost use Rattle.bytecode.specs.Valid.{cells_of};
+ghost use Rattle.workers.specs.Seen.{finished_accesses, finished_number, finished_steps, finished_thread, setup_of, table_of};
 ghost use Rattle.workers.specs.Workers.{AreWorkersOf};
 ghost use Rattle.workers.specs.Closing.{reason_number, HasWorker, NoWorker, AllHere, NoneHolds, Holds, Closes, parts_back, finished_back};
 
@@ -60,35 +61,35 @@ pub struct Finished<A: Allocator = Global> {
 impl<A: Allocator + Copy> Finished<A> {
     /// Its number, from 0 on.
     pub fn thread(&self) -> u32
-        ensures { result ≡ self.now.number }
+        ensures { result ≡ finished_number self.now }
     {
         self.number
     }
 
     /// Whether it runs, has ended or has trapped.
     pub fn status(&self) -> Status
-        ensures { result ≡ self.now.thread.thread.status }
+        ensures { result ≡ (finished_thread self.now).status }
     {
         self.thread.status()
     }
 
     /// What it has printed.
     pub fn output(&self) -> &str
-        ensures { result.now ≡ self.now.thread.thread.text }
+        ensures { result.now ≡ (finished_thread self.now).text }
     {
         self.thread.output()
     }
 
     /// How many steps it has made.
     pub fn steps(&self) -> u64
-        ensures { result ≡ self.now.steps }
+        ensures { result ≡ finished_steps self.now }
     {
         self.steps
     }
 
     /// How many of them were accesses to the lock or a cell.
     pub fn accesses(&self) -> u64
-        ensures { result ≡ self.now.thread.accesses }
+        ensures { result ≡ finished_accesses self.now }
     {
         self.thread.accesses()
     }
@@ -217,12 +218,12 @@ impl<A: Allocator + Copy> Hall<A> {
     /// The cells' words and the threads, where each thread has its worker here and none has the lock. It waits for nobody,
     /// and needs no other thread's leave: the workers are here. A fault gives hall and workers back, as they were.
     pub fn close(self, alloc: A, workers: Vec<Worker<A>, A>) -> Result<Outcome<A>, CloseFault<A>>
-        requires { AreWorkersOf self.table.shared.table_id self.setup workers.items }
-        ensures all { OnOk result (AllHere workers.items self.setup.threads) }
+        requires { AreWorkersOf (table_of self) (setup_of self) workers.items }
+        ensures all { OnOk result (AllHere workers.items (setup_of self).threads) }
         ensures none { OnOk result (NoneHolds workers.items) }
-        ensures closes { IfOk result (λ o. (all : AreWorkersOf self.table.shared.table_id self.setup workers.items) → Closes self.table.shared.table_id self.setup workers.items all o.words.items o.threads.items) }
+        ensures closes { IfOk result (λ o. (all : AreWorkersOf (table_of self) (setup_of self) workers.items) → Closes (table_of self) (setup_of self) workers.items all o.words.items o.threads.items) }
         ensures back { IfErr result (λ e. (e.hall ≡ self) × (e.workers ≡ workers)) }
-        ensures reason { IfErr result (λ e. IsReason e.reason self.setup.threads workers.items) }
+        ensures reason { IfErr result (λ e. IsReason e.reason (setup_of self).threads workers.items) }
     {
         if missing(&workers, self.setup.threads()) {
             return Err(fault(CloseReason::Missing, self, workers));

@@ -5,6 +5,7 @@ ghost use Rattle.bytecode.specs.Valid.{IsValid};
 ghost use Rattle.machine.specs.Standing.{IsThreadOf};
 ghost use Rattle.machine.specs.States.{first_thread};
 ghost use Rattle.seats.specs.Views.{first_part, first_view};
+ghost use Rattle.workers.specs.Seen.{setup_of, table_of};
 ghost use Rattle.workers.specs.Workers.{AreWorkersFrom};
 ghost use Rattle.workers.specs.Opening.{IsRefused, hall_number};
 
@@ -130,8 +131,8 @@ impl<A: Allocator + Copy> Hall<A> {
         code: &Code<A>,
         threads: u32,
     ) -> Result<(Hall<A>, Vec<Worker<A>, A>), HallFault>
-        ensures setup { IfOk result (λ r. (r.0.setup.code ≡ code.now) × (r.0.setup.threads ≡ threads) × (0 < threads) × (threads ≤ 64)) }
-        ensures workers { IfOk result (λ r. (vec_len r.1 ≡ threads) × AreWorkersFrom r.0.table.shared.table_id r.0.setup 0 r.1.items) }
+        ensures setup { IfOk result (λ r. ((setup_of r.0).code ≡ code.now) × ((setup_of r.0).threads ≡ threads) × (0 < threads) × (threads ≤ 64)) }
+        ensures workers { IfOk result (λ r. (vec_len r.1 ≡ threads) × AreWorkersFrom (table_of r.0) (setup_of r.0) 0 r.1.items) }
         ensures fault { IfErr result (λ e. IsRefused e threads) }
     {
         if threads == 0 || threads > MOST_THREADS {

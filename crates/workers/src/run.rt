@@ -4,8 +4,9 @@ ghost use Rattle.std.specs.Prelude.{◌≡◌, ◌+◌, ◌^◌, ◌<◌, ◌≤
 ghost use Rattle.syntax.specs.Behaviours.{Behaviour, Means};
 ghost use Rattle.bytecode.specs.Valid.{bounds_of};
 ghost use Rattle.seats.specs.Saying.{code_does};
+ghost use Rattle.workers.specs.Seen.{setup_of, table_of, worker_number};
 ghost use Rattle.workers.specs.Workers.{IsWorkerOf, AreWorkersOf, StepsOn};
-ghost use Rattle.workers.specs.Driving.{AreDrivenOf, AreFresh, AreEnded, AllPromise, EndsAt, IsNumbered, IsRunRefused, IsThreadCount, Ran, TellsMemory, run_number, worker_number, driven_number, handle_number};
+ghost use Rattle.workers.specs.Driving.{AreDrivenOf, AreFresh, AreEnded, AllPromise, EndsAt, IsNumbered, IsRunRefused, IsThreadCount, Ran, TellsMemory, run_number, driven_number, handle_number};
 
 use crate::close::{Finished, Outcome, gather, holder};
 use crate::hall::Hall;
@@ -137,7 +138,7 @@ pub struct OfHall<'a, A: Allocator = Global> {
 }
 
 impl<'a> Promise<Driven> for OfHall<'a> {
-    ghost kept_by = { λ p r. IsWorkerOf p.hall.now.table.shared.table_id p.hall.now.setup r.worker × EndsAt p.hall.now.setup p.budget r.stopped r.worker × (r.worker.number ≡ p.number) };
+    ghost kept_by = { λ p r. IsWorkerOf (table_of p.hall.now) (setup_of p.hall.now) r.worker × EndsAt (setup_of p.hall.now) p.budget r.stopped r.worker × (worker_number r.worker ≡ p.number) };
 }
 
 // Starts a thread for each worker, and joins them.
@@ -286,7 +287,7 @@ pub enum RunMemory {
     LockHeld(u32),
 }
 
-/// What a run of all threads leaves. The lists are in one order, which is not that of the numbers.
+/// What a run of all threads leaves. The lists are in no promised order: each entry tells its thread's number.
 #[derive(Drop)]
 pub struct RunReport<A: Allocator = Global> {
     pub memory: RunMemory,

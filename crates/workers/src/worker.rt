@@ -8,6 +8,7 @@ ghost use Rattle.machine.specs.Threads.{access as access_of};
 ghost use Rattle.machine.specs.Standing.{IsThreadOf};
 ghost use Rattle.machine.specs.States.{ComparesEntry, ComparesNext, StandsAt, StandsStill, StoresNext, WaitsNext};
 ghost use Rattle.seats.specs.Setup.{Setup};
+ghost use Rattle.workers.specs.Seen.{accesses_of, setup_of, state_of, steps_of, table_of, thread_of, worker_number};
 ghost use Rattle.workers.specs.Works.{StopsAt};
 
 use crate::hall::Hall;
@@ -495,14 +496,14 @@ impl<A: Allocator + Copy> Worker<A> {
     /// since its last access and commits without a write among them, and in which its earlier transactions come first among
     /// its own. An attempt that it has is where the code comes on one memory of that run, also where it will be dropped.
     pub fn run(&mut self, hall: &Hall<A>, budget: u64) -> Result<Status, Stop>
-        requires worker { IsWorkerOf hall.now.table.shared.table_id hall.now.setup self.old }
-        requires room { self.old.steps + budget < 2 ^ 64 }
-        ensures worker { IsWorkerOf hall.now.table.shared.table_id hall.now.setup self.new }
-        ensures goes_on { (self.new.number ≡ self.old.number) × StepsOn hall.now.table.shared.table_id hall.now.setup self.old self.new }
-        ensures runs { StandsOn hall.now.table.shared.table_id hall.now.setup self.old self.new }
-        ensures steps { (self.old.steps ≤ self.new.steps) × (self.new.steps ≤ self.old.steps + budget) }
-        ensures status { IfOk result (λ s. Reports s self.new.thread.thread.status (self.old.steps + budget) self.new.steps) }
-        ensures stop { IfErr result (λ e. StopsAt hall.now.setup.code self.new.thread.thread e × (self.new.steps < self.old.steps + budget)) }
+        requires worker { IsWorkerOf (table_of hall.now) (setup_of hall.now) self.old }
+        requires room { steps_of self.old + budget < 2 ^ 64 }
+        ensures worker { IsWorkerOf (table_of hall.now) (setup_of hall.now) self.new }
+        ensures goes_on { (worker_number self.new ≡ worker_number self.old) × StepsOn (table_of hall.now) (setup_of hall.now) self.old self.new }
+        ensures runs { StandsOn (table_of hall.now) (setup_of hall.now) self.old self.new }
+        ensures steps { (steps_of self.old ≤ steps_of self.new) × (steps_of self.new ≤ steps_of self.old + budget) }
+        ensures status { IfOk result (λ s. Reports s (thread_of self.new).status (steps_of self.old + budget) (steps_of self.new)) }
+        ensures stop { IfErr result (λ e. StopsAt (setup_of hall.now).code (thread_of self.new) e × (steps_of self.new < steps_of self.old + budget)) }
     {
         let (made, ended) = self.run_on(hall, budget);
         self.steps += made;
@@ -513,48 +514,48 @@ impl<A: Allocator + Copy> Worker<A> {
     /// the number of a transaction of either that took the lock. So what one of them begins later stands in every run after
     /// what both have done. It loads the lock for each of the two.
     pub fn meet(&mut self, hall: &Hall<A>, other: &mut Worker<A>)
-        requires mine { IsWorkerOf hall.now.table.shared.table_id hall.now.setup self.old }
-        requires theirs { IsWorkerOf hall.now.table.shared.table_id hall.now.setup other.old }
-        ensures same { (self.new.number ≡ self.old.number) × (self.new.thread ≡ self.old.thread) × (self.new.steps ≡ self.old.steps) }
-        ensures other { (other.new.number ≡ other.old.number) × (other.new.thread ≡ other.old.thread) × (other.new.steps ≡ other.old.steps) }
-        ensures mine { IsWorkerOf hall.now.table.shared.table_id hall.now.setup self.new }
-        ensures theirs { IsWorkerOf hall.now.table.shared.table_id hall.now.setup other.new }
-        ensures floors { (n : ℕ) × FloorsAt hall.now.table.shared.table_id hall.now.setup n self.old self.new × FloorsAt hall.now.table.shared.table_id hall.now.setup n other.old other.new }
+        requires mine { IsWorkerOf (table_of hall.now) (setup_of hall.now) self.old }
+        requires theirs { IsWorkerOf (table_of hall.now) (setup_of hall.now) other.old }
+        ensures same { (worker_number self.new ≡ worker_number self.old) × (state_of self.new ≡ state_of self.old) × (steps_of self.new ≡ steps_of self.old) }
+        ensures other { (worker_number other.new ≡ worker_number other.old) × (state_of other.new ≡ state_of other.old) × (steps_of other.new ≡ steps_of other.old) }
+        ensures mine { IsWorkerOf (table_of hall.now) (setup_of hall.now) self.new }
+        ensures theirs { IsWorkerOf (table_of hall.now) (setup_of hall.now) other.new }
+        ensures floors { (n : ℕ) × FloorsAt (table_of hall.now) (setup_of hall.now) n self.old self.new × FloorsAt (table_of hall.now) (setup_of hall.now) n other.old other.new }
     {
         let _found = seats::meet(&hall.table.shared, &mut self.seat, &mut other.seat);
     }
 
     /// The number of its thread, from 0 on.
     pub fn thread(&self) -> u32
-        ensures { result ≡ self.now.number }
+        ensures { result ≡ worker_number self.now }
     {
         self.number
     }
 
     /// Whether its thread runs, has ended or has trapped.
     pub fn status(&self) -> ThreadStatus
-        ensures { result ≡ self.now.thread.thread.status }
+        ensures { result ≡ (thread_of self.now).status }
     {
         self.thread.status()
     }
 
     /// What its thread has printed so far.
     pub fn output(&self) -> &str
-        ensures { result.now ≡ self.now.thread.thread.text }
+        ensures { result.now ≡ (thread_of self.now).text }
     {
         self.thread.output()
     }
 
     /// How many steps it has made.
     pub fn steps(&self) -> u64
-        ensures { result ≡ self.now.steps }
+        ensures { result ≡ steps_of self.now }
     {
         self.steps
     }
 
     /// How many of them were accesses to the lock or a cell.
     pub fn accesses(&self) -> u64
-        ensures { result ≡ self.now.thread.accesses }
+        ensures { result ≡ accesses_of self.now }
     {
         self.thread.accesses()
     }

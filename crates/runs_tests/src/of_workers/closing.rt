@@ -1,5 +1,6 @@
 //! A hall that is not closed while a worker is missing or has the lock, and is closed then.
 
+ghost use Rattle.workers.specs.Seen.{setup_of, table_of};
 ghost use Rattle.workers.specs.Workers.{AreWorkersOf, IsWorkerOf};
 
 use crate::asserted::assert_all;
@@ -39,7 +40,7 @@ fn is_still(right: bool, reason: CloseReason, wanted: CloseReason) -> bool {
 
 // Both go on to their ends, and the hall is closed.
 fn ends(alloc: Global, hall: Hall, mut workers: Vec<Worker>, right: bool) -> bool
-    requires { AreWorkersOf hall.table.shared.table_id hall.setup workers.items }
+    requires { AreWorkersOf (table_of hall) (setup_of hall) workers.items }
 {
     let goes_on = are_turns(&hall, &mut workers, to_the_ends());
     let closes = leaves(alloc, hall, workers, (2, "1\n", "2\n"));
@@ -48,7 +49,7 @@ fn ends(alloc: Global, hall: Hall, mut workers: Vec<Worker>, right: bool) -> boo
 
 // Worker 0 has the lock, and the hall is not closed.
 fn is_held(alloc: Global, hall: Hall, workers: Vec<Worker>, right: bool) -> bool
-    requires { AreWorkersOf hall.table.shared.table_id hall.setup workers.items }
+    requires { AreWorkersOf (table_of hall) (setup_of hall) workers.items }
 {
     match hall.close(alloc, workers) {
         Ok(_) => false,
@@ -66,8 +67,8 @@ fn is_held(alloc: Global, hall: Hall, workers: Vec<Worker>, right: bool) -> bool
 
 // Worker 1 is missing, which comes before that worker 0 has the lock. Then it is there again.
 fn is_missing(alloc: Global, hall: Hall, workers: Vec<Worker>, second: Worker, right: bool) -> bool
-    requires list { AreWorkersOf hall.table.shared.table_id hall.setup workers.items }
-    requires second { IsWorkerOf hall.table.shared.table_id hall.setup second }
+    requires list { AreWorkersOf (table_of hall) (setup_of hall) workers.items }
+    requires second { IsWorkerOf (table_of hall) (setup_of hall) second }
 {
     match hall.close(alloc, workers) {
         Ok(_) => false,
@@ -86,7 +87,7 @@ fn is_missing(alloc: Global, hall: Hall, workers: Vec<Worker>, second: Worker, r
 
 // Worker 1 is taken away.
 fn loses_one(alloc: Global, hall: Hall, mut workers: Vec<Worker>, right: bool) -> bool
-    requires { AreWorkersOf hall.table.shared.table_id hall.setup workers.items }
+    requires { AreWorkersOf (table_of hall) (setup_of hall) workers.items }
 {
     match take(&hall, &mut workers) {
         Some(second) => is_missing(alloc, hall, workers, second, right),

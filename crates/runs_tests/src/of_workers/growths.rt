@@ -1,6 +1,7 @@
 //! Each growth refused in turn, after which the same call goes on.
 
 ghost use Rattle.std.specs.Prelude.{IfSome};
+ghost use Rattle.workers.specs.Seen.{setup_of, table_of};
 ghost use Rattle.workers.specs.Workers.{AreWorkersOf};
 
 use crate::asserted::assert_that;
@@ -16,7 +17,7 @@ fn opened_at_last<A: Allocator + Copy>(
     alloc: A,
     code: &Code<A>,
 ) -> Option<(Hall<A>, Vec<Worker<A>, A>)>
-    ensures { IfSome result (λ r. AreWorkersOf r.0.table.shared.table_id r.0.setup r.1.items) }
+    ensures { IfSome result (λ r. AreWorkersOf (table_of r.0) (setup_of r.0) r.1.items) }
 {
     match open(alloc, code, 2) {
         Ok(hall) => Some(hall),
@@ -41,7 +42,7 @@ fn leaves_at_last<A: Allocator + Copy>(
     workers: Vec<Worker<A>, A>,
     left: Left,
 ) -> bool
-    requires { AreWorkersOf hall.table.shared.table_id hall.setup workers.items }
+    requires { AreWorkersOf (table_of hall) (setup_of hall) workers.items }
 {
     match hall.close(alloc, workers) {
         Ok(outcome) => is_left(&outcome, left),

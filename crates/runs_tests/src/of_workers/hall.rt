@@ -1,6 +1,7 @@
 //! Halls of two workers: how they are opened, how their workers make steps, and how they are closed.
 
 ghost use Rattle.std.specs.Prelude.{◌≡◌, IfOk, IfSome};
+ghost use Rattle.workers.specs.Seen.{setup_of, table_of};
 ghost use Rattle.workers.specs.Workers.{AreWorkersOf, IsWorkerOf};
 
 use crate::of_workers::programs::{Program, code_of};
@@ -31,7 +32,7 @@ pub fn open<A: Allocator + Copy>(
     code: &Code<A>,
     threads: u32,
 ) -> Result<(Hall<A>, Vec<Worker<A>, A>), HallFault>
-    ensures { IfOk result (λ r. AreWorkersOf r.0.table.shared.table_id r.0.setup r.1.items) }
+    ensures { IfOk result (λ r. AreWorkersOf (table_of r.0) (setup_of r.0) r.1.items) }
 {
     match Hall::open(alloc, code, threads) {
         Ok(opened) => Ok(opened),
@@ -45,7 +46,7 @@ pub fn opened<A: Allocator + Copy>(
     program: Program,
     threads: u32,
 ) -> Result<(Hall<A>, Vec<Worker<A>, A>), HallFault>
-    ensures { IfOk result (λ r. AreWorkersOf r.0.table.shared.table_id r.0.setup r.1.items) }
+    ensures { IfOk result (λ r. AreWorkersOf (table_of r.0) (setup_of r.0) r.1.items) }
 {
     match code_of(alloc, program) {
         Some(code) => open(alloc, &code, threads),
@@ -58,9 +59,9 @@ pub fn take<A: Allocator + Copy>(
     hall: &Hall<A>,
     workers: &mut Vec<Worker<A>, A>,
 ) -> Option<Worker<A>>
-    requires { AreWorkersOf hall.now.table.shared.table_id hall.now.setup workers.old.items }
-    ensures left { AreWorkersOf hall.now.table.shared.table_id hall.now.setup workers.new.items }
-    ensures worker { IfSome result (λ w. IsWorkerOf hall.now.table.shared.table_id hall.now.setup w) }
+    requires { AreWorkersOf (table_of hall.now) (setup_of hall.now) workers.old.items }
+    ensures left { AreWorkersOf (table_of hall.now) (setup_of hall.now) workers.new.items }
+    ensures worker { IfSome result (λ w. IsWorkerOf (table_of hall.now) (setup_of hall.now) w) }
 {
     let _ = hall;
     match workers.pop() {
@@ -75,9 +76,9 @@ fn push<A: Allocator + Copy>(
     workers: &mut Vec<Worker<A>, A>,
     worker: Worker<A>,
 ) -> Result<(), AllocError>
-    requires list { AreWorkersOf hall.now.table.shared.table_id hall.now.setup workers.old.items }
-    requires worker { IsWorkerOf hall.now.table.shared.table_id hall.now.setup worker }
-    ensures { AreWorkersOf hall.now.table.shared.table_id hall.now.setup workers.new.items }
+    requires list { AreWorkersOf (table_of hall.now) (setup_of hall.now) workers.old.items }
+    requires worker { IsWorkerOf (table_of hall.now) (setup_of hall.now) worker }
+    ensures { AreWorkersOf (table_of hall.now) (setup_of hall.now) workers.new.items }
 {
     let _ = hall;
     workers.push(worker)?;
@@ -90,9 +91,9 @@ pub fn put<A: Allocator + Copy>(
     workers: &mut Vec<Worker<A>, A>,
     worker: Worker<A>,
 ) -> bool
-    requires list { AreWorkersOf hall.now.table.shared.table_id hall.now.setup workers.old.items }
-    requires worker { IsWorkerOf hall.now.table.shared.table_id hall.now.setup worker }
-    ensures { AreWorkersOf hall.now.table.shared.table_id hall.now.setup workers.new.items }
+    requires list { AreWorkersOf (table_of hall.now) (setup_of hall.now) workers.old.items }
+    requires worker { IsWorkerOf (table_of hall.now) (setup_of hall.now) worker }
+    ensures { AreWorkersOf (table_of hall.now) (setup_of hall.now) workers.new.items }
 {
     push(hall, workers, worker).is_ok()
 }
@@ -103,8 +104,8 @@ fn run<A: Allocator + Copy>(
     worker: &mut Worker<A>,
     budget: u64,
 ) -> Option<Result<Status, Stop>>
-    requires { IsWorkerOf hall.now.table.shared.table_id hall.now.setup worker.old }
-    ensures { IsWorkerOf hall.now.table.shared.table_id hall.now.setup worker.new }
+    requires { IsWorkerOf (table_of hall.now) (setup_of hall.now) worker.old }
+    ensures { IsWorkerOf (table_of hall.now) (setup_of hall.now) worker.new }
 {
     if worker.steps() > MOST || budget > MOST {
         return None;
@@ -114,8 +115,8 @@ fn run<A: Allocator + Copy>(
 
 // Whether a worker comes to its end, by a second call where the first was refused memory.
 fn ends<A: Allocator + Copy>(hall: &Hall<A>, worker: &mut Worker<A>) -> bool
-    requires { IsWorkerOf hall.now.table.shared.table_id hall.now.setup worker.old }
-    ensures { IsWorkerOf hall.now.table.shared.table_id hall.now.setup worker.new }
+    requires { IsWorkerOf (table_of hall.now) (setup_of hall.now) worker.old }
+    ensures { IsWorkerOf (table_of hall.now) (setup_of hall.now) worker.new }
 {
     match run(hall, worker, 100) {
         Some(Ok(status)) => status == Status::Ended,
@@ -135,8 +136,8 @@ fn is_run<A: Allocator + Copy>(
     steps: u64,
     accesses: u64,
 ) -> bool
-    requires { IsWorkerOf hall.now.table.shared.table_id hall.now.setup worker.old }
-    ensures { IsWorkerOf hall.now.table.shared.table_id hall.now.setup worker.new }
+    requires { IsWorkerOf (table_of hall.now) (setup_of hall.now) worker.old }
+    ensures { IsWorkerOf (table_of hall.now) (setup_of hall.now) worker.new }
 {
     match run(hall, worker, budget) {
         Some(Ok(found)) => {
@@ -153,10 +154,10 @@ fn is_made<A: Allocator + Copy>(
     second: &mut Worker<A>,
     turn: Turn,
 ) -> bool
-    requires first { IsWorkerOf hall.now.table.shared.table_id hall.now.setup first.old }
-    requires second { IsWorkerOf hall.now.table.shared.table_id hall.now.setup second.old }
-    ensures first { IsWorkerOf hall.now.table.shared.table_id hall.now.setup first.new }
-    ensures second { IsWorkerOf hall.now.table.shared.table_id hall.now.setup second.new }
+    requires first { IsWorkerOf (table_of hall.now) (setup_of hall.now) first.old }
+    requires second { IsWorkerOf (table_of hall.now) (setup_of hall.now) second.old }
+    ensures first { IsWorkerOf (table_of hall.now) (setup_of hall.now) first.new }
+    ensures second { IsWorkerOf (table_of hall.now) (setup_of hall.now) second.new }
 {
     match turn {
         Turn::Run(thread, budget, status, steps, accesses) => {
@@ -187,10 +188,10 @@ fn put_both<A: Allocator + Copy>(
     first: Worker<A>,
     second: Worker<A>,
 ) -> bool
-    requires list { AreWorkersOf hall.now.table.shared.table_id hall.now.setup workers.old.items }
-    requires first { IsWorkerOf hall.now.table.shared.table_id hall.now.setup first }
-    requires second { IsWorkerOf hall.now.table.shared.table_id hall.now.setup second }
-    ensures { AreWorkersOf hall.now.table.shared.table_id hall.now.setup workers.new.items }
+    requires list { AreWorkersOf (table_of hall.now) (setup_of hall.now) workers.old.items }
+    requires first { IsWorkerOf (table_of hall.now) (setup_of hall.now) first }
+    requires second { IsWorkerOf (table_of hall.now) (setup_of hall.now) second }
+    ensures { AreWorkersOf (table_of hall.now) (setup_of hall.now) workers.new.items }
 {
     let one = put(hall, workers, first);
     let other = put(hall, workers, second);
@@ -204,9 +205,9 @@ fn is_turn_beside<A: Allocator + Copy>(
     mut second: Worker<A>,
     turn: Turn,
 ) -> bool
-    requires list { AreWorkersOf hall.now.table.shared.table_id hall.now.setup workers.old.items }
-    requires second { IsWorkerOf hall.now.table.shared.table_id hall.now.setup second }
-    ensures { AreWorkersOf hall.now.table.shared.table_id hall.now.setup workers.new.items }
+    requires list { AreWorkersOf (table_of hall.now) (setup_of hall.now) workers.old.items }
+    requires second { IsWorkerOf (table_of hall.now) (setup_of hall.now) second }
+    ensures { AreWorkersOf (table_of hall.now) (setup_of hall.now) workers.new.items }
 {
     match take(hall, workers) {
         Some(mut first) => {
@@ -220,8 +221,8 @@ fn is_turn_beside<A: Allocator + Copy>(
 
 // Whether two workers make a turn.
 fn is_turn<A: Allocator + Copy>(hall: &Hall<A>, workers: &mut Vec<Worker<A>, A>, turn: Turn) -> bool
-    requires { AreWorkersOf hall.now.table.shared.table_id hall.now.setup workers.old.items }
-    ensures { AreWorkersOf hall.now.table.shared.table_id hall.now.setup workers.new.items }
+    requires { AreWorkersOf (table_of hall.now) (setup_of hall.now) workers.old.items }
+    ensures { AreWorkersOf (table_of hall.now) (setup_of hall.now) workers.new.items }
 {
     match take(hall, workers) {
         Some(second) => is_turn_beside(hall, workers, second, turn),
@@ -235,8 +236,8 @@ pub fn are_turns<A: Allocator + Copy>(
     workers: &mut Vec<Worker<A>, A>,
     turns: &[Turn],
 ) -> bool
-    requires { AreWorkersOf hall.now.table.shared.table_id hall.now.setup workers.old.items }
-    ensures { AreWorkersOf hall.now.table.shared.table_id hall.now.setup workers.new.items }
+    requires { AreWorkersOf (table_of hall.now) (setup_of hall.now) workers.old.items }
+    ensures { AreWorkersOf (table_of hall.now) (setup_of hall.now) workers.new.items }
 {
     'turns: for turn in turns {
         if !is_turn(hall, workers, *turn) {
@@ -274,7 +275,7 @@ pub fn leaves<A: Allocator + Copy>(
     workers: Vec<Worker<A>, A>,
     left: Left,
 ) -> bool
-    requires { AreWorkersOf hall.table.shared.table_id hall.setup workers.items }
+    requires { AreWorkersOf (table_of hall) (setup_of hall) workers.items }
 {
     match hall.close(alloc, workers) {
         Ok(outcome) => is_left(&outcome, left),

@@ -1,5 +1,6 @@
 //! Workers one after another, in the test's own thread.
 
+ghost use Rattle.workers.specs.Seen.{setup_of, table_of};
 ghost use Rattle.workers.specs.Workers.{AreWorkersOf};
 
 use crate::asserted::{assert_all, assert_that};
@@ -76,7 +77,7 @@ fn one_step() -> &'static [Turn] {
 
 // Whether another hall is opened, and a step is made in each.
 fn opens_another(alloc: Global, hall: &Hall, workers: &mut Vec<Worker>) -> bool
-    requires { AreWorkersOf hall.now.table.shared.table_id hall.now.setup workers.old.items }
+    requires { AreWorkersOf (table_of hall.now) (setup_of hall.now) workers.old.items }
 {
     match opened(alloc, adds(), 2) {
         Ok((other, mut others)) => {
