@@ -94,11 +94,57 @@ pub fn answers<H: Threads + Wait + Sync>(
     }
 }
 
-/// The number, from 0, of the first of these rows that is answered otherwise.
-pub fn wrong_row<H: Threads + Wait + Sync>(rt: &H, alloc: Global, rows: &[Row]) -> Option<usize> {
+/// A row that is answered otherwise than it says: its number, from 0, its command line, what was answered, and what it
+/// says. Nothing is answered where the words are wrong.
+#[derive(Debug, Drop, PartialEq)]
+pub struct WrongRow {
+    pub number: usize,
+    pub line: &'static str,
+    pub answered: Option<String>,
+    pub wanted: Option<String>,
+}
+
+// An answer in a line of text, if there was memory for it.
+fn shown(alloc: Global, answer: Answer) -> Option<String> {
+    let (status, out, err) = answer;
+    let out = String::from_utf8_lossy(alloc, out).ok()?;
+    let err = String::from_utf8_lossy(alloc, err).ok()?;
+    let text = format!(in alloc;
+        "status {status}, output {:?}, errors {:?}",
+        out.as_str(),
+        err.as_str()
+    );
+    text.ok()
+}
+
+// What was served, in a line of text.
+fn served_shown(alloc: Global, served: Option<Served>) -> Option<String> {
+    match served {
+        Some(served) => shown(
+            alloc,
+            (served.status, served.out.as_slice(), served.err.as_slice()),
+        ),
+        None => None,
+    }
+}
+
+/// The first of these rows that is answered otherwise.
+pub fn wrong_row<H: Threads + Wait + Sync>(
+    rt: &H,
+    alloc: Global,
+    rows: &[Row],
+) -> Option<WrongRow> {
     for (number, (line, source, schedule, wanted)) in rows.iter().enumerate() {
-        if !answers(rt, alloc, line, source, schedule, false, *wanted) {
-            return Some(number);
+        match serve_line(rt, alloc, line, source, schedule, false) {
+            Some(served) if is_answer(&served, *wanted) => {}
+            served => {
+                return Some(WrongRow {
+                    number,
+                    line: *line,
+                    answered: served_shown(alloc, served),
+                    wanted: shown(alloc, *wanted),
+                });
+            }
         }
     }
     None
