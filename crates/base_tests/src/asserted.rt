@@ -18,3 +18,12 @@ pub fn assert_that(rt: &impl Abort, holds: bool) {
 pub fn assert_none(rt: &impl Abort, other: Option<&str>) {
     assert_eq!(rt; other, None);
 }
+
+/// Asserts that so many growths at least were met, each of which was refused once; else says with which of them it
+/// went wrong.
+pub fn assert_growths(rt: &impl Abort, met: Result<u64, u64>, least: u64) {
+    match met {
+        Ok(count) => assert!(rt; count >= least, "{count} growths are met, and not {least}"),
+        Err(nth) => assert_eq!(rt; Some(nth), None, "it goes wrong with this growth refused"),
+    }
+}

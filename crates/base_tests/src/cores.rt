@@ -2,9 +2,9 @@
 
 ghost use Rattle.norec_core.specs.Accesses.{IsAnswerTo};
 
-use crate::asserted::assert_that;
+use crate::asserted::{assert_growths, assert_that};
 use norec_core::{Access, Answer, Core, Op, Outcome, ReadStep, Saved, Stop};
-use refusing::Refusing;
+use refusing::{Refusing, growths};
 use std::alloc::{Allocator, Global};
 
 // The answer of an access that finds this value in the lock or the word.
@@ -258,12 +258,29 @@ fn are_told_in_place<A: Allocator + Copy, B: Allocator>(
     true
 }
 
+// An attempt that finds another word in place of one that it has read, and is dropped.
+fn dropped() -> &'static [Row] {
+    static ROWS: [Row; 7] = [
+        (Op::Begin, 2, Access::LoadLock, Outcome::Done),
+        (Op::Read(5), 7, Access::LoadWord(5), Outcome::Going),
+        (Op::Read(5), 2, Access::LoadLock, Outcome::Read(7)),
+        (Op::Read(6), 1, Access::LoadWord(6), Outcome::Going),
+        (Op::Read(6), 4, Access::LoadLock, Outcome::Going),
+        (Op::Read(6), 4, Access::LoadLock, Outcome::Going),
+        (Op::Read(6), 8, Access::LoadWord(5), Outcome::Aborted),
+    ];
+    &ROWS
+}
+
 // Whether a core takes no memory where it is told an answer.
 fn tells_in_place<A: Allocator + Copy, B: Allocator>(
     core: &mut Core<A>,
     refusing: &Refusing<B>,
 ) -> bool {
-    are_told_in_place(core, refusing, nested()) && are_told_in_place(core, refusing, kept())
+    are_told_in_place(core, refusing, nested())
+        && are_told_in_place(core, refusing, dropped())
+        && !core.has_attempt()
+        && are_told_in_place(core, refusing, kept())
 }
 
 // Whether transactions are played in a core, and in the third round without a growth.
@@ -449,16 +466,15 @@ fn new_plays<A: Allocator + Copy, B: Allocator>(
     plays_this(&mut core, refusing, play)
 }
 
-// The same where growth `nth` is refused, and whether this growth is still to come.
-fn refused_at(inner: Global, nth: u64, play: Play) -> (bool, bool) {
-    let alloc = Refusing::new(inner, nth);
-    let holds = new_plays(&alloc, &alloc, play);
-    (holds, alloc.is_waiting())
+// The same where growth `nth` is refused.
+fn is_played_at(alloc: &Refusing<Global>, nth: u64, play: Play) -> bool {
+    alloc.refuse(nth);
+    new_plays(alloc, alloc, play)
 }
 
 // The same where no growth is.
 fn is_played(inner: Global, play: Play) -> bool {
-    refused_at(inner, 0, play).0
+    is_played_at(&Refusing::new(inner, 0), 0, play)
 }
 
 #[test]
@@ -476,22 +492,12 @@ fn the_sequence_is_used_up(rt: HostRuntime) {
     assert_that(&rt, is_played(rt.alloc(), Play::LastValues));
 }
 
-// The last growth that is met, where that holds for each.
-fn last_met(inner: Global) -> Option<u64> {
-    let mut met = 0;
-    for nth in 1..100u64 {
-        match refused_at(inner, nth, Play::Refused) {
-            (false, _) => return None,
-            (true, true) => break,
-            (true, false) => met = nth,
-        }
-    }
-    Some(met)
-}
-
 #[test]
 fn each_growth_is_refused_in_turn(rt: HostRuntime) {
-    assert_that(&rt, last_met(rt.alloc()) > Some(5));
+    let met = growths(rt.alloc(), 100, |alloc, nth| {
+        is_played_at(alloc, nth, Play::Refused)
+    });
+    assert_growths(&rt, met, 6);
 }
 
 #[test]

@@ -2,7 +2,7 @@
 
 use crate::asserted::assert_all;
 use containers::{Boxed, Copied, Items, Same, Text};
-use refusing::Refusing;
+use refusing::{Refusing, growths};
 use std::alloc::{AllocError, Allocator, Global};
 
 /// Whether all of these were made, and the first is equal to the second and not to the third.
@@ -309,38 +309,20 @@ fn copies_again<A: Allocator + Copy>(whole: &Texts<A>, alloc: A) -> Option<bool>
     }
 }
 
-/// Whether growth `nth` of a copy is refused; none where it is told otherwise, or a copy is not the same.
-fn refuses<'a>(
-    whole: &Texts<&'a Refusing<Global>>,
-    alloc: &'a Refusing<Global>,
-    nth: u64,
-) -> Option<bool> {
-    alloc.refuse(nth);
-    let refused = copies_again(whole, alloc)?;
-    (refused != alloc.is_waiting()).then_some(refused)
-}
-
-/// How many growths of a copy can be refused; none where a copy is not the same.
-fn growths<'a>(whole: &Texts<&'a Refusing<Global>>, alloc: &'a Refusing<Global>) -> Option<u64> {
-    for nth in 1..100u64 {
-        if !refuses(whole, alloc, nth)? {
-            return Some(nth - 1);
-        }
-    }
-    None
-}
-
-/// The same of the list that begins with `x`.
-fn growths_of_texts(alloc: &Refusing<Global>) -> Option<u64> {
+/// Whether growth `nth` of a copy is told where it is refused.
+fn tells(alloc: &Refusing<Global>, nth: u64) -> bool {
     match texts(alloc, "x") {
-        Ok(whole) => growths(&whole, alloc),
-        Err(_) => None,
+        Ok(whole) => {
+            alloc.refuse(nth);
+            let refused = copies_again(&whole, alloc);
+            refused == Some(!alloc.is_waiting())
+        }
+        Err(_) => false,
     }
 }
 
 #[test]
 fn each_growth_of_a_copy_is_refused_once(rt: HostRuntime) {
-    let alloc = Refusing::new(rt.alloc(), 0);
     // a list, two boxes and two texts
-    assert_all(&rt, &[("five", growths_of_texts(&alloc) == Some(5))]);
+    assert_all(&rt, &[("five", growths(rt.alloc(), 100, tells) == Ok(5))]);
 }

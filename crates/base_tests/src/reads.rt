@@ -1,8 +1,8 @@
 //! The read log: pairs in their order, and each growth refused.
 
-use crate::asserted::assert_that;
+use crate::asserted::{assert_growths, assert_that};
 use read_log::ReadLog;
-use refusing::Refusing;
+use refusing::{Refusing, growths};
 use std::alloc::{AllocError, Global};
 
 /// Pushes a pair, with room that is asked for a second time where it is refused, and says whether it was; none
@@ -26,29 +26,20 @@ fn insist_on_each(log: &mut ReadLog<&Refusing<Global>>) -> Option<bool> {
     Some(refused)
 }
 
-/// Whether the growth is one of `reserve_one`, and refused; none where another call grows, or a pair is lost.
-fn refuses(alloc: &Refusing<Global>) -> Option<bool> {
+/// Whether growth `nth` is one of `reserve_one` where it is refused, and no pair is lost.
+fn tells(alloc: &Refusing<Global>, nth: u64) -> bool {
+    alloc.refuse(nth);
     let mut log = ReadLog::new(alloc);
-    let refused = insist_on_each(&mut log)?;
+    let Some(refused) = insist_on_each(&mut log) else {
+        return false;
+    };
     let ends = log.get(0) == Some((0, 9)) && log.get(19) == Some((19, 9));
-    (ends && log.len() == 20 && refused != alloc.is_waiting()).then_some(refused)
-}
-
-/// The last growth that is met; none where a pair is lost, or a refused growth is not told.
-fn last_met(inner: Global) -> Option<u64> {
-    for nth in 1..100u64 {
-        match refuses(&Refusing::new(inner, nth)) {
-            Some(true) => {}
-            Some(false) => return Some(nth - 1),
-            None => return None,
-        }
-    }
-    None
+    ends && log.len() == 20 && refused != alloc.is_waiting()
 }
 
 #[test]
 fn each_growth_is_refused_in_turn(rt: HostRuntime) {
-    assert_that(&rt, last_met(rt.alloc()) > Some(0));
+    assert_growths(&rt, growths(rt.alloc(), 100, tells), 1);
 }
 
 /// Pushes a pair, with room for it.

@@ -1,9 +1,9 @@
 //! Each call once with ample memory, each fault with its span, and a refused growth.
 
-use crate::asserted::{assert_all, assert_none};
+use crate::asserted::{assert_all, assert_growths, assert_none};
 use lex::token::{Keyword, Kind, Scalar, Span, Token};
 use lex::{lex, place, unescape};
-use refusing::Refusing;
+use refusing::{Refusing, growths};
 use std::alloc::{Allocator, Global};
 
 /// A text, the number of its fault, and where the fault's span starts and ends.
@@ -264,30 +264,17 @@ fn count<A: Allocator + Copy>(alloc: A, text: &str) -> Result<usize, (u32, Optio
     }
 }
 
-/// Whether growth `nth` is refused as out of memory, so that the next call has the tokens; none where something else
-/// comes.
-fn refuses(inner: Global, nth: u64) -> Option<bool> {
-    let alloc = Refusing::new(inner, nth);
+/// Whether growth `nth` is told as out of memory where it is refused, so that the next call has the tokens.
+fn tells(alloc: &Refusing<Global>, nth: u64) -> bool {
+    alloc.refuse(nth);
     let text = "int x; void worker(int self) { x = x + 1; }";
-    match count(&alloc, text) {
-        Ok(_) => alloc.is_waiting().then_some(false),
-        Err(fault) => (fault == (0, None) && count(&alloc, text) == Ok(17)).then_some(true),
+    match count(alloc, text) {
+        Ok(tokens) => alloc.is_waiting() && tokens == 17,
+        Err(fault) => fault == (0, None) && count(alloc, text) == Ok(17),
     }
-}
-
-/// How many growths can be refused; none where one comes to another fault, or to other tokens.
-fn growths(inner: Global) -> Option<u64> {
-    for nth in 1..100u64 {
-        match refuses(inner, nth) {
-            Some(true) => {}
-            Some(false) => return Some(nth - 1),
-            None => return None,
-        }
-    }
-    None
 }
 
 #[test]
 fn a_refused_growth_is_out_of_memory(rt: HostRuntime) {
-    assert_all(&rt, &[("growths", growths(rt.alloc()) > Some(0))]);
+    assert_growths(&rt, growths(rt.alloc(), 100, tells), 1);
 }

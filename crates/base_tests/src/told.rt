@@ -3,7 +3,7 @@
 use crate::asserted::{assert_all, assert_none};
 use faults::{explanation, underlined, words};
 use lex::token::Span;
-use refusing::Refusing;
+use refusing::{Refusing, growths};
 use std::alloc::{AllocError, Allocator, Global};
 
 /// A text, where a span of it starts and ends, and what is shown of it.
@@ -75,23 +75,18 @@ fn shown_middle<A: Allocator>(alloc: A, text: &str) -> Result<Vec<u8, A>, AllocE
     underlined(alloc, text, span)
 }
 
-/// Whether the growth is refused; none where something else is shown than with ample memory.
-fn refuses(alloc: &Refusing<Global>, text: &str, wanted: &[u8]) -> Option<bool> {
+/// Whether growth `nth` is told where it is refused, and else the same is shown as with ample memory.
+fn tells(alloc: &Refusing<Global>, nth: u64, text: &str, wanted: &[u8]) -> bool {
+    alloc.refuse(nth);
     match shown_middle(alloc, text) {
-        Ok(shown) => (shown.as_slice() == wanted).then_some(false),
-        Err(_) => Some(true),
+        Ok(shown) => alloc.is_waiting() && shown.as_slice() == wanted,
+        Err(_) => !alloc.is_waiting(),
     }
 }
 
-/// How many growths can be refused, of less than 49; none where there are more, or something else is shown.
-fn growths(inner: Global, text: &str, wanted: &[u8]) -> Option<u64> {
-    for nth in 1..50u64 {
-        let alloc = Refusing::new(inner, nth);
-        if !refuses(&alloc, text, wanted)? {
-            return Some(nth - 1);
-        }
-    }
-    None
+/// How many growths of the middle of a text can be refused; or the first with which it goes wrong.
+fn growths_of(inner: Global, text: &str, wanted: &[u8]) -> Result<u64, u64> {
+    growths(inner, 50, |alloc, nth| tells(alloc, nth, text, wanted))
 }
 
 /// Whether this is a text of less than 400 bytes.
@@ -103,7 +98,7 @@ fn is_part(shown: &[u8]) -> bool {
 fn shows_a_part(alloc: Global, text: &str) -> bool {
     match shown_middle(alloc, text) {
         Ok(shown) => {
-            is_part(shown.as_slice()) && growths(alloc, text, shown.as_slice()) > Some(0)
+            is_part(shown.as_slice()) && growths_of(alloc, text, shown.as_slice()).ok() > Some(0)
         }
         Err(_) => false,
     }

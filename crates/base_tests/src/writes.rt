@@ -2,8 +2,8 @@
 
 ghost use Rattle.std.specs.Prelude.{◌≡◌, ◌+◌, ◌<◌, ◌≤◌, OnOk, length};
 
-use crate::asserted::{assert_all, assert_that};
-use refusing::Refusing;
+use crate::asserted::{assert_all, assert_growths, assert_that};
+use refusing::{Refusing, growths};
 use std::alloc::{AllocError, Allocator, Global};
 use std::marker::Brand;
 use std::mem::size_of;
@@ -332,28 +332,18 @@ fn write_to_each<A: Allocator + Copy>(log: &mut WriteLog<A>, end: u32) -> Result
     Ok(refused)
 }
 
-/// Whether the growth is refused and told; none where it is told otherwise, or the log has not the pairs.
-fn refuses(alloc: &Refusing<Global>) -> Option<bool> {
+/// Whether growth `nth` is told where it is refused, and leaves the log.
+fn tells(alloc: &Refusing<Global>, nth: u64) -> bool {
+    alloc.refuse(nth);
     let mut log = WriteLog::new(alloc);
-    let refused = grow(&mut log).ok()?;
-    let told = refused != alloc.is_waiting();
-    (told && has_pairs(&log, &[(30, 1), (5, 2)])).then_some(refused)
-}
-
-/// The last growth that is met; none where a refused one has changed the log, or was not told.
-fn last_met(inner: Global) -> Option<u64> {
-    for nth in 1..100u64 {
-        match refuses(&Refusing::new(inner, nth)) {
-            Some(true) => {}
-            Some(false) => return Some(nth - 1),
-            None => return None,
-        }
+    match grow(&mut log) {
+        Ok(refused) => { refused != alloc.is_waiting() && has_pairs(&log, &[(30, 1), (5, 2)]) }
+        Err(_) => false,
     }
-    None
 }
 
 #[test]
 fn each_growth_is_refused_in_turn(rt: HostRuntime) {
     // The pairs, their order, the journal and the marks: the first three grow more than once.
-    assert_that(&rt, last_met(rt.alloc()) >= Some(7));
+    assert_growths(&rt, growths(rt.alloc(), 100, tells), 7);
 }
