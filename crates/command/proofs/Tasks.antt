@@ -2,7 +2,7 @@
 use Rattle.std.proofs.Common.{◌≡◌, ℕ, List, Some, length, ap, subst, arith}
 use Rattle.std.specs.Prelude.{codes, slice_index}
 use Rattle.clap.specs.Words.{Row, Text, first_of}
-use Rattle.command.specs.declared.request.Task.TheVariants.{Check, Listing, Run, Replay, Timeline, Picture, PrintSchedule, Source}
+use Rattle.command.specs.declared.request.Task.TheVariants.{Check, Listing, Run, Replay, Timeline, Picture, PrintSchedule, Source, Outcomes}
 use Rattle.command.specs.declared.request.Steps.{Steps}
 use Rattle.command.specs.declared.request.Steps.TheVariants.{Seed}
 use Rattle.command.specs.Asked.{AreSteps, IsOrder, IsOrderGiven}
@@ -18,6 +18,7 @@ no_replay given none (Timeline threads steps) is = none steps is.2
 no_replay given none (Picture threads steps) is = none steps is.2
 no_replay given none (PrintSchedule threads seed count) is = none (Seed seed count) is.2
 no_replay given none (Source threads order ticks) is = let e : 114 ≡ 115 = ap (λ l. slice_index l 0) is.0 in absurd (omega (arith, e))
+no_replay given none (Outcomes threads ticks limit) is = let e : 114 ≡ 111 = ap (λ l. slice_index l 0) is.0 in absurd (omega (arith, e))
 
 -- no order, no run of the source
 pub no_source : (given : List Row) → ((order : List ℕ) → IsOrderGiven given order → ⊥) → AreNoTask (codes "source") given
@@ -29,6 +30,7 @@ no_source given none (Timeline threads steps) is = let e : 115 ≡ 114 = ap (λ 
 no_source given none (Picture threads steps) is = let e : 115 ≡ 114 = ap (λ l. slice_index l 0) is.0 in absurd (omega (arith, e))
 no_source given none (PrintSchedule threads seed count) is = let e : 115 ≡ 114 = ap (λ l. slice_index l 0) is.0 in absurd (omega (arith, e))
 no_source given none (Source threads order ticks) is = none order.items is.2
+no_source given none (Outcomes threads ticks limit) is = let e : 115 ≡ 111 = ap (λ l. slice_index l 0) is.0 in absurd (omega (arith, e))
 
 -- a text that lists no threads is no order
 pub no_order : (given : List Row) (taken text : Text) → ((order : List ℕ) → IsOrder taken order → ⊥) → taken ≡ text → first_of (codes "order") given ≡ Some text → (order : List ℕ) → IsOrderGiven given order → ⊥

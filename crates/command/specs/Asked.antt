@@ -8,7 +8,7 @@ use Rattle.clap.specs.declared.error.kind.ErrorKind.TheVariants.{DisplayHelp, Di
 use Rattle.command.specs.declared.request.Request.{Request}
 use Rattle.command.specs.declared.request.Request.TheVariants.{Program, Explain}
 use Rattle.command.specs.declared.request.Task.{Task}
-use Rattle.command.specs.declared.request.Task.TheVariants.{Check, Listing, Run, Replay, Timeline, Picture, PrintSchedule, Source}
+use Rattle.command.specs.declared.request.Task.TheVariants.{Check, Listing, Run, Replay, Timeline, Picture, PrintSchedule, Source, Outcomes}
 use Rattle.command.specs.declared.request.Steps.{Steps}
 use Rattle.command.specs.declared.request.Steps.TheVariants.{Schedule, Seed}
 use Rattle.command.specs.declared.request.UsageFault.{UsageFault}
@@ -93,6 +93,9 @@ IsTask name given (PrintSchedule threads seed count) = (name ≡ codes "replay")
 IsTask name given (Source threads order ticks) = (name ≡ codes "source") × AreThreadsGiven given threads
     × IsOrderGiven given order.items
     × IsNumber given (codes "ticks") 100000 0 1000000 ticks
+IsTask name given (Outcomes threads ticks limit) = (name ≡ codes "outcomes") × AreThreadsGiven given threads
+    × IsNumber given (codes "ticks") 100000 0 1000000 ticks
+    × IsNumber given (codes "limit") 100000 0 4294967295 limit
 
 -- a command and what is given for its arguments make this request
 abbrev pub IsRequest : Text → List Row → Request → Type 0

@@ -63,6 +63,11 @@ source_app =
     let threads = with_rule (file_app (codes "source")) (number_rule (codes "threads")) in
     with_rule (with_rule threads order_rule) (number_rule (codes "ticks"))
 
+abbrev pub outcomes_app : App
+outcomes_app =
+    let threads = with_rule (file_app (codes "outcomes")) (number_rule (codes "threads")) in
+    with_rule (with_rule threads (number_rule (codes "ticks"))) (number_rule (codes "limit"))
+
 abbrev pub explain_app : App
 explain_app = with_rule (new_app (codes "explain")) fault_rule
 
@@ -76,4 +81,5 @@ abbrev pub program_app : App
 program_app =
     let lists = with_subcommand (with_subcommand commandless_app check_app.top) listing_app.top in
     let runs = with_subcommand (with_subcommand lists run_app.top) replay_app.top in
-    with_subcommand (with_subcommand runs source_app.top) explain_app.top
+    let of_source = with_subcommand (with_subcommand runs source_app.top) outcomes_app.top in
+    with_subcommand of_source explain_app.top

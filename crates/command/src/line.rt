@@ -3,7 +3,7 @@
 ghost use Rattle.std.specs.Prelude.{◌≡◌, IfOk, codes, false};
 ghost use Rattle.clap.specs.Words.{App, Rule, app_of, new_app, rule_of, with_rule, with_subcommand};
 ghost use Rattle.command.specs.inner.Made.{IsMade};
-ghost use Rattle.command.specs.Line.{file_rule, flag_rule, fault_rule, text_rule, number_rule, order_rule, file_app, check_app, listing_app, run_app, replay_steps_app, replay_app, source_app, explain_app, commandless_app, program_app};
+ghost use Rattle.command.specs.Line.{file_rule, flag_rule, fault_rule, text_rule, number_rule, order_rule, file_app, check_app, listing_app, run_app, replay_steps_app, replay_app, source_app, outcomes_app, explain_app, commandless_app, program_app};
 
 use clap::{Arg, ArgAction, Command, value_parser};
 use std::alloc::{AllocError, Global};
@@ -246,13 +246,41 @@ fn source<'a>(alloc: Global) -> Result<Command<'a>, AllocError>
     );
     let command = with(command, threads(alloc));
     let command = with(command, order(alloc));
-    let ticks = number(
+    with(command, ticks(alloc))
+}
+
+/// The number of ticks.
+fn ticks<'a>(alloc: Global) -> Arg<'a>
+    ensures rule { rule_of result ≡ number_rule (codes "ticks") }
+    ensures global { result.global ≡ false }
+{
+    number(
         alloc,
         "ticks",
         "N",
         "How many ticks each thread has: 0 to 1000000, and 100000 if not given",
+    )
+}
+
+/// The command that lists the outcomes of all orders.
+fn outcomes<'a>(alloc: Global) -> Result<Command<'a>, AllocError>
+    ensures { IfOk result (IsMade outcomes_app) }
+{
+    let command = of_file(
+        alloc,
+        "outcomes",
+        "Lists what can come out of a program: each outcome of its source once, with an order of threads that gives it",
+        "Example:\n  txc outcomes counter.c --threads 2",
     );
-    with(command, ticks)
+    let command = with(command, threads(alloc));
+    let command = with(command, ticks(alloc));
+    let limit = number(
+        alloc,
+        "limit",
+        "L",
+        "How many states are looked at before it stops: 0 to 4294967295, and 100000 if not given",
+    );
+    with(command, limit)
 }
 
 /// The number of a fault.
@@ -337,5 +365,6 @@ pub fn program<'a>(alloc: Global) -> Result<Command<'a>, AllocError>
     let program = with_command(program, run(alloc));
     let program = with_command(program, replay(alloc));
     let program = with_command(program, source(alloc));
+    let program = with_command(program, outcomes(alloc));
     with_command(program, explain(alloc))
 }

@@ -130,6 +130,18 @@ fn source(alloc: Global, given: &ArgMatches<'_>) -> Result<Task, UsageFault>
     })
 }
 
+/// The outcomes of all orders.
+fn outcomes(alloc: Global, given: &ArgMatches<'_>) -> Result<Task, UsageFault>
+    ensures ok { IfOk result (IsTask (codes "outcomes") (rows_of (found_of given.now))) }
+    ensures err { IfErr result (IsOwn (AreNoTask (codes "outcomes") (rows_of (found_of given.now)))) }
+{
+    Ok(Task::Outcomes {
+        threads: threads(alloc, given)?,
+        ticks: number(alloc, given, "ticks", 100000, 0, MOST_TICKS)?,
+        limit: number(alloc, given, "limit", 100000, 0, u32::MAX)?,
+    })
+}
+
 /// What a command over a file does.
 pub(crate) fn task(alloc: Global, name: &str, given: &ArgMatches<'_>) -> Result<Task, UsageFault>
     ensures ok { IfOk result (IsTask name.now (rows_of (found_of given.now))) }
@@ -144,6 +156,7 @@ pub(crate) fn task(alloc: Global, name: &str, given: &ArgMatches<'_>) -> Result<
         }),
         "replay" => replay(alloc, given),
         "source" => source(alloc, given),
+        "outcomes" => outcomes(alloc, given),
         _ => Err(wrong(alloc, "no such command")),
     }
 }

@@ -7,4 +7,5 @@ returns c =
     let three = c.with_command-program-3.ensures _ _ two c.run.ensures in
     let four = c.with_command-program-4.ensures _ _ three c.replay.ensures in
     let five = c.with_command-program-5.ensures _ _ four c.source.ensures in
-    c.with_command.ensures _ _ five c.explain.ensures
+    let six = c.with_command-program-6.ensures _ _ five c.outcomes.ensures in
+    c.with_command.ensures _ _ six c.explain.ensures

@@ -4,4 +4,4 @@ pub returns : goal.returns
 returns c =
     let one = c.with-command.ensures _ _ c.of_file-command.ensures c.threads.ensures.rule c.threads.ensures.global in
     let two = c.with-command-2.ensures _ _ one c.order.ensures.rule c.order.ensures.global in
-    c.with.ensures _ _ two c.number-ticks.ensures.rule c.number-ticks.ensures.global
+    c.with.ensures _ _ two c.ticks.ensures.rule c.ticks.ensures.global
