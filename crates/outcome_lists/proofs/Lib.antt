@@ -1,0 +1,2 @@
+-- one step of a loop that adds outcomes
+mod Outcomes
