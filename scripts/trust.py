@@ -26,6 +26,7 @@ PROMISES = (
     ("`txc run`, by the source alone", "PrintsReport RunsInSomeOrder"),
     ("`txc run`, all", "PrintsReport RunsInSomeOrder RunsAtOnce"),
     ("`txc source`", "PrintsReport RunsInOrder"),
+    ("`txc outcomes`", "PrintsOutcomes"),
     ("`txc replay`, by the source alone", "PrintsReport RunsInSomeOrder behind_events"),
     ("`txc replay`, all", "PrintsReport RunsInSomeOrder behind_events Replays"),
     ("`txc replay --timeline`", "PrintsTimeline RunsInSomeOrder behind_events ReplaysShown"),

@@ -5,12 +5,20 @@ use Rattle.std.specs.Prelude.{if◌then◌else◌}
 use Rattle.report.specs.declared.printed.End.{End}
 use Rattle.report.specs.declared.printed.ThreadShown.{ThreadShown}
 use Rattle.report.specs.Printed as plain
+use Rattle.outcome_lists.specs.declared.shown.OutcomeShown.{OutcomeShown}
+use Rattle.outcome_lists.specs.Lists as lists
+use Rattle.outcome_lists.specs.Views.{outcome_of}
 use Rattle.report.specs.Views.{thread_of}
 use Rattle.serving.specs.Reports.{exit_status, has_stopped, has_trapped, is_stopped, is_trapped}
 
 pub any_shown : {A : Type 0} (p : End → Bool) (threads : List (ThreadShown A)) → list_any (λ (t : plain.ThreadShown). p t.end) (map thread_of threads) ≡ list_any (λ (t : ThreadShown A). p t.end) threads
 any_shown p [] = refl
 any_shown p (t ∷ threads) = ap (λ b. p t.end || b) (any_shown p threads)
+
+-- and so over outcomes
+pub any_outcome : {A : Type 0} (outcomes : List (OutcomeShown A)) → list_any (λ (o : lists.OutcomeShown). has_trapped o.shown) (map outcome_of outcomes) ≡ list_any (λ (o : OutcomeShown A). has_trapped (outcome_of o).shown) outcomes
+any_outcome [] = refl
+any_outcome (o ∷ outcomes) = ap (λ b. has_trapped (outcome_of o).shown || b) (any_outcome outcomes)
 
 -- where the status is 0 or 3 no thread has stopped
 none_by : (stopped trapped : Bool) (status : ℕ) → (status ≡ 0) ⊎ (status ≡ 3) → status ≡ (if stopped then 4 else if trapped then 3 else 0) → stopped ≡ false

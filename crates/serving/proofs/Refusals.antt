@@ -6,7 +6,7 @@ use Rattle.syntax.specs.Grammar.{Source as Spelled}
 use Rattle.syntax.specs.Tree.{Defines, Program}
 use Rattle.separation.specs.Touching.{IsAccepted}
 use Rattle.command.specs.declared.request.Task.{Task}
-use Rattle.command.specs.declared.request.Task.TheVariants.{Check, Listing, Run, Replay, Timeline, Picture, PrintSchedule, Source}
+use Rattle.command.specs.declared.request.Task.TheVariants.{Check, Listing, Run, Replay, Timeline, Picture, PrintSchedule, Source, Outcomes}
 use Rattle.lex.specs.declared.fault.LexFault.TheVariants.{FileTooLong}
 use Rattle.lex.specs.declared.lexer.TheConstants.{MOST_BYTES}
 use Rattle.lower.specs.Faults.{IsFaultOf}
@@ -60,6 +60,7 @@ nothing_printed (Timeline threads steps) schedule text status old new zero three
 nothing_printed (Picture threads steps) schedule text status old new zero three = λ e. absurd (neither status zero three e)
 nothing_printed (PrintSchedule threads seed count) schedule text status old new zero three = λ e. absurd (zero e)
 nothing_printed (Source threads order ticks) schedule text status old new zero three = λ e. absurd (neither status zero three e)
+nothing_printed (Outcomes threads ticks limit) schedule text status old new zero three = λ e. absurd (neither status zero three e)
 
 -- that of a file that was not read
 pub not_read_answers : (known : Option (List ℕ)) (task : Task) (schedule : Option (List ℕ)) (status : ℕ) (old new : Option (List ℕ)) → (status ≡ 2) ⊎ (status ≡ 4) → IfSome known (λ bytes. Answers task schedule bytes status old new)

@@ -14,11 +14,11 @@ use Rattle.serving.specs.Shows.{thread_shown, program_shown}
 use Rattle.serving.specs.Orders.{IsOrderOf}
 use Rattle.serving.specs.inner.Told.{told_shown, report_shown}
 
-reports-told : {A : Type 0} (rs : List (ThreadReport A)) → map report_shown rs ≡ map told_shown (map report_in rs)
+pub reports-told : {A : Type 0} (rs : List (ThreadReport A)) → map report_shown rs ≡ map told_shown (map report_in rs)
 reports-told [] = refl
 reports-told (r ∷ rs) = ap (λ t. report_shown r ∷ t) (reports-told rs)
 
-outcomes-told : (os : List Outcome) → map told_shown (map told os) ≡ map thread_shown os
+pub outcomes-told : (os : List Outcome) → map told_shown (map told os) ≡ map thread_shown os
 outcomes-told [] = refl
 outcomes-told (o ∷ os) = ap (λ t. thread_shown o ∷ t) (outcomes-told os)
 

@@ -3,10 +3,11 @@ use Rattle.std.specs.Prelude.{ℕ, List, Option}
 use Rattle.command.specs.declared.request.Request.{Request}
 use Rattle.command.specs.declared.request.Request.TheVariants.{Program, Explain}
 use Rattle.command.specs.declared.request.Task.{Task}
-use Rattle.command.specs.declared.request.Task.TheVariants.{Check, Listing, Run, Replay, Timeline, Picture, PrintSchedule, Source}
+use Rattle.command.specs.declared.request.Task.TheVariants.{Check, Listing, Run, Replay, Timeline, Picture, PrintSchedule, Source, Outcomes}
 use Rattle.serving.specs.Checks.{SaysAccepted}
 use Rattle.serving.specs.Listings.{PrintsListing}
 use Rattle.serving.specs.Reports.{PrintsReport}
+use Rattle.serving.specs.Outcomes.{PrintsOutcomes}
 use Rattle.serving.specs.Orders.{RunsInOrder, RunsInSomeOrder}
 use Rattle.serving.specs.Runs.{RunsAtOnce}
 use Rattle.serving.specs.Pictures.{PrintsPicture, ReplaysDrawn}
@@ -32,6 +33,7 @@ Answers (PrintSchedule threads seed count) schedule text status old new =
     PrintsSchedule (lines_of_seed seed threads count) text status old new
 Answers (Source threads order ticks) schedule text status old new =
     PrintsReport (RunsInOrder threads ticks order.items text) status old new
+Answers (Outcomes threads ticks limit) schedule text status old new = PrintsOutcomes threads ticks text status old new
 
 -- a request, where these bytes are those of the file
 abbrev pub AnswersRequest : Request → (schedule : Option (List ℕ)) → (bytes : List ℕ) → (status : ℕ) →

@@ -1,14 +1,16 @@
 -- Laws of reports: what a report says of the machine, and what it says of the source.
-use Rattle.std.specs.Prelude.{◌≡◌, ℕ, List, Option, None, false}
+use Rattle.std.specs.Prelude.{◌≡◌, ℕ, List, Option, None, Contains, false}
 use Rattle.syntax.specs.Tree.{Program}
 use Rattle.bytecode.specs.Code.{Code}
 use Rattle.world.specs.declared.stop.WorldStop.{WorldStop}
 use Rattle.replay.specs.declared.line.Line.{Line}
 use Rattle.command.specs.declared.request.Steps.{Steps}
 use Rattle.report.specs.Printed.{Printed}
+use Rattle.outcome_lists.specs.Lists.{OutcomeShown}
 use Rattle.serving.specs.Codes.{IsCodeOf}
 use Rattle.serving.specs.Reports.{has_stopped}
 use Rattle.serving.specs.Orders.{LeavesSomeOrder, RunsInSomeOrder}
+use Rattle.serving.specs.Outcomes.{AreAllOutcomes, reports}
 use Rattle.serving.specs.Runs.{RunsAtOnce}
 use Rattle.serving.specs.Replays.{IsReplayOf, Replays, behind_events}
 
@@ -31,3 +33,11 @@ ReplaysLeaveOrders =
     (p : Program) (code : Code) (threads : ℕ) (found : List Line) (made : List ℕ) (stopped : Option WorldStop)
     (shown : Printed) → IsCodeOf p code → IsReplayOf p code threads found made stopped shown →
     shown.holder ≡ None → LeavesSomeOrder p threads shown
+
+-- what threads show in some order, with some number of ticks, where each of them has ended or trapped, is among all
+-- outcomes
+abbrev pub OrdersAreListed : Type 0
+OrdersAreListed =
+    (threads ticks : ℕ) (text : List ℕ) (os : List OutcomeShown) (shown : Printed) →
+    AreAllOutcomes threads ticks text os → RunsInSomeOrder threads text shown → has_stopped shown ≡ false →
+    Contains (reports os) shown

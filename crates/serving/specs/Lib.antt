@@ -8,6 +8,8 @@ pub mod Checks
 pub mod Shows
 -- threads in an order
 pub mod Orders
+-- the outcomes of all orders
+pub mod Outcomes
 -- the code of a source
 pub mod Codes
 -- listings of code

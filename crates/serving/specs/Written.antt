@@ -14,10 +14,11 @@ use Rattle.command.specs.declared.request.Request.{Request}
 use Rattle.command.specs.declared.request.Request.TheVariants.{Program, Explain}
 use Rattle.command.specs.declared.request.Steps.{Steps}
 use Rattle.command.specs.declared.request.Task.{Task}
-use Rattle.command.specs.declared.request.Task.TheVariants.{Check, Listing, Run, Replay, Timeline, Picture, PrintSchedule, Source}
+use Rattle.command.specs.declared.request.Task.TheVariants.{Check, Listing, Run, Replay, Timeline, Picture, PrintSchedule, Source, Outcomes}
 use Rattle.serving.specs.Checks.{Accepts}
 use Rattle.serving.specs.Codes.{Compiles}
 use Rattle.serving.specs.Listings.{Lists}
+use Rattle.serving.specs.Outcomes.{IsListOfOutcomes}
 use Rattle.serving.specs.Orders.{RunsInOrder}
 use Rattle.serving.specs.Replays.{IsReplayOfText, lines_of_seed}
 use Rattle.serving.specs.Runs.{RunsAtOnce}
@@ -65,6 +66,7 @@ IsAskedFor (Picture threads steps) schedule text written = IsReplayPicture threa
 IsAskedFor (PrintSchedule threads seed count) schedule text written = IsSeedSchedule seed threads count text written
 IsAskedFor (Source threads order ticks) schedule text written =
     IsReportOf (RunsInOrder threads ticks order.items text) written
+IsAskedFor (Outcomes threads ticks limit) schedule text written = IsListOfOutcomes threads ticks text written
 
 -- a text is written, or a beginning of it
 abbrev pub AppendsBeginning : Option (List ℕ) → Option (List ℕ) → List ℕ → Type 0

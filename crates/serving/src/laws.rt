@@ -10,9 +10,12 @@ ghost use Rattle.bytecode.specs.Code.{Code as Plain, effect};
 ghost use Rattle.bytecode.specs.Valid.{IsValid};
 ghost use Rattle.machine.specs.Serializable.{IsOpaque};
 ghost use Rattle.serving.specs.Codes.{IsCodeOf};
-ghost use Rattle.serving.specs.Laws.{ReplaysAreOrders, ReplaysLeaveOrders, RunsAreOrders};
+ghost use Rattle.serving.specs.Laws.{OrdersAreListed, ReplaysAreOrders, ReplaysLeaveOrders, RunsAreOrders};
 
 use bytecode::laws::valid_code_fits_its_cells;
+use lex::laws::one_list_of_tokens;
+use outcomes::laws::ticks_change_nothing;
+use parse::one_tree;
 use syntax::laws::{orders_show_runs, threads_go_on, threads_leave_memories};
 
 /// The theorem about the machine, of programs: for every accepted program, every valid code that means it and has its globals,
@@ -40,4 +43,15 @@ pub fn reports_are_orders()
     orders_show_runs();
     threads_go_on();
     threads_leave_memories();
+}
+
+/// A list of all outcomes has every report. Where all outcomes of a source were listed, and in no order a thread's ticks are used up,
+/// whatever its threads show in some order, with whatever number of ticks, is in the list, if each of them has ended or trapped. And
+/// so is what a run of all threads at once shows: `reports_are_orders` says that it is what an order shows.
+pub fn orders_are_listed()
+    ensures { OrdersAreListed }
+{
+    one_list_of_tokens();
+    one_tree();
+    ticks_change_nothing();
 }

@@ -2,6 +2,7 @@
 //! the exit status tells how it went.
 #![tactic(auto)]
 
+mod all_orders;
 mod at_once;
 mod compiled;
 mod concurrent;
@@ -19,6 +20,7 @@ mod status;
 mod tell;
 mod timeline;
 
+pub use all_orders::{OutcomesFound, list_outcomes};
 pub use compiled::{Compiled, compile};
 pub use listed::list_source;
 pub use opened::{Files, serve_files};

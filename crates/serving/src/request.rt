@@ -1,16 +1,19 @@
 //! Answers a request over readers and writers.
 
-ghost use Rattle.std.specs.Prelude.{◌≡◌, ◌≢◌, ◌≤◌, ◌⊎◌, ◌++◌, IfErr, IfOk, IfSome, None, codes};
+ghost use Rattle.std.specs.Prelude.{◌≡◌, ◌≢◌, ◌≤◌, ◌⊎◌, ◌++◌, IfErr, IfOk, IfSome, None, codes, false, map, true};
 ghost use Rattle.std.specs.Io.KnownBytes.{Appends};
 ghost use Rattle.serving.specs.Answers.{Answers, AnswersRequest};
 ghost use Rattle.replay.specs.Replays.{played, timeline_of};
 ghost use Rattle.report.specs.Report.{report_text};
 ghost use Rattle.report.specs.Timeline.{timeline_text};
 ghost use Rattle.report.specs.Views.{printed_of};
+ghost use Rattle.outcome_lists.specs.Lists.{list_text};
+ghost use Rattle.outcome_lists.specs.Views.{outcome_of};
 ghost use Rattle.serving.specs.Checks.{Accepts, SaysAccepted};
 ghost use Rattle.serving.specs.Listings.{Lists, PrintsListing};
 ghost use Rattle.picture.specs.Replayed.{IsDrawn};
 ghost use Rattle.serving.specs.Orders.{RunsInOrder, RunsInSomeOrder};
+ghost use Rattle.serving.specs.Outcomes.{IsListOfOutcomes, PrintsOutcomes, outcomes_status};
 ghost use Rattle.serving.specs.Pictures.{PrintsPicture, ReplaysDrawn};
 ghost use Rattle.serving.specs.Refusals.{IsRefused};
 ghost use Rattle.serving.specs.Replays.{IsReplayOfText, PrintsSchedule, PrintsTimeline, Replays, ReplaysShown, behind_events, lines_of_seed};
@@ -19,6 +22,7 @@ ghost use Rattle.serving.specs.Runs.{RunsAtOnce};
 ghost use Rattle.serving.specs.Written.{AppendsBeginning, IsAskedFor, IsReplayPicture, IsReplayReport, IsReplayTimeline, IsReportOf, IsSeedSchedule, WritesFor, WritesPart};
 ghost use Rattle.serving.specs.inner.Printing.{PrintsBehind, PrintsShown};
 
+use crate::all_orders::{OutcomesFound, list_outcomes, status_of_outcomes};
 use crate::compiled::{Compiled, compile};
 use crate::concurrent::{ThreadsFault, run_threads};
 use crate::laws::reports_are_orders;
@@ -37,6 +41,7 @@ use crate::timeline::lines_shown;
 use bytecode::Code;
 use command::{Request, Steps, Task};
 use faults::explanation;
+use outcome_lists::list_text;
 use picture::replay_picture;
 use replay::write_schedule;
 use report::{Printed, report_text};
@@ -48,12 +53,14 @@ use world::StopReason;
 
 /// Does what is asked over two readers and two writers, and gives the exit status.
 ///
-/// The source's text is read from `source`, and a schedule from `schedule`, once the source has code. The report, `accepted` or
-/// what a fault means goes to `out`, and faults to `err`; what `err` does not take is lost. Where `err` is a terminal, or the words
-/// ask for it, the line of the source or of the schedule follows its fault. The status is 0 where all threads ended, the source
-/// is accepted or a fault is explained, 1 where the source is refused and nothing is printed, 2 where it or the schedule cannot be read or is not
-/// UTF-8, the schedule or an order is refused, or the words are of no use, 3 where a thread trapped, and 4 where one did neither,
-/// a step was not made, or memory or `out` was refused.
+/// The source's text is read from `source`, and a schedule from `schedule`, once the source has code. The report, the
+/// list of outcomes, `accepted` or what a fault means goes to `out`, and faults to `err`; what `err` does not take is
+/// lost. Where `err` is a terminal, or the words ask for it, the line of the source or of the schedule follows its
+/// fault. The status is 0 where all threads ended, all outcomes were listed, the source is accepted or a fault is
+/// explained, 1 where the source is refused and nothing is printed, 2 where it or the schedule cannot be read or is
+/// not UTF-8, the schedule or an order is refused, or the words are of no use, 3 where a thread trapped, in a run or
+/// in some outcome, and 4 where one did neither, there may be more outcomes, a step was not made, or memory or `out`
+/// was refused.
 pub fn serve<H: Threads + Wait + Sync, R: Read + Drop, S: Read + Drop, W: Write, E: Write>(
     rt: &H,
     alloc: Global,
@@ -193,6 +200,20 @@ fn work<H: Threads + Wait + Sync, S: Read + Drop, W: Write, E: Write>(
             *threads,
             order.as_slice(),
             u64::from(*ticks),
+            detail,
+            out,
+            err,
+        ),
+        Task::Outcomes {
+            threads,
+            ticks,
+            limit,
+        } => all_outcomes(
+            alloc,
+            text,
+            *threads,
+            u64::from(*ticks),
+            *limit as usize,
             detail,
             out,
             err,
@@ -396,6 +417,57 @@ fn in_order<A: Allocator + Copy, W: Write, E: Write>(
         Ok(printed) => print_report(alloc, &printed, out, err),
         Err(OrderFault::Source(fault)) => refuse(alloc, text, fault, detail, err),
         Err(OrderFault::Order(fault)) => refuse_order(fault, detail, err),
+    }
+}
+
+/// Lists the outcomes of a source's threads over all orders.
+fn all_outcomes<A: Allocator + Copy, W: Write, E: Write>(
+    alloc: A,
+    text: &str,
+    threads: u32,
+    ticks: u64,
+    limit: usize,
+    detail: Detail,
+    out: &mut W,
+    err: &mut E,
+) -> u8
+    ensures status { result ≤ 4 }
+    ensures outcomes { PrintsOutcomes threads ticks text.now result (W.contents out.old) (W.contents out.new) }
+    ensures refused { result ≡ 1 → IsRefused text.now }
+    ensures written { WritesPart (IsListOfOutcomes threads ticks text.now) (W.contents out.old) (W.contents out.new) }
+    ensures untouched { result ≡ 1 → W.contents out.new ≡ W.contents out.old }
+{
+    match list_outcomes(alloc, text, threads, ticks, limit, detail.lines, err) {
+        Ok(found) => print_outcomes(alloc, &found, out, err),
+        Err(OrderFault::Source(fault)) => refuse(alloc, text, fault, detail, err),
+        Err(OrderFault::Order(fault)) => refuse_order(fault, detail, err),
+    }
+}
+
+/// Prints a list of outcomes, and gives the exit status.
+fn print_outcomes<A: Allocator + Copy, W: Write, E: Write>(
+    alloc: A,
+    found: &OutcomesFound<A>,
+    out: &mut W,
+    err: &mut E,
+) -> u8
+    ensures status { result ≤ 4 }
+    ensures not_refused { result ≢ 1 }
+    ensures whole { result ≢ 4 → (found.now.is_whole ≡ true) × (found.now.is_spent ≡ false) × (result ≡ outcomes_status (map outcome_of found.now.outcomes.items)) }
+    ensures printed { result ≢ 4 → Appends (W.contents out.old) (W.contents out.new) (list_text (map outcome_of found.now.outcomes.items) found.now.orders found.now.is_whole) }
+    ensures written { WritesPart (λ written. written ≡ list_text (map outcome_of found.now.outcomes.items) found.now.orders found.now.is_whole) (W.contents out.old) (W.contents out.new) }
+{
+    match list_text(
+        alloc,
+        found.outcomes.as_slice(),
+        found.orders,
+        found.is_whole,
+    ) {
+        Ok(text) => match print(text.as_slice(), out) {
+            Ok(()) => status_of_outcomes(found),
+            Err(_) => cannot_write(err),
+        },
+        Err(_) => out_of_memory(err),
     }
 }
 

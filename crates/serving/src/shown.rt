@@ -15,6 +15,25 @@ use report::{End, Printed, Shown, ThreadShown};
 use std::alloc::{AllocError, Allocator};
 use syntax::tree::{Global, Item, Unit};
 
+/// What a report shows of this memory, and of threads after their turns.
+pub(crate) fn shown_with<A: Allocator + Copy>(
+    alloc: A,
+    unit: &Unit<A>,
+    memory: &[u64],
+    threads: Vec<ThreadReport<A>, A>,
+) -> Result<Printed<A>, AllocError>
+    ensures { IfOk result (λ r. printed_of r ≡ program_shown (program_of unit.now) (map report_shown threads.items) memory.now) }
+{
+    let globals = globals_shown(alloc, unit, memory)?;
+    let threads = threads_shown(alloc, threads)?;
+    Ok(Printed {
+        events: None,
+        threads,
+        globals,
+        holder: None,
+    })
+}
+
 /// What the report of threads in an order shows.
 pub(crate) fn shown_in_order<A: Allocator + Copy>(
     alloc: A,
@@ -24,14 +43,8 @@ pub(crate) fn shown_in_order<A: Allocator + Copy>(
     ensures { IfOk result (λ r. printed_of r ≡ program_shown (program_of unit.now) (map report_shown ran.threads.items) ran.memory.items) }
 {
     let memory = wide(alloc, ran.memory.as_slice())?;
-    let globals = globals_shown(alloc, unit, memory.as_slice())?;
-    let threads = threads_shown(alloc, ran.threads)?;
-    Ok(Printed {
-        events: None,
-        threads,
-        globals,
-        holder: None,
-    })
+    let shown = shown_with(alloc, unit, memory.as_slice(), ran.threads)?;
+    Ok(shown)
 }
 
 /// What is shown of threads after their turns.

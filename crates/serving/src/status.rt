@@ -45,7 +45,7 @@ fn has_stopped<A: Allocator>(threads: &[ThreadShown<A>]) -> bool
 }
 
 /// Whether some thread has trapped.
-fn has_trapped<A: Allocator>(threads: &[ThreadShown<A>]) -> bool
+pub(crate) fn has_trapped<A: Allocator>(threads: &[ThreadShown<A>]) -> bool
     ensures { result ≡ list_any (λ t. is_trapped t.end) threads.now }
 {
     threads.iter().any(|thread| is_trapped(thread.end))
