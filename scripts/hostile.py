@@ -102,6 +102,7 @@ def commands(txc, name, order):
     yield [txc, "check", file]
     yield [txc, "listing", file]
     yield [txc, "source", file, "--threads", "2", "--order", order]
+    yield [txc, "outcomes", file, "--threads", "2"]
     yield [txc, "replay", file, *schedule]
     yield [txc, "replay", file, *schedule, "--timeline"]
     yield [txc, "replay", file, *schedule, "--picture"]

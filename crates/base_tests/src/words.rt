@@ -113,6 +113,50 @@ fn reads_orders(rt: HostRuntime) {
     assert_none(&rt, ask_otherwise(rt.alloc(), orders()));
 }
 
+fn outcomes() -> &'static [Row] {
+    static ROWS: [Row; 8] = [
+        (
+            "txc|outcomes|a.c",
+            br#"Ok(Program { file: "a.c", verbose: false, task: Outcomes { threads: 1, ticks: 100000, limit: 100000 } })"#,
+        ),
+        (
+            "txc|outcomes|--threads=64|--ticks=1000000|--limit=4294967295|a.c|--verbose",
+            br#"Ok(Program { file: "a.c", verbose: true, task: Outcomes { threads: 64, ticks: 1000000, limit: 4294967295 } })"#,
+        ),
+        (
+            "txc|outcomes|a.c|--limit|0|--ticks|0|--threads|2",
+            br#"Ok(Program { file: "a.c", verbose: false, task: Outcomes { threads: 2, ticks: 0, limit: 0 } })"#,
+        ),
+        (
+            "txc|outcomes|--threads=0|a.c",
+            br#"Err(Wrong { text: "txc: usage: --threads is 1 to 64\n" })"#,
+        ),
+        (
+            "txc|outcomes|--threads=65|a.c",
+            br#"Err(Wrong { text: "txc: usage: --threads is 1 to 64\n" })"#,
+        ),
+        (
+            "txc|outcomes|--ticks=1000001|a.c",
+            br#"Err(Wrong { text: "txc: usage: --ticks is 0 to 1000000\n" })"#,
+        ),
+        // the first that is wrong is told
+        (
+            "txc|outcomes|--ticks=1000001|--threads=0|a.c",
+            br#"Err(Wrong { text: "txc: usage: --threads is 1 to 64\n" })"#,
+        ),
+        (
+            "txc|outcomes|--limit=4294967295|--ticks=1000000|a.c",
+            br#"Ok(Program { file: "a.c", verbose: false, task: Outcomes { threads: 1, ticks: 1000000, limit: 4294967295 } })"#,
+        ),
+    ];
+    &ROWS
+}
+
+#[test]
+fn reads_outcomes(rt: HostRuntime) {
+    assert_none(&rt, ask_otherwise(rt.alloc(), outcomes()));
+}
+
 /// Orders that the program itself refuses.
 fn refused_orders() -> &'static [Row] {
     static ROWS: [Row; 11] = [
@@ -307,8 +351,11 @@ fn have_not(
 
 /// What is no command line of the program.
 fn wrong_lines() -> &'static [&'static str] {
-    static LINES: [&str; 12] = [
+    static LINES: [&str; 15] = [
         "txc",
+        "txc|outcomes",
+        "txc|outcomes|a.c|--order=0",
+        "txc|outcomes|a.c|--limit=4294967296",
         "txc|run|--threads=65|a.c",
         "txc|run|--budget=-1|a.c",
         "txc|listing|--threads=2|a.c",
@@ -334,8 +381,9 @@ const HELP: &str = "Err(Help {";
 
 /// Lines that ask for the help of a command.
 fn help_lines() -> &'static [&'static str] {
-    static LINES: [&str; 6] = [
+    static LINES: [&str; 7] = [
         "txc|help|run",
+        "txc|outcomes|--help",
         "txc|run|--help",
         "txc|check|--help",
         "txc|replay|--help",

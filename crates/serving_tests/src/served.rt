@@ -4,7 +4,8 @@ use command::{Request, UsageFault};
 use refusing::Refusing;
 use report::report_text;
 use serving::{
-    Detail, OrderFault, list_source, not_read as tell_unread, run_in_order, serve, tell_usage,
+    Detail, OrderFault, list_outcomes, list_source, not_read as tell_unread, run_in_order, serve,
+    tell_usage,
 };
 use serving_in_memory::{
     ADDS, Answer, Broken, Row, answers, is_answer, request_of, serve_bytes, wrong_row,
@@ -437,6 +438,7 @@ const ADDS_TWO_REPORT: &[u8] =
 enum Call {
     RunInOrder,
     List,
+    ListOutcomes,
 }
 
 // Whether a run in an order is reported as it should be; or the number of its fault.
@@ -459,10 +461,20 @@ fn lists<A: Allocator + Copy>(alloc: A) -> Result<bool, u32> {
     }
 }
 
+// Whether there is the one outcome that there should be; or the number of its fault.
+fn finds_one<A: Allocator + Copy>(alloc: A) -> Result<bool, u32> {
+    match list_outcomes(alloc, ADDS_TWO, 2, 1000, 100, false, &mut Closed) {
+        Ok(found) => Ok(found.is_whole && found.outcomes.len() == 1 && found.orders == 2),
+        Err(OrderFault::Source(fault)) => Err(fault.number()),
+        Err(OrderFault::Order(fault)) => Err(fault.number()),
+    }
+}
+
 fn is_right<A: Allocator + Copy>(alloc: A, call: Call) -> Result<bool, u32> {
     match call {
         Call::RunInOrder => reports(alloc),
         Call::List => lists(alloc),
+        Call::ListOutcomes => finds_one(alloc),
     }
 }
 
@@ -498,6 +510,11 @@ fn each_growth_is_refused_once(rt: HostRuntime) {
 #[test]
 fn each_growth_of_a_listing_is_refused_once(rt: HostRuntime) {
     assert!(rt; growths(rt.alloc(), Call::List) > Some(0));
+}
+
+#[test]
+fn each_growth_of_outcomes_is_refused_once(rt: HostRuntime) {
+    assert!(rt; growths(rt.alloc(), Call::ListOutcomes) > Some(0));
 }
 
 fn at_once() -> &'static [Row] {

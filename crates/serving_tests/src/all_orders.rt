@@ -1,0 +1,306 @@
+//! The outcomes of sources over all orders of their threads, and that what is listed is what orders and runs show.
+
+use report::{Printed, report_text};
+use serving::{OutcomesFound, list_outcomes, run_in_order};
+use serving_in_memory::{ADDS, Row, answers, serve_line, wrong_row};
+use std::alloc::Global;
+use std::sync::Wait;
+use std::thread::Threads;
+
+const LAST: &str = "int x; void worker(int self) { __transaction_atomic { x = self; } }";
+
+/// Each thread shows how many were before it.
+const SAYS: &str =
+    "int x; void worker(int self) { int k; __transaction_atomic { k = x; x = x + 1; } printf(\"%d\", k); }";
+
+/// Each thread takes its place where both are free: whole transactions leave one.
+const SKEW: &str =
+    "int a = 1, b = 1; void worker(int self) { __transaction_atomic { if (a + b == 2) { if (self) a = 0; else b = 0; } } }";
+
+/// 7 is left by one order of three threads alone.
+const THIRD: &str =
+    "int x; void worker(int self) { __transaction_atomic { if (x == self) x = x + 1; if (x == 3) x = 7; } }";
+
+/// The first thread traps.
+const TRAPS: &str =
+    "int x; void worker(int self) { int k; __transaction_atomic { k = x; x = 1; } k = 1 / k; }";
+
+fn listed() -> &'static [Row] {
+    static ROWS: [Row; 13] = [
+        (
+            "txc outcomes a.c --threads 2",
+            ADDS,
+            b"",
+            (
+                0,
+                b"== outcome --order 0,1\n== thread 0: ended\n== thread 1: ended\n== memory\nx = 2\n== outcomes: 1, orders: 2\n",
+                b"",
+            ),
+        ),
+        (
+            "txc outcomes a.c --threads 2",
+            b"int x; void worker(int self) { __transaction_atomic { x = self; } }",
+            b"",
+            (
+                0,
+                b"== outcome --order 0,1\n== thread 0: ended\n== thread 1: ended\n== memory\nx = 1\n== outcome --order 1,0\n== thread 0: ended\n== thread 1: ended\n== memory\nx = 0\n== outcomes: 2, orders: 2\n",
+                b"",
+            ),
+        ),
+        (
+            "txc outcomes a.c --threads 2",
+            b"int a = 1, b = 1; void worker(int self) { __transaction_atomic { if (a + b == 2) { if (self) a = 0; else b = 0; } } }",
+            b"",
+            (
+                0,
+                b"== outcome --order 0,1\n== thread 0: ended\n== thread 1: ended\n== memory\na = 1\nb = 0\n== outcome --order 1,0\n== thread 0: ended\n== thread 1: ended\n== memory\na = 0\nb = 1\n== outcomes: 2, orders: 2\n",
+                b"",
+            ),
+        ),
+        // what is printed, and a trap
+        (
+            "txc outcomes a.c --threads 2",
+            b"int x; void worker(int self) { int k; __transaction_atomic { k = x; x = 1; } k = 1 / k; printf(\"%d\", k); }",
+            b"",
+            (
+                3,
+                b"== outcome --order 0,1\n== thread 0: trap 2\n== thread 1: ended\n1\n== memory\nx = 1\n== outcome --order 1,0\n== thread 0: ended\n1\n== thread 1: trap 2\n== memory\nx = 1\n== outcomes: 2, orders: 2\n",
+                b"",
+            ),
+        ),
+        // a thread without transactions has no turn
+        (
+            "txc outcomes a.c",
+            b"void worker(int self) { printf(\"%d\", self); }",
+            b"",
+            (
+                0,
+                b"== outcome --order ''\n== thread 0: ended\n0\n== memory\n== outcomes: 1, orders: 1\n",
+                b"",
+            ),
+        ),
+        // a thread whose ticks are used up; one that waits for nothing until they are, and one that has none
+        (
+            "txc outcomes a.c --ticks 1000",
+            b"int x; void worker(int self) { __transaction_atomic { x = 5; } while (1) { } }",
+            b"",
+            (
+                4,
+                b"== outcome --order 0\n== thread 0: spent\n== memory\nx = 5\n== outcomes: 1, orders: 1\n",
+                b"",
+            ),
+        ),
+        (
+            "txc outcomes a.c --threads 2 --ticks 1000",
+            b"int x; void worker(int self) { int k; __transaction_atomic { k = x; x = 1; } while (k) { } }",
+            b"",
+            (
+                4,
+                b"== outcome --order 0,1\n== thread 0: ended\n== thread 1: spent\n== memory\nx = 1\n== outcome --order 1,0\n== thread 0: spent\n== thread 1: ended\n== memory\nx = 1\n== outcomes: 2, orders: 2\n",
+                b"",
+            ),
+        ),
+        (
+            "txc outcomes a.c --ticks 0",
+            ADDS,
+            b"",
+            (
+                4,
+                b"== outcome --order ''\n== thread 0: spent\n== memory\nx = 0\n== outcomes: 1, orders: 1\n",
+                b"",
+            ),
+        ),
+        // more states than the limit: that of the beginning, one behind each thread's turn, and that of the end
+        (
+            "txc outcomes a.c --threads 2 --limit 0",
+            ADDS,
+            b"",
+            (4, b"== outcomes: 0, orders: 0, stopped at the limit\n", b""),
+        ),
+        (
+            "txc outcomes a.c --threads 2 --limit 1",
+            ADDS,
+            b"",
+            (4, b"== outcomes: 0, orders: 0, stopped at the limit\n", b""),
+        ),
+        (
+            "txc outcomes a.c --limit 2",
+            ADDS,
+            b"",
+            (
+                0,
+                b"== outcome --order 0\n== thread 0: ended\n== memory\nx = 1\n== outcomes: 1, orders: 1\n",
+                b"",
+            ),
+        ),
+        (
+            "txc outcomes a.c --limit 1",
+            b"int x; void worker(int self) { }",
+            b"",
+            (
+                0,
+                b"== outcome --order ''\n== thread 0: ended\n== memory\nx = 0\n== outcomes: 1, orders: 1\n",
+                b"",
+            ),
+        ),
+        (
+            "txc outcomes a.c --threads 2",
+            b"int x;\nvoid worker(int self) { x = 1; }",
+            b"",
+            (
+                1,
+                b"",
+                b"txc: fault 50 at 2:25: shared access outside a transaction\n",
+            ),
+        ),
+    ];
+    &ROWS
+}
+
+#[test]
+fn lists_outcomes(rt: HostRuntime) {
+    assert_eq!(rt; wrong_row(&rt, rt.alloc(), listed()), None);
+}
+
+/// Threads that each add 40 times.
+const MANY: &[u8] =
+    b"int x; void worker(int self) { int i; for (i = 0; i < 40; i++) __transaction_atomic { x = x + 1; } }";
+
+#[test]
+fn shows_how_far_it_is(rt: HostRuntime) {
+    let line = "txc outcomes a.c --threads 2 --limit 2500";
+    let told = b"== outcomes: 0, orders: 0, stopped at the limit\n".as_slice();
+    let shown = b"txc: 2001 states\n".as_slice();
+    assert!(rt; answers(&rt, rt.alloc(), line, MANY, b"", false, (4, told, b"")));
+    assert!(rt; answers(&rt, rt.alloc(), line, MANY, b"", true, (4, told, shown)));
+}
+
+/// Sources with their numbers of threads, and how many outcomes there are.
+fn sources() -> &'static [(&'static str, u32, usize)] {
+    static SOURCES: [(&str, u32, usize); 10] = [
+        (LAST, 2, 2),
+        (LAST, 3, 3),
+        (SAYS, 2, 2),
+        (SAYS, 3, 6),
+        (SKEW, 2, 2),
+        (SKEW, 3, 2),
+        (THIRD, 2, 2),
+        (THIRD, 3, 3),
+        (TRAPS, 2, 2),
+        (TRAPS, 3, 3),
+    ];
+    &SOURCES
+}
+
+// The text of a report.
+fn text_of(alloc: Global, printed: &Printed) -> Option<Vec<u8>> {
+    report_text(alloc, printed).ok()
+}
+
+// The report of a source's threads in an order.
+fn report_in(alloc: Global, source: &str, threads: u32, order: &[u32]) -> Option<Vec<u8>> {
+    match run_in_order(alloc, source, threads, order, 100000) {
+        Ok(printed) => text_of(alloc, &printed),
+        Err(_) => None,
+    }
+}
+
+// The outcomes of a source.
+fn found_of(alloc: Global, source: &str, threads: u32) -> Option<OutcomesFound> {
+    let mut err = Vec::new(alloc);
+    list_outcomes(alloc, source, threads, 100000, 10000, false, &mut err).ok()
+}
+
+// Whether there are so many outcomes, and each is what the report of its order shows.
+fn are_of_orders(alloc: Global, source: &str, threads: u32, count: usize) -> bool {
+    let Some(found) = found_of(alloc, source, threads) else {
+        return false;
+    };
+    for one in &found.outcomes {
+        let report = report_in(alloc, source, threads, one.order.as_slice());
+        if report.is_none() || report != text_of(alloc, &one.shown) {
+            return false;
+        }
+    }
+    found.is_whole && !found.is_spent && found.outcomes.len() == count
+}
+
+// The first of these sources whose outcomes are not those of their orders.
+fn wrong_orders(alloc: Global) -> Option<&'static str> {
+    for (source, threads, count) in sources() {
+        if !are_of_orders(alloc, source, *threads, *count) {
+            return Some(*source);
+        }
+    }
+    None
+}
+
+#[test]
+fn outcomes_are_those_of_their_orders(rt: HostRuntime) {
+    assert_eq!(rt; wrong_orders(rt.alloc()), None);
+}
+
+// Whether a report is that of one of these outcomes.
+fn has_report(alloc: Global, found: &OutcomesFound, report: &[u8]) -> bool {
+    for one in &found.outcomes {
+        if let Some(text) = text_of(alloc, &one.shown)
+            && text.as_slice() == report
+        {
+            return true;
+        }
+    }
+    false
+}
+
+// What a run of all threads at once prints.
+fn run_of<H: Threads + Wait + Sync>(
+    rt: &H,
+    alloc: Global,
+    source: &str,
+    threads: u32,
+) -> Option<Vec<u8>> {
+    let line = if threads == 2 {
+        "txc run a.c --threads 2"
+    } else {
+        "txc run a.c --threads 3"
+    };
+    match serve_line(rt, alloc, line, source.as_bytes(), b"", false) {
+        Some(served) => Some(served.out),
+        None => None,
+    }
+}
+
+// Whether each of 20 runs of a source is one of its outcomes.
+fn runs_are_listed<H: Threads + Wait + Sync>(
+    rt: &H,
+    alloc: Global,
+    source: &str,
+    threads: u32,
+) -> bool {
+    let Some(found) = found_of(alloc, source, threads) else {
+        return false;
+    };
+    for _ in 0..20 {
+        match run_of(rt, alloc, source, threads) {
+            Some(report) if has_report(alloc, &found, report.as_slice()) => {}
+            _ => return false,
+        }
+    }
+    true
+}
+
+// The first of these sources that ran otherwise.
+fn wrong_run<H: Threads + Wait + Sync>(rt: &H, alloc: Global) -> Option<&'static str> {
+    for (source, threads, _) in sources() {
+        if !runs_are_listed(rt, alloc, source, *threads) {
+            return Some(*source);
+        }
+    }
+    None
+}
+
+/// 200 runs.
+#[test]
+fn runs_are_among_the_outcomes(rt: HostRuntime) {
+    assert_eq!(rt; wrong_run(&rt, rt.alloc()), None);
+}
