@@ -1,6 +1,6 @@
 #!/usr/bin/env python3
 """Measures `txc run` against Lua, on work of one thread, and against GCC's transactional memory, with one and four threads; and
-how long the longest replays and many turns of a source take.
+how long the longest replays, many turns of a source and all outcomes of small programs take.
 
     scripts/run_speed.py [ROUNDS]
 
@@ -10,7 +10,7 @@ the peers have besides in scripts/workloads. GCC compiles them by -O2 -fgnu-tm, 
 -fwrapv. The program is crates/txc/out/txc, which `cd crates/txc && rt run -- --version`
 builds. What is not installed is named and left out. What a run leaves in memory is compared with what it must be.
 """
-import os, re, shutil, statistics, subprocess, sys, tempfile, time
+import os, re, resource, shutil, statistics, subprocess, sys, tempfile, time
 
 TOP = os.path.dirname(os.path.dirname(os.path.abspath(__file__)))
 PROGRAMS = os.path.join(TOP, 'examples', 'bench')
@@ -63,13 +63,13 @@ def is_right(name, report, threads):
 
 
 def run(words, more):
-    """Runs a command: its processor time, its time on the clock, and what it wrote."""
+    """Runs a command: its processor time, its time on the clock, the most memory that it held, in MiB, and what it wrote."""
     start = time.perf_counter()
     child = subprocess.Popen(words, stdout=subprocess.PIPE, text=True, env={**os.environ, **more})
     wrote = child.stdout.read()
     _, _, used = os.wait4(child.pid, 0)
     child.returncode = 0
-    return used.ru_utime + used.ru_stime, time.perf_counter() - start, wrote
+    return used.ru_utime + used.ru_stime, time.perf_counter() - start, used.ru_maxrss / 1024, wrote
 
 
 def measured(rounds, sides, threads):
@@ -77,7 +77,7 @@ def measured(rounds, sides, threads):
     times = {side: [] for side in sides}
     for _ in range(rounds):
         for side, (name, words, more) in sides.items():
-            cpu, clock, wrote = run(words, more)
+            cpu, clock, _, wrote = run(words, more)
             if words[:2] == [TXC, 'run'] and not is_right(name, wrote, threads):
                 sys.exit(f'txc run of {name} with {threads} threads left something else than it must:\n{wrote[:500]}')
             times[side].append(cpu if threads == 1 else clock)
@@ -123,6 +123,40 @@ def turns(rounds):
             print(f'| {n:,} | {1000 * least:.0f} |')
 
 
+# A source for all outcomes of it: how it is called, its file or its text, how many threads, and how many outcomes over how many
+# orders there are.
+ALL = [
+    ('`counter.c`, three transactions each', os.path.join(TOP, 'examples', 'counter.c'), 3, 'outcomes: 1, orders: 1680'),
+    ('two transactions each that add to a word', 'int x; void worker(int self) { int i; for (i = 0; i < 2; i++) { __transaction_atomic { x = x + 1; } } }', 4, 'outcomes: 1, orders: 2520'),
+    ('one transaction each that shows how many were before', 'int x; void worker(int self) { int k; __transaction_atomic { k = x; x = x + 1; } printf("%d", k); }', 6, 'outcomes: 720, orders: 720'),
+    ('`counter.c`, stopped at 100,000 states', os.path.join(TOP, 'examples', 'counter.c'), 4, 'outcomes: 0, orders: 0, stopped at the limit'),
+    ('`queue.c`, stopped at 100,000 states', os.path.join(TOP, 'examples', 'queue.c'), 2, 'stopped at the limit'),
+]
+
+
+def outcomes(rounds):
+    """Prints how long all outcomes of small programs take, and how much memory, at least over the rounds."""
+    own = resource.getrusage(resource.RUSAGE_SELF).ru_maxrss / 1024 + 1
+    print('\n`txc outcomes`, processor time and the most memory held\n\n| Of | Threads | ms | MiB |\n|---|---|---|---|')
+    with tempfile.TemporaryDirectory() as place:
+        for name, source, threads, last in ALL:
+            file = source
+            if not source.endswith('.c'):
+                file = os.path.join(place, 'all.c')
+                with open(file, 'w', encoding='utf-8') as text:
+                    text.write(source)
+            figures = []
+            for _ in range(rounds):
+                cpu, _, held, wrote = run([TXC, 'outcomes', file, '--threads', str(threads)], {})
+                if not wrote.endswith(last + '\n'):
+                    sys.exit(f'txc outcomes of {name} ended otherwise:\n{wrote[-500:]}')
+                figures.append((cpu, held))
+            held = min(held for _, held in figures)
+            # A process is counted with what this one held as it was started.
+            shown = f'{held:.0f}' if held > own else f'under {own:.0f}'
+            print(f'| {name} | {threads} | {1000 * min(cpu for cpu, _ in figures):.0f} | {shown} |')
+
+
 def main():
     rounds = int(sys.argv[1]) if len(sys.argv) > 1 else 9
     if not os.path.exists(TXC):
@@ -133,6 +167,7 @@ def main():
         print('lua5.4 is not installed: primes, fib and compute are left out')
     replays(rounds)
     turns(rounds)
+    outcomes(rounds)
     with tempfile.TemporaryDirectory() as place:
         for name in SHARED:
             built = shutil.which('gcc') and subprocess.run(
