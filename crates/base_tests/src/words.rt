@@ -39,14 +39,18 @@ fn ask_otherwise(alloc: Global, rows: &[Row]) -> Option<&'static str> {
 }
 
 fn runs() -> &'static [Row] {
-    static ROWS: [Row; 2] = [
+    static ROWS: [Row; 3] = [
         (
             "txc|run|a.c",
-            br#"Ok(Program { file: "a.c", verbose: false, task: Run { threads: 1, budget: 4294967295 } })"#,
+            br#"Ok(Program { file: "a.c", verbose: false, format: Plain, task: Run { threads: 1, budget: 4294967295, counts: false } })"#,
         ),
         (
             "txc|run|--threads|64|--budget=0|a.c",
-            br#"Ok(Program { file: "a.c", verbose: false, task: Run { threads: 64, budget: 0 } })"#,
+            br#"Ok(Program { file: "a.c", verbose: false, format: Plain, task: Run { threads: 64, budget: 0, counts: false } })"#,
+        ),
+        (
+            "txc|run|a.c|--counts|--format|short",
+            br#"Ok(Program { file: "a.c", verbose: false, format: Short, task: Run { threads: 1, budget: 4294967295, counts: true } })"#,
         ),
     ];
     &ROWS
@@ -61,11 +65,11 @@ fn words() -> &'static [Row] {
     static ROWS: [Row; 3] = [
         (
             "txc|listing|a.c",
-            br#"Ok(Program { file: "a.c", verbose: false, task: Listing })"#,
+            br#"Ok(Program { file: "a.c", verbose: false, format: Plain, task: Listing })"#,
         ),
         (
             "txc|check|--verbose|b.c",
-            br#"Ok(Program { file: "b.c", verbose: true, task: Check })"#,
+            br#"Ok(Program { file: "b.c", verbose: true, format: Plain, task: Check })"#,
         ),
         ("txc|explain|40", b"Ok(Explain { number: 40 })"),
     ];
@@ -81,28 +85,28 @@ fn orders() -> &'static [Row] {
     static ROWS: [Row; 6] = [
         (
             "txc|source|--order||--threads|2|a.c",
-            br#"Ok(Program { file: "a.c", verbose: false, task: Source { threads: 2, order: [], ticks: 100000 } })"#,
+            br#"Ok(Program { file: "a.c", verbose: false, format: Plain, task: Source { threads: 2, order: [], ticks: 100000 } })"#,
         ),
         (
             "txc|source|--order|0|--threads|2|a.c",
-            br#"Ok(Program { file: "a.c", verbose: false, task: Source { threads: 2, order: [0], ticks: 100000 } })"#,
+            br#"Ok(Program { file: "a.c", verbose: false, format: Plain, task: Source { threads: 2, order: [0], ticks: 100000 } })"#,
         ),
         (
             "txc|source|--order|0,1,0|--threads|2|a.c",
-            br#"Ok(Program { file: "a.c", verbose: false, task: Source { threads: 2, order: [0, 1, 0], ticks: 100000 } })"#,
+            br#"Ok(Program { file: "a.c", verbose: false, format: Plain, task: Source { threads: 2, order: [0, 1, 0], ticks: 100000 } })"#,
         ),
         (
             "txc|source|--order|4294967295,007|--threads|2|a.c",
-            br#"Ok(Program { file: "a.c", verbose: false, task: Source { threads: 2, order: [4294967295, 7], ticks: 100000 } })"#,
+            br#"Ok(Program { file: "a.c", verbose: false, format: Plain, task: Source { threads: 2, order: [4294967295, 7], ticks: 100000 } })"#,
         ),
         // a thread that there is not is no matter of the words
         (
             "txc|source|--order|2|--threads|2|a.c",
-            br#"Ok(Program { file: "a.c", verbose: false, task: Source { threads: 2, order: [2], ticks: 100000 } })"#,
+            br#"Ok(Program { file: "a.c", verbose: false, format: Plain, task: Source { threads: 2, order: [2], ticks: 100000 } })"#,
         ),
         (
             "txc|source|--ticks=0|--threads=64|--order=1|a.c|--verbose",
-            br#"Ok(Program { file: "a.c", verbose: true, task: Source { threads: 64, order: [1], ticks: 0 } })"#,
+            br#"Ok(Program { file: "a.c", verbose: true, format: Plain, task: Source { threads: 64, order: [1], ticks: 0 } })"#,
         ),
     ];
     &ROWS
@@ -117,15 +121,15 @@ fn outcomes() -> &'static [Row] {
     static ROWS: [Row; 8] = [
         (
             "txc|outcomes|a.c",
-            br#"Ok(Program { file: "a.c", verbose: false, task: Outcomes { threads: 1, ticks: 100000, limit: 100000 } })"#,
+            br#"Ok(Program { file: "a.c", verbose: false, format: Plain, task: Outcomes { threads: 1, ticks: 100000, limit: 100000 } })"#,
         ),
         (
             "txc|outcomes|--threads=64|--ticks=1000000|--limit=4294967295|a.c|--verbose",
-            br#"Ok(Program { file: "a.c", verbose: true, task: Outcomes { threads: 64, ticks: 1000000, limit: 4294967295 } })"#,
+            br#"Ok(Program { file: "a.c", verbose: true, format: Plain, task: Outcomes { threads: 64, ticks: 1000000, limit: 4294967295 } })"#,
         ),
         (
             "txc|outcomes|a.c|--limit|0|--ticks|0|--threads|2",
-            br#"Ok(Program { file: "a.c", verbose: false, task: Outcomes { threads: 2, ticks: 0, limit: 0 } })"#,
+            br#"Ok(Program { file: "a.c", verbose: false, format: Plain, task: Outcomes { threads: 2, ticks: 0, limit: 0 } })"#,
         ),
         (
             "txc|outcomes|--threads=0|a.c",
@@ -146,7 +150,7 @@ fn outcomes() -> &'static [Row] {
         ),
         (
             "txc|outcomes|--limit=4294967295|--ticks=1000000|a.c",
-            br#"Ok(Program { file: "a.c", verbose: false, task: Outcomes { threads: 1, ticks: 1000000, limit: 4294967295 } })"#,
+            br#"Ok(Program { file: "a.c", verbose: false, format: Plain, task: Outcomes { threads: 1, ticks: 1000000, limit: 4294967295 } })"#,
         ),
     ];
     &ROWS
@@ -162,35 +166,35 @@ fn refused_orders() -> &'static [Row] {
     static ROWS: [Row; 11] = [
         (
             "txc|source|--order=0,,1|a.c",
-            br#"Err(Wrong { text: "txc: usage: bad --order\n" })"#,
+            br#"Err(Wrong { text: "txc: usage: --order is thread numbers joined by commas\n" })"#,
         ),
         (
             "txc|source|--order=,|a.c",
-            br#"Err(Wrong { text: "txc: usage: bad --order\n" })"#,
+            br#"Err(Wrong { text: "txc: usage: --order is thread numbers joined by commas\n" })"#,
         ),
         (
             "txc|source|--order=0,|a.c",
-            br#"Err(Wrong { text: "txc: usage: bad --order\n" })"#,
+            br#"Err(Wrong { text: "txc: usage: --order is thread numbers joined by commas\n" })"#,
         ),
         (
             "txc|source|--order=+1|a.c",
-            br#"Err(Wrong { text: "txc: usage: bad --order\n" })"#,
+            br#"Err(Wrong { text: "txc: usage: --order is thread numbers joined by commas\n" })"#,
         ),
         (
             "txc|source|--order=-1|a.c",
-            br#"Err(Wrong { text: "txc: usage: bad --order\n" })"#,
+            br#"Err(Wrong { text: "txc: usage: --order is thread numbers joined by commas\n" })"#,
         ),
         (
             "txc|source|--order=1 |a.c",
-            br#"Err(Wrong { text: "txc: usage: bad --order\n" })"#,
+            br#"Err(Wrong { text: "txc: usage: --order is thread numbers joined by commas\n" })"#,
         ),
         (
             "txc|source|--order=a|a.c",
-            br#"Err(Wrong { text: "txc: usage: bad --order\n" })"#,
+            br#"Err(Wrong { text: "txc: usage: --order is thread numbers joined by commas\n" })"#,
         ),
         (
             "txc|source|--order=4294967296|a.c",
-            br#"Err(Wrong { text: "txc: usage: bad --order\n" })"#,
+            br#"Err(Wrong { text: "txc: usage: --order is thread numbers joined by commas\n" })"#,
         ),
         (
             "txc|source|--threads=0|--order=0|a.c",
@@ -213,25 +217,73 @@ fn refuses_orders(rt: HostRuntime) {
     assert_none(&rt, ask_otherwise(rt.alloc(), refused_orders()));
 }
 
+/// Numbers that are none, too large or out of their range, and other values that are no such.
+fn refused_values() -> &'static [Row] {
+    static ROWS: [Row; 9] = [
+        (
+            "txc|run|a.c|--threads=4294967296",
+            br#"Err(Wrong { text: "txc: usage: --threads is 1 to 64\n" })"#,
+        ),
+        (
+            "txc|run|a.c|--threads=-1",
+            br#"Err(Wrong { text: "txc: usage: --threads is 1 to 64\n" })"#,
+        ),
+        (
+            "txc|run|a.c|--threads=four",
+            br#"Err(Wrong { text: "txc: usage: --threads is 1 to 64\n" })"#,
+        ),
+        (
+            "txc|run|a.c|--budget=99999999999999999999",
+            br#"Err(Wrong { text: "txc: usage: --budget is 0 to 4294967295\n" })"#,
+        ),
+        (
+            "txc|replay|a.c|--seed=4294967296",
+            br#"Err(Wrong { text: "txc: usage: --seed is 0 to 4294967295\n" })"#,
+        ),
+        (
+            "txc|outcomes|a.c|--limit=4294967296",
+            br#"Err(Wrong { text: "txc: usage: --limit is 0 to 4294967295\n" })"#,
+        ),
+        (
+            "txc|source|a.c|--order=0|--ticks=",
+            br#"Err(Wrong { text: "txc: usage: --ticks is 0 to 1000000\n" })"#,
+        ),
+        (
+            "txc|explain|4294967296",
+            br#"Err(Wrong { text: "txc: usage: no fault has this number\n" })"#,
+        ),
+        (
+            "txc|check|a.c|--format=long",
+            br#"Err(Wrong { text: "txc: usage: --format is short\n" })"#,
+        ),
+    ];
+    &ROWS
+}
+
+#[test]
+fn refuses_values(rt: HostRuntime) {
+    assert_none(&rt, ask_otherwise(rt.alloc(), refused_values()));
+}
+
 /// Replays, and where their steps come from.
 fn replays() -> &'static [Row] {
     static ROWS: [Row; 4] = [
         (
             "txc|replay|--picture|--schedule=s|a.c",
-            br#"Ok(Program { file: "a.c", verbose: false, task: Picture { threads: 1, steps: Schedule { file: "s" } } })"#,
+            br#"Ok(Program { file: "a.c", verbose: false, format: Plain, task: Picture { threads: 1, steps: Schedule { file: "s" } } })"#,
         ),
         (
             "txc|replay|a.c|--schedule|s.txt",
-            br#"Ok(Program { file: "a.c", verbose: false, task: Replay { threads: 1, steps: Schedule { file: "s.txt" } } })"#,
+            br#"Ok(Program { file: "a.c", verbose: false, format: Plain, task: Replay { threads: 1, steps: Schedule { file: "s.txt" } } })"#,
         ),
         // with a schedule the number of steps has no effect
         (
             "txc|replay|--steps=5|--schedule=s|a.c",
-            br#"Ok(Program { file: "a.c", verbose: false, task: Replay { threads: 1, steps: Schedule { file: "s" } } })"#,
+            br#"Ok(Program { file: "a.c", verbose: false, format: Plain, task: Replay { threads: 1, steps: Schedule { file: "s" } } })"#,
         ),
         (
             "txc|replay|--schedule=s|--timeline|a.c",
-            br#"Ok(Program { file: "a.c", verbose: false, task: Timeline { threads: 1, steps: Schedule { file: "s" } } })"#,
+            br#"Ok(Program { file: "a.c", verbose: false, format: Plain, task: Timeline { threads: 1, steps: Schedule { file: "s" } } })"#,
         ),
     ];
     &ROWS
@@ -247,19 +299,19 @@ fn seeds() -> &'static [Row] {
     static ROWS: [Row; 4] = [
         (
             "txc|replay|--seed|0|a.c",
-            br#"Ok(Program { file: "a.c", verbose: false, task: Replay { threads: 1, steps: Seed { seed: 0, count: 100000 } } })"#,
+            br#"Ok(Program { file: "a.c", verbose: false, format: Plain, task: Replay { threads: 1, steps: Seed { seed: 0, count: 100000 } } })"#,
         ),
         (
             "txc|replay|--threads=64|--seed=4294967295|--steps=0|a.c",
-            br#"Ok(Program { file: "a.c", verbose: false, task: Replay { threads: 64, steps: Seed { seed: 4294967295, count: 0 } } })"#,
+            br#"Ok(Program { file: "a.c", verbose: false, format: Plain, task: Replay { threads: 64, steps: Seed { seed: 4294967295, count: 0 } } })"#,
         ),
         (
             "txc|replay|--threads=2|--steps=1048576|--seed=7|a.c",
-            br#"Ok(Program { file: "a.c", verbose: false, task: Replay { threads: 2, steps: Seed { seed: 7, count: 1048576 } } })"#,
+            br#"Ok(Program { file: "a.c", verbose: false, format: Plain, task: Replay { threads: 2, steps: Seed { seed: 7, count: 1048576 } } })"#,
         ),
         (
             "txc|replay|--print-schedule|--seed=7|a.c",
-            br#"Ok(Program { file: "a.c", verbose: false, task: PrintSchedule { threads: 1, seed: 7, count: 100000 } })"#,
+            br#"Ok(Program { file: "a.c", verbose: false, format: Plain, task: PrintSchedule { threads: 1, seed: 7, count: 100000 } })"#,
         ),
     ];
     &ROWS
@@ -351,21 +403,18 @@ fn have_not(
 
 /// What is no command line of the program.
 fn wrong_lines() -> &'static [&'static str] {
-    static LINES: [&str; 15] = [
+    static LINES: [&str; 11] = [
         "txc",
         "txc|outcomes",
         "txc|outcomes|a.c|--order=0",
-        "txc|outcomes|a.c|--limit=4294967296",
-        "txc|run|--threads=65|a.c",
-        "txc|run|--budget=-1|a.c",
+        "txc|run|--budget|-1|a.c",
         "txc|listing|--threads=2|a.c",
         "txc|run|a.c|b.c",
         "txc|source|a.c|--threads=2",
         "txc|source|--order=0|--verbose",
         "txc|explain|--verbose|1",
-        "txc|explain|4294967296|",
+        "txc|explain|1|",
         "txc|replay|a.c|--seed=-1",
-        "txc|replay|--seed=4294967296|a.c",
         "txc|replay|--seed=1|--order=0",
     ];
     &LINES

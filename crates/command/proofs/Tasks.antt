@@ -12,7 +12,7 @@ use Rattle.command.specs.inner.Refusals.{AreNoTask}
 pub no_replay : (given : List Row) → ((steps : Steps) → AreSteps given steps → ⊥) → AreNoTask (codes "replay") given
 no_replay given none Check is = let e : 114 ≡ 99 = ap (λ l. slice_index l 0) is in absurd (omega (arith, e))
 no_replay given none Listing is = let e : 114 ≡ 108 = ap (λ l. slice_index l 0) is in absurd (omega (arith, e))
-no_replay given none (Run threads budget) is = let e : 6 ≡ 3 = ap length is.0 in absurd (omega (arith, e))
+no_replay given none (Run threads budget counts) is = let e : 6 ≡ 3 = ap length is.0 in absurd (omega (arith, e))
 no_replay given none (Replay threads steps) is = none steps is.2
 no_replay given none (Timeline threads steps) is = none steps is.2
 no_replay given none (Picture threads steps) is = none steps is.2
@@ -24,7 +24,7 @@ no_replay given none (Outcomes threads ticks limit) is = let e : 114 ≡ 111 = a
 pub no_source : (given : List Row) → ((order : List ℕ) → IsOrderGiven given order → ⊥) → AreNoTask (codes "source") given
 no_source given none Check is = let e : 115 ≡ 99 = ap (λ l. slice_index l 0) is in absurd (omega (arith, e))
 no_source given none Listing is = let e : 115 ≡ 108 = ap (λ l. slice_index l 0) is in absurd (omega (arith, e))
-no_source given none (Run threads budget) is = let e : 115 ≡ 114 = ap (λ l. slice_index l 0) is.0 in absurd (omega (arith, e))
+no_source given none (Run threads budget counts) is = let e : 115 ≡ 114 = ap (λ l. slice_index l 0) is.0 in absurd (omega (arith, e))
 no_source given none (Replay threads steps) is = let e : 115 ≡ 114 = ap (λ l. slice_index l 0) is.0 in absurd (omega (arith, e))
 no_source given none (Timeline threads steps) is = let e : 115 ≡ 114 = ap (λ l. slice_index l 0) is.0 in absurd (omega (arith, e))
 no_source given none (Picture threads steps) is = let e : 115 ≡ 114 = ap (λ l. slice_index l 0) is.0 in absurd (omega (arith, e))

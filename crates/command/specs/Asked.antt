@@ -5,6 +5,8 @@ use Rattle.std.specs.Str.Parse.{IsNumeral, digits_value, without_leading_plus}
 use Rattle.clap.specs.Words.{IsAmong, Row, Text, fault_of, first_of, one_of, subcommand_of}
 use Rattle.clap.specs.declared.error.kind.ErrorKind.{ErrorKind}
 use Rattle.clap.specs.declared.error.kind.ErrorKind.TheVariants.{DisplayHelp, DisplayVersion}
+use Rattle.command.specs.declared.request.Format.{Format}
+use Rattle.command.specs.declared.request.Format.TheVariants.{Plain, Short}
 use Rattle.command.specs.declared.request.Request.{Request}
 use Rattle.command.specs.declared.request.Request.TheVariants.{Program, Explain}
 use Rattle.command.specs.declared.request.Task.{Task}
@@ -80,8 +82,9 @@ pub record AreFlagged (given : List Row) (timeline picture print_schedule : Bool
 abbrev pub IsTask : Text → List Row → Task → Type 0
 IsTask name given Check = name ≡ codes "check"
 IsTask name given Listing = name ≡ codes "listing"
-IsTask name given (Run threads budget) = (name ≡ codes "run") × AreThreadsGiven given threads
+IsTask name given (Run threads budget counts) = (name ≡ codes "run") × AreThreadsGiven given threads
     × IsNumber given (codes "budget") 4294967295 0 4294967295 budget
+    × (IsTrue counts ↔ IsFlagged given (codes "counts"))
 IsTask name given (Replay threads steps) = (name ≡ codes "replay")
     × AreThreadsGiven given threads × AreSteps given steps × AreFlagged given false false false
 IsTask name given (Timeline threads steps) = (name ≡ codes "replay")
@@ -97,10 +100,16 @@ IsTask name given (Outcomes threads ticks limit) = (name ≡ codes "outcomes") �
     × IsNumber given (codes "ticks") 100000 0 1000000 ticks
     × IsNumber given (codes "limit") 100000 0 4294967295 limit
 
+-- how faults are to be told, by what is given for `--format`
+abbrev pub IsFormat : Option Text → Format → Type 0
+IsFormat text Plain = text ≡ None
+IsFormat text Short = text ≡ Some (codes "short")
+
 -- a command and what is given for its arguments make this request
 abbrev pub IsRequest : Text → List Row → Request → Type 0
-IsRequest name given (Program file verbose task) = (first_of (codes "FILE") given ≡ Some (string_bytes file))
-    × (IsTrue verbose ↔ IsFlagged given (codes "verbose")) × IsTask name given task
+IsRequest name given (Program file verbose format task) = (first_of (codes "FILE") given ≡ Some (string_bytes file))
+    × (IsTrue verbose ↔ IsFlagged given (codes "verbose")) × IsFormat (first_of (codes "format") given) format
+    × IsTask name given task
 IsRequest name given (Explain number) =
     (name ≡ codes "explain") × IsGiven given (codes "NN") number
 

@@ -1,8 +1,7 @@
 -- The command line of the program: its commands, and what each takes.
-use Rattle.std.specs.Prelude.{Some, true, codes, pos}
+use Rattle.std.specs.Prelude.{Some, true, codes}
 use Rattle.clap.specs.Words.{App, Rule, Text, new_app, new_rule, with_rule, with_subcommand}
 use Rattle.clap.specs.declared.builder.ArgAction.TheVariants.{Set, SetTrue}
-use Rattle.clap.specs.declared.builder.value_parser.ValueParser.TheVariants.{Signed}
 
 -- the file with the program
 abbrev pub file_rule : Rule
@@ -16,25 +15,18 @@ flag_rule name = record (new_rule name) { long = Some name; action = Some SetTru
 abbrev pub text_rule : Text → Rule
 text_rule name = record (new_rule name) { long = Some name; action = Some Set; value_names = 1 }
 
--- an option of this name with a number below 2 ^ 32
-abbrev pub number_rule : Text → Rule
-number_rule name = record (text_rule name) { parser = Some (Signed (pos 0) (pos 4294967295)) }
-
 -- `--order`
 abbrev pub order_rule : Rule
 order_rule = record (text_rule (codes "order")) { required = true }
 
 -- the number of a fault
 abbrev pub fault_rule : Rule
-fault_rule = record (new_rule (codes "NN")) {
-  required = true;
-  action = Some Set;
-  parser = Some (Signed (pos 0) (pos 4294967295));
-}
+fault_rule = record (new_rule (codes "NN")) { required = true; action = Some Set }
 
 -- a command over a file
 abbrev pub file_app : Text → App
-file_app name = with_rule (with_rule (new_app name) file_rule) (flag_rule (codes "verbose"))
+file_app name =
+    with_rule (with_rule (with_rule (new_app name) file_rule) (flag_rule (codes "verbose"))) (text_rule (codes "format"))
 
 abbrev pub check_app : App
 check_app = file_app (codes "check")
@@ -44,14 +36,14 @@ listing_app = file_app (codes "listing")
 
 abbrev pub run_app : App
 run_app =
-    let threads = with_rule (file_app (codes "run")) (number_rule (codes "threads")) in
-    with_rule threads (number_rule (codes "budget"))
+    let threads = with_rule (file_app (codes "run")) (text_rule (codes "threads")) in
+    with_rule (with_rule threads (text_rule (codes "budget"))) (flag_rule (codes "counts"))
 
 abbrev pub replay_steps_app : App
 replay_steps_app =
-    let threads = with_rule (file_app (codes "replay")) (number_rule (codes "threads")) in
+    let threads = with_rule (file_app (codes "replay")) (text_rule (codes "threads")) in
     let schedule = with_rule threads (text_rule (codes "schedule")) in
-    with_rule (with_rule schedule (number_rule (codes "seed"))) (number_rule (codes "steps"))
+    with_rule (with_rule schedule (text_rule (codes "seed"))) (text_rule (codes "steps"))
 
 abbrev pub replay_app : App
 replay_app =
@@ -60,13 +52,13 @@ replay_app =
 
 abbrev pub source_app : App
 source_app =
-    let threads = with_rule (file_app (codes "source")) (number_rule (codes "threads")) in
-    with_rule (with_rule threads order_rule) (number_rule (codes "ticks"))
+    let threads = with_rule (file_app (codes "source")) (text_rule (codes "threads")) in
+    with_rule (with_rule threads order_rule) (text_rule (codes "ticks"))
 
 abbrev pub outcomes_app : App
 outcomes_app =
-    let threads = with_rule (file_app (codes "outcomes")) (number_rule (codes "threads")) in
-    with_rule (with_rule threads (number_rule (codes "ticks"))) (number_rule (codes "limit"))
+    let threads = with_rule (file_app (codes "outcomes")) (text_rule (codes "threads")) in
+    with_rule (with_rule threads (text_rule (codes "ticks"))) (text_rule (codes "limit"))
 
 abbrev pub explain_app : App
 explain_app = with_rule (new_app (codes "explain")) fault_rule

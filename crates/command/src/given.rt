@@ -1,6 +1,6 @@
 //! What words give for the arguments of a command.
 
-ghost use Rattle.std.specs.Prelude.{◌≡◌, ◌≤◌, ◌↔◌, ℕ, IsTrue, IsSomeAnd, Some, None, IfOk, IfErr, codes, option_map, string_bytes};
+ghost use Rattle.std.specs.Prelude.{◌≡◌, ◌↔◌, ℕ, IsTrue, IsSomeAnd, Some, None, IfOk, IfErr, OnErr, codes, option_map, string_bytes};
 ghost use Rattle.clap.specs.Words.{first_of, found_of, one_of, rows_of};
 ghost use Rattle.command.specs.Asked.{IsGiven};
 ghost use Rattle.command.specs.inner.Refusals.{IsNoNumber, IsOwn, IsRead};
@@ -52,32 +52,55 @@ pub(crate) fn flag_given(given: &ArgMatches<'_>, id: &str) -> bool
     }
 }
 
-/// The number that is given for an argument which the command line wants.
-pub(crate) fn number_wanted(
-    alloc: Global,
-    given: &ArgMatches<'_>,
-    id: &str,
-) -> Result<u32, UsageFault>
-    ensures ok { IfOk result (IsGiven (rows_of (found_of given.now)) id.now) }
-    ensures err { IfErr result (IsOwn ((n : ℕ) → IsGiven (rows_of (found_of given.now)) id.now n → ⊥)) }
+/// A text that says no number below 2^32.
+struct NoNumber;
+
+/// The number that a text given for an argument says, if one is given.
+fn read_number(given: &ArgMatches<'_>, id: &str) -> Result<Option<u32>, NoNumber>
+    ensures ok { IfOk result (IsRead (one_of id.now (rows_of (found_of given.now)))) }
+    ensures err { OnErr result (IsSomeAnd (one_of id.now (rows_of (found_of given.now))) IsNoNumber) }
 {
-    match number_given(alloc, given, id)? {
-        Some(number) => Ok(number),
-        None => Err(wrong(alloc, "an argument is missing")),
+    match given.try_get_one::<u32>(id) {
+        Ok(number) => Ok(number),
+        Err(_) => Err(NoNumber),
     }
 }
 
-/// The number that is given for an argument, if there is one.
+/// The number of a fault, which the command line wants.
+pub(crate) fn fault_wanted(alloc: Global, given: &ArgMatches<'_>) -> Result<u32, UsageFault>
+    ensures ok { IfOk result (IsGiven (rows_of (found_of given.now)) (codes "NN")) }
+    ensures err { IfErr result (IsOwn ((n : ℕ) → IsGiven (rows_of (found_of given.now)) (codes "NN") n → ⊥)) }
+{
+    match read_number(given, "NN") {
+        Ok(Some(number)) => Ok(number),
+        Ok(None) => Err(wrong(alloc, "an argument is missing")),
+        Err(NoNumber) => Err(wrong(alloc, "no fault has this number")),
+    }
+}
+
+/// Says which numbers an argument takes.
+pub(crate) fn out_of_range(alloc: Global, id: &str, least: u32, most: u32) -> UsageFault
+    ensures { IsOwn (Unit {0}) result }
+{
+    match format!(in alloc; "--{id} is {least} to {most}") {
+        Ok(why) => wrong(alloc, why.as_str()),
+        Err(_) => UsageFault::OutOfMemory,
+    }
+}
+
+/// The number that is given for an argument, if one is given. Where it is none, it is said which numbers the argument takes.
 pub(crate) fn number_given(
     alloc: Global,
     given: &ArgMatches<'_>,
     id: &str,
+    least: u32,
+    most: u32,
 ) -> Result<Option<u32>, UsageFault>
     ensures ok { IfOk result (IsRead (one_of id.now (rows_of (found_of given.now)))) }
     ensures err { IfErr result (IsOwn (IsSomeAnd (one_of id.now (rows_of (found_of given.now))) IsNoNumber)) }
 {
-    match given.try_get_one::<u32>(id) {
+    match read_number(given, id) {
         Ok(number) => Ok(number),
-        Err(_) => Err(wrong(alloc, "a number is no number")),
+        Err(NoNumber) => Err(out_of_range(alloc, id, least, most)),
     }
 }

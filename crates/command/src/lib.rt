@@ -9,4 +9,4 @@ mod request;
 mod task;
 
 pub use read::command;
-pub use request::{Request, Steps, Task, UsageFault};
+pub use request::{Format, Request, Steps, Task, UsageFault};

@@ -3,9 +3,9 @@
 ghost use Rattle.std.specs.Prelude.{◌≡◌, IfOk, codes, false};
 ghost use Rattle.clap.specs.Words.{App, Rule, app_of, new_app, rule_of, with_rule, with_subcommand};
 ghost use Rattle.command.specs.inner.Made.{IsMade};
-ghost use Rattle.command.specs.Line.{file_rule, flag_rule, fault_rule, text_rule, number_rule, order_rule, file_app, check_app, listing_app, run_app, replay_steps_app, replay_app, source_app, outcomes_app, explain_app, commandless_app, program_app};
+ghost use Rattle.command.specs.Line.{file_rule, flag_rule, fault_rule, text_rule, order_rule, file_app, check_app, listing_app, run_app, replay_steps_app, replay_app, source_app, outcomes_app, explain_app, commandless_app, program_app};
 
-use clap::{Arg, ArgAction, Command, value_parser};
+use clap::{Arg, ArgAction, Command};
 use std::alloc::{AllocError, Global};
 use std::mem;
 
@@ -44,14 +44,6 @@ fn text<'a>(alloc: Global, name: &'a str, value: &'a str, help: &'a str) -> Arg<
         .action(ArgAction::Set)
         .value_name(value)
         .help(help)
-}
-
-/// An option with a number.
-fn number<'a>(alloc: Global, name: &'a str, value: &'a str, help: &'a str) -> Arg<'a>
-    ensures rule { rule_of result ≡ number_rule name.entry.now }
-    ensures global { result.global ≡ false }
-{
-    text(alloc, name, value, help).value_parser(value_parser!(u32))
 }
 
 /// The order of threads.
@@ -105,6 +97,19 @@ fn verbose<'a>(alloc: Global) -> Arg<'a>
     )
 }
 
+/// How faults are told.
+fn format<'a>(alloc: Global) -> Arg<'a>
+    ensures rule { rule_of result ≡ text_rule (codes "format") }
+    ensures global { result.global ≡ false }
+{
+    text(
+        alloc,
+        "format",
+        "HOW",
+        "How a fault is told: short is FILE:LINE:COL: error: WORDS [NN], for editors",
+    )
+}
+
 /// A command over a file.
 fn of_file<'a>(
     alloc: Global,
@@ -115,7 +120,8 @@ fn of_file<'a>(
     ensures { IfOk result (IsMade (file_app name.entry.now)) }
 {
     let command = with(Ok(described(alloc, name, about, example)), file(alloc));
-    with(command, verbose(alloc))
+    let command = with(command, verbose(alloc));
+    with(command, format(alloc))
 }
 
 /// The command that says whether a program is accepted.
@@ -144,10 +150,10 @@ fn listing<'a>(alloc: Global) -> Result<Command<'a>, AllocError>
 
 /// The number of threads.
 fn threads<'a>(alloc: Global) -> Arg<'a>
-    ensures rule { rule_of result ≡ number_rule (codes "threads") }
+    ensures rule { rule_of result ≡ text_rule (codes "threads") }
     ensures global { result.global ≡ false }
 {
-    number(
+    text(
         alloc,
         "threads",
         "T",
@@ -166,13 +172,19 @@ fn run<'a>(alloc: Global) -> Result<Command<'a>, AllocError>
         "Example:\n  txc run bank.c --threads 4",
     );
     let command = with(command, threads(alloc));
-    let budget = number(
+    let budget = text(
         alloc,
         "budget",
         "B",
         "How many steps each thread makes at most: 0 to 4294967295, and that if not given",
     );
-    with(command, budget)
+    let command = with(command, budget);
+    let counts = flag(
+        alloc,
+        "counts",
+        "Tells the steps, accesses, commits, drops and retries of each thread behind the report, on standard error",
+    );
+    with(command, counts)
 }
 
 /// The command that replays steps of the machine, with where these come from.
@@ -193,14 +205,14 @@ fn replay_steps<'a>(alloc: Global) -> Result<Command<'a>, AllocError>
         "A file with a schedule: lines `T COUNT`, steps of thread T, or `T aCOUNT`, its steps up to so many accesses",
     );
     let command = with(command, schedule);
-    let seed = number(
+    let seed = text(
         alloc,
         "seed",
         "N",
         "Picks the thread of each step by chance, in place of a schedule: 0 to 4294967295",
     );
     let command = with(command, seed);
-    let steps = number(
+    let steps = text(
         alloc,
         "steps",
         "K",
@@ -251,10 +263,10 @@ fn source<'a>(alloc: Global) -> Result<Command<'a>, AllocError>
 
 /// The number of ticks.
 fn ticks<'a>(alloc: Global) -> Arg<'a>
-    ensures rule { rule_of result ≡ number_rule (codes "ticks") }
+    ensures rule { rule_of result ≡ text_rule (codes "ticks") }
     ensures global { result.global ≡ false }
 {
-    number(
+    text(
         alloc,
         "ticks",
         "N",
@@ -274,7 +286,7 @@ fn outcomes<'a>(alloc: Global) -> Result<Command<'a>, AllocError>
     );
     let command = with(command, threads(alloc));
     let command = with(command, ticks(alloc));
-    let limit = number(
+    let limit = text(
         alloc,
         "limit",
         "L",
@@ -291,7 +303,6 @@ fn fault<'a>(alloc: Global) -> Arg<'a>
     Arg::new(alloc, "NN")
         .required(true)
         .action(ArgAction::Set)
-        .value_parser(value_parser!(u32))
         .help("The number of a fault, as txc tells it")
 }
 

@@ -1,14 +1,15 @@
 //! From words to a request.
 
-ghost use Rattle.std.specs.Prelude.{◌≡◌, IfOk, IfErr, map};
-ghost use Rattle.clap.specs.Words.{found_of, rows_of, subcommand_rows_of};
+ghost use Rattle.std.specs.Prelude.{◌≡◌, IfOk, IfErr, codes, map};
+ghost use Rattle.clap.specs.Words.{first_of, found_of, rows_of, subcommand_rows_of};
+ghost use Rattle.command.specs.declared.request.Format.{Format};
 ghost use Rattle.command.specs.declared.request.Request.{Request};
-ghost use Rattle.command.specs.Asked.{Asks, IsRequest, Refuses};
+ghost use Rattle.command.specs.Asked.{Asks, IsFormat, IsRequest, Refuses};
 ghost use Rattle.command.specs.inner.Refusals.{AreNoRequest, IsOwn, HasGiven, SaysError};
 
-use crate::given::{flag_given, number_wanted, text_wanted, wrong};
+use crate::given::{fault_wanted, flag_given, text_given, text_wanted, wrong};
 use crate::line::program;
-use crate::request::{Request, UsageFault};
+use crate::request::{Format, Request, UsageFault};
 use crate::task::task;
 use clap::error::ErrorKind;
 use clap::{ArgMatches, Error};
@@ -53,6 +54,18 @@ fn request(alloc: Global, matches: &ArgMatches<'_>) -> Result<Request, UsageFaul
     }
 }
 
+/// How faults are to be told.
+fn format_given(alloc: Global, given: &ArgMatches<'_>) -> Result<Format, UsageFault>
+    ensures ok { IfOk result (IsFormat (first_of (codes "format") (rows_of (found_of given.now)))) }
+    ensures err { IfErr result (IsOwn ((f : Format) → IsFormat (first_of (codes "format") (rows_of (found_of given.now))) f → ⊥)) }
+{
+    match text_given(given, "format") {
+        None => Ok(Format::Plain),
+        Some("short") => Ok(Format::Short),
+        Some(_) => Err(wrong(alloc, "--format is short")),
+    }
+}
+
 /// The request of a command, and what is given for its arguments.
 fn request_of(alloc: Global, name: &str, given: &ArgMatches<'_>) -> Result<Request, UsageFault>
     ensures ok { IfOk result (IsRequest name.now (rows_of (found_of given.now))) }
@@ -60,13 +73,14 @@ fn request_of(alloc: Global, name: &str, given: &ArgMatches<'_>) -> Result<Reque
 {
     if name == "explain" {
         return Ok(Request::Explain {
-            number: number_wanted(alloc, given, "NN")?,
+            number: fault_wanted(alloc, given)?,
         });
     }
     let file = text_wanted(alloc, given, "FILE")?;
     Ok(Request::Program {
         file,
         verbose: flag_given(given, "verbose"),
+        format: format_given(alloc, given)?,
         task: task(alloc, name, given)?,
     })
 }

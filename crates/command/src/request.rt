@@ -13,12 +13,22 @@ pub enum Request {
         file: String,
         /// Whether more is told of a fault than its line.
         verbose: bool,
+        format: Format,
         task: Task,
     },
     /// Tells what the fault of a number means.
     Explain {
         number: u32,
     },
+}
+
+/// How the fault of a source is told.
+#[derive(Clone, Copy, PartialEq, Eq, Debug)]
+pub enum Format {
+    /// By its number and place.
+    Plain,
+    /// As compilers do, which editors read.
+    Short,
 }
 
 /// What is done with a program.
@@ -32,6 +42,8 @@ pub enum Task {
     Run {
         threads: u32,
         budget: u32,
+        /// Whether it is told what was counted of each thread.
+        counts: bool,
     },
     /// Replays steps of 1 to 64 threads.
     Replay {

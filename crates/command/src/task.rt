@@ -6,7 +6,7 @@ ghost use Rattle.command.specs.Asked.{AreSteps, IsNumber, IsTask, AreThreadsGive
 ghost use Rattle.command.specs.declared.request.Steps.{Steps};
 ghost use Rattle.command.specs.inner.Refusals.{AreNoTask, IsOutOfRange, IsOwn};
 
-use crate::given::{flag_given, number_given, text_given, text_wanted, wrong};
+use crate::given::{flag_given, number_given, out_of_range, text_given, text_wanted, wrong};
 use crate::order::order;
 use crate::request::{Steps, Task, UsageFault};
 use clap::ArgMatches;
@@ -33,21 +33,11 @@ fn number(
     ensures ok { IfOk result (λ n. IsNumber (rows_of (found_of given.now)) id.now default least most n) }
     ensures err { IfErr result (IsOwn (IsOutOfRange (rows_of (found_of given.now)) id.now default least most)) }
 {
-    let number = number_given(alloc, given, id)?.unwrap_or(default);
+    let number = number_given(alloc, given, id, least, most)?.unwrap_or(default);
     if least <= number && number <= most {
         Ok(number)
     } else {
         Err(out_of_range(alloc, id, least, most))
-    }
-}
-
-/// Says that a number is out of its range.
-fn out_of_range(alloc: Global, id: &str, least: u32, most: u32) -> UsageFault
-    ensures { IsOwn (Unit {0}) result }
-{
-    match format!(in alloc; "--{id} is {least} to {most}") {
-        Ok(why) => wrong(alloc, why.as_str()),
-        Err(_) => UsageFault::OutOfMemory,
     }
 }
 
@@ -64,7 +54,7 @@ fn steps(alloc: Global, given: &ArgMatches<'_>) -> Result<Steps, UsageFault>
     ensures ok { IfOk result (AreSteps (rows_of (found_of given.now))) }
     ensures err { IfErr result (IsOwn ((s : Steps) → AreSteps (rows_of (found_of given.now)) s → ⊥)) }
 {
-    let seed = number_given(alloc, given, "seed")?;
+    let seed = number_given(alloc, given, "seed", 0, u32::MAX)?;
     let schedule = text_given(given, "schedule");
     match (schedule, seed) {
         (Some(file), None) => Ok(Steps::Schedule {
@@ -112,7 +102,7 @@ fn order_given(alloc: Global, given: &ArgMatches<'_>) -> Result<Vec<u32>, UsageF
     let text = text_wanted(alloc, given, "order")?;
     match order(alloc, text.as_str())? {
         Some(order) => Ok(order),
-        None => Err(wrong(alloc, "bad --order")),
+        None => Err(wrong(alloc, "--order is thread numbers joined by commas")),
     }
 }
 
@@ -153,6 +143,7 @@ pub(crate) fn task(alloc: Global, name: &str, given: &ArgMatches<'_>) -> Result<
         "run" => Ok(Task::Run {
             threads: threads(alloc, given)?,
             budget: number(alloc, given, "budget", u32::MAX, 0, u32::MAX)?,
+            counts: flag_given(given, "counts"),
         }),
         "replay" => replay(alloc, given),
         "source" => source(alloc, given),

@@ -4,4 +4,4 @@ pub returns : goal.returns
 returns c =
     let one = c.with-command.ensures _ _ c.of_file-command.ensures c.threads.ensures.rule c.threads.ensures.global in
     let two = c.with-command-2.ensures _ _ one c.ticks.ensures.rule c.ticks.ensures.global in
-    c.with.ensures _ _ two c.number-limit.ensures.rule c.number-limit.ensures.global
+    c.with.ensures _ _ two c.text-limit.ensures.rule c.text-limit.ensures.global

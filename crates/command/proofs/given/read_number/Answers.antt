@@ -5,8 +5,7 @@ use Rattle.clap.specs.Words.{found_of}
 use Rattle.clap.proofs.WalkLemmas.{one_text-rows}
 use Rattle.command.specs.inner.Refusals.{IsNoNumber, IsRead}
 use Rattle.command.proofs.Reading.{number_read, number_unread, parsed, unparsed}
-use Rattle.command.proofs.Refusals.{own_of}
-use Rattle.command.proofs.given.number_given.Goals as goal
+use Rattle.command.proofs.given.read_number.Goals as goal
 
 pub returns-in-Ok-clause-ok : goal.returns-in-Ok-clause-ok
 returns-in-Ok-clause-ok c =
@@ -16,4 +15,4 @@ returns-in-Ok-clause-ok c =
 pub returns-in-Err-clause-err : goal.returns-in-Err-clause-err
 returns-in-Err-clause-err c =
     let unread = number_unread (λ bs r. ParsesUnsigned 32 10 bs r × ExplainsUnsignedError 10 bs r × HasUnsignedDigitsIfOk bs r) (λ t e g. unparsed t g.0) _ _ c.in-Err.ensures.none c.in-Err.ensures.value in
-    own_of _ _ (subst (λ o. IsSomeAnd o IsNoNumber) (one_text-rows (found_of c.args.given.now) c.args.id.now) unread) c.wrong.ensures
+    subst (λ o. IsSomeAnd o IsNoNumber) (one_text-rows (found_of c.args.given.now) c.args.id.now) unread
