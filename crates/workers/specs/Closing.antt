@@ -48,7 +48,7 @@ module _ {A : Type 0} where
   abbrev pub finished_back : List (Worker A) → List (Finished A)
   finished_back [] = []
   finished_back (w ∷ ws) =
-      finished_back ws ++ record { number = w.number; thread = w.thread; steps = w.steps } ∷ []
+      finished_back ws ++ record { number = w.number; thread = w.thread; steps = w.steps; tally = w.tally } ∷ []
 
   -- each worker's thread has in this world the part that it has now, with all its records, and was answered what the
   -- worker was

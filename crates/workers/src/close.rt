@@ -8,6 +8,7 @@ ghost use Rattle.workers.specs.Workers.{AreWorkersOf};
 ghost use Rattle.workers.specs.Closing.{reason_number, HasWorker, NoWorker, AllHere, NoneHolds, Holds, Closes, parts_back, finished_back};
 
 use crate::hall::Hall;
+use crate::tally::Tally;
 use crate::worker::Worker;
 use atomic_table::Seat;
 use machine::Thread;
@@ -56,6 +57,7 @@ pub struct Finished<A: Allocator = Global> {
     pub(crate) number: u32,
     pub(crate) thread: Thread<A>,
     pub(crate) steps: u64,
+    pub(crate) tally: Tally,
 }
 
 impl<A: Allocator + Copy> Finished<A> {
@@ -92,6 +94,13 @@ impl<A: Allocator + Copy> Finished<A> {
         ensures { result ≡ finished_accesses self.now }
     {
         self.thread.accesses()
+    }
+
+    /// What was counted of its attempts.
+    pub fn tally(&self) -> Tally
+        ensures { result ≡ self.now.tally }
+    {
+        self.tally
     }
 }
 
@@ -194,13 +203,14 @@ fn join_all<A: Allocator>(
 }
 
 fn parted<A: Allocator>(worker: Worker<A>) -> (Seat<(), View>, Finished<A>)
-    ensures { (result.0 ≡ worker.seat) × (result.1 ≡ record { number = worker.number; thread = worker.thread; steps = worker.steps }) }
+    ensures { (result.0 ≡ worker.seat) × (result.1 ≡ record { number = worker.number; thread = worker.thread; steps = worker.steps; tally = worker.tally }) }
 {
     let Worker {
         number,
         thread,
         steps,
         seat,
+        tally,
     } = worker;
     (
         seat,
@@ -208,6 +218,7 @@ fn parted<A: Allocator>(worker: Worker<A>) -> (Seat<(), View>, Finished<A>)
             number,
             thread,
             steps,
+            tally,
         },
     )
 }

@@ -10,10 +10,12 @@ pub mod laws;
 mod loads;
 mod open;
 mod run;
+mod tally;
 mod worker;
 
 pub use close::{CloseFault, CloseReason, Finished, Outcome};
 pub use hall::Hall;
 pub use open::HallFault;
 pub use run::{Driven, Ending, Gate, RunFault, RunMemory, RunReport, run_all};
+pub use tally::Tally;
 pub use worker::{Status, Worker};

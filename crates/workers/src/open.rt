@@ -10,6 +10,7 @@ ghost use Rattle.workers.specs.Workers.{AreWorkersFrom};
 ghost use Rattle.workers.specs.Opening.{IsRefused, hall_number};
 
 use crate::hall::Hall;
+use crate::tally::Tally;
 use crate::worker::Worker;
 use atomic_table::Seat;
 use bytecode::Code;
@@ -60,6 +61,7 @@ fn worker<A: Allocator + Copy>(
         thread: Thread::new(alloc, code, number)?,
         steps: 0,
         seat,
+        tally: Tally::new(),
     })
 }
 

@@ -13,6 +13,7 @@ ghost use Rattle.workers.specs.Works.{StopsAt};
 
 use crate::hall::Hall;
 use crate::loads::SeatLoads;
+use crate::tally::Tally;
 use atomic_table::Seat;
 use bytecode::Code;
 use frames::Doing;
@@ -30,6 +31,7 @@ pub struct Worker<A: Allocator = Global> {
     pub(crate) thread: Thread<A>,
     pub(crate) steps: u64,
     pub(crate) seat: Seat<(), View>,
+    pub(crate) tally: Tally,
 }
 
 /// How a run of one worker ended.
@@ -101,8 +103,10 @@ impl<A: Allocator + Copy> Worker<A> {
             Ok(access) => access,
             Err(stop) => return Err(stop),
         };
+        let waits = self.thread.is_waiting(code, doing);
         let answer = make(words, &mut self.seat, access);
-        let _told = self.thread.told_at(code, doing, answer);
+        let told = self.thread.told_at(code, doing, answer);
+        self.tally.count_step(doing, waits, answer, told.0);
         Ok(())
     }
 
@@ -176,6 +180,7 @@ impl<A: Allocator + Copy> Worker<A> {
             let Some(lock) = self.load_begin(words, code, to) else {
                 return loaded;
             };
+            self.tally.count_begin(lock);
             if lock % 2 == 0 {
                 return loaded + 1;
             }
@@ -293,6 +298,7 @@ impl<A: Allocator + Copy> Worker<A> {
     {
         let lock = load_lock(words, &mut self.seat);
         self.thread.waited(code, lock);
+        self.tally.count_wait(lock);
         pause(lock);
     }
 
@@ -401,6 +407,7 @@ impl<A: Allocator + Copy> Worker<A> {
             let (compared, goes_on) = self.compare(words, code, time, place, left);
             left -= compared;
             if !goes_on {
+                self.tally.count_drop();
                 back_off();
                 return most - left;
             }
@@ -558,5 +565,12 @@ impl<A: Allocator + Copy> Worker<A> {
         ensures { result ≡ accesses_of self.now }
     {
         self.thread.accesses()
+    }
+
+    /// What it has counted of its thread's attempts.
+    pub fn tally(&self) -> Tally
+        ensures { result ≡ self.now.tally }
+    {
+        self.tally
     }
 }

@@ -4,23 +4,47 @@ use crate::asserted::assert_all;
 use crate::of_workers::hall::{Turn, are_turns, leaves, opened};
 use crate::of_workers::programs::{Program, adds, reads_again};
 use std::alloc::Global;
-use workers::Status;
+use workers::{Status, Tally, Worker};
 
-// Whether two workers of a program make these turns, and this word is left.
-fn makes(alloc: Global, program: Program, turns: &[Turn], word: u64) -> bool {
+// What a worker counts.
+fn tally(begun: u64, dropped: u64, retried: u64) -> Tally {
+    Tally {
+        begun,
+        dropped,
+        retried,
+    }
+}
+
+// Whether worker 0 has counted this.
+fn has_counted(workers: &[Worker], wanted: Tally) -> bool {
+    match workers.iter().find(|worker| worker.thread() == 0) {
+        Some(worker) => worker.tally() == wanted,
+        None => false,
+    }
+}
+
+// Whether two workers of a program make these turns, this word is left, and worker 0 has counted this.
+fn makes(alloc: Global, program: Program, turns: &[Turn], word: u64, wanted: Tally) -> bool {
     match opened(alloc, program, 2) {
         Ok((hall, mut workers)) => {
             let right = are_turns(&hall, &mut workers, turns);
+            let counted = has_counted(workers.as_slice(), wanted);
             let closes = leaves(alloc, hall, workers, (word, "", ""));
-            right && closes
+            right && counted && closes
         }
         Err(_) => false,
     }
 }
 
 // The same where worker 0 reads four times, and worker 1 writes this word.
-fn makes_reading(alloc: Global, written: u32, turns: &[Turn]) -> bool {
-    makes(alloc, (3, 0, &reads_again(written)), turns, written as u64)
+fn makes_reading(alloc: Global, written: u32, turns: &[Turn], wanted: Tally) -> bool {
+    makes(
+        alloc,
+        (3, 0, &reads_again(written)),
+        turns,
+        written as u64,
+        wanted,
+    )
 }
 
 // Worker 1 writes the word that is there before the last of the reads: validation finds all three entries unchanged.
@@ -91,21 +115,21 @@ fn loses_its_swap() -> &'static [Turn] {
 
 #[test]
 fn validation_finds_what_was_read(rt: HostRuntime) {
-    let whole = makes_reading(rt.alloc(), 0, goes_on());
-    let pieces = makes_reading(rt.alloc(), 0, goes_on_in_pieces());
+    let whole = makes_reading(rt.alloc(), 0, goes_on(), tally(1, 0, 0));
+    let pieces = makes_reading(rt.alloc(), 0, goes_on_in_pieces(), tally(1, 0, 0));
     assert_all(&rt, &[("whole", whole), ("in pieces", pieces)]);
 }
 
 #[test]
 fn a_lock_that_is_taken_is_waited_for(rt: HostRuntime) {
-    let waited = makes_reading(rt.alloc(), 0, waits());
-    let late = makes_reading(rt.alloc(), 0, begins_late());
+    let waited = makes_reading(rt.alloc(), 0, waits(), tally(1, 0, 3));
+    let late = makes_reading(rt.alloc(), 0, begins_late(), tally(1, 0, 5));
     assert_all(&rt, &[("waited for", waited), ("begun late", late)]);
 }
 
 #[test]
 fn another_word_drops_the_attempt(rt: HostRuntime) {
-    let anew = makes_reading(rt.alloc(), 1, begins_anew());
-    let lost = makes(rt.alloc(), adds(), loses_its_swap(), 2);
+    let anew = makes_reading(rt.alloc(), 1, begins_anew(), tally(2, 1, 0));
+    let lost = makes(rt.alloc(), adds(), loses_its_swap(), 2, tally(2, 1, 0));
     assert_all(&rt, &[("begun anew", anew), ("a lost swap", lost)]);
 }
