@@ -403,7 +403,7 @@ fn have_not(
 
 /// What is no command line of the program.
 fn wrong_lines() -> &'static [&'static str] {
-    static LINES: [&str; 11] = [
+    static LINES: [&str; 12] = [
         "txc",
         "txc|outcomes",
         "txc|outcomes|a.c|--order=0",

@@ -182,7 +182,7 @@ fn run<'a>(alloc: Global) -> Result<Command<'a>, AllocError>
     let counts = flag(
         alloc,
         "counts",
-        "Tells the steps, accesses, commits, drops and retries of each thread behind the report, on standard error",
+        "Tells the steps, accesses, transactions, drops and retries of each thread behind the report, on standard error",
     );
     with(command, counts)
 }

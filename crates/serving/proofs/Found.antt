@@ -56,7 +56,7 @@ module _ (z : TableId) (key : Setup) (w : World Configuration) (heard : List (Li
       test f = f.number == n
 
       this : Finished Global
-      this = record { number = x.number; thread = x.thread; steps = x.steps }
+      this = record { number = x.number; thread = x.thread; steps = x.steps; tally = x.tally }
 
       parted : find test (finished_back (x ∷ xs)) ≡ option_or (find test (finished_back xs)) (find test (this ∷ []))
       parted = find-append test (finished_back xs) (this ∷ [])

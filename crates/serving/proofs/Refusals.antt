@@ -54,7 +54,7 @@ neither status zero three (inr e) = three e
 nothing_printed : (task : Task) (schedule : Option (List ℕ)) (text : List ℕ) (status : ℕ) (old new : Option (List ℕ)) → status ≢ 0 → status ≢ 3 → Answers task schedule text status old new
 nothing_printed Check schedule text status old new zero three = λ e. absurd (zero e)
 nothing_printed Listing schedule text status old new zero three = λ e. absurd (zero e)
-nothing_printed (Run threads budget) schedule text status old new zero three = λ e. absurd (neither status zero three e)
+nothing_printed (Run threads budget counts) schedule text status old new zero three = λ e. absurd (neither status zero three e)
 nothing_printed (Replay threads steps) schedule text status old new zero three = λ e. absurd (neither status zero three e)
 nothing_printed (Timeline threads steps) schedule text status old new zero three = λ e. absurd (neither status zero three e)
 nothing_printed (Picture threads steps) schedule text status old new zero three = λ e. absurd (neither status zero three e)

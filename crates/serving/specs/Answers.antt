@@ -19,7 +19,7 @@ abbrev pub Answers : Task → (schedule : Option (List ℕ)) → (text : List �
     (old new : Option (List ℕ)) → Type 0
 Answers Check schedule text status old new = SaysAccepted text status old new
 Answers Listing schedule text status old new = PrintsListing text status old new
-Answers (Run threads budget) schedule text status old new =
+Answers (Run threads budget counts) schedule text status old new =
     PrintsReport (λ shown. RunsInSomeOrder threads text shown × RunsAtOnce threads budget text shown) status old new
 Answers (Replay threads steps) schedule text status old new =
     PrintsReport (λ shown. RunsInSomeOrder threads text (behind_events shown)
@@ -38,5 +38,5 @@ Answers (Outcomes threads ticks limit) schedule text status old new = PrintsOutc
 -- a request, where these bytes are those of the file
 abbrev pub AnswersRequest : Request → (schedule : Option (List ℕ)) → (bytes : List ℕ) → (status : ℕ) →
     (old new : Option (List ℕ)) → Type 0
-AnswersRequest (Program file verbose task) schedule bytes status old new = Answers task schedule bytes status old new
+AnswersRequest (Program file verbose format task) schedule bytes status old new = Answers task schedule bytes status old new
 AnswersRequest (Explain number) schedule bytes status old new = Unit {0}

@@ -27,17 +27,17 @@ schedule_in contents None = Some []
 
 -- a request, where these are the bytes of files: what a status says of what was printed
 abbrev pub AnswersFiles : Request → Contents → (status : ℕ) → (old new : Option (List ℕ)) → Type 0
-AnswersFiles (Program file verbose task) contents status old new = IfSome (contents (string_bytes file))
+AnswersFiles (Program file verbose format task) contents status old new = IfSome (contents (string_bytes file))
     (λ bytes. Answers task (schedule_in contents (schedule_of task)) bytes status old new)
 AnswersFiles (Explain number) contents status old new = Unit {0}
 
 -- what is written for a request, where these are the bytes of files
 abbrev pub WritesForFiles : Request → Contents → (old new : Option (List ℕ)) → Type 0
-WritesForFiles (Program file verbose task) contents old new = IfSome (contents (string_bytes file))
+WritesForFiles (Program file verbose format task) contents old new = IfSome (contents (string_bytes file))
     (λ bytes. WritesPart (IsAskedFor task (schedule_in contents (schedule_of task)) bytes) old new)
 WritesForFiles (Explain number) contents old new = Unit {0}
 
 -- a source is named, and it is refused
 abbrev pub RefusesSource : Request → Contents → Type 0
-RefusesSource (Program file verbose task) contents = IfSome (contents (string_bytes file)) (λ bytes. IsRefused bytes)
+RefusesSource (Program file verbose format task) contents = IfSome (contents (string_bytes file)) (λ bytes. IsRefused bytes)
 RefusesSource (Explain number) contents = ⊥

@@ -59,7 +59,7 @@ IsSeedSchedule seed threads count text written =
 abbrev pub IsAskedFor : Task → (schedule : Option (List ℕ)) → (text : List ℕ) → (written : List ℕ) → Type 0
 IsAskedFor Check schedule text written = Accepts text × (written ≡ codes "accepted\n")
 IsAskedFor Listing schedule text written = Lists text written
-IsAskedFor (Run threads budget) schedule text written = IsReportOf (RunsAtOnce threads budget text) written
+IsAskedFor (Run threads budget counts) schedule text written = IsReportOf (RunsAtOnce threads budget text) written
 IsAskedFor (Replay threads steps) schedule text written = IsReplayReport threads steps schedule text written
 IsAskedFor (Timeline threads steps) schedule text written = IsReplayTimeline threads steps schedule text written
 IsAskedFor (Picture threads steps) schedule text written = IsReplayPicture threads steps schedule text written
@@ -79,6 +79,6 @@ WritesPart IsSo old new = (new ≡ old) ⊎ ((text : List ℕ) × IsSo text × A
 -- what is written for a request, where these bytes are those of the file
 abbrev pub WritesFor : Request → (schedule : Option (List ℕ)) → (bytes : Option (List ℕ)) →
     (old new : Option (List ℕ)) → Type 0
-WritesFor (Program file verbose task) schedule bytes old new =
+WritesFor (Program file verbose format task) schedule bytes old new =
     IfSome bytes (λ text. WritesPart (IsAskedFor task schedule text) old new)
 WritesFor (Explain number) schedule bytes old new = Unit {0}

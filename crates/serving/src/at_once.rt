@@ -113,7 +113,7 @@ fn bytes_of(alloc: Global, text: &str) -> Result<Items<u8, Global>, AllocError>
 }
 
 /// The finished thread of this number.
-fn thread_numbered(threads: &[Finished], number: u32) -> Option<&Finished>
+pub(crate) fn thread_numbered(threads: &[Finished], number: u32) -> Option<&Finished>
     ensures { option_map (λ f. f.now) result ≡ find (λ f. f.number == number) threads.now }
 {
     threads.iter().find(|thread| thread.thread() == number)

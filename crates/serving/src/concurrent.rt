@@ -16,7 +16,7 @@ use report::Printed;
 use std::alloc::Global;
 use std::sync::Wait;
 use std::thread::Threads;
-use workers::{Gate, RunFault, run_all};
+use workers::{Finished, Gate, RunFault, RunReport, run_all};
 
 /// Holds no thread back.
 struct Open;
@@ -40,20 +40,20 @@ pub(crate) enum ThreadsFault {
     Run(RunFault),
 }
 
-/// Runs all threads of a source's text at once, each with so many steps at most, and gives what their report shows.
+/// Runs all threads of a source's text at once, each with so many steps at most: what their report shows, and the threads.
 pub(crate) fn run_threads<H: Threads + Wait + Sync>(
     rt: &H,
     alloc: Global,
     text: &str,
     threads: u32,
     budget: u64,
-) -> Result<Printed, ThreadsFault>
-    ensures ok { IfOk result (λ r. RunsAtOnce threads budget text.now (printed_of r)) }
+) -> Result<(Printed, Vec<Finished>), ThreadsFault>
+    ensures ok { IfOk result (λ r. RunsAtOnce threads budget text.now (printed_of r.0)) }
     ensures err { IfErr result (λ f. IsFaultAtOnce text.now threads f) }
 {
     match compile(alloc, text) {
         Ok(compiled) => match run_code(rt, alloc, &compiled, threads, budget) {
-            Ok(printed) => Ok(printed),
+            Ok(ran) => Ok(ran),
             Err(fault) => Err(ThreadsFault::Run(fault)),
         },
         Err(fault) => Err(ThreadsFault::Source(fault)),
@@ -67,13 +67,24 @@ fn run_code<H: Threads + Wait + Sync>(
     compiled: &Compiled,
     threads: u32,
     budget: u64,
-) -> Result<Printed, RunFault>
-    ensures ok { IfOk result (λ r. IsCodeOf (program_of compiled.now.accepted.safe.typed.unit) compiled.now.code → IsRunAtOnce (program_of compiled.now.accepted.safe.typed.unit) compiled.now.code threads budget (printed_of r)) }
+) -> Result<(Printed, Vec<Finished>), RunFault>
+    ensures ok { IfOk result (λ r. IsCodeOf (program_of compiled.now.accepted.safe.typed.unit) compiled.now.code → IsRunAtOnce (program_of compiled.now.accepted.safe.typed.unit) compiled.now.code threads budget (printed_of r.0)) }
     ensures err { IfErr result (λ f. IsRunRefused f threads) }
 {
     let ran = run_all(rt, alloc, &compiled.code, threads, budget, &Open)?;
     match shown_at_once(alloc, unit_of(&compiled.accepted), threads, &ran) {
-        Ok(printed) => Ok(printed),
+        Ok(printed) => Ok((printed, finished_of(ran))),
         Err(_) => Err(RunFault::OutOfMemory),
     }
+}
+
+/// The threads that a run leaves.
+fn finished_of(ran: RunReport) -> Vec<Finished> {
+    let RunReport {
+        memory: _memory,
+        threads,
+        ends: _ends,
+        overheld: _overheld,
+    } = ran;
+    threads
 }

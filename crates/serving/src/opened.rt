@@ -50,12 +50,10 @@ pub fn serve_files<H: Threads + Wait + Sync, F: Files, W: Write, E: Write + IsTe
         Request::Program {
             file,
             verbose,
+            format,
             task,
         } => {
-            let detail = Detail {
-                lines: *verbose || err.is_terminal(),
-                reasons: *verbose,
-            };
+            let detail = Detail::of(file.as_str(), *verbose, *format, err.is_terminal());
             open_source(rt, alloc, file.as_str(), task, files, detail, out, err)
         }
         Request::Explain { number } => explain(*number, out, err),
@@ -69,7 +67,7 @@ fn open_source<H: Threads + Wait + Sync, F: Files, W: Write, E: Write>(
     file: &str,
     task: &Task,
     files: &F,
-    detail: Detail,
+    detail: Detail<'_>,
     out: &mut W,
     err: &mut E,
 ) -> u8
@@ -93,7 +91,7 @@ fn open_schedule<H: Threads + Wait + Sync, F: Files, R: Read + Drop, W: Write, E
     task: &Task,
     source: R,
     files: &F,
-    detail: Detail,
+    detail: Detail<'_>,
     out: &mut W,
     err: &mut E,
 ) -> u8

@@ -35,7 +35,7 @@ use crate::source::{Source, read_source};
 use crate::status::{ENDED, status_of};
 use crate::tell::{
     Detail, cannot_write, not_read, not_text, out_of_memory, print, refuse, refuse_order,
-    refuse_replay, refuse_run, refuse_step, too_long, unusable,
+    refuse_replay, refuse_run, refuse_step, tell_counts, too_long, unusable,
 };
 use crate::timeline::lines_shown;
 use bytecode::Code;
@@ -81,12 +81,10 @@ pub fn serve<H: Threads + Wait + Sync, R: Read + Drop, S: Read + Drop, W: Write,
         Request::Program {
             file,
             verbose,
+            format,
             task,
         } => {
-            let detail = Detail {
-                lines: *verbose || is_terminal,
-                reasons: *verbose,
-            };
+            let detail = Detail::of(file.as_str(), *verbose, *format, is_terminal);
             serve_program(
                 rt,
                 alloc,
@@ -117,7 +115,7 @@ pub(crate) fn serve_program<
     task: &Task,
     source: R,
     schedule: S,
-    detail: Detail,
+    detail: Detail<'_>,
     out: &mut W,
     err: &mut E,
 ) -> u8
@@ -140,7 +138,7 @@ pub(crate) fn serve_program<
             err,
         ),
         Ok(Source::NotText) => not_text(file, err),
-        Ok(Source::TooLong) => too_long(err),
+        Ok(Source::TooLong) => too_long(detail, err),
         Err(error) => not_read(file, &error, detail, err),
     }
 }
@@ -153,7 +151,7 @@ fn work<H: Threads + Wait + Sync, S: Read + Drop, W: Write, E: Write>(
     task: &Task,
     text: &str,
     schedule: S,
-    detail: Detail,
+    detail: Detail<'_>,
     out: &mut W,
     err: &mut E,
 ) -> u8
@@ -166,12 +164,17 @@ fn work<H: Threads + Wait + Sync, S: Read + Drop, W: Write, E: Write>(
     match task {
         Task::Check => check(alloc, text, detail, out, err),
         Task::Listing => list(alloc, text, detail, out, err),
-        Task::Run { threads, budget } => run(
+        Task::Run {
+            threads,
+            budget,
+            counts,
+        } => run(
             rt,
             alloc,
             text,
             *threads,
             u64::from(*budget),
+            *counts,
             detail,
             out,
             err,
@@ -221,14 +224,15 @@ fn work<H: Threads + Wait + Sync, S: Read + Drop, W: Write, E: Write>(
     }
 }
 
-/// Runs all threads of a source at once and prints their report.
+/// Runs all threads of a source at once, prints their report, and tells what was counted where that is wanted.
 fn run<H: Threads + Wait + Sync, W: Write, E: Write>(
     rt: &H,
     alloc: Global,
     text: &str,
     threads: u32,
     budget: u64,
-    detail: Detail,
+    counts: bool,
+    detail: Detail<'_>,
     out: &mut W,
     err: &mut E,
 ) -> u8
@@ -240,9 +244,13 @@ fn run<H: Threads + Wait + Sync, W: Write, E: Write>(
 {
     reports_are_orders();
     match run_threads(rt, alloc, text, threads, budget) {
-        Ok(printed) => print_report(alloc, &printed, out, err),
+        Ok((printed, finished)) => {
+            let status = print_report(alloc, &printed, out, err);
+            tell_counts(counts, threads, finished.as_slice(), err);
+            status
+        }
         Err(ThreadsFault::Source(fault)) => refuse(alloc, text, fault, detail, err),
-        Err(ThreadsFault::Run(fault)) => refuse_run(fault, err),
+        Err(ThreadsFault::Run(fault)) => refuse_run(fault, detail, err),
     }
 }
 
@@ -253,7 +261,7 @@ fn replay_source<A: Allocator + Copy, S: Read + Drop, W: Write, E: Write>(
     threads: u32,
     steps: &Steps,
     schedule: S,
-    detail: Detail,
+    detail: Detail<'_>,
     out: &mut W,
     err: &mut E,
 ) -> u8
@@ -277,7 +285,7 @@ fn show_steps<A: Allocator + Copy, S: Read + Drop, W: Write, E: Write>(
     threads: u32,
     steps: &Steps,
     schedule: S,
-    detail: Detail,
+    detail: Detail<'_>,
     out: &mut W,
     err: &mut E,
 ) -> u8
@@ -304,7 +312,7 @@ fn draw<A: Allocator + Copy, S: Read + Drop, W: Write, E: Write>(
     threads: u32,
     steps: &Steps,
     schedule: S,
-    detail: Detail,
+    detail: Detail<'_>,
     out: &mut W,
     err: &mut E,
 ) -> u8
@@ -329,7 +337,7 @@ fn replay_text<A: Allocator + Copy, S: Read + Drop, E: Write>(
     threads: u32,
     steps: &Steps,
     schedule: S,
-    detail: Detail,
+    detail: Detail<'_>,
     err: &mut E,
 ) -> Result<(Compiled<A>, Replayed<A>), u8>
     ensures ok { IfOk result (λ r. IsReplayOfText threads steps.now (S.remaining schedule) text.now r.0.code r.1.made.items r.1.stop (printed_of r.1.printed)) }
@@ -354,7 +362,7 @@ fn print_schedule<A: Allocator + Copy, W: Write, E: Write>(
     threads: u32,
     seed: u32,
     count: u32,
-    detail: Detail,
+    detail: Detail<'_>,
     out: &mut W,
     err: &mut E,
 ) -> u8
@@ -380,7 +388,7 @@ fn print_schedule<A: Allocator + Copy, W: Write, E: Write>(
 fn list<A: Allocator + Copy, W: Write, E: Write>(
     alloc: A,
     text: &str,
-    detail: Detail,
+    detail: Detail<'_>,
     out: &mut W,
     err: &mut E,
 ) -> u8
@@ -403,7 +411,7 @@ fn in_order<A: Allocator + Copy, W: Write, E: Write>(
     threads: u32,
     order: &[u32],
     ticks: u64,
-    detail: Detail,
+    detail: Detail<'_>,
     out: &mut W,
     err: &mut E,
 ) -> u8
@@ -427,7 +435,7 @@ fn all_outcomes<A: Allocator + Copy, W: Write, E: Write>(
     threads: u32,
     ticks: u64,
     limit: usize,
-    detail: Detail,
+    detail: Detail<'_>,
     out: &mut W,
     err: &mut E,
 ) -> u8
@@ -475,7 +483,7 @@ fn print_outcomes<A: Allocator + Copy, W: Write, E: Write>(
 fn check<A: Allocator + Copy, W: Write, E: Write>(
     alloc: A,
     text: &str,
-    detail: Detail,
+    detail: Detail<'_>,
     out: &mut W,
     err: &mut E,
 ) -> u8
@@ -528,7 +536,7 @@ fn print_report<A: Allocator + Copy, W: Write, E: Write>(
 fn print_for_replay<A: Allocator, W: Write, E: Write>(
     text: &[u8],
     replayed: &Replayed<A>,
-    detail: Detail,
+    detail: Detail<'_>,
     out: &mut W,
     err: &mut E,
 ) -> u8
@@ -551,7 +559,7 @@ fn print_for_replay<A: Allocator, W: Write, E: Write>(
 fn print_replay<A: Allocator + Copy, W: Write, E: Write>(
     alloc: A,
     replayed: &Replayed<A>,
-    detail: Detail,
+    detail: Detail<'_>,
     out: &mut W,
     err: &mut E,
 ) -> u8
@@ -593,7 +601,7 @@ fn print_timeline<A: Allocator + Copy, W: Write, E: Write>(
     code: &Code<A>,
     threads: u32,
     replayed: &Replayed<A>,
-    detail: Detail,
+    detail: Detail<'_>,
     out: &mut W,
     err: &mut E,
 ) -> u8
@@ -639,7 +647,7 @@ fn print_picture<A: Allocator + Copy, W: Write, E: Write>(
     compiled: &Compiled<A>,
     threads: u32,
     replayed: &Replayed<A>,
-    detail: Detail,
+    detail: Detail<'_>,
     out: &mut W,
     err: &mut E,
 ) -> u8

@@ -18,7 +18,7 @@ pub(crate) fn lines_of<A: Allocator + Copy, S: Read + Drop, E: Write>(
     threads: u32,
     steps: &Steps,
     schedule: S,
-    detail: Detail,
+    detail: Detail<'_>,
     err: &mut E,
 ) -> Result<Vec<Line, A>, u8>
     ensures lines { IfOk result (λ v. AreLinesOf steps.now threads (S.remaining schedule) v.items) }
@@ -35,7 +35,7 @@ fn lines_read<A: Allocator + Copy, S: Read + Drop, E: Write>(
     alloc: A,
     file: &str,
     schedule: S,
-    detail: Detail,
+    detail: Detail<'_>,
     err: &mut E,
 ) -> Result<Vec<Line, A>, u8>
     ensures lines { IfOk result (λ v. IsSchedule (S.remaining schedule) v.items) }
@@ -57,7 +57,7 @@ pub(crate) fn lines_picked<A: Allocator + Copy, E: Write>(
     seed: u32,
     threads: u32,
     count: u32,
-    detail: Detail,
+    detail: Detail<'_>,
     err: &mut E,
 ) -> Result<Vec<Line, A>, u8>
     ensures lines { IfOk result (λ v. v.items ≡ lines_of_seed seed threads count) }

@@ -7,9 +7,10 @@ ghost use Rattle.std.specs.IoError.{error_kind};
 ghost use Rattle.serving.specs.Usage.{IsHelp, IsWrong};
 ghost use Rattle.serving.specs.Written.{AppendsBeginning};
 
+use crate::at_once::thread_numbered;
 use crate::run::SourceFault;
 use crate::status::{ENDED, REFUSED, STOPPED, UNUSABLE};
-use command::UsageFault;
+use command::{Format, UsageFault};
 use faults::{underlined, words};
 use hints::hints;
 use lex::place;
@@ -19,16 +20,36 @@ use replay::ScheduleFault;
 use std::alloc::Allocator;
 use std::io;
 use std::io::{ErrorKind, Write};
-use workers::RunFault;
+use workers::{Finished, RunFault};
 use world::{StopReason, WorldFault, WorldStop};
 
-/// How much is told of faults.
-#[derive(Clone, Copy, PartialEq, Eq)]
-pub struct Detail {
+/// How faults are told.
+#[derive(Clone, Copy)]
+pub struct Detail<'a> {
     /// Whether the line of the source follows.
-    pub lines: bool,
+    pub(crate) lines: bool,
     /// Whether it is said why a file cannot be read.
-    pub reasons: bool,
+    reasons: bool,
+    /// The file of the source, where its faults are told in the short form.
+    short: Option<&'a str>,
+}
+
+impl<'a> Detail<'a> {
+    /// How faults of a file's program are told, as the words ask and where standard error is a terminal or not.
+    pub fn of(file: &'a str, verbose: bool, format: Format, is_terminal: bool) -> Detail<'a> {
+        match format {
+            Format::Plain => Detail {
+                lines: verbose || is_terminal,
+                reasons: verbose,
+                short: None,
+            },
+            Format::Short => Detail {
+                lines: verbose,
+                reasons: verbose,
+                short: Some(file),
+            },
+        }
+    }
 }
 
 /// Tells help, or why words are not a request. Gives the exit status.
@@ -54,7 +75,7 @@ pub(crate) fn refuse<A: Allocator + Copy, E: Write>(
     alloc: A,
     text: &str,
     fault: SourceFault,
-    detail: Detail,
+    detail: Detail<'_>,
     err: &mut E,
 ) -> u8
     ensures within { result ≤ 4 }
@@ -66,11 +87,7 @@ pub(crate) fn refuse<A: Allocator + Copy, E: Write>(
     match fault.span() {
         Some(span) => {
             let (line, column) = place(text, span.start.min(text.len()));
-            let _ = writeln!(
-                err,
-                "txc: fault {number:02} at {line}:{column}: {}",
-                words(number)
-            );
+            tell_place(number, line, column, detail, err);
             if detail.lines {
                 show_line(alloc, text, span, err);
                 show_hints(alloc, text, number, span, err);
@@ -80,6 +97,15 @@ pub(crate) fn refuse<A: Allocator + Copy, E: Write>(
         }
         None => out_of_memory(err),
     }
+}
+
+/// Tells a fault that stands at this place of the source.
+fn tell_place<E: Write>(number: u32, line: usize, column: usize, detail: Detail<'_>, err: &mut E) {
+    let words = words(number);
+    let _ = match detail.short {
+        Some(file) => writeln!(err, "{file}:{line}:{column}: error: {words} [{number:02}]"),
+        None => writeln!(err, "txc: fault {number:02} at {line}:{column}: {words}"),
+    };
 }
 
 /// Shows the line of a source that a span begins in, with carets under the span. Where memory is refused it shows nothing.
@@ -108,7 +134,7 @@ fn show_where_more<E: Write>(number: u32, err: &mut E) {
 }
 
 /// Says what a fault's number means, where that is wanted, and where more is said.
-fn show_words<E: Write>(number: u32, detail: Detail, err: &mut E) {
+fn show_words<E: Write>(number: u32, detail: Detail<'_>, err: &mut E) {
     if detail.lines {
         let _ = writeln!(err, "{}", words(number));
         show_where_more(number, err);
@@ -132,7 +158,7 @@ pub(crate) fn cannot_write<E: Write>(err: &mut E) -> u8
 }
 
 /// Says that a file cannot be read, and why where that is wanted.
-fn cannot_read<E: Write>(file: &str, error: &io::Error, detail: Detail, err: &mut E) -> u8
+fn cannot_read<E: Write>(file: &str, error: &io::Error, detail: Detail<'_>, err: &mut E) -> u8
     ensures { result ≡ 2 }
 {
     if detail.reasons {
@@ -144,7 +170,7 @@ fn cannot_read<E: Write>(file: &str, error: &io::Error, detail: Detail, err: &mu
 }
 
 /// Says why a file was not opened or not read: memory was refused, or the file cannot be read.
-pub fn not_read<E: Write>(file: &str, error: &io::Error, detail: Detail, err: &mut E) -> u8
+pub fn not_read<E: Write>(file: &str, error: &io::Error, detail: Detail<'_>, err: &mut E) -> u8
     ensures told { (result ≡ 2) ⊎ (result ≡ 4) }
     ensures memory { error_kind error.now ≡ ErrorKind.OutOfMemory → result ≡ 4 }
     ensures others { error_kind error.now ≢ ErrorKind.OutOfMemory → result ≡ 2 }
@@ -164,22 +190,48 @@ pub(crate) fn not_text<E: Write>(file: &str, err: &mut E) -> u8
 }
 
 /// Says that a source has too many bytes.
-pub(crate) fn too_long<E: Write>(err: &mut E) -> u8
+pub(crate) fn too_long<E: Write>(detail: Detail<'_>, err: &mut E) -> u8
     ensures { result ≡ 1 }
 {
-    let _ = writeln!(err, "txc: fault 05 at 1:1: {}", words(5));
+    tell_place(5, 1, 1, detail, err);
     REFUSED
 }
 
+/// Tells what was counted of each of so many threads, where that is wanted.
+pub(crate) fn tell_counts<E: Write>(
+    are_wanted: bool,
+    threads: u32,
+    finished: &[Finished],
+    err: &mut E,
+) {
+    if !are_wanted {
+        return;
+    }
+    let _ = writeln!(err, "== counts");
+    'threads: for number in 0..threads {
+        if let Some(thread) = thread_numbered(finished, number) {
+            let tally = thread.tally();
+            let _ = writeln!(
+                err,
+                "thread {number}: steps {}, accesses {}, transactions {}, drops {}, retries {}",
+                thread.steps(),
+                thread.accesses(),
+                tally.begun.saturating_sub(tally.dropped),
+                tally.dropped,
+                tally.retried
+            );
+        }
+    }
+}
+
 /// Says why threads were not run.
-pub fn refuse_run<E: Write>(fault: RunFault, err: &mut E) -> u8
+pub fn refuse_run<E: Write>(fault: RunFault, detail: Detail<'_>, err: &mut E) -> u8
     ensures { result ≡ 4 }
 {
     match fault {
         RunFault::OutOfMemory => out_of_memory(err),
         RunFault::Threads | RunFault::NotStarted => {
-            let _ = writeln!(err, "txc: fault {}", fault.number());
-            STOPPED
+            tell_number(fault.number(), STOPPED, detail, err)
         }
     }
 }
@@ -198,7 +250,7 @@ pub(crate) fn refuse_replay<E: Write>(fault: WorldFault, err: &mut E) -> u8
 }
 
 /// Says that a step was not made, where that is of a thread that there is not. A report tells the other reasons.
-pub(crate) fn refuse_step<E: Write>(stop: WorldStop, detail: Detail, err: &mut E) -> u8
+pub(crate) fn refuse_step<E: Write>(stop: WorldStop, detail: Detail<'_>, err: &mut E) -> u8
     ensures { result ≡ 4 }
 {
     if stop.reason == StopReason::Stranger {
@@ -213,7 +265,7 @@ pub(crate) fn refuse_schedule<A: Allocator + Copy, E: Write>(
     alloc: A,
     text: &str,
     fault: ScheduleFault,
-    detail: Detail,
+    detail: Detail<'_>,
     err: &mut E,
 ) -> u8
     ensures { (result ≡ 2) ⊎ (result ≡ 4) }
@@ -254,7 +306,7 @@ fn span_of_line(text: &[u8], line: usize) -> Span {
 }
 
 /// Says why an order is refused.
-pub(crate) fn refuse_order<E: Write>(fault: MeaningFault, detail: Detail, err: &mut E) -> u8
+pub(crate) fn refuse_order<E: Write>(fault: MeaningFault, detail: Detail<'_>, err: &mut E) -> u8
     ensures told { (result ≡ 2) ⊎ (result ≡ 4) }
     ensures stranger { fault ≡ MeaningFault.Stranger → result ≡ 2 }
     ensures threads { fault ≡ MeaningFault.WrongThreads → result ≡ 4 }
@@ -267,7 +319,7 @@ pub(crate) fn refuse_order<E: Write>(fault: MeaningFault, detail: Detail, err: &
 }
 
 /// Says the number of a fault that stands nowhere, and gives this exit status.
-fn tell_number<E: Write>(number: u32, status: u8, detail: Detail, err: &mut E) -> u8
+fn tell_number<E: Write>(number: u32, status: u8, detail: Detail<'_>, err: &mut E) -> u8
     ensures { result ≡ status }
 {
     let _ = writeln!(err, "txc: fault {number}");

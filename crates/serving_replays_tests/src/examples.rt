@@ -177,7 +177,7 @@ fn examples_print_what_they_should(rt: HostRuntime) {
 type Transcript = (&'static str, &'static [u8], &'static [u8], &'static [u8]);
 
 fn transcripts() -> &'static [Transcript] {
-    static ROWS: [Transcript; 37] = [
+    static ROWS: [Transcript; 39] = [
         (
             "txc check examples/queue.c",
             b"// A bounded queue: one transaction puts or takes, and a cancel undoes what does not fit.\nint slots[4], head, count, refused;\n\nint put(int value) {\n    int done = 0;\n    __transaction_atomic {\n        slots[(head + count) % 4] = value;\n        count++;\n        if (count > 4) __transaction_cancel;\n        done = 1;\n    }\n    return done;\n}\n\nvoid worker(int self) {\n    int i;\n    for (i = 1; i <= 6; i++) {\n        if (!put(i * i)) {\n            __transaction_atomic { refused++; }\n        }\n    }\n    __transaction_relaxed {\n        printf(\"%d waiting, %d refused\\n\", count, refused);\n        while (count > 0) {\n            printf(\"%d \", slots[head]);\n            head = (head + 1) % 4;\n            count--;\n        }\n    }\n    printf(\"\\n\");\n}\n",
@@ -189,6 +189,12 @@ fn transcripts() -> &'static [Transcript] {
             b"int x;\nvoid worker(int self) { x = 1; }\n",
             b"",
             b"txc: fault 50 at 2:25: shared access outside a transaction\nvoid worker(int self) { x = 1; }\n                        ^\ntxc explain 50 says more\n",
+        ),
+        (
+            "txc check examples/refused/bare.c --format short",
+            b"int x;\nvoid worker(int self) { x = 1; }\n",
+            b"",
+            b"examples/refused/bare.c:2:25: error: shared access outside a transaction [50]\n",
         ),
         (
             "txc check examples/refused/carts.c",
@@ -327,6 +333,12 @@ fn transcripts() -> &'static [Transcript] {
             b"// Each thread adds one, three times. No addition is lost, whatever the threads do.\nint x;\n\nvoid worker(int self) {\n    int i;\n    for (i = 0; i < 3; i++) {\n        __transaction_atomic { x = x + 1; }\n    }\n}\n",
             b"",
             b"== thread 0: ended\n== thread 1: ended\n== memory\nx = 6\n",
+        ),
+        (
+            "txc run examples/counter.c --counts",
+            b"// Each thread adds one, three times. No addition is lost, whatever the threads do.\nint x;\n\nvoid worker(int self) {\n    int i;\n    for (i = 0; i < 3; i++) {\n        __transaction_atomic { x = x + 1; }\n    }\n}\n",
+            b"",
+            b"== thread 0: ended\n== memory\nx = 3\n== counts\nthread 0: steps 41, accesses 18, transactions 3, drops 0, retries 0\n",
         ),
         (
             "txc source examples/booking.c --threads 2 --order 1,0,0,1",

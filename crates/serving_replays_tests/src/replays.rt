@@ -1,6 +1,6 @@
 //! Replays of schedules and seeds.
 
-use command::{Request, Steps, Task};
+use command::{Format, Request, Steps, Task};
 use refusing::Refusing;
 use replay::{Line, read_schedule};
 use report::{Printed, report_text};
@@ -463,6 +463,7 @@ fn seeded(alloc: Global, threads: u32, count: u32) -> Result<Request, AllocError
     Ok(Request::Program {
         file,
         verbose: false,
+        format: Format::Plain,
         task: Task::Replay { threads, steps },
     })
 }

@@ -1,7 +1,8 @@
 //! The examples of docs/FAULTS.md: each is a source, its fault's number, and what standard error says behind the number.
 //! `scripts/faults.py` compares these tables with the document's.
 
-use serving::refuse_run;
+use command::Format;
+use serving::{Detail, refuse_run};
 use serving_in_memory::{Answer, answers, serve_line};
 use std::alloc::{AllocError, Global};
 use std::sync::Wait;
@@ -370,16 +371,26 @@ fn a_long_file_that_is_not_utf8_is_told(rt: HostRuntime) {
     assert!(rt; no_text_is_told(&rt, rt.alloc(), 1_048_577, too_long));
 }
 
-// Whether this is told of a run that is refused.
-fn is_told_of_run(alloc: Global, fault: RunFault, told: &[u8]) -> bool {
+// Whether this is told of a run that is refused, to a terminal or not.
+fn is_told_of_run(alloc: Global, fault: RunFault, is_terminal: bool, told: &[u8]) -> bool {
     let mut err = Vec::new(alloc);
-    refuse_run(fault, &mut err) == 4 && err.as_slice() == told
+    let detail = Detail::of("a.c", false, Format::Plain, is_terminal);
+    refuse_run(fault, detail, &mut err) == 4 && err.as_slice() == told
 }
 
 /// Why a run is refused that no command line asks for, or that the system gives no thread or no memory.
 #[test]
 fn refused_runs_are_told(rt: HostRuntime) {
-    assert!(rt; is_told_of_run(rt.alloc(), RunFault::Threads, b"txc: fault 72\n"));
-    assert!(rt; is_told_of_run(rt.alloc(), RunFault::NotStarted, b"txc: fault 73\n"));
-    assert!(rt; is_told_of_run(rt.alloc(), RunFault::OutOfMemory, b"txc: out of memory\n"));
+    assert!(rt; is_told_of_run(rt.alloc(), RunFault::Threads, false, b"txc: fault 72\n"));
+    assert!(rt; is_told_of_run(rt.alloc(), RunFault::NotStarted, false, b"txc: fault 73\n"));
+    assert!(rt;
+        is_told_of_run(
+            rt.alloc(),
+            RunFault::OutOfMemory,
+            true,
+            b"txc: out of memory\n"
+        )
+    );
+    let more = b"txc: fault 73\nthread not started\ntxc explain 73 says more\n".as_slice();
+    assert!(rt; is_told_of_run(rt.alloc(), RunFault::NotStarted, true, more));
 }

@@ -1,6 +1,6 @@
 //! Runs, orders and listings of sources, and what is said of files and words.
 
-use command::{Request, UsageFault};
+use command::{Format, Request, UsageFault};
 use refusing::Refusing;
 use report::report_text;
 use serving::{
@@ -403,10 +403,7 @@ fn says_why_it_cannot_be_read(rt: HostRuntime) {
 // What is said of a file that the system does not open, and the status; nothing where it is opened.
 fn told_unless_opened(rt: &HostRuntime, alloc: Global, file: &str) -> (u8, Vec<u8>) {
     let mut err = Vec::new(alloc);
-    let detail = Detail {
-        lines: false,
-        reasons: false,
-    };
+    let detail = Detail::of(file, false, Format::Plain, false);
     let status = match File::open(rt, file) {
         Ok(_) => 0,
         Err(error) => tell_unread(file, &error, detail, &mut err),
