@@ -5,12 +5,13 @@ use lex::token::{Keyword, Kind, Punctuator, Token};
 /// What is told of a reserved word of C that has no place in txc's.
 fn of_reserved(word: &[u8]) -> &'static str {
     match word {
-        b"char" | b"short" | b"long" | b"float" | b"double" | b"_Bool" =>
-            "the types are int and unsigned",
+        b"char" | b"short" | b"long" | b"float" | b"double" | b"_Bool" => TYPES,
         b"struct" | b"union" | b"enum" | b"typedef" => "there are no types but int and unsigned",
         b"switch" | b"case" | b"default" => "there is no switch: write if and else",
         b"goto" => "there is no goto: write a loop, break and continue",
         b"sizeof" => "there is no sizeof",
+        b"static" | b"const" | b"extern" | b"inline" | b"volatile" | b"register" | b"signed" =>
+            "there is no such word here: leave it out",
         _ => "it is no word of txc's C",
     }
 }
@@ -27,7 +28,27 @@ fn is_like_a_transaction(name: &str) -> bool {
             | "transaction_cancel"
             | "_transaction_cancel"
             | "atomic"
+            | "atomic_noexcept"
+            | "atomic_cancel"
+            | "atomic_commit"
             | "synchronized"
+    )
+}
+
+/// Whether a name is that of a type in other C.
+fn is_like_a_type(name: &str) -> bool {
+    matches!(
+        name,
+        "bool"
+            | "size_t"
+            | "int8_t"
+            | "int16_t"
+            | "int32_t"
+            | "int64_t"
+            | "uint8_t"
+            | "uint16_t"
+            | "uint32_t"
+            | "uint64_t"
     )
 }
 
@@ -37,10 +58,21 @@ pub(crate) fn of_token(
     token: &Token<'_>,
     word: &[u8],
 ) -> Option<&'static str> {
-    if let Kind::Reserved = token.kind {
-        return Some(of_reserved(word));
+    match token.kind {
+        Kind::Reserved => return Some(of_reserved(word)),
+        Kind::Name(name) if is_like_a_type(name) => return Some(TYPES),
+        Kind::StringLiteral(_) => return Some("a string stands in printf alone"),
+        Kind::Punctuator(Punctuator::And) => return Some("there are no pointers"),
+        Kind::Punctuator(Punctuator::Assign) => return Some(
+            "an assignment is a statement, and has no value: == compares",
+        ),
+        Kind::Punctuator(Punctuator::Comma) => return Some("there is no comma operator"),
+        _ => {}
     }
     match (before.map(|it| it.kind), token.kind) {
+        (Some(Kind::Punctuator(Punctuator::Minus)), Kind::Punctuator(Punctuator::Greater)) => {
+            Some("there are no pointers, and no structs")
+        }
         (
             Some(Kind::Keyword(Keyword::Int | Keyword::Unsigned | Keyword::Void)),
             Kind::Punctuator(Punctuator::Star),
@@ -49,9 +81,12 @@ pub(crate) fn of_token(
             "arrays are global alone",
         ),
         (Some(Kind::Name(name)), _) if is_like_a_transaction(name) => Some(TRANSACTIONS),
+        (Some(Kind::Name(name)), _) if is_like_a_type(name) => Some(TYPES),
         _ => None,
     }
 }
+
+const TYPES: &str = "the types are int and unsigned";
 
 const TRANSACTIONS: &str =
     "the words are __transaction_atomic, __transaction_relaxed and __transaction_cancel";
@@ -59,8 +94,23 @@ const TRANSACTIONS: &str =
 /// What is told of a name that is not known.
 pub(crate) fn of_name(name: &str) -> Option<&'static str> {
     match name {
-        "scanf" | "malloc" | "rand" | "puts" | "putchar" => Some(
-            "the only function of C's library is printf",
+        "scanf"
+        | "malloc"
+        | "free"
+        | "rand"
+        | "srand"
+        | "puts"
+        | "putchar"
+        | "exit"
+        | "abort"
+        | "assert"
+        | "sleep"
+        | "usleep"
+        | "abs"
+        | "memset"
+        | "memcpy" => Some("the only function of C's library is printf"),
+        _ if name.starts_with("pthread_") => Some(
+            "threads come of --threads T, and transactions are their locks",
         ),
         "NULL" | "true" | "false" => Some("numbers alone are constants: write 0 or 1"),
         _ if is_like_a_transaction(name) => Some(TRANSACTIONS),
@@ -74,6 +124,33 @@ pub(crate) fn of_character(byte: u8) -> Option<&'static str> {
         b'\'' => Some("there are no character constants: write the number"),
         b'.' => Some("there are no floating constants, and no structs"),
         _ => None,
+    }
+}
+
+/// What is told beside a fault of this number, whatever stands at its place.
+pub(crate) fn of_number(number: u32) -> Option<&'static str> {
+    match number {
+        2 => Some(
+            "the greatest int is 2147483647, and with u behind it the greatest number 4294967295",
+        ),
+        6 => Some("there are no macros: #include lines alone are passed over"),
+        27 => Some(
+            "%d stands for an int and %u for an unsigned, one argument each; there is no other",
+        ),
+        50 => Some(
+            "write __transaction_atomic { .. } round it, or __transaction_atomic ( .. ) round an expression",
+        ),
+        _ => None,
+    }
+}
+
+/// What is told of a word that may not stand in an atomic transaction.
+pub(crate) fn of_unsafe(word: &[u8]) -> &'static str {
+    match word {
+        b"printf" =>
+            "a print can't be undone: it stands behind the transaction, or in __transaction_relaxed",
+        _ =>
+            "it is not safe: it prints, begins a relaxed transaction or is marked unsafe, itself or by its calls",
     }
 }
 

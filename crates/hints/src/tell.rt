@@ -1,10 +1,10 @@
 //! The lines that are told beside a fault.
 
 use crate::expected::expected;
-use crate::meant::{of_character, of_name, of_token, of_worker};
+use crate::meant::{of_character, of_name, of_number, of_token, of_unsafe, of_worker};
 use crate::near::is_near;
 use lex::lex;
-use lex::token::{Kind, Span, Token};
+use lex::token::{Keyword, Kind, Span, Token};
 use std::alloc::{AllocError, Allocator};
 
 /// The most bytes of a source before a place, for which it is looked what could stand there.
@@ -84,15 +84,48 @@ fn tell_token<A: Allocator + Copy>(
     Ok(())
 }
 
+/// Whether a name is declared behind a place.
+fn is_declared_behind(tokens: &[Token<'_>], name: &str, place: usize) -> bool {
+    let mut is_behind_a_type = false;
+    'tokens: for token in tokens {
+        if let Kind::Name(other) = token.kind {
+            if is_behind_a_type && other == name && token.span.start > place {
+                return true;
+            }
+        }
+        is_behind_a_type = matches!(
+            token.kind,
+            Kind::Keyword(Keyword::Int | Keyword::Unsigned | Keyword::Void)
+        );
+    }
+    false
+}
+
+/// Words of statements that are long enough to be told from names.
+const WORDS: [&str; 4] = ["break", "continue", "return", "while"];
+
 /// Tells of a name that is not known which one may be meant.
 fn tell_name<A: Allocator + Copy>(
     alloc: A,
     to: &mut Vec<u8, A>,
     tokens: &[Token<'_>],
     unknown: &str,
+    place: usize,
 ) -> Result<(), AllocError> {
     if let Some(words) = of_name(unknown) {
         return put_line(to, words.as_bytes());
+    }
+    if is_declared_behind(tokens, unknown, place) {
+        return put_line(
+            to,
+            b"it is declared further down: a name is declared before it is used",
+        );
+    }
+    'words: for word in WORDS {
+        if is_near(alloc, unknown.as_bytes(), word.as_bytes())? {
+            to.extend_from_slice(b"there is a word ")?;
+            return put_line(to, word.as_bytes());
+        }
     }
     'tokens: for token in tokens {
         if let Kind::Name(name) = token.kind {
@@ -113,7 +146,7 @@ fn tell_name_at<A: Allocator + Copy>(
     place: usize,
 ) -> Result<(), AllocError> {
     match token_at(tokens, place).map(|it| it.kind) {
-        Some(Kind::Name(name)) => tell_name(alloc, to, tokens, name),
+        Some(Kind::Name(name)) => tell_name(alloc, to, tokens, name, place),
         _ => Ok(()),
     }
 }
@@ -127,16 +160,13 @@ fn put_hints<A: Allocator + Copy>(
     span: Span,
 ) -> Result<(), AllocError> {
     let word = text.as_bytes().get(span.start..span.end).unwrap_or(b"");
-    match number {
-        1 => match word.first().and_then(|byte| of_character(*byte)) {
-            Some(words) => return put_line(to, words.as_bytes()),
-            None => return Ok(()),
-        },
-        6 => return put_line(
-            to,
-            b"there are no macros: #include lines alone are passed over",
-        ),
-        _ => {}
+    let words = match number {
+        1 => word.first().and_then(|byte| of_character(*byte)),
+        40 => Some(of_unsafe(word)),
+        _ => of_number(number),
+    };
+    if let Some(words) = words {
+        return put_line(to, words.as_bytes());
     }
     let Ok(tokens) = lex(alloc, text) else {
         return Ok(());

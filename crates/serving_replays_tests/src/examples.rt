@@ -188,7 +188,7 @@ fn transcripts() -> &'static [Transcript] {
             "txc check examples/refused/bare.c",
             b"int x;\nvoid worker(int self) { x = 1; }\n",
             b"",
-            b"txc: fault 50 at 2:25: shared access outside a transaction\nvoid worker(int self) { x = 1; }\n                        ^\ntxc explain 50 says more\n",
+            b"txc: fault 50 at 2:25: shared access outside a transaction\nvoid worker(int self) { x = 1; }\n                        ^\nwrite __transaction_atomic { .. } round it, or __transaction_atomic ( .. ) round an expression\ntxc explain 50 says more\n",
         ),
         (
             "txc check examples/refused/bare.c --format short",
@@ -206,13 +206,13 @@ fn transcripts() -> &'static [Transcript] {
             "txc check examples/refused/drain.c",
             b"int head, total;\n\nvoid worker(int self) {\n    while (head < 2) {\n        __transaction_atomic { head++; }\n    }\n}\n",
             b"",
-            b"txc: fault 50 at 4:12: shared access outside a transaction\n    while (head < 2) {\n           ^^^^\ntxc explain 50 says more\n",
+            b"txc: fault 50 at 4:12: shared access outside a transaction\n    while (head < 2) {\n           ^^^^\nwrite __transaction_atomic { .. } round it, or __transaction_atomic ( .. ) round an expression\ntxc explain 50 says more\n",
         ),
         (
             "txc check examples/refused/receipt.c",
             b"// The receipt again, in an atomic transaction: a print can not be undone, so this is refused.\nint sold, left = 10;\n\nvoid worker(int self) {\n    __transaction_atomic {\n        sold = sold + 1;\n        left = left - 1;\n        printf(\"ticket %d, %d left\\n\", sold, left);\n    }\n}\n",
             b"",
-            b"txc: fault 40 at 8:9: unsafe in atomic\n        printf(\"ticket %d, %d left\\n\", sold, left);\n        ^^^^^^\ntxc explain 40 says more\n",
+            b"txc: fault 40 at 8:9: unsafe in atomic\n        printf(\"ticket %d, %d left\\n\", sold, left);\n        ^^^^^^\na print can't be undone: it stands behind the transaction, or in __transaction_relaxed\ntxc explain 40 says more\n",
         ),
         (
             "txc explain 20",

@@ -9,7 +9,7 @@ use std::thread::Threads;
 type Row = (&'static str, &'static str);
 
 fn rows() -> &'static [Row] {
-    static ROWS: [Row; 12] = [
+    static ROWS: [Row; 23] = [
         (
             "int x y;",
             "txc: fault 10 at 1:7: unexpected token\nint x y;\n      ^\nexpected ';', ',', '(', '[' or '='\ntxc explain 10 says more\n",
@@ -48,7 +48,51 @@ fn rows() -> &'static [Row] {
         ),
         (
             "void worker(int self) { puts(\"a\"); }",
-            "txc: fault 10 at 1:30: unexpected token\nvoid worker(int self) { puts(\"a\"); }\n                             ^^^\nexpected ')' or an expression\ntxc explain 10 says more\n",
+            "txc: fault 10 at 1:30: unexpected token\nvoid worker(int self) { puts(\"a\"); }\n                             ^^^\na string stands in printf alone\nexpected ')' or an expression\ntxc explain 10 says more\n",
+        ),
+        (
+            "static int x;",
+            "txc: fault 10 at 1:1: unexpected token\nstatic int x;\n^^^^^^\nthere is no such word here: leave it out\nexpected a declaration\ntxc explain 10 says more\n",
+        ),
+        (
+            "bool b;",
+            "txc: fault 10 at 1:1: unexpected token\nbool b;\n^^^^\nthe types are int and unsigned\nexpected a declaration\ntxc explain 10 says more\n",
+        ),
+        (
+            "void worker(int self) { int a, b; a = b = 1; }",
+            "txc: fault 10 at 1:41: unexpected token\nvoid worker(int self) { int a, b; a = b = 1; }\n                                        ^\nan assignment is a statement, and has no value: == compares\nexpected ';', '(', '[' or an operator\ntxc explain 10 says more\n",
+        ),
+        (
+            "void worker(int self) { int a = &self; }",
+            "txc: fault 10 at 1:33: unexpected token\nvoid worker(int self) { int a = &self; }\n                                ^\nthere are no pointers\nexpected an expression\ntxc explain 10 says more\n",
+        ),
+        (
+            "void worker(int self) { self->a = 1; }",
+            "txc: fault 10 at 1:30: unexpected token\nvoid worker(int self) { self->a = 1; }\n                             ^\nthere are no pointers, and no structs\nexpected an expression\ntxc explain 10 says more\n",
+        ),
+        (
+            "void worker(int self) { sleep(1); }",
+            "txc: fault 20 at 1:25: unknown name\nvoid worker(int self) { sleep(1); }\n                        ^^^^^\nthe only function of C's library is printf\ntxc explain 20 says more\n",
+        ),
+        (
+            "void worker(int self) { f(); } void f(void) { }",
+            "txc: fault 20 at 1:25: unknown name\nvoid worker(int self) { f(); } void f(void) { }\n                        ^\nit is declared further down: a name is declared before it is used\ntxc explain 20 says more\n",
+        ),
+        (
+            "void worker(int self) { retrun; }",
+            "txc: fault 20 at 1:25: unknown name\nvoid worker(int self) { retrun; }\n                        ^^^^^^\nthere is a word return\ntxc explain 20 says more\n",
+        ),
+        (
+            "void worker(int self) { printf(\"%x\", self); }",
+            "txc: fault 27 at 1:32: bad format\nvoid worker(int self) { printf(\"%x\", self); }\n                               ^^^^\n%d stands for an int and %u for an unsigned, one argument each; there is no other\ntxc explain 27 says more\n",
+        ),
+        (
+            "int x; void worker(int self) { x = 1; }",
+            "txc: fault 50 at 1:32: shared access outside a transaction\nint x; void worker(int self) { x = 1; }\n                               ^\nwrite __transaction_atomic { .. } round it, or __transaction_atomic ( .. ) round an expression\ntxc explain 50 says more\n",
+        ),
+        (
+            "void worker(int self) { __transaction_atomic { printf(\"a\"); } }",
+            "txc: fault 40 at 1:48: unsafe in atomic\nvoid worker(int self) { __transaction_atomic { printf(\"a\"); } }\n                                               ^^^^^^\na print can't be undone: it stands behind the transaction, or in __transaction_relaxed\ntxc explain 40 says more\n",
         ),
         (
             "int main(void) { return 0; }",
