@@ -181,13 +181,71 @@ fn serves_sources(rt: HostRuntime) {
 }
 
 fn checked() -> &'static [Row] {
-    static ROWS: [Row; 3] = [
+    static ROWS: [Row; 10] = [
         ("txc check a.c", FIRST, b"", (0, b"accepted\n", b"")),
+        // an access that `worker` does not reach
         (
             "txc check a.c",
             b"int x; void f(void) { x = 1; } void worker(int self) { }",
             b"",
             (0, b"accepted\n", b""),
+        ),
+        // lines and comments that are passed over
+        (
+            "txc check a.c",
+            b"#include <stdio.h>\n// c\nvoid worker(int self) { /* any */ }",
+            b"",
+            (0, b"accepted\n", b""),
+        ),
+        // calls of what is not safe
+        (
+            "txc check a.c",
+            b"void f(void) { __transaction_relaxed { } }\nvoid worker(int self) { __transaction_atomic { f(); } }",
+            b"",
+            (1, b"", b"txc: fault 40 at 2:48: unsafe in atomic\n"),
+        ),
+        (
+            "txc check a.c",
+            b"void f(void) [[transaction_unsafe]]; void f(void) { } void worker(int self) { __transaction_atomic { f(); } }",
+            b"",
+            (1, b"", b"txc: fault 40 at 1:102: unsafe in atomic\n"),
+        ),
+        (
+            "txc check a.c",
+            b"__attribute__((transaction_safe)) void f(void) { printf(\"a\"); } void worker(int self) { f(); }",
+            b"",
+            (
+                1,
+                b"",
+                b"txc: fault 43 at 1:40: transaction_safe on an unsafe function\n",
+            ),
+        ),
+        // bare accesses and calls
+        (
+            "txc check a.c",
+            b"int x;\nint get(void) { return x; }\nvoid worker(int self) { get(); }",
+            b"",
+            (
+                1,
+                b"",
+                b"txc: fault 51 at 3:25: call touches shared data outside a transaction\n",
+            ),
+        ),
+        (
+            "txc check a.c",
+            b"int x;\nint get(void) { return x; }\nvoid worker(int self) { __transaction_atomic { get(); } }",
+            b"",
+            (0, b"accepted\n", b""),
+        ),
+        (
+            "txc check a.c",
+            b"int x;\nvoid worker(int self) { x = 1; }",
+            b"",
+            (
+                1,
+                b"",
+                b"txc: fault 50 at 2:25: shared access outside a transaction\n",
+            ),
         ),
         (
             "txc check a.c",
@@ -218,7 +276,7 @@ const SHOWS: &[u8] =
 fn orders() -> &'static [Row] {
     static ROWS: [Row; 10] = [
         (
-            "txc source --threads 2 a.c --order 0,1 --ticks 100000",
+            "txc source a.c --threads 2 --order 0,1",
             ADDS,
             b"",
             (
@@ -228,7 +286,7 @@ fn orders() -> &'static [Row] {
             ),
         ),
         (
-            "txc source --threads 2 a.c --order 0 --ticks 100000",
+            "txc source a.c --threads 2 --order 0",
             ADDS,
             b"",
             (
@@ -244,7 +302,7 @@ fn orders() -> &'static [Row] {
             (4, b"== thread 0: waits\n== memory\nx = 0\n", b""),
         ),
         (
-            "txc source --threads 1 a.c --order 0 --ticks 1000",
+            "txc source a.c --order 0 --ticks 1000",
             TURNS,
             b"",
             (4, b"== thread 0: spent\n== memory\nx = 0\n", b""),
@@ -517,7 +575,7 @@ fn each_growth_of_outcomes_is_refused_once(rt: HostRuntime) {
 fn at_once() -> &'static [Row] {
     static ROWS: [Row; 4] = [
         (
-            "txc run --threads=4 --budget=4294967295 a.c",
+            "txc run a.c --threads 4",
             b"int x; void worker(int self) { int i; for (i = 0; i < 100; i++) { __transaction_atomic { x = x + 1; } } }",
             b"",
             (
@@ -527,7 +585,7 @@ fn at_once() -> &'static [Row] {
             ),
         ),
         (
-            "txc run --threads=3 --budget=4294967295 a.c",
+            "txc run a.c --threads 3",
             b"void worker(int self) { }",
             b"",
             (
@@ -537,13 +595,13 @@ fn at_once() -> &'static [Row] {
             ),
         ),
         (
-            "txc run --threads=1 --budget=0 a.c",
+            "txc run a.c --threads 1 --budget 0",
             b"void worker(int self) { }",
             b"",
             (4, b"== thread 0: budget\n== memory\n", b""),
         ),
         (
-            "txc run --threads=2 --budget=4294967295 a.c",
+            "txc run a.c --threads 2",
             b"void down(int k) { if (k > 0) down(k - 1); } void worker(int self) { down(62 + self); }",
             b"",
             (
