@@ -24,6 +24,7 @@ import subprocess
 import sys
 import tempfile
 import threading
+from concurrent.futures import ThreadPoolExecutor
 
 TOP = os.path.dirname(os.path.dirname(os.path.abspath(__file__)))
 MEBIBYTE = 1 << 20
@@ -90,6 +91,13 @@ def is_stopped(done):
     return done.stdout.startswith(b"== ") and b": stop 00\n" in done.stdout and b"== memory" in done.stdout and not done.stderr
 
 
+def has_run(words, done, whole):
+    """Whether a run is reported: its threads come to their ends in some order, or one has used up its budget while it waited for
+    another that had the lock and was not given a processor."""
+    is_spent = done.returncode == 4 and done.stdout.startswith(b"== thread 0: ") and b": budget\n" in done.stdout
+    return words[1] == "run" and not done.stderr and (done.returncode == whole.returncode or is_spent)
+
+
 def gives_up(done):
     """Whether a refused growth is told, and nothing else."""
     told = not done.stdout and (done.stderr == OUT_OF_MEMORY or done.stderr.startswith(b"txc: fault 73"))
@@ -104,8 +112,9 @@ def commands(txc, name, order):
     yield [txc, "source", file, "--threads", "2", "--order", order]
     yield [txc, "outcomes", file, "--threads", "2"]
     yield [txc, "replay", file, *schedule]
-    yield [txc, "replay", file, *schedule, "--timeline"]
-    yield [txc, "replay", file, *schedule, "--picture"]
+    if name != "calls":  # of which a thousand steps are shown, by growths that are alike
+        yield [txc, "replay", file, *schedule, "--timeline"]
+        yield [txc, "replay", file, *schedule, "--picture"]
     yield [txc, "run", file, "--threads", "2", "--budget", "100000"]
 
 
@@ -115,7 +124,7 @@ def refuse_each(words, library):
     while spared < 12:
         refused += 1
         done = run(words, env={**os.environ, "LD_PRELOAD": library, "REFUSED": str(refused)})
-        if same(done, whole) or words[1] == "run" and done.returncode == whole.returncode and not done.stderr:
+        if same(done, whole) or has_run(words, done, whole):
             spared += 1
         elif gives_up(done):
             spared = 0
@@ -130,9 +139,9 @@ def refuse_growths(txc):
     with open("refuses.c", "w", encoding="utf-8") as file:
         file.write(REFUSES)
     subprocess.run(["gcc", "-shared", "-fPIC", "-O1", "-o", "refuses.so", "refuses.c", "-ldl"], check=True)
-    for name, (_, _, order) in PROGRAMS.items():
-        for words in commands(txc, name, order):
-            refuse_each(words, os.path.abspath("refuses.so"))
+    lines = [words for name, (_, _, order) in PROGRAMS.items() for words in commands(txc, name, order)]
+    with ThreadPoolExecutor(os.cpu_count()) as pool:
+        list(pool.map(lambda words: refuse_each(words, os.path.abspath("refuses.so")), lines))
 
 
 def fits(room):
@@ -247,8 +256,7 @@ def little_space(txc):
             continue
         for words, there in zip(lines, whole):
             done = run(words, preexec_fn=in_space(space * MEBIBYTE))
-            is_whole = same(done, there) or words[1] == "run" and done.returncode == there.returncode and not done.stderr
-            if not is_whole and not gives_up(done):
+            if not same(done, there) and not has_run(words, done, there) and not gives_up(done):
                 blame(f"{' '.join(words[1:])} in {space} MiB", done)
 
 
