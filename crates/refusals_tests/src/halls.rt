@@ -1,0 +1,205 @@
+//! A hall of two workers, of which one comes to its end before the other begins: each call is made again where memory
+//! was refused.
+
+ghost use Rattle.std.specs.Prelude.{IfSome};
+ghost use Rattle.workers.specs.Workers.{AreWorkersOf, IsWorkerOf};
+
+use crate::seen::Seen;
+use bytecode::Code;
+use norec_core::Stop;
+use std::alloc::{AllocError, Allocator};
+use workers::{CloseFault, CloseReason, Hall, Outcome, Status, Worker};
+
+/// The most steps of a worker.
+const MOST: u64 = 100_000;
+
+// A hall of two workers, if memory is there.
+fn opened<A: Allocator + Copy>(alloc: A, code: &Code<A>) -> Option<(Hall<A>, Vec<Worker<A>, A>)>
+    ensures { IfSome result (λ r. AreWorkersOf r.0.table.shared.table_id r.0.setup r.1.items) }
+{
+    match Hall::open(alloc, code, 2) {
+        Ok(opened) => Some(opened),
+        Err(_) => None,
+    }
+}
+
+// The same by a second call where the first was refused memory.
+fn opened_at_last<A: Allocator + Copy>(
+    alloc: A,
+    code: &Code<A>,
+) -> Option<(Hall<A>, Vec<Worker<A>, A>)>
+    ensures { IfSome result (λ r. AreWorkersOf r.0.table.shared.table_id r.0.setup r.1.items) }
+{
+    match opened(alloc, code) {
+        Some(hall) => Some(hall),
+        None => opened(alloc, code),
+    }
+}
+
+// The last worker of the list.
+fn take<A: Allocator + Copy>(hall: &Hall<A>, workers: &mut Vec<Worker<A>, A>) -> Option<Worker<A>>
+    requires { AreWorkersOf hall.now.table.shared.table_id hall.now.setup workers.old.items }
+    ensures left { AreWorkersOf hall.now.table.shared.table_id hall.now.setup workers.new.items }
+    ensures worker { IfSome result (λ w. IsWorkerOf hall.now.table.shared.table_id hall.now.setup w) }
+{
+    let _ = hall;
+    match workers.pop() {
+        Some(worker) => Some(worker),
+        None => None,
+    }
+}
+
+// One more worker at the end of the list.
+fn put<A: Allocator + Copy>(
+    hall: &Hall<A>,
+    workers: &mut Vec<Worker<A>, A>,
+    worker: Worker<A>,
+) -> Result<(), AllocError>
+    requires list { AreWorkersOf hall.now.table.shared.table_id hall.now.setup workers.old.items }
+    requires worker { IsWorkerOf hall.now.table.shared.table_id hall.now.setup worker }
+    ensures { AreWorkersOf hall.now.table.shared.table_id hall.now.setup workers.new.items }
+{
+    let _ = hall;
+    workers.push(worker)?;
+    Ok(())
+}
+
+// The rest of a worker's steps.
+fn run<A: Allocator + Copy>(hall: &Hall<A>, worker: &mut Worker<A>) -> Result<Status, Stop>
+    requires { IsWorkerOf hall.now.table.shared.table_id hall.now.setup worker.old }
+    ensures { IsWorkerOf hall.now.table.shared.table_id hall.now.setup worker.new }
+{
+    let steps = worker.steps();
+    if steps > MOST {
+        return Ok(Status::Budget);
+    }
+    worker.run(hall, MOST - steps)
+}
+
+// Whether a worker comes to its end, by a second call where the first was refused memory: that one leaves it running.
+fn ends<A: Allocator + Copy>(hall: &Hall<A>, worker: &mut Worker<A>) -> bool
+    requires { IsWorkerOf hall.now.table.shared.table_id hall.now.setup worker.old }
+    ensures { IsWorkerOf hall.now.table.shared.table_id hall.now.setup worker.new }
+{
+    match run(hall, worker) {
+        Ok(status) => status != Status::Budget,
+        Err(stop) => {
+            let goes_on = matches!(run(hall, worker), Ok(Status::Ended | Status::Trapped(_)));
+            goes_on && stop.number() == 0
+        }
+    }
+}
+
+// Adds how many steps and accesses a worker has made by its end, and what it has printed.
+fn end<A: Allocator + Copy>(hall: &Hall<A>, worker: &mut Worker<A>, seen: &mut Seen) -> Option<()>
+    requires { IsWorkerOf hall.now.table.shared.table_id hall.now.setup worker.old }
+    ensures { IsWorkerOf hall.now.table.shared.table_id hall.now.setup worker.new }
+{
+    if !ends(hall, worker) {
+        return None;
+    }
+    let Some(()) = seen.words("worker", &[worker.steps(), worker.accesses()]) else {
+        return None;
+    };
+    seen.bytes("worker", worker.output().as_bytes())
+}
+
+// The last worker of the list comes to its end, and is put back.
+fn end_last<A: Allocator + Copy>(
+    hall: &Hall<A>,
+    workers: &mut Vec<Worker<A>, A>,
+    seen: &mut Seen,
+) -> Option<()>
+    requires { AreWorkersOf hall.now.table.shared.table_id hall.now.setup workers.old.items }
+    ensures { AreWorkersOf hall.now.table.shared.table_id hall.now.setup workers.new.items }
+{
+    match take(hall, workers) {
+        Some(mut worker) => {
+            let ended = end(hall, &mut worker, seen);
+            // there is room for it
+            let back = put(hall, workers, worker);
+            if back.is_ok() { ended } else { None }
+        }
+        None => None,
+    }
+}
+
+// Both workers come to their ends, the last one first.
+fn end_both<A: Allocator + Copy>(
+    hall: &Hall<A>,
+    workers: &mut Vec<Worker<A>, A>,
+    seen: &mut Seen,
+) -> Option<()>
+    requires { AreWorkersOf hall.now.table.shared.table_id hall.now.setup workers.old.items }
+    ensures { AreWorkersOf hall.now.table.shared.table_id hall.now.setup workers.new.items }
+{
+    match take(hall, workers) {
+        Some(mut last) => {
+            let ended = end(hall, &mut last, seen);
+            let first = end_last(hall, workers, seen);
+            let back = put(hall, workers, last);
+            if back.is_ok() && ended.is_some() {
+                first
+            } else {
+                None
+            }
+        }
+        None => None,
+    }
+}
+
+// What a hall leaves, by a second call where the first was refused memory and gave all back.
+fn closed<A: Allocator + Copy>(
+    alloc: A,
+    hall: Hall<A>,
+    workers: Vec<Worker<A>, A>,
+) -> Option<Outcome<A>>
+    requires { AreWorkersOf hall.table.shared.table_id hall.setup workers.items }
+{
+    match hall.close(alloc, workers) {
+        Ok(outcome) => Some(outcome),
+        Err(fault) => {
+            let CloseFault {
+                reason,
+                hall,
+                workers,
+            } = fault;
+            let again = hall.close(alloc, workers).ok();
+            if reason == CloseReason::OutOfMemory {
+                again
+            } else {
+                None
+            }
+        }
+    }
+}
+
+// Adds what a hall leaves.
+fn close<A: Allocator + Copy>(
+    alloc: A,
+    hall: Hall<A>,
+    workers: Vec<Worker<A>, A>,
+    seen: &mut Seen,
+) -> Option<()>
+    requires { AreWorkersOf hall.table.shared.table_id hall.setup workers.items }
+{
+    let Some(outcome) = closed(alloc, hall, workers) else {
+        return None;
+    };
+    for thread in &outcome.threads {
+        let Some(()) = seen.words("closed", &[u64::from(thread.thread()), thread.steps()]) else {
+            return None;
+        };
+    }
+    seen.words("closed", outcome.words.as_slice())
+}
+
+/// Adds what two workers of a code do, and what their hall leaves.
+pub fn work<A: Allocator + Copy>(alloc: A, code: &Code<A>, seen: &mut Seen) -> Option<()> {
+    let Some((hall, mut workers)) = opened_at_last(alloc, code) else {
+        return None;
+    };
+    let ended = end_both(&hall, &mut workers, seen);
+    let left = close(alloc, hall, workers, seen);
+    if ended.is_some() { left } else { None }
+}
