@@ -6,8 +6,6 @@
 #[cfg(test)]
 mod asserted;
 #[cfg(test)]
-mod growths;
-#[cfg(test)]
 mod large;
 #[cfg(test)]
 mod of_name_tables;

@@ -2,6 +2,5 @@
 
 mod depths;
 mod faults;
-mod growths;
 mod productions;
 mod trees;

@@ -2,7 +2,6 @@
 
 mod codes;
 mod examples;
-mod growths;
 mod large;
 mod listed;
 mod nested;

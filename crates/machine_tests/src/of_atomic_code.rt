@@ -2,7 +2,6 @@
 
 mod built;
 mod driven;
-mod growths;
 mod levels;
 mod pieces;
 mod programs;

@@ -2,7 +2,6 @@
 
 mod closing;
 mod gates;
-mod growths;
 mod hall;
 mod levels;
 mod programs;

@@ -184,45 +184,6 @@ fn a_seed_names_threads(rt: HostRuntime) {
     );
 }
 
-/// What came of one call with one growth refused: whether one was, as the call says or makes up for.
-fn refused(inner: Global, nth: u64) -> Option<bool> {
-    let alloc = Refusing::new(inner, 0);
-    alloc.refuse(nth);
-    match read_schedule(&alloc, "0 1\n\n1 a2\n2 3\n3 4\n4 5\n") {
-        Ok(found) => (found.len() == 5).then_some(!alloc.is_waiting()),
-        Err(fault) => {
-            (!alloc.is_waiting() && fault == ScheduleFault::OutOfMemory).then_some(true)
-        }
-    }
-}
-
-/// Whether a seed's only growth is refused as out of memory.
-fn refuses_a_seed(alloc: &Refusing<Global>) -> bool {
-    seed_fault(alloc, 10) == Some(ScheduleFault::OutOfMemory)
-}
-
-/// The last growth that is met; none where a refused one is not told, or there are 49.
-fn last_met(inner: Global) -> Option<u64> {
-    for nth in 1..50u64 {
-        match refused(inner, nth) {
-            Some(true) => {}
-            Some(false) => return Some(nth - 1),
-            None => return None,
-        }
-    }
-    None
-}
-
-#[test]
-fn each_growth_may_be_refused(rt: HostRuntime) {
-    let met = last_met(rt.alloc());
-    let seed = refuses_a_seed(&Refusing::new(rt.alloc(), 1));
-    assert_all(
-        &rt,
-        &[("of a schedule", met >= Some(2)), ("of a seed", seed)],
-    );
-}
-
 /// Whether these lines are written so, and read back.
 fn is_written_as(alloc: Global, lines: &[Line], wanted: &str) -> bool {
     match write_schedule(alloc, lines) {

@@ -2,7 +2,6 @@
 
 use crate::asserted::{assert_all, assert_that};
 use crate::wanted::{Wanted, is_as};
-use refusing::Refusing;
 use std::alloc::{Allocator, Global};
 use world::{End, StopReason, World, WorldFault};
 use written_codes::{adds_five, code_of, over_x};
@@ -131,66 +130,4 @@ fn there_are_1_to_64_threads(rt: HostRuntime) {
     let more = refusal(rt.alloc(), 65) == Some(WorldFault::WrongThreads);
     let most = refusal(rt.alloc(), 64).is_none();
     assert_all(&rt, &[("none", none), ("65", more), ("64", most)]);
-}
-
-// Makes these steps, with one growth refused among them: whether one was, where the world was then left as it stood before that
-// step, and the rest of the steps gives what all give without a refusal.
-fn goes_on<A: Allocator + Copy>(world: &mut World<A>, steps: &[u32]) -> Option<bool> {
-    let Some((made, reason)) = stopped(world, steps) else {
-        return Some(false);
-    };
-    if reason != StopReason::OutOfMemory || world.steps() != made || made > 28 {
-        return None;
-    }
-    match steps.get(made as usize..) {
-        Some(rest) => stopped(world, rest).is_none().then_some(true),
-        None => None,
-    }
-}
-
-fn comes_to_its_end<A: Allocator + Copy>(world: &mut World<A>) -> Option<bool> {
-    let refused = goes_on(world, crossed());
-    if world.words() == [10u64].as_slice() && world.lock() == 4 {
-        refused
-    } else {
-        None
-    }
-}
-
-// The same of a new world, behind which growth `nth` is refused.
-fn tried_in<A: Allocator + Copy, B: Allocator>(
-    alloc: A,
-    refusing: &Refusing<B>,
-    nth: u64,
-) -> Option<bool> {
-    match opened(alloc, 2) {
-        Ok(mut world) => {
-            refusing.refuse(nth);
-            comes_to_its_end(&mut world)
-        }
-        Err(_) => None,
-    }
-}
-
-// The same by a new allocator.
-fn tried(inner: Global, nth: u64) -> Option<bool> {
-    let alloc = Refusing::new(inner, 0);
-    tried_in(&alloc, &alloc, nth)
-}
-
-// The last growth that is met, each of which is refused once; `None` where a world does not go on.
-fn last_met(inner: Global) -> Option<u64> {
-    for nth in 1..40u64 {
-        match tried(inner, nth) {
-            Some(true) => {}
-            Some(false) => return Some(nth - 1),
-            None => return None,
-        }
-    }
-    None
-}
-
-#[test]
-fn a_step_that_was_refused_room_is_made_again(rt: HostRuntime) {
-    assert_that(&rt, last_met(rt.alloc()) > Some(2));
 }

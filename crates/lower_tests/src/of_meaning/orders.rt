@@ -2,10 +2,9 @@
 
 use crate::accepted::accepted_of;
 use crate::asserted::assert_that;
-use meaning::{MeaningFault, SourceOutcome, ThreadEnd, ThreadReport, run_order};
-use refusing::Refusing;
+use meaning::{SourceOutcome, ThreadEnd, ThreadReport, run_order};
 use separation::Accepted;
-use std::alloc::{Allocator, Global};
+use std::alloc::Global;
 use syntax::numbers::Trap;
 
 const ADDS: &str = "int x; void worker(int self) { __transaction_atomic { x = x + 1; } }";
@@ -196,67 +195,4 @@ fn a_wrong_order_has_a_fault(rt: HostRuntime) {
 #[test]
 fn sixty_four_threads_run(rt: HostRuntime) {
     assert_that(&rt, count_adding(rt.alloc(), 64, &[63]) == Some(Ok(64)));
-}
-
-// Whether a run in an order is made, and not refused for want of memory; none where it is made wrong, or has another fault.
-fn is_made<A: Allocator + Copy>(alloc: A, accepted: &Accepted<A>) -> Option<bool> {
-    match run_order(alloc, accepted, 2, &[0, 1, 0, 1], 100) {
-        Ok(outcome) => is_cell(outcome.memory.as_slice(), 300).then_some(true),
-        Err(fault) => (fault == MeaningFault::OutOfMemory).then_some(false),
-    }
-}
-
-// The same where growth `n` is refused, and whether that growth is still to come. The allocator is the one that refuses.
-fn refused_at<A: Allocator, B: Allocator + Copy>(
-    refusing: &Refusing<A>,
-    alloc: B,
-    accepted: &Accepted<B>,
-    n: u64,
-) -> Option<(bool, bool)> {
-    refusing.refuse(n);
-    let made = is_made(alloc, accepted);
-    let waiting = refusing.is_waiting();
-    refusing.refuse(0);
-    match made {
-        Some(made) => Some((made, waiting)),
-        None => None,
-    }
-}
-
-// The first growth that is not refused although it is to be.
-fn first_spared<A: Allocator, B: Allocator + Copy>(
-    refusing: &Refusing<A>,
-    alloc: B,
-    accepted: &Accepted<B>,
-) -> Option<u64> {
-    for n in 1..2000u64 {
-        match refused_at(refusing, alloc, accepted, n) {
-            Some((true, true)) => return Some(n),
-            Some((false, false)) => {}
-            _ => return None,
-        }
-    }
-    None
-}
-
-// The same of the text that says.
-fn first_spared_in_saying<A: Allocator, B: Allocator + Copy>(
-    refusing: &Refusing<A>,
-    alloc: B,
-) -> Option<u64> {
-    match accepted_of(alloc, SAYS) {
-        Some(accepted) => first_spared(refusing, alloc, &accepted),
-        None => None,
-    }
-}
-
-// The same over an allocator.
-fn first_spared_of_saying(inner: Global) -> Option<u64> {
-    let alloc = Refusing::new(inner, 0);
-    first_spared_in_saying(&alloc, &alloc)
-}
-
-#[test]
-fn each_growth_that_is_refused_is_told(rt: HostRuntime) {
-    assert_that(&rt, first_spared_of_saying(rt.alloc()) > Some(10));
 }

@@ -1,4 +1,4 @@
-//! A program for each trap, each growth refused in turn, and programs that run long.
+//! A program for each trap, the whole language, and programs that run long.
 
 ghost use Rattle.meaning.specs.Outcomes.{AreWords};
 
@@ -7,7 +7,7 @@ use crate::asserted::{assert_none, assert_that};
 use crate::of_meaning::memory::zeros;
 use crate::of_meaning::run::run;
 use meaning::{ThreadEnd, ThreadOutcome, thread};
-use refusing::Refusing;
+use refusing::{Refusing, growths};
 use separation::Accepted;
 use std::alloc::{Allocator, Global};
 use syntax::numbers::Trap;
@@ -127,68 +127,37 @@ fn ends<A: Allocator + Copy>(
     }
 }
 
-// The same where growth `n` is refused, and whether that growth is still to come. The allocator is the one that refuses.
-fn refused_at<A: Allocator, B: Allocator + Copy>(
+// Whether a thread comes to its end just where growth `nth` does not come, which is refused. The allocator is the one that
+// refuses.
+fn tells_in<A: Allocator, B: Allocator + Copy>(
     refusing: &Refusing<A>,
     alloc: B,
     accepted: &Accepted<B>,
     t: u32,
     founds: usize,
-    n: u64,
-) -> Option<(bool, bool)> {
+    nth: u64,
+) -> bool {
     match zeros(alloc, founds, 4) {
-        Err(_) => None,
         Ok(memories) => {
-            refusing.refuse(n);
+            refusing.refuse(nth);
             let ended = ends(alloc, accepted, t, memories.as_slice());
-            let waiting = refusing.is_waiting();
-            refusing.refuse(0);
-            Some((ended, waiting))
+            ended == refusing.is_waiting()
         }
+        Err(_) => false,
     }
-}
-
-// The first growth that is not refused although it is to be.
-fn first_spared<A: Allocator, B: Allocator + Copy>(
-    refusing: &Refusing<A>,
-    alloc: B,
-    accepted: &Accepted<B>,
-    t: u32,
-    founds: usize,
-) -> Option<u64> {
-    for n in 1..1000u64 {
-        match refused_at(refusing, alloc, accepted, t, founds, n) {
-            Some((true, true)) => return Some(n),
-            Some((false, false)) => {}
-            _ => return None,
-        }
-    }
-    None
 }
 
 // The same of a text.
-fn first_spared_in<A: Allocator, B: Allocator + Copy>(
-    refusing: &Refusing<A>,
-    alloc: B,
-    text: &str,
-    t: u32,
-    founds: usize,
-) -> Option<u64> {
-    match accepted_of(alloc, text) {
-        Some(accepted) => first_spared(refusing, alloc, &accepted, t, founds),
-        None => None,
+fn tells(refusing: &Refusing<Global>, nth: u64, text: &str, t: u32, founds: usize) -> bool {
+    match accepted_of(refusing, text) {
+        Some(accepted) => tells_in(refusing, refusing, &accepted, t, founds, nth),
+        None => false,
     }
 }
 
-// The same over an allocator.
-fn first_spared_of(inner: Global, text: &str, t: u32, founds: usize) -> Option<u64> {
-    let alloc = Refusing::new(inner, 0);
-    first_spared_in(&alloc, &alloc, text, t, founds)
-}
-
-#[test]
-fn each_growth_that_is_refused_is_told(rt: HostRuntime) {
-    assert_that(&rt, first_spared_of(rt.alloc(), WHOLE, 3, 3) > Some(10));
+// How many growths the thread of a text makes, each of which is refused once.
+fn growths_of(inner: Global, text: &str, t: u32, founds: usize) -> Result<u64, u64> {
+    growths(inner, 1000, |alloc, nth| tells(alloc, nth, text, t, founds))
 }
 
 // turns with a block, a local and a branch, ten of them
@@ -198,11 +167,11 @@ const FEW_TURNS: &str =
 const MANY_TURNS: &str =
     "int x; void worker(int self) { __transaction_atomic { for (int i = 0; i < 1000; i++) { int k = i; if (k & 1) { x = k; } } } }";
 
-// Whether many turns are refused no more growths than few.
+// Whether many turns make no more growths than few.
 fn take_no_more(alloc: Global) -> bool {
-    match first_spared_of(alloc, FEW_TURNS, 0, 1) {
-        Some(spared) => first_spared_of(alloc, MANY_TURNS, 0, 1) == Some(spared),
-        None => false,
+    match growths_of(alloc, FEW_TURNS, 0, 1) {
+        Ok(few) => growths_of(alloc, MANY_TURNS, 0, 1) == Ok(few),
+        Err(_) => false,
     }
 }
 

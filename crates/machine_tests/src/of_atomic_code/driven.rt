@@ -19,20 +19,6 @@ pub fn begin<A: Allocator + Copy>(alloc: A, code: &Code<A>, number: u32) -> Opti
     }
 }
 
-/// A thread at its beginning, where one growth may be refused.
-pub fn begin_at_last<A: Allocator + Copy>(
-    alloc: A,
-    code: &Code<A>,
-    number: u32,
-) -> Option<AtomicThread<A>>
-    ensures { IfSome result (λ t. IsThreadOf code.now t.thread) }
-{
-    match begin(alloc, code, number) {
-        Some(thread) => Some(thread),
-        None => begin(alloc, code, number),
-    }
-}
-
 /// The word of the first cell in the memory that was left.
 fn first_word<A: Allocator>(ran: &Ran<A>) -> Option<u64> {
     match &ran.left {
@@ -101,24 +87,6 @@ pub fn in_turns<A: Allocator + Copy>(
         }
     }
     word
-}
-
-/// Carries a thread on by so many calls, of which one may be refused: how many were not.
-pub fn in_spite<A: Allocator + Copy>(
-    thread: &mut AtomicThread<A>,
-    code: &Code<A>,
-    calls: u32,
-) -> u32
-    requires { IsThreadOf code.now thread.old.thread }
-    ensures { IsThreadOf code.now thread.new.thread }
-{
-    let mut made: u32 = 0;
-    'calls: for _ in 0..calls {
-        if go(thread, code, 9, 100).is_some() {
-            made = made.saturating_add(1);
-        }
-    }
-    made
 }
 
 /// How many instructions a thread has made, the word that it left in the cell, how it is over, and whether it has printed what it
@@ -197,23 +165,5 @@ pub fn code_turns<A: Allocator + Copy>(
     match code_of(alloc, instructions, second) {
         None => None,
         Some(code) => turns(alloc, &code, number, calls, first),
-    }
-}
-
-/// What thread 7 comes to by so many calls, of which one may be refused: how many were not, how many instructions it made, how
-/// it is, and whether it has printed this.
-pub fn spite<A: Allocator + Copy>(
-    alloc: A,
-    code: &Code<A>,
-    calls: u32,
-    text: &str,
-) -> Option<(u32, u64, Status, bool)> {
-    match begin_at_last(alloc, code, 7) {
-        None => None,
-        Some(mut thread) => {
-            let made = in_spite(&mut thread, code, calls);
-            let printed = thread.output() == text;
-            Some((made, thread.steps(), thread.status(), printed))
-        }
     }
 }

@@ -11,12 +11,14 @@ use workers::{CloseFault, CloseReason, Hall, Status, Worker};
 
 // Worker 0 up to its won swap, a step at a time, and a thousand steps of worker 1, which waits for the lock in vain.
 fn up_to_the_lock() -> &'static [Turn] {
-    static TURNS: [Turn; 7] = [
+    static TURNS: [Turn; 9] = [
         Turn::Run(0, 0, Status::Budget, 0, 0),
         Turn::Run(0, 1, Status::Budget, 1, 1),
         Turn::Run(0, 1, Status::Budget, 2, 2),
         Turn::Run(0, 1, Status::Budget, 3, 3),
-        Turn::Run(0, 3, Status::Budget, 6, 3),
+        Turn::Run(0, 1, Status::Budget, 4, 3),
+        Turn::Run(0, 1, Status::Budget, 5, 3),
+        Turn::Run(0, 1, Status::Budget, 6, 3),
         Turn::Run(0, 1, Status::Budget, 7, 4),
         Turn::Run(1, 1000, Status::Budget, 1000, 1000),
     ];

@@ -19,15 +19,12 @@ pub enum Turn {
     /// One of them runs: the thread, for how many steps at most, how the run ends, and how many steps and accesses it then has made.
     Run(u32, u64, Status, u64, u64),
 
-    /// One of them comes to its end, by a second call where the first was refused memory.
-    End(u32),
-
     /// They meet.
     Meet,
 }
 
-/// A hall of so many workers of a code.
-pub fn open<A: Allocator + Copy>(
+// A hall of so many workers of a code.
+fn open<A: Allocator + Copy>(
     alloc: A,
     code: &Code<A>,
     threads: u32,
@@ -113,20 +110,6 @@ fn run<A: Allocator + Copy>(
     Some(worker.run(hall, budget))
 }
 
-// Whether a worker comes to its end, by a second call where the first was refused memory.
-fn ends<A: Allocator + Copy>(hall: &Hall<A>, worker: &mut Worker<A>) -> bool
-    requires { IsWorkerOf (table_of hall.now) (setup_of hall.now) worker.old }
-    ensures { IsWorkerOf (table_of hall.now) (setup_of hall.now) worker.new }
-{
-    match run(hall, worker, 100) {
-        Some(Ok(status)) => status == Status::Ended,
-        Some(Err(Stop::OutOfMemory)) => {
-            matches!(run(hall, worker, 100), Some(Ok(Status::Ended)))
-        }
-        _ => false,
-    }
-}
-
 // Whether a worker's run ends so, and it then has made so many steps and accesses.
 fn is_run<A: Allocator + Copy>(
     hall: &Hall<A>,
@@ -165,13 +148,6 @@ fn is_made<A: Allocator + Copy>(
                 is_run(hall, first, budget, status, steps, accesses)
             } else {
                 is_run(hall, second, budget, status, steps, accesses)
-            }
-        }
-        Turn::End(thread) => {
-            if thread == 0 {
-                ends(hall, first)
-            } else {
-                ends(hall, second)
             }
         }
         Turn::Meet => {
@@ -260,8 +236,8 @@ fn shows<A: Allocator + Copy>(outcome: &Outcome<A>, number: u32, text: &str) -> 
     false
 }
 
-/// Whether this is left.
-pub fn is_left<A: Allocator + Copy>(outcome: &Outcome<A>, left: Left) -> bool {
+// Whether this is left.
+fn is_left<A: Allocator + Copy>(outcome: &Outcome<A>, left: Left) -> bool {
     if outcome.words.as_slice() != [left.0].as_slice() || outcome.threads.len() != 2 {
         return false;
     }

@@ -1,5 +1,0 @@
-use Rattle.atomic_code.specs.Threads.{IsThreadOf}
-use Rattle.machine_tests.proofs.of_atomic_code.driven.in_spite.Given as goal
-
-abbrev pub invariant-calls : goal.invariant-calls
-invariant-calls g l = IsThreadOf l.code l.thread.thread
