@@ -67,3 +67,15 @@ pub not_read_answers : (known : Option (List ℕ)) (task : Task) (schedule : Opt
 not_read_answers None task schedule status old new is = tt
 not_read_answers (Some bytes) task schedule status old new (inl e) = nothing_printed task schedule bytes status old new (λ z. absurd (omega (arith, e, z))) (λ z. absurd (omega (arith, e, z)))
 not_read_answers (Some bytes) task schedule status old new (inr e) = nothing_printed task schedule bytes status old new (λ z. absurd (omega (arith, e, z))) (λ z. absurd (omega (arith, e, z)))
+
+-- that of a source that is refused before it is read to its end, or was not read
+pub unread_answers : {IsOne : Type 0} (known : Option (List ℕ)) (task : Task) (schedule : Option (List ℕ)) (status : ℕ) (old new : Option (List ℕ)) → (status ≡ 1) × IsOne ⊎ (status ≡ 2) ⊎ (status ≡ 4) → IfSome known (λ bytes. Answers task schedule bytes status old new)
+unread_answers None task schedule status old new is = tt
+unread_answers (Some bytes) task schedule status old new (inl one) = nothing_printed task schedule bytes status old new (λ z. absurd (omega (arith, one.0, z))) (λ z. absurd (omega (arith, one.0, z)))
+unread_answers (Some bytes) task schedule status old new (inr is) = not_read_answers (Some bytes) task schedule status old new is
+
+-- what the status 1 says there
+pub unread_says : {IsOne : Type 0} (status : ℕ) → (status ≡ 1) × IsOne ⊎ (status ≡ 2) ⊎ (status ≡ 4) → status ≡ 1 → IsOne
+unread_says status (inl one) e = one.1
+unread_says status (inr (inl two)) e = absurd (omega (arith, two, e))
+unread_says status (inr (inr four)) e = absurd (omega (arith, four, e))

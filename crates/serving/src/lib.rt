@@ -26,7 +26,7 @@ pub use listed::list_source;
 pub use opened::{Files, serve_files};
 pub use order::{OrderFault, run_in_order};
 pub use replayed::{Replayed, replay_code};
-pub use request::serve;
+pub use request::{serve, serve_alone};
 pub use run::SourceFault;
 pub use tell::{Detail, not_read, refuse_run, tell_usage};
 pub use timeline::lines_shown;

@@ -1,6 +1,6 @@
 //! Answers a request over readers and writers.
 
-ghost use Rattle.std.specs.Prelude.{◌≡◌, ◌≢◌, ◌≤◌, ◌⊎◌, ◌++◌, IfErr, IfOk, IfSome, None, codes, false, map, true};
+ghost use Rattle.std.specs.Prelude.{◌≡◌, ◌≢◌, ◌≤◌, ◌⊎◌, ◌++◌, IfErr, IfOk, IfSome, None, codes, false, map, string_bytes, true};
 ghost use Rattle.std.specs.Io.KnownBytes.{Appends};
 ghost use Rattle.serving.specs.Answers.{Answers, AnswersRequest};
 ghost use Rattle.replay.specs.Replays.{played, timeline_of};
@@ -49,6 +49,7 @@ use std::alloc::{Allocator, Global};
 use std::io::{Read, Write};
 use std::sync::Wait;
 use std::thread::Threads;
+use workers::RunFault;
 use world::StopReason;
 
 /// Does what is asked over two readers and two writers, and gives the exit status.
@@ -125,8 +126,8 @@ pub(crate) fn serve_program<
     ensures written { IfSome (R.remaining source) (λ bytes. WritesPart (IsAskedFor task.now (S.remaining schedule) bytes) (W.contents out.old) (W.contents out.new)) }
     ensures untouched { result ≡ 1 → W.contents out.new ≡ W.contents out.old }
 {
-    match read_source(alloc, source) {
-        Ok(Source::Text(text)) => work(
+    match text_of(alloc, file, source, detail, err) {
+        Ok(text) => work(
             rt,
             alloc,
             file,
@@ -137,9 +138,50 @@ pub(crate) fn serve_program<
             out,
             err,
         ),
-        Ok(Source::NotText) => not_text(file, err),
-        Ok(Source::TooLong) => too_long(detail, err),
-        Err(error) => not_read(file, &error, detail, err),
+        Err(status) => status,
+    }
+}
+
+/// Does what is asked with the program in a file, as `serve` does, in memory of any allocator. No thread is started for it, so that
+/// `run` is told as a run whose threads were not.
+pub fn serve_alone<A: Allocator + Copy, R: Read + Drop, S: Read + Drop, W: Write, E: Write>(
+    alloc: A,
+    file: &str,
+    task: &Task,
+    source: R,
+    schedule: S,
+    detail: Detail<'_>,
+    out: &mut W,
+    err: &mut E,
+) -> u8
+    ensures status { result ≤ 4 }
+    ensures answer { IfSome (R.remaining source) (λ bytes. Answers task.now (S.remaining schedule) bytes result (W.contents out.old) (W.contents out.new)) }
+    ensures refused { result ≡ 1 → IfSome (R.remaining source) (λ bytes. IsRefused bytes) }
+    ensures written { IfSome (R.remaining source) (λ bytes. WritesPart (IsAskedFor task.now (S.remaining schedule) bytes) (W.contents out.old) (W.contents out.new)) }
+    ensures untouched { result ≡ 1 → W.contents out.new ≡ W.contents out.old }
+{
+    match text_of(alloc, file, source, detail, err) {
+        Ok(text) => work_alone(alloc, file, task, text.as_str(), schedule, detail, out, err),
+        Err(status) => status,
+    }
+}
+
+/// Reads a source. What is wrong with it is told, and the error is then the exit status.
+fn text_of<A: Allocator, R: Read + Drop, E: Write>(
+    alloc: A,
+    file: &str,
+    source: R,
+    detail: Detail<'_>,
+    err: &mut E,
+) -> Result<String<A>, u8>
+    ensures ok { IfOk result (λ s. IfSome (R.remaining source) (λ bytes. string_bytes s ≡ bytes)) }
+    ensures status { IfErr result (λ s. (s ≡ 1) × IfSome (R.remaining source) (λ bytes. IsRefused bytes) ⊎ (s ≡ 2) ⊎ (s ≡ 4)) }
+{
+    match read_source(alloc, source) {
+        Ok(Source::Text(text)) => Ok(text),
+        Ok(Source::NotText) => Err(not_text(file, err)),
+        Ok(Source::TooLong) => Err(too_long(detail, err)),
+        Err(error) => Err(not_read(file, &error, detail, err)),
     }
 }
 
@@ -162,8 +204,6 @@ fn work<H: Threads + Wait + Sync, S: Read + Drop, W: Write, E: Write>(
     ensures untouched { result ≡ 1 → W.contents out.new ≡ W.contents out.old }
 {
     match task {
-        Task::Check => check(alloc, text, detail, out, err),
-        Task::Listing => list(alloc, text, detail, out, err),
         Task::Run {
             threads,
             budget,
@@ -179,6 +219,31 @@ fn work<H: Threads + Wait + Sync, S: Read + Drop, W: Write, E: Write>(
             out,
             err,
         ),
+        _ => work_alone(alloc, file, task, text, schedule, detail, out, err),
+    }
+}
+
+/// Does what is asked with the text of the program in a file, and starts no threads.
+fn work_alone<A: Allocator + Copy, S: Read + Drop, W: Write, E: Write>(
+    alloc: A,
+    file: &str,
+    task: &Task,
+    text: &str,
+    schedule: S,
+    detail: Detail<'_>,
+    out: &mut W,
+    err: &mut E,
+) -> u8
+    ensures status { result ≤ 4 }
+    ensures answer { Answers task.now (S.remaining schedule) text.now result (W.contents out.old) (W.contents out.new) }
+    ensures refused { result ≡ 1 → IsRefused text.now }
+    ensures written { WritesPart (IsAskedFor task.now (S.remaining schedule) text.now) (W.contents out.old) (W.contents out.new) }
+    ensures untouched { result ≡ 1 → W.contents out.new ≡ W.contents out.old }
+{
+    match task {
+        Task::Check => check(alloc, text, detail, out, err),
+        Task::Listing => list(alloc, text, detail, out, err),
+        Task::Run { .. } => refuse_run(RunFault::NotStarted, detail, err),
         Task::Replay { threads, steps } => replay_source(
             alloc, text, *threads, steps, schedule, detail, out, err,
         ),

@@ -1,11 +1,8 @@
-use Rattle.std.proofs.Common.{subst}
-use Rattle.std.specs.Prelude.{IfSome}
-use Rattle.serving.specs.inner.Read.{IsTextOf}
-use Rattle.serving.proofs.Refusals.{long_refused, not_read_answers}
+use Rattle.serving.proofs.Refusals.{unread_answers, unread_says}
 use Rattle.serving.proofs.request.serve_program.Goals as goal
 
-pub returns-in-Ok-TooLong-clause-refused : goal.returns-in-Ok-TooLong-clause-refused
-returns-in-Ok-TooLong-clause-refused g c = λ e. long_refused (g.R.Read.remaining c.args.source) (subst (λ s. IfSome (g.R.Read.remaining c.args.source) (λ bytes. IsTextOf bytes s)) c.in-Ok-TooLong.field-0-is c.in-Ok-TooLong.ensures)
-
 pub returns-in-Err-clause-answer : goal.returns-in-Err-clause-answer
-returns-in-Err-clause-answer g c = not_read_answers (g.R.Read.remaining c.args.source) c.args.task.now (g.S.Read.remaining c.args.schedule) c.not_read.result _ _ c.not_read.ensures.told
+returns-in-Err-clause-answer g c = unread_answers (g.R.Read.remaining c.args.source) c.args.task.now (g.S.Read.remaining c.args.schedule) c.in-Err.status _ _ c.in-Err.ensures.status
+
+pub returns-in-Err-clause-refused : goal.returns-in-Err-clause-refused
+returns-in-Err-clause-refused g c = unread_says c.in-Err.status c.in-Err.ensures.status

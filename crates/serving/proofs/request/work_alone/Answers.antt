@@ -1,4 +1,4 @@
-use Rattle.serving.proofs.request.work.Goals as goal
+use Rattle.serving.proofs.request.work_alone.Goals as goal
 
 pub returns-in-Replay-clause-written : goal.returns-in-Replay-clause-written
 returns-in-Replay-clause-written g c = rw c.in-Replay.is c.replay_source.ensures.written
