@@ -525,15 +525,34 @@ fn push_order(line: &mut String, report: &str) -> Result<(), AllocError> {
     Ok(())
 }
 
+// What a report says that a thread has printed, behind the line that begins so.
+fn text_of<'a>(report: &'a str, begins: &str) -> Option<&'a str> {
+    let (_, line) = report.split_once(begins)?;
+    let (_, behind) = line.split_once('\n')?;
+    let (text, _) = behind.split_once("== ")?;
+    Some(text.strip_suffix("\n").unwrap_or(text))
+}
+
+// Whether the text of one thread in a replay begins that in a run of the source.
+fn is_begun(replayed: &str, ran: &str, begins: &str) -> bool {
+    match (text_of(replayed, begins), text_of(ran, begins)) {
+        (Some(text), Some(whole)) => whole.starts_with(text),
+        _ => false,
+    }
+}
+
 // Whether a run of the source leaves what a replay does, if that tells it, and each thread's text there begins the one here.
 fn agrees(replayed: &str, ran: &str) -> bool {
     let Some((_, left)) = replayed.split_once("== memory\n") else {
         return true;
     };
-    let texts = replayed.lines().filter(|line| line.starts_with("0 "));
-    let others = ran.lines().filter(|line| line.starts_with("0 "));
-    for (text, other) in texts.zip(others) {
-        if !other.starts_with(text) {
+    for begins in [
+        "== thread 0: ",
+        "== thread 1: ",
+        "== thread 2: ",
+        "== thread 3: ",
+    ] {
+        if !is_begun(replayed, ran, begins) {
             return false;
         }
     }
@@ -575,7 +594,7 @@ fn runs_as_replayed<H: Threads + Wait + Sync>(rt: &H, alloc: Global, line: &str)
 
 // The same of the steps of a seed.
 fn runs_as_seeded<H: Threads + Wait + Sync>(rt: &H, alloc: Global, seed: u32) -> bool {
-    match format!(in alloc; "txc replay a.c --threads=4 --seed={seed}") {
+    match format!(in alloc; "txc replay a.c --threads=4 --seed={seed} --steps=100000") {
         Ok(line) => runs_as_replayed(rt, alloc, line.as_str()),
         Err(_) => false,
     }
