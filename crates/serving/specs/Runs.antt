@@ -16,6 +16,7 @@ use Rattle.machine.specs.States.{first_thread}
 use Rattle.machine.specs.Threads.{access}
 use Rattle.machine.specs.Worlds.{Part, World}
 use Rattle.workers.specs.Driving.{EndsBy, Ran}
+use Rattle.workers.specs.Seen.{finished_number, finished_thread}
 use Rattle.workers.specs.declared.close.Finished.{Finished}
 use Rattle.workers.specs.declared.run.Ending.{Ending}
 use Rattle.workers.specs.declared.run.RunMemory.{RunMemory}
@@ -43,11 +44,11 @@ module _ {G : Type 0} where
   -- a thread after a run of all threads at once, where there is one
   abbrev pub finished_shown : Option Stop → Option (Finished G) → ThreadShown
   finished_shown stopped (Some f) =
-      record { end = end_at_once f.thread.thread.status stopped; text = f.thread.thread.text }
+      record { end = end_at_once (finished_thread f).status stopped; text = (finished_thread f).text }
   finished_shown stopped None = record { end = end.Running; text = [] }
 
   abbrev pub thread_at_once : RunReport G → ℕ → ThreadShown
-  thread_at_once r t = finished_shown (stopped_of r.ends.items t) (find (λ f. f.number == t) r.threads.items)
+  thread_at_once r t = finished_shown (stopped_of r.ends.items t) (find (λ f. finished_number f == t) r.threads.items)
 
   -- so many threads, from thread 0 on
   abbrev pub threads_at_once : RunReport G → ℕ → List ThreadShown
