@@ -1,23 +1,18 @@
 -- What the tables of names say, as they are made and as they are read.
-use denote.Ref.{Bor}
 use Rattle.std.proofs.Common.{◌≡◌, ℕ, suc, ◌+◌, ◌<◌, ◌≤◌, List, [], ◌∷◌, length, map, get_or, Option, Some, None, option_map, Bool, true, false, cond, refl, sym, ap, ◌∙◌, arith, is_some, ◌&&◌, bytes_eq, if◌then◌else◌}
 use Rattle.std.specs.Option.{option_or}
-use Rattle.std.specs.Ordering.{nat_cmp}
-use Rattle.std.specs.Cmp.Lexicographic.{slice_cmp}
-use Rattle.std.specs.BTreeMap.{BTreeMap, Updates}
-use Rattle.std.proofs.lemmas.Map.Text.{btree_map_updates_str}
-use Rattle.std.proofs.lemmas.Slice.Eq.{bytes_eq-Decides}
 use Rattle.syntax.specs.declared.tree.Item.{Item as OwnItem}
 use Rattle.syntax.specs.declared.tree.Item.TheVariants as own
 use Rattle.syntax.specs.declared.tree.Function.{Function as OwnFunction}
 use Rattle.syntax.specs.Tree.{Item, Defines, Shares, Function, Stmts, Global}
 use Rattle.syntax.specs.Views.{item_of, function_of, stmts_of}
 use Rattle.syntax.specs.Names.{GlobalCells, defined, definition_of, global_from, cells}
-use Rattle.types.specs.Maps.{value_at}
+use Rattle.name_tables.specs.Named.{first, declared}
+use Rattle.name_tables.proofs.Firsts.{first_declared}
 use Rattle.meaning.specs.declared.names.Shared.{Shared}
 use Rattle.meaning.specs.inner.Cells.{total_cells}
 use Rattle.meaning.specs.inner.File.{shared_in}
-use Rattle.meaning.specs.inner.Tables.{number_from, AreNumbers, shared_at}
+use Rattle.meaning.specs.inner.Tables.{number_from}
 
 pub or_none : {T : Type 0} (o : Option T) → option_or o None ≡ o
 or_none None = refl
@@ -27,17 +22,20 @@ some_map : {X Y : Type 0} (f : X → Y) (o : Option X) → is_some (option_map f
 some_map f None = refl
 some_map f (Some x) = refl
 
-numbered_step : (b : Bool) (n : ℕ) (has : Bool) (o r : Option ℕ) → has ≡ true → o ≡ r → cond b (Some n) o ≡ (if has && b then Some n else r)
-numbered_step true n true o r h e = refl
-numbered_step false n true o r h e = e
-numbered_step b n false o r h e = absurd cc
+number_step : (has b : Bool) (i : ℕ) (o r : Option ℕ) → has ≡ true → option_or (option_or o (if b then Some i else None)) r ≡ option_or o (if has && b then Some i else r)
+number_step true true i None r h = refl
+number_step true false i None r h = refl
+number_step true b i (Some n) r h = refl
+number_step false b i o r h = absurd cc
 
 -- one more definition
-pub number_more : {A : Type 0} (rest : List Item) (f : OwnFunction A) (i : ℕ) (old new : BTreeMap (Bor (List ℕ)) ℕ) (key : Bor (List ℕ)) →
-    Updates (λ a b. slice_cmp nat_cmp a.now b.now) old new key (Some i) → key.now ≡ f.name.text → is_some f.body ≡ true → AreNumbers (i + 1) rest old → AreNumbers i (Defines (function_of f) ∷ rest) new
-number_more rest f i old new key u name body h = λ x.
-    btree_map_updates_str key.now old new (Some i) u x ∙ ap (λ t. cond (bytes_eq t x) (Some i) (value_at old x)) name
-    ∙ numbered_step (bytes_eq f.name.text x) i (is_some (option_map stmts_of f.body)) (value_at old x) (number_from (i + 1) rest x) (some_map stmts_of f.body ∙ body) (h x)
+pub number_more : {A : Type 0} (rest : List Item) (f : OwnFunction A) (i : ℕ) (old new : List (List ℕ × ℕ)) (name x : List ℕ) →
+    new ≡ declared old name i → name ≡ f.name.text → is_some f.body ≡ true → option_or (first new x) (number_from (i + 1) rest x) ≡ option_or (first old x) (number_from i (Defines (function_of f) ∷ rest) x)
+number_more rest f i old new name x more same body =
+    ap (λ es. option_or (first es x) (number_from (i + 1) rest x)) more
+    ∙ ap (λ o. option_or o (number_from (i + 1) rest x)) (first_declared old name i x)
+    ∙ ap (λ y. option_or (option_or (first old x) (if bytes_eq y x then Some i else None)) (number_from (i + 1) rest x)) same
+    ∙ number_step (is_some (option_map stmts_of f.body)) (bytes_eq f.name.text x) i (first old x) (number_from (i + 1) rest x) (some_map stmts_of f.body ∙ body)
 
 -- where there is no number, there is no definition
 none_step : (b : Bool) (f : Function) (s : Stmts) (n : ℕ) (r : Option ℕ) (d : Option (Function × Stmts)) → (if b then Some n else r) ≡ None → (r ≡ None → d ≡ None) → (if b then Some (f, s) else d) ≡ None
@@ -52,11 +50,6 @@ pub no_number : (n : ℕ) (items : List Item) (x : List ℕ) → number_from n i
 no_number n [] x h = refl
 no_number n (Shares gs ∷ items) x h = no_number (n + 1) items x h
 no_number n (Defines f ∷ items) x h = none_defined f x f.body n (number_from (n + 1) items x) (definition_of items x) h (no_number (n + 1) items x)
-
--- a global that is put where there was none
-put_last : (b : Bool) (v : GlobalCells) (o rest : Option GlobalCells) → (b ≡ true → o ≡ None) → option_or (cond b (Some v) o) rest ≡ option_or o (if b then Some v else rest)
-put_last true v o rest h = sym (ap (λ p. option_or p (Some v)) (h refl))
-put_last false v o rest h = refl
 
 -- the definition is that of the item with the number
 module _ {A : Type 0} where
@@ -99,23 +92,20 @@ module _ {A : Type 0} where
   pub number_same : (i : ℕ) (items : List (OwnItem A)) (x : List ℕ) (d : OwnItem A) → number_from 0 (map item_of items) x ≡ Some i → definition_of (map item_of items) x ≡ definition_of (item_of (get_or items i d) ∷ []) x
   number_same i items x d h = let k = numbered 0 i items x h in let e : k.place ≡ i = (let f = k.is in omega (arith, f)) in k.same d ∙ ap (λ j. definition_of (item_of (get_or items j d) ∷ []) x) e
 
-  -- one more global, where its name is new
-  map_cond : (b : Bool) (s : Shared A) (o : Option (Shared A)) → option_map shared_in (cond b (Some s) o) ≡ cond b (Some (shared_in s)) (option_map shared_in o)
-  map_cond true s o = refl
-  map_cond false s o = refl
+  -- one more global
+  put_last : (b : Bool) (g : Shared A) (o : Option (Shared A)) (rest : Option GlobalCells) →
+      option_or (option_map shared_in (option_or o (if b then Some g else None))) rest ≡ option_or (option_map shared_in o) (if b then Some (shared_in g) else rest)
+  put_last true g None rest = refl
+  put_last false g None rest = refl
+  put_last b g (Some h) rest = refl
 
-  none_of : (o : Option (Shared A)) → is_some o ≡ false → option_map shared_in o ≡ None
-  none_of None h = refl
-  none_of (Some s) h = absurd cc
-
-  pub global_more : (old new : BTreeMap (Bor (List ℕ)) (Shared A)) (key : Bor (List ℕ)) (s : Shared A) (y : List ℕ) →
-      Updates (λ a b. slice_cmp nat_cmp a.now b.now) old new key (Some s) → key.now ≡ y → is_some (value_at old key.now) ≡ false →
-      (x : List ℕ) (rest : Option GlobalCells) → option_or (shared_at new x) rest ≡ option_or (shared_at old x) (if bytes_eq y x then Some (shared_in s) else rest)
-  global_more old new key s y u name absent x rest =
-      ap (λ o. option_or (option_map shared_in o) rest) (btree_map_updates_str key.now old new (Some s) u x)
-      ∙ ap (λ o. option_or o rest) (map_cond (bytes_eq key.now x) s (value_at old x))
-      ∙ put_last (bytes_eq key.now x) (shared_in s) (shared_at old x) rest (λ same. ap (λ t. shared_at old t) (sym ((bytes_eq-Decides key.now x).0 same)) ∙ none_of (value_at old key.now) absent)
-      ∙ ap (λ t. option_or (shared_at old x) (if bytes_eq t x then Some (shared_in s) else rest)) name
+  pub global_more : (old new : List (List ℕ × Shared A)) (name : List ℕ) (g : Shared A) (y : List ℕ) → new ≡ declared old name g → name ≡ y →
+      (x : List ℕ) (rest : Option GlobalCells) → option_or (option_map shared_in (first new x)) rest ≡ option_or (option_map shared_in (first old x)) (if bytes_eq y x then Some (shared_in g) else rest)
+  global_more old new name g y more same x rest =
+      ap (λ es. option_or (option_map shared_in (first es x)) rest) more
+      ∙ ap (λ o. option_or (option_map shared_in o) rest) (first_declared old name g x)
+      ∙ put_last (bytes_eq name x) g (first old x) rest
+      ∙ ap (λ z. option_or (option_map shared_in (first old x)) (if bytes_eq z x then Some (shared_in g) else rest)) same
 
 -- a global's first cell is among the cells
 cell_step : (b : Bool) (g : Global) (c : ℕ) (gs : List Global) (x : List ℕ) (v : GlobalCells) → (if b then Some (record { global = g; cell = c }) else global_from (c + cells g) gs x) ≡ Some v → (global_from (c + cells g) gs x ≡ Some v → v.cell ≤ c + cells g + total_cells gs) → v.cell ≤ c + total_cells (g ∷ gs)

@@ -9,18 +9,18 @@ ghost use Rattle.meaning.specs.inner.Cells.{total_cells};
 ghost use Rattle.meaning.specs.inner.Tables.{AreNumbers, AreGlobals, AreSymbols};
 
 use crate::names::{Shared, Symbol};
+use name_tables::Table;
 use std::alloc::Allocator;
-use std::collections::BTreeMap;
 use syntax::tree::Unit;
 
 /// The number of the item that defines each function.
-pub(crate) type Definitions<'p, A> = BTreeMap<&'p str, usize, A>;
+pub(crate) type Definitions<'p, A> = Table<'p, usize, A>;
 
 /// Each global, with its first cell.
-pub(crate) type Globals<'p, A> = BTreeMap<&'p str, Shared<'p, A>, A>;
+pub(crate) type Globals<'p, A> = Table<'p, Shared<'p, A>, A>;
 
 /// What each name of the file is first declared as.
-pub(crate) type Symbols<'p, A> = BTreeMap<&'p str, Symbol<'p, A>, A>;
+pub(crate) type Symbols<'p, A> = Table<'p, Symbol<'p, A>, A>;
 
 /// A program that runs, with the tables of its names, and with at most so many cells as an accepted one has.
 #[derive(Drop)]
@@ -31,7 +31,7 @@ pub(crate) struct Source<'p, A: Allocator> {
     pub globals: Globals<'p, A>,
     pub symbols: Symbols<'p, A>,
     ghost small: { total_cells (Names.globals (program_of unit.now)) ≤ 4096 },
-    ghost numbered: { AreNumbers 0 (program_of unit.now) definitions } by { Prim.hlevel props },
+    ghost numbered: { AreNumbers (program_of unit.now) definitions } by { Prim.hlevel props },
     ghost shared: { AreGlobals (program_of unit.now) globals } by { Prim.hlevel (props, ⊎_set) },
     ghost declared: { AreSymbols (program_of unit.now) symbols } by { Prim.hlevel (props, ⊎_set) },
 }

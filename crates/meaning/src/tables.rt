@@ -9,32 +9,30 @@ ghost use Rattle.syntax.specs.Types.{Known, Scope, known_among, file_scope};
 ghost use Rattle.syntax.specs.Views.{global_of, item_of};
 ghost use Rattle.meaning.specs.inner.Cells.{total_cells};
 ghost use Rattle.meaning.specs.inner.File.{known_of, known_or};
-ghost use Rattle.meaning.specs.inner.Tables.{AreNumbers, AreGlobals, AreSymbols, shared_at};
-ghost use Rattle.types.specs.Maps.{value_at};
+ghost use Rattle.meaning.specs.inner.Tables.{AreNumbers, AreGlobals, AreSymbols, number_from, shared_at};
+ghost use Rattle.name_tables.specs.Known.{entries_in};
+ghost use Rattle.name_tables.specs.Named.{first};
 
 use crate::names::{Shared, Symbol, cells_of};
 use crate::program::{Definitions, Globals, Source, Symbols};
+use name_tables::Table;
 use std::alloc::{AllocError, Allocator};
-use std::collections::BTreeMap;
 use syntax::tree::{Global, Item};
 use types::Typed;
 
-/// Adds an item, by its number, to the table of those behind it.
+/// Adds an item, by its number, to the table of those before it, unless one of these defines a function of its name.
 fn add_definition<'p, A: Allocator + Copy>(
     table: &mut Definitions<'p, A>,
     i: usize,
     item: &'p Item<A>,
 ) -> Result<(), AllocError>
-    ensures { OnOk result ((rest : List tree.Item) → AreNumbers (i + 1) rest table.old → AreNumbers i (item_of item.now ∷ rest) table.new) }
+    ensures { OnOk result ((x : List ℕ) (rest : List tree.Item) → option_or (first (entries_in table.new) x) (number_from (i + 1) rest x) ≡ option_or (first (entries_in table.old) x) (number_from i (item_of item.now ∷ rest) x)) }
 {
     let Item::Function(f) = item else {
         return Ok(());
     };
     if f.body.is_some() {
-        return match table.insert(f.name.text.as_str(), i) {
-            Ok(_) => Ok(()),
-            Err(_) => Err(AllocError),
-        };
+        table.declare(f.name.text.as_str(), i)?;
     }
     Ok(())
 }
@@ -44,11 +42,10 @@ fn number_definitions<'p, A: Allocator + Copy>(
     alloc: A,
     items: &'p [Item<A>],
 ) -> Result<Definitions<'p, A>, AllocError>
-    ensures { IfOk result (AreNumbers 0 (map item_of items.now)) }
+    ensures { IfOk result (AreNumbers (map item_of items.now)) }
 {
-    let mut table = BTreeMap::new(alloc);
-    'items: for k in 0..items.len() {
-        let i = items.len() - 1 - k;
+    let mut table = Table::new(alloc, 0);
+    'items: for i in 0..items.len() {
         add_definition(&mut table, i, &items[i])?;
     }
     Ok(table)
@@ -62,14 +59,8 @@ fn add_global<'p, A: Allocator + Copy>(
 ) -> Result<(), AllocError>
     ensures { OnOk result ((x : List ℕ) (rest : Option GlobalCells) → option_or (shared_at table.new x) rest ≡ option_or (shared_at table.old x) (if bytes_eq g.now.name.text x then Some (record { global = global_of g.now; cell = cell }) else rest)) }
 {
-    let name = g.name.text.as_str();
-    if table.contains_key(name) {
-        return Ok(());
-    }
-    match table.insert(name, Shared { cell, global: g }) {
-        Ok(_) => Ok(()),
-        Err(_) => Err(AllocError),
-    }
+    table.declare(g.name.text.as_str(), Shared { cell, global: g })?;
+    Ok(())
 }
 
 /// Adds the globals of a declaration, from this cell on; the cell behind them.
@@ -98,7 +89,7 @@ fn place_globals<'p, A: Allocator + Copy>(
     requires { total_cells (globals (map item_of items.now)) ≤ 2 ^ 32 }
     ensures { IfOk result (AreGlobals (map item_of items.now)) }
 {
-    let mut table = BTreeMap::new(alloc);
+    let mut table = Table::new(alloc, 0);
     let mut cell = 0;
     'items: for item in items {
         match item {
@@ -115,15 +106,10 @@ fn add_symbol<'p, A: Allocator + Copy>(
     name: &'p str,
     symbol: Symbol<'p, A>,
 ) -> Result<(), AllocError>
-    ensures { OnOk result ((x : List ℕ) (rest : Known) → known_or (value_at symbols.new x) rest ≡ known_or (value_at symbols.old x) (if bytes_eq name.now x then known_of symbol.entry else rest)) }
+    ensures { OnOk result ((x : List ℕ) (rest : Known) → known_or (first (entries_in symbols.new) x) rest ≡ known_or (first (entries_in symbols.old) x) (if bytes_eq name.now x then known_of symbol.entry else rest)) }
 {
-    if symbols.contains_key(name) {
-        return Ok(());
-    }
-    match symbols.insert(name, symbol) {
-        Ok(_) => Ok(()),
-        Err(_) => Err(AllocError),
-    }
+    symbols.declare(name, symbol)?;
+    Ok(())
 }
 
 /// Adds the globals of a declaration.
@@ -131,7 +117,7 @@ fn add_shared_symbols<'p, A: Allocator + Copy>(
     table: &mut Symbols<'p, A>,
     gs: &'p [Global<A>],
 ) -> Result<(), AllocError>
-    ensures { OnOk result ((x : List ℕ) (rest : Scope) → known_or (value_at table.new x) (rest x) ≡ known_or (value_at table.old x) (known_among (map global_of gs.now) rest x)) }
+    ensures { OnOk result ((x : List ℕ) (rest : Scope) → known_or (first (entries_in table.new) x) (rest x) ≡ known_or (first (entries_in table.old) x) (known_among (map global_of gs.now) rest x)) }
 {
     'globals: for g in gs {
         add_symbol(table, g.name.text.as_str(), Symbol::Global(g))?;
@@ -144,7 +130,7 @@ fn add_declared<'p, A: Allocator + Copy>(
     table: &mut Symbols<'p, A>,
     item: &'p Item<A>,
 ) -> Result<(), AllocError>
-    ensures { OnOk result ((x : List ℕ) (rest : List tree.Item) → known_or (value_at table.new x) (file_scope rest x) ≡ known_or (value_at table.old x) (file_scope (item_of item.now ∷ rest) x)) }
+    ensures { OnOk result ((x : List ℕ) (rest : List tree.Item) → known_or (first (entries_in table.new) x) (file_scope rest x) ≡ known_or (first (entries_in table.old) x) (file_scope (item_of item.now ∷ rest) x)) }
 {
     match item {
         Item::Function(f) => add_symbol(table, f.name.text.as_str(), Symbol::Function(f)),
@@ -159,7 +145,7 @@ fn place_symbols<'p, A: Allocator + Copy>(
 ) -> Result<Symbols<'p, A>, AllocError>
     ensures { IfOk result (AreSymbols (map item_of items.now)) }
 {
-    let mut table = BTreeMap::new(alloc);
+    let mut table = Table::new(alloc, 0);
     'items: for item in items {
         add_declared(&mut table, item)?;
     }

@@ -4,7 +4,7 @@ use Rattle.meaning.specs.inner.File.{known_of, known_or}
 use Rattle.meaning.proofs.names.declared.Goals as goal
 
 pub returns-in-Some : goal.returns-in-Some
-returns-in-Some g c = ap known_of c.lent.ensures ∙ ap (λ o. known_or o Unknown) c.in-Some.ensures.value ∙ c.args.source.now.declared c.args.name.now
+returns-in-Some g c = ap known_of c.lent.ensures ∙ ap (λ o. known_or o Unknown) c.in-Some.ensures ∙ c.args.source.now.declared c.args.name.now
 
 pub returns-in-None : goal.returns-in-None
-returns-in-None g c = ap (λ o. known_or o Unknown) c.in-None.ensures.value ∙ c.args.source.now.declared c.args.name.now
+returns-in-None g c = ap (λ o. known_or o Unknown) c.in-None.ensures ∙ c.args.source.now.declared c.args.name.now

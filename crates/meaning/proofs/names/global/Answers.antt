@@ -9,6 +9,6 @@ pub returns-in-Some-clause-low : goal.returns-in-Some-clause-low
 returns-in-Some-clause-low g c =
     let source = c.args.source.now in
     let x = c.args.name.now in
-    let few = cell_few 0 (globals (program_of source.unit.now)) x (shared_in c.in-Some.g.now) (sym (source.shared x) ∙ sym (ap (option_map shared_in) c.in-Some.ensures.value)) in
+    let few = cell_few 0 (globals (program_of source.unit.now)) x (shared_in c.in-Some.g.now) (sym (source.shared x) ∙ sym (ap (option_map shared_in) c.in-Some.ensures)) in
     let small = source.small in
     omega (arith, few, small)

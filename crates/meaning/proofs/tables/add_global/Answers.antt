@@ -1,6 +1,6 @@
-use Rattle.std.proofs.Common.{◌∙◌, sym}
+use Rattle.name_tables.specs.Known.{entries_in}
 use Rattle.meaning.proofs.Placing.{global_more}
 use Rattle.meaning.proofs.tables.add_global.Goals as goal
 
-pub returns-in-Ok : goal.returns-in-Ok
-returns-in-Ok g c = global_more c.args.table.now c.insert.new.self c.as_str-name.result _ c.args.g.now.name.text c.in-Ok.ensures.updates c.as_str-name.ensures (sym c.contains_key.ensures ∙ c.if-contains_key.false)
+pub returns : goal.returns
+returns g c = global_more (entries_in c.args.table.now) (entries_in c.declare.new.self) c.as_str.result.now _ c.args.g.now.name.text c.in_ok-declare.ensures.ok c.as_str.ensures

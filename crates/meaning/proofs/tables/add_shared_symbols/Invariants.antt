@@ -1,10 +1,11 @@
 use Rattle.std.proofs.Common.{◌≡◌, ℕ, List, map, drop}
 use Rattle.syntax.specs.Types.{Scope, known_among}
 use Rattle.syntax.specs.Views.{global_of}
-use Rattle.types.specs.Maps.{value_at}
+use Rattle.name_tables.specs.Known.{entries_in}
+use Rattle.name_tables.specs.Named.{first}
 use Rattle.meaning.specs.inner.File.{known_or}
 use Rattle.meaning.proofs.tables.add_shared_symbols.Given as goal
 
 abbrev pub invariant-globals : goal.invariant-globals
 invariant-globals g l =
-    (x : List ℕ) (rest : Scope) → known_or (value_at l.table x) (known_among (map global_of (drop l.g-index l.gs)) rest x) ≡ known_or (value_at l.initial.table x) (known_among (map global_of l.gs) rest x)
+    (x : List ℕ) (rest : Scope) → known_or (first (entries_in l.table) x) (known_among (map global_of (drop l.g-index l.gs)) rest x) ≡ known_or (first (entries_in l.initial.table) x) (known_among (map global_of l.gs) rest x)

@@ -1,10 +1,6 @@
-use Rattle.std.proofs.Common.{◌∙◌, sym}
-use Rattle.meaning.specs.inner.File.{known_of}
-use Rattle.meaning.proofs.Symbols.{symbol_more, symbol_kept}
+use Rattle.name_tables.specs.Known.{entries_in}
+use Rattle.meaning.proofs.Symbols.{symbol_more}
 use Rattle.meaning.proofs.tables.add_symbol.Goals as goal
 
-pub returns-then-contains_key : goal.returns-then-contains_key
-returns-then-contains_key g c = symbol_kept c.args.symbols.now c.args.name.now (known_of c.args.symbol) (sym c.contains_key.ensures ∙ c.if-contains_key.true)
-
-pub returns-in-Ok : goal.returns-in-Ok
-returns-in-Ok g c = symbol_more c.args.symbols.now c.insert.new.self c.args.name c.args.symbol c.in-Ok.ensures.updates (sym c.contains_key.ensures ∙ c.if-contains_key.false)
+pub returns : goal.returns
+returns g c = symbol_more (entries_in c.args.symbols.now) (entries_in c.declare.new.self) c.args.name.now c.args.symbol c.in_ok-declare.ensures.ok

@@ -1,18 +1,22 @@
-use Rattle.std.proofs.Common.{◌≡◌, ◌∙◌, ◌+◌, ◌-◌, ◌<◌, length, map, drop, sym, ap, subst, arith}
+use Rattle.std.proofs.Common.{◌∙◌, ◌+◌, map, drop, sym}
+use Rattle.std.specs.Option.{option_or}
+use Rattle.std.proofs.lemmas.List.{at_drop_all}
 use Rattle.syntax.specs.Views.{item_of}
-use Rattle.meaning.specs.inner.Tables.{number_from, AreNumbers}
+use Rattle.name_tables.specs.Known.{entries_in}
+use Rattle.name_tables.specs.Named.{first}
+use Rattle.meaning.specs.inner.Tables.{number_from}
 use Rattle.meaning.proofs.Files.{items_more}
+use Rattle.meaning.proofs.Placing.{or_none}
 use Rattle.meaning.proofs.tables.number_definitions.Goals as goal
 
 pub items-preserved : goal.items-preserved
-items-preserved g c =
-    let xs = c.args.items.now in
-    let item = c.index-items-i.result in
-    let i = length xs - 1 - c.items.k in
-    let less : i < length xs = let h = c.items-test.true in omega (arith, h) in
-    let before : length xs - c.items.k ≡ i + 1 = let h = c.items-test.true in omega (arith, h) in
-    let after : i ≡ length xs - (c.items.k + 1) = omega arith in
-    let old = subst (λ n. AreNumbers n (map item_of (drop n xs)) c.items.table) before c.items.invariant in
-    λ x. c.in_ok-add_definition.ensures (map item_of (drop (i + 1) xs)) old x
-    ∙ sym (items_more (λ items. number_from i items x) xs i item less c.index-items-i.is)
-    ∙ ap (λ n. number_from n (map item_of (drop n xs)) x) after
+items-preserved g c = λ x.
+    c.in_ok-add_definition.ensures x (map item_of (drop (c.items.i + 1) c.args.items.now))
+    ∙ sym (items_more (λ items. option_or (first (entries_in c.items.table) x) (number_from c.items.i items x)) c.args.items.now c.items.i c.index-items-i.result c.items-test.true c.index-items-i.is)
+    ∙ c.items.invariant x
+
+pub returns : goal.returns
+returns g c = λ x.
+    sym (or_none (first (entries_in c.items.table) x))
+    ∙ sym (at_drop_all (λ items. option_or (first (entries_in c.items.table) x) (number_from c.items.i (map item_of items) x)) c.args.items.now c.items.i c.items-test.false)
+    ∙ c.items.invariant x

@@ -1,9 +1,11 @@
 use Rattle.std.proofs.Common.{◌∙◌, ◌+◌, ◌++◌, map, drop, sym, ap, arith, ℕ, List}
 use Rattle.std.specs.Option.{option_or}
+use Rattle.std.proofs.lemmas.List.{at_drop_all}
 use Rattle.syntax.specs.Names.{globals, global_from, shared_by}
 use Rattle.syntax.specs.Views.{item_of, global_of}
 use Rattle.meaning.specs.inner.Cells.{total_cells}
 use Rattle.meaning.specs.inner.Tables.{shared_at}
+use Rattle.meaning.proofs.Placing.{or_none}
 use Rattle.meaning.proofs.Files.{items_more, total_append}
 use Rattle.meaning.proofs.tables.place_globals.Goals as goal
 use Rattle.meaning.proofs.tables.place_globals.Goals.{in-Function, in-Globals+in_ok-cell-in-Globals}
@@ -47,3 +49,9 @@ items-preserved g c =
             cells = omega (arith, cell-is, ok.next, same, more, append, c.items.invariant.cells);
           })
     ]
+
+pub returns : goal.returns
+returns g c = λ x.
+    sym (or_none (shared_at c.items.table x))
+    ∙ sym (at_drop_all (λ items. option_or (shared_at c.items.table x) (global_from c.items.cell (globals (map item_of items)) x)) c.args.items.now c.items.item-index c.items-test.false)
+    ∙ c.items.invariant.value x
