@@ -6,6 +6,8 @@ mod all_orders;
 #[cfg(test)]
 mod beside;
 #[cfg(test)]
+mod hostile;
+#[cfg(test)]
 mod large;
 #[cfg(test)]
 mod opened;

@@ -1,0 +1,331 @@
+//! Hostile use: sources that are as deep, as large and as long as they may be, and one more; sources that end after any
+//! byte; and each growth of what is answered refused in turn.
+
+use crate::refusals::joined;
+use command::{Format, Request, Task};
+use refusing::{Refusing, growths};
+use serving::{Detail, serve_alone};
+use serving_in_memory::{Answer, Served, answers, is_answer, request_of, serve_line};
+use std::alloc::Global;
+use std::str;
+use std::sync::Wait;
+use std::thread::Threads;
+
+const CHECK: &str = "txc check a.c";
+
+const ACCEPTED: Answer<'static> = (0, b"accepted\n", b"");
+
+/// Pieces of a source, each so many times, and what `txc check` answers to it.
+type Row = (&'static [(&'static str, usize)], Answer<'static>);
+
+fn rows() -> &'static [Row] {
+    static ROWS: [Row; 8] = [
+        // as deep as may be; one more is among the examples of faults
+        (
+            &[
+                ("void worker(int self) { ", 1),
+                ("(", 97),
+                ("1", 1),
+                (")", 97),
+                ("; }", 1),
+            ],
+            ACCEPTED,
+        ),
+        // as many cells as may be, and more
+        (&[("int a[4096]; void worker(int self) { }", 1)], ACCEPTED),
+        (
+            &[("int a[4096], b; void worker(int self) { }", 1)],
+            (1, b"", b"txc: fault 25 at 1:14: bad array length\n"),
+        ),
+        (
+            &[("int a[4097]; void worker(int self) { }", 1)],
+            (1, b"", b"txc: fault 25 at 1:7: bad array length\n"),
+        ),
+        (
+            &[("int a[0]; void worker(int self) { }", 1)],
+            (1, b"", b"txc: fault 25 at 1:7: bad array length\n"),
+        ),
+        (
+            &[("int a[2] = {1,2,3}; void worker(int self) { }", 1)],
+            (1, b"", b"txc: fault 25 at 1:17: bad array length\n"),
+        ),
+        // a mebibyte, and a byte more
+        (
+            &[
+                (
+                    "int x; void worker(int self) { __transaction_atomic { x = x + 1; } }",
+                    1,
+                ),
+                (" ", 1_048_508),
+            ],
+            ACCEPTED,
+        ),
+        (
+            &[
+                (
+                    "int x; void worker(int self) { __transaction_atomic { x = x + 1; } }",
+                    1,
+                ),
+                (" ", 1_048_509),
+            ],
+            (1, b"", b"txc: fault 05 at 1:1: file too long\n"),
+        ),
+    ];
+    &ROWS
+}
+
+// Whether `txc check` answers a source in pieces so.
+fn is_checked_so<H: Threads + Wait + Sync>(
+    rt: &H,
+    alloc: Global,
+    pieces: &[(&str, usize)],
+    wanted: Answer,
+) -> bool {
+    match joined(alloc, pieces) {
+        Ok(source) => {
+            answers(
+                rt,
+                alloc,
+                CHECK,
+                source.as_str().as_bytes(),
+                b"",
+                false,
+                wanted,
+            )
+        }
+        Err(_) => false,
+    }
+}
+
+// The number, from 0, of the first row that is answered otherwise.
+fn answered_otherwise<H: Threads + Wait + Sync>(rt: &H, alloc: Global) -> Option<usize> {
+    for (number, (pieces, wanted)) in rows().iter().enumerate() {
+        if !is_checked_so(rt, alloc, pieces, *wanted) {
+            return Some(number);
+        }
+    }
+    None
+}
+
+#[test]
+fn the_most_is_accepted_and_one_more_refused(rt: HostRuntime) {
+    assert_eq!(rt; answered_otherwise(&rt, rt.alloc()), None);
+}
+
+/// A transaction in another one is cancelled, and what it has read is compared still.
+const CANCELS: &[u8] =
+    b"int f, g = 1, h; void worker(int self) { if (self == 0) { __transaction_atomic { f = 1; h = 1; } } else { \
+__transaction_atomic { __transaction_atomic { if (f == 0) { g = 9; __transaction_cancel; } g = 5; } g = g + h; } } }";
+
+/// A relaxed transaction takes the lock before it prints.
+const PRINTS: &[u8] =
+    b"int x; void worker(int self) { __transaction_relaxed { x = x + 1; printf(\"%d\\n\", x); } }";
+
+/// Thread 0 makes 64 frames, and thread 1 is trapped at the 65th.
+const CALLS: &[u8] =
+    b"void down(int k) { if (k > 0) down(k - 1); } void worker(int self) { down(62 + self); }";
+
+// Whether a source is accepted, or refused by a fault with its number.
+fn is_judged(served: &Served) -> bool {
+    if served.status == 0 {
+        is_answer(served, ACCEPTED)
+    } else {
+        served.status == 1 && served.out.is_empty() && served.err.starts_with(b"txc: fault ")
+    }
+}
+
+// How many of the beginnings of a source are judged, up to the first that is not.
+fn beginnings_judged<H: Threads + Wait + Sync>(rt: &H, alloc: Global, source: &[u8]) -> usize {
+    for end in 0..source.len() {
+        match serve_line(rt, alloc, CHECK, &source[..end], b"", false) {
+            Some(served) if is_judged(&served) => {}
+            _ => return end,
+        }
+    }
+    source.len()
+}
+
+#[test]
+fn each_beginning_of_a_source_is_judged(rt: HostRuntime) {
+    assert_eq!(rt; beginnings_judged(&rt, rt.alloc(), CANCELS), CANCELS.len());
+}
+
+/// A command line, and the source and the schedule of its files.
+type Asked = (&'static str, &'static [u8], &'static [u8]);
+
+fn asked() -> &'static [Asked] {
+    static ASKED: [Asked; 15] = [
+        ("txc check a.c", CANCELS, b""),
+        ("txc listing a.c", CANCELS, b""),
+        ("txc source a.c --threads 2 --order 0,1", CANCELS, b""),
+        (
+            "txc replay a.c --threads 2 --schedule s.txt",
+            CANCELS,
+            b"1 a5\n0 a6\n1 a13\n",
+        ),
+        (
+            "txc replay a.c --threads 2 --schedule s.txt --timeline",
+            CANCELS,
+            b"1 a5\n0 a6\n1 a13\n",
+        ),
+        (
+            "txc replay a.c --threads 2 --schedule s.txt --picture",
+            CANCELS,
+            b"1 a5\n0 a6\n1 a13\n",
+        ),
+        (
+            "txc replay a.c --threads 2 --seed 7 --steps 60 --print-schedule",
+            CANCELS,
+            b"",
+        ),
+        ("txc listing a.c", PRINTS, b""),
+        ("txc source a.c --threads 2 --order 1,0", PRINTS, b""),
+        (
+            "txc replay a.c --threads 2 --schedule s.txt",
+            PRINTS,
+            b"0 a3\n1 a3\n0 a1\n1 a2\n0 a3\n1 a9\n",
+        ),
+        (
+            "txc replay a.c --threads 2 --schedule s.txt --timeline",
+            PRINTS,
+            b"0 a3\n1 a3\n0 a1\n1 a2\n0 a3\n1 a9\n",
+        ),
+        ("txc check a.c", CALLS, b""),
+        ("txc listing a.c", CALLS, b""),
+        ("txc source a.c --threads 2 --order 0,1", CALLS, b""),
+        (
+            "txc replay a.c --threads 2 --schedule s.txt",
+            CALLS,
+            b"0 9999\n1 9999\n",
+        ),
+    ];
+    &ASKED
+}
+
+// What is answered to a task, in memory of this allocator; what it writes lies in memory of its own.
+fn served_alone(
+    alloc: &Refusing<Global>,
+    inner: Global,
+    task: &Task,
+    source: &[u8],
+    schedule: &[u8],
+) -> Served {
+    let detail = Detail::of("a.c", false, Format::Plain, false);
+    let mut out = Vec::new(inner);
+    let mut err = Vec::new(inner);
+    let status = serve_alone(
+        alloc, "a.c", task, source, schedule, detail, &mut out, &mut err,
+    );
+    Served { status, out, err }
+}
+
+// Whether a report is whole and tells of a step that was refused memory.
+fn is_stopped(served: &Served) -> bool {
+    match str::from_utf8(served.out.as_slice()) {
+        Ok(report) => {
+            let is_whole = report.starts_with("== ") && report.contains("\n== memory");
+            is_whole && report.contains(": stop 00\n") && served.err.is_empty()
+        }
+        Err(_) => false,
+    }
+}
+
+// Whether want of memory is told, with nothing else, or by a whole report.
+fn gives_up(served: &Served) -> bool {
+    let is_told = is_answer(served, (4, b"", b"txc: out of memory\n"));
+    is_told || served.status == 4 && is_stopped(served)
+}
+
+// Whether this is answered, or growth `nth` is met and want of memory is told. All may be answered where it is met too:
+// not every growth that is asked for has to be made.
+fn tells(
+    alloc: &Refusing<Global>,
+    nth: u64,
+    inner: Global,
+    task: &Task,
+    files: (&[u8], &[u8]),
+    wanted: Answer,
+) -> bool {
+    alloc.refuse(nth);
+    let served = served_alone(alloc, inner, task, files.0, files.1);
+    is_answer(&served, wanted) || !alloc.is_waiting() && gives_up(&served)
+}
+
+// How many growths a task makes, each of which is refused once.
+fn growths_of(inner: Global, task: &Task, source: &[u8], schedule: &[u8]) -> Result<u64, u64> {
+    let whole = served_alone(&Refusing::new(inner, 0), inner, task, source, schedule);
+    let wanted = (whole.status, whole.out.as_slice(), whole.err.as_slice());
+    growths(inner, 5000, |alloc, nth| {
+        tells(alloc, nth, inner, task, (source, schedule), wanted)
+    })
+}
+
+// The same of a command line.
+fn growths_of_line(alloc: Global, asked: &Asked) -> Result<u64, u64> {
+    match request_of(alloc, asked.0) {
+        Ok(Request::Program { task, .. }) => growths_of(alloc, &task, asked.1, asked.2),
+        _ => Err(0),
+    }
+}
+
+// The first command line that makes few growths, or tells one otherwise, and how many they are or which.
+fn told_otherwise(alloc: Global) -> Option<(&'static str, Result<u64, u64>)> {
+    for asked in asked() {
+        let met = growths_of_line(alloc, asked);
+        if met.ok() < Some(50) {
+            return Some((asked.0, met));
+        }
+    }
+    None
+}
+
+#[test]
+fn each_growth_of_an_answer_is_refused_once(rt: HostRuntime) {
+    assert_eq!(rt; told_otherwise(rt.alloc()), None);
+}
+
+// The first growth of a task whose refusal leaves a report in which a step was not made.
+fn first_stopped(alloc: Global, task: &Task, source: &[u8], schedule: &[u8]) -> Option<u64> {
+    let met = growths(alloc, 5000, |refusing, nth| {
+        refusing.refuse(nth);
+        !is_stopped(&served_alone(refusing, alloc, task, source, schedule))
+    });
+    met.err()
+}
+
+// Whether there is one in the replay of a command line.
+fn stops(alloc: Global, asked: &Asked) -> bool {
+    match request_of(alloc, asked.0) {
+        Ok(Request::Program { task, .. }) => {
+            first_stopped(alloc, &task, asked.1, asked.2).is_some_and(|nth| nth < 5000)
+        }
+        _ => false,
+    }
+}
+
+#[test]
+fn a_step_that_is_refused_memory_is_told_in_a_report(rt: HostRuntime) {
+    let replay = "txc replay a.c --threads 2 --schedule s.txt";
+    let schedule = b"1 a5\n0 a6\n1 a13\n".as_slice();
+    assert!(rt; stops(rt.alloc(), &(replay, CANCELS, schedule)));
+}
+
+// What is answered to `run` where no thread is started.
+fn run_alone(inner: Global) -> Option<Served> {
+    match request_of(inner, "txc run a.c --threads 2") {
+        Ok(Request::Program { task, .. }) => {
+            Some(served_alone(&Refusing::new(inner, 0), inner, &task, CALLS, b""))
+        }
+        _ => None,
+    }
+}
+
+#[test]
+fn threads_that_are_not_started_are_told(rt: HostRuntime) {
+    let told = (4, b"".as_slice(), b"txc: fault 73\n".as_slice());
+    let is_told = match run_alone(rt.alloc()) {
+        Some(served) => is_answer(&served, told),
+        None => false,
+    };
+    assert!(rt; is_told);
+}
