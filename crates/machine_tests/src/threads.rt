@@ -11,7 +11,7 @@ use bytecode::{Code, Instr};
 use frames::Doing;
 use machine::{Event, Loads, Thread};
 use norec_core::{Access, Answer, Stop};
-use refusing::Refusing;
+use refusing::{Refusing, growths};
 use std::alloc::{Allocator, Global};
 use syntax::numbers::{Status, Trap};
 use written_codes::{adds_five, code_of, over_x, traps};
@@ -393,25 +393,16 @@ fn nobody_takes_the_lock_at_its_last_value(rt: HostRuntime) {
     assert_all(&rt, &[("a writer", writes), ("a printer", prints)]);
 }
 
-// The last growth that is met, each of which is refused once; `None` where a thread does not go on.
-fn last_met(inner: Global) -> Option<u64> {
-    for nth in 1..20u64 {
-        match steps(
-            inner,
-            nth,
-            adds_five(),
-            dropped_once(),
-            (Status::Ended, "13", 13),
-        ) {
-            Some(1) => {}
-            Some(_) => return Some(nth - 1),
-            None => return None,
-        }
+// Whether a thread goes on where one step is refused room, if growth `nth` is met, and none else.
+fn goes_on_at(alloc: &Refusing<Global>, nth: u64) -> bool {
+    let found = (Status::Ended, "13", 13);
+    match makes(alloc, alloc, nth, adds_five(), dropped_once(), found) {
+        Some(refused) => refused == 0 && alloc.is_waiting() || refused == 1 && !alloc.is_waiting(),
+        None => false,
     }
-    None
 }
 
 #[test]
 fn a_step_that_was_refused_room_is_made_again(rt: HostRuntime) {
-    assert_that(&rt, last_met(rt.alloc()) > Some(2));
+    assert_that(&rt, growths(rt.alloc(), 20, goes_on_at).ok() > Some(2));
 }

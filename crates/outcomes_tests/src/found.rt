@@ -5,7 +5,7 @@ use crate::accepted::accepted_of;
 use crate::asserted::assert_that;
 use meaning::{MeaningFault, SourceOutcome, ThreadReport, run_order};
 use outcomes::{Listed, Outcomes, outcomes_of};
-use refusing::Refusing;
+use refusing::{Refusing, growths};
 use separation::Accepted;
 use std::alloc::{Allocator, Global};
 
@@ -247,60 +247,28 @@ fn is_made<A: Allocator + Copy>(alloc: A, inner: Global, accepted: &Accepted<A>)
     }
 }
 
-// The same where growth `n` is refused, and whether that growth is still to come. The allocator is the one that refuses.
-fn refused_at<A: Allocator, B: Allocator + Copy>(
+// Whether they are found where growth `nth` is not met, and else that is told. The allocator is the one that refuses.
+fn tells_in<A: Allocator, B: Allocator + Copy>(
     refusing: &Refusing<A>,
     alloc: B,
     inner: Global,
-    accepted: &Accepted<B>,
-    n: u64,
-) -> Option<(bool, bool)> {
-    refusing.refuse(n);
-    let made = is_made(alloc, inner, accepted);
-    let waiting = refusing.is_waiting();
-    refusing.refuse(0);
-    match made {
-        Some(made) => Some((made, waiting)),
-        None => None,
-    }
-}
-
-// The first growth that is not refused although it is to be.
-fn first_spared<A: Allocator, B: Allocator + Copy>(
-    refusing: &Refusing<A>,
-    alloc: B,
-    inner: Global,
-    accepted: &Accepted<B>,
-) -> Option<u64> {
-    for n in 1..5000u64 {
-        match refused_at(refusing, alloc, inner, accepted, n) {
-            Some((true, true)) => return Some(n),
-            Some((false, false)) => {}
-            _ => return None,
-        }
-    }
-    None
-}
-
-// The same of the text that says.
-fn first_spared_in_saying<A: Allocator, B: Allocator + Copy>(
-    refusing: &Refusing<A>,
-    alloc: B,
-    inner: Global,
-) -> Option<u64> {
+    nth: u64,
+) -> bool {
     match accepted_of(alloc, SAYS) {
-        Some(accepted) => first_spared(refusing, alloc, inner, &accepted),
-        None => None,
+        Some(accepted) => {
+            refusing.refuse(nth);
+            is_made(alloc, inner, &accepted) == Some(refusing.is_waiting())
+        }
+        None => false,
     }
 }
 
-// The same over an allocator.
-fn first_spared_of_saying(inner: Global) -> Option<u64> {
-    let alloc = Refusing::new(inner, 0);
-    first_spared_in_saying(&alloc, &alloc, inner)
+// How many growths the outcomes of the text that says take, each of which is refused once.
+fn growths_of_saying(inner: Global) -> Result<u64, u64> {
+    growths(inner, 5000, |alloc, nth| tells_in(alloc, alloc, inner, nth))
 }
 
 #[test]
 fn each_growth_that_is_refused_is_told(rt: HostRuntime) {
-    assert_that(&rt, first_spared_of_saying(rt.alloc()) > Some(10));
+    assert_that(&rt, growths_of_saying(rt.alloc()).ok() > Some(10));
 }

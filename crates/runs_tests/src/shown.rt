@@ -4,7 +4,7 @@ use crate::asserted::{assert_all, assert_that};
 use containers::{Items, Text};
 use lex::token::Scalar;
 use machine::Event;
-use refusing::Refusing;
+use refusing::{Refusing, growths};
 use report::{End, Printed, Shown, ThreadShown, report_text};
 use std::alloc::{AllocError, Allocator, Global};
 use syntax::numbers::Trap;
@@ -142,42 +142,21 @@ fn shows_each_end(rt: HostRuntime) {
     assert_that(&rt, told);
 }
 
-/// Whether growth `nth` of the report is refused; none where it is said not to be, or the report is another one.
-fn refuses<'a>(
-    alloc: &'a Refusing<Global>,
-    printed: &Printed<&'a Refusing<Global>>,
-    nth: u64,
-) -> Option<bool> {
-    alloc.refuse(nth);
-    match report_text(alloc, printed) {
-        Ok(text) => (alloc.is_waiting() && text.as_slice() == REPLAYED).then_some(false),
-        Err(_) => Some(true),
-    }
-}
-
-/// How many growths of the report can be refused, if less than 49; none too where one is not.
-fn growths<'a>(
-    alloc: &'a Refusing<Global>,
-    printed: &Printed<&'a Refusing<Global>>,
-) -> Option<u64> {
-    for nth in 1..50u64 {
-        if !refuses(alloc, printed, nth)? {
-            return Some(nth - 1);
-        }
-    }
-    None
-}
-
-/// The same of the replay's report.
-fn growths_of_replay(alloc: &Refusing<Global>) -> Option<u64> {
+/// Whether the replay's report is shown where its growth `nth` is not met, and else that is told.
+fn tells(alloc: &Refusing<Global>, nth: u64) -> bool {
     match replayed(alloc, None) {
-        Ok(printed) => growths(alloc, &printed),
-        Err(_) => None,
+        Ok(printed) => {
+            alloc.refuse(nth);
+            match report_text(alloc, &printed) {
+                Ok(text) => alloc.is_waiting() && text.as_slice() == REPLAYED,
+                Err(_) => !alloc.is_waiting(),
+            }
+        }
+        Err(_) => false,
     }
 }
 
 #[test]
 fn each_growth_is_refused_once(rt: HostRuntime) {
-    let alloc = Refusing::new(rt.alloc(), 0);
-    assert_that(&rt, growths_of_replay(&alloc) > Some(0));
+    assert_that(&rt, growths(rt.alloc(), 50, tells).ok() > Some(0));
 }

@@ -2,7 +2,7 @@
 
 use crate::asserted::assert_that;
 use crate::setups::setup;
-use refusing::Refusing;
+use refusing::{Refusing, growths};
 use seats::{Setup, close, join, meet, open, split_first};
 use std::alloc::{Allocator, Global};
 
@@ -70,53 +70,25 @@ fn opens<A: Allocator + Copy>(alloc: A, setup: &Setup<A>) -> bool {
     open(alloc, setup).is_ok()
 }
 
-// Whether a table is opened where no growth is refused, and by a second call alone where one is; and whether that growth is still
-// to come.
-fn opens_at_last<A: Allocator + Copy, B: Allocator>(
-    alloc: A,
-    refusing: &Refusing<B>,
-    setup: &Setup<A>,
-) -> (bool, bool) {
-    let opened = opens(alloc, setup);
-    let waits = refusing.is_waiting();
-    (opened == waits && (opened || opens(alloc, setup)), waits)
-}
-
-// The same where growth `nth` behind its code's is refused.
-fn refused_in<A: Allocator + Copy, B: Allocator>(
-    alloc: A,
-    refusing: &Refusing<B>,
-    nth: u64,
-) -> Option<(bool, bool)> {
+// Whether a table is opened where growth `nth` behind its code's is not met, and else by a second call alone.
+fn tells_in<A: Allocator + Copy, B: Allocator>(alloc: A, refusing: &Refusing<B>, nth: u64) -> bool {
     match setup(alloc, 1, 2, 64) {
         Some(setup) => {
             refusing.refuse(nth);
-            Some(opens_at_last(alloc, refusing, &setup))
+            let opened = opens(alloc, &setup);
+            opened == refusing.is_waiting() && (opened || opens(alloc, &setup))
         }
-        None => None,
+        None => false,
     }
 }
 
-// The same by a new allocator.
-fn refused_at(inner: Global, nth: u64) -> Option<(bool, bool)> {
-    let alloc = Refusing::new(inner, 0);
-    refused_in(&alloc, &alloc, nth)
-}
-
-// The last growth that is met, where that holds for each.
-fn last_met(inner: Global) -> Option<u64> {
-    for nth in 1..50u64 {
-        match refused_at(inner, nth) {
-            Some((true, false)) => {}
-            Some((true, true)) => return Some(nth - 1),
-            _ => return None,
-        }
-    }
-    None
+// The same by an allocator.
+fn tells(refusing: &Refusing<Global>, nth: u64) -> bool {
+    tells_in(refusing, refusing, nth)
 }
 
 #[test]
 fn each_growth_may_be_refused(rt: HostRuntime) {
     // the list of words, and the table's own
-    assert_that(&rt, last_met(rt.alloc()) >= Some(2));
+    assert_that(&rt, growths(rt.alloc(), 50, tells).ok() >= Some(2));
 }
