@@ -3,11 +3,14 @@ mod Lookup
 mod Placing
 pub mod Files
 mod CellsFit
--- arguments and values one after another
+-- stretches of code one behind the other
+pub mod Adding
+-- expressions by their parts: arguments, values one after another, nodes, and parts of a whole
 mod Handed
 mod Rows
-mod Arms
+mod Nodes
+mod Conditional
+mod Within
+-- assignments and declarations
+mod Assigning
 mod Declared
--- failures
-pub mod Needing
-mod Failing

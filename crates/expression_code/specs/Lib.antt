@@ -3,5 +3,7 @@ pub mod Lists
 pub mod Views
 -- what a failure says of lists of code
 pub mod Limits
+-- what a call answers that adds code
+pub mod Stretches
 -- what only private functions and proofs speak of
 pub mod inner

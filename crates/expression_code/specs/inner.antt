@@ -1,4 +1,4 @@
 -- tables of names
 pub mod Tables
--- where an assignment goes
-pub mod Aims
+-- stretches of code of which a part stands there
+pub mod Stretches

@@ -23,7 +23,7 @@ pub(crate) fn jump_if(at_zero: bool, register: u16, to: u32) -> Instr
     }
 }
 
-/// The opposite jump.
+/// The jump that is taken where a register is not 0, or else where it is.
 pub(crate) fn jump_if_not(at_zero: bool, register: u16, to: u32) -> Instr
     ensures { result ≡ conditions.jump_if_not at_zero register to }
 {
@@ -103,7 +103,7 @@ pub(crate) fn keep<A: Allocator>(
     Ok(())
 }
 
-/// Those of the opposite condition.
+/// The instructions of the opposite condition.
 pub(crate) fn turn<A: Allocator>(
     drafts: &mut Vec<Draft, A>,
     first: &[Draft],
@@ -151,7 +151,8 @@ pub(crate) fn put_first<A: Allocator>(
     op: LogicalOp,
     t: Tested,
 ) -> Result<u32, AllocError>
-    ensures code { OnOk result (drafts.new.items ≡ drafts.old.items ++ (map (conditions.led_on op (t.to + 1)) first.now ++ conditions.short_jump op t ∷ [])) }
+    ensures code { OnOk result (drafts.new.items ≡ drafts.old.items
+        ++ (map (conditions.led_on op (t.to + 1)) first.now ++ conditions.short_jump op t ∷ [])) }
     ensures place { IfOk result (λ p. p ≡ t.to + 1) }
 {
     let next = after(t.to, 1)?;

@@ -1,19 +1,21 @@
 //! The instructions of expressions and conditions.
 
-ghost use Rattle.std.specs.Prelude.{◌≡◌, [], ◌∷◌, ◌++◌, ◌+◌, ◌≤◌, length, map, pos, Some, OnOk, IfOk, IfErr};
+ghost use Rattle.std.specs.Prelude.{◌≡◌, [], ◌∷◌, ◌++◌, ◌+◌, ◌≤◌, length, map, pos, OnOk, IfOk, IfErr};
 ghost use Rattle.syntax.specs.declared.tree.Expr as tree;
 ghost use Rattle.syntax.specs.Names as Source;
 ghost use Rattle.syntax.specs.Numbers.{word_of};
 ghost use Rattle.syntax.specs.Views.{expr_of, exprs_of, parameter_of};
 ghost use Rattle.bytecode.specs.declared.instr.Instr.TheVariants as instr;
 ghost use Rattle.lowered.specs.Expressions.{arranged, named_ones, nameless_ones};
-ghost use Rattle.picked.specs.Lists.{used, holding};
-ghost use Rattle.picked.specs.declared.draft.Draft.TheVariants as draft;
+ghost use Rattle.picked.specs.Lists.{Lists as Plain, holding};
 ghost use Rattle.picked.specs.Conditions as conditions;
-ghost use Rattle.picked.specs.Conditions.{test_in, tested_by};
-ghost use Rattle.picked.specs.Expressions.{constant, variable, settled, answered, called, in_own_transaction, emitted, operand, condition, both_conditions, conditional, all_emitted};
+ghost use Rattle.picked.specs.Expressions.{one, constant, variable, element, settled, answered, called};
+ghost use Rattle.picked.specs.Expressions.{in_own_transaction, tested, emitted, operand, condition};
+ghost use Rattle.picked.specs.Expressions.{both_conditions, conditional, all_emitted};
 ghost use Rattle.expression_code.specs.Limits.{NeedsMore};
 ghost use Rattle.expression_code.specs.Lists.{lists_of};
+ghost use Rattle.expression_code.specs.Stretches.{AddsValue, AddsTest, AddsValues};
+ghost use Rattle.expression_code.specs.inner.Stretches.{in_place, all_in_place, AddsFirst};
 ghost use Rattle.expression_code.specs.inner.Tables.{callee_in, shared_in};
 ghost use Rattle.expression_code.specs.Views.{program_in, scope_in};
 
@@ -45,10 +47,8 @@ fn put_number<A: Allocator>(
     from: u32,
     into: usize,
 ) -> Result<Held, Failure>
-    ensures code { OnOk result (code.new.items ≡ code.old.items ++ (constant (word_of (pos value)) of from into (lists_of lists.old)).code) }
-    ensures lists { OnOk result (lists_of lists.new ≡ (constant (word_of (pos value)) of from into (lists_of lists.old)).lists) }
-    ensures held { IfOk result (λ held. held ≡ (constant (word_of (pos value)) of from into (lists_of lists.old)).held) }
-    ensures fails { IfErr result (λ why. NeedsMore why ((constant (word_of (pos value)) of from into (lists_of lists.old)).lists).registers) }
+    ensures { AddsValue (constant (word_of (pos value)) of from into (lists_of lists.old))
+        code.old code.new lists.new result }
 {
     put_constant(lists, code, value, of, from, into)
 }
@@ -62,10 +62,8 @@ fn put_read<A: Allocator + Copy>(
     into: usize,
 ) -> Result<Held, Failure>
     requires { g.cell ≤ 4096 }
-    ensures code { OnOk result (code.new.items ≡ code.old.items ++ instr.Read into g.entry.cell ∷ []) }
-    ensures lists { OnOk result (lists_of lists.new ≡ used into (lists_of lists.old)) }
-    ensures held { IfOk result (λ held. held ≡ record { register = into; of = g.entry.global.now.of; to = from + 1 }) }
-    ensures fails { IfErr result (λ why. NeedsMore why (used into (lists_of lists.old)).registers) }
+    ensures { AddsValue (one (instr.Read into g.entry.cell) from into g.entry.global.now.of (lists_of lists.old))
+        code.old code.new lists.new result }
 {
     let register = take(lists, into)?;
     put(code, Instr::Read(register, g.cell as u32))?;
@@ -87,10 +85,9 @@ fn lower_variable<A: Allocator + Copy>(
     from: u32,
     into: usize,
 ) -> Result<Held, Failure>
-    ensures code { OnOk result (code.new.items ≡ code.old.items ++ (variable (Source.newest (scope_in scope.now) x.now) (Source.global_of (program_in names.now) x.now) from into (lists_of lists.old)).code) }
-    ensures lists { OnOk result (lists_of lists.new ≡ (variable (Source.newest (scope_in scope.now) x.now) (Source.global_of (program_in names.now) x.now) from into (lists_of lists.old)).lists) }
-    ensures held { IfOk result (λ held. held ≡ (variable (Source.newest (scope_in scope.now) x.now) (Source.global_of (program_in names.now) x.now) from into (lists_of lists.old)).held) }
-    ensures fails { IfErr result (λ why. NeedsMore why ((variable (Source.newest (scope_in scope.now) x.now) (Source.global_of (program_in names.now) x.now) from into (lists_of lists.old)).lists).registers) }
+    ensures { AddsValue (variable (Source.newest (scope_in scope.now) x.now)
+        (Source.global_of (program_in names.now) x.now) from into (lists_of lists.old))
+        code.old code.new lists.new result }
 {
     match scope.newest(x) {
         Some((i, of)) => {
@@ -117,10 +114,8 @@ fn put_read_at<A: Allocator + Copy>(
     into: usize,
 ) -> Result<Held, Failure>
     requires { g.cell ≤ 4096 }
-    ensures code { OnOk result (code.new.items ≡ code.old.items ++ instr.ReadAt into index.register g.entry.cell (Source.cells (shared_in g.entry).global) ∷ []) }
-    ensures lists { OnOk result (lists_of lists.new ≡ used into (lists_of lists.old)) }
-    ensures held { IfOk result (λ held. held ≡ record { register = into; of = g.entry.global.now.of; to = index.to + 1 }) }
-    ensures fails { IfErr result (λ why. NeedsMore why (used into (lists_of lists.old)).registers) }
+    ensures { AddsValue (element (Some (shared_in g.entry)) (in_place index (lists_of lists.old)) index.to into
+        (lists_of lists.old)) code.old code.new lists.new result }
 {
     let register = take(lists, into)?;
     let length = cells_of(g.global);
@@ -151,7 +146,8 @@ fn push_named<A: Allocator>(
     parameters: &[Parameter<A>],
     registers: &[u16],
 ) -> Result<(), AllocError>
-    ensures { OnOk result (all.new.items ≡ all.old.items ++ named_ones (map parameter_of parameters.now) registers.now) }
+    ensures { OnOk result (all.new.items ≡ all.old.items ++ named_ones (map parameter_of parameters.now)
+        registers.now) }
 {
     'each: for i in 0..parameters.len() {
         if i >= registers.len() {
@@ -164,13 +160,14 @@ fn push_named<A: Allocator>(
     Ok(())
 }
 
-/// And for those that have none.
+/// The registers of arguments for the parameters that have no names.
 fn push_nameless<A: Allocator>(
     all: &mut Vec<u16, A>,
     parameters: &[Parameter<A>],
     registers: &[u16],
 ) -> Result<(), AllocError>
-    ensures { OnOk result (all.new.items ≡ all.old.items ++ nameless_ones (map parameter_of parameters.now) registers.now) }
+    ensures { OnOk result (all.new.items ≡ all.old.items ++ nameless_ones (map parameter_of parameters.now)
+        registers.now) }
 {
     'each: for i in 0..parameters.len() {
         if i >= registers.len() {
@@ -189,7 +186,8 @@ fn push_arranged<A: Allocator>(
     parameters: &[Parameter<A>],
     registers: &[u16],
 ) -> Result<usize, AllocError>
-    ensures items { OnOk result (all.new.items ≡ all.old.items ++ arranged (map parameter_of parameters.now) registers.now) }
+    ensures items { OnOk result (all.new.items ≡ all.old.items ++ arranged (map parameter_of parameters.now)
+        registers.now) }
     ensures count { IfOk result (λ n. n ≡ length (arranged (map parameter_of parameters.now) registers.now)) }
 {
     let first = all.len();
@@ -219,10 +217,14 @@ fn hand_over<A: Allocator>(
     parameters: &[Parameter<A>],
     registers: &[u16],
 ) -> Result<(u32, u16), Failure>
-    ensures lists { OnOk result (lists_of lists.new ≡ holding (length (arranged (map parameter_of parameters.now) registers.now)) (record (lists_of lists.old) { arguments = lists.old.arguments.items ++ arranged (map parameter_of parameters.now) registers.now })) }
+    ensures lists { let handed = arranged (map parameter_of parameters.now) registers.now in
+        let arguments = lists.old.arguments.items ++ handed in
+        OnOk result (lists_of lists.new
+        ≡ holding (length handed) (record (lists_of lists.old) { arguments = arguments })) }
     ensures first { IfOk result (λ r. r.0 ≡ length lists.old.arguments.items) }
     ensures count { IfOk result (λ r. r.1 ≡ length (arranged (map parameter_of parameters.now) registers.now)) }
-    ensures fails { IfErr result (λ why. NeedsMore why (holding (length (arranged (map parameter_of parameters.now) registers.now)) (record (lists_of lists.old) { arguments = lists.old.arguments.items ++ arranged (map parameter_of parameters.now) registers.now })).registers) }
+    ensures fails { let n = length (arranged (map parameter_of parameters.now) registers.now) in
+        IfErr result (λ why. NeedsMore why (holding n (lists_of lists.old)).registers) }
 {
     let first = lists.arguments.len();
     if first > 4_294_967_295 {
@@ -242,10 +244,8 @@ fn put_call<A: Allocator + Copy>(
     from: u32,
     into: usize,
 ) -> Result<Held, Failure>
-    ensures code { OnOk result (code.new.items ≡ code.old.items ++ instr.Call into (length (arranged (map parameter_of f.entry.parameters.now) registers.now)) f.entry.number (length lists.old.arguments.items) ∷ []) }
-    ensures lists { OnOk result (lists_of lists.new ≡ used into (holding (length (arranged (map parameter_of f.entry.parameters.now) registers.now)) (record (lists_of lists.old) { arguments = lists.old.arguments.items ++ arranged (map parameter_of f.entry.parameters.now) registers.now }))) }
-    ensures held { IfOk result (λ held. held ≡ record { register = into; of = f.entry.of; to = from + 1 }) }
-    ensures fails { IfErr result (λ why. NeedsMore why (used into (holding (length (arranged (map parameter_of f.entry.parameters.now) registers.now)) (record (lists_of lists.old) { arguments = lists.old.arguments.items ++ arranged (map parameter_of f.entry.parameters.now) registers.now }))).registers) }
+    ensures { AddsValue (called (Some (callee_in f.entry)) (all_in_place registers.now from (lists_of lists.old)) from
+        into (lists_of lists.old)) code.old code.new lists.new result }
 {
     if f.number > 4_294_967_295 {
         return Err(Failure::OutOfMemory);
@@ -261,7 +261,8 @@ fn put_call<A: Allocator + Copy>(
     })
 }
 
-/// An expression's value. A result that is computed comes into the register `into`; registers from `free` on may be written.
+/// An expression's value. A result that is computed comes into the register `into`; registers from `free` on may be
+/// written.
 #[cycle(lower_expr)]
 pub fn lower_expr<A: Allocator + Copy>(
     names: &Names<'_, A>,
@@ -273,10 +274,8 @@ pub fn lower_expr<A: Allocator + Copy>(
     into: usize,
     free: usize,
 ) -> Result<Held, Failure>
-    ensures code { OnOk result (code.new.items ≡ code.old.items ++ (emitted (program_in names.now) (scope_in scope.now) (expr_of e.now) from into free (lists_of lists.old)).code) }
-    ensures lists { OnOk result (lists_of lists.new ≡ (emitted (program_in names.now) (scope_in scope.now) (expr_of e.now) from into free (lists_of lists.old)).lists) }
-    ensures held { IfOk result (λ held. held ≡ (emitted (program_in names.now) (scope_in scope.now) (expr_of e.now) from into free (lists_of lists.old)).held) }
-    ensures fails { IfErr result (λ why. NeedsMore why ((emitted (program_in names.now) (scope_in scope.now) (expr_of e.now) from into free (lists_of lists.old)).lists).registers) }
+    ensures { AddsValue (emitted (program_in names.now) (scope_in scope.now) (expr_of e.now) from into free
+        (lists_of lists.old)) code.old code.new lists.new result }
 {
     match e {
         Expr::Variable(x) => lower_variable(names, scope, lists, code, x.text.as_str(), from, into),
@@ -396,10 +395,8 @@ pub(crate) fn lower_operand<A: Allocator + Copy>(
     from: u32,
     free: usize,
 ) -> Result<Held, Failure>
-    ensures code { OnOk result (code.new.items ≡ code.old.items ++ (operand (program_in names.now) (scope_in scope.now) (expr_of e.now) from free (lists_of lists.old)).code) }
-    ensures lists { OnOk result (lists_of lists.new ≡ (operand (program_in names.now) (scope_in scope.now) (expr_of e.now) from free (lists_of lists.old)).lists) }
-    ensures held { IfOk result (λ held. held ≡ (operand (program_in names.now) (scope_in scope.now) (expr_of e.now) from free (lists_of lists.old)).held) }
-    ensures fails { IfErr result (λ why. NeedsMore why ((operand (program_in names.now) (scope_in scope.now) (expr_of e.now) from free (lists_of lists.old)).lists).registers) }
+    ensures { AddsValue (operand (program_in names.now) (scope_in scope.now) (expr_of e.now) from free
+        (lists_of lists.old)) code.old code.new lists.new result }
 {
     match constant_ready(lists, e, from) {
         Some(held) => Ok(held),
@@ -422,16 +419,16 @@ fn lower_call<A: Allocator + Copy>(
     free: usize,
 ) -> Result<Held, Failure>
     requires { registers.old.items ≡ [] }
-    ensures code { OnOk result (code.new.items ≡ code.old.items ++ (called (Some (callee_in f.entry)) (all_emitted (program_in names.now) (scope_in scope.now) (exprs_of all.now) from free (lists_of lists.old)) from into (lists_of lists.old)).code) }
-    ensures lists { OnOk result (lists_of lists.new ≡ (called (Some (callee_in f.entry)) (all_emitted (program_in names.now) (scope_in scope.now) (exprs_of all.now) from free (lists_of lists.old)) from into (lists_of lists.old)).lists) }
-    ensures held { IfOk result (λ held. held ≡ (called (Some (callee_in f.entry)) (all_emitted (program_in names.now) (scope_in scope.now) (exprs_of all.now) from free (lists_of lists.old)) from into (lists_of lists.old)).held) }
-    ensures fails { IfErr result (λ why. NeedsMore why ((called (Some (callee_in f.entry)) (all_emitted (program_in names.now) (scope_in scope.now) (exprs_of all.now) from free (lists_of lists.old)) from into (lists_of lists.old)).lists).registers) }
+    ensures { AddsValue (called (Some (callee_in f.entry))
+        (all_emitted (program_in names.now) (scope_in scope.now) (exprs_of all.now) from free (lists_of lists.old))
+        from into (lists_of lists.old)) code.old code.new lists.new result }
 {
     let to = lower_all(names, scope, lists, code, registers, all, from, free)?;
     put_call(lists, code, f, registers.as_slice(), to, into)
 }
 
-/// `&&` and `||` as a value; both conditions are gathered in `test`. The prover needs `e` and `at`: the parts are smaller than `e`.
+/// `&&` and `||` as a value; both conditions are gathered in `test`. The prover needs `e` and `at`: the parts are
+/// smaller than `e`.
 #[cycle(lower_expr)]
 fn lower_logical<A: Allocator + Copy>(
     names: &Names<'_, A>,
@@ -450,10 +447,10 @@ fn lower_logical<A: Allocator + Copy>(
 ) -> Result<Held, Failure>
     requires test { test.old.items ≡ [] }
     requires parts { e.now ≡ tree.Logical op left.now right.now at }
-    ensures code { OnOk result (code.new.items ≡ code.old.items ++ (answered (both_conditions (program_in names.now) (scope_in scope.now) op (expr_of left.now) (expr_of right.now) from free (lists_of lists.old)) into).code) }
-    ensures lists { OnOk result (lists_of lists.new ≡ (answered (both_conditions (program_in names.now) (scope_in scope.now) op (expr_of left.now) (expr_of right.now) from free (lists_of lists.old)) into).lists) }
-    ensures held { IfOk result (λ held. held ≡ (answered (both_conditions (program_in names.now) (scope_in scope.now) op (expr_of left.now) (expr_of right.now) from free (lists_of lists.old)) into).held) }
-    ensures fails { IfErr result (λ why. NeedsMore why ((answered (both_conditions (program_in names.now) (scope_in scope.now) op (expr_of left.now) (expr_of right.now) from free (lists_of lists.old)) into).lists).registers) }
+    ensures { AddsValue (answered
+        (both_conditions (program_in names.now) (scope_in scope.now) op (expr_of left.now) (expr_of right.now)
+        from free (lists_of lists.old))
+        into) code.old code.new lists.new result }
 {
     let _whole = e;
     let _at = at;
@@ -462,8 +459,8 @@ fn lower_logical<A: Allocator + Copy>(
     put_answers(lists, code, test.as_slice(), t, into)
 }
 
-/// One of two values by a condition; the three parts are gathered in `test`, `first` and `second`. The prover needs `e` and `at`: the
-/// parts are smaller than `e`.
+/// One of two values by a condition; the three parts are gathered in `test`, `first` and `second`. The prover needs `e`
+/// and `at`: the parts are smaller than `e`.
 #[cycle(lower_expr)]
 fn lower_conditional<A: Allocator + Copy>(
     names: &Names<'_, A>,
@@ -486,10 +483,8 @@ fn lower_conditional<A: Allocator + Copy>(
     requires first { first.old.items ≡ [] }
     requires second { second.old.items ≡ [] }
     requires parts { e.now ≡ tree.Conditional c.now left.now right.now at }
-    ensures code { OnOk result (code.new.items ≡ code.old.items ++ (conditional (program_in names.now) (scope_in scope.now) (expr_of c.now) (expr_of left.now) (expr_of right.now) from into free (lists_of lists.old)).code) }
-    ensures lists { OnOk result (lists_of lists.new ≡ (conditional (program_in names.now) (scope_in scope.now) (expr_of c.now) (expr_of left.now) (expr_of right.now) from into free (lists_of lists.old)).lists) }
-    ensures held { IfOk result (λ held. held ≡ (conditional (program_in names.now) (scope_in scope.now) (expr_of c.now) (expr_of left.now) (expr_of right.now) from into free (lists_of lists.old)).held) }
-    ensures fails { IfErr result (λ why. NeedsMore why ((conditional (program_in names.now) (scope_in scope.now) (expr_of c.now) (expr_of left.now) (expr_of right.now) from into free (lists_of lists.old)).lists).registers) }
+    ensures { AddsValue (conditional (program_in names.now) (scope_in scope.now) (expr_of c.now) (expr_of left.now)
+        (expr_of right.now) from into free (lists_of lists.old)) code.old code.new lists.new result }
 {
     let _whole = e;
     let _at = at;
@@ -513,12 +508,10 @@ fn lower_settled<A: Allocator + Copy>(
     into: usize,
     free: usize,
 ) -> Result<Held, Failure>
-    requires { code.old.items ≡ [] }
-    ensures code { OnOk result (code.new.items ≡ (settled into (emitted (program_in names.now) (scope_in scope.now) (expr_of e.now) from into free (lists_of lists.old))).code) }
-    ensures lists { OnOk result (lists_of lists.new ≡ (settled into (emitted (program_in names.now) (scope_in scope.now) (expr_of e.now) from into free (lists_of lists.old))).lists) }
-    ensures held { IfOk result (λ held. held ≡ (settled into (emitted (program_in names.now) (scope_in scope.now) (expr_of e.now) from into free (lists_of lists.old))).held) }
+    ensures code { AddsValue (settled into
+        (emitted (program_in names.now) (scope_in scope.now) (expr_of e.now) from into free (lists_of lists.old)))
+        code.old code.new lists.new result }
     ensures register { IfOk result (λ held. held.register ≡ into) }
-    ensures fails { IfErr result (λ why. NeedsMore why (settled into (emitted (program_in names.now) (scope_in scope.now) (expr_of e.now) from into free (lists_of lists.old))).lists.registers) }
 {
     let held = lower_expr(names, scope, lists, code, e, from, into, free)?;
     settle(lists, code, held, into)
@@ -536,10 +529,10 @@ fn lower_in_transaction<A: Allocator + Copy>(
     into: usize,
     free: usize,
 ) -> Result<Held, Failure>
-    ensures code { OnOk result (code.new.items ≡ code.old.items ++ (in_own_transaction (emitted (program_in names.now) (scope_in scope.now) (expr_of e.now) (from + 1) into free (lists_of lists.old))).code) }
-    ensures lists { OnOk result (lists_of lists.new ≡ (in_own_transaction (emitted (program_in names.now) (scope_in scope.now) (expr_of e.now) (from + 1) into free (lists_of lists.old))).lists) }
-    ensures held { IfOk result (λ held. held ≡ (in_own_transaction (emitted (program_in names.now) (scope_in scope.now) (expr_of e.now) (from + 1) into free (lists_of lists.old))).held) }
-    ensures fails { IfErr result (λ why. NeedsMore why (in_own_transaction (emitted (program_in names.now) (scope_in scope.now) (expr_of e.now) (from + 1) into free (lists_of lists.old))).lists.registers) }
+    ensures { AddsValue (in_own_transaction
+        (emitted (program_in names.now) (scope_in scope.now) (expr_of e.now) (from + 1) into free
+        (lists_of lists.old)))
+        code.old code.new lists.new result }
 {
     let next = after(from, 1)?;
     let mut operand = Vec::new(names.alloc);
@@ -558,10 +551,9 @@ fn lower_value<A: Allocator + Copy>(
     from: u32,
     free: usize,
 ) -> Result<Tested, Failure>
-    ensures code { OnOk result (drafts.new.items ≡ drafts.old.items ++ map draft.Whole (emitted (program_in names.now) (scope_in scope.now) (expr_of e.now) from free free (lists_of lists.old)).code) }
-    ensures lists { OnOk result (lists_of lists.new ≡ (emitted (program_in names.now) (scope_in scope.now) (expr_of e.now) from free free (lists_of lists.old)).lists) }
-    ensures tested { IfOk result (λ t. t ≡ tested_by (emitted (program_in names.now) (scope_in scope.now) (expr_of e.now) from free free (lists_of lists.old)).held) }
-    ensures fails { IfErr result (λ why. NeedsMore why ((emitted (program_in names.now) (scope_in scope.now) (expr_of e.now) from free free (lists_of lists.old)).lists).registers) }
+    ensures { AddsTest (tested None
+        (emitted (program_in names.now) (scope_in scope.now) (expr_of e.now) from free free (lists_of lists.old)))
+        drafts.old drafts.new lists.new result }
 {
     let mut code = Vec::new(names.alloc);
     let held = lower_expr(names, scope, lists, &mut code, e, from, free, free)?;
@@ -584,10 +576,9 @@ fn lower_opposite<A: Allocator + Copy>(
     from: u32,
     free: usize,
 ) -> Result<Tested, Failure>
-    ensures code { OnOk result (drafts.new.items ≡ drafts.old.items ++ map conditions.turned (condition (program_in names.now) (scope_in scope.now) (expr_of e.now) from free (lists_of lists.old)).code) }
-    ensures lists { OnOk result (lists_of lists.new ≡ (condition (program_in names.now) (scope_in scope.now) (expr_of e.now) from free (lists_of lists.old)).lists) }
-    ensures tested { IfOk result (λ t. t ≡ test_in (conditions.opposite (condition (program_in names.now) (scope_in scope.now) (expr_of e.now) from free (lists_of lists.old)))) }
-    ensures fails { IfErr result (λ why. NeedsMore why ((condition (program_in names.now) (scope_in scope.now) (expr_of e.now) from free (lists_of lists.old)).lists).registers) }
+    ensures { AddsTest (conditions.opposite
+        (condition (program_in names.now) (scope_in scope.now) (expr_of e.now) from free (lists_of lists.old)))
+        drafts.old drafts.new lists.new result }
 {
     let mut first = Vec::new(names.alloc);
     let t = lower_condition(names, scope, lists, &mut first, e, from, free)?;
@@ -607,10 +598,9 @@ fn lower_first<A: Allocator + Copy>(
     from: u32,
     free: usize,
 ) -> Result<u32, Failure>
-    ensures code { OnOk result (drafts.new.items ≡ drafts.old.items ++ conditions.first_of op (condition (program_in names.now) (scope_in scope.now) (expr_of e.now) from free (lists_of lists.old))) }
-    ensures lists { OnOk result (lists_of lists.new ≡ (condition (program_in names.now) (scope_in scope.now) (expr_of e.now) from free (lists_of lists.old)).lists) }
-    ensures place { IfOk result (λ p. p ≡ (condition (program_in names.now) (scope_in scope.now) (expr_of e.now) from free (lists_of lists.old)).to + 1) }
-    ensures fails { IfErr result (λ why. NeedsMore why ((condition (program_in names.now) (scope_in scope.now) (expr_of e.now) from free (lists_of lists.old)).lists).registers) }
+    ensures { AddsFirst op
+        (condition (program_in names.now) (scope_in scope.now) (expr_of e.now) from free (lists_of lists.old))
+        drafts.old drafts.new lists.new result }
 {
     let mut first = Vec::new(names.alloc);
     let t = lower_condition(names, scope, lists, &mut first, e, from, free)?;
@@ -628,10 +618,8 @@ pub fn lower_condition<A: Allocator + Copy>(
     from: u32,
     free: usize,
 ) -> Result<Tested, Failure>
-    ensures code { OnOk result (drafts.new.items ≡ drafts.old.items ++ (condition (program_in names.now) (scope_in scope.now) (expr_of e.now) from free (lists_of lists.old)).code) }
-    ensures lists { OnOk result (lists_of lists.new ≡ (condition (program_in names.now) (scope_in scope.now) (expr_of e.now) from free (lists_of lists.old)).lists) }
-    ensures tested { IfOk result (λ t. t ≡ test_in (condition (program_in names.now) (scope_in scope.now) (expr_of e.now) from free (lists_of lists.old))) }
-    ensures fails { IfErr result (λ why. NeedsMore why ((condition (program_in names.now) (scope_in scope.now) (expr_of e.now) from free (lists_of lists.old)).lists).registers) }
+    ensures { AddsTest (condition (program_in names.now) (scope_in scope.now) (expr_of e.now) from free
+        (lists_of lists.old)) drafts.old drafts.new lists.new result }
 {
     match e {
         Expr::Parenthesized(e, _) => {
@@ -674,11 +662,11 @@ pub fn lower_all<A: Allocator + Copy>(
     from: u32,
     free: usize,
 ) -> Result<u32, Failure>
-    ensures code { OnOk result (code.new.items ≡ code.old.items ++ (all_emitted (program_in names.now) (scope_in scope.now) (exprs_of all.now) from free (lists_of lists.old)).code) }
-    ensures lists { OnOk result (lists_of lists.new ≡ (all_emitted (program_in names.now) (scope_in scope.now) (exprs_of all.now) from free (lists_of lists.old)).lists) }
-    ensures registers { OnOk result (registers.new.items ≡ registers.old.items ++ (all_emitted (program_in names.now) (scope_in scope.now) (exprs_of all.now) from free (lists_of lists.old)).registers) }
-    ensures place { IfOk result (λ to. to ≡ (all_emitted (program_in names.now) (scope_in scope.now) (exprs_of all.now) from free (lists_of lists.old)).to) }
-    ensures fails { IfErr result (λ why. NeedsMore why ((all_emitted (program_in names.now) (scope_in scope.now) (exprs_of all.now) from free (lists_of lists.old)).lists).registers) }
+    ensures registers { OnOk result (registers.new.items ≡ registers.old.items
+        ++ (all_emitted (program_in names.now) (scope_in scope.now) (exprs_of all.now) from free
+        (lists_of lists.old)).registers) }
+    ensures code { AddsValues (all_emitted (program_in names.now) (scope_in scope.now) (exprs_of all.now) from free
+        (lists_of lists.old)) code.old code.new lists.new result }
 {
     let mut to = from;
     let mut later = free;

@@ -1,7 +1,7 @@
 //! Code generation for what a program computes: expressions, conditions, assignments and declarations.
 //!
-//! The code is that of `picked`: each function's contract names the definition there that it makes. `lower` makes the code of
-//! statements, functions and programs of it.
+//! The code is that of `picked`: each function's contract names the definition there that it adds. `lower` makes the
+//! code of statements, functions and programs of it.
 #![tactic(auto)]
 
 mod aim;

@@ -18,7 +18,8 @@ pub(crate) type Globals<'p, A> = Table<'p, Shared<'p, A>, A>;
 /// Each function that is defined.
 pub(crate) type Callees<'p, A> = Table<'p, Callee<'p, A>, A>;
 
-/// A program for which code is made, with the tables of its names, and with at most so many cells as an accepted one has.
+/// A program for which code is made, with the tables of its names, and with at most so many cells as an accepted one
+/// has.
 #[derive(Drop)]
 pub struct Names<'p, A: Allocator> {
     /// Where memory for code is taken.

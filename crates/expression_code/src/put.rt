@@ -1,14 +1,13 @@
 //! Single instructions: which one an operator is, and how one is put behind the others.
 
-ghost use Rattle.std.specs.Prelude.{◌≡◌, [], ◌∷◌, ◌++◌, ◌<◌, ◌≤◌, ◌+◌, max, suc, length, OnOk, IfOk, IfErr};
+ghost use Rattle.std.specs.Prelude.{◌≡◌, [], ◌∷◌, ◌++◌, ◌<◌, ◌≤◌, ◌+◌, OnOk, IfOk, IfErr};
 ghost use Rattle.syntax.specs.Numbers as numbers;
-ghost use Rattle.bytecode.specs.declared.instr.Instr.TheVariants as instr;
-ghost use Rattle.picked.specs.Lists.{used};
-ghost use Rattle.picked.specs.Conditions as conditions;
+ghost use Rattle.picked.specs.Lists.{Lists as Plain, used};
 ghost use Rattle.picked.specs.Expressions as expressions;
 ghost use Rattle.expression_code.specs.Limits.{NeedsMore};
-ghost use Rattle.expression_code.specs.declared.lists.Lists as declared_lists;
 ghost use Rattle.expression_code.specs.Lists.{lists_of};
+ghost use Rattle.expression_code.specs.Stretches.{Adds, AddsValue, of_value};
+ghost use Rattle.expression_code.specs.inner.Stretches.{in_place, standing, test_in_place};
 
 use crate::draft::put_test;
 use crate::fault::Failure;
@@ -89,10 +88,8 @@ pub(crate) fn put_constant<A: Allocator>(
     from: u32,
     into: usize,
 ) -> Result<Held, Failure>
-    ensures code { OnOk result (code.new.items ≡ code.old.items ++ (expressions.constant value of from into (lists_of lists.old)).code) }
-    ensures lists { OnOk result (lists_of lists.new ≡ (expressions.constant value of from into (lists_of lists.old)).lists) }
-    ensures held { IfOk result (λ held. held ≡ (expressions.constant value of from into (lists_of lists.old)).held) }
-    ensures fails { IfErr result (λ why. NeedsMore why (expressions.constant value of from into (lists_of lists.old)).lists.registers) }
+    ensures { AddsValue (expressions.constant value of from into (lists_of lists.old))
+        code.old code.new lists.new result }
 {
     let register = take(lists, into)?;
     put(code, Instr::Constant(register, value))?;
@@ -107,11 +104,9 @@ pub(crate) fn settle<A: Allocator>(
     held: Held,
     r: usize,
 ) -> Result<Held, Failure>
-    ensures code { OnOk result (code.new.items ≡ (expressions.settled r (record { code = code.old.items; lists = lists_of lists.old; held = held })).code) }
-    ensures lists { OnOk result (lists_of lists.new ≡ (expressions.settled r (record { code = code.old.items; lists = lists_of lists.old; held = held })).lists) }
-    ensures held { IfOk result (λ now. now ≡ (expressions.settled r (record { code = code.old.items; lists = lists_of lists.old; held = held })).held) }
+    ensures code { AddsValue (expressions.settled r (in_place held (lists_of lists.old)))
+        code.old code.new lists.new result }
     ensures register { IfOk result (λ now. now.register ≡ r) }
-    ensures fails { IfErr result (λ why. NeedsMore why (expressions.settled r (record { code = code.old.items; lists = lists_of lists.old; held = held })).lists.registers) }
 {
     if held.register as usize == r {
         return Ok(held);
@@ -224,10 +219,8 @@ pub(crate) fn put_both<A: Allocator>(
     b: Held,
     into: usize,
 ) -> Result<Held, Failure>
-    ensures code { OnOk result (code.new.items ≡ code.old.items ++ expressions.computing op (numbers.operand_type op a.of b.of) into a.register b.register ∷ []) }
-    ensures lists { OnOk result (lists_of lists.new ≡ used into (lists_of lists.old)) }
-    ensures held { IfOk result (λ held. held ≡ record { register = into; of = numbers.result_type op (numbers.operand_type op a.of b.of); to = b.to + 1 }) }
-    ensures fails { IfErr result (λ why. NeedsMore why (used into (lists_of lists.old)).registers) }
+    ensures { AddsValue (expressions.both op (in_place a (lists_of lists.old)) (in_place b (lists_of lists.old)) into)
+        code.old code.new lists.new result }
 {
     let register = take(lists, into)?;
     let of = operand_type(op, a.of, b.of);
@@ -256,10 +249,8 @@ pub(crate) fn put_negated<A: Allocator>(
     a: Held,
     into: usize,
 ) -> Result<Held, Failure>
-    ensures code { OnOk result (code.new.items ≡ code.old.items ++ expressions.negating a.of into a.register ∷ []) }
-    ensures lists { OnOk result (lists_of lists.new ≡ used into (lists_of lists.old)) }
-    ensures held { IfOk result (λ held. held ≡ record { register = into; of = a.of; to = a.to + 1 }) }
-    ensures fails { IfErr result (λ why. NeedsMore why (used into (lists_of lists.old)).registers) }
+    ensures { AddsValue (expressions.negated (in_place a (lists_of lists.old)) into)
+        code.old code.new lists.new result }
 {
     let register = take(lists, into)?;
     put(code, negating(a.of, register, a.register))?;
@@ -278,10 +269,8 @@ pub(crate) fn put_complemented<A: Allocator>(
     a: Held,
     into: usize,
 ) -> Result<Held, Failure>
-    ensures code { OnOk result (code.new.items ≡ code.old.items ++ instr.Complement into a.register ∷ []) }
-    ensures lists { OnOk result (lists_of lists.new ≡ used into (lists_of lists.old)) }
-    ensures held { IfOk result (λ held. held ≡ record { register = into; of = a.of; to = a.to + 1 }) }
-    ensures fails { IfErr result (λ why. NeedsMore why (used into (lists_of lists.old)).registers) }
+    ensures { AddsValue (expressions.complemented (in_place a (lists_of lists.old)) into)
+        code.old code.new lists.new result }
 {
     let register = take(lists, into)?;
     put(code, Instr::Complement(register, a.register))?;
@@ -301,10 +290,8 @@ pub(crate) fn put_compared<A: Allocator>(
     into: usize,
     free: usize,
 ) -> Result<Held, Failure>
-    ensures code { OnOk result (code.new.items ≡ code.old.items ++ instr.Constant (expressions.above free a.register) 0 ∷ instr.Equal into a.register (expressions.above free a.register) ∷ []) }
-    ensures lists { OnOk result (lists_of lists.new ≡ used into (used (expressions.above free a.register) (lists_of lists.old))) }
-    ensures held { IfOk result (λ held. held ≡ record { register = into; of = Scalar.Int; to = a.to + 2 }) }
-    ensures fails { IfErr result (λ why. NeedsMore why (used into (used (expressions.above free a.register) (lists_of lists.old))).registers) }
+    ensures { AddsValue (expressions.compared (in_place a (lists_of lists.old)) into free)
+        code.old code.new lists.new result }
 {
     let zero_in = take(lists, above(free, a.register))?;
     put(code, Instr::Constant(zero_in, 0))?;
@@ -326,10 +313,8 @@ pub(crate) fn put_answers<A: Allocator>(
     t: Tested,
     into: usize,
 ) -> Result<Held, Failure>
-    ensures code { OnOk result (code.new.items ≡ code.old.items ++ (conditions.going_on test.now t (t.to + 3) ++ instr.Constant into 1 ∷ instr.Jump (t.to + 4) ∷ instr.Constant into 0 ∷ [])) }
-    ensures lists { OnOk result (lists_of lists.new ≡ used into (lists_of lists.old)) }
-    ensures held { IfOk result (λ held. held ≡ record { register = into; of = Scalar.Int; to = t.to + 4 }) }
-    ensures fails { IfErr result (λ why. NeedsMore why (used into (lists_of lists.old)).registers) }
+    ensures { AddsValue (expressions.answered (test_in_place test.now t (lists_of lists.old)) into)
+        code.old code.new lists.new result }
 {
     let unmet = after(t.to, 3)?;
     let to = after(t.to, 4)?;
@@ -355,9 +340,9 @@ pub(crate) fn put_chosen<A: Allocator>(
     second: &mut Vec<Instr, A>,
     b: Held,
 ) -> Result<Held, Failure>
-    ensures code { OnOk result (code.new.items ≡ code.old.items ++ (conditions.going_on test.now t (a.to + 1) ++ first.old.items ++ instr.Jump b.to ∷ second.old.items)) }
-    ensures held { IfOk result (λ held. held ≡ record { register = b.register; of = numbers.common a.of b.of; to = b.to }) }
-    ensures fails { IfErr result (λ why. NeedsMore why 0) }
+    ensures { (l : Plain) → Adds (of_value (expressions.chosen (test_in_place test.now t l)
+        (standing first.old.items a l) (standing second.old.items b l) b.register)) code.old.items code.new.items l
+        result }
 {
     let other = after(a.to, 1)?;
     put_test(code, test, t, other)?;
@@ -377,9 +362,8 @@ pub(crate) fn put_in_transaction<A: Allocator>(
     operand: &mut Vec<Instr, A>,
     held: Held,
 ) -> Result<Held, Failure>
-    ensures code { OnOk result (code.new.items ≡ code.old.items ++ instr.Begin (held.to + 1) ∷ operand.old.items ++ instr.Commit ∷ []) }
-    ensures held { IfOk result (λ now. now ≡ record { register = held.register; of = held.of; to = held.to + 1 }) }
-    ensures fails { IfErr result (λ why. NeedsMore why 0) }
+    ensures { (l : Plain) → Adds (of_value (expressions.in_own_transaction (standing operand.old.items held l)))
+        code.old.items code.new.items l result }
 {
     let to = after(held.to, 1)?;
     put(code, Instr::Begin(to))?;

@@ -1,19 +1,20 @@
 //! The instructions of assignments and declarations.
 
-ghost use Rattle.std.specs.Prelude.{◌≡◌, ◌++◌, ◌∷◌, [], ◌+◌, ◌≤◌, map, option_map, length, OnOk, IfOk, IfErr};
+ghost use Rattle.std.specs.Prelude.{◌≡◌, ◌≤◌, List, map, option_map, OnOk};
 ghost use Rattle.syntax.specs.Names as Source;
 ghost use Rattle.syntax.specs.Views.{expr_of, simple_of, declarator_of, start_of};
 ghost use Rattle.syntax.specs.Meaning.{op_of};
-ghost use Rattle.bytecode.specs.declared.instr.Instr.TheVariants as instr;
+ghost use Rattle.bytecode.specs.declared.instr.Instr.{Instr};
 ghost use Rattle.lowered.specs.Statements.{with_local, with_declared, locals_of_start};
-ghost use Rattle.picked.specs.declared.held.Target.TheVariants as target;
 ghost use Rattle.picked.specs.Lists.{Lists as Plain};
 ghost use Rattle.picked.specs.Simples as simples;
-ghost use Rattle.picked.specs.Simples.{emitted_one, aimed, variable_target, fetched, stored, assigned, adjusted, simple_written, first_written, declarator_written, declared_written, start_written};
-ghost use Rattle.expression_code.specs.Limits.{NeedsMore};
+ghost use Rattle.picked.specs.Simples.{emitted_one, aimed, variable_target, element_target, fetched, stored};
+ghost use Rattle.picked.specs.Simples.{assigned, adjusted, simple_written, first_written};
+ghost use Rattle.picked.specs.Simples.{declarator_written, declared_written, start_written};
 ghost use Rattle.expression_code.specs.Lists.{lists_of};
+ghost use Rattle.expression_code.specs.Stretches.{Adds, AddsValue, Writes, of_written};
+ghost use Rattle.expression_code.specs.inner.Stretches.{in_place, of_aim, Aims};
 ghost use Rattle.expression_code.specs.inner.Tables.{shared_in};
-ghost use Rattle.expression_code.specs.inner.Aims.{aim_in};
 ghost use Rattle.expression_code.specs.Views.{program_in, scope_in};
 
 use crate::aim::Aim;
@@ -28,7 +29,7 @@ use crate::scope::Scope;
 use bytecode::Instr;
 use lex::token::Scalar;
 use picked::held::{Held, Target};
-use std::alloc::{AllocError, Allocator};
+use std::alloc::Allocator;
 use syntax::tree::{BinaryOp, Declarator, Expr, IncDec, Simple, Start};
 
 fn aim_at(target: Target, to: u32) -> Aim
@@ -45,9 +46,9 @@ fn aim_variable<A: Allocator + Copy>(
     x: &str,
     from: u32,
 ) -> Result<Aim, Failure>
-    ensures lists { OnOk result (lists_of lists.new ≡ (variable_target (Source.newest (scope_in scope.now) x.now) (Source.global_of (program_in names.now) x.now) from (lists_of lists.old)).lists) }
-    ensures aim { IfOk result (λ a. a ≡ aim_in (variable_target (Source.newest (scope_in scope.now) x.now) (Source.global_of (program_in names.now) x.now) from (lists_of lists.old))) }
-    ensures fails { IfErr result (λ why. NeedsMore why ((variable_target (Source.newest (scope_in scope.now) x.now) (Source.global_of (program_in names.now) x.now) from (lists_of lists.old)).lists).registers) }
+    ensures { (code : List Instr) → Adds (of_aim (variable_target (Source.newest (scope_in scope.now) x.now)
+        (Source.global_of (program_in names.now) x.now) from (lists_of lists.old)))
+        code code (lists_of lists.new) result }
 {
     match scope.newest(x) {
         Some((i, of)) => {
@@ -67,10 +68,10 @@ fn put_check<A: Allocator + Copy>(
     check: bool,
     g: Shared<'_, A>,
     index: Held,
-) -> Result<Aim, AllocError>
+) -> Result<Aim, Failure>
     requires { g.cell ≤ 4096 }
-    ensures code { OnOk result (code.new.items ≡ code.old.items ++ simples.checked_by check index.register (Source.cells (shared_in g.entry).global)) }
-    ensures aim { IfOk result (λ a. a ≡ record { target = target.Element index.register g.entry.cell (Source.cells (shared_in g.entry).global) g.entry.global.now.of; to = index.to + simples.checks check }) }
+    ensures { (l : Plain) → Adds (of_aim (element_target check (Some (shared_in g.entry)) (in_place index l) index.to
+        l)) code.old.items code.new.items l result }
 {
     let length = cells_of(g.global);
     let target = Target::Element(index.register, g.cell as u32, length, g.global.of);
@@ -93,17 +94,15 @@ fn aim<A: Allocator + Copy>(
     from: u32,
     free: usize,
 ) -> Result<Aim, Failure>
-    ensures code { OnOk result (code.new.items ≡ code.old.items ++ (aimed (program_in names.now) (scope_in scope.now) check (expr_of e.now) from free (lists_of lists.old)).code) }
-    ensures lists { OnOk result (lists_of lists.new ≡ (aimed (program_in names.now) (scope_in scope.now) check (expr_of e.now) from free (lists_of lists.old)).lists) }
-    ensures aim { IfOk result (λ a. a ≡ aim_in (aimed (program_in names.now) (scope_in scope.now) check (expr_of e.now) from free (lists_of lists.old))) }
-    ensures fails { IfErr result (λ why. NeedsMore why ((aimed (program_in names.now) (scope_in scope.now) check (expr_of e.now) from free (lists_of lists.old)).lists).registers) }
+    ensures { Aims (aimed (program_in names.now) (scope_in scope.now) check (expr_of e.now) from free
+        (lists_of lists.old)) code.old code.new lists.new result }
 {
     match e {
         Expr::Variable(x) => aim_variable(names, scope, lists, x.text.as_str(), from),
         Expr::Element(x, index, _) => match global(names, x.text.as_str()) {
             Some(g) => {
                 let i = lower_expr(names, scope, lists, code, index.get(), from, free, free)?;
-                Ok(put_check(code, check, g, i)?)
+                put_check(code, check, g, i)
             }
             None => Ok(aim_at(Target::Nowhere, from)),
         },
@@ -139,10 +138,7 @@ fn fetch<A: Allocator>(
     from: u32,
     free: usize,
 ) -> Result<Held, Failure>
-    ensures code { OnOk result (code.new.items ≡ code.old.items ++ (fetched target from free (lists_of lists.old)).code) }
-    ensures lists { OnOk result (lists_of lists.new ≡ (fetched target from free (lists_of lists.old)).lists) }
-    ensures held { IfOk result (λ h. h ≡ (fetched target from free (lists_of lists.old)).held) }
-    ensures fails { IfErr result (λ why. NeedsMore why ((fetched target from free (lists_of lists.old)).lists).registers) }
+    ensures { AddsValue (fetched target from free (lists_of lists.old)) code.old code.new lists.new result }
 {
     match target {
         Target::Local(i, of) => {
@@ -175,9 +171,8 @@ fn store<A: Allocator>(
     target: Target,
     a: u16,
     from: u32,
-) -> Result<u32, AllocError>
-    ensures code { OnOk result ((l : Plain) → code.new.items ≡ code.old.items ++ (stored target a from l).code) }
-    ensures place { IfOk result (λ to. (l : Plain) → to ≡ (stored target a from l).to) }
+) -> Result<u32, Failure>
+    ensures { (l : Plain) → Adds (of_written (stored target a from l)) code.old.items code.new.items l result }
 {
     let instr = match target {
         Target::Local(i, _) => {
@@ -191,7 +186,7 @@ fn store<A: Allocator>(
         Target::Nowhere => return Ok(from),
     };
     put(code, instr)?;
-    after(from, 1)
+    Ok(after(from, 1)?)
 }
 
 /// `to = value`
@@ -205,16 +200,14 @@ fn lower_assign<A: Allocator + Copy>(
     from: u32,
     free: usize,
 ) -> Result<u32, Failure>
-    ensures code { OnOk result (code.new.items ≡ code.old.items ++ (assigned (program_in names.now) (scope_in scope.now) (expr_of to.now) (expr_of value.now) from free (lists_of lists.old)).code) }
-    ensures lists { OnOk result (lists_of lists.new ≡ (assigned (program_in names.now) (scope_in scope.now) (expr_of to.now) (expr_of value.now) from free (lists_of lists.old)).lists) }
-    ensures place { IfOk result (λ p. p ≡ (assigned (program_in names.now) (scope_in scope.now) (expr_of to.now) (expr_of value.now) from free (lists_of lists.old)).to) }
-    ensures fails { IfErr result (λ why. NeedsMore why ((assigned (program_in names.now) (scope_in scope.now) (expr_of to.now) (expr_of value.now) from free (lists_of lists.old)).lists).registers) }
+    ensures { Writes (assigned (program_in names.now) (scope_in scope.now) (expr_of to.now) (expr_of value.now) from
+        free (lists_of lists.old)) code.old code.new lists.new result }
 {
     let aim = aim(names, scope, lists, code, true, to, from, free)?;
     let later = above_target(aim.target, free);
     let home = home_or(aim.target, later);
     let held = lower_expr(names, scope, lists, code, value, aim.to, home, later)?;
-    Ok(store(code, aim.target, held.register, held.to)?)
+    store(code, aim.target, held.register, held.to)
 }
 
 /// `to op= value`
@@ -229,10 +222,8 @@ fn lower_change<A: Allocator + Copy>(
     from: u32,
     free: usize,
 ) -> Result<u32, Failure>
-    ensures code { OnOk result (code.new.items ≡ code.old.items ++ (adjusted (program_in names.now) (scope_in scope.now) op (expr_of to.now) (Some (expr_of value.now)) from free (lists_of lists.old)).code) }
-    ensures lists { OnOk result (lists_of lists.new ≡ (adjusted (program_in names.now) (scope_in scope.now) op (expr_of to.now) (Some (expr_of value.now)) from free (lists_of lists.old)).lists) }
-    ensures place { IfOk result (λ p. p ≡ (adjusted (program_in names.now) (scope_in scope.now) op (expr_of to.now) (Some (expr_of value.now)) from free (lists_of lists.old)).to) }
-    ensures fails { IfErr result (λ why. NeedsMore why ((adjusted (program_in names.now) (scope_in scope.now) op (expr_of to.now) (Some (expr_of value.now)) from free (lists_of lists.old)).lists).registers) }
+    ensures { Writes (adjusted (program_in names.now) (scope_in scope.now) op (expr_of to.now)
+        (Some (expr_of value.now)) from free (lists_of lists.old)) code.old code.new lists.new result }
 {
     let aim = aim(names, scope, lists, code, false, to, from, free)?;
     let later = above_target(aim.target, free);
@@ -240,7 +231,7 @@ fn lower_change<A: Allocator + Copy>(
     let behind = above(later, old.register);
     let other = lower_operand(names, scope, lists, code, value, old.to, behind)?;
     let held = put_both(lists, code, op, old, other, home_or(aim.target, later))?;
-    Ok(store(code, aim.target, held.register, held.to)?)
+    store(code, aim.target, held.register, held.to)
 }
 
 /// The 1 that is added or subtracted.
@@ -250,10 +241,7 @@ fn lower_one<A: Allocator>(
     from: u32,
     free: usize,
 ) -> Result<Held, Failure>
-    ensures code { OnOk result (code.new.items ≡ code.old.items ++ (emitted_one from free (lists_of lists.old)).code) }
-    ensures lists { OnOk result (lists_of lists.new ≡ (emitted_one from free (lists_of lists.old)).lists) }
-    ensures held { IfOk result (λ held. held ≡ (emitted_one from free (lists_of lists.old)).held) }
-    ensures fails { IfErr result (λ why. NeedsMore why (emitted_one from free (lists_of lists.old)).lists.registers) }
+    ensures { AddsValue (emitted_one from free (lists_of lists.old)) code.old code.new lists.new result }
 {
     match ready(lists, 1, Scalar::Int, from) {
         Some(held) => Ok(held),
@@ -272,10 +260,8 @@ fn lower_adjust<A: Allocator + Copy>(
     from: u32,
     free: usize,
 ) -> Result<u32, Failure>
-    ensures code { OnOk result (code.new.items ≡ code.old.items ++ (adjusted (program_in names.now) (scope_in scope.now) op (expr_of to.now) None from free (lists_of lists.old)).code) }
-    ensures lists { OnOk result (lists_of lists.new ≡ (adjusted (program_in names.now) (scope_in scope.now) op (expr_of to.now) None from free (lists_of lists.old)).lists) }
-    ensures place { IfOk result (λ p. p ≡ (adjusted (program_in names.now) (scope_in scope.now) op (expr_of to.now) None from free (lists_of lists.old)).to) }
-    ensures fails { IfErr result (λ why. NeedsMore why ((adjusted (program_in names.now) (scope_in scope.now) op (expr_of to.now) None from free (lists_of lists.old)).lists).registers) }
+    ensures { Writes (adjusted (program_in names.now) (scope_in scope.now) op (expr_of to.now) None from free
+        (lists_of lists.old)) code.old code.new lists.new result }
 {
     let aim = aim(names, scope, lists, code, false, to, from, free)?;
     let later = above_target(aim.target, free);
@@ -283,7 +269,7 @@ fn lower_adjust<A: Allocator + Copy>(
     let behind = above(later, old.register);
     let other = lower_one(lists, code, old.to, behind)?;
     let held = put_both(lists, code, op, old, other, home_or(aim.target, later))?;
-    Ok(store(code, aim.target, held.register, held.to)?)
+    store(code, aim.target, held.register, held.to)
 }
 
 fn op_of(by: IncDec) -> BinaryOp
@@ -305,10 +291,8 @@ pub fn lower_simple<A: Allocator + Copy>(
     from: u32,
     free: usize,
 ) -> Result<u32, Failure>
-    ensures code { OnOk result (code.new.items ≡ code.old.items ++ (simple_written (program_in names.now) (scope_in scope.now) (simple_of s.now) from free (lists_of lists.old)).code) }
-    ensures lists { OnOk result (lists_of lists.new ≡ (simple_written (program_in names.now) (scope_in scope.now) (simple_of s.now) from free (lists_of lists.old)).lists) }
-    ensures place { IfOk result (λ p. p ≡ (simple_written (program_in names.now) (scope_in scope.now) (simple_of s.now) from free (lists_of lists.old)).to) }
-    ensures fails { IfErr result (λ why. NeedsMore why ((simple_written (program_in names.now) (scope_in scope.now) (simple_of s.now) from free (lists_of lists.old)).lists).registers) }
+    ensures { Writes (simple_written (program_in names.now) (scope_in scope.now) (simple_of s.now) from free
+        (lists_of lists.old)) code.old code.new lists.new result }
 {
     match s {
         Simple::Evaluate(e) => {
@@ -336,16 +320,14 @@ fn lower_first<A: Allocator + Copy>(
     first: &Option<Expr<A>>,
     from: u32,
 ) -> Result<u32, Failure>
-    ensures code { OnOk result (code.new.items ≡ code.old.items ++ (first_written (program_in names.now) (scope_in scope.now) register of (option_map expr_of first.now) from (lists_of lists.old)).code) }
-    ensures lists { OnOk result (lists_of lists.new ≡ (first_written (program_in names.now) (scope_in scope.now) register of (option_map expr_of first.now) from (lists_of lists.old)).lists) }
-    ensures place { IfOk result (λ p. p ≡ (first_written (program_in names.now) (scope_in scope.now) register of (option_map expr_of first.now) from (lists_of lists.old)).to) }
-    ensures fails { IfErr result (λ why. NeedsMore why ((first_written (program_in names.now) (scope_in scope.now) register of (option_map expr_of first.now) from (lists_of lists.old)).lists).registers) }
+    ensures { Writes (first_written (program_in names.now) (scope_in scope.now) register of
+        (option_map expr_of first.now) from (lists_of lists.old)) code.old code.new lists.new result }
 {
     match first {
         Some(e) => {
             let i = register as usize;
             let held = lower_expr(names, scope, lists, code, e, from, i, i + 1)?;
-            Ok(store(code, Target::Local(register, of), held.register, held.to)?)
+            store(code, Target::Local(register, of), held.register, held.to)
         }
         None => Ok(from),
     }
@@ -362,10 +344,8 @@ fn lower_declarator<'p, A: Allocator + Copy>(
     from: u32,
 ) -> Result<u32, Failure>
     ensures scope { OnOk result (scope_in scope.new ≡ with_local (scope_in scope.old) d.now.name.text of) }
-    ensures code { OnOk result (code.new.items ≡ code.old.items ++ (declarator_written (program_in names.now) of (declarator_of d.now) (scope_in scope.old) from (lists_of lists.old)).code) }
-    ensures lists { OnOk result (lists_of lists.new ≡ (declarator_written (program_in names.now) of (declarator_of d.now) (scope_in scope.old) from (lists_of lists.old)).lists) }
-    ensures place { IfOk result (λ p. p ≡ (declarator_written (program_in names.now) of (declarator_of d.now) (scope_in scope.old) from (lists_of lists.old)).to) }
-    ensures fails { IfErr result (λ why. NeedsMore why ((declarator_written (program_in names.now) of (declarator_of d.now) (scope_in scope.old) from (lists_of lists.old)).lists).registers) }
+    ensures code { Writes (declarator_written (program_in names.now) of (declarator_of d.now) (scope_in scope.old) from
+        (lists_of lists.old)) code.old code.new lists.new result }
 {
     let register = take(lists, scope.len())?;
     put(code, Instr::Constant(register, 0))?;
@@ -384,11 +364,10 @@ pub fn lower_declarators<'p, A: Allocator + Copy>(
     all: &'p [Declarator<A>],
     from: u32,
 ) -> Result<u32, Failure>
-    ensures scope { OnOk result (scope_in scope.new ≡ with_declared of (map declarator_of all.now) (scope_in scope.old)) }
-    ensures code { OnOk result (code.new.items ≡ code.old.items ++ (declared_written (program_in names.now) of (map declarator_of all.now) (scope_in scope.old) from (lists_of lists.old)).code) }
-    ensures lists { OnOk result (lists_of lists.new ≡ (declared_written (program_in names.now) of (map declarator_of all.now) (scope_in scope.old) from (lists_of lists.old)).lists) }
-    ensures place { IfOk result (λ p. p ≡ (declared_written (program_in names.now) of (map declarator_of all.now) (scope_in scope.old) from (lists_of lists.old)).to) }
-    ensures fails { IfErr result (λ why. NeedsMore why ((declared_written (program_in names.now) of (map declarator_of all.now) (scope_in scope.old) from (lists_of lists.old)).lists).registers) }
+    ensures scope { OnOk result (scope_in scope.new ≡ with_declared of (map declarator_of all.now)
+        (scope_in scope.old)) }
+    ensures code { Writes (declared_written (program_in names.now) of (map declarator_of all.now) (scope_in scope.old)
+        from (lists_of lists.old)) code.old code.new lists.new result }
 {
     let mut to = from;
     'each: for one in all {
@@ -407,10 +386,8 @@ pub fn lower_start<'p, A: Allocator + Copy>(
     from: u32,
 ) -> Result<u32, Failure>
     ensures scope { OnOk result (scope_in scope.new ≡ locals_of_start (start_of start.now) (scope_in scope.old)) }
-    ensures code { OnOk result (code.new.items ≡ code.old.items ++ (start_written (program_in names.now) (start_of start.now) (scope_in scope.old) from (lists_of lists.old)).code) }
-    ensures lists { OnOk result (lists_of lists.new ≡ (start_written (program_in names.now) (start_of start.now) (scope_in scope.old) from (lists_of lists.old)).lists) }
-    ensures place { IfOk result (λ p. p ≡ (start_written (program_in names.now) (start_of start.now) (scope_in scope.old) from (lists_of lists.old)).to) }
-    ensures fails { IfErr result (λ why. NeedsMore why ((start_written (program_in names.now) (start_of start.now) (scope_in scope.old) from (lists_of lists.old)).lists).registers) }
+    ensures code { Writes (start_written (program_in names.now) (start_of start.now) (scope_in scope.old) from
+        (lists_of lists.old)) code.old code.new lists.new result }
 {
     match start {
         Start::Nothing => Ok(from),

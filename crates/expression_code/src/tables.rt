@@ -1,13 +1,15 @@
 //! The tables of a program's names, which are made once.
 
-ghost use Rattle.std.specs.Prelude.{◌≡◌, ◌+◌, ◌≤◌, ◌++◌, List, ℕ, Option, Some, map, if◌then◌else◌, bytes_eq, IfOk, OnOk};
+ghost use Rattle.std.specs.Prelude.{◌≡◌, ◌+◌, ◌≤◌, ◌++◌, List, ℕ, Option, Some, map, if◌then◌else◌, bytes_eq};
+ghost use Rattle.std.specs.Prelude.{IfOk, OnOk};
 ghost use Rattle.std.specs.Option.{option_or};
 ghost use Rattle.syntax.specs.Tree as tree;
 ghost use Rattle.syntax.specs.Names as Source;
 ghost use Rattle.syntax.specs.Names.{GlobalCells, globals};
 ghost use Rattle.syntax.specs.Views.{global_of, function_of, item_of};
 ghost use Rattle.picked.specs.Names as Named;
-ghost use Rattle.expression_code.specs.inner.Tables.{total_cells, shared_at, callee_in, called_at, AreGlobals, AreCallees};
+ghost use Rattle.expression_code.specs.inner.Tables.{total_cells, shared_at, callee_in, called_at};
+ghost use Rattle.expression_code.specs.inner.Tables.{AreGlobals, AreCallees};
 
 use crate::names::{Callee, Shared, cells_of};
 use crate::program::{Callees, Globals, Names};
@@ -23,7 +25,9 @@ fn add_global<'p, A: Allocator + Copy>(
     cell: usize,
     g: &'p Global<A>,
 ) -> Result<(), AllocError>
-    ensures { OnOk result ((x : List ℕ) (rest : Option GlobalCells) → option_or (shared_at table.new x) rest ≡ option_or (shared_at table.old x) (if bytes_eq g.now.name.text x then Some (record { global = global_of g.now; cell = cell }) else rest)) }
+    ensures { OnOk result ((x : List ℕ) (rest : Option GlobalCells) → option_or (shared_at table.new x) rest
+        ≡ option_or (shared_at table.old x)
+        (if bytes_eq g.now.name.text x then Some (record { global = global_of g.now; cell = cell }) else rest)) }
 {
     table.declare(g.name.text.as_str(), Shared { cell, global: g })?;
     Ok(())
@@ -36,7 +40,9 @@ fn add_globals<'p, A: Allocator + Copy>(
     gs: &'p [Global<A>],
 ) -> Result<usize, AllocError>
     requires { first + total_cells (map global_of gs.now) ≤ 4096 }
-    ensures value { IfOk result (λ next. (x : List ℕ) (rest : List tree.Global) → option_or (shared_at table.new x) (Source.global_from next rest x) ≡ option_or (shared_at table.old x) (Source.global_from first (map global_of gs.now ++ rest) x)) }
+    ensures value { IfOk result (λ next. (x : List ℕ) (rest : List tree.Global) →
+        option_or (shared_at table.new x) (Source.global_from next rest x)
+        ≡ option_or (shared_at table.old x) (Source.global_from first (map global_of gs.now ++ rest) x)) }
     ensures next { IfOk result (λ next. next ≡ first + total_cells (map global_of gs.now)) }
 {
     let mut cell = first;
@@ -88,7 +94,9 @@ fn add_callee<'p, A: Allocator + Copy>(
     number: usize,
     f: &'p Function<A>,
 ) -> Result<(), AllocError>
-    ensures { OnOk result ((x : List ℕ) (rest : Option Named.Callee) → option_or (called_at table.new x) rest ≡ option_or (called_at table.old x) (if bytes_eq f.now.name.text x then Some (Named.callee_at number (function_of f.now)) else rest)) }
+    ensures { OnOk result ((x : List ℕ) (rest : Option Named.Callee) → option_or (called_at table.new x) rest
+        ≡ option_or (called_at table.old x)
+        (if bytes_eq f.now.name.text x then Some (Named.callee_at number (function_of f.now)) else rest)) }
 {
     table.declare(f.name.text.as_str(), callee_at(number, f))?;
     Ok(())

@@ -1,5 +1,5 @@
 -- A body as it stands, or one that finds constants ready.
-use Rattle.std.proofs.Common.{◌≡◌, ℕ, ◌+◌, ◌≤◌, List, [], ◌∷◌, ◌++◌, length, take, drop, Bool, true, false, not, ◌&&◌, nat_le, if◌then◌else◌, ◌==◌, Result, Ok, Err, IfErr, refl, sym, ap, ◌∙◌, arith}
+use Rattle.std.proofs.Common.{◌≡◌, ℕ, ◌+◌, ◌≤◌, List, [], ◌∷◌, ◌++◌, length, take, drop, Bool, true, false, not, ◌&&◌, nat_le, if◌then◌else◌, ◌==◌, Result, Ok, Err, OnOk, IfErr, subst, refl, sym, ap, ◌∙◌, arith}
 use Rattle.std.proofs.Math.Seq.{take-append_seam, drop-append_seam}
 use Rattle.std.proofs.Math.Dec.{eqb-suc-zero}
 use Rattle.std.proofs.lemmas.List.{length-append}
@@ -17,11 +17,14 @@ use Rattle.picked.proofs.Longer.{stmts_longer}
 use Rattle.picked.proofs.stands.Standing.{Grows, IsFront}
 use Rattle.expression_code.specs.declared.fault.Failure.{Failure}
 use Rattle.expression_code.specs.Limits.{NeedsMore}
-use Rattle.expression_code.proofs.Needing.{needs_more}
+use Rattle.expression_code.specs.Stretches.{Adds, of_written}
+use Rattle.expression_code.proofs.Adding.{same, needs_more}
 
-pub still_fails : {X : Type 0} (r : Result X Failure) (m n : ℕ) → m ≤ n → IfErr r (λ why. NeedsMore why m) → IfErr r (λ why. NeedsMore why n)
-still_fails (Ok x) m n h k = tt
-still_fails (Err e) m n h k = needs_more e m n h k
+-- a body that is made once more, in place of the one that is cut off
+pub made_once_more : {old cut new : List Instr} {a b : Written} {l : Lists} {r : Result ℕ Failure} {n : ℕ} →
+    cut ≡ old → a ≡ b → OnOk r (Adds (of_written a) cut new l r) → IfErr r (λ why. NeedsMore why n) → n ≤ b.lists.registers → Adds (of_written b) old new l r
+made_once_more {new = new} {b = b} {l = l} {r = Ok to} ec e k f more = subst (λ (is : List Instr). Adds (of_written b) is new l (Ok to)) ec (same (ap of_written e) k)
+made_once_more {b = b} {r = Err why} {n = n} ec e k f more = record { code = tt; lists = tt; end = tt; fails = needs_more why n b.lists.registers more f }
 
 -- what others lie in front of
 front_taken : {A : Type 0} (xs ys : List A) → IsFront xs ys → take (length xs) ys ≡ xs

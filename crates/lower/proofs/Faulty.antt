@@ -2,8 +2,8 @@
 use Rattle.std.proofs.Common.{◌≡◌, ℕ, ◌<◌, ◌≤◌, List, [], ◌∷◌, ◌++◌, length, map, drop, take, get_or, ◌+◌, refl, sym, ap, ◌∙◌, subst, append-nil, arith, Some, None, Result, Ok, Err, IfErr, IsErr, IsErrAnd}
 use Rattle.std.specs.Prelude.{Contains}
 use Rattle.std.proofs.Math.ListN.{get_or-map}
-use Rattle.std.proofs.lemmas.List.{length-map, map-append, take-append-drop}
-use Rattle.std.proofs.lemmas.List.Elements.{Contains-get_or, Contains-append_right}
+use Rattle.std.proofs.lemmas.List.{length-map, length-append, map-append, take-append-drop}
+use Rattle.std.proofs.lemmas.List.Elements.{Contains-get_or, Contains-append_left, Contains-append_right}
 use Rattle.syntax.specs.declared.tree.Item.{Item as OwnItem}
 use Rattle.syntax.specs.declared.tree.Item.TheVariants as own
 use Rattle.syntax.specs.declared.tree.Function.{Function as OwnFunction}
@@ -23,9 +23,9 @@ use Rattle.lower.specs.declared.fault.LowerFault.TheVariants.{OutOfMemory, TooMa
 use Rattle.lower.specs.Nested.{nested_too_deep}
 use Rattle.lower.specs.Limits.{picked_for}
 use Rattle.lower.specs.Faults.{IsFaultOf}
-use Rattle.lower.specs.inner.Parts.{IsOfDefinition, IsOfItem, IsOfCode}
+use Rattle.lower.specs.inner.Parts.{made_behind, IsOfDefinition, IsOfItem, IsOfCode}
 use Rattle.lower.proofs.Better.{body_more}
-use Rattle.lower.proofs.Bodies.{definition_made, code_grows, codes_among, front_code, one_more}
+use Rattle.lower.proofs.Bodies.{definition_made, front_and_rest, front_more, one_more}
 use Rattle.expression_code.proofs.Files.{items_more}
 
 -- a function needs its parameters' registers at least
@@ -90,25 +90,27 @@ of_one p before (Defines f) after codes n (TooMuchCode at) s c d b m h k =
 of_one p before (Defines f) after codes n (NestedTooDeep at) s c d b m h k = absurd k
 of_one p before item after codes n e s c d b m h k = absurd k
 
-pub item_fault : {A : Type 0} (items : List (OwnItem A)) (i to : ℕ) (l : Lists) (x : OwnItem A) (codes : List FunctionCode) (done : List Instr) (e : LowerFault) → i < length items → x ≡ get_or items i x →
-    codes ++ (all_made (map item_of items) (map item_of (drop i items)) to l).functions ≡ (made_of (map item_of items)).functions →
-    done ++ (all_made (map item_of items) (map item_of (drop i items)) to l).code ≡ (made_of (map item_of items)).code →
-    done ≡ (made_for (map item_of items) (map item_of (take i items))).code → to ≡ (made_for (map item_of items) (map item_of (take i items))).to → l ≡ (made_for (map item_of items) (map item_of (take i items))).lists → length done ≤ 1048576 →
-    IsOfItem (item_of x) (all_made (map item_of items) (item_of x ∷ []) to l).functions (length (done ++ (all_made (map item_of items) (item_of x ∷ []) to l).code)) e → IsOfCode (map item_of items) e
-item_fault items i to l x codes done e h is fs inv d t a b k =
+pub item_fault : {A : Type 0} (items : List (OwnItem A)) (i : ℕ) (x : OwnItem A) (done : Made) (e : LowerFault) → i < length items → x ≡ get_or items i x →
+    done ≡ made_for (map item_of items) (map item_of (take i items)) → length done.code ≤ 1048576 →
+    IsOfItem (item_of x) (all_made (map item_of items) (item_of x ∷ []) done.to done.lists).functions (length (done.code ++ (all_made (map item_of items) (item_of x ∷ []) done.to done.lists).code)) e → IsOfCode (map item_of items) e
+item_fault items i x done e h is d b k =
     let p : Program = map item_of items in
     let before : Program = map item_of (take i items) in
+    let first : Program = map item_of (take (i + 1) items) in
     let after : Program = map item_of (drop (i + 1) items) in
     let parts : p ≡ before ++ item_of x ∷ after =
     sym (ap (λ xs. map item_of xs) (take-append-drop i items)) ∙ map-append item_of (take i items) (drop i items) ∙ items_more (λ its. before ++ its) items i x h is in
-    let behind : done ++ (all_made p (item_of x ∷ []) to l).code ≡ (made_for p (before ++ item_of x ∷ [])).code =
-    front_code p items i x to to l l done (done ++ (all_made p (item_of x ∷ []) to l).code) h is d t a refl ∙ ap (λ its. (made_for p its).code) (one_more p items i x to to l l done done h is) in
-    let grows = code_grows p items i to l x done h is in
-    let whole : length (done ++ (all_made p (map item_of (drop i items)) to l).code) ≡ length (made_of p).code = ap length inv in
+    let one = all_made p (item_of x ∷ []) done.to done.lists in
+    let there : made_behind done one ≡ made_for p first = front_more p items i x h is d refl in
+    let rest = all_made p after (made_for p first).to (made_for p first).lists in
+    let halves : p ≡ first ++ after = sym (ap (λ xs. map item_of xs) (take-append-drop (i + 1) items)) ∙ map-append item_of (take (i + 1) items) (drop (i + 1) items) in
+    let whole : made_of p ≡ made_behind (made_behind done one) rest = ap (made_for p) halves ∙ front_and_rest p first after 0 _ ∙ ap (λ (m : Made). made_behind m rest) (sym there) in
+    let lengths : length (made_of p).code ≡ length ((done.code ++ one.code) ++ rest.code) = ap (λ (m : Made). length m.code) whole in
+    let sum : length ((done.code ++ one.code) ++ rest.code) ≡ length (done.code ++ one.code) + length rest.code = length-append (done.code ++ one.code) rest.code in
     let n : length (map (instr_of (made_of p).lists.arguments) (made_of p).code) ≡ length (made_of p).code = length-map (made_of p).code (instr_of (made_of p).lists.arguments) in
-    of_one p before (item_of x) after (all_made p (item_of x ∷ []) to l).functions (length (done ++ (all_made p (item_of x ∷ []) to l).code)) e parts (among items i x h is)
-    (λ g c. subst (λ xs. Contains xs g) fs (Contains-append_right codes (all_made p (map item_of (drop i items)) to l).functions g (codes_among p items i to l x g h is c)))
-    (subst (λ (xs : List Instr). length xs ≤ 1048576) d b) (ap length behind) (omega (arith, grows, whole, n)) k
+    of_one p before (item_of x) after one.functions (length (done.code ++ one.code)) e parts (among items i x h is)
+    (λ g c. subst (λ (m : Made). Contains m.functions g) (sym whole) (Contains-append_left (done.functions ++ one.functions) rest.functions g (Contains-append_right done.functions one.functions g c)))
+    (subst (λ (m : Made). length m.code ≤ 1048576) d b) (ap (λ (m : Made). length m.code) (there ∙ ap (made_for p) (one_more p items i x h is))) (omega (arith, lengths, sum, n)) k
 
 -- what ? hands on
 pub handed_on : {X Y : Type 0} (r : Result X LowerFault) (s : Result Y LowerFault) (f : LowerFault) (P Q : LowerFault → Type 0) → IfErr r P → r ≡ Err f → IsErr s × IsErrAnd s (λ y. y ≡ f) → ((e : LowerFault) → P e → Q e) → IfErr s Q

@@ -1,5 +1,5 @@
 -- The code of a format, unit by unit.
-use Rattle.std.proofs.Common.{◌≡◌, ℕ, ◌+◌, ◌<◌, ◌≤◌, List, [], ◌∷◌, ◌++◌, length, drop, get_or, refl, sym, ap, ◌∙◌, append_assoc}
+use Rattle.std.proofs.Common.{◌≡◌, ℕ, ◌+◌, ◌<◌, ◌≤◌, List, [], ◌∷◌, ◌++◌, length, drop, get_or, Ok, refl, sym, ap, ◌∙◌, append_assoc}
 use Rattle.std.proofs.lemmas.List.{drop_more, drop_all}
 use Rattle.lex.specs.declared.token.Scalar.{Scalar}
 use Rattle.syntax.specs.Formats.{Piece, Literal, Figure, literal, pieces}
@@ -7,6 +7,8 @@ use Rattle.bytecode.specs.declared.instr.Instr.{Instr}
 use Rattle.picked.specs.Lists.{Lists}
 use Rattle.picked.specs.Simples.{Written, and_then}
 use Rattle.picked.specs.Statements.{pieces_written}
+use Rattle.expression_code.specs.Stretches.{Adds, of_written}
+use Rattle.expression_code.proofs.Adding.{written_behind}
 use Rattle.lower.specs.inner.Formats.{joined, text_written, figure_written}
 
 -- bytes of text before pieces
@@ -35,6 +37,11 @@ figure_is : (cs : List ℕ) (t : Scalar) (ps : List Piece) (r : ℕ) (rs : List 
 figure_is [] t ps r rs from l = refl
 figure_is (c ∷ cs) t ps r rs from l = ap (λ qs. pieces_written qs (r ∷ rs) from l) (joined_figure c cs t ps)
 
+-- a text needs no registers
+pub text_same : (cs : List ℕ) (from : ℕ) (l : Lists) → (text_written cs from l).lists.registers ≡ l.registers
+text_same [] from l = refl
+text_same (c ∷ cs) from l = refl
+
 -- what is left of a format, with the bytes that are read and not put
 module _ (format registers bytes : List ℕ) (i k to : ℕ) (l : Lists) where
   pub byte_goes : (c next : ℕ) (bytes' : List ℕ) → pieces (drop i format) ≡ literal c (pieces (drop next format)) → bytes' ≡ bytes ++ c ∷ [] →
@@ -49,25 +56,16 @@ module _ (format registers bytes : List ℕ) (i k to : ℕ) (l : Lists) where
       (λ j. pieces_written (joined bytes (is j)) ((drop_more registers k 0 h ∙ ap (λ x. x ∷ drop (k + 1) registers) (sym er)) j) to l)
       ∙ figure_is bytes t (pieces (drop (i + 2) format)) r (drop (k + 1) registers) to l
 
-  module _ (t : Scalar) (r to' : ℕ) (l' : Lists) (empty : List ℕ)
-      (is : pieces (drop i format) ≡ Figure t ∷ pieces (drop (i + 2) format)) (h : k < length registers) (er : r ≡ get_or registers k 0) (e0 : empty ≡ [])
-      (et : to' ≡ (figure_written bytes t r to l).to) (el : l' ≡ (figure_written bytes t r to l).lists) where
-    rest_is : pieces_written (joined empty (pieces (drop (i + 2) format))) (drop (k + 1) registers) to' l'
-        ≡ pieces_written (pieces (drop (i + 2) format)) (drop (k + 1) registers) (figure_written bytes t r to l).to (figure_written bytes t r to l).lists
-    rest_is = λ j. pieces_written (joined (e0 j) (pieces (drop (i + 2) format))) (drop (k + 1) registers) (et j) (el j)
-
-    pub figure_code : (code code' whole : List Instr) → code' ≡ code ++ (figure_written bytes t r to l).code → code ++ (pieces_written (joined bytes (pieces (drop i format))) (drop k registers) to l).code ≡ whole →
-        code' ++ (pieces_written (joined empty (pieces (drop (i + 2) format))) (drop (k + 1) registers) to' l').code ≡ whole
-    figure_code code code' whole n inv =
-        (λ j. n j ++ (rest_is j).code) ∙ append_assoc code (figure_written bytes t r to l).code _ ∙ sym (ap (λ (w : Written). code ++ w.code) (figure_here t r is h er)) ∙ inv
-
-    pub figure_lists : (whole : Lists) → (pieces_written (joined bytes (pieces (drop i format))) (drop k registers) to l).lists ≡ whole →
-        (pieces_written (joined empty (pieces (drop (i + 2) format))) (drop (k + 1) registers) to' l').lists ≡ whole
-    figure_lists whole inv = ap (λ (w : Written). w.lists) rest_is ∙ sym (ap (λ (w : Written). w.lists) (figure_here t r is h er)) ∙ inv
-
-    pub figure_place : (whole : ℕ) → (pieces_written (joined bytes (pieces (drop i format))) (drop k registers) to l).to ≡ whole →
-        (pieces_written (joined empty (pieces (drop (i + 2) format))) (drop (k + 1) registers) to' l').to ≡ whole
-    figure_place whole inv = ap (λ (w : Written). w.to) rest_is ∙ sym (ap (λ (w : Written). w.to) (figure_here t r is h er)) ∙ inv
+  pub figure_goes : {t : Scalar} {r to' : ℕ} {l' : Lists} {empty : List ℕ} {code code' : List Instr} {whole : Written} → pieces (drop i format) ≡ Figure t ∷ pieces (drop (i + 2) format) → k < length registers → r ≡ get_or registers k 0 → empty ≡ [] →
+      Adds (of_written (figure_written bytes t r to l)) code code' l' (Ok to') → written_behind code (pieces_written (joined bytes (pieces (drop i format))) (drop k registers) to l) ≡ whole →
+      written_behind code' (pieces_written (joined empty (pieces (drop (i + 2) format))) (drop (k + 1) registers) to' l') ≡ whole
+  figure_goes {t = t} {r = r} {code = code} is h er e0 m inv =
+      let put = figure_written bytes t r to l in
+      let rest = pieces_written (pieces (drop (i + 2) format)) (drop (k + 1) registers) put.to put.lists in
+      (λ j. written_behind (m.code j) (pieces_written (joined (e0 j) (pieces (drop (i + 2) format))) (drop (k + 1) registers) (m.end j) (m.lists j)))
+      ∙ (λ j. record rest { code = append_assoc code put.code rest.code j })
+      ∙ sym (ap (written_behind code) (figure_here t r is h er))
+      ∙ inv
 
   -- no register is left for a figure, and nothing is left of the format
   pub no_register : (t : Scalar) → pieces (drop i format) ≡ Figure t ∷ pieces (drop (i + 2) format) → length registers ≤ k → pieces_written (joined bytes (pieces (drop i format))) (drop k registers) to l ≡ text_written bytes to l

@@ -1,10 +1,10 @@
--- formats, and statements by their parts
+-- formats, and statements by their parts and as parts of a whole
 mod Formatted
 mod Leaving
-mod Made
+mod Nodes
+mod Loop
 mod Written
--- failures
-mod Failing
+mod Within
 -- a body as it stands, or one that finds constants ready
 mod Better
 -- functions and items one after another

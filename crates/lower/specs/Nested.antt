@@ -2,7 +2,10 @@
 -- anew.
 use Rattle.std.specs.Prelude.{ℕ, zero, suc, List, [], ◌∷◌, Option, Some, None}
 use Rattle.std.specs.Option.{option_or}
-use Rattle.syntax.specs.Tree.{Span, Expr, Exprs, Element, Call, Parenthesized, Cast, Unary, Binary, Logical, Conditional, InTransaction, Simple, Evaluate, Assign, Adjust, Declarator, Start, Nothing, Declares, Does, Stmt, Stmts, Declare, Do, Block, Print, If, IfElse, While, DoWhile, For, Return, Transaction, Item, Defines, Shares, Program}
+use Rattle.syntax.specs.Tree.{Span, Expr, Exprs, Element, Call, Parenthesized, Cast, Unary, Binary, Logical}
+use Rattle.syntax.specs.Tree.{Conditional, InTransaction, Simple, Evaluate, Assign, Adjust, Declarator}
+use Rattle.syntax.specs.Tree.{Start, Nothing, Declares, Does, Stmt, Stmts, Declare, Do, Block, Print, If, IfElse}
+use Rattle.syntax.specs.Tree.{While, DoWhile, For, Return, Transaction, Item, Defines, Shares, Program}
 
 -- the keyword of the first transaction of an expression that lies in so many others
 abbrev mutual
@@ -24,7 +27,7 @@ abbrev mutual
   exprs_too_deep Exprs.[] n = None
   exprs_too_deep (Exprs.◌∷◌ e es) n = option_or (expr_too_deep e n) (exprs_too_deep es n)
 
--- of what may be missing
+-- the keyword of the first transaction of what may be missing that lies in so many others
 abbrev pub too_deep_if_any : {A : Type 0} → (A → ℕ → Option Span) → Option A → ℕ → Option Span
 too_deep_if_any deep None n = None
 too_deep_if_any deep (Some x) n = deep x n

@@ -2,7 +2,9 @@
 
 ghost use Rattle.std.specs.Prelude.{◌≡◌, map, option_map};
 ghost use Rattle.syntax.specs.Views.{expr_of, exprs_of, simple_of, declarator_of, start_of, stmt_of, stmts_of, item_of};
-ghost use Rattle.lower.specs.Nested.{expr_too_deep, exprs_too_deep, too_deep_if_any, simple_too_deep, declarators_too_deep, start_too_deep, too_deep, any_too_deep, item_too_deep, items_too_deep};
+ghost use Rattle.lower.specs.Nested.{expr_too_deep, exprs_too_deep, too_deep_if_any, simple_too_deep};
+ghost use Rattle.lower.specs.Nested.{declarators_too_deep, start_too_deep, too_deep, any_too_deep};
+ghost use Rattle.lower.specs.Nested.{item_too_deep, items_too_deep};
 
 use lex::token::Span;
 use std::alloc::Allocator;
@@ -36,7 +38,7 @@ fn deep_expr<A: Allocator>(e: &Expr<A>, count: u32) -> Option<Span>
     }
 }
 
-/// The keyword of the first such transaction of expressions in a row.
+/// The keyword of the first transaction of expressions in a row that lies in so many others.
 #[cycle(deep_expr)]
 fn deep_exprs<A: Allocator>(all: &[Expr<A>], count: u32) -> Option<Span>
     ensures { result ≡ exprs_too_deep (exprs_of all.now) count }
@@ -136,7 +138,7 @@ fn deep_stmt<A: Allocator>(s: &Stmt<A>, count: u32) -> Option<Span>
     }
 }
 
-/// The keyword of the first such transaction of statements in a row.
+/// The keyword of the first transaction of statements in a row that lies in so many others.
 #[cycle(deep_stmt)]
 fn deep_stmts<A: Allocator>(body: &[Stmt<A>], count: u32) -> Option<Span>
     ensures { result ≡ any_too_deep (stmts_of body.now) count }

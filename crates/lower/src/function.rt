@@ -1,12 +1,14 @@
 //! The code of functions.
 
-ghost use Rattle.std.specs.Prelude.{◌≡◌, ◌++◌, ◌∷◌, [], ◌+◌, ◌≤◌, not, ◌&&◌, ◌==◌, nat_le, map, length, take, drop, OnOk, IfOk, IfErr};
+ghost use Rattle.std.specs.Prelude.{◌≡◌, ◌++◌, ◌∷◌, [], ◌+◌, ◌≤◌, not, ◌&&◌, ◌==◌, nat_le, map, length, take, drop};
+ghost use Rattle.std.specs.Prelude.{OnOk, IfOk, IfErr};
 ghost use Rattle.syntax.specs.Views.{function_of, stmts_of, parameter_of};
 ghost use Rattle.lowered.specs.Programs.{parameter_locals};
 ghost use Rattle.picked.specs.Loops as loops;
 ghost use Rattle.picked.specs.Programs.{body_ready, body_with, body_written, nothing_ready};
 ghost use Rattle.expression_code.specs.Limits.{NeedsMore};
 ghost use Rattle.expression_code.specs.Lists.{lists_of};
+ghost use Rattle.expression_code.specs.Stretches.{Writes};
 ghost use Rattle.expression_code.specs.Views.{program_in, scope_in};
 
 use crate::loops::in_loops;
@@ -27,7 +29,8 @@ fn declare_parameter<'p, A: Allocator + Copy>(
     scope: &mut Scope<'p, A>,
     parameter: &'p Parameter<A>,
 ) -> Result<(), AllocError>
-    ensures { OnOk result (scope_in scope.new ≡ scope_in scope.old ++ parameter_locals (parameter_of parameter.now ∷ [])) }
+    ensures { OnOk result (scope_in scope.new ≡ scope_in scope.old ++ parameter_locals
+        (parameter_of parameter.now ∷ [])) }
 {
     match &parameter.name {
         Some(x) => scope.declare(x.text.as_str(), parameter.of),
@@ -49,7 +52,8 @@ fn parameter_locals<'p, A: Allocator + Copy>(
     Ok(scope)
 }
 
-/// A function's body with the constants that lie ready, and a return where that runs off its end; the place behind them.
+/// A function's body with the constants that lie ready, and a return where that runs off its end; the place behind
+/// them.
 fn lower_body<'p, A: Allocator + Copy>(
     names: &Names<'p, A>,
     lists: &mut Lists<A>,
@@ -59,10 +63,8 @@ fn lower_body<'p, A: Allocator + Copy>(
     from: u32,
 ) -> Result<u32, Failure>
     requires { length f.now.parameters ≤ 65535 }
-    ensures code { OnOk result (code.new.items ≡ code.old.items ++ (body_with (lists_of lists.old).layout (program_in names.now) (function_of f.now) (stmts_of body.now) from (lists_of lists.old)).code) }
-    ensures lists { OnOk result (lists_of lists.new ≡ (body_with (lists_of lists.old).layout (program_in names.now) (function_of f.now) (stmts_of body.now) from (lists_of lists.old)).lists) }
-    ensures place { IfOk result (λ p. p ≡ (body_with (lists_of lists.old).layout (program_in names.now) (function_of f.now) (stmts_of body.now) from (lists_of lists.old)).to) }
-    ensures fails { IfErr result (λ why. NeedsMore why (body_with (lists_of lists.old).layout (program_in names.now) (function_of f.now) (stmts_of body.now) from (lists_of lists.old)).lists.registers) }
+    ensures { Writes (body_with (lists_of lists.old).layout (program_in names.now) (function_of f.now)
+        (stmts_of body.now) from (lists_of lists.old)) code.old code.new lists.new result }
 {
     let parameters = f.parameters.as_slice();
     lists.registers = parameters.len() as u32;
@@ -90,9 +92,13 @@ struct Lengths {
 
 /// Cuts lists to these lengths.
 fn cut_to<A: Allocator>(lists: &mut Lists<A>, code: &mut Vec<Instr, A>, lengths: Lengths)
-    requires { (lengths.code ≤ length code.old.items) × (lengths.arguments ≤ length lists.old.arguments.items) × (lengths.texts ≤ length lists.old.texts.items) }
+    requires { (lengths.code ≤ length code.old.items) × (lengths.arguments ≤ length lists.old.arguments.items)
+        × (lengths.texts ≤ length lists.old.texts.items) }
     ensures code { code.new.items ≡ take lengths.code code.old.items }
-    ensures lists { lists_of lists.new ≡ record (lists_of lists.old) { arguments = take lengths.arguments lists.old.arguments.items; texts = take lengths.texts lists.old.texts.items } }
+    ensures lists { lists_of lists.new ≡ record (lists_of lists.old) {
+      arguments = take lengths.arguments lists.old.arguments.items;
+      texts = take lengths.texts lists.old.texts.items;
+    } }
 {
     code.truncate(lengths.code);
     lists.arguments.truncate(lengths.arguments);
@@ -109,18 +115,16 @@ fn lower_plain<'p, A: Allocator + Copy>(
     from: u32,
 ) -> Result<u32, Failure>
     requires { length f.now.parameters ≤ 65535 }
-    ensures code { OnOk result (code.new.items ≡ code.old.items ++ (body_with nothing_ready (program_in names.now) (function_of f.now) (stmts_of body.now) from (lists_of lists.old)).code) }
-    ensures lists { OnOk result (lists_of lists.new ≡ (body_with nothing_ready (program_in names.now) (function_of f.now) (stmts_of body.now) from (lists_of lists.old)).lists) }
-    ensures place { IfOk result (λ p. p ≡ (body_with nothing_ready (program_in names.now) (function_of f.now) (stmts_of body.now) from (lists_of lists.old)).to) }
-    ensures fails { IfErr result (λ why. NeedsMore why (body_with nothing_ready (program_in names.now) (function_of f.now) (stmts_of body.now) from (lists_of lists.old)).lists.registers) }
+    ensures { Writes (body_with nothing_ready (program_in names.now) (function_of f.now) (stmts_of body.now) from
+        (lists_of lists.old)) code.old code.new lists.new result }
 {
     lists.writable = 0;
     lists.constants.clear();
     lower_body(names, lists, code, f, body, from)
 }
 
-/// A function's body that finds these constants ready, and in front of it the instructions that set them in registers from this
-/// one on; the place behind it.
+/// A function's body that finds these constants ready, and in front of it the instructions that set them in registers
+/// from this one on; the place behind it.
 fn lower_ready<'p, A: Allocator + Copy>(
     names: &Names<'p, A>,
     lists: &mut Lists<A>,
@@ -133,10 +137,12 @@ fn lower_ready<'p, A: Allocator + Copy>(
 ) -> Result<u32, Failure>
     requires parameters { length f.now.parameters ≤ 65535 }
     requires room { writable + length constants.items ≤ 65535 }
-    ensures code { OnOk result (code.new.items ≡ code.old.items ++ (body_ready (record { writable = writable; constants = constants.items }) (program_in names.now) (function_of f.now) (stmts_of body.now) from (lists_of lists.old)).code) }
-    ensures lists { OnOk result (lists_of lists.new ≡ (body_ready (record { writable = writable; constants = constants.items }) (program_in names.now) (function_of f.now) (stmts_of body.now) from (lists_of lists.old)).lists) }
-    ensures place { IfOk result (λ p. p ≡ (body_ready (record { writable = writable; constants = constants.items }) (program_in names.now) (function_of f.now) (stmts_of body.now) from (lists_of lists.old)).to) }
-    ensures fails { IfErr result (λ why. NeedsMore why (body_with (record { writable = writable; constants = constants.items }) (program_in names.now) (function_of f.now) (stmts_of body.now) (from + length constants.items) (lists_of lists.old)).lists.registers) }
+    ensures code { OnOk result (Writes (body_ready (record { writable = writable; constants = constants.items })
+        (program_in names.now) (function_of f.now) (stmts_of body.now) from (lists_of lists.old))
+        code.old code.new lists.new result) }
+    ensures fails { IfErr result (λ why. NeedsMore why
+        (body_with (record { writable = writable; constants = constants.items }) (program_in names.now)
+        (function_of f.now) (stmts_of body.now) (from + length constants.items) (lists_of lists.old)).lists.registers) }
 {
     let count = constants.len() as u32;
     if from > 4_294_967_295 - count {
@@ -163,16 +169,16 @@ fn in_loops_behind<A: Allocator>(
     in_loops(alloc, &code[others..], from)
 }
 
-/// Whether a body that needs so many registers is made once more with these constants ready: there are some, and a function may
-/// have so many registers.
+/// Whether a body that needs so many registers is made once more with these constants ready: there are some, and a
+/// function may have so many registers.
 fn is_better(registers: u32, constants: &[u32]) -> bool
     ensures { result ≡ (not (length constants.now == 0) && nat_le (registers + length constants.now) 65535) }
 {
     !constants.is_empty() && registers as usize + constants.len() <= 65_535
 }
 
-/// A function's instructions; the place behind them. Its body is made as it stands, and where its loops compute with constants
-/// once more, with these in registers behind its own, where they are set once.
+/// A function's instructions; the place behind them. Its body is made as it stands, and where its loops compute with
+/// constants once more, with these in registers behind its own, where they are set once.
 pub(crate) fn lower_function<'p, A: Allocator + Copy>(
     names: &Names<'p, A>,
     lists: &mut Lists<A>,
@@ -182,10 +188,8 @@ pub(crate) fn lower_function<'p, A: Allocator + Copy>(
     from: u32,
 ) -> Result<u32, Failure>
     requires { length f.now.parameters ≤ 65535 }
-    ensures code { OnOk result (code.new.items ≡ code.old.items ++ (body_written (program_in names.now) (function_of f.now) (stmts_of body.now) from (lists_of lists.old)).code) }
-    ensures lists { OnOk result (lists_of lists.new ≡ (body_written (program_in names.now) (function_of f.now) (stmts_of body.now) from (lists_of lists.old)).lists) }
-    ensures place { IfOk result (λ p. p ≡ (body_written (program_in names.now) (function_of f.now) (stmts_of body.now) from (lists_of lists.old)).to) }
-    ensures fails { IfErr result (λ why. NeedsMore why (body_written (program_in names.now) (function_of f.now) (stmts_of body.now) from (lists_of lists.old)).lists.registers) }
+    ensures { Writes (body_written (program_in names.now) (function_of f.now) (stmts_of body.now) from
+        (lists_of lists.old)) code.old code.new lists.new result }
 {
     let lengths = Lengths {
         code: code.len(),

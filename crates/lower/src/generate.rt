@@ -7,10 +7,11 @@ ghost use Rattle.syntax.specs.Views.{program_of, item_of, function_of, global_of
 ghost use Rattle.bytecode.specs.Valid.{HasWorker};
 ghost use Rattle.bytecode.specs.Views.{code_of, function_of as code_function};
 ghost use Rattle.lowered.specs.Means.{MeansItsProgram};
-ghost use Rattle.picked.specs.Programs.{body_written, function_code, all_made, picked_code};
+ghost use Rattle.picked.specs.Programs.{body_written, all_made, picked_code};
 ghost use Rattle.lower.specs.Nested.{nested_too_deep};
 ghost use Rattle.lower.specs.Faults.{IsFaultOf};
 ghost use Rattle.expression_code.specs.Lists.{lists_of};
+ghost use Rattle.lower.specs.inner.Parts.{made_in, made_behind, made_once};
 ghost use Rattle.lower.specs.inner.Parts.{IsOfDefinition, IsOfItem, IsOfCode};
 ghost use Rattle.expression_code.specs.Views.{program_in};
 
@@ -50,14 +51,18 @@ fn lower_definition<'p, A: Allocator + Copy>(
     f: &'p Function<A>,
     body: &'p [Stmt<A>],
 ) -> Result<(), LowerFault>
-    ensures functions { OnOk result (map code_function making.new.functions.items ≡ map code_function making.old.functions.items ++ function_code (function_of f.now) making.old.to (body_written (program_in names.now) (function_of f.now) (stmts_of body.now) making.old.to (lists_of making.old.lists)) ∷ []) }
-    ensures code { OnOk result (making.new.code.items ≡ making.old.code.items ++ (body_written (program_in names.now) (function_of f.now) (stmts_of body.now) making.old.to (lists_of making.old.lists)).code) }
-    ensures lists { OnOk result (lists_of making.new.lists ≡ (body_written (program_in names.now) (function_of f.now) (stmts_of body.now) making.old.to (lists_of making.old.lists)).lists) }
+    ensures made { let w = body_written (program_in names.now) (function_of f.now) (stmts_of body.now) making.old.to
+        (lists_of making.old.lists) in
+        OnOk result (made_in making.new
+        ≡ made_behind (made_in making.old) (made_once (function_of f.now) making.old.to w)) }
     ensures globals { OnOk result (making.new.globals.items ≡ making.old.globals.items) }
-    ensures place { OnOk result (making.new.to ≡ (body_written (program_in names.now) (function_of f.now) (stmts_of body.now) making.old.to (lists_of making.old.lists)).to) }
-    ensures registers { OnOk result ((body_written (program_in names.now) (function_of f.now) (stmts_of body.now) making.old.to (lists_of making.old.lists)).lists.registers ≤ 65535) }
+    ensures registers { let w = body_written (program_in names.now) (function_of f.now) (stmts_of body.now)
+        making.old.to (lists_of making.old.lists) in OnOk result (w.lists.registers ≤ 65535) }
     ensures instructions { OnOk result (length making.new.code.items ≤ 1048576) }
-    ensures fault { IfErr result (IsOfDefinition (function_of f.now) (body_written (program_in names.now) (function_of f.now) (stmts_of body.now) making.old.to (lists_of making.old.lists)).lists.registers (length (making.old.code.items ++ (body_written (program_in names.now) (function_of f.now) (stmts_of body.now) making.old.to (lists_of making.old.lists)).code))) }
+    ensures fault { let w = body_written (program_in names.now) (function_of f.now) (stmts_of body.now) making.old.to
+        (lists_of making.old.lists) in
+        IfErr result (IsOfDefinition (function_of f.now) w.lists.registers
+        (length (making.old.code.items ++ w.code))) }
 {
     if f.parameters.len() > 65_535 {
         return Err(LowerFault::TooManyRegisters(f.name.span));
@@ -117,14 +122,16 @@ fn lower_item<'p, A: Allocator + Copy>(
 ) -> Result<(), LowerFault>
     requires few { AllByRecursion (λ f. f.registers ≤ 65535) (map code_function making.old.functions.items) }
     requires short { length making.old.code.items ≤ 1048576 }
-    ensures functions { OnOk result (map code_function making.new.functions.items ≡ map code_function making.old.functions.items ++ (all_made (program_in names.now) (item_of item.now ∷ []) making.old.to (lists_of making.old.lists)).functions) }
-    ensures code { OnOk result (making.new.code.items ≡ making.old.code.items ++ (all_made (program_in names.now) (item_of item.now ∷ []) making.old.to (lists_of making.old.lists)).code) }
-    ensures lists { OnOk result (lists_of making.new.lists ≡ (all_made (program_in names.now) (item_of item.now ∷ []) making.old.to (lists_of making.old.lists)).lists) }
-    ensures globals { OnOk result (map global_of making.new.globals.items ≡ map global_of making.old.globals.items ++ Source.shared_by (item_of item.now)) }
-    ensures place { OnOk result (making.new.to ≡ (all_made (program_in names.now) (item_of item.now ∷ []) making.old.to (lists_of making.old.lists)).to) }
-    ensures few { OnOk result (AllByRecursion (λ f. f.registers ≤ 65535) (map code_function making.new.functions.items)) }
+    ensures made { OnOk result (made_in making.new ≡ made_behind (made_in making.old)
+        (all_made (program_in names.now) (item_of item.now ∷ []) making.old.to (lists_of making.old.lists))) }
+    ensures globals { OnOk result (map global_of making.new.globals.items
+        ≡ map global_of making.old.globals.items ++ Source.shared_by (item_of item.now)) }
+    ensures few { OnOk result (AllByRecursion (λ f. f.registers ≤ 65535)
+        (map code_function making.new.functions.items)) }
     ensures short { OnOk result (length making.new.code.items ≤ 1048576) }
-    ensures fault { IfErr result (IsOfItem (item_of item.now) (all_made (program_in names.now) (item_of item.now ∷ []) making.old.to (lists_of making.old.lists)).functions (length (making.old.code.items ++ (all_made (program_in names.now) (item_of item.now ∷ []) making.old.to (lists_of making.old.lists)).code))) }
+    ensures fault { let made = all_made (program_in names.now) (item_of item.now ∷ []) making.old.to
+        (lists_of making.old.lists) in
+        IfErr result (IsOfItem (item_of item.now) made.functions (length (making.old.code.items ++ made.code))) }
 {
     match item {
         Item::Function(f) => match &f.body {
@@ -176,10 +183,10 @@ fn lower_parts<'p, A: Allocator + Copy>(names: &Names<'p, A>) -> Result<Parts<A>
     })
 }
 
-/// The code of a program: its functions in file order, each with its instructions. Takes memory for the code, once more for
-/// its words, for the code of the statements that lie round the one that is made, and for tables of the program's names; and
-/// time for the program's size, but for each instruction that of the loops, branches and transactions round it, and for each
-/// local's name that of the locals that are known there.
+/// The code of a program: its functions in file order, each with its instructions. Takes memory for the code, once more
+/// for its words, for the code of the statements that lie round the one that is made, and for tables of the program's
+/// names; and time for the program's size, but for each instruction that of the loops, branches and transactions round
+/// it.
 pub fn lower<A: Allocator + Copy>(alloc: A, accepted: &Accepted<A>) -> Result<Code<A>, LowerFault>
     ensures means { IfOk result (MeansItsProgram (program_of accepted.now.safe.typed.unit)) }
     ensures globals { IfOk result (λ code. code.globals ≡ Source.globals (program_of accepted.now.safe.typed.unit)) }

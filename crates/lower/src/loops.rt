@@ -11,8 +11,8 @@ use std::alloc::{AllocError, Allocator};
 /// The most constants that lie ready in a function.
 const MOST_READY: usize = 16;
 
-/// Of instructions, from the last one to some place: the lowest place that one of them jumps to, or else the place behind them;
-/// the registers that the first of them computes with; and the constants of loops.
+/// Of instructions, from the last one to some place: the lowest place that one of them jumps to, or else the place
+/// behind them; the registers that the first of them computes with; and the constants of loops.
 #[derive(Drop)]
 struct Looped<A: Allocator> {
     lowest: u32,
@@ -141,8 +141,8 @@ fn add<A: Allocator>(looped: &mut Looped<A>, at: u32, instr: Instr) -> Result<()
     }
 }
 
-/// The constants of the loops among these instructions, which stand from this place on. No memory holds a code with a place that
-/// is no `u32`.
+/// The constants of the loops among these instructions, which stand from this place on. No memory holds a code with a
+/// place that is no `u32`.
 pub(crate) fn in_loops<A: Allocator>(
     alloc: A,
     code: &[Instr],

@@ -1,15 +1,16 @@
 //! The instructions of a print's pieces.
 
-ghost use Rattle.std.specs.Prelude.{◌≡◌, ◌++◌, ◌∷◌, [], ◌+◌, ◌<◌, length, OnOk, IfOk};
+ghost use Rattle.std.specs.Prelude.{◌≡◌, ◌++◌, ◌∷◌, [], ◌<◌, length, OnOk, IfOk};
 ghost use Rattle.syntax.specs.Formats.{pieces};
-ghost use Rattle.bytecode.specs.declared.instr.Instr.TheVariants as instr;
 ghost use Rattle.picked.specs.Statements as statements;
 ghost use Rattle.picked.specs.Statements.{pieces_written};
 ghost use Rattle.expression_code.specs.Lists.{lists_of};
+ghost use Rattle.expression_code.specs.Stretches.{Writes};
 ghost use Rattle.lower.specs.inner.Formats.{IsAt, text_written, figure_written};
 
 use bytecode::Instr;
 use containers::Text;
+use expression_code::fault::Failure;
 use expression_code::lists::Lists;
 use expression_code::put::{after, put};
 use lex::token::Scalar;
@@ -27,7 +28,8 @@ fn printing(of: Scalar, r: u16) -> Instr
 
 /// One more text, and its number.
 fn add_text<A: Allocator>(lists: &mut Lists<A>, text: Text<A>) -> Result<u32, AllocError>
-    ensures lists { OnOk result (lists_of lists.new ≡ record (lists_of lists.old) { texts = lists.old.texts.items ++ text ∷ [] }) }
+    ensures lists { OnOk result (lists_of lists.new
+        ≡ record (lists_of lists.old) { texts = lists.old.texts.items ++ text ∷ [] }) }
     ensures number { IfOk result (λ n. n ≡ length lists.old.texts.items) }
 {
     let number = lists.texts.len();
@@ -56,10 +58,8 @@ fn put_text<A: Allocator>(
     code: &mut Vec<Instr, A>,
     bytes: Vec<u8, A>,
     from: u32,
-) -> Result<u32, AllocError>
-    ensures code { OnOk result (code.new.items ≡ code.old.items ++ (text_written bytes.items from (lists_of lists.old)).code) }
-    ensures lists { OnOk result (lists_of lists.new ≡ (text_written bytes.items from (lists_of lists.old)).lists) }
-    ensures place { IfOk result (λ to. to ≡ (text_written bytes.items from (lists_of lists.old)).to) }
+) -> Result<u32, Failure>
+    ensures { Writes (text_written bytes.items from (lists_of lists.old)) code.old code.new lists.new result }
 {
     if bytes.len() == 0 {
         return Ok(from);
@@ -67,7 +67,7 @@ fn put_text<A: Allocator>(
     let text = text_from(bytes)?;
     let number = add_text(lists, text)?;
     put(code, Instr::PrintText(number))?;
-    after(from, 1)
+    Ok(after(from, 1)?)
 }
 
 /// A literal text, where there is any, and a number behind it; the place behind.
@@ -78,14 +78,12 @@ fn put_figure<A: Allocator>(
     of: Scalar,
     r: u16,
     from: u32,
-) -> Result<u32, AllocError>
-    ensures code { OnOk result (code.new.items ≡ code.old.items ++ (figure_written bytes.items of r from (lists_of lists.old)).code) }
-    ensures lists { OnOk result (lists_of lists.new ≡ (figure_written bytes.items of r from (lists_of lists.old)).lists) }
-    ensures place { IfOk result (λ to. to ≡ (figure_written bytes.items of r from (lists_of lists.old)).to) }
+) -> Result<u32, Failure>
+    ensures { Writes (figure_written bytes.items of r from (lists_of lists.old)) code.old code.new lists.new result }
 {
     let to = put_text(lists, code, bytes, from)?;
     put(code, printing(of, r))?;
-    after(to, 1)
+    Ok(after(to, 1)?)
 }
 
 /// What stands at a place of a format: a byte of literal text, with the place behind it, or a figure of two bytes.
@@ -134,10 +132,9 @@ pub(crate) fn put_pieces<A: Allocator + Copy>(
     format: &[u8],
     registers: &[u16],
     from: u32,
-) -> Result<u32, AllocError>
-    ensures code { OnOk result (code.new.items ≡ code.old.items ++ (pieces_written (pieces format.now) registers.now from (lists_of lists.old)).code) }
-    ensures lists { OnOk result (lists_of lists.new ≡ (pieces_written (pieces format.now) registers.now from (lists_of lists.old)).lists) }
-    ensures place { IfOk result (λ p. p ≡ (pieces_written (pieces format.now) registers.now from (lists_of lists.old)).to) }
+) -> Result<u32, Failure>
+    ensures { Writes (pieces_written (pieces format.now) registers.now from (lists_of lists.old))
+        code.old code.new lists.new result }
 {
     let mut bytes = Vec::new(alloc);
     let mut to = from;

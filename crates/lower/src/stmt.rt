@@ -1,21 +1,22 @@
-//! The instructions of statements. A loop is tested at its bottom; in front of it stand a jump and pads: places that are known
-//! before the body is made, from which a break and a continue go on.
+//! The instructions of statements. A loop is tested at its bottom; in front of it stand a jump and pads: places that
+//! are known before the body is made, from which a break and a continue go on.
 
-ghost use Rattle.std.specs.Prelude.{◌≡◌, ◌++◌, ◌∷◌, [], ◌+◌, ◌≤◌, map, option_map, Some, length, replicate, take, OnOk, IfOk, IfErr};
+ghost use Rattle.std.specs.Prelude.{◌≡◌, ◌++◌, ◌∷◌, [], ◌+◌, ◌≤◌, option_map, Some, length, take, OnOk, IfOk};
 ghost use Rattle.syntax.specs.Tree as Tree;
 ghost use Rattle.syntax.specs.declared.tree.Stmt as tree;
 ghost use Rattle.syntax.specs.Views.{expr_of, exprs_of, simple_of, start_of, stmt_of, stmts_of};
 ghost use Rattle.syntax.specs.Formats.{pieces};
 ghost use Rattle.bytecode.specs.declared.instr.Instr.TheVariants as instr;
 ghost use Rattle.lowered.specs.Statements.{locals_after, locals_at_end};
+ghost use Rattle.picked.specs.Lists.{Lists as Plain};
 ghost use Rattle.picked.specs.Expressions.{all_emitted, condition};
 ghost use Rattle.picked.specs.Conditions as conditions;
-ghost use Rattle.picked.specs.Conditions.{test_in};
 ghost use Rattle.picked.specs.Statements as statements;
 ghost use Rattle.picked.specs.Simples.{simple_written};
-ghost use Rattle.picked.specs.Statements.{print_written, tested_back, for_test, for_step, return_written, transacted, written, all_written};
-ghost use Rattle.expression_code.specs.Limits.{NeedsMore};
+ghost use Rattle.picked.specs.Statements.{print_written, tested_back, for_test, for_step};
+ghost use Rattle.picked.specs.Statements.{return_written, transacted, written, all_written};
 ghost use Rattle.expression_code.specs.Lists.{lists_of};
+ghost use Rattle.expression_code.specs.Stretches.{Adds, AddsTest, Writes, of_written};
 ghost use Rattle.expression_code.specs.Views.{program_in, scope_in};
 
 use crate::print::put_pieces;
@@ -39,9 +40,9 @@ fn leave<A: Allocator>(
     commits: u32,
     last: Instr,
     from: u32,
-) -> Result<u32, AllocError>
-    ensures code { OnOk result (code.new.items ≡ code.old.items ++ (replicate commits (instr.Commit) ++ last ∷ [])) }
-    ensures place { IfOk result (λ p. p ≡ from + commits + 1) }
+) -> Result<u32, Failure>
+    ensures { (l : Plain) → Adds (of_written (statements.left_by commits last from l)) code.old.items code.new.items l
+        result }
 {
     let mut to = from;
     'each: for made in 0..commits {
@@ -49,7 +50,7 @@ fn leave<A: Allocator>(
         to = after(to, 1)?;
     }
     put(code, last)?;
-    after(to, 1)
+    Ok(after(to, 1)?)
 }
 
 /// How many transactions are open from the innermost outer one on, inside one more of this kind.
@@ -111,10 +112,8 @@ fn lower_head<A: Allocator + Copy>(
     c: &Expr<A>,
     from: u32,
 ) -> Result<Tested, Failure>
-    ensures code { OnOk result (drafts.new.items ≡ drafts.old.items ++ (condition (program_in names.now) (scope_in scope.now) (expr_of c.now) from (length (scope_in scope.now)) (lists_of lists.old)).code) }
-    ensures lists { OnOk result (lists_of lists.new ≡ (condition (program_in names.now) (scope_in scope.now) (expr_of c.now) from (length (scope_in scope.now)) (lists_of lists.old)).lists) }
-    ensures tested { IfOk result (λ t. t ≡ test_in (condition (program_in names.now) (scope_in scope.now) (expr_of c.now) from (length (scope_in scope.now)) (lists_of lists.old))) }
-    ensures fails { IfErr result (λ why. NeedsMore why ((condition (program_in names.now) (scope_in scope.now) (expr_of c.now) from (length (scope_in scope.now)) (lists_of lists.old)).lists).registers) }
+    ensures { AddsTest (condition (program_in names.now) (scope_in scope.now) (expr_of c.now) from
+        (length (scope_in scope.now)) (lists_of lists.old)) drafts.old drafts.new lists.new result }
 {
     let free = scope.len();
     lower_condition(names, scope, lists, drafts, c, from, free)
@@ -130,10 +129,10 @@ fn lower_back<A: Allocator + Copy>(
     from: u32,
     back: u32,
 ) -> Result<u32, Failure>
-    ensures code { OnOk result (code.new.items ≡ code.old.items ++ (tested_back (condition (program_in names.now) (scope_in scope.now) (expr_of c.now) from (length (scope_in scope.now)) (lists_of lists.old)) back).code) }
-    ensures lists { OnOk result (lists_of lists.new ≡ (tested_back (condition (program_in names.now) (scope_in scope.now) (expr_of c.now) from (length (scope_in scope.now)) (lists_of lists.old)) back).lists) }
-    ensures place { IfOk result (λ p. p ≡ (tested_back (condition (program_in names.now) (scope_in scope.now) (expr_of c.now) from (length (scope_in scope.now)) (lists_of lists.old)) back).to) }
-    ensures fails { IfErr result (λ why. NeedsMore why ((tested_back (condition (program_in names.now) (scope_in scope.now) (expr_of c.now) from (length (scope_in scope.now)) (lists_of lists.old)) back).lists).registers) }
+    ensures { Writes (tested_back
+        (condition (program_in names.now) (scope_in scope.now) (expr_of c.now) from (length (scope_in scope.now))
+        (lists_of lists.old))
+        back) code.old code.new lists.new result }
 {
     let mut drafts = Vec::new(names.alloc);
     let t = lower_head(names, scope, lists, &mut drafts, c, from)?;
@@ -149,10 +148,8 @@ fn lower_do<A: Allocator + Copy>(
     s: &Simple<A>,
     from: u32,
 ) -> Result<u32, Failure>
-    ensures code { OnOk result (code.new.items ≡ code.old.items ++ (simple_written (program_in names.now) (scope_in scope.now) (simple_of s.now) from (length (scope_in scope.now)) (lists_of lists.old)).code) }
-    ensures lists { OnOk result (lists_of lists.new ≡ (simple_written (program_in names.now) (scope_in scope.now) (simple_of s.now) from (length (scope_in scope.now)) (lists_of lists.old)).lists) }
-    ensures place { IfOk result (λ p. p ≡ (simple_written (program_in names.now) (scope_in scope.now) (simple_of s.now) from (length (scope_in scope.now)) (lists_of lists.old)).to) }
-    ensures fails { IfErr result (λ why. NeedsMore why ((simple_written (program_in names.now) (scope_in scope.now) (simple_of s.now) from (length (scope_in scope.now)) (lists_of lists.old)).lists).registers) }
+    ensures { Writes (simple_written (program_in names.now) (scope_in scope.now) (simple_of s.now) from
+        (length (scope_in scope.now)) (lists_of lists.old)) code.old code.new lists.new result }
 {
     let free = scope.len();
     lower_simple(names, scope, lists, code, s, from, free)
@@ -168,10 +165,8 @@ fn lower_test<A: Allocator + Copy>(
     back: u32,
     from: u32,
 ) -> Result<u32, Failure>
-    ensures code { OnOk result (code.new.items ≡ code.old.items ++ (for_test (program_in names.now) (scope_in scope.now) (option_map expr_of c.now) back from (lists_of lists.old)).code) }
-    ensures lists { OnOk result (lists_of lists.new ≡ (for_test (program_in names.now) (scope_in scope.now) (option_map expr_of c.now) back from (lists_of lists.old)).lists) }
-    ensures place { IfOk result (λ p. p ≡ (for_test (program_in names.now) (scope_in scope.now) (option_map expr_of c.now) back from (lists_of lists.old)).to) }
-    ensures fails { IfErr result (λ why. NeedsMore why ((for_test (program_in names.now) (scope_in scope.now) (option_map expr_of c.now) back from (lists_of lists.old)).lists).registers) }
+    ensures { Writes (for_test (program_in names.now) (scope_in scope.now) (option_map expr_of c.now) back from
+        (lists_of lists.old)) code.old code.new lists.new result }
 {
     match c {
         Some(c) => lower_back(names, scope, lists, code, c, from, back),
@@ -191,10 +186,8 @@ fn lower_step<A: Allocator + Copy>(
     step: &Option<Simple<A>>,
     from: u32,
 ) -> Result<u32, Failure>
-    ensures code { OnOk result (code.new.items ≡ code.old.items ++ (for_step (program_in names.now) (scope_in scope.now) (option_map simple_of step.now) from (lists_of lists.old)).code) }
-    ensures lists { OnOk result (lists_of lists.new ≡ (for_step (program_in names.now) (scope_in scope.now) (option_map simple_of step.now) from (lists_of lists.old)).lists) }
-    ensures place { IfOk result (λ p. p ≡ (for_step (program_in names.now) (scope_in scope.now) (option_map simple_of step.now) from (lists_of lists.old)).to) }
-    ensures fails { IfErr result (λ why. NeedsMore why ((for_step (program_in names.now) (scope_in scope.now) (option_map simple_of step.now) from (lists_of lists.old)).lists).registers) }
+    ensures { Writes (for_step (program_in names.now) (scope_in scope.now) (option_map simple_of step.now) from
+        (lists_of lists.old)) code.old code.new lists.new result }
 {
     match step {
         Some(s) => lower_do(names, scope, lists, code, s, from),
@@ -216,7 +209,8 @@ fn put_branch<A: Allocator>(
     append(code, branch)
 }
 
-/// And a jump over the other branch, which begins at `other_at`.
+/// A condition, a branch that is taken where it holds, a jump over the other branch, which begins at `other_at`, and
+/// that one.
 fn put_branches<A: Allocator>(
     code: &mut Vec<Instr, A>,
     test: &[Draft],
@@ -226,7 +220,8 @@ fn put_branches<A: Allocator>(
     second: &mut Vec<Instr, A>,
     to: u32,
 ) -> Result<(), AllocError>
-    ensures { OnOk result (code.new.items ≡ code.old.items ++ (conditions.going_on test.now t other_at ++ first.old.items ++ instr.Jump to ∷ second.old.items)) }
+    ensures { OnOk result (code.new.items ≡ code.old.items ++ (conditions.going_on test.now t other_at
+        ++ first.old.items ++ instr.Jump to ∷ second.old.items)) }
 {
     put_branch(code, test, t, first, other_at)?;
     put(code, Instr::Jump(to))?;
@@ -255,7 +250,8 @@ fn put_loop<A: Allocator>(
     next: u32,
     rest: &mut Vec<Instr, A>,
 ) -> Result<(), AllocError>
-    ensures { OnOk result (code.new.items ≡ code.old.items ++ instr.Jump begin ∷ instr.Jump to ∷ instr.Jump next ∷ rest.old.items) }
+    ensures { OnOk result (code.new.items
+        ≡ code.old.items ++ instr.Jump begin ∷ instr.Jump to ∷ instr.Jump next ∷ rest.old.items) }
 {
     put(code, Instr::Jump(begin))?;
     put_while(code, to, next, rest)
@@ -284,24 +280,24 @@ fn lower_print<A: Allocator + Copy>(
     args: &[Expr<A>],
     from: u32,
 ) -> Result<u32, Failure>
-    ensures code { OnOk result (code.new.items ≡ code.old.items ++ (print_written (all_emitted (program_in names.now) (scope_in scope.now) (exprs_of args.now) (from + 1) (length (scope_in scope.now)) (lists_of lists.old)) (pieces format.now)).code) }
-    ensures lists { OnOk result (lists_of lists.new ≡ (print_written (all_emitted (program_in names.now) (scope_in scope.now) (exprs_of args.now) (from + 1) (length (scope_in scope.now)) (lists_of lists.old)) (pieces format.now)).lists) }
-    ensures place { IfOk result (λ p. p ≡ (print_written (all_emitted (program_in names.now) (scope_in scope.now) (exprs_of args.now) (from + 1) (length (scope_in scope.now)) (lists_of lists.old)) (pieces format.now)).to) }
-    ensures fails { IfErr result (λ why. NeedsMore why ((print_written (all_emitted (program_in names.now) (scope_in scope.now) (exprs_of args.now) (from + 1) (length (scope_in scope.now)) (lists_of lists.old)) (pieces format.now)).lists).registers) }
+    ensures { Writes (print_written
+        (all_emitted (program_in names.now) (scope_in scope.now) (exprs_of args.now) (from + 1)
+        (length (scope_in scope.now)) (lists_of lists.old))
+        (pieces format.now)) code.old code.new lists.new result }
 {
     put(code, Instr::Irrevocable)?;
     let next = after(from, 1)?;
     let mut registers = Vec::new(names.alloc);
     let free = scope.len();
     let to = lower_all(names, scope, lists, code, &mut registers, args, next, free)?;
-    Ok(put_pieces(
+    put_pieces(
         names.alloc,
         lists,
         code,
         format.as_bytes(),
         registers.as_slice(),
         to,
-    )?)
+    )
 }
 
 /// A return.
@@ -314,18 +310,16 @@ fn lower_return<A: Allocator + Copy>(
     commits: u32,
     from: u32,
 ) -> Result<u32, Failure>
-    ensures code { OnOk result (code.new.items ≡ code.old.items ++ (return_written (program_in names.now) (scope_in scope.now) (option_map expr_of e.now) commits from (lists_of lists.old)).code) }
-    ensures lists { OnOk result (lists_of lists.new ≡ (return_written (program_in names.now) (scope_in scope.now) (option_map expr_of e.now) commits from (lists_of lists.old)).lists) }
-    ensures place { IfOk result (λ p. p ≡ (return_written (program_in names.now) (scope_in scope.now) (option_map expr_of e.now) commits from (lists_of lists.old)).to) }
-    ensures fails { IfErr result (λ why. NeedsMore why ((return_written (program_in names.now) (scope_in scope.now) (option_map expr_of e.now) commits from (lists_of lists.old)).lists).registers) }
+    ensures { Writes (return_written (program_in names.now) (scope_in scope.now) (option_map expr_of e.now) commits from
+        (lists_of lists.old)) code.old code.new lists.new result }
 {
     match e {
         Some(e) => {
             let free = scope.len();
             let held = lower_expr(names, scope, lists, code, e, from, free, free)?;
-            Ok(leave(code, commits, Instr::ReturnValue(held.register), held.to)?)
+            leave(code, commits, Instr::ReturnValue(held.register), held.to)
         }
-        None => Ok(leave(code, commits, Instr::Return, from)?),
+        None => leave(code, commits, Instr::Return, from),
     }
 }
 
@@ -341,10 +335,8 @@ pub(crate) fn lower_stmt<'p, A: Allocator + Copy>(
     from: u32,
 ) -> Result<u32, Failure>
     ensures scope { OnOk result (scope_in scope.new ≡ locals_after (stmt_of s.now) (scope_in scope.old)) }
-    ensures code { OnOk result (code.new.items ≡ code.old.items ++ (written (program_in names.now) (stmt_of s.now) exits (scope_in scope.old) from (lists_of lists.old)).code) }
-    ensures lists { OnOk result (lists_of lists.new ≡ (written (program_in names.now) (stmt_of s.now) exits (scope_in scope.old) from (lists_of lists.old)).lists) }
-    ensures place { IfOk result (λ p. p ≡ (written (program_in names.now) (stmt_of s.now) exits (scope_in scope.old) from (lists_of lists.old)).to) }
-    ensures fails { IfErr result (λ why. NeedsMore why ((written (program_in names.now) (stmt_of s.now) exits (scope_in scope.old) from (lists_of lists.old)).lists).registers) }
+    ensures code { Writes (written (program_in names.now) (stmt_of s.now) exits (scope_in scope.old) from
+        (lists_of lists.old)) code.old code.new lists.new result }
 {
     match s {
         Stmt::Empty => Ok(from),
@@ -452,8 +444,8 @@ pub(crate) fn lower_stmt<'p, A: Allocator + Copy>(
                 from,
             )
         }
-        Stmt::Break(_) => Ok(leave(code, exits.in_loop, Instr::Jump(exits.break_to), from)?),
-        Stmt::Continue(_) => Ok(leave(code, exits.in_loop, Instr::Jump(exits.continue_to), from)?),
+        Stmt::Break(_) => leave(code, exits.in_loop, Instr::Jump(exits.break_to), from),
+        Stmt::Continue(_) => leave(code, exits.in_loop, Instr::Jump(exits.continue_to), from),
         Stmt::Return(e, _) => {
             lower_return(names, scope, lists, code, e, exits.in_function, from)
         }
@@ -492,10 +484,8 @@ fn lower_if<'p, A: Allocator + Copy>(
     requires test { test.old.items ≡ [] }
     requires branch { branch.old.items ≡ [] }
     ensures scope { OnOk result (scope_in scope.new ≡ scope_in scope.old) }
-    ensures code { OnOk result (code.new.items ≡ code.old.items ++ (written (program_in names.now) (Tree.If (expr_of c.now) (stmt_of then.now)) exits (scope_in scope.old) from (lists_of lists.old)).code) }
-    ensures lists { OnOk result (lists_of lists.new ≡ (written (program_in names.now) (Tree.If (expr_of c.now) (stmt_of then.now)) exits (scope_in scope.old) from (lists_of lists.old)).lists) }
-    ensures place { IfOk result (λ p. p ≡ (written (program_in names.now) (Tree.If (expr_of c.now) (stmt_of then.now)) exits (scope_in scope.old) from (lists_of lists.old)).to) }
-    ensures fails { IfErr result (λ why. NeedsMore why ((written (program_in names.now) (Tree.If (expr_of c.now) (stmt_of then.now)) exits (scope_in scope.old) from (lists_of lists.old)).lists).registers) }
+    ensures code { Writes (written (program_in names.now) (Tree.If (expr_of c.now) (stmt_of then.now)) exits
+        (scope_in scope.old) from (lists_of lists.old)) code.old code.new lists.new result }
 {
     let t = lower_head(names, scope, lists, test, c, from)?;
     let next = after(t.to, 1)?;
@@ -504,8 +494,8 @@ fn lower_if<'p, A: Allocator + Copy>(
     Ok(to)
 }
 
-/// An `if` with `else`; the three parts are gathered in `test`, `first` and `second`. The prover needs `s`: both branches are smaller
-/// than it.
+/// An `if` with `else`; the three parts are gathered in `test`, `first` and `second`. The prover needs `s`: both
+/// branches are smaller than it.
 #[cycle(lower_stmt)]
 fn lower_if_else<'p, A: Allocator + Copy>(
     names: &Names<'p, A>,
@@ -527,10 +517,8 @@ fn lower_if_else<'p, A: Allocator + Copy>(
     requires second { second.old.items ≡ [] }
     requires parts { s.now ≡ tree.If c.now then.now (Some other.now) }
     ensures scope { OnOk result (scope_in scope.new ≡ scope_in scope.old) }
-    ensures code { OnOk result (code.new.items ≡ code.old.items ++ (written (program_in names.now) (Tree.IfElse (expr_of c.now) (stmt_of then.now) (stmt_of other.now)) exits (scope_in scope.old) from (lists_of lists.old)).code) }
-    ensures lists { OnOk result (lists_of lists.new ≡ (written (program_in names.now) (Tree.IfElse (expr_of c.now) (stmt_of then.now) (stmt_of other.now)) exits (scope_in scope.old) from (lists_of lists.old)).lists) }
-    ensures place { IfOk result (λ p. p ≡ (written (program_in names.now) (Tree.IfElse (expr_of c.now) (stmt_of then.now) (stmt_of other.now)) exits (scope_in scope.old) from (lists_of lists.old)).to) }
-    ensures fails { IfErr result (λ why. NeedsMore why ((written (program_in names.now) (Tree.IfElse (expr_of c.now) (stmt_of then.now) (stmt_of other.now)) exits (scope_in scope.old) from (lists_of lists.old)).lists).registers) }
+    ensures code { Writes (written (program_in names.now) (Tree.IfElse (expr_of c.now) (stmt_of then.now)
+        (stmt_of other.now)) exits (scope_in scope.old) from (lists_of lists.old)) code.old code.new lists.new result }
 {
     let _whole = s;
     let t = lower_head(names, scope, lists, test, c, from)?;
@@ -557,10 +545,8 @@ fn lower_while<'p, A: Allocator + Copy>(
 ) -> Result<u32, Failure>
     requires { inner.old.items ≡ [] }
     ensures scope { OnOk result (scope_in scope.new ≡ scope_in scope.old) }
-    ensures code { OnOk result (code.new.items ≡ code.old.items ++ (written (program_in names.now) (Tree.While (expr_of c.now) (stmt_of body.now)) exits (scope_in scope.old) from (lists_of lists.old)).code) }
-    ensures lists { OnOk result (lists_of lists.new ≡ (written (program_in names.now) (Tree.While (expr_of c.now) (stmt_of body.now)) exits (scope_in scope.old) from (lists_of lists.old)).lists) }
-    ensures place { IfOk result (λ p. p ≡ (written (program_in names.now) (Tree.While (expr_of c.now) (stmt_of body.now)) exits (scope_in scope.old) from (lists_of lists.old)).to) }
-    ensures fails { IfErr result (λ why. NeedsMore why ((written (program_in names.now) (Tree.While (expr_of c.now) (stmt_of body.now)) exits (scope_in scope.old) from (lists_of lists.old)).lists).registers) }
+    ensures code { Writes (written (program_in names.now) (Tree.While (expr_of c.now) (stmt_of body.now)) exits
+        (scope_in scope.old) from (lists_of lists.old)) code.old code.new lists.new result }
 {
     let pad = after(from, 1)?;
     let start = after(from, 2)?;
@@ -586,10 +572,8 @@ fn lower_do_while<'p, A: Allocator + Copy>(
 ) -> Result<u32, Failure>
     requires { inner.old.items ≡ [] }
     ensures scope { OnOk result (scope_in scope.new ≡ scope_in scope.old) }
-    ensures code { OnOk result (code.new.items ≡ code.old.items ++ (written (program_in names.now) (Tree.DoWhile (stmt_of body.now) (expr_of c.now)) exits (scope_in scope.old) from (lists_of lists.old)).code) }
-    ensures lists { OnOk result (lists_of lists.new ≡ (written (program_in names.now) (Tree.DoWhile (stmt_of body.now) (expr_of c.now)) exits (scope_in scope.old) from (lists_of lists.old)).lists) }
-    ensures place { IfOk result (λ p. p ≡ (written (program_in names.now) (Tree.DoWhile (stmt_of body.now) (expr_of c.now)) exits (scope_in scope.old) from (lists_of lists.old)).to) }
-    ensures fails { IfErr result (λ why. NeedsMore why ((written (program_in names.now) (Tree.DoWhile (stmt_of body.now) (expr_of c.now)) exits (scope_in scope.old) from (lists_of lists.old)).lists).registers) }
+    ensures code { Writes (written (program_in names.now) (Tree.DoWhile (stmt_of body.now) (expr_of c.now)) exits
+        (scope_in scope.old) from (lists_of lists.old)) code.old code.new lists.new result }
 {
     let pad = after(from, 1)?;
     let other = after(from, 2)?;
@@ -616,10 +600,10 @@ fn lower_transaction<'p, A: Allocator + Copy>(
 ) -> Result<u32, Failure>
     requires { inner.old.items ≡ [] }
     ensures scope { OnOk result (scope_in scope.new ≡ scope_in scope.old) }
-    ensures code { OnOk result (code.new.items ≡ code.old.items ++ (transacted (all_written (program_in names.now) (stmts_of body.now) (statements.in_transaction kind exits) (scope_in scope.old) (from + 1) (lists_of lists.old))).code) }
-    ensures lists { OnOk result (lists_of lists.new ≡ (transacted (all_written (program_in names.now) (stmts_of body.now) (statements.in_transaction kind exits) (scope_in scope.old) (from + 1) (lists_of lists.old))).lists) }
-    ensures place { IfOk result (λ p. p ≡ (transacted (all_written (program_in names.now) (stmts_of body.now) (statements.in_transaction kind exits) (scope_in scope.old) (from + 1) (lists_of lists.old))).to) }
-    ensures fails { IfErr result (λ why. NeedsMore why ((transacted (all_written (program_in names.now) (stmts_of body.now) (statements.in_transaction kind exits) (scope_in scope.old) (from + 1) (lists_of lists.old))).lists).registers) }
+    ensures code { Writes (transacted
+        (all_written (program_in names.now) (stmts_of body.now) (statements.in_transaction kind exits)
+        (scope_in scope.old) (from + 1) (lists_of lists.old)))
+        code.old code.new lists.new result }
 {
     let exits = entered(kind, exits)?;
     let start = after(from, 1)?;
@@ -644,10 +628,10 @@ fn lower_for<'p, A: Allocator + Copy>(
 ) -> Result<u32, Failure>
     requires { inner.old.items ≡ [] }
     ensures scope { OnOk result (scope_in scope.new ≡ scope_in scope.old) }
-    ensures code { OnOk result (code.new.items ≡ code.old.items ++ (written (program_in names.now) (Tree.For (start_of head.now.start) (option_map expr_of head.now.condition) (option_map simple_of head.now.step) (stmt_of body.now)) exits (scope_in scope.old) from (lists_of lists.old)).code) }
-    ensures lists { OnOk result (lists_of lists.new ≡ (written (program_in names.now) (Tree.For (start_of head.now.start) (option_map expr_of head.now.condition) (option_map simple_of head.now.step) (stmt_of body.now)) exits (scope_in scope.old) from (lists_of lists.old)).lists) }
-    ensures place { IfOk result (λ p. p ≡ (written (program_in names.now) (Tree.For (start_of head.now.start) (option_map expr_of head.now.condition) (option_map simple_of head.now.step) (stmt_of body.now)) exits (scope_in scope.old) from (lists_of lists.old)).to) }
-    ensures fails { IfErr result (λ why. NeedsMore why ((written (program_in names.now) (Tree.For (start_of head.now.start) (option_map expr_of head.now.condition) (option_map simple_of head.now.step) (stmt_of body.now)) exits (scope_in scope.old) from (lists_of lists.old)).lists).registers) }
+    ensures code { Writes (written (program_in names.now)
+        (Tree.For (start_of head.now.start) (option_map expr_of head.now.condition)
+        (option_map simple_of head.now.step) (stmt_of body.now))
+        exits (scope_in scope.old) from (lists_of lists.old)) code.old code.new lists.new result }
 {
     let outer = scope.len();
     let pads = lower_start(names, scope, lists, code, &head.start, from)?;
@@ -675,10 +659,8 @@ fn lower_scoped<'p, A: Allocator + Copy>(
     from: u32,
 ) -> Result<u32, Failure>
     ensures scope { OnOk result (scope_in scope.new ≡ scope_in scope.old) }
-    ensures code { OnOk result (code.new.items ≡ code.old.items ++ (written (program_in names.now) (stmt_of s.now) exits (scope_in scope.old) from (lists_of lists.old)).code) }
-    ensures lists { OnOk result (lists_of lists.new ≡ (written (program_in names.now) (stmt_of s.now) exits (scope_in scope.old) from (lists_of lists.old)).lists) }
-    ensures place { IfOk result (λ p. p ≡ (written (program_in names.now) (stmt_of s.now) exits (scope_in scope.old) from (lists_of lists.old)).to) }
-    ensures fails { IfErr result (λ why. NeedsMore why ((written (program_in names.now) (stmt_of s.now) exits (scope_in scope.old) from (lists_of lists.old)).lists).registers) }
+    ensures code { Writes (written (program_in names.now) (stmt_of s.now) exits (scope_in scope.old) from
+        (lists_of lists.old)) code.old code.new lists.new result }
 {
     let outer = scope.len();
     let to = lower_stmt(names, scope, lists, code, s, exits, from)?;
@@ -698,10 +680,8 @@ fn lower_block<'p, A: Allocator + Copy>(
     from: u32,
 ) -> Result<u32, Failure>
     ensures scope { OnOk result (scope_in scope.new ≡ scope_in scope.old) }
-    ensures code { OnOk result (code.new.items ≡ code.old.items ++ (all_written (program_in names.now) (stmts_of body.now) exits (scope_in scope.old) from (lists_of lists.old)).code) }
-    ensures lists { OnOk result (lists_of lists.new ≡ (all_written (program_in names.now) (stmts_of body.now) exits (scope_in scope.old) from (lists_of lists.old)).lists) }
-    ensures place { IfOk result (λ p. p ≡ (all_written (program_in names.now) (stmts_of body.now) exits (scope_in scope.old) from (lists_of lists.old)).to) }
-    ensures fails { IfErr result (λ why. NeedsMore why ((all_written (program_in names.now) (stmts_of body.now) exits (scope_in scope.old) from (lists_of lists.old)).lists).registers) }
+    ensures code { Writes (all_written (program_in names.now) (stmts_of body.now) exits (scope_in scope.old) from
+        (lists_of lists.old)) code.old code.new lists.new result }
 {
     let outer = scope.len();
     let to = lower_stmts(names, scope, lists, code, body, exits, from)?;
@@ -721,10 +701,8 @@ pub(crate) fn lower_stmts<'p, A: Allocator + Copy>(
     from: u32,
 ) -> Result<u32, Failure>
     ensures scope { OnOk result (scope_in scope.new ≡ locals_at_end (stmts_of body.now) (scope_in scope.old)) }
-    ensures code { OnOk result (code.new.items ≡ code.old.items ++ (all_written (program_in names.now) (stmts_of body.now) exits (scope_in scope.old) from (lists_of lists.old)).code) }
-    ensures lists { OnOk result (lists_of lists.new ≡ (all_written (program_in names.now) (stmts_of body.now) exits (scope_in scope.old) from (lists_of lists.old)).lists) }
-    ensures place { IfOk result (λ p. p ≡ (all_written (program_in names.now) (stmts_of body.now) exits (scope_in scope.old) from (lists_of lists.old)).to) }
-    ensures fails { IfErr result (λ why. NeedsMore why ((all_written (program_in names.now) (stmts_of body.now) exits (scope_in scope.old) from (lists_of lists.old)).lists).registers) }
+    ensures code { Writes (all_written (program_in names.now) (stmts_of body.now) exits (scope_in scope.old) from
+        (lists_of lists.old)) code.old code.new lists.new result }
 {
     let mut to = from;
     'body: for s in body {

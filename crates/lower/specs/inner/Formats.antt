@@ -23,7 +23,7 @@ text_written (c ∷ cs) from l = record {
   to = from + 1;
 }
 
--- and a number behind it
+-- a literal text, where there is any, and a number behind it
 abbrev pub figure_written : List ℕ → Scalar → ℕ → ℕ → Lists → Written
 figure_written text t r from l =
     let before = text_written text from l in and_then before (one_written (printing t r) before.to before.lists)

@@ -1,12 +1,37 @@
--- Why no code is made of a definition, of an item and of a program in which no transaction lies too deep.
-use Rattle.std.specs.Prelude.{◌≡◌, ◌<◌, ℕ, List, Contains}
+-- What is made of a program so far, and why no code is made of a definition, of an item and of a program in which no
+-- transaction lies too deep.
+use Rattle.std.specs.Prelude.{◌≡◌, ◌<◌, ◌++◌, ◌∷◌, [], ℕ, List, map, Contains}
 use Rattle.syntax.specs.Tree.{Function, Item, Defines, Program}
 use Rattle.bytecode.specs.Code.{FunctionCode}
+use Rattle.bytecode.specs.Views.{function_of}
+use Rattle.picked.specs.Simples.{Written}
+use Rattle.picked.specs.Programs.{Made, function_code}
+use Rattle.expression_code.specs.Lists.{lists_of}
+use Rattle.lower.specs.declared.generate.Making.{Making}
 use Rattle.lower.specs.declared.fault.LowerFault.{LowerFault}
 use Rattle.lower.specs.declared.fault.LowerFault.TheVariants.{OutOfMemory, TooManyRegisters, TooMuchCode, NestedTooDeep}
 use Rattle.lower.specs.Limits.{NeedsTooMany, PassesWith, IsTooMuch}
 
--- of a definition that needs so many registers, behind which there are so many instructions
+module _ {A : Type 0} where
+  abbrev pub made_in : Making A → Made
+  made_in m = record {
+    functions = map function_of m.functions.items;
+    code = m.code.items;
+    lists = lists_of m.lists;
+    to = m.to;
+  }
+
+-- what is made of items, and behind it what is made of others
+abbrev pub made_behind : Made → Made → Made
+made_behind a b =
+    record { functions = a.functions ++ b.functions; code = a.code ++ b.code; lists = b.lists; to = b.to }
+
+-- what is made of one definition
+abbrev pub made_once : Function → ℕ → Written → Made
+made_once f from w =
+    record { functions = function_code f from w ∷ []; code = w.code; lists = w.lists; to = w.to }
+
+-- why no code is made of a definition that needs so many registers, behind which there are so many instructions
 abbrev pub IsOfDefinition : Function → (registers instructions : ℕ) → LowerFault → Type 0
 IsOfDefinition f registers instructions OutOfMemory = Unit {0}
 IsOfDefinition f registers instructions (TooManyRegisters at) = (at ≡ f.name.at) × (65535 < registers)
@@ -17,7 +42,7 @@ IsOfDefinition f registers instructions (NestedTooDeep at) = ⊥
 abbrev pub NeedsTooManyIn : Function → List FunctionCode → Type 0
 NeedsTooManyIn f codes = (g : FunctionCode) × Contains codes g × (g.name ≡ f.name.text) × (65535 < g.registers)
 
--- of an item that has these codes, behind which there are so many instructions
+-- why none is made of an item that has these codes, behind which there are so many instructions
 abbrev pub IsOfItem : Item → List FunctionCode → ℕ → LowerFault → Type 0
 IsOfItem item codes instructions OutOfMemory = Unit {0}
 IsOfItem (Defines f) codes instructions (TooManyRegisters at) = (at ≡ f.name.at) × NeedsTooManyIn f codes

@@ -1,52 +1,40 @@
-use Rattle.std.proofs.Common.{◌≡◌, ◌∙◌, ◌++◌, [], List, ℕ, Option, Some, None, OnOk, IfOk, IfErr, Result, Ok, Err, append-nil, ap, option_map, refl, subst, sym}
-use Rattle.lex.specs.declared.token.Scalar.{Scalar}
-use Rattle.syntax.specs.Tree as Tree
-use Rattle.syntax.specs.Names.{GlobalCells, global_of, newest}
+use Rattle.std.proofs.Common.{Some, option_map, append-nil, ap, refl, sym, ◌∙◌}
+use Rattle.syntax.specs.Names.{global_of, newest}
 use Rattle.syntax.specs.Views.{expr_of}
 use Rattle.picked.specs.Expressions.{emitted}
-use Rattle.picked.specs.Lists.{Lists}
-use Rattle.picked.specs.Simples.{Aimed, aimed, element_target, variable_target}
+use Rattle.picked.specs.Simples.{aimed, element_target, variable_target}
 use Rattle.expression_code.specs.Lists.{lists_of}
-use Rattle.expression_code.specs.inner.Aims.{aim_in}
-use Rattle.expression_code.specs.Limits.{NeedsMore}
-use Rattle.expression_code.specs.inner.Tables.{shared_in}
 use Rattle.expression_code.specs.Views.{program_in, scope_in}
-use Rattle.expression_code.proofs.Arms.{variable_is, element_is}
+use Rattle.expression_code.specs.inner.Stretches.{in_place, of_aim}
+use Rattle.expression_code.specs.inner.Tables.{shared_in}
+use Rattle.expression_code.proofs.Adding.{same, in_turn, no_less, stops}
+use Rattle.expression_code.proofs.Nodes.{variable_is, element_is}
 use Rattle.expression_code.proofs.simple.aim.Goals as goal
-
-holds : {X Y P : Type 0} (r : Result X Y) → P → OnOk r P
-holds (Ok x) p = p
-holds (Err e) p = tt
-
-no_code : (x : Option (ℕ × Scalar)) (g : Option GlobalCells) (from : ℕ) (l : Lists) → (variable_target x g from l).code ≡ []
-no_code (Some x) g from l = refl
-no_code None (Some g) from l = refl
-no_code None None from l = refl
 
 pub returns-in-Variable : goal.returns-in-Variable
 returns-in-Variable g c =
-    let did = c.aim_variable in
-    let whole : Tree.Expr → Aimed = (λ y. aimed (program_in c.args.names.now) (scope_in c.args.scope.now) c.args.check y c.args.from c.args.free (lists_of c.args.lists.now)) in
-    let named : List ℕ → Aimed = (λ x. variable_target (newest (scope_in c.args.scope.now) x) (global_of (program_in c.args.names.now) x) c.args.from (lists_of c.args.lists.now)) in
-    let same : named c.as_str.result.now ≡ whole (expr_of c.args.e.now) = ap named c.as_str.ensures ∙ sym (ap whole (variable_is c.args.e.now c.in-Variable.x c.in-Variable.is)) in
-    let nothing = no_code (newest (scope_in c.args.scope.now) c.as_str.result.now) (global_of (program_in c.args.names.now) c.as_str.result.now) c.args.from (lists_of c.args.lists.now) in
-    record {
-      code = holds did.result (sym (append-nil c.args.code.now.items) ∙ ap (λ is. c.args.code.now.items ++ is) (sym nothing ∙ ap (λ (a : Aimed). a.code) same));
-      lists = subst (λ (a : Aimed). OnOk did.result (lists_of did.new.lists ≡ a.lists)) same did.ensures.lists;
-      aim = subst (λ (a : Aimed). IfOk did.result (λ k. k ≡ aim_in a)) same did.ensures.aim;
-      fails = subst (λ (a : Aimed). IfErr did.result (λ why. NeedsMore why a.lists.registers)) same did.ensures.fails;
-    }
+    let named = ap (λ x. of_aim (variable_target (newest (scope_in c.args.scope.now) x) (global_of (program_in c.args.names.now) x) c.args.from (lists_of c.args.lists.now))) c.as_str.ensures in
+    same (named ∙ ap (λ y. of_aim (aimed (program_in c.args.names.now) (scope_in c.args.scope.now) c.args.check y c.args.from c.args.free (lists_of c.args.lists.now))) (sym (variable_is c.in-Variable.is))) (c.aim_variable.ensures c.args.code.now.items)
+
+pub returns-in_ok-i-in-Some : goal.returns-in_ok-i-in-Some
+returns-in_ok-i-in-Some g c =
+    let found = c.in-Some.ensures.value ∙ ap (global_of (program_in c.args.names.now)) c.as_str-in-Element.ensures in
+    let index = emitted (program_in c.args.names.now) (scope_in c.args.scope.now) (expr_of c.get.result.now) c.args.from c.args.free c.args.free (lists_of c.args.lists.now) in
+    let x = shared_in c.in-Some.g in
+    let i = c.in_ok-i-in-Some.ensures in
+    let there = ap (λ o. of_aim (element_target c.args.check o index c.args.from (lists_of c.args.lists.now))) found ∙ ap (λ y. of_aim (aimed (program_in c.args.names.now) (scope_in c.args.scope.now) c.args.check y c.args.from c.args.free (lists_of c.args.lists.now))) (sym (element_is c.in-Element.is c.get.ensures)) in
+    same there (in_turn i (λ j. of_aim (element_target c.args.check (Some x) (in_place (i.end j) (i.lists j)) (i.end j).to (i.lists j))) (c.put_check.ensures (lists_of c.lower_expr.new.lists)))
+
+pub returns-in_err-i-in-Some : goal.returns-in_err-i-in-Some
+returns-in_err-i-in-Some g c =
+    let found = c.in-Some.ensures.value ∙ ap (global_of (program_in c.args.names.now)) c.as_str-in-Element.ensures in
+    let index = emitted (program_in c.args.names.now) (scope_in c.args.scope.now) (expr_of c.get.result.now) c.args.from c.args.free c.args.free (lists_of c.args.lists.now) in
+    let there = ap (λ o. of_aim (element_target c.args.check o index c.args.from (lists_of c.args.lists.now))) found ∙ ap (λ y. of_aim (aimed (program_in c.args.names.now) (scope_in c.args.scope.now) c.args.check y c.args.from c.args.free (lists_of c.args.lists.now))) (sym (element_is c.in-Element.is c.get.ensures)) in
+    same there (stops c.lower_expr.ensures c.in_err-i-in-Some.was c.from_residual.ensures (no_less _))
 
 pub returns-in-None : goal.returns-in-None
 returns-in-None g c =
-    let whole : Tree.Expr → Aimed = (λ y. aimed (program_in c.args.names.now) (scope_in c.args.scope.now) c.args.check y c.args.from c.args.free (lists_of c.args.lists.now)) in
-    let is = element_is c.args.e.now c.in-Element.x c.in-Element.index c.in-Element.index c.in-Element.field-2 c.in-Element.is refl in
     let found = sym (ap (option_map shared_in) c.in-None.is) ∙ c.global.ensures.value ∙ ap (global_of (program_in c.args.names.now)) c.as_str-in-Element.ensures in
     let index = emitted (program_in c.args.names.now) (scope_in c.args.scope.now) (expr_of c.in-Element.index) c.args.from c.args.free c.args.free (lists_of c.args.lists.now) in
-    let same = ap (λ o. element_target c.args.check o index c.args.from (lists_of c.args.lists.now)) found ∙ sym (ap whole is) in
-    record {
-      code = sym (append-nil c.args.code.now.items) ∙ ap (λ (a : Aimed). c.args.code.now.items ++ a.code) same;
-      lists = ap (λ (a : Aimed). a.lists) same;
-      aim = c.aim_at.ensures ∙ ap aim_in same;
-      fails = tt;
-    }
+    let there = ap (λ o. of_aim (element_target c.args.check o index c.args.from (lists_of c.args.lists.now))) found ∙ ap (λ y. of_aim (aimed (program_in c.args.names.now) (scope_in c.args.scope.now) c.args.check y c.args.from c.args.free (lists_of c.args.lists.now))) (sym (element_is c.in-Element.is refl)) in
+    same there (record { code = sym (append-nil c.args.code.now.items); lists = refl; end = c.aim_at.ensures; fails = tt })

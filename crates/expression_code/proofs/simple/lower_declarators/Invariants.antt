@@ -1,19 +1,19 @@
-use Rattle.std.proofs.Common.{◌≡◌, ◌++◌, drop, map}
+use Rattle.std.proofs.Common.{◌≡◌, drop, map}
 use Rattle.syntax.specs.Views.{declarator_of}
 use Rattle.lowered.specs.Statements.{with_declared}
 use Rattle.picked.specs.Simples.{declared_written}
 use Rattle.expression_code.specs.Lists.{lists_of}
 use Rattle.expression_code.specs.Views.{program_in, scope_in}
+use Rattle.expression_code.proofs.Adding.{written_behind}
 use Rattle.expression_code.proofs.simple.lower_declarators.Given as goal
 
 -- what is made and what is to come are the whole
 abbrev pub invariant-each : goal.invariant-each
 invariant-each g l =
-    let rest = declared_written (program_in l.names) l.of (map declarator_of (drop l.one-index l.all)) (scope_in l.scope) l.to (lists_of l.lists) in
-    let whole = declared_written (program_in l.names) l.of (map declarator_of l.all) (scope_in l.fn.scope) l.from (lists_of l.fn.lists) in
+    let rest = map declarator_of (drop l.one-index l.all) in
+    let all = map declarator_of l.all in
     record {
-      scope : with_declared l.of (map declarator_of (drop l.one-index l.all)) (scope_in l.scope) ≡ with_declared l.of (map declarator_of l.all) (scope_in l.fn.scope);
-      code : l.code.items ++ rest.code ≡ l.fn.code.items ++ whole.code;
-      lists : rest.lists ≡ whole.lists;
-      place : rest.to ≡ whole.to;
+      scope : with_declared l.of rest (scope_in l.scope) ≡ with_declared l.of all (scope_in l.fn.scope);
+      code : written_behind l.code.items (declared_written (program_in l.names) l.of rest (scope_in l.scope) l.to (lists_of l.lists))
+          ≡ written_behind l.fn.code.items (declared_written (program_in l.names) l.of all (scope_in l.fn.scope) l.from (lists_of l.fn.lists));
     }

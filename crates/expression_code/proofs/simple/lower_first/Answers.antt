@@ -1,22 +1,19 @@
-use Rattle.std.proofs.Common.{ap, arith, option_map}
+use Rattle.std.proofs.Common.{◌+◌, ap, sym, arith, option_map}
 use Rattle.syntax.specs.Views.{expr_of}
+use Rattle.picked.specs.Simples.{first_written}
 use Rattle.expression_code.specs.Lists.{lists_of}
 use Rattle.expression_code.specs.Views.{program_in, scope_in}
-use Rattle.expression_code.proofs.Needing.{passed_on}
-use Rattle.expression_code.proofs.Failing.{value_fails, value_code, value_lists}
+use Rattle.expression_code.specs.Stretches.{of_value, of_written}
+use Rattle.expression_code.proofs.Adding.{same, stops}
+use Rattle.expression_code.proofs.Assigning.{first_is, first_within, first_there}
 use Rattle.expression_code.proofs.simple.lower_first.Goals as goal
 
-pub returns-in_err-held-in-Some-clause-fails : goal.returns-in_err-held-in-Some-clause-fails
-returns-in_err-held-in-Some-clause-fails g c =
-    passed_on c.lower_expr.result c.from_residual.result c.in_err-held-in-Some.field-0.0 _ _ c.lower_expr.ensures.fails c.in_err-held-in-Some.was c.from_residual.ensures
-    (value_fails (program_in c.args.names.now) (scope_in c.args.scope.now) c.args.register c.args.of (expr_of c.in-Some.e) (option_map expr_of c.args.first.now) c.args.from _ (lists_of c.args.lists.now) (ap (option_map expr_of) c.in-Some.is) (omega arith))
+pub returns-in_err-held-in-Some : goal.returns-in_err-held-in-Some
+returns-in_err-held-in-Some g c =
+    let some = ap (λ o. of_written (first_written (program_in c.args.names.now) (scope_in c.args.scope.now) c.args.register c.args.of (option_map expr_of o) c.args.from (lists_of c.args.lists.now))) (sym c.in-Some.is) in
+    same some (stops (same (ap of_value (first_is (program_in c.args.names.now) (scope_in c.args.scope.now) c.args.register c.args.of (expr_of c.in-Some.e) c.args.from (c.args.register + 1) (lists_of c.args.lists.now) (omega arith))) c.lower_expr.ensures) c.in_err-held-in-Some.was c.from_residual.ensures (first_within (program_in c.args.names.now) (scope_in c.args.scope.now) c.args.register c.args.of (expr_of c.in-Some.e) c.args.from (c.args.register + 1) (lists_of c.args.lists.now) (omega arith)))
 
-pub returns-in_ok-store-in-Some-clause-code : goal.returns-in_ok-store-in-Some-clause-code
-returns-in_ok-store-in-Some-clause-code g c =
-    value_code (program_in c.args.names.now) (scope_in c.args.scope.now) c.args.register c.args.of (expr_of c.in-Some.e) (option_map expr_of c.args.first.now) c.args.from _ (lists_of c.args.lists.now) (ap (option_map expr_of) c.in-Some.is) (omega arith)
-    c.args.code.now.items c.lower_expr.new.code.items c.store.new.code.items c.in_ok-held-in-Some.held c.in_ok-held-in-Some.ensures.code c.in_ok-held-in-Some.ensures.held c.in_ok-store-in-Some.ensures.code
-
-pub returns-in_ok-store-in-Some-clause-lists : goal.returns-in_ok-store-in-Some-clause-lists
-returns-in_ok-store-in-Some-clause-lists g c =
-    value_lists (program_in c.args.names.now) (scope_in c.args.scope.now) c.args.register c.args.of (expr_of c.in-Some.e) (option_map expr_of c.args.first.now) c.args.from _ (lists_of c.args.lists.now) (ap (option_map expr_of) c.in-Some.is) (omega arith)
-    (lists_of c.lower_expr.new.lists) c.in_ok-held-in-Some.ensures.lists
+pub returns-in_ok-held-in-Some : goal.returns-in_ok-held-in-Some
+returns-in_ok-held-in-Some g c =
+    let some = ap (λ o. of_written (first_written (program_in c.args.names.now) (scope_in c.args.scope.now) c.args.register c.args.of (option_map expr_of o) c.args.from (lists_of c.args.lists.now))) (sym c.in-Some.is) in
+    same some (first_there (program_in c.args.names.now) (scope_in c.args.scope.now) c.args.register c.args.of (expr_of c.in-Some.e) c.args.from (c.args.register + 1) (lists_of c.args.lists.now) (omega arith) (same (ap of_value (first_is (program_in c.args.names.now) (scope_in c.args.scope.now) c.args.register c.args.of (expr_of c.in-Some.e) c.args.from (c.args.register + 1) (lists_of c.args.lists.now) (omega arith))) c.in_ok-held-in-Some.ensures) (c.store.ensures (lists_of c.lower_expr.new.lists)))

@@ -1,26 +1,26 @@
-use Rattle.std.proofs.Common.{◌≡◌, ℕ, ◌+◌, List, ◌++◌, length, not, ◌&&◌, nat_le, ◌==◌, OnOk, IfOk, sym, ap, ◌∙◌, subst, arith}
+use Rattle.std.proofs.Common.{◌≡◌, ℕ, ◌+◌, List, length, not, ◌&&◌, nat_le, ◌==◌, sym, ap, ◌∙◌, arith}
 use Rattle.std.proofs.lemmas.List.{length-append}
 use Rattle.syntax.specs.Views.{function_of, stmts_of}
 use Rattle.bytecode.specs.declared.instr.Instr.{Instr}
 use Rattle.lowered.specs.Expressions.{Layout}
 use Rattle.picked.specs.Lists.{Lists}
 use Rattle.picked.specs.Loops.{in_loops}
-use Rattle.picked.specs.Simples.{Written}
-use Rattle.picked.specs.Programs.{body_with, body_written, nothing_ready}
+use Rattle.picked.specs.Programs.{body_with, nothing_ready}
 use Rattle.picked.proofs.Leaner.{body_leaner}
 use Rattle.expression_code.specs.Lists.{lists_of}
+use Rattle.expression_code.specs.Stretches.{of_written}
 use Rattle.expression_code.specs.Views.{program_in}
-use Rattle.lower.proofs.Better.{still_fails, arguments_fit, texts_fit, stays_plain, gets_better, body_more, has_room, behind_others, in_front}
-use Rattle.expression_code.proofs.Needing.{passed_on}
+use Rattle.expression_code.proofs.Adding.{same, stops}
+use Rattle.lower.proofs.Better.{made_once_more, arguments_fit, texts_fit, stays_plain, gets_better, body_more, has_room, behind_others, in_front}
 use Rattle.lower.proofs.function.lower_function.Goals as goal
 
-pub returns-in_err-to-clause-fails : goal.returns-in_err-to-clause-fails
-returns-in_err-to-clause-fails g c =
+pub returns-in_err-to : goal.returns-in_err-to
+returns-in_err-to g c =
     let p = program_in c.args.names.now in
     let f = function_of c.args.f.now in
     let body = stmts_of c.args.body.now in
     let l = lists_of c.args.lists.now in
-    passed_on c.lower_plain.result c.from_residual.result c.in_err-to.field-0.0 _ _ c.lower_plain.ensures.fails c.in_err-to.was c.from_residual.ensures (body_more p f body c.args.from l)
+    stops c.lower_plain.ensures c.in_err-to.was c.from_residual.ensures (body_more p f body c.args.from l)
 
 pub in_loops_behind-requires : goal.in_loops_behind-requires
 in_loops_behind-requires g c =
@@ -28,8 +28,8 @@ in_loops_behind-requires g c =
     let n = ap length (c.as_slice.ensures.value ∙ c.in_ok-to.ensures.code) ∙ length-append c.args.code.now.items _ in
     omega (arith, n, o, c.len.ensures)
 
-pub returns-then-not-is_better-clause-code : goal.returns-then-not-is_better-clause-code
-returns-then-not-is_better-clause-code g c =
+pub returns-then-not-is_better : goal.returns-then-not-is_better
+returns-then-not-is_better g c =
     let p = program_in c.args.names.now in
     let f = function_of c.args.f.now in
     let body = stmts_of c.args.body.now in
@@ -42,39 +42,7 @@ returns-then-not-is_better-clause-code g c =
     c.in_ok-constants.ensures ∙ ap (λ (is : List Instr). in_loops c.args.from is) (behind_others c.lower_plain.new.code.items c.as_slice.result.now c.args.code.now.items plain.code c.len.result n c.as_slice.ensures.value c.in_ok-to.ensures.code) in
     let test = ap (λ (xs : List ℕ). not (length xs == 0) && nat_le (c.lower_plain.new.lists.registers + length xs) 65535) (sym c.as_slice-2.ensures.value) ∙ sym c.is_better.ensures in
     let is = stays_plain p f body c.args.from l (lists_of c.lower_plain.new.lists) ws c.in_ok-to.ensures.lists are (test ∙ c.if-not-is_better.true) in
-    c.in_ok-to.ensures.code ∙ ap (λ (w : Written). c.args.code.now.items ++ w.code) (sym is)
-
-pub returns-then-not-is_better-clause-lists : goal.returns-then-not-is_better-clause-lists
-returns-then-not-is_better-clause-lists g c =
-    let p = program_in c.args.names.now in
-    let f = function_of c.args.f.now in
-    let body = stmts_of c.args.body.now in
-    let l = lists_of c.args.lists.now in
-    let o = c.args.code.now.ok.0 in
-    let n : c.len.result ≡ length c.args.code.now.items = omega (arith, o, c.len.ensures) in
-    let plain = body_with nothing_ready p f body c.args.from l in
-    let ws = c.in_ok-constants.constants.items in
-    let are : ws ≡ in_loops c.args.from plain.code =
-    c.in_ok-constants.ensures ∙ ap (λ (is : List Instr). in_loops c.args.from is) (behind_others c.lower_plain.new.code.items c.as_slice.result.now c.args.code.now.items plain.code c.len.result n c.as_slice.ensures.value c.in_ok-to.ensures.code) in
-    let test = ap (λ (xs : List ℕ). not (length xs == 0) && nat_le (c.lower_plain.new.lists.registers + length xs) 65535) (sym c.as_slice-2.ensures.value) ∙ sym c.is_better.ensures in
-    let is = stays_plain p f body c.args.from l (lists_of c.lower_plain.new.lists) ws c.in_ok-to.ensures.lists are (test ∙ c.if-not-is_better.true) in
-    c.in_ok-to.ensures.lists ∙ ap (λ (w : Written). w.lists) (sym is)
-
-pub returns-then-not-is_better-clause-place : goal.returns-then-not-is_better-clause-place
-returns-then-not-is_better-clause-place g c =
-    let p = program_in c.args.names.now in
-    let f = function_of c.args.f.now in
-    let body = stmts_of c.args.body.now in
-    let l = lists_of c.args.lists.now in
-    let o = c.args.code.now.ok.0 in
-    let n : c.len.result ≡ length c.args.code.now.items = omega (arith, o, c.len.ensures) in
-    let plain = body_with nothing_ready p f body c.args.from l in
-    let ws = c.in_ok-constants.constants.items in
-    let are : ws ≡ in_loops c.args.from plain.code =
-    c.in_ok-constants.ensures ∙ ap (λ (is : List Instr). in_loops c.args.from is) (behind_others c.lower_plain.new.code.items c.as_slice.result.now c.args.code.now.items plain.code c.len.result n c.as_slice.ensures.value c.in_ok-to.ensures.code) in
-    let test = ap (λ (xs : List ℕ). not (length xs == 0) && nat_le (c.lower_plain.new.lists.registers + length xs) 65535) (sym c.as_slice-2.ensures.value) ∙ sym c.is_better.ensures in
-    let is = stays_plain p f body c.args.from l (lists_of c.lower_plain.new.lists) ws c.in_ok-to.ensures.lists are (test ∙ c.if-not-is_better.true) in
-    c.in_ok-to.ensures.place ∙ ap (λ (w : Written). w.to) (sym is)
+    same (ap of_written (sym is)) c.in_ok-to.ensures
 
 pub overflow_cast-writable : goal.overflow_cast-writable
 overflow_cast-writable g c =
@@ -103,8 +71,8 @@ lower_ready-requires-clause-room g c =
     let n = ap length c.as_slice-2.ensures.value in
     omega (arith, room, n)
 
-pub returns-clause-code : goal.returns-clause-code
-returns-clause-code g c =
+pub returns : goal.returns
+returns g c =
     let p = program_in c.args.names.now in
     let f = function_of c.args.f.now in
     let body = stmts_of c.args.body.now in
@@ -122,57 +90,7 @@ returns-clause-code g c =
     let n3 : c.len-3.result ≡ length c.args.lists.now.texts.items = omega (arith, o3, c.len-3.ensures) in
     let is = gets_better p f body c.args.from l (lists_of c.lower_plain.new.lists) ws c.in_ok-to.ensures.lists are (test ∙ c.if-not-is_better.false) (lists_of c.cut_to.new.lists) c.len-2.result c.len-3.result n2 n3 c.cut_to.ensures.lists in
     let before = c.cut_to.ensures.code ∙ in_front c.lower_plain.new.code.items c.args.code.now.items plain.code c.len.result n c.in_ok-to.ensures.code in
-    subst (λ (xs : List Instr). OnOk c.lower_ready.result (c.lower_ready.new.code.items ≡ xs ++ (body_written p f body c.args.from l).code)) before
-    (subst (λ (w : Written). OnOk c.lower_ready.result (c.lower_ready.new.code.items ≡ c.cut_to.new.code.items ++ w.code)) is c.lower_ready.ensures.code)
-
-pub returns-clause-lists : goal.returns-clause-lists
-returns-clause-lists g c =
-    let p = program_in c.args.names.now in
-    let f = function_of c.args.f.now in
-    let body = stmts_of c.args.body.now in
-    let l = lists_of c.args.lists.now in
-    let o = c.args.code.now.ok.0 in
-    let n : c.len.result ≡ length c.args.code.now.items = omega (arith, o, c.len.ensures) in
-    let plain = body_with nothing_ready p f body c.args.from l in
-    let ws = c.in_ok-constants.constants.items in
-    let are : ws ≡ in_loops c.args.from plain.code =
-    c.in_ok-constants.ensures ∙ ap (λ (is : List Instr). in_loops c.args.from is) (behind_others c.lower_plain.new.code.items c.as_slice.result.now c.args.code.now.items plain.code c.len.result n c.as_slice.ensures.value c.in_ok-to.ensures.code) in
-    let test = ap (λ (xs : List ℕ). not (length xs == 0) && nat_le (c.lower_plain.new.lists.registers + length xs) 65535) (sym c.as_slice-2.ensures.value) ∙ sym c.is_better.ensures in
-    let o2 = c.args.lists.now.arguments.ok.0 in
-    let n2 : c.len-2.result ≡ length c.args.lists.now.arguments.items = omega (arith, o2, c.len-2.ensures) in
-    let o3 = c.args.lists.now.texts.ok.0 in
-    let n3 : c.len-3.result ≡ length c.args.lists.now.texts.items = omega (arith, o3, c.len-3.ensures) in
-    let is = gets_better p f body c.args.from l (lists_of c.lower_plain.new.lists) ws c.in_ok-to.ensures.lists are (test ∙ c.if-not-is_better.false) (lists_of c.cut_to.new.lists) c.len-2.result c.len-3.result n2 n3 c.cut_to.ensures.lists in
-    subst (λ (w : Written). OnOk c.lower_ready.result (lists_of c.lower_ready.new.lists ≡ w.lists)) is c.lower_ready.ensures.lists
-
-pub returns-clause-place : goal.returns-clause-place
-returns-clause-place g c =
-    let p = program_in c.args.names.now in
-    let f = function_of c.args.f.now in
-    let body = stmts_of c.args.body.now in
-    let l = lists_of c.args.lists.now in
-    let o = c.args.code.now.ok.0 in
-    let n : c.len.result ≡ length c.args.code.now.items = omega (arith, o, c.len.ensures) in
-    let plain = body_with nothing_ready p f body c.args.from l in
-    let ws = c.in_ok-constants.constants.items in
-    let are : ws ≡ in_loops c.args.from plain.code =
-    c.in_ok-constants.ensures ∙ ap (λ (is : List Instr). in_loops c.args.from is) (behind_others c.lower_plain.new.code.items c.as_slice.result.now c.args.code.now.items plain.code c.len.result n c.as_slice.ensures.value c.in_ok-to.ensures.code) in
-    let test = ap (λ (xs : List ℕ). not (length xs == 0) && nat_le (c.lower_plain.new.lists.registers + length xs) 65535) (sym c.as_slice-2.ensures.value) ∙ sym c.is_better.ensures in
-    let o2 = c.args.lists.now.arguments.ok.0 in
-    let n2 : c.len-2.result ≡ length c.args.lists.now.arguments.items = omega (arith, o2, c.len-2.ensures) in
-    let o3 = c.args.lists.now.texts.ok.0 in
-    let n3 : c.len-3.result ≡ length c.args.lists.now.texts.items = omega (arith, o3, c.len-3.ensures) in
-    let is = gets_better p f body c.args.from l (lists_of c.lower_plain.new.lists) ws c.in_ok-to.ensures.lists are (test ∙ c.if-not-is_better.false) (lists_of c.cut_to.new.lists) c.len-2.result c.len-3.result n2 n3 c.cut_to.ensures.lists in
-    subst (λ (w : Written). IfOk c.lower_ready.result (λ to. to ≡ w.to)) is c.lower_ready.ensures.place
-
-pub returns-clause-fails : goal.returns-clause-fails
-returns-clause-fails g c =
-    let p = program_in c.args.names.now in
-    let f = function_of c.args.f.now in
-    let body = stmts_of c.args.body.now in
-    let l = lists_of c.args.lists.now in
-    let ws = c.in_ok-constants.constants.items in
     let layout : Layout = record { writable = c.lower_plain.new.lists.registers; constants = ws } in
     let leaner = body_leaner p f body layout c.args.from (c.args.from + length ws) l (lists_of c.cut_to.new.lists) in
     let more = body_more p f body c.args.from l in
-    still_fails c.lower_ready.result _ _ (omega (arith, leaner, more)) c.lower_ready.ensures.fails
+    made_once_more before is c.lower_ready.ensures.code c.lower_ready.ensures.fails (omega (arith, leaner, more))

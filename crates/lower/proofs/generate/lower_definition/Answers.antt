@@ -13,10 +13,13 @@ returns-then-len-gt65535-clause-fault g c =
     let n : length (map parameter_of c.args.f.now.parameters) ≡ length c.args.f.now.parameters = length-map c.args.f.now.parameters parameter_of in
     (refl, omega (arith, fit, n, c.len.ensures, c.if-len-gt65535.true))
 
-pub returns-clause-functions : goal.returns-clause-functions
-returns-clause-functions g c =
-    let old = c.args.making.now.functions.items in
+pub returns-clause-made : goal.returns-clause-made
+returns-clause-made g c =
+    let k = c.in-Ok.ensures in
     let n : c.len-3.result ≡ length (map parameter_of c.args.f.now.parameters) = c.len-3.ensures ∙ sym (length-map c.args.f.now.parameters parameter_of) in
-    ap (λ fs. map code_function fs) c.in-Ok-push.ensures.items
+    let old = c.args.making.now.functions.items in
+    let functions =
+    ap (map code_function) c.in-Ok-push.ensures.items
     ∙ map-append code_function old _
-    ∙ (λ j. map code_function old ++ record { name = c.in-Ok-copy.ensures j; first = c.args.making.now.to; registers = (c.in-Ok.ensures.lists j).registers; parameters = n j } ∷ [])
+    ∙ (λ j. map code_function old ++ record { name = c.in-Ok-copy.ensures j; first = c.args.making.now.to; registers = (k.lists j).registers; parameters = n j } ∷ []) in
+    λ j. record { functions = functions j; code = k.code j; lists = k.lists j; to = k.end j }

@@ -6,47 +6,36 @@ use Rattle.bytecode.specs.Code.{FunctionCode}
 use Rattle.bytecode.specs.Views.{function_of as code_function}
 use Rattle.picked.specs.Programs.{Made, all_made, body_written, function_code}
 use Rattle.expression_code.specs.Lists.{lists_of}
-use Rattle.lower.specs.inner.Parts.{IsOfDefinition, IsOfItem}
+use Rattle.lower.specs.inner.Parts.{made_in, made_behind, made_once, IsOfDefinition, IsOfItem}
 use Rattle.expression_code.specs.Views.{program_in}
-use Rattle.lower.proofs.Bodies.{definition_made, few_more}
+use Rattle.lower.proofs.Bodies.{definition_made, prototype_made, nothing_behind, few_more}
 use Rattle.lower.proofs.Faulty.{definition_fault, handed_on}
 use Rattle.lower.proofs.generate.lower_item.Goals as goal
 
-pub returns-in_ok-lower_definition-in-Some-clause-functions : goal.returns-in_ok-lower_definition-in-Some-clause-functions
-returns-in_ok-lower_definition-in-Some-clause-functions g c =
+pub returns-in_ok-lower_definition-in-Some-clause-made : goal.returns-in_ok-lower_definition-in-Some-clause-made
+returns-in_ok-lower_definition-in-Some-clause-made g c =
     let p = program_in c.args.names.now in
-    let f = c.in-Function.f in
+    let f = function_of c.in-Function.f in
     let from = c.args.making.now.to in
     let l = lists_of c.args.making.now.lists in
-    let m = definition_made p c.args.item.now f c.in-Some.body from l c.in-Function.is c.in-Some.is in
-    let done = map code_function c.args.making.now.functions.items in
-    c.in_ok-lower_definition-in-Some.ensures.functions
-    ∙ ap (λ b. done ++ function_code (function_of f) from (body_written p (function_of f) (stmts_of b) from l) ∷ []) c.as_slice.ensures
-    ∙ sym (ap (λ (k : Made). done ++ k.functions) m)
+    let done = made_in c.args.making.now in
+    let w = body_written p f (stmts_of c.in-Some.body) from l in
+    c.in_ok-lower_definition-in-Some.ensures.made
+    ∙ ap (λ b. made_behind done (made_once f from (body_written p f (stmts_of b) from l))) c.as_slice.ensures
+    ∙ ap (λ is. made_behind done (record (made_once f from w) { code = is })) (sym (append-nil w.code))
+    ∙ sym (ap (made_behind done) (definition_made p c.args.item.now c.in-Function.f c.in-Some.body from l c.in-Function.is c.in-Some.is))
 
-pub returns-in_ok-lower_definition-in-Some-clause-code : goal.returns-in_ok-lower_definition-in-Some-clause-code
-returns-in_ok-lower_definition-in-Some-clause-code g c =
+pub returns-in-None-clause-made : goal.returns-in-None-clause-made
+returns-in-None-clause-made g c =
     let p = program_in c.args.names.now in
-    let f = c.in-Function.f in
-    let from = c.args.making.now.to in
-    let l = lists_of c.args.making.now.lists in
-    let m = definition_made p c.args.item.now f c.in-Some.body from l c.in-Function.is c.in-Some.is in
-    let done = c.args.making.now.code.items in
-    c.in_ok-lower_definition-in-Some.ensures.code
-    ∙ ap (λ b. done ++ (body_written p (function_of f) (stmts_of b) from l).code) c.as_slice.ensures
-    ∙ ap (λ xs. done ++ xs) (sym (append-nil (body_written p (function_of f) (stmts_of c.in-Some.body) from l).code))
-    ∙ sym (ap (λ (k : Made). done ++ k.code) m)
+    let done = made_in c.args.making.now in
+    sym (nothing_behind done) ∙ sym (ap (made_behind done) (prototype_made p c.args.item.now c.in-Function.f done.to done.lists c.in-Function.is c.in-None.is))
 
-pub returns-in_ok-lower_definition-in-Some-clause-lists : goal.returns-in_ok-lower_definition-in-Some-clause-lists
-returns-in_ok-lower_definition-in-Some-clause-lists g c =
+pub returns-in-Ok-clause-made : goal.returns-in-Ok-clause-made
+returns-in-Ok-clause-made g c =
     let p = program_in c.args.names.now in
-    let f = c.in-Function.f in
-    let from = c.args.making.now.to in
-    let l = lists_of c.args.making.now.lists in
-    let m = definition_made p c.args.item.now f c.in-Some.body from l c.in-Function.is c.in-Some.is in
-    c.in_ok-lower_definition-in-Some.ensures.lists
-    ∙ ap (λ b. (body_written p (function_of f) (stmts_of b) from l).lists) c.as_slice.ensures
-    ∙ sym (ap (λ (k : Made). k.lists) m)
+    let done = made_in c.args.making.now in
+    sym (nothing_behind done) ∙ sym (ap (λ i. made_behind done (all_made p (item_of i ∷ []) done.to done.lists)) c.in-Globals.is)
 
 pub returns-in_ok-lower_definition-in-Some-clause-globals : goal.returns-in_ok-lower_definition-in-Some-clause-globals
 returns-in_ok-lower_definition-in-Some-clause-globals g c =
@@ -55,24 +44,13 @@ returns-in_ok-lower_definition-in-Some-clause-globals g c =
     ∙ sym (append-nil done)
     ∙ sym (ap (λ i. done ++ shared_by (item_of i)) c.in-Function.is)
 
-pub returns-in_ok-lower_definition-in-Some-clause-place : goal.returns-in_ok-lower_definition-in-Some-clause-place
-returns-in_ok-lower_definition-in-Some-clause-place g c =
-    let p = program_in c.args.names.now in
-    let f = c.in-Function.f in
-    let from = c.args.making.now.to in
-    let l = lists_of c.args.making.now.lists in
-    let m = definition_made p c.args.item.now f c.in-Some.body from l c.in-Function.is c.in-Some.is in
-    c.in_ok-lower_definition-in-Some.ensures.place
-    ∙ ap (λ b. (body_written p (function_of f) (stmts_of b) from l).to) c.as_slice.ensures
-    ∙ sym (ap (λ (k : Made). k.to) m)
-
 pub returns-in_ok-lower_definition-in-Some-clause-few : goal.returns-in_ok-lower_definition-in-Some-clause-few
 returns-in_ok-lower_definition-in-Some-clause-few g c =
     let p = program_in c.args.names.now in
     let f = c.in-Function.f in
     let from = c.args.making.now.to in
     let l = lists_of c.args.making.now.lists in
-    subst (AllByRecursion (λ (h : FunctionCode). h.registers ≤ 65535)) (sym c.in_ok-lower_definition-in-Some.ensures.functions)
+    subst (AllByRecursion (λ (h : FunctionCode). h.registers ≤ 65535)) (sym (ap (λ (m : Made). m.functions) c.in_ok-lower_definition-in-Some.ensures.made))
     (few_more (map code_function c.args.making.now.functions.items) (function_code (function_of f) from (body_written p (function_of f) (stmts_of c.as_slice.result.now) from l)) c.requires.few c.in_ok-lower_definition-in-Some.ensures.registers)
 
 pub returns-in_err-lower_definition-in-Some-clause-fault : goal.returns-in_err-lower_definition-in-Some-clause-fault

@@ -1,7 +1,8 @@
-use Rattle.std.proofs.Common.{◌≡◌, ◌++◌, ◌≤◌, ◌-◌, drop, length}
+use Rattle.std.proofs.Common.{◌≡◌, ◌≤◌, ◌-◌, drop, length}
 use Rattle.syntax.specs.Formats.{pieces}
 use Rattle.picked.specs.Statements.{pieces_written}
 use Rattle.expression_code.specs.Lists.{lists_of}
+use Rattle.expression_code.proofs.Adding.{written_behind}
 use Rattle.lower.specs.inner.Formats.{joined}
 use Rattle.lower.proofs.print.put_pieces.Given as goal
 
@@ -16,7 +17,5 @@ invariant-units g l =
     record {
       within : l.i ≤ length l.format;
       taken : l.k ≤ l.i;
-      code : l.code.items ++ rest.code ≡ l.fn.code.items ++ whole.code;
-      lists : rest.lists ≡ whole.lists;
-      place : rest.to ≡ whole.to;
+      code : written_behind l.code.items rest ≡ written_behind l.fn.code.items whole;
     }

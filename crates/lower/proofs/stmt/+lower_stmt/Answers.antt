@@ -1,22 +1,279 @@
-use Rattle.std.proofs.Common.{◌++◌, length, refl, sym, ap, ◌∙◌, arith, OnOk, Result, Ok, Err, Some, option_map}
+use Rattle.std.proofs.Common.{ℕ, ◌+◌, [], ◌∷◌, ◌++◌, length, refl, sym, ap, ◌∙◌, arith, OnOk, Result, Ok, Err, Some, option_map, append_assoc}
 use denote.Param.Weighed.{most, at_most}
 use Rattle.syntax.specs.declared.tree.Stmt.{the_lemmas}
 use Rattle.syntax.specs.declared.tree.Stmt.TheVariants as own_stmt
 use Rattle.syntax.proofs.tree.Stmt.TheLaws.{the_size}
 use Rattle.syntax.specs.Views.{expr_of, simple_of, start_of, stmt_of, stmts_of}
+use Rattle.bytecode.specs.declared.instr.Instr.TheVariants as own
+use Rattle.picked.specs.declared.held.Tested.{Tested}
+use Rattle.picked.specs.Conditions.{going_on}
 use Rattle.picked.specs.Expressions.{condition}
+use Rattle.picked.specs.Simples.{Written}
+use Rattle.picked.specs.Statements.{branched, looping, tested_back, for_step, for_test, written, all_written}
+use Rattle.picked.proofs.Growing.{condition_more}
+use Rattle.picked.proofs.GrowingStmts.{written_more}
 use Rattle.expression_code.specs.Lists.{lists_of}
+use Rattle.expression_code.specs.Stretches.{of_written}
 use Rattle.expression_code.specs.Views.{program_in, scope_in}
-use Rattle.expression_code.proofs.Needing.{passed_on}
-use Rattle.lower.proofs.Failing.{if_test, if_branch, if_else_test, if_else_first, if_else_second, while_body, while_test, do_body, do_test, transaction_body, for_first, for_body, for_next, for_last}
-use Rattle.lower.proofs.Written.{first_within, next_code, next_lists, next_place, next_scope, last_code, last_lists, last_place, last_scope}
+use Rattle.expression_code.proofs.Adding.{same, in_turn, gathered, written_alone, stops, no_less}
+use Rattle.lower.proofs.Within.{test_within, step_within, body_within, start_within}
+use Rattle.lower.proofs.Written.{first_within, next_stmt, next_scope, last_scope, no_more_stmts}
 use Rattle.lower.proofs.Leaving.{start_longer, start_left, stmt_longer, stmt_left, stmts_longer, stmts_left}
-use Rattle.lower.proofs.Made.{if_made, if_else_made, while_made, do_made, for_made, transaction_made, same_lowering, simple_is, return_is, declare_is, print_is, block_is, if_is, if_else_is, while_is, do_is, for_is, transaction_is}
+use Rattle.lower.proofs.Nodes.{code_there, scope_there, simple_is, break_is, continue_is, return_is, declare_is, print_is, block_is, if_is, if_else_is, while_is, do_is, for_is, transaction_is}
+use Rattle.lower.proofs.Loop.{for_there}
 use Rattle.lower.proofs.stmt.+lower_stmt.Goals as goal
 
 holds : {X Y P : Type 0} (r : Result X Y) → P → OnOk r P
 holds (Ok x) p = p
 holds (Err e) p = tt
+
+pub lower_stmt-returns-in-Declare : goal.lower_stmt-returns-in-Declare
+lower_stmt-returns-in-Declare g t c =
+    let is = declare_is c.in-Declare.is c.as_slice.ensures in
+    record { scope = scope_there (scope_in c.args.scope.now) (scope_in c.lower_declarators.new.scope) c.lower_declarators.result is c.lower_declarators.ensures.scope; code = code_there (program_in c.args.names.now) c.args.exits (scope_in c.args.scope.now) c.args.from (lists_of c.args.lists.now) is c.lower_declarators.ensures.code }
+
+pub lower_stmt-returns-in-Do : goal.lower_stmt-returns-in-Do
+lower_stmt-returns-in-Do g t c =
+    let is = simple_is c.in-Do.is in
+    record { scope = scope_there (scope_in c.args.scope.now) (scope_in c.args.scope.now) c.lower_do.result is (holds c.lower_do.result refl); code = code_there (program_in c.args.names.now) c.args.exits (scope_in c.args.scope.now) c.args.from (lists_of c.args.lists.now) is c.lower_do.ensures }
+
+pub lower_stmt-returns-in-Block : goal.lower_stmt-returns-in-Block
+lower_stmt-returns-in-Block g t c =
+    let is = block_is c.in-Block.is c.as_slice-in-Block.ensures in
+    record { scope = scope_there (scope_in c.args.scope.now) (scope_in c.lower_block.new.scope) c.lower_block.result is c.lower_block.ensures.scope; code = code_there (program_in c.args.names.now) c.args.exits (scope_in c.args.scope.now) c.args.from (lists_of c.args.lists.now) is c.lower_block.ensures.code }
+
+pub lower_stmt-returns-in-Print : goal.lower_stmt-returns-in-Print
+lower_stmt-returns-in-Print g t c =
+    let is = print_is c.in-Print.is c.as_str.ensures c.as_slice-in-Print.ensures in
+    record { scope = scope_there (scope_in c.args.scope.now) (scope_in c.args.scope.now) c.lower_print.result is (holds c.lower_print.result refl); code = code_there (program_in c.args.names.now) c.args.exits (scope_in c.args.scope.now) c.args.from (lists_of c.args.lists.now) is c.lower_print.ensures }
+
+pub lower_stmt-returns-in-None : goal.lower_stmt-returns-in-None
+lower_stmt-returns-in-None g t c =
+    let is = if_is (c.in-If.is ∙ ap (λ o. own_stmt.If c.in-If.c c.in-If.then o) c.in-None.is) c.get.ensures in
+    record { scope = scope_there (scope_in c.args.scope.now) (scope_in c.lower_if.new.scope) c.lower_if.result is c.lower_if.ensures.scope; code = code_there (program_in c.args.names.now) c.args.exits (scope_in c.args.scope.now) c.args.from (lists_of c.args.lists.now) is c.lower_if.ensures.code }
+
+pub lower_stmt-returns-in-Some : goal.lower_stmt-returns-in-Some
+lower_stmt-returns-in-Some g t c =
+    let is = if_else_is (c.in-If.is ∙ ap (λ o. own_stmt.If c.in-If.c c.in-If.then o) c.in-Some.is) c.get-in-Some.ensures c.get-in-Some-2.ensures in
+    record { scope = scope_there (scope_in c.args.scope.now) (scope_in c.lower_if_else.new.scope) c.lower_if_else.result is c.lower_if_else.ensures.scope; code = code_there (program_in c.args.names.now) c.args.exits (scope_in c.args.scope.now) c.args.from (lists_of c.args.lists.now) is c.lower_if_else.ensures.code }
+
+pub lower_stmt-returns-in-While : goal.lower_stmt-returns-in-While
+lower_stmt-returns-in-While g t c =
+    let is = while_is c.in-While.is c.get-in-While.ensures in
+    record { scope = scope_there (scope_in c.args.scope.now) (scope_in c.lower_while.new.scope) c.lower_while.result is c.lower_while.ensures.scope; code = code_there (program_in c.args.names.now) c.args.exits (scope_in c.args.scope.now) c.args.from (lists_of c.args.lists.now) is c.lower_while.ensures.code }
+
+pub lower_stmt-returns-in-DoWhile : goal.lower_stmt-returns-in-DoWhile
+lower_stmt-returns-in-DoWhile g t c =
+    let is = do_is c.in-DoWhile.is c.get-in-DoWhile.ensures in
+    record { scope = scope_there (scope_in c.args.scope.now) (scope_in c.lower_do_while.new.scope) c.lower_do_while.result is c.lower_do_while.ensures.scope; code = code_there (program_in c.args.names.now) c.args.exits (scope_in c.args.scope.now) c.args.from (lists_of c.args.lists.now) is c.lower_do_while.ensures.code }
+
+pub lower_stmt-returns-in-For : goal.lower_stmt-returns-in-For
+lower_stmt-returns-in-For g t c =
+    let is = for_is c.in-For.is c.get-in-For.ensures c.get-in-For-2.ensures in
+    record { scope = scope_there (scope_in c.args.scope.now) (scope_in c.lower_for.new.scope) c.lower_for.result is c.lower_for.ensures.scope; code = code_there (program_in c.args.names.now) c.args.exits (scope_in c.args.scope.now) c.args.from (lists_of c.args.lists.now) is c.lower_for.ensures.code }
+
+pub lower_stmt-returns-in-Break : goal.lower_stmt-returns-in-Break
+lower_stmt-returns-in-Break g t c =
+    let is = break_is c.in-Break.is in
+    record { scope = scope_there (scope_in c.args.scope.now) (scope_in c.args.scope.now) c.leave.result is (holds c.leave.result refl); code = code_there (program_in c.args.names.now) c.args.exits (scope_in c.args.scope.now) c.args.from (lists_of c.args.lists.now) is (c.leave.ensures (lists_of c.args.lists.now)) }
+
+pub lower_stmt-returns-in-Continue : goal.lower_stmt-returns-in-Continue
+lower_stmt-returns-in-Continue g t c =
+    let is = continue_is c.in-Continue.is in
+    record { scope = scope_there (scope_in c.args.scope.now) (scope_in c.args.scope.now) c.leave-in-Continue.result is (holds c.leave-in-Continue.result refl); code = code_there (program_in c.args.names.now) c.args.exits (scope_in c.args.scope.now) c.args.from (lists_of c.args.lists.now) is (c.leave-in-Continue.ensures (lists_of c.args.lists.now)) }
+
+pub lower_stmt-returns-in-Return : goal.lower_stmt-returns-in-Return
+lower_stmt-returns-in-Return g t c =
+    let is = return_is c.in-Return.is in
+    record { scope = scope_there (scope_in c.args.scope.now) (scope_in c.args.scope.now) c.lower_return.result is (holds c.lower_return.result refl); code = code_there (program_in c.args.names.now) c.args.exits (scope_in c.args.scope.now) c.args.from (lists_of c.args.lists.now) is c.lower_return.ensures }
+
+pub lower_stmt-returns-in-Transaction : goal.lower_stmt-returns-in-Transaction
+lower_stmt-returns-in-Transaction g t c =
+    let is = transaction_is c.in-Transaction.is c.as_slice-all.ensures in
+    record { scope = scope_there (scope_in c.args.scope.now) (scope_in c.lower_transaction.new.scope) c.lower_transaction.result is c.lower_transaction.ensures.scope; code = code_there (program_in c.args.names.now) c.args.exits (scope_in c.args.scope.now) c.args.from (lists_of c.args.lists.now) is c.lower_transaction.ensures.code }
+
+pub lower_if-returns-clause-code : goal.lower_if-returns-clause-code
+lower_if-returns-clause-code g t c =
+    let next = c.in_ok-next.ensures ∙ ap (λ (t : Tested). t.to + 1) c.in_ok-t.ensures.end in
+    let there = ap of_written (λ j. written (program_in c.args.names.now) (stmt_of c.args.then.now) c.args.exits (scope_in c.args.scope.now) (next j) (c.in_ok-t.ensures.lists j)) in
+    let test = gathered c.in_ok-t.ensures c.requires.test c.as_slice.ensures.value in
+    let branch = written_alone (same there c.in_ok-to.ensures.code) c.requires.branch in
+    same (λ j. of_written (branched (test j) (branch j))) (record { code = c.in_ok-put_branch.ensures; lists = refl; end = refl; fails = tt })
+
+pub lower_if-returns-in_err-t-clause-code : goal.lower_if-returns-in_err-t-clause-code
+lower_if-returns-in_err-t-clause-code g t c =
+    let test = condition (program_in c.args.names.now) (scope_in c.args.scope.now) (expr_of c.args.c.now) c.args.from (length (scope_in c.args.scope.now)) (lists_of c.args.lists.now) in
+    stops c.lower_head.ensures c.in_err-t.was c.from_residual.ensures (written_more (program_in c.args.names.now) (stmt_of c.args.then.now) c.args.exits (scope_in c.args.scope.now) (test.to + 1) test.lists)
+
+pub lower_if-returns-in_err-to-clause-code : goal.lower_if-returns-in_err-to-clause-code
+lower_if-returns-in_err-to-clause-code g t c =
+    let next = c.in_ok-next.ensures ∙ ap (λ (t : Tested). t.to + 1) c.in_ok-t.ensures.end in
+    let there = ap of_written (λ j. written (program_in c.args.names.now) (stmt_of c.args.then.now) c.args.exits (scope_in c.args.scope.now) (next j) (c.in_ok-t.ensures.lists j)) in
+    stops (same there c.lower_scoped.ensures.code) c.in_err-to.was c.from_residual-in_err-to.ensures (no_less _)
+
+pub lower_if_else-returns-clause-code : goal.lower_if_else-returns-clause-code
+lower_if_else-returns-clause-code g t c =
+    let next = c.in_ok-next.ensures ∙ ap (λ (t : Tested). t.to + 1) c.in_ok-t.ensures.end in
+    let there = ap of_written (λ j. written (program_in c.args.names.now) (stmt_of c.args.then.now) c.args.exits (scope_in c.args.scope.now) (next j) (c.in_ok-t.ensures.lists j)) in
+    let test = gathered c.in_ok-t.ensures c.requires.test c.as_slice.ensures.value in
+    let first = same there c.in_ok-last.ensures.code in
+    let other_at = c.in_ok-other_at.ensures ∙ ap (λ (k : ℕ). k + 1) first.end in
+    let apart = ap of_written (λ j. written (program_in c.args.names.now) (stmt_of c.args.other.now) c.args.exits (c.in_ok-last.ensures.scope j) (other_at j) (first.lists j)) in
+    let one = written_alone first c.requires.first in
+    let two = written_alone (same apart c.in_ok-to.ensures.code) c.requires.second in
+    let code = c.in_ok-put_branches.ensures ∙ (λ j. c.args.code.now.items ++ (going_on (test j).code (c.in_ok-t.ensures.end j) (other_at j) ++ (one j).code ++ own.Jump (two j).to ∷ (two j).code)) in
+    record { code = code; lists = ap (λ (w : Written). w.lists) two; end = ap (λ (w : Written). w.to) two; fails = tt }
+
+pub lower_if_else-returns-in_err-t-clause-code : goal.lower_if_else-returns-in_err-t-clause-code
+lower_if_else-returns-in_err-t-clause-code g t c =
+    stops c.lower_head.ensures c.in_err-t.was c.from_residual.ensures (test_within (program_in c.args.names.now) c.args.exits (scope_in c.args.scope.now) c.args.from (lists_of c.args.lists.now) (expr_of c.args.c.now) (stmt_of c.args.then.now) (stmt_of c.args.other.now))
+
+pub lower_if_else-returns-in_err-last-clause-code : goal.lower_if_else-returns-in_err-last-clause-code
+lower_if_else-returns-in_err-last-clause-code g t c =
+    let next = c.in_ok-next.ensures ∙ ap (λ (t : Tested). t.to + 1) c.in_ok-t.ensures.end in
+    let there = ap of_written (λ j. written (program_in c.args.names.now) (stmt_of c.args.then.now) c.args.exits (scope_in c.args.scope.now) (next j) (c.in_ok-t.ensures.lists j)) in
+    let test = condition (program_in c.args.names.now) (scope_in c.args.scope.now) (expr_of c.args.c.now) c.args.from (length (scope_in c.args.scope.now)) (lists_of c.args.lists.now) in
+    let first = written (program_in c.args.names.now) (stmt_of c.args.then.now) c.args.exits (scope_in c.args.scope.now) (test.to + 1) test.lists in
+    stops (same there c.lower_scoped.ensures.code) c.in_err-last.was c.from_residual-in_err-last.ensures (written_more (program_in c.args.names.now) (stmt_of c.args.other.now) c.args.exits (scope_in c.args.scope.now) (first.to + 1) first.lists)
+
+pub lower_if_else-returns-in_err-to-clause-code : goal.lower_if_else-returns-in_err-to-clause-code
+lower_if_else-returns-in_err-to-clause-code g t c =
+    let next = c.in_ok-next.ensures ∙ ap (λ (t : Tested). t.to + 1) c.in_ok-t.ensures.end in
+    let there = ap of_written (λ j. written (program_in c.args.names.now) (stmt_of c.args.then.now) c.args.exits (scope_in c.args.scope.now) (next j) (c.in_ok-t.ensures.lists j)) in
+    let first = same there c.in_ok-last.ensures.code in
+    let other_at = c.in_ok-other_at.ensures ∙ ap (λ (k : ℕ). k + 1) first.end in
+    let apart = ap of_written (λ j. written (program_in c.args.names.now) (stmt_of c.args.other.now) c.args.exits (c.in_ok-last.ensures.scope j) (other_at j) (first.lists j)) in
+    stops (same apart c.lower_scoped-2.ensures.code) c.in_err-to.was c.from_residual-in_err-to.ensures (no_less _)
+
+pub lower_while-returns-clause-code : goal.lower_while-returns-clause-code
+lower_while-returns-clause-code g t c =
+    let turn = ap of_written (λ j. written (program_in c.args.names.now) (stmt_of c.args.body.now) ((c.looping-exits.ensures ∙ ap (λ k. looping c.args.exits k c.args.from) c.in_ok-pad.ensures) j) (scope_in c.args.scope.now) (c.in_ok-start.ensures j) (lists_of c.args.lists.now)) in
+    let body = same turn c.in_ok-test_at.ensures.code in
+    let test = ap of_written (λ j. tested_back (condition (program_in c.args.names.now) (c.in_ok-test_at.ensures.scope j) (expr_of c.args.c.now) (body.end j) (length (c.in_ok-test_at.ensures.scope j)) (body.lists j)) (c.in_ok-start.ensures j)) in
+    let inner = written_alone (in_turn body test c.in_ok-to.ensures) c.requires in
+    record { code = c.in_ok-put_while.ensures ∙ (λ j. c.args.code.now.items ++ own.Jump (body.end j) ∷ own.Jump (inner j).to ∷ (inner j).code); lists = ap (λ (w : Written). w.lists) inner; end = ap (λ (w : Written). w.to) inner; fails = tt }
+
+pub lower_while-returns-in_err-test_at-clause-code : goal.lower_while-returns-in_err-test_at-clause-code
+lower_while-returns-in_err-test_at-clause-code g t c =
+    let turn = ap of_written (λ j. written (program_in c.args.names.now) (stmt_of c.args.body.now) ((c.looping-exits.ensures ∙ ap (λ k. looping c.args.exits k c.args.from) c.in_ok-pad.ensures) j) (scope_in c.args.scope.now) (c.in_ok-start.ensures j) (lists_of c.args.lists.now)) in
+    let body = written (program_in c.args.names.now) (stmt_of c.args.body.now) (looping c.args.exits (c.args.from + 1) c.args.from) (scope_in c.args.scope.now) (c.args.from + 2) (lists_of c.args.lists.now) in
+    stops (same turn c.lower_scoped.ensures.code) c.in_err-test_at.was c.from_residual-in_err-test_at.ensures (condition_more (program_in c.args.names.now) (scope_in c.args.scope.now) (expr_of c.args.c.now) body.to (length (scope_in c.args.scope.now)) body.lists)
+
+pub lower_while-returns-in_err-to-clause-code : goal.lower_while-returns-in_err-to-clause-code
+lower_while-returns-in_err-to-clause-code g t c =
+    let turn = ap of_written (λ j. written (program_in c.args.names.now) (stmt_of c.args.body.now) ((c.looping-exits.ensures ∙ ap (λ k. looping c.args.exits k c.args.from) c.in_ok-pad.ensures) j) (scope_in c.args.scope.now) (c.in_ok-start.ensures j) (lists_of c.args.lists.now)) in
+    let body = same turn c.in_ok-test_at.ensures.code in
+    let test = ap of_written (λ j. tested_back (condition (program_in c.args.names.now) (c.in_ok-test_at.ensures.scope j) (expr_of c.args.c.now) (body.end j) (length (c.in_ok-test_at.ensures.scope j)) (body.lists j)) (c.in_ok-start.ensures j)) in
+    stops (same test c.lower_back.ensures) c.in_err-to.was c.from_residual-in_err-to.ensures (no_less _)
+
+pub lower_do_while-returns-clause-code : goal.lower_do_while-returns-clause-code
+lower_do_while-returns-clause-code g t c =
+    let turn = ap of_written (λ j. written (program_in c.args.names.now) (stmt_of c.args.body.now) ((c.looping-exits.ensures ∙ (λ i. looping c.args.exits (c.in_ok-pad.ensures i) (c.in_ok-other.ensures i))) j) (scope_in c.args.scope.now) (c.in_ok-start.ensures j) (lists_of c.args.lists.now)) in
+    let body = same turn c.in_ok-test_at.ensures.code in
+    let test = ap of_written (λ j. tested_back (condition (program_in c.args.names.now) (c.in_ok-test_at.ensures.scope j) (expr_of c.args.c.now) (body.end j) (length (c.in_ok-test_at.ensures.scope j)) (body.lists j)) (c.in_ok-start.ensures j)) in
+    let inner = written_alone (in_turn body test c.in_ok-to.ensures) c.requires in
+    record { code = c.in_ok-put_loop.ensures ∙ (λ j. c.args.code.now.items ++ own.Jump (c.in_ok-start.ensures j) ∷ own.Jump (inner j).to ∷ own.Jump (body.end j) ∷ (inner j).code); lists = ap (λ (w : Written). w.lists) inner; end = ap (λ (w : Written). w.to) inner; fails = tt }
+
+pub lower_do_while-returns-in_err-test_at-clause-code : goal.lower_do_while-returns-in_err-test_at-clause-code
+lower_do_while-returns-in_err-test_at-clause-code g t c =
+    let turn = ap of_written (λ j. written (program_in c.args.names.now) (stmt_of c.args.body.now) ((c.looping-exits.ensures ∙ (λ i. looping c.args.exits (c.in_ok-pad.ensures i) (c.in_ok-other.ensures i))) j) (scope_in c.args.scope.now) (c.in_ok-start.ensures j) (lists_of c.args.lists.now)) in
+    let body = written (program_in c.args.names.now) (stmt_of c.args.body.now) (looping c.args.exits (c.args.from + 1) (c.args.from + 2)) (scope_in c.args.scope.now) (c.args.from + 3) (lists_of c.args.lists.now) in
+    stops (same turn c.lower_scoped.ensures.code) c.in_err-test_at.was c.from_residual-in_err-test_at.ensures (condition_more (program_in c.args.names.now) (scope_in c.args.scope.now) (expr_of c.args.c.now) body.to (length (scope_in c.args.scope.now)) body.lists)
+
+pub lower_do_while-returns-in_err-to-clause-code : goal.lower_do_while-returns-in_err-to-clause-code
+lower_do_while-returns-in_err-to-clause-code g t c =
+    let turn = ap of_written (λ j. written (program_in c.args.names.now) (stmt_of c.args.body.now) ((c.looping-exits.ensures ∙ (λ i. looping c.args.exits (c.in_ok-pad.ensures i) (c.in_ok-other.ensures i))) j) (scope_in c.args.scope.now) (c.in_ok-start.ensures j) (lists_of c.args.lists.now)) in
+    let body = same turn c.in_ok-test_at.ensures.code in
+    let test = ap of_written (λ j. tested_back (condition (program_in c.args.names.now) (c.in_ok-test_at.ensures.scope j) (expr_of c.args.c.now) (body.end j) (length (c.in_ok-test_at.ensures.scope j)) (body.lists j)) (c.in_ok-start.ensures j)) in
+    stops (same test c.lower_back.ensures) c.in_err-to.was c.from_residual-in_err-to.ensures (no_less _)
+
+pub lower_transaction-returns-clause-code : goal.lower_transaction-returns-clause-code
+lower_transaction-returns-clause-code g t c =
+    let block = ap of_written (λ j. all_written (program_in c.args.names.now) (stmts_of c.args.body.now) (c.in_ok-exits.ensures j) (scope_in c.args.scope.now) (c.in_ok-start.ensures j) (lists_of c.args.lists.now)) in
+    let inner = written_alone (same block c.in_ok-last.ensures.code) c.requires in
+    let to = c.in_ok-to.ensures ∙ ap (λ (w : Written). w.to + 1) inner in
+    let code = c.in_ok-put_transaction.ensures ∙ append_assoc c.args.code.now.items _ (own.Commit ∷ []) ∙ (λ j. c.args.code.now.items ++ (own.Begin (to j) ∷ (inner j).code ++ own.Commit ∷ [])) in
+    record { code = code; lists = ap (λ (w : Written). w.lists) inner; end = to; fails = tt }
+
+pub lower_transaction-returns-in_err-last-clause-code : goal.lower_transaction-returns-in_err-last-clause-code
+lower_transaction-returns-in_err-last-clause-code g t c =
+    let block = ap of_written (λ j. all_written (program_in c.args.names.now) (stmts_of c.args.body.now) (c.in_ok-exits.ensures j) (scope_in c.args.scope.now) (c.in_ok-start.ensures j) (lists_of c.args.lists.now)) in
+    stops (same block c.lower_block.ensures.code) c.in_err-last.was c.from_residual-in_err-last.ensures (no_less _)
+
+pub lower_for-returns-clause-code : goal.lower_for-returns-clause-code
+lower_for-returns-clause-code g t c =
+    let start = c.in_ok-pads.ensures.code in
+    let begin = c.in_ok-start.ensures ∙ ap (λ (k : ℕ). k + 3) start.end in
+    let turn = ap of_written (λ j. written (program_in c.args.names.now) (stmt_of c.args.body.now) ((c.looping-exits.ensures ∙ (λ i. looping c.args.exits ((c.in_ok-pad.ensures ∙ ap (λ (k : ℕ). k + 1) start.end) i) ((c.in_ok-other.ensures ∙ ap (λ (k : ℕ). k + 2) start.end) i))) j) (c.in_ok-pads.ensures.scope j) (begin j) (start.lists j)) in
+    let body = same turn c.in_ok-step_at.ensures.code in
+    let inner = c.in_ok-step_at.ensures.scope ∙ c.in_ok-pads.ensures.scope in
+    let step = ap of_written (λ j. for_step (program_in c.args.names.now) (inner j) (option_map simple_of c.args.head.now.step) (body.end j) (body.lists j)) in
+    let stepped = same step c.in_ok-test_at.ensures in
+    let test = ap of_written (λ j. for_test (program_in c.args.names.now) (inner j) (option_map expr_of c.args.head.now.condition) (begin j) (stepped.end j) (stepped.lists j)) in
+    for_there (program_in c.args.names.now) c.args.exits (scope_in c.args.scope.now) c.args.from (lists_of c.args.lists.now) (start_of c.args.head.now.start) (option_map expr_of c.args.head.now.condition) (option_map simple_of c.args.head.now.step) (stmt_of c.args.body.now) start body stepped (same test c.in_ok-to.ensures) c.requires c.in_ok-put_loop.ensures
+
+pub lower_for-returns-in_err-pads-clause-code : goal.lower_for-returns-in_err-pads-clause-code
+lower_for-returns-in_err-pads-clause-code g t c =
+    stops c.lower_start.ensures.code c.in_err-pads.was c.from_residual.ensures (start_within (program_in c.args.names.now) c.args.exits (scope_in c.args.scope.now) c.args.from (lists_of c.args.lists.now) (start_of c.args.head.now.start) (option_map expr_of c.args.head.now.condition) (option_map simple_of c.args.head.now.step) (stmt_of c.args.body.now))
+
+pub lower_for-returns-in_err-step_at-clause-code : goal.lower_for-returns-in_err-step_at-clause-code
+lower_for-returns-in_err-step_at-clause-code g t c =
+    let start = c.in_ok-pads.ensures.code in
+    let begin = c.in_ok-start.ensures ∙ ap (λ (k : ℕ). k + 3) start.end in
+    let turn = ap of_written (λ j. written (program_in c.args.names.now) (stmt_of c.args.body.now) ((c.looping-exits.ensures ∙ (λ i. looping c.args.exits ((c.in_ok-pad.ensures ∙ ap (λ (k : ℕ). k + 1) start.end) i) ((c.in_ok-other.ensures ∙ ap (λ (k : ℕ). k + 2) start.end) i))) j) (c.in_ok-pads.ensures.scope j) (begin j) (start.lists j)) in
+    stops (same turn c.lower_scoped.ensures.code) c.in_err-step_at.was c.from_residual-in_err-step_at.ensures (body_within (program_in c.args.names.now) c.args.exits (scope_in c.args.scope.now) c.args.from (lists_of c.args.lists.now) (start_of c.args.head.now.start) (option_map expr_of c.args.head.now.condition) (option_map simple_of c.args.head.now.step) (stmt_of c.args.body.now))
+
+pub lower_for-returns-in_err-test_at-clause-code : goal.lower_for-returns-in_err-test_at-clause-code
+lower_for-returns-in_err-test_at-clause-code g t c =
+    let start = c.in_ok-pads.ensures.code in
+    let begin = c.in_ok-start.ensures ∙ ap (λ (k : ℕ). k + 3) start.end in
+    let turn = ap of_written (λ j. written (program_in c.args.names.now) (stmt_of c.args.body.now) ((c.looping-exits.ensures ∙ (λ i. looping c.args.exits ((c.in_ok-pad.ensures ∙ ap (λ (k : ℕ). k + 1) start.end) i) ((c.in_ok-other.ensures ∙ ap (λ (k : ℕ). k + 2) start.end) i))) j) (c.in_ok-pads.ensures.scope j) (begin j) (start.lists j)) in
+    let body = same turn c.in_ok-step_at.ensures.code in
+    let inner = c.in_ok-step_at.ensures.scope ∙ c.in_ok-pads.ensures.scope in
+    let step = ap of_written (λ j. for_step (program_in c.args.names.now) (inner j) (option_map simple_of c.args.head.now.step) (body.end j) (body.lists j)) in
+    stops (same step c.lower_step.ensures) c.in_err-test_at.was c.from_residual-in_err-test_at.ensures (step_within (program_in c.args.names.now) c.args.exits (scope_in c.args.scope.now) c.args.from (lists_of c.args.lists.now) (start_of c.args.head.now.start) (option_map expr_of c.args.head.now.condition) (option_map simple_of c.args.head.now.step) (stmt_of c.args.body.now))
+
+pub lower_for-returns-in_err-to-clause-code : goal.lower_for-returns-in_err-to-clause-code
+lower_for-returns-in_err-to-clause-code g t c =
+    let start = c.in_ok-pads.ensures.code in
+    let begin = c.in_ok-start.ensures ∙ ap (λ (k : ℕ). k + 3) start.end in
+    let turn = ap of_written (λ j. written (program_in c.args.names.now) (stmt_of c.args.body.now) ((c.looping-exits.ensures ∙ (λ i. looping c.args.exits ((c.in_ok-pad.ensures ∙ ap (λ (k : ℕ). k + 1) start.end) i) ((c.in_ok-other.ensures ∙ ap (λ (k : ℕ). k + 2) start.end) i))) j) (c.in_ok-pads.ensures.scope j) (begin j) (start.lists j)) in
+    let body = same turn c.in_ok-step_at.ensures.code in
+    let inner = c.in_ok-step_at.ensures.scope ∙ c.in_ok-pads.ensures.scope in
+    let step = ap of_written (λ j. for_step (program_in c.args.names.now) (inner j) (option_map simple_of c.args.head.now.step) (body.end j) (body.lists j)) in
+    let stepped = same step c.in_ok-test_at.ensures in
+    let test = ap of_written (λ j. for_test (program_in c.args.names.now) (inner j) (option_map expr_of c.args.head.now.condition) (begin j) (stepped.end j) (stepped.lists j)) in
+    stops (same test c.lower_test.ensures) c.in_err-to.was c.from_residual-in_err-to.ensures (no_less _)
+
+pub lower_stmts-body-preserved : goal.lower_stmts-body-preserved
+lower_stmts-body-preserved g t c =
+    let k = c.in_ok-to.ensures in
+    record {
+      scope = next_scope c.args.body.now c.body.s-index (scope_in c.body.scope) c.s-item.result _ _ c.body-test.true c.s-item.is k.scope c.body.invariant.scope;
+      code = next_stmt (program_in c.args.names.now) c.args.exits c.args.body.now c.body.s-index c.body.to (scope_in c.body.scope) (lists_of c.body.lists) c.body.code.items _ c.s-item.result c.body-test.true c.s-item.is c.body.invariant.code k.scope k.code;
+    }
+
+pub lower_stmts-returns-clause-scope : goal.lower_stmts-returns-clause-scope
+lower_stmts-returns-clause-scope g t c =
+    last_scope c.args.body.now c.body.s-index (scope_in c.body.scope) _ c.body-test.false c.body.invariant.scope
+
+pub lower_stmts-returns-clause-code : goal.lower_stmts-returns-clause-code
+lower_stmts-returns-clause-code g t c =
+    let all = no_more_stmts (program_in c.args.names.now) c.args.exits c.args.body.now c.body.s-index c.body.to (scope_in c.body.scope) (lists_of c.body.lists) c.body.code.items _ c.body-test.false c.body.invariant.code in
+    record { code = ap (λ (w : Written). w.code) all; lists = ap (λ (w : Written). w.lists) all; end = ap (λ (w : Written). w.to) all; fails = tt }
+
+pub lower_stmts-returns-in_err-to-clause-code : goal.lower_stmts-returns-in_err-to-clause-code
+lower_stmts-returns-in_err-to-clause-code g t c =
+    stops c.lower_stmt.ensures.code c.in_err-to.was c.from_residual.ensures (first_within (program_in c.args.names.now) c.args.exits c.args.body.now c.body.s-index c.body.to (scope_in c.body.scope) (lists_of c.body.lists) c.body.code.items _ c.s-item.result c.body-test.true c.s-item.is c.body.invariant.code)
+
+pub lower_block-returns-clause-scope : goal.lower_block-returns-clause-scope
+lower_block-returns-clause-scope g t c = c.leave.ensures ∙ stmts_left (scope_in c.args.scope.now) (scope_in c.lower_stmts.new.scope) c.len-outer.result c.len-outer.ensures (stmts_of c.args.body.now) c.in_ok-to.ensures.scope
+
+pub lower_scoped-returns-clause-scope : goal.lower_scoped-returns-clause-scope
+lower_scoped-returns-clause-scope g t c = c.leave.ensures ∙ stmt_left (scope_in c.args.scope.now) (scope_in c.lower_stmt.new.scope) c.len-outer.result c.len-outer.ensures (stmt_of c.args.s.now) c.in_ok-to.ensures.scope
+
+pub lower_for-returns-clause-scope : goal.lower_for-returns-clause-scope
+lower_for-returns-clause-scope g t c = c.leave.ensures ∙ start_left (scope_in c.args.scope.now) (scope_in c.lower_scoped.new.scope) c.len-outer.result c.len-outer.ensures (start_of c.args.head.now.start) (c.in_ok-step_at.ensures.scope ∙ c.in_ok-pads.ensures.scope)
 
 pub lower_stmt-lower_block-requires : goal.lower_stmt-lower_block-requires
 lower_stmt-lower_block-requires g t c κs within =
@@ -85,249 +342,11 @@ lower_block-lower_stmts-requires g t c κs within = (omega (arith, c.decreases),
 pub lower_block-leave-requires : goal.lower_block-leave-requires
 lower_block-leave-requires g t c = stmts_longer (scope_in c.args.scope.now) (scope_in c.lower_stmts.new.scope) c.len-outer.result c.len-outer.ensures (stmts_of c.args.body.now) c.in_ok-to.ensures.scope
 
-pub lower_block-returns-clause-scope : goal.lower_block-returns-clause-scope
-lower_block-returns-clause-scope g t c = c.leave.ensures ∙ stmts_left (scope_in c.args.scope.now) (scope_in c.lower_stmts.new.scope) c.len-outer.result c.len-outer.ensures (stmts_of c.args.body.now) c.in_ok-to.ensures.scope
-
 pub lower_scoped-leave-requires : goal.lower_scoped-leave-requires
 lower_scoped-leave-requires g t c = stmt_longer (scope_in c.args.scope.now) (scope_in c.lower_stmt.new.scope) c.len-outer.result c.len-outer.ensures (stmt_of c.args.s.now) c.in_ok-to.ensures.scope
 
-pub lower_scoped-returns-clause-scope : goal.lower_scoped-returns-clause-scope
-lower_scoped-returns-clause-scope g t c = c.leave.ensures ∙ stmt_left (scope_in c.args.scope.now) (scope_in c.lower_stmt.new.scope) c.len-outer.result c.len-outer.ensures (stmt_of c.args.s.now) c.in_ok-to.ensures.scope
-
 pub lower_for-leave-requires : goal.lower_for-leave-requires
 lower_for-leave-requires g t c = start_longer (scope_in c.args.scope.now) (scope_in c.lower_scoped.new.scope) c.len-outer.result c.len-outer.ensures (start_of c.args.head.now.start) (c.in_ok-step_at.ensures.scope ∙ c.in_ok-pads.ensures.scope)
-
-pub lower_for-returns-clause-scope : goal.lower_for-returns-clause-scope
-lower_for-returns-clause-scope g t c = c.leave.ensures ∙ start_left (scope_in c.args.scope.now) (scope_in c.lower_scoped.new.scope) c.len-outer.result c.len-outer.ensures (start_of c.args.head.now.start) (c.in_ok-step_at.ensures.scope ∙ c.in_ok-pads.ensures.scope)
-
-pub lower_for-returns-clause-code : goal.lower_for-returns-clause-code
-lower_for-returns-clause-code g t c =
-    (for_made (program_in c.args.names.now) c.args.exits (scope_in c.args.scope.now) c.args.from (lists_of c.args.lists.now) c.args.code.now.items c.put_loop.new.code.items
-    (start_of c.args.head.now.start) (option_map expr_of c.args.head.now.condition) (option_map simple_of c.args.head.now.step) (stmt_of c.args.body.now)
-    c.lower_start.new.code.items c.args.inner.now.items c.lower_scoped.new.code.items c.lower_step.new.code.items c.lower_test.new.code.items
-    (lists_of c.lower_start.new.lists) (lists_of c.lower_scoped.new.lists) (lists_of c.lower_step.new.lists) (lists_of c.lower_test.new.lists)
-    c.looping-exits.result (scope_in c.lower_start.new.scope) (scope_in c.lower_scoped.new.scope)
-    c.in_ok-pads.pads c.in_ok-pad.pad c.in_ok-other.other c.in_ok-start.start c.in_ok-step_at.step_at c.in_ok-test_at.test_at c.in_ok-to.to
-    (record { code = c.in_ok-pads.ensures.code; lists = c.in_ok-pads.ensures.lists; place = c.in_ok-pads.ensures.place }) c.in_ok-pads.ensures.scope c.in_ok-pad.ensures c.in_ok-other.ensures c.in_ok-start.ensures c.looping-exits.ensures c.requires
-    (record { code = c.in_ok-step_at.ensures.code; lists = c.in_ok-step_at.ensures.lists; place = c.in_ok-step_at.ensures.place }) c.in_ok-step_at.ensures.scope (record { code = c.in_ok-test_at.ensures.code; lists = c.in_ok-test_at.ensures.lists; place = c.in_ok-test_at.ensures.place }) (record { code = c.in_ok-to.ensures.code; lists = c.in_ok-to.ensures.lists; place = c.in_ok-to.ensures.place }) c.in_ok-put_loop.ensures).code
-
-pub lower_for-returns-clause-lists : goal.lower_for-returns-clause-lists
-lower_for-returns-clause-lists g t c =
-    (for_made (program_in c.args.names.now) c.args.exits (scope_in c.args.scope.now) c.args.from (lists_of c.args.lists.now) c.args.code.now.items c.put_loop.new.code.items
-    (start_of c.args.head.now.start) (option_map expr_of c.args.head.now.condition) (option_map simple_of c.args.head.now.step) (stmt_of c.args.body.now)
-    c.lower_start.new.code.items c.args.inner.now.items c.lower_scoped.new.code.items c.lower_step.new.code.items c.lower_test.new.code.items
-    (lists_of c.lower_start.new.lists) (lists_of c.lower_scoped.new.lists) (lists_of c.lower_step.new.lists) (lists_of c.lower_test.new.lists)
-    c.looping-exits.result (scope_in c.lower_start.new.scope) (scope_in c.lower_scoped.new.scope)
-    c.in_ok-pads.pads c.in_ok-pad.pad c.in_ok-other.other c.in_ok-start.start c.in_ok-step_at.step_at c.in_ok-test_at.test_at c.in_ok-to.to
-    (record { code = c.in_ok-pads.ensures.code; lists = c.in_ok-pads.ensures.lists; place = c.in_ok-pads.ensures.place }) c.in_ok-pads.ensures.scope c.in_ok-pad.ensures c.in_ok-other.ensures c.in_ok-start.ensures c.looping-exits.ensures c.requires
-    (record { code = c.in_ok-step_at.ensures.code; lists = c.in_ok-step_at.ensures.lists; place = c.in_ok-step_at.ensures.place }) c.in_ok-step_at.ensures.scope (record { code = c.in_ok-test_at.ensures.code; lists = c.in_ok-test_at.ensures.lists; place = c.in_ok-test_at.ensures.place }) (record { code = c.in_ok-to.ensures.code; lists = c.in_ok-to.ensures.lists; place = c.in_ok-to.ensures.place }) c.in_ok-put_loop.ensures).lists
-
-pub lower_for-returns-clause-place : goal.lower_for-returns-clause-place
-lower_for-returns-clause-place g t c =
-    (for_made (program_in c.args.names.now) c.args.exits (scope_in c.args.scope.now) c.args.from (lists_of c.args.lists.now) c.args.code.now.items c.put_loop.new.code.items
-    (start_of c.args.head.now.start) (option_map expr_of c.args.head.now.condition) (option_map simple_of c.args.head.now.step) (stmt_of c.args.body.now)
-    c.lower_start.new.code.items c.args.inner.now.items c.lower_scoped.new.code.items c.lower_step.new.code.items c.lower_test.new.code.items
-    (lists_of c.lower_start.new.lists) (lists_of c.lower_scoped.new.lists) (lists_of c.lower_step.new.lists) (lists_of c.lower_test.new.lists)
-    c.looping-exits.result (scope_in c.lower_start.new.scope) (scope_in c.lower_scoped.new.scope)
-    c.in_ok-pads.pads c.in_ok-pad.pad c.in_ok-other.other c.in_ok-start.start c.in_ok-step_at.step_at c.in_ok-test_at.test_at c.in_ok-to.to
-    (record { code = c.in_ok-pads.ensures.code; lists = c.in_ok-pads.ensures.lists; place = c.in_ok-pads.ensures.place }) c.in_ok-pads.ensures.scope c.in_ok-pad.ensures c.in_ok-other.ensures c.in_ok-start.ensures c.looping-exits.ensures c.requires
-    (record { code = c.in_ok-step_at.ensures.code; lists = c.in_ok-step_at.ensures.lists; place = c.in_ok-step_at.ensures.place }) c.in_ok-step_at.ensures.scope (record { code = c.in_ok-test_at.ensures.code; lists = c.in_ok-test_at.ensures.lists; place = c.in_ok-test_at.ensures.place }) (record { code = c.in_ok-to.ensures.code; lists = c.in_ok-to.ensures.lists; place = c.in_ok-to.ensures.place }) c.in_ok-put_loop.ensures).place
-
-pub lower_stmts-body-preserved : goal.lower_stmts-body-preserved
-lower_stmts-body-preserved g t c =
-    let e = c.in_ok-to.ensures in
-    record {
-      scope = next_scope (program_in c.args.names.now) c.args.exits c.args.body.now c.body.s-index c.body.to (scope_in c.body.scope) (lists_of c.body.lists) c.s-item.result _ _ c.body-test.true c.s-item.is e.scope c.body.invariant.scope;
-      code = next_code (program_in c.args.names.now) c.args.exits c.args.body.now c.body.s-index c.body.to (scope_in c.body.scope) (lists_of c.body.lists) c.s-item.result _ _ _ _ _ _ c.body-test.true c.s-item.is e.code e.scope e.place e.lists c.body.invariant.code;
-      lists = next_lists (program_in c.args.names.now) c.args.exits c.args.body.now c.body.s-index c.body.to (scope_in c.body.scope) (lists_of c.body.lists) c.s-item.result _ _ _ _ c.body-test.true c.s-item.is e.scope e.place e.lists c.body.invariant.lists;
-      place = next_place (program_in c.args.names.now) c.args.exits c.args.body.now c.body.s-index c.body.to (scope_in c.body.scope) (lists_of c.body.lists) c.s-item.result _ _ _ _ c.body-test.true c.s-item.is e.scope e.place e.lists c.body.invariant.place;
-    }
-
-pub lower_stmts-returns-clause-scope : goal.lower_stmts-returns-clause-scope
-lower_stmts-returns-clause-scope g t c = last_scope (program_in c.args.names.now) c.args.exits c.args.body.now c.body.s-index c.body.to (scope_in c.body.scope) (lists_of c.body.lists) _ c.body-test.false c.body.invariant.scope
-
-pub lower_stmts-returns-clause-code : goal.lower_stmts-returns-clause-code
-lower_stmts-returns-clause-code g t c = last_code (program_in c.args.names.now) c.args.exits c.args.body.now c.body.s-index c.body.to (scope_in c.body.scope) (lists_of c.body.lists) _ _ c.body-test.false c.body.invariant.code
-
-pub lower_stmts-returns-clause-lists : goal.lower_stmts-returns-clause-lists
-lower_stmts-returns-clause-lists g t c = last_lists (program_in c.args.names.now) c.args.exits c.args.body.now c.body.s-index c.body.to (scope_in c.body.scope) (lists_of c.body.lists) _ c.body-test.false c.body.invariant.lists
-
-pub lower_stmts-returns-clause-place : goal.lower_stmts-returns-clause-place
-lower_stmts-returns-clause-place g t c = last_place (program_in c.args.names.now) c.args.exits c.args.body.now c.body.s-index c.body.to (scope_in c.body.scope) (lists_of c.body.lists) _ c.body-test.false c.body.invariant.place
-
-pub lower_for-returns-in_err-pads-clause-fails : goal.lower_for-returns-in_err-pads-clause-fails
-lower_for-returns-in_err-pads-clause-fails g t c =
-    passed_on c.lower_start.result c.from_residual.result c.in_err-pads.field-0.0 _ _ c.lower_start.ensures.fails c.in_err-pads.was c.from_residual.ensures
-    (for_first (program_in c.args.names.now) c.args.exits (scope_in c.args.scope.now) c.args.from (lists_of c.args.lists.now) (start_of c.args.head.now.start) (option_map expr_of c.args.head.now.condition) (option_map simple_of c.args.head.now.step) (stmt_of c.args.body.now))
-
-pub lower_for-returns-in_err-step_at-clause-fails : goal.lower_for-returns-in_err-step_at-clause-fails
-lower_for-returns-in_err-step_at-clause-fails g t c =
-    passed_on c.lower_scoped.result c.from_residual-in_err-step_at.result c.in_err-step_at.field-0.0 _ _ c.lower_scoped.ensures.fails c.in_err-step_at.was c.from_residual-in_err-step_at.ensures
-    (for_body (program_in c.args.names.now) c.args.exits (scope_in c.args.scope.now) c.args.from (lists_of c.args.lists.now) (start_of c.args.head.now.start) (option_map expr_of c.args.head.now.condition) (option_map simple_of c.args.head.now.step) (stmt_of c.args.body.now) (lists_of c.lower_start.new.lists) (scope_in c.lower_start.new.scope) c.in_ok-pads.pads c.in_ok-pad.pad c.in_ok-other.other c.in_ok-start.start c.looping-exits.result c.in_ok-pads.ensures.lists c.in_ok-pads.ensures.scope c.in_ok-pads.ensures.place c.in_ok-pad.ensures c.in_ok-other.ensures c.in_ok-start.ensures c.looping-exits.ensures)
-
-pub lower_for-returns-in_err-test_at-clause-fails : goal.lower_for-returns-in_err-test_at-clause-fails
-lower_for-returns-in_err-test_at-clause-fails g t c =
-    passed_on c.lower_step.result c.from_residual-in_err-test_at.result c.in_err-test_at.field-0.0 _ _ c.lower_step.ensures.fails c.in_err-test_at.was c.from_residual-in_err-test_at.ensures
-    (for_next (program_in c.args.names.now) c.args.exits (scope_in c.args.scope.now) c.args.from (lists_of c.args.lists.now) (start_of c.args.head.now.start) (option_map expr_of c.args.head.now.condition) (option_map simple_of c.args.head.now.step) (stmt_of c.args.body.now) (lists_of c.lower_start.new.lists) (scope_in c.lower_start.new.scope) c.in_ok-pads.pads c.in_ok-pad.pad c.in_ok-other.other c.in_ok-start.start c.looping-exits.result c.in_ok-pads.ensures.lists c.in_ok-pads.ensures.scope c.in_ok-pads.ensures.place c.in_ok-pad.ensures c.in_ok-other.ensures c.in_ok-start.ensures c.looping-exits.ensures (lists_of c.lower_scoped.new.lists) (scope_in c.lower_scoped.new.scope) c.in_ok-step_at.step_at c.in_ok-step_at.ensures.lists c.in_ok-step_at.ensures.scope c.in_ok-step_at.ensures.place)
-
-pub lower_for-returns-in_err-to-clause-fails : goal.lower_for-returns-in_err-to-clause-fails
-lower_for-returns-in_err-to-clause-fails g t c =
-    passed_on c.lower_test.result c.from_residual-in_err-to.result c.in_err-to.field-0.0 _ _ c.lower_test.ensures.fails c.in_err-to.was c.from_residual-in_err-to.ensures
-    (for_last (program_in c.args.names.now) c.args.exits (scope_in c.args.scope.now) c.args.from (lists_of c.args.lists.now) (start_of c.args.head.now.start) (option_map expr_of c.args.head.now.condition) (option_map simple_of c.args.head.now.step) (stmt_of c.args.body.now) (lists_of c.lower_start.new.lists) (scope_in c.lower_start.new.scope) c.in_ok-pads.pads c.in_ok-pad.pad c.in_ok-other.other c.in_ok-start.start c.looping-exits.result c.in_ok-pads.ensures.lists c.in_ok-pads.ensures.scope c.in_ok-pads.ensures.place c.in_ok-pad.ensures c.in_ok-other.ensures c.in_ok-start.ensures c.looping-exits.ensures (lists_of c.lower_scoped.new.lists) (scope_in c.lower_scoped.new.scope) c.in_ok-step_at.step_at c.in_ok-step_at.ensures.lists c.in_ok-step_at.ensures.scope c.in_ok-step_at.ensures.place (lists_of c.lower_step.new.lists) c.in_ok-test_at.test_at c.in_ok-test_at.ensures.lists c.in_ok-test_at.ensures.place)
-
-pub lower_stmts-returns-in_err-to-clause-fails : goal.lower_stmts-returns-in_err-to-clause-fails
-lower_stmts-returns-in_err-to-clause-fails g t c =
-    passed_on c.lower_stmt.result c.from_residual.result c.in_err-to.field-0.0 _ _ c.lower_stmt.ensures.fails c.in_err-to.was c.from_residual.ensures
-    (first_within (program_in c.args.names.now) c.args.exits c.args.body.now c.body.s-index c.body.to (scope_in c.body.scope) (lists_of c.body.lists) c.s-item.result _ c.body-test.true c.s-item.is c.body.invariant.lists)
-
-pub lower_if-returns-clause-code : goal.lower_if-returns-clause-code
-lower_if-returns-clause-code g t c =
-    (if_made (program_in c.args.names.now) c.args.exits (scope_in c.args.scope.now) c.args.from (lists_of c.args.lists.now) c.args.code.now.items c.put_branch.new.code.items (expr_of c.args.c.now) (stmt_of c.args.then.now)
-    c.as_slice.result.now c.lower_scoped.new.code.items c.args.branch.now.items (lists_of c.lower_head.new.lists) (lists_of c.lower_scoped.new.lists) c.in_ok-t.t c.in_ok-next.next c.in_ok-to.to
-    (record { code = c.as_slice.ensures.value ∙ c.in_ok-t.ensures.code ∙ ap (λ xs. xs ++ (condition (program_in c.args.names.now) (scope_in c.args.scope.now) (expr_of c.args.c.now) c.args.from (length (scope_in c.args.scope.now)) (lists_of c.args.lists.now)).code) c.requires.test; lists = c.in_ok-t.ensures.lists; tested = c.in_ok-t.ensures.tested }) c.in_ok-next.ensures c.requires.branch (record { code = c.in_ok-to.ensures.code; lists = c.in_ok-to.ensures.lists; place = c.in_ok-to.ensures.place }) c.in_ok-put_branch.ensures).code
-
-pub lower_if-returns-clause-lists : goal.lower_if-returns-clause-lists
-lower_if-returns-clause-lists g t c =
-    (if_made (program_in c.args.names.now) c.args.exits (scope_in c.args.scope.now) c.args.from (lists_of c.args.lists.now) c.args.code.now.items c.put_branch.new.code.items (expr_of c.args.c.now) (stmt_of c.args.then.now)
-    c.as_slice.result.now c.lower_scoped.new.code.items c.args.branch.now.items (lists_of c.lower_head.new.lists) (lists_of c.lower_scoped.new.lists) c.in_ok-t.t c.in_ok-next.next c.in_ok-to.to
-    (record { code = c.as_slice.ensures.value ∙ c.in_ok-t.ensures.code ∙ ap (λ xs. xs ++ (condition (program_in c.args.names.now) (scope_in c.args.scope.now) (expr_of c.args.c.now) c.args.from (length (scope_in c.args.scope.now)) (lists_of c.args.lists.now)).code) c.requires.test; lists = c.in_ok-t.ensures.lists; tested = c.in_ok-t.ensures.tested }) c.in_ok-next.ensures c.requires.branch (record { code = c.in_ok-to.ensures.code; lists = c.in_ok-to.ensures.lists; place = c.in_ok-to.ensures.place }) c.in_ok-put_branch.ensures).lists
-
-pub lower_if-returns-clause-place : goal.lower_if-returns-clause-place
-lower_if-returns-clause-place g t c =
-    (if_made (program_in c.args.names.now) c.args.exits (scope_in c.args.scope.now) c.args.from (lists_of c.args.lists.now) c.args.code.now.items c.put_branch.new.code.items (expr_of c.args.c.now) (stmt_of c.args.then.now)
-    c.as_slice.result.now c.lower_scoped.new.code.items c.args.branch.now.items (lists_of c.lower_head.new.lists) (lists_of c.lower_scoped.new.lists) c.in_ok-t.t c.in_ok-next.next c.in_ok-to.to
-    (record { code = c.as_slice.ensures.value ∙ c.in_ok-t.ensures.code ∙ ap (λ xs. xs ++ (condition (program_in c.args.names.now) (scope_in c.args.scope.now) (expr_of c.args.c.now) c.args.from (length (scope_in c.args.scope.now)) (lists_of c.args.lists.now)).code) c.requires.test; lists = c.in_ok-t.ensures.lists; tested = c.in_ok-t.ensures.tested }) c.in_ok-next.ensures c.requires.branch (record { code = c.in_ok-to.ensures.code; lists = c.in_ok-to.ensures.lists; place = c.in_ok-to.ensures.place }) c.in_ok-put_branch.ensures).place
-
-pub lower_if_else-returns-clause-code : goal.lower_if_else-returns-clause-code
-lower_if_else-returns-clause-code g t c =
-    (if_else_made (program_in c.args.names.now) c.args.exits (scope_in c.args.scope.now) c.args.from (lists_of c.args.lists.now) c.args.code.now.items c.put_branches.new.code.items (expr_of c.args.c.now) (stmt_of c.args.then.now)
-    c.as_slice.result.now c.lower_scoped.new.code.items c.args.first.now.items (lists_of c.lower_head.new.lists) (lists_of c.lower_scoped.new.lists) c.in_ok-t.t c.in_ok-next.next c.in_ok-last.last
-    (record { code = c.as_slice.ensures.value ∙ c.in_ok-t.ensures.code ∙ ap (λ xs. xs ++ (condition (program_in c.args.names.now) (scope_in c.args.scope.now) (expr_of c.args.c.now) c.args.from (length (scope_in c.args.scope.now)) (lists_of c.args.lists.now)).code) c.requires.test; lists = c.in_ok-t.ensures.lists; tested = c.in_ok-t.ensures.tested }) c.in_ok-next.ensures c.requires.first (record { code = c.in_ok-last.ensures.code; lists = c.in_ok-last.ensures.lists; place = c.in_ok-last.ensures.place }) (stmt_of c.args.other.now) (scope_in c.lower_scoped.new.scope) c.lower_scoped-2.new.code.items c.args.second.now.items (lists_of c.lower_scoped-2.new.lists) c.in_ok-other_at.other_at c.in_ok-to.to
-    c.in_ok-last.ensures.scope c.in_ok-other_at.ensures c.requires.second (record { code = c.in_ok-to.ensures.code; lists = c.in_ok-to.ensures.lists; place = c.in_ok-to.ensures.place }) c.in_ok-put_branches.ensures).code
-
-pub lower_if_else-returns-clause-lists : goal.lower_if_else-returns-clause-lists
-lower_if_else-returns-clause-lists g t c =
-    (if_else_made (program_in c.args.names.now) c.args.exits (scope_in c.args.scope.now) c.args.from (lists_of c.args.lists.now) c.args.code.now.items c.put_branches.new.code.items (expr_of c.args.c.now) (stmt_of c.args.then.now)
-    c.as_slice.result.now c.lower_scoped.new.code.items c.args.first.now.items (lists_of c.lower_head.new.lists) (lists_of c.lower_scoped.new.lists) c.in_ok-t.t c.in_ok-next.next c.in_ok-last.last
-    (record { code = c.as_slice.ensures.value ∙ c.in_ok-t.ensures.code ∙ ap (λ xs. xs ++ (condition (program_in c.args.names.now) (scope_in c.args.scope.now) (expr_of c.args.c.now) c.args.from (length (scope_in c.args.scope.now)) (lists_of c.args.lists.now)).code) c.requires.test; lists = c.in_ok-t.ensures.lists; tested = c.in_ok-t.ensures.tested }) c.in_ok-next.ensures c.requires.first (record { code = c.in_ok-last.ensures.code; lists = c.in_ok-last.ensures.lists; place = c.in_ok-last.ensures.place }) (stmt_of c.args.other.now) (scope_in c.lower_scoped.new.scope) c.lower_scoped-2.new.code.items c.args.second.now.items (lists_of c.lower_scoped-2.new.lists) c.in_ok-other_at.other_at c.in_ok-to.to
-    c.in_ok-last.ensures.scope c.in_ok-other_at.ensures c.requires.second (record { code = c.in_ok-to.ensures.code; lists = c.in_ok-to.ensures.lists; place = c.in_ok-to.ensures.place }) c.in_ok-put_branches.ensures).lists
-
-pub lower_if_else-returns-clause-place : goal.lower_if_else-returns-clause-place
-lower_if_else-returns-clause-place g t c =
-    (if_else_made (program_in c.args.names.now) c.args.exits (scope_in c.args.scope.now) c.args.from (lists_of c.args.lists.now) c.args.code.now.items c.put_branches.new.code.items (expr_of c.args.c.now) (stmt_of c.args.then.now)
-    c.as_slice.result.now c.lower_scoped.new.code.items c.args.first.now.items (lists_of c.lower_head.new.lists) (lists_of c.lower_scoped.new.lists) c.in_ok-t.t c.in_ok-next.next c.in_ok-last.last
-    (record { code = c.as_slice.ensures.value ∙ c.in_ok-t.ensures.code ∙ ap (λ xs. xs ++ (condition (program_in c.args.names.now) (scope_in c.args.scope.now) (expr_of c.args.c.now) c.args.from (length (scope_in c.args.scope.now)) (lists_of c.args.lists.now)).code) c.requires.test; lists = c.in_ok-t.ensures.lists; tested = c.in_ok-t.ensures.tested }) c.in_ok-next.ensures c.requires.first (record { code = c.in_ok-last.ensures.code; lists = c.in_ok-last.ensures.lists; place = c.in_ok-last.ensures.place }) (stmt_of c.args.other.now) (scope_in c.lower_scoped.new.scope) c.lower_scoped-2.new.code.items c.args.second.now.items (lists_of c.lower_scoped-2.new.lists) c.in_ok-other_at.other_at c.in_ok-to.to
-    c.in_ok-last.ensures.scope c.in_ok-other_at.ensures c.requires.second (record { code = c.in_ok-to.ensures.code; lists = c.in_ok-to.ensures.lists; place = c.in_ok-to.ensures.place }) c.in_ok-put_branches.ensures).place
-
-pub lower_while-returns-clause-code : goal.lower_while-returns-clause-code
-lower_while-returns-clause-code g t c =
-    (while_made (program_in c.args.names.now) c.args.exits (scope_in c.args.scope.now) c.args.from (lists_of c.args.lists.now) c.args.code.now.items c.put_while.new.code.items (expr_of c.args.c.now) (stmt_of c.args.body.now)
-    c.args.inner.now.items c.lower_scoped.new.code.items c.lower_back.new.code.items (lists_of c.lower_scoped.new.lists) (lists_of c.lower_back.new.lists) c.looping-exits.result (scope_in c.lower_scoped.new.scope) c.in_ok-test_at.test_at c.in_ok-to.to
-    c.in_ok-pad.pad c.in_ok-start.start c.in_ok-pad.ensures c.in_ok-start.ensures c.looping-exits.ensures c.requires c.in_ok-test_at.ensures.scope
-    (record { code = c.in_ok-test_at.ensures.code; lists = c.in_ok-test_at.ensures.lists; place = c.in_ok-test_at.ensures.place }) (record { code = c.in_ok-to.ensures.code; lists = c.in_ok-to.ensures.lists; place = c.in_ok-to.ensures.place }) c.in_ok-put_while.ensures).code
-
-pub lower_while-returns-clause-lists : goal.lower_while-returns-clause-lists
-lower_while-returns-clause-lists g t c =
-    (while_made (program_in c.args.names.now) c.args.exits (scope_in c.args.scope.now) c.args.from (lists_of c.args.lists.now) c.args.code.now.items c.put_while.new.code.items (expr_of c.args.c.now) (stmt_of c.args.body.now)
-    c.args.inner.now.items c.lower_scoped.new.code.items c.lower_back.new.code.items (lists_of c.lower_scoped.new.lists) (lists_of c.lower_back.new.lists) c.looping-exits.result (scope_in c.lower_scoped.new.scope) c.in_ok-test_at.test_at c.in_ok-to.to
-    c.in_ok-pad.pad c.in_ok-start.start c.in_ok-pad.ensures c.in_ok-start.ensures c.looping-exits.ensures c.requires c.in_ok-test_at.ensures.scope
-    (record { code = c.in_ok-test_at.ensures.code; lists = c.in_ok-test_at.ensures.lists; place = c.in_ok-test_at.ensures.place }) (record { code = c.in_ok-to.ensures.code; lists = c.in_ok-to.ensures.lists; place = c.in_ok-to.ensures.place }) c.in_ok-put_while.ensures).lists
-
-pub lower_while-returns-clause-place : goal.lower_while-returns-clause-place
-lower_while-returns-clause-place g t c =
-    (while_made (program_in c.args.names.now) c.args.exits (scope_in c.args.scope.now) c.args.from (lists_of c.args.lists.now) c.args.code.now.items c.put_while.new.code.items (expr_of c.args.c.now) (stmt_of c.args.body.now)
-    c.args.inner.now.items c.lower_scoped.new.code.items c.lower_back.new.code.items (lists_of c.lower_scoped.new.lists) (lists_of c.lower_back.new.lists) c.looping-exits.result (scope_in c.lower_scoped.new.scope) c.in_ok-test_at.test_at c.in_ok-to.to
-    c.in_ok-pad.pad c.in_ok-start.start c.in_ok-pad.ensures c.in_ok-start.ensures c.looping-exits.ensures c.requires c.in_ok-test_at.ensures.scope
-    (record { code = c.in_ok-test_at.ensures.code; lists = c.in_ok-test_at.ensures.lists; place = c.in_ok-test_at.ensures.place }) (record { code = c.in_ok-to.ensures.code; lists = c.in_ok-to.ensures.lists; place = c.in_ok-to.ensures.place }) c.in_ok-put_while.ensures).place
-
-pub lower_do_while-returns-clause-code : goal.lower_do_while-returns-clause-code
-lower_do_while-returns-clause-code g t c =
-    (do_made (program_in c.args.names.now) c.args.exits (scope_in c.args.scope.now) c.args.from (lists_of c.args.lists.now) c.args.code.now.items c.put_loop.new.code.items (expr_of c.args.c.now) (stmt_of c.args.body.now)
-    c.args.inner.now.items c.lower_scoped.new.code.items c.lower_back.new.code.items (lists_of c.lower_scoped.new.lists) (lists_of c.lower_back.new.lists) c.looping-exits.result (scope_in c.lower_scoped.new.scope) c.in_ok-test_at.test_at c.in_ok-to.to
-    c.in_ok-pad.pad c.in_ok-other.other c.in_ok-start.start c.in_ok-pad.ensures c.in_ok-other.ensures c.in_ok-start.ensures c.looping-exits.ensures c.requires c.in_ok-test_at.ensures.scope
-    (record { code = c.in_ok-test_at.ensures.code; lists = c.in_ok-test_at.ensures.lists; place = c.in_ok-test_at.ensures.place }) (record { code = c.in_ok-to.ensures.code; lists = c.in_ok-to.ensures.lists; place = c.in_ok-to.ensures.place }) c.in_ok-put_loop.ensures).code
-
-pub lower_do_while-returns-clause-lists : goal.lower_do_while-returns-clause-lists
-lower_do_while-returns-clause-lists g t c =
-    (do_made (program_in c.args.names.now) c.args.exits (scope_in c.args.scope.now) c.args.from (lists_of c.args.lists.now) c.args.code.now.items c.put_loop.new.code.items (expr_of c.args.c.now) (stmt_of c.args.body.now)
-    c.args.inner.now.items c.lower_scoped.new.code.items c.lower_back.new.code.items (lists_of c.lower_scoped.new.lists) (lists_of c.lower_back.new.lists) c.looping-exits.result (scope_in c.lower_scoped.new.scope) c.in_ok-test_at.test_at c.in_ok-to.to
-    c.in_ok-pad.pad c.in_ok-other.other c.in_ok-start.start c.in_ok-pad.ensures c.in_ok-other.ensures c.in_ok-start.ensures c.looping-exits.ensures c.requires c.in_ok-test_at.ensures.scope
-    (record { code = c.in_ok-test_at.ensures.code; lists = c.in_ok-test_at.ensures.lists; place = c.in_ok-test_at.ensures.place }) (record { code = c.in_ok-to.ensures.code; lists = c.in_ok-to.ensures.lists; place = c.in_ok-to.ensures.place }) c.in_ok-put_loop.ensures).lists
-
-pub lower_do_while-returns-clause-place : goal.lower_do_while-returns-clause-place
-lower_do_while-returns-clause-place g t c =
-    (do_made (program_in c.args.names.now) c.args.exits (scope_in c.args.scope.now) c.args.from (lists_of c.args.lists.now) c.args.code.now.items c.put_loop.new.code.items (expr_of c.args.c.now) (stmt_of c.args.body.now)
-    c.args.inner.now.items c.lower_scoped.new.code.items c.lower_back.new.code.items (lists_of c.lower_scoped.new.lists) (lists_of c.lower_back.new.lists) c.looping-exits.result (scope_in c.lower_scoped.new.scope) c.in_ok-test_at.test_at c.in_ok-to.to
-    c.in_ok-pad.pad c.in_ok-other.other c.in_ok-start.start c.in_ok-pad.ensures c.in_ok-other.ensures c.in_ok-start.ensures c.looping-exits.ensures c.requires c.in_ok-test_at.ensures.scope
-    (record { code = c.in_ok-test_at.ensures.code; lists = c.in_ok-test_at.ensures.lists; place = c.in_ok-test_at.ensures.place }) (record { code = c.in_ok-to.ensures.code; lists = c.in_ok-to.ensures.lists; place = c.in_ok-to.ensures.place }) c.in_ok-put_loop.ensures).place
-
-pub lower_transaction-returns-clause-code : goal.lower_transaction-returns-clause-code
-lower_transaction-returns-clause-code g t c =
-    (transaction_made (program_in c.args.names.now) c.args.exits (scope_in c.args.scope.now) c.args.from (lists_of c.args.lists.now) c.args.code.now.items c.put_transaction.new.code.items c.args.kind (stmts_of c.args.body.now)
-    c.args.inner.now.items c.lower_block.new.code.items (lists_of c.lower_block.new.lists) c.in_ok-exits.exits c.in_ok-start.start c.in_ok-last.last c.in_ok-to.to
-    c.in_ok-exits.ensures c.in_ok-start.ensures c.requires (record { code = c.in_ok-last.ensures.code; lists = c.in_ok-last.ensures.lists; place = c.in_ok-last.ensures.place }) c.in_ok-to.ensures c.in_ok-put_transaction.ensures).code
-
-pub lower_transaction-returns-clause-lists : goal.lower_transaction-returns-clause-lists
-lower_transaction-returns-clause-lists g t c =
-    (transaction_made (program_in c.args.names.now) c.args.exits (scope_in c.args.scope.now) c.args.from (lists_of c.args.lists.now) c.args.code.now.items c.put_transaction.new.code.items c.args.kind (stmts_of c.args.body.now)
-    c.args.inner.now.items c.lower_block.new.code.items (lists_of c.lower_block.new.lists) c.in_ok-exits.exits c.in_ok-start.start c.in_ok-last.last c.in_ok-to.to
-    c.in_ok-exits.ensures c.in_ok-start.ensures c.requires (record { code = c.in_ok-last.ensures.code; lists = c.in_ok-last.ensures.lists; place = c.in_ok-last.ensures.place }) c.in_ok-to.ensures c.in_ok-put_transaction.ensures).lists
-
-pub lower_transaction-returns-clause-place : goal.lower_transaction-returns-clause-place
-lower_transaction-returns-clause-place g t c =
-    (transaction_made (program_in c.args.names.now) c.args.exits (scope_in c.args.scope.now) c.args.from (lists_of c.args.lists.now) c.args.code.now.items c.put_transaction.new.code.items c.args.kind (stmts_of c.args.body.now)
-    c.args.inner.now.items c.lower_block.new.code.items (lists_of c.lower_block.new.lists) c.in_ok-exits.exits c.in_ok-start.start c.in_ok-last.last c.in_ok-to.to
-    c.in_ok-exits.ensures c.in_ok-start.ensures c.requires (record { code = c.in_ok-last.ensures.code; lists = c.in_ok-last.ensures.lists; place = c.in_ok-last.ensures.place }) c.in_ok-to.ensures c.in_ok-put_transaction.ensures).place
-
-pub lower_if-returns-in_err-t-clause-fails : goal.lower_if-returns-in_err-t-clause-fails
-lower_if-returns-in_err-t-clause-fails g t c =
-    passed_on c.lower_head.result c.from_residual.result c.in_err-t.field-0.0 _ _ c.lower_head.ensures.fails c.in_err-t.was c.from_residual.ensures
-    (if_test (program_in c.args.names.now) c.args.exits (scope_in c.args.scope.now) c.args.from (lists_of c.args.lists.now) (expr_of c.args.c.now) (stmt_of c.args.then.now))
-
-pub lower_if-returns-in_err-to-clause-fails : goal.lower_if-returns-in_err-to-clause-fails
-lower_if-returns-in_err-to-clause-fails g t c =
-    passed_on c.lower_scoped.result c.from_residual-in_err-to.result c.in_err-to.field-0.0 _ _ c.lower_scoped.ensures.fails c.in_err-to.was c.from_residual-in_err-to.ensures
-    (if_branch (program_in c.args.names.now) c.args.exits (scope_in c.args.scope.now) c.args.from (lists_of c.args.lists.now) (expr_of c.args.c.now) (stmt_of c.args.then.now) c.in_ok-t.t c.in_ok-next.next (lists_of c.lower_head.new.lists) c.in_ok-t.ensures.tested c.in_ok-next.ensures c.in_ok-t.ensures.lists)
-
-pub lower_if_else-returns-in_err-t-clause-fails : goal.lower_if_else-returns-in_err-t-clause-fails
-lower_if_else-returns-in_err-t-clause-fails g t c =
-    passed_on c.lower_head.result c.from_residual.result c.in_err-t.field-0.0 _ _ c.lower_head.ensures.fails c.in_err-t.was c.from_residual.ensures
-    (if_else_test (program_in c.args.names.now) c.args.exits (scope_in c.args.scope.now) c.args.from (lists_of c.args.lists.now) (expr_of c.args.c.now) (stmt_of c.args.then.now) (stmt_of c.args.other.now))
-
-pub lower_if_else-returns-in_err-last-clause-fails : goal.lower_if_else-returns-in_err-last-clause-fails
-lower_if_else-returns-in_err-last-clause-fails g t c =
-    passed_on c.lower_scoped.result c.from_residual-in_err-last.result c.in_err-last.field-0.0 _ _ c.lower_scoped.ensures.fails c.in_err-last.was c.from_residual-in_err-last.ensures
-    (if_else_first (program_in c.args.names.now) c.args.exits (scope_in c.args.scope.now) c.args.from (lists_of c.args.lists.now) (expr_of c.args.c.now) (stmt_of c.args.then.now) (stmt_of c.args.other.now) c.in_ok-t.t c.in_ok-next.next (lists_of c.lower_head.new.lists) c.in_ok-t.ensures.tested c.in_ok-next.ensures c.in_ok-t.ensures.lists)
-
-pub lower_if_else-returns-in_err-to-clause-fails : goal.lower_if_else-returns-in_err-to-clause-fails
-lower_if_else-returns-in_err-to-clause-fails g t c =
-    passed_on c.lower_scoped-2.result c.from_residual-in_err-to.result c.in_err-to.field-0.0 _ _ c.lower_scoped-2.ensures.fails c.in_err-to.was c.from_residual-in_err-to.ensures
-    (if_else_second (program_in c.args.names.now) c.args.exits (scope_in c.args.scope.now) c.args.from (lists_of c.args.lists.now) (expr_of c.args.c.now) (stmt_of c.args.then.now) (stmt_of c.args.other.now) c.in_ok-t.t c.in_ok-next.next (lists_of c.lower_head.new.lists) c.in_ok-t.ensures.tested c.in_ok-next.ensures c.in_ok-t.ensures.lists (scope_in c.lower_scoped.new.scope) (lists_of c.lower_scoped.new.lists) c.in_ok-last.last c.in_ok-other_at.other_at c.in_ok-last.ensures.scope c.in_ok-last.ensures.lists c.in_ok-last.ensures.place c.in_ok-other_at.ensures)
-
-pub lower_while-returns-in_err-test_at-clause-fails : goal.lower_while-returns-in_err-test_at-clause-fails
-lower_while-returns-in_err-test_at-clause-fails g t c =
-    passed_on c.lower_scoped.result c.from_residual-in_err-test_at.result c.in_err-test_at.field-0.0 _ _ c.lower_scoped.ensures.fails c.in_err-test_at.was c.from_residual-in_err-test_at.ensures
-    (while_body (program_in c.args.names.now) c.args.exits (scope_in c.args.scope.now) c.args.from (lists_of c.args.lists.now) (expr_of c.args.c.now) (stmt_of c.args.body.now) c.looping-exits.result c.in_ok-pad.pad c.in_ok-start.start c.in_ok-pad.ensures c.in_ok-start.ensures c.looping-exits.ensures)
-
-pub lower_while-returns-in_err-to-clause-fails : goal.lower_while-returns-in_err-to-clause-fails
-lower_while-returns-in_err-to-clause-fails g t c =
-    passed_on c.lower_back.result c.from_residual-in_err-to.result c.in_err-to.field-0.0 _ _ c.lower_back.ensures.fails c.in_err-to.was c.from_residual-in_err-to.ensures
-    (while_test (program_in c.args.names.now) c.args.exits (scope_in c.args.scope.now) c.args.from (lists_of c.args.lists.now) (expr_of c.args.c.now) (stmt_of c.args.body.now) c.looping-exits.result c.in_ok-pad.pad c.in_ok-start.start c.in_ok-pad.ensures c.in_ok-start.ensures c.looping-exits.ensures (scope_in c.lower_scoped.new.scope) (lists_of c.lower_scoped.new.lists) c.in_ok-test_at.test_at c.in_ok-test_at.ensures.scope c.in_ok-test_at.ensures.lists c.in_ok-test_at.ensures.place)
-
-pub lower_do_while-returns-in_err-test_at-clause-fails : goal.lower_do_while-returns-in_err-test_at-clause-fails
-lower_do_while-returns-in_err-test_at-clause-fails g t c =
-    passed_on c.lower_scoped.result c.from_residual-in_err-test_at.result c.in_err-test_at.field-0.0 _ _ c.lower_scoped.ensures.fails c.in_err-test_at.was c.from_residual-in_err-test_at.ensures
-    (do_body (program_in c.args.names.now) c.args.exits (scope_in c.args.scope.now) c.args.from (lists_of c.args.lists.now) (expr_of c.args.c.now) (stmt_of c.args.body.now) c.looping-exits.result c.in_ok-pad.pad c.in_ok-other.other c.in_ok-start.start c.in_ok-pad.ensures c.in_ok-other.ensures c.in_ok-start.ensures c.looping-exits.ensures)
-
-pub lower_do_while-returns-in_err-to-clause-fails : goal.lower_do_while-returns-in_err-to-clause-fails
-lower_do_while-returns-in_err-to-clause-fails g t c =
-    passed_on c.lower_back.result c.from_residual-in_err-to.result c.in_err-to.field-0.0 _ _ c.lower_back.ensures.fails c.in_err-to.was c.from_residual-in_err-to.ensures
-    (do_test (program_in c.args.names.now) c.args.exits (scope_in c.args.scope.now) c.args.from (lists_of c.args.lists.now) (expr_of c.args.c.now) (stmt_of c.args.body.now) c.looping-exits.result c.in_ok-pad.pad c.in_ok-other.other c.in_ok-start.start c.in_ok-pad.ensures c.in_ok-other.ensures c.in_ok-start.ensures c.looping-exits.ensures (scope_in c.lower_scoped.new.scope) (lists_of c.lower_scoped.new.lists) c.in_ok-test_at.test_at c.in_ok-test_at.ensures.scope c.in_ok-test_at.ensures.lists c.in_ok-test_at.ensures.place)
-
-pub lower_transaction-returns-in_err-last-clause-fails : goal.lower_transaction-returns-in_err-last-clause-fails
-lower_transaction-returns-in_err-last-clause-fails g t c =
-    passed_on c.lower_block.result c.from_residual-in_err-last.result c.in_err-last.field-0.0 _ _ c.lower_block.ensures.fails c.in_err-last.was c.from_residual-in_err-last.ensures
-    (transaction_body (program_in c.args.names.now) c.args.exits (scope_in c.args.scope.now) c.args.from (lists_of c.args.lists.now) c.args.kind (stmts_of c.args.body.now) c.in_ok-exits.exits c.in_ok-start.start c.in_ok-exits.ensures c.in_ok-start.ensures)
 
 pub lower_stmt-lower_transaction-requires : goal.lower_stmt-lower_transaction-requires
 lower_stmt-lower_transaction-requires g t c κs within =
@@ -344,91 +363,3 @@ pub lower_if_else-lower_scoped-requires-2 : goal.lower_if_else-lower_scoped-requ
 lower_if_else-lower_scoped-requires-2 g t c κs within =
     let size = simp the_lemmas at (ap (the_size g.row.A g.A.Allocator g.A.laws) c.requires.parts) in
     (omega (arith, size, c.decreases), within)
-
-pub lower_stmt-returns-in-Declare : goal.lower_stmt-returns-in-Declare
-lower_stmt-returns-in-Declare g t c =
-    let did = c.lower_declarators in
-    let is = declare_is c.args.s.now c.in-Declare.d c.as_slice.result.now c.in-Declare.is c.as_slice.ensures in
-    let all = same_lowering (program_in c.args.names.now) c.args.exits (scope_in c.args.scope.now) c.args.from (lists_of c.args.lists.now) c.args.code.now.items (stmt_of c.args.s.now) _ (scope_in did.new.scope) did.new.code.items (lists_of did.new.lists) did.result is
-    (record { scope = did.ensures.scope; code = did.ensures.code; lists = did.ensures.lists; place = did.ensures.place; fails = did.ensures.fails }) in
-    record { scope = all.scope; code = all.code; lists = all.lists; place = all.place; fails = all.fails }
-
-pub lower_stmt-returns-in-Do : goal.lower_stmt-returns-in-Do
-lower_stmt-returns-in-Do g t c =
-    let did = c.lower_do in
-    let is = simple_is c.args.s.now c.in-Do.s c.in-Do.is in
-    let all = same_lowering (program_in c.args.names.now) c.args.exits (scope_in c.args.scope.now) c.args.from (lists_of c.args.lists.now) c.args.code.now.items (stmt_of c.args.s.now) _ (scope_in c.args.scope.now) did.new.code.items (lists_of did.new.lists) did.result is
-    (record { scope = holds did.result refl; code = did.ensures.code; lists = did.ensures.lists; place = did.ensures.place; fails = did.ensures.fails }) in
-    record { scope = all.scope; code = all.code; lists = all.lists; place = all.place; fails = all.fails }
-
-pub lower_stmt-returns-in-Block : goal.lower_stmt-returns-in-Block
-lower_stmt-returns-in-Block g t c =
-    let did = c.lower_block in
-    let is = block_is c.args.s.now c.in-Block.body c.as_slice-in-Block.result.now c.in-Block.is c.as_slice-in-Block.ensures in
-    let all = same_lowering (program_in c.args.names.now) c.args.exits (scope_in c.args.scope.now) c.args.from (lists_of c.args.lists.now) c.args.code.now.items (stmt_of c.args.s.now) _ (scope_in did.new.scope) did.new.code.items (lists_of did.new.lists) did.result is
-    (record { scope = did.ensures.scope; code = did.ensures.code; lists = did.ensures.lists; place = did.ensures.place; fails = did.ensures.fails }) in
-    record { scope = all.scope; code = all.code; lists = all.lists; place = all.place; fails = all.fails }
-
-pub lower_stmt-returns-in-Print : goal.lower_stmt-returns-in-Print
-lower_stmt-returns-in-Print g t c =
-    let did = c.lower_print in
-    let is = print_is c.args.s.now c.in-Print.field-0 c.in-Print.format c.as_str.result.now c.in-Print.field-2 c.in-Print.args c.as_slice-in-Print.result.now c.in-Print.is c.as_str.ensures c.as_slice-in-Print.ensures in
-    let all = same_lowering (program_in c.args.names.now) c.args.exits (scope_in c.args.scope.now) c.args.from (lists_of c.args.lists.now) c.args.code.now.items (stmt_of c.args.s.now) _ (scope_in c.args.scope.now) did.new.code.items (lists_of did.new.lists) did.result is
-    (record { scope = holds did.result refl; code = did.ensures.code; lists = did.ensures.lists; place = did.ensures.place; fails = did.ensures.fails }) in
-    record { scope = all.scope; code = all.code; lists = all.lists; place = all.place; fails = all.fails }
-
-pub lower_stmt-returns-in-None : goal.lower_stmt-returns-in-None
-lower_stmt-returns-in-None g t c =
-    let did = c.lower_if in
-    let is = if_is c.args.s.now c.in-If.c c.in-If.then c.get.result.now (c.in-If.is ∙ ap (λ o. own_stmt.If c.in-If.c c.in-If.then o) c.in-None.is) c.get.ensures in
-    let all = same_lowering (program_in c.args.names.now) c.args.exits (scope_in c.args.scope.now) c.args.from (lists_of c.args.lists.now) c.args.code.now.items (stmt_of c.args.s.now) _ (scope_in did.new.scope) did.new.code.items (lists_of did.new.lists) did.result is
-    (record { scope = did.ensures.scope; code = did.ensures.code; lists = did.ensures.lists; place = did.ensures.place; fails = did.ensures.fails }) in
-    record { scope = all.scope; code = all.code; lists = all.lists; place = all.place; fails = all.fails }
-
-pub lower_stmt-returns-in-Some : goal.lower_stmt-returns-in-Some
-lower_stmt-returns-in-Some g t c =
-    let did = c.lower_if_else in
-    let is = if_else_is c.args.s.now c.in-If.c c.in-If.then c.in-Some.other c.get-in-Some.result.now c.get-in-Some-2.result.now (c.in-If.is ∙ ap (λ o. own_stmt.If c.in-If.c c.in-If.then o) c.in-Some.is) c.get-in-Some.ensures c.get-in-Some-2.ensures in
-    let all = same_lowering (program_in c.args.names.now) c.args.exits (scope_in c.args.scope.now) c.args.from (lists_of c.args.lists.now) c.args.code.now.items (stmt_of c.args.s.now) _ (scope_in did.new.scope) did.new.code.items (lists_of did.new.lists) did.result is
-    (record { scope = did.ensures.scope; code = did.ensures.code; lists = did.ensures.lists; place = did.ensures.place; fails = did.ensures.fails }) in
-    record { scope = all.scope; code = all.code; lists = all.lists; place = all.place; fails = all.fails }
-
-pub lower_stmt-returns-in-While : goal.lower_stmt-returns-in-While
-lower_stmt-returns-in-While g t c =
-    let did = c.lower_while in
-    let is = while_is c.args.s.now c.in-While.c c.in-While.body c.get-in-While.result.now c.in-While.is c.get-in-While.ensures in
-    let all = same_lowering (program_in c.args.names.now) c.args.exits (scope_in c.args.scope.now) c.args.from (lists_of c.args.lists.now) c.args.code.now.items (stmt_of c.args.s.now) _ (scope_in did.new.scope) did.new.code.items (lists_of did.new.lists) did.result is
-    (record { scope = did.ensures.scope; code = did.ensures.code; lists = did.ensures.lists; place = did.ensures.place; fails = did.ensures.fails }) in
-    record { scope = all.scope; code = all.code; lists = all.lists; place = all.place; fails = all.fails }
-
-pub lower_stmt-returns-in-DoWhile : goal.lower_stmt-returns-in-DoWhile
-lower_stmt-returns-in-DoWhile g t c =
-    let did = c.lower_do_while in
-    let is = do_is c.args.s.now c.in-DoWhile.c c.in-DoWhile.body c.get-in-DoWhile.result.now c.in-DoWhile.is c.get-in-DoWhile.ensures in
-    let all = same_lowering (program_in c.args.names.now) c.args.exits (scope_in c.args.scope.now) c.args.from (lists_of c.args.lists.now) c.args.code.now.items (stmt_of c.args.s.now) _ (scope_in did.new.scope) did.new.code.items (lists_of did.new.lists) did.result is
-    (record { scope = did.ensures.scope; code = did.ensures.code; lists = did.ensures.lists; place = did.ensures.place; fails = did.ensures.fails }) in
-    record { scope = all.scope; code = all.code; lists = all.lists; place = all.place; fails = all.fails }
-
-pub lower_stmt-returns-in-For : goal.lower_stmt-returns-in-For
-lower_stmt-returns-in-For g t c =
-    let did = c.lower_for in
-    let is = for_is c.args.s.now c.in-For.head c.get-in-For.result.now c.in-For.body c.get-in-For-2.result.now c.in-For.is c.get-in-For.ensures c.get-in-For-2.ensures in
-    let all = same_lowering (program_in c.args.names.now) c.args.exits (scope_in c.args.scope.now) c.args.from (lists_of c.args.lists.now) c.args.code.now.items (stmt_of c.args.s.now) _ (scope_in did.new.scope) did.new.code.items (lists_of did.new.lists) did.result is
-    (record { scope = did.ensures.scope; code = did.ensures.code; lists = did.ensures.lists; place = did.ensures.place; fails = did.ensures.fails }) in
-    record { scope = all.scope; code = all.code; lists = all.lists; place = all.place; fails = all.fails }
-
-pub lower_stmt-returns-in-Return : goal.lower_stmt-returns-in-Return
-lower_stmt-returns-in-Return g t c =
-    let did = c.lower_return in
-    let is = return_is c.args.s.now c.in-Return.e c.in-Return.field-1 c.in-Return.is in
-    let all = same_lowering (program_in c.args.names.now) c.args.exits (scope_in c.args.scope.now) c.args.from (lists_of c.args.lists.now) c.args.code.now.items (stmt_of c.args.s.now) _ (scope_in c.args.scope.now) did.new.code.items (lists_of did.new.lists) did.result is
-    (record { scope = holds did.result refl; code = did.ensures.code; lists = did.ensures.lists; place = did.ensures.place; fails = did.ensures.fails }) in
-    record { scope = all.scope; code = all.code; lists = all.lists; place = all.place; fails = all.fails }
-
-pub lower_stmt-returns-in-Transaction : goal.lower_stmt-returns-in-Transaction
-lower_stmt-returns-in-Transaction g t c =
-    let did = c.lower_transaction in
-    let is = transaction_is c.args.s.now c.in-Transaction.kind c.in-Transaction.body c.as_slice-all.result.now c.in-Transaction.field-2 c.in-Transaction.is c.as_slice-all.ensures in
-    let all = same_lowering (program_in c.args.names.now) c.args.exits (scope_in c.args.scope.now) c.args.from (lists_of c.args.lists.now) c.args.code.now.items (stmt_of c.args.s.now) _ (scope_in did.new.scope) did.new.code.items (lists_of did.new.lists) did.result is
-    (record { scope = did.ensures.scope; code = did.ensures.code; lists = did.ensures.lists; place = did.ensures.place; fails = did.ensures.fails }) in
-    record { scope = all.scope; code = all.code; lists = all.lists; place = all.place; fails = all.fails }

@@ -1,19 +1,19 @@
-use Rattle.std.proofs.Common.{◌≡◌, ◌++◌, drop}
+use Rattle.std.proofs.Common.{◌≡◌, drop}
 use Rattle.syntax.specs.Views.{stmts_of}
 use Rattle.lowered.specs.Statements.{locals_at_end}
 use Rattle.picked.specs.Statements.{all_written}
 use Rattle.expression_code.specs.Lists.{lists_of}
 use Rattle.expression_code.specs.Views.{program_in, scope_in}
+use Rattle.expression_code.proofs.Adding.{written_behind}
 use Rattle.lower.proofs.stmt.+lower_stmt.Given as goal
 
 -- what is made and what is to come are the whole
 abbrev pub invariant-lower_stmts-body : goal.invariant-lower_stmts-body
 invariant-lower_stmts-body g l =
-    let rest = all_written (program_in l.names) (stmts_of (drop l.s-index l.body)) l.exits (scope_in l.scope) l.to (lists_of l.lists) in
-    let whole = all_written (program_in l.names) (stmts_of l.body) l.exits (scope_in l.fn.scope) l.from (lists_of l.fn.lists) in
+    let rest = stmts_of (drop l.s-index l.body) in
+    let all = stmts_of l.body in
     record {
-      scope : locals_at_end (stmts_of (drop l.s-index l.body)) (scope_in l.scope) ≡ locals_at_end (stmts_of l.body) (scope_in l.fn.scope);
-      code : l.code.items ++ rest.code ≡ l.fn.code.items ++ whole.code;
-      lists : rest.lists ≡ whole.lists;
-      place : rest.to ≡ whole.to;
+      scope : locals_at_end rest (scope_in l.scope) ≡ locals_at_end all (scope_in l.fn.scope);
+      code : written_behind l.code.items (all_written (program_in l.names) rest l.exits (scope_in l.scope) l.to (lists_of l.lists))
+          ≡ written_behind l.fn.code.items (all_written (program_in l.names) all l.exits (scope_in l.fn.scope) l.from (lists_of l.fn.lists));
     }

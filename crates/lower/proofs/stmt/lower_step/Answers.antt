@@ -1,0 +1,12 @@
+use Rattle.std.proofs.Common.{ap, sym, option_map}
+use Rattle.syntax.specs.Views.{simple_of}
+use Rattle.picked.specs.Statements.{for_step}
+use Rattle.expression_code.specs.Lists.{lists_of}
+use Rattle.expression_code.specs.Stretches.{of_written}
+use Rattle.expression_code.specs.Views.{program_in, scope_in}
+use Rattle.expression_code.proofs.Adding.{same}
+use Rattle.lower.proofs.stmt.lower_step.Goals as goal
+
+pub returns-in-Some : goal.returns-in-Some
+returns-in-Some g c =
+    same (ap (λ o. of_written (for_step (program_in c.args.names.now) (scope_in c.args.scope.now) (option_map simple_of o) c.args.from (lists_of c.args.lists.now))) (sym c.in-Some.is)) c.lower_do.ensures

@@ -1,0 +1,12 @@
+use Rattle.std.proofs.Common.{ap, sym, option_map}
+use Rattle.syntax.specs.Views.{expr_of}
+use Rattle.picked.specs.Statements.{for_test}
+use Rattle.expression_code.specs.Lists.{lists_of}
+use Rattle.expression_code.specs.Stretches.{of_written}
+use Rattle.expression_code.specs.Views.{program_in, scope_in}
+use Rattle.expression_code.proofs.Adding.{same}
+use Rattle.lower.proofs.stmt.lower_test.Goals as goal
+
+pub returns-in-Some : goal.returns-in-Some
+returns-in-Some g c =
+    same (ap (λ o. of_written (for_test (program_in c.args.names.now) (scope_in c.args.scope.now) (option_map expr_of o) c.args.back c.args.from (lists_of c.args.lists.now))) (sym c.in-Some.is)) c.lower_back.ensures
