@@ -450,6 +450,44 @@ fn helps(rt: HostRuntime) {
     assert_that(&rt, has(rt.alloc(), "txc|--help", HELP, ""));
 }
 
+/// The ranges that the help of each command tells, as its numbers are taken.
+fn told_ranges() -> &'static [(&'static str, &'static str)] {
+    static ROWS: [(&str, &str); 10] = [
+        ("txc|run|--help", "1 to 64, and 1 if not given"),
+        ("txc|run|--help", "0 to 4294967295"),
+        ("txc|replay|--help", "1 to 64, and 1 if not given"),
+        ("txc|replay|--help", "0 to 4294967295"),
+        ("txc|replay|--help", "0 to 1048576, and 100000 if not given"),
+        ("txc|source|--help", "1 to 64, and 1 if not given"),
+        ("txc|source|--help", "0 to 1000000, and 100000 if not given"),
+        ("txc|outcomes|--help", "1 to 64, and 1 if not given"),
+        (
+            "txc|outcomes|--help",
+            "0 to 1000000, and 100000 if not given",
+        ),
+        (
+            "txc|outcomes|--help",
+            "0 to 4294967295, and 100000 if not given",
+        ),
+    ];
+    &ROWS
+}
+
+/// The first of these lines whose help has not these words.
+fn lacks(alloc: Global, rows: &[(&'static str, &'static str)]) -> Option<&'static str> {
+    for row in rows {
+        if !has(alloc, row.0, HELP, row.1) {
+            return Some(row.0);
+        }
+    }
+    None
+}
+
+#[test]
+fn helps_with_ranges(rt: HostRuntime) {
+    assert_none(&rt, lacks(rt.alloc(), told_ranges()));
+}
+
 #[test]
 fn tells_its_version(rt: HostRuntime) {
     let told = br#"Err(Help { text: "txc 0.2.0\n" })"#;
