@@ -24,6 +24,8 @@ mod Marks
 -- words that spell instructions, and flat code
 mod Spelled
 mod FlatCodes
+-- how the words of a code are read
+mod Reading
 -- what a code keeps
 mod Held
 -- what a valid code reads and writes
