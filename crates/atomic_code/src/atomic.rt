@@ -67,7 +67,7 @@ impl<A: Allocator + Copy> AtomicThread<A> {
         ensures of { IfOk result (λ t. IsThreadOf code.now t.thread) }
     {
         // The prover learns here that the code is valid.
-        let _valid = code.parts();
+        code.known();
         let frames = Frames::new(alloc, code, number)?;
         Ok(AtomicThread {
             alloc,
@@ -105,7 +105,7 @@ impl<A: Allocator + Copy> AtomicThread<A> {
         ensures of { IsThreadOf code.now self.new.thread }
     {
         // The prover learns here that the code is valid.
-        let _valid = code.parts();
+        code.known();
         match end_of(self.held.status) {
             Some(end) => Ok(Ran {
                 steps: 0,

@@ -44,7 +44,7 @@ pub fn is_memory<A: Allocator>(code: &Code<A>, words: &[u64]) -> bool
     ensures { IsTrue result ↔ IsMemory (bounds_of code.now) words.now }
 {
     // The prover learns here that the code is valid, so that its cells are few.
-    let _valid = code.parts();
+    code.known();
     let cells = count_cells(code.globals());
     if words.len() != cells {
         return false;

@@ -71,7 +71,7 @@ pub fn thread<A: Allocator + Copy, B: Allocator>(
     ensures { IfOk result (λ o. outcome_in o ≡ meaning (effect code.now) (beginning code.now) number (memories_in founds.now) steps) }
 {
     // The prover learns here that the code is valid.
-    let _valid = code.parts();
+    code.known();
     let frames = Frames::new(alloc, code, number)?;
     let mut held = KeptThread {
         frames,

@@ -19,14 +19,11 @@ mod Callees
 pub mod LaidOut
 mod Names
 mod Each
--- how sums at loops' ends are marked
-mod Marks
--- words that spell instructions, and flat code
+-- words that spell instructions, what their kinds say of loops' ends, and flat code
 mod Spelled
+mod LoopEnds
 mod FlatCodes
 -- how the words of a code are read
-mod Reading
--- what a code keeps
-mod Held
+mod Kept
 -- what a valid code reads and writes
 pub mod Fits

@@ -11,11 +11,11 @@ drop_here : {X : Type 0} (xs : List X) (i : ℕ) (x : X) → x ≡ get_or xs i x
 drop_here xs i x e h = rw (add-one, drop-cons xs i x) (ap (λ y. y ∷ drop (suc i) xs) (sym e))
 
 -- one more instruction's line
-pub next_line : {X : Type 0} (v : X → Instr) (fs : List FunctionCode) (xs : List X) (i p : ℕ) (d : X) (before a b c now whole : List ℕ) → i < length xs → before ++ lines_from fs p (map v (drop i xs)) ≡ whole → a ≡ before ++ decimal p → b ≡ a ++ 32 ∷ [] → c ≡ b ++ instr_text fs (v (get_or xs i d)) → now ≡ c ++ 10 ∷ [] → now ++ lines_from fs (p + 1) (map v (drop (i + 1) xs)) ≡ whole
-next_line v fs xs i p d before a b c now whole h was ea eb ec en =
+pub next_line : {X : Type 0} (v : X → Instr) (fs : List FunctionCode) (xs : List X) (i p : ℕ) (d : X) (x : Instr) (before number a b c now whole : List ℕ) → i < length xs → before ++ lines_from fs p (map v (drop i xs)) ≡ whole → number ≡ decimal p → a ≡ before ++ number → b ≡ a ++ 32 ∷ [] → x ≡ v (get_or xs i d) → c ≡ b ++ instr_text fs x → now ≡ c ++ 10 ∷ [] → now ++ lines_from fs (p + 1) (map v (drop (i + 1) xs)) ≡ whole
+next_line v fs xs i p d x before number a b c now whole h was ep ea eb ex ec en =
     let split = drop_here xs i (get_or xs i d) (get_or_default xs i d (get_or xs i d) h) h in
     let at_here = rw split at was in
-    rw (en, ec, eb, ea, add-one) (simp append_assoc (simp append_assoc at at_here))
+    rw (en, ec, ex, eb, ea, ep, add-one) (simp append_assoc (simp append_assoc at at_here))
 
 -- a function's name
 pub name_there : {X : Type 0} (v : X → FunctionCode) (fs : List X) (f : ℕ) (x : X) → f < length fs → x ≡ get_or fs f x → name_text (slice_get (map v fs) f) ≡ (v x).name

@@ -48,8 +48,8 @@ impl<A: Allocator> Code<A> {
         ensures words { OnOk result (words.new.items ≡ words.old.items ++ initial_of self.now) }
         ensures valid { IsValid self.now }
     {
-        let parts = self.parts();
-        'globals: for global in parts.globals.as_slice() {
+        self.known();
+        'globals: for global in self.globals() {
             push_global(words, global)?;
         }
         Ok(())

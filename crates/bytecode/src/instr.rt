@@ -2,9 +2,6 @@
 //!
 //! Registers are numbers within a frame, cells numbers within the shared memory, places numbers within the code. An
 //! instruction's comment is the line that a listing shows of it: `rN` is a register, `@C` a cell, `#N` a number, `>P` a place.
-//!
-//! Two variants are sums as `AddSigned` is, and mark what stands behind them: whoever makes many steps at once need not look
-//! there. A `Code` has them wherever they are true, and nowhere else, whatever marks its parts were given with.
 
 /// An instruction. Where a variant has `d`, that register comes first and takes the result.
 #[derive(Clone, Copy)]
@@ -17,13 +14,6 @@ pub enum Instr {
 
     /// `add.s rD rA rB`
     AddSigned(u16, u16, u16),
-
-    /// `add.s rI rI rB` at the end of a loop's turn, as `(i, b, n, c, to)`: behind it stand `lt.s rC rI rN` and `jnz rC >TO`.
-    LoopEnd(u16, u16, u16, u16, u32),
-
-    /// `add.s rS rS rT` before the end of a loop's turn, as `(s, t, i, b, n, to)`: behind it stand `add.s rI rI rB`,
-    /// `lt.s rT rI rN` and `jnz rT >TO`.
-    SumLoopEnd(u16, u16, u16, u16, u16, u32),
 
     /// `add.u rD rA rB`
     AddUnsigned(u16, u16, u16),

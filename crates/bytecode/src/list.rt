@@ -1,14 +1,16 @@
 //! The listing of a code.
 
-ghost use Rattle.std.specs.Prelude.{◌≡◌, ◌+◌, ◌-◌, ◌<◌, ◌^◌, ◌++◌, ◌∷◌, [], OnOk, IfOk, string_bytes, codes, decimal, flat_map, map, take, drop, length};
-ghost use Rattle.bytecode.specs.Listing.{lines_from, escaped, functions_text, text_at, texts_text};
+ghost use Rattle.std.specs.Prelude.{◌≡◌, ◌+◌, ◌-◌, ◌<◌, ◌^◌, ◌++◌, ◌∷◌, [], OnOk, IfOk, string_bytes, codes, decimal, flat_map, map, length};
+ghost use Rattle.bytecode.specs.Flat.{decoded};
+ghost use Rattle.bytecode.specs.Listing.{cut_text, lines_from, escaped, functions_text, text_at, texts_text};
 ghost use Rattle.bytecode.specs.Listing as spec;
-ghost use Rattle.bytecode.specs.Views.{function_of, instr_of, code_of};
+ghost use Rattle.bytecode.specs.Views.{function_of};
+ghost use Rattle.bytecode.specs.inner.Kept.{AreWhole};
 
-use crate::code::{Code, FunctionCode, Parts};
+use crate::code::{Code, FunctionCode};
 use crate::cut::cut;
-use crate::instr::Instr;
 use crate::list_instr::push_instr;
+use crate::view::view_at;
 use containers::Text;
 use itoa::Buffer;
 use std::alloc::{AllocError, Allocator};
@@ -16,18 +18,19 @@ use std::alloc::{AllocError, Allocator};
 fn push_lines<A: Allocator>(
     text: &mut String<A>,
     functions: &[FunctionCode<A>],
-    arguments: &[u16],
+    words: &[u32],
+    firsts: &[u32],
     from: u64,
-    instrs: &[Instr],
 ) -> Result<(), AllocError>
-    requires { from + length instrs.now < 2 ^ 64 }
-    ensures { OnOk result (string_bytes text.new ≡ string_bytes text.old ++ lines_from (map function_of functions.now) from (map (instr_of arguments.now) instrs.now)) }
+    requires whole { AreWhole words.now firsts.now }
+    requires few { from + length firsts.now < 2 ^ 64 }
+    ensures { OnOk result (string_bytes text.new ≡ string_bytes text.old ++ lines_from (map function_of functions.now) from (map (decoded words.now) firsts.now)) }
 {
     let mut place = from;
-    'each: for instr in instrs {
+    'each: for first in firsts {
         text.push_str(Buffer::new().format(place))?;
         text.push_str(" ")?;
-        push_instr(text, functions, arguments, instr)?;
+        push_instr(text, functions, &view_at(words, *first as usize))?;
         text.push_str("\n")?;
         place += 1;
     }
@@ -36,37 +39,32 @@ fn push_lines<A: Allocator>(
 
 fn push_cut<A: Allocator>(
     text: &mut String<A>,
-    parts: &Parts<A>,
+    code: &Code<A>,
     first: u32,
     end: usize,
 ) -> Result<(), AllocError>
-    ensures { OnOk result (string_bytes text.new ≡ string_bytes text.old ++ lines_from (map function_of parts.now.functions) first (take (end - first) (drop first (map (instr_of parts.now.arguments) parts.now.instructions)))) }
+    ensures { OnOk result (string_bytes text.new ≡ string_bytes text.old ++ cut_text code.now first (end - first)) }
 {
+    let (words, firsts) = code.flat();
     let count = end.saturating_sub(first as usize);
-    let lines = cut(parts.instructions.as_slice(), first as usize, count);
-    push_lines(
-        text,
-        parts.functions.as_slice(),
-        parts.arguments.as_slice(),
-        u64::from(first),
-        lines,
-    )
+    let lines = cut(firsts, first as usize, count);
+    push_lines(text, code.functions(), words, lines, u64::from(first))
 }
 
 fn push_function<A: Allocator>(
     text: &mut String<A>,
-    parts: &Parts<A>,
+    code: &Code<A>,
     f: &FunctionCode<A>,
     end: usize,
 ) -> Result<(), AllocError>
-    ensures { OnOk result (string_bytes text.new ≡ string_bytes text.old ++ codes "function " ++ f.now.name ++ codes " registers " ++ decimal f.now.registers ++ 10 ∷ lines_from (map function_of parts.now.functions) f.now.first (take (end - f.now.first) (drop f.now.first (map (instr_of parts.now.arguments) parts.now.instructions)))) }
+    ensures { OnOk result (string_bytes text.new ≡ string_bytes text.old ++ codes "function " ++ f.now.name ++ codes " registers " ++ decimal f.now.registers ++ 10 ∷ cut_text code.now f.now.first (end - f.now.first)) }
 {
     text.push_str("function ")?;
     text.push_str(f.name.as_str())?;
     text.push_str(" registers ")?;
     text.push_str(Buffer::new().format(f.registers))?;
     text.push_str("\n")?;
-    push_cut(text, parts, f.first, end)
+    push_cut(text, code, f.first, end)
 }
 
 fn push_escaped<A: Allocator>(text: &mut String<A>, written: &str) -> Result<(), AllocError>
@@ -97,16 +95,16 @@ fn push_texts<A: Allocator>(text: &mut String<A>, texts: &[Text<A>]) -> Result<(
     Ok(())
 }
 
-fn push_functions<A: Allocator>(text: &mut String<A>, parts: &Parts<A>) -> Result<(), AllocError>
-    ensures { OnOk result (string_bytes text.new ≡ string_bytes text.old ++ functions_text (code_of parts.now) (map function_of parts.now.functions)) }
+fn push_functions<A: Allocator>(text: &mut String<A>, code: &Code<A>) -> Result<(), AllocError>
+    ensures { OnOk result (string_bytes text.new ≡ string_bytes text.old ++ functions_text code.now code.now.functions) }
 {
-    let functions = parts.functions.as_slice();
+    let functions = code.functions();
     'each: for number in 0..functions.len() {
         let end = match functions.get(number + 1) {
             Some(g) => g.first as usize,
-            None => parts.instructions.len(),
+            None => code.len(),
         };
-        push_function(text, parts, &functions[number], end)?;
+        push_function(text, code, &functions[number], end)?;
     }
     Ok(())
 }
@@ -116,7 +114,7 @@ pub fn listing<A: Allocator>(alloc: A, code: &Code<A>) -> Result<String<A>, Allo
     ensures { IfOk result (λ s. string_bytes s ≡ spec.listing code.now) }
 {
     let mut text = String::new(alloc);
-    push_functions(&mut text, code.parts())?;
+    push_functions(&mut text, code)?;
     push_texts(&mut text, code.texts())?;
     Ok(text)
 }
@@ -129,15 +127,9 @@ pub fn instruction_text<A: Allocator>(
 ) -> Result<String<A>, AllocError>
     ensures { IfOk result (λ s. string_bytes s ≡ text_at code.now place) }
 {
-    let parts = code.parts();
     let mut text = String::new(alloc);
-    if let Some(instr) = parts.instructions.get(place as usize) {
-        push_instr(
-            &mut text,
-            parts.functions.as_slice(),
-            parts.arguments.as_slice(),
-            instr,
-        )?;
+    if let Some(instr) = code.instr(place as usize) {
+        push_instr(&mut text, code.functions(), &instr)?;
     }
     Ok(text)
 }

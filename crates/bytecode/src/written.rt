@@ -78,9 +78,6 @@ pub(crate) fn is_written<A: Allocator>(
         }
         Instr::Move(d, a) => has_two(f, *d, *a),
         Instr::AddSigned(d, a, b) => has_three(f, *d, *a, *b),
-        Instr::LoopEnd(s, t, _, _, _) | Instr::SumLoopEnd(s, t, _, _, _, _) => has_three(
-            f, *s, *s, *t,
-        ),
         Instr::AddUnsigned(d, a, b) => has_three(f, *d, *a, *b),
         Instr::SubtractSigned(d, a, b) => has_three(f, *d, *a, *b),
         Instr::SubtractUnsigned(d, a, b) => has_three(f, *d, *a, *b),

@@ -14,8 +14,6 @@ mod Levels
 mod GoesOn
 mod Back
 pub mod Keeping
--- what a code lends
-mod Views
 -- which words are a call
 mod CallWords
 -- what stands at a place, as it is told

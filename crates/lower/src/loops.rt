@@ -48,7 +48,6 @@ fn operands_of(instr: Instr) -> Option<(u16, u16)>
         | Instr::LessUnsigned(_, a, b)
         | Instr::LessEqualSigned(_, a, b)
         | Instr::LessEqualUnsigned(_, a, b) => Some((a, b)),
-        Instr::LoopEnd(s, t, _, _, _) | Instr::SumLoopEnd(s, t, _, _, _, _) => Some((s, t)),
         Instr::Constant(_, _)
         | Instr::Move(_, _)
         | Instr::Complement(_, _)

@@ -78,7 +78,7 @@ impl<A: Allocator + Copy> Thread<A> {
         ensures accesses { IfOk result (λ t. t.accesses ≡ 0) }
     {
         // The prover learns here that the code is valid.
-        let _valid = code.parts();
+        code.known();
         let frames = Frames::new(alloc, code, number)?;
         let core = Core::new(alloc);
         let text = String::new(alloc);
@@ -101,7 +101,7 @@ impl<A: Allocator + Copy> Thread<A> {
         ensures { StandsAt code.now self.now result }
     {
         // The prover learns here that the code is valid.
-        let _valid = code.parts();
+        code.known();
         match self.held.status {
             Status::Running => self.held.frames.doing(code),
             Status::Ended => Doing::Local,
@@ -129,7 +129,7 @@ impl<A: Allocator + Copy> Thread<A> {
         ensures of { IsThreadOf code.now self.new.thread }
     {
         // The prover learns here that the code is valid.
-        let _valid = code.parts();
+        code.known();
         match self.held.status {
             Status::Running => self.held.advance(code, loads, &mut self.accesses, most),
             Status::Ended => {
@@ -191,7 +191,7 @@ impl<A: Allocator + Copy> Thread<A> {
         ensures used_up { (result ≡ Err Stop.SequenceUsedUp) ↔ (stops (access (effect code.now) self.old.thread) ≡ true) }
     {
         // The prover learns here that the code is valid.
-        let _valid = code.parts();
+        code.known();
         match self.held.status {
             Status::Running => match self.held.prepare(code, doing) {
                 Ok(access) => {
@@ -233,7 +233,7 @@ impl<A: Allocator + Copy> Thread<A> {
         ensures accesses { self.new.accesses ≡ self.old.accesses + cost (access (effect code.now) self.old.thread) }
     {
         // The prover learns here that the code is valid.
-        let _valid = code.parts();
+        code.known();
         self.accesses += cost_of(self.prepared);
         self.prepared = None;
         match self.held.status {
@@ -255,7 +255,7 @@ impl<A: Allocator + Copy> Thread<A> {
         ensures access { result ≡ true → access (effect code.now) self.new.thread ≡ Access.LoadLock }
     {
         // The prover learns here that the code is valid.
-        let _valid = code.parts();
+        code.known();
         // The prover names by it where the begin leads.
         let _to = to;
         match self.held.status {
@@ -281,7 +281,7 @@ impl<A: Allocator + Copy> Thread<A> {
         ensures accesses { self.new.accesses ≡ self.old.accesses + 1 }
     {
         // The prover learns here that the code is valid.
-        let _valid = code.parts();
+        code.known();
         self.accesses += 1;
         let _event = self.held.take_begin(code, to, lock);
     }
@@ -294,7 +294,7 @@ impl<A: Allocator + Copy> Thread<A> {
         ensures { IfSome result (λ from. SwapsNext code.now self.now from) }
     {
         // The prover learns here that the code is valid.
-        let _valid = code.parts();
+        code.known();
         match self.held.status {
             Status::Running => self.held.core.swaps_from(),
             Status::Ended => None,
@@ -315,7 +315,7 @@ impl<A: Allocator + Copy> Thread<A> {
         ensures accesses { self.new.accesses ≡ self.old.accesses + 1 }
     {
         // The prover learns here that the code is valid.
-        let _valid = code.parts();
+        code.known();
         self.accesses += 1;
         let _event = self.held.take_swap(code, from, answer);
     }
@@ -343,7 +343,7 @@ impl<A: Allocator + Copy> Thread<A> {
         ensures cost { cost result ≡ 1 }
     {
         // The prover learns here that the code is valid.
-        let _valid = code.parts();
+        code.known();
         self.held.core.store_access(place)
     }
 
@@ -360,7 +360,7 @@ impl<A: Allocator + Copy> Thread<A> {
         ensures accesses { self.new.accesses ≡ self.old.accesses + 1 }
     {
         // The prover learns here that the code is valid.
-        let _valid = code.parts();
+        code.known();
         self.accesses += 1;
         let (_event, again) = self.held.stored(code, place);
         again
@@ -410,7 +410,7 @@ impl<A: Allocator + Copy> Thread<A> {
         ensures access { result ≡ true → access (effect code.now) self.now.thread ≡ Access.LoadLock }
     {
         // The prover learns here that the code is valid.
-        let _valid = code.parts();
+        code.known();
         match self.held.status {
             Status::Running => is_validated(doing) && self.held.core.is_waiting(),
             Status::Ended => false,
@@ -430,7 +430,7 @@ impl<A: Allocator + Copy> Thread<A> {
         ensures accesses { self.new.accesses ≡ self.old.accesses + 1 }
     {
         // The prover learns here that the code is valid.
-        let _valid = code.parts();
+        code.known();
         self.accesses += 1;
         self.held.waited(code, lock);
     }
@@ -444,7 +444,7 @@ impl<A: Allocator + Copy> Thread<A> {
         ensures { IfSome result (λ at. ComparesNext code.now self.now at.0 at.1) }
     {
         // The prover learns here that the code is valid.
-        let _valid = code.parts();
+        code.known();
         match self.held.status {
             Status::Running => {
                 if is_validated(doing) {
@@ -469,7 +469,7 @@ impl<A: Allocator + Copy> Thread<A> {
         ensures access { access (effect code.now) self.now.thread ≡ entry_access result }
     {
         // The prover learns here that the code is valid.
-        let _valid = code.parts();
+        code.known();
         self.held.core.entry(time, place)
     }
 
@@ -496,7 +496,7 @@ impl<A: Allocator + Copy> Thread<A> {
         ensures accesses { self.new.accesses ≡ self.old.accesses + 1 }
     {
         // The prover learns here that the code is valid.
-        let _valid = code.parts();
+        code.known();
         self.accesses += 1;
         self.held.compared(code, time, place, entry);
     }
@@ -522,7 +522,7 @@ impl<A: Allocator + Copy> Thread<A> {
         ensures accesses { self.new.accesses ≡ self.old.accesses + 1 }
     {
         // The prover learns here that the code is valid.
-        let _valid = code.parts();
+        code.known();
         self.accesses += 1;
         self.held.differed(code, time, place, entry, word);
     }
@@ -541,7 +541,7 @@ impl<A: Allocator + Copy> Thread<A> {
         ensures accesses { self.new.accesses ≡ self.old.accesses + 1 }
     {
         // The prover learns here that the code is valid.
-        let _valid = code.parts();
+        code.known();
         self.accesses += 1;
         self.held.validated(code, time, place, lock);
     }

@@ -9,7 +9,7 @@ ghost use Rattle.picture.specs.Replayed.{IsDrawn, deed_at, deed_of, step_title, 
 use crate::cells::cells_of;
 use crate::step::{Deed, Step};
 use crate::svg::picture;
-use bytecode::{Code, Instr};
+use bytecode::{Code, InstrView};
 use machine::StepShown;
 use replay::timeline;
 use report::step_text;
@@ -22,10 +22,10 @@ use world::World;
 fn deed_of<A: Allocator>(code: &Code<A>, place: u32) -> Deed
     ensures { result ≡ deed_of (slice_get code.now.instructions place) }
 {
-    match code.parts().instructions.as_slice().get(place as usize) {
-        Some(Instr::Begin(_)) => Deed::Begin,
-        Some(Instr::Commit) => Deed::Commit,
-        Some(Instr::PrintText(_) | Instr::PrintSigned(_) | Instr::PrintUnsigned(_)) => Deed::Print,
+    match code.instr(place as usize) {
+        Some(InstrView::Begin(_)) => Deed::Begin,
+        Some(InstrView::Commit) => Deed::Commit,
+        Some(InstrView::PrintText(_) | InstrView::PrintNumber(_, _)) => Deed::Print,
         _ => Deed::Other,
     }
 }
@@ -42,8 +42,8 @@ fn deed_at<A: Allocator>(code: &Code<A>, status: Status, place: u32) -> Deed
 
 /// How many transactions the instruction at a place takes away, where it cancels.
 fn levels_at<A: Allocator>(code: &Code<A>, place: u32) -> u32 {
-    match code.parts().instructions.as_slice().get(place as usize) {
-        Some(Instr::CancelOuter(levels)) => *levels,
+    match code.instr(place as usize) {
+        Some(InstrView::CancelOuter(levels)) => levels,
         _ => 1,
     }
 }

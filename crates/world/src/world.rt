@@ -93,7 +93,7 @@ impl<A: Allocator + Copy> World<A> {
         ensures alone { EndsAlone code.now }
     {
         // The prover learns here that the code is valid.
-        let _valid = code.parts();
+        code.known();
         if threads == 0 || threads > MOST_THREADS {
             return Err(WorldFault::WrongThreads);
         }

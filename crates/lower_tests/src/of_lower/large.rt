@@ -15,11 +15,7 @@ fn sizes(code: &Code) -> Sizes {
         Some(function) => function.registers,
         None => 0,
     };
-    (
-        code.functions().len(),
-        registers,
-        code.parts().instructions.len(),
-    )
+    (code.functions().len(), registers, code.len())
 }
 
 // The same of a text's code.

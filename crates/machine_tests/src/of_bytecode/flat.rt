@@ -1,9 +1,10 @@
 //! Flat code: each instruction's words, and where they begin.
 
-use crate::asserted::assert_none;
+use crate::asserted::{assert_none, assert_that};
 use crate::of_bytecode::built::{Function, TEXTS, WORKER, code_of_parts};
-use crate::of_bytecode::listed::{BITS, COMPUTES, FALSE_MARKS, LEADS, LOOPING, SUMMED, TURN};
-use bytecode::{Code, Instr};
+use crate::of_bytecode::listed::{BITS, COMPUTES, LEADS, LOOPING, OTHER_SUMS, SUMMED, TURN};
+use bytecode::{Code, Instr, InstrView, kinds};
+use lex::token::Scalar;
 use std::alloc::Global;
 
 /// What a row is called; functions and instructions; their words, and the first word of each instruction.
@@ -65,9 +66,9 @@ const SUMMED_WORDS: [u32; 16] = [816, 0, 0, 3, 815, 1, 1, 2, 789, 3, 1, 4, 542, 
 
 const SUMMED_FIRSTS: [u32; 5] = [0, 4, 8, 12, 15];
 
-const FALSE_MARKS_WORDS: [u32; 17] = [770, 1, 1, 2, 789, 3, 1, 4, 770, 0, 0, 3, 770, 7, 7, 2, 42];
+const OTHER_SUMS_WORDS: [u32; 17] = [770, 1, 1, 2, 789, 3, 1, 4, 770, 0, 0, 3, 770, 7, 7, 2, 42];
 
-const FALSE_MARKS_FIRSTS: [u32; 5] = [0, 4, 8, 12, 16];
+const OTHER_SUMS_FIRSTS: [u32; 5] = [0, 4, 8, 12, 16];
 
 // The rows stand in a function, so that no proof but its own looks at them.
 fn rows() -> &'static [Row] {
@@ -102,11 +103,11 @@ fn rows() -> &'static [Row] {
             &SUMMED_FIRSTS,
         ),
         (
-            "marks that are not so",
+            "sums behind which no turn ends",
             &[("worker", 0, 8, 1)],
-            &FALSE_MARKS,
-            &FALSE_MARKS_WORDS,
-            &FALSE_MARKS_FIRSTS,
+            &OTHER_SUMS,
+            &OTHER_SUMS_WORDS,
+            &OTHER_SUMS_FIRSTS,
         ),
     ];
     &ROWS
@@ -125,4 +126,82 @@ fn told_otherwise(alloc: Global) -> Option<&'static str> {
 #[test]
 fn every_instruction_has_its_words(rt: HostRuntime) {
     assert_none(&rt, told_otherwise(rt.alloc()));
+}
+
+// Whether the instruction at a place is read as one of this kind with these operands.
+fn is_read(code: &Code, place: usize, kind: u32, operands: &[u32]) -> bool {
+    match code.kind_and_operands(place) {
+        Some((found, lent)) => found == kind && lent == operands,
+        None => false,
+    }
+}
+
+// Whether the instructions of a code are read as these kinds with these operands, and nothing is behind the last.
+fn are_read(code: &Code, wanted: &[(u32, &[u32])]) -> bool {
+    for place in 0..wanted.len() {
+        if !is_read(code, place, wanted[place].0, wanted[place].1) {
+            return false;
+        }
+    }
+    code.len() == wanted.len() && code.kind_and_operands(wanted.len()).is_none()
+}
+
+const LEADS_READ: [(u32, &[u32]); 20] = [
+    (kinds::JUMP, &[1]),
+    (kinds::JUMP_ZERO, &[0, 2]),
+    (kinds::JUMP_NONZERO, &[0, 3]),
+    (kinds::CHECK, &[0, 7]),
+    (kinds::BEGIN, &[13]),
+    (kinds::BEGIN, &[12]),
+    (kinds::READ, &[1, 0]),
+    (kinds::READ_AT, &[1, 0, 1, 0]),
+    (kinds::WRITE, &[0, 1]),
+    (kinds::WRITE_AT, &[0, 1, 0, 1]),
+    (kinds::CANCEL, &[]),
+    (kinds::CANCEL_OUTER, &[2]),
+    (kinds::COMMIT, &[]),
+    (kinds::IRREVOCABLE, &[]),
+    (kinds::PRINT_TEXT, &[1]),
+    (kinds::PRINT_SIGNED, &[0]),
+    (kinds::PRINT_UNSIGNED, &[1]),
+    (kinds::CALL, &[1, 1, 0]),
+    (kinds::RETURN, &[]),
+    (kinds::RETURN_VALUE, &[0]),
+];
+
+// The code of `worker` and of `f`, with one instruction of each kind that does not compute.
+fn leading(alloc: Global) -> Option<Code> {
+    code_of_parts(alloc, &[WORKER, ("f", 19, 1, 1)], &[1, 0], &LEADS, &TEXTS)
+}
+
+#[test]
+fn kinds_and_operands_are_read(rt: HostRuntime) {
+    match leading(rt.alloc()) {
+        Some(code) => assert_that(&rt, are_read(&code, &LEADS_READ)),
+        None => assert_that(&rt, false),
+    }
+}
+
+#[test]
+fn an_instruction_is_read_with_its_operator_and_registers(rt: HostRuntime) {
+    match leading(rt.alloc()) {
+        Some(code) => {
+            assert_that(
+                &rt,
+                match code.instr(17) {
+                    Some(InstrView::Call(1, 1, args)) => args == [0].as_slice(),
+                    _ => false,
+                },
+            );
+            assert_that(
+                &rt,
+                match code.instr(16) {
+                    Some(InstrView::PrintNumber(Scalar::Unsigned, 1)) => true,
+                    _ => false,
+                },
+            );
+            assert_that(&rt, code.instr(20).is_none());
+        }
+        None => assert_that(&rt, false),
+    }
 }

@@ -20,7 +20,7 @@ type Counts = (usize, usize, usize, usize);
 fn counts(code: &Code) -> Counts {
     (
         code.functions().len(),
-        code.parts().instructions.len(),
+        code.len(),
         code.texts().len(),
         code.globals().len(),
     )
@@ -296,16 +296,16 @@ const SUMMED_LISTED: &str = "function worker registers 5
 4 ret
 ";
 
-/// Marks behind which nothing of the kind stands.
-pub const FALSE_MARKS: [Instr; 5] = [
-    Instr::LoopEnd(1, 2, 4, 3, 0),
+/// Sums behind which no loop's turn ends.
+pub const OTHER_SUMS: [Instr; 5] = [
+    Instr::AddSigned(1, 1, 2),
     Instr::LessSigned(3, 1, 4),
-    Instr::SumLoopEnd(0, 3, 1, 2, 4, 0),
-    Instr::LoopEnd(7, 2, 9, 9, 99),
+    Instr::AddSigned(0, 0, 3),
+    Instr::AddSigned(7, 7, 2),
     Instr::Return,
 ];
 
-const FALSE_MARKS_LISTED: &str = "function worker registers 8
+const OTHER_SUMS_LISTED: &str = "function worker registers 8
 0 add.s r1 r1 r2
 1 lt.s r3 r1 r4
 2 add.s r0 r0 r3
@@ -319,9 +319,9 @@ fn loop_ends() -> &'static [Row] {
         (&[LOOPING], &SUMMED, &[], SUMMED_LISTED, (1, 5, 0, 1)),
         (
             &[("worker", 0, 8, 1)],
-            &FALSE_MARKS,
+            &OTHER_SUMS,
             &[],
-            FALSE_MARKS_LISTED,
+            OTHER_SUMS_LISTED,
             (1, 5, 0, 1),
         ),
     ];
@@ -331,43 +331,4 @@ fn loop_ends() -> &'static [Row] {
 #[test]
 fn sums_at_loop_ends_are_listed_as_sums(rt: HostRuntime) {
     assert_none(&rt, told_otherwise(rt.alloc(), loop_ends()));
-}
-
-/// What a mark says of a loop's end: its registers, as `(i, b, n, c)`, and where it leads.
-type Mark = ((u16, u16, u16, u16), u32);
-
-fn mark_at(code: &Code, place: usize) -> Option<Mark> {
-    match code.parts().instructions.get(place) {
-        Some(Instr::LoopEnd(i, b, n, c, to)) => Some(((*i, *b, *n, *c), *to)),
-        Some(Instr::SumLoopEnd(_, t, i, b, n, to)) => Some(((*i, *b, *n, *t), *to)),
-        _ => None,
-    }
-}
-
-// The mark at a place of the code of `worker` with 8 registers and these instructions.
-fn marked(alloc: Global, instructions: &[Instr], place: usize) -> Option<Mark> {
-    match code_of_parts(alloc, &[("worker", 0, 8, 1)], &[], instructions, &[]) {
-        None => None,
-        Some(code) => mark_at(&code, place),
-    }
-}
-
-#[test]
-fn sums_at_loop_ends_are_marked(rt: HostRuntime) {
-    assert_that(&rt, marked(rt.alloc(), &TURN, 0) == Some(((1, 2, 4, 3), 0)));
-    assert_that(
-        &rt,
-        marked(rt.alloc(), &SUMMED, 0) == Some(((1, 2, 4, 3), 0)),
-    );
-    assert_that(
-        &rt,
-        marked(rt.alloc(), &SUMMED, 1) == Some(((1, 2, 4, 3), 0)),
-    );
-}
-
-#[test]
-fn no_other_sums_are_marked(rt: HostRuntime) {
-    assert_that(&rt, marked(rt.alloc(), &FALSE_MARKS, 0) == None);
-    assert_that(&rt, marked(rt.alloc(), &FALSE_MARKS, 2) == None);
-    assert_that(&rt, marked(rt.alloc(), &FALSE_MARKS, 3) == None);
 }

@@ -1,10 +1,11 @@
 use Rattle.std.proofs.Common.{◌≡◌, ◌+◌, ◌++◌, map, drop, string_bytes}
+use Rattle.bytecode.specs.Flat.{decoded}
 use Rattle.bytecode.specs.Listing.{lines_from}
-use Rattle.bytecode.specs.Views.{function_of, instr_of}
+use Rattle.bytecode.specs.Views.{function_of}
 use Rattle.bytecode.proofs.list.push_lines.Given as goal
 
 abbrev pub invariant-each : goal.invariant-each
 invariant-each g l = record {
-  place : l.place ≡ l.from + l.instr-index;
-  text : string_bytes l.text ++ lines_from (map function_of l.functions) l.place (map (instr_of l.arguments) (drop l.instr-index l.instrs)) ≡ string_bytes l.initial.text ++ lines_from (map function_of l.functions) l.from (map (instr_of l.arguments) l.instrs);
+  place : l.place ≡ l.from + l.first-index;
+  text : string_bytes l.text ++ lines_from (map function_of l.functions) l.place (map (decoded l.words) (drop l.first-index l.firsts)) ≡ string_bytes l.initial.text ++ lines_from (map function_of l.functions) l.from (map (decoded l.words) l.firsts);
 }

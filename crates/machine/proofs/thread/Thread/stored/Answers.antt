@@ -13,7 +13,7 @@ use Rattle.machine.proofs.thread.Thread.stored.Goals as goal
 pub stored-event-requires-clause-runs : goal.stored-event-requires-clause-runs
 stored-event-requires-clause-runs g c =
     let k = kept {A = g.row.A.Denot} c.self.inside.held in
-    runs_of c.args.code.now (begins_stay_open c.args.code.now c.parts-valid.ensures.valid) k c.args.self.now.thread (ap (λ (s : ThreadState). s.thread) c.self.view_is) c.self.invariant
+    runs_of c.args.code.now (begins_stay_open c.args.code.now c.known.ensures) k c.args.self.now.thread (ap (λ (s : ThreadState). s.thread) c.self.view_is) c.self.invariant
     (ap (λ (s : ThreadState). s.thread.status) c.self.view_is ∙ c.requires.stores.running) c.requires.of
 
 pub stored-event-requires-clause-stores : goal.stored-event-requires-clause-stores
@@ -22,7 +22,7 @@ stored-event-requires-clause-stores g c =
     (subst (λ (s : ThreadState). IsSomeAnd s.thread.attempt (λ a. IsStoring c.args.place a)) (sym c.self.view_is) c.requires.stores.stores)
 
 pub returns-clause-of : goal.returns-clause-of
-returns-clause-of g c = thread_of c.args.code.now (begins_stay_open c.args.code.now c.parts-valid.ensures.valid) _ (c.stored-event.ensures.makes Done).of
+returns-clause-of g c = thread_of c.args.code.now (begins_stay_open c.args.code.now c.known.ensures) _ (c.stored-event.ensures.makes Done).of
 
 pub invariant_of-self : goal.invariant_of-self
 invariant_of-self g c = (c.stored-event.ensures.makes Done).within

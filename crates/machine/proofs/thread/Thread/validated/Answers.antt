@@ -9,11 +9,11 @@ use Rattle.machine.proofs.thread.Thread.validated.Goals as goal
 pub validated-requires-clause-runs : goal.validated-requires-clause-runs
 validated-requires-clause-runs g c =
     let k = kept {A = g.row.A.Denot} c.self.inside.held in
-    runs_of c.args.code.now (begins_stay_open c.args.code.now c.parts-valid.ensures.valid) k c.args.self.now.thread (ap (λ (s : ThreadState). s.thread) c.self.view_is) c.self.invariant
+    runs_of c.args.code.now (begins_stay_open c.args.code.now c.known.ensures) k c.args.self.now.thread (ap (λ (s : ThreadState). s.thread) c.self.view_is) c.self.invariant
     (ap (λ (s : ThreadState). s.thread.status) c.self.view_is ∙ c.requires.compares.running) c.requires.of
 
 pub returns-clause-of : goal.returns-clause-of
-returns-clause-of g c = thread_of c.args.code.now (begins_stay_open c.args.code.now c.parts-valid.ensures.valid) _ c.validated.ensures.makes.of
+returns-clause-of g c = thread_of c.args.code.now (begins_stay_open c.args.code.now c.known.ensures) _ c.validated.ensures.makes.of
 
 pub returns-clause-thread : goal.returns-clause-thread
 returns-clause-thread g c = search rules

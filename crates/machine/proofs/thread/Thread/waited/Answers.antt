@@ -9,8 +9,8 @@ use Rattle.machine.proofs.thread.Thread.waited.Goals as goal
 pub waited-requires-clause-runs : goal.waited-requires-clause-runs
 waited-requires-clause-runs g c =
     let k = kept {A = g.row.A.Denot} c.self.inside.held in
-    runs_of c.args.code.now (begins_stay_open c.args.code.now c.parts-valid.ensures.valid) k c.args.self.now.thread (ap (λ (s : ThreadState). s.thread) c.self.view_is) c.self.invariant
+    runs_of c.args.code.now (begins_stay_open c.args.code.now c.known.ensures) k c.args.self.now.thread (ap (λ (s : ThreadState). s.thread) c.self.view_is) c.self.invariant
     (ap (λ (s : ThreadState). s.thread.status) c.self.view_is ∙ c.requires.waits.running) c.requires.of
 
 pub returns-clause-of : goal.returns-clause-of
-returns-clause-of g c = thread_of c.args.code.now (begins_stay_open c.args.code.now c.parts-valid.ensures.valid) _ c.waited.ensures.makes.of
+returns-clause-of g c = thread_of c.args.code.now (begins_stay_open c.args.code.now c.known.ensures) _ c.waited.ensures.makes.of
