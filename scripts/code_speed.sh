@@ -51,7 +51,7 @@ fn accepted_of(alloc: Memory, text: &str) -> Option<Accepted> {
 fn made(rt: &HostRuntime, accepted: &Accepted) -> io::Result<(u128, usize)> {
     let start = Instant::now(rt)?;
     let count = match lower(rt.alloc(), accepted) {
-        Ok(code) => code.parts().instructions.len(),
+        Ok(code) => code.len(),
         Err(_) => 0,
     };
     Ok((start.elapsed(rt)?.as_micros(), count))
