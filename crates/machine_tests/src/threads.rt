@@ -1,4 +1,4 @@
-//! Threads: played steps, the last values of the lock, and each growth refused.
+//! Threads: played steps, the last values of the lock, each growth refused, and that `told` takes no memory.
 
 ghost use Rattle.norec_core.specs.Accesses.{IsAnswerTo};
 ghost use Rattle.std.specs.Prelude.{◌+◌, ◌<◌, ◌≤◌, ◌^◌, IfSome};
@@ -6,6 +6,7 @@ ghost use Rattle.machine.specs.Standing.{IsThreadOf};
 ghost use Rattle.machine.specs.States.{IsWordOf};
 
 use crate::asserted::{assert_all, assert_that};
+use crate::built::code_of_two;
 use crate::rows::{Row, dropped_once, trapped};
 use bytecode::{Code, Instr};
 use frames::Doing;
@@ -405,4 +406,141 @@ fn goes_on_at(alloc: &Refusing<Global>, nth: u64) -> bool {
 #[test]
 fn a_step_that_was_refused_room_is_made_again(rt: HostRuntime) {
     assert_that(&rt, growths(rt.alloc(), 20, goes_on_at).ok() > Some(2));
+}
+
+// Whether the next step is this one, and takes no memory from when it is told its answer on.
+fn is_told_in_place<A: Allocator + Copy, B: Allocator>(
+    thread: &mut Thread<A>,
+    code: &Code<A>,
+    refusing: &Refusing<B>,
+    row: Row,
+) -> bool
+    requires { IsThreadOf code.now thread.old.thread }
+    ensures { IsThreadOf code.now thread.new.thread }
+{
+    let (lock, word, wanted) = row;
+    if thread.accesses() > MOST {
+        return false;
+    }
+    refusing.refuse(0);
+    match thread.prepare(code) {
+        Ok(access) => {
+            refusing.refuse(1);
+            let event = thread.told(code, answer_to(access, lock, word));
+            refusing.is_waiting() && wanted == Some((access, event))
+        }
+        Err(_) => false,
+    }
+}
+
+// Whether these are the next steps, and take no memory from when they are told their answers on.
+fn are_told_in_place<A: Allocator + Copy, B: Allocator>(
+    thread: &mut Thread<A>,
+    code: &Code<A>,
+    refusing: &Refusing<B>,
+    rows: &[Row],
+) -> bool
+    requires { IsThreadOf code.now thread.old.thread }
+    ensures { IsThreadOf code.now thread.new.thread }
+{
+    'rows: for row in rows {
+        if !is_told_in_place(thread, code, refusing, *row) {
+            return false;
+        }
+    }
+    true
+}
+
+// Whether these are the first steps of a thread of this code, each told so, and the thread is then found so.
+fn tells_in_place<A: Allocator + Copy, B: Allocator>(
+    alloc: A,
+    refusing: &Refusing<B>,
+    code: &Code<A>,
+    rows: &[Row],
+    found: Found,
+) -> bool {
+    match begun(alloc, code) {
+        Some(mut thread) => {
+            are_told_in_place(&mut thread, code, refusing, rows) && is_found(&thread, found)
+        }
+        None => false,
+    }
+}
+
+// Calls and writes in an inner transaction that is cancelled, and then cancels two at once. `f` writes its parameter and
+// gives it back.
+fn calls_and_cancels() -> &'static [Instr] {
+    static CODE: [Instr; 13] = [
+        Instr::Begin(9),
+        Instr::Write(0, 0),
+        Instr::Begin(6),
+        Instr::Call(1, 1, 1, 0),
+        Instr::Write(1, 0),
+        Instr::Cancel,
+        Instr::Begin(8),
+        Instr::CancelOuter(2),
+        Instr::Commit,
+        Instr::PrintText(0),
+        Instr::Return,
+        Instr::Write(0, 0),
+        Instr::ReturnValue(0),
+    ];
+    &CODE
+}
+
+// The steps of `calls_and_cancels`.
+fn cancelled() -> &'static [Row] {
+    static ROWS: [Row; 12] = [
+        (2, 7, Some((Access::LoadLock, Event::Quiet))),
+        (2, 7, Some((Access::Local, Event::Quiet))),
+        (2, 7, Some((Access::Local, Event::Quiet))),
+        (2, 7, Some((Access::Local, Event::Quiet))),
+        (2, 7, Some((Access::Local, Event::Quiet))),
+        (2, 7, Some((Access::Local, Event::Quiet))),
+        (2, 7, Some((Access::Local, Event::Quiet))),
+        (2, 7, Some((Access::Local, Event::Cancel))),
+        (2, 7, Some((Access::Local, Event::Quiet))),
+        (2, 7, Some((Access::Local, Event::Cancel))),
+        (2, 7, Some((Access::Local, Event::Quiet))),
+        (2, 7, Some((Access::Local, Event::Quiet))),
+    ];
+    &ROWS
+}
+
+// Whether a thread of these instructions takes no memory where it is told its answers.
+fn is_told_all(inner: Global, instructions: &[Instr], rows: &[Row], found: Found) -> bool {
+    let alloc = Refusing::new(inner, 0);
+    match code_of(&alloc, &over_x(instructions)) {
+        Some(code) => tells_in_place(&alloc, &alloc, &code, rows, found),
+        None => false,
+    }
+}
+
+// Whether a thread that calls and cancels takes no memory where it is told its answers.
+fn is_told_cancels(inner: Global) -> bool {
+    let alloc = Refusing::new(inner, 0);
+    match code_of_two(&alloc, calls_and_cancels(), 11, (2, 1)) {
+        Some(code) => {
+            let found = (Status::Ended, "\"\t\"", 1);
+            tells_in_place(&alloc, &alloc, &code, cancelled(), found)
+        }
+        None => false,
+    }
+}
+
+#[test]
+fn told_takes_no_memory(rt: HostRuntime) {
+    let drops = (Status::Ended, "13", 13);
+    let ends = (Status::Trapped(Trap::ZeroDivisor), "2", 3);
+    let dropped = is_told_all(rt.alloc(), adds_five(), dropped_once(), drops);
+    let trapping = is_told_all(rt.alloc(), traps(), trapped(), ends);
+    let cancelling = is_told_cancels(rt.alloc());
+    assert_all(
+        &rt,
+        &[
+            ("a dropped attempt", dropped),
+            ("a trap with the lock kept", trapping),
+            ("a call and cancels", cancelling),
+        ],
+    );
 }
