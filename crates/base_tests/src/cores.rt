@@ -456,7 +456,7 @@ fn plays_this<A: Allocator + Copy, B: Allocator>(
     }
 }
 
-// The same of a new core.
+// Whether a new core plays this.
 fn new_plays<A: Allocator + Copy, B: Allocator>(
     alloc: A,
     refusing: &Refusing<B>,
@@ -466,13 +466,13 @@ fn new_plays<A: Allocator + Copy, B: Allocator>(
     plays_this(&mut core, refusing, play)
 }
 
-// The same where growth `nth` is refused.
+// Whether a new core plays this where growth `nth` is refused.
 fn is_played_at(alloc: &Refusing<Global>, nth: u64, play: Play) -> bool {
     alloc.refuse(nth);
     new_plays(alloc, alloc, play)
 }
 
-// The same where no growth is.
+// Whether a new core plays this where no growth is refused.
 fn is_played(inner: Global, play: Play) -> bool {
     is_played_at(&Refusing::new(inner, 0), 0, play)
 }

@@ -77,7 +77,7 @@ fn keeps_three_and_one(items: Items<u32, Global>) -> bool {
     lends_three_and_one(&items) && lent
 }
 
-/// The same of a new list.
+/// Whether a new list lends 3 and 1, and does so still where it is made anew from its `Vec`.
 fn a_new_one_keeps_them(alloc: Global) -> bool {
     match numbers(alloc, &[3, 1]) {
         Ok(items) => keeps_three_and_one(items),
@@ -181,7 +181,7 @@ fn push_each(items: &mut Items<u32, &Refusing<Global>>, alloc: &Refusing<Global>
     (items.len() == 100).then_some(refused)
 }
 
-/// The same of a new list.
+/// Pushes 100 items to a new list, the next growth refused before each, and says whether one was.
 fn push_each_to_new(alloc: &Refusing<Global>) -> Option<bool> {
     let mut items = Items::new(alloc);
     push_each(&mut items, alloc)
@@ -296,7 +296,7 @@ fn copies<T: Copied<A> + Same + Drop, A: Allocator + Copy>(whole: &T, alloc: A) 
     }
 }
 
-/// The same of texts.
+/// Whether a copy of texts is the same as they are; none where it is refused.
 fn copies_texts<A: Allocator + Copy>(whole: &Texts<A>, alloc: A) -> Option<bool> {
     copies(whole, alloc)
 }

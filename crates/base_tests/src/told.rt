@@ -104,7 +104,7 @@ fn shows_a_part(alloc: Global, text: &str) -> bool {
     }
 }
 
-/// The same of the long line.
+/// Whether a part of the long line is shown, and growths on the way can be refused.
 fn shows_a_part_of_it(alloc: Global) -> bool {
     match long_line(alloc) {
         Ok(text) => shows_a_part(alloc, text.as_str()),

@@ -263,7 +263,7 @@ fn finds_all<L: Ledger>(log: &WriteLog, plain: &Plain, blank: Blank) -> bool
     log.find(5000, &mut looks).is_none()
 }
 
-/// The same where nobody counts the looks.
+/// Whether each address is found at the place of its pair, and no other is found, where nobody counts the looks.
 fn finds_each(log: &WriteLog, plain: &Plain) -> bool {
     finds_all::<Brand>(log, plain, Blank::new(1))
 }

@@ -36,7 +36,7 @@ fn push_number(
     to.push_str(format!(in alloc; "{before}{i}{behind}")?.as_str())
 }
 
-// The same for each number below `n`.
+// Appends each number below `n` between two texts.
 fn push_numbers(
     to: &mut String,
     alloc: Global,

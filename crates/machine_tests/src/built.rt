@@ -16,7 +16,8 @@ pub fn code_of_worker<A: Allocator + Copy>(alloc: A, instructions: &[Instr]) -> 
     code_of(alloc, &written)
 }
 
-/// The same of a `worker`, and of a function behind it, which begins at `first` and takes register 0: so many registers each.
+/// The code of a `worker` with these instructions and of a function behind it, which begins at `first` and takes
+/// register 0, with so many registers each, if it is valid and memory is there.
 pub fn code_of_two<A: Allocator + Copy>(
     alloc: A,
     instructions: &[Instr],

@@ -144,7 +144,8 @@ fn goes<A: Allocator + Copy>(
     }
 }
 
-// The same of a thread of this code, whose growth number `nth` is refused, or none.
+// How many steps of a new thread of this code were refused room, if these are its steps and it is then found so.
+// Growth `nth` is refused, or none.
 fn begins<A: Allocator + Copy, B: Allocator>(
     alloc: A,
     refusing: &Refusing<B>,
@@ -162,7 +163,8 @@ fn begins<A: Allocator + Copy, B: Allocator>(
     }
 }
 
-// The same of these instructions.
+// How many steps of a thread of these instructions were refused room, if these are its steps and it is then found so.
+// Growth `nth` is refused, or none.
 fn makes<A: Allocator + Copy, B: Allocator>(
     alloc: A,
     refusing: &Refusing<B>,
@@ -177,7 +179,8 @@ fn makes<A: Allocator + Copy, B: Allocator>(
     }
 }
 
-// The same by a new allocator.
+// How many steps of a thread of these instructions were refused room by a new allocator, which refuses growth `nth`,
+// or none, if these are its steps and it is then found so.
 fn steps(
     inner: Global,
     nth: u64,
@@ -217,7 +220,7 @@ fn reader() -> &'static [Instr] {
     &CODE
 }
 
-// Its steps at the last value of the lock.
+// The steps of `reader` at the last value of the lock.
 fn read_last() -> &'static [Row] {
     static ROWS: [Row; 4] = [
         (LAST, 7, Some((Access::LoadLock, Event::Quiet))),
@@ -239,7 +242,7 @@ fn writer() -> &'static [Instr] {
     &CODE
 }
 
-// Its steps, which bring the lock to its last value.
+// The steps of `writer`, which bring the lock to its last value.
 fn written_last() -> &'static [Row] {
     static ROWS: [Row; 5] = [
         (LAST - 2, 7, Some((Access::LoadLock, Event::Quiet))),
@@ -300,7 +303,8 @@ fn reads_on<A: Allocator + Copy>(
     Some(thread.advance(code, &mut found, MOST))
 }
 
-// The same of a new thread.
+// What stands there after a begin of a new thread at the lock value 2, and as many steps as go on from there, where 7
+// and this lock are found; and how many these are.
 fn reads_first<A: Allocator + Copy>(
     alloc: A,
     code: &Code<A>,
@@ -312,7 +316,8 @@ fn reads_first<A: Allocator + Copy>(
     }
 }
 
-// The same of one of these instructions.
+// What stands there after a begin of a thread of these instructions at the lock value 2, and as many steps as go on
+// from there, where 7 and this lock are found; and how many these are.
 fn reads_of(inner: Global, instructions: &[Instr], lock: u64) -> Option<(u64, Option<Doing>)> {
     match code_of(inner, &over_x(instructions)) {
         Some(code) => reads_first(inner, &code, lock),
@@ -375,7 +380,7 @@ fn printer() -> &'static [Instr] {
     &CODE
 }
 
-// The steps of both up to the lock, at its last value.
+// The steps of `writer` and of `printer` up to the lock, at its last value.
 fn used_up() -> &'static [Row] {
     static ROWS: [Row; 4] = [
         (LAST, 7, Some((Access::LoadLock, Event::Quiet))),

@@ -199,7 +199,8 @@ fn first_other<A: Allocator + Copy>(
     None
 }
 
-// The same over an allocator that refuses nothing. The prover has less to look through in one that is lent.
+// The text and the threads of the first of all rows that is not so, over an allocator that refuses nothing. The
+// prover has less to look through in one that is lent.
 fn first_other_of_all(inner: Global) -> Option<(&'static str, u32, usize)> {
     let alloc = Refusing::new(inner, 0);
     first_other(&alloc, inner, rows())
@@ -224,7 +225,7 @@ fn fault_in<A: Allocator + Copy>(alloc: A, inner: Global, threads: u32) -> Optio
     }
 }
 
-// The same over an allocator that refuses nothing.
+// The number of the fault of so many threads, over an allocator that refuses nothing.
 fn fault_of(inner: Global, threads: u32) -> Option<u32> {
     let alloc = Refusing::new(inner, 0);
     fault_in(&alloc, inner, threads)

@@ -117,7 +117,7 @@ fn begun<A: Allocator + Copy>(alloc: A, code: &Code<A>) -> Option<AtomicThread<A
     }
 }
 
-// The same by a second call where the first was refused memory.
+// Thread 1 of a code at its beginning, by a second call where the first was refused memory.
 fn begun_at_last<A: Allocator + Copy>(alloc: A, code: &Code<A>) -> Option<AtomicThread<A>>
     ensures { IfSome result (λ t. IsThreadOf code.now t.thread) }
 {

@@ -50,7 +50,7 @@ fn all_cancelled() -> &'static Wanted<'static> {
     &WANTED
 }
 
-// With the lock kept the thread stands still there.
+// With the lock kept the thread stands still at an outermost cancel.
 fn standing_still() -> &'static Wanted<'static> {
     static WANTED: Wanted<'static> = Wanted {
         events: &[],
@@ -73,7 +73,7 @@ fn does(alloc: Global, code: &Code, levels: Levels) -> bool {
     }
 }
 
-// The same of the code that cancels so many levels.
+// Whether the thread of the code that cancels so many levels does what it should.
 fn a_code_does(alloc: Global, levels: Levels) -> Result<bool, AllocError> {
     let instructions = cancels_levels(alloc, levels)?;
     match code_of(alloc, &over_x(instructions.as_slice())) {
@@ -82,7 +82,7 @@ fn a_code_does(alloc: Global, levels: Levels) -> Result<bool, AllocError> {
     }
 }
 
-// With the lock kept and without.
+// Whether the threads that cancel so many levels of that depth do what they should, with the lock kept and without.
 fn both_do(alloc: Global, depth: u32, cancelled: u32) -> bool {
     let free = Levels {
         depth,
@@ -133,7 +133,8 @@ fn cancels_in_place<A: Allocator + Copy, B: Allocator>(
     steps(world, 1) && refusing.is_waiting()
 }
 
-// The same of a new world of the code that cancels so many levels.
+// Whether the thread of a new world makes the steps up to the cancel of so many levels, and then that one without a
+// growth.
 fn a_world_cancels<A: Allocator + Copy, B: Allocator>(
     alloc: A,
     refusing: &Refusing<B>,
@@ -149,7 +150,7 @@ fn a_world_cancels<A: Allocator + Copy, B: Allocator>(
     }
 }
 
-// The same by a new allocator.
+// Whether the thread of a new world over a new allocator makes the cancel of so many levels without a growth.
 fn is_in_place(inner: Global, levels: Levels) -> bool {
     let alloc = Refusing::new(inner, 0);
     a_world_cancels(&alloc, &alloc, levels) == Ok(true)

@@ -33,7 +33,7 @@ fn replays(alloc: Global, code: &Code, threads: u32, lines: &[Line], wanted: &Wa
     }
 }
 
-// The same of a schedule's text.
+// Whether the report of a schedule's text is as wanted.
 fn replays_text(alloc: Global, code: &Code, threads: u32, text: &str, wanted: &Wanted) -> bool {
     match read_schedule(alloc, text) {
         Ok(lines) => replays(alloc, code, threads, lines.as_slice(), wanted),
@@ -41,7 +41,7 @@ fn replays_text(alloc: Global, code: &Code, threads: u32, text: &str, wanted: &W
     }
 }
 
-// The same of a worker of these instructions.
+// Whether the report of a worker of these instructions by a schedule's text is as wanted.
 fn gives(alloc: Global, instrs: &[Instr], threads: u32, text: &str, wanted: &Wanted) -> bool {
     match code_of(alloc, &over_x(instrs)) {
         Some(code) => replays_text(alloc, &code, threads, text, wanted),
@@ -190,7 +190,7 @@ fn what_cancelled_levels_have_read_is_validated(rt: HostRuntime) {
     assert_that(&rt, holds);
 }
 
-// It has the lock before its print.
+// A thread that prints has the lock before its print.
 fn held() -> &'static Wanted<'static> {
     static WANTED: Wanted<'static> = Wanted {
         events: &[],
@@ -216,7 +216,7 @@ fn adds_up_by(alloc: Global, code: &Code, lines: &[Line]) -> bool {
     }
 }
 
-// The same by the steps of a seed.
+// Whether four threads that add one each leave 4 by the steps of a seed.
 fn adds_up(alloc: Global, code: &Code, seed: u64) -> bool {
     match seeded(alloc, seed, 4, 400) {
         Ok(lines) => adds_up_by(alloc, code, lines.as_slice()),
@@ -224,7 +224,7 @@ fn adds_up(alloc: Global, code: &Code, seed: u64) -> bool {
     }
 }
 
-// The same for the seeds 1 to 19.
+// Whether four threads that add one each leave 4 by the steps of the seeds 1 to 19.
 fn all_add_up(alloc: Global, code: &Code) -> bool {
     for seed in 1..20u64 {
         if !adds_up(alloc, code, seed) {
@@ -234,7 +234,7 @@ fn all_add_up(alloc: Global, code: &Code) -> bool {
     true
 }
 
-// The same of the code of such threads.
+// Whether the code of threads that add one each leaves 4 by the steps of the seeds 1 to 19.
 fn seeds_add_up(alloc: Global) -> bool {
     match code_of(alloc, &over_x(adds_one())) {
         Some(code) => all_add_up(alloc, &code),
@@ -266,7 +266,7 @@ fn are_shown(alloc: Global, code: &Code, steps: &[u32], wanted: &[(u64, u32, Ste
     }
 }
 
-// The same of two threads of these instructions.
+// Whether this is shown of steps of two threads of these instructions.
 fn shows(alloc: Global, instrs: &[Instr], steps: &[u32], wanted: &[(u64, u32, StepShown)]) -> bool {
     match code_of(alloc, &over_x(instrs)) {
         Some(code) => are_shown(alloc, &code, steps, wanted),

@@ -53,7 +53,7 @@ fn met(alloc: Global, setup: &Setup) -> Option<u64> {
     }
 }
 
-// The same of a new table of two threads.
+// The lock that the first of two threads of a new table finds where it meets the other.
 fn met_first(alloc: Global) -> Option<u64> {
     match setup(alloc, 7, 9, 2) {
         Some(setup) => met(alloc, &setup),
@@ -82,7 +82,8 @@ fn tells_in<A: Allocator + Copy, B: Allocator>(alloc: A, refusing: &Refusing<B>,
     }
 }
 
-// The same by an allocator.
+// Whether an allocator that refuses lets a table be opened where growth `nth` behind its code's is not met, and else
+// by a second call alone.
 fn tells(refusing: &Refusing<Global>, nth: u64) -> bool {
     tells_in(refusing, refusing, nth)
 }

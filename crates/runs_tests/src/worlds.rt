@@ -55,7 +55,7 @@ fn goes(alloc: Global, world: &mut World, steps: &[u32], left: Left) -> bool {
     stopped(world, steps).is_none() && stands(world, steps, left) && reports(alloc, world, left.2)
 }
 
-// The same of a new world.
+// Whether all these steps of two threads of a new world are made, and leave what is wanted.
 fn leads_to(alloc: Global, steps: &[u32], left: Left) -> bool {
     match opened(alloc, 2) {
         Ok(mut world) => goes(alloc, &mut world, steps, left),
@@ -103,7 +103,7 @@ fn stops_at_a_stranger(world: &mut World) -> bool {
     stop == Some((2, StopReason::Stranger)) && world.trace() == [0u32, 1].as_slice()
 }
 
-// The same of a new world.
+// Whether a stranger's step in a new world, the third one, is not made, and those before it are.
 fn meets_a_stranger(alloc: Global) -> bool {
     match opened(alloc, 2) {
         Ok(mut world) => stops_at_a_stranger(&mut world),

@@ -159,10 +159,10 @@ fn told() -> &'static [Told] {
     &TOLD
 }
 
-/// The same of a source in pieces, each so many times.
+/// A source in pieces, each so many times, the number of its fault, and what is told behind it.
 type ToldOfLong = (&'static [(&'static str, usize)], u32, &'static str);
 
-/// Those of long sources.
+/// Long sources, and what is told of their faults.
 fn told_of_long() -> &'static [ToldOfLong] {
     static LONG: [ToldOfLong; 4] = [
         (&[(" ", 1048577)], 5, "1:1: file too long"),
@@ -250,7 +250,7 @@ fn faults_are_told_with_place_and_words(rt: HostRuntime) {
     assert_eq!(rt; not_told(&rt, rt.alloc()), None);
 }
 
-// The same of a source in pieces.
+// Whether the fault of a source in pieces is told with this number and these words.
 fn is_told_of<H: Threads + Wait + Sync>(
     rt: &H,
     alloc: Global,

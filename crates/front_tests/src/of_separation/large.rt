@@ -23,7 +23,7 @@ fn ends_bare(alloc: Global, text: &str) -> bool {
     fault_of(alloc, Stage::Separation, text) == Some((51, Some(Span { start, end })))
 }
 
-// The same of a chain.
+// Whether the fault of a chain is that of the bare call with which it ends, by its place.
 fn is_bare(alloc: Global, chain: &[Piece]) -> bool {
     match text_of(alloc, chain) {
         Ok(text) => ends_bare(alloc, text.as_str()),

@@ -18,7 +18,7 @@ fn sizes(code: &Code) -> Sizes {
     (code.functions().len(), registers, code.len())
 }
 
-// The same of a text's code.
+// The sizes of a text's code.
 fn sizes_of(alloc: Global, text: &str) -> Option<Sizes> {
     match code_of(alloc, text) {
         Ok(code) => Some(sizes(&code)),
@@ -26,7 +26,7 @@ fn sizes_of(alloc: Global, text: &str) -> Option<Sizes> {
     }
 }
 
-// The same of a text of pieces.
+// The sizes of the code of a text of pieces.
 fn sizes_in(alloc: Global, pieces: &[Piece]) -> Option<Sizes> {
     match text_of(alloc, pieces) {
         Ok(text) => sizes_of(alloc, text.as_str()),
@@ -34,7 +34,7 @@ fn sizes_in(alloc: Global, pieces: &[Piece]) -> Option<Sizes> {
     }
 }
 
-// Its fault.
+// The fault of a text of pieces.
 fn fault_in(alloc: Global, pieces: &[Piece]) -> Option<(u32, Option<Span>)> {
     match text_of(alloc, pieces) {
         Ok(text) => fault_of(alloc, text.as_str()),

@@ -37,7 +37,8 @@ fn source_end(end: ThreadEnd) -> u8 {
     }
 }
 
-/// The same of a thread of the code, which runs where one of the source would have no ticks left.
+/// How a thread of the code is found: a trap's number, or one that no trap has. It runs where one of the source would
+/// have no ticks left.
 fn code_end(status: Status) -> u8 {
     match status {
         Status::Ended => 6,
@@ -102,7 +103,7 @@ fn add_source(
     Ok(())
 }
 
-/// These lines.
+/// The lines of what is seen of a program's thread within so many ticks.
 fn source_lines(alloc: Global, accepted: &Accepted, ticks: u64) -> Option<String> {
     let mut lines = String::new(alloc);
     match add_source(alloc, accepted, ticks, &mut lines) {
@@ -180,7 +181,7 @@ fn carry_on(
     Ok(())
 }
 
-/// The same of a new thread over a memory.
+/// Adds what is seen of a new thread over a memory within so many instructions, one line for each change.
 fn add_thread(
     alloc: Global,
     code: &Code,
@@ -194,7 +195,8 @@ fn add_thread(
     }
 }
 
-/// The same over the memory that a code begins with.
+/// Adds what is seen of a new thread over the memory that a code begins with, one line for each change within so many
+/// instructions.
 fn add_code(alloc: Global, code: &Code, lines: &mut String, steps: u32) -> Result<(), AllocError> {
     let mut memory = Vec::new(alloc);
     code.push_initial(&mut memory)?;
@@ -250,7 +252,7 @@ fn show_the_same(alloc: Global, text: &str, ticks: u64, steps: u32) -> bool {
     }
 }
 
-/// The first of these texts of which that does not hold.
+/// The first of these texts whose code does not show what its source shows, within so many ticks and instructions.
 fn show_others(
     alloc: Global,
     texts: &[&'static str],
@@ -265,7 +267,7 @@ fn show_others(
     None
 }
 
-/// The same of texts that stand beside their listings.
+/// The first of the texts that stand beside their listings whose code does not show what its source shows.
 fn listed_show_others(alloc: Global, rows: &[Listed]) -> Option<&'static str> {
     for (text, _) in rows {
         if !show_the_same(alloc, text, 300, 1000) {

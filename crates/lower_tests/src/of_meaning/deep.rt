@@ -156,7 +156,7 @@ fn end_of(alloc: Global, text: &str) -> Option<ThreadEnd> {
     }
 }
 
-// The same of a shape with so many levels.
+// How the thread of a shape with so many levels ends.
 fn end_at(alloc: Global, shape: &Shape, levels: u32) -> Option<ThreadEnd> {
     match program_of(alloc, shape, levels) {
         Ok(text) => end_of(alloc, text.as_str()),

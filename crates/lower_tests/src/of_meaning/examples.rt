@@ -122,7 +122,7 @@ fn does_so(alloc: Global, accepted: &Accepted, row: &Row) -> bool {
     }
 }
 
-// The same of its text.
+// Whether one thread of a row's text does what the row says.
 fn is_so(alloc: Global, row: &Row) -> bool {
     match accepted_of(alloc, row.0) {
         Some(accepted) => does_so(alloc, &accepted, row),

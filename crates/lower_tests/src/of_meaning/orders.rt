@@ -117,7 +117,7 @@ fn do_so(alloc: Global, accepted: &Accepted, row: &Row) -> bool {
     }
 }
 
-// The same of its text.
+// Whether the threads of a row's text do what the row says.
 fn is_so(alloc: Global, row: &Row) -> bool {
     match accepted_of(alloc, row.0) {
         Some(accepted) => do_so(alloc, &accepted, row),
@@ -164,7 +164,7 @@ fn count(alloc: Global, accepted: &Accepted, threads: u32, order: &[u32]) -> Res
     }
 }
 
-// The same of the text that adds.
+// How many threads of the text that adds are told of, or the number of the order's fault.
 fn count_adding(alloc: Global, threads: u32, order: &[u32]) -> Option<Result<usize, u32>> {
     match accepted_of(alloc, ADDS) {
         Some(accepted) => Some(count(alloc, &accepted, threads, order)),

@@ -147,7 +147,7 @@ fn tells_in<A: Allocator, B: Allocator + Copy>(
     }
 }
 
-// The same of a text.
+// Whether a thread of a text comes to its end just where growth `nth` does not come, which is refused.
 fn tells(refusing: &Refusing<Global>, nth: u64, text: &str, t: u32, founds: usize) -> bool {
     match accepted_of(refusing, text) {
         Some(accepted) => tells_in(refusing, refusing, &accepted, t, founds, nth),

@@ -104,7 +104,8 @@ fn comes_to<A: Allocator + Copy>(alloc: A, code: &Code<A>, most: u32, text: &str
     }
 }
 
-/// The same of a code: a worker of these instructions, and a function behind it, where it is said where that begins.
+/// What thread 5 of a worker of these instructions, and of a function behind it where it is said where that begins,
+/// comes to by one call of so many instructions, over a cell that holds 9, where it should print this.
 pub fn code_comes_to<A: Allocator + Copy>(
     alloc: A,
     instructions: &[Instr],
@@ -153,7 +154,9 @@ fn turns<A: Allocator + Copy>(
     }
 }
 
-/// The same of a code.
+/// What a thread of a worker of these instructions, and of a function behind it where it is said where that begins,
+/// comes to by so many calls, each of which finds what the one before left, and the first one this word: the word
+/// that is left last, how many instructions it made, and how it is.
 pub fn code_turns<A: Allocator + Copy>(
     alloc: A,
     instructions: &[Instr],

@@ -61,7 +61,7 @@ fn cancels_in_place<A: Allocator + Copy, B: Allocator>(
     waits && made == cancelled(levels)
 }
 
-// Whether it then comes to what it should.
+// Whether a thread comes to what it should behind the cancel.
 fn goes_on<A: Allocator + Copy>(
     thread: &mut AtomicThread<A>,
     code: &Code<A>,
@@ -75,7 +75,7 @@ fn goes_on<A: Allocator + Copy>(
     made == committed(levels) && Some(thread.output()) == printed(levels)
 }
 
-// Whether a thread opens its levels, and then does both.
+// Whether a thread opens its levels, makes the cancel without a growth, and comes to what it should.
 fn does_both<A: Allocator + Copy, B: Allocator>(
     thread: &mut AtomicThread<A>,
     code: &Code<A>,
@@ -92,7 +92,7 @@ fn does_both<A: Allocator + Copy, B: Allocator>(
     cancels && goes_on(thread, code, levels)
 }
 
-// The same of thread 5 of a code.
+// Whether thread 5 of a code does what it should with its levels.
 fn a_thread_does<A: Allocator + Copy, B: Allocator>(
     alloc: A,
     code: &Code<A>,
@@ -105,7 +105,7 @@ fn a_thread_does<A: Allocator + Copy, B: Allocator>(
     }
 }
 
-// The same of the code that cancels so many levels.
+// Whether the code that cancels so many levels does what it should.
 fn a_code_does<A: Allocator + Copy, B: Allocator>(
     alloc: A,
     refusing: &Refusing<B>,
@@ -118,13 +118,13 @@ fn a_code_does<A: Allocator + Copy, B: Allocator>(
     }
 }
 
-// The same by a new allocator.
+// Whether the code that cancels so many levels does what it should over a new allocator.
 fn is_done(inner: Global, levels: Levels) -> bool {
     let alloc = Refusing::new(inner, 0);
     a_code_does(&alloc, &alloc, levels) == Ok(true)
 }
 
-// The same with the lock kept and without.
+// Whether so many levels of that depth are cancelled as they should be, with the lock kept and without.
 fn are_done(inner: Global, depth: u32, cancelled: u32) -> bool {
     let free = Levels {
         depth,

@@ -101,7 +101,7 @@ fn returns() -> &'static [Instr] {
     &CODE
 }
 
-// The same of a worker that only returns.
+// Whether one word below 2^32 alone is a memory of a worker that only returns.
 fn are_memories_of_one<A: Allocator + Copy>(alloc: A) -> bool {
     match code_of(alloc, returns(), None) {
         None => false,

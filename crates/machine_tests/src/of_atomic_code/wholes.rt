@@ -96,7 +96,7 @@ fn is_so(alloc: Global, code: &Code, row: &Row) -> bool {
     of_code(alloc, code, founds, steps, text) == Some((first, second, end, true))
 }
 
-// Whether it comes to all these.
+// Whether a code's thread comes to all these.
 fn are_so(alloc: Global, code: &Code, rows: &[Row]) -> bool {
     for row in rows {
         if !is_so(alloc, code, row) {
@@ -106,7 +106,7 @@ fn are_so(alloc: Global, code: &Code, rows: &[Row]) -> bool {
     true
 }
 
-// The same of a worker of these instructions.
+// Whether the thread of a worker of these instructions comes to all these.
 fn comes_to(alloc: Global, instructions: &[Instr], rows: &[Row]) -> bool {
     match code_of(alloc, instructions, None) {
         None => false,

@@ -34,8 +34,8 @@ fn are_valid_at_once<A: Allocator + Copy>(alloc: A, parts: Parts<A>) -> Option<b
     }
 }
 
-// Whether they are just where growth `nth` does not come, which is refused. The allocator of the parts is the one that
-// refuses.
+// Whether parts are valid at once just where growth `nth` does not come, which is refused. Their allocator is the one
+// that refuses.
 fn tells_of<A: Allocator, B: Allocator + Copy>(
     refusing: &Refusing<A>,
     alloc: B,
@@ -46,7 +46,7 @@ fn tells_of<A: Allocator, B: Allocator + Copy>(
     are_valid_at_once(alloc, parts) == Some(refusing.is_waiting())
 }
 
-// The same of the sample.
+// Whether the sample is valid at once just where growth `nth` does not come, which is refused.
 fn tells(refusing: &Refusing<Global>, nth: u64) -> bool {
     match parts_of(refusing, &FUNCTIONS, &[], &INSTRUCTIONS, &TEXTS) {
         Ok(parts) => tells_of(refusing, refusing, parts, nth),

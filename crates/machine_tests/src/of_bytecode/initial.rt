@@ -60,7 +60,7 @@ fn each_first_word_has_a_cell(rt: HostRuntime) {
     assert_that(&rt, is_valid_over(rt.alloc(), 1) == Some(false));
 }
 
-// Its code.
+// The code over the array.
 fn code_over_an_array<A: Allocator + Copy>(alloc: A) -> Option<Code<A>> {
     match over_an_array(alloc) {
         Ok(parts) => code_of(alloc, parts),
@@ -77,8 +77,8 @@ fn begins_with<A: Allocator + Copy>(alloc: A, code: &Code<A>, wanted: &[u64]) ->
     }
 }
 
-// Whether these are the words, and growth `nth` is not met, or else that is told. The allocator of the code is the one
-// that refuses.
+// Whether the first words of a code's cells are 0, 4294967295, 7 and 0, and growth `nth` is not met, or else that is
+// told. The allocator of the code is the one that refuses.
 fn tells_of<A: Allocator, B: Allocator + Copy>(
     refusing: &Refusing<A>,
     alloc: B,
@@ -92,7 +92,8 @@ fn tells_of<A: Allocator, B: Allocator + Copy>(
     }
 }
 
-// The same of the code over that array.
+// Whether the array's code begins with these words where growth `nth` is not met, and else that is told. The
+// allocator is the one that refuses.
 fn tells(refusing: &Refusing<Global>, nth: u64) -> bool {
     match code_over_an_array(refusing) {
         Some(code) => tells_of(refusing, refusing, &code, nth),

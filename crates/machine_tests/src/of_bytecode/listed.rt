@@ -16,7 +16,7 @@ fn is_listed(alloc: Global, code: &Code, wanted: &str) -> bool {
 /// How many functions, instructions, texts and globals a code has.
 type Counts = (usize, usize, usize, usize);
 
-// Those of a code.
+// The counts of a code.
 fn counts(code: &Code) -> Counts {
     (
         code.functions().len(),
@@ -26,7 +26,7 @@ fn counts(code: &Code) -> Counts {
     )
 }
 
-// Those of a code with this listing.
+// The counts of a code with this listing.
 fn counted(alloc: Global, code: &Code, wanted: &str) -> Option<Counts> {
     if is_listed(alloc, code, wanted) {
         Some(counts(code))
@@ -35,7 +35,7 @@ fn counted(alloc: Global, code: &Code, wanted: &str) -> Option<Counts> {
     }
 }
 
-// Those of a code's copy with this listing.
+// The counts of a code's copy with this listing.
 fn copied(alloc: Global, code: &Code, wanted: &str) -> Option<Counts> {
     match code.copy(alloc) {
         Err(_) => None,
@@ -43,7 +43,7 @@ fn copied(alloc: Global, code: &Code, wanted: &str) -> Option<Counts> {
     }
 }
 
-// Those of a code's copy where both have this listing.
+// The counts of a code's copy where both have this listing.
 fn listed_twice(alloc: Global, code: &Code, wanted: &str) -> Option<Counts> {
     if is_listed(alloc, code, wanted) {
         copied(alloc, code, wanted)
@@ -52,7 +52,7 @@ fn listed_twice(alloc: Global, code: &Code, wanted: &str) -> Option<Counts> {
     }
 }
 
-// The same of these functions' code.
+// The counts of a copy of these functions' code, where both have this listing.
 fn listed(
     alloc: Global,
     functions: &[Function],
@@ -279,7 +279,7 @@ const TURN_LISTED: &str = "function worker registers 5
 3 ret
 ";
 
-/// The same, with a sum before it.
+/// The end of a loop's turn with a sum before it.
 pub const SUMMED: [Instr; 5] = [
     Instr::AddSigned(0, 0, 3),
     Instr::AddSigned(1, 1, 2),

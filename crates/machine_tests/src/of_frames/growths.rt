@@ -30,7 +30,8 @@ fn prints_and_calls() -> &'static [Instr] {
     &CODE
 }
 
-// Whether it does where growth `nth` behind its code's is not met, and else that is told.
+// Whether the thread ends, having printed both, where growth `nth` behind its code's is not met, and else that is
+// told.
 fn tells_in<A: Allocator + Copy, B: Allocator>(alloc: A, refusing: &Refusing<B>, nth: u64) -> bool {
     match code_of_two(alloc, prints_and_calls(), 4, (2, 1)) {
         Some(code) => {
@@ -44,7 +45,8 @@ fn tells_in<A: Allocator + Copy, B: Allocator>(alloc: A, refusing: &Refusing<B>,
     }
 }
 
-// The same by an allocator.
+// Whether the thread ends where growth `nth` of its allocator, counted behind its code's, is not met, and else that
+// is told.
 fn tells(refusing: &Refusing<Global>, nth: u64) -> bool {
     tells_in(refusing, refusing, nth)
 }

@@ -30,7 +30,7 @@ fn prints<A: Allocator + Copy>(alloc: A, code: &Code<A>, printed: &str) -> Optio
     }
 }
 
-// The same of a code, if there is one.
+// What is found of a code, if there is one, over a cell that holds 9, where it has printed this.
 fn found<A: Allocator + Copy>(alloc: A, code: Option<Code<A>>, printed: &str) -> Option<Found> {
     match code {
         Some(code) => prints(alloc, &code, printed),

@@ -24,7 +24,7 @@ fn go<A: Allocator + Copy>(frames: &mut Frames<A>, code: &Code<A>, most: u64) ->
     made
 }
 
-// The same, each in a call of its own.
+// Steps in the frames, each in a call of its own, at most so many: how many they were.
 fn go_singly<A: Allocator + Copy>(frames: &mut Frames<A>, code: &Code<A>, most: u64) -> u64
     requires { IsConfigurationOf code.now frames.old.configuration }
     ensures { IsConfigurationOf code.now frames.new.configuration }

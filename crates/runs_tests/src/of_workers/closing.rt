@@ -25,7 +25,7 @@ fn up_to_the_lock() -> &'static [Turn] {
     &TURNS
 }
 
-// Then both come to their ends, and stay there.
+// Both workers come to their ends, and stay there.
 fn to_the_ends() -> &'static [Turn] {
     static TURNS: [Turn; 3] = [
         Turn::Run(0, 100, Status::Ended, 13, 6),
@@ -40,7 +40,7 @@ fn is_still(right: bool, reason: CloseReason, wanted: CloseReason) -> bool {
     right && reason == wanted
 }
 
-// Both go on to their ends, and the hall is closed.
+// Whether both workers go on to their ends, and the hall is closed.
 fn ends(alloc: Global, hall: Hall, mut workers: Vec<Worker>, right: bool) -> bool
     requires { AreWorkersOf (table_of hall) (setup_of hall) workers.items }
 {
@@ -116,7 +116,7 @@ fn wants_workers(alloc: Global, hall: Hall) -> bool {
     }
 }
 
-// The same of a hall of 64.
+// A hall of 64 is not closed without workers.
 fn is_kept_open(alloc: Global) -> bool {
     match opened(alloc, prints(), 64) {
         Ok((hall, _)) => wants_workers(alloc, hall),

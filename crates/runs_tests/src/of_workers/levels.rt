@@ -53,7 +53,7 @@ fn run<R: Threads + Wait + Sync>(
     }
 }
 
-// With the lock kept and without.
+// Whether threads that cancel so many levels of that depth do what they should, with the lock kept and without.
 fn both_run<R: Threads + Wait + Sync>(rt: &R, alloc: Global, depth: u32, cancelled: u32) -> bool {
     let free = Levels {
         depth,

@@ -97,7 +97,7 @@ fn reports<R: Threads + Wait + Sync, G: Gate + Sync>(
     }
 }
 
-/// The same of a program.
+/// Whether the report of so many threads of a program, each of which makes so many steps at most, is as wanted.
 pub fn runs_as<R: Threads + Wait + Sync, G: Gate + Sync>(
     rt: &R,
     alloc: Global,

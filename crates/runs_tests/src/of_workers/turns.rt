@@ -19,7 +19,7 @@ fn in_order() -> &'static [Turn] {
     &TURNS
 }
 
-// The same, where they meet between.
+// Worker 0 to its end, a meeting, and then worker 1.
 fn in_order_with_a_meeting() -> &'static [Turn] {
     static TURNS: [Turn; 3] = [
         Turn::Run(0, 100, Status::Ended, 10, 4),

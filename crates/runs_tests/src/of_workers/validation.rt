@@ -36,7 +36,8 @@ fn makes(alloc: Global, program: Program, turns: &[Turn], word: u64, wanted: Tal
     }
 }
 
-// The same where worker 0 reads four times, and worker 1 writes this word.
+// Whether two workers, of which worker 0 reads four times and worker 1 writes this word, make these turns, the word
+// is left, and worker 0 has counted this.
 fn makes_reading(alloc: Global, written: u32, turns: &[Turn], wanted: Tally) -> bool {
     makes(
         alloc,
@@ -57,7 +58,8 @@ fn goes_on() -> &'static [Turn] {
     &TURNS
 }
 
-// The same in runs that end after the lock's load, after the second entry, and after the last one.
+// Worker 1 writes the word that is there before the last of the reads, and the runs of worker 0 end after the lock's
+// load, after the second entry, and after the last one.
 fn goes_on_in_pieces() -> &'static [Turn] {
     static TURNS: [Turn; 6] = [
         Turn::Run(0, 9, Status::Budget, 9, 7),
@@ -70,7 +72,8 @@ fn goes_on_in_pieces() -> &'static [Turn] {
     &TURNS
 }
 
-// The same where worker 1 has the lock meanwhile: validation waits for its release.
+// Worker 1 has the lock before the last of the reads, and writes the word that is there: validation waits for its
+// release.
 fn waits() -> &'static [Turn] {
     static TURNS: [Turn; 5] = [
         Turn::Run(0, 9, Status::Budget, 9, 7),
