@@ -227,6 +227,96 @@ fn two_thousand_functions_and_texts_run(rt: HostRuntime) {
     assert!(rt; functions_run(&rt, rt.alloc(), 2_000));
 }
 
+/// The beginning of names that all have one hash, where a hash multiplies eight bytes by eight with a constant and no key: behind
+/// it one factor is 0.
+const COLLIDING: &str = "aaaaaaaaaaaaassTNo3qMD1o";
+
+// A function with 31,000 locals, whose names begin so and end in their numbers, and with one more, whose number this is.
+fn of_locals(alloc: Global, beginning: &str, last: u32) -> Result<String, AllocError> {
+    let mut text = String::from_str(alloc, "void worker(int self) { int x")?;
+    for number in 0..31_000u32 {
+        text.push_str(format!(in alloc; ",{beginning}{number:08}")?.as_str())?;
+    }
+    text.push_str(format!(in alloc; ",{beginning}{last:08}; }}")?.as_str())?;
+    Ok(text)
+}
+
+// Whether `txc check` answers such a function so.
+fn locals_are_checked<H: Threads + Wait + Sync>(
+    rt: &H,
+    alloc: Global,
+    beginning: &str,
+    last: u32,
+    wanted: Answer,
+) -> bool {
+    match of_locals(alloc, beginning, last) {
+        Ok(source) => {
+            let source = source.as_str().as_bytes();
+            answers(rt, alloc, "txc check a.c", source, b"", false, wanted)
+        }
+        Err(_) => false,
+    }
+}
+
+#[test]
+fn colliding_names_are_checked(rt: HostRuntime) {
+    let alloc = rt.alloc();
+    let accepted = (0, b"accepted\n".as_slice(), b"".as_slice());
+    assert!(rt; locals_are_checked(&rt, alloc, COLLIDING, 31_000, accepted));
+    let told = b"txc: fault 21 at 1:1023031: declared twice\n".as_slice();
+    assert!(rt; locals_are_checked(&rt, alloc, COLLIDING, 0, (1, b"", told)));
+    assert!(rt; locals_are_checked(&rt, alloc, COLLIDING, 30_999, (1, b"", told)));
+}
+
+// A function with so many locals, and as many assignments to the oldest one.
+fn of_uses(alloc: Global, count: u32) -> Result<String, AllocError> {
+    let mut text = String::from_str(alloc, "void worker(int self) { int z")?;
+    for number in 1..count {
+        text.push_str(format!(in alloc; ",v{number}")?.as_str())?;
+    }
+    text.push_str("; ")?;
+    text.push_str("z=1;".repeat(alloc, count as usize)?.as_str())?;
+    text.push_str(" }")?;
+    Ok(text)
+}
+
+// The listing of its code: each local begins with 0, and the oldest one has register 1.
+fn listing_of_uses(alloc: Global, count: u32) -> Result<String, AllocError> {
+    let registers = count.saturating_add(1);
+    let mut text = format!(in alloc; "function worker registers {registers}\n")?;
+    for place in 0..count {
+        let register = place.saturating_add(1);
+        text.push_str(format!(in alloc; "{place} const r{register} #0\n")?.as_str())?;
+    }
+    let end = count.saturating_mul(2);
+    for place in count..end {
+        text.push_str(format!(in alloc; "{place} const r1 #1\n")?.as_str())?;
+    }
+    text.push_str(format!(in alloc; "{end} ret\n")?.as_str())?;
+    Ok(text)
+}
+
+// Whether such a function has this listing.
+fn uses_are_listed<H: Threads + Wait + Sync>(rt: &H, alloc: Global, count: u32) -> bool {
+    match (of_uses(alloc, count), listing_of_uses(alloc, count)) {
+        (Ok(source), Ok(listing)) => answers(
+            rt,
+            alloc,
+            "txc listing a.c",
+            source.as_str().as_bytes(),
+            b"",
+            false,
+            (0, listing.as_str().as_bytes(), b""),
+        ),
+        _ => false,
+    }
+}
+
+#[test]
+fn sixty_thousand_uses_of_the_oldest_local_are_listed(rt: HostRuntime) {
+    assert!(rt; uses_are_listed(&rt, rt.alloc(), 60_000));
+}
+
 /// Each thread adds one, so many times.
 const COUNTS: &[u8] =
     b"int x; void worker(int self) { int i; for (i = 0; i < 1000; i++) __transaction_atomic { x = x + 1; } }";
