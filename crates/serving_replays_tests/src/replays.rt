@@ -1,15 +1,11 @@
 //! Replays of schedules and seeds.
 
 use command::{Format, Request, Steps, Task};
-use refusing::Refusing;
-use replay::{Line, read_schedule};
-use report::{Printed, report_text};
-use serving::{Compiled, Replayed, compile, lines_shown, replay_code};
 use serving_in_memory::{
     ADDS, Answer, Broken, Row, Served, answers, is_answer, request_of, serve_bytes, serve_line,
     wrong_row,
 };
-use std::alloc::{AllocError, Allocator, Global};
+use std::alloc::{AllocError, Global};
 use std::str;
 use std::sync::Wait;
 use std::thread::Threads;
@@ -581,7 +577,7 @@ fn runs_in_its_order<H: Threads + Wait + Sync>(rt: &H, alloc: Global, replayed: 
     }
 }
 
-// The same of the replay that a line asks.
+// Whether the source agrees with the replay that a line asks, in the order of its commits.
 fn runs_as_replayed<H: Threads + Wait + Sync>(rt: &H, alloc: Global, line: &str) -> bool {
     match serve_alone(rt, alloc, line, COUNTS) {
         Some(replayed) => match str::from_utf8(replayed.out.as_slice()) {
@@ -592,7 +588,7 @@ fn runs_as_replayed<H: Threads + Wait + Sync>(rt: &H, alloc: Global, line: &str)
     }
 }
 
-// The same of the steps of a seed.
+// Whether the source agrees with a replay of the steps of a seed, in the order of its commits.
 fn runs_as_seeded<H: Threads + Wait + Sync>(rt: &H, alloc: Global, seed: u32) -> bool {
     match format!(in alloc; "txc replay a.c --threads=4 --seed={seed} --steps=100000") {
         Ok(line) => runs_as_replayed(rt, alloc, line.as_str()),
@@ -614,107 +610,4 @@ fn disagreeing_seed<H: Threads + Wait + Sync>(rt: &H, alloc: Global) -> Option<u
 #[test]
 fn the_source_agrees_in_the_order_of_commits(rt: HostRuntime) {
     assert_eq!(rt; disagreeing_seed(&rt, rt.alloc()), None);
-}
-
-/// How a replay comes out whose memory may be refused.
-#[derive(Clone, Copy, PartialEq, Eq)]
-enum Outcome {
-    /// Its report is the one that it should be.
-    Told,
-    /// Its report says that a step was not made for want of memory.
-    Stopped,
-    /// Its report is another one.
-    Wrong,
-    /// The fault of this number keeps it from having one.
-    Refused(u32),
-}
-
-const TOLD: &[u8] =
-    b"== events\n9 0 commit\n12 1 abort\n18 1 commit\n== thread 0: ended\n== thread 1: ended\n== memory\nx = 2\n";
-
-// What a report tells.
-fn told(report: &[u8]) -> Outcome {
-    if report == TOLD {
-        return Outcome::Told;
-    }
-    match str::from_utf8(report) {
-        Ok(report) if report.contains(": stop 00\n") => Outcome::Stopped,
-        _ => Outcome::Wrong,
-    }
-}
-
-// What the report of a replay tells.
-fn reported<A: Allocator + Copy>(alloc: A, printed: &Printed<A>) -> Outcome {
-    match report_text(alloc, printed) {
-        Ok(report) => told(report.as_slice()),
-        Err(_) => Outcome::Refused(0),
-    }
-}
-
-// The same, where memory is there for a timeline too.
-fn shown<A: Allocator + Copy>(alloc: A, compiled: &Compiled<A>, replayed: &Replayed<A>) -> Outcome {
-    match lines_shown(alloc, &compiled.code, 2, replayed.made.as_slice()) {
-        Some(_) => reported(alloc, &replayed.printed),
-        None => Outcome::Refused(0),
-    }
-}
-
-// How a replay of lines by two threads comes out.
-fn played<A: Allocator + Copy>(alloc: A, compiled: &Compiled<A>, lines: &[Line]) -> Outcome {
-    match replay_code(alloc, compiled, 2, lines) {
-        Ok(replayed) => shown(alloc, compiled, &replayed),
-        Err(_) => Outcome::Refused(0),
-    }
-}
-
-// How a replay of a schedule comes out.
-fn scheduled<A: Allocator + Copy>(alloc: A, compiled: &Compiled<A>) -> Outcome {
-    match read_schedule(alloc, "0 a3\n1 a3\n0 a9\n1 a99\n") {
-        Ok(found) => played(alloc, compiled, found.as_slice()),
-        Err(fault) => Outcome::Refused(fault.number()),
-    }
-}
-
-// How a replay of a source comes out.
-fn replay_with<A: Allocator + Copy>(alloc: A) -> Outcome {
-    let text = "int x; void worker(int self) { __transaction_atomic { x = x + 1; } }";
-    match compile(alloc, text) {
-        Ok(compiled) => scheduled(alloc, &compiled),
-        Err(fault) => Outcome::Refused(fault.number()),
-    }
-}
-
-// How a replay comes out where growth `nth` is refused, and whether that growth is still to come. `None` where it was refused, and
-// the replay is not told when it is made again.
-fn refused_at<A: Allocator + Copy>(inner: A, nth: u64) -> Option<(Outcome, bool)> {
-    let alloc = Refusing::new(inner, nth);
-    let outcome = replay_with(&alloc);
-    let is_waiting = alloc.is_waiting();
-    if is_waiting || replay_with(&alloc) == Outcome::Told {
-        Some((outcome, is_waiting))
-    } else {
-        None
-    }
-}
-
-// How many growths a replay makes, each of which was refused once. `None` where one comes out as it should not, or where none kept
-// a step from being made.
-fn growths<A: Allocator + Copy>(inner: A) -> Option<u64> {
-    let mut met = 0;
-    let mut has_stopped = false;
-    for nth in 1..900u64 {
-        match refused_at(inner, nth) {
-            Some((Outcome::Told, true)) if has_stopped => return Some(met),
-            Some((Outcome::Stopped, false)) => has_stopped = true,
-            Some((Outcome::Told, false)) | Some((Outcome::Refused(0), false)) => {}
-            _ => return None,
-        }
-        met = nth;
-    }
-    None
-}
-
-#[test]
-fn each_growth_of_a_replay_is_refused_once(rt: HostRuntime) {
-    assert!(rt; growths(rt.alloc()) > Some(0));
 }

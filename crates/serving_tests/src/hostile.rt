@@ -154,10 +154,11 @@ fn each_beginning_of_a_source_is_judged(rt: HostRuntime) {
 type Asked = (&'static str, &'static [u8], &'static [u8]);
 
 fn asked() -> &'static [Asked] {
-    static ASKED: [Asked; 15] = [
+    static ASKED: [Asked; 16] = [
         ("txc check a.c", CANCELS, b""),
         ("txc listing a.c", CANCELS, b""),
         ("txc source a.c --threads 2 --order 0,1", CANCELS, b""),
+        ("txc outcomes a.c --threads 2", CANCELS, b""),
         (
             "txc replay a.c --threads 2 --schedule s.txt",
             CANCELS,
@@ -236,8 +237,8 @@ fn gives_up(served: &Served) -> bool {
     is_told || served.status == 4 && is_stopped(served)
 }
 
-// Whether this is answered, or growth `nth` is met and want of memory is told. All may be answered where it is met too:
-// not every growth that is asked for has to be made.
+// Whether this is answered, or growth `nth` is met, want of memory is told, and this is answered to the same task then. It
+// may be answered where the growth is met too: not every growth that is asked for has to be made.
 fn tells(
     alloc: &Refusing<Global>,
     nth: u64,
@@ -248,7 +249,13 @@ fn tells(
 ) -> bool {
     alloc.refuse(nth);
     let served = served_alone(alloc, inner, task, files.0, files.1);
-    is_answer(&served, wanted) || !alloc.is_waiting() && gives_up(&served)
+    if is_answer(&served, wanted) {
+        return true;
+    }
+    if alloc.is_waiting() || !gives_up(&served) {
+        return false;
+    }
+    is_answer(&served_alone(alloc, inner, task, files.0, files.1), wanted)
 }
 
 // How many growths a task makes, each of which is refused once.
@@ -260,7 +267,7 @@ fn growths_of(inner: Global, task: &Task, source: &[u8], schedule: &[u8]) -> Res
     })
 }
 
-// The same of a command line.
+// How many growths the task of a command line makes, each of which is refused once.
 fn growths_of_line(alloc: Global, asked: &Asked) -> Result<u64, u64> {
     match request_of(alloc, asked.0) {
         Ok(Request::Program { task, .. }) => growths_of(alloc, &task, asked.1, asked.2),

@@ -1,16 +1,11 @@
 //! Runs, orders and listings of sources, and what is said of files and words.
 
 use command::{Format, Request, UsageFault};
-use refusing::Refusing;
-use report::report_text;
-use serving::{
-    Detail, OrderFault, list_outcomes, list_source, not_read as tell_unread, run_in_order, serve,
-    tell_usage,
-};
+use serving::{Detail, not_read as tell_unread, serve, tell_usage};
 use serving_in_memory::{
     ADDS, Answer, Broken, Row, answers, is_answer, request_of, serve_bytes, wrong_row,
 };
-use std::alloc::{Allocator, Global};
+use std::alloc::Global;
 use std::fs::File;
 use std::io;
 use std::io::{ErrorKind, Write};
@@ -380,7 +375,7 @@ fn is_told_so(alloc: Global, fault: &UsageFault, wanted: Answer) -> bool {
     status == wanted.0 && begins && err.as_slice() == wanted.2
 }
 
-// The same of a command line.
+// Whether why a command line is refused is told so: with this status, output that begins so and this standard error.
 fn is_refused(alloc: Global, line: &str, wanted: Answer) -> bool {
     match request_of(alloc, line) {
         Ok(_) => false,
@@ -422,7 +417,7 @@ fn cannot_write<H: Threads + Wait + Sync>(
     status == 4 && err.as_slice() == told
 }
 
-// The same of a command line.
+// Whether output that cannot be written is told so, of a command line.
 fn cannot_write_for<H: Threads + Wait + Sync>(
     rt: &H,
     alloc: Global,
@@ -479,97 +474,6 @@ fn says_what_is_not_there(rt: HostRuntime) {
 #[test]
 fn says_what_cannot_be_written(rt: HostRuntime) {
     assert!(rt; cannot_write_for(&rt, rt.alloc(), RUN, b"txc: cannot write\n"));
-}
-
-const ADDS_TWO: &str =
-    "int x = 40, y; void worker(int self) { __transaction_atomic { x = x + 2; y = x - 1; } }";
-
-/// The report of two such threads, one after the other.
-const ADDS_TWO_REPORT: &[u8] =
-    b"== thread 0: ended\n== thread 1: ended\n== memory\nx = 44\ny = 43\n";
-
-/// A call whose growths are refused.
-#[derive(Clone, Copy)]
-enum Call {
-    RunInOrder,
-    List,
-    ListOutcomes,
-}
-
-// Whether a run in an order is reported as it should be; or the number of its fault.
-fn reports<A: Allocator + Copy>(alloc: A) -> Result<bool, u32> {
-    match run_in_order(alloc, ADDS_TWO, 2, [0, 1].as_slice(), 1000) {
-        Ok(printed) => match report_text(alloc, &printed) {
-            Ok(report) => Ok(report.as_slice() == ADDS_TWO_REPORT),
-            Err(_) => Err(0),
-        },
-        Err(OrderFault::Source(fault)) => Err(fault.number()),
-        Err(OrderFault::Order(fault)) => Err(fault.number()),
-    }
-}
-
-// Whether a listing begins as it should; or the number of its fault.
-fn lists<A: Allocator + Copy>(alloc: A) -> Result<bool, u32> {
-    match list_source(alloc, ADDS_TWO) {
-        Ok(listed) => Ok(listed.as_str().starts_with("function worker registers ")),
-        Err(fault) => Err(fault.number()),
-    }
-}
-
-// Whether there is the one outcome that there should be; or the number of its fault.
-fn finds_one<A: Allocator + Copy>(alloc: A) -> Result<bool, u32> {
-    match list_outcomes(alloc, ADDS_TWO, 2, 1000, 100, false, &mut Closed) {
-        Ok(found) => Ok(found.is_whole && found.outcomes.len() == 1 && found.orders == 2),
-        Err(OrderFault::Source(fault)) => Err(fault.number()),
-        Err(OrderFault::Order(fault)) => Err(fault.number()),
-    }
-}
-
-fn is_right<A: Allocator + Copy>(alloc: A, call: Call) -> Result<bool, u32> {
-    match call {
-        Call::RunInOrder => reports(alloc),
-        Call::List => lists(alloc),
-        Call::ListOutcomes => finds_one(alloc),
-    }
-}
-
-// Whether a call ends rightly before its growth `nth`. `None` where it ends otherwise, or where it tells something else of that
-// growth's refusal than want of memory, or does not end when it is called again.
-fn ends_before<A: Allocator + Copy>(inner: A, call: Call, nth: u64) -> Option<bool> {
-    let alloc = Refusing::new(inner, nth);
-    match is_right(&alloc, call) {
-        Ok(true) if alloc.is_waiting() => Some(true),
-        Err(0) if is_right(&alloc, call) == Ok(true) => Some(false),
-        _ => None,
-    }
-}
-
-// How many growths a call makes, each of which was refused once.
-fn growths<A: Allocator + Copy>(inner: A, call: Call) -> Option<u64> {
-    let mut met = 0;
-    for nth in 1..400u64 {
-        match ends_before(inner, call, nth) {
-            Some(true) => return Some(met),
-            Some(false) => met = nth,
-            None => return None,
-        }
-    }
-    None
-}
-
-#[test]
-fn each_growth_is_refused_once(rt: HostRuntime) {
-    assert!(rt; growths(rt.alloc(), Call::RunInOrder) > Some(0));
-}
-
-#[test]
-fn each_growth_of_a_listing_is_refused_once(rt: HostRuntime) {
-    assert!(rt; growths(rt.alloc(), Call::List) > Some(0));
-}
-
-#[test]
-fn each_growth_of_outcomes_is_refused_once(rt: HostRuntime) {
-    assert!(rt; growths(rt.alloc(), Call::ListOutcomes) > Some(0));
 }
 
 fn at_once() -> &'static [Row] {
