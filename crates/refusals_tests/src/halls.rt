@@ -23,7 +23,7 @@ fn opened<A: Allocator + Copy>(alloc: A, code: &Code<A>) -> Option<(Hall<A>, Vec
     }
 }
 
-// The same by a second call where the first was refused memory.
+// A hall of two workers, by a second call where the first was refused memory.
 fn opened_at_last<A: Allocator + Copy>(
     alloc: A,
     code: &Code<A>,
@@ -104,27 +104,26 @@ fn end<A: Allocator + Copy>(hall: &Hall<A>, worker: &mut Worker<A>, seen: &mut S
     seen.bytes("worker", worker.output().as_bytes())
 }
 
-// The last worker of the list comes to its end, and is put back.
-fn end_last<A: Allocator + Copy>(
+// The last worker of the list, at its end.
+fn last_at_end<A: Allocator + Copy>(
     hall: &Hall<A>,
     workers: &mut Vec<Worker<A>, A>,
     seen: &mut Seen,
-) -> Option<()>
+) -> Option<Worker<A>>
     requires { AreWorkersOf hall.now.table.shared.table_id hall.now.setup workers.old.items }
-    ensures { AreWorkersOf hall.now.table.shared.table_id hall.now.setup workers.new.items }
+    ensures left { AreWorkersOf hall.now.table.shared.table_id hall.now.setup workers.new.items }
+    ensures worker { IfSome result (λ w. IsWorkerOf hall.now.table.shared.table_id hall.now.setup w) }
 {
-    match take(hall, workers) {
-        Some(mut worker) => {
-            let ended = end(hall, &mut worker, seen);
-            // there is room for it
-            let back = put(hall, workers, worker);
-            if back.is_ok() { ended } else { None }
-        }
+    let Some(mut worker) = take(hall, workers) else {
+        return None;
+    };
+    match end(hall, &mut worker, seen) {
+        Some(()) => Some(worker),
         None => None,
     }
 }
 
-// Both workers come to their ends, the last one first.
+// Both workers come to their ends, the last one first, and are put back.
 fn end_both<A: Allocator + Copy>(
     hall: &Hall<A>,
     workers: &mut Vec<Worker<A>, A>,
@@ -133,19 +132,16 @@ fn end_both<A: Allocator + Copy>(
     requires { AreWorkersOf hall.now.table.shared.table_id hall.now.setup workers.old.items }
     ensures { AreWorkersOf hall.now.table.shared.table_id hall.now.setup workers.new.items }
 {
-    match take(hall, workers) {
-        Some(mut last) => {
-            let ended = end(hall, &mut last, seen);
-            let first = end_last(hall, workers, seen);
-            let back = put(hall, workers, last);
-            if back.is_ok() && ended.is_some() {
-                first
-            } else {
-                None
-            }
-        }
-        None => None,
-    }
+    let Some(last) = last_at_end(hall, workers, seen) else {
+        return None;
+    };
+    let Some(first) = last_at_end(hall, workers, seen) else {
+        return None;
+    };
+    // there is room for both
+    let first = put(hall, workers, first);
+    let last = put(hall, workers, last);
+    (first.is_ok() && last.is_ok()).then_some(())
 }
 
 // What a hall leaves, by a second call where the first was refused memory and gave all back.
