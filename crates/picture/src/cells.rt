@@ -10,7 +10,7 @@ fn add_cell<A: Allocator + Copy>(
     alloc: A,
     cells: &mut Vec<Cell<A>, A>,
     global: &Global<A>,
-    place: Option<u32>,
+    place: Option<u64>,
 ) -> Result<(), AllocError> {
     let mut name = Vec::new(alloc);
     name.extend_from_slice(global.name.text.as_str().as_bytes())?;
@@ -19,7 +19,7 @@ fn add_cell<A: Allocator + Copy>(
             &mut name,
             &[
                 Piece::Plain(b"["),
-                Piece::Number(u64::from(place)),
+                Piece::Number(place),
                 Piece::Plain(b"]"),
             ],
         )?;
