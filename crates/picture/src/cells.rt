@@ -17,11 +17,7 @@ fn add_cell<A: Allocator + Copy>(
     if let Some(place) = place {
         put(
             &mut name,
-            &[
-                Piece::Plain(b"["),
-                Piece::Number(place),
-                Piece::Plain(b"]"),
-            ],
+            &[Piece::Plain(b"["), Piece::Number(place), Piece::Plain(b"]")],
         )?;
     }
     cells.push(Cell {
