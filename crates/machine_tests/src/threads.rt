@@ -1,7 +1,8 @@
 //! Threads: played steps, the last values of the lock, each growth refused, and that `told` takes no memory.
 
 ghost use Rattle.norec_core.specs.Accesses.{IsAnswerTo};
-ghost use Rattle.std.specs.Prelude.{◌+◌, ◌<◌, ◌≤◌, ◌^◌, IfSome};
+ghost use Rattle.std.specs.Prelude.{◌≡◌, ◌+◌, ◌<◌, ◌≤◌, ◌^◌, true, IfSome};
+ghost use Rattle.bytecode.specs.Valid.{cells_of};
 ghost use Rattle.machine.specs.Standing.{IsThreadOf};
 ghost use Rattle.machine.specs.States.{IsWordOf};
 
@@ -23,22 +24,39 @@ const MOST: u64 = 1_000_000;
 // The last even value of the lock.
 const LAST: u64 = u64::MAX - 1;
 
-// The answer of an access that finds this lock, or this word.
-fn answer_to(access: Access, lock: u64, word: u32) -> Answer
-    ensures fits { IsAnswerTo access result }
-    ensures word { IsWordOf access result }
+// Whether the code has this cell.
+fn has_cell<A: Allocator>(code: &Code<A>, cell: u32) -> bool
+    ensures { result ≡ true → cell < cells_of code.now }
+{
+    let mut words = Vec::new(Global);
+    match code.push_initial(&mut words) {
+        Ok(()) => (cell as usize) < words.len(),
+        Err(_) => false,
+    }
+}
+
+// The answer of an access that finds this lock, or this word, where the code has the cell that it names.
+fn answer_to<A: Allocator>(code: &Code<A>, access: Access, lock: u64, word: u32) -> Option<Answer>
+    ensures fits { IfSome result (λ y. IsAnswerTo access y) }
+    ensures word { IfSome result (λ y. IsWordOf code.now access y) }
 {
     match access {
-        Access::LoadLock => Answer::Value(lock),
-        Access::LoadWord(_) => Answer::Value(u64::from(word)),
-        Access::Swap(from) => {
-            if from == lock {
-                Answer::Won
+        Access::LoadLock => Some(Answer::Value(lock)),
+        Access::LoadWord(cell) => {
+            if has_cell(code, cell) {
+                Some(Answer::Value(u64::from(word)))
             } else {
-                Answer::Lost(lock)
+                None
             }
         }
-        _ => Answer::Done,
+        Access::Swap(from) => {
+            if from == lock {
+                Some(Answer::Won)
+            } else {
+                Some(Answer::Lost(lock))
+            }
+        }
+        _ => Some(Answer::Done),
     }
 }
 
@@ -66,10 +84,10 @@ fn step<A: Allocator + Copy>(
         return None;
     }
     match thread.prepare(code) {
-        Ok(access) => {
-            let event = thread.told(code, answer_to(access, lock, word));
-            Some(Ok((access, event)))
-        }
+        Ok(access) => match answer_to(code, access, lock, word) {
+            Some(answer) => Some(Ok((access, thread.told(code, answer)))),
+            None => None,
+        },
         Err(why) => Some(Err(why)),
     }
 }
@@ -429,11 +447,14 @@ fn is_told_in_place<A: Allocator + Copy, B: Allocator>(
     }
     refusing.refuse(0);
     match thread.prepare(code) {
-        Ok(access) => {
-            refusing.refuse(1);
-            let event = thread.told(code, answer_to(access, lock, word));
-            refusing.is_waiting() && wanted == Some((access, event))
-        }
+        Ok(access) => match answer_to(code, access, lock, word) {
+            Some(answer) => {
+                refusing.refuse(1);
+                let event = thread.told(code, answer);
+                refusing.is_waiting() && wanted == Some((access, event))
+            }
+            None => false,
+        },
         Err(_) => false,
     }
 }

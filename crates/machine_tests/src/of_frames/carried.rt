@@ -11,7 +11,7 @@ use std::alloc::{AllocError, Allocator};
 
 // The word of a cell.
 fn word_at(memory: &[u32], cell: u32) -> u64
-    ensures { result < 2 ^ 32 }
+    ensures { result < 2 ^ 64 }
 {
     match memory.get(cell as usize) {
         Some(word) => u64::from(*word),
