@@ -35,6 +35,7 @@ use bytecode::Instr;
 use lex::token::{Scalar, Span};
 use picked::draft::Draft;
 use picked::held::{Held, Tested};
+use smallvec::SmallVec;
 use std::alloc::{AllocError, Allocator};
 use syntax::tree::{Expr, LogicalOp, Parameter, UnaryOp};
 
@@ -261,6 +262,19 @@ fn put_call<A: Allocator + Copy>(
     })
 }
 
+/// One register more of a call's arguments. A list of at most four takes no memory.
+fn add_operand<A: Allocator>(
+    registers: &mut SmallVec<u16, 4, &A>,
+    register: u16,
+) -> Result<(), AllocError>
+    ensures { OnOk result (registers.new.items ≡ registers.old.items ++ register ∷ []) }
+{
+    match registers.push(register) {
+        Ok(()) => Ok(()),
+        Err(_) => Err(AllocError),
+    }
+}
+
 /// An expression's value. A result that is computed comes into the register `into`; registers from `free` on may be
 /// written.
 #[cycle(lower_expr)]
@@ -289,7 +303,7 @@ pub fn lower_expr<A: Allocator + Copy>(
         },
         Expr::Call(f, args, _) => match called(names, f.text.as_str()) {
             Some(f) => {
-                let mut registers = Vec::new(names.alloc);
+                let mut registers = SmallVec::<u16, 4, &A>::new(&names.alloc);
                 let all = args.as_slice();
                 lower_call(
                     names,
@@ -411,7 +425,7 @@ fn lower_call<A: Allocator + Copy>(
     scope: &Scope<'_, A>,
     lists: &mut Lists<A>,
     code: &mut Vec<Instr, A>,
-    registers: &mut Vec<u16, A>,
+    registers: &mut SmallVec<u16, 4, &A>,
     f: Callee<'_, A>,
     all: &[Expr<A>],
     from: u32,
@@ -657,7 +671,7 @@ pub fn lower_all<A: Allocator + Copy>(
     scope: &Scope<'_, A>,
     lists: &mut Lists<A>,
     code: &mut Vec<Instr, A>,
-    registers: &mut Vec<u16, A>,
+    registers: &mut SmallVec<u16, 4, &A>,
     all: &[Expr<A>],
     from: u32,
     free: usize,
@@ -672,7 +686,7 @@ pub fn lower_all<A: Allocator + Copy>(
     let mut later = free;
     'each: for one in all {
         let held = lower_expr(names, scope, lists, code, one, to, later, later)?;
-        push(registers, held.register)?;
+        add_operand(registers, held.register)?;
         later = above(later, held.register);
         to = held.to;
     }

@@ -31,6 +31,7 @@ use expression_code::scope::Scope;
 use expression_code::simple::{lower_declarators, lower_simple, lower_start};
 use picked::draft::Draft;
 use picked::held::{Exits, Tested};
+use smallvec::SmallVec;
 use std::alloc::{AllocError, Allocator};
 use syntax::tree::{Expr, ForHead, Kind, Simple, Stmt};
 
@@ -287,7 +288,7 @@ fn lower_print<A: Allocator + Copy>(
 {
     put(code, Instr::Irrevocable)?;
     let next = after(from, 1)?;
-    let mut registers = Vec::new(names.alloc);
+    let mut registers = SmallVec::<u16, 4, &A>::new(&names.alloc);
     let free = scope.len();
     let to = lower_all(names, scope, lists, code, &mut registers, args, next, free)?;
     put_pieces(

@@ -151,7 +151,7 @@ lower_expr-returns-in_err-a-in-Binary g t c =
 pub lower_call-returns : goal.lower_call-returns
 lower_call-returns g t c =
     let k = c.in_ok-to.ensures in
-    let rs = c.as_slice.ensures.value ∙ k.registers ∙ ap (λ xs. xs ++ (all_emitted (program_in c.args.names.now) (scope_in c.args.scope.now) (exprs_of c.args.all.now) c.args.from c.args.free (lists_of c.args.lists.now)).registers) c.requires in
+    let rs = c.as_slice.ensures ∙ k.registers ∙ ap (λ xs. xs ++ (all_emitted (program_in c.args.names.now) (scope_in c.args.scope.now) (exprs_of c.args.all.now) c.args.from c.args.free (lists_of c.args.lists.now)).registers) c.requires in
     in_turn k.code (λ j. of_value (called (Some (callee_in c.args.f)) (all_in_place (rs j) (k.code.end j) (k.code.lists j)) (k.code.end j) c.args.into (k.code.lists j))) c.put_call.ensures
 
 pub lower_call-returns-in_err-to : goal.lower_call-returns-in_err-to
@@ -277,7 +277,7 @@ lower_condition-returns-in-None g t c =
 
 pub lower_all-each-preserved : goal.lower_all-each-preserved
 lower_all-each-preserved g t c =
-    next_value (program_in c.args.names.now) (scope_in c.args.scope.now) c.args.all.now c.each.one-index c.each.to c.each.later (lists_of c.each.lists) c.each.code.items c.each.registers.items _ c.one-item.result c.each-test.true c.one-item.is c.each.invariant _ _ _ c.in_ok-held.held _ c.in_ok-held.ensures c.in_ok-push.ensures c.above-later.ensures
+    next_value (program_in c.args.names.now) (scope_in c.args.scope.now) c.args.all.now c.each.one-index c.each.to c.each.later (lists_of c.each.lists) c.each.code.items c.each.registers.items _ c.one-item.result c.each-test.true c.one-item.is c.each.invariant _ _ _ c.in_ok-held.held _ c.in_ok-held.ensures c.in_ok-add_operand.ensures c.above-later.ensures
 
 pub lower_all-returns-in_err-held-clause-code : goal.lower_all-returns-in_err-held-clause-code
 lower_all-returns-in_err-held-clause-code g t c =
@@ -296,7 +296,7 @@ pub lower_expr-lower_call-requires : goal.lower_expr-lower_call-requires
 lower_expr-lower_call-requires g t c κs within =
     let size = simp the_lemmas at (ap (the_size g.row.A g.A.Allocator g.A.laws) c.in-Call.is) in
     let here = ap (most (the_size g.row.A g.A.Allocator g.A.laws)) c.as_slice-all.ensures in
-    (omega (arith, size, here, c.decreases), (within, c.new-registers.ensures.items))
+    (omega (arith, size, here, c.decreases), (within, (omega arith, c.new-registers.ensures.items)))
 
 pub lower_expr-lower_expr-requires : goal.lower_expr-lower_expr-requires
 lower_expr-lower_expr-requires g t c κs within =
@@ -372,7 +372,7 @@ pub lower_operand-lower_expr-requires : goal.lower_operand-lower_expr-requires
 lower_operand-lower_expr-requires g t c κs within = (omega (arith, c.decreases), within)
 
 pub lower_call-lower_all-requires : goal.lower_call-lower_all-requires
-lower_call-lower_all-requires g t c κs within = (omega (arith, c.decreases), within)
+lower_call-lower_all-requires g t c κs within = (omega (arith, c.decreases), (within, omega arith))
 
 pub lower_settled-lower_expr-requires : goal.lower_settled-lower_expr-requires
 lower_settled-lower_expr-requires g t c κs within = (omega (arith, c.decreases), within)

@@ -19,6 +19,6 @@ pub returns : goal.returns
 returns g c =
     let args : _ ≡ all_emitted (program_in c.args.names.now) (scope_in c.args.scope.now) (exprs_of c.args.args.now) (c.args.from + 1) (length (scope_in c.args.scope.now)) (lists_of c.args.lists.now) = (λ j. all_emitted (program_in c.args.names.now) (scope_in c.args.scope.now) (exprs_of c.args.args.now) (c.in_ok-next.ensures j) (c.len-free.ensures j) (lists_of c.args.lists.now)) in
     let k = same (ap of_values args) c.in_ok-to.ensures.code in
-    let rs = c.as_slice.ensures.value ∙ c.in_ok-to.ensures.registers ∙ (λ j. c.new-registers.ensures.items j ++ (args j).registers) in
+    let rs = c.as_slice.ensures ∙ c.in_ok-to.ensures.registers ∙ (λ j. c.new-registers.ensures.items j ++ (args j).registers) in
     one_in_front c.in_ok-put.ensures
     (in_turn k (λ j. of_written (pieces_written (pieces (c.as_bytes.ensures.value j)) (rs j) (k.end j) (k.lists j))) c.put_pieces.ensures)
