@@ -17,7 +17,7 @@ use Rattle.expression_code.specs.declared.aim.Aim.{Aim}
 use Rattle.expression_code.specs.declared.fault.Failure.{Failure}
 use Rattle.expression_code.specs.Stretches.{Adds, of_value, of_written}
 use Rattle.expression_code.specs.inner.Stretches.{in_place, of_aim}
-use Rattle.expression_code.proofs.Adding.{behind, in_turn}
+use Rattle.expression_code.proofs.Adding.{behind, same, in_turn}
 
 module _ (p : Program) (scope : LocalScope) (lhs : Tree.Expr) (from free : ℕ) (l : Lists) where
   -- `lhs = e`
@@ -86,21 +86,21 @@ module _ (p : Program) (scope : LocalScope) (lhs : Tree.Expr) (from free : ℕ) 
       later_is : later ≡ K
       later_is = el ∙ ap (λ (a : Aim). above_target a.target free) k.end
 
-      pub old_is : fetched a.target a.to later l1 ≡ O
-      old_is = λ j. fetched (k.end j).target (k.end j).to (later_is j) (k.lists j)
+      pub old_there : {c2 : List Instr} {l2 : Lists} {r : Result Held Failure} → Adds (of_value (fetched a.target a.to later l1)) c1 c2 l2 r → Adds (of_value O) c1 c2 l2 r
+      old_there x = same (λ j. of_value (fetched (k.end j).target (k.end j).to (later_is j) (k.lists j))) x
 
       module _ {c2 : List Instr} {l2 : Lists} {h : Held} {next : ℕ} (o : Adds (of_value O) c1 c2 l2 (Ok h)) (en : next ≡ above later h.register) where
-        pub other_is : value_or_one p scope by h.to next l2 ≡ V
-        other_is = λ j. value_or_one p scope by (o.end j).to ((en ∙ (λ i. above (later_is i) (o.end i).register)) j) (o.lists j)
+        pub other_there : {c3 : List Instr} {l3 : Lists} {r : Result Held Failure} → Adds (of_value (value_or_one p scope by h.to next l2)) c2 c3 l3 r → Adds (of_value V) c2 c3 l3 r
+        other_there x = same (λ j. of_value (value_or_one p scope by (o.end j).to ((en ∙ (λ i. above (later_is i) (o.end i).register)) j) (o.lists j))) x
 
         module _ {c3 : List Instr} {l3 : Lists} {v : Held} {home : ℕ} (w : Adds (of_value V) c2 c3 l3 (Ok v)) (eh : home ≡ home_or a.target later) where
-          pub result_is : both op (in_place h l3) (in_place v l3) home ≡ both op (in_place O.held V.lists) (in_place V.held V.lists) (home_or T.target K)
-          result_is = λ j. both op (in_place (o.end j) (w.lists j)) (in_place (w.end j) (w.lists j)) ((eh ∙ (λ i. home_or (k.end i).target (later_is i))) j)
+          pub result_there : {c4 : List Instr} {l4 : Lists} {r : Result Held Failure} → Adds (of_value (both op (in_place h l3) (in_place v l3) home)) c3 c4 l4 r → Adds (of_value (both op (in_place O.held V.lists) (in_place V.held V.lists) (home_or T.target K))) c3 c4 l4 r
+          result_there x = same (λ j. of_value (both op (in_place (o.end j) (w.lists j)) (in_place (w.end j) (w.lists j)) ((eh ∙ (λ i. home_or (k.end i).target (later_is i))) j))) x
 
           pub adjusted_there : {c4 c5 : List Instr} {l4 : Lists} {m : Held} {r : Result ℕ Failure} → Adds (of_value (both op (in_place h l3) (in_place v l3) home)) c3 c4 l4 (Ok m) → Adds (of_written (stored a.target m.register m.to l4)) c4 c5 l4 r →
               Adds (of_written (adjusted p scope op lhs by from free l)) old c5 l4 r
           adjusted_there x s =
-              let made = in_turn (in_turn o (λ j. of_value V) w) (ap of_value result_is) x in
+              let made = in_turn (in_turn o (λ j. of_value V) w) (λ j. of_value (both op (in_place O.held V.lists) (in_place V.held V.lists) (home_or T.target K))) (result_there x) in
               in_turn k (λ j. of_written (then_stored (k.end j).target M)) (in_turn made (λ j. of_written (stored a.target (made.end j).register (made.end j).to (made.lists j))) s)
 
 -- the first value of a local

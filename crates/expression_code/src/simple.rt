@@ -1,6 +1,7 @@
 //! The instructions of assignments and declarations.
 
 ghost use Rattle.std.specs.Prelude.{◌≡◌, ◌≤◌, List, map, option_map, OnOk};
+ghost use Rattle.std.specs.Option.{option_copied};
 ghost use Rattle.syntax.specs.Names as Source;
 ghost use Rattle.syntax.specs.Views.{expr_of, simple_of, declarator_of, start_of};
 ghost use Rattle.syntax.specs.Meaning.{op_of};
@@ -8,8 +9,8 @@ ghost use Rattle.bytecode.specs.declared.instr.Instr.{Instr};
 ghost use Rattle.lowered.specs.Statements.{with_local, with_declared, locals_of_start};
 ghost use Rattle.picked.specs.Lists.{Lists as Plain};
 ghost use Rattle.picked.specs.Simples as simples;
-ghost use Rattle.picked.specs.Simples.{emitted_one, aimed, variable_target, element_target, fetched, stored};
-ghost use Rattle.picked.specs.Simples.{assigned, adjusted, simple_written, first_written};
+ghost use Rattle.picked.specs.Simples.{emitted_one, value_or_one, aimed, variable_target, element_target, fetched};
+ghost use Rattle.picked.specs.Simples.{stored, assigned, adjusted, simple_written, first_written};
 ghost use Rattle.picked.specs.Simples.{declarator_written, declared_written, start_written};
 ghost use Rattle.expression_code.specs.Lists.{lists_of};
 ghost use Rattle.expression_code.specs.Stretches.{Adds, AddsValue, Writes, of_written};
@@ -210,30 +211,6 @@ fn lower_assign<A: Allocator + Copy>(
     store(code, aim.target, held.register, held.to)
 }
 
-/// `to op= value`
-fn lower_change<A: Allocator + Copy>(
-    names: &Names<'_, A>,
-    scope: &Scope<'_, A>,
-    lists: &mut Lists<A>,
-    code: &mut Vec<Instr, A>,
-    op: BinaryOp,
-    to: &Expr<A>,
-    value: &Expr<A>,
-    from: u32,
-    free: usize,
-) -> Result<u32, Failure>
-    ensures { Writes (adjusted (program_in names.now) (scope_in scope.now) op (expr_of to.now)
-        (Some (expr_of value.now)) from free (lists_of lists.old)) code.old code.new lists.new result }
-{
-    let aim = aim(names, scope, lists, code, false, to, from, free)?;
-    let later = above_target(aim.target, free);
-    let old = fetch(lists, code, aim.target, aim.to, later)?;
-    let behind = above(later, old.register);
-    let other = lower_operand(names, scope, lists, code, value, old.to, behind)?;
-    let held = put_both(lists, code, op, old, other, home_or(aim.target, later))?;
-    store(code, aim.target, held.register, held.to)
-}
-
 /// The 1 that is added or subtracted.
 fn lower_one<A: Allocator>(
     lists: &mut Lists<A>,
@@ -249,25 +226,47 @@ fn lower_one<A: Allocator>(
     }
 }
 
-/// `to++` and `to--`
-fn lower_adjust<A: Allocator + Copy>(
+/// The right side of an operator: a value, or else the 1 that is added or subtracted.
+fn lower_by<A: Allocator + Copy>(
+    names: &Names<'_, A>,
+    scope: &Scope<'_, A>,
+    lists: &mut Lists<A>,
+    code: &mut Vec<Instr, A>,
+    by: Option<&Expr<A>>,
+    from: u32,
+    free: usize,
+) -> Result<Held, Failure>
+    ensures { AddsValue (value_or_one (program_in names.now) (scope_in scope.now)
+        (option_map expr_of (option_copied by.entry)) from free (lists_of lists.old))
+        code.old code.new lists.new result }
+{
+    match by {
+        Some(e) => lower_operand(names, scope, lists, code, e, from, free),
+        None => lower_one(lists, code, from, free),
+    }
+}
+
+/// `to op= by`; with no `by`, `to++` or `to--`
+fn lower_adjust<'e, A: Allocator + Copy>(
     names: &Names<'_, A>,
     scope: &Scope<'_, A>,
     lists: &mut Lists<A>,
     code: &mut Vec<Instr, A>,
     op: BinaryOp,
-    to: &Expr<A>,
+    to: &'e Expr<A>,
+    by: Option<&'e Expr<A>>,
     from: u32,
     free: usize,
 ) -> Result<u32, Failure>
-    ensures { Writes (adjusted (program_in names.now) (scope_in scope.now) op (expr_of to.now) None from free
-        (lists_of lists.old)) code.old code.new lists.new result }
+    ensures { Writes (adjusted (program_in names.now) (scope_in scope.now) op (expr_of to.now)
+        (option_map expr_of (option_copied by.entry)) from free (lists_of lists.old))
+        code.old code.new lists.new result }
 {
     let aim = aim(names, scope, lists, code, false, to, from, free)?;
     let later = above_target(aim.target, free);
     let old = fetch(lists, code, aim.target, aim.to, later)?;
     let behind = above(later, old.register);
-    let other = lower_one(lists, code, old.to, behind)?;
+    let other = lower_by(names, scope, lists, code, by, old.to, behind)?;
     let held = put_both(lists, code, op, old, other, home_or(aim.target, later))?;
     store(code, aim.target, held.register, held.to)
 }
@@ -301,10 +300,12 @@ pub fn lower_simple<A: Allocator + Copy>(
         }
         Simple::Assign(to, op, value) => match op {
             None => lower_assign(names, scope, lists, code, to, value, from, free),
-            Some(op) => lower_change(names, scope, lists, code, *op, to, value, from, free),
+            Some(op) => {
+                lower_adjust(names, scope, lists, code, *op, to, Some(value), from, free)
+            }
         },
         Simple::Adjust(to, by) => {
-            lower_adjust(names, scope, lists, code, op_of(*by), to, from, free)
+            lower_adjust(names, scope, lists, code, op_of(*by), to, None, from, free)
         }
     }
 }

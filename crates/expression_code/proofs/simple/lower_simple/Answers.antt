@@ -16,4 +16,4 @@ returns-in-None g c =
 pub returns-in-Some : goal.returns-in-Some
 returns-in-Some g c =
     let is = ap simple_of (c.in-Assign.is ∙ ap (λ o. simple.Assign c.in-Assign.to o c.in-Assign.value) c.in-Some.is) in
-    same (ap (λ s. of_written (simple_written (program_in c.args.names.now) (scope_in c.args.scope.now) s c.args.from c.args.free (lists_of c.args.lists.now))) (sym is)) c.lower_change.ensures
+    same (ap (λ s. of_written (simple_written (program_in c.args.names.now) (scope_in c.args.scope.now) s c.args.from c.args.free (lists_of c.args.lists.now))) (sym is)) c.lower_adjust.ensures
