@@ -112,7 +112,7 @@ def replays(rounds):
 
 
 def turns(rounds):
-    """Prints how long the source takes for so many turns of one thread, each of which begins from the thread's beginning."""
+    """Prints how long the source takes for so many turns of one thread, each of which goes on from where the thread stood."""
     print('\n`txc source`, processor time\n\n| Turns of one thread | ms |\n|---|---|')
     with tempfile.TemporaryDirectory() as place:
         text = os.path.join(place, 'turns.c')

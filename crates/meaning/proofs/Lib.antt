@@ -20,3 +20,5 @@ pub mod Framed
 pub mod FramedSteps
 pub mod Going
 pub mod GoesOn
+pub mod Pieces
+pub mod Advancing

@@ -20,3 +20,7 @@ pub mod Seen
 pub mod Turns
 -- what a thread has still to do
 pub mod Going
+-- what a thread has still to do, as it is kept
+pub mod Left
+-- how a thread stands
+pub mod Standing

@@ -62,7 +62,11 @@ fn type_or_int(of: Option<Scalar>) -> Scalar
 }
 
 /// The value of a call, of the function's own type.
-fn result_of<A: Allocator>(m: &mut Machine<A>, of: Option<Scalar>, end: End) -> Result<Word, Halted>
+pub(crate) fn result_of<A: Allocator>(
+    m: &mut Machine<A>,
+    of: Option<Scalar>,
+    end: End,
+) -> Result<Word, Halted>
     ensures { MeansWord result (meaning.result_of of (end_of end) (state_in m.old)) m.new }
 {
     match end {
@@ -77,18 +81,18 @@ fn result_of<A: Allocator>(m: &mut Machine<A>, of: Option<Scalar>, end: End) -> 
 
 /// A call that begins: the type of its value, its body and its locals.
 #[derive(Drop)]
-struct Begun<'p, A: Allocator> {
-    of: Option<Scalar>,
-    body: &'p [Stmt<A>],
-    mine: Vec<Local<'p>, A>,
+pub(crate) struct Begun<'p, A: Allocator> {
+    pub of: Option<Scalar>,
+    pub body: &'p [Stmt<A>],
+    pub mine: Vec<Local<'p>, A>,
 }
 
 /// The call of a function by its name: its definition is looked up, and its parameters get the arguments.
-fn begin<'p, A: Allocator + Copy>(
+pub(crate) fn begin<'p, A: Allocator + Copy>(
     source: &Source<'p, A>,
     f: &str,
     values: &[Value],
-    m: &mut Machine<'p, A>,
+    m: &mut Machine<'p, '_, A>,
 ) -> Result<Begun<'p, A>, Halted>
     ensures value { MeansAs begun_in result (begun (program_in source.now) f.now values.now (state_in m.old)) m.new }
     ensures deep { IfOk result (λ b. block_depth (stmts_of b.body.now) ≤ program_depth (program_in source.now)) }
@@ -119,7 +123,7 @@ pub(crate) fn call<'p, A: Allocator + Copy>(
     frames: u64,
     f: &Name<A>,
     args: &'p [Expr<A>],
-    m: &mut Machine<'p, A>,
+    m: &mut Machine<'p, '_, A>,
 ) -> Result<Word, Halted>
     ensures { (at : Span) → MeansWord result (meaning.expr (program_in source.now) (called source.now frames) (tree.Call (name_of f.now) (exprs_of args.now) at) (state_in m.old)) m.new }
 {
@@ -134,7 +138,7 @@ pub(crate) fn values<'p, A: Allocator + Copy>(
     source: &Source<'p, A>,
     frames: u64,
     args: &'p [Expr<A>],
-    m: &mut Machine<'p, A>,
+    m: &mut Machine<'p, '_, A>,
 ) -> Result<Vec<Value, A>, Halted>
     ensures { MeansWords result (meaning.exprs (program_in source.now) (called source.now frames) (exprs_of args.now) (state_in m.old)) m.new }
 {
@@ -156,7 +160,7 @@ pub(crate) fn entered<'p, A: Allocator + Copy>(
     frames: u64,
     f: &str,
     values: &[Value],
-    m: &mut Machine<'p, A>,
+    m: &mut Machine<'p, '_, A>,
 ) -> Result<Word, Halted>
     ensures { MeansWord result (called source.now frames f.now values.now (state_in m.old)) m.new }
 {

@@ -23,7 +23,7 @@ pub(crate) fn eval<'p, A: Allocator + Copy>(
     source: &Source<'p, A>,
     frames: u64,
     e: &'p Expr<A>,
-    m: &mut Machine<'p, A>,
+    m: &mut Machine<'p, '_, A>,
 ) -> Result<Word, Halted>
     ensures { MeansWord result (does_expr source.now frames e.now (state_in m.old)) m.new }
 {
@@ -63,7 +63,7 @@ fn logical<'p, A: Allocator + Copy>(
     op: LogicalOp,
     a: &'p Expr<A>,
     b: &'p Expr<A>,
-    m: &mut Machine<'p, A>,
+    m: &mut Machine<'p, '_, A>,
 ) -> Result<Word, Halted>
     ensures { (at : Span) → MeansWord result (meaning.expr (program_in source.now) (called source.now frames) (tree.Logical op (expr_of a.now) (expr_of b.now) at) (state_in m.old)) m.new }
 {
@@ -95,7 +95,7 @@ fn conditional<'p, A: Allocator + Copy>(
     c: &'p Expr<A>,
     a: &'p Expr<A>,
     b: &'p Expr<A>,
-    m: &mut Machine<'p, A>,
+    m: &mut Machine<'p, '_, A>,
 ) -> Result<Word, Halted>
     ensures { (at : Span) → MeansWord result (meaning.expr (program_in source.now) (called source.now frames) (tree.Conditional (expr_of c.now) (expr_of a.now) (expr_of b.now) at) (state_in m.old)) m.new }
 {
@@ -115,7 +115,7 @@ pub(crate) fn element<'p, A: Allocator + Copy>(
     frames: u64,
     x: &Name<A>,
     i: &'p Expr<A>,
-    m: &mut Machine<'p, A>,
+    m: &mut Machine<'p, '_, A>,
 ) -> Result<Spot, Halted>
     ensures { MeansSpot result (act.go_on (does_expr source.now frames i.now (state_in m.old)) (λ k. meaning.element (program_in source.now) (called source.now frames) x.now.text k)) m.new }
 {

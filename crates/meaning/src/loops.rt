@@ -27,7 +27,7 @@ pub(crate) enum Loop<'p, A: Allocator> {
 }
 
 /// The end of a loop that its body's end is, if it is one.
-fn left_by_body(end: End) -> Option<End>
+pub(crate) fn left_by_body(end: End) -> Option<End>
     ensures { (go : act.Action (Option meaning.End)) → (s : State) → meaning.after_body go (end_of end) s ≡ left_or go result s }
 {
     match end {
@@ -44,7 +44,7 @@ pub(crate) fn repeat<'p, A: Allocator + Copy>(
     source: &Source<'p, A>,
     frames: u64,
     which: &Loop<'p, A>,
-    m: &mut Machine<'p, A>,
+    m: &mut Machine<'p, '_, A>,
 ) -> Result<End, Halted>
     ensures { MeansEnd result (meaning.loop (does_turn source.now frames which.now) (state_in m.old)) m.new }
 {
@@ -65,7 +65,7 @@ fn turn<'p, A: Allocator + Copy>(
     source: &Source<'p, A>,
     frames: u64,
     which: &Loop<'p, A>,
-    m: &mut Machine<'p, A>,
+    m: &mut Machine<'p, '_, A>,
 ) -> Result<Option<End>, Halted>
     ensures { MeansTurn result (does_turn source.now frames which.now (state_in m.old)) m.new }
 {
@@ -83,7 +83,7 @@ fn turn_while<'p, A: Allocator + Copy>(
     frames: u64,
     c: &'p Expr<A>,
     a: &'p Stmt<A>,
-    m: &mut Machine<'p, A>,
+    m: &mut Machine<'p, '_, A>,
 ) -> Result<Option<End>, Halted>
     ensures { MeansTurn result (while_turn (program_in source.now) (called source.now frames) (expr_of c.now) (stmt_of a.now) (state_in m.old)) m.new }
 {
@@ -97,11 +97,11 @@ fn turn_while<'p, A: Allocator + Copy>(
 
 /// The test behind a body.
 #[cycle(run)]
-fn tested<'p, A: Allocator + Copy>(
+pub(crate) fn tested<'p, A: Allocator + Copy>(
     source: &Source<'p, A>,
     frames: u64,
     c: &'p Expr<A>,
-    m: &mut Machine<'p, A>,
+    m: &mut Machine<'p, '_, A>,
 ) -> Result<Option<End>, Halted>
     ensures { MeansTurn result (tested_due (program_in source.now) (called source.now frames) (expr_of c.now) (state_in m.old)) m.new }
 {
@@ -119,7 +119,7 @@ fn turn_do<'p, A: Allocator + Copy>(
     frames: u64,
     a: &'p Stmt<A>,
     c: &'p Expr<A>,
-    m: &mut Machine<'p, A>,
+    m: &mut Machine<'p, '_, A>,
 ) -> Result<Option<End>, Halted>
     ensures { MeansTurn result (do_turn (program_in source.now) (called source.now frames) (stmt_of a.now) (expr_of c.now) (state_in m.old)) m.new }
 {
@@ -137,7 +137,7 @@ fn turn_for<'p, A: Allocator + Copy>(
     frames: u64,
     head: &'p ForHead<A>,
     a: &'p Stmt<A>,
-    m: &mut Machine<'p, A>,
+    m: &mut Machine<'p, '_, A>,
 ) -> Result<Option<End>, Halted>
     ensures { MeansTurn result (for_turn (program_in source.now) (called source.now frames) (option_map expr_of head.now.condition) (option_map simple_of head.now.step) (stmt_of a.now) (state_in m.old)) m.new }
 {
@@ -154,11 +154,11 @@ fn turn_for<'p, A: Allocator + Copy>(
 
 /// Whether a condition holds: a missing one does.
 #[cycle(run)]
-fn holds<'p, A: Allocator + Copy>(
+pub(crate) fn holds<'p, A: Allocator + Copy>(
     source: &Source<'p, A>,
     frames: u64,
     c: &'p Option<Expr<A>>,
-    m: &mut Machine<'p, A>,
+    m: &mut Machine<'p, '_, A>,
 ) -> Result<bool, Halted>
     ensures { Means result (meaning.holds (program_in source.now) (called source.now frames) (option_map expr_of c.now) (state_in m.old)) m.new }
 {
@@ -173,11 +173,11 @@ fn holds<'p, A: Allocator + Copy>(
 
 /// The step of a `for`.
 #[cycle(run)]
-fn stepped<'p, A: Allocator + Copy>(
+pub(crate) fn stepped<'p, A: Allocator + Copy>(
     source: &Source<'p, A>,
     frames: u64,
     step: &'p Option<Simple<A>>,
-    m: &mut Machine<'p, A>,
+    m: &mut Machine<'p, '_, A>,
 ) -> Result<Option<End>, Halted>
     ensures { MeansTurn result (meaning.stepped (program_in source.now) (called source.now frames) (option_map simple_of step.now) (state_in m.old)) m.new }
 {
@@ -198,7 +198,7 @@ pub(crate) fn for_scoped<'p, A: Allocator + Copy>(
     frames: u64,
     head: &'p ForHead<A>,
     a: &'p Stmt<A>,
-    m: &mut Machine<'p, A>,
+    m: &mut Machine<'p, '_, A>,
 ) -> Result<End, Halted>
     ensures { MeansEnd result (meaning.scoped (for_all (program_in source.now) (called source.now frames) (start_of head.now.start) (option_map expr_of head.now.condition) (option_map simple_of head.now.step) (stmt_of a.now)) (state_in m.old)) m.new }
 {
@@ -215,7 +215,7 @@ fn for_run<'p, A: Allocator + Copy>(
     frames: u64,
     head: &'p ForHead<A>,
     a: &'p Stmt<A>,
-    m: &mut Machine<'p, A>,
+    m: &mut Machine<'p, '_, A>,
 ) -> Result<End, Halted>
     ensures { MeansEnd result (for_all (program_in source.now) (called source.now frames) (start_of head.now.start) (option_map expr_of head.now.condition) (option_map simple_of head.now.step) (stmt_of a.now) (state_in m.old)) m.new }
 {
@@ -225,11 +225,11 @@ fn for_run<'p, A: Allocator + Copy>(
 
 /// What a `for` begins with.
 #[cycle(run)]
-fn started<'p, A: Allocator + Copy>(
+pub(crate) fn started<'p, A: Allocator + Copy>(
     source: &Source<'p, A>,
     frames: u64,
     start: &'p Start<A>,
-    m: &mut Machine<'p, A>,
+    m: &mut Machine<'p, '_, A>,
 ) -> Result<End, Halted>
     ensures { MeansEnd result (meaning.start_with (program_in source.now) (called source.now frames) (start_of start.now) (state_in m.old)) m.new }
 {

@@ -27,19 +27,19 @@ pub(crate) struct Local<'p> {
 /// Outside transactions, with the memories still to be found and those left so far; or inside one: how the innermost one
 /// runs, and the memory as its transaction sees it.
 #[derive(Drop)]
-pub(crate) enum Context<'p, A: Allocator> {
-    Outside(&'p [Vec<u32, A>], Vec<Vec<u32, A>, A>),
+pub(crate) enum Context<'f, A: Allocator> {
+    Outside(&'f [Vec<u32, A>], Vec<Vec<u32, A>, A>),
     Inside(Mode, Vec<u32, A>),
 }
 
 /// A thread's ticks, locals, context and text; and where it goes no further, why: the meaning's halt, or none where memory
 /// has run out.
 #[derive(Drop)]
-pub(crate) struct Machine<'p, A: Allocator> {
+pub(crate) struct Machine<'p, 'f, A: Allocator> {
     pub ticks: u64,
     pub why: Option<Halt>,
     pub locals: Vec<Local<'p>, A>,
-    pub context: Context<'p, A>,
+    pub context: Context<'f, A>,
     pub text: Vec<u8, A>,
 }
 

@@ -23,7 +23,7 @@ use syntax::tree::{Expr, Name};
 pub(crate) fn named<'p, A: Allocator + Copy>(
     source: &Source<'p, A>,
     x: &Name<A>,
-    m: &mut Machine<'p, A>,
+    m: &mut Machine<'p, '_, A>,
 ) -> Result<Spot, Halted>
     ensures { MeansSpot result (meaning.named (program_in source.now) (called source.now 0) x.now.text (state_in m.old)) m.new }
 {
@@ -43,7 +43,7 @@ pub(crate) fn named<'p, A: Allocator + Copy>(
 pub(crate) fn variable<'p, A: Allocator + Copy>(
     source: &Source<'p, A>,
     x: &Name<A>,
-    m: &mut Machine<'p, A>,
+    m: &mut Machine<'p, '_, A>,
 ) -> Result<Word, Halted>
     ensures { MeansWord result (meaning.expr (program_in source.now) (called source.now 0) (tree.Variable (name_of x.now)) (state_in m.old)) m.new }
 {
@@ -56,7 +56,7 @@ pub(crate) fn indexed<'p, A: Allocator + Copy>(
     source: &Source<'p, A>,
     x: &Name<A>,
     index: Word,
-    m: &mut Machine<'p, A>,
+    m: &mut Machine<'p, '_, A>,
 ) -> Result<Spot, Halted>
     ensures { MeansSpot result (meaning.element (program_in source.now) (called source.now 0) x.now.text (value_of index) (state_in m.old)) m.new }
 {
@@ -78,7 +78,7 @@ pub(crate) fn joined<'p, A: Allocator + Copy>(
     a: &Expr<A>,
     b: &Expr<A>,
     w: Word,
-    m: &mut Machine<'p, A>,
+    m: &mut Machine<'p, '_, A>,
 ) -> Result<Word, Halted>
     ensures { MeansWord result
         (act.go_on (act.or_astray (common_of (type_due (running_scope (program_in source.now) (state_in m.old).locals) (expr_of a.now)) (type_due (running_scope (program_in source.now) (state_in m.old).locals) (expr_of b.now))) (state_in m.old)) (λ t. act.pure (converted t (value_of w))))

@@ -51,7 +51,7 @@ fn target<'p, A: Allocator + Copy>(
     source: &Source<'p, A>,
     frames: u64,
     e: &'p Expr<A>,
-    m: &mut Machine<'p, A>,
+    m: &mut Machine<'p, '_, A>,
 ) -> Result<Spot, Halted>
     ensures { MeansSpot result (meaning.spot (program_in source.now) (called source.now frames) (expr_of e.now) (state_in m.old)) m.new }
 {
@@ -72,7 +72,7 @@ fn assigned<'p, A: Allocator + Copy>(
     frames: u64,
     to: &'p Expr<A>,
     e: &'p Expr<A>,
-    m: &mut Machine<'p, A>,
+    m: &mut Machine<'p, '_, A>,
 ) -> Result<End, Halted>
     ensures { MeansEnd result (meaning.simple (program_in source.now) (called source.now frames) (tree.Assign (expr_of to.now) None (expr_of e.now)) (state_in m.old)) m.new }
 {
@@ -90,7 +90,7 @@ fn changed<'p, A: Allocator + Copy>(
     to: &'p Expr<A>,
     op: BinaryOp,
     e: &'p Expr<A>,
-    m: &mut Machine<'p, A>,
+    m: &mut Machine<'p, '_, A>,
 ) -> Result<End, Halted>
     ensures { MeansEnd result (meaning.simple (program_in source.now) (called source.now frames) (tree.Assign (expr_of to.now) (Some op) (expr_of e.now)) (state_in m.old)) m.new }
 {
@@ -106,7 +106,7 @@ pub(crate) fn simple<'p, A: Allocator + Copy>(
     source: &Source<'p, A>,
     frames: u64,
     s: &'p Simple<A>,
-    m: &mut Machine<'p, A>,
+    m: &mut Machine<'p, '_, A>,
 ) -> Result<End, Halted>
     ensures { MeansEnd result (meaning.simple (program_in source.now) (called source.now frames) (simple_of s.now) (state_in m.old)) m.new }
 {
@@ -134,7 +134,7 @@ pub(crate) fn declare<'p, A: Allocator + Copy>(
     frames: u64,
     t: Scalar,
     ds: &'p [Declarator<A>],
-    m: &mut Machine<'p, A>,
+    m: &mut Machine<'p, '_, A>,
 ) -> Result<End, Halted>
     ensures { MeansEnd result (meaning.declare (program_in source.now) (called source.now frames) t (map declarator_of ds.now) (state_in m.old)) m.new }
 {
@@ -151,7 +151,7 @@ fn declare_one<'p, A: Allocator + Copy>(
     frames: u64,
     t: Scalar,
     d: &'p Declarator<A>,
-    m: &mut Machine<'p, A>,
+    m: &mut Machine<'p, '_, A>,
 ) -> Result<(), Halted>
     ensures { Means result (declared_one (program_in source.now) (called source.now frames) t (declarator_of d.now) (state_in m.old)) m.new }
 {

@@ -24,11 +24,11 @@ use syntax::tree::{Expr, Stmt};
 
 /// What a statement does.
 #[cycle(run)]
-fn stmt<'p, A: Allocator + Copy>(
+pub(crate) fn stmt<'p, A: Allocator + Copy>(
     source: &Source<'p, A>,
     frames: u64,
     s: &'p Stmt<A>,
-    m: &mut Machine<'p, A>,
+    m: &mut Machine<'p, '_, A>,
 ) -> Result<End, Halted>
     ensures { MeansEnd result (does_stmt source.now frames s.now (state_in m.old)) m.new }
 {
@@ -68,7 +68,7 @@ pub(crate) fn stmts<'p, A: Allocator + Copy>(
     source: &Source<'p, A>,
     frames: u64,
     ss: &'p [Stmt<A>],
-    m: &mut Machine<'p, A>,
+    m: &mut Machine<'p, '_, A>,
 ) -> Result<End, Halted>
     ensures { MeansEnd result (does_stmts source.now frames ss.now (state_in m.old)) m.new }
 {
@@ -87,7 +87,7 @@ pub(crate) fn block<'p, A: Allocator + Copy>(
     source: &Source<'p, A>,
     frames: u64,
     ss: &'p [Stmt<A>],
-    m: &mut Machine<'p, A>,
+    m: &mut Machine<'p, '_, A>,
 ) -> Result<End, Halted>
     ensures { MeansEnd result (meaning.scoped (does_stmts source.now frames ss.now) (state_in m.old)) m.new }
 {
@@ -103,7 +103,7 @@ pub(crate) fn scoped<'p, A: Allocator + Copy>(
     source: &Source<'p, A>,
     frames: u64,
     s: &'p Stmt<A>,
-    m: &mut Machine<'p, A>,
+    m: &mut Machine<'p, '_, A>,
 ) -> Result<End, Halted>
     ensures { MeansEnd result (meaning.scoped (does_stmt source.now frames s.now) (state_in m.old)) m.new }
 {
@@ -121,7 +121,7 @@ fn printed<'p, A: Allocator + Copy>(
     frames: u64,
     format: &[u8],
     args: &'p [Expr<A>],
-    m: &mut Machine<'p, A>,
+    m: &mut Machine<'p, '_, A>,
 ) -> Result<End, Halted>
     ensures { (at format_at : Span) (begun : act.State) → act.tick begun ≡ act.Gives tt (state_in m.old) → MeansEnd result (meaning.stmt (program_in source.now) (called source.now frames) (tree.Print at format.now format_at (exprs_of args.now)) begun) m.new }
 {
@@ -139,7 +139,7 @@ fn either<'p, A: Allocator + Copy>(
     c: &'p Expr<A>,
     a: &'p Stmt<A>,
     b: &'p Option<Boxed<Stmt<A>, A>>,
-    m: &mut Machine<'p, A>,
+    m: &mut Machine<'p, '_, A>,
 ) -> Result<End, Halted>
     ensures { (begun : act.State) → act.tick begun ≡ act.Gives tt (state_in m.old) → MeansEnd result (meaning.stmt (program_in source.now) (called source.now frames) (if_of (expr_of c.now) (stmt_of a.now) (option_map stmt_of b.now)) begun) m.new }
 {
@@ -159,7 +159,7 @@ fn returned<'p, A: Allocator + Copy>(
     source: &Source<'p, A>,
     frames: u64,
     e: &'p Option<Expr<A>>,
-    m: &mut Machine<'p, A>,
+    m: &mut Machine<'p, '_, A>,
 ) -> Result<End, Halted>
     ensures { (at : Span) (begun : act.State) → act.tick begun ≡ act.Gives tt (state_in m.old) → MeansEnd result (meaning.stmt (program_in source.now) (called source.now frames) (tree.Return (option_map expr_of e.now) at) begun) m.new }
 {

@@ -1,6 +1,6 @@
 //! A thread of the source, from its first tick to its end.
 
-ghost use Rattle.std.specs.Prelude.{◌≡◌, ◌≢◌, IfOk};
+ghost use Rattle.std.specs.Prelude.{◌≡◌, ◌≢◌, IfOk, IfSome};
 ghost use Rattle.syntax.specs.declared.numbers.Halt.TheVariants.{Astray};
 ghost use Rattle.syntax.specs.Behaviours.{Stopped};
 ghost use Rattle.syntax.specs.Actions.{lefts_in};
@@ -8,6 +8,7 @@ ghost use Rattle.syntax.specs.Threads.{first_state, thread as thread_due, worker
 ghost use Rattle.syntax.specs.Views.{program_of};
 ghost use Rattle.meaning.specs.Outcomes.{AreWords, memories_in, outcome_in, thread_end_in};
 ghost use Rattle.meaning.specs.inner.Seen.{seen_in};
+ghost use Rattle.meaning.specs.inner.Standing.{end_by as end_by_due};
 ghost use Rattle.meaning.specs.inner.Machine.{Means, context_in, program_in, state_in};
 
 use crate::calls::entered;
@@ -26,7 +27,7 @@ use syntax::numbers::{Halt, Value};
 fn work<'p, A: Allocator + Copy>(
     source: &Source<'p, A>,
     t: u32,
-    m: &mut Machine<'p, A>,
+    m: &mut Machine<'p, '_, A>,
 ) -> Result<(), Halted>
     ensures { Means result (worker_run (program_in source.now) t (state_in m.old)) m.new }
 {
@@ -68,7 +69,11 @@ fn finish<A: Allocator + Copy>(alloc: A, end: ThreadEnd, m: Machine<A>) -> Seen<
 }
 
 /// A thread before its first tick.
-fn start<'p, A: Allocator + Copy>(alloc: A, founds: &'p [Vec<u32, A>], ticks: u64) -> Machine<'p, A>
+pub(crate) fn start<'p, 'f, A: Allocator + Copy>(
+    alloc: A,
+    founds: &'f [Vec<u32, A>],
+    ticks: u64,
+) -> Machine<'p, 'f, A>
     ensures { state_in result ≡ first_state (memories_in founds.now) ticks }
 {
     Machine {
@@ -90,6 +95,17 @@ fn end_of(why: Halt) -> ThreadEnd
         Halt::Wants => ThreadEnd::Wants,
         Halt::Spent => ThreadEnd::Spent,
         Halt::Astray => unreachable!(),
+    }
+}
+
+/// The end that is told of a thread that has stopped, or has come to its end; none where it has gone astray.
+pub(crate) fn end_by(why: Option<Halt>) -> Option<ThreadEnd>
+    ensures { IfSome result (λ e. thread_end_in e ≡ end_by_due why) }
+{
+    match why {
+        None => Some(ThreadEnd::Ended),
+        Some(Halt::Astray) => None,
+        Some(why) => Some(end_of(why)),
     }
 }
 

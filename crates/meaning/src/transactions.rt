@@ -26,7 +26,7 @@ pub(crate) enum Body<'p, A: Allocator> {
 }
 
 /// Copies locals.
-fn copy_locals<'p, A: Allocator + Copy>(
+pub(crate) fn copy_locals<'p, A: Allocator + Copy>(
     alloc: A,
     locals: &[Local<'p>],
 ) -> Result<Vec<Local<'p>, A>, AllocError>
@@ -44,7 +44,10 @@ fn copy_locals<'p, A: Allocator + Copy>(
 }
 
 /// Copies a memory.
-fn copy_memory<A: Allocator + Copy>(alloc: A, memory: &[u32]) -> Result<Vec<u32, A>, AllocError>
+pub(crate) fn copy_memory<A: Allocator + Copy>(
+    alloc: A,
+    memory: &[u32],
+) -> Result<Vec<u32, A>, AllocError>
     ensures { IfOk result (λ v. v.items ≡ memory.now) }
 {
     let copy = Vec::from_slice(alloc, memory)?;
@@ -104,7 +107,7 @@ fn leave_inner<'p, A: Allocator + Copy>(
     before: Vec<Local<'p>, A>,
     found: Vec<u32, A>,
     end: End,
-    m: &mut Machine<'p, A>,
+    m: &mut Machine<'p, '_, A>,
 ) -> End
     ensures { meaning.leave_inner outer (meaning.left_by kind (items_in before.entry) found.items (end_of end) (state_in m.old)) (state_in m.old) ≡ act.Gives (end_of result) (state_in m.new) }
 {
@@ -119,15 +122,15 @@ fn leave_inner<'p, A: Allocator + Copy>(
 }
 
 /// What an outermost transaction does at its end.
-fn leave<'p, A: Allocator + Copy>(
+fn leave<'p, 'f, A: Allocator + Copy>(
     alloc: A,
     kind: Kind,
-    founds: &'p [Vec<u32, A>],
+    founds: &'f [Vec<u32, A>],
     lefts: Vec<Vec<u32, A>, A>,
     mine: Vec<Local<'p>, A>,
     found: &[u32],
     end: End,
-    m: &mut Machine<'p, A>,
+    m: &mut Machine<'p, 'f, A>,
 ) -> Result<End, Halted>
     ensures { MeansEnd result
         (meaning.leave (memories_in founds.now) (memories_in lefts.items) (meaning.left_by kind (items_in mine.entry) found.now (end_of end) (state_in m.old)) (state_in m.old))
@@ -172,12 +175,12 @@ fn leave_found<A: Allocator + Copy>(
 }
 
 /// What an outermost transaction that stops leaves: a trap leaves the memory that was found.
-fn close_stopped<'p, A: Allocator + Copy>(
+fn close_stopped<'p, 'f, A: Allocator + Copy>(
     alloc: A,
-    founds: &'p [Vec<u32, A>],
+    founds: &'f [Vec<u32, A>],
     lefts: Vec<Vec<u32, A>, A>,
     found: &[u32],
-    m: &mut Machine<'p, A>,
+    m: &mut Machine<'p, 'f, A>,
 )
     ensures known { Happened m.new.why → Happened m.old.why }
     ensures value { Happened m.new.why → (kind : Kind) (mine : List Names.Local) →
@@ -235,7 +238,7 @@ pub(crate) fn value_transaction<'p, A: Allocator + Copy>(
     frames: u64,
     mode: Mode,
     e: &'p Expr<A>,
-    m: &mut Machine<'p, A>,
+    m: &mut Machine<'p, '_, A>,
 ) -> Result<Word, Halted>
     ensures { MeansWord result
         (meaning.value_transaction mode (does_expr source.now frames e.now) (state_in m.old))
@@ -254,7 +257,7 @@ pub(crate) fn transaction<'p, A: Allocator + Copy>(
     frames: u64,
     kind: Kind,
     body: &Body<'p, A>,
-    m: &mut Machine<'p, A>,
+    m: &mut Machine<'p, '_, A>,
 ) -> Result<End, Halted>
     ensures { MeansEnd result (meaning.transaction kind (does_body source.now frames body.now) (state_in m.old)) m.new }
 {
@@ -268,14 +271,14 @@ pub(crate) fn transaction<'p, A: Allocator + Copy>(
 /// An outermost transaction, with the memories still to be found and those left so far.
 #[cycle(run)]
 #[inline(never)]
-fn outermost<'p, A: Allocator + Copy>(
+fn outermost<'p, 'f, A: Allocator + Copy>(
     source: &Source<'p, A>,
     frames: u64,
     kind: Kind,
-    founds: &'p [Vec<u32, A>],
+    founds: &'f [Vec<u32, A>],
     lefts: Vec<Vec<u32, A>, A>,
     body: &Body<'p, A>,
-    m: &mut Machine<'p, A>,
+    m: &mut Machine<'p, 'f, A>,
 ) -> Result<End, Halted>
     ensures { MeansEnd result (let before = act.Outside (memories_in founds.now) (memories_in lefts.items) in meaning.enter before kind (does_body source.now frames body.now) (record (state_in m.old) { context = before })) m.new }
 {
@@ -321,7 +324,7 @@ fn nested<'p, A: Allocator + Copy>(
     found: Vec<u32, A>,
     kind: Kind,
     body: &Body<'p, A>,
-    m: &mut Machine<'p, A>,
+    m: &mut Machine<'p, '_, A>,
 ) -> Result<End, Halted>
     ensures { MeansEnd result (let before = act.Inside outer found.items in meaning.enter before kind (does_body source.now frames body.now) (record (state_in m.old) { context = before })) m.new }
 {
@@ -350,7 +353,7 @@ fn run_body<'p, A: Allocator + Copy>(
     source: &Source<'p, A>,
     frames: u64,
     body: &Body<'p, A>,
-    m: &mut Machine<'p, A>,
+    m: &mut Machine<'p, '_, A>,
 ) -> Result<End, Halted>
     ensures { MeansEnd result (does_body source.now frames body.now (state_in m.old)) m.new }
 {

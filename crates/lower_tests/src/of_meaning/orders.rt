@@ -25,6 +25,20 @@ const UNDOES: &str = "int x; void worker(int self) {
     __transaction_atomic { x = x + 2; x = x / (1 - self); }
 }";
 
+// a thread may stand in each kind of statement, in a call and in an expression
+const STANDS: &str = "int x;
+int add(int by) { int was; __transaction_atomic { was = x; x = x + by; } return was; }
+void worker(int self) {
+    int k = 0;
+    if (self) { for (int i = add(1); i < 3; i++) { int was = add(i); printf(\"%d \", was); } }
+    else { while (add(1) < 4) { { int k = __transaction_atomic(x); printf(\"%d \", k); } k++; } }
+    do { __transaction_atomic { x = x + 1; } if (k == 1) continue; k--; } while (k > 0);
+    printf(\"%d\", k);
+}";
+// as many turns as there are transactions
+const TURNS: &str =
+    "int x; void worker(int self) { for (int i = 0; i < 5000; i++) { __transaction_atomic { x++; } } }";
+
 /// A text, the threads, the order, the ticks of each; the first cell, and what each of two threads prints and how it ends.
 type Row = (
     &'static str,
@@ -47,10 +61,32 @@ const SPENT: ThreadEnd = ThreadEnd::Spent;
 const DIVIDES: ThreadEnd = ThreadEnd::Trapped(Trap::ZeroDivisor);
 
 fn rows() -> &'static [Row] {
-    static ROWS: [Row; 11] = [
+    static ROWS: [Row; 13] = [
         (ADDS, 2, &[0, 1], 100, 2, "", ENDED, "", ENDED),
         (ADDS, 2, &[0], 100, 1, "", ENDED, "", WANTS),
         (ADDS, 2, &[], 100, 0, "", WANTS, "", WANTS),
+        (
+            STANDS,
+            2,
+            &[0, 0, 0, 1, 1, 1, 0, 0, 0, 1, 1, 0, 0],
+            300,
+            10,
+            "1 6 ",
+            WANTS,
+            "3 -1",
+            ENDED,
+        ),
+        (
+            STANDS,
+            2,
+            &[1, 0, 1, 0, 1, 0, 1, 0, 1, 0, 1, 0],
+            300,
+            9,
+            "2 6 ",
+            WANTS,
+            "2 2 4 -1",
+            ENDED,
+        ),
         // an entry of a thread that has ended does nothing
         (ADDS, 2, &[0, 0, 0], 100, 1, "", ENDED, "", WANTS),
         (
@@ -138,6 +174,29 @@ fn first_other(alloc: Global, rows: &[Row]) -> Option<(&'static str, &'static [u
 #[test]
 fn threads_run_in_an_order(rt: HostRuntime) {
     assert_eq!(rt; first_other(rt.alloc(), rows()), None);
+}
+
+// What 10,000 turns of two threads leave in the first cell.
+fn many_turns(alloc: Global, accepted: &Accepted) -> Option<u32> {
+    let mut order = Vec::new(alloc);
+    for i in 0..10000u32 {
+        if order.push(i % 2).is_err() {
+            return None;
+        }
+    }
+    match run_order(alloc, accepted, 2, order.as_slice(), 100000) {
+        Ok(outcome) => outcome.memory.as_slice().first().copied(),
+        Err(_) => None,
+    }
+}
+
+#[test]
+fn ten_thousand_turns_are_made(rt: HostRuntime) {
+    let left = match accepted_of(rt.alloc(), TURNS) {
+        Some(accepted) => many_turns(rt.alloc(), &accepted),
+        None => None,
+    };
+    assert_that(&rt, left == Some(10000));
 }
 
 /// Threads, an order, and its fault's number.

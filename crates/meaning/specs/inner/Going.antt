@@ -1,9 +1,9 @@
 -- What a thread has still to do, wherever it stands, and the steps in which it goes on: the first step of a statement that is
 -- made of others and of each turn of a loop, what is left behind it, and what all that is left does.
-use Rattle.std.specs.Prelude.{◌≡◌, ℕ, zero, suc, List, [], ◌∷◌, take, length, Option, Some, None, if◌then◌else◌}
+use Rattle.std.specs.Prelude.{◌≡◌, ℕ, zero, suc, List, [], ◌∷◌, take, length, Option, Some, None, Bool, true, false, if◌then◌else◌}
 use Rattle.syntax.specs.declared.numbers.Halt.TheVariants.{Spent}
 use Rattle.syntax.specs.Numbers.{is_zero}
-use Rattle.syntax.specs.Tree.{Scalar, Program, Expr, Stmt, Stmts, Start, Block, If, IfElse, While, DoWhile, For}
+use Rattle.syntax.specs.Tree.{Scalar, Program, Expr, Stmt, Stmts, Start, While, DoWhile, For}
 use Rattle.syntax.specs.Names as Names
 use Rattle.syntax.specs.Actions.{State, Gives, Action, pure, stop, tick, locals, put_locals, go_on, ◌>>=◌, ◌>>◌}
 use Rattle.syntax.specs.Meaning.{Caller, End, Next, expr, stmt, stmts, scoped, on_next, after_body, after_turn, turns, holds, stepped, start_with, result_of}
@@ -46,48 +46,61 @@ scope_begun run = do outer ← locals; pure (Nests (cut (length outer)) run)
 abbrev pub loop_begun : Action (Option End) → Action Follow
 loop_begun turn = do n ← ticks_left; pure (Goes (turns n turn))
 
+-- what comes behind the body of a turn, by its end: where the loop goes on this, and then the turns that are left
+abbrev pub body_left : Action (Option End) → Action End → End → Action End
+body_left behind rest end = after_body behind end >>= after_turn rest
+
+abbrev pub turned : Action End → Option End → Follow
+turned rest None = Goes rest
+turned rest (Some end) = Ends end
+
 module _ (p : Program) (call : Caller) where
-  -- one turn of a statement that is a loop
+  -- one turn of a statement that is a loop: what it tests before its body, the body, and what follows where the loop goes on
   abbrev pub turn_of : Stmt → Action (Option End)
   turn_of (While c a) = while_turn p call c a
   turn_of (DoWhile a c) = do_turn p call a c
   turn_of (For start c step a) = for_turn p call c step a
   turn_of s = pure (Some Next)
 
-  -- what follows the body of its turn where the loop goes on
+  abbrev pub test_of : Stmt → Action Bool
+  test_of (While c a) = holds p call (Some c)
+  test_of (DoWhile a c) = pure true
+  test_of (For start c step a) = holds p call c
+  test_of s = pure false
+
+  abbrev pub body_of : Stmt → Action End
+  body_of (While c a) = scoped (stmt p call a)
+  body_of (DoWhile a c) = scoped (stmt p call a)
+  body_of (For start c step a) = scoped (stmt p call a)
+  body_of s = pure Next
+
   abbrev pub behind_of : Stmt → Action (Option End)
   behind_of (DoWhile a c) = tested p call c
   behind_of (For start c step a) = stepped p call step
   behind_of s = pure None
 
-  abbrev pub turn_in : Stmts → Action (Option End)
-  turn_in Stmts.[] = pure (Some Next)
-  turn_in (Stmts.◌∷◌ s ss) = turn_of s
+  -- a turn behind its tick: where the test holds comes the body, behind which so many turns are left
+  abbrev pub turn_begun : Stmt → ℕ → Action Follow
+  turn_begun s n = do
+    goes ← test_of s
+    pure (if goes then Nests (body_left (behind_of s) (turns n (turn_of s))) (body_of s) else Ends Next)
 
-  abbrev pub behind_in : Stmts → Action (Option End)
-  behind_in Stmts.[] = pure None
-  behind_in (Stmts.◌∷◌ s ss) = behind_of s
-
-  -- what comes behind a body, by its end, and then so many turns
-  abbrev pub body_left : Stmts → ℕ → End → Action End
-  body_left ss n end = after_body (behind_in ss) end >>= after_turn (turns n (turn_in ss))
+  abbrev pub turns_begun : Stmt → ℕ → Action Follow
+  turns_begun s zero = stop Spent
+  turns_begun s (suc n) = tick >> turn_begun s n
 
   -- the first of statements, and then the others
   abbrev pub apart_begun : Stmts → Follow
   apart_begun Stmts.[] = Ends Next
-  apart_begun (Stmts.◌∷◌ s ss) = Nests (on_next (stmts p call ss)) (stmts p call (Stmts.◌∷◌ s Stmts.[]))
-
-  -- a statement alone, with names of its own
-  abbrev pub alone : Stmt → Action End
-  alone s = scoped (stmts p call (Stmts.◌∷◌ s Stmts.[]))
+  apart_begun (Stmts.◌∷◌ s ss) = Nests (on_next (stmts p call ss)) (stmt p call s)
 
   -- one of two statements, or of one and nothing
   abbrev pub otherwise : Option Stmt → Follow
   otherwise None = Ends Next
-  otherwise (Some s) = Goes (alone s)
+  otherwise (Some s) = Goes (scoped (stmt p call s))
 
   abbrev pub either_begun : Expr → Stmt → Option Stmt → Action Follow
-  either_begun c a b = do v ← expr p call c; pure (if is_zero v then otherwise b else Goes (alone a))
+  either_begun c a b = do v ← expr p call c; pure (if is_zero v then otherwise b else Goes (scoped (stmt p call a)))
 
   abbrev pub for_begun : Start → Action (Option End) → Action Follow
   for_begun start turn = do
@@ -95,41 +108,6 @@ module _ (p : Program) (call : Caller) where
     start_with p call start
     n ← ticks_left
     pure (Nests (cut (length outer)) (turns n turn))
-
-  -- a turn begins with its test, and then comes its body
-  abbrev pub turn_begun : Stmt → (End → Action End) → Action Follow
-  turn_begun (While c a) rest = do v ← expr p call c; pure (if is_zero v then Ends Next else Nests rest (alone a))
-  turn_begun (DoWhile a c) rest = pure (Nests rest (alone a))
-  turn_begun (For start c step a) rest =
-      do more ← holds p call c; pure (if more then Nests rest (alone a) else Ends Next)
-  turn_begun s rest = pure (Ends Next)
-
-  abbrev pub turn_begun_in : Stmts → ℕ → Action Follow
-  turn_begun_in Stmts.[] n = pure (Ends Next)
-  turn_begun_in (Stmts.◌∷◌ s ss) n = turn_begun s (body_left (Stmts.◌∷◌ s ss) n)
-
-  abbrev pub turns_begun : Stmts → ℕ → Action Follow
-  turns_begun ss zero = stop Spent
-  turns_begun ss (suc n) = tick >> turn_begun_in ss n
-
-  -- how a loop goes on behind a body
-  abbrev pub turned : Stmts → ℕ → Option End → Follow
-  turned ss n None = Goes (turns n (turn_in ss))
-  turned ss n (Some end) = Ends end
-
-  -- the first step of a statement that is made of others, by its kind
-  abbrev pub opened_one : Stmt → Action Follow
-  opened_one (Block ss) = tick >> scope_begun (stmts p call ss)
-  opened_one (If c a) = tick >> either_begun c a None
-  opened_one (IfElse c a b) = tick >> either_begun c a (Some b)
-  opened_one (While c a) = tick >> loop_begun (turn_of (While c a))
-  opened_one (DoWhile a c) = tick >> loop_begun (turn_of (DoWhile a c))
-  opened_one (For start c step a) = tick >> for_begun start (turn_of (For start c step a))
-  opened_one s = do end ← stmt p call s; pure (Ends end)
-
-  abbrev pub opened : Stmts → Action Follow
-  opened (Stmts.◌∷◌ s Stmts.[]) = opened_one s
-  opened ss = do end ← stmts p call ss; pure (Ends end)
 
 -- what is left, the innermost piece at the list's end: each goes on by the end that the ones behind it come to
 abbrev pub gone_on : List (End → Action End) → End → Action End

@@ -2,11 +2,13 @@
 use Rattle.std.specs.Prelude.{◌≡◌, ◌≢◌, ◌⊎◌, ℕ, ◌+◌, List, [], ◌∷◌, ◌++◌, map, length, drop}
 use Rattle.syntax.specs.Tree.{Program}
 use Rattle.syntax.specs.declared.numbers.Halt.TheVariants.{Wants}
-use Rattle.syntax.specs.Behaviours.{Memory, Behaviour, Stopped}
+use Rattle.syntax.specs.Behaviours.{Memory, Behaviour, Outcome, Stopped}
 use Rattle.syntax.specs.Orders.{Progress, last_left}
-use Rattle.syntax.specs.Threads.{thread}
-use Rattle.meaning.specs.Outcomes.{memories_in}
-use Rattle.meaning.specs.inner.Seen.{seen_in}
+use Rattle.syntax.specs.Threads.{first_state, thread, worker_run}
+use Rattle.meaning.specs.Outcomes.{memories_in, thread_end_in}
+use Rattle.meaning.specs.declared.program.Source.{Source}
+use Rattle.meaning.specs.inner.Machine.{program_in}
+use Rattle.meaning.specs.inner.Standing.{rest}
 use Rattle.meaning.specs.declared.orders.Standing.{Standing}
 use Rattle.meaning.specs.declared.orders.Way.{Way}
 
@@ -25,14 +27,25 @@ TakesTurn p ticks t m founds n further =
     × (further ≡ founds ++ m ∷ []))
 
 module _ {A : Type 0} where
-  -- what is seen of a thread is what it does with the memories that it has found
-  abbrev pub IsKnown : Program → (ticks t : ℕ) → Standing A → Type 0
-  IsKnown p ticks t s = seen_in s.seen ≡ does_in p t (memories_in s.founds.items) ticks
+  -- what is seen of a thread, as it is kept
+  abbrev pub seen_in : Standing A → Outcome
+  seen_in s = record {
+    lefts = memories_in s.thread.shown.lefts.items ++ memories_in s.further.lefts.items;
+    text = s.thread.shown.text.items ++ s.further.text.items;
+    end = thread_end_in s.end;
+  }
+
+  -- A thread that has found memories: it goes on from where it stands as it would from its beginning, whatever it finds
+  -- further; and what is seen of it is what it does with those that it has found.
+  pub record IsKnown (source : Source A) (ticks t : ℕ) (s : Standing A) : Type 0 where
+    pub stands : (further : List Memory) → rest source s.thread further
+        ≡ worker_run (program_in source) t (first_state (memories_in s.founds.items ++ further) ticks)
+    pub seen : seen_in s ≡ does_in (program_in source) t (memories_in s.founds.items) ticks
 
   -- so of each thread, from this one on
-  unfoldable pub AreKnown : Program → (ticks t : ℕ) → List (Standing A) → Type 0
-  AreKnown p ticks t [] = Unit {0}
-  AreKnown p ticks t (s ∷ threads) = IsKnown p ticks t s × AreKnown p ticks (t + 1) threads
+  unfoldable pub AreKnown : Source A → (ticks t : ℕ) → List (Standing A) → Type 0
+  AreKnown source ticks t [] = Unit {0}
+  AreKnown source ticks t (s ∷ threads) = IsKnown source ticks t s × AreKnown source ticks (t + 1) threads
 
   abbrev pub founds_in : List (Standing A) → List (List Memory)
   founds_in threads = map (λ s. memories_in s.founds.items) threads

@@ -1,0 +1,109 @@
+-- Each step of what is left does what is left next, whatever stands round it.
+use Rattle.std.proofs.Common.{◌≡◌, ℕ, ◌-◌, ◌<◌, ◌≤◌, List, [], ◌∷◌, length, drop, take, get_or, refl, sym, ap, ◌∙◌, subst, option_map, arith}
+use Rattle.std.proofs.lemmas.List.{take_all}
+use Rattle.syntax.specs.declared.tree.Stmt.{Stmt as OwnStmt}
+use Rattle.syntax.specs.Tree.{Program, Stmt}
+use Rattle.syntax.specs.Views.{expr_of, start_of, stmt_of, stmts_of}
+use Rattle.syntax.specs.Actions.{State, pure, go_on, tick}
+use Rattle.syntax.specs.Meaning.{Caller, End, Next, stmt, stmts, scoped, on_next, after_body, after_turn, loop}
+use Rattle.meaning.specs.declared.left.Way.{Way}
+use Rattle.meaning.specs.declared.left.Way.TheVariants as way
+use Rattle.meaning.specs.declared.left.Task.{Task}
+use Rattle.meaning.specs.declared.left.Task.TheVariants as task
+use Rattle.meaning.specs.declared.left.Left.{Left}
+use Rattle.meaning.specs.declared.left.Left.TheVariants as left
+use Rattle.meaning.specs.declared.left.Parts.{Parts}
+use Rattle.meaning.specs.declared.left.Parts.TheVariants as parts
+use Rattle.meaning.specs.declared.loops.Loop.{Loop}
+use Rattle.meaning.specs.declared.loops.Loop.TheVariants as kind
+use Rattle.meaning.specs.declared.program.Source.{Source}
+use Rattle.meaning.specs.inner.Machine.{program_in, items_in}
+use Rattle.meaning.specs.inner.Does.{called, does_stmts}
+use Rattle.meaning.specs.Frames.{IsFramed}
+use Rattle.meaning.specs.inner.Going.{Ends, Nests, apart_begun, follows, cut, call_left, scope_begun, loop_begun, turn_of, behind_of, turned, IsStep}
+use Rattle.meaning.specs.inner.Left.{begun, begun_by, does_by, does_task, loop_in, opened, parted, resumed, stmt_in, step_of, turns_in}
+use Rattle.meaning.proofs.Framed.{on_framed}
+use Rattle.meaning.proofs.FramedSteps.{after_body_framed, behind_framed, call_left_framed, cut_framed, either_framed, for_framed, loop_framed, pure_framed, scope_framed, stmt_framed, then_framed, tick_framed, turns_framed, when_next_framed, whole_framed}
+use Rattle.meaning.proofs.Going.{apart_is, either_is, for_is, on_both, same_end, turned_is, turns_is}
+
+-- the first of statements, and then the others
+module _ {A : Type 0} (p : Program) (call : Caller) where
+  pub apart_none : (ss : List (OwnStmt A)) → length ss < 1 → Ends Next ≡ apart_begun p call (stmts_of ss)
+  apart_none [] h = refl
+  apart_none (x ∷ ss) h = absurd (omega (arith, h))
+
+  pub apart_first : (ss : List (OwnStmt A)) (x : OwnStmt A) → 1 ≤ length ss → x ≡ get_or ss 0 x →
+      Nests (on_next (stmts p call (stmts_of (take (length ss - 1) (drop 1 ss))))) (stmt p call (stmt_of x)) ≡ apart_begun p call (stmts_of ss)
+  apart_first [] x h is = absurd (omega (arith, h))
+  apart_first (y ∷ ss) x h is =
+      let all : take (length (y ∷ ss) - 1) (drop 1 (y ∷ ss)) ≡ ss = take_all (length (y ∷ ss) - 1) ss (omega arith) in
+      λ i. Nests (on_next (stmts p call (stmts_of (all i)))) (stmt p call (stmt_of (is i)))
+
+module _ {A : Type 0} (source : Source A) where
+  by_framed : (w : Way) (frames : ℕ) (s : Stmt) → IsFramed (begun_by source w frames s)
+  by_framed way.Whole frames s = whole_framed (stmt_framed (program_in source) frames s)
+  by_framed way.Scoped frames s = scope_framed _
+  by_framed (way.Turns n) frames s = turns_framed (program_in source) frames s n
+
+  begun_framed : (t : Task A) → IsFramed (begun source t)
+  begun_framed (task.Apart frames ss) = pure_framed _
+  begun_framed (task.Alone w frames s) = by_framed w frames (stmt_of s.now)
+
+  step_framed : (l : Left A) (e : End) → IsFramed (step_of source l e)
+  step_framed (left.Next t) e = when_next_framed (begun_framed t) e
+  step_framed (left.Body frames s n) e = on_framed (after_body_framed (behind_framed (program_in source) frames (stmt_of s.now)) e) (λ o. pure_framed (turned (turns_in source frames (stmt_of s.now) n) o))
+  step_framed (left.Scope n) e = whole_framed (cut_framed n e)
+  step_framed (left.Call of outer) e = whole_framed (call_left_framed of (items_in outer) e)
+
+  by_is : (w : Way) (frames : ℕ) (st : Stmt) (s : State) → does_by source w frames st s ≡ go_on (begun_by source w frames st s) follows
+  by_is way.Whole frames st s = same_end (stmt (program_in source) (called source frames) st s)
+  by_is way.Scoped frames st s = refl
+  by_is (way.Turns n) frames st s = turns_is (program_in source) (called source frames) st n s
+
+  task_is : (t : Task A) (s : State) → does_task source t s ≡ go_on (begun source t s) follows
+  task_is (task.Apart frames ss) s = apart_is (program_in source) (called source frames) (stmts_of ss.now) s
+  task_is (task.Alone w frames st) s = by_is w frames (stmt_of st.now) s
+
+  resumed_is : (l : Left A) (e : End) (s : State) → resumed source l e s ≡ go_on (step_of source l e s) follows
+  resumed_is (left.Next t) Next s = task_is t s
+  resumed_is (left.Next t) e s = refl
+  resumed_is (left.Body frames st n) e s =
+      let rest = turns_in source frames (stmt_of st.now) n in
+      on_both (after_body (behind_of (program_in source) (called source frames) (stmt_of st.now)) e s) (after_turn rest) (λ o. pure (turned rest o)) follows (λ o now. turned_is rest o now)
+  resumed_is (left.Scope n) e s = same_end (cut n e s)
+  resumed_is (left.Call of outer) e s = same_end (call_left of (items_in outer) e s)
+
+  pub own_step : (l : Left A) (e : End) → IsStep (resumed source l) e (step_of source l e)
+  own_step l e = record { does = resumed_is l e; framed = step_framed l e }
+
+  -- a statement by its parts
+  module _ (frames : ℕ) where
+    looped_framed : (st : Stmt) (w : Loop A) → IsFramed (parted source frames st (parts.Repeats w))
+    looped_framed st (kind.While c a) = loop_framed _
+    looped_framed st (kind.DoWhile a c) = loop_framed _
+    looped_framed st (kind.For head a) = for_framed (program_in source) frames (start_of head.now.start) _
+
+    parted_framed : (st : Stmt) (q : Parts A) → IsFramed (parted source frames st q)
+    parted_framed st (parts.Block ss) = scope_framed _
+    parted_framed st (parts.Either c a b) = either_framed (program_in source) frames (expr_of c.now) (stmt_of a.now) (option_map stmt_of b.now)
+    parted_framed st (parts.Repeats w) = looped_framed st w
+
+    looped_is : (w : Loop A) (s : State) → stmt (program_in source) (called source frames) (loop_in w) s ≡ go_on (opened source frames (loop_in w) (parts.Repeats w) s) follows
+    looped_is (kind.While c a) s =
+        let turn = turn_of (program_in source) (called source frames) (loop_in (kind.While c a)) in on_both (tick s) (λ _. loop turn) (λ _. loop_begun turn) follows (λ u now. refl)
+    looped_is (kind.DoWhile a c) s =
+        let turn = turn_of (program_in source) (called source frames) (loop_in (kind.DoWhile a c)) in on_both (tick s) (λ _. loop turn) (λ _. loop_begun turn) follows (λ u now. refl)
+    looped_is (kind.For head a) s = for_is (program_in source) (called source frames) (start_of head.now.start) (turn_of (program_in source) (called source frames) (loop_in (kind.For head a))) s
+
+    parted_is : (q : Parts A) (s : State) → stmt (program_in source) (called source frames) (stmt_in q) s ≡ go_on (opened source frames (stmt_in q) q s) follows
+    parted_is (parts.Block ss) s = on_both (tick s) (λ _. scoped (does_stmts source frames ss.now)) (λ _. scope_begun (does_stmts source frames ss.now)) follows (λ u now. refl)
+    parted_is (parts.Either c a b) s = either_is (program_in source) (called source frames) (expr_of c.now) (stmt_of a.now) (option_map stmt_of b.now) s
+    parted_is (parts.Repeats w) s = looped_is w s
+
+    pub open_step : (l : Left A) (t : Task A) (st : Stmt) (q : Parts A) (e : End) → l ≡ left.Next t → e ≡ Next → does_task source t ≡ stmt (program_in source) (called source frames) st → st ≡ stmt_in q → IsStep (resumed source l) e (opened source frames st q)
+    open_step l t st q e is next does parts = record {
+      does = λ s.
+          ap (λ k. resumed source k e s) is ∙ ap (λ d. resumed source (left.Next t) d s) next ∙ ap (λ run. run s) does
+          ∙ subst (λ k. stmt (program_in source) (called source frames) k s ≡ go_on (opened source frames k q s) follows) (sym parts) (parted_is q s);
+      framed = then_framed tick_framed (parted_framed st q);
+    }

@@ -1,0 +1,120 @@
+-- What a thread has still to do, as it is kept.
+use Rattle.std.specs.Prelude.{ℕ, List, map, Option, option_map, Result}
+use Rattle.syntax.specs.declared.tree.Stmt.{Stmt as OwnStmt}
+use Rattle.syntax.specs.Tree.{Stmt, Block, While, DoWhile, For}
+use Rattle.syntax.specs.Views.{expr_of, simple_of, start_of, stmt_of, stmts_of}
+use Rattle.syntax.specs.Actions.{Answer, Action, pure, tick, ◌>>=◌, ◌>>◌}
+use Rattle.syntax.specs.Meaning.{End, stmt, scoped, on_next, after_body, turns}
+use Rattle.meaning.specs.declared.left.Way.{Way}
+use Rattle.meaning.specs.declared.left.Way.TheVariants as way
+use Rattle.meaning.specs.declared.left.Task.{Task}
+use Rattle.meaning.specs.declared.left.Task.TheVariants as task
+use Rattle.meaning.specs.declared.left.Left.{Left}
+use Rattle.meaning.specs.declared.left.Left.TheVariants as left
+use Rattle.meaning.specs.declared.left.Stepped.{Stepped}
+use Rattle.meaning.specs.declared.left.Stepped.TheVariants as to
+use Rattle.meaning.specs.declared.left.Parts.{Parts}
+use Rattle.meaning.specs.declared.left.Parts.TheVariants as parts
+use Rattle.meaning.specs.declared.loops.Loop.{Loop}
+use Rattle.meaning.specs.declared.loops.Loop.TheVariants as kind
+use Rattle.meaning.specs.declared.machine.Halted.{Halted}
+use Rattle.meaning.specs.declared.machine.Machine.{Machine}
+use Rattle.meaning.specs.declared.program.Source.{Source}
+use Rattle.meaning.specs.inner.Machine.{MeansAs, end_of, items_in, program_in}
+use Rattle.meaning.specs.inner.Does.{called, does_stmts, if_of}
+use Rattle.meaning.specs.inner.Going.{Follow, Ends, Goes, Nests, cut, call_left, when_next, scope_begun, loop_begun, turn_of, behind_of, turns_begun, body_left, turned, apart_begun, either_begun, for_begun, gone_on}
+
+module _ {A : Type 0} where
+  abbrev pub body_in : Loop A → OwnStmt A
+  body_in (kind.While c a) = a.now
+  body_in (kind.DoWhile a c) = a.now
+  body_in (kind.For head a) = a.now
+
+  abbrev pub loop_in : Loop A → Stmt
+  loop_in (kind.While c a) = While (expr_of c.now) (stmt_of a.now)
+  loop_in (kind.DoWhile a c) = DoWhile (stmt_of a.now) (expr_of c.now)
+  loop_in (kind.For head a) =
+      For (start_of head.now.start) (option_map expr_of head.now.condition) (option_map simple_of head.now.step)
+      (stmt_of a.now)
+
+  -- the statement that has these parts
+  abbrev pub stmt_in : Parts A → Stmt
+  stmt_in (parts.Block ss) = Block (stmts_of ss.now)
+  stmt_in (parts.Either c a b) = if_of (expr_of c.now) (stmt_of a.now) (option_map stmt_of b.now)
+  stmt_in (parts.Repeats w) = loop_in w
+
+module _ {A : Type 0} (source : Source A) where
+  -- what a statement does in a way, and its first step
+  abbrev pub does_by : Way → ℕ → Stmt → Action End
+  does_by way.Whole frames s = stmt (program_in source) (called source frames) s
+  does_by way.Scoped frames s = scoped (stmt (program_in source) (called source frames) s)
+  does_by (way.Turns n) frames s = turns n (turn_of (program_in source) (called source frames) s)
+
+  abbrev pub begun_by : Way → ℕ → Stmt → Action Follow
+  begun_by way.Whole frames s = do end ← stmt (program_in source) (called source frames) s; pure (Ends end)
+  begun_by way.Scoped frames s = scope_begun (stmt (program_in source) (called source frames) s)
+  begun_by (way.Turns n) frames s = turns_begun (program_in source) (called source frames) s n
+
+  -- what a task does, and its first step
+  abbrev pub does_task : Task A → Action End
+  does_task (task.Apart frames ss) = does_stmts source frames ss.now
+  does_task (task.Alone w frames s) = does_by w frames (stmt_of s.now)
+
+  abbrev pub begun : Task A → Action Follow
+  begun (task.Apart frames ss) = pure (apart_begun (program_in source) (called source frames) (stmts_of ss.now))
+  begun (task.Alone w frames s) = begun_by w frames (stmt_of s.now)
+
+  -- the first step of a statement by its parts, behind its tick; of a loop by its turn
+  abbrev pub loop_opened : ℕ → Action (Option End) → Loop A → Action Follow
+  loop_opened frames turn (kind.While c a) = loop_begun turn
+  loop_opened frames turn (kind.DoWhile a c) = loop_begun turn
+  loop_opened frames turn (kind.For head a) =
+      for_begun (program_in source) (called source frames) (start_of head.now.start) turn
+
+  abbrev pub parted : ℕ → Stmt → Parts A → Action Follow
+  parted frames s (parts.Block ss) = scope_begun (does_stmts source frames ss.now)
+  parted frames s (parts.Either c a b) =
+      either_begun (program_in source) (called source frames) (expr_of c.now) (stmt_of a.now)
+      (option_map stmt_of b.now)
+  parted frames s (parts.Repeats w) = loop_opened frames (turn_of (program_in source) (called source frames) s) w
+
+  abbrev pub opened : ℕ → Stmt → Parts A → Action Follow
+  opened frames s q = tick >> parted frames s q
+
+  -- so many turns of a loop, and what is left behind the body of one
+  abbrev pub turns_in : ℕ → Stmt → ℕ → Action End
+  turns_in frames s n = turns n (turn_of (program_in source) (called source frames) s)
+
+  abbrev pub body_rest : ℕ → Stmt → ℕ → End → Action End
+  body_rest frames s n = body_left (behind_of (program_in source) (called source frames) s) (turns_in frames s n)
+
+  -- what is done behind something, by its end
+  abbrev pub resumed : Left A → End → Action End
+  resumed (left.Next t) = on_next (does_task t)
+  resumed (left.Body frames s n) = body_rest frames (stmt_of s.now) n
+  resumed (left.Scope n) = cut n
+  resumed (left.Call of outer) = call_left of (items_in outer)
+
+  -- what is left, the innermost piece at the list's end
+  abbrev pub left_gone_on : List (Left A) → End → Action End
+  left_gone_on ls = gone_on (map resumed ls)
+
+  abbrev pub follow_of : Stepped A → Follow
+  follow_of (to.Ends end) = Ends (end_of end)
+  follow_of (to.Goes t) = Goes (does_task t)
+  follow_of (to.Nests outer inner) = Nests (resumed outer) (does_task inner)
+
+  abbrev pub MeansStepped : Result (Stepped A) Halted → Answer Follow → Machine A → Type 0
+  MeansStepped = MeansAs follow_of
+
+  abbrev pub body_step : ℕ → Stmt → ℕ → End → Action Follow
+  body_step frames s n end =
+      after_body (behind_of (program_in source) (called source frames) s) end
+      >>= (λ next. pure (turned (turns_in frames s n) next))
+
+  -- one step, by the end of what was done before
+  abbrev pub step_of : Left A → End → Action Follow
+  step_of (left.Next t) = when_next (begun t)
+  step_of (left.Body frames s n) = body_step frames (stmt_of s.now) n
+  step_of (left.Scope n) = λ end. do then_ ← cut n end; pure (Ends then_)
+  step_of (left.Call of outer) = λ end. do then_ ← call_left of (items_in outer) end; pure (Ends then_)

@@ -1,0 +1,69 @@
+-- How a thread stands, and what is left of it.
+use Rattle.std.specs.Prelude.{◌≡◌, List, [], ◌++◌, Option, Some, None}
+use Rattle.syntax.specs.declared.numbers.Halt.{Halt}
+use Rattle.syntax.specs.Behaviours.{Memory, Outcome, ThreadEnd, Ended, Stopped}
+use Rattle.syntax.specs.Actions.{Outside, State, Answer, Gives, Stops, go_on, tick}
+use Rattle.syntax.specs.Threads.{outcome_of}
+use Rattle.meaning.specs.Outcomes.{memories_in}
+use Rattle.meaning.specs.declared.standing.Point.{Point}
+use Rattle.meaning.specs.declared.standing.Shown.{Shown}
+use Rattle.meaning.specs.declared.standing.Thread.{Thread}
+use Rattle.meaning.specs.declared.standing.Stop.{Stop}
+use Rattle.meaning.specs.declared.standing.Gone.{Gone}
+use Rattle.meaning.specs.declared.standing.Gone.TheVariants as gone
+use Rattle.meaning.specs.declared.program.Source.{Source}
+use Rattle.meaning.specs.inner.Machine.{end_of, items_in}
+use Rattle.meaning.specs.Frames.{Frame, framed}
+use Rattle.meaning.specs.inner.Going.{Follow}
+use Rattle.meaning.specs.inner.Left.{follow_of, left_gone_on}
+
+-- the end of a thread that goes no further, where it has not come to its end
+abbrev pub end_by : Option Halt → ThreadEnd
+end_by None = Ended
+end_by (Some why) = Stopped why
+
+module _ {A : Type 0} where
+  -- a state at a point in which this is left and printed, and one in which nothing is
+  abbrev pub state_at : Point A → Shown A → State
+  state_at at shown = record {
+    ticks = at.ticks;
+    locals = items_in at.locals;
+    context = Outside (memories_in at.due.items) (memories_in shown.lefts.items);
+    text = shown.text.items;
+  }
+
+  abbrev pub bare : Point A → State
+  bare at = record {
+    ticks = at.ticks;
+    locals = items_in at.locals;
+    context = Outside (memories_in at.due.items) [];
+    text = [];
+  }
+
+  abbrev pub frame_of : List Memory → Shown A → Frame
+  frame_of founds shown = record { founds = founds; lefts = memories_in shown.lefts.items; text = shown.text.items }
+
+  -- what a step comes to is this answer
+  abbrev pub IsGone : Source A → Gone A → Answer Follow → Type 0
+  IsGone source (gone.Went next at shown) r = r ≡ Gives (follow_of source next) (state_at at shown)
+  IsGone source (gone.Stopped why shown) r =
+      (s : State) × (founds : List Memory) × (r ≡ Stops why s)
+      × (s.context ≡ Outside founds (memories_in shown.lefts.items)) × (s.text ≡ shown.text.items)
+
+  -- what is left of a thread that finds these memories too, up to the tick of its end
+  abbrev pub rest : Source A → Thread A → List Memory → Answer (Unit {0})
+  rest source thread founds =
+      go_on (left_gone_on source thread.left.items (end_of thread.end) (framed (frame_of founds thread.shown) (bare thread.at)))
+      (λ _. tick)
+
+  -- what is seen of a thread that goes no further
+  abbrev pub seen_of : Thread A → Stop A → Outcome
+  seen_of thread stop = record {
+    lefts = memories_in thread.shown.lefts.items ++ memories_in stop.shown.lefts.items;
+    text = thread.shown.text.items ++ stop.shown.text.items;
+    end = end_by stop.why;
+  }
+
+  -- a thread goes no further so
+  abbrev pub IsStop : Source A → Thread A → Stop A → Type 0
+  IsStop source thread stop = outcome_of (rest source thread []) ≡ seen_of thread stop

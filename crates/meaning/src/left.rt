@@ -1,0 +1,384 @@
+//! What a thread has still to do, and the steps in which it goes on.
+
+ghost use Rattle.std.specs.Prelude.{◌≡◌, map, option_map, IfSome};
+ghost use Rattle.syntax.specs.Actions as act;
+ghost use Rattle.syntax.specs.Meaning as meaning;
+ghost use Rattle.syntax.specs.Views.{expr_of, start_of, stmt_of, stmts_of};
+ghost use Rattle.meaning.specs.inner.Going as going;
+ghost use Rattle.meaning.specs.inner.Going.{call_left};
+ghost use Rattle.meaning.specs.inner.Left as lefts;
+ghost use Rattle.meaning.specs.inner.Left.{MeansStepped, follow_of};
+ghost use Rattle.meaning.specs.inner.Machine.{Means, MeansEnd, MeansTurn, end_of, local_in, program_in, state_in};
+ghost use Rattle.meaning.specs.inner.Does.{called, does_turn};
+
+use crate::calls::result_of;
+use crate::expr::eval;
+use crate::loops::{Loop, holds, left_by_body, started, stepped, tested};
+use crate::machine::{End, Halted, Local, Machine, tick};
+use crate::program::Source;
+use crate::stmt::stmt;
+use crate::transactions::copy_locals;
+use crate::word::is_zero;
+use containers::Boxed;
+use lex::token::Scalar;
+use std::alloc::Allocator;
+use syntax::numbers::Halt;
+use syntax::tree::{Expr, Start, Stmt};
+
+/// How a statement is to be done.
+#[derive(Clone, Copy)]
+pub(crate) enum Way {
+    /// In one step.
+    Whole,
+    /// In one step, with names of its own.
+    Scoped,
+    /// It is a loop, and at most so many turns of it are left.
+    Turns(u64),
+}
+
+/// What is to be done, where so many further frames may come to live.
+#[derive(Clone, Copy)]
+pub(crate) enum Task<'p, A: Allocator> {
+    /// Statements one after another, in steps.
+    Apart(u64, &'p [Stmt<A>]),
+    /// A statement.
+    Alone(Way, u64, &'p Stmt<A>),
+}
+
+/// What a thread has still to do behind something else, by the end that this comes to.
+#[derive(Drop)]
+pub(crate) enum Left<'p, A: Allocator> {
+    /// What comes behind statements that lead on to the next one.
+    Next(Task<'p, A>),
+    /// What comes behind the body of a loop's turn, and then at most so many turns.
+    Body(u64, &'p Stmt<A>, u64),
+    /// The names behind so many go.
+    Scope(usize),
+    /// A call ends: the type of its value, and its caller's names.
+    Call(Option<Scalar>, Vec<Local<'p>, A>),
+}
+
+/// How a thread goes on after a step: with an end, with a task, or with a task and what comes behind it.
+#[derive(Drop)]
+pub(crate) enum Stepped<'p, A: Allocator> {
+    Ends(End),
+    Goes(Task<'p, A>),
+    Nests(Left<'p, A>, Task<'p, A>),
+}
+
+/// A statement that is made of others, by its parts.
+#[derive(Drop)]
+pub(crate) enum Parts<'p, A: Allocator> {
+    Block(&'p [Stmt<A>]),
+    Either(&'p Expr<A>, &'p Stmt<A>, &'p Option<Boxed<Stmt<A>, A>>),
+    Repeats(Loop<'p, A>),
+}
+
+/// The parts of a statement that is made of others.
+pub(crate) fn parts_of<'p, A: Allocator + Copy>(s: &'p Stmt<A>) -> Option<Parts<'p, A>>
+    ensures { IfSome result (λ parts. stmt_of s.now ≡ lefts.stmt_in parts) }
+{
+    match s {
+        Stmt::Block(ss) => Some(Parts::Block(ss.as_slice())),
+        Stmt::If(c, a, b) => Some(Parts::Either(c, a.get(), b)),
+        Stmt::While(c, a) => Some(Parts::Repeats(Loop::While(c, a.get()))),
+        Stmt::DoWhile(a, c) => Some(Parts::Repeats(Loop::DoWhile(a.get(), c))),
+        Stmt::For(head, a) => Some(Parts::Repeats(Loop::For(head.get(), a.get()))),
+        _ => None,
+    }
+}
+
+/// The loop that a statement is.
+fn loop_of<'p, A: Allocator + Copy>(s: &'p Stmt<A>) -> Option<Loop<'p, A>>
+    ensures { IfSome result (λ w. stmt_of s.now ≡ lefts.loop_in w) }
+{
+    match parts_of(s) {
+        Some(Parts::Repeats(which)) => Some(which),
+        _ => None,
+    }
+}
+
+/// The first of statements, and then the others.
+fn begin_apart<'p, A: Allocator>(frames: u64, ss: &'p [Stmt<A>]) -> Stepped<'p, A>
+    ensures { (source : Source A) → follow_of source result ≡ going.apart_begun (program_in source) (called source frames) (stmts_of ss.now) }
+{
+    match ss {
+        [s, rest @ ..] => Stepped::Nests(
+            Left::Next(Task::Apart(frames, rest)),
+            Task::Alone(Way::Whole, frames, s),
+        ),
+        [] => Stepped::Ends(End::Next),
+    }
+}
+
+/// One of two statements, by the condition, behind the tick.
+fn begin_either<'p, A: Allocator + Copy>(
+    source: &Source<'p, A>,
+    frames: u64,
+    c: &'p Expr<A>,
+    a: &'p Stmt<A>,
+    b: &'p Option<Boxed<Stmt<A>, A>>,
+    m: &mut Machine<'p, '_, A>,
+) -> Result<Stepped<'p, A>, Halted>
+    ensures { MeansStepped source.now result (going.either_begun (program_in source.now) (called source.now frames) (expr_of c.now) (stmt_of a.now) (option_map stmt_of b.now) (state_in m.old)) m.new }
+{
+    let v = eval(source, frames, c, m)?;
+    if !is_zero(v) {
+        return Ok(Stepped::Goes(Task::Alone(Way::Scoped, frames, a)));
+    }
+    match b {
+        Some(b) => Ok(Stepped::Goes(Task::Alone(Way::Scoped, frames, b.get()))),
+        None => Ok(Stepped::Ends(End::Next)),
+    }
+}
+
+/// A `for` behind its tick: what it begins with, and then as many turns as there are ticks.
+fn begin_for<'p, A: Allocator + Copy>(
+    source: &Source<'p, A>,
+    frames: u64,
+    start: &'p Start<A>,
+    s: &'p Stmt<A>,
+    m: &mut Machine<'p, '_, A>,
+) -> Result<Stepped<'p, A>, Halted>
+    ensures { MeansStepped source.now result (going.for_begun (program_in source.now) (called source.now frames) (start_of start.now) (going.turn_of (program_in source.now) (called source.now frames) (stmt_of s.now)) (state_in m.old)) m.new }
+{
+    let outer = m.locals.len();
+    started(source, frames, start, m)?;
+    Ok(Stepped::Nests(
+        Left::Scope(outer),
+        Task::Alone(Way::Turns(m.ticks), frames, s),
+    ))
+}
+
+/// The first step of a loop behind its tick.
+fn begin_loop<'p, A: Allocator + Copy>(
+    source: &Source<'p, A>,
+    frames: u64,
+    which: &Loop<'p, A>,
+    s: &'p Stmt<A>,
+    m: &mut Machine<'p, '_, A>,
+) -> Result<Stepped<'p, A>, Halted>
+    ensures { MeansStepped source.now result (lefts.loop_opened source.now frames (going.turn_of (program_in source.now) (called source.now frames) (stmt_of s.now)) which.now (state_in m.old)) m.new }
+{
+    match which {
+        Loop::For(head, _) => begin_for(source, frames, &head.start, s, m),
+        Loop::While(_, _) | Loop::DoWhile(_, _) => {
+            Ok(Stepped::Goes(Task::Alone(Way::Turns(m.ticks), frames, s)))
+        }
+    }
+}
+
+/// The first step of a statement that is made of others.
+pub(crate) fn open<'p, A: Allocator + Copy>(
+    source: &Source<'p, A>,
+    frames: u64,
+    s: &'p Stmt<A>,
+    parts: &Parts<'p, A>,
+    m: &mut Machine<'p, '_, A>,
+) -> Result<Stepped<'p, A>, Halted>
+    ensures { MeansStepped source.now result (lefts.opened source.now frames (stmt_of s.now) parts.now (state_in m.old)) m.new }
+{
+    tick(m)?;
+    match parts {
+        Parts::Block(ss) => Ok(Stepped::Nests(
+            Left::Scope(m.locals.len()),
+            Task::Apart(frames, ss),
+        )),
+        Parts::Either(c, a, b) => begin_either(source, frames, c, a, b, m),
+        Parts::Repeats(which) => begin_loop(source, frames, which, s, m),
+    }
+}
+
+/// Whether a turn's body is done, by the test before it.
+fn goes<'p, A: Allocator + Copy>(
+    source: &Source<'p, A>,
+    frames: u64,
+    which: &Loop<'p, A>,
+    m: &mut Machine<'p, '_, A>,
+) -> Result<bool, Halted>
+    ensures { Means result (going.test_of (program_in source.now) (called source.now frames) (lefts.loop_in which.now) (state_in m.old)) m.new }
+{
+    match which {
+        Loop::While(c, _) => {
+            let v = eval(source, frames, c, m)?;
+            Ok(!is_zero(v))
+        }
+        Loop::DoWhile(_, _) => Ok(true),
+        Loop::For(head, _) => holds(source, frames, &head.condition, m),
+    }
+}
+
+/// A loop's body.
+fn body_of<'p, A: Allocator + Copy>(which: &Loop<'p, A>) -> &'p Stmt<A>
+    ensures { result.now ≡ lefts.body_in which.now }
+{
+    match which {
+        Loop::While(_, a) => a,
+        Loop::DoWhile(a, _) => a,
+        Loop::For(_, a) => a,
+    }
+}
+
+/// The next of so many turns: its tick, its test, and then its body, behind which the others are left.
+fn begin_turns<'p, A: Allocator + Copy>(
+    source: &Source<'p, A>,
+    frames: u64,
+    s: &'p Stmt<A>,
+    turns: u64,
+    m: &mut Machine<'p, '_, A>,
+) -> Result<Stepped<'p, A>, Halted>
+    ensures { MeansStepped source.now result (going.turns_begun (program_in source.now) (called source.now frames) (stmt_of s.now) turns (state_in m.old)) m.new }
+{
+    let Some(which) = loop_of(s) else {
+        m.why = None; // never so: turns are those of a loop
+        return Err(Halted {});
+    };
+    if turns == 0 {
+        m.why = Some(Halt::Spent);
+        return Err(Halted {});
+    }
+    tick(m)?;
+    if goes(source, frames, &which, m)? {
+        Ok(Stepped::Nests(
+            Left::Body(frames, s, turns - 1),
+            Task::Alone(Way::Scoped, frames, body_of(&which)),
+        ))
+    } else {
+        Ok(Stepped::Ends(End::Next))
+    }
+}
+
+/// What follows the body of a turn where the loop goes on.
+fn behind<'p, A: Allocator + Copy>(
+    source: &Source<'p, A>,
+    frames: u64,
+    which: &Loop<'p, A>,
+    m: &mut Machine<'p, '_, A>,
+) -> Result<Option<End>, Halted>
+    ensures { MeansTurn result (going.behind_of (program_in source.now) (called source.now frames) (lefts.loop_in which.now) (state_in m.old)) m.new }
+{
+    match which {
+        Loop::While(_, _) => Ok(None),
+        Loop::DoWhile(_, c) => tested(source, frames, c, m),
+        Loop::For(head, _) => stepped(source, frames, &head.step, m),
+    }
+}
+
+/// What follows the body of a turn, by its end.
+fn after_body<'p, A: Allocator + Copy>(
+    source: &Source<'p, A>,
+    frames: u64,
+    s: &'p Stmt<A>,
+    end: End,
+    m: &mut Machine<'p, '_, A>,
+) -> Result<Option<End>, Halted>
+    ensures { MeansTurn result (meaning.after_body (going.behind_of (program_in source.now) (called source.now frames) (stmt_of s.now)) (end_of end) (state_in m.old)) m.new }
+{
+    if let Some(end) = left_by_body(end) {
+        return Ok(Some(end));
+    }
+    let Some(which) = loop_of(s) else {
+        m.why = None; // never so: turns are those of a loop
+        return Err(Halted {});
+    };
+    behind(source, frames, &which, m)
+}
+
+/// What comes behind a loop's body, by its end.
+fn leave_body<'p, A: Allocator + Copy>(
+    source: &Source<'p, A>,
+    frames: u64,
+    s: &'p Stmt<A>,
+    turns: u64,
+    end: End,
+    m: &mut Machine<'p, '_, A>,
+) -> Result<Stepped<'p, A>, Halted>
+    ensures { MeansStepped source.now result (lefts.body_step source.now frames (stmt_of s.now) turns (end_of end) (state_in m.old)) m.new }
+{
+    match after_body(source, frames, s, end, m)? {
+        Some(end) => Ok(Stepped::Ends(end)),
+        None => Ok(Stepped::Goes(Task::Alone(Way::Turns(turns), frames, s))),
+    }
+}
+
+/// A call's end.
+fn leave_call<'p, A: Allocator + Copy>(
+    alloc: A,
+    of: Option<Scalar>,
+    outer: &[Local<'p>],
+    end: End,
+    m: &mut Machine<'p, '_, A>,
+) -> Result<End, Halted>
+    ensures { MeansEnd result (call_left of (map local_in outer.now) (end_of end) (state_in m.old)) m.new }
+{
+    let Ok(mine) = copy_locals(alloc, outer) else {
+        m.why = None;
+        return Err(Halted {});
+    };
+    m.locals = mine;
+    result_of(m, of, end)?;
+    Ok(End::Next)
+}
+
+/// A statement's first step.
+fn begin_alone<'p, A: Allocator + Copy>(
+    source: &Source<'p, A>,
+    way: Way,
+    frames: u64,
+    s: &'p Stmt<A>,
+    m: &mut Machine<'p, '_, A>,
+) -> Result<Stepped<'p, A>, Halted>
+    ensures { MeansStepped source.now result (lefts.begun_by source.now way frames (stmt_of s.now) (state_in m.old)) m.new }
+{
+    match way {
+        Way::Whole => {
+            let end = stmt(source, frames, s, m)?;
+            Ok(Stepped::Ends(end))
+        }
+        Way::Scoped => Ok(Stepped::Nests(
+            Left::Scope(m.locals.len()),
+            Task::Alone(Way::Whole, frames, s),
+        )),
+        Way::Turns(turns) => begin_turns(source, frames, s, turns, m),
+    }
+}
+
+/// A task's first step.
+fn begin<'p, A: Allocator + Copy>(
+    source: &Source<'p, A>,
+    task: &Task<'p, A>,
+    m: &mut Machine<'p, '_, A>,
+) -> Result<Stepped<'p, A>, Halted>
+    ensures { MeansStepped source.now result (lefts.begun source.now task.now (state_in m.old)) m.new }
+{
+    match task {
+        Task::Apart(frames, ss) => Ok(begin_apart(*frames, ss)),
+        Task::Alone(way, frames, s) => begin_alone(source, *way, *frames, s, m),
+    }
+}
+
+/// What a thread does next, by the end of what it has done.
+pub(crate) fn step<'p, A: Allocator + Copy>(
+    source: &Source<'p, A>,
+    left: &Left<'p, A>,
+    end: End,
+    m: &mut Machine<'p, '_, A>,
+) -> Result<Stepped<'p, A>, Halted>
+    ensures { MeansStepped source.now result (lefts.step_of source.now left.now (end_of end) (state_in m.old)) m.new }
+{
+    match left {
+        Left::Next(task) => match end {
+            End::Next => begin(source, task, m),
+            end => Ok(Stepped::Ends(end)),
+        },
+        Left::Body(frames, s, turns) => leave_body(source, *frames, s, *turns, end, m),
+        Left::Scope(outer) => {
+            m.locals.truncate(*outer);
+            Ok(Stepped::Ends(end))
+        }
+        Left::Call(of, outer) => {
+            let end = leave_call(source.alloc, *of, outer.as_slice(), end, m)?;
+            Ok(Stepped::Ends(end))
+        }
+    }
+}

@@ -1,0 +1,347 @@
+//! Threads that stand somewhere, and go on from there.
+
+ghost use Rattle.std.specs.Prelude.{◌≡◌, ◌++◌, [], List, IfOk, IfSome, OnOk};
+ghost use Rattle.syntax.specs.Actions as act;
+ghost use Rattle.syntax.specs.Behaviours.{Memory};
+ghost use Rattle.syntax.specs.Threads.{first_state, worker_run};
+ghost use Rattle.meaning.specs.Outcomes.{memories_in};
+ghost use Rattle.syntax.specs.Meaning as meaning;
+ghost use Rattle.syntax.specs.Views.{stmt_of};
+ghost use Rattle.meaning.specs.declared.left.Left.TheVariants as lefts;
+ghost use Rattle.meaning.specs.declared.left.Task.TheVariants as tasks;
+ghost use Rattle.meaning.specs.declared.left.Way.TheVariants as ways;
+ghost use Rattle.meaning.specs.inner.Going.{Follow, IsStep, follows};
+ghost use Rattle.meaning.specs.inner.Left.{follow_of, left_gone_on, opened, resumed, step_of};
+ghost use Rattle.meaning.specs.inner.Machine.{Happened, end_of, halt_of, program_in, state_in};
+ghost use Rattle.meaning.specs.inner.Standing.{IsGone, IsStop, bare, rest};
+
+use crate::calls::{Begun, begin};
+use crate::left::{Left, Parts, Stepped, Task, Way, open, parts_of, step};
+use crate::machine::{Context, End, Local, Machine};
+use crate::program::Source;
+use crate::threads::start;
+use crate::transactions::{copy_locals, copy_memory};
+use lex::token::Scalar;
+use std::alloc::{AllocError, Allocator};
+use syntax::numbers::{Halt, Value};
+use syntax::tree::Stmt;
+
+/// Where a thread stands outside transactions: its ticks, its locals, and the memories that are still to be found.
+#[derive(Drop)]
+pub(crate) struct Point<'p, A: Allocator> {
+    pub ticks: u64,
+    pub locals: Vec<Local<'p>, A>,
+    pub due: Vec<Vec<u32, A>, A>,
+}
+
+/// What is left and printed.
+#[derive(Drop)]
+pub(crate) struct Shown<A: Allocator> {
+    pub lefts: Vec<Vec<u32, A>, A>,
+    pub text: Vec<u8, A>,
+}
+
+/// A thread that stands at a point: what it has still to do, the end of what it did last, and what it has shown so far.
+#[derive(Drop)]
+pub(crate) struct Thread<'p, A: Allocator> {
+    pub left: Vec<Left<'p, A>, A>,
+    pub end: End,
+    pub at: Point<'p, A>,
+    pub shown: Shown<A>,
+}
+
+/// A thread that goes no further than its point: why, if it has not come to its end, and what it has shown behind the point.
+#[derive(Drop)]
+pub(crate) struct Stop<A: Allocator> {
+    pub why: Option<Halt>,
+    pub shown: Shown<A>,
+}
+
+/// What a step comes to: how the thread goes on from which point, and what it has shown on the way; or why it goes no
+/// further.
+#[derive(Drop)]
+pub(crate) enum Gone<'p, A: Allocator> {
+    Went(Stepped<'p, A>, Point<'p, A>, Shown<A>),
+    Stopped(Halt, Shown<A>),
+}
+
+/// Copies memories.
+fn copy_memories<A: Allocator + Copy>(
+    alloc: A,
+    memories: &[Vec<u32, A>],
+) -> Result<Vec<Vec<u32, A>, A>, AllocError>
+    ensures { IfOk result (λ v. memories_in v.items ≡ memories_in memories.now) }
+{
+    let mut copies = Vec::new(alloc);
+    'memories: for memory in memories {
+        let copy = copy_memory(alloc, memory.as_slice())?;
+        copies.push(copy)?;
+    }
+    Ok(copies)
+}
+
+/// A machine at a point.
+fn machine<'p, 'f, A: Allocator + Copy>(
+    alloc: A,
+    at: &'f Point<'p, A>,
+) -> Result<Machine<'p, 'f, A>, AllocError>
+    ensures { IfOk result (λ m. state_in m ≡ bare at.now) }
+{
+    let locals = copy_locals(alloc, at.locals.as_slice())?;
+    Ok(Machine {
+        ticks: at.ticks,
+        why: None,
+        locals,
+        context: Context::Outside(at.due.as_slice(), Vec::new(alloc)),
+        text: Vec::new(alloc),
+    })
+}
+
+/// How a machine goes on that has made a step.
+fn went<'p, A: Allocator + Copy>(
+    alloc: A,
+    next: Stepped<'p, A>,
+    m: Machine<'p, '_, A>,
+) -> Result<Gone<'p, A>, AllocError>
+    ensures { (source : Source A) → IfOk result (λ g. IsGone source g (act.Gives (follow_of source next.entry) (state_in m.entry))) }
+{
+    let Machine {
+        ticks,
+        why: _,
+        locals,
+        context,
+        text,
+    } = m;
+    match context {
+        Context::Outside(founds, lefts) => {
+            let due = copy_memories(alloc, founds)?; // mostly none
+            let at = Point { ticks, locals, due };
+            Ok(Gone::Went(next, at, Shown { lefts, text }))
+        }
+        Context::Inside(_, _) => Err(AllocError), // never so: what begins outside ends outside
+    }
+}
+
+/// A machine that goes no further.
+fn stopped<'p, A: Allocator>(m: Machine<'p, '_, A>) -> Result<Gone<'p, A>, AllocError>
+    ensures { (source : Source A) → IfOk result (λ g. Happened m.entry.why × IsGone source g (act.Stops (halt_of m.entry.why) (state_in m.entry))) }
+{
+    let Machine {
+        ticks: _,
+        why,
+        locals: _locals,
+        context,
+        text,
+    } = m;
+    let Some(why) = why else {
+        return Err(AllocError);
+    };
+    match context {
+        Context::Outside(_, lefts) => Ok(Gone::Stopped(why, Shown { lefts, text })),
+        Context::Inside(_, _) => Err(AllocError), // never so: what begins outside stops outside
+    }
+}
+
+/// A step from a point.
+fn go<'p, A: Allocator + Copy>(
+    source: &Source<'p, A>,
+    left: &Left<'p, A>,
+    end: End,
+    at: &Point<'p, A>,
+) -> Result<Gone<'p, A>, AllocError>
+    ensures { IfOk result (λ g. IsGone source.now g (step_of source.now left.now (end_of end) (bare at.now))) }
+{
+    let mut m = machine(source.alloc, at)?;
+    match step(source, left, end, &mut m) {
+        Ok(next) => went(source.alloc, next, m),
+        Err(_) => stopped(m),
+    }
+}
+
+/// The first step of a statement that is made of others, from a point.
+fn go_open<'p, A: Allocator + Copy>(
+    source: &Source<'p, A>,
+    frames: u64,
+    s: &'p Stmt<A>,
+    parts: &Parts<'p, A>,
+    at: &Point<'p, A>,
+) -> Result<Gone<'p, A>, AllocError>
+    ensures { IfOk result (λ g. IsGone source.now g (opened source.now frames (stmt_of s.now) parts.now (bare at.now))) }
+{
+    let mut m = machine(source.alloc, at)?;
+    match open(source, frames, s, parts, &mut m) {
+        Ok(next) => went(source.alloc, next, m),
+        Err(_) => stopped(m),
+    }
+}
+
+/// Puts what comes next behind what is left, and gives the end with which that goes on.
+fn put<'p, A: Allocator + Copy>(
+    left: &mut Vec<Left<'p, A>, A>,
+    next: Stepped<'p, A>,
+) -> Result<End, AllocError>
+    ensures { IfOk result (λ e. (source : Source A) (s : act.State) → left_gone_on source left.new.items (end_of e) s ≡ act.go_on (follows (follow_of source next.entry) s) (left_gone_on source left.old.items)) }
+{
+    match next {
+        Stepped::Ends(end) => Ok(end),
+        Stepped::Goes(task) => {
+            left.push(Left::Next(task))?;
+            Ok(End::Next)
+        }
+        Stepped::Nests(outer, task) => {
+            left.push(outer)?;
+            left.push(Left::Next(task))?;
+            Ok(End::Next)
+        }
+    }
+}
+
+/// A thread goes on from this point, with what comes next behind what is left.
+fn arrive<'p, A: Allocator + Copy>(
+    thread: &mut Thread<'p, A>,
+    next: Stepped<'p, A>,
+    at: Point<'p, A>,
+    shown: Shown<A>,
+) -> Result<(), AllocError>
+    ensures left { (source : Source A) → OnOk result ((s : act.State) → left_gone_on source thread.new.left.items (end_of thread.new.end) s ≡ act.go_on (follows (follow_of source next.entry) s) (left_gone_on source thread.old.left.items)) }
+    ensures at { OnOk result (thread.new.at ≡ at.entry) }
+    ensures lefts { OnOk result (thread.new.shown.lefts.items ≡ thread.old.shown.lefts.items ++ shown.lefts.items) }
+    ensures text { OnOk result (thread.new.shown.text.items ≡ thread.old.shown.text.items ++ shown.text.items) }
+{
+    let mut shown = shown;
+    thread.end = put(&mut thread.left, next)?;
+    thread.at = at;
+    thread.shown.lefts.append(&mut shown.lefts)?;
+    thread.shown.text.append(&mut shown.text)
+}
+
+/// The statement that is next and wants a memory, with its frames.
+fn wanting<'p, A: Allocator + Copy>(
+    left: &Left<'p, A>,
+    end: End,
+    why: Halt,
+) -> Option<(u64, &'p Stmt<A>)>
+    ensures left { IfSome result (λ w. left.now ≡ lefts.Next (tasks.Alone ways.Whole w.0 w.1)) }
+    ensures end { IfSome result (λ w. end_of end ≡ meaning.Next) }
+{
+    match (left, end, why) {
+        (Left::Next(Task::Alone(Way::Whole, frames, s)), End::Next, Halt::Wants) => Some((
+            *frames, s,
+        )),
+        _ => None,
+    }
+}
+
+/// A step of a thread: a statement that wants a memory as a whole is done by its parts, if it has such.
+fn try_step<'p, A: Allocator + Copy>(
+    source: &Source<'p, A>,
+    left: &Left<'p, A>,
+    end: End,
+    at: &Point<'p, A>,
+) -> Result<Gone<'p, A>, AllocError>
+    ensures { IfOk result (λ g. (run : act.Action Follow) × IsStep (resumed source.now left.now) (end_of end) run × IsGone source.now g (run (bare at.now))) }
+{
+    let gone = go(source, left, end, at)?;
+    let Gone::Stopped(why, _) = &gone else {
+        return Ok(gone);
+    };
+    let Some((frames, s)) = wanting(left, end, *why) else {
+        return Ok(gone);
+    };
+    match parts_of(s) {
+        Some(parts) => {
+            let opened = go_open(source, frames, s, &parts, at)?;
+            Ok(opened)
+        }
+        None => Ok(gone),
+    }
+}
+
+/// The tick of a thread's end.
+fn at_end<A: Allocator + Copy>(alloc: A, ticks: u64) -> Stop<A>
+    ensures { (source : Source A) (thread : Thread A) → thread.at.ticks ≡ ticks → thread.left.items ≡ [] → IsStop source thread result }
+{
+    let why = if ticks == 0 { Some(Halt::Spent) } else { None };
+    let shown = Shown {
+        lefts: Vec::new(alloc),
+        text: Vec::new(alloc),
+    };
+    Stop { why, shown }
+}
+
+/// One step of a thread, or why it goes no further.
+fn advance<'p, A: Allocator + Copy>(
+    source: &Source<'p, A>,
+    thread: &mut Thread<'p, A>,
+) -> Result<Option<Stop<A>>, AllocError>
+    ensures same { OnOk result ((founds : List Memory) → rest source.now thread.new founds ≡ rest source.now thread.old founds) }
+    ensures stops { IfOk result (λ o. IfSome o (λ s. IsStop source.now thread.new s)) }
+{
+    let Some(left) = thread.left.pop() else {
+        return Ok(Some(at_end(source.alloc, thread.at.ticks)));
+    };
+    match try_step(source, &left, thread.end, &thread.at)? {
+        Gone::Went(next, at, shown) => {
+            arrive(thread, next, at, shown)?;
+            Ok(None)
+        }
+        Gone::Stopped(why, shown) => {
+            thread.left.push(left)?;
+            Ok(Some(Stop {
+                why: Some(why),
+                shown,
+            }))
+        }
+    }
+}
+
+/// A thread goes on to where it goes no further.
+pub(crate) fn run<'p, A: Allocator + Copy>(
+    source: &Source<'p, A>,
+    thread: &mut Thread<'p, A>,
+) -> Result<Stop<A>, AllocError>
+    ensures same { OnOk result ((founds : List Memory) → rest source.now thread.new founds ≡ rest source.now thread.old founds) }
+    ensures stops { IfOk result (λ s. IsStop source.now thread.new s) }
+{
+    // each step takes a tick or ends a piece, so there are never so many; only the prover wants an end
+    'steps: for _ in 0..u64::MAX {
+        if let Some(stop) = advance(source, thread)? {
+            return Ok(stop);
+        }
+    }
+    Err(AllocError)
+}
+
+/// A thread before its first tick.
+pub(crate) fn stand<'p, A: Allocator + Copy>(
+    source: &Source<'p, A>,
+    ticks: u64,
+    t: u32,
+) -> Result<Thread<'p, A>, AllocError>
+    ensures { IfOk result (λ th. (founds : List Memory) → rest source.now th founds ≡ worker_run (program_in source.now) t (first_state founds ticks)) }
+{
+    let values = [Value {
+        of: Scalar::Unsigned,
+        word: u64::from(t),
+    }];
+    let mut m = start(source.alloc, &[], ticks);
+    let Ok(Begun { of, body, mine }) = begin(source, "worker", &values, &mut m) else {
+        return Err(AllocError);
+    };
+    let mut left = Vec::new(source.alloc);
+    left.push(Left::Call(of, Vec::new(source.alloc)))?;
+    left.push(Left::Next(Task::Apart(63, body)))?;
+    Ok(Thread {
+        left,
+        end: End::Next,
+        at: Point {
+            ticks,
+            locals: mine,
+            due: Vec::new(source.alloc),
+        },
+        shown: Shown {
+            lefts: Vec::new(source.alloc),
+            text: Vec::new(source.alloc),
+        },
+    })
+}
