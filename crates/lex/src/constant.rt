@@ -100,7 +100,7 @@ fn digit_value(b: u8) -> u64
 }
 
 /// The digits' number, where it is below 2^32.
-fn number(base: Base, digits: &[u8]) -> Option<u32>
+fn number(base: Base, digits: &[u8]) -> Option<u64>
     requires { bytes.Only (spec.is_digit_of base) digits.now }
     ensures { GivesNumber result (spec.value_from (spec.radix base) 0 digits.now) }
 {
@@ -111,7 +111,7 @@ fn number(base: Base, digits: &[u8]) -> Option<u32>
             return None;
         }
     }
-    Some(n as u32)
+    Some(n)
 }
 
 /// Whether the base is ten.
@@ -125,12 +125,12 @@ fn is_decimal(base: Base) -> bool
 }
 
 /// The type of a constant of this value.
-fn type_of(is_decimal: bool, is_suffixed: bool, value: u32) -> Option<Scalar>
+fn type_of(is_decimal: bool, is_suffixed: bool, value: u64) -> Option<Scalar>
     ensures { result ≡ spec.type_of is_decimal is_suffixed value }
 {
     if !is_suffixed && value < 0x8000_0000 {
         Some(Scalar::Int)
-    } else if is_suffixed || !is_decimal {
+    } else if (is_suffixed || !is_decimal) && value < 0x1_0000_0000 {
         Some(Scalar::Unsigned)
     } else {
         None
@@ -138,7 +138,7 @@ fn type_of(is_decimal: bool, is_suffixed: bool, value: u32) -> Option<Scalar>
 }
 
 /// The value and the type of these digits, where there is a type that holds it.
-fn typed(base: Base, is_suffixed: bool, digits: &[u8]) -> Option<(u32, Scalar)>
+fn typed(base: Base, is_suffixed: bool, digits: &[u8]) -> Option<(u64, Scalar)>
     requires { bytes.Only (spec.is_digit_of base) digits.now }
     ensures { GivesTyped result base is_suffixed (spec.value_from (spec.radix base) 0 digits.now) }
 {

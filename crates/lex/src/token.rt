@@ -107,7 +107,7 @@ pub enum Fixed {
 pub enum Kind<'a> {
     Name(&'a str),
     /// A whole number, by its value and its type.
-    Constant(u32, Scalar),
+    Constant(u64, Scalar),
     /// A string literal, as it is written between its quotes: an escape stands as its two characters (C11 6.4.5).
     StringLiteral(&'a str),
     Keyword(Keyword),

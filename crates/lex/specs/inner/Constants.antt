@@ -34,7 +34,7 @@ abbrev pub constant_len : List ℕ → ℕ
 constant_len rest =
     before_len (base_at rest) + digits_len rest + suffix_len (drop (before_len (base_at rest) + digits_len rest) rest)
 
--- a number that a `u32` holds, or none where it is larger
+-- a number below 2^32, or none where it is larger
 abbrev pub GivesNumber : Option ℕ → ℕ → Type 0
 GivesNumber (Some n) v = n ≡ v
 GivesNumber None v = 2 ^ 32 ≤ v
