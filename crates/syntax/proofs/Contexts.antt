@@ -103,7 +103,7 @@ stays_kept = record {
   locals_holds = record { stays = λ s. stays_refl s.context };
   put_locals_holds = λ ls. record { stays = λ s. stays_refl s.context };
   load_holds = λ c. record { stays = λ s. load_given s.context c s };
-  store_holds = λ c w below. record { stays = λ s. store_given s.ticks s.locals s.context s.text c w };
+  store_holds = λ c w t cell below. record { stays = λ s. store_given s.ticks s.locals s.context s.text c w };
   may_print_holds = record { stays = λ s. may_print_given s.context s };
   print_piece_holds = λ text shown. record { stays = λ s. on_given s.context (tick s) (λ _. write text) (spend_given s.ticks s) (λ _ u. stays_refl u.context) };
   loop_holds = λ h. record { stays = λ s. turns_given _ h s.ticks s };

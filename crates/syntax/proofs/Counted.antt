@@ -14,7 +14,7 @@ use Rattle.syntax.specs.Actions.{lefts_in}
 use Rattle.syntax.specs.Behaviours.{Stopped}
 use Rattle.syntax.specs.Laws.{IsPieceOf, LeftAsManyAsFound, NeverMoreLeft}
 use Rattle.syntax.specs.Threads.{outcome_of, first_state, worker_run}
-use Rattle.syntax.proofs.Kept.{IsKept, worker_holds}
+use Rattle.syntax.proofs.Kept.{IsKept, any_cells, worker_holds}
 
 -- memories to be found and memories left are as many as before
 abbrev Keeps : Context → Context → Type 0
@@ -141,7 +141,7 @@ begin_counted : (p : Context) (s : State) → Counted s.context (begin_at p s)
 begin_counted (Outside f l) s = spend_counted s.ticks s
 begin_counted (Inside mode m) s = keeps_refl s.context
 
-counted_kept : (IsPiece : List ℕ → Type 0) → IsKept IsPiece (λ A run. IsCounted run)
+counted_kept : (IsPiece : List ℕ → Type 0) → IsKept IsPiece (λ c t. Unit {0}) (λ A run. IsCounted run)
 counted_kept IsPiece = record {
   pure_holds = λ a. record { counts = λ s. keeps_refl s.context };
   on_holds = λ g h. record { counts = λ s. on_counted s.context _ _ (g.counts s) (λ a t. (h a).counts t) };
@@ -151,7 +151,7 @@ counted_kept IsPiece = record {
   locals_holds = record { counts = λ s. keeps_refl s.context };
   put_locals_holds = λ ls. record { counts = λ s. keeps_refl s.context };
   load_holds = λ c. record { counts = λ s. load_counted s.context c s };
-  store_holds = λ c w below. record { counts = λ s. store_counted s.ticks s.locals s.context s.text c w };
+  store_holds = λ c w t cell below. record { counts = λ s. store_counted s.ticks s.locals s.context s.text c w };
   may_print_holds = record { counts = λ s. may_print_counted s.context s };
   print_piece_holds = λ text shown. record { counts = λ s. on_counted s.context (tick s) (λ _. write text) (spend_counted s.ticks s) (λ _ u. keeps_refl u.context) };
   loop_holds = λ h. record { counts = λ s. turns_counted _ h s.ticks s };
@@ -187,7 +187,7 @@ answer_bounded founds (Stops Astray s) c = lefts_bounded founds s.context c
 answer_bounded founds (Stops Wants s) c = lefts_wanting founds s.context c
 
 worker_counted : (p : Program) (t : ℕ) (founds : List Memory) (n : ℕ) → Counted (Outside founds []) (worker_run p t (first_state founds n))
-worker_counted p t founds n = (worker_holds p (λ A run. IsCounted run) (counted_kept (IsPieceOf p)) t).counts (first_state founds n)
+worker_counted p t founds n = (worker_holds p (λ c t. Unit {0}) (any_cells p) (λ A run. IsCounted run) (counted_kept (IsPieceOf p)) t).counts (first_state founds n)
 
 pub left_as_many_as_found : LeftAsManyAsFound
 left_as_many_as_found p t founds n e = wants_counted founds (worker_run p t (first_state founds n)) (worker_counted p t founds n) e

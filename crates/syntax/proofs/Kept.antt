@@ -1,8 +1,8 @@
 -- A property of runs that the words of runs keep holds of all that a program does.
-use Rattle.std.specs.Prelude.{if◌then◌else◌, Contains, ℤ}
+use Rattle.std.specs.Prelude.{if◌then◌else◌, nat_lt, Contains, ℤ}
 use Rattle.std.specs.Fmt.{signed_decimal}
 use Rattle.std.proofs.lemmas.List.Elements.{Contains-append_left, Contains-append_right}
-use Rattle.std.proofs.Common.{◌≡◌, refl, inl, inr, arith, length, ℕ, ◌<◌, ◌^◌, zero, suc, List, [], ◌∷◌, ◌++◌, Option, Some, None, Bool, true, false, Result, Ok, Err}
+use Rattle.std.proofs.Common.{◌≡◌, refl, inl, inr, arith, length, ℕ, ◌+◌, ◌<◌, subst, zero, suc, List, [], ◌∷◌, ◌++◌, Option, Some, None, Bool, true, false, Result, Ok, Err}
 use Rattle.lex.specs.declared.token.Scalar.{Scalar}
 use Rattle.syntax.specs.declared.tree.BinaryOp.{BinaryOp}
 use Rattle.syntax.specs.declared.tree.LogicalOp.TheVariants.{AndThen, OrElse}
@@ -13,18 +13,18 @@ use Rattle.syntax.specs.declared.tree.Kind.TheVariants.{Plain}
 use Rattle.syntax.specs.Tree as Tree
 use Rattle.syntax.specs.Tree.{Expr, Exprs, Variable, Constant, Element, Call, Parenthesized, Cast, Unary, Binary, Logical, Conditional, InTransaction, Simple, Evaluate, Assign, Adjust, Declarator, Start, Nothing, Declares, Does, Stmt, Stmts, Empty, Declare, Do, Block, Print, If, IfElse, While, DoWhile, For, Break, Continue, Return, Transaction, Cancel, CancelOuter, Program}
 use Rattle.syntax.specs.declared.numbers.Value.{Value}
-use Rattle.syntax.specs.Numbers.{number, number_of}
-use Rattle.syntax.specs.Names.{Local, newest, global_of, definition_of}
-use Rattle.syntax.specs.declared.numbers.Halt.TheVariants.{Astray}
-use Rattle.syntax.specs.Actions.{Action, pure, stop, ◌>>=◌, ◌>>◌, tick, trap, or_trap, or_astray, locals, put_locals, load, store, may_print, print_piece}
+use Rattle.syntax.specs.Numbers.{modulus, number, number_of}
+use Rattle.syntax.specs.Names.{Local, newest, GlobalCells, cells, global_of, definition_of}
+use Rattle.syntax.specs.declared.numbers.Halt.TheVariants.{Trapped, Astray}
+use Rattle.syntax.specs.Actions.{State, spend, Answer, Gives, Stops, go_on, Action, pure, stop, ◌>>=◌, ◌>>◌, tick, trap, or_trap, or_astray, locals, put_locals, load, store, may_print, print_piece}
 use Rattle.syntax.specs.Formats.{Piece, Literal, Figure, pieces, formats_in, formats_among, IsFormatOf}
 use Rattle.syntax.specs.Laws.{IsPieceOf}
 use Rattle.syntax.specs.Meaning.{Spot, InLocal, InCell, fetch, assign, print_pieces, End, Next, Breaks, Continues, Returns, Cancels, CancelsOuter, on_next, scoped, loop, after_body, transaction, begin_value, value_at, op_of, int_one, Caller, spot_from, named, element, expr, exprs, spot, changed, assigned, simple, first_value, declare, start_with, holds, stepped, return_value, stmt, stmts, entered, result_of, invoke, calls}
 use Rattle.syntax.proofs.Words.{word_below}
 use Rattle.syntax.specs.Threads.{worker_run}
 
--- a property that each word of runs keeps, where only such pieces are printed
-pub record IsKept (IsPiece : List ℕ → Type 0) (Q : (A : Type 0) → Action A → Type 0) : Type 1 where
+-- a property that each word of runs keeps, where only such pieces are printed, and only words of a cell's type are stored
+pub record IsKept (IsPiece : List ℕ → Type 0) (IsCell : ℕ → Scalar → Type 0) (Q : (A : Type 0) → Action A → Type 0) : Type 1 where
   pub pure_holds : {A : Type 0} (a : A) → Q A (pure a)
   pub on_holds : {A B : Type 0} {run : Action A} {rest : A → Action B} → Q A run → ((a : A) → Q B (rest a)) → Q B (run >>= rest)
   pub astray_holds : {A : Type 0} → Q A (stop Astray)
@@ -33,7 +33,7 @@ pub record IsKept (IsPiece : List ℕ → Type 0) (Q : (A : Type 0) → Action A
   pub locals_holds : Q (List Local) locals
   pub put_locals_holds : (ls : List Local) → Q (Unit {0}) (put_locals ls)
   pub load_holds : (c : ℕ) → Q ℕ (load c)
-  pub store_holds : (c w : ℕ) → w < 2 ^ 32 → Q (Unit {0}) (store c w)
+  pub store_holds : (c w : ℕ) (t : Scalar) → IsCell c t → w < modulus t → Q (Unit {0}) (store c w)
   pub may_print_holds : Q (Unit {0}) may_print
   pub print_piece_holds : (text : List ℕ) → IsPiece text → Q (Unit {0}) (print_piece text)
   pub loop_holds : {turn : Action (Option End)} → Q (Option End) turn → Q End (loop turn)
@@ -46,8 +46,29 @@ contains_first x xs = (0, omega arith, refl)
 contains_later : {X : Type 0} (x : X) (xs : List X) (y : X) → Contains xs y → Contains (x ∷ xs) y
 contains_later x xs y c = (suc c.0, omega (arith, c.1), c.2)
 
+-- runs group to the right
+on_assoc : {A B C : Type 0} (run : Action A) (f : A → Action B) (g : B → Action C) → run >>= (λ a. f a >>= g) ≡ (run >>= f) >>= g
+on_assoc {A} run f g = λ i s. go (run s) i
+  where
+    go : (r : Answer A) → go_on r (λ a. f a >>= g) ≡ go_on (go_on r f) g
+    go (Gives a s) = refl
+    go (Stops why s) = refl
+
+-- nothing follows a trap
+trap_stops : {A B : Type 0} (k : Trap) (rest : A → Action B) → trap k ≡ trap k >>= rest
+trap_stops {A} {B} k rest = λ i s. go s s.ticks i
+  where
+    go : (s : State) (n : ℕ) → go_on (spend n s) (λ _. stop (Trapped k)) ≡ go_on (go_on (spend n s) (λ _. stop (Trapped k))) rest
+    go s zero = refl
+    go s (suc n) = refl
+
+-- the cells that names stand for are of the globals' types
+pub record AreCells (p : Program) (IsCell : ℕ → Scalar → Type 0) : Type 0 where
+  pub first : (x : List ℕ) (g : GlobalCells) → global_of p x ≡ Some g → IsCell g.cell g.global.of
+  pub each : (x : List ℕ) (g : GlobalCells) (k : ℕ) → global_of p x ≡ Some g → nat_lt k (cells g.global) ≡ true → IsCell (g.cell + k) g.global.of
+
 -- numbers are such pieces, and so is the literal text of the program's formats
-module _ (p : Program) (IsPiece : List ℕ → Type 0) (number_piece : (z : ℤ) → IsPiece (signed_decimal z)) (literal_piece : (format : List ℕ) → IsFormatOf p format → (text : List ℕ) → Contains (pieces format) (Literal text) → IsPiece text) (Q : (A : Type 0) → Action A → Type 0) (kept : IsKept IsPiece Q) where
+module _ (p : Program) (IsPiece : List ℕ → Type 0) (IsCell : ℕ → Scalar → Type 0) (cells_are : AreCells p IsCell) (number_piece : (z : ℤ) → IsPiece (signed_decimal z)) (literal_piece : (format : List ℕ) → IsFormatOf p format → (text : List ℕ) → Contains (pieces format) (Literal text) → IsPiece text) (Q : (A : Type 0) → Action A → Type 0) (kept : IsKept IsPiece IsCell Q) where
   open kept use {pure_holds, on_holds, astray_holds, trap_holds, tick_holds, locals_holds, put_locals_holds, load_holds, store_holds, may_print_holds, print_piece_holds, loop_holds, transaction_holds, begin_value_holds}
 
   then_holds : {A B : Type 0} {run : Action A} {rest : Action B} → Q A run → Q B rest → Q B (run >> rest)
@@ -69,9 +90,14 @@ module _ (p : Program) (IsPiece : List ℕ → Type 0) (number_piece : (z : ℤ)
   fetch_holds (InLocal i t) = on_holds locals_holds (λ mine. pure_holds _)
   fetch_holds (InCell c t) = on_holds (load_holds c) (λ w. pure_holds _)
 
-  assign_holds : (at : Spot) (v : Value) → Q _ (assign at v)
-  assign_holds (InLocal i t) v = on_holds locals_holds (λ mine. put_locals_holds _)
-  assign_holds (InCell c t) v = store_holds c _ (word_below (number_of v))
+  -- a cell of the type that is written there
+  abbrev IsSpot : Spot → Type 0
+  IsSpot (InLocal i t) = Unit {0}
+  IsSpot (InCell c t) = IsCell c t
+
+  assign_holds : (at : Spot) → IsSpot at → (v : Value) → Q _ (assign at v)
+  assign_holds (InLocal i t) f v = on_holds locals_holds (λ mine. put_locals_holds _)
+  assign_holds (InCell c t) f v = store_holds c _ t f (word_below t (number_of v))
 
   -- what is there may be said to be there
   found_holds : {A B : Type 0} (o : Option A) {rest : A → Action B} → ((a : A) → o ≡ Some a → Q B (rest a)) → Q B (or_astray o >>= rest)
@@ -152,30 +178,53 @@ module _ (p : Program) (IsPiece : List ℕ → Type 0) (number_piece : (z : ℤ)
       exprs_holds Tree.[] = pure_holds []
       exprs_holds (Tree.◌∷◌ e es) = on_holds (expr_holds e) (λ v. on_holds (exprs_holds es) (λ vs. pure_holds _))
 
-    spot_holds : (e : Expr) → Q _ (spot p call e)
-    spot_holds (Variable x) = named_holds x.text
-    spot_holds (Element x i at) = on_holds (expr_holds i) (λ k. element_holds x.text k)
-    spot_holds e = astray_holds
+    -- what follows where a spot is found
+    abbrev Follows : {B : Type 0} → (Spot → Action B) → Type 0
+    Follows {B} rest = (at : Spot) → IsSpot at → Q B (rest at)
 
-    changed_holds : (at : Spot) {by : Action Value} → Q _ by → (op : BinaryOp) → Q _ (changed p call at by op)
-    changed_holds at g op = on_holds (fetch_holds at) (λ old. on_holds g (λ v. on_holds (or_trap_holds _) (λ new. assign_holds at new)))
+    global_then : {B : Type 0} (x : List ℕ) (rest : Spot → Action B) → Follows rest → (o : Option GlobalCells) → global_of p x ≡ o → Q B ((or_astray o >>= λ g. pure (InCell g.cell g.global.of)) >>= rest)
+    global_then x rest h (Some g) e = h (InCell g.cell g.global.of) (cells_are.first x g e)
+    global_then x rest h None e = astray_holds
 
-    assigned_holds : (at : Spot) {by : Action Value} → Q _ by → (op : Option BinaryOp) → Q _ (assigned p call at by op)
-    assigned_holds at g None = on_holds g (λ v. assign_holds at v)
-    assigned_holds at g (Some op) = changed_holds at g op
+    spot_from_then : {B : Type 0} (x : List ℕ) (rest : Spot → Action B) → Follows rest → (o : Option (ℕ × Scalar)) → Q B (spot_from p call x o >>= rest)
+    spot_from_then x rest h (Some l) = h (InLocal l.0 l.1) tt
+    spot_from_then x rest h None = global_then x rest h (global_of p x) refl
+
+    named_then : {B : Type 0} (x : List ℕ) (rest : Spot → Action B) → Follows rest → Q B (named p call x >>= rest)
+    named_then x rest h = subst (Q _) (on_assoc locals (λ mine. spot_from p call x (newest mine x)) rest) (on_holds locals_holds (λ mine. spot_from_then x rest h (newest mine x)))
+
+    element_if : {B : Type 0} (x : List ℕ) (k : Value) (rest : Spot → Action B) → Follows rest → (g : GlobalCells) → global_of p x ≡ Some g → (b : Bool) → nat_lt k.word (cells g.global) ≡ b → Q B ((if b then pure (InCell (g.cell + k.word) g.global.of) else trap Index) >>= rest)
+    element_if x k rest h g e true lt = h (InCell (g.cell + k.word) g.global.of) (cells_are.each x g k.word e lt)
+    element_if x k rest h g e false lt = subst (Q _) (trap_stops Index rest) (trap_holds Index)
+
+    element_then : {B : Type 0} (x : List ℕ) (k : Value) (rest : Spot → Action B) → Follows rest → (o : Option GlobalCells) → global_of p x ≡ o → Q B ((or_astray o >>= λ g. if nat_lt k.word (cells g.global) then pure (InCell (g.cell + k.word) g.global.of) else trap Index) >>= rest)
+    element_then x k rest h (Some g) e = element_if x k rest h g e (nat_lt k.word (cells g.global)) refl
+    element_then x k rest h None e = astray_holds
+
+    spot_then : {B : Type 0} (e : Expr) (rest : Spot → Action B) → Follows rest → Q B (spot p call e >>= rest)
+    spot_then (Variable x) rest h = named_then x.text rest h
+    spot_then (Element x i at) rest h = subst (Q _) (on_assoc (expr p call i) (λ k. element p call x.text k) rest) (on_holds (expr_holds i) (λ k. element_then x.text k rest h (global_of p x.text) refl))
+    spot_then e rest h = astray_holds
+
+    changed_holds : (at : Spot) → IsSpot at → {by : Action Value} → Q _ by → (op : BinaryOp) → Q _ (changed p call at by op)
+    changed_holds at f g op = on_holds (fetch_holds at) (λ old. on_holds g (λ v. on_holds (or_trap_holds _) (λ new. assign_holds at f new)))
+
+    assigned_holds : (at : Spot) → IsSpot at → {by : Action Value} → Q _ by → (op : Option BinaryOp) → Q _ (assigned p call at by op)
+    assigned_holds at f g None = on_holds g (λ v. assign_holds at f v)
+    assigned_holds at f g (Some op) = changed_holds at f g op
 
     pub simple_holds : (s : Simple) → Q _ (simple p call s)
     simple_holds (Evaluate e) = then_holds (expr_holds e) (pure_holds Next)
-    simple_holds (Assign to op e) = on_holds (spot_holds to) (λ at. then_holds (assigned_holds at (expr_holds e) op) (pure_holds Next))
-    simple_holds (Adjust to by) = on_holds (spot_holds to) (λ at. then_holds (changed_holds at (pure_holds int_one) (op_of by)) (pure_holds Next))
+    simple_holds (Assign to op e) = spot_then to _ (λ at f. then_holds (assigned_holds at f (expr_holds e) op) (pure_holds Next))
+    simple_holds (Adjust to by) = spot_then to _ (λ at f. then_holds (changed_holds at f (pure_holds int_one) (op_of by)) (pure_holds Next))
 
-    first_value_holds : (at : Spot) (o : Option Expr) → Q _ (first_value p call at o)
-    first_value_holds at None = pure_holds tt
-    first_value_holds at (Some e) = on_holds (expr_holds e) (λ v. assign_holds at v)
+    first_value_holds : (at : Spot) → IsSpot at → (o : Option Expr) → Q _ (first_value p call at o)
+    first_value_holds at f None = pure_holds tt
+    first_value_holds at f (Some e) = on_holds (expr_holds e) (λ v. assign_holds at f v)
 
     declare_holds : (t : Scalar) (ds : List Declarator) → Q _ (declare p call t ds)
     declare_holds t [] = pure_holds Next
-    declare_holds t (d ∷ ds) = on_holds locals_holds (λ mine. then_holds (put_locals_holds (mine ++ record { name = d.name.text; of = t; word = 0 } ∷ [])) (then_holds (first_value_holds (InLocal (length mine) t) d.first) (declare_holds t ds)))
+    declare_holds t (d ∷ ds) = on_holds locals_holds (λ mine. then_holds (put_locals_holds (mine ++ record { name = d.name.text; of = t; word = 0 } ∷ [])) (then_holds (first_value_holds (InLocal (length mine) t) tt d.first) (declare_holds t ds)))
 
     start_with_holds : (s : Start) → Q _ (start_with p call s)
     start_with_holds Nothing = pure_holds Next
@@ -236,33 +285,36 @@ module _ (p : Program) (IsPiece : List ℕ → Type 0) (number_piece : (z : ℤ)
   any_worker_holds t = then_holds (invoke_holds (calls p 63) (calls_holds 63) _ _) tick_holds
 
 -- where only pieces of the program are printed
-pub worker_holds : (p : Program) (Q : (A : Type 0) → Action A → Type 0) → IsKept (IsPieceOf p) Q → (t : ℕ) → Q _ (worker_run p t)
-worker_holds p Q kept t = any_worker_holds p (IsPieceOf p) (λ z. inr (z, refl)) (λ format is text c. inl (format, is, c)) Q kept t
+pub worker_holds : (p : Program) (IsCell : ℕ → Scalar → Type 0) → AreCells p IsCell → (Q : (A : Type 0) → Action A → Type 0) → IsKept (IsPieceOf p) IsCell Q → (t : ℕ) → Q _ (worker_run p t)
+worker_holds p IsCell are Q kept t = any_worker_holds p (IsPieceOf p) IsCell are (λ z. inr (z, refl)) (λ format is text c. inl (format, is, c)) Q kept t
 
 -- whatever is printed
 abbrev pub IsAlwaysKept : ((A : Type 0) → Action A → Type 0) → Type 1
-IsAlwaysKept Q = IsKept (λ text. Unit {0}) Q
+IsAlwaysKept Q = IsKept (λ text. Unit {0}) (λ c t. Unit {0}) Q
+
+pub any_cells : (p : Program) → AreCells p (λ c t. Unit {0})
+any_cells p = record { first = λ x g e. tt; each = λ x g k e h. tt }
 
 module _ (p : Program) (Q : (A : Type 0) → Action A → Type 0) (kept : IsAlwaysKept Q) where
   pub block_holds : (call : Caller) → ((x : List ℕ) (vs : List Value) → Q Value (call x vs)) → (ss : Stmts) → Q End (scoped (stmts p call ss))
   block_holds call h ss =
-      scoped_holds p (λ text. Unit {0}) (λ z. tt) (λ format is text c. tt) Q kept
-      (stmts_holds p (λ text. Unit {0}) (λ z. tt) (λ format is text c. tt) Q kept call h ss (λ format c text d. tt))
+      scoped_holds p (λ text. Unit {0}) (λ c t. Unit {0}) (any_cells p) (λ z. tt) (λ format is text c. tt) Q kept
+      (stmts_holds p (λ text. Unit {0}) (λ c t. Unit {0}) (any_cells p) (λ z. tt) (λ format is text c. tt) Q kept call h ss (λ format c text d. tt))
 
   -- an expression, as the body of a transaction
   pub returned_holds : (call : Caller) → ((x : List ℕ) (vs : List Value) → Q Value (call x vs)) → (e : Expr) → Q End (expr p call e >>= λ v. pure (Returns v))
   returned_holds call h e =
-      kept.on_holds (expr_holds p (λ text. Unit {0}) (λ z. tt) (λ format is text c. tt) Q kept call h e) (λ v. kept.pure_holds (Returns v))
+      kept.on_holds (expr_holds p (λ text. Unit {0}) (λ c t. Unit {0}) (any_cells p) (λ z. tt) (λ format is text c. tt) Q kept call h e) (λ v. kept.pure_holds (Returns v))
 
 module _ (p : Program) (Q : (A : Type 0) → Action A → Type 0) (kept : IsAlwaysKept Q) (frames : ℕ) where
   pub called_holds : (x : List ℕ) (vs : List Value) → Q Value (calls p frames x vs)
-  called_holds = calls_holds p (λ text. Unit {0}) (λ z. tt) (λ format is text c. tt) Q kept frames
+  called_holds = calls_holds p (λ text. Unit {0}) (λ c t. Unit {0}) (any_cells p) (λ z. tt) (λ format is text c. tt) Q kept frames
 
   pub each_expr_holds : (e : Expr) → Q Value (expr p (calls p frames) e)
-  each_expr_holds = expr_holds p (λ text. Unit {0}) (λ z. tt) (λ format is text c. tt) Q kept (calls p frames) called_holds
+  each_expr_holds = expr_holds p (λ text. Unit {0}) (λ c t. Unit {0}) (any_cells p) (λ z. tt) (λ format is text c. tt) Q kept (calls p frames) called_holds
 
   pub each_simple_holds : (s : Simple) → Q End (simple p (calls p frames) s)
-  each_simple_holds = simple_holds p (λ text. Unit {0}) (λ z. tt) (λ format is text c. tt) Q kept (calls p frames) called_holds
+  each_simple_holds = simple_holds p (λ text. Unit {0}) (λ c t. Unit {0}) (any_cells p) (λ z. tt) (λ format is text c. tt) Q kept (calls p frames) called_holds
 
   pub each_stmt_holds : (st : Stmt) → Q End (stmt p (calls p frames) st)
-  each_stmt_holds st = stmt_holds p (λ text. Unit {0}) (λ z. tt) (λ format is text c. tt) Q kept (calls p frames) called_holds st (λ format c text d. tt)
+  each_stmt_holds st = stmt_holds p (λ text. Unit {0}) (λ c t. Unit {0}) (any_cells p) (λ z. tt) (λ format is text c. tt) Q kept (calls p frames) called_holds st (λ format c text d. tt)

@@ -1,8 +1,6 @@
 mod Contexts
-mod Expressions
 mod Further
 mod MeaningSteady
-mod Memories
 mod OneTick
 mod OrderRows
 mod OrderRuns
@@ -21,9 +19,11 @@ pub mod Demands
 pub mod Depths
 pub mod Ends
 pub mod ExactLocals
+pub mod Expressions
 pub mod Fits
 pub mod Kept
 pub mod Loops
+pub mod Memories
 pub mod MoreFounds
 pub mod MoreRows
 pub mod OlderLocals

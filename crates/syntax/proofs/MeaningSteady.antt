@@ -14,7 +14,7 @@ use Rattle.syntax.specs.Meaning.{End, after_turn, turns, loop, Left, undoes, lef
 use Rattle.syntax.specs.Threads.{worker_run}
 use Rattle.syntax.proofs.Further.{state_of, added, with_founds, with_more, Follows, Grown, Extends, IsSteady}
 use Rattle.syntax.specs.Laws.{IsPieceOf}
-use Rattle.syntax.proofs.Kept.{IsKept, worker_holds}
+use Rattle.syntax.proofs.Kept.{IsKept, any_cells, worker_holds}
 use Rattle.syntax.proofs.Steady.{still, grown_trans, more_grown, on_grown, on_extends, on_steady, pure_steady, astray_steady, tick_steady, locals_steady, put_locals_steady, load_steady, store_steady, may_print_steady, trap_steady, print_piece_steady}
 
 after_turn_grows : (rest : Action End) → ((s : State) → Grown s (state_of (rest s))) → (o : Option End) (s : State) → Grown s (state_of (after_turn rest o s))
@@ -183,7 +183,7 @@ begin_extends k extra (Inside mode m) s = refl
 begin_value_steady : IsSteady begin_value
 begin_value_steady = record { grows = λ s. begin_grows s.context s; extends = λ k extra s. begin_extends k extra s.context s }
 
-steady_kept : (p : Program) → IsKept (IsPieceOf p) (λ A run. IsSteady run)
+steady_kept : (p : Program) → IsKept (IsPieceOf p) (λ c t. Unit {0}) (λ A run. IsSteady run)
 steady_kept p = record {
   pure_holds = pure_steady;
   on_holds = on_steady;
@@ -193,7 +193,7 @@ steady_kept p = record {
   locals_holds = locals_steady;
   put_locals_holds = put_locals_steady;
   load_holds = load_steady;
-  store_holds = λ c w below. store_steady c w;
+  store_holds = λ c w t cell below. store_steady c w;
   may_print_holds = may_print_steady;
   print_piece_holds = λ text shown. print_piece_steady text;
   loop_holds = loop_steady;
@@ -202,4 +202,4 @@ steady_kept p = record {
 }
 
 pub worker_steady : (p : Program) (t : ℕ) → IsSteady (worker_run p t)
-worker_steady p t = worker_holds p (λ A run. IsSteady run) (steady_kept p) t
+worker_steady p t = worker_holds p (λ c t. Unit {0}) (any_cells p) (λ A run. IsSteady run) (steady_kept p) t

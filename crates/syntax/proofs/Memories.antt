@@ -1,6 +1,14 @@
 -- A thread that finds memories of its program leaves memories of its program.
-use Rattle.std.proofs.Common.{ℕ, zero, suc, ◌<◌, ◌^◌, List, [], ◌∷◌, ◌++◌, Option, Some, None, Bool, true, false}
-use Rattle.std.specs.Prelude.{All, length, replicate, slice_set}
+use Rattle.std.proofs.Common.{◌≡◌, ℕ, zero, suc, ◌+◌, ◌<◌, Bool, true, false, leb-true, ap, sym, ◌∙◌, subst, arith, List, [], ◌∷◌, ◌++◌, Option, Some, None}
+use Rattle.std.specs.Prelude.{All, slice_index, slice_set, drop, bytes_eq, codes, nat_le, option_map, unwrap_or, ◌&&◌, if◌then◌else◌}
+use Rattle.std.proofs.lemmas.Bool.Decides.{nat_tests}
+use Rattle.syntax.specs.Tree.{Span, Scalar, Global, Item, Defines, Shares}
+use Rattle.syntax.specs.Numbers.{modulus}
+use Rattle.syntax.specs.Typing.{is_unknown, is_worker, all_cells, demand, IsLength, HaveCells, AreTypedGlobals, IsTypedItem, AreTypedItems, AreDefined, IsTypedProgram}
+use Rattle.syntax.specs.Types.{file_scope}
+use Rattle.syntax.proofs.Demands.{AreMet, met_before, met_behind, is_met}
+use Rattle.syntax.proofs.ValueTypes.{rest_met, both_true}
+use Rattle.syntax.proofs.Words.{cell_bound}
 use Rattle.std.proofs.lemmas.List.Elements.{All-nil, All-from_recursion, recursion_from_All, All-head, All-tail, All-push}
 use Rattle.syntax.specs.declared.tree.Mode.{Mode}
 use Rattle.syntax.specs.declared.tree.Mode.TheVariants.{Atomic, Relaxed}
@@ -8,17 +16,52 @@ use Rattle.syntax.specs.declared.tree.Kind.{Kind}
 use Rattle.syntax.specs.declared.tree.Kind.TheVariants.{Plain, Outer}
 use Rattle.syntax.specs.declared.numbers.Halt.TheVariants.{Trapped, Wants, Spent, Astray}
 use Rattle.syntax.specs.Tree.{Program}
-use Rattle.syntax.specs.Names.{Local, initial_memory, bounds}
+use Rattle.syntax.specs.Names.{Local, GlobalCells, cells, globals, global_from, global_of, bounds}
 use Rattle.syntax.specs.Behaviours.{Memory, IsMemory}
 use Rattle.syntax.specs.Actions.{Context, Outside, Inside, State, Answer, Gives, Stops, Action, stop, go_on, ◌>>=◌, spend, tick, load_at, store, may_print_at, write, lefts_in, memory_in}
 use Rattle.syntax.specs.Meaning.{End, after_turn, turns, Left, undoes, left_or, left_by, close_inner, close, enter, mode_of, begin_at}
 use Rattle.syntax.specs.Threads.{outcome_of, first_state, worker_run, thread}
 use Rattle.syntax.specs.Laws.{IsPieceOf, LeavesMemories}
 use Rattle.syntax.proofs.Further.{state_of}
-use Rattle.syntax.proofs.Kept.{IsKept, worker_holds}
+use Rattle.syntax.proofs.Kept.{IsKept, AreCells, worker_holds}
+
+-- a typed global has a cell
+size_some : (l : Option (ℕ × Span)) → AreMet (IsLength l) → 0 < unwrap_or (option_map (λ n. n.0) l) 1
+size_some None h = omega arith
+size_some (Some n) h =
+    let m = both_true (nat_le 1 n.0) (nat_le n.0 4096) (is_met 25 n.1 (nat_le 1 n.0 && nat_le n.0 4096) h) in
+    leb-true 1 n.0 m
+
+among_some : (earlier : List Item) (before : List Global) (taken : ℕ) (gs more : List Global) → AreMet (AreTypedGlobals earlier before taken gs) → (c : ℕ) (x : List ℕ) (at : GlobalCells) → ((d : ℕ) → global_from d more x ≡ Some at → 0 < cells at.global) → global_from c (gs ++ more) x ≡ Some at → 0 < cells at.global
+among_some earlier before taken [] more h c x at later e = later c e
+among_some earlier before taken (g ∷ gs) more h c x at later e =
+    let new = demand 21 g.name.at (is_unknown (file_scope (earlier ++ Shares before ∷ []) g.name.text)) in
+    let size = IsLength g.length in
+    let room = HaveCells (drop (cells g) g.first) in
+    let few = demand 25 g.name.at (nat_le (taken + cells g) 4096) in
+    let others = AreTypedGlobals earlier (before ++ g ∷ []) (taken + cells g) gs in
+    let all = met_before (new ++ size ++ room ++ few) others h in
+    by (bytes_eq g.name.text x) (size_some g.length (met_behind new size (met_before (new ++ size) room (met_before (new ++ size ++ room) few all))))
+    (λ f. among_some earlier (before ++ g ∷ []) (taken + cells g) gs more (met_behind (new ++ size ++ room ++ few) others h) (c + cells g) x at later f) e
+  where
+    by : (b : Bool) → 0 < cells g → (global_from (c + cells g) (gs ++ more) x ≡ Some at → 0 < cells at.global) → (if b then Some (record { global = g; cell = c }) else global_from (c + cells g) (gs ++ more) x) ≡ Some at → 0 < cells at.global
+    by true some next f = let same : record { global = g; cell = c } ≡ at = cc in subst (λ (d : GlobalCells). 0 < cells d.global) same some
+    by false some next f = next f
+
+items_some : (earlier items : List Item) → AreMet (AreTypedItems earlier items) → (c : ℕ) (x : List ℕ) (at : GlobalCells) → global_from c (globals items) x ≡ Some at → 0 < cells at.global
+items_some earlier [] h c x at e = absurd cc
+items_some earlier (Shares gs ∷ items) h c x at e =
+    among_some earlier [] (all_cells earlier) gs (globals items) (met_before (IsTypedItem earlier (Shares gs)) (AreTypedItems (earlier ++ Shares gs ∷ []) items) h) c x at
+    (λ d f. items_some (earlier ++ Shares gs ∷ []) items (rest_met earlier (Shares gs) items h) d x at f) e
+items_some earlier (Defines f ∷ items) h c x at e = items_some (earlier ++ Defines f ∷ []) items (rest_met earlier (Defines f) items h) c x at e
+
+some_cells : (p : Program) → IsTypedProgram p → (x : List ℕ) (g : GlobalCells) → global_of p x ≡ Some g → 0 < cells g.global
+some_cells p checked x g e =
+    let worker = demand 28 (record { start = 0; end = 0 }) (is_worker (file_scope p (codes "worker"))) in
+    items_some [] p (met_before (AreTypedItems [] p) (AreDefined p [] p) (met_before (AreTypedItems [] p ++ AreDefined p [] p) worker checked)) 0 x g e
 
 -- a property of memories that each write of a word keeps
-module _ (M : Memory → Type 0) (written : (m : Memory) (c w : ℕ) → w < 2 ^ 32 → M m → M (slice_set m c w)) where
+module _ (M : Memory → Type 0) (IsCell : ℕ → Scalar → Type 0) (written : (m : Memory) (c w : ℕ) (t : Scalar) → IsCell c t → w < modulus t → M m → M (slice_set m c w)) where
   -- where the memories in one context have it, so have those in the other
   abbrev Keeps : Context → Context → Type 0
   Keeps (Outside f l) (Outside f' l') = All M f → All M l → All M f' × All M l'
@@ -56,9 +99,9 @@ module _ (M : Memory → Type 0) (written : (m : Memory) (c w : ℕ) → w < 2 ^
   load_keeps (Outside f l) c s = keeps_refl s.context
   load_keeps (Inside mode m) c s = keeps_refl s.context
 
-  store_keeps : (n : ℕ) (ls : List Local) (p : Context) (t : List ℕ) (c w : ℕ) → w < 2 ^ 32 → Keeps p (state_of (store c w (record { ticks = n; locals = ls; context = p; text = t }))).context
-  store_keeps n ls (Outside f l) t c w below = keeps_refl (Outside f l)
-  store_keeps n ls (Inside mode m) t c w below = written m c w below
+  store_keeps : (n : ℕ) (ls : List Local) (p : Context) (t : List ℕ) (c w : ℕ) (u : Scalar) → IsCell c u → w < modulus u → Keeps p (state_of (store c w (record { ticks = n; locals = ls; context = p; text = t }))).context
+  store_keeps n ls (Outside f l) t c w u cell below = keeps_refl (Outside f l)
+  store_keeps n ls (Inside mode m) t c w u cell below = written m c w u cell below
 
   may_print_keeps : (p : Context) (s : State) → Keeps s.context (state_of (may_print_at p s)).context
   may_print_keeps (Outside f l) s = keeps_refl s.context
@@ -110,7 +153,7 @@ module _ (M : Memory → Type 0) (written : (m : Memory) (c w : ℕ) → w < 2 ^
   begin_keeps (Outside f l) s = spend_keeps s.ticks s
   begin_keeps (Inside mode m) s = keeps_refl s.context
 
-  keeping_kept : (IsPiece : List ℕ → Type 0) → IsKept IsPiece (λ A run. IsKeeping run)
+  keeping_kept : (IsPiece : List ℕ → Type 0) → IsKept IsPiece IsCell (λ A run. IsKeeping run)
   keeping_kept IsPiece = record {
     pure_holds = λ a. record { keeps = λ s. keeps_refl s.context };
     on_holds = on_keeping;
@@ -120,7 +163,7 @@ module _ (M : Memory → Type 0) (written : (m : Memory) (c w : ℕ) → w < 2 ^
     locals_holds = record { keeps = λ s. keeps_refl s.context };
     put_locals_holds = λ ls. record { keeps = λ s. keeps_refl s.context };
     load_holds = λ c. record { keeps = λ s. load_keeps s.context c s };
-    store_holds = λ c w below. record { keeps = λ s. store_keeps s.ticks s.locals s.context s.text c w below };
+    store_holds = λ c w t cell below. record { keeps = λ s. store_keeps s.ticks s.locals s.context s.text c w t cell below };
     may_print_holds = record { keeps = λ s. may_print_keeps s.context s };
     print_piece_holds = λ text shown. record { keeps = λ s. on_keeps s.context (tick s) (λ _. write text) (spend_keeps s.ticks s) (λ _ u. keeps_refl u.context) };
     loop_holds = λ h. record { keeps = λ s. turns_keep _ h s.ticks s };
@@ -136,18 +179,28 @@ module _ (M : Memory → Type 0) (written : (m : Memory) (c w : ℕ) → w < 2 ^
   answer_kept founds (Gives u s) c h = lefts_kept founds s.context c h
   answer_kept founds (Stops why s) c h = lefts_kept founds s.context c h
 
-  threads_keep : (p : Program) (t : ℕ) (founds : List Memory) (n : ℕ) → All M founds → All M (thread p t founds n).lefts
-  threads_keep p t founds n h = answer_kept founds (worker_run p t (first_state founds n)) ((worker_holds p (λ A run. IsKeeping run) (keeping_kept (IsPieceOf p)) t).keeps (first_state founds n)) h
+  threads_keep : (p : Program) → AreCells p IsCell → (t : ℕ) (founds : List Memory) (n : ℕ) → All M founds → All M (thread p t founds n).lefts
+  threads_keep p are t founds n h = answer_kept founds (worker_run p t (first_state founds n)) ((worker_holds p IsCell are (λ A run. IsKeeping run) (keeping_kept (IsPieceOf p)) t).keeps (first_state founds n)) h
 
 -- a write keeps a memory
-written_memory : (cells : ℕ) (m : Memory) (c w : ℕ) → w < 2 ^ 32 → IsMemory (replicate cells (2 ^ 32)) m → IsMemory (replicate cells (2 ^ 32)) (slice_set m c w)
-written_memory zero [] c w below h = h
-written_memory zero (v ∷ m) c w below h = absurd h
-written_memory (suc n) [] c w below h = absurd h
-written_memory (suc n) (v ∷ m) zero w below h = (below, h.1)
-written_memory (suc n) (v ∷ m) (suc c) w below h = (h.0, written_memory n m c w below h.1)
+pub written_memory : (bs : List ℕ) (m : Memory) (c w : ℕ) → w < slice_index bs c → IsMemory bs m → IsMemory bs (slice_set m c w)
+written_memory [] [] c w below h = h
+written_memory [] (v ∷ m) c w below h = absurd h
+written_memory (b ∷ bs) [] c w below h = absurd h
+written_memory (b ∷ bs) (v ∷ m) zero w below h = (below, h.1)
+written_memory (b ∷ bs) (v ∷ m) (suc c) w below h = (h.0, written_memory bs m c w below h.1)
+
+-- a cell whose bound is that of a type
+abbrev pub IsBounded : Program → ℕ → Scalar → Type 0
+IsBounded p c t = slice_index (bounds p) c ≡ modulus t
+
+pub typed_cells : (p : Program) → IsTypedProgram p → AreCells p (IsBounded p)
+typed_cells p checked = record {
+  first = λ x g e. (let none : g.cell + 0 ≡ g.cell = omega arith in ap (slice_index (bounds p)) (sym none) ∙ cell_bound (globals p) x g 0 e (some_cells p checked x g e));
+  each = λ x g k e h. cell_bound (globals p) x g k e (grind (arith, nat_tests, h));
+}
 
 pub leaves_memories : LeavesMemories
-leaves_memories p t founds n h =
+leaves_memories p checked t founds n h =
     let M = IsMemory (bounds p) in
-    recursion_from_All M (thread p t founds n).lefts (threads_keep M (written_memory (length (initial_memory p))) p t founds n (All-from_recursion M founds h))
+    recursion_from_All M (thread p t founds n).lefts (threads_keep M (IsBounded p) (λ m c w t cell below. written_memory (bounds p) m c w (subst (λ b. w < b) (sym cell) below)) p (typed_cells p checked) t founds n (All-from_recursion M founds h))

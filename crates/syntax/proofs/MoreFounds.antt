@@ -12,7 +12,7 @@ use Rattle.syntax.specs.Actions.{Context, Outside, Inside, State, Answer, Gives,
 use Rattle.syntax.specs.Meaning.{End, after_turn, turns, Left, undoes, left_or, left_by, leave_inner, close_inner, inner, close, enter, mode_of, begin_at}
 use Rattle.syntax.specs.Threads.{outcome_of, first_state, worker_run}
 use Rattle.syntax.specs.Laws.{IsPieceOf, MoreFounds}
-use Rattle.syntax.proofs.Kept.{IsKept, worker_holds}
+use Rattle.syntax.proofs.Kept.{IsKept, any_cells, worker_holds}
 
 -- further memories to be found
 abbrev with_founds : List Memory → Context → Context
@@ -133,7 +133,7 @@ begin_alike : (extra : List Memory) (p : Context) (s : State) → Alike extra (b
 begin_alike extra (Outside founds lefts) s = tick_alike.alike extra s
 begin_alike extra (Inside mode m) s = refl
 
-alike_kept : (p : Program) → IsKept (IsPieceOf p) (λ A run. IsAlike run)
+alike_kept : (p : Program) → IsKept (IsPieceOf p) (λ c t. Unit {0}) (λ A run. IsAlike run)
 alike_kept p = record {
   pure_holds = λ a. record { alike = λ extra s. refl };
   on_holds = on_all;
@@ -143,7 +143,7 @@ alike_kept p = record {
   locals_holds = record { alike = λ extra s. refl };
   put_locals_holds = λ ls. record { alike = λ extra s. refl };
   load_holds = λ c. record { alike = λ extra s. load_alike extra s.context c s };
-  store_holds = λ c w below. record { alike = λ extra s. store_alike extra s.context c w s };
+  store_holds = λ c w t cell below. record { alike = λ extra s. store_alike extra s.context c w s };
   may_print_holds = record { alike = λ extra s. may_print_alike extra s.context s };
   print_piece_holds = λ text shown. on_all tick_alike (λ _. record { alike = λ extra s. refl });
   loop_holds = λ h. record { alike = λ extra s. turns_alike _ h extra s.ticks s };
@@ -165,4 +165,4 @@ same extra (Stops Wants s) more e wants = absurd (wants refl)
 pub more_founds : MoreFounds
 more_founds p t founds extra n wants =
     same extra (worker_run p t (first_state founds n)) (worker_run p t (first_state (founds ++ extra) n))
-    ((worker_holds p (λ A run. IsAlike run) (alike_kept p) t).alike extra (first_state founds n)) wants
+    ((worker_holds p (λ c t. Unit {0}) (any_cells p) (λ A run. IsAlike run) (alike_kept p) t).alike extra (first_state founds n)) wants

@@ -14,7 +14,7 @@ use Rattle.syntax.specs.Meaning.{End, after_turn, turns, loop, Left, undoes, lef
 use Rattle.syntax.specs.Threads.{outcome_of, first_state, worker_run, thread}
 use Rattle.syntax.specs.Laws.{IsPieceOf, ShowsOneMore, OneTickMore}
 use Rattle.syntax.proofs.Further.{state_of}
-use Rattle.syntax.proofs.Kept.{IsKept, worker_holds}
+use Rattle.syntax.proofs.Kept.{IsKept, any_cells, worker_holds}
 
 -- nothing left between two contexts, and one memory left
 abbrev Quiet : Context → Context → Type 0
@@ -519,7 +519,7 @@ module _ (program : Program) where
   begin_one (Outside f l) s = tick_slow.one s
   begin_one (Inside mode m) s = refl
 
-  slow_kept : IsKept (IsPieceOf program) (λ A run. IsSlow run)
+  slow_kept : IsKept (IsPieceOf program) (λ c t. Unit {0}) (λ A run. IsSlow run)
   slow_kept = record {
     pure_holds = pure_slow;
     on_holds = on_slow;
@@ -529,7 +529,7 @@ module _ (program : Program) where
     locals_holds = record { falls = λ s. omega arith; side = λ s. side_refl s.context; idle = λ s e. still s s.locals e; one = λ s. refl };
     put_locals_holds = λ ls. record { falls = λ s. omega arith; side = λ s. side_refl s.context; idle = λ s e. record { ticks = e; text = refl; context = quiet_refl s.context; free = tt }; one = λ s. refl };
     load_holds = λ c. record { falls = λ s. load_falls s.context c s; side = λ s. load_side s.context c s; idle = λ s e. load_idle s.context c s e; one = λ s. load_one s.context c s };
-    store_holds = λ c w below. record { falls = λ s. store_falls c w s.ticks s.locals s.context s.text; side = λ s. store_side c w s.ticks s.locals s.context s.text; idle = λ s e. store_idle c w s.ticks s.locals s.context s.text e; one = λ s. store_one c w s.ticks s.locals s.context s.text };
+    store_holds = λ c w t cell below. record { falls = λ s. store_falls c w s.ticks s.locals s.context s.text; side = λ s. store_side c w s.ticks s.locals s.context s.text; idle = λ s e. store_idle c w s.ticks s.locals s.context s.text e; one = λ s. store_one c w s.ticks s.locals s.context s.text };
     may_print_holds = record { falls = λ s. may_print_falls s.context s; side = λ s. may_print_side s.context s; idle = λ s e. may_print_idle s.context s e; one = λ s. may_print_one s.context s };
     print_piece_holds = piece_slow;
     loop_holds = loop_slow;
@@ -558,7 +558,7 @@ module _ (program : Program) where
   shows (Stops Spent t) more e = spent_shown t more e.1
 
   worker_one : (t : ℕ) (founds : List Memory) (n : ℕ) → ShowsOneMore program (thread program t founds n) (thread program t founds (suc n))
-  worker_one t founds n = shows (worker_run program t (first_state founds n)) (worker_run program t (first_state founds (suc n))) ((worker_holds program (λ A run. IsSlow run) slow_kept t).one (first_state founds n))
+  worker_one t founds n = shows (worker_run program t (first_state founds n)) (worker_run program t (first_state founds (suc n))) ((worker_holds program (λ c t. Unit {0}) (any_cells program) (λ A run. IsSlow run) slow_kept t).one (first_state founds n))
 
 pub one_tick_more : OneTickMore
 one_tick_more p t founds n =

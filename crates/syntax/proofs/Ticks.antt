@@ -89,7 +89,7 @@ falls_kept = record {
   locals_holds = record { falls = λ s. omega arith };
   put_locals_holds = λ ls. record { falls = λ s. omega arith };
   load_holds = λ c. record { falls = λ s. load_falls s.context c s };
-  store_holds = λ c w below. record { falls = λ s. store_falls s.context c w s };
+  store_holds = λ c w t cell below. record { falls = λ s. store_falls s.context c w s };
   may_print_holds = record { falls = λ s. may_print_falls s.context s };
   print_piece_holds = λ text shown. record { falls = λ s. on_falls s.ticks (tick s) (λ _. write text) (spend_falls s.ticks s (omega arith)) (λ _ u. omega arith) };
   loop_holds = λ h. record { falls = λ s. turns_fall _ h s.ticks s };

@@ -184,7 +184,7 @@ module _ (p : Program) (call : Caller) where
     -- names and constants, elements and calls (C11 6.5.1, 6.5.2.1, 6.5.2.2)
     pub expr : Expr → Action Value
     expr (Variable x) = do at ← named x.text; fetch at
-    expr (Constant n t at) = pure (record { of = t; word = word_of (pos n) })
+    expr (Constant n t at) = pure (record { of = t; word = word_of t (pos n) })
     expr (Element x i at) = do k ← expr i; at ← element x.text k; fetch at
     expr (Call f es at) = do vs ← exprs es; tick; call f.text vs
     expr (Parenthesized e at) = expr e

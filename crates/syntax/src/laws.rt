@@ -15,9 +15,9 @@ pub fn threads_go_on()
     ensures one_tick { OneTickMore }
 {}
 
-/// What memories a thread leaves: where it wants one, as many as it found, and never more than it could find. The memory
-/// that a program begins with has a word below 2^32 for each of its cells, and a thread that finds such memories leaves
-/// such memories.
+/// What memories a thread leaves: where it wants one, as many as it found, and never more than it could find. The
+/// memory that a program begins with has for each of its cells a word of the cell's type, and a thread of a typed
+/// program that finds such memories leaves such memories.
 pub fn threads_leave_memories()
     ensures wanting { LeftAsManyAsFound }
     ensures never_more { NeverMoreLeft }
@@ -26,8 +26,9 @@ pub fn threads_leave_memories()
 {}
 
 /// What expressions and statements keep. They gain no ticks; they end inside the transaction in which they begin or,
-/// outside, leave a memory for each that they find; words stay below 2^32 and memories as long as they are. An expression
-/// leaves the local variables as they were, and after a statement the locals begin, by name and type, with those before it.
+/// outside, leave a memory for each that they find; in a typed program words stay words of their types, and memories
+/// those of the program. An expression leaves the local variables as they were, and after a statement the locals begin,
+/// by name and type, with those before it.
 pub fn statements_keep()
     ensures ticks { TicksNeverGrow }
     ensures context { StaysInContext }
@@ -36,8 +37,8 @@ pub fn statements_keep()
     ensures older_locals { KeepsOlderLocals }
 {}
 
-/// What values are. In a typed program an expression that gives a value gives one of the expression's type. An operator on
-/// two words gives a word below 2^32 or traps, and so does a conversion.
+/// What values are. In a typed program an expression that gives a value gives one of the expression's type. An operator
+/// on two words of a type gives a word of its result's type or traps, and a conversion gives a word of its type.
 pub fn values_fit()
     ensures types { GivesItsType }
     ensures words { GivesWords }

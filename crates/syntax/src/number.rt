@@ -1,0 +1,28 @@
+//! Words, and the numbers that they stand for.
+
+ghost use Rattle.std.specs.Prelude.{◌≡◌, ◌≤ℤ◌, ◌<ℤ◌, ◌-ℤ◌, pos};
+ghost use Rattle.syntax.specs.Numbers.{limit, modulus, number as number_in, word_of};
+
+use lex::token::Scalar;
+
+/// The number that a word stands for.
+#[inline(always)]
+pub fn number(of: Scalar, word: u64) -> i64
+    ensures value { result ≡ number_in of word }
+    ensures low { (pos (limit of) -ℤ pos (modulus of)) ≤ℤ result }
+    ensures high { result <ℤ pos (limit of) }
+{
+    match of {
+        Scalar::Int => i64::from(((word % 4294967296) as u32).cast_signed()),
+        Scalar::Unsigned => (word % 4294967296) as i64,
+    }
+}
+
+/// The word of a number.
+pub(crate) fn word_of(of: Scalar, number: i128) -> u64
+    ensures { result ≡ word_of of number }
+{
+    match of {
+        Scalar::Int | Scalar::Unsigned => number.rem_euclid(4294967296) as u64,
+    }
+}
