@@ -7,14 +7,19 @@ ghost use Rattle.bytecode.specs.Initial.{initial_of};
 ghost use Rattle.bytecode.specs.Valid.{IsValid};
 
 use crate::code::Code;
+use lex::token::Scalar;
 use std::alloc::{AllocError, Allocator};
 use syntax::tree::{First, Global};
 
-fn push_firsts<A: Allocator>(words: &mut Vec<u64, A>, firsts: &[First]) -> Result<(), AllocError>
-    ensures { OnOk result (words.new.items ≡ words.old.items ++ map first_word firsts.now) }
+fn push_firsts<A: Allocator>(
+    words: &mut Vec<u64, A>,
+    of: Scalar,
+    firsts: &[First],
+) -> Result<(), AllocError>
+    ensures { OnOk result (words.new.items ≡ words.old.items ++ map (first_word of) firsts.now) }
 {
     'firsts: for first in firsts {
-        words.push(u64::from(first.word()))?;
+        words.push(first.word(of))?;
     }
     Ok(())
 }
@@ -34,11 +39,11 @@ fn push_global<A: Allocator, B: Allocator>(
 ) -> Result<(), AllocError>
     ensures { OnOk result (words.new.items ≡ words.old.items ++ first_words (global_of global.now)) }
 {
-    push_firsts(words, global.first.as_slice())?;
-    let rest = global
-        .cell_count()
-        .saturating_sub(global.first.as_slice().len());
-    push_zeros(words, rest)
+    let firsts = global.first.as_slice();
+    let cells = global.cell_count();
+    let given = cells.min(firsts.len());
+    push_firsts(words, global.of, &firsts[..given])?;
+    push_zeros(words, cells.saturating_sub(firsts.len()))
 }
 
 impl<A: Allocator> Code<A> {

@@ -2,7 +2,7 @@
 
 ghost use Rattle.std.specs.Prelude.{◌≡◌, ◌<◌, ◌≤◌, ◌+◌, MatchOption, IfOk, IfErr, IsTrue, ◌↔◌, length, map};
 ghost use Rattle.std.specs.List.{list_all};
-ghost use Rattle.syntax.specs.Names.{first_words, initial_from};
+ghost use Rattle.syntax.specs.Names.{initial_from};
 ghost use Rattle.syntax.specs.Views.{global_of};
 ghost use Rattle.bytecode.specs.declared.valid.PartsFault.TheVariants.{OutOfMemory};
 ghost use Rattle.bytecode.specs.Valid.{cells_of, end_of, is_shaped, AreWritten, HasDistinctNames, HasWorker, IsValidFunction, AreValid, IsValid};
@@ -53,25 +53,13 @@ impl<A: Allocator> PartsFault<A> {
     }
 }
 
-// The number of a global's cells, or of its initialisers where these are more.
-fn cells_of<A: Allocator>(g: &Global<A>) -> usize
-    ensures { result ≡ length (first_words (global_of g.now)) }
-{
-    let cells = match g.length {
-        Some((length, _)) => length as usize,
-        None => 1,
-    };
-    let first = g.first.len();
-    if cells < first { first } else { cells }
-}
-
 // The number of all cells, where they are not too many.
 fn count_cells<A: Allocator>(globals: &[Global<A>]) -> Option<usize>
     ensures { MatchOption result (MOST_CELLS < length (initial_from (map global_of globals.now))) (λ n. (n ≡ length (initial_from (map global_of globals.now))) × (n ≤ MOST_CELLS)) }
 {
     let mut count: usize = 0;
     'each: for g in globals {
-        let more = cells_of(g);
+        let more = g.cell_count();
         if more > MOST_CELLS - count {
             return None;
         }
