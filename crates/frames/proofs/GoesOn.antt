@@ -5,15 +5,17 @@ use Rattle.std.proofs.lemmas.Bool.{ltb-true}
 use Rattle.std.proofs.lemmas.List.{length-set, length-map, length-replicate}
 use Rattle.syntax.specs.declared.numbers.Trap.{Trap}
 use Rattle.syntax.specs.declared.numbers.Trap.TheVariants.{Index}
-use Rattle.syntax.proofs.Words.{computed_below, fitted_below}
+use Rattle.lex.specs.declared.token.Scalar.TheVariants.{Unsigned}
+use Rattle.syntax.specs.Numbers.{complemented}
 use Rattle.nesting.specs.Begins.{Saved}
 use Rattle.bytecode.specs.Effects.{Effect}
-use Rattle.bytecode.specs.Code.{Code, FunctionCode, Configuration, Frame, Instr, setting, residue, effect, effect_of, or_traps, called, entering, returned, value_in, printed}
+use Rattle.bytecode.specs.Code.{Code, FunctionCode, Configuration, Frame, Instr, setting, stored, effect, effect_of, or_traps, called, entering, returned, value_in, printed}
 use Rattle.bytecode.specs.Valid.{Has, IsReached, at_first, IsWritten, IsValid, end_of}
 use Rattle.bytecode.proofs.Tables.{some_same}
 use Rattle.local_steps.specs.Local.{standing, AreWords}
 use Rattle.frames.specs.Open.{AreSaved, MayStand, AreRestored, GoesOn}
 use Rattle.frames.proofs.Reached.{to_next, to_place, or_next, or_place}
+use Rattle.frames.proofs.Operators.{computed_fits, fitted_fits}
 use Rattle.frames.proofs.Registers.{words_set, words_append, words_of_registers, words_zero}
 use Rattle.frames.proofs.Levels.{AreUpTo, callers_up_to, all_up_to, restored_under}
 use Rattle.frames.proofs.Leading.{Way, way_of}
@@ -26,7 +28,7 @@ abbrev pub GoesWell : Code → Configuration → List Saved → Effect Configura
 GoesWell code c ss x = (d : Configuration) → GoesOn x d → Stays code c ss d
 
 -- back in a caller's frame
-returns_well : (code : Code) (p : ℕ) (rs : List ℕ) (fs : List Frame) (ss : List Saved) (w : ℕ) (m : MayStand code (standing p rs fs) ss) → m.top.begins ≡ [] → w < 2 ^ 32 → GoesWell code (standing p rs fs) ss (returned fs w)
+returns_well : (code : Code) (p : ℕ) (rs : List ℕ) (fs : List Frame) (ss : List Saved) (w : ℕ) (m : MayStand code (standing p rs fs) ss) → m.top.begins ≡ [] → w < 2 ^ 64 → GoesWell code (standing p rs fs) ss (returned fs w)
 returns_well code p rs [] ss w m none h d g = absurd g
 returns_well code p rs (f ∷ fs) ss w m none h d g =
     let same : ss ≡ m.callers = subst (λ bs. AreSaved m.top.function (suc (suc (length fs))) bs ss m.callers) none m.top.saved in
@@ -80,13 +82,13 @@ module _ (code : Code) (v : IsValid code) (p : ℕ) (rs : List ℕ) (fs : List F
   well_tested false x k h = λ d g. absurd g
 
   module _ (i : Instr) (at : slice_get code.instructions p ≡ Some i) where
-    next_set : (d w : ℕ) → way_of i ≡ Way.On → w < 2 ^ 32 → Stays code (standing p rs fs) ss (standing (suc p) (slice_set rs d w) fs)
+    next_set : (d w : ℕ) → way_of i ≡ Way.On → w < 2 ^ 64 → Stays code (standing p rs fs) ss (standing (suc p) (slice_set rs d w) fs)
     next_set d w e h = here (suc p) (slice_set rs d w) (to_next code m.top.function p m.top.begins i m.top.reached at e) (length-set rs d w) (words_set rs d w m.top.words h)
 
     next : way_of i ≡ Way.On → Stays code (standing p rs fs) ss (standing (suc p) rs fs)
     next e = here (suc p) rs (to_next code m.top.function p m.top.begins i m.top.reached at e) refl m.top.words
 
-    well_or_traps : (r : Result ℕ Trap) (d : ℕ) → way_of i ≡ Way.On → IfOk r (λ w. w < 2 ^ 32) → GoesWell code (standing p rs fs) ss (or_traps r (setting (standing p rs fs) d))
+    well_or_traps : (r : Result ℕ Trap) (d : ℕ) → way_of i ≡ Way.On → IfOk r (λ w. w < 2 ^ 64) → GoesWell code (standing p rs fs) ss (or_traps r (setting (standing p rs fs) d))
     well_or_traps (Ok w) d e h = well_pure (standing (suc p) (slice_set rs d w) fs) (next_set d w e h)
     well_or_traps (Err k) d e h = λ x g. absurd g
 
@@ -152,7 +154,7 @@ module _ (code : Code) (v : IsValid code) (p : ℕ) (rs : List ℕ) (fs : List F
     well_printed None e = well_pure (standing p rs fs) (m, refl)
     well_printed (Some t) e = well_next e
 
-  word_of_value : (a : Option ℕ) → value_in (standing p rs fs) a < 2 ^ 32
+  word_of_value : (a : Option ℕ) → value_in (standing p rs fs) a < 2 ^ 64
   word_of_value None = omega arith
   word_of_value (Some r) = m.top.words r
 
@@ -160,11 +162,11 @@ module _ (code : Code) (v : IsValid code) (p : ℕ) (rs : List ℕ) (fs : List F
   in_frame r h = let l = m.top.long in omega (arith, l, h)
 
   goes_by : (i : Instr) → slice_get code.instructions p ≡ Some i → IsWritten code m.top.function (end_of code m.top.index) i → GoesWell code (standing p rs fs) ss (effect_of code (standing p rs fs) (Some i))
-  goes_by (Instr.Constant d n) at w = well_pure (standing (suc p) (slice_set rs d n) fs) (next_set _ at d n refl w.1)
+  goes_by (Instr.Constant d n) at w = well_pure (standing (suc p) (slice_set rs d n) fs) (next_set _ at d n refl (let h = w.1 in omega (arith, h)))
   goes_by (Instr.Move d a) at w = well_pure (standing (suc p) (slice_set rs d (slice_index rs a)) fs) (next_set _ at d _ refl (m.top.words a))
-  goes_by (Instr.Compute op t d a b) at w = well_or_traps _ at _ d refl (computed_below op t _ _ (m.top.words a) (m.top.words b))
-  goes_by (Instr.Negate t d a) at w = well_or_traps _ at _ d refl (fitted_below t _)
-  goes_by (Instr.Complement d a) at w = well_pure (standing (suc p) (slice_set rs d (2 ^ 32 - 1 - slice_index rs a)) fs) (next_set _ at d _ refl (omega arith))
+  goes_by (Instr.Compute op t d a b) at w = well_or_traps _ at _ d refl (computed_fits op t _ _ (m.top.words a) (m.top.words b))
+  goes_by (Instr.Negate t d a) at w = well_or_traps _ at _ d refl (fitted_fits t _)
+  goes_by (Instr.Complement d a) at w = well_pure (standing (suc p) (slice_set rs d (complemented Unsigned (slice_index rs a))) fs) (next_set _ at d _ refl (omega arith))
   goes_by (Instr.Jump to) at w = well_pure (standing to rs fs) (here to rs (to_place code m.top.function p m.top.begins (Instr.Jump to) m.top.reached at to refl) refl m.top.words)
   goes_by (Instr.JumpZero a to) at w = well_branch _ at (slice_index rs a == 0) to (suc p) (or_place code m.top.function p m.top.begins (Instr.JumpZero a to) m.top.reached at to refl) (or_next code m.top.function p m.top.begins (Instr.JumpZero a to) m.top.reached at to refl)
   goes_by (Instr.JumpNonzero a to) at w = well_branch _ at (slice_index rs a == 0) (suc p) to (or_next code m.top.function p m.top.begins (Instr.JumpNonzero a to) m.top.reached at to refl) (or_place code m.top.function p m.top.begins (Instr.JumpNonzero a to) m.top.reached at to refl)
@@ -172,7 +174,7 @@ module _ (code : Code) (v : IsValid code) (p : ℕ) (rs : List ℕ) (fs : List F
   goes_by (Instr.Read d a) at w = well_read _ at a d refl
   goes_by (Instr.ReadAt d a n j) at w = well_tested (nat_lt (slice_index rs j) n) (Effect.Read (a + slice_index rs j) (setting (standing p rs fs) d)) Index (well_read _ at (a + slice_index rs j) d refl)
   goes_by (Instr.Write a r) at w = well_next _ at refl
-  goes_by (Instr.WriteAt a n j r) at w = well_tested (nat_lt (slice_index rs j) n) (Effect.Write (a + slice_index rs j) (residue (slice_index rs r)) (standing (suc p) rs fs)) Index (well_next _ at refl)
+  goes_by (Instr.WriteAt a n j r) at w = well_tested (nat_lt (slice_index rs j) n) (Effect.Write (a + slice_index rs j) (stored code (a + slice_index rs j) (slice_index rs r)) (standing (suc p) rs fs)) Index (well_next _ at refl)
   goes_by (Instr.Begin to) at w = λ d g. absurd g
   goes_by Instr.Commit at w = λ d g. absurd g
   goes_by Instr.Cancel at w = λ d g. absurd g

@@ -8,6 +8,8 @@ mod ByWay
 mod Beginnings
 -- words in registers
 mod Registers
+-- what an operator gives
+mod Operators
 -- the begins that are open in all frames
 mod Levels
 -- what a thread of a valid code keeps

@@ -80,7 +80,7 @@ AreRestored c d ss = map (restored d) ss ≡ map (restored c) ss
 abbrev pub GoesOn : Effect Configuration → Configuration → Type 0
 GoesOn (Effect.Pure c) d = d ≡ c
 GoesOn (Effect.Print piece c) d = d ≡ c
-GoesOn (Effect.Read a k) d = (w : ℕ) × (w < 2 ^ 32) × (d ≡ k w)
+GoesOn (Effect.Read a k) d = (w : ℕ) × (w < 2 ^ 64) × (d ≡ k w)
 GoesOn (Effect.Write a w c) d = d ≡ c
 GoesOn (Effect.Irrevocable c) d = d ≡ c
 GoesOn x d = ⊥

@@ -17,7 +17,7 @@ pub enum Doing {
     /// Reads a cell into a register, as `(register, cell)`.
     Read(u32, u32),
 
-    /// Writes a word below 2^32 into a cell, as `(cell, word)`.
+    /// Writes a word of the cell's type into a cell, as `(cell, word)`.
     Write(u32, u64),
 
     /// Begins a transaction, a cancel of which goes on at this place.
