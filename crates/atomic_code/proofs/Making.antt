@@ -5,12 +5,13 @@ use Rattle.std.specs.List.{AllByRecursion}
 use Rattle.std.proofs.lemmas.List.{drop-map}
 use Rattle.syntax.specs.declared.numbers.Status.TheVariants.{Running}
 use Rattle.syntax.specs.Behaviours.{Memory, IsMemory}
+use Rattle.syntax.specs.Names.{cell_types}
 use Rattle.nesting.specs.Begins.{Saved}
 use Rattle.bytecode.specs.Effects.{Effect, FitsCells, after_cancel}
 use Rattle.bytecode.specs.Effects.Effect.{Pure, Print, Begin, Read, Write, Commit, Cancel, CancelOuter, Irrevocable}
 use Rattle.bytecode.specs.Code.{Code, Configuration, effect}
 use Rattle.bytecode.specs.Sequential.{Sequential, OpenTransaction, InnerTransaction, next, sequential_step, found_next, cancel_step, print_step}
-use Rattle.bytecode.specs.Valid.{IsValid, bounds_of, cells_of}
+use Rattle.bytecode.specs.Valid.{IsValid, bounds_of}
 use Rattle.bytecode.proofs.Fits.{fits_cells}
 use Rattle.frames.proofs.Keeping.{begins_stay_open}
 use Rattle.frames.specs.Open.{BeginsStayOpen, MayStand, AreRestored, GoesOn, restored, saved_in}
@@ -133,7 +134,7 @@ module _ (code : Code) (v : IsValid code) (m : Option Memory) where
 
     pub read_inside : {A : Type 0} (a : ℕ) (f : ℕ → Configuration) → effect code c ≡ Read a f → Makes {A = A} code m (at c (Some o) t) Goes (at (f (slice_index o.mem a)) (Some o) t)
     read_inside a f e =
-        moves c (Some o) t runs (f (slice_index o.mem a)) (Some o) t (goes_by c (Some o) t runs (Read a f) (f (slice_index o.mem a)) e (slice_index o.mem a, word_at (cells_of code) o.mem a words.now, refl)) refl words (by_effect c (Some o) t runs (Read a f) e)
+        moves c (Some o) t runs (f (slice_index o.mem a)) (Some o) t (goes_by c (Some o) t runs (Read a f) (f (slice_index o.mem a)) e (slice_index o.mem a, word_at (cell_types code.globals) o.mem a words.now, refl)) refl words (by_effect c (Some o) t runs (Read a f) e)
 
     pub write_inside : {A : Type 0} (a w : ℕ) (d : Configuration) → effect code c ≡ Write a w d → Makes {A = A} code m (at c (Some o) t) Goes (at d (Some (with_memory o (slice_set o.mem a w) o.inner)) t)
     write_inside a w d e =

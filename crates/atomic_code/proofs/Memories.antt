@@ -1,11 +1,11 @@
 -- Memories of a code: their lengths, their words, and what a write leaves.
-use Rattle.std.proofs.Common.{◌≡◌, ◌∙◌, ◌+◌, ◌≤◌, ◌<◌, ◌^◌, ℕ, zero, suc, List, [], ◌∷◌, sym, ap, length, map, drop, get_or, refl, slice_index, arith, length-append}
+use Rattle.std.proofs.Common.{◌≡◌, ◌∙◌, ◌+◌, ◌≤◌, ◌<◌, ◌^◌, ℕ, zero, suc, List, [], ◌∷◌, ◌++◌, sym, ap, length, map, take, drop, get_or, refl, slice_index, arith}
 use Rattle.std.specs.Prelude.{slice_set, replicate, EachIndex}
-use Rattle.std.proofs.lemmas.List.{length-replicate}
+use Rattle.std.proofs.lemmas.List.{at_drop_more, drop_all}
 use Rattle.syntax.specs.Behaviours.{IsMemory}
-use Rattle.syntax.specs.Tree.{Global}
-use Rattle.syntax.specs.Names.{first_words, initial_from}
-use Rattle.bytecode.specs.declared.limits.TheConstants.{MOST_CELLS}
+use Rattle.syntax.specs.Tree.{Scalar, Int, Unsigned, Global}
+use Rattle.syntax.specs.Names.{cells, cell_types, bounds_of}
+use Rattle.syntax.specs.Numbers.{modulus}
 
 -- a memory has a word for each cell
 pub sized : (bounds m : List ℕ) → IsMemory bounds m → length m ≡ length bounds
@@ -21,41 +21,55 @@ written (b ∷ bounds) [] a v is lt = absurd is
 written (b ∷ bounds) (w ∷ m) zero v is lt = (lt, is.1)
 written (b ∷ bounds) (w ∷ m) (suc a) v is lt = (is.0, written bounds m a v is.1 lt)
 
-pub word_at : (cells : ℕ) (m : List ℕ) (a : ℕ) → IsMemory (replicate cells (2 ^ 32)) m → slice_index m a < 2 ^ 32
-word_at zero [] a is = omega arith
-word_at zero (w ∷ m) a is = absurd is
-word_at (suc n) [] a is = absurd is
-word_at (suc n) (w ∷ m) zero is = is.0
-word_at (suc n) (w ∷ m) (suc a) is = word_at n m a is.1
+-- a word of a memory fits a register
+type_fits : (t : Scalar) → modulus t ≤ 2 ^ 64
+type_fits Int = omega arith
+type_fits Unsigned = omega arith
 
--- a word for each cell, and each below the bound
-pub memory_by : (cells : ℕ) (m : List ℕ) → length m ≡ cells → EachIndex m (λ i. slice_index m i < 2 ^ 32) → IsMemory (replicate cells (2 ^ 32)) m
-memory_by zero [] e h = tt
-memory_by zero (w ∷ m) e h = absurd (omega arith)
-memory_by (suc n) [] e h = absurd (omega arith)
-memory_by (suc n) (w ∷ m) e h = (h 0 (omega arith), memory_by n m (omega arith) (λ i lt. h (suc i) (omega arith)))
+pub word_at : (ts : List Scalar) (m : List ℕ) (a : ℕ) → IsMemory (map modulus ts) m → slice_index m a < 2 ^ 64
+word_at [] [] a is = omega arith
+word_at [] (w ∷ m) a is = absurd is
+word_at (t ∷ ts) [] a is = absurd is
+word_at (t ∷ ts) (w ∷ m) zero is = let b = type_fits t in let h = is.0 in omega (arith, h, b)
+word_at (t ∷ ts) (w ∷ m) (suc a) is = word_at ts m a is.1
 
-pub by_memory : (cells : ℕ) (m : List ℕ) → IsMemory (replicate cells (2 ^ 32)) m → (length m ≡ cells) × EachIndex m (λ i. slice_index m i < 2 ^ 32)
-by_memory cells m is = (sized (replicate cells (2 ^ 32)) m is ∙ length-replicate cells (2 ^ 32), λ i lt. word_at cells m i is)
+-- cells of one type, and others behind them
+pub cells_before : (t : Scalar) (n : ℕ) (ts : List Scalar) (m : List ℕ) → n ≤ length m → EachIndex (take n m) (λ i. slice_index (take n m) i < modulus t) → IsMemory (map modulus ts) (drop n m) → IsMemory (map modulus (replicate n t ++ ts)) m
+cells_before t zero ts m le each is = is
+cells_before t (suc n) ts [] le each is = absurd (omega (arith, le))
+cells_before t (suc n) ts (w ∷ m) le each is = (each 0 (omega arith), cells_before t n ts m (omega (arith, le)) (λ i lt. each (suc i) (omega (arith, lt))) is)
 
--- the cells of the globals from a place on: those of the first one, and the others
-pub cells_from : {X : Type 0} (f : X → Global) (xs : List X) (i : ℕ) (x : X) → i < length xs → x ≡ get_or xs i x → length (initial_from (map f (drop i xs))) ≡ length (first_words (f x)) + length (initial_from (map f (drop (i + 1) xs)))
-cells_from f [] i x lt e = absurd (omega arith)
-cells_from f (y ∷ ys) zero x lt e = length-append (first_words (f y)) _ ∙ ap (λ z. length (first_words (f z)) + length (initial_from (map f ys))) (sym e)
-cells_from f (y ∷ ys) (suc i) x lt e = cells_from f ys i x (omega arith) e ∙ ap (λ (n : ℕ). length (first_words (f x)) + length (initial_from (map f (drop n (y ∷ ys))))) (let s : suc (i + 1) ≡ suc i + 1 = omega arith in s)
+one_more : (w : ℕ) (m : List ℕ) (b : ℕ) → w < b → EachIndex m (λ i. slice_index m i < b) → EachIndex (w ∷ m) (λ i. slice_index (w ∷ m) i < b)
+one_more w m b h each zero lt = h
+one_more w m b h each (suc i) lt = each i (omega (arith, lt))
+
+pub each_before : (t : Scalar) (n : ℕ) (ts : List Scalar) (m : List ℕ) → IsMemory (map modulus (replicate n t ++ ts)) m → EachIndex (take n m) (λ i. slice_index (take n m) i < modulus t)
+each_before t zero ts m is = λ i lt. absurd (omega (arith, lt))
+each_before t (suc n) ts [] is = absurd is
+each_before t (suc n) ts (w ∷ m) is = one_more w (take n m) (modulus t) is.0 (each_before t n ts m is.1)
+
+pub all_behind : (t : Scalar) (n : ℕ) (ts : List Scalar) (m : List ℕ) → IsMemory (map modulus (replicate n t ++ ts)) m → (n ≤ length m) × IsMemory (map modulus ts) (drop n m)
+all_behind t zero ts m is = (omega arith, is)
+all_behind t (suc n) ts [] is = absurd is
+all_behind t (suc n) ts (w ∷ m) is = let h = all_behind t n ts m is.1 in let le = h.0 in (omega (arith, le), h.1)
+
+-- the bounds of the globals from a place on: those of the first one's cells, and the others
+pub bounds_from : {X : Type 0} (f : X → Global) (xs : List X) (i : ℕ) (x : X) → i < length xs → x ≡ get_or xs i x → bounds_of (map f (drop i xs)) ≡ map modulus (replicate (cells (f x)) (f x).of ++ cell_types (map f (drop (i + 1) xs)))
+bounds_from f xs i x lt e = at_drop_more (λ ys. bounds_of (map f ys)) xs i x lt ∙ ap (λ y. bounds_of (map f (y ∷ drop (i + 1) xs))) (sym e)
 
 -- and none from their end on
-pub no_cells : {X : Type 0} (f : X → Global) (xs : List X) (i : ℕ) → length xs ≤ i → length (initial_from (map f (drop i xs))) ≡ 0
-no_cells f [] zero le = refl
-no_cells f [] (suc i) le = refl
-no_cells f (x ∷ xs) zero le = absurd (omega arith)
-no_cells f (x ∷ xs) (suc i) le = no_cells f xs i (omega arith)
+pub no_bounds : {X : Type 0} (f : X → Global) (xs : List X) (i : ℕ) → length xs ≤ i → bounds_of (map f (drop i xs)) ≡ []
+no_bounds f xs i le = ap (λ ys. bounds_of (map f ys)) (drop_all i xs le)
 
-pub counted_on : (count cells words from next all : ℕ) → count + from ≡ all → from ≡ words + next → cells ≡ words → (count + cells) + next ≡ all
-counted_on count cells words from next all e f g = omega arith
+-- no cell is left where no word is
+pub none_left : (n : ℕ) (m : List ℕ) → n ≡ length m → IsMemory [] (drop n m)
+none_left zero [] e = tt
+none_left zero (w ∷ m) e = absurd (omega (arith, e))
+none_left (suc n) [] e = absurd (omega (arith, e))
+none_left (suc n) (w ∷ m) e = none_left n m (omega (arith, e))
 
-pub counted_fits : (count cells words from next all : ℕ) → count + from ≡ all → from ≡ words + next → cells ≡ words → all ≤ MOST_CELLS → count + cells < 2 ^ 64
-counted_fits count cells words from next all e f g few = omega arith
-
-pub counted_all : (count from all : ℕ) → count + from ≡ all → from ≡ 0 → count ≡ all
-counted_all count from all e f = omega arith
+pub none_over : (n : ℕ) (m : List ℕ) → n ≤ length m → IsMemory [] (drop n m) → n ≡ length m
+none_over zero [] le is = refl
+none_over zero (w ∷ m) le is = absurd is
+none_over (suc n) [] le is = absurd (omega (arith, le))
+none_over (suc n) (w ∷ m) le is = ap suc (none_over n m (omega (arith, le)) is)

@@ -81,9 +81,9 @@ impl<A: Allocator + Copy> AtomicThread<A> {
         })
     }
 
-    /// Carries the thread on until `steps` instructions are made, an outermost transaction is left, or the thread is over. An
-    /// outermost transaction finds `found`, a word below 2^32 for each cell; a thread that stands inside one goes on in its own
-    /// memory. A thread that is over makes no instruction.
+    /// Carries the thread on until `steps` instructions are made, an outermost transaction is left, or the thread is
+    /// over. An outermost transaction finds `found`, for each cell a word of its type; a thread that stands inside one
+    /// goes on in its own memory. A thread that is over makes no instruction.
     ///
     /// The error comes only where memory is refused: the instructions before are made and counted, and the one that was not made
     /// leaves no trace.

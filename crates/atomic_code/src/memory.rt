@@ -1,53 +1,47 @@
 //! Memories of a code.
 
-ghost use Rattle.std.specs.Prelude.{◌≡◌, ◌<◌, ◌≤◌, ◌^◌, ◌↔◌, EachIndex, IsTrue, length, map, slice_index};
+ghost use Rattle.std.specs.Prelude.{◌≡◌, ◌<◌, ◌↔◌, EachIndex, IsTrue, map, slice_index};
 ghost use Rattle.syntax.specs.Behaviours.{IsMemory};
-ghost use Rattle.syntax.specs.Names.{first_words, initial_from};
+ghost use Rattle.syntax.specs.Names.{bounds_of as cell_bounds};
+ghost use Rattle.syntax.specs.Numbers.{modulus};
 ghost use Rattle.syntax.specs.Views.{global_of};
 ghost use Rattle.bytecode.specs.Valid.{bounds_of};
 
-use bytecode::{Code, MOST_CELLS};
+use bytecode::Code;
+use lex::token::Scalar;
 use std::alloc::Allocator;
 use syntax::tree::Global;
 
-// The number of a global's cells, or of its initialisers where these are more.
-fn cells_of<A: Allocator>(global: &Global<A>) -> usize
-    ensures { result ≡ length (first_words (global_of global.now)) }
+// Whether these are words of a type.
+fn are_words(of: Scalar, words: &[u64]) -> bool
+    ensures { IsTrue result ↔ EachIndex words.now (λ i. slice_index words.now i < modulus of) }
 {
-    let cells = match global.length {
-        Some((length, _)) => length as usize,
-        None => 1,
-    };
-    let first = global.first.len();
-    if cells < first { first } else { cells }
-}
-
-fn count_cells<A: Allocator>(globals: &[Global<A>]) -> usize
-    requires { length (initial_from (map global_of globals.now)) ≤ MOST_CELLS }
-    ensures { result ≡ length (initial_from (map global_of globals.now)) }
-{
-    let mut count: usize = 0;
-    'each: for global in globals {
-        count += cells_of(global);
+    match of {
+        Scalar::Int | Scalar::Unsigned => words.iter().all(|word| *word < 4_294_967_296),
     }
-    count
 }
 
-fn are_words(words: &[u64]) -> bool
-    ensures { IsTrue result ↔ EachIndex words.now (λ i. slice_index words.now i < 2 ^ 32) }
+// Whether these are as many words as the globals have cells, each of its cell's type.
+fn are_cells<A: Allocator>(globals: &[Global<A>], words: &[u64]) -> bool
+    ensures { IsTrue result ↔ IsMemory (cell_bounds (map global_of globals.now)) words.now }
 {
-    words.iter().all(|word| *word < 4_294_967_296)
+    let mut from: usize = 0;
+    'each: for global in globals {
+        let cells = global.cell_count();
+        if cells > words.len() - from {
+            return false;
+        }
+        if !are_words(global.of, &words[from..from + cells]) {
+            return false;
+        }
+        from += cells;
+    }
+    from == words.len()
 }
 
-/// Whether these are a memory of the code: a word below 2^32 for each cell. Takes no memory.
+/// Whether these are a memory of the code: for each cell a word of its type. Takes no memory.
 pub fn is_memory<A: Allocator>(code: &Code<A>, words: &[u64]) -> bool
     ensures { IsTrue result ↔ IsMemory (bounds_of code.now) words.now }
 {
-    // The prover learns here that the code is valid, so that its cells are few.
-    code.known();
-    let cells = count_cells(code.globals());
-    if words.len() != cells {
-        return false;
-    }
-    are_words(words)
+    are_cells(code.globals(), words)
 }
