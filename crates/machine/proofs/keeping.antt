@@ -1,3 +1,5 @@
+-- words of cells fit registers
+pub mod Words
 -- what a step of the core does with begins and words
 pub mod Operations
 -- what a kept thread shows

@@ -17,17 +17,17 @@ abbrev pub begins_of : {S : Type 0} → Option (Attempt S) → List S
 begins_of None = []
 begins_of {S} (Some a) = map (λ (k : Checkpoint S). k.saved) a.inner ++ a.saved ∷ []
 
--- what each of these pairs has for its address is a word
+-- what each of these pairs has for its address fits a register
 abbrev pub HaveWords : List (ℕ × ℕ) → Type 0
-HaveWords pairs = AllByRecursion (λ (p : ℕ × ℕ). p.1 < 2 ^ 32) pairs
+HaveWords pairs = AllByRecursion (λ (p : ℕ × ℕ). p.1 < 2 ^ 64) pairs
 
--- a read has a word in hand; a commit that stores is of the outermost transaction
+-- a read has a word in hand that fits a register; a commit that stores is of the outermost transaction
 abbrev pub HasInHand : {S : Type 0} → List (Checkpoint S) → Phase → Type 0
-HasInHand inner (ReadsLock word) = word < 2 ^ 32
+HasInHand inner (ReadsLock word) = word < 2 ^ 64
 HasInHand inner (Stores i) = inner ≡ []
 HasInHand inner _ = Unit {0}
 
--- whatever an attempt may yet give to a register is a word
+-- whatever an attempt may yet give to a register fits it
 pub record GivesWords {S : Type 0} (a : Attempt S) : Type 0 where
   pub writes : HaveWords a.writes
   pub marks : AllByRecursion (λ (k : Checkpoint S). HaveWords k.writes) a.inner

@@ -1,12 +1,12 @@
 -- A thread as its contracts see it.
-use Rattle.std.specs.Prelude.{◌≡◌, ◌<◌, ◌≤◌, ◌^◌, ℕ, Bool, false, List, [], Option, None, Some, IsSomeAnd, length}
+use Rattle.std.specs.Prelude.{◌≡◌, ◌<◌, ◌≤◌, ℕ, Bool, false, List, [], Option, None, Some, IsSomeAnd, length, slice_index}
 use Rattle.syntax.specs.declared.numbers.Status.{Status}
 use Rattle.syntax.specs.declared.numbers.Status.TheVariants.{Running}
 use Rattle.nesting.specs.Begins.{Saved}
 use Rattle.bytecode.specs.Effects.{Effect}
 use Rattle.bytecode.specs.Effects.Effect.{Begin, Print}
 use Rattle.bytecode.specs.Beginning.{beginning}
-use Rattle.bytecode.specs.Code.{Code, Configuration, effect}
+use Rattle.bytecode.specs.Code.{Code, Configuration, bounds_of, effect}
 use Rattle.frames.specs.Open.{saved_in}
 use Rattle.frames.specs.Stack.{HasRoom}
 use Rattle.frames.specs.declared.doing.Doing.{Doing}
@@ -91,10 +91,10 @@ pub record SwapsNext (code : Code) (s : ThreadState) (from : ℕ) : Type 0 where
 abbrev pub told_twice : Code → Thread Configuration → (word lock : ℕ) → Next Configuration
 told_twice code th word lock = told (effect code) (told (effect code) th (Value word)).thread (Value lock)
 
--- a loaded cell's word is a word
-abbrev pub IsWordOf : Access → Answer → Type 0
-IsWordOf (LoadWord address) (Value word) = word < 2 ^ 32
-IsWordOf _ _ = Unit {0}
+-- a loaded cell's word is a word of the cell's type
+abbrev pub IsWordOf : Code → Access → Answer → Type 0
+IsWordOf code (LoadWord address) (Value word) = word < slice_index (bounds_of code) address
+IsWordOf code _ _ = Unit {0}
 
 -- thread t of a code at its beginning
 abbrev pub first_thread : Code → ℕ → Thread Configuration

@@ -18,7 +18,7 @@ pub trait Loads {
     /// Loads the cell's word, and then the lock's value.
     fn load(&mut self, cell: u32) -> (u64, u64)
         requires { MayLoad leads can_step self.old cell }
-        ensures word { result.0 < 2 ^ 32 }
+        ensures word { result.0 < 2 ^ 64 }
         ensures count { (code : Plain) → (s : Self) → (from : Counted) → (n : ℕ) → (m : ℕ) → (at : Counted) → IsLoad leads can_step code s from n m self.old at cell → at.accesses + 2 < 2 ^ 64 }
         ensures leads { (code : Plain) → (s : Self) → (from : Counted) → (n : ℕ) → (at : Counted) → leads code s from n self.old at → LoadsNext code at.thread cell → IsThreadOf code (loaded code at result.0 result.1).thread → leads code s from (n + 2) self.new (loaded code at result.0 result.1) };
 

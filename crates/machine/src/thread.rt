@@ -162,7 +162,7 @@ impl<A: Allocator + Copy> Thread<A> {
         requires of { IsThreadOf code.now self.old.thread }
         requires prepared { IsPrepared code.now self.old }
         requires fits { IsAnswerTo (access (effect code.now) self.old.thread) answer }
-        requires word { IsWordOf (access (effect code.now) self.old.thread) answer }
+        requires word { IsWordOf code.now (access (effect code.now) self.old.thread) answer }
         requires count { self.old.accesses + cost (access (effect code.now) self.old.thread) < 2 ^ 64 }
         ensures thread { self.new.thread ≡ (told_spec (effect code.now) self.old.thread answer).thread }
         ensures event { result ≡ (told_spec (effect code.now) self.old.thread answer).event }
@@ -224,7 +224,7 @@ impl<A: Allocator + Copy> Thread<A> {
         requires stands { StandsAt code.now self.old doing }
         requires prepared { IsPrepared code.now self.old }
         requires fits { IsAnswerTo (access (effect code.now) self.old.thread) answer }
-        requires word { IsWordOf (access (effect code.now) self.old.thread) answer }
+        requires word { IsWordOf code.now (access (effect code.now) self.old.thread) answer }
         requires count { self.old.accesses + cost (access (effect code.now) self.old.thread) < 2 ^ 64 }
         ensures thread { self.new.thread ≡ (told_spec (effect code.now) self.old.thread answer).thread }
         ensures event { result.0 ≡ (told_spec (effect code.now) self.old.thread answer).event }
@@ -487,7 +487,7 @@ impl<A: Allocator + Copy> Thread<A> {
         requires compares { ComparesNext code.now self.old time place }
         requires entry { ComparesEntry self.old time place (Some entry) }
         requires next { place + 1 < 2 ^ 64 }
-        requires word { entry.1 < 2 ^ 32 }
+        requires word { IsWordOf code.now (Access.LoadWord entry.0) (Value entry.1) }
         requires count { self.old.accesses + 1 < 2 ^ 64 }
         ensures thread { self.new.thread ≡ (told_spec (effect code.now) self.old.thread (Value entry.1)).thread }
         ensures next { ComparesNext code.now self.new time (place + 1) }
@@ -515,7 +515,7 @@ impl<A: Allocator + Copy> Thread<A> {
         requires compares { ComparesNext code.now self.old time place }
         requires entry { ComparesEntry self.old time place (Some entry) }
         requires differs { word ≢ entry.1 }
-        requires word { word < 2 ^ 32 }
+        requires word { IsWordOf code.now (Access.LoadWord entry.0) (Value word) }
         requires count { self.old.accesses + 1 < 2 ^ 64 }
         ensures thread { self.new.thread ≡ (told_spec (effect code.now) self.old.thread (Value word)).thread }
         ensures of { IsThreadOf code.now self.new.thread }

@@ -62,7 +62,7 @@ impl<A: Allocator + Copy> KeptThread<A> {
         requires operation { IsSomeAnd (asks (effect code.now) (shown (kept self.old))) IsValidated }
         requires entry { IsSomeAnd self.old.core.attempt (λ a. ComparesWith time place (Some entry) a) }
         requires next { place + 1 < 2 ^ 64 }
-        requires word { entry.1 < 2 ^ 32 }
+        requires word { entry.1 < 2 ^ 64 }
         ensures makes { Makes code.now (told_spec (effect code.now) (shown (kept self.old)) (Value entry.1)) (kept self.new) Event.Quiet }
         ensures operation { IsSomeAnd (asks (effect code.now) (shown (kept self.new))) IsValidated }
         ensures next { IsSomeAnd self.new.core.attempt (λ a. IsComparing time (place + 1) a) }
@@ -91,7 +91,7 @@ impl<A: Allocator + Copy> KeptThread<A> {
         requires operation { IsSomeAnd (asks (effect code.now) (shown (kept self.old))) IsValidated }
         requires entry { IsSomeAnd self.old.core.attempt (λ a. ComparesWith time place (Some entry) a) }
         requires differs { word ≢ entry.1 }
-        requires word { word < 2 ^ 32 }
+        requires word { word < 2 ^ 64 }
         ensures { Makes code.now (told_spec (effect code.now) (shown (kept self.old)) (Value word)) (kept self.new) Event.Abort }
     {
         // The prover names by it the code.

@@ -29,6 +29,7 @@ use Rattle.machine.specs.States.{Ready, IsReady, IsWordOf, asks, asks_by, asks_o
 use Rattle.machine.specs.inner.Kept.{Kept, shown, shown_from, RunsKept, MayGoBack, Makes, back_by, op_by, op_outside, op_asked}
 use Rattle.machine.proofs.keeping.Operations.{WritesWord}
 use Rattle.machine.proofs.keeping.Makes.{Resumes, may_go_back, core_makes}
+use Rattle.machine.proofs.keeping.Words.{FitsRegister, word_fits}
 
 module _ (code : Code) (c : Configuration) where
   -- a return goes on
@@ -156,7 +157,7 @@ pub record CoreTold (k : Kept) (y : Answer) (new : CoreState) (r : Outcome) : Ty
   pub back : IfSome (stepped k.core y).back (λ s. new.saved ≡ s)
 
 module _ (code : Code) (law : BeginsStayOpen code) (k : Kept) (o : Op) (y : Answer) (running : k.status ≡ Running) (runs : RunsKept code k) (x : Doing) (t : Tells code k.configuration x)
-    (asked : op_asked x k.core.attempt k.trapping ≡ Some o) (r : Ready) (same_asked : r.asked ≡ k.core.asked) (same_saved : r.saved ≡ k.core.saved) (ready : IsReady code (shown k) r) (word : IsWordOf (access (effect code) (shown k)) y) where
+    (asked : op_asked x k.core.attempt k.trapping ≡ Some o) (r : Ready) (same_asked : r.asked ≡ k.core.asked) (same_saved : r.saved ≡ k.core.saved) (ready : IsReady code (shown k) r) (word : IsWordOf code (access (effect code) (shown k)) y) where
   asks_some : asks (effect code) (shown k) ≡ Some o
   asks_some = asks_is code k running x t ∙ asked
 
@@ -166,8 +167,8 @@ module _ (code : Code) (law : BeginsStayOpen code) (k : Kept) (o : Op) (y : Answ
   saves : o ≡ op.Begin → k.core.saved ≡ saved_in k.configuration
   saves e = sym same_saved ∙ ready.saved (asks_some ∙ ap Some e)
 
-  words : IsWordOf (core_access k.core.attempt o) y
-  words = subst (λ (z : Access). IsWordOf z y) (access_is code k o asks_some) word
+  words : FitsRegister (core_access k.core.attempt o) y
+  words = subst (λ (z : Access). FitsRegister z y) (access_is code k o asks_some) (word_fits code (access (effect code) (shown k)) y word)
 
   -- an answer to the thread's access is one to what the core was asked
   pub operation_answered : IsAnswerTo (access (effect code) (shown k)) y → IsAnswered k.core y

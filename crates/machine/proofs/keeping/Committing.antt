@@ -20,11 +20,12 @@ use Rattle.norec_core.specs.Cores.{IsStoring}
 use Rattle.norec_core.proofs.Committing.{begin_keeps, store_access_is, store_is, store_keeps, swap_under}
 use Rattle.machine.specs.declared.event.Event.{Event}
 use Rattle.machine.specs.Threads.{access, told}
-use Rattle.machine.specs.States.{IsWordOf, asks}
+use Rattle.machine.specs.States.{asks}
 use Rattle.machine.specs.inner.Kept.{Kept, Makes, MayGoBack, RunsKept, back_by, op_asked, shown, shown_from}
 use Rattle.machine.proofs.keeping.Asking.{access_is, access_local, asks_is}
 use Rattle.machine.proofs.keeping.Makes.{Resumes, core_makes, may_go_back}
 use Rattle.machine.proofs.keeping.Reading.{some_and}
+use Rattle.machine.proofs.keeping.Words.{FitsRegister}
 
 module _ (code : Code) (law : BeginsStayOpen code) (k : Kept) (running : k.status ≡ Running) (runs : RunsKept code k) (t : Tells code k.configuration doing.Commit) where
   module _ (a : Attempt Saved) (under : k.core.attempt ≡ Some a) where
@@ -34,7 +35,7 @@ module _ (code : Code) (law : BeginsStayOpen code) (k : Kept) (running : k.statu
     pub commit_access_is : access (effect code) (shown k) ≡ core_access k.core.attempt op.Commit
     commit_access_is = access_is code k op.Commit asked
 
-    module _ (y : Answer) (word : IsWordOf (core_access k.core.attempt op.Commit) y) where
+    module _ (y : Answer) (word : FitsRegister (core_access k.core.attempt op.Commit) y) where
       abbrev n : CoreStep Saved
       n = core_step k.core.saved k.core.attempt op.Commit y
 
@@ -49,8 +50,8 @@ module _ (code : Code) (law : BeginsStayOpen code) (k : Kept) (running : k.statu
     swapping : (a : Attempt Saved) × (k.core.attempt ≡ Some a)
     swapping = swap_under k.core.attempt from swaps
 
-    swap_word : (y : Answer) → IsWordOf (core_access k.core.attempt op.Commit) y
-    swap_word y = subst (λ (x : Access). IsWordOf x y) (sym swaps) tt
+    swap_word : (y : Answer) → FitsRegister (core_access k.core.attempt op.Commit) y
+    swap_word y = subst (λ (x : Access). FitsRegister x y) (sym swaps) tt
 
     pub swap_back : (y : Answer) (s : Saved) (r : Outcome) → r ≡ (core_step k.core.saved k.core.attempt op.Commit y).outcome → IfSome (core_step k.core.saved k.core.attempt op.Commit y).back (λ z. s ≡ z) → MayGoBack code k.configuration s (back_by (effect code k.configuration) r (restored k.configuration s))
     swap_back y = commit_back swapping.0 swapping.1 y (swap_word y)
@@ -79,12 +80,12 @@ module _ (code : Code) (law : BeginsStayOpen code) (k : Kept) (running : k.statu
     core_stores : core_access k.core.attempt op.Commit ≡ store_access b.snapshot (slice_get b.writes place)
     core_stores = ap (λ (z : Option (Attempt Saved)). core_access z op.Commit) storing.1 ∙ store_access_is k.core.saved b place storing.2
 
-    words_at : (snapshot : ℕ) (r : Option (ℕ × ℕ)) (y : Answer) → IsWordOf (store_access snapshot r) y
+    words_at : (snapshot : ℕ) (r : Option (ℕ × ℕ)) (y : Answer) → FitsRegister (store_access snapshot r) y
     words_at snapshot None y = tt
     words_at snapshot (Some p) y = tt
 
-    store_word : (y : Answer) → IsWordOf (core_access k.core.attempt op.Commit) y
-    store_word y = subst (λ (x : Access). IsWordOf x y) (sym core_stores) (words_at b.snapshot (slice_get b.writes place) y)
+    store_word : (y : Answer) → FitsRegister (core_access k.core.attempt op.Commit) y
+    store_word y = subst (λ (x : Access). FitsRegister x y) (sym core_stores) (words_at b.snapshot (slice_get b.writes place) y)
 
     store_stays : (y : Answer) (s : Saved) → IfSome (core_step k.core.saved k.core.attempt op.Commit y).back (λ z. s ≡ z)
     store_stays y s =
@@ -109,8 +110,8 @@ module _ (code : Code) (law : BeginsStayOpen code) (k : Kept) (to : ℕ) (runnin
   begin_access = access_is code k op.Begin begin_asked ∙ loads
 
   module _ (same : k.core.saved ≡ saved_in k.configuration) (lock : ℕ) where
-    begin_word : IsWordOf (core_access k.core.attempt op.Begin) (Value lock)
-    begin_word = subst (λ (x : Access). IsWordOf x (Value lock)) (sym loads) tt
+    begin_word : FitsRegister (core_access k.core.attempt op.Begin) (Value lock)
+    begin_word = subst (λ (x : Access). FitsRegister x (Value lock)) (sym loads) tt
 
     begin_stays : (s : Saved) → IfSome (core_step k.core.saved k.core.attempt op.Begin (Value lock)).back (λ z. s ≡ z)
     begin_stays s =

@@ -19,12 +19,13 @@ use Rattle.norec_core.specs.Saved.{if_some, core_step_as}
 use Rattle.machine.specs.declared.event.Event.{Event}
 use Rattle.machine.specs.Threads.{Thread, Next, told, resumed, resume, status_after, commit_event, done_event, event_of}
 use Rattle.machine.specs.Standing.{begins_of, GivesWordsIf}
-use Rattle.machine.specs.States.{asks_by, IsWordOf}
+use Rattle.machine.specs.States.{asks_by}
 use Rattle.machine.specs.inner.Kept.{Kept, shown_from, shown, AreWithin, RunsKept, KeptBy, back_done, back_by, MayGoBack, event_by, event_done, commit_told, Makes}
 use Rattle.machine.proofs.keeping.Operations.{Does, is_cancel, is_plain, cancels_so, plain_stays, tells_commit, WritesWord, does}
 use Rattle.machine.proofs.keeping.Operations.Does.{goes, reads, works, begins, commits, cancels, drops, releases}
 use Rattle.machine.proofs.keeping.Seen.{agree}
 use Rattle.machine.proofs.keeping.Steps.{Matches, matches, told_asked, core_shown, Leaves, leaves}
+use Rattle.machine.proofs.keeping.Words.{FitsRegister}
 
 module _ (x : Effect Configuration) (o : Op) (q : Matches x o) where
   -- only a cancel goes back where it is done
@@ -111,7 +112,7 @@ module _ (code : Code) (law : BeginsStayOpen code) where
     pub event : e ≡ event_by (effect code k.configuration) r l.core.attempt
 
   module _ (k : Kept) (o : Op) (y : Answer) (running : k.status ≡ Running) (runs : RunsKept code k) (asked : asks_by (shown k) (shown k).attempt (effect code k.configuration) ≡ Some o)
-      (same : o ≡ op.Begin → k.core.saved ≡ saved_in k.configuration) (writes : WritesWord o) (word : IsWordOf (core_access k.core.attempt o) y) where
+      (same : o ≡ op.Begin → k.core.saved ≡ saved_in k.configuration) (writes : WritesWord o) (word : FitsRegister (core_access k.core.attempt o) y) where
     abbrev c : Configuration
     c = k.configuration
 

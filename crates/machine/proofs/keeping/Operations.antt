@@ -15,8 +15,8 @@ use Rattle.norec_core.specs.declared.step.Phase.TheVariants.{AtOperation, ReadsL
 use Rattle.norec_core.specs.Attempts.{Checkpoint, Attempt, Completed}
 use Rattle.norec_core.specs.Phases.{CoreStep, on, on_snapshot, validating, idle, core_word, core_read, core_store, core_swap, core_commit, core_cancel, core_operation, core_check, core_time, core_compare, core_phase, core_begin, core_step, core_access, phase_access, operation_access, read_access}
 use Rattle.machine.specs.Standing.{begins_of, HaveWords, HasInHand, GivesWords, GivesWordsIf}
-use Rattle.machine.specs.States.{IsWordOf}
 use Rattle.machine.proofs.Levels.{all_left}
+use Rattle.machine.proofs.keeping.Words.{FitsRegister}
 
 -- operations that leave the begins as they are
 abbrev pub is_plain : Op → Bool
@@ -49,9 +49,9 @@ plain_stays (op.Write a v) h = refl
 plain_stays op.Irrevocable h = refl
 plain_stays _ h = absurd (cc)
 
--- a word that an operation writes
+-- a word that an operation writes fits a register
 abbrev pub WritesWord : Op → Type 0
-WritesWord (op.Write a v) = v < 2 ^ 32
+WritesWord (op.Write a v) = v < 2 ^ 64
 WritesWord _ = Unit {0}
 
 abbrev pub tells_commit : {S : Type 0} → Option (Attempt S) → Option Completed → Type 0
@@ -60,7 +60,7 @@ tells_commit (Some a) c = c ≡ None
 
 pub data Does {S : Type 0} (now : S) (old : List S) (o : Op) (n : CoreStep S) : Type 0 where
   goes : n.outcome ≡ outcome.Going → n.back ≡ None → begins_of n.attempt ≡ old → GivesWordsIf n.attempt → Does now old o n
-  reads : (v : ℕ) → is_read o ≡ true → v < 2 ^ 32 → n.outcome ≡ outcome.Read v → n.back ≡ None → begins_of n.attempt ≡ old → GivesWordsIf n.attempt → Does now old o n
+  reads : (v : ℕ) → is_read o ≡ true → v < 2 ^ 64 → n.outcome ≡ outcome.Read v → n.back ≡ None → begins_of n.attempt ≡ old → GivesWordsIf n.attempt → Does now old o n
   works : is_plain o ≡ true → n.outcome ≡ outcome.Done → n.back ≡ None → begins_of n.attempt ≡ old → GivesWordsIf n.attempt → Does now old o n
   begins : o ≡ op.Begin → n.outcome ≡ outcome.Done → n.back ≡ None → begins_of n.attempt ≡ now ∷ old → GivesWordsIf n.attempt → Does now old o n
   commits : (s : S) → o ≡ op.Commit → n.outcome ≡ outcome.Done → n.back ≡ None → old ≡ s ∷ begins_of n.attempt → GivesWordsIf n.attempt → tells_commit n.attempt n.completed → Does now old o n
@@ -69,15 +69,15 @@ pub data Does {S : Type 0} (now : S) (old : List S) (o : Op) (n : CoreStep S) : 
   releases : o ≡ op.Release → n.outcome ≡ outcome.Done → n.back ≡ None → n.attempt ≡ None → Does now old o n
 
 -- a word that was written is one of a log of words
-pub written_word : (ad : ℕ) (ws : List (ℕ × ℕ)) (v : ℕ) → HaveWords ws → written ad ws ≡ Some v → v < 2 ^ 32
+pub written_word : (ad : ℕ) (ws : List (ℕ × ℕ)) (v : ℕ) → HaveWords ws → written ad ws ≡ Some v → v < 2 ^ 64
 written_word ad [] v h e = absurd (cc)
 written_word ad (p ∷ ps) v h e = at (p.0 == ad) e (written_word ad ps v h.1)
   where
-    at : (b : Bool) → cond b (Some p.1) (written ad ps) ≡ Some v → (written ad ps ≡ Some v → v < 2 ^ 32) → v < 2 ^ 32
-    at true f g = let same : p.1 ≡ v = cc in subst (λ x. x < 2 ^ 32) same h.0
+    at : (b : Bool) → cond b (Some p.1) (written ad ps) ≡ Some v → (written ad ps ≡ Some v → v < 2 ^ 64) → v < 2 ^ 64
+    at true f g = let same : p.1 ≡ v = cc in subst (λ x. x < 2 ^ 64) same h.0
     at false f g = g f
 
-pub put_words : (ad v : ℕ) (ws : List (ℕ × ℕ)) → v < 2 ^ 32 → HaveWords ws → HaveWords (put ad v ws)
+pub put_words : (ad v : ℕ) (ws : List (ℕ × ℕ)) → v < 2 ^ 64 → HaveWords ws → HaveWords (put ad v ws)
 put_words ad v [] g h = (g, tt)
 put_words ad v (p ∷ ps) g h = at (p.0 == ad) (put_words ad v ps g h.1)
   where
@@ -109,7 +109,7 @@ module _ {S : Type 0} (now : S) (a : Attempt S) (w : GivesWords a) where
     validates : Does now old o (validating a)
     validates = going (record a { phase = ValidatesTime }) (in_phase ValidatesTime tt)
 
-    gives : (b : Attempt S) (v : ℕ) → is_read o ≡ true → v < 2 ^ 32 → Same b → Does now old o (on b (outcome.Read v))
+    gives : (b : Attempt S) (v : ℕ) → is_read o ≡ true → v < 2 ^ 64 → Same b → Does now old o (on b (outcome.Read v))
     gives b v r h s = reads v r h refl refl s.0 s.1
 
     either : (t : Bool) (m n : CoreStep S) → Does now old o m → Does now old o n → Does now old o (cond t m n)
@@ -136,12 +136,12 @@ module _ {S : Type 0} (now : S) (a : Attempt S) (w : GivesWords a) where
     compare t i None (Value lock) = either (lock == t) _ _ (going_snapshot (record a { snapshot = t; phase = AtOperation }) (refl, record { writes = w.writes; marks = w.marks; in_hand = tt })) validates
     compare t i r z = stays
 
-  word : (ad : ℕ) (kept : Bool) (z : Answer) → IsWordOf (LoadWord ad) z → Does now old (op.Read ad) (core_word a kept z)
+  word : (ad : ℕ) (kept : Bool) (z : Answer) → FitsRegister (LoadWord ad) z → Does now old (op.Read ad) (core_word a kept z)
   word ad true (Value v) h = gives (op.Read ad) a v refl h (refl, w)
   word ad false (Value v) h = going (op.Read ad) (record a { phase = ReadsLock v }) (in_phase (op.Read ad) (ReadsLock v) h)
   word ad kept z h = stays (op.Read ad)
 
-  read : (ad : ℕ) (r : Option ℕ) (z : Answer) → r ≡ written ad a.writes → IsWordOf (read_access ad r) z → Does now old (op.Read ad) (core_read a r z)
+  read : (ad : ℕ) (r : Option ℕ) (z : Answer) → r ≡ written ad a.writes → FitsRegister (read_access ad r) z → Does now old (op.Read ad) (core_read a r z)
   read ad (Some v) z e h = gives (op.Read ad) a v refl (written_word ad a.writes v w.writes (sym e)) (refl, w)
   read ad None z e h = word ad a.kept z h
 
@@ -192,7 +192,7 @@ module _ {S : Type 0} (now : S) (a : Attempt S) (w : GivesWords a) where
   irrevocable true z = works refl refl refl refl w
   irrevocable false z = swap op.Irrevocable (record a { kept = true }) outcome.Done z (works refl refl refl refl (record { writes = w.writes; marks = w.marks; in_hand = w.in_hand }))
 
-  operation : (o : Op) (z : Answer) → a.phase ≡ AtOperation → WritesWord o → IsWordOf (operation_access a o) z → Does now old o (core_operation now a o z)
+  operation : (o : Op) (z : Answer) → a.phase ≡ AtOperation → WritesWord o → FitsRegister (operation_access a o) z → Does now old o (core_operation now a o z)
   operation op.Begin z q g h = begins refl refl refl refl (record { writes = w.writes; marks = (w.writes, w.marks); in_hand = hand (record { saved = now; writes = a.writes } ∷ a.inner) q })
   operation (op.Read ad) z q g h = read ad (written ad a.writes) z refl h
   operation (op.Write ad v) z q g h = works refl refl refl refl (record { writes = put_words ad v a.writes g w.writes; marks = w.marks; in_hand = w.in_hand })
@@ -202,7 +202,7 @@ module _ {S : Type 0} (now : S) (a : Attempt S) (w : GivesWords a) where
   operation op.Irrevocable z q g h = irrevocable a.kept z
   operation op.Release z q g h = releases refl refl refl refl
 
-  check : (o : Op) (v : ℕ) (z : Answer) → v < 2 ^ 32 → Does now old o (core_check a o v z)
+  check : (o : Op) (v : ℕ) (z : Answer) → v < 2 ^ 64 → Does now old o (core_check a o v z)
   check (op.Read ad) v (Value lock) h = either (op.Read ad) (lock == a.snapshot) _ _ (gives (op.Read ad) (record a { reads = a.reads ++ (ad, v) ∷ []; phase = AtOperation }) v refl h (refl, record { writes = w.writes; marks = w.marks; in_hand = tt })) (validates (op.Read ad))
   check (op.Read ad) v Done h = stays (op.Read ad)
   check (op.Read ad) v Won h = stays (op.Read ad)
@@ -215,7 +215,7 @@ module _ {S : Type 0} (now : S) (a : Attempt S) (w : GivesWords a) where
   check op.Irrevocable v z h = stays op.Irrevocable
   check op.Release v z h = stays op.Release
 
-  pub phase : (q : Phase) (o : Op) (z : Answer) → a.phase ≡ q → WritesWord o → IsWordOf (phase_access a q o) z → Does now old o (core_phase now a q o z)
+  pub phase : (q : Phase) (o : Op) (z : Answer) → a.phase ≡ q → WritesWord o → FitsRegister (phase_access a q o) z → Does now old o (core_phase now a q o z)
   phase AtOperation o z e g h = operation o z e g h
   phase (ReadsLock v) o z e g h = check o v z (subst (HasInHand a.inner) e w.in_hand)
   phase ValidatesTime o z e g h = time o z
@@ -229,9 +229,9 @@ module _ {S : Type 0} (now : S) (a : Attempt S) (w : GivesWords a) where
   phase (Stores i) op.Irrevocable z e g h = stays op.Irrevocable
   phase (Stores i) op.Release z e g h = stays op.Release
 
--- a word that a read has is a word
-pub reads_word : {S : Type 0} (now : S) (old : List S) (o : Op) (n : CoreStep S) (v : ℕ) → Does now old o n → n.outcome ≡ outcome.Read v → v < 2 ^ 32
-reads_word now old o n v (reads w r lt e f b g) h = let same : w ≡ v = cc in subst (λ x. x < 2 ^ 32) same lt
+-- a word that a read has fits a register
+pub reads_word : {S : Type 0} (now : S) (old : List S) (o : Op) (n : CoreStep S) (v : ℕ) → Does now old o n → n.outcome ≡ outcome.Read v → v < 2 ^ 64
+reads_word now old o n v (reads w r lt e f b g) h = let same : w ≡ v = cc in subst (λ x. x < 2 ^ 64) same lt
 reads_word now old o n v (goes e f b g) h = absurd (cc)
 reads_word now old o n v (works r e f b g) h = absurd (cc)
 reads_word now old o n v (begins r e f b g) h = absurd (cc)
@@ -266,6 +266,6 @@ module _ {S : Type 0} (now : S) where
   outside op.Release z = still op.Release
 
 -- each step of the core
-pub does : {S : Type 0} (now : S) (att : Option (Attempt S)) (o : Op) (z : Answer) → GivesWordsIf att → WritesWord o → IsWordOf (core_access att o) z → Does now (begins_of att) o (core_step now att o z)
+pub does : {S : Type 0} (now : S) (att : Option (Attempt S)) (o : Op) (z : Answer) → GivesWordsIf att → WritesWord o → FitsRegister (core_access att o) z → Does now (begins_of att) o (core_step now att o z)
 does now None o z w g h = outside now o z
 does now (Some a) o z w g h = phase now a w a.phase o z refl g h

@@ -120,7 +120,7 @@ module _ (code : Code) (law : BeginsStayOpen code) where
       going_on : (x : Effect Configuration) → n.outcome ≡ outcome.Going → n.back ≡ None → begins_of n.attempt ≡ ss → GivesWordsIf n.attempt → LeavesTo x
       going_on x e f b w = to_at x outcome.Going None c Running e f refl refl (here x n.outcome n.attempt b w)
 
-      reading : (x : Effect Configuration) (v : ℕ) → effect code c ≡ x → Matches x o → is_read o ≡ true → v < 2 ^ 32 → n.outcome ≡ outcome.Read v → n.back ≡ None → begins_of n.attempt ≡ ss → GivesWordsIf n.attempt → LeavesTo x
+      reading : (x : Effect Configuration) (v : ℕ) → effect code c ≡ x → Matches x o → is_read o ≡ true → v < 2 ^ 64 → n.outcome ≡ outcome.Read v → n.back ≡ None → begins_of n.attempt ≡ ss → GivesWordsIf n.attempt → LeavesTo x
       reading (Read a k) v ex q r lt e f b w = to_at (Read a k) (outcome.Read v) None (k v) Running e f refl refl (on_at (Read a k) n.outcome n.attempt (k v) ex (v, lt, refl) b w)
       reading (Pure d) v ex q r lt e f b w = absurd q
       reading (Print p d) v ex q r lt e f b w = absurd q

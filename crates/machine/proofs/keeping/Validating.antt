@@ -18,11 +18,12 @@ use Rattle.norec_core.specs.Cores.{ComparesWith, CoreState, IsAskedAgain, IsDrop
 use Rattle.norec_core.proofs.Validating.{comparing_access, waiting_access}
 use Rattle.machine.specs.declared.event.Event.TheVariants as event
 use Rattle.machine.specs.Threads.{told}
-use Rattle.machine.specs.States.{IsValidated, IsWordOf, asks}
+use Rattle.machine.specs.States.{IsValidated, asks}
 use Rattle.machine.specs.inner.Kept.{Kept, Makes, RunsKept, shown}
 use Rattle.machine.proofs.keeping.Makes.{core_makes, may_go_back}
 use Rattle.machine.proofs.keeping.Operations.{WritesWord}
 use Rattle.machine.proofs.keeping.Reading.{some_and}
+use Rattle.machine.proofs.keeping.Words.{FitsRegister}
 
 -- such an operation saves nothing, and writes no word
 no_begin : (o : Op) → IsValidated o → {X : Type 0} → o ≡ op.Begin → X
@@ -57,26 +58,26 @@ module _ (code : Code) (law : BeginsStayOpen code) (k : Kept) (running : k.statu
 
   -- a step after which the operation goes on
   module _ (y : Answer) (l : Kept) (step : (q : Op) → IsAskedAgain k.core y q l.core) (configuration : l.configuration ≡ k.configuration) (status : l.status ≡ k.status) (trapping : l.trapping ≡ false) (text : l.text ≡ k.text) where
-    goes : (x : Access) → core_access k.core.attempt o ≡ x → IsWordOf x y → Makes code (told (effect code) (shown k) y) l event.Quiet
+    goes : (x : Access) → core_access k.core.attempt o ≡ x → FitsRegister x y → Makes code (told (effect code) (shown k) y) l event.Quiet
     goes x e word =
         let n = step o in
-        core_makes code law k o y running runs asked.1 (λ h. no_begin o asked.2 h) (writes o asked.2) (subst (λ (z : Access). IsWordOf z y) (sym e) word) l outcome.Going event.Quiet
+        core_makes code law k o y running runs asked.1 (λ h. no_begin o asked.2 h) (writes o asked.2) (subst (λ (z : Access). FitsRegister z y) (sym e) word) l outcome.Going event.Quiet
         (sym n.outcome) n.attempt (subst (λ (z : Option Saved). IfSome z (λ w. l.core.saved ≡ w)) (sym n.back) tt)
         (record { configuration = configuration; status = status; trapping = trapping; text = text; event = refl })
 
     pub waits_makes : IsSomeAnd k.core.attempt (λ a. IsWaiting a) → Makes code (told (effect code) (shown k) y) l event.Quiet
     waits_makes w = goes LoadLock (core_waits w) tt
 
-    pub compares_makes : (time place : ℕ) (entry : ℕ × ℕ) → IsSomeAnd k.core.attempt (λ a. ComparesWith time place (Some entry) a) → IsWordOf (entry_access (Some entry)) y → Makes code (told (effect code) (shown k) y) l event.Quiet
+    pub compares_makes : (time place : ℕ) (entry : ℕ × ℕ) → IsSomeAnd k.core.attempt (λ a. ComparesWith time place (Some entry) a) → FitsRegister (entry_access (Some entry)) y → Makes code (told (effect code) (shown k) y) l event.Quiet
     compares_makes time place entry w word = goes (entry_access (Some entry)) (core_compares time place (Some entry) w) word
 
     pub validates_makes : (time place : ℕ) → IsSomeAnd k.core.attempt (λ a. ComparesWith time place None a) → Makes code (told (effect code) (shown k) y) l event.Quiet
     validates_makes time place w = goes LoadLock (core_compares time place None w) tt
 
   -- a step that drops the attempt
-  module _ (time place : ℕ) (entry : ℕ × ℕ) (compares : IsSomeAnd k.core.attempt (λ a. ComparesWith time place (Some entry) a)) (word : ℕ) (fits : word < 2 ^ 32) where
-    drops_word : IsWordOf (core_access k.core.attempt o) (Value word)
-    drops_word = subst (λ (x : Access). IsWordOf x (Value word)) (sym (core_compares time place (Some entry) compares)) fits
+  module _ (time place : ℕ) (entry : ℕ × ℕ) (compares : IsSomeAnd k.core.attempt (λ a. ComparesWith time place (Some entry) a)) (word : ℕ) (fits : word < 2 ^ 64) where
+    drops_word : FitsRegister (core_access k.core.attempt o) (Value word)
+    drops_word = subst (λ (x : Access). FitsRegister x (Value word)) (sym (core_compares time place (Some entry) compares)) fits
 
     stays : (d : CoreState) (n : IsDropped k.core (Value word) o d) → IfSome (core_step k.core.saved k.core.attempt o (Value word)).back (λ z. d.saved ≡ z)
     stays d n = subst (λ (z : Option Saved). IfSome z (λ w. d.saved ≡ w)) (sym n.back) refl
