@@ -1,43 +1,38 @@
 -- The memory in which the threads of a code begin, and the words of its cells.
-use Rattle.std.proofs.Common.{◌≡◌, ◌≢◌, ◌<◌, ◌^◌, ◌==◌, ◌⊎◌, inl, inr, ℕ, zero, suc, Bool, true, false, List, [], ◌∷◌, length, replicate, slice_index, refl, sym, subst, arith, append-nil}
+use Rattle.std.proofs.Common.{◌≡◌, ◌≢◌, ◌<◌, ◌==◌, ◌⊎◌, inl, inr, ℕ, zero, suc, Bool, true, false, List, [], ◌∷◌, length, slice_index, refl, sym, subst, arith}
 use Rattle.std.specs.Prelude.{if◌then◌else◌}
 use Rattle.std.proofs.lemmas.Bool.Decides.{eqb_tells}
 use Rattle.syntax.specs.Behaviours.{IsMemory}
-use Rattle.syntax.specs.Names.{initial_from}
-use Rattle.syntax.specs.Tree.{Global}
-use Rattle.syntax.specs.Tree.Item.{Shares}
-use Rattle.syntax.proofs.Words.{begins_with_memory}
+use Rattle.syntax.proofs.Words.{initial_words}
 use Rattle.bytecode.specs.Code.{Code}
 use Rattle.bytecode.specs.Initial.{initial_of}
-use Rattle.bytecode.specs.Valid.{bounds_of, cells_of}
+use Rattle.bytecode.specs.Valid.{bounds_of}
 use Rattle.norec_core.specs.declared.step.Access.{Access}
 use Rattle.norec_core.specs.declared.step.Access.TheVariants.{LoadWord, Swap}
 use Rattle.norec_core.specs.declared.step.Answer.TheVariants.{Lost, Won}
 use Rattle.norec_core.specs.Accesses.{IsAnswerTo}
+use Rattle.machine.specs.Addresses.{AccessFits}
 use Rattle.machine.specs.Worlds.{answer}
 use Rattle.machine.specs.States.{IsWordOf}
 
 pub initial_fits : (code : Code) → IsMemory (bounds_of code) (initial_of code)
-initial_fits code =
-    subst (λ (gs : List Global). IsMemory (replicate (length (initial_from gs)) (2 ^ 32)) (initial_from gs)) (append-nil code.globals)
-    (begins_with_memory (Shares code.globals ∷ []))
+initial_fits code = initial_words code.globals
 
--- a cell's word is a word
-word_at : (n : ℕ) (ws : List ℕ) (a : ℕ) → IsMemory (replicate n (2 ^ 32)) ws → slice_index ws a < 2 ^ 32
-word_at zero [] a is = omega arith
-word_at zero (w ∷ ws) a is = absurd is
-word_at (suc n) [] a is = absurd is
-word_at (suc n) (w ∷ ws) zero is = is.0
-word_at (suc n) (w ∷ ws) (suc a) is = word_at n ws a is.1
+-- a cell's word is below the cell's bound
+word_at : (bs ws : List ℕ) (a : ℕ) → a < length bs → IsMemory bs ws → slice_index ws a < slice_index bs a
+word_at [] ws a there is = absurd (omega (arith, there))
+word_at (b ∷ bs) [] a there is = absurd is
+word_at (b ∷ bs) (w ∷ ws) zero there is = is.0
+word_at (b ∷ bs) (w ∷ ws) (suc a) there is = word_at bs ws a (omega (arith, there)) is.1
 
-pub word_fits : (code : Code) (x : Access) (lock : ℕ) (words : List ℕ) → IsMemory (bounds_of code) words → IsWordOf x (answer lock words x)
-word_fits code (LoadWord a) lock words is = word_at (cells_of code) words a is
-word_fits code (Swap from) lock words is = at (lock == from)
+pub word_fits : (code : Code) (x : Access) (lock : ℕ) (words : List ℕ) → AccessFits (length (bounds_of code)) x → IsMemory (bounds_of code) words → IsWordOf code x (answer lock words x)
+word_fits code (LoadWord a) lock words there is = word_at (bounds_of code) words a there is
+word_fits code (Swap from) lock words there is = at (lock == from)
   where
-    at : (b : Bool) → IsWordOf (Swap from) (if b then Won else Lost lock)
+    at : (b : Bool) → IsWordOf code (Swap from) (if b then Won else Lost lock)
     at true = tt
     at false = tt
-word_fits code x lock words is = tt
+word_fits code x lock words there is = tt
 
 -- the answer is one to its access
 pub answer_fits : (x : Access) (lock : ℕ) (words : List ℕ) → IsAnswerTo x (answer lock words x)
@@ -49,8 +44,8 @@ answer_fits (Swap from) lock words = at (eqb_tells lock from)
 answer_fits x lock words = tt
 
 -- a memory of the code has a word for each cell
-pub memory_length : (n : ℕ) (ws : List ℕ) → IsMemory (replicate n (2 ^ 32)) ws → length ws ≡ n
-memory_length zero [] is = refl
-memory_length zero (w ∷ ws) is = absurd is
-memory_length (suc n) [] is = absurd is
-memory_length (suc n) (w ∷ ws) is = (let e = memory_length n ws is.1 in omega arith)
+pub memory_length : (bs ws : List ℕ) → IsMemory bs ws → length bs ≡ length ws
+memory_length [] [] is = refl
+memory_length [] (w ∷ ws) is = absurd is
+memory_length (b ∷ bs) [] is = absurd is
+memory_length (b ∷ bs) (w ∷ ws) is = (let e = memory_length bs ws is.1 in omega arith)

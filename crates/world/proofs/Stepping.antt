@@ -8,7 +8,7 @@ use Rattle.bytecode.specs.Beginning.{beginning}
 use Rattle.bytecode.specs.Code.{Code, Configuration, effect}
 use Rattle.bytecode.specs.Initial.{initial_of}
 use Rattle.bytecode.specs.Sequential.{meaning}
-use Rattle.bytecode.specs.Valid.{bounds_of, cells_of}
+use Rattle.bytecode.specs.Valid.{bounds_of}
 use Rattle.norec_core.specs.Accesses.{IsAnswerTo, cost, stops}
 use Rattle.norec_core.specs.declared.step.Access.{Access}
 use Rattle.norec_core.specs.declared.step.Access.TheVariants.{LoadLock, LoadWord, Local, StoreLock, StoreWord, Swap}
@@ -163,11 +163,14 @@ module _ (s : Simulation) (lock : ℕ) (words : List ℕ) (threads : List Thread
     same_access : access (effect s.code) part.0.thread ≡ a
     same_access = ap (access (effect s.code)) (sym part.2.thread)
 
+    names_cell : AccessFits (length (bounds_of s.code)) a
+    names_cell = subst (AccessFits (length (bounds_of s.code))) same_access (within (effect s.code) (beginning s.code) (bounds_of s.code) (initial_of s.code) (initial_fits s.code) (fits_cells s.code k.valid) s.threads w heard is_answered t part.0 part.1)
+
     pub makeable : IsMakeable (length words) a
-    makeable = at a refl (subst (λ n. AccessFits n a) cells (subst (AccessFits (length (bounds_of s.code))) same_access (within (effect s.code) (beginning s.code) (bounds_of s.code) (initial_of s.code) (initial_fits s.code) (fits_cells s.code k.valid) s.threads w heard is_answered t part.0 part.1)))
+    makeable = at a refl (subst (λ n. AccessFits n a) cells names_cell)
       where
         cells : length (bounds_of s.code) ≡ length words
-        cells = Rattle.std.proofs.lemmas.List.length-replicate (cells_of s.code) (2 ^ 32) ∙ sym (memory_length (cells_of s.code) words is_memory)
+        cells = memory_length (bounds_of s.code) words is_memory
 
         at : (y : Access) → a ≡ y → AccessFits (length words) y → IsMakeable (length words) y
         at Local e f = tt
@@ -180,8 +183,8 @@ module _ (s : Simulation) (lock : ℕ) (words : List ℕ) (threads : List Thread
     pub fits : IsAnswerTo a (answer lock words a)
     fits = answer_fits a lock words
 
-    pub word : IsWordOf a (answer lock words a)
-    word = word_fits s.code a lock words is_memory
+    pub word : IsWordOf s.code a (answer lock words a)
+    word = word_fits s.code a lock words names_cell is_memory
 
     pub count : length s.trace + 1 < 2 ^ 64 → x.accesses + cost a < 2 ^ 64
     count room = let one = at_most_one a in let f = part.2.few in omega arith
@@ -283,8 +286,8 @@ module _ (s : Simulation) (lock : ℕ) (words : List ℕ) (threads : List Thread
           pub ready_fits : IsAnswerTo (access (effect s.code) y.thread) reply
           ready_fits = subst (λ (z : Access × Answer). IsAnswerTo z.0 z.1) (λ i. (sym b i, sym same_answer i)) fits
 
-          pub ready_word : IsWordOf (access (effect s.code) y.thread) reply
-          ready_word = subst (λ (z : Access × Answer). IsWordOf z.0 z.1) (λ i. (sym b i, sym same_answer i)) word
+          pub ready_word : IsWordOf s.code (access (effect s.code) y.thread) reply
+          ready_word = subst (λ (z : Access × Answer). IsWordOf s.code z.0 z.1) (λ i. (sym b i, sym same_answer i)) word
 
           pub ready_shown : (event : Event) → event ≡ (told (effect s.code) y.thread reply).event → shown_at s t ≡ Some (record { status = x.thread.status; place = x.thread.configuration.place; access = made; answer = reply; event = event })
           ready_shown event e =
