@@ -1,5 +1,5 @@
 -- Each access keeps the rule.
-use Rattle.std.proofs.Common.{◌≡◌, ◌≢◌, ℕ, suc, ◌+◌, ◌≤◌, ◌==◌, Bool, true, false, List, [], ◌∷◌, get_or, drop, set, refl, sym, ap, ◌∙◌, subst, Some, arith, add-one, inl, ⊎_elim}
+use Rattle.std.proofs.Common.{◌≡◌, ◌≢◌, ℕ, suc, ◌+◌, ◌≤◌, ◌==◌, Bool, true, false, List, [], ◌∷◌, get_or, drop, length, set, refl, sym, ap, ◌∙◌, subst, Some, arith, add-one, inl, ⊎_elim}
 use Rattle.std.specs.Prelude.{if◌then◌else◌, nat_lt}
 use Rattle.std.proofs.lemmas.List.{set-get_or}
 use mathlib.Core.Option.{some}
@@ -12,12 +12,14 @@ use Rattle.norec_core.specs.declared.step.Access.TheVariants.{LoadLock, LoadWord
 use Rattle.norec_core.specs.declared.step.Answer.{Answer}
 use Rattle.machine.specs.Answered.{Heard, LocksFrom, is_local, paused}
 use Rattle.bytecode.specs.Code.{Configuration}
+use Rattle.machine.specs.Addresses.{AccessFits}
+use Rattle.machine.specs.States.{IsWordOf}
 use Rattle.machine.specs.Threads.{Thread, access, told}
 use Rattle.norec_core.specs.Accesses.{stops}
 use Rattle.machine.specs.Worlds.{Part, World, answer, lock_after, part_after, words_after}
 use Rattle.machine.proofs.answers.Answering.{after_step, paused_once, pauses, turns}
 use Rattle.machine.proofs.answers.Hearing.{lock_value_is}
-use Rattle.machine.proofs.answers.Holding.{lock_grows, memory}
+use Rattle.machine.proofs.answers.Holding.{lock_grows, memory, within}
 use Rattle.machine.proofs.steps.Worlds.{get-set_other, get-set_same}
 use Rattle.bytecode.specs.Code.{effect}
 use Rattle.bytecode.specs.Beginning.{beginning}
@@ -70,6 +72,12 @@ module _ (key : Setup) where
         let r = pauses (effect key.code) (beginning key.code) (initial_of key.code) key.threads k p.number p.part now p.heard w.lock w.words w.parts rule.heard rule.answered mine.part mine.answers pause in
         subst (λ (y : Access). rule.world.lock ≤ lock_after rule.world.lock y) is
         (lock_grows (effect key.code) (beginning key.code) (bounds_of key.code) (initial_of key.code) (initial_fits key.code) (fits_cells key.code rule.valid) key.threads _ rule.heard r p.number now (get-set_same w.parts p.number now p.part mine.part))
+
+    names_cell : AccessFits (length (bounds_of key.code)) x
+    names_cell =
+        let r = pauses (effect key.code) (beginning key.code) (initial_of key.code) key.threads k p.number p.part now p.heard w.lock w.words w.parts rule.heard rule.answered mine.part mine.answers pause in
+        subst (AccessFits (length (bounds_of key.code))) is
+        (within (effect key.code) (beginning key.code) (bounds_of key.code) (initial_of key.code) (initial_fits key.code) (fits_cells key.code rule.valid) key.threads _ rule.heard r p.number now (get-set_same w.parts p.number now p.part mine.part))
 
     since_after : LocksFrom p.floor (drop p.floor_at (more_heard p.heard x a))
     since_after = LocksFrom-more p.floor p.floor_at p.heard (record { access = x; answer = a }) mine.since (λ l v. let s = lock_value_is x rule.world.lock rule.world.words l v in let m = mine.floor in omega arith)
@@ -131,7 +139,8 @@ module _ (key : Setup) where
       words = rule.world.words;
       leaves = ap (λ (s : Setup). record p { part = part_after rule.world.words now (told (effect s.code) now.thread a); heard = more_heard p.heard x a } ∷ []) (sym same);
       answers = answer_fits x rule.world.lock rule.world.words;
-      word = word_fits key.code x rule.world.lock rule.world.words (memory (effect key.code) (beginning key.code) (bounds_of key.code) (initial_of key.code) (initial_fits key.code) (fits_cells key.code rule.valid) key.threads rule.world rule.heard rule.answered);
+      word = subst (λ (s : Setup). IsWordOf s.code x a) (sym same)
+          (word_fits key.code x rule.world.lock rule.world.words names_cell (memory (effect key.code) (beginning key.code) (bounds_of key.code) (initial_of key.code) (initial_fits key.code) (fits_cells key.code rule.valid) key.threads rule.world rule.heard rule.answered));
       since = since_after;
       stands = subst (λ (s : Setup). IsPart s p.number (part_after rule.world.words now (told (effect s.code) now.thread a)) (more_heard p.heard x a)) (sym same) stands_after;
     }

@@ -68,7 +68,7 @@ pub record TookAs (p : ViewPart) (now : Part Configuration) (x : Access) (a : An
   pub words : List ℕ
   pub leaves : after ≡ part_told p words now x a ∷ []
   pub answers : IsAnswerTo x a
-  pub word : IsWordOf x a
+  pub word : IsWordOf p.setup.code x a
   pub since : LocksFrom p.floor (drop p.floor_at (more_heard p.heard x a))
   pub stands : IsPart p.setup p.number (part_told p words now x a).part (more_heard p.heard x a)
 
