@@ -9,6 +9,7 @@ use Rattle.bytecode.specs.Valid.{cells_of}
 use Rattle.machine.specs.Threads.{Thread, access, told}
 use Rattle.machine.specs.Standing.{IsThreadOf}
 use Rattle.machine.specs.States.{IsWordOf, told_twice}
+use Rattle.machine.proofs.keeping.Words.{word_fits}
 use Rattle.seats.specs.Setup.{Setup}
 use Rattle.seats.specs.Rule.{IsNext, Made, SeatView, Took}
 use Rattle.workers.specs.Works.{GoesOnFrom, Works}
@@ -27,8 +28,9 @@ module _ (key : Setup) (number : ℕ) (th : Thread Configuration) (steps accesse
     made : Made (LoadWord cell) m (Value word) w
     made = (word, refl, took)
 
-    pub word_fits : word < 2 ^ 32
-    word_fits = subst (λ (x : Access). IsWordOf x (Value word)) first (answer_ready key number th steps accesses m works code same ready r (LoadWord cell) first_is (Value word) w made).1
+    -- its word fits a register
+    pub loaded_fits : word < 2 ^ 64
+    loaded_fits = word_fits code (LoadWord cell) (Value word) (subst (λ (x : Access). IsWordOf code x (Value word)) first (answer_ready key number th steps accesses m works code same ready r (LoadWord cell) first_is (Value word) w made).1)
 
     -- the thread between both steps
     abbrev middle : Thread Configuration

@@ -160,14 +160,17 @@ module _ (key : Setup) (number : ℕ) (th : Thread Configuration) (steps accesse
           },
         )
 
-  -- the answer of a step is of its access, and a word
-  pub made_fits : (answer : Answer) (w : SeatView) → Made (access (effect key.code) th) m answer w → IsAnswerTo (access (effect key.code) th) answer × IsWordOf (access (effect key.code) th) answer
+  -- the answer of a step is of its access, and a loaded word is one of its cell's type
+  pub made_fits : (answer : Answer) (w : SeatView) → Made (access (effect key.code) th) m answer w → IsAnswerTo (access (effect key.code) th) answer × IsWordOf key.code (access (effect key.code) th) answer
   made_fits answer w made = at (access (effect key.code) th) (is_local (access (effect key.code) th)) refl refl made
     where
       at : (x : Access) (b : Bool) → access (effect key.code) th ≡ x → is_local (access (effect key.code) th) ≡ b → MatchBool b ((w ≡ m) × (answer ≡ Done)) ((n : ℕ) × (answer ≡ reply (access (effect key.code) th) n) × Took m n w)
-          → IsAnswerTo (access (effect key.code) th) answer × IsWordOf (access (effect key.code) th) answer
-      at x true is far made = subst (λ (y : Access). IsAnswerTo y answer × IsWordOf y answer) (sym (local_is (access (effect key.code) th) far)) (subst (λ (y : Answer). IsAnswerTo Local y × IsWordOf Local y) (sym made.1) (tt, tt))
-      at x false is far made = let o = one made.0 w made.2 far in subst (λ (y : Answer). IsAnswerTo (access (effect key.code) th) y × IsWordOf (access (effect key.code) th) y) (sym made.1) (o.answers, o.word)
+          → IsAnswerTo (access (effect key.code) th) answer × IsWordOf key.code (access (effect key.code) th) answer
+      at x true is far made = subst (λ (y : Access). IsAnswerTo y answer × IsWordOf key.code y answer) (sym (local_is (access (effect key.code) th) far)) (subst (λ (y : Answer). IsAnswerTo Local y × IsWordOf key.code Local y) (sym made.1) (tt, tt))
+      at x false is far made =
+          let o = one made.0 w made.2 far in
+          let word = subst (λ (s : Setup). IsWordOf s.code (access (effect key.code) th) (reply (access (effect key.code) th) made.0)) works.setup o.word in
+          subst (λ (y : Answer). IsAnswerTo (access (effect key.code) th) y × IsWordOf key.code (access (effect key.code) th) y) (sym made.1) (o.answers, word)
 
   -- after a step
   pub steps_on : (answer : Answer) (w : SeatView) → stops (access (effect key.code) th) ≡ false → IsThreadOf key.code (told (effect key.code) th answer).thread → Made (access (effect key.code) th) m answer w
@@ -200,8 +203,8 @@ module _ (key : Setup) (number : ℕ) (th : Thread Configuration) (steps accesse
       made_it : Made (access (effect key.code) th) m answer w
       made_it = subst (λ (y : Access). Made y m answer w) is_now made
 
-      pub answer_ready : IsAnswerTo (access (effect code) ready) answer × IsWordOf (access (effect code) ready) answer
-      answer_ready = subst (λ (y : Access). IsAnswerTo y answer × IsWordOf y answer) (λ i. access (effect (same i)) (sym r i)) (made_fits key number th steps accesses m works answer w made_it)
+      pub answer_ready : IsAnswerTo (access (effect code) ready) answer × IsWordOf code (access (effect code) ready) answer
+      answer_ready = subst (λ (z : Code × Access). IsAnswerTo z.1 answer × IsWordOf z.0 z.1 answer) (λ i. (same i, access (effect (same i)) (sym r i))) (made_fits key number th steps accesses m works answer w made_it)
 
       module _ (on : stops x ≡ false) (next : Thread Configuration) (next_is : next ≡ (told (effect code) ready answer).thread) (of_code : IsThreadOf code next) (count : ℕ) (count_is : count ≡ accesses + cost (access (effect code) ready)) where
         pub stepped : (is : Works key number next (steps + 1) count w) × GoesOnFrom key.code works.part works.now is.part is.now

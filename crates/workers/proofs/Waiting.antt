@@ -1,5 +1,5 @@
 -- Accesses of validation and of a begin that waits, each one step of the worker.
-use Rattle.std.proofs.Common.{◌≡◌, ℕ, ◌+◌, ◌<◌, ◌^◌, ◌%◌, ◌==◌, false, Option, None, cond, refl, sym, ap, ◌∙◌, subst, arith}
+use Rattle.std.proofs.Common.{◌≡◌, ℕ, ◌+◌, ◌<◌, ◌%◌, ◌==◌, false, Option, None, cond, refl, sym, ap, ◌∙◌, subst, arith}
 use Rattle.syntax.specs.declared.numbers.Status.{Status}
 use Rattle.syntax.specs.declared.numbers.Status.TheVariants.{Running}
 use Rattle.bytecode.specs.Effects.{Effect}
@@ -51,8 +51,8 @@ module _ (key : Setup) (number : ℕ) (th : Thread Configuration) (steps accesse
     word_is_next = ready_next key number th steps accesses m works code same th refl (LoadWord cell) (sym loads)
 
     module _ (word : ℕ) (w : SeatView) (took : Took m word w) where
-      pub loaded_fits : word < 2 ^ 32
-      loaded_fits = subst (λ (x : Access). IsWordOf x (Value word)) loads (answer_ready key number th steps accesses m works code same th refl (LoadWord cell) (sym loads) (Value word) w (word, refl, took)).1
+      pub loaded_fits : IsWordOf code (LoadWord cell) (Value word)
+      loaded_fits = subst (λ (x : Access). IsWordOf code x (Value word)) loads (answer_ready key number th steps accesses m works code same th refl (LoadWord cell) (sym loads) (Value word) w (word, refl, took)).1
 
       pub word_loaded : (next : Thread Configuration) → next ≡ (told (effect code) th (Value word)).thread → IsThreadOf code next → (all count : ℕ) → all ≡ steps + 1 → count ≡ accesses + 1
           → (is : Works key number next all count w) × GoesOnFrom key.code works.part works.now is.part is.now

@@ -5,7 +5,7 @@ use Rattle.machine.specs.States.{told_twice}
 use Rattle.seats.specs.Rule.{IsNext}
 use Rattle.seats.specs.Setup.{Setup}
 use Rattle.workers.proofs.Going.{goes_further}
-use Rattle.workers.proofs.Loading.{both_stepped, lock_next, word_fits, word_makeable}
+use Rattle.workers.proofs.Loading.{both_stepped, loaded_fits, lock_next, word_makeable}
 use Rattle.workers.proofs.Turns.{ready_next}
 use Rattle.workers.proofs.loads.SeatLoadsLoads.load.Goals as goal
 
@@ -41,7 +41,7 @@ load_lock-lock-requires-clause-next g c =
     let at = r.5 in
     let is = (led.3 can.code_is can.number can.steps can.works).0 in
     let key = r.1.words.now.key in
-    let fits = word_fits key can.number at.thread (can.steps + r.3) at.accesses c.args.self.now.seat.now.me is r.0 can.code_is at.thread refl c.args.cell r.6.loads.word c.load_word-word.result c.load_word-word.new.seat.me c.load_word-word.ensures.took in
+    let fits = loaded_fits key can.number at.thread (can.steps + r.3) at.accesses c.args.self.now.seat.now.me is r.0 can.code_is at.thread refl c.args.cell r.6.loads.word c.load_word-word.result c.load_word-word.new.seat.me c.load_word-word.ensures.took in
     subst (λ (k : Setup). IsNext k c.load_word-word.new.seat.me LoadLock) (sym (ap (λ w. w.key) led.0))
     (lock_next key can.number at.thread (can.steps + r.3) at.accesses c.args.self.now.seat.now.me is r.0 can.code_is at.thread refl c.args.cell r.6.loads.word c.load_word-word.result c.load_word-word.new.seat.me c.load_word-word.ensures.took
     (r.6.loads.between c.load_word-word.result fits) (r.6.loads.lock c.load_word-word.result fits))
@@ -52,7 +52,7 @@ returns-clause-word g c =
     let can = r.6.can in
     let at = r.5 in
     let is = (r.6.led.3 can.code_is can.number can.steps can.works).0 in
-    word_fits r.1.words.now.key can.number at.thread (can.steps + r.3) at.accesses c.args.self.now.seat.now.me is r.0 can.code_is at.thread refl c.args.cell r.6.loads.word c.load_word-word.result c.load_word-word.new.seat.me c.load_word-word.ensures.took
+    loaded_fits r.1.words.now.key can.number at.thread (can.steps + r.3) at.accesses c.args.self.now.seat.now.me is r.0 can.code_is at.thread refl c.args.cell r.6.loads.word c.load_word-word.result c.load_word-word.new.seat.me c.load_word-word.ensures.took
 
 pub returns-clause-count : goal.returns-clause-count
 returns-clause-count g c = λ code s from n m at h.
@@ -70,7 +70,7 @@ returns-clause-leads g c = λ code s from n at led loads of. (
   λ same number steps was.
       let key = s.words.now.key in
       let x = led.3 same number steps was in
-      let fits = word_fits key number at.thread (steps + n) at.accesses c.args.self.now.seat.now.me x.0 code same at.thread refl c.args.cell loads.word c.load_word-word.result c.load_word-word.new.seat.me c.load_word-word.ensures.took in
+      let fits = loaded_fits key number at.thread (steps + n) at.accesses c.args.self.now.seat.now.me x.0 code same at.thread refl c.args.cell loads.word c.load_word-word.result c.load_word-word.new.seat.me c.load_word-word.ensures.took in
       let b = both_stepped key number at.thread (steps + n) at.accesses c.args.self.now.seat.now.me x.0 code same at.thread refl c.args.cell loads.word c.load_word-word.result c.load_word-word.new.seat.me c.load_word-word.ensures.took
       (loads.between c.load_word-word.result fits) (loads.lock c.load_word-word.result fits) c.load_lock-lock.result c.load_lock-lock.new.seat.me c.load_lock-lock.ensures.took (told_twice code at.thread c.load_word-word.result c.load_lock-lock.result).thread refl of (steps + (n + 2)) (at.accesses + 2) (omega arith) refl in
       (b.0, goes_further key.code was.part x.0.part b.0.part was.now x.0.now b.0.now x.1 b.1),

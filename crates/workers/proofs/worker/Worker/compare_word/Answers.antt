@@ -1,7 +1,9 @@
-use Rattle.std.proofs.Common.{◌∙◌, ◌<◌, ◌^◌, ℕ, refl, sym, ap, subst, arith}
+use Rattle.std.proofs.Common.{◌∙◌, ℕ, refl, sym, ap, subst, arith}
 use Rattle.bytecode.specs.Code.{effect}
 use Rattle.bytecode.specs.Valid.{cells_of}
+use Rattle.norec_core.specs.declared.step.Access.TheVariants.{LoadWord}
 use Rattle.norec_core.specs.declared.step.Answer.TheVariants.{Value}
+use Rattle.machine.specs.States.{IsWordOf}
 use Rattle.machine.specs.Threads.{told}
 use Rattle.workers.proofs.Waiting.{cell_fits, loaded_fits, word_is_next, word_loaded}
 use Rattle.workers.proofs.worker.Worker.compare_word.Goals as goal
@@ -32,7 +34,7 @@ returns-then-found-word-clause-goes_on g c = (
 
 pub compared-requires-clause-word : goal.compared-requires-clause-word
 compared-requires-clause-word g c =
-    subst (λ (n : ℕ). n < 2 ^ 32) c.if-found-word.false (loaded_fits c.args.words.now.key c.args.self.now.number c.args.self.now.thread.thread c.requires.worker.0 c.args.self.now.thread.accesses c.args.self.now.seat.me c.requires.worker.1.1 c.args.code.now c.requires.code c.args.entry.0 c.requires.access c.load_word-found.result c.load_word-found.new.seat.me c.load_word-found.ensures.took)
+    subst (λ (n : ℕ). IsWordOf c.args.code.now (LoadWord c.args.entry.0) (Value n)) c.if-found-word.false (loaded_fits c.args.words.now.key c.args.self.now.number c.args.self.now.thread.thread c.requires.worker.0 c.args.self.now.thread.accesses c.args.self.now.seat.me c.requires.worker.1.1 c.args.code.now c.requires.code c.args.entry.0 c.requires.access c.load_word-found.result c.load_word-found.new.seat.me c.load_word-found.ensures.took)
 
 pub returns-clause-goes_on : goal.returns-clause-goes_on
 returns-clause-goes_on g c = (
