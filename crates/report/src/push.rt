@@ -1,7 +1,7 @@
 //! Pieces of a report, each added at its end.
 
 ghost use Rattle.std.specs.Prelude.{◌≡◌, ◌++◌, ◌∷◌, [], OnOk, codes, decimal, flat_map, unwrap_or, option_map};
-ghost use Rattle.syntax.specs.Numbers.{number, trap_number};
+ghost use Rattle.syntax.specs.Numbers.{trap_number};
 ghost use Rattle.report.specs.Report.{event_line, event_words, end_words, global_line, is_open, lines_of, values_text};
 ghost use Rattle.report.specs.Views.{shown_of};
 
@@ -10,6 +10,7 @@ use itoa::Buffer;
 use lex::token::Scalar;
 use machine::Event;
 use std::alloc::{AllocError, Allocator};
+use syntax::number::number;
 use syntax::numbers::Trap;
 
 /// Adds bytes.
@@ -128,18 +129,6 @@ pub(crate) fn push_event<A: Allocator>(
     push_bytes(report, b"\n")
 }
 
-/// The number that a word stands for.
-fn shown(of: Scalar, word: u64) -> i128
-    ensures { result ≡ number of word }
-{
-    let signed = i128::from(word);
-    if of == Scalar::Int && word >= 2147483648 {
-        signed - 4294967296
-    } else {
-        signed
-    }
-}
-
 /// Adds the numbers that words stand for, with a space before each.
 fn push_values<A: Allocator>(
     report: &mut Vec<u8, A>,
@@ -150,7 +139,7 @@ fn push_values<A: Allocator>(
 {
     'words: for word in words {
         push_bytes(report, b" ")?;
-        push_bytes(report, Buffer::new().format(shown(of, *word)).as_bytes())?;
+        push_bytes(report, Buffer::new().format(number(of, *word)).as_bytes())?;
     }
     Ok(())
 }
