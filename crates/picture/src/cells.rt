@@ -10,18 +10,14 @@ fn add_cell<A: Allocator + Copy>(
     alloc: A,
     cells: &mut Vec<Cell<A>, A>,
     global: &Global<A>,
-    place: Option<u32>,
+    place: Option<u64>,
 ) -> Result<(), AllocError> {
     let mut name = Vec::new(alloc);
     name.extend_from_slice(global.name.text.as_str().as_bytes())?;
     if let Some(place) = place {
         put(
             &mut name,
-            &[
-                Piece::Plain(b"["),
-                Piece::Number(u64::from(place)),
-                Piece::Plain(b"]"),
-            ],
+            &[Piece::Plain(b"["), Piece::Number(place), Piece::Plain(b"]")],
         )?;
     }
     cells.push(Cell {

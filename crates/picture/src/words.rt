@@ -3,8 +3,8 @@
 use crate::layout::CHARACTERS;
 use crate::pieces::{Piece, put};
 use crate::sheet::Cell;
-use lex::token::Scalar;
 use std::alloc::{AllocError, Allocator};
+use syntax::number::number;
 
 /// Adds the name of a cell.
 pub(crate) fn put_name<A: Allocator>(
@@ -25,20 +25,17 @@ pub(crate) fn put_value<A: Allocator>(
     cell: u32,
     word: u64,
 ) -> Result<(), AllocError> {
-    let is_signed = match cells.get(cell as usize) {
-        Some(found) => found.of == Scalar::Int,
-        None => false,
+    let value = match cells.get(cell as usize) {
+        Some(found) => number(found.of, word),
+        None => return put(to, &[Piece::Number(word)]),
     };
-    if is_signed && word >= 2147483648 {
+    if value < 0 {
         put(
             to,
-            &[
-                Piece::Plain(b"-"),
-                Piece::Number(4294967296u64.saturating_sub(word)),
-            ],
+            &[Piece::Plain(b"-"), Piece::Number(value.unsigned_abs())],
         )
     } else {
-        put(to, &[Piece::Number(word)])
+        put(to, &[Piece::Number(value.unsigned_abs())])
     }
 }
 
