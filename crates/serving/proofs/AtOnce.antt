@@ -1,11 +1,12 @@
 -- A run of all threads of a code at once is one of the program that the code means.
-use Rattle.std.proofs.Common.{◌≡◌, ◌∙◌, ◌+◌, ◌++◌, ◌∷◌, [], ℕ, List, length, replicate, map, ap, ap₂, subst, sym, add-one, ◌^◌}
+use Rattle.std.proofs.Common.{◌≡◌, ◌∙◌, ◌+◌, ◌++◌, ◌∷◌, [], ℕ, List, map, ap, ap₂, subst, sym, add-one}
 use Rattle.std.proofs.lemmas.List.{map-append}
 use Rattle.report.specs.declared.printed.ThreadShown.{ThreadShown}
 use Rattle.report.specs.Views.{thread_of}
 use Rattle.std.specs.Global.{Global}
 use Rattle.syntax.specs.Tree.{Program}
-use Rattle.syntax.specs.Names.{bounds, initial_from}
+use Rattle.syntax.specs.Names.{bounds}
+use Rattle.syntax.specs.Names.{bounds_of as cell_bounds}
 use Rattle.syntax.specs.Behaviours.{Behaviour, Means}
 use Rattle.syntax.specs.Threads.{thread}
 use Rattle.bytecode.specs.Code.{Code}
@@ -20,7 +21,7 @@ use Rattle.serving.proofs.Found.{thread_shown}
 
 pub run_at_once : (p : Program) (code : Code) (threads budget : ℕ) (r : RunReport Global) (shown : Printed) → IsCodeOf p code → ((does : Behaviour) → Means (bounds_of code) (code_does code) does → Ran does (record { code = code; threads = threads }) budget r) → shown ≡ at_once_shown p threads r → IsRunAtOnce p code threads budget shown
 run_at_once p code threads budget r shown compiled ran shows =
-    let cells : bounds p ≡ bounds_of code = ap (λ gs. replicate (length (initial_from gs)) (2 ^ 32)) (sym compiled.globals) in
+    let cells : bounds p ≡ bounds_of code = ap cell_bounds (sym compiled.globals) in
     let means : Ran (thread p) (record { code = code; threads = threads }) budget r = ran (thread p) (subst (λ bs. Means bs (code_does code) (thread p)) cells compiled.means) in
     record {
       report = r;

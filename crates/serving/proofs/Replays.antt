@@ -1,5 +1,5 @@
 -- A replay of a code is one of the program that the code means.
-use Rattle.std.proofs.Common.{◌≡◌, ◌≤◌, ◌^◌, ◌%◌, ◌∙◌, ℕ, zero, suc, List, [], ◌∷◌, ◌++◌, Option, None, Some, length, map, replicate, refl, ap, subst, sym, arith, append_assoc}
+use Rattle.std.proofs.Common.{◌≡◌, ◌≤◌, ◌%◌, ◌∙◌, ℕ, zero, suc, List, [], ◌∷◌, ◌++◌, Option, None, Some, length, map, refl, ap, subst, sym, arith, append_assoc}
 use Rattle.std.specs.Io.KnownBytes.{Appends}
 use Rattle.rand_core.specs.Steps.{first_words}
 use Rattle.rand_pcg.specs.Lcg.{Lcg}
@@ -7,7 +7,8 @@ use Rattle.rand_pcg.specs.Pcg.{pcg32}
 use Rattle.syntax.specs.Tree.{Program}
 use Rattle.syntax.specs.Views.{program_of}
 use Rattle.parse.specs.Faults.{source_of}
-use Rattle.syntax.specs.Names.{bounds, initial_from}
+use Rattle.syntax.specs.Names.{bounds}
+use Rattle.syntax.specs.Names.{bounds_of as cell_bounds}
 use Rattle.syntax.specs.Behaviours.{Means}
 use Rattle.syntax.specs.Threads.{thread}
 use Rattle.bytecode.specs.Beginning.{beginning}
@@ -36,7 +37,7 @@ use Rattle.serving.proofs.Codes.{compiles}
 
 pub replay_of : {A : Type 0} (p : Program) (code : Code) (threads : ℕ) (found : List Line) (r : Report A) (made : List ℕ) (stop : Option WorldStop) (shown : Printed) → IsCodeOf p code → IsReplay code threads found r → made ≡ r.trace.items → stop ≡ r.stop → shown ≡ report_shown p r → IsReplayOf p code threads found made stop shown
 replay_of p code threads found r made stop shown compiled replay made_is stop_is shows =
-    let cells : bounds p ≡ bounds_of code = ap (λ gs. replicate (length (initial_from gs)) (2 ^ 32)) (sym compiled.globals) in
+    let cells : bounds p ≡ bounds_of code = ap cell_bounds (sym compiled.globals) in
     let held : shown.holder ≡ r.holder = ap (λ (s : Printed). s.holder) shows in
     let events = replay.events in
     let found_are = replay.threads_are in
