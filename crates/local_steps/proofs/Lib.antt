@@ -8,3 +8,5 @@ mod Turning
 pub mod Ways
 -- steps over a loop's end
 mod Ending
+-- what a valid code writes
+mod Narrow

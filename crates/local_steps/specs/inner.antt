@@ -2,3 +2,5 @@
 pub mod Paused
 -- the ends of loops' turns, made at once
 pub mod Turns
+-- writes to cells of 32 bits
+pub mod Narrow
