@@ -26,7 +26,7 @@ module _ (code : Code) (v : IsValid code) where
   pub after_pure : (c d : Configuration) → IsConfigurationOf code c → effect code c ≡ Effect.Pure d → IsConfigurationOf code d
   after_pure c d of e = on c d of (subst (λ x. GoesOn x d) (sym e) refl)
 
-  pub after_read : (c d : Configuration) (a r w : ℕ) → IsConfigurationOf code c → effect code c ≡ Effect.Read a (setting c r) → w < 2 ^ 32 → d ≡ setting c r w → IsConfigurationOf code d
+  pub after_read : (c d : Configuration) (a r w : ℕ) → IsConfigurationOf code c → effect code c ≡ Effect.Read a (setting c r) → w < 2 ^ 64 → d ≡ setting c r w → IsConfigurationOf code d
   after_read c d a r w of e h s = on c d of (subst (λ x. GoesOn x d) (sym e) (w, h, s))
 
   pub after_write : (c d : Configuration) (a w : ℕ) → IsConfigurationOf code c → effect code c ≡ Effect.Write a w (onward c) → d ≡ onward c → IsConfigurationOf code d

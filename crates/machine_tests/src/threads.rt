@@ -1,7 +1,8 @@
 //! Threads: played steps, the last values of the lock, each growth refused, and that `told` takes no memory.
 
 ghost use Rattle.norec_core.specs.Accesses.{IsAnswerTo};
-ghost use Rattle.std.specs.Prelude.{◌+◌, ◌<◌, ◌≤◌, ◌^◌, IfSome};
+ghost use Rattle.std.specs.Prelude.{◌≡◌, ◌+◌, ◌<◌, ◌≤◌, ◌^◌, true, IfSome, slice_index};
+ghost use Rattle.bytecode.specs.Code.{bounds_of};
 ghost use Rattle.machine.specs.Standing.{IsThreadOf};
 ghost use Rattle.machine.specs.States.{IsWordOf};
 
@@ -23,22 +24,38 @@ const MOST: u64 = 1_000_000;
 // The last even value of the lock.
 const LAST: u64 = u64::MAX - 1;
 
-// The answer of an access that finds this lock, or this word.
-fn answer_to(access: Access, lock: u64, word: u32) -> Answer
-    ensures fits { IsAnswerTo access result }
-    ensures word { IsWordOf access result }
+// Whether this is a cell of the code's first global.
+fn is_in_first<A: Allocator>(code: &Code<A>, cell: u32) -> bool
+    ensures { result ≡ true → slice_index (bounds_of code.now) cell ≡ 2 ^ 32 }
+{
+    match code.globals().first() {
+        Some(global) => (cell as usize) < global.cell_count(),
+        None => false,
+    }
+}
+
+// The answer of an access that finds this lock, or this word, where it names a cell of the code's first global.
+fn answer_to<A: Allocator>(code: &Code<A>, access: Access, lock: u64, word: u32) -> Option<Answer>
+    ensures fits { IfSome result (λ y. IsAnswerTo access y) }
+    ensures word { IfSome result (λ y. IsWordOf code.now access y) }
 {
     match access {
-        Access::LoadLock => Answer::Value(lock),
-        Access::LoadWord(_) => Answer::Value(u64::from(word)),
-        Access::Swap(from) => {
-            if from == lock {
-                Answer::Won
+        Access::LoadLock => Some(Answer::Value(lock)),
+        Access::LoadWord(cell) => {
+            if is_in_first(code, cell) {
+                Some(Answer::Value(u64::from(word)))
             } else {
-                Answer::Lost(lock)
+                None
             }
         }
-        _ => Answer::Done,
+        Access::Swap(from) => {
+            if from == lock {
+                Some(Answer::Won)
+            } else {
+                Some(Answer::Lost(lock))
+            }
+        }
+        _ => Some(Answer::Done),
     }
 }
 
@@ -66,10 +83,10 @@ fn step<A: Allocator + Copy>(
         return None;
     }
     match thread.prepare(code) {
-        Ok(access) => {
-            let event = thread.told(code, answer_to(access, lock, word));
-            Some(Ok((access, event)))
-        }
+        Ok(access) => match answer_to(code, access, lock, word) {
+            Some(answer) => Some(Ok((access, thread.told(code, answer)))),
+            None => None,
+        },
         Err(why) => Some(Err(why)),
     }
 }
@@ -429,11 +446,14 @@ fn is_told_in_place<A: Allocator + Copy, B: Allocator>(
     }
     refusing.refuse(0);
     match thread.prepare(code) {
-        Ok(access) => {
-            refusing.refuse(1);
-            let event = thread.told(code, answer_to(access, lock, word));
-            refusing.is_waiting() && wanted == Some((access, event))
-        }
+        Ok(access) => match answer_to(code, access, lock, word) {
+            Some(answer) => {
+                refusing.refuse(1);
+                let event = thread.told(code, answer);
+                refusing.is_waiting() && wanted == Some((access, event))
+            }
+            None => false,
+        },
         Err(_) => false,
     }
 }

@@ -10,11 +10,11 @@ use local_steps::NoAccess;
 use std::alloc::{AllocError, Allocator};
 
 // The word of a cell.
-fn word_at(memory: &[u32], cell: u32) -> u64
-    ensures { result < 2 ^ 32 }
+fn word_at(memory: &[u64], cell: u32) -> u64
+    ensures { result < 2 ^ 64 }
 {
     match memory.get(cell as usize) {
-        Some(word) => u64::from(*word),
+        Some(word) => *word,
         None => 0,
     }
 }
@@ -24,7 +24,7 @@ fn carry_out<A: Allocator + Copy>(
     frames: &mut Frames<A>,
     code: &Code<A>,
     doing: Doing,
-    memory: &mut [u32],
+    memory: &mut [u64],
     text: &mut String<A>,
 ) -> Result<bool, AllocError>
     requires of { IsConfigurationOf code.now frames.old.configuration }
@@ -42,7 +42,7 @@ fn carry_out<A: Allocator + Copy>(
         Doing::Write(cell, word) => {
             let at = cell as usize;
             if at < memory.len() {
-                memory[at] = word as u32;
+                memory[at] = word;
             }
             frames.go_on(code);
         }
@@ -138,7 +138,7 @@ pub fn carry_on<A: Allocator + Copy>(
     frames: &mut Frames<A>,
     code: &Code<A>,
     turns: u64,
-    memory: &mut [u32],
+    memory: &mut [u64],
     text: &mut String<A>,
 ) -> Result<(Doing, u64), AllocError>
     requires of { IsConfigurationOf code.now frames.old.configuration }
@@ -161,7 +161,7 @@ pub fn run<A: Allocator + Copy>(
     alloc: A,
     code: &Code<A>,
     thread: u32,
-    memory: &mut [u32],
+    memory: &mut [u64],
     text: &mut String<A>,
 ) -> Result<(Doing, u64, Vec<u64, A>), AllocError> {
     let mut frames = first(alloc, code, thread)?;

@@ -10,7 +10,7 @@ use std::alloc::{Allocator, Global};
 
 // Whether thread 7 ends and has printed this, if memory is there.
 fn ends<A: Allocator + Copy>(alloc: A, code: &Code<A>, printed: &str) -> Option<bool> {
-    let mut memory = [0u32; 1];
+    let mut memory = [0u64; 1];
     let mut text = String::new(alloc);
     match run(alloc, code, 7, &mut memory, &mut text) {
         Err(_) => None,

@@ -20,7 +20,7 @@ fn with_registers(doing: Doing, made: u64, registers: &[u64]) -> Found {
 
 // What is found of a code over a cell that holds 9, where it has printed this.
 fn prints<A: Allocator + Copy>(alloc: A, code: &Code<A>, printed: &str) -> Option<Found> {
-    let mut memory = [9u32; 1];
+    let mut memory = [9u64; 1];
     let mut text = String::new(alloc);
     match run(alloc, code, 5, &mut memory, &mut text) {
         Ok((doing, made, registers)) if text.as_str() == printed => {
