@@ -33,5 +33,6 @@ pub mod Seen
 pub mod ThreadLaws
 pub mod Ticks
 pub mod TypedParts
+pub mod Units
 pub mod ValueTypes
 pub mod Words

@@ -2,11 +2,13 @@
 pub mod Tree
 pub mod Views
 pub mod Depth
--- numbers, what names stand for, the types of expressions, and formats
+-- numbers, what names stand for, the types of expressions, and formats with
+-- what stands at their places
 pub mod Numbers
 pub mod Names
 pub mod Types
 pub mod Formats
+pub mod Units
 -- the rules of types, and the order of faults
 pub mod Typing
 -- what threads do and how they stand in a run, for source and code alike

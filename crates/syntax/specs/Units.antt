@@ -1,0 +1,27 @@
+-- What stands at a place of a format, and where the rest begins.
+use Rattle.std.specs.Prelude.{◌≡◌, ℕ, ◌-◌, ◌<◌, ◌≤◌, List, ◌∷◌, length, drop, Bool, ◌==◌, ◌&&◌, if◌then◌else◌}
+use Rattle.syntax.specs.Tree.{Scalar}
+use Rattle.syntax.specs.Formats.{Figure, literal, pieces, is_format}
+use Rattle.syntax.specs.declared.format.Unit as U
+use Rattle.syntax.specs.declared.format.Unit.TheVariants as unit
+
+-- so many bytes say a byte of literal text: two a percent sign, and one any other
+abbrev pub says : ℕ → ℕ → Bool
+says bytes c = if c == 37 then bytes == 2 else bytes == 1
+
+-- a byte of literal text stands here, or a number; and whether all from here on is a format
+pub record IsByteAt (c next : ℕ) (format : List ℕ) (i : ℕ) : Type 0 where
+  pub is : pieces (drop i format) ≡ literal c (pieces (drop next format))
+  pub right : is_format (drop i format) ≡ (says (next - i) c && is_format (drop next format))
+  pub after : i < next
+  pub within : next ≤ length format
+
+pub record IsFigureAt (t : Scalar) (next : ℕ) (format : List ℕ) (i : ℕ) : Type 0 where
+  pub is : pieces (drop i format) ≡ Figure t ∷ pieces (drop next format)
+  pub right : is_format (drop i format) ≡ is_format (drop next format)
+  pub after : i < next
+  pub within : next ≤ length format
+
+abbrev pub IsAt : U.Unit → List ℕ → ℕ → Type 0
+IsAt (unit.Byte c next) format i = IsByteAt c next format i
+IsAt (unit.Figure t next) format i = IsFigureAt t next format i

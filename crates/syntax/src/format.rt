@@ -1,0 +1,41 @@
+//! What stands at a place of a format.
+
+ghost use Rattle.std.specs.Prelude.{◌≡◌, ◌<◌, ◌≤◌, ◌+◌, length, drop, IfSome};
+ghost use Rattle.syntax.specs.Formats.{figure_at};
+ghost use Rattle.syntax.specs.Units.{IsAt};
+
+use lex::token::Scalar;
+
+/// A byte of literal text or a number, and the place behind what says it.
+pub enum Unit {
+    Byte(u8, usize),
+    Figure(Scalar, usize),
+}
+
+/// The number that stands at a place behind a percent sign: its type, and how many bytes say it (C11 7.21.6.1).
+fn figure_at(format: &[u8], i: usize) -> Option<(Scalar, usize)>
+    requires { i < length format.now }
+    ensures is { result ≡ figure_at (drop i format.now) }
+    ensures fits { IfSome result (λ f. i + f.1 ≤ length format.now) }
+{
+    match format[i] {
+        b'd' => Some((Scalar::Int, 1)),
+        b'u' => Some((Scalar::Unsigned, 1)),
+        _ => None,
+    }
+}
+
+/// What stands at a place of a format.
+pub fn unit_at(format: &[u8], i: usize) -> Unit
+    requires { i < length format.now }
+    ensures { IsAt result format.now i }
+{
+    let byte = format[i];
+    if byte != b'%' || format.len() - i == 1 {
+        return Unit::Byte(byte, i + 1);
+    }
+    match figure_at(format, i + 1) {
+        Some((of, count)) => Unit::Figure(of, i + 1 + count),
+        None => Unit::Byte(format[i + 1], i + 2),
+    }
+}
