@@ -11,4 +11,4 @@ pub mod Found
 -- the items of a block
 pub mod BlockItems
 -- formats
-pub mod Bytes
+pub mod Figures

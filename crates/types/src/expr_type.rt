@@ -10,22 +10,15 @@ use crate::table::Names;
 use lex::token::Scalar;
 use std::alloc::Allocator;
 use syntax::tree::{BinaryOp, Expr, UnaryOp};
+use syntax::types::{common_type, result_type};
 
 /// The type to which two operands are converted (C11 6.3.1.8).
 fn common(a: Option<Scalar>, b: Option<Scalar>) -> Option<Scalar>
     ensures { result ≡ common_of a b }
 {
-    match a {
-        Some(Scalar::Int) => match b {
-            Some(Scalar::Int) => Some(Scalar::Int),
-            Some(Scalar::Unsigned) => Some(Scalar::Unsigned),
-            None => None,
-        },
-        Some(Scalar::Unsigned) => match b {
-            Some(_) => Some(Scalar::Unsigned),
-            None => None,
-        },
-        None => None,
+    match (a, b) {
+        (Some(s), Some(t)) => Some(common_type(s, t)),
+        _ => None,
     }
 }
 
@@ -36,21 +29,6 @@ fn unary_type(op: UnaryOp, a: Option<Scalar>) -> Option<Scalar>
     match op {
         UnaryOp::Not => Some(Scalar::Int),
         UnaryOp::Negate | UnaryOp::Keep | UnaryOp::Complement => a,
-    }
-}
-
-/// The type of what an operator gives whose operands are of this type.
-fn result_type(op: BinaryOp, of: Scalar) -> Scalar
-    ensures { result ≡ result_type op of }
-{
-    match op {
-        BinaryOp::Equal
-        | BinaryOp::NotEqual
-        | BinaryOp::Less
-        | BinaryOp::Greater
-        | BinaryOp::LessEqual
-        | BinaryOp::GreaterEqual => Scalar::Int,
-        _ => of,
     }
 }
 

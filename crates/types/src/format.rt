@@ -1,14 +1,15 @@
 //! Formats, and whether the arguments of a print are of their types.
 
-ghost use Rattle.std.specs.Prelude.{◌≡◌, ◌&&◌, ◌==◌, not, length};
+ghost use Rattle.std.specs.Prelude.{◌≡◌, ◌&&◌, ◌==◌, length};
 ghost use Rattle.syntax.specs.Views.{expr_of, exprs_of};
 ghost use Rattle.syntax.specs.Formats.{is_format, pieces, figures};
+ghost use Rattle.syntax.specs.Units.{says};
 ghost use Rattle.syntax.specs.Typing.{span_of};
 ghost use Rattle.syntax.specs.Types.{type_of};
 ghost use Rattle.syntax.specs.Typing.{first_unmet, demand, HaveTypes, IsTypedPrint};
 ghost use Rattle.types.specs.inner.Unmet.{unmet_in};
 ghost use Rattle.types.specs.inner.Known.{known_in};
-ghost use Rattle.types.specs.inner.Bytes.{is_conversion, figure_of, is_fitting};
+ghost use Rattle.types.specs.inner.Figures.{is_fitting};
 
 use crate::expr::{check_numbers, count_of, place_of};
 use crate::expr_type::type_of;
@@ -16,61 +17,56 @@ use crate::fault::{Violation, demand};
 use crate::table::Names;
 use lex::token::{Scalar, Span};
 use std::alloc::Allocator;
+use syntax::format::{Unit, unit_at};
 use syntax::tree::Expr;
+use syntax::types::same_type;
 
-/// Whether a byte may stand behind a percent sign.
-fn is_conversion(byte: u8) -> bool
-    ensures { result ≡ is_conversion byte }
+/// Whether so many bytes say a byte of literal text: two a percent sign, and one any other.
+fn says(bytes: usize, byte: u8) -> bool
+    ensures { result ≡ says bytes byte }
 {
-    byte == b'd' || byte == b'u' || byte == b'%'
+    if byte == b'%' { bytes == 2 } else { bytes == 1 }
 }
 
-/// Whether behind each `%` stands a `d`, a `u` or a `%` (C11 7.21.6.1).
-fn is_format(format: &str) -> bool
+/// Whether behind each `%` stands a number or a `%` (C11 7.21.6.1).
+fn is_format(format: &[u8]) -> bool
     ensures { result ≡ is_format format.now }
 {
-    let mut percent = false;
-    'each: for byte in format.as_bytes() {
-        if percent && !is_conversion(*byte) {
-            return false;
+    let mut i = 0;
+    'units: while i < format.len() {
+        match unit_at(format, i) {
+            Unit::Byte(byte, next) => {
+                if !says(next - i, byte) {
+                    return false;
+                }
+                i = next;
+                continue;
+            }
+            Unit::Figure(_, next) => {
+                i = next;
+            }
         }
-        percent = !percent && *byte == b'%';
     }
-    !percent
-}
-
-/// Whether a percent sign stands for itself, or for nothing yet.
-fn opens(percent: bool, byte: u8) -> bool
-    ensures { result ≡ (not percent && (byte == 37)) }
-{
-    !percent && byte == b'%'
-}
-
-/// The type of the number that a byte prints behind a percent sign.
-fn figure_of(percent: bool, byte: u8) -> Option<Scalar>
-    ensures { result ≡ figure_of percent byte }
-{
-    if !percent {
-        return None;
-    }
-    match byte {
-        b'd' => Some(Scalar::Int),
-        b'u' => Some(Scalar::Unsigned),
-        _ => None,
-    }
+    true
 }
 
 /// The number of numbers that a format prints.
-fn count_figures(format: &str) -> usize
+fn count_figures(format: &[u8]) -> usize
     ensures { result ≡ length (figures (pieces format.now)) }
 {
-    let mut percent = false;
     let mut count: usize = 0;
-    'each: for byte in format.as_bytes() {
-        if figure_of(percent, *byte).is_some() {
-            count += 1;
+    let mut i = 0;
+    'units: while i < format.len() {
+        match unit_at(format, i) {
+            Unit::Byte(_, next) => {
+                i = next;
+                continue;
+            }
+            Unit::Figure(_, next) => {
+                count += 1;
+                i = next;
+            }
         }
-        percent = !percent && *byte == b'%';
     }
     count
 }
@@ -80,16 +76,7 @@ fn is_fitting(of: Scalar, given: Option<Scalar>) -> bool
     ensures { result ≡ is_fitting of given }
 {
     match given {
-        Some(given) => match of {
-            Scalar::Int => match given {
-                Scalar::Int => true,
-                Scalar::Unsigned => false,
-            },
-            Scalar::Unsigned => match given {
-                Scalar::Int => false,
-                Scalar::Unsigned => true,
-            },
-        },
+        Some(given) => same_type(given, of),
         None => true,
     }
 }
@@ -112,33 +99,35 @@ fn check_figure<'a, A: Allocator + Copy>(
 /// Each argument is of the type that is printed in its place.
 fn check_figures<'a, A: Allocator + Copy>(
     names: &Names<'a, A>,
-    format: &'a str,
+    format: &[u8],
     args: &'a [Expr<A>],
 ) -> Result<(), Violation>
     ensures { unmet_in result
         ≡ first_unmet (HaveTypes (known_in names.now) (figures (pieces format.now)) (exprs_of args.now)) }
 {
-    let mut percent = false;
     let mut next: usize = 0;
-    'each: for byte in format.as_bytes() {
-        match figure_of(percent, *byte) {
-            Some(of) => {
+    let mut i = 0;
+    'units: while i < format.len() {
+        match unit_at(format, i) {
+            Unit::Byte(_, behind) => {
+                i = behind;
+                continue;
+            }
+            Unit::Figure(of, behind) => {
                 let Some(arg) = args.get(next) else {
                     return Ok(());
                 };
                 check_figure(names, of, arg)?;
                 next += 1;
+                i = behind;
             }
-            None => {}
         }
-        let opened = opens(percent, *byte);
-        percent = opened;
     }
     Ok(())
 }
 
 /// Whether a format is one, and prints so many numbers.
-fn is_right(format: &str, count: usize) -> bool
+fn is_right(format: &[u8], count: usize) -> bool
     ensures { result ≡ (is_format format.now && (length (figures (pieces format.now)) == count)) }
 {
     is_format(format) && count_figures(format) == count
@@ -154,7 +143,8 @@ pub(crate) fn check_print<'a, A: Allocator + Copy>(
     ensures { unmet_in result ≡ first_unmet (IsTypedPrint (known_in names.now) format.now at (exprs_of args.now)) }
 {
     check_numbers(names, args)?;
-    let right = is_right(format, count_of(args));
+    let bytes = format.as_bytes();
+    let right = is_right(bytes, count_of(args));
     demand(right, Violation::BadFormat(at))?;
-    check_figures(names, format, args)
+    check_figures(names, bytes, args)
 }

@@ -5,7 +5,7 @@ ghost use Rattle.lex.specs.declared.token.Scalar.TheVariants.{Int};
 ghost use Rattle.syntax.specs.Tree as Tree;
 ghost use Rattle.syntax.specs.Views.{name_of, parameter_of, function_of, item_of, stmts_of};
 ghost use Rattle.syntax.specs.Types.{file_scope};
-ghost use Rattle.syntax.specs.Typing.{has_name, agrees, same_type, same_types, same_result, may_be_function, is_worker, parameter_names, with_parameters, defined_names};
+ghost use Rattle.syntax.specs.Typing.{has_name, agrees, same_types, same_result, may_be_function, is_worker, parameter_names, with_parameters, defined_names};
 ghost use Rattle.syntax.specs.Typing.{demand, demands_of, first_unmet, AreDistinct, AreTypedStmts, IsTypedFunction};
 ghost use Rattle.types.specs.inner.Unmet.{Answers, unmet_in};
 ghost use Rattle.types.specs.inner.Known.{known_in, count_in, AreDeclared, Grows, Agrees};
@@ -22,6 +22,7 @@ use lex::token::Scalar;
 use name_tables::Table;
 use std::alloc::{AllocError, Allocator};
 use syntax::tree::{Function, Item, Name, Parameter, Stmt};
+use syntax::types::same_type;
 
 /// The names of the functions that have a body.
 pub(crate) type Bodies<'a, A> = Table<'a, (), A>;
@@ -31,21 +32,6 @@ pub(crate) fn has_body<'a, A: Allocator + Copy>(bodies: &Bodies<'a, A>, name: &'
     ensures { (items : List Tree.Item) → AreBodies bodies.now items → result ≡ has_name (defined_names items) name.now }
 {
     bodies.get(name).is_some()
-}
-
-fn same_type(s: Scalar, t: Scalar) -> bool
-    ensures { result ≡ same_type s t }
-{
-    match s {
-        Scalar::Int => match t {
-            Scalar::Int => true,
-            Scalar::Unsigned => false,
-        },
-        Scalar::Unsigned => match t {
-            Scalar::Int => false,
-            Scalar::Unsigned => true,
-        },
-    }
 }
 
 fn same_result(a: Option<Scalar>, b: Option<Scalar>) -> bool

@@ -19,10 +19,10 @@ use std::alloc::{AllocError, Allocator};
 use syntax::tree::{First, Function, Global, Item};
 
 /// The most cells of all globals.
-const MOST_CELLS: u32 = 4096;
+const MOST_CELLS: u64 = 4096;
 
 /// The number of a global's cells.
-fn cells_of<A: Allocator>(g: &Global<A>) -> u32
+fn cells_of<A: Allocator>(g: &Global<A>) -> u64
     ensures { result ≡ cells (global_of g.now) }
 {
     match g.length {
@@ -41,7 +41,7 @@ fn symbol_of<'a, A: Allocator>(g: &Global<A>) -> Symbol<'a, Function<A>>
 }
 
 /// An array's length, where there is one.
-fn check_length(length: &Option<(u32, Span)>) -> Result<(), Violation>
+fn check_length(length: &Option<(u64, Span)>) -> Result<(), Violation>
     ensures { unmet_in result ≡ first_unmet (IsLength length.now) }
 {
     match length {
@@ -54,7 +54,7 @@ fn check_length(length: &Option<(u32, Span)>) -> Result<(), Violation>
 }
 
 /// No initialiser stands where no cell is left for it.
-fn check_first(count: u32, first: &[First]) -> Result<(), Violation>
+fn check_first(count: u64, first: &[First]) -> Result<(), Violation>
     ensures { unmet_in result ≡ first_unmet (HaveCells (drop count first.now)) }
 {
     match first.get(count as usize) {
@@ -78,7 +78,7 @@ fn check_new<'a, A: Allocator + Copy>(
 /// One global, where so many cells are taken by those before it.
 fn check_global<'a, A: Allocator + Copy>(
     names: &Names<'a, A>,
-    taken: u32,
+    taken: u64,
     g: &'a Global<A>,
 ) -> Result<(), Violation>
     requires { taken ≤ 4096 }
@@ -119,7 +119,7 @@ fn add_global<'a, A: Allocator + Copy>(
 /// The globals of one declaration, behind earlier items that take so many cells.
 pub(crate) fn check_globals<'a, A: Allocator + Copy>(
     names: &mut Names<'a, A>,
-    taken: &mut u32,
+    taken: &mut u64,
     earlier: &[Item<A>],
     all: &'a [Global<A>],
 ) -> Result<(), Failure>

@@ -14,7 +14,7 @@ use syntax::tree::Function;
 pub(crate) enum Symbol<'a, F> {
     Unknown,
     Number(Scalar),
-    Array(Scalar, u32),
+    Array(Scalar, u64),
 
     /// A function, as it was first declared.
     Callable(&'a F),

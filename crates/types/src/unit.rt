@@ -26,7 +26,7 @@ use syntax::tree::{Item, Unit};
 struct Found<'a, A: Allocator + Copy> {
     pub(crate) names: Names<'a, A>,
     pub(crate) bodies: Bodies<'a, A>,
-    taken: u32,
+    taken: u64,
 }
 
 /// An item behind earlier ones.

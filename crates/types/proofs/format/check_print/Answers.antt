@@ -21,7 +21,7 @@ returns-in_err-demand g c =
     let es = exprs_of c.args.args.now in
     let printed = figures (pieces c.args.format.now) in
     let is = first_of_three (AreNumbers k es) (demand 27 c.args.at (is_format c.args.format.now && (length printed == count es))) (HaveTypes k printed es) in
-    let right = c.is_right-right.ensures ∙ ap (λ n. is_format c.args.format.now && (length printed == n)) c.count_of.ensures in
+    let right = c.is_right-right.ensures ∙ (λ i. is_format (c.as_bytes-bytes.ensures.value i) && (length (figures (pieces (c.as_bytes-bytes.ensures.value i))) == c.count_of.ensures i)) in
     stop c.demand.result _ c.in_err-demand.field-0.0 _ _ _ (skip c.check_numbers.result _ _ _ _ is c.check_numbers.ensures c.in_ok-check_numbers.was) (c.demand.ensures ∙ ap (λ b. first_unmet (demand 27 c.args.at b)) right) c.in_err-demand.was c.from_residual-in_err-demand.ensures
 
 pub returns : goal.returns
@@ -30,5 +30,7 @@ returns g c =
     let es = exprs_of c.args.args.now in
     let printed = figures (pieces c.args.format.now) in
     let is = first_of_three (AreNumbers k es) (demand 27 c.args.at (is_format c.args.format.now && (length printed == count es))) (HaveTypes k printed es) in
-    let right = c.is_right-right.ensures ∙ ap (λ n. is_format c.args.format.now && (length printed == n)) c.count_of.ensures in
-    c.check_figures.ensures ∙ sym (skip c.demand.result _ _ _ _ (skip c.check_numbers.result _ _ _ _ is c.check_numbers.ensures c.in_ok-check_numbers.was) (c.demand.ensures ∙ ap (λ b. first_unmet (demand 27 c.args.at b)) right) c.in_ok-demand.was)
+    let right = c.is_right-right.ensures ∙ (λ i. is_format (c.as_bytes-bytes.ensures.value i) && (length (figures (pieces (c.as_bytes-bytes.ensures.value i))) == c.count_of.ensures i)) in
+    c.check_figures.ensures
+    ∙ ap (λ cs. first_unmet (HaveTypes k (figures (pieces cs)) es)) c.as_bytes-bytes.ensures.value
+    ∙ sym (skip c.demand.result _ _ _ _ (skip c.check_numbers.result _ _ _ _ is c.check_numbers.ensures c.in_ok-check_numbers.was) (c.demand.ensures ∙ ap (λ b. first_unmet (demand 27 c.args.at b)) right) c.in_ok-demand.was)

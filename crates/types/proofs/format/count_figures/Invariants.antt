@@ -1,7 +1,11 @@
-use Rattle.std.proofs.Common.{◌≡◌, ◌+◌, ◌≤◌, drop, length}
+use Rattle.std.proofs.Common.{◌≡◌, ◌+◌, ◌-◌, ◌≤◌, drop, length}
 use Rattle.syntax.specs.Formats.{pieces, figures}
-use Rattle.types.specs.inner.Bytes.{figures_from}
 use Rattle.types.proofs.format.count_figures.Given as goal
 
-abbrev pub invariant-each : goal.invariant-each
-invariant-each l = (l.count + length (figures_from l.percent (drop l.byte-index l.format)) ≡ length (figures (pieces l.format))) × (l.count ≤ l.byte-index)
+abbrev pub decreases-units : goal.decreases-units
+decreases-units l = length l.format - l.i
+
+abbrev pub invariant-units : goal.invariant-units
+invariant-units l =
+    (l.count + length (figures (pieces (drop l.i l.format))) ≡ length (figures (pieces l.format)))
+    × (l.count ≤ l.i) × (l.i ≤ length l.format)

@@ -1,7 +1,9 @@
-use Rattle.std.proofs.Common.{◌≡◌, drop}
+use Rattle.std.proofs.Common.{◌≡◌, ◌≤◌, ◌-◌, drop, length}
 use Rattle.syntax.specs.Formats.{is_format}
-use Rattle.types.specs.inner.Bytes.{is_format_from}
 use Rattle.types.proofs.format.is_format.Given as goal
 
-abbrev pub invariant-each : goal.invariant-each
-invariant-each l = is_format_from l.percent (drop l.byte-index l.format) ≡ is_format l.format
+abbrev pub decreases-units : goal.decreases-units
+decreases-units l = length l.format - l.i
+
+abbrev pub invariant-units : goal.invariant-units
+invariant-units l = (is_format (drop l.i l.format) ≡ is_format l.format) × (l.i ≤ length l.format)
