@@ -227,7 +227,7 @@ module _ (p : Program) (call : Caller) (called : CallsGo p call) (outer : Option
     mutual
       expr_goes : (a : Around) → Here p known ls a → (e : Expr) → TypedExpr known e → AllPermitted p outer (expr_sites e a) → Goes (mode_of a) ls ls Any (expr p call e)
       expr_goes a here (Variable x) h m = on_goes (named_goes a here x h.0 h.1 m) (λ at f. fetch_goes at f)
-      expr_goes a here (Constant n t at) h m = pure_goes (record { of = t; word = word_of (pos n) }) tt
+      expr_goes a here (Constant n t at) h m = pure_goes (record { of = t; word = word_of t (pos n) }) tt
       expr_goes a here (Element x i at) h m =
           on_goes (expr_goes a here i h.1 (back_permitted (uses x a) (expr_sites i a) m)) (λ k _. on_goes (element_goes a here x k h.0 h.2 (front_permitted (uses x a) (expr_sites i a) m)) (λ at f. fetch_goes at f))
       expr_goes a here (Call f es at) h m =
