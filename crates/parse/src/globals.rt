@@ -20,13 +20,13 @@ use std::alloc::Allocator;
 use syntax::tree::{First, Global, Item, Name};
 
 /// A constant's value and type, where it stands, and the tokens after it.
-type Placed<'t, 'a> = (((u32, Scalar), Span), &'t [Token<'a>]);
+type Placed<'t, 'a> = (((u64, Scalar), Span), &'t [Token<'a>]);
 
 /// First values, and the tokens after them.
 type Firsts<'t, 'a, A> = (Items<First, A>, &'t [Token<'a>]);
 
 /// An array's length or none, first values, and the tokens after them.
-type Sized<'t, 'a, A> = ((Option<(u32, Span)>, Items<First, A>), &'t [Token<'a>]);
+type Sized<'t, 'a, A> = ((Option<(u64, Span)>, Items<First, A>), &'t [Token<'a>]);
 
 /// A constant, with its type and its place.
 fn constant<'t, 'a>(tokens: &'t [Token<'a>]) -> Result<Placed<'t, 'a>, Failure<'t, 'a>>
@@ -44,7 +44,7 @@ fn constant<'t, 'a>(tokens: &'t [Token<'a>]) -> Result<Placed<'t, 'a>, Failure<'
 /// An array's length, and where it stands.
 fn length<'t, 'a>(
     tokens: &'t [Token<'a>],
-) -> Result<((u32, Span), &'t [Token<'a>]), Failure<'t, 'a>>
+) -> Result<((u64, Span), &'t [Token<'a>]), Failure<'t, 'a>>
     ensures { Gives (λ x. (x.0, toks x.1.now)) result (take the_length (toks tokens.now)) }
 {
     match tokens {
@@ -59,7 +59,7 @@ fn length<'t, 'a>(
 /// `[ length ]`
 fn array_length<'t, 'a>(
     tokens: &'t [Token<'a>],
-) -> Result<((u32, Span), &'t [Token<'a>]), Failure<'t, 'a>>
+) -> Result<((u64, Span), &'t [Token<'a>]), Failure<'t, 'a>>
     ensures { Gives (λ x. (x.0, toks x.1.now)) result
         (behind (token.Punctuator punct.OpenBracket) (before (token.Punctuator punct.CloseBracket) (take the_length))
         (toks tokens.now)) }
