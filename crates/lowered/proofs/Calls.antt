@@ -10,25 +10,29 @@ use Rattle.lex.specs.declared.token.Scalar.TheVariants.{Int, Unsigned}
 use Rattle.syntax.specs.declared.numbers.Trap.TheVariants.{Frames}
 use Rattle.syntax.specs.declared.numbers.Value.{Value}
 use Rattle.syntax.specs.Tree.{Name, Parameter, Function, Stmts, Program}
-use Rattle.syntax.specs.Numbers.{number, word_of, converted, flag}
-use Rattle.syntax.specs.Names.{Local, word_at, definition_of, initial_memory, bounds}
+use Rattle.syntax.specs.Numbers.{modulus, number_of, converted, flag}
+use Rattle.syntax.specs.Names.{Local, word_at, definition_of, GlobalCells, global_of, bounds, bounds_of as cell_bounds}
 use Rattle.syntax.specs.Laws.{shape}
 use Rattle.syntax.specs.declared.numbers.Status.TheVariants.{Running}
 use Rattle.syntax.specs.Behaviours.{Memory, IsMemory, Outcome, Ended, Means}
 use Rattle.syntax.specs.Actions.{Outside, Answer, Gives, Action, go_on, ◌>>=◌, ◌>>◌, tick, or_astray, locals, put_locals}
 use Rattle.syntax.specs.Meaning.{End, Next, Breaks, Continues, Returns, Cancels, CancelsOuter, stmts, entered, result_of, calls}
 use Rattle.syntax.specs.Threads.{outcome_of, first_state, thread}
+use Rattle.syntax.specs.Typing.{IsTypedProgram}
+use Rattle.syntax.proofs.Words.{truth_below, word_below}
+use Rattle.syntax.proofs.Memories.{typed_cells}
 use Rattle.bytecode.specs.Effects.{Effect}
 use Rattle.bytecode.specs.Sequential.{start, meaning, sequential_step, outside}
-use Rattle.bytecode.specs.Code.{Code, FunctionCode, Configuration, Frame, Instr, effect, effect_of, called}
+use Rattle.bytecode.specs.Code.{Code, FunctionCode, Configuration, Frame, Instr, bounds_of, effect, effect_of, called}
 use Rattle.bytecode.specs.Beginning.{worker_among, beginning_in, beginning}
 use Rattle.lowered.specs.Expressions.{LocalScope, At, Layout, named_ones, nameless_ones, arranged}
 use Rattle.lowered.specs.Statements.{locals_at_end}
 use Rattle.lowered.specs.Programs.{parameter_locals, no_exits, ConstantsCode, FunctionIsLowered, IsLowered}
+use Rattle.lowered.specs.Means.{MeansItsProgram}
 use Rattle.lowered.proofs.Agreement.{Agrees, NeverAstray, astray, same, fewer, shown, over}
-use Rattle.lowered.proofs.Runs.{Around, Bare, Shared, context_of, holding, state, IsSeen, on_seen, AreWords, IsGood, registers_in, Holds, configuration, effect_at, goes_by, traps, less, all}
+use Rattle.lowered.proofs.Runs.{Around, Bare, Shared, context_of, holding, state, IsSeen, on_seen, KnownCells, HasCellsOf, AreMemories, IsGood, registers_in, Holds, configuration, effect_at, goes_by, traps, less, all}
 use Rattle.lowered.proofs.Expressions.{CallsFollow, word_same}
-use Rattle.lowered.proofs.Locals.{length_like}
+use Rattle.lowered.proofs.Locals.{AreWords, length_like}
 use Rattle.lowered.proofs.Flow.{GoesEnd, word_in, ArrivedAt, HereAt, MoreAt, TurnsFall, stmts_follow}
 use Rattle.lowered.proofs.Turns.{while_falls, do_falls, for_falls}
 
@@ -37,12 +41,13 @@ record Entered (qs : List Parameter) (vs : List Value) (ls : List Local) : Type 
   count : length vs ≡ length qs
   shapes : map shape ls ≡ map shape (parameter_locals qs)
   words : map (λ (l : Local). l.word) ls ≡ named_ones qs (map (λ (v : Value). v.word) vs)
+  own : AreWords ls
 
 abbrev EnteredSo : List Parameter → List Value → Option (List Local) → Type 0
 EnteredSo qs vs None = Unit {0}
 EnteredSo qs vs (Some ls) = Entered qs vs ls
 
-first_entered : (q : Parameter) (n : Option Name) (qs : List Parameter) (v : Value) (vs : List Value) (o : Option (List Local)) → q.name ≡ n → v.word < 2 ^ 32 → EnteredSo qs vs o → EnteredSo (q ∷ qs) (v ∷ vs) (option_map (λ ls. unwrap_or (option_map (λ (x : Name). record { name = x.text; of = q.of; word = (converted q.of v).word } ∷ []) n) [] ++ ls) o)
+first_entered : (q : Parameter) (n : Option Name) (qs : List Parameter) (v : Value) (vs : List Value) (o : Option (List Local)) → q.name ≡ n → v.word < modulus v.of → EnteredSo qs vs o → EnteredSo (q ∷ qs) (v ∷ vs) (option_map (λ ls. unwrap_or (option_map (λ (x : Name). record { name = x.text; of = q.of; word = (converted q.of v).word } ∷ []) n) [] ++ ls) o)
 first_entered q n qs v vs None e b h = tt
 first_entered q None qs v vs (Some ls) e b h =
     let ws : List ℕ = map (λ (v : Value). v.word) vs in
@@ -50,17 +55,19 @@ first_entered q None qs v vs (Some ls) e b h =
       count = ap suc h.count;
       shapes = h.shapes ∙ ap (λ (n : Option Name). map shape (unwrap_or (option_map (λ (x : Name). record { name = x.text; of = q.of; word = 0 } ∷ []) n) [] ++ parameter_locals qs)) (sym e);
       words = h.words ∙ ap (λ (n : Option Name). if is_some n then v.word ∷ named_ones qs ws else named_ones qs ws) (sym e);
+      own = h.own;
     }
 first_entered q (Some x) qs v vs (Some ls) e b h =
     let ws : List ℕ = map (λ (v : Value). v.word) vs in
     record {
       count = ap suc h.count;
       shapes = ap (λ (s : List (List ℕ × Scalar)). (x.text, q.of) ∷ s) h.shapes ∙ ap (λ (n : Option Name). map shape (unwrap_or (option_map (λ (x : Name). record { name = x.text; of = q.of; word = 0 } ∷ []) n) [] ++ parameter_locals qs)) (sym e);
-      words = ap (λ w. w ∷ map (λ (l : Local). l.word) ls) (word_same v.of v.word b) ∙ ap (λ us. v.word ∷ us) h.words ∙ ap (λ (n : Option Name). if is_some n then v.word ∷ named_ones qs ws else named_ones qs ws) (sym e);
+      words = ap (λ w. w ∷ map (λ (l : Local). l.word) ls) (word_same q.of v.of v.word b) ∙ ap (λ us. v.word ∷ us) h.words ∙ ap (λ (n : Option Name). if is_some n then v.word ∷ named_ones qs ws else named_ones qs ws) (sym e);
+      own = (word_below q.of (number_of v), h.own);
     }
 
-all_entered : (qs : List Parameter) (vs : List Value) → AllByRecursion (λ (v : Value). v.word < 2 ^ 32) vs → EnteredSo qs vs (entered qs vs)
-all_entered [] [] b = record { count = refl; shapes = refl; words = refl }
+all_entered : (qs : List Parameter) (vs : List Value) → AllByRecursion (λ (v : Value). v.word < modulus v.of) vs → EnteredSo qs vs (entered qs vs)
+all_entered [] [] b = record { count = refl; shapes = refl; words = refl; own = tt }
 all_entered [] (v ∷ vs) b = tt
 all_entered (q ∷ qs) [] b = tt
 all_entered (q ∷ qs) (v ∷ vs) b = first_entered q q.name qs v vs (entered qs vs) refl b.0 (all_entered qs vs b.1)
@@ -119,16 +126,6 @@ front_index [] ys i h = absurd (omega (arith, h))
 front_index (x ∷ xs) ys zero h = refl
 front_index (x ∷ xs) ys (suc i) h = front_index xs ys i (omega (arith, h))
 
-named_below_one : (b : Bool) (r i : ℕ) (xs : List ℕ) → r < 2 ^ 32 → ((j : ℕ) → slice_index xs j < 2 ^ 32) → slice_index (if b then r ∷ xs else xs) i < 2 ^ 32
-named_below_one true r zero xs b h = b
-named_below_one true r (suc i) xs b h = h i
-named_below_one false r i xs b h = h i
-
-named_below : (qs : List Parameter) (vs : List Value) (i : ℕ) → AllByRecursion (λ (v : Value). v.word < 2 ^ 32) vs → slice_index (named_ones qs (map (λ (v : Value). v.word) vs)) i < 2 ^ 32
-named_below [] vs i b = omega arith
-named_below (q ∷ qs) [] i b = omega arith
-named_below (q ∷ qs) (v ∷ vs) i b = named_below_one (is_some q.name) v.word i (named_ones qs (map (λ (v : Value). v.word) vs)) b.0 (λ j. named_below qs vs j b.1)
-
 -- the registers that a function begins with
 abbrev first_registers : FunctionCode → List ℕ → List ℕ
 first_registers g words = words ++ replicate (g.registers - g.parameters) 0
@@ -154,8 +151,8 @@ is_set r (x ∷ ws) rs (suc k) w i at e h =
     let len : length (slice_set rs r x) ≡ length rs = length-set rs r x in
     is_set (suc r) ws (slice_set rs r x) k w i (omega (arith, at)) e (omega (arith, h, len))
 
-entered_holds : (g : FunctionCode) (layout : Layout) (qs : List Parameter) (vs : List Value) (ls : List Local) → Entered qs vs ls → AllByRecursion (λ (v : Value). v.word < 2 ^ 32) vs → g.parameters ≡ length qs → length qs ≤ layout.writable → g.registers ≡ registers_in layout → Holds (parameter_locals qs) ls layout (length (parameter_locals qs)) (set_from layout.writable layout.constants (first_registers g (arranged qs (map (λ (v : Value). v.word) vs))))
-entered_holds g layout qs vs ls h b n fits all =
+entered_holds : (g : FunctionCode) (layout : Layout) (qs : List Parameter) (vs : List Value) (ls : List Local) → Entered qs vs ls → g.parameters ≡ length qs → length qs ≤ layout.writable → g.registers ≡ registers_in layout → Holds (parameter_locals qs) ls layout (length (parameter_locals qs)) (set_from layout.writable layout.constants (first_registers g (arranged qs (map (λ (v : Value). v.word) vs))))
+entered_holds g layout qs vs ls h n fits all =
     let ws : List ℕ = map (λ (v : Value). v.word) vs in
     let zeros : List ℕ = replicate (g.registers - g.parameters) 0 in
     let old : List ℕ = first_registers g (arranged qs ws) in
@@ -173,7 +170,7 @@ entered_holds g layout qs vs ls h b n fits all =
       fits = omega (arith, len3, parts, fits);
       size_is = length_set_from layout.writable layout.constants old ∙ size_is;
       each = λ i l. below_set layout.writable layout.constants old i (omega (arith, l, len3, parts, fits)) ∙ front_index (arranged qs ws) zeros i (omega (arith, l, len3, parts, whole)) ∙ front_index (named_ones qs ws) (nameless_ones qs ws) i (omega (arith, l, len3)) ∙ ap (λ us. slice_index us i) (sym h.words) ∙ sym (word_listed ls i);
-      words = λ i. subst (λ w. w < 2 ^ 32) (sym (word_listed ls i ∙ ap (λ us. slice_index us i) h.words)) (named_below qs vs i b);
+      words = h.own;
       ready = λ k w e. is_set layout.writable layout.constants old k w (layout.writable + k) refl e (omega (arith, size_is));
     }
 
@@ -191,15 +188,15 @@ unfolding is_nothing
 worker_known [] g e = absurd (subst is_nothing e tt)
 worker_known (f ∷ fs) g e = worker_one (bytes_eq f.name (codes "worker")) f fs g refl e (worker_known fs g)
 
-module _ (p : Program) (code : Code) where
+module _ (p : Program) (code : Code) (are : HasCellsOf code p) where
   -- turns gain no ticks
-  turns_fall : (k : ℕ) (layout : Layout) (frames : List Frame) (cf : CallsFollow p (calls p k) code layout frames) → TurnsFall p (calls p k) code layout frames cf
+  turns_fall : (k : ℕ) (layout : Layout) (frames : List Frame) (cf : CallsFollow p (calls p k) code layout frames) → TurnsFall p (calls p k) code layout frames cf are
   turns_fall k layout frames cf = record { while_falls = while_falls p k; do_falls = do_falls p k; for_falls = for_falls p k }
 
   -- a function's body, up to its return
   abbrev GoesReturn : ℕ → ℕ → (a : Around) → (Answer Value → Outcome) → List Local → List Frame → Option Scalar → Type 0
   GoesReturn N K a after ls frames u =
-      (v : Value) (sh : Shared) (text : List ℕ) (rs : List ℕ) (q : ℕ) (r : Option ℕ) → At code q (Instr.Return r) → word_in r rs ≡ v.word → v.of ≡ unwrap_or u Int → v.word < 2 ^ 32 → IsGood a sh →
+      (v : Value) (sh : Shared) (text : List ℕ) (rs : List ℕ) (q : ℕ) (r : Option ℕ) → At code q (Instr.Return r) → word_in r rs ≡ v.word → v.of ≡ unwrap_or u Int → v.word < modulus v.of → IsGood code a sh →
       Agrees (effect code) N K (holding a sh text (configuration code q rs frames)) (λ n. after (Gives v (state n ls (context_of a sh) text)))
 
   -- what follows a body
@@ -207,15 +204,14 @@ module _ (p : Program) (code : Code) where
   leaving outer u end = put_locals outer >> result_of u end
 
   body_ends : (N K : ℕ) (layout : Layout) (a : Around) (ls : List Local) (frames : List Frame) (u : Option Scalar) (after : Answer Value → Outcome) (scope later : LocalScope) (last : ℕ) → At code last (Instr.Return None) → IsSeen a after → GoesReturn N K a after ls frames u →
-      (end : End) (sh : Shared) (text : List ℕ) (ls1 : List Local) (rs : List ℕ) (q : ℕ) → IsGood a sh → ArrivedAt p code layout no_exits (HereAt p code layout later) (MoreAt p code layout scope) last end q ls1 rs →
+      (end : End) (sh : Shared) (text : List ℕ) (ls1 : List Local) (rs : List ℕ) (q : ℕ) → IsGood code a sh → ArrivedAt p code layout no_exits (HereAt p code layout later) (MoreAt p code layout scope) last end q ls1 rs →
       Agrees (effect code) N K (holding a sh text (configuration code q rs frames)) (λ n. after (go_on (Gives end (state n ls1 (context_of a sh) text)) (leaving ls u)))
   body_ends N K layout a ls frames u after scope later last i s go Next sh text ls1 rs q good arrived =
-      go (converted (unwrap_or u Int) (flag false)) sh text rs q None (subst (λ y. At code y (Instr.Return None)) (sym arrived.0) i) refl refl (omega arith) good
+      go (converted (unwrap_or u Int) (flag false)) sh text rs q None (subst (λ y. At code y (Instr.Return None)) (sym arrived.0) i) (sym (word_same (unwrap_or u Int) Int 0 (truth_below false))) refl (word_below (unwrap_or u Int) (number_of (flag false))) good
   body_ends N K layout a ls frames u after scope later last i s go Breaks sh text ls1 rs q good arrived = astray (effect code) 0 (s.astray _)
   body_ends N K layout a ls frames u after scope later last i s go Continues sh text ls1 rs q good arrived = astray (effect code) 0 (s.astray _)
   body_ends N K layout a ls frames u after scope later last i s go (Returns v) sh text ls1 rs q good arrived =
-      let same_word : word_of (number v.of v.word) ≡ v.word = word_same v.of v.word arrived.3 in
-      go (converted (unwrap_or u Int) v) sh text rs q arrived.0 arrived.1 (arrived.2 ∙ sym same_word) refl (subst (λ w. w < 2 ^ 32) (sym same_word) arrived.3) good
+      go (converted (unwrap_or u Int) v) sh text rs q arrived.0 arrived.1 (arrived.2 ∙ sym (word_same (unwrap_or u Int) v.of v.word arrived.3)) refl (word_below (unwrap_or u Int) (number_of v)) good
   body_ends N K layout a ls frames u after scope later last i s go Cancels sh text ls1 rs q good arrived = astray (effect code) 0 (s.astray _)
   body_ends N K layout a ls frames u after scope later last i s go CancelsOuter sh text ls1 rs q good arrived = absurd arrived
 
@@ -226,15 +222,15 @@ module _ (p : Program) (code : Code) where
       goes_by code a sh text (configuration code from rs frames) (configuration code (suc from) (slice_set rs r w) frames) (effect_at code from (Instr.Constant r w) rs frames c.0)
       (constants_run ws (suc r) (suc from) to a sh text (slice_set rs r w) frames c.1 go)
 
-  body_goes : (k : ℕ) (frames : List Frame) (layout : Layout) (cf : CallsFollow p (calls p k) code layout frames) (N K : ℕ) (a : Around) (ls : List Local) (u : Option Scalar) (after : Answer Value → Outcome) (scope later : LocalScope) (last : ℕ) → At code last (Instr.Return None) → IsSeen a after → GoesReturn N K a after ls frames u → GoesEnd p (calls p k) code layout frames cf N K a (λ q. after (go_on q (leaving ls u))) no_exits (HereAt p code layout later) (MoreAt p code layout scope) last
+  body_goes : (k : ℕ) (frames : List Frame) (layout : Layout) (cf : CallsFollow p (calls p k) code layout frames) (N K : ℕ) (a : Around) (ls : List Local) (u : Option Scalar) (after : Answer Value → Outcome) (scope later : LocalScope) (last : ℕ) → At code last (Instr.Return None) → IsSeen a after → GoesReturn N K a after ls frames u → GoesEnd p (calls p k) code layout frames cf are N K a (λ q. after (go_on q (leaving ls u))) no_exits (HereAt p code layout later) (MoreAt p code layout scope) last
   body_goes k frames layout cf N K a ls u after scope later last i s go = record { ends = body_ends N K layout a ls frames u after scope later last i s go; outer = tt }
 
-  body_follows : (k : ℕ) (frames : List Frame) (g : FunctionCode) (f : Function) (body : Stmts) → (c : FunctionIsLowered p code g f body) → CallsFollow p (calls p k) code c.layout frames → (N K : ℕ) (vs : List Value) (rs : List ℕ) (o : Option (List Local)) → EnteredSo f.parameters vs o → (length vs ≡ length f.parameters → rs ≡ first_registers g (arranged f.parameters (map (λ (v : Value). v.word) vs))) → AllByRecursion (λ (v : Value). v.word < 2 ^ 32) vs → (a : Around) (sh : Shared) (text : List ℕ) (ls : List Local) (after : Answer Value → Outcome) → IsGood a sh → IsSeen a after → GoesReturn N K a after ls frames f.result → Agrees (effect code) N K (holding a sh text (configuration code g.first rs frames)) (λ n. after (go_on (or_astray o (state n ls (context_of a sh) text)) (λ mine. locals >>= λ outer. put_locals mine >> (stmts p (calls p k) body >>= leaving outer f.result))))
+  body_follows : (k : ℕ) (frames : List Frame) (g : FunctionCode) (f : Function) (body : Stmts) → (c : FunctionIsLowered p code g f body) → CallsFollow p (calls p k) code c.layout frames → (N K : ℕ) (vs : List Value) (rs : List ℕ) (o : Option (List Local)) → EnteredSo f.parameters vs o → (length vs ≡ length f.parameters → rs ≡ first_registers g (arranged f.parameters (map (λ (v : Value). v.word) vs))) → AllByRecursion (λ (v : Value). v.word < modulus v.of) vs → (a : Around) (sh : Shared) (text : List ℕ) (ls : List Local) (after : Answer Value → Outcome) → IsGood code a sh → IsSeen a after → GoesReturn N K a after ls frames f.result → Agrees (effect code) N K (holding a sh text (configuration code g.first rs frames)) (λ n. after (go_on (or_astray o (state n ls (context_of a sh) text)) (λ mine. locals >>= λ outer. put_locals mine >> (stmts p (calls p k) body >>= leaving outer f.result))))
   body_follows k frames g f body c cf N K vs rs None h e b a sh text ls after good s go = astray (effect code) 0 (s.astray _)
   body_follows k frames g f body c cf N K vs rs (Some mine) h e b a sh text ls after good s go =
       constants_run c.layout.constants c.layout.writable g.first c.begins a sh text rs frames c.sets
-      (stmts_follow p (calls p k) code c.layout frames cf (turns_fall k c.layout frames cf) body N K no_exits (parameter_locals f.parameters) c.begins c.last a sh text mine (set_from c.layout.writable c.layout.constants rs) (λ q. after (go_on q (leaving ls f.result))) c.runs
-      (subst (λ xs. Holds (parameter_locals f.parameters) mine c.layout (length (parameter_locals f.parameters)) (set_from c.layout.writable c.layout.constants xs)) (sym (e h.count)) (entered_holds g c.layout f.parameters vs mine h b c.parameters c.fits c.registers)) good (on_seen a after (leaving ls f.result) s)
+      (stmts_follow p (calls p k) code c.layout frames cf are (turns_fall k c.layout frames cf) body N K no_exits (parameter_locals f.parameters) c.begins c.last a sh text mine (set_from c.layout.writable c.layout.constants rs) (λ q. after (go_on q (leaving ls f.result))) c.runs
+      (subst (λ xs. Holds (parameter_locals f.parameters) mine c.layout (length (parameter_locals f.parameters)) (set_from c.layout.writable c.layout.constants xs)) (sym (e h.count)) (entered_holds g c.layout f.parameters vs mine h c.parameters c.fits c.registers)) good (on_seen a after (leaving ls f.result) s)
       (body_goes k frames c.layout cf N K a ls f.result after (parameter_locals f.parameters) (locals_at_end body (parameter_locals f.parameters)) c.last c.returns s go))
 
   -- calls, with so many further frames to come
@@ -278,7 +274,7 @@ module _ (p : Program) (code : Code) where
     returns_end : (r : Option ℕ) (rs : List ℕ) (q : ℕ) → effect_of code (configuration code q rs []) (Some (Instr.Return r)) ≡ Effect.End
     returns_end r rs q = refl
 
-    worker_started : (N K t : ℕ) (founds : List Memory) (o : Option (Function × Stmts)) → definition_of p (codes "worker") ≡ o → t < 2 ^ 32 → AllByRecursion AreWords founds → Agrees (effect code) N K (start (beginning_in (Some lowered.worker) t) founds) (λ n. outcome_of (go_on (go_on (or_astray o (first_state founds n)) (λ f. or_astray (entered f.0.parameters (record { of = Unsigned; word = t } ∷ [])) >>= λ mine. locals >>= λ outer. put_locals mine >> (stmts p (calls p 63) f.1 >>= λ end. put_locals outer >> result_of f.0.result end))) (λ v. tick)))
+    worker_started : (N K t : ℕ) (founds : List Memory) (o : Option (Function × Stmts)) → definition_of p (codes "worker") ≡ o → t < 2 ^ 32 → AreMemories code founds → Agrees (effect code) N K (start (beginning_in (Some lowered.worker) t) founds) (λ n. outcome_of (go_on (go_on (or_astray o (first_state founds n)) (λ f. or_astray (entered f.0.parameters (record { of = Unsigned; word = t } ∷ [])) >>= λ mine. locals >>= λ outer. put_locals mine >> (stmts p (calls p 63) f.1 >>= λ end. put_locals outer >> result_of f.0.result end))) (λ v. tick)))
     worker_started N K t founds None e below good = astray (effect code) 0 refl
     worker_started N K t founds (Some d) e below good =
         let g : FunctionCode = lowered.worker in
@@ -293,25 +289,32 @@ module _ (p : Program) (code : Code) where
         (record { spent = λ t. refl; wants = λ t. refl; trapped = λ k t. refl; astray = λ t. refl })
         (λ v sh1 text1 rs1 q r at word of_v below_v good1. ends (configuration code q rs1 []) sh1.founds sh1.lefts text1 [] sh1.memory sh1.kept (effect_at code q (Instr.Return r) rs1 [] at ∙ returns_end r rs1 q))
 
-    worker_follows : (N K t : ℕ) (founds : List Memory) → t < 2 ^ 32 → AllByRecursion AreWords founds → Agrees (effect code) N K (start (beginning code t) founds) (λ n. thread p t founds n)
+    worker_follows : (N K t : ℕ) (founds : List Memory) → t < 2 ^ 32 → AreMemories code founds → Agrees (effect code) N K (start (beginning code t) founds) (λ n. thread p t founds n)
     worker_follows N K t founds below good =
         subst (λ o. Agrees (effect code) N K (start (beginning_in o t) founds) (λ n. thread p t founds n)) (sym lowered.has_worker)
         (worker_started N K t founds (definition_of p (codes "worker")) refl below good)
 
-    words_of : (cells : ℕ) (m : Memory) → IsMemory (replicate cells (2 ^ 32)) m → AreWords m
-    words_of zero [] b i = omega arith
-    words_of zero (w ∷ m) b i = absurd b
-    words_of (suc n) [] b i = omega arith
-    words_of (suc n) (w ∷ m) b zero = b.0
-    words_of (suc n) (w ∷ m) b (suc i) = words_of n m b.1 i
-
-    all_words : (cells : ℕ) (ms : List Memory) → AllByRecursion (IsMemory (replicate cells (2 ^ 32))) ms → AllByRecursion AreWords ms
-    all_words cells [] b = tt
-    all_words cells (m ∷ ms) b = (words_of cells m b.0, all_words cells ms b.1)
-
-    -- the code means the program, in both directions
-    pub means : ((t : ℕ) (founds : List Memory) → t < 2 ^ 32 → AllByRecursion (IsMemory (bounds p)) founds → NeverAstray (λ n. thread p t founds n)) → Means (bounds p) (meaning (effect code) (beginning code)) (thread p)
-    means never = record {
-      there = λ t founds below memories n. (worker_follows n 0 t founds below (all_words (length (initial_memory p)) founds memories) (never t founds below memories)).there n (all code n);
-      back = λ t founds below memories k. (worker_follows 0 k t founds below (all_words (length (initial_memory p)) founds memories) (never t founds below memories)).back k (all code k);
+    follows : ((t : ℕ) (founds : List Memory) → t < 2 ^ 32 → AreMemories code founds → NeverAstray (λ n. thread p t founds n)) → Means (bounds_of code) (meaning (effect code) (beginning code)) (thread p)
+    follows never = record {
+      there = λ t founds below memories n. (worker_follows n 0 t founds below memories (never t founds below memories)).there n (all code n);
+      back = λ t founds below memories k. (worker_follows 0 k t founds below memories (never t founds below memories)).back k (all code k);
     }
+
+-- the cells of a code are those of its program
+pub same_bounds : (p : Program) (code : Code) → IsLowered p code → bounds_of code ≡ bounds p
+same_bounds p code l = ap cell_bounds l.globals_are
+
+has_cells : (p : Program) (code : Code) → IsTypedProgram p → IsLowered p code → HasCellsOf code p
+has_cells p code checked l x = known (global_of p x) refl
+  where
+    known : (o : Option GlobalCells) → global_of p x ≡ o → KnownCells code o
+    known None e = tt
+    known (Some g) e =
+        let cells_are = typed_cells p checked in
+        (ap (λ bs. slice_index bs g.cell) (same_bounds p code l) ∙ cells_are.first x g e, λ k h. ap (λ bs. slice_index bs (g.cell + k)) (same_bounds p code l) ∙ cells_are.each x g k e h)
+
+-- the code means the program, in both directions
+pub means : (p : Program) (code : Code) → IsTypedProgram p → IsLowered p code → ((t : ℕ) (founds : List Memory) → t < 2 ^ 32 → AllByRecursion (IsMemory (bounds p)) founds → NeverAstray (λ n. thread p t founds n)) → MeansItsProgram p code
+means p code checked l never =
+    subst (λ bs. Means bs (meaning (effect code) (beginning code)) (thread p)) (same_bounds p code l)
+    (follows p code (has_cells p code checked l) l (λ t founds below memories. never t founds below (subst (λ bs. AllByRecursion (IsMemory bs) founds) (same_bounds p code l) memories)))

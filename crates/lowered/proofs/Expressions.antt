@@ -1,8 +1,7 @@
 -- The instructions of an expression do what the expression does.
-use Rattle.std.proofs.Common.{◌≡◌, ◌++◌, ℕ, zero, suc, ◌+◌, ◌-◌, ◌<◌, ◌^◌, ◌%◌, Bool, true, false, List, [], ◌∷◌, length, Option, Some, None, Result, Ok, Err, refl, sym, ap, ◌∙◌, subst, arith, inl, inr, pos, ◌-ℤ◌}
-use Rattle.std.specs.Prelude.{slice_get, slice_index, slice_set, map, if◌then◌else◌, nat_lt, ◌==◌, not, unsigned_abs, IfOk}
+use Rattle.std.proofs.Common.{◌≡◌, ◌++◌, ℕ, zero, suc, ◌+◌, ◌<◌, ◌^◌, ◌%◌, Bool, true, false, List, [], ◌∷◌, length, Option, Some, None, Result, Ok, Err, refl, sym, ap, ◌∙◌, subst, arith, inl, inr, pos}
+use Rattle.std.specs.Prelude.{slice_get, slice_index, slice_set, map, if◌then◌else◌, nat_lt, ◌==◌, not, IfOk}
 use Rattle.std.proofs.lemmas.List.{get_or-set_same, get_or-set_other, length-set, length-map}
-use Rattle.std.proofs.lemmas.Int.{int_rem_euclid_is, ints}
 use Rattle.lex.specs.declared.token.Span.{Span}
 use Rattle.lex.specs.declared.token.Scalar.{Scalar}
 use Rattle.lex.specs.declared.token.Scalar.TheVariants.{Int, Unsigned}
@@ -21,7 +20,7 @@ use Rattle.syntax.specs.declared.numbers.Halt.TheVariants.{Wants, Astray}
 use Rattle.syntax.specs.declared.numbers.Trap.{Trap}
 use Rattle.syntax.specs.declared.numbers.Trap.TheVariants.{Index}
 use Rattle.syntax.specs.declared.numbers.Value.{Value}
-use Rattle.syntax.specs.Numbers.{number, word_of, number_of, computed, typed, operand_type, result_type, binary, unary, converted, is_zero, flag, truth}
+use Rattle.syntax.specs.Numbers.{modulus, residue, number, word_of, number_of, complemented, computed, typed, operand_type, result_type, binary, unary, converted, is_zero, flag, truth}
 use Rattle.syntax.specs.Names.{Local, newest, newest_from, word_at, global_of, cells, GlobalCells}
 use Rattle.syntax.specs.Types.{type_of, running_scope}
 use Rattle.syntax.specs.Laws.{shape}
@@ -31,33 +30,53 @@ use Rattle.syntax.specs.Meaning.{Spot, InLocal, InCell, End, Returns, fetch, clo
 use Rattle.std.specs.Option.{option_or}
 use Rattle.std.specs.Prelude.{bytes_eq, neg_ℤ}
 use Rattle.syntax.specs.Numbers.{fitted}
-use Rattle.syntax.proofs.Words.{gives_words, fitted_below, word_below}
+use Rattle.syntax.proofs.Words.{computed_below, fitted_below, narrows, truth_below, word_below}
 use Rattle.bytecode.specs.Effects.{Effect}
 use Rattle.bytecode.specs.Code.{Code, Configuration, Frame, Instr, effect, effect_of, or_traps, setting}
 use Rattle.lowered.specs.Expressions.{ValueTransactionCode, LocalScope, IsLike, At, LeadsTo, Branching, MayTake, computing, arranged, Layout, GivenBy, LiesReady, OperandCode, VariableCode, ElementAt, Branches, BothHold, EitherHolds, ComparedWithZero, TruthCode, BranchCode, ConditionalCode, ExprCode, OwnTests, ArgsCode, CondCode}
+use Rattle.lowered.proofs.Locals.{word_typed, type_like, KnownLocal, newest_known}
 use Rattle.lowered.proofs.Agreement.{Agrees, astray, same, fewer}
-use Rattle.lowered.proofs.Runs.{Enters, enters, Held, inner_held, outermost_held, begins_inner, begins_outermost, wants_one, commits_inner, leaves_outermost, next_commit, AreWords, Around, Bare, Within, Shared, context_of, holding, state, IsSeen, on_seen, IsGood, registers_in, Holds, Keeps, keeps_all, keeps_more, keeps_set, keeps_on, holds_on, configuration, effect_at, goes, goes_by, reads_by, tick_goes, traps}
+use Rattle.lowered.proofs.Runs.{Enters, enters, Held, inner_held, outermost_held, begins_inner, begins_outermost, wants_one, commits_inner, leaves_outermost, next_commit, IsBounded, AreBounded, KnownCells, HasCellsOf, AreMemories, Around, Bare, Within, Shared, context_of, holding, state, IsSeen, on_seen, IsGood, registers_in, Holds, Keeps, keeps_all, keeps_more, keeps_set, keeps_on, holds_on, configuration, effect_at, goes, goes_by, reads_by, word_read, tick_goes, traps}
 
--- the number that a word below 2^32 stands for has that word
-word_of_either : (b : Bool) (w : ℕ) → w < 2 ^ 32 → word_of (if b then pos w else pos w -ℤ pos (2 ^ 32)) ≡ w
-word_of_either true w h = let e : w % (2 ^ 32) ≡ w = omega arith in e
-word_of_either false w h =
-    let e : w % (2 ^ 32) ≡ w = omega arith in
-    ap unsigned_abs (int_rem_euclid_is (pos w -ℤ pos (2 ^ 32)) (pos (2 ^ 32)) (2 ^ 32) 1 w (omega arith) refl (omega (arith, ints))) ∙ e
+-- the types have as many numbers
+pub as_many : (s t : Scalar) → modulus s ≡ modulus t
+as_many Int Int = refl
+as_many Int Unsigned = refl
+as_many Unsigned Int = refl
+as_many Unsigned Unsigned = refl
 
-pub word_same : (t : Scalar) (w : ℕ) → w < 2 ^ 32 → word_of (number t w) ≡ w
-word_same Int w h = word_of_either (nat_lt w (2 ^ 31)) w h
-word_same Unsigned w h = let e : w % (2 ^ 32) ≡ w = omega arith in e
+-- so that a word of one is a word of the other
+pub below_as : (s t : Scalar) (w : ℕ) → w < modulus s → w < modulus t
+below_as s t w h = subst (λ n. w < n) (as_many s t) h
 
-pub truth_below : (b : Bool) → truth b < 2 ^ 32
-truth_below true = omega arith
-truth_below false = omega arith
+pub residue_same : (t : Scalar) (w : ℕ) → w < modulus t → residue t w ≡ w
+residue_same Int w h = let e : w % (2 ^ 32) ≡ w = omega (arith, h) in e
+residue_same Unsigned w h = let e : w % (2 ^ 32) ≡ w = omega (arith, h) in e
 
--- an operator on values whose words are below 2^32
-pub binary_same : (op : BinaryOp) (s t : Scalar) (a b : ℕ) → a < 2 ^ 32 → b < 2 ^ 32 → binary op (record { of = s; word = a }) (record { of = t; word = b }) ≡ typed (result_type op (operand_type op s t)) (computed op (operand_type op s t) a b)
+-- and a conversion keeps it
+pub residue_of : (u t : Scalar) (w : ℕ) → word_of u (number t w) ≡ residue u w
+residue_of u t w = let e = as_many u t in narrows t u w (omega (arith, e))
+
+pub word_same : (u t : Scalar) (w : ℕ) → w < modulus t → word_of u (number t w) ≡ w
+word_same u t w h = residue_of u t w ∙ residue_same u w (below_as t u w h)
+
+zero_word : (t : Scalar) → word_of t (pos 0) ≡ 0
+zero_word Int = refl
+zero_word Unsigned = refl
+
+complement_same : (t : Scalar) (w : ℕ) → complemented t w ≡ complemented Unsigned w
+complement_same Int w = refl
+complement_same Unsigned w = refl
+
+complement_below : (t : Scalar) (w : ℕ) → complemented Unsigned w < modulus t
+complement_below Int w = omega arith
+complement_below Unsigned w = omega arith
+
+-- an operator on values whose words are those of their types
+pub binary_same : (op : BinaryOp) (s t : Scalar) (a b : ℕ) → a < modulus s → b < modulus t → binary op (record { of = s; word = a }) (record { of = t; word = b }) ≡ typed (result_type op (operand_type op s t)) (computed op (operand_type op s t) a b)
 binary_same op s t a b h k =
-    ap (λ x. typed (result_type op (operand_type op s t)) (computed op (operand_type op s t) x (word_of (number t b)))) (word_same s a h)
-    ∙ ap (λ y. typed (result_type op (operand_type op s t)) (computed op (operand_type op s t) a y)) (word_same t b k)
+    ap (λ x. typed (result_type op (operand_type op s t)) (computed op (operand_type op s t) x (word_of (operand_type op t s) (number t b)))) (word_same (operand_type op s t) s a h)
+    ∙ ap (λ y. typed (result_type op (operand_type op s t)) (computed op (operand_type op s t) a y)) (word_same (operand_type op t s) t b k)
 
 -- the instruction of an operator computes it
 pub computing_does : (code : Code) (op : BinaryOp) (t : Scalar) (c : Configuration) (d a b : ℕ) → effect_of code c (Some (computing op t d a b)) ≡ or_traps (computed op t (slice_index c.registers a) (slice_index c.registers b)) (setting c d)
@@ -85,10 +104,10 @@ module _ (p : Program) (call : Caller) (code : Code) (layout : Layout) (frames :
   -- what is known where an expression's value has come into a register
   pub record Computed (a : Around) (t : Scalar) (r : ℕ) (home : Option ℕ) (free : ℕ) (old : List ℕ) (v : Value) (sh : Shared) (new : List ℕ) : Type 0 where
     pub typed_so : v.of ≡ t
-    pub word : v.word < 2 ^ 32
+    pub word : v.word < modulus v.of
     pub here : slice_index new r ≡ v.word
     pub keeps : Keeps layout home free old new
-    pub good : IsGood a sh
+    pub good : IsGood code a sh
 
   -- the thread goes on from there as the source does
   abbrev pub GoesOn : ℕ → ℕ → (a : Around) → (Answer Value → Outcome) → List Local → (to : ℕ) → Option ℕ → (free r : ℕ) → Scalar → List ℕ → Type 0
@@ -100,7 +119,7 @@ module _ (p : Program) (call : Caller) (code : Code) (layout : Layout) (frames :
   Does N K a sh text ls from registers does = Agrees (effect code) N K (holding a sh text (configuration code from registers frames)) (λ n. does (state n ls (context_of a sh) text))
 
   -- a word is set in a register
-  arrives : (a : Around) (sh : Shared) (home : Option ℕ) (free r w : ℕ) (t : Scalar) (old rs : List ℕ) → MayTake home free r → r < layout.writable → length rs ≡ registers_in layout → w < 2 ^ 32 → Keeps layout home free old rs → IsGood a sh → Computed a t r home free old (record { of = t; word = w }) sh (slice_set rs r w)
+  arrives : (a : Around) (sh : Shared) (home : Option ℕ) (free r w : ℕ) (t : Scalar) (old rs : List ℕ) → MayTake home free r → r < layout.writable → length rs ≡ registers_in layout → w < modulus t → Keeps layout home free old rs → IsGood code a sh → Computed a t r home free old (record { of = t; word = w }) sh (slice_set rs r w)
   arrives a sh home free r w t old rs f b len h k g = record { typed_so = refl; word = h; here = get_or-set_same rs r w 0 (omega (arith, b, len)); keeps = keeps_set layout home free old rs r w f b k; good = g }
 
   -- the end of a stretch under other names
@@ -109,31 +128,31 @@ module _ (p : Program) (call : Caller) (code : Code) (layout : Layout) (frames :
       subst (λ x. GoesOn N K a after ls x home free r u old) e (subst (λ y. GoesOn N K a after ls to home free r y old) f go)
 
   -- an instruction that gives a word in a register
-  pub sets : {N K : ℕ} (i : Instr) (u : Scalar) (a : Around) (sh : Shared) (text : List ℕ) (ls : List Local) (after : Answer Value → Outcome) (q to : ℕ) (home : Option ℕ) (free r w : ℕ) (t : Scalar) (old rs : List ℕ) → GivenBy code layout home i u q to free r t → effect_of code (configuration code q rs frames) (Some i) ≡ Effect.Pure (setting (configuration code q rs frames) r w) → length rs ≡ registers_in layout → w < 2 ^ 32 → Keeps layout home free old rs → IsGood a sh → GoesOn N K a after ls to home free r t old → Does N K a sh text ls q rs (λ s. after (Gives (record { of = u; word = w }) s))
+  pub sets : {N K : ℕ} (i : Instr) (u : Scalar) (a : Around) (sh : Shared) (text : List ℕ) (ls : List Local) (after : Answer Value → Outcome) (q to : ℕ) (home : Option ℕ) (free r w : ℕ) (t : Scalar) (old rs : List ℕ) → GivenBy code layout home i u q to free r t → effect_of code (configuration code q rs frames) (Some i) ≡ Effect.Pure (setting (configuration code q rs frames) r w) → length rs ≡ registers_in layout → w < modulus u → Keeps layout home free old rs → IsGood code a sh → GoesOn N K a after ls to home free r t old → Does N K a sh text ls q rs (λ s. after (Gives (record { of = u; word = w }) s))
   sets i u a sh text ls after q to home free r w t old rs c e len h k g go =
       goes_by code a sh text (configuration code q rs frames) (setting (configuration code q rs frames) r w) (effect_at code q i rs frames c.instr ∙ e)
       (go_at a after ls to (suc q) home free r t u old c.to_is c.type_is go (record { of = u; word = w }) sh text (slice_set rs r w) (arrives a sh home free r w u old rs c.takes c.register len h k g))
 
   -- an operator's result, or its trap
-  pub results : {N K : ℕ} (i : Instr) (u : Scalar) (a : Around) (sh : Shared) (text : List ℕ) (ls : List Local) (after : Answer Value → Outcome) (q to : ℕ) (home : Option ℕ) (free r : ℕ) (t : Scalar) (old rs : List ℕ) (res : Result ℕ Trap) → GivenBy code layout home i u q to free r t → effect_of code (configuration code q rs frames) (Some i) ≡ or_traps res (setting (configuration code q rs frames) r) → IfOk res (λ w. w < 2 ^ 32) → length rs ≡ registers_in layout → Keeps layout home free old rs → IsGood a sh → IsSeen a after → GoesOn N K a after ls to home free r t old → Does N K a sh text ls q rs (λ s. after (or_trap (typed u res) s))
+  pub results : {N K : ℕ} (i : Instr) (u : Scalar) (a : Around) (sh : Shared) (text : List ℕ) (ls : List Local) (after : Answer Value → Outcome) (q to : ℕ) (home : Option ℕ) (free r : ℕ) (t : Scalar) (old rs : List ℕ) (res : Result ℕ Trap) → GivenBy code layout home i u q to free r t → effect_of code (configuration code q rs frames) (Some i) ≡ or_traps res (setting (configuration code q rs frames) r) → IfOk res (λ w. w < modulus u) → length rs ≡ registers_in layout → Keeps layout home free old rs → IsGood code a sh → IsSeen a after → GoesOn N K a after ls to home free r t old → Does N K a sh text ls q rs (λ s. after (or_trap (typed u res) s))
   results i u a sh text ls after q to home free r t old rs (Ok w) c e h len k g s go = sets i u a sh text ls after q to home free r w t old rs c e len h k g go
   results i u a sh text ls after q to home free r t old rs (Err x) c e h len k g s go = traps code a after sh ls text (configuration code q rs frames) x s (effect_at code q i rs frames c.instr ∙ e)
 
   -- a shared cell that is read
-  pub reads : {N K : ℕ} (i : Instr) (u : Scalar) (a : Around) (sh : Shared) (text : List ℕ) (ls : List Local) (after : Answer Value → Outcome) (q to : ℕ) (home : Option ℕ) (free r cell : ℕ) (t : Scalar) (old rs : List ℕ) → GivenBy code layout home i u q to free r t → effect_of code (configuration code q rs frames) (Some i) ≡ Effect.Read cell (setting (configuration code q rs frames) r) → length rs ≡ registers_in layout → Keeps layout home free old rs → IsGood a sh → IsSeen a after → GoesOn N K a after ls to home free r t old → Does N K a sh text ls q rs (λ s. after (fetch (InCell cell u) s))
-  reads i u Bare sh text ls after q to home free r cell t old rs c e len k g s go = astray (effect code) 0 (s.astray _)
-  reads i u (Within h) sh text ls after q to home free r cell t old rs c e len k g s go =
+  pub reads : {N K : ℕ} (i : Instr) (u : Scalar) (a : Around) (sh : Shared) (text : List ℕ) (ls : List Local) (after : Answer Value → Outcome) (q to : ℕ) (home : Option ℕ) (free r cell : ℕ) (t : Scalar) (old rs : List ℕ) → GivenBy code layout home i u q to free r t → effect_of code (configuration code q rs frames) (Some i) ≡ Effect.Read cell (setting (configuration code q rs frames) r) → IsBounded code cell u → length rs ≡ registers_in layout → Keeps layout home free old rs → IsGood code a sh → IsSeen a after → GoesOn N K a after ls to home free r t old → Does N K a sh text ls q rs (λ s. after (fetch (InCell cell u) s))
+  reads i u Bare sh text ls after q to home free r cell t old rs c e bounded len k g s go = astray (effect code) 0 (s.astray _)
+  reads i u (Within h) sh text ls after q to home free r cell t old rs c e bounded len k g s go =
       let w = slice_index sh.memory cell in
       reads_by code h sh text (configuration code q rs frames) cell (setting (configuration code q rs frames) r) (effect_at code q i rs frames c.instr ∙ e)
-      (go_at (Within h) after ls to (suc q) home free r t u old c.to_is c.type_is go (record { of = u; word = w }) sh text (slice_set rs r w) (arrives (Within h) sh home free r w u old rs c.takes c.register len (g.0 cell) k g))
+      (go_at (Within h) after ls to (suc q) home free r t u old c.to_is c.type_is go (record { of = u; word = w }) sh text (slice_set rs r w) (arrives (Within h) sh home free r w u old rs c.takes c.register len (word_read code sh.memory cell u g.0 bounded) k g))
 
   -- an operator on two values that lie in registers
-  pub operates : {N K : ℕ} (op : BinaryOp) (v w : Value) (ta tb : Scalar) (ra rb : ℕ) (a : Around) (sh : Shared) (text : List ℕ) (ls : List Local) (after : Answer Value → Outcome) (q to : ℕ) (home : Option ℕ) (free r : ℕ) (t : Scalar) (old rs : List ℕ) → v.of ≡ ta → w.of ≡ tb → slice_index rs ra ≡ v.word → slice_index rs rb ≡ w.word → v.word < 2 ^ 32 → w.word < 2 ^ 32 → GivenBy code layout home (computing op (operand_type op ta tb) r ra rb) (result_type op (operand_type op ta tb)) q to free r t → length rs ≡ registers_in layout → Keeps layout home free old rs → IsGood a sh → IsSeen a after → GoesOn N K a after ls to home free r t old → Does N K a sh text ls q rs (λ s. after (or_trap (binary op v w) s))
+  pub operates : {N K : ℕ} (op : BinaryOp) (v w : Value) (ta tb : Scalar) (ra rb : ℕ) (a : Around) (sh : Shared) (text : List ℕ) (ls : List Local) (after : Answer Value → Outcome) (q to : ℕ) (home : Option ℕ) (free r : ℕ) (t : Scalar) (old rs : List ℕ) → v.of ≡ ta → w.of ≡ tb → slice_index rs ra ≡ v.word → slice_index rs rb ≡ w.word → v.word < modulus v.of → w.word < modulus w.of → GivenBy code layout home (computing op (operand_type op ta tb) r ra rb) (result_type op (operand_type op ta tb)) q to free r t → length rs ≡ registers_in layout → Keeps layout home free old rs → IsGood code a sh → IsSeen a after → GoesOn N K a after ls to home free r t old → Does N K a sh text ls q rs (λ s. after (or_trap (binary op v w) s))
   operates op v w ta tb ra rb a sh text ls after q to home free r t old rs of_v of_w left right below_v below_w c len keeps good s go =
       let o : Scalar = operand_type op ta tb in
       let res : Result ℕ Trap = computed op o (slice_index rs ra) (slice_index rs rb) in
-      let below_left : slice_index rs ra < 2 ^ 32 = subst (λ z. z < 2 ^ 32) (sym left) below_v in
-      let below_right : slice_index rs rb < 2 ^ 32 = subst (λ z. z < 2 ^ 32) (sym right) below_w in
+      let below_left : slice_index rs ra < modulus ta = subst (λ z. z < modulus ta) (sym left) (subst (λ z. v.word < modulus z) of_v below_v) in
+      let below_right : slice_index rs rb < modulus tb = subst (λ z. z < modulus tb) (sym right) (subst (λ z. w.word < modulus z) of_w below_w) in
       let found : binary op v w ≡ typed (result_type op o) res =
       ap (λ z. binary op (record { of = z; word = v.word }) w) of_v
       ∙ ap (λ z. binary op (record { of = ta; word = z }) w) (sym left)
@@ -142,7 +161,7 @@ module _ (p : Program) (call : Caller) (code : Code) (layout : Layout) (frames :
       ∙ binary_same op ta tb (slice_index rs ra) (slice_index rs rb) below_left below_right in
       same (effect code) (λ n. after (or_trap (typed (result_type op o) res) (state n ls (context_of a sh) text)))
       (λ n. ap (λ z. after (or_trap z (state n ls (context_of a sh) text))) found)
-      (results (computing op o r ra rb) (result_type op o) a sh text ls after q to home free r t old rs res c (computing_does code op o (configuration code q rs frames) r ra rb) (gives_words.0 op o _ _ below_left below_right) len keeps good s go)
+      (results (computing op o r ra rb) (result_type op o) a sh text ls after q to home free r t old rs res c (computing_does code op o (configuration code q rs frames) r ra rb) (computed_below op o _ _ (below_as ta o _ below_left) (below_as tb o _ below_right)) len keeps good s go)
 
   -- where a variable stands
   abbrev pub spot_in : Option (ℕ × Scalar) → Option GlobalCells → Action Spot
@@ -156,19 +175,19 @@ module _ (p : Program) (call : Caller) (code : Code) (layout : Layout) (frames :
   same_length : (scope : LocalScope) (ls : List Local) → IsLike scope ls → length ls ≡ length scope
   same_length scope ls e = sym (length-map ls shape) ∙ ap length e ∙ length-map scope shape
 
-  variable_runs : {N K : ℕ} (home : Option ℕ) (o : Option (ℕ × Scalar)) (g : Option GlobalCells) (scope : LocalScope) (from to free r : ℕ) (t : Scalar) → VariableCode code layout home (length scope) o g from to free r t → (a : Around) (sh : Shared) (text : List ℕ) (ls : List Local) (old : List ℕ) (after : Answer Value → Outcome) → Holds scope ls layout free old → IsGood a sh → IsSeen a after → GoesOn N K a after ls to home free r t old → Does N K a sh text ls from old (λ s. after (go_on (spot_in o g s) fetch))
-  variable_runs home (Some l) g scope from to free r t c a sh text ls old after h good s go =
+  variable_runs : {N K : ℕ} (home : Option ℕ) (o : Option (ℕ × Scalar)) (g : Option GlobalCells) (scope : LocalScope) (from to free r : ℕ) (t : Scalar) → VariableCode code layout home (length scope) o g from to free r t → KnownLocal scope o → KnownCells code g → (a : Around) (sh : Shared) (text : List ℕ) (ls : List Local) (old : List ℕ) (after : Answer Value → Outcome) → Holds scope ls layout free old → IsGood code a sh → IsSeen a after → GoesOn N K a after ls to home free r t old → Does N K a sh text ls from old (λ s. after (go_on (spot_in o g s) fetch))
+  variable_runs home (Some l) g scope from to free r t c type_is known a sh text ls old after h good s go =
       let below : l.0 < length ls = subst (λ n. l.0 < n) (sym (same_length scope ls h.like)) c.known in
       go_at a after ls to from home free r t l.1 old c.to_is c.type_is go (record { of = l.1; word = word_at ls l.0 }) sh text old
-      (record { typed_so = refl; word = h.words l.0; here = ap (slice_index old) c.register ∙ h.each l.0 below; keeps = keeps_all layout home free old; good = good })
-  variable_runs home None None scope from to free r t c a sh text ls old after h good s go = absurd c
-  variable_runs home None (Some g) scope from to free r t c a sh text ls old after h good s go =
-      reads (Instr.Read r g.cell) g.global.of a sh text ls after from to home free r g.cell t old old c refl h.size_is (keeps_all layout home free old) good s go
+      (record { typed_so = refl; word = word_typed ls l.0 l.1 (type_like scope ls l.0 l.1 h.like type_is) h.words; here = ap (slice_index old) c.register ∙ h.each l.0 below; keeps = keeps_all layout home free old; good = good })
+  variable_runs home None None scope from to free r t c type_is known a sh text ls old after h good s go = absurd c
+  variable_runs home None (Some g) scope from to free r t c type_is known a sh text ls old after h good s go =
+      reads (Instr.Read r g.cell) g.global.of a sh text ls after from to home free r g.cell t old old c refl known.0 h.size_is (keeps_all layout home free old) good s go
 
   -- what an expression's instructions do, wherever they stand
   abbrev pub Follows : Option ℕ → LocalScope → Expr → (N K from to free r : ℕ) → Scalar → Around → Shared → List ℕ → List Local → List ℕ → (Answer Value → Outcome) → Type 0
   Follows home scope e N K from to free r t a sh text ls old after =
-      ExprCode code layout p home scope e from to free r t → Holds scope ls layout free old → IsGood a sh → IsSeen a after →
+      ExprCode code layout p home scope e from to free r t → Holds scope ls layout free old → IsGood code a sh → IsSeen a after →
       GoesOn N K a after ls to home free r t old → Does N K a sh text ls from old (λ s. after (expr p call e s))
 
   abbrev pub AlwaysFollows : Option ℕ → LocalScope → Expr → Type 0
@@ -177,24 +196,24 @@ module _ (p : Program) (call : Caller) (code : Code) (layout : Layout) (frames :
       Follows home scope e N K from to free r t a sh text ls old after
 
   -- an element that is read, once its index is there
-  indexed : {N K : ℕ} (g : GlobalCells) (ri : ℕ) (b : Bool) (k : Value) (a : Around) (sh : Shared) (text : List ℕ) (ls : List Local) (after : Answer Value → Outcome) (q to : ℕ) (home : Option ℕ) (free r : ℕ) (t : Scalar) (old rs : List ℕ) → nat_lt k.word (cells g.global) ≡ b → slice_index rs ri ≡ k.word → GivenBy code layout home (Instr.ReadAt r g.cell (cells g.global) ri) g.global.of q to free r t → length rs ≡ registers_in layout → Keeps layout home free old rs → IsGood a sh → IsSeen a after → GoesOn N K a after ls to home free r t old → Does N K a sh text ls q rs (λ s. after (go_on ((if b then pure (InCell (g.cell + k.word) g.global.of) else trap Index) s) fetch))
-  indexed g ri true k a sh text ls after q to home free r t old rs e f c len kp good s go =
+  indexed : {N K : ℕ} (g : GlobalCells) (ri : ℕ) (b : Bool) (k : Value) (a : Around) (sh : Shared) (text : List ℕ) (ls : List Local) (after : Answer Value → Outcome) (q to : ℕ) (home : Option ℕ) (free r : ℕ) (t : Scalar) (old rs : List ℕ) → AreBounded code g → nat_lt k.word (cells g.global) ≡ b → slice_index rs ri ≡ k.word → GivenBy code layout home (Instr.ReadAt r g.cell (cells g.global) ri) g.global.of q to free r t → length rs ≡ registers_in layout → Keeps layout home free old rs → IsGood code a sh → IsSeen a after → GoesOn N K a after ls to home free r t old → Does N K a sh text ls q rs (λ s. after (go_on ((if b then pure (InCell (g.cell + k.word) g.global.of) else trap Index) s) fetch))
+  indexed g ri true k a sh text ls after q to home free r t old rs known e f c len kp good s go =
       reads (Instr.ReadAt r g.cell (cells g.global) ri) g.global.of a sh text ls after q to home free r (g.cell + k.word) t old rs c
       (ap (λ w. if nat_lt w (cells g.global) then Effect.Read (g.cell + w) (setting (configuration code q rs frames) r) else Effect.Traps Index) f
       ∙ ap (λ b. if b then Effect.Read (g.cell + k.word) (setting (configuration code q rs frames) r) else Effect.Traps Index) e)
-      len kp good s go
-  indexed g ri false k a sh text ls after q to home free r t old rs e f c len kp good s go =
+      (known.1 k.word e) len kp good s go
+  indexed g ri false k a sh text ls after q to home free r t old rs known e f c len kp good s go =
       traps code a (λ q. after (go_on q fetch)) sh ls text (configuration code q rs frames) Index (on_seen a after fetch s)
       (effect_at code q (Instr.ReadAt r g.cell (cells g.global) ri) rs frames c.instr
       ∙ ap (λ w. if nat_lt w (cells g.global) then Effect.Read (g.cell + w) (setting (configuration code q rs frames) r) else Effect.Traps Index) f
       ∙ ap (λ b. if b then Effect.Read (g.cell + k.word) (setting (configuration code q rs frames) r) else Effect.Traps Index) e)
 
-  element_follows : (home : Option ℕ) (o : Option GlobalCells) (scope : LocalScope) (i : Expr) → AlwaysFollows None scope i → (N K from to free r : ℕ) (t : Scalar) (a : Around) (sh : Shared) (text : List ℕ) (ls : List Local) (old : List ℕ) (after : Answer Value → Outcome) → ElementAt code layout home o (ExprCode code layout p None scope i) from to free r t → Holds scope ls layout free old → IsGood a sh → IsSeen a after → GoesOn N K a after ls to home free r t old → Does N K a sh text ls from old (λ s. after (go_on (expr p call i s) (λ k. element_in o k >>= fetch)))
-  element_follows home None scope i ih N K from to free r t a sh text ls old after c h good s go = absurd c
-  element_follows home (Some g) scope i ih N K from to free r t a sh text ls old after c h good s go =
+  element_follows : (home : Option ℕ) (o : Option GlobalCells) (scope : LocalScope) (i : Expr) → AlwaysFollows None scope i → (N K from to free r : ℕ) (t : Scalar) (a : Around) (sh : Shared) (text : List ℕ) (ls : List Local) (old : List ℕ) (after : Answer Value → Outcome) → ElementAt code layout home o (ExprCode code layout p None scope i) from to free r t → KnownCells code o → Holds scope ls layout free old → IsGood code a sh → IsSeen a after → GoesOn N K a after ls to home free r t old → Does N K a sh text ls from old (λ s. after (go_on (expr p call i s) (λ k. element_in o k >>= fetch)))
+  element_follows home None scope i ih N K from to free r t a sh text ls old after c known h good s go = absurd c
+  element_follows home (Some g) scope i ih N K from to free r t a sh text ls old after c known h good s go =
       let rest : Value → Action Value = λ k. element_in (Some g) k >>= fetch in
       ih N K from c.mid free c.ri c.ti a sh text ls old (λ q. after (go_on q rest)) c.computes h good (on_seen a after rest s)
-      (λ k sh1 text1 rs1 d. indexed g c.ri (nat_lt k.word (cells g.global)) k a sh1 text1 ls after c.mid to home free r t old rs1 refl d.here c.reads (d.keeps.size ∙ h.size_is) (keeps_more layout home free old rs1 d.keeps) d.good s go)
+      (λ k sh1 text1 rs1 d. indexed g c.ri (nat_lt k.word (cells g.global)) k a sh1 text1 ls after c.mid to home free r t old rs1 known refl d.here c.reads (d.keeps.size ∙ h.size_is) (keeps_more layout home free old rs1 d.keeps) d.good s go)
 
   -- an unconditional jump, and a place that leads on
   pub passes : {N K : ℕ} (a : Around) (sh : Shared) (text : List ℕ) (q to : ℕ) (rs : List ℕ) {does : ℕ → Outcome} → At code q (Instr.Jump to) → Agrees (effect code) N K (holding a sh text (configuration code to rs frames)) does → Agrees (effect code) N K (holding a sh text (configuration code q rs frames)) does
@@ -218,30 +237,30 @@ module _ (p : Program) (call : Caller) (code : Code) (layout : Layout) (frames :
   -- the two places of a condition: the thread goes on from there with its value, or with the flag that it is
   abbrev pub GoesBoth : ℕ → ℕ → (a : Around) → (Answer Value → Outcome) → List Local → (met unmet free : ℕ) → List ℕ → Type 0
   GoesBoth N K a after ls met unmet free old =
-      (v : Value) (b : Bool) (sh : Shared) (text : List ℕ) (new : List ℕ) → is_zero v ≡ b → v.word < 2 ^ 32 → Keeps layout None free old new → IsGood a sh →
+      (v : Value) (b : Bool) (sh : Shared) (text : List ℕ) (new : List ℕ) → is_zero v ≡ b → v.word < modulus v.of → Keeps layout None free old new → IsGood code a sh →
       Agrees (effect code) N K (holding a sh text (configuration code (if b then unmet else met) new frames)) (λ n. after (Gives v (state n ls (context_of a sh) text)))
 
   abbrev GoesFlag : ℕ → ℕ → (a : Around) → (Answer Value → Outcome) → List Local → (met unmet free : ℕ) → List ℕ → Type 0
   GoesFlag N K a after ls met unmet free old =
-      (b : Bool) (sh : Shared) (text : List ℕ) (new : List ℕ) → Keeps layout None free old new → IsGood a sh →
+      (b : Bool) (sh : Shared) (text : List ℕ) (new : List ℕ) → Keeps layout None free old new → IsGood code a sh →
       Agrees (effect code) N K (holding a sh text (configuration code (if b then unmet else met) new frames)) (λ n. after (Gives (flag (not b)) (state n ls (context_of a sh) text)))
 
   flag_of : {N K : ℕ} (a : Around) (after : Answer Value → Outcome) (ls : List Local) (met unmet free : ℕ) (old : List ℕ) → GoesBoth N K a after ls met unmet free old → GoesFlag N K a after ls met unmet free old
-  flag_of a after ls met unmet free old go true sh text new k g = go (flag false) true sh text new refl (omega arith) k g
-  flag_of a after ls met unmet free old go false sh text new k g = go (flag true) false sh text new refl (omega arith) k g
+  flag_of a after ls met unmet free old go true sh text new k g = go (flag false) true sh text new refl (truth_below false) k g
+  flag_of a after ls met unmet free old go false sh text new k g = go (flag true) false sh text new refl (truth_below true) k g
 
   -- what the code of a condition does: from its two places back to its beginning, by at least one instruction
   abbrev pub BranchingFollows : LocalScope → Action Value → Branching → Type 0
   BranchingFollows scope run tests =
       (N K from met unmet free : ℕ) (a : Around) (sh : Shared) (text : List ℕ) (ls : List Local) (old : List ℕ) (after : Answer Value → Outcome) →
-      tests from met unmet free → Holds scope ls layout free old → IsGood a sh → IsSeen a after →
+      tests from met unmet free → Holds scope ls layout free old → IsGood code a sh → IsSeen a after →
       GoesBoth N K a after ls met unmet free old → Does N (suc K) a sh text ls from old (λ s. after (run s))
 
   -- the same of one that gives a flag
   abbrev FlagFollows : LocalScope → Action Value → Branching → Type 0
   FlagFollows scope run tests =
       (N K from met unmet free : ℕ) (a : Around) (sh : Shared) (text : List ℕ) (ls : List Local) (old : List ℕ) (after : Answer Value → Outcome) →
-      tests from met unmet free → Holds scope ls layout free old → IsGood a sh → IsSeen a after →
+      tests from met unmet free → Holds scope ls layout free old → IsGood code a sh → IsSeen a after →
       GoesFlag N K a after ls met unmet free old → Does N (suc K) a sh text ls from old (λ s. after (run s))
 
   zero_jumps : {N K : ℕ} (b : Bool) (w : ℕ) (a : Around) (sh : Shared) (text : List ℕ) (q r there on : ℕ) (rs : List ℕ) (does : ℕ → Outcome) → At code q (Instr.JumpZero r there) → LeadsTo code (suc q) on → slice_index rs r ≡ w → (w == 0) ≡ b → Agrees (effect code) N K (holding a sh text (configuration code (if b then there else on) rs frames)) does → Agrees (effect code) N (suc K) (holding a sh text (configuration code q rs frames)) does
@@ -307,7 +326,7 @@ module _ (p : Program) (call : Caller) (code : Code) (layout : Layout) (frames :
           (goes_tested a after ls met unmet free new (goes_later a after ls met unmet free old new k go))))
 
   -- the other way round
-  goes_swapped : {N K : ℕ} (a : Around) (after : Answer Value → Outcome) (ls : List Local) (met unmet free : ℕ) (old : List ℕ) (rest : Value → Action Value) → ((v : Value) (s : State) → v.word < 2 ^ 32 → rest v s ≡ Gives (flag (is_zero v)) s) → GoesFlag N K a after ls met unmet free old → GoesBoth N K a (λ q. after (go_on q rest)) ls unmet met free old
+  goes_swapped : {N K : ℕ} (a : Around) (after : Answer Value → Outcome) (ls : List Local) (met unmet free : ℕ) (old : List ℕ) (rest : Value → Action Value) → ((v : Value) (s : State) → v.word < modulus v.of → rest v s ≡ Gives (flag (is_zero v)) s) → GoesFlag N K a after ls met unmet free old → GoesBoth N K a (λ q. after (go_on q rest)) ls unmet met free old
   goes_swapped a after ls met unmet free old rest is go v true sh text new e below k g =
       same (effect code) (λ n. after (Gives (flag true) (state n ls (context_of a sh) text))) (λ n. ap after (is v (state n ls (context_of a sh) text) below) ∙ ap (λ x. after (Gives (flag x) (state n ls (context_of a sh) text))) e)
       (go false sh text new k g)
@@ -316,7 +335,7 @@ module _ (p : Program) (call : Caller) (code : Code) (layout : Layout) (frames :
       (go true sh text new k g)
 
   -- a comparison with the constant 0
-  goes_same : {N K : ℕ} (a : Around) (after : Answer Value → Outcome) (ls : List Local) (met unmet free : ℕ) (old : List ℕ) (rest : Value → Action Value) → ((v : Value) (s : State) → v.word < 2 ^ 32 → rest v s ≡ Gives (flag (not (is_zero v))) s) → GoesFlag N K a after ls met unmet free old → GoesBoth N K a (λ q. after (go_on q rest)) ls met unmet free old
+  goes_same : {N K : ℕ} (a : Around) (after : Answer Value → Outcome) (ls : List Local) (met unmet free : ℕ) (old : List ℕ) (rest : Value → Action Value) → ((v : Value) (s : State) → v.word < modulus v.of → rest v s ≡ Gives (flag (not (is_zero v))) s) → GoesFlag N K a after ls met unmet free old → GoesBoth N K a (λ q. after (go_on q rest)) ls met unmet free old
   goes_same a after ls met unmet free old rest is go v b sh text new e below k g =
       same (effect code) (λ n. after (Gives (flag (not b)) (state n ls (context_of a sh) text))) (λ n. ap after (is v (state n ls (context_of a sh) text) below) ∙ ap (λ x. after (Gives (flag (not x)) (state n ls (context_of a sh) text))) e)
       (go b sh text new k g)
@@ -324,11 +343,15 @@ module _ (p : Program) (call : Caller) (code : Code) (layout : Layout) (frames :
   abbrev comparing : BinaryOp → Expr → Value → Action Value
   comparing op y v = expr p call y >>= λ w. or_trap (binary op v w)
 
-  zero_differs : (t : Scalar) (at : Span) (v : Value) (s : State) → v.word < 2 ^ 32 → comparing NotEqual (Constant 0 t at) v s ≡ Gives (flag (not (is_zero v))) s
-  zero_differs t at v s below = ap (λ r. or_trap r s) (binary_same NotEqual v.of t v.word 0 below (omega arith))
+  zero_differs : (t : Scalar) (at : Span) (v : Value) (s : State) → v.word < modulus v.of → comparing NotEqual (Constant 0 t at) v s ≡ Gives (flag (not (is_zero v))) s
+  zero_differs t at v s below =
+      ap (λ r. or_trap r s) (binary_same NotEqual v.of t v.word (word_of t (pos 0)) below (word_below t (pos 0)))
+      ∙ ap (λ w. Gives (flag (not (v.word == w))) s) (zero_word t)
 
-  zero_equals : (t : Scalar) (at : Span) (v : Value) (s : State) → v.word < 2 ^ 32 → comparing Equal (Constant 0 t at) v s ≡ Gives (flag (is_zero v)) s
-  zero_equals t at v s below = ap (λ r. or_trap r s) (binary_same Equal v.of t v.word 0 below (omega arith))
+  zero_equals : (t : Scalar) (at : Span) (v : Value) (s : State) → v.word < modulus v.of → comparing Equal (Constant 0 t at) v s ≡ Gives (flag (is_zero v)) s
+  zero_equals t at v s below =
+      ap (λ r. or_trap r s) (binary_same Equal v.of t v.word (word_of t (pos 0)) below (word_below t (pos 0)))
+      ∙ ap (λ w. Gives (flag (v.word == w)) s) (zero_word t)
 
   compared_follows : (scope : LocalScope) (op : BinaryOp) (x y : Expr) (A : Branching) → BranchingFollows scope (expr p call x) A → FlagFollows scope (expr p call x >>= comparing op y) (ComparedWithZero code layout op y A)
   compared_follows scope op x y A ih N K from met unmet free a sh text ls old after (nought, inl c) h good s go =
@@ -341,7 +364,7 @@ module _ (p : Program) (call : Caller) (code : Code) (layout : Layout) (frames :
       (λ v s below. ap (λ z. comparing z y v s) c.0 ∙ ap (λ z. comparing Equal z v s) nought.2 ∙ zero_equals nought.0 nought.1 v s below) go)
 
   -- the flag of a condition in a register
-  truth_follows : (home : Option ℕ) (scope : LocalScope) (run : Action Value) (tests : Branching) → FlagFollows scope run tests → (N K from to free r : ℕ) (t : Scalar) (a : Around) (sh : Shared) (text : List ℕ) (ls : List Local) (old : List ℕ) (after : Answer Value → Outcome) → TruthCode code layout home tests from to free r t → Holds scope ls layout free old → IsGood a sh → IsSeen a after → GoesOn N K a after ls to home free r t old → Does N K a sh text ls from old (λ s. after (run s))
+  truth_follows : (home : Option ℕ) (scope : LocalScope) (run : Action Value) (tests : Branching) → FlagFollows scope run tests → (N K from to free r : ℕ) (t : Scalar) (a : Around) (sh : Shared) (text : List ℕ) (ls : List Local) (old : List ℕ) (after : Answer Value → Outcome) → TruthCode code layout home tests from to free r t → Holds scope ls layout free old → IsGood code a sh → IsSeen a after → GoesOn N K a after ls to home free r t old → Does N K a sh text ls from old (λ s. after (run s))
   truth_follows home scope run tests ih N K from to free r t a sh text ls old after c h good s go =
       fewer (effect code) (omega arith) (omega arith) (ih N K from c.met c.unmet free a sh text ls old after c.decides h good s places)
     where
@@ -357,20 +380,20 @@ module _ (p : Program) (call : Caller) (code : Code) (layout : Layout) (frames :
   abbrev choosing : Expr → Value → Action Value
   choosing whole w = locals >>= λ mine. or_astray (type_of (running_scope p mine) whole) >>= λ t. pure (converted t w)
 
-  moved : {N K : ℕ} (whole : Expr) (w : Value) (a : Around) (sh : Shared) (text : List ℕ) (ls : List Local) (after : Answer Value → Outcome) (q to : ℕ) (home : Option ℕ) (free r ra : ℕ) (t : Scalar) (old rs : List ℕ) → GivenBy code layout home (Instr.Move r ra) t q to free r t → type_of (running_scope p ls) whole ≡ Some t → slice_index rs ra ≡ w.word → w.word < 2 ^ 32 → length rs ≡ registers_in layout → Keeps layout home free old rs → IsGood a sh → GoesOn N K a after ls to home free r t old → Does N K a sh text ls q rs (λ s. after (choosing whole w s))
+  moved : {N K : ℕ} (whole : Expr) (w : Value) (a : Around) (sh : Shared) (text : List ℕ) (ls : List Local) (after : Answer Value → Outcome) (q to : ℕ) (home : Option ℕ) (free r ra : ℕ) (t : Scalar) (old rs : List ℕ) → GivenBy code layout home (Instr.Move r ra) t q to free r t → type_of (running_scope p ls) whole ≡ Some t → slice_index rs ra ≡ w.word → w.word < modulus w.of → length rs ≡ registers_in layout → Keeps layout home free old rs → IsGood code a sh → GoesOn N K a after ls to home free r t old → Does N K a sh text ls q rs (λ s. after (choosing whole w s))
   moved whole w a sh text ls after q to home free r ra t old rs c e here below len k g go =
       same (effect code) (λ n. after (Gives (record { of = t; word = slice_index rs ra }) (state n ls (context_of a sh) text)))
-      (λ n. ap (λ o. after (go_on (or_astray o (state n ls (context_of a sh) text)) (λ t. pure (converted t w)))) e ∙ ap (λ x. after (Gives (record { of = t; word = x }) (state n ls (context_of a sh) text))) (word_same w.of w.word below ∙ sym here))
-      (sets (Instr.Move r ra) t a sh text ls after q to home free r (slice_index rs ra) t old rs c refl len (subst (λ x. x < 2 ^ 32) (sym here) below) k g go)
+      (λ n. ap (λ o. after (go_on (or_astray o (state n ls (context_of a sh) text)) (λ t. pure (converted t w)))) e ∙ ap (λ x. after (Gives (record { of = t; word = x }) (state n ls (context_of a sh) text))) (word_same t w.of w.word below ∙ sym here))
+      (sets (Instr.Move r ra) t a sh text ls after q to home free r (slice_index rs ra) t old rs c refl len (subst (λ x. x < modulus t) (sym here) (below_as w.of t w.word below)) k g go)
 
   -- a branch's value, straight or moved
-  branch_follows : (home : Option ℕ) (whole : Expr) (scope : LocalScope) (e : Expr) → ((h : Option ℕ) → AlwaysFollows h scope e) → (N K from to free r : ℕ) (t : Scalar) (a : Around) (sh : Shared) (text : List ℕ) (ls : List Local) (old : List ℕ) (after : Answer Value → Outcome) → BranchCode code layout home (λ h. ExprCode code layout p h scope e) from to free r t → type_of (running_scope p ls) whole ≡ Some t → Holds scope ls layout free old → IsGood a sh → IsSeen a after → GoesOn N K a after ls to home free r t old → Does N K a sh text ls from old (λ s. after (go_on (expr p call e s) (choosing whole)))
+  branch_follows : (home : Option ℕ) (whole : Expr) (scope : LocalScope) (e : Expr) → ((h : Option ℕ) → AlwaysFollows h scope e) → (N K from to free r : ℕ) (t : Scalar) (a : Around) (sh : Shared) (text : List ℕ) (ls : List Local) (old : List ℕ) (after : Answer Value → Outcome) → BranchCode code layout home (λ h. ExprCode code layout p h scope e) from to free r t → type_of (running_scope p ls) whole ≡ Some t → Holds scope ls layout free old → IsGood code a sh → IsSeen a after → GoesOn N K a after ls to home free r t old → Does N K a sh text ls from old (λ s. after (go_on (expr p call e s) (choosing whole)))
   branch_follows home whole scope e ih N K from to free r t a sh text ls old after (inl c) is h good s go =
       ih home N K from to free r c.0 a sh text ls old (λ q. after (go_on q (choosing whole))) c.1 h good (on_seen a after (choosing whole) s)
       (λ w sh1 text1 rs1 d.
       same (effect code) (λ n. after (Gives (converted t w) (state n ls (context_of a sh1) text1)))
       (λ n. ap (λ o. after (go_on (or_astray o (state n ls (context_of a sh1) text1)) (λ t. pure (converted t w)))) is)
-      (go (converted t w) sh1 text1 rs1 (record { typed_so = refl; word = word_below (number_of w); here = d.here ∙ sym (word_same w.of w.word d.word); keeps = d.keeps; good = d.good })))
+      (go (converted t w) sh1 text1 rs1 (record { typed_so = refl; word = word_below t (number_of w); here = d.here ∙ sym (word_same t w.of w.word d.word); keeps = d.keeps; good = d.good })))
   branch_follows home whole scope e ih N K from to free r t a sh text ls old after (inr c) is h good s go =
       ih None N K from c.mid free c.ra c.ta a sh text ls old (λ q. after (go_on q (choosing whole))) c.computes h good (on_seen a after (choosing whole) s)
       (λ w sh1 text1 rs1 d. moved whole w a sh1 text1 ls after c.mid to home free r c.ra t old rs1 c.moves is d.here d.word (d.keeps.size ∙ h.size_is) (keeps_more layout home free old rs1 d.keeps) d.good go)
@@ -378,7 +401,7 @@ module _ (p : Program) (call : Caller) (code : Code) (layout : Layout) (frames :
   goes_after : {N K : ℕ} (a : Around) (after : Answer Value → Outcome) (ls : List Local) (to : ℕ) (home : Option ℕ) (free r : ℕ) (t : Scalar) (old mid : List ℕ) → Keeps layout None free old mid → GoesOn N K a after ls to home free r t old → GoesOn N K a after ls to home free r t mid
   goes_after a after ls to home free r t old mid k go v sh text new d = go v sh text new (record { typed_so = d.typed_so; word = d.word; here = d.here; keeps = keeps_on layout home free free old mid new (omega arith) k d.keeps; good = d.good })
 
-  conditional_follows : (home : Option ℕ) (whole : Expr) (scope : LocalScope) (run : Action Value) (x y : Expr) (T : Branching) → BranchingFollows scope run T → ((h : Option ℕ) → AlwaysFollows h scope x) → ((h : Option ℕ) → AlwaysFollows h scope y) → (N K from to free r : ℕ) (t : Scalar) (a : Around) (sh : Shared) (text : List ℕ) (ls : List Local) (old : List ℕ) (after : Answer Value → Outcome) → ConditionalCode code layout home T (λ h. ExprCode code layout p h scope x) (λ h. ExprCode code layout p h scope y) from to free r t → type_of (running_scope p ls) whole ≡ Some t → Holds scope ls layout free old → IsGood a sh → IsSeen a after → GoesOn N K a after ls to home free r t old → Does N K a sh text ls from old (λ s. after ((run >>= λ v. (if is_zero v then expr p call y else expr p call x) >>= choosing whole) s))
+  conditional_follows : (home : Option ℕ) (whole : Expr) (scope : LocalScope) (run : Action Value) (x y : Expr) (T : Branching) → BranchingFollows scope run T → ((h : Option ℕ) → AlwaysFollows h scope x) → ((h : Option ℕ) → AlwaysFollows h scope y) → (N K from to free r : ℕ) (t : Scalar) (a : Around) (sh : Shared) (text : List ℕ) (ls : List Local) (old : List ℕ) (after : Answer Value → Outcome) → ConditionalCode code layout home T (λ h. ExprCode code layout p h scope x) (λ h. ExprCode code layout p h scope y) from to free r t → type_of (running_scope p ls) whole ≡ Some t → Holds scope ls layout free old → IsGood code a sh → IsSeen a after → GoesOn N K a after ls to home free r t old → Does N K a sh text ls from old (λ s. after ((run >>= λ v. (if is_zero v then expr p call y else expr p call x) >>= choosing whole) s))
   conditional_follows home whole scope run x y T iht ihx ihy N K from to free r t a sh text ls old after c is h good s go =
       let rest : Value → Action Value = λ v. (if is_zero v then expr p call y else expr p call x) >>= choosing whole in
       fewer (effect code) (omega arith) (omega arith)
@@ -399,10 +422,10 @@ module _ (p : Program) (call : Caller) (code : Code) (layout : Layout) (frames :
   returning v = pure (Returns v)
 
   -- a value that is known in a transaction is known outside it
-  given_there : {a b : Around} {t : Scalar} {r : ℕ} {home : Option ℕ} {free : ℕ} {old : List ℕ} {v : Value} {sh sh1 : Shared} {new : List ℕ} → IsGood b sh1 → Computed a t r home free old v sh new → Computed b t r home free old v sh1 new
+  given_there : {a b : Around} {t : Scalar} {r : ℕ} {home : Option ℕ} {free : ℕ} {old : List ℕ} {v : Value} {sh sh1 : Shared} {new : List ℕ} → IsGood code b sh1 → Computed a t r home free old v sh new → Computed b t r home free old v sh1 new
   given_there g d = record { typed_so = d.typed_so; word = d.word; here = d.here; keeps = d.keeps; good = g }
 
-  bare_value : {N K : ℕ} (mode : Mode) (home : Option ℕ) (scope : LocalScope) (e : Expr) → AlwaysFollows home scope e → (from to free r : ℕ) (t : Scalar) (founds lefts : List Memory) (memory : Memory) (kept : Bool) (text : List ℕ) (ls : List Local) (old : List ℕ) (after : Answer Value → Outcome) → ValueTransactionCode code layout (ExprCode code layout p home scope e) from to free r t → Holds scope ls layout free old → AllByRecursion AreWords founds → IsSeen Bare after → GoesOn N K Bare after ls to home free r t old → Does N K Bare (record { founds = founds; lefts = lefts; memory = memory; kept = kept }) text ls from old (λ s. after (value_transaction mode (expr p call e) s))
+  bare_value : {N K : ℕ} (mode : Mode) (home : Option ℕ) (scope : LocalScope) (e : Expr) → AlwaysFollows home scope e → (from to free r : ℕ) (t : Scalar) (founds lefts : List Memory) (memory : Memory) (kept : Bool) (text : List ℕ) (ls : List Local) (old : List ℕ) (after : Answer Value → Outcome) → ValueTransactionCode code layout (ExprCode code layout p home scope e) from to free r t → Holds scope ls layout free old → AreMemories code founds → IsSeen Bare after → GoesOn N K Bare after ls to home free r t old → Does N K Bare (record { founds = founds; lefts = lefts; memory = memory; kept = kept }) text ls from old (λ s. after (value_transaction mode (expr p call e) s))
   unfolding returning
   bare_value mode home scope e ih from to free r t [] lefts memory kept text ls old after c h g s go =
       same (effect code) (λ n. after (go_on (tick (state n ls (Outside [] lefts) text)) (λ u. stop Wants))) wanted
@@ -426,7 +449,7 @@ module _ (p : Program) (call : Caller) (code : Code) (layout : Layout) (frames :
       (on_seen Bare after value_at s)
       (go_at Bare after ls to (suc c.last) home free r t t old c.to_is refl go v sh2 text1 new (given_there g.1 d)))))
 
-  inner_value : {N K : ℕ} (mode : Mode) (home : Option ℕ) (scope : LocalScope) (e : Expr) → AlwaysFollows home scope e → (from to free r : ℕ) (t : Scalar) (k : Held) (sh : Shared) (text : List ℕ) (ls : List Local) (old : List ℕ) (after : Answer Value → Outcome) → Enters k.mode (Plain mode) → ValueTransactionCode code layout (ExprCode code layout p home scope e) from to free r t → Holds scope ls layout free old → IsGood (Within k) sh → IsSeen (Within k) after → GoesOn N K (Within k) after ls to home free r t old → Does N K (Within k) sh text ls from old (λ s. after (value_transaction mode (expr p call e) s))
+  inner_value : {N K : ℕ} (mode : Mode) (home : Option ℕ) (scope : LocalScope) (e : Expr) → AlwaysFollows home scope e → (from to free r : ℕ) (t : Scalar) (k : Held) (sh : Shared) (text : List ℕ) (ls : List Local) (old : List ℕ) (after : Answer Value → Outcome) → Enters k.mode (Plain mode) → ValueTransactionCode code layout (ExprCode code layout p home scope e) from to free r t → Holds scope ls layout free old → IsGood code (Within k) sh → IsSeen (Within k) after → GoesOn N K (Within k) after ls to home free r t old → Does N K (Within k) sh text ls from old (λ s. after (value_transaction mode (expr p call e) s))
   unfolding returning
   inner_value mode home scope e ih from to free r t k sh text ls old after (inr f) c h g s go =
       same (effect code) (λ n. after (Stops Astray (state n ls (Inside k.mode sh.memory) text))) (λ n. ap (λ q. after (go_on q value_at)) (f sh.memory (expr p call e >>= returning) (state n ls (Inside k.mode sh.memory) text)))
@@ -439,11 +462,11 @@ module _ (p : Program) (call : Caller) (code : Code) (layout : Layout) (frames :
       (begins_inner code k sh text mode (configuration code from old frames) (configuration code (suc from) old frames) (configuration code to old frames) (effect_at code from (Instr.Begin to) old frames c.begins)
       (ih N K (suc from) c.last free r t (Within held) sh text ls old after1 c.computes h (g.0, (λ d. ((g.1 d).0, f.1 (g.1 d).1)), g.2) seen1
       (λ v sh1 text1 new d.
-      let good1 : IsGood (Within k) sh1 = (d.good.0, (λ z. ((d.good.1 z).0, (g.1 z).1)), d.good.2) in
+      let good1 : IsGood code (Within k) sh1 = (d.good.0, (λ z. ((d.good.1 z).0, (g.1 z).1)), d.good.2) in
       commits_inner code k sh1 text1 mode sh.memory (configuration code c.last new frames) (configuration code (suc c.last) new frames) (configuration code to old frames) (effect_at code c.last Instr.Commit new frames c.commits)
       (go_at (Within k) after ls to (suc c.last) home free r t t old c.to_is refl go v sh1 text1 new (given_there good1 d)))))
 
-  value_transaction_follows : (mode : Mode) (home : Option ℕ) (scope : LocalScope) (e : Expr) → AlwaysFollows home scope e → (N K from to free r : ℕ) (t : Scalar) (a : Around) (sh : Shared) (text : List ℕ) (ls : List Local) (old : List ℕ) (after : Answer Value → Outcome) → ValueTransactionCode code layout (ExprCode code layout p home scope e) from to free r t → Holds scope ls layout free old → IsGood a sh → IsSeen a after → GoesOn N K a after ls to home free r t old → Does N K a sh text ls from old (λ s. after (value_transaction mode (expr p call e) s))
+  value_transaction_follows : (mode : Mode) (home : Option ℕ) (scope : LocalScope) (e : Expr) → AlwaysFollows home scope e → (N K from to free r : ℕ) (t : Scalar) (a : Around) (sh : Shared) (text : List ℕ) (ls : List Local) (old : List ℕ) (after : Answer Value → Outcome) → ValueTransactionCode code layout (ExprCode code layout p home scope e) from to free r t → Holds scope ls layout free old → IsGood code a sh → IsSeen a after → GoesOn N K a after ls to home free r t old → Does N K a sh text ls from old (λ s. after (value_transaction mode (expr p call e) s))
   value_transaction_follows mode home scope e ih N K from to free r t Bare sh text ls old after c h g s go =
       bare_value mode home scope e ih from to free r t sh.founds sh.lefts sh.memory sh.kept text ls old after c h g s go
   value_transaction_follows mode home scope e ih N K from to free r t (Within k) sh text ls old after c h g s go =
@@ -455,41 +478,41 @@ module _ (p : Program) (call : Caller) (code : Code) (layout : Layout) (frames :
       (N K : ℕ) (x : List ℕ) (vs : List Value) (number q d : ℕ) (args : List ℕ) (g : FunctionCode) (f : Function) (body : Stmts)
       (a : Around) (sh : Shared) (text : List ℕ) (ls : List Local) (rs : List ℕ) (after : Answer Value → Outcome) →
       At code q (Instr.Call number d (arranged f.parameters args)) → slice_get code.functions number ≡ Some g → g.name ≡ x → definition_of p x ≡ Some (f, body) →
-      map (slice_index rs) args ≡ map (λ (v : Value). v.word) vs → AllByRecursion (λ (v : Value). v.word < 2 ^ 32) vs → IsGood a sh → IsSeen a after →
-      ((v : Value) (sh1 : Shared) (text1 : List ℕ) → v.of ≡ unwrap_or f.result Int → v.word < 2 ^ 32 → IsGood a sh1 →
+      map (slice_index rs) args ≡ map (λ (v : Value). v.word) vs → AllByRecursion (λ (v : Value). v.word < modulus v.of) vs → IsGood code a sh → IsSeen a after →
+      ((v : Value) (sh1 : Shared) (text1 : List ℕ) → v.of ≡ unwrap_or f.result Int → v.word < modulus v.of → IsGood code a sh1 →
       Agrees (effect code) N K (holding a sh1 text1 (configuration code (suc q) (slice_set rs d v.word) frames)) (λ n. after (Gives v (state n ls (context_of a sh1) text1)))) →
       Agrees (effect code) N K (holding a sh text (configuration code q rs frames)) (λ n. after (call x vs (state n ls (context_of a sh) text)))
 
   -- a word that lies ready
-  pub lies : {N K : ℕ} (w : ℕ) (u : Scalar) (a : Around) (sh : Shared) (text : List ℕ) (scope : LocalScope) (ls : List Local) (after : Answer Value → Outcome) (from to free r : ℕ) (t : Scalar) (old : List ℕ) → LiesReady code layout w u from to r t → w < 2 ^ 32 → Holds scope ls layout free old → IsGood a sh → GoesOn N K a after ls to None free r t old → Does N K a sh text ls from old (λ s. after (Gives (record { of = u; word = w }) s))
+  pub lies : {N K : ℕ} (w : ℕ) (u : Scalar) (a : Around) (sh : Shared) (text : List ℕ) (scope : LocalScope) (ls : List Local) (after : Answer Value → Outcome) (from to free r : ℕ) (t : Scalar) (old : List ℕ) → LiesReady code layout w u from to r t → w < modulus u → Holds scope ls layout free old → IsGood code a sh → GoesOn N K a after ls to None free r t old → Does N K a sh text ls from old (λ s. after (Gives (record { of = u; word = w }) s))
   lies w u a sh text scope ls after from to free r t old c below h good go =
       go_at a after ls to from None free r t u old c.to_is c.type_is go (record { of = u; word = w }) sh text old
       (record { typed_so = refl; word = below; here = ap (slice_index old) c.register ∙ h.ready c.number w c.known; keeps = keeps_all layout None free old; good = good })
 
   -- the right side of an operator
-  pub operand_follows : (scope : LocalScope) (e : Expr) → AlwaysFollows None scope e → (N K from to free r : ℕ) (t : Scalar) (a : Around) (sh : Shared) (text : List ℕ) (ls : List Local) (old : List ℕ) (after : Answer Value → Outcome) → OperandCode code layout e (ExprCode code layout p None scope e) from to free r t → Holds scope ls layout free old → IsGood a sh → IsSeen a after → GoesOn N K a after ls to None free r t old → Does N K a sh text ls from old (λ s. after (expr p call e s))
+  pub operand_follows : (scope : LocalScope) (e : Expr) → AlwaysFollows None scope e → (N K from to free r : ℕ) (t : Scalar) (a : Around) (sh : Shared) (text : List ℕ) (ls : List Local) (old : List ℕ) (after : Answer Value → Outcome) → OperandCode code layout e (ExprCode code layout p None scope e) from to free r t → Holds scope ls layout free old → IsGood code a sh → IsSeen a after → GoesOn N K a after ls to None free r t old → Does N K a sh text ls from old (λ s. after (expr p call e s))
   operand_follows scope (Constant n u at) ih N K from to free r t a sh text ls old after (inl c) h good s go = ih N K from to free r t a sh text ls old after c h good s go
   operand_follows scope (Constant n u at) ih N K from to free r t a sh text ls old after (inr c) h good s go =
-      lies (word_of (pos n)) u a sh text scope ls after from to free r t old c (word_below (pos n)) h good go
+      lies (word_of u (pos n)) u a sh text scope ls after from to free r t old c (word_below u (pos n)) h good go
   operand_follows scope e ih N K from to free r t a sh text ls old after c h good s go = ih N K from to free r t a sh text ls old after c h good s go
 
   -- after the arguments
   abbrev pub GoesArgs : ℕ → ℕ → (a : Around) → (Answer (List Value) → Outcome) → List Local → (to free : ℕ) → (args old : List ℕ) → Type 0
   GoesArgs N K a after ls to free args old =
-      (vs : List Value) (sh : Shared) (text : List ℕ) (new : List ℕ) → map (slice_index new) args ≡ map (λ (v : Value). v.word) vs → AllByRecursion (λ (v : Value). v.word < 2 ^ 32) vs → Keeps layout None free old new → IsGood a sh →
+      (vs : List Value) (sh : Shared) (text : List ℕ) (new : List ℕ) → map (slice_index new) args ≡ map (λ (v : Value). v.word) vs → AllByRecursion (λ (v : Value). v.word < modulus v.of) vs → Keeps layout None free old new → IsGood code a sh →
       Agrees (effect code) N K (holding a sh text (configuration code to new frames)) (λ n. after (Gives vs (state n ls (context_of a sh) text)))
 
-  module _ (cf : CallsFollow) where
+  module _ (cf : CallsFollow) (are : HasCellsOf code p) where
     mutual
       pub expr_follows : (home : Option ℕ) (scope : LocalScope) (e : Expr) (N K from to free r : ℕ) (t : Scalar) (a : Around) (sh : Shared) (text : List ℕ) (ls : List Local) (old : List ℕ) (after : Answer Value → Outcome) → Follows home scope e N K from to free r t a sh text ls old after
       expr_follows home scope (Variable x) N K from to free r t a sh text ls old after c h good s go =
           same (effect code) (λ n. after (go_on (spot_in (newest scope x.text) (global_of p x.text) (state n ls (context_of a sh) text)) fetch))
           (λ n. ap (λ o. after (go_on (spot_from p call x.text o (state n ls (context_of a sh) text)) fetch)) (newest_like x.text scope ls h.like) ∙ ap (λ y. after (go_on y fetch)) (spot_from_is x.text (newest scope x.text) (state n ls (context_of a sh) text)))
-          (variable_runs home (newest scope x.text) (global_of p x.text) scope from to free r t c a sh text ls old after h good s go)
+          (variable_runs home (newest scope x.text) (global_of p x.text) scope from to free r t c (newest_known scope x.text) (are x.text) a sh text ls old after h good s go)
       expr_follows home scope (Constant n u at) N K from to free r t a sh text ls old after c h good s go =
-          sets (Instr.Constant r (word_of (pos n))) u a sh text ls after from to home free r (word_of (pos n)) t old old c refl h.size_is (word_below (pos n)) (keeps_all layout home free old) good go
+          sets (Instr.Constant r (word_of u (pos n))) u a sh text ls after from to home free r (word_of u (pos n)) t old old c refl h.size_is (word_below u (pos n)) (keeps_all layout home free old) good go
       expr_follows home scope (Element x i at) N K from to free r t a sh text ls old after c h good s go =
-          element_follows home (global_of p x.text) scope i (expr_follows None scope i) N K from to free r t a sh text ls old after c h good s go
+          element_follows home (global_of p x.text) scope i (expr_follows None scope i) N K from to free r t a sh text ls old after c (are x.text) h good s go
       expr_follows home scope (Call f es at) N K from to free r t a sh text ls old after c h good s go =
           let rest : List Value → Action Value = λ vs. tick >> call f.text vs in
           args_follow scope es N K from c.mid free c.registers_of a sh text ls old (λ q. after (go_on q rest)) c.gives_args h good (on_seen a after rest s)
@@ -503,7 +526,7 @@ module _ (p : Program) (call : Caller) (code : Code) (layout : Layout) (frames :
       expr_follows home scope (Cast u e at) N K from to free r t a sh text ls old after c h good s go =
           let rest : Value → Action Value = λ v. pure (converted u v) in
           expr_follows home scope e N K from to free r c.te a sh text ls old (λ q. after (go_on q rest)) c.computes h good (on_seen a after rest s)
-          (λ v sh1 text1 rs1 d. go (converted u v) sh1 text1 rs1 (record { typed_so = sym c.type_is; word = word_below (number_of v); here = d.here ∙ sym (word_same v.of v.word d.word); keeps = d.keeps; good = d.good }))
+          (λ v sh1 text1 rs1 d. go (converted u v) sh1 text1 rs1 (record { typed_so = sym c.type_is; word = word_below u (number_of v); here = d.here ∙ sym (word_same u v.of v.word d.word); keeps = d.keeps; good = d.good }))
       expr_follows home scope (Unary Negate e at) N K from to free r t a sh text ls old after c h good s go =
           let rest : Value → Action Value = λ v. or_trap (unary Negate v) in
           let negated : Scalar → ℕ → Result ℕ Trap = λ o w. fitted o (neg_ℤ (number o w)) in
@@ -531,9 +554,9 @@ module _ (p : Program) (call : Caller) (code : Code) (layout : Layout) (frames :
           let rest : Value → Action Value = λ v. or_trap (unary Complement v) in
           expr_follows None scope e N K from c.mid free c.ra c.ta a sh text ls old (λ q. after (go_on q rest)) c.computes h good (on_seen a after rest s)
           (λ v sh1 text1 rs1 d.
-          same (effect code) (λ n. after (Gives (record { of = c.ta; word = 2 ^ 32 - 1 - slice_index rs1 c.ra }) (state n ls (context_of a sh1) text1)))
-          (λ n. ap (λ x. after (Gives x (state n ls (context_of a sh1) text1))) (ap (λ o. record { of = o; word = 2 ^ 32 - 1 - v.word }) d.typed_so ∙ ap (λ w. record { of = c.ta; word = 2 ^ 32 - 1 - w }) (sym d.here)))
-          (sets (Instr.Complement r c.ra) c.ta a sh1 text1 ls after c.mid to home free r (2 ^ 32 - 1 - slice_index rs1 c.ra) t old rs1 c.operates refl (d.keeps.size ∙ h.size_is) (omega arith) (keeps_more layout home free old rs1 d.keeps) d.good go))
+          same (effect code) (λ n. after (Gives (record { of = c.ta; word = complemented Unsigned (slice_index rs1 c.ra) }) (state n ls (context_of a sh1) text1)))
+          (λ n. ap (λ x. after (Gives x (state n ls (context_of a sh1) text1))) (ap (λ o. record { of = o; word = complemented o v.word }) d.typed_so ∙ ap (λ w. record { of = c.ta; word = complemented c.ta w }) (sym d.here) ∙ ap (λ w. record { of = c.ta; word = w }) (complement_same c.ta (slice_index rs1 c.ra))))
+          (sets (Instr.Complement r c.ra) c.ta a sh1 text1 ls after c.mid to home free r (complemented Unsigned (slice_index rs1 c.ra)) t old rs1 c.operates refl (d.keeps.size ∙ h.size_is) (complement_below c.ta (slice_index rs1 c.ra)) (keeps_more layout home free old rs1 d.keeps) d.good go))
       expr_follows home scope (Binary op x y at) N K from to free r t a sh text ls old after c h good s go =
           let rest : Value → Action Value = λ v. expr p call y >>= λ w. or_trap (binary op v w) in
           expr_follows None scope x N K from c.mid free c.ra c.ta a sh text ls old (λ q. after (go_on q rest)) c.left h good (on_seen a after rest s)
@@ -567,7 +590,7 @@ module _ (p : Program) (call : Caller) (code : Code) (layout : Layout) (frames :
       own_follows scope (Cast u e at) N K from met unmet free a sh text ls old after c h good s go =
           let rest : Value → Action Value = λ v. pure (converted u v) in
           branches_follow scope e (OwnTests code layout p scope e) (expr_follows None scope e) (own_follows scope e) N K from met unmet free a sh text ls old (λ q. after (go_on q rest)) c h good (on_seen a after rest s)
-          (λ v b sh1 text1 new e below k g. go (converted u v) b sh1 text1 new (ap (λ w. w == 0) (word_same v.of v.word below) ∙ e) (word_below (number_of v)) k g)
+          (λ v b sh1 text1 new e below k g. go (converted u v) b sh1 text1 new (ap (λ w. w == 0) (word_same u v.of v.word below) ∙ e) (word_below u (number_of v)) k g)
       own_follows scope (Unary Keep e at) N K from met unmet free a sh text ls old after c h good s go =
           let rest : Value → Action Value = λ v. or_trap (unary Keep v) in
           branches_follow scope e (OwnTests code layout p scope e) (expr_follows None scope e) (own_follows scope e) N K from met unmet free a sh text ls old (λ q. after (go_on q rest)) c h good (on_seen a after rest s) go
@@ -586,7 +609,7 @@ module _ (p : Program) (call : Caller) (code : Code) (layout : Layout) (frames :
           N K from met unmet free a sh text ls old after c h good s (flag_of a after ls met unmet free old go)
       own_follows scope e N K from met unmet free a sh text ls old after c h good s go = absurd c
 
-      pub args_follow : (scope : LocalScope) (es : Exprs) (N K from to free : ℕ) (args : List ℕ) (a : Around) (sh : Shared) (text : List ℕ) (ls : List Local) (old : List ℕ) (after : Answer (List Value) → Outcome) → ArgsCode code layout p scope es from to free args → Holds scope ls layout free old → IsGood a sh → IsSeen a after → GoesArgs N K a after ls to free args old → Does N K a sh text ls from old (λ s. after (exprs p call es s))
+      pub args_follow : (scope : LocalScope) (es : Exprs) (N K from to free : ℕ) (args : List ℕ) (a : Around) (sh : Shared) (text : List ℕ) (ls : List Local) (old : List ℕ) (after : Answer (List Value) → Outcome) → ArgsCode code layout p scope es from to free args → Holds scope ls layout free old → IsGood code a sh → IsSeen a after → GoesArgs N K a after ls to free args old → Does N K a sh text ls from old (λ s. after (exprs p call es s))
       args_follow scope Exprs.[] N K from to free args a sh text ls old after c h good s go =
           subst (λ q. Agrees (effect code) N K (holding a sh text (configuration code q old frames)) (λ n. after (Gives [] (state n ls (context_of a sh) text)))) c.0 (go [] sh text old (ap (map (slice_index old)) c.1) tt (keeps_all layout None free old) good)
       args_follow scope (Exprs.◌∷◌ e es) N K from to free args a sh text ls old after c h good s go =

@@ -1,7 +1,6 @@
 -- The instructions of a statement do what the statement does: control.
-use Rattle.std.proofs.Common.{◌≡◌, ◌≢◌, ◌⊎◌, ℕ, zero, suc, ◌+◌, ◌<◌, ◌≤◌, ◌^◌, Bool, true, false, List, [], ◌∷◌, ◌++◌, length, take, Option, Some, None, refl, sym, ap, ◌∙◌, subst, arith, inl, inr, append_assoc, append-nil}
+use Rattle.std.proofs.Common.{◌≡◌, ◌≢◌, ◌⊎◌, ℕ, zero, suc, ◌+◌, ◌<◌, ◌≤◌, Bool, true, false, List, [], ◌∷◌, ◌++◌, length, take, Option, Some, None, refl, sym, ap, ◌∙◌, subst, arith, inl, inr, append_assoc, append-nil}
 use Rattle.std.specs.Prelude.{slice_index, slice_set, if◌then◌else◌, not}
-use Rattle.std.specs.List.{AllByRecursion}
 use Rattle.std.proofs.lemmas.List.{get_or-set_same, get_or-set_other, length-set, length-append}
 use Rattle.std.proofs.lemmas.Bool.{cases_eq}
 use Rattle.lowered.proofs.Expressions.{CallsFollow, passes, leads}
@@ -13,7 +12,7 @@ use Rattle.syntax.specs.declared.tree.Kind.TheVariants.{Plain, Outer}
 use Rattle.syntax.specs.Tree.{Expr, Simple, Declarator, Start, Nothing, Declares, Does, Stmt, Stmts, Empty, Declare, Do, Block, Print, If, IfElse, While, DoWhile, For, Break, Continue, Return, Transaction, Cancel, CancelOuter, Program}
 use Rattle.syntax.specs.declared.numbers.Value.{Value}
 use Rattle.syntax.specs.declared.numbers.Halt.TheVariants.{Wants, Astray}
-use Rattle.syntax.specs.Numbers.{is_zero, flag}
+use Rattle.syntax.specs.Numbers.{modulus, is_zero, flag}
 use Rattle.syntax.specs.Names.{Local, word_at}
 use Rattle.syntax.specs.Behaviours.{Memory, Outcome}
 use Rattle.bytecode.specs.Sequential.{cancel_step}
@@ -24,12 +23,13 @@ use Rattle.syntax.specs.Meaning.{assign, InLocal, End, Next, Breaks, Continues, 
 use Rattle.bytecode.specs.Code.{Code, Configuration, Frame, Instr, effect}
 use Rattle.lowered.specs.Expressions.{LocalScope, IsLike, At, LeadsTo, Layout}
 use Rattle.lowered.specs.Statements.{LocalAt, Exits, with_level, in_transaction, looping, with_local, with_declared, locals_of_start, locals_after, locals_at_end, Testing, Leaves, FirstValueCode, DeclareCode, IfCode, IfElseCode, WhileCode, DoWhileCode, HoldsCode, SteppedCode, StartCode, ForCode, TransactionCode, StmtCode, StmtsCode}
-use Rattle.lowered.proofs.Runs.{Enters, enters, Held, Around, Bare, Within, Shared, context_of, holding, state, IsSeen, on_seen, AreWords, IsGood, Holds, configuration, effect_at, goes, goes_by, seen_spent, tick_goes, tick_counts, inner_held, outermost_held, begins_inner, begins_outermost, wants_one, commits_inner, cancels_inner, leaves_outermost, next_commit, next_cancel}
-use Rattle.lowered.proofs.Locals.{length_like, word_taken, words_taken, shape_taken, word_new, word_last, words_new, shape_new}
+use Rattle.lowered.proofs.Runs.{Enters, enters, Held, Around, Bare, Within, Shared, context_of, holding, state, IsSeen, on_seen, HasCellsOf, AreMemories, IsGood, Holds, configuration, effect_at, goes, goes_by, seen_spent, tick_goes, tick_counts, inner_held, outermost_held, begins_inner, begins_outermost, wants_one, commits_inner, cancels_inner, leaves_outermost, next_commit, next_cancel}
+use Rattle.lowered.proofs.Locals.{TypeIs, type_last, length_like, word_taken, words_taken, shape_taken, word_new, word_last, words_new, shape_new}
 use Rattle.lowered.proofs.Statements.{raised, stores, Goes, GoesNext, GoesTest, expression_follows, value_follows, test_follows, simple_follows}
 use Rattle.lowered.proofs.Prints.{print_rest, print_follows}
 use Rattle.lowered.proofs.Turns.{while_turn, do_turn, for_turn, Falls}
 use Rattle.syntax.proofs.Loops.{loop_is_its_turns}
+use Rattle.syntax.proofs.Words.{some_below, truth_below}
 
 -- the registers hold what a scope knows, and further names declared in it
 pub record HoldsMore (scope : LocalScope) (ls : List Local) (layout : Layout) (registers : List ℕ) : Type 0 where
@@ -99,7 +99,7 @@ module _ (p : Program) (code : Code) (layout : Layout) where
   ArrivedAt x after others to Next q ls rs = (q ≡ to) × after ls rs
   ArrivedAt x after others to Breaks q ls rs = Leaves code layout p q x.in_loop (Instr.Jump x.break_to) × others ls rs
   ArrivedAt x after others to Continues q ls rs = Leaves code layout p q x.in_loop (Instr.Jump x.continue_to) × others ls rs
-  ArrivedAt x after others to (Returns v) q ls rs = (r : Option ℕ) × Leaves code layout p q x.in_function (Instr.Return r) × (word_in r rs ≡ v.word) × (v.word < 2 ^ 32)
+  ArrivedAt x after others to (Returns v) q ls rs = (r : Option ℕ) × Leaves code layout p q x.in_function (Instr.Return r) × (word_in r rs ≡ v.word) × (v.word < modulus v.of)
   ArrivedAt x after others to Cancels q ls rs = (x.innermost ≡ Some Atomic) × At code q Instr.Cancel
   ArrivedAt x after others to CancelsOuter q ls rs = ⊥
 
@@ -109,7 +109,7 @@ module _ (p : Program) (code : Code) (layout : Layout) where
   abbrev pub MoreAt : LocalScope → Holding
   MoreAt scope ls rs = HoldsMore scope ls layout rs
 
-module _ (p : Program) (call : Caller) (code : Code) (layout : Layout) (frames : List Frame) (cf : CallsFollow p call code layout frames) where
+module _ (p : Program) (call : Caller) (code : Code) (layout : Layout) (frames : List Frame) (cf : CallsFollow p call code layout frames) (are : HasCellsOf code p) where
   abbrev pub Arrived : Exits → (next others : Holding) → (to : ℕ) → End → ℕ → List Local → List ℕ → Type 0
   Arrived x after others to end q ls rs = ArrivedAt p code layout x after others to end q ls rs
 
@@ -122,8 +122,8 @@ module _ (p : Program) (call : Caller) (code : Code) (layout : Layout) (frames :
   -- where control goes by the end: no place of the code is an outer cancel's, so that one is said by itself
   abbrev EndsGo : ℕ → ℕ → (a : Around) → (Answer End → Outcome) → Exits → (next others : Holding) → (to : ℕ) → Type 0
   EndsGo N K a after x later others to =
-      (end : End) (sh : Shared) (text : List ℕ) (ls : List Local) (rs : List ℕ) (q : ℕ) → IsGood a sh → Arrived x later others to end q ls rs →
-      Goes p call code layout frames cf N K a sh text ls q rs (λ s. after (Gives end s))
+      (end : End) (sh : Shared) (text : List ℕ) (ls : List Local) (rs : List ℕ) (q : ℕ) → IsGood code a sh → Arrived x later others to end q ls rs →
+      Goes p call code layout frames cf are N K a sh text ls q rs (λ s. after (Gives end s))
 
   pub record GoesEnd (N K : ℕ) (a : Around) (after : Answer End → Outcome) (x : Exits) (later others : Holding) (to : ℕ) : Type 0 where
     pub ends : EndsGo N K a after x later others to
@@ -132,14 +132,14 @@ module _ (p : Program) (call : Caller) (code : Code) (layout : Layout) (frames :
   abbrev pub StmtFollows : Stmt → Type 0
   StmtFollows st =
       (N K : ℕ) (x : Exits) (scope : LocalScope) (from to : ℕ) (a : Around) (sh : Shared) (text : List ℕ) (ls : List Local) (old : List ℕ) (after : Answer End → Outcome) →
-      StmtCode code layout p x scope st from to → Here scope ls old → IsGood a sh → IsSeen a after →
-      GoesEnd N K a after x (Here (locals_after st scope)) (Here scope) to → Goes p call code layout frames cf N K a sh text ls from old (λ s. after (stmt p call st s))
+      StmtCode code layout p x scope st from to → Here scope ls old → IsGood code a sh → IsSeen a after →
+      GoesEnd N K a after x (Here (locals_after st scope)) (Here scope) to → Goes p call code layout frames cf are N K a sh text ls from old (λ s. after (stmt p call st s))
 
   abbrev pub StmtsFollow : Stmts → Type 0
   StmtsFollow ss =
       (N K : ℕ) (x : Exits) (scope : LocalScope) (from to : ℕ) (a : Around) (sh : Shared) (text : List ℕ) (ls : List Local) (old : List ℕ) (after : Answer End → Outcome) →
-      StmtsCode code layout p x scope ss from to → Here scope ls old → IsGood a sh → IsSeen a after →
-      GoesEnd N K a after x (Here (locals_at_end ss scope)) (More scope) to → Goes p call code layout frames cf N K a sh text ls from old (λ s. after (stmts p call ss s))
+      StmtsCode code layout p x scope ss from to → Here scope ls old → IsGood code a sh → IsSeen a after →
+      GoesEnd N K a after x (Here (locals_at_end ss scope)) (More scope) to → Goes p call code layout frames cf are N K a sh text ls from old (λ s. after (stmts p call ss s))
 
   -- a scope ends
   closing : List Local → End → Action End
@@ -162,7 +162,7 @@ module _ (p : Program) (call : Caller) (code : Code) (layout : Layout) (frames :
     outer = outer_as code _ _ a after (λ q. after (go_on q (closing ls))) (take (length ls)) (λ k ms m mode text. refl) x.in_outer go.outer;
   }
 
-  scoped_follows : (ss : Stmts) → StmtsFollow ss → (N K : ℕ) (x : Exits) (scope : LocalScope) (from to : ℕ) (a : Around) (sh : Shared) (text : List ℕ) (ls : List Local) (old : List ℕ) (after : Answer End → Outcome) → StmtsCode code layout p x scope ss from to → Here scope ls old → IsGood a sh → IsSeen a after → GoesEnd N K a after x (Here scope) (Here scope) to → Goes p call code layout frames cf N K a sh text ls from old (λ s. after (scoped (stmts p call ss) s))
+  scoped_follows : (ss : Stmts) → StmtsFollow ss → (N K : ℕ) (x : Exits) (scope : LocalScope) (from to : ℕ) (a : Around) (sh : Shared) (text : List ℕ) (ls : List Local) (old : List ℕ) (after : Answer End → Outcome) → StmtsCode code layout p x scope ss from to → Here scope ls old → IsGood code a sh → IsSeen a after → GoesEnd N K a after x (Here scope) (Here scope) to → Goes p call code layout frames cf are N K a sh text ls from old (λ s. after (scoped (stmts p call ss) s))
   unfolding closing
   scoped_follows ss ih N K x scope from to a sh text ls old after c h good s go =
       ih N K x scope from to a sh text ls old (λ q. after (go_on q (closing ls))) c h good (on_seen a after (closing ls) s)
@@ -186,7 +186,7 @@ module _ (p : Program) (call : Caller) (code : Code) (layout : Layout) (frames :
     outer = outer_as code _ _ a after (λ q. after (go_on q (closing ls))) (take (length ls)) (λ k ms m mode text. refl) x.in_outer go.outer;
   }
 
-  part_follows : (st : Stmt) → StmtFollows st → (N K : ℕ) (x : Exits) (scope : LocalScope) (from to : ℕ) (a : Around) (sh : Shared) (text : List ℕ) (ls : List Local) (old : List ℕ) (after : Answer End → Outcome) → StmtCode code layout p x scope st from to → Here scope ls old → IsGood a sh → IsSeen a after → GoesEnd N K a after x (Here scope) (Here scope) to → Goes p call code layout frames cf N K a sh text ls from old (λ s. after (scoped (stmt p call st) s))
+  part_follows : (st : Stmt) → StmtFollows st → (N K : ℕ) (x : Exits) (scope : LocalScope) (from to : ℕ) (a : Around) (sh : Shared) (text : List ℕ) (ls : List Local) (old : List ℕ) (after : Answer End → Outcome) → StmtCode code layout p x scope st from to → Here scope ls old → IsGood code a sh → IsSeen a after → GoesEnd N K a after x (Here scope) (Here scope) to → Goes p call code layout frames cf are N K a sh text ls from old (λ s. after (scoped (stmt p call st) s))
   unfolding closing
   part_follows st ih N K x scope from to a sh text ls old after c h good s go =
       ih N K x scope from to a sh text ls old (λ q. after (go_on q (closing ls))) c h good (on_seen a after (closing ls) s)
@@ -247,7 +247,7 @@ module _ (p : Program) (call : Caller) (code : Code) (layout : Layout) (frames :
         fits = omega (arith, len, len2, below);
         size_is = length-set rs (length scope) 0 ∙ h.size_is;
         each = λ i l. each_zeroed scope ls rs new i refl (cases_eq i (length scope)) len (omega (arith, below, size_is)) (λ d. omega (arith, l, len, len2, d)) h.each;
-        words = words_new ls new h.words (omega arith);
+        words = words_new ls new h.words (some_below t);
         ready = λ k w e. get_or-set_other rs (length scope) (layout.writable + k) 0 0 (λ d. omega (arith, below, d)) ∙ h.ready k w e;
       }
     where
@@ -257,22 +257,22 @@ module _ (p : Program) (call : Caller) (code : Code) (layout : Layout) (frames :
       each_zeroed scope ls rs new i z (inr e) len b later each = get_or-set_other rs (length scope) i 0 0 e ∙ each i (later e) ∙ sym (word_new ls new i (later e))
 
   -- the first value, and what follows it
-  first_follows : {N K : ℕ} (inner : LocalScope) (i : ℕ) (t : Scalar) (o : Option Expr) (rest : Action End) (from to : ℕ) → i < length inner → FirstValueCode code layout p inner (i, t) o from to → (a : Around) (sh : Shared) (text : List ℕ) (ls : List Local) (old : List ℕ) (after : Answer End → Outcome) → Here inner ls old → IsGood a sh → IsSeen a after
-      → ((sh1 : Shared) (text1 : List ℕ) (ls1 : List Local) (rs1 : List ℕ) → IsGood a sh1 → Here inner ls1 rs1 → Goes p call code layout frames cf N K a sh1 text1 ls1 to rs1 (λ s. after (rest s)))
-      → Goes p call code layout frames cf N K a sh text ls from old (λ s. after ((first_value p call (InLocal i t) o >> rest) s))
-  first_follows {N = N} {K = K} inner i t None rest from to below c a sh text ls old after h good s go =
-      subst (λ q. Goes p call code layout frames cf N K a sh text ls q old (λ s. after (rest s))) c (go sh text ls old good h)
-  first_follows {N = N} {K = K} inner i t (Some e) rest from to below c a sh text ls old after h good s go =
+  first_follows : {N K : ℕ} (inner : LocalScope) (i : ℕ) (t : Scalar) (o : Option Expr) (rest : Action End) (from to : ℕ) → i < length inner → TypeIs inner i t → FirstValueCode code layout p inner (i, t) o from to → (a : Around) (sh : Shared) (text : List ℕ) (ls : List Local) (old : List ℕ) (after : Answer End → Outcome) → Here inner ls old → IsGood code a sh → IsSeen a after
+      → ((sh1 : Shared) (text1 : List ℕ) (ls1 : List Local) (rs1 : List ℕ) → IsGood code a sh1 → Here inner ls1 rs1 → Goes p call code layout frames cf are N K a sh1 text1 ls1 to rs1 (λ s. after (rest s)))
+      → Goes p call code layout frames cf are N K a sh text ls from old (λ s. after ((first_value p call (InLocal i t) o >> rest) s))
+  first_follows {N = N} {K = K} inner i t None rest from to below type_is c a sh text ls old after h good s go =
+      subst (λ q. Goes p call code layout frames cf are N K a sh text ls q old (λ s. after (rest s))) c (go sh text ls old good h)
+  first_follows {N = N} {K = K} inner i t (Some e) rest from to below type_is c a sh text ls old after h good s go =
       let rest1 : Value → Action (Unit {0}) = λ v. assign (InLocal i t) v in
       let after1 : Answer (Unit {0}) → Outcome = λ q. after (go_on q (λ u. rest)) in
-      expression_follows p call code layout frames cf (Some i) inner e N K from c.mid c.value.free c.r c.value.t a sh text ls old (λ q. after1 (go_on q rest1)) c.value.computes (raised inner ls layout c.value.free old c.value.room h) good (on_seen a after1 rest1 (on_seen a after (λ u. rest) s))
+      expression_follows p call code layout frames cf are (Some i) inner e N K from c.mid c.value.free c.r c.value.t a sh text ls old (λ q. after1 (go_on q rest1)) c.value.computes (raised inner ls layout c.value.free old c.value.room h) good (on_seen a after1 rest1 (on_seen a after (λ u. rest) s))
       (λ v sh1 text1 rs1 d.
-      stores p call code layout frames cf (LocalAt (i, t)) (InLocal i t) inner c.value.free a sh1 text1 ls (λ q. after (go_on q (λ e. rest))) c.mid to c.r old rs1 v c.value.room (refl, below) tt c.stores d.keeps d.here d.word h d.good (on_seen a after (λ e. rest) s)
+      stores p call code layout frames cf are (LocalAt (i, t)) (InLocal i t) inner c.value.free a sh1 text1 ls (λ q. after (go_on q (λ e. rest))) c.mid to c.r old rs1 v c.value.room (refl, below, type_is) tt c.stores d.keeps d.here d.word h d.good (on_seen a after (λ e. rest) s)
       (λ sh2 text2 ls2 rs2 good2 h2. go sh2 text2 ls2 rs2 good2 h2))
 
-  declare_follows : {N K : ℕ} (t : Scalar) (ds : List Declarator) (x : Exits) (scope : LocalScope) (from to : ℕ) → DeclareCode code layout p t ds scope from to → (a : Around) (sh : Shared) (text : List ℕ) (ls : List Local) (old : List ℕ) (after : Answer End → Outcome) → Here scope ls old → IsGood a sh → IsSeen a after → GoesNext p call code layout frames cf N K a after (with_declared t ds scope) to → Goes p call code layout frames cf N K a sh text ls from old (λ s. after (declare p call t ds s))
+  declare_follows : {N K : ℕ} (t : Scalar) (ds : List Declarator) (x : Exits) (scope : LocalScope) (from to : ℕ) → DeclareCode code layout p t ds scope from to → (a : Around) (sh : Shared) (text : List ℕ) (ls : List Local) (old : List ℕ) (after : Answer End → Outcome) → Here scope ls old → IsGood code a sh → IsSeen a after → GoesNext p call code layout frames cf are N K a after (with_declared t ds scope) to → Goes p call code layout frames cf are N K a sh text ls from old (λ s. after (declare p call t ds s))
   declare_follows {N = N} {K = K} t [] x scope from to c a sh text ls old after h good s go =
-      subst (λ q. Goes p call code layout frames cf N K a sh text ls q old (λ s. after (Gives Next s))) c (go sh text ls old good h)
+      subst (λ q. Goes p call code layout frames cf are N K a sh text ls q old (λ s. after (Gives Next s))) c (go sh text ls old good h)
   declare_follows {N = N} {K = K} t (d ∷ ds) x scope from to c a sh text ls old after h good s go =
       let new : Local = record { name = d.name.text; of = t; word = 0 } in
       let inner : LocalScope = with_local scope d.name.text t in
@@ -282,14 +282,14 @@ module _ (p : Program) (call : Caller) (code : Code) (layout : Layout) (frames :
       goes_by code a sh text (configuration code from old frames) (configuration code (suc from) rs1 frames) (effect_at code from (Instr.Constant (length scope) 0) old frames c.zeroes)
       (same (effect code) (λ n. after ((first_value p call (InLocal (length scope) t) d.first >> declare p call t ds) (state n (ls ++ new ∷ []) (context_of a sh) text)))
       (λ n. ap (λ k. after ((first_value p call (InLocal k t) d.first >> declare p call t ds) (state n (ls ++ new ∷ []) (context_of a sh) text))) len)
-      (first_follows inner (length scope) t d.first (declare p call t ds) (suc from) c.mid (omega (arith, len3)) c.value a sh text (ls ++ new ∷ []) rs1 after (zeroed scope d.name.text t ls old c.below h) good s
+      (first_follows inner (length scope) t d.first (declare p call t ds) (suc from) c.mid (omega (arith, len3)) (type_last scope new) c.value a sh text (ls ++ new ∷ []) rs1 after (zeroed scope d.name.text t ls old c.below h) good s
       (λ sh1 text1 ls1 rs2 good1 h1. declare_follows t ds x inner c.mid to c.goes_on a sh1 text1 ls1 rs2 after h1 good1 s go)))
 
   -- where the loop goes on with its next turn
   abbrev Again : ℕ → ℕ → (a : Around) → (Answer End → Outcome) → LocalScope → (head : ℕ) → Action (Option End) → Type 0
   Again N K a after scope head turn =
-      (sh : Shared) (text : List ℕ) (ls : List Local) (rs : List ℕ) → IsGood a sh → Here scope ls rs →
-      Goes p call code layout frames cf N K a sh text ls head rs (λ s. after (loop turn s))
+      (sh : Shared) (text : List ℕ) (ls : List Local) (rs : List ℕ) → IsGood code a sh → Here scope ls rs →
+      Goes p call code layout frames cf are N K a sh text ls head rs (λ s. after (loop turn s))
 
   fewer_end : {N K N' K' : ℕ} (a : Around) (after : Answer End → Outcome) (x : Exits) (later others : Holding) (to : ℕ) → N' ≤ N → K' ≤ K → GoesEnd N K a after x later others to → GoesEnd N' K' a after x later others to
   fewer_end a after x later others to b d go =
@@ -298,7 +298,7 @@ module _ (p : Program) (call : Caller) (code : Code) (layout : Layout) (frames :
   -- where a stretch leads to its end
   leads_ends : {N K : ℕ} (a : Around) (after : Answer End → Outcome) (x : Exits) (scope : LocalScope) (last to : ℕ) → LeadsTo code last to → GoesEnd N K a after x (Here scope) (Here scope) to → EndsGo N K a after x (Here scope) (Here scope) last
   leads_ends {N = N} {K = K} a after x scope last to j go Next sh text ls rs q good arrived =
-      subst (λ y. Goes p call code layout frames cf N K a sh text ls y rs (λ s. after (Gives Next s))) (sym arrived.0)
+      subst (λ y. Goes p call code layout frames cf are N K a sh text ls y rs (λ s. after (Gives Next s))) (sym arrived.0)
       (leads p call code layout frames a sh text last to rs j (go.ends Next sh text ls rs to good (refl, arrived.1)))
   leads_ends a after x scope last to j go Breaks sh text ls rs q good arrived = go.ends Breaks sh text ls rs q good arrived
   leads_ends a after x scope last to j go Continues sh text ls rs q good arrived = go.ends Continues sh text ls rs q good arrived
@@ -312,11 +312,11 @@ module _ (p : Program) (call : Caller) (code : Code) (layout : Layout) (frames :
   -- what one turn does, from the head of the loop on: there is an instruction in it
   abbrev TurnFollows : (a : Around) → (Answer End → Outcome) → Exits → LocalScope → (head to : ℕ) → Action (Option End) → Type 0
   TurnFollows a after x scope head to turn =
-      (N K M : ℕ) → M ≤ K → K ≤ suc M → (sh : Shared) (text : List ℕ) (ls : List Local) (rs : List ℕ) → Again N M a after scope head turn → Here scope ls rs → IsGood a sh → GoesEnd N K a after x (Here scope) (Here scope) to →
-      Goes p call code layout frames cf N K a sh text ls head rs (λ s. after (go_on (turn s) (after_turn (loop turn))))
+      (N K M : ℕ) → M ≤ K → K ≤ suc M → (sh : Shared) (text : List ℕ) (ls : List Local) (rs : List ℕ) → Again N M a after scope head turn → Here scope ls rs → IsGood code a sh → GoesEnd N K a after x (Here scope) (Here scope) to →
+      Goes p call code layout frames cf are N K a sh text ls head rs (λ s. after (go_on (turn s) (after_turn (loop turn))))
 
   -- a loop: each turn takes a tick and at least one instruction
-  loop_follows : (m N K : ℕ) → N + K ≤ m → (x : Exits) (scope : LocalScope) (turn : Action (Option End)) (head to : ℕ) (a : Around) (sh : Shared) (text : List ℕ) (ls : List Local) (rs : List ℕ) (after : Answer End → Outcome) → Falls turn → TurnFollows a after x scope head to turn → Here scope ls rs → IsGood a sh → IsSeen a after → GoesEnd N K a after x (Here scope) (Here scope) to → Goes p call code layout frames cf N K a sh text ls head rs (λ s. after (loop turn s))
+  loop_follows : (m N K : ℕ) → N + K ≤ m → (x : Exits) (scope : LocalScope) (turn : Action (Option End)) (head to : ℕ) (a : Around) (sh : Shared) (text : List ℕ) (ls : List Local) (rs : List ℕ) (after : Answer End → Outcome) → Falls turn → TurnFollows a after x scope head to turn → Here scope ls rs → IsGood code a sh → IsSeen a after → GoesEnd N K a after x (Here scope) (Here scope) to → Goes p call code layout frames cf are N K a sh text ls head rs (λ s. after (loop turn s))
   loop_follows m zero zero b x scope turn head to a sh text ls rs after f each h good s go =
       none_left (effect code) (seen_spent code a after sh 0 ls text (configuration code head rs frames) s)
   loop_follows zero zero (suc K) b x scope turn head to a sh text ls rs after f each h good s go = absurd (omega (arith, b))
@@ -338,10 +338,10 @@ module _ (p : Program) (call : Caller) (code : Code) (layout : Layout) (frames :
 
   -- the end of a body whose turn goes on with `rest`
   turn_ends : {N K : ℕ} (x : Exits) (scope : LocalScope) (turn : Action (Option End)) (rest : Action (Option End)) (break_to continue_to next_at to last : ℕ) (a : Around) (after : Answer End → Outcome) → LeadsTo code break_to to → LeadsTo code continue_to next_at → LeadsTo code last next_at
-      → ((sh : Shared) (text : List ℕ) (ls : List Local) (rs : List ℕ) → IsGood a sh → Here scope ls rs → Goes p call code layout frames cf N K a sh text ls next_at rs (λ s. after (go_on (rest s) (after_turn (loop turn)))))
+      → ((sh : Shared) (text : List ℕ) (ls : List Local) (rs : List ℕ) → IsGood code a sh → Here scope ls rs → Goes p call code layout frames cf are N K a sh text ls next_at rs (λ s. after (go_on (rest s) (after_turn (loop turn)))))
       → GoesEnd N K a after x (Here scope) (Here scope) to → EndsGo N K a (λ q. after (go_on (go_on q (after_body rest)) (after_turn (loop turn)))) (looping x break_to continue_to) (Here scope) (Here scope) last
   turn_ends {N = N} {K = K} x scope turn rest break_to continue_to next_at to last a after breaks continues goes_on on go Next sh text ls rs q good arrived =
-      subst (λ y. Goes p call code layout frames cf N K a sh text ls y rs (λ s. after (go_on (rest s) (after_turn (loop turn))))) (sym arrived.0)
+      subst (λ y. Goes p call code layout frames cf are N K a sh text ls y rs (λ s. after (go_on (rest s) (after_turn (loop turn))))) (sym arrived.0)
       (leads p call code layout frames a sh text last next_at rs goes_on (on sh text ls rs good arrived.1))
   turn_ends x scope turn rest break_to continue_to next_at to last a after breaks continues goes_on on go Breaks sh text ls rs q good arrived =
       passes p call code layout frames a sh text q break_to rs arrived.0 (leads p call code layout frames a sh text break_to to rs breaks (go.ends Next sh text ls rs to good (refl, arrived.1)))
@@ -352,7 +352,7 @@ module _ (p : Program) (call : Caller) (code : Code) (layout : Layout) (frames :
   turn_ends x scope turn rest break_to continue_to next_at to last a after breaks continues goes_on on go CancelsOuter sh text ls rs q good arrived = absurd arrived
 
   body_ends : {N K : ℕ} (x : Exits) (scope : LocalScope) (turn : Action (Option End)) (rest : Action (Option End)) (break_to continue_to next_at to last : ℕ) (a : Around) (after : Answer End → Outcome) → LeadsTo code break_to to → LeadsTo code continue_to next_at → LeadsTo code last next_at
-      → ((sh : Shared) (text : List ℕ) (ls : List Local) (rs : List ℕ) → IsGood a sh → Here scope ls rs → Goes p call code layout frames cf N K a sh text ls next_at rs (λ s. after (go_on (rest s) (after_turn (loop turn)))))
+      → ((sh : Shared) (text : List ℕ) (ls : List Local) (rs : List ℕ) → IsGood code a sh → Here scope ls rs → Goes p call code layout frames cf are N K a sh text ls next_at rs (λ s. after (go_on (rest s) (after_turn (loop turn)))))
       → GoesEnd N K a after x (Here scope) (Here scope) to → GoesEnd N K a (λ q. after (go_on (go_on q (after_body rest)) (after_turn (loop turn)))) (looping x break_to continue_to) (Here scope) (Here scope) last
   body_ends x scope turn rest break_to continue_to next_at to last a after breaks continues goes_on on go = record {
     ends = turn_ends x scope turn rest break_to continue_to next_at to last a after breaks continues goes_on on go;
@@ -363,7 +363,7 @@ module _ (p : Program) (call : Caller) (code : Code) (layout : Layout) (frames :
   while_follows : (x : Exits) (scope : LocalScope) (e : Expr) (st : Stmt) → StmtFollows st → (from to : ℕ) (c : WhileCode code layout p x scope (Testing code layout p scope e) (λ y. StmtCode code layout p y scope st) from to) (a : Around) (after : Answer End → Outcome) → IsSeen a after → TurnFollows a after x scope c.test_at to (while_turn p call e st)
   while_follows x scope e st ih from to c a after s N K M less enough sh text ls rs again h good go =
       fewer (effect code) (omega arith) enough
-      (test_follows p call code layout frames cf scope e c.test_at c.body_at c.out c.tests a sh text ls rs (λ q. after1 (go_on q branches)) h good (on_seen a after1 branches seen1) places)
+      (test_follows p call code layout frames cf are scope e c.test_at c.body_at c.out c.tests a sh text ls rs (λ q. after1 (go_on q branches)) h good (on_seen a after1 branches seen1) places)
     where
       turn : Action (Option End)
       turn = while_turn p call e st
@@ -377,7 +377,7 @@ module _ (p : Program) (call : Caller) (code : Code) (layout : Layout) (frames :
       seen1 : IsSeen a after1
       seen1 = on_seen a after (after_turn (loop (while_turn p call e st))) s
 
-      places : GoesTest p call code layout frames cf N M a (λ q. after1 (go_on q branches)) scope ls c.body_at c.out
+      places : GoesTest p call code layout frames cf are N M a (λ q. after1 (go_on q branches)) scope ls c.body_at c.out
       places v true sh1 text1 rs1 z h1 good1 =
           same (effect code) (λ n. after (Gives Next (state n ls (context_of a sh1) text1)))
           (λ n. ap (λ b. after1 ((if b then pure (Some Next) else (scoped (stmt p call st) >>= after_body (pure None))) (state n ls (context_of a sh1) text1))) z)
@@ -397,7 +397,7 @@ module _ (p : Program) (call : Caller) (code : Code) (layout : Layout) (frames :
       (body_ends x scope (do_turn p call st e) rest c.break_to c.continue_to c.test_at to c.last a after c.breaks c.continues c.goes_on
       (λ sh1 text1 ls1 rs1 good1 h1.
       fewer (effect code) (omega arith) enough
-      (test_follows p call code layout frames cf scope e c.test_at c.again_at c.out c.tests a sh1 text1 ls1 rs1 (λ q. after1 (go_on q ends)) h1 good1 (on_seen a after1 ends seen1) (places ls1)))
+      (test_follows p call code layout frames cf are scope e c.test_at c.again_at c.out c.tests a sh1 text1 ls1 rs1 (λ q. after1 (go_on q ends)) h1 good1 (on_seen a after1 ends seen1) (places ls1)))
       go)
     where
       ends : Value → Action (Option End)
@@ -412,7 +412,7 @@ module _ (p : Program) (call : Caller) (code : Code) (layout : Layout) (frames :
       seen1 : IsSeen a after1
       seen1 = on_seen a after (after_turn (loop (do_turn p call st e))) s
 
-      places : (ls : List Local) → GoesTest p call code layout frames cf N M a (λ q. after1 (go_on q ends)) scope ls c.again_at c.out
+      places : (ls : List Local) → GoesTest p call code layout frames cf are N M a (λ q. after1 (go_on q ends)) scope ls c.again_at c.out
       places ls v true sh1 text1 rs1 z h1 good1 =
           same (effect code) (λ n. after (Gives Next (state n ls (context_of a sh1) text1)))
           (λ n. ap (λ b. after1 (Gives (if b then Some Next else None) (state n ls (context_of a sh1) text1))) z)
@@ -423,24 +423,24 @@ module _ (p : Program) (call : Caller) (code : Code) (layout : Layout) (frames :
           (leads p call code layout frames a sh1 text1 c.again_at c.body_at rs1 c.again (again sh1 text1 ls rs1 good1 h1))
 
   -- `for`
-  stepped_follows : {N K : ℕ} (scope : LocalScope) (turn : Action (Option End)) (o : Option Simple) (from last head : ℕ) → SteppedCode code layout p scope o from last → LeadsTo code last head → (a : Around) (sh : Shared) (text : List ℕ) (ls : List Local) (rs : List ℕ) (after : Answer End → Outcome) → IsSeen a after → Again N K a after scope head turn → Here scope ls rs → IsGood a sh → Goes p call code layout frames cf N K a sh text ls from rs (λ s. after (go_on (stepped p call o s) (after_turn (loop turn))))
+  stepped_follows : {N K : ℕ} (scope : LocalScope) (turn : Action (Option End)) (o : Option Simple) (from last head : ℕ) → SteppedCode code layout p scope o from last → LeadsTo code last head → (a : Around) (sh : Shared) (text : List ℕ) (ls : List Local) (rs : List ℕ) (after : Answer End → Outcome) → IsSeen a after → Again N K a after scope head turn → Here scope ls rs → IsGood code a sh → Goes p call code layout frames cf are N K a sh text ls from rs (λ s. after (go_on (stepped p call o s) (after_turn (loop turn))))
   stepped_follows scope turn None from last head c i a sh text ls rs after s again h good = leads p call code layout frames a sh text from head rs (subst (λ y. LeadsTo code y head) c i) (again sh text ls rs good h)
   stepped_follows scope turn (Some st) from last head c i a sh text ls rs after s again h good =
       let after1 : Answer (Option End) → Outcome = λ q. after (go_on q (after_turn (loop turn))) in
-      simple_follows p call code layout frames cf scope st from last c a sh text ls rs (λ q. after1 (go_on q (λ e. pure None))) h good (on_seen a after1 (λ e. pure None) (on_seen a after (after_turn (loop turn)) s))
+      simple_follows p call code layout frames cf are scope st from last c a sh text ls rs (λ q. after1 (go_on q (λ e. pure None))) h good (on_seen a after1 (λ e. pure None) (on_seen a after (after_turn (loop turn)) s))
       (λ sh1 text1 ls1 rs1 good1 h1. leads p call code layout frames a sh1 text1 last head rs1 i (again sh1 text1 ls1 rs1 good1 h1))
 
   -- a condition that may be missing
-  holds_follows : {N K : ℕ} (scope : LocalScope) (o : Option Expr) (rest : Bool → Action (Option End)) (from met out : ℕ) → HoldsCode code layout p scope o from met out → (a : Around) (sh : Shared) (text : List ℕ) (ls : List Local) (rs : List ℕ) (after : Answer (Option End) → Outcome) → Here scope ls rs → IsGood a sh → IsSeen a after
-      → ((sh1 : Shared) (text1 : List ℕ) (rs1 : List ℕ) → IsGood a sh1 → Here scope ls rs1 → Goes p call code layout frames cf N K a sh1 text1 ls met rs1 (λ s. after (rest true s)))
-      → ((sh1 : Shared) (text1 : List ℕ) (rs1 : List ℕ) → IsGood a sh1 → Here scope ls rs1 → Goes p call code layout frames cf N K a sh1 text1 ls out rs1 (λ s. after (rest false s)))
-      → Goes p call code layout frames cf N (suc K) a sh text ls from rs (λ s. after ((holds p call o >>= rest) s))
+  holds_follows : {N K : ℕ} (scope : LocalScope) (o : Option Expr) (rest : Bool → Action (Option End)) (from met out : ℕ) → HoldsCode code layout p scope o from met out → (a : Around) (sh : Shared) (text : List ℕ) (ls : List Local) (rs : List ℕ) (after : Answer (Option End) → Outcome) → Here scope ls rs → IsGood code a sh → IsSeen a after
+      → ((sh1 : Shared) (text1 : List ℕ) (rs1 : List ℕ) → IsGood code a sh1 → Here scope ls rs1 → Goes p call code layout frames cf are N K a sh1 text1 ls met rs1 (λ s. after (rest true s)))
+      → ((sh1 : Shared) (text1 : List ℕ) (rs1 : List ℕ) → IsGood code a sh1 → Here scope ls rs1 → Goes p call code layout frames cf are N K a sh1 text1 ls out rs1 (λ s. after (rest false s)))
+      → Goes p call code layout frames cf are N (suc K) a sh text ls from rs (λ s. after ((holds p call o >>= rest) s))
   holds_follows {N = N} {K = K} scope None rest from met out c a sh text ls rs after h good s where_so where_not =
       goes code a sh text (configuration code from rs frames) (configuration code met rs frames) (effect_at code from (Instr.Jump met) rs frames c) (where_so sh text rs good h)
   holds_follows {N = N} {K = K} scope (Some e) rest from met out c a sh text ls rs after h good s where_so where_not =
-      test_follows p call code layout frames cf scope e from met out c a sh text ls rs (λ q. after (go_on (go_on q (λ v. pure (not (is_zero v)))) rest)) h good (on_seen a (λ q. after (go_on q rest)) (λ v. pure (not (is_zero v))) (on_seen a after rest s)) places
+      test_follows p call code layout frames cf are scope e from met out c a sh text ls rs (λ q. after (go_on (go_on q (λ v. pure (not (is_zero v)))) rest)) h good (on_seen a (λ q. after (go_on q rest)) (λ v. pure (not (is_zero v))) (on_seen a after rest s)) places
     where
-      places : GoesTest p call code layout frames cf N K a (λ q. after (go_on (go_on q (λ v. pure (not (is_zero v)))) rest)) scope ls met out
+      places : GoesTest p call code layout frames cf are N K a (λ q. after (go_on (go_on q (λ v. pure (not (is_zero v)))) rest)) scope ls met out
       places v true sh1 text1 rs1 z h1 good1 =
           same (effect code) (λ n. after (rest false (state n ls (context_of a sh1) text1))) (λ n. ap (λ b. after (rest (not b) (state n ls (context_of a sh1) text1))) z) (where_not sh1 text1 rs1 good1 h1)
       places v false sh1 text1 rs1 z h1 good1 =
@@ -462,11 +462,11 @@ module _ (p : Program) (call : Caller) (code : Code) (layout : Layout) (frames :
       (λ sh1 text1 rs1 good1 h1. leads p call code layout frames a sh1 text1 c.out to rs1 c.ends (fewer (effect code) (omega arith) less (go.ends Next sh1 text1 ls rs1 to good1 (refl, h1)))))
 
   -- the head of a `for`
-  start_follows : {N K : ℕ} (st : Start) (x : Exits) (scope : LocalScope) (from to : ℕ) → StartCode code layout p scope st from to → (a : Around) (sh : Shared) (text : List ℕ) (ls : List Local) (old : List ℕ) (after : Answer End → Outcome) → Here scope ls old → IsGood a sh → IsSeen a after → GoesNext p call code layout frames cf N K a after (locals_of_start st scope) to → Goes p call code layout frames cf N K a sh text ls from old (λ s. after (start_with p call st s))
+  start_follows : {N K : ℕ} (st : Start) (x : Exits) (scope : LocalScope) (from to : ℕ) → StartCode code layout p scope st from to → (a : Around) (sh : Shared) (text : List ℕ) (ls : List Local) (old : List ℕ) (after : Answer End → Outcome) → Here scope ls old → IsGood code a sh → IsSeen a after → GoesNext p call code layout frames cf are N K a after (locals_of_start st scope) to → Goes p call code layout frames cf are N K a sh text ls from old (λ s. after (start_with p call st s))
   start_follows {N = N} {K = K} Nothing x scope from to c a sh text ls old after h good s go =
-      subst (λ q. Goes p call code layout frames cf N K a sh text ls q old (λ s. after (Gives Next s))) c (go sh text ls old good h)
+      subst (λ q. Goes p call code layout frames cf are N K a sh text ls q old (λ s. after (Gives Next s))) c (go sh text ls old good h)
   start_follows (Declares d) x scope from to c a sh text ls old after h good s go = declare_follows d.of d.declarators x scope from to c a sh text ls old after h good s go
-  start_follows (Does st) x scope from to c a sh text ls old after h good s go = simple_follows p call code layout frames cf scope st from to c a sh text ls old after h good s go
+  start_follows (Does st) x scope from to c a sh text ls old after h good s go = simple_follows p call code layout frames cf are scope st from to c a sh text ls old after h good s go
 
   start_grows : (st : Start) (scope : LocalScope) → (more : LocalScope) × (locals_of_start st scope ≡ scope ++ more)
   start_grows Nothing scope = ([], sym (append-nil scope))
@@ -491,7 +491,7 @@ module _ (p : Program) (call : Caller) (code : Code) (layout : Layout) (frames :
     outer = outer_as code _ _ a after (λ q. after (go_on q (closing ls))) (take (length ls)) (λ k ms m mode text. refl) x.in_outer go.outer;
   }
 
-  whole_for : (x : Exits) (scope : LocalScope) (start : Start) (o : Option Expr) (step : Option Simple) (st : Stmt) → StmtFollows st → Falls (for_turn p call o step st) → (N K from to : ℕ) (c : ForCode code layout p x (locals_of_start start scope) (StartCode code layout p scope start) o step (λ y. StmtCode code layout p y (locals_of_start start scope) st) from to) (a : Around) (sh : Shared) (text : List ℕ) (ls : List Local) (old : List ℕ) (after : Answer End → Outcome) → Here scope ls old → IsGood a sh → IsSeen a after → GoesEnd N K a after x (Here scope) (Here scope) to → Goes p call code layout frames cf N K a sh text ls from old (λ s. after (scoped (start_with p call start >> loop (for_turn p call o step st)) s))
+  whole_for : (x : Exits) (scope : LocalScope) (start : Start) (o : Option Expr) (step : Option Simple) (st : Stmt) → StmtFollows st → Falls (for_turn p call o step st) → (N K from to : ℕ) (c : ForCode code layout p x (locals_of_start start scope) (StartCode code layout p scope start) o step (λ y. StmtCode code layout p y (locals_of_start start scope) st) from to) (a : Around) (sh : Shared) (text : List ℕ) (ls : List Local) (old : List ℕ) (after : Answer End → Outcome) → Here scope ls old → IsGood code a sh → IsSeen a after → GoesEnd N K a after x (Here scope) (Here scope) to → Goes p call code layout frames cf are N K a sh text ls from old (λ s. after (scoped (start_with p call start >> loop (for_turn p call o step st)) s))
   unfolding closing
   whole_for x scope start o step st ih f N K from to c a sh text ls old after h good s go =
       let inner : LocalScope = locals_of_start start scope in
@@ -517,12 +517,12 @@ module _ (p : Program) (call : Caller) (code : Code) (layout : Layout) (frames :
   atomic_of mode e = ap some_mode e
 
   -- an outermost transaction is left by a commit
-  bare_commits : {N K : ℕ} (end : End) (kind : Kind) (found : Memory) (founds lefts : List Memory) (to : ℕ) (sh : Shared) (text : List ℕ) (ls : List Local) (old rs : List ℕ) (q : ℕ) (after : Answer End → Outcome) → At code q Instr.Commit → IsSeen Bare after → AllByRecursion AreWords founds → Goes p call code layout frames cf N K Bare (record { founds = founds; lefts = lefts ++ sh.memory ∷ []; memory = sh.memory; kept = sh.kept }) text ls (suc q) rs (λ s. after (Gives end s)) → Agrees (effect code) N K (holding (Within (outermost_held code (mode_of kind) (configuration code to old frames) found founds lefts)) sh text (configuration code q rs frames)) (λ n. after (leave founds lefts (record { end = end; locals = ls; memory = sh.memory }) (state n ls (Inside (mode_of kind) sh.memory) text)))
+  bare_commits : {N K : ℕ} (end : End) (kind : Kind) (found : Memory) (founds lefts : List Memory) (to : ℕ) (sh : Shared) (text : List ℕ) (ls : List Local) (old rs : List ℕ) (q : ℕ) (after : Answer End → Outcome) → At code q Instr.Commit → IsSeen Bare after → AreMemories code founds → Goes p call code layout frames cf are N K Bare (record { founds = founds; lefts = lefts ++ sh.memory ∷ []; memory = sh.memory; kept = sh.kept }) text ls (suc q) rs (λ s. after (Gives end s)) → Agrees (effect code) N K (holding (Within (outermost_held code (mode_of kind) (configuration code to old frames) found founds lefts)) sh text (configuration code q rs frames)) (λ n. after (leave founds lefts (record { end = end; locals = ls; memory = sh.memory }) (state n ls (Inside (mode_of kind) sh.memory) text)))
   bare_commits end kind found founds lefts to sh text ls old rs q after i s g go =
       leaves_outermost code after (Gives end) (mode_of kind) found sh.memory founds lefts sh text ls ls (configuration code q rs frames) (configuration code (suc q) rs frames) (configuration code to old frames)
       (next_commit code (mode_of kind) found founds lefts sh text (configuration code q rs frames) (configuration code (suc q) rs frames) (configuration code to old frames) (effect_at code q Instr.Commit rs frames i)) s go
 
-  bare_each : {N K : ℕ} (kind : Kind) (x : Exits) (scope : LocalScope) (ss : Stmts) (from to : ℕ) (c : TransactionCode code layout p kind x (BodyCode scope ss) from to) (found : Memory) (founds lefts : List Memory) (ls : List Local) (old : List ℕ) (after : Answer End → Outcome) → Here scope ls old → IsSeen Bare after → AllByRecursion AreWords founds → GoesEnd N K Bare after x (Here scope) (Here scope) to → EndsGo N K (Within (outermost_held code (mode_of kind) (configuration code to old frames) found founds lefts)) (λ q. after (close kind founds lefts ls found q)) (in_transaction kind x) (Here scope) (Here scope) c.last
+  bare_each : {N K : ℕ} (kind : Kind) (x : Exits) (scope : LocalScope) (ss : Stmts) (from to : ℕ) (c : TransactionCode code layout p kind x (BodyCode scope ss) from to) (found : Memory) (founds lefts : List Memory) (ls : List Local) (old : List ℕ) (after : Answer End → Outcome) → Here scope ls old → IsSeen Bare after → AreMemories code founds → GoesEnd N K Bare after x (Here scope) (Here scope) to → EndsGo N K (Within (outermost_held code (mode_of kind) (configuration code to old frames) found founds lefts)) (λ q. after (close kind founds lefts ls found q)) (in_transaction kind x) (Here scope) (Here scope) c.last
   bare_each kind x scope ss from to c found founds lefts ls old after h s g go Next sh text ls1 rs q good arrived =
       bare_commits Next kind found founds lefts to sh text ls1 old rs q after (subst (λ y. At code y Instr.Commit) (sym arrived.0) c.commits) s g
       (go.ends Next (record { founds = founds; lefts = lefts ++ sh.memory ∷ []; memory = sh.memory; kept = sh.kept }) text ls1 rs (suc q) g (ap suc arrived.0 ∙ sym c.to_is, arrived.1))
@@ -538,7 +538,7 @@ module _ (p : Program) (call : Caller) (code : Code) (layout : Layout) (frames :
       (go.ends Next (record { founds = founds; lefts = lefts ++ found ∷ []; memory = sh.memory; kept = sh.kept }) text ls old to g (refl, h))
   bare_each kind x scope ss from to c found founds lefts ls old after h s g go CancelsOuter sh text ls1 rs q good arrived = absurd arrived
 
-  bare_outer : {N K : ℕ} (kind : Kind) (x : Exits) (scope : LocalScope) (ss : Stmts) (from to : ℕ) (c : TransactionCode code layout p kind x (BodyCode scope ss) from to) (found : Memory) (founds lefts : List Memory) (ls : List Local) (old : List ℕ) (after : Answer End → Outcome) → Here scope ls old → IsSeen Bare after → AllByRecursion AreWords founds → GoesEnd N K Bare after x (Here scope) (Here scope) to → OuterGoes code N K (Within (outermost_held code (mode_of kind) (configuration code to old frames) found founds lefts)) (λ q. after (close kind founds lefts ls found q)) (with_level kind x.in_outer)
+  bare_outer : {N K : ℕ} (kind : Kind) (x : Exits) (scope : LocalScope) (ss : Stmts) (from to : ℕ) (c : TransactionCode code layout p kind x (BodyCode scope ss) from to) (found : Memory) (founds lefts : List Memory) (ls : List Local) (old : List ℕ) (after : Answer End → Outcome) → Here scope ls old → IsSeen Bare after → AreMemories code founds → GoesEnd N K Bare after x (Here scope) (Here scope) to → OuterGoes code N K (Within (outermost_held code (mode_of kind) (configuration code to old frames) found founds lefts)) (λ q. after (close kind founds lefts ls found q)) (with_level kind x.in_outer)
   bare_outer Outer x scope ss from to c found founds lefts ls old after h s g go = (
     (λ e. refl),
     λ sh text ls1 s0 good cancels.
@@ -550,13 +550,13 @@ module _ (p : Program) (call : Caller) (code : Code) (layout : Layout) (frames :
   bare_outer (Plain mode) x scope ss from to c found founds lefts ls old after h s g go =
       through_bare code _ _ (outermost_held code mode (configuration code to old frames) found founds lefts) after (λ q. after (close (Plain mode) founds lefts ls found q)) x.in_outer go.outer
 
-  bare_ends : {N K : ℕ} (kind : Kind) (x : Exits) (scope : LocalScope) (ss : Stmts) (from to : ℕ) (c : TransactionCode code layout p kind x (BodyCode scope ss) from to) (found : Memory) (founds lefts : List Memory) (ls : List Local) (old : List ℕ) (after : Answer End → Outcome) → Here scope ls old → IsSeen Bare after → AllByRecursion AreWords founds → GoesEnd N K Bare after x (Here scope) (Here scope) to → GoesEnd N K (Within (outermost_held code (mode_of kind) (configuration code to old frames) found founds lefts)) (λ q. after (close kind founds lefts ls found q)) (in_transaction kind x) (Here scope) (Here scope) c.last
+  bare_ends : {N K : ℕ} (kind : Kind) (x : Exits) (scope : LocalScope) (ss : Stmts) (from to : ℕ) (c : TransactionCode code layout p kind x (BodyCode scope ss) from to) (found : Memory) (founds lefts : List Memory) (ls : List Local) (old : List ℕ) (after : Answer End → Outcome) → Here scope ls old → IsSeen Bare after → AreMemories code founds → GoesEnd N K Bare after x (Here scope) (Here scope) to → GoesEnd N K (Within (outermost_held code (mode_of kind) (configuration code to old frames) found founds lefts)) (λ q. after (close kind founds lefts ls found q)) (in_transaction kind x) (Here scope) (Here scope) c.last
   bare_ends kind x scope ss from to c found founds lefts ls old after h s g go = record {
     ends = bare_each kind x scope ss from to c found founds lefts ls old after h s g go;
     outer = bare_outer kind x scope ss from to c found founds lefts ls old after h s g go;
   }
 
-  bare_transaction : (kind : Kind) (ss : Stmts) → StmtsFollow ss → (N K : ℕ) (x : Exits) (scope : LocalScope) (from to : ℕ) (founds lefts : List Memory) (memory : Memory) (kept : Bool) (text : List ℕ) (ls : List Local) (old : List ℕ) (after : Answer End → Outcome) → TransactionCode code layout p kind x (BodyCode scope ss) from to → Here scope ls old → AllByRecursion AreWords founds → IsSeen Bare after → GoesEnd N K Bare after x (Here scope) (Here scope) to → Goes p call code layout frames cf N K Bare (record { founds = founds; lefts = lefts; memory = memory; kept = kept }) text ls from old (λ s. after (go_on (tick s) (λ u. transaction kind (scoped (stmts p call ss)))))
+  bare_transaction : (kind : Kind) (ss : Stmts) → StmtsFollow ss → (N K : ℕ) (x : Exits) (scope : LocalScope) (from to : ℕ) (founds lefts : List Memory) (memory : Memory) (kept : Bool) (text : List ℕ) (ls : List Local) (old : List ℕ) (after : Answer End → Outcome) → TransactionCode code layout p kind x (BodyCode scope ss) from to → Here scope ls old → AreMemories code founds → IsSeen Bare after → GoesEnd N K Bare after x (Here scope) (Here scope) to → Goes p call code layout frames cf are N K Bare (record { founds = founds; lefts = lefts; memory = memory; kept = kept }) text ls from old (λ s. after (go_on (tick s) (λ u. transaction kind (scoped (stmts p call ss)))))
   bare_transaction kind ss ih N K x scope from to [] lefts memory kept text ls old after c h g s go =
       same (effect code) (λ n. after (go_on (tick (state n ls (Outside [] lefts) text)) (λ u. stop Wants))) (wanted kind (scoped (stmts p call ss)) lefts text ls after)
       (wants_one code after lefts memory kept text ls (configuration code from old frames) (configuration code (suc from) old frames) (configuration code to old frames) s (effect_at code from (Instr.Begin to) old frames c.begins))
@@ -574,10 +574,10 @@ module _ (p : Program) (call : Caller) (code : Code) (layout : Layout) (frames :
       (bare_ends kind x scope ss from to c found founds lefts ls old after h s g.1 go)))
 
   -- what is good in an inner transaction is good outside it
-  good_out : (h : Held) (kind : Kind) (sh sh1 : Shared) (m : Memory) (d : Configuration) → IsGood (Within h) sh → IsGood (Within (inner_held code h (mode_of kind) m d)) sh1 → IsGood (Within h) sh1
+  good_out : (h : Held) (kind : Kind) (sh sh1 : Shared) (m : Memory) (d : Configuration) → IsGood code (Within h) sh → IsGood code (Within (inner_held code h (mode_of kind) m d)) sh1 → IsGood code (Within h) sh1
   good_out h kind sh sh1 m d g g1 = (g1.0, (λ e. ((g1.1 e).0, (g.1 e).1)), g1.2)
 
-  inner_each : {N K : ℕ} (k : Held) (kind : Kind) (x : Exits) (scope : LocalScope) (ss : Stmts) (from to : ℕ) (c : TransactionCode code layout p kind x (BodyCode scope ss) from to) (sh : Shared) (ls : List Local) (old : List ℕ) (after : Answer End → Outcome) → Here scope ls old → IsGood (Within k) sh → GoesEnd N K (Within k) after x (Here scope) (Here scope) to → EndsGo N K (Within (inner_held code k (mode_of kind) sh.memory (configuration code to old frames))) (λ q. after (close_inner k.mode kind ls sh.memory q)) (in_transaction kind x) (Here scope) (Here scope) c.last
+  inner_each : {N K : ℕ} (k : Held) (kind : Kind) (x : Exits) (scope : LocalScope) (ss : Stmts) (from to : ℕ) (c : TransactionCode code layout p kind x (BodyCode scope ss) from to) (sh : Shared) (ls : List Local) (old : List ℕ) (after : Answer End → Outcome) → Here scope ls old → IsGood code (Within k) sh → GoesEnd N K (Within k) after x (Here scope) (Here scope) to → EndsGo N K (Within (inner_held code k (mode_of kind) sh.memory (configuration code to old frames))) (λ q. after (close_inner k.mode kind ls sh.memory q)) (in_transaction kind x) (Here scope) (Here scope) c.last
   inner_each k kind x scope ss from to c sh ls old after h g go Next sh1 text ls1 rs q good arrived =
       commits_inner code k sh1 text (mode_of kind) sh.memory (configuration code q rs frames) (configuration code (suc q) rs frames) (configuration code to old frames) (effect_at code q Instr.Commit rs frames (subst (λ y. At code y Instr.Commit) (sym arrived.0) c.commits))
       (go.ends Next sh1 text ls1 rs (suc q) (good_out k kind sh sh1 sh.memory (configuration code to old frames) g good) (ap suc arrived.0 ∙ sym c.to_is, arrived.1))
@@ -595,7 +595,7 @@ module _ (p : Program) (call : Caller) (code : Code) (layout : Layout) (frames :
       (go.ends Next (record sh1 { memory = sh.memory }) text ls old to (g.0, (λ e. ((good.1 e).0, (g.1 e).1)), good.2) (refl, h))
   inner_each k kind x scope ss from to c sh ls old after h g go CancelsOuter sh1 text ls1 rs q good arrived = absurd arrived
 
-  inner_outer : {N K : ℕ} (k : Held) (kind : Kind) (x : Exits) (scope : LocalScope) (ss : Stmts) (from to : ℕ) (c : TransactionCode code layout p kind x (BodyCode scope ss) from to) (sh : Shared) (ls : List Local) (old : List ℕ) (after : Answer End → Outcome) → Here scope ls old → IsGood (Within k) sh → GoesEnd N K (Within k) after x (Here scope) (Here scope) to → OuterGoes code N K (Within (inner_held code k (mode_of kind) sh.memory (configuration code to old frames))) (λ q. after (close_inner k.mode kind ls sh.memory q)) (with_level kind x.in_outer)
+  inner_outer : {N K : ℕ} (k : Held) (kind : Kind) (x : Exits) (scope : LocalScope) (ss : Stmts) (from to : ℕ) (c : TransactionCode code layout p kind x (BodyCode scope ss) from to) (sh : Shared) (ls : List Local) (old : List ℕ) (after : Answer End → Outcome) → Here scope ls old → IsGood code (Within k) sh → GoesEnd N K (Within k) after x (Here scope) (Here scope) to → OuterGoes code N K (Within (inner_held code k (mode_of kind) sh.memory (configuration code to old frames))) (λ q. after (close_inner k.mode kind ls sh.memory q)) (with_level kind x.in_outer)
   inner_outer k Outer x scope ss from to c sh ls old after h g go = (
     (λ e. absurd (cc e)),
     λ sh1 text ls1 s0 good cancels.
@@ -606,11 +606,11 @@ module _ (p : Program) (call : Caller) (code : Code) (layout : Layout) (frames :
   inner_outer k (Plain mode) x scope ss from to c sh ls old after h g go =
       through_plain code _ _ k mode sh.memory (configuration code to old frames) sh ls after g x.in_outer go.outer
 
-  inner_ends : {N K : ℕ} (k : Held) (kind : Kind) (x : Exits) (scope : LocalScope) (ss : Stmts) (from to : ℕ) (c : TransactionCode code layout p kind x (BodyCode scope ss) from to) (sh : Shared) (ls : List Local) (old : List ℕ) (after : Answer End → Outcome) → Here scope ls old → IsGood (Within k) sh → GoesEnd N K (Within k) after x (Here scope) (Here scope) to → GoesEnd N K (Within (inner_held code k (mode_of kind) sh.memory (configuration code to old frames))) (λ q. after (close_inner k.mode kind ls sh.memory q)) (in_transaction kind x) (Here scope) (Here scope) c.last
+  inner_ends : {N K : ℕ} (k : Held) (kind : Kind) (x : Exits) (scope : LocalScope) (ss : Stmts) (from to : ℕ) (c : TransactionCode code layout p kind x (BodyCode scope ss) from to) (sh : Shared) (ls : List Local) (old : List ℕ) (after : Answer End → Outcome) → Here scope ls old → IsGood code (Within k) sh → GoesEnd N K (Within k) after x (Here scope) (Here scope) to → GoesEnd N K (Within (inner_held code k (mode_of kind) sh.memory (configuration code to old frames))) (λ q. after (close_inner k.mode kind ls sh.memory q)) (in_transaction kind x) (Here scope) (Here scope) c.last
   inner_ends k kind x scope ss from to c sh ls old after h g go =
       record { ends = inner_each k kind x scope ss from to c sh ls old after h g go; outer = inner_outer k kind x scope ss from to c sh ls old after h g go }
 
-  inner_transaction : (kind : Kind) (ss : Stmts) → StmtsFollow ss → (N K : ℕ) (x : Exits) (scope : LocalScope) (from to : ℕ) (k : Held) (sh : Shared) (text : List ℕ) (ls : List Local) (old : List ℕ) (after : Answer End → Outcome) → Enters k.mode kind → TransactionCode code layout p kind x (BodyCode scope ss) from to → Here scope ls old → IsGood (Within k) sh → IsSeen (Within k) after → GoesEnd N K (Within k) after x (Here scope) (Here scope) to → Goes p call code layout frames cf N K (Within k) sh text ls from old (λ s. after (transaction kind (scoped (stmts p call ss)) s))
+  inner_transaction : (kind : Kind) (ss : Stmts) → StmtsFollow ss → (N K : ℕ) (x : Exits) (scope : LocalScope) (from to : ℕ) (k : Held) (sh : Shared) (text : List ℕ) (ls : List Local) (old : List ℕ) (after : Answer End → Outcome) → Enters k.mode kind → TransactionCode code layout p kind x (BodyCode scope ss) from to → Here scope ls old → IsGood code (Within k) sh → IsSeen (Within k) after → GoesEnd N K (Within k) after x (Here scope) (Here scope) to → Goes p call code layout frames cf are N K (Within k) sh text ls from old (λ s. after (transaction kind (scoped (stmts p call ss)) s))
   inner_transaction kind ss ih N K x scope from to k sh text ls old after (inl e) c h g s go =
       let run : Action End = scoped (stmts p call ss) in
       let held : Held = inner_held code k (mode_of kind) sh.memory (configuration code to old frames) in
@@ -625,7 +625,7 @@ module _ (p : Program) (call : Caller) (code : Code) (layout : Layout) (frames :
       same (effect code) (λ n. after (Stops Astray (state n ls (Inside k.mode sh.memory) text))) (λ n. ap after (e sh.memory run (state n ls (Inside k.mode sh.memory) text)))
       (astray (effect code) 0 (s.astray _))
 
-  transaction_follows : (kind : Kind) (ss : Stmts) → StmtsFollow ss → (N K : ℕ) (x : Exits) (scope : LocalScope) (from to : ℕ) (a : Around) (sh : Shared) (text : List ℕ) (ls : List Local) (old : List ℕ) (after : Answer End → Outcome) → TransactionCode code layout p kind x (BodyCode scope ss) from to → Here scope ls old → IsGood a sh → IsSeen a after → GoesEnd N K a after x (Here scope) (Here scope) to → Goes p call code layout frames cf N K a sh text ls from old (λ s. after (go_on (tick s) (λ u. transaction kind (scoped (stmts p call ss)))))
+  transaction_follows : (kind : Kind) (ss : Stmts) → StmtsFollow ss → (N K : ℕ) (x : Exits) (scope : LocalScope) (from to : ℕ) (a : Around) (sh : Shared) (text : List ℕ) (ls : List Local) (old : List ℕ) (after : Answer End → Outcome) → TransactionCode code layout p kind x (BodyCode scope ss) from to → Here scope ls old → IsGood code a sh → IsSeen a after → GoesEnd N K a after x (Here scope) (Here scope) to → Goes p call code layout frames cf are N K a sh text ls from old (λ s. after (go_on (tick s) (λ u. transaction kind (scoped (stmts p call ss)))))
   transaction_follows kind ss ih N K x scope from to Bare sh text ls old after c h g s go =
       bare_transaction kind ss ih N K x scope from to sh.founds sh.lefts sh.memory sh.kept text ls old after c h g s go
   transaction_follows kind ss ih N K x scope from to (Within k) sh text ls old after c h g s go =
@@ -633,15 +633,15 @@ module _ (p : Program) (call : Caller) (code : Code) (layout : Layout) (frames :
       (inner_transaction kind ss ih N K x scope from to k sh text ls old after (enters k.mode kind) c h g s go)
 
   -- `if` and `else`
-  if_follows : {N K : ℕ} (x : Exits) (scope : LocalScope) (e : Expr) (st : Stmt) → StmtFollows st → (from to : ℕ) (c : IfCode code layout p scope (Testing code layout p scope e) (StmtCode code layout p x scope st) from to) (a : Around) (sh : Shared) (text : List ℕ) (ls : List Local) (old : List ℕ) (after : Answer End → Outcome) → Here scope ls old → IsGood a sh → IsSeen a after → GoesEnd N K a after x (Here scope) (Here scope) to → Goes p call code layout frames cf N K a sh text ls from old (λ s. after ((expr p call e >>= λ v. if is_zero v then pure Next else scoped (stmt p call st)) s))
+  if_follows : {N K : ℕ} (x : Exits) (scope : LocalScope) (e : Expr) (st : Stmt) → StmtFollows st → (from to : ℕ) (c : IfCode code layout p scope (Testing code layout p scope e) (StmtCode code layout p x scope st) from to) (a : Around) (sh : Shared) (text : List ℕ) (ls : List Local) (old : List ℕ) (after : Answer End → Outcome) → Here scope ls old → IsGood code a sh → IsSeen a after → GoesEnd N K a after x (Here scope) (Here scope) to → Goes p call code layout frames cf are N K a sh text ls from old (λ s. after ((expr p call e >>= λ v. if is_zero v then pure Next else scoped (stmt p call st)) s))
   if_follows {N = N} {K = K} x scope e st ih from to c a sh text ls old after h good s go =
       fewer (effect code) (omega arith) (omega arith)
-      (test_follows p call code layout frames cf scope e from c.met c.unmet c.tests a sh text ls old (λ q. after (go_on q rest)) h good (on_seen a after rest s) places)
+      (test_follows p call code layout frames cf are scope e from c.met c.unmet c.tests a sh text ls old (λ q. after (go_on q rest)) h good (on_seen a after rest s) places)
     where
       rest : Value → Action End
       rest v = if is_zero v then pure Next else scoped (stmt p call st)
 
-      places : GoesTest p call code layout frames cf N K a (λ q. after (go_on q rest)) scope ls c.met c.unmet
+      places : GoesTest p call code layout frames cf are N K a (λ q. after (go_on q rest)) scope ls c.met c.unmet
       places v true sh1 text1 rs1 z h1 good1 =
           same (effect code) (λ n. after (Gives Next (state n ls (context_of a sh1) text1)))
           (λ n. ap (λ b. after ((if b then pure Next else scoped (stmt p call st)) (state n ls (context_of a sh1) text1))) z)
@@ -651,15 +651,15 @@ module _ (p : Program) (call : Caller) (code : Code) (layout : Layout) (frames :
           (λ n. ap (λ b. after ((if b then pure Next else scoped (stmt p call st)) (state n ls (context_of a sh1) text1))) z)
           (part_follows st ih N K x scope c.met c.last a sh1 text1 ls rs1 after c.then_code h1 good1 s (leads_end a after x scope c.last to c.then_leads go))
 
-  else_follows : {N K : ℕ} (x : Exits) (scope : LocalScope) (e : Expr) (st su : Stmt) → StmtFollows st → StmtFollows su → (from to : ℕ) (c : IfElseCode code layout p scope (Testing code layout p scope e) (StmtCode code layout p x scope st) (StmtCode code layout p x scope su) from to) (a : Around) (sh : Shared) (text : List ℕ) (ls : List Local) (old : List ℕ) (after : Answer End → Outcome) → Here scope ls old → IsGood a sh → IsSeen a after → GoesEnd N K a after x (Here scope) (Here scope) to → Goes p call code layout frames cf N K a sh text ls from old (λ s. after ((expr p call e >>= λ v. if is_zero v then scoped (stmt p call su) else scoped (stmt p call st)) s))
+  else_follows : {N K : ℕ} (x : Exits) (scope : LocalScope) (e : Expr) (st su : Stmt) → StmtFollows st → StmtFollows su → (from to : ℕ) (c : IfElseCode code layout p scope (Testing code layout p scope e) (StmtCode code layout p x scope st) (StmtCode code layout p x scope su) from to) (a : Around) (sh : Shared) (text : List ℕ) (ls : List Local) (old : List ℕ) (after : Answer End → Outcome) → Here scope ls old → IsGood code a sh → IsSeen a after → GoesEnd N K a after x (Here scope) (Here scope) to → Goes p call code layout frames cf are N K a sh text ls from old (λ s. after ((expr p call e >>= λ v. if is_zero v then scoped (stmt p call su) else scoped (stmt p call st)) s))
   else_follows {N = N} {K = K} x scope e st su iht ihu from to c a sh text ls old after h good s go =
       fewer (effect code) (omega arith) (omega arith)
-      (test_follows p call code layout frames cf scope e from c.met c.unmet c.tests a sh text ls old (λ q. after (go_on q rest)) h good (on_seen a after rest s) places)
+      (test_follows p call code layout frames cf are scope e from c.met c.unmet c.tests a sh text ls old (λ q. after (go_on q rest)) h good (on_seen a after rest s) places)
     where
       rest : Value → Action End
       rest v = if is_zero v then scoped (stmt p call su) else scoped (stmt p call st)
 
-      places : GoesTest p call code layout frames cf N K a (λ q. after (go_on q rest)) scope ls c.met c.unmet
+      places : GoesTest p call code layout frames cf are N K a (λ q. after (go_on q rest)) scope ls c.met c.unmet
       places v true sh1 text1 rs1 z h1 good1 =
           same (effect code) (λ n. after (scoped (stmt p call su) (state n ls (context_of a sh1) text1)))
           (λ n. ap (λ b. after ((if b then scoped (stmt p call su) else scoped (stmt p call st)) (state n ls (context_of a sh1) text1))) z)
@@ -676,7 +676,7 @@ module _ (p : Program) (call : Caller) (code : Code) (layout : Layout) (frames :
     pub for_falls : (c : Option Expr) (step : Option Simple) (st : Stmt) → Falls (for_turn p call c step st)
 
   module _ (fall : TurnsFall) where
-    timed : (run : Action End) (N K from : ℕ) (a : Around) (sh : Shared) (text : List ℕ) (ls : List Local) (old : List ℕ) (after : Answer End → Outcome) → IsSeen a after → Goes p call code layout frames cf N K a sh text ls from old (λ s. after (run s)) → Goes p call code layout frames cf N K a sh text ls from old (λ s. after (go_on (tick s) (λ u. run)))
+    timed : (run : Action End) (N K from : ℕ) (a : Around) (sh : Shared) (text : List ℕ) (ls : List Local) (old : List ℕ) (after : Answer End → Outcome) → IsSeen a after → Goes p call code layout frames cf are N K a sh text ls from old (λ s. after (run s)) → Goes p call code layout frames cf are N K a sh text ls from old (λ s. after (go_on (tick s) (λ u. run)))
     timed run N K from a sh text ls old after s go = tick_goes code a after run sh ls text (configuration code from old frames) s go
 
     mutual
@@ -688,13 +688,13 @@ module _ (p : Program) (call : Caller) (code : Code) (layout : Layout) (frames :
           (declare_follows d.of d.declarators x scope from to c a sh text ls old after h good s (λ sh1 text1 ls1 rs1 good1 h1. go.ends Next sh1 text1 ls1 rs1 to good1 (refl, h1)))
       stmt_follows (Do st) N K x scope from to a sh text ls old after c h good s go =
           timed (simple p call st) N K from a sh text ls old after s
-          (simple_follows p call code layout frames cf scope st from to c a sh text ls old after h good s (λ sh1 text1 ls1 rs1 good1 h1. go.ends Next sh1 text1 ls1 rs1 to good1 (refl, h1)))
+          (simple_follows p call code layout frames cf are scope st from to c a sh text ls old after h good s (λ sh1 text1 ls1 rs1 good1 h1. go.ends Next sh1 text1 ls1 rs1 to good1 (refl, h1)))
       stmt_follows (Block ss) N K x scope from to a sh text ls old after c h good s go =
           timed (scoped (stmts p call ss)) N K from a sh text ls old after s
           (scoped_follows ss (stmts_follow ss) N K x scope from to a sh text ls old after c h good s go)
       stmt_follows (Print at f g es) N K x scope from to a sh text ls old after c h good s go =
-          timed (may_print >> print_rest p call code layout frames cf f es) N K from a sh text ls old after s
-          (print_follows p call code layout frames cf scope f es from to c a sh text ls old after h good s (λ sh1 text1 ls1 rs1 good1 h1. go.ends Next sh1 text1 ls1 rs1 to good1 (refl, h1)))
+          timed (may_print >> print_rest p call code layout frames cf are f es) N K from a sh text ls old after s
+          (print_follows p call code layout frames cf are scope f es from to c a sh text ls old after h good s (λ sh1 text1 ls1 rs1 good1 h1. go.ends Next sh1 text1 ls1 rs1 to good1 (refl, h1)))
       stmt_follows (If e st) N K x scope from to a sh text ls old after c h good s go =
           timed (expr p call e >>= λ v. if is_zero v then pure Next else scoped (stmt p call st)) N K from a sh text ls old after s
           (if_follows x scope e st (stmt_follows st) from to c a sh text ls old after h good s go)
@@ -717,11 +717,11 @@ module _ (p : Program) (call : Caller) (code : Code) (layout : Layout) (frames :
       stmt_follows (Continue at) N K x scope from to a sh text ls old after c h good s go =
           timed (pure Continues) N K from a sh text ls old after s (go.ends Continues sh text ls old from good (c, h))
       stmt_follows (Return None at) N K x scope from to a sh text ls old after c h good s go =
-          timed (pure (Returns (flag false))) N K from a sh text ls old after s (go.ends (Returns (flag false)) sh text ls old from good (None, c, refl, omega arith))
+          timed (pure (Returns (flag false))) N K from a sh text ls old after s (go.ends (Returns (flag false)) sh text ls old from good (None, c, refl, truth_below false))
       stmt_follows (Return (Some e) at) N K x scope from to a sh text ls old after c h good s go =
           let rest : Value → Action End = λ v. pure (Returns v) in
           timed (expr p call e >>= rest) N K from a sh text ls old after s
-          (value_follows p call code layout frames cf scope e from c.0 c.1 c.2 a sh text ls old (λ q. after (go_on q rest)) h good (on_seen a after rest s)
+          (value_follows p call code layout frames cf are scope e from c.0 c.1 c.2 a sh text ls old (λ q. after (go_on q rest)) h good (on_seen a after rest s)
           (λ v sh1 text1 rs1 b here h1 good1. go.ends (Returns v) sh1 text1 ls rs1 c.0 good1 (Some c.1, c.3, here, b)))
       stmt_follows (Transaction kind ss at) N K x scope from to a sh text ls old after c h good s go =
           transaction_follows kind ss (stmts_follow ss) N K x scope from to a sh text ls old after c h good s go

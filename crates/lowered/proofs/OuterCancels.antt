@@ -35,7 +35,7 @@ module _ (code : Code) where
   OuterGoes N K Bare after (Some n) = ⊥
   OuterGoes N K (Within h) after (Some n) =
       (drop n h.inner ≡ [] → h.outer ≡ Atomic)
-      × ((sh : Shared) (text : List ℕ) (ls : List Local) (s : Sequential Configuration) → IsGood (Within h) sh → IsCancelling n h sh text s → Agrees (effect code) N K s (λ k. after (Gives CancelsOuter (state k ls (Inside h.mode sh.memory) text))))
+      × ((sh : Shared) (text : List ℕ) (ls : List Local) (s : Sequential Configuration) → IsGood code (Within h) sh → IsCancelling n h sh text s → Agrees (effect code) N K s (λ k. after (Gives CancelsOuter (state k ls (Inside h.mode sh.memory) text))))
 
   -- the same where what follows leaves an outer cancel as it is, but for the locals
   pub outer_as : (N K : ℕ) (a : Around) (after after' : Answer End → Outcome) (change : List Local → List Local) → ((k : ℕ) (ls : List Local) (m : Memory) (mode : Mode) (text : List ℕ) → after' (Gives CancelsOuter (state k ls (Inside mode m) text)) ≡ after (Gives CancelsOuter (state k (change ls) (Inside mode m) text))) → (o : Option ℕ) → OuterGoes N K a after o → OuterGoes N K a after' o
@@ -54,7 +54,7 @@ module _ (code : Code) where
   through_step k mode m d c sh text [] true f = absurd (cc (f refl))
   through_step k mode m d c sh text (l ∷ ls) kept f = refl
 
-  pub through_plain : (N K : ℕ) (k : Held) (mode : Mode) (m : Memory) (d : Configuration) (sh0 : Shared) (mine : List Local) (after : Answer End → Outcome) → IsGood (Within k) sh0 → (o : Option ℕ) → OuterGoes N K (Within k) after o → OuterGoes N K (Within (inner_held code k mode m d)) (λ q. after (close_inner k.mode (Plain mode) mine m q)) (option_map suc o)
+  pub through_plain : (N K : ℕ) (k : Held) (mode : Mode) (m : Memory) (d : Configuration) (sh0 : Shared) (mine : List Local) (after : Answer End → Outcome) → IsGood code (Within k) sh0 → (o : Option ℕ) → OuterGoes N K (Within k) after o → OuterGoes N K (Within (inner_held code k mode m d)) (λ q. after (close_inner k.mode (Plain mode) mine m q)) (option_map suc o)
   through_plain N K k mode m d sh0 mine after g0 None g = tt
   through_plain N K k mode m d sh0 mine after g0 (Some n) g = (
     g.0,
@@ -78,7 +78,7 @@ module _ (code : Code) where
       ap (λ x. sequential_step (holding (Within h) sh text (configuration code q rs frames)) false Running (holding (Within h) sh text (configuration code q rs frames)).inside x) (effect_at code q (Instr.CancelOuter (suc (suc n))) rs frames i)
       ∙ ap (λ k. cancel_step (holding (Within h) sh text (configuration code q rs frames)) (opened h sh) (drop k h.inner) sh.kept) one_less
 
-  pub outer_follows : {N K : ℕ} (p : Program) (layout : Layout) (frames : List Frame) (o : Option ℕ) (q : ℕ) → OuterCancelCode code layout p o q → (a : Around) (sh : Shared) (text : List ℕ) (ls : List Local) (rs : List ℕ) (after : Answer End → Outcome) → IsGood a sh → OuterGoes N K a after o → Agrees (effect code) N K (holding a sh text (configuration code q rs frames)) (λ n. after (Gives CancelsOuter (state n ls (context_of a sh) text)))
+  pub outer_follows : {N K : ℕ} (p : Program) (layout : Layout) (frames : List Frame) (o : Option ℕ) (q : ℕ) → OuterCancelCode code layout p o q → (a : Around) (sh : Shared) (text : List ℕ) (ls : List Local) (rs : List ℕ) (after : Answer End → Outcome) → IsGood code a sh → OuterGoes N K a after o → Agrees (effect code) N K (holding a sh text (configuration code q rs frames)) (λ n. after (Gives CancelsOuter (state n ls (context_of a sh) text)))
   outer_follows p layout frames None q c a sh text ls rs after good g = absurd c
   outer_follows p layout frames (Some n) q c Bare sh text ls rs after good g = absurd g
   outer_follows p layout frames (Some n) q c (Within h) sh text ls rs after good g =

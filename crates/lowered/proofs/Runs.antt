@@ -1,6 +1,6 @@
 -- A thread of a code that stands where a run of the source stands, and one instruction of it.
-use Rattle.std.proofs.Common.{◌≡◌, ◌≢◌, ◌⊎◌, inl, inr, Option, ℕ, suc, ◌+◌, ◌<◌, ◌≤◌, ◌^◌, Bool, true, false, List, [], ◌∷◌, ◌++◌, length, Some, None, refl, ap, ◌∙◌, arith}
-use Rattle.std.specs.Prelude.{slice_get, slice_index, slice_set}
+use Rattle.std.proofs.Common.{◌≡◌, ◌≢◌, ◌⊎◌, inl, inr, Option, ℕ, zero, suc, ◌+◌, ◌<◌, ◌≤◌, Bool, true, false, List, [], ◌∷◌, ◌++◌, length, Some, None, refl, ap, ◌∙◌, subst, arith}
+use Rattle.std.specs.Prelude.{slice_get, slice_index, slice_set, nat_lt}
 use Rattle.std.specs.List.{AllByRecursion}
 use Rattle.std.proofs.lemmas.List.{get_or-set_other, length-set}
 use Rattle.syntax.specs.declared.tree.Mode.{Mode}
@@ -9,15 +9,20 @@ use Rattle.syntax.specs.declared.tree.Kind.{Kind}
 use Rattle.syntax.specs.declared.tree.Kind.TheVariants.{Plain, Outer}
 use Rattle.syntax.specs.declared.numbers.Trap.{Trap}
 use Rattle.syntax.specs.declared.numbers.Halt.TheVariants.{Trapped, Wants, Spent, Astray}
-use Rattle.syntax.specs.Names.{Local, word_at}
+use Rattle.lex.specs.declared.token.Scalar.{Scalar}
+use Rattle.syntax.specs.Tree.{Program}
+use Rattle.syntax.specs.Numbers.{modulus}
+use Rattle.syntax.specs.Names.{Local, word_at, cells, GlobalCells, global_of}
 use Rattle.syntax.specs.declared.numbers.Status.TheVariants.{Running, Trapped as HasTrapped}
-use Rattle.syntax.specs.Behaviours.{Memory, Outcome, Stopped}
+use Rattle.syntax.specs.Behaviours.{Memory, IsMemory, Outcome, Stopped}
+use Rattle.syntax.proofs.Words.{some_below}
 use Rattle.syntax.specs.Actions.{Context, Outside, Inside, State, Answer, Stops, Action, stop, go_on, tick, trap, lefts_in, print_piece, ◌>>◌}
 use Rattle.syntax.specs.Meaning.{End, mode_of, close_inner, enter}
 use Rattle.bytecode.specs.Effects.{Effect}
 use Rattle.bytecode.specs.Sequential.{Sequential, InnerTransaction, next, outcome_of, sequential_step, cancel_step, print_step, outside}
-use Rattle.bytecode.specs.Code.{Code, Configuration, Frame, Instr, effect, effect_of}
+use Rattle.bytecode.specs.Code.{Code, Configuration, Frame, Instr, bounds_of, effect, effect_of}
 use Rattle.lowered.specs.Expressions.{LocalScope, IsLike, At, MayTake, Layout}
+use Rattle.lowered.proofs.Locals.{AreWords}
 use Rattle.lowered.proofs.Agreement.{Agrees, quiet, ticked, shown, over, fewer}
 
 -- the transactions round a run: what of them no instruction inside changes
@@ -87,14 +92,6 @@ enters Atomic (Plain Atomic) = inl ((λ m run s. refl), (λ e. refl))
 enters Atomic Outer = inl ((λ m run s. refl), (λ e. refl))
 enters Atomic (Plain Relaxed) = inr (λ m run s. refl)
 
--- words
-abbrev pub AreWords : List ℕ → Type 0
-AreWords ws = (i : ℕ) → slice_index ws i < 2 ^ 32
-
-abbrev pub IsGood : Around → Shared → Type 0
-IsGood Bare sh = AllByRecursion AreWords sh.founds
-IsGood (Within h) sh = AreWords sh.memory × (h.outer ≡ Atomic → (sh.kept ≡ false) × (h.mode ≡ Atomic)) × (h.must ≡ true → sh.kept ≡ true)
-
 -- how many registers a function has
 abbrev pub registers_in : Layout → ℕ
 registers_in layout = layout.writable + length layout.constants
@@ -110,7 +107,7 @@ pub record Holds (scope : LocalScope) (ls : List Local) (layout : Layout) (free 
   pub fits : length ls ≤ layout.writable
   pub size_is : length registers ≡ registers_in layout
   pub each : (i : ℕ) → i < length ls → slice_index registers i ≡ word_at ls i
-  pub words : (i : ℕ) → word_at ls i < 2 ^ 32
+  pub words : AreWords ls
   pub ready : LieReady layout registers
 
 -- what a value's home leaves as it was
@@ -165,7 +162,39 @@ holds_on scope ls layout free later old new b h k = record {
   ready = ready_kept layout None free old new h.ready k;
 }
 
+-- a memory's word is below the bound of its cell
+word_in_memory : (bs : List ℕ) (m : Memory) (cell n : ℕ) → IsMemory bs m → slice_index bs cell ≡ n → 0 < n → slice_index m cell < n
+word_in_memory [] [] cell n h e some = absurd (omega (arith, e, some))
+word_in_memory [] (w ∷ m) cell n h e some = absurd h
+word_in_memory (b ∷ bs) [] cell n h e some = absurd h
+word_in_memory (b ∷ bs) (w ∷ m) zero n h e some = subst (λ k. w < k) e h.0
+word_in_memory (b ∷ bs) (w ∷ m) (suc cell) n h e some = word_in_memory bs m cell n h.1 e some
+
 module _ (code : Code) where
+  -- a cell's bound is that of a type
+  abbrev pub IsBounded : ℕ → Scalar → Type 0
+  IsBounded cell t = slice_index (bounds_of code) cell ≡ modulus t
+
+  -- the cells of a global have the bound of its type: the first, and each that an index reaches
+  abbrev pub AreBounded : GlobalCells → Type 0
+  AreBounded g = IsBounded g.cell g.global.of × ((k : ℕ) → nat_lt k (cells g.global) ≡ true → IsBounded (g.cell + k) g.global.of)
+
+  abbrev pub KnownCells : Option GlobalCells → Type 0
+  KnownCells None = Unit {0}
+  KnownCells (Some g) = AreBounded g
+
+  -- so have those of each global of a program
+  abbrev pub HasCellsOf : Program → Type 0
+  HasCellsOf p = (x : List ℕ) → KnownCells (global_of p x)
+
+  -- memories of the program, and what is known of the transactions round a run
+  abbrev pub AreMemories : List Memory → Type 0
+  AreMemories ms = AllByRecursion (IsMemory (bounds_of code)) ms
+
+  abbrev pub IsGood : Around → Shared → Type 0
+  IsGood Bare sh = AreMemories sh.founds
+  IsGood (Within h) sh = IsMemory (bounds_of code) sh.memory × (h.outer ≡ Atomic → (sh.kept ≡ false) × (h.mode ≡ Atomic)) × (h.must ≡ true → sh.kept ≡ true)
+
   abbrev pub configuration : ℕ → List ℕ → List Frame → Configuration
   configuration at registers frames = record { place = at; registers = registers; frames = frames }
 
@@ -231,6 +260,10 @@ module _ (code : Code) where
       fewer (effect code) (less N) (less K)
       (shown (effect code) (λ n. after (Stops (Trapped k) (state n ls (context_of a sh) text))) (next_trap a sh text c k e) (seen_spent a after sh 0 ls text c s) (λ n. refl)
       (over (effect code) (trapped_rests a sh text c k) (λ n. seen_trapped a after sh n ls text c k s)))
+
+  -- what is read is a word of the cell's type
+  pub word_read : (m : Memory) (cell : ℕ) (t : Scalar) → IsMemory (bounds_of code) m → IsBounded cell t → slice_index m cell < modulus t
+  word_read m cell t h e = word_in_memory (bounds_of code) m cell (modulus t) h e (some_below t)
 
   -- a shared read inside a transaction
   pub reads_by : {N K : ℕ} (h : Held) (sh : Shared) (text : List ℕ) {does : ℕ → Outcome} (c : Configuration) (cell : ℕ) (k : ℕ → Configuration) → effect code c ≡ Effect.Read cell k → Agrees (effect code) N K (holding (Within h) sh text (k (slice_index sh.memory cell))) does → Agrees (effect code) N K (holding (Within h) sh text c) does

@@ -104,7 +104,7 @@ module _ (code : Code) (layout : Layout) where
 
   -- the right side of an operator: its value is computed, or it is a constant that lies ready
   abbrev pub OperandCode : Expr → Coded → Coded
-  OperandCode (Constant n u at) e from to free r t = e from to free r t ⊎ LiesReady (word_of (pos n)) u from to r t
+  OperandCode (Constant n u at) e from to free r t = e from to free r t ⊎ LiesReady (word_of u (pos n)) u from to r t
   OperandCode e' e from to free r t = e from to free r t
 
   abbrev pub VariableCode : Option ℕ → (locals : ℕ) → Option (ℕ × Scalar) → Option GlobalCells → Coded
@@ -271,7 +271,7 @@ module _ (code : Code) (layout : Layout) where
       pub ExprCode : Option ℕ → LocalScope → Expr → Coded
       ExprCode home scope (Variable x) = VariableCode home (length scope) (newest scope x.text) (global_of p x.text)
       ExprCode home scope (Constant n u at) = λ from to free r t.
-          GivenBy home (Instr.Constant r (word_of (pos n))) u from to free r t
+          GivenBy home (Instr.Constant r (word_of u (pos n))) u from to free r t
       ExprCode home scope (Element x i at) = ElementAt home (global_of p x.text) (ExprCode None scope i)
       ExprCode home scope (Call f es at) = CallCode home p f.text (ArgsCode scope es)
       ExprCode home scope (Parenthesized e at) = ExprCode home scope e

@@ -6,6 +6,7 @@ use Rattle.syntax.specs.Tree.{Program}
 use Rattle.syntax.specs.Names.{initial_memory, bounds}
 use Rattle.syntax.specs.Behaviours.{Memory, IsMemory, Stopped}
 use Rattle.syntax.specs.Threads.{thread}
+use Rattle.syntax.specs.Typing.{IsTypedProgram}
 use Rattle.separation.specs.Touching.{IsAccepted}
 use Rattle.bytecode.specs.Code.{Code, effect}
 use Rattle.bytecode.specs.Valid.{bounds_of, IsValid}
@@ -20,7 +21,8 @@ NeverGoesAstray p =
     (n : ℕ) → (thread p t founds n).end ≢ Stopped Astray
 
 abbrev pub LoweredCodeMeans : Type 0
-LoweredCodeMeans = (p : Program) (code : Code) → IsLowered p code → NeverGoesAstray p → MeansItsProgram p code
+LoweredCodeMeans =
+    (p : Program) (code : Code) → IsTypedProgram p → IsLowered p code → NeverGoesAstray p → MeansItsProgram p code
 
 -- its cells are the program's
 abbrev pub LoweredCodeHasItsCells : Type 0
