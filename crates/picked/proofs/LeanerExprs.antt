@@ -42,7 +42,7 @@ pub none_ready : (layout : Layout) (w : ℕ) (t : Scalar) (from : ℕ) → layou
 none_ready layout w t from e = ap (λ (ws : List ℕ). ready (record { writable = layout.writable; constants = ws }) w t from) e
 
 pub no_constant_ready : (layout : Layout) (e : Expr) (from : ℕ) → layout.constants ≡ [] → constant_ready layout e from ≡ None
-no_constant_ready layout (Constant n t at) from h = none_ready layout (word_of (pos n)) t from h
+no_constant_ready layout (Constant n t at) from h = none_ready layout (word_of t (pos n)) t from h
 no_constant_ready layout e from h = refl
 
 pub right_leaner : (o o' : Option Held) (l m : Lists) (e e' : Emitted) → o ≡ None → IsLeaner l m → IsLeaner e.lists e'.lists → l.registers ≤ e.lists.registers → IsLeaner (ready_or o l e).lists (ready_or o' m e').lists

@@ -96,7 +96,7 @@ ready layout w t from =
 
 -- a constant that lies ready, as the right side of an operator
 abbrev pub constant_ready : Layout → Expr → ℕ → Option Held
-constant_ready layout (Constant n t at) from = ready layout (word_of (pos n)) t from
+constant_ready layout (Constant n t at) from = ready layout (word_of t (pos n)) t from
 constant_ready layout e from = None
 
 -- a value that lies ready, or else one that is computed
@@ -214,7 +214,7 @@ module _ (p : Program) (scope : LocalScope) where
   abbrev mutual
     pub emitted : Expr → (from into free : ℕ) → Lists → Emitted
     emitted (Variable x) from into free l = variable (newest scope x.text) (global_of p x.text) from into l
-    emitted (Constant n t at) from into free l = constant (word_of (pos n)) t from into l
+    emitted (Constant n t at) from into free l = constant (word_of t (pos n)) t from into l
     emitted (Element x i at) from into free l =
         element (global_of p x.text) (emitted i from free free l) from into l
     emitted (Call f es at) from into free l = called (callee_of p f.text) (all_emitted es from free l) from into l

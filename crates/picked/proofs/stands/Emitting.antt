@@ -174,7 +174,7 @@ module _ (code : Code) (arguments : List ℕ) (layout : Layout) where
 
   -- the right side of an operator
   pub operand_emits : (b : Expr) (A : Coded) (from free : ℕ) (l : Lists) (e : Emitted) → Emits A from free l e → Emits (OperandCode code layout b A) from free l (ready_or (constant_ready l.layout b from) l e)
-  operand_emits (Constant n t at) A from free l e h = ready_or_emits (word_of (pos n)) t A from free l e h
+  operand_emits (Constant n t at) A from free l e h = ready_or_emits (word_of t (pos n)) t A from free l e h
   operand_emits b A from free l e h = h
 
   pub both_emits : (home : Option ℕ) (op : BinaryOp) (A B : Coded) (from free into : ℕ) (l : Lists) (a b : Emitted) → Emits A from free l a → Emits B a.held.to (above free a.held.register) a.lists b → MayTake home free into →

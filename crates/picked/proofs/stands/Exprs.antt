@@ -136,7 +136,7 @@ module _ (p : Program) (code : Code) (arguments : List ℕ) (layout : Layout) (t
         }
 
     operand_is : (own : Layout) (b : Expr) (from : ℕ) (l : Lists) (e : Emitted) → type_of known b ≡ Some e.held.of → type_of known b ≡ Some (ready_or (constant_ready own b from) l e).held.of
-    operand_is own (Constant n t at) from l e h = by (ready_from own.writable own.constants (word_of (pos n)))
+    operand_is own (Constant n t at) from l e h = by (ready_from own.writable own.constants (word_of t (pos n)))
       where
         by : (o : Option ℕ) → Some t ≡ Some (ready_or (option_map (λ r. record { register = r; of = t; to = from }) o) l e).held.of
         by None = h
@@ -255,7 +255,7 @@ module _ (p : Program) (code : Code) (arguments : List ℕ) (layout : Layout) (t
       expr_emits home (Variable x) h from into free l m =
           let k = known_number (known x.text) h.0 h.1 in
           variable_emits home (newest scope x.text) (global_of p x.text) k.0 (variable_found p scope x.text k.0 (agrees x.text h.0 ∙ k.1)) from into free l m
-      expr_emits home (Constant n t at) h from into free l m = one_emits code arguments layout home (λ r. Plain.Constant r (word_of (pos n))) (own.Constant into (word_of (pos n))) t from free into l refl m
+      expr_emits home (Constant n t at) h from into free l m = one_emits code arguments layout home (λ r. Plain.Constant r (word_of t (pos n))) (own.Constant into (word_of t (pos n))) t from free into l refl m
       expr_emits home (Element x i at) h from into free l m =
           let k = known_array (known x.text) h.0 h.2 in
           element_at_emits home (ExprCode code layout p None scope i) (global_of p x.text) k.0 (array_found p scope x.text k.0 k.1 (agrees x.text h.0 ∙ k.2)) from into free l (emitted p scope i from free free l)

@@ -1,10 +1,10 @@
 -- What is picked for expressions and conditions of a typed program is in order.
-use Rattle.std.proofs.Common.{◌≡◌, refl, sym, ap, subst, ◌∙◌, ℕ, pos, ◌+◌, ◌≤◌, List, length, map, arith, Option, Some, None, IsTrue, eqb-true}
+use Rattle.std.proofs.Common.{◌≡◌, refl, sym, ap, subst, ◌∙◌, ℕ, pos, ◌+◌, ◌<◌, ◌≤◌, ◌^◌, List, length, map, arith, Option, Some, None, IsTrue, eqb-true}
 use Rattle.std.specs.Prelude.{option_map, unwrap_or}
 use Rattle.std.specs.Option.{IfSome}
 use Rattle.std.proofs.lemmas.List.{length-map}
 use Rattle.lex.specs.declared.token.Scalar.{Scalar}
-use Rattle.lex.specs.declared.token.Scalar.TheVariants.{Int}
+use Rattle.lex.specs.declared.token.Scalar.TheVariants.{Int, Unsigned}
 use Rattle.syntax.specs.declared.tree.UnaryOp.TheVariants.{Negate, Keep, Not, Complement}
 use Rattle.syntax.specs.Tree.{Name, Expr, Exprs, Variable, Constant, Element, Call, Parenthesized, Cast, Unary, Binary, Logical, Conditional, InTransaction, Program}
 use Rattle.syntax.specs.Numbers.{word_of}
@@ -28,6 +28,11 @@ use Rattle.picked.proofs.stands.Exprs.{DefinedAreCallees}
 use Rattle.picked.proofs.stands.Statements.{registers_are}
 use Rattle.picked.proofs.valid.Sounds.{settled_into, Sound, TestSound, AllSound, one_sound, in_local_sound, then_sound, cast_sound, in_own_sound, negated_sound, complemented_sound, compared_sound, operand_sound, both_sound, opposite_sound, joined_sound, tested_sound, zero_sound, answered_sound, settled_sound, chosen_sound, followed_sound, called_sound}
 use Rattle.picked.proofs.valid.Shared.{cells_lie, variable_has_one}
+
+-- a constant's word is one that an instruction may set
+word_written : (t : Scalar) (n : ℕ) → word_of t (pos n) < 2 ^ 32
+word_written Int n = word_below Int (pos n)
+word_written Unsigned n = word_below Unsigned (pos n)
 
 -- a callee's number is that of a function of so many parameters
 abbrev pub CalleesTake : Program → Code → Type 0
@@ -84,7 +89,7 @@ module _ (p : Program) (code : Code) (arguments : List ℕ) (f : FunctionCode) (
       expr_sound (Variable x) h from into free l =
           let k = known_number (known x.text) h.0 h.1 in
           variable_sound (newest scope x.text) (global_of p x.text) (cell_is x k.0 h.0 k.1) from into l
-      expr_sound (Constant n t at) h from into free l = one_sound code arguments f end (own.Constant into (word_of (pos n))) from into t l (λ q bs. (refl, tt)) (λ r s. (r, word_below (pos n)))
+      expr_sound (Constant n t at) h from into free l = one_sound code arguments f end (own.Constant into (word_of t (pos n))) from into t l (λ q bs. (refl, tt)) (λ r s. (r, word_written t n))
       expr_sound (Element x i at) h from into free l = element_sound (global_of p x.text) (cells_are x.text) from into l (emitted p scope i from free free l) (expr_sound i h.1 from free free l)
       expr_sound (Call g es at) h from into free l =
           let counts = call_counts g (count es) h.0 h.2 h.3 in

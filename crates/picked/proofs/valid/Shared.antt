@@ -1,13 +1,13 @@
 -- The cells of what a program shares lie within its memory; a typed program has no more than there may be, and each of
 -- its globals is within the limits.
 use Rattle.std.proofs.Common.{◌≡◌, refl, sym, ap, ◌∙◌, ℕ, zero, suc, ◌+◌, ◌-◌, ◌≤◌, List, [], ◌∷◌, ◌++◌, length, map, replicate, drop, arith, Option, Some, None, Bool, true, false}
-use Rattle.std.specs.Prelude.{◌&&◌, if◌then◌else◌, bytes_eq, option_map, unwrap_or, sum_by, nat_le}
+use Rattle.std.specs.Prelude.{◌&&◌, if◌then◌else◌, bytes_eq, option_map, unwrap_or, sum_by, nat_le, min, take}
 use Rattle.std.proofs.lemmas.Bool.{leb-true, le-leb}
 use Rattle.std.proofs.lemmas.List.Folds.{list_all-append}
 use Rattle.std.specs.Cmp.Derive.{both_true}
 use Rattle.std.specs.List.{list_all}
 use Rattle.std.proofs.lemmas.List.Sums.{sum_by-cons}
-use Rattle.std.proofs.lemmas.List.{length-append, length-replicate, length-map}
+use Rattle.std.proofs.lemmas.List.{length-append, length-replicate, length-map, length-take}
 use Rattle.lex.specs.declared.token.Span.{Span}
 use Rattle.lex.specs.declared.token.Scalar.{Scalar}
 use Rattle.syntax.specs.declared.tree.First.{First}
@@ -18,15 +18,16 @@ use Rattle.syntax.specs.Typing.{is_unknown, demand, all_cells, IsTypedFunction, 
 use Rattle.bytecode.specs.Valid.{is_shaped}
 use Rattle.syntax.proofs.Demands.{AreMet, met_before, met_behind, is_met}
 
--- a global has its words
-words_of : (g : Global) → cells g ≤ length (first_words g)
-words_of g =
-    let given : List ℕ = map first_word g.first in
+-- a global has as many words as cells
+words_are : (g : Global) → length (first_words g) ≡ cells g
+words_are g =
+    let given : List ℕ = map (first_word g.of) g.first in
     let zeroes : List ℕ = replicate (cells g - length g.first) 0 in
-    let a : length (first_words g) ≡ length given + length zeroes = length-append given zeroes in
-    let b : length given ≡ length g.first = length-map g.first first_word in
+    let a : length (first_words g) ≡ length (take (cells g) given) + length zeroes = length-append (take (cells g) given) zeroes in
+    let b : length given ≡ length g.first = length-map g.first (first_word g.of) in
     let c : length zeroes ≡ cells g - length g.first = length-replicate (cells g - length g.first) 0 in
-    omega (arith, a, b, c)
+    let d : length (take (cells g) given) ≡ min (cells g) (length given) = length-take (cells g) given in
+    omega (arith, a, b, c, d)
 
 pub cells_lie : (n : ℕ) (gs : List Global) (x : List ℕ) (c : GlobalCells) → global_from n gs x ≡ Some c → c.cell + cells c.global ≤ n + length (initial_from gs)
 cells_lie n [] x c e = absurd (cc)
@@ -40,9 +41,9 @@ cells_lie n (g ∷ gs) x c e = by (bytes_eq g.name.text x) (λ h. cells_lie (n +
         let here : GlobalCells = record { global = g; cell = n } in
         let same : here ≡ c = ap (λ o. unwrap_or o here) f in
         let at : n + cells g ≡ c.cell + cells c.global = ap (λ (d : GlobalCells). d.cell + cells d.global) same in
-        let w = words_of g in
+        let w = words_are g in
         omega (arith, at, w, whole)
-    by false h f = let r = h f in let w = words_of g in omega (arith, r, w, whole)
+    by false h f = let r = h f in let w = words_are g in omega (arith, r, w, whole)
 
 -- what the file knows as a variable has one cell
 one_cell : (of t : Scalar) (l : Option (ℕ × Span)) → unwrap_or (option_map (λ n. Array of n.0) l) (Number of) ≡ Number t → unwrap_or (option_map (λ n. n.0) l) 1 ≡ 1
@@ -69,22 +70,6 @@ variable_has_one (Defines f ∷ items) n x t c k e = by (bytes_eq f.name.text x)
     by true others a = absurd (cc)
     by false others a = others a
 
--- a typed global has as many words as cells
-firsts_fit : (n : ℕ) (is : List First) → AreMet (HaveCells (drop n is)) → length is ≤ n
-firsts_fit zero [] h = omega arith
-firsts_fit zero (i ∷ is) h = absurd (let g = is_met 25 i.span false h in cc)
-firsts_fit (suc n) [] h = omega arith
-firsts_fit (suc n) (i ∷ is) h = let g = firsts_fit n is h in omega (arith, g)
-
-words_are : (g : Global) → length g.first ≤ cells g → length (first_words g) ≡ cells g
-words_are g h =
-    let given : List ℕ = map first_word g.first in
-    let zeroes : List ℕ = replicate (cells g - length g.first) 0 in
-    let a : length (first_words g) ≡ length given + length zeroes = length-append given zeroes in
-    let b : length given ≡ length g.first = length-map g.first first_word in
-    let c : length zeroes ≡ cells g - length g.first = length-replicate (cells g - length g.first) 0 in
-    omega (arith, a, b, c, h)
-
 record Fit (taken : ℕ) (gs : List Global) : Type 0 where
   words : length (initial_from gs) ≡ sum_by cells gs
   few : taken + length (initial_from gs) ≤ 4096
@@ -98,10 +83,9 @@ globals_fit earlier before taken (g ∷ gs) low h =
     let few = demand 25 g.name.at (nat_le (taken + cells g) 4096) in
     let others = AreTypedGlobals earlier (before ++ g ∷ []) (taken + cells g) gs in
     let all = met_before (new ++ size ++ room ++ few) others h in
-    let fits = firsts_fit (cells g) g.first (met_behind (new ++ size) room (met_before (new ++ size ++ room) few all)) in
     let low' : taken + cells g ≤ 4096 = leb-true (taken + cells g) 4096 (is_met 25 g.name.at (nat_le (taken + cells g) 4096) (met_behind (new ++ size ++ room) few all)) in
     let rest = globals_fit earlier (before ++ g ∷ []) (taken + cells g) gs low' (met_behind (new ++ size ++ room ++ few) others h) in
-    let own = words_are g fits in
+    let own = words_are g in
     let whole : length (initial_from (g ∷ gs)) ≡ length (first_words g) + length (initial_from gs) = length-append (first_words g) (initial_from gs) in
     let words = rest.words in
     let few' = rest.few in
@@ -144,6 +128,13 @@ both false b e = absurd (cc)
 sized : (o : Option (ℕ × Span)) → AreMet (IsLength o) → 1 ≤ unwrap_or (option_map (λ n. n.0) o) 1
 sized None h = omega arith
 sized (Some n) h = leb-true 1 n.0 (both (nat_le 1 n.0) (nat_le n.0 4096) (is_met 25 n.1 (nat_le 1 n.0 && nat_le n.0 4096) h)).0
+
+-- a typed global has no more initialisers than cells
+firsts_fit : (n : ℕ) (is : List First) → AreMet (HaveCells (drop n is)) → length is ≤ n
+firsts_fit zero [] h = omega arith
+firsts_fit zero (i ∷ is) h = absurd (let g = is_met 25 i.span false h in cc)
+firsts_fit (suc n) [] h = omega arith
+firsts_fit (suc n) (i ∷ is) h = let g = firsts_fit n is h in omega (arith, g)
 
 shaped_so : (g : Global) → 1 ≤ cells g → cells g ≤ 4096 → length g.first ≤ cells g → is_shaped g ≡ true
 shaped_so g some few enough =

@@ -237,7 +237,7 @@ module _ (code : Code) (arguments : List ℕ) (f : FunctionCode) (end : ℕ) whe
       by (Some r) n = record { to_is = omega arith; grows = grows_same l; held = λ k. k.ready w r n; balanced = λ q bs. refl; goods = λ o bs k run. tt }
 
   pub operand_sound : (b : Expr) (from : ℕ) (l : Lists) (e : Emitted) → Sound from l e → OperandSound from l (ready_or (constant_ready l.layout b from) l e)
-  operand_sound (Constant n t at) from l e h = ready_or_sound (word_of (pos n)) t from l e h
+  operand_sound (Constant n t at) from l e h = ready_or_sound (word_of t (pos n)) t from l e h
   operand_sound b from l e h = computed_sound from l e h
 
   pub both_sound : (op : BinaryOp) (into from : ℕ) (l : Lists) (a b : Emitted) → Sound from l a → OperandSound a.held.to a.lists b → Sound from l (both op a b into)
