@@ -4,7 +4,7 @@ ghost use Rattle.std.specs.Prelude.{◌≡◌, [], ◌∷◌, ◌++◌, ◌+◌,
 ghost use Rattle.syntax.specs.declared.tree.Expr as tree;
 ghost use Rattle.syntax.specs.Names as Source;
 ghost use Rattle.syntax.specs.Numbers.{word_of};
-ghost use Rattle.syntax.specs.Views.{expr_of, exprs_of, parameter_of};
+ghost use Rattle.syntax.specs.Views.{expr_of, exprs_of, global_of, parameter_of};
 ghost use Rattle.bytecode.specs.declared.instr.Instr.TheVariants as instr;
 ghost use Rattle.lowered.specs.Expressions.{arranged, named_ones, nameless_ones};
 ghost use Rattle.picked.specs.Lists.{Lists as Plain, holding};
@@ -23,13 +23,13 @@ use crate::cond::{opposite, zero_test};
 use crate::draft::{keep, put_first, turn};
 use crate::fault::Failure;
 use crate::lists::Lists;
-use crate::names::{Callee, Shared, called, cells_of, global};
+use crate::names::{Callee, Shared, called, global};
 use crate::program::Names;
 use crate::put::{
     above, after, put, put_answers, put_both, put_chosen, put_compared, put_complemented,
     put_constant, put_in_transaction, put_negated, settle, take,
 };
-use crate::ready::constant_ready;
+use crate::ready::{constant_ready, constant_word};
 use crate::scope::Scope;
 use bytecode::Instr;
 use lex::token::{Scalar, Span};
@@ -43,15 +43,15 @@ use syntax::tree::{Expr, LogicalOp, Parameter, UnaryOp};
 fn put_number<A: Allocator>(
     lists: &mut Lists<A>,
     code: &mut Vec<Instr, A>,
-    value: u32,
+    value: u64,
     of: Scalar,
     from: u32,
     into: usize,
 ) -> Result<Held, Failure>
-    ensures { AddsValue (constant (word_of (pos value)) of from into (lists_of lists.old))
+    ensures { AddsValue (constant (word_of of (pos value)) of from into (lists_of lists.old))
         code.old code.new lists.new result }
 {
-    put_constant(lists, code, value, of, from, into)
+    put_constant(lists, code, constant_word(of, value), of, from, into)
 }
 
 /// The value of a global.
@@ -114,12 +114,12 @@ fn put_read_at<A: Allocator + Copy>(
     index: Held,
     into: usize,
 ) -> Result<Held, Failure>
-    requires { g.cell ≤ 4096 }
+    requires { g.cell + Source.cells (global_of g.global.now) ≤ 4096 }
     ensures { AddsValue (element (Some (shared_in g.entry)) (in_place index (lists_of lists.old)) index.to into
         (lists_of lists.old)) code.old code.new lists.new result }
 {
     let register = take(lists, into)?;
-    let length = cells_of(g.global);
+    let length = g.global.cell_count() as u32;
     put(
         code,
         Instr::ReadAt(register, index.register, g.cell as u32, length),

@@ -1,8 +1,7 @@
 //! What the names of a file stand for in code.
 
-ghost use Rattle.std.specs.Prelude.{◌≡◌, ◌≤◌, option_map, IfSome};
+ghost use Rattle.std.specs.Prelude.{◌≡◌, ◌+◌, ◌≤◌, option_map, IfSome};
 ghost use Rattle.syntax.specs.Names as Source;
-ghost use Rattle.syntax.specs.Views.{global_of};
 ghost use Rattle.picked.specs.Names as Named;
 ghost use Rattle.expression_code.specs.inner.Tables.{shared_in, callee_in};
 ghost use Rattle.expression_code.specs.Views.{program_in};
@@ -27,23 +26,13 @@ pub(crate) struct Callee<'p, A: Allocator> {
     pub(crate) parameters: &'p [Parameter<A>],
 }
 
-/// The number of a global's cells.
-pub(crate) fn cells_of<A: Allocator>(g: &Global<A>) -> u32
-    ensures { result ≡ Source.cells (global_of g.now) }
-{
-    match g.length {
-        Some((n, _)) => n,
-        None => 1,
-    }
-}
-
 /// A global of the file, with its first cell.
 pub(crate) fn global<'p, A: Allocator + Copy>(
     names: &Names<'p, A>,
     name: &str,
 ) -> Option<Shared<'p, A>>
     ensures value { option_map shared_in result ≡ Source.global_of (program_in names.now) name.now }
-    ensures low { IfSome result (λ g. g.cell ≤ 4096) }
+    ensures low { IfSome result (λ g. g.cell + Source.cells (shared_in g).global ≤ 4096) }
 {
     match names.globals.get(name) {
         Some(g) => Some(Shared {

@@ -1,6 +1,7 @@
 //! Constants that lie ready in registers.
 
-ghost use Rattle.std.specs.Prelude.{◌≡◌, ◌++◌, ◌+◌, ◌≤◌, length, OnOk};
+ghost use Rattle.std.specs.Prelude.{◌≡◌, ◌++◌, ◌+◌, ◌≤◌, length, pos, OnOk};
+ghost use Rattle.syntax.specs.Numbers.{word_of};
 ghost use Rattle.syntax.specs.Views.{expr_of};
 ghost use Rattle.picked.specs.Expressions as expressions;
 ghost use Rattle.picked.specs.Programs as programs;
@@ -40,12 +41,21 @@ pub(crate) fn ready<A: Allocator>(
     None
 }
 
+/// The word of a constant.
+pub(crate) fn constant_word(of: Scalar, value: u64) -> u32
+    ensures { result ≡ word_of of (pos value) }
+{
+    match of {
+        Scalar::Int | Scalar::Unsigned => (value % 4_294_967_296) as u32,
+    }
+}
+
 /// A constant that lies ready, as the right side of an operator.
 pub(crate) fn constant_ready<A: Allocator>(lists: &Lists<A>, e: &Expr<A>, from: u32) -> Option<Held>
     ensures { result ≡ expressions.constant_ready (lists_of lists.now).layout (expr_of e.now) from }
 {
     match e {
-        Expr::Constant(value, of, _) => ready(lists, *value, *of, from),
+        Expr::Constant(value, of, _) => ready(lists, constant_word(*of, *value), *of, from),
         _ => None,
     }
 }

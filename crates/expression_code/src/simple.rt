@@ -1,9 +1,9 @@
 //! The instructions of assignments and declarations.
 
-ghost use Rattle.std.specs.Prelude.{◌≡◌, ◌≤◌, List, map, option_map, OnOk};
+ghost use Rattle.std.specs.Prelude.{◌≡◌, ◌+◌, ◌≤◌, List, map, option_map, OnOk};
 ghost use Rattle.std.specs.Option.{option_copied};
 ghost use Rattle.syntax.specs.Names as Source;
-ghost use Rattle.syntax.specs.Views.{expr_of, simple_of, declarator_of, start_of};
+ghost use Rattle.syntax.specs.Views.{expr_of, simple_of, declarator_of, global_of, start_of};
 ghost use Rattle.syntax.specs.Meaning.{op_of};
 ghost use Rattle.bytecode.specs.declared.instr.Instr.{Instr};
 ghost use Rattle.lowered.specs.Statements.{with_local, with_declared, locals_of_start};
@@ -22,7 +22,7 @@ use crate::aim::Aim;
 use crate::expr::{lower_expr, lower_operand};
 use crate::fault::Failure;
 use crate::lists::Lists;
-use crate::names::{Shared, cells_of, global};
+use crate::names::{Shared, global};
 use crate::program::Names;
 use crate::put::{above, after, put, put_both, put_constant, take};
 use crate::ready::ready;
@@ -70,11 +70,11 @@ fn put_check<A: Allocator + Copy>(
     g: Shared<'_, A>,
     index: Held,
 ) -> Result<Aim, Failure>
-    requires { g.cell ≤ 4096 }
+    requires { g.cell + Source.cells (global_of g.global.now) ≤ 4096 }
     ensures { (l : Plain) → Adds (of_aim (element_target check (Some (shared_in g.entry)) (in_place index l) index.to
         l)) code.old.items code.new.items l result }
 {
-    let length = cells_of(g.global);
+    let length = g.global.cell_count() as u32;
     let target = Target::Element(index.register, g.cell as u32, length, g.global.of);
     if check {
         put(code, Instr::Check(index.register, length))?;

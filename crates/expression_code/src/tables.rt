@@ -11,7 +11,7 @@ ghost use Rattle.picked.specs.Names as Named;
 ghost use Rattle.expression_code.specs.inner.Tables.{total_cells, shared_at, callee_in, called_at};
 ghost use Rattle.expression_code.specs.inner.Tables.{AreGlobals, AreCallees};
 
-use crate::names::{Callee, Shared, cells_of};
+use crate::names::{Callee, Shared};
 use crate::program::{Callees, Globals, Names};
 use lex::token::Scalar;
 use name_tables::Table;
@@ -48,7 +48,7 @@ fn add_globals<'p, A: Allocator + Copy>(
     let mut cell = first;
     'globals: for g in gs {
         add_global(table, cell, g)?;
-        cell += cells_of(g) as usize;
+        cell += g.cell_count();
     }
     Ok(cell)
 }

@@ -28,5 +28,5 @@ module _ (p : Program) (typed : IsTypedProgram p) (safe : ∥ IsSafeProgram p �
 
   pub code_means : PickedCodeStands → LoweredCodeMeans → NeverAstray → ∥ IsAccepted p ∥₁ → (code : Code) → code ≡ picked_code p → MeansItsProgram p code
   code_means stands means never accepted code is =
-      means p code (subst (IsLowered p) (sym is) (stands p typed safe))
+      means p code typed (subst (IsLowered p) (sym is) (stands p typed safe))
       (λ t founds below memories n e. ∥∥₁_elim accepted (λ x y. absurd x) (λ a. never p a t founds n e))

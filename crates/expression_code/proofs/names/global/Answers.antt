@@ -2,13 +2,13 @@ use Rattle.std.proofs.Common.{◌∙◌, option_map, sym, ap, arith}
 use Rattle.syntax.specs.Names.{globals}
 use Rattle.syntax.specs.Views.{program_of}
 use Rattle.expression_code.specs.inner.Tables.{shared_in}
-use Rattle.expression_code.proofs.Placing.{cell_few}
+use Rattle.expression_code.proofs.Placing.{cells_among}
 use Rattle.expression_code.proofs.names.global.Goals as goal
 
 pub returns-in-Some-clause-low : goal.returns-in-Some-clause-low
 returns-in-Some-clause-low g c =
     let names = c.args.names.now in
     let x = c.args.name.now in
-    let few = cell_few 0 (globals (program_of names.unit.now)) x (shared_in c.in-Some.g.now) (sym (names.shared x) ∙ sym (ap (option_map shared_in) c.in-Some.ensures)) in
+    let few = cells_among 0 (globals (program_of names.unit.now)) x (shared_in c.in-Some.g.now) (sym (names.shared x) ∙ sym (ap (option_map shared_in) c.in-Some.ensures)) in
     let small = names.small in
     omega (arith, few, small)
