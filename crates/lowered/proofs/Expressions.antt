@@ -33,10 +33,10 @@ use Rattle.syntax.specs.Numbers.{fitted}
 use Rattle.syntax.proofs.Words.{computed_below, fitted_below, narrows, truth_below, word_below}
 use Rattle.bytecode.specs.Effects.{Effect}
 use Rattle.bytecode.specs.Code.{Code, Configuration, Frame, Instr, effect, effect_of, or_traps, setting}
-use Rattle.lowered.specs.Expressions.{ValueTransactionCode, LocalScope, IsLike, At, LeadsTo, Branching, MayTake, computing, arranged, Layout, GivenBy, LiesReady, OperandCode, VariableCode, ElementAt, Branches, BothHold, EitherHolds, ComparedWithZero, TruthCode, BranchCode, ConditionalCode, ExprCode, OwnTests, ArgsCode, CondCode}
+use Rattle.lowered.specs.Expressions.{ValueTransactionCode, LocalScope, IsLike, At, LeadsTo, Branching, MayTake, computing, arranged, Layout, GivenBy, Converts, OperatorCode, StraightCode, LiesReady, OperandCode, VariableCode, ElementAt, Branches, BothHold, EitherHolds, ComparedWithZero, TruthCode, BranchCode, ConditionalCode, ExprCode, OwnTests, ArgsCode, CondCode}
 use Rattle.lowered.proofs.Locals.{word_typed, type_like, KnownLocal, newest_known}
 use Rattle.lowered.proofs.Agreement.{Agrees, astray, same, fewer}
-use Rattle.lowered.proofs.Runs.{Enters, enters, Held, inner_held, outermost_held, begins_inner, begins_outermost, wants_one, commits_inner, leaves_outermost, next_commit, IsBounded, AreBounded, KnownCells, HasCellsOf, AreMemories, Around, Bare, Within, Shared, context_of, holding, state, IsSeen, on_seen, IsGood, registers_in, Holds, Keeps, keeps_all, keeps_more, keeps_set, keeps_on, holds_on, configuration, effect_at, goes, goes_by, reads_by, word_read, tick_goes, traps}
+use Rattle.lowered.proofs.Runs.{Enters, enters, Held, inner_held, outermost_held, begins_inner, begins_outermost, wants_one, commits_inner, leaves_outermost, next_commit, IsBounded, AreBounded, KnownCells, HasCellsOf, AreMemories, Around, Bare, Within, Shared, context_of, holding, state, IsSeen, on_seen, IsGood, registers_in, Holds, Keeps, keeps_all, keeps_more, keeps_set, keeps_on, keeps_then, kept_at, holds_on, configuration, effect_at, goes, goes_by, reads_by, word_read, tick_goes, traps}
 
 -- the types have as many numbers
 pub as_many : (s t : Scalar) → modulus s ≡ modulus t
@@ -146,22 +146,36 @@ module _ (p : Program) (call : Caller) (code : Code) (layout : Layout) (frames :
       reads_by code h sh text (configuration code q rs frames) cell (setting (configuration code q rs frames) r) (effect_at code q i rs frames c.instr ∙ e)
       (go_at (Within h) after ls to (suc q) home free r t u old c.to_is c.type_is go (record { of = u; word = w }) sh text (slice_set rs r w) (arrives (Within h) sh home free r w u old rs c.takes c.register len (word_read code sh.memory cell u g.0 bounded) k g))
 
-  -- an operator on two values that lie in registers
-  pub operates : {N K : ℕ} (op : BinaryOp) (v w : Value) (ta tb : Scalar) (ra rb : ℕ) (a : Around) (sh : Shared) (text : List ℕ) (ls : List Local) (after : Answer Value → Outcome) (q to : ℕ) (home : Option ℕ) (free r : ℕ) (t : Scalar) (old rs : List ℕ) → v.of ≡ ta → w.of ≡ tb → slice_index rs ra ≡ v.word → slice_index rs rb ≡ w.word → v.word < modulus v.of → w.word < modulus w.of → GivenBy code layout home (computing op (operand_type op ta tb) r ra rb) (result_type op (operand_type op ta tb)) q to free r t → length rs ≡ registers_in layout → Keeps layout home free old rs → IsGood code a sh → IsSeen a after → GoesOn N K a after ls to home free r t old → Does N K a sh text ls q rs (λ s. after (or_trap (binary op v w) s))
-  operates op v w ta tb ra rb a sh text ls after q to home free r t old rs of_v of_w left right below_v below_w c len keeps good s go =
+  -- a conversion of a value that lies in a register
+  pub converts : {N K : ℕ} (s u : Scalar) (v : Value) (a : Around) (sh : Shared) (text : List ℕ) (ls : List Local) (after : Answer Value → Outcome) (q to : ℕ) (home : Option ℕ) (free ra r : ℕ) (old rs : List ℕ) → Converts code layout home s u ra q to free r → Computed a s ra home free old v sh rs → GoesOn N K a after ls to home free r u old → Does N K a sh text ls q rs (λ st. after (Gives (converted u v) st))
+  converts {N = N} {K = K} s u v a sh text ls after q to home free ra r old rs c d go =
+      subst (λ x. Agrees (effect code) N K (holding a sh text (configuration code x rs frames)) (λ n. after (Gives (converted u v) (state n ls (context_of a sh) text)))) c.0
+      (go (converted u v) sh text rs (record { typed_so = refl; word = word_below u (number_of v); here = ap (slice_index rs) c.1 ∙ d.here ∙ sym (word_same u v.of v.word d.word); keeps = d.keeps; good = d.good }))
+
+  -- an operator on two values that lie in registers: each is converted, and then it computes
+  pub operates : {N K : ℕ} (op : BinaryOp) (v w : Value) (ta tb : Scalar) (ra rb : ℕ) (a : Around) (sh : Shared) (text : List ℕ) (ls : List Local) (after : Answer Value → Outcome) (q to : ℕ) (home : Option ℕ) (free r : ℕ) (t : Scalar) (old rs : List ℕ) → v.of ≡ ta → w.of ≡ tb → slice_index rs ra ≡ v.word → slice_index rs rb ≡ w.word → v.word < modulus v.of → w.word < modulus w.of → OperatorCode code layout home op ta tb ra rb q to free r t → length rs ≡ registers_in layout → Keeps layout home free old rs → IsGood code a sh → IsSeen a after → GoesOn N K a after ls to home free r t old → Does N K a sh text ls q rs (λ s. after (or_trap (binary op v w) s))
+  operates {N = N} {K = K} op v w ta tb ra rb a sh text ls after q to home free r t old rs of_v of_w left right below_v below_w c len keeps good s go =
       let o : Scalar = operand_type op ta tb in
-      let res : Result ℕ Trap = computed op o (slice_index rs ra) (slice_index rs rb) in
-      let below_left : slice_index rs ra < modulus ta = subst (λ z. z < modulus ta) (sym left) (subst (λ z. v.word < modulus z) of_v below_v) in
-      let below_right : slice_index rs rb < modulus tb = subst (λ z. z < modulus tb) (sym right) (subst (λ z. w.word < modulus z) of_w below_w) in
-      let found : binary op v w ≡ typed (result_type op o) res =
-      ap (λ z. binary op (record { of = z; word = v.word }) w) of_v
-      ∙ ap (λ z. binary op (record { of = ta; word = z }) w) (sym left)
-      ∙ ap (λ z. binary op (record { of = ta; word = slice_index rs ra }) (record { of = z; word = w.word })) of_w
-      ∙ ap (λ z. binary op (record { of = ta; word = slice_index rs ra }) (record { of = tb; word = z })) (sym right)
-      ∙ binary_same op ta tb (slice_index rs ra) (slice_index rs rb) below_left below_right in
-      same (effect code) (λ n. after (or_trap (typed (result_type op o) res) (state n ls (context_of a sh) text)))
+      let other : Scalar = operand_type op tb ta in
+      let rest : Value → Action Value = λ x. or_trap (typed (result_type op o) (computed op o x.word (converted other w).word)) in
+      let found : binary op v w ≡ typed (result_type op o) (computed op o (converted o v).word (converted other w).word) =
+      (λ j. typed (result_type op (operand_type op (of_v j) (of_w j))) (computed op (operand_type op (of_v j) (of_w j)) (converted (operand_type op (of_v j) (of_w j)) v).word (converted (operand_type op (of_w j) (of_v j)) w).word)) in
+      same (effect code) (λ n. after (rest (converted o v) (state n ls (context_of a sh) text)))
       (λ n. ap (λ z. after (or_trap z (state n ls (context_of a sh) text))) found)
-      (results (computing op o r ra rb) (result_type op o) a sh text ls after q to home free r t old rs res c (computing_does code op o (configuration code q rs frames) r ra rb) (computed_below op o _ _ (below_as ta o _ below_left) (below_as tb o _ below_right)) len keeps good s go)
+      (converts ta o v a sh text ls (λ z. after (go_on z rest)) q c.mid None c.later ra c.rc rs rs c.left (record { typed_so = of_v; word = below_v; here = left; keeps = keeps_all layout None c.later rs; good = good })
+      (λ x sh1 text1 rs1 d.
+      let rest1 : Value → Action Value = λ y. or_trap (typed (result_type op o) (computed op o x.word y.word)) in
+      converts tb other w a sh1 text1 ls (λ z. after (go_on z rest1)) c.mid c.last None c.after rb c.rd rs1 rs1 c.right (record { typed_so = of_w; word = below_w; here = kept_at layout c.later rb rs rs1 c.apart d.keeps ∙ right; keeps = keeps_all layout None c.after rs1; good = d.good })
+      (λ y sh2 text2 rs2 e.
+      let here_x : slice_index rs2 c.rc ≡ x.word = kept_at layout c.after c.rc rs1 rs2 c.apart_on e.keeps ∙ d.here in
+      let below_x : slice_index rs2 c.rc < modulus o = subst (λ z. z < modulus o) (sym here_x) (subst (λ z. x.word < modulus z) d.typed_so d.word) in
+      let below_y : slice_index rs2 c.rd < modulus o = subst (λ z. z < modulus o) (sym e.here) (below_as other o y.word (subst (λ z. y.word < modulus z) e.typed_so e.word)) in
+      let res : Result ℕ Trap = computed op o (slice_index rs2 c.rc) (slice_index rs2 c.rd) in
+      let kept_all : Keeps layout home free old rs2 =
+      keeps_then layout home free c.after old rs1 rs2 (let h = c.kept in let k = c.kept_on in omega (arith, h, k)) (keeps_then layout home free c.later old rs rs1 c.kept keeps d.keeps) e.keeps in
+      same (effect code) (λ n. after (or_trap (typed (result_type op o) res) (state n ls (context_of a sh2) text2)))
+      (λ n. ap (λ z. after (or_trap (typed (result_type op o) (computed op o z y.word)) (state n ls (context_of a sh2) text2))) (sym here_x) ∙ ap (λ z. after (or_trap (typed (result_type op o) (computed op o (slice_index rs2 c.rc) z)) (state n ls (context_of a sh2) text2))) (sym e.here))
+      (results (computing op o r c.rc c.rd) (result_type op o) a sh2 text2 ls after c.last to home free r t old rs2 res c.operates (computing_does code op o (configuration code c.last rs2 frames) r c.rc c.rd) (computed_below op o _ _ below_x below_y) (e.keeps.size ∙ d.keeps.size ∙ len) kept_all e.good s go))))
 
   -- where a variable stands
   abbrev pub spot_in : Option (ℕ × Scalar) → Option GlobalCells → Action Spot
@@ -380,23 +394,28 @@ module _ (p : Program) (call : Caller) (code : Code) (layout : Layout) (frames :
   abbrev choosing : Expr → Value → Action Value
   choosing whole w = locals >>= λ mine. or_astray (type_of (running_scope p mine) whole) >>= λ t. pure (converted t w)
 
-  moved : {N K : ℕ} (whole : Expr) (w : Value) (a : Around) (sh : Shared) (text : List ℕ) (ls : List Local) (after : Answer Value → Outcome) (q to : ℕ) (home : Option ℕ) (free r ra : ℕ) (t : Scalar) (old rs : List ℕ) → GivenBy code layout home (Instr.Move r ra) t q to free r t → type_of (running_scope p ls) whole ≡ Some t → slice_index rs ra ≡ w.word → w.word < modulus w.of → length rs ≡ registers_in layout → Keeps layout home free old rs → IsGood code a sh → GoesOn N K a after ls to home free r t old → Does N K a sh text ls q rs (λ s. after (choosing whole w s))
-  moved whole w a sh text ls after q to home free r ra t old rs c e here below len k g go =
-      same (effect code) (λ n. after (Gives (record { of = t; word = slice_index rs ra }) (state n ls (context_of a sh) text)))
-      (λ n. ap (λ o. after (go_on (or_astray o (state n ls (context_of a sh) text)) (λ t. pure (converted t w)))) e ∙ ap (λ x. after (Gives (record { of = t; word = x }) (state n ls (context_of a sh) text))) (word_same t w.of w.word below ∙ sym here))
-      (sets (Instr.Move r ra) t a sh text ls after q to home free r (slice_index rs ra) t old rs c refl len (subst (λ x. x < modulus t) (sym here) (below_as w.of t w.word below)) k g go)
+  moved : {N K : ℕ} (x : Value) (a : Around) (sh : Shared) (text : List ℕ) (ls : List Local) (after : Answer Value → Outcome) (q to : ℕ) (home : Option ℕ) (free r rc : ℕ) (t : Scalar) (old rs : List ℕ) → GivenBy code layout home (Instr.Move r rc) t q to free r t → Computed a t rc None free old x sh rs → length rs ≡ registers_in layout → GoesOn N K a after ls to home free r t old → Does N K a sh text ls q rs (λ s. after (Gives x s))
+  moved x a sh text ls after q to home free r rc t old rs c d len go =
+      same (effect code) (λ n. after (Gives (record { of = t; word = slice_index rs rc }) (state n ls (context_of a sh) text)))
+      (λ n j. after (Gives (record { of = d.typed_so j; word = sym d.here j }) (state n ls (context_of a sh) text)))
+      (sets (Instr.Move r rc) t a sh text ls after q to home free r (slice_index rs rc) t old rs c refl len (subst (λ z. z < modulus t) (sym d.here) (subst (λ z. x.word < modulus z) d.typed_so d.word)) (keeps_more layout home free old rs d.keeps) d.good go)
 
-  -- a branch's value, straight or moved
-  branch_follows : (home : Option ℕ) (whole : Expr) (scope : LocalScope) (e : Expr) → ((h : Option ℕ) → AlwaysFollows h scope e) → (N K from to free r : ℕ) (t : Scalar) (a : Around) (sh : Shared) (text : List ℕ) (ls : List Local) (old : List ℕ) (after : Answer Value → Outcome) → BranchCode code layout home (λ h. ExprCode code layout p h scope e) from to free r t → type_of (running_scope p ls) whole ≡ Some t → Holds scope ls layout free old → IsGood code a sh → IsSeen a after → GoesOn N K a after ls to home free r t old → Does N K a sh text ls from old (λ s. after (go_on (expr p call e s) (choosing whole)))
-  branch_follows home whole scope e ih N K from to free r t a sh text ls old after (inl c) is h good s go =
-      ih home N K from to free r c.0 a sh text ls old (λ q. after (go_on q (choosing whole))) c.1 h good (on_seen a after (choosing whole) s)
+  -- a branch's value, once it is converted, straight
+  straight_follows : (home : Option ℕ) (whole : Expr) (scope : LocalScope) (e : Expr) → AlwaysFollows home scope e → (N K from to free r : ℕ) (t : Scalar) (a : Around) (sh : Shared) (text : List ℕ) (ls : List Local) (old : List ℕ) (after : Answer Value → Outcome) → StraightCode code layout home (ExprCode code layout p home scope e) from to free r t → type_of (running_scope p ls) whole ≡ Some t → Holds scope ls layout free old → IsGood code a sh → IsSeen a after → GoesOn N K a after ls to home free r t old → Does N K a sh text ls from old (λ s. after (go_on (expr p call e s) (choosing whole)))
+  straight_follows home whole scope e ih N K from to free r t a sh text ls old after c is h good s go =
+      ih N K from c.mid free c.ra c.ta a sh text ls old (λ q. after (go_on q (choosing whole))) c.computes h good (on_seen a after (choosing whole) s)
       (λ w sh1 text1 rs1 d.
       same (effect code) (λ n. after (Gives (converted t w) (state n ls (context_of a sh1) text1)))
       (λ n. ap (λ o. after (go_on (or_astray o (state n ls (context_of a sh1) text1)) (λ t. pure (converted t w)))) is)
-      (go (converted t w) sh1 text1 rs1 (record { typed_so = refl; word = word_below t (number_of w); here = d.here ∙ sym (word_same t w.of w.word d.word); keeps = d.keeps; good = d.good })))
+      (converts c.ta t w a sh1 text1 ls after c.mid to home free c.ra r old rs1 c.converts d go))
+
+  -- and where it is moved
+  branch_follows : (home : Option ℕ) (whole : Expr) (scope : LocalScope) (e : Expr) → ((h : Option ℕ) → AlwaysFollows h scope e) → (N K from to free r : ℕ) (t : Scalar) (a : Around) (sh : Shared) (text : List ℕ) (ls : List Local) (old : List ℕ) (after : Answer Value → Outcome) → BranchCode code layout home (λ h. ExprCode code layout p h scope e) from to free r t → type_of (running_scope p ls) whole ≡ Some t → Holds scope ls layout free old → IsGood code a sh → IsSeen a after → GoesOn N K a after ls to home free r t old → Does N K a sh text ls from old (λ s. after (go_on (expr p call e s) (choosing whole)))
+  branch_follows home whole scope e ih N K from to free r t a sh text ls old after (inl c) is h good s go =
+      straight_follows home whole scope e (ih home) N K from to free r t a sh text ls old after c is h good s go
   branch_follows home whole scope e ih N K from to free r t a sh text ls old after (inr c) is h good s go =
-      ih None N K from c.mid free c.ra c.ta a sh text ls old (λ q. after (go_on q (choosing whole))) c.computes h good (on_seen a after (choosing whole) s)
-      (λ w sh1 text1 rs1 d. moved whole w a sh1 text1 ls after c.mid to home free r c.ra t old rs1 c.moves is d.here d.word (d.keeps.size ∙ h.size_is) (keeps_more layout home free old rs1 d.keeps) d.good go)
+      straight_follows None whole scope e (ih None) N K from c.mid free c.rc t a sh text ls old after c.computes is h good s
+      (λ x sh1 text1 rs1 d. moved x a sh1 text1 ls after c.mid to home free r c.rc t old rs1 c.moves d (d.keeps.size ∙ h.size_is) go)
 
   goes_after : {N K : ℕ} (a : Around) (after : Answer Value → Outcome) (ls : List Local) (to : ℕ) (home : Option ℕ) (free r : ℕ) (t : Scalar) (old mid : List ℕ) → Keeps layout None free old mid → GoesOn N K a after ls to home free r t old → GoesOn N K a after ls to home free r t mid
   goes_after a after ls to home free r t old mid k go v sh text new d = go v sh text new (record { typed_so = d.typed_so; word = d.word; here = d.here; keeps = keeps_on layout home free free old mid new (omega arith) k d.keeps; good = d.good })
@@ -525,8 +544,8 @@ module _ (p : Program) (call : Caller) (code : Code) (layout : Layout) (frames :
       expr_follows home scope (Parenthesized e at) N K from to free r t a sh text ls old after c h good s go = expr_follows home scope e N K from to free r t a sh text ls old after c h good s go
       expr_follows home scope (Cast u e at) N K from to free r t a sh text ls old after c h good s go =
           let rest : Value → Action Value = λ v. pure (converted u v) in
-          expr_follows home scope e N K from to free r c.te a sh text ls old (λ q. after (go_on q rest)) c.computes h good (on_seen a after rest s)
-          (λ v sh1 text1 rs1 d. go (converted u v) sh1 text1 rs1 (record { typed_so = sym c.type_is; word = word_below u (number_of v); here = d.here ∙ sym (word_same u v.of v.word d.word); keeps = d.keeps; good = d.good }))
+          expr_follows home scope e N K from c.mid free c.ra c.te a sh text ls old (λ q. after (go_on q rest)) c.computes h good (on_seen a after rest s)
+          (λ v sh1 text1 rs1 d. converts c.te u v a sh1 text1 ls after c.mid to home free c.ra r old rs1 c.converts d (go_at a after ls to to home free r t u old refl c.type_is go))
       expr_follows home scope (Unary Negate e at) N K from to free r t a sh text ls old after c h good s go =
           let rest : Value → Action Value = λ v. or_trap (unary Negate v) in
           let negated : Scalar → ℕ → Result ℕ Trap = λ o w. fitted o (neg_ℤ (number o w)) in

@@ -8,4 +8,5 @@ mod OuterCancels
 mod Prints
 mod Flow
 pub mod Calls
+pub mod Unconverted
 mod Sample

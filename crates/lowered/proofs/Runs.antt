@@ -147,6 +147,18 @@ keeps_on layout home free later old mid new h k l = record {
   behind = λ i b. l.behind i b ∙ k.behind i b;
 }
 
+pub keeps_then : (layout : Layout) (home : Option ℕ) (free later : ℕ) (old mid new : List ℕ) → free ≤ later → Keeps layout home free old mid → Keeps layout None later mid new → Keeps layout home free old new
+keeps_then layout home free later old mid new h k l = record {
+  size = l.size ∙ k.size;
+  below = λ i b s. l.below i (omega (arith, b, h)) tt ∙ k.below i b s;
+  behind = λ i b. l.behind i b ∙ k.behind i b;
+}
+
+-- a register that is not free, or lies behind all that are written
+pub kept_at : (layout : Layout) (free i : ℕ) (old new : List ℕ) → (i < free) ⊎ (layout.writable ≤ i) → Keeps layout None free old new → slice_index new i ≡ slice_index old i
+kept_at layout free i old new (inl h) k = k.below i h tt
+kept_at layout free i old new (inr h) k = k.behind i h
+
 -- the constants lie there still
 pub ready_kept : (layout : Layout) (home : Option ℕ) (free : ℕ) (old new : List ℕ) → LieReady layout old → Keeps layout home free old new → LieReady layout new
 ready_kept layout home free old new h k i w e = k.behind (layout.writable + i) (omega arith) ∙ h i w e

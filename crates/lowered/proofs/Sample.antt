@@ -14,8 +14,10 @@ use Rattle.syntax.specs.Threads.{thread}
 use Rattle.bytecode.specs.Sequential.{meaning}
 use Rattle.bytecode.specs.Code.{Code, FunctionCode, Instr, effect}
 use Rattle.bytecode.specs.Beginning.{beginning}
+use Rattle.lowered.specs.Expressions.{Layout}
 use Rattle.lowered.specs.Statements.{LocalAt, CellAt}
 use Rattle.lowered.specs.Programs.{FunctionIsLowered, IsLowered}
+use Rattle.lowered.proofs.Unconverted.{operator_is}
 
 abbrev nowhere : Span
 nowhere = record { start = 0; end = 0 }
@@ -65,9 +67,12 @@ code = record {
   globals = x ∷ [];
 }
 
+abbrev layout : Layout
+layout = record { writable = 3; constants = 3 ∷ 1 ∷ [] }
+
 worker_is_lowered : FunctionIsLowered program code function worker body
 worker_is_lowered = record {
-  layout = record { writable = 3; constants = 3 ∷ 1 ∷ [] };
+  layout = layout;
   begins = 2;
   last = 13;
   parameters = refl;
@@ -123,7 +128,7 @@ worker_is_lowered = record {
               kept = omega arith;
               apart = omega arith;
               right = inr (record { number = 0; known = refl; to_is = refl; register = refl; type_is = refl });
-              operates = record { to_is = refl; takes = omega arith; register = omega arith; type_is = refl; instr = refl };
+              operates = operator_is code layout _ _ _ _ _ _ _ _ _ _ _ (record { to_is = refl; takes = omega arith; register = omega arith; type_is = refl; instr = refl });
             };
             jumps = refl;
             leads = inl refl;
@@ -159,7 +164,8 @@ worker_is_lowered = record {
                 kept = omega arith;
                 apart = omega arith;
                 changes = record { known = omega arith; to_is = refl; register = refl; type_is = refl };
-                operates = record { to_is = refl; takes = omega arith; register = omega arith; type_is = refl; instr = refl };
+                operates = operator_is code layout _ _ _ _ _ _ _ _ _ _ _ (record { to_is = refl; takes = omega arith; register = omega arith; type_is = refl; instr = refl });
+                done = 8;
                 stores = inl (refl, refl);
               },
               refl,
@@ -187,7 +193,8 @@ worker_is_lowered = record {
               kept = omega arith;
               apart = omega arith;
               changes = inr (record { number = 1; known = refl; to_is = refl; register = refl; type_is = refl });
-              operates = record { to_is = refl; takes = inr refl; register = omega arith; type_is = refl; instr = refl };
+              operates = operator_is code layout _ _ _ _ _ _ _ _ _ _ _ (record { to_is = refl; takes = inr refl; register = omega arith; type_is = refl; instr = refl });
+              done = 11;
               stores = inr (refl, refl);
             },
             refl,

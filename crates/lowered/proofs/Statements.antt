@@ -253,8 +253,8 @@ module _ (p : Program) (call : Caller) (code : Code) (layout : Layout) (frames :
       follow N K c.fetched c.last c.after c.rb c.tb a sh2 text2 ls rs2 (λ q. after1 (go_on q rest2)) c.changes (holds_on scope ls layout c.later c.after rs1 rs2 c.kept (raised scope ls layout c.later rs1 c.room h1) d.keeps) d.good (on_seen a after1 rest2 seen1)
       (λ v sh3 text3 rs3 e.
       let keeps : Keeps layout None c.later rs1 rs3 = keeps_on layout None c.later c.after rs1 rs2 rs3 c.kept d.keeps e.keeps in
-      operates p call code layout frames op o v c.of c.tb c.ro c.rb a sh3 text3 ls (λ q. after1 (go_on q (assign at))) c.last (suc c.last) (home_of c.target) c.later c.r c.t rs1 rs3 d.typed_so e.typed_so (e.keeps.below c.ro c.apart tt ∙ d.here) e.here d.word e.word c.operates (keeps.size ∙ h1.size_is) (keeps_more layout (home_of c.target) c.later rs1 rs3 keeps) e.good (on_seen a after1 (assign at) seen1)
-      (λ new sh4 text4 rs4 f. stores c.target at scope c.later a sh4 text4 ls after (suc c.last) to c.r rs1 rs4 new c.room is_at c.spares c.stores f.keeps f.here f.word h1 f.good s go)))
+      operates p call code layout frames op o v c.of c.tb c.ro c.rb a sh3 text3 ls (λ q. after1 (go_on q (assign at))) c.last c.done (home_of c.target) c.later c.r c.t rs1 rs3 d.typed_so e.typed_so (e.keeps.below c.ro c.apart tt ∙ d.here) e.here d.word e.word c.operates (keeps.size ∙ h1.size_is) (keeps_more layout (home_of c.target) c.later rs1 rs3 keeps) e.good (on_seen a after1 (assign at) seen1)
+      (λ new sh4 text4 rs4 f. stores c.target at scope c.later a sh4 text4 ls after c.done to c.r rs1 rs4 new c.room is_at c.spares c.stores f.keeps f.here f.word h1 f.good s go)))
 
   changed_follows : {N K : ℕ} (scope : LocalScope) (lhs : Expr) (op : BinaryOp) (by : Action Value) (C : Coded) → Follow None scope by C → (from to : ℕ) → ChangeCode code layout p scope lhs op C from to → (a : Around) (sh : Shared) (text : List ℕ) (ls : List Local) (old : List ℕ) (after : Answer End → Outcome) → Holds scope ls layout (length scope) old → IsGood code a sh → IsSeen a after → GoesNext N K a after scope to → Goes N K a sh text ls from old (λ s. after ((spot p call lhs >>= λ at. ended (changed p call at by op)) s))
   changed_follows {N = N} {K = K} scope lhs op by C follow from to c a sh text ls old after h good s go = by_target c.goes_to

@@ -56,6 +56,10 @@ computing Equal t d a b = Instr.Compute Equal Unsigned d a b
 computing NotEqual t d a b = Instr.Compute NotEqual Unsigned d a b
 computing op t d a b = Instr.Compute op t d a b
 
+-- the instruction of a conversion, where a value has another word in the new type: of these types none has
+abbrev pub converting : (s u : Scalar) → Option (ℕ → ℕ → Instr)
+converting s u = None
+
 -- what a call takes over: the arguments that a parameter's name binds, and then the others
 abbrev pub named_ones : List Parameter → List ℕ → List ℕ
 named_ones (q ∷ qs) (r ∷ rs) = if is_some q.name then r ∷ named_ones qs rs else named_ones qs rs
@@ -86,6 +90,15 @@ module _ (code : Code) (layout : Layout) where
     pub register : r < layout.writable
     pub type_is : t ≡ u
     pub instr : At code from i
+
+  -- a value in the register ra comes to a register by a conversion: it lies there, or one instruction makes it
+  abbrev pub ConvertedBy : Option (ℕ → ℕ → Instr) → Option ℕ → Scalar → (ra from to free r : ℕ) → Type 0
+  ConvertedBy None home u ra from to free r = (to ≡ from) × (r ≡ ra)
+  ConvertedBy (Some i) home u ra from to free r = GivenBy home (i r ra) u from to free r u
+
+  -- likewise from one type to another
+  abbrev pub Converts : Option ℕ → (s u : Scalar) → (ra from to free r : ℕ) → Type 0
+  Converts home s u ra from to free r = ConvertedBy (converting s u) home u ra from to free r
 
   -- a local's value lies in its register
   pub record LocalIs (locals : ℕ) (l : ℕ × Scalar) (from to r : ℕ) (t : Scalar) : Type 0 where
@@ -125,9 +138,12 @@ module _ (code : Code) (layout : Layout) where
   ElementAt home None index from to free r t = ⊥
   ElementAt home (Some g) index from to free r t = ElementCode home g index from to free r t
 
-  pub record CastCode (u : Scalar) (e : Coded) (from to free r : ℕ) (t : Scalar) : Type 0 where
+  pub record CastCode (home : Option ℕ) (u : Scalar) (e : Coded) (from to free r : ℕ) (t : Scalar) : Type 0 where
+    pub mid : ℕ
+    pub ra : ℕ
     pub te : Scalar
-    pub computes : e from to free r te
+    pub computes : e from mid free ra te
+    pub converts : Converts home te u ra mid to free r
     pub type_is : t ≡ u
 
   -- an operator on one value, whose result has the value's type
@@ -149,6 +165,25 @@ module _ (code : Code) (layout : Layout) where
     pub zeroes : GivenBy None (Instr.Constant rz 0) Int mid (suc mid) free rz Int
     pub compares : GivenBy home (Instr.Compute Equal Unsigned r ra rz) Int (suc mid) to free r t
 
+  -- an operator on two values in registers, each converted to the type in which it computes: the left one first, which
+  -- keeps the right one
+  pub record OperatorCode (home : Option ℕ) (op : BinaryOp) (ta tb : Scalar) (ra rb from to free r : ℕ) (t : Scalar) :
+      Type 0 where
+    pub mid : ℕ
+    pub last : ℕ
+    pub later : ℕ
+    pub after : ℕ
+    pub rc : ℕ
+    pub rd : ℕ
+    pub kept : free ≤ later
+    pub apart : (rb < later) ⊎ (layout.writable ≤ rb)
+    pub left : Converts None ta (operand_type op ta tb) ra from mid later rc
+    pub kept_on : later ≤ after
+    pub apart_on : (rc < after) ⊎ (layout.writable ≤ rc)
+    pub right : Converts None tb (operand_type op tb ta) rb mid last after rd
+    pub operates : GivenBy home (computing op (operand_type op ta tb) r rc rd)
+        (result_type op (operand_type op ta tb)) last to free r t
+
   pub record BinaryCode (home : Option ℕ) (op : BinaryOp) (a b : Coded) (from to free r : ℕ) (t : Scalar) : Type 0 where
     pub mid : ℕ
     pub last : ℕ
@@ -161,8 +196,7 @@ module _ (code : Code) (layout : Layout) where
     pub kept : free ≤ later
     pub apart : ra < later
     pub right : b mid last later rb tb
-    pub operates : GivenBy home (computing op (operand_type op ta tb) r ra rb)
-        (result_type op (operand_type op ta tb)) last to free r t
+    pub operates : OperatorCode home op ta tb ra rb last to free r t
 
   -- a value is computed and tested by a jump; where it does not jump, the code leads on
   pub record ValueTested (jump : ℕ → ℕ → Instr) (value : Coded) (from there on free : ℕ) : Type 0 where
@@ -205,17 +239,23 @@ module _ (code : Code) (layout : Layout) where
     pub gives_zero : GivenBy home (Instr.Constant r 0) Int unmet (suc unmet) free r t
     pub zero_leads : LeadsTo code (suc unmet) to
 
-  -- a branch's value comes to a register straight, or is moved there
-  pub record MovedCode (home : Option ℕ) (e : Coded) (from to free r : ℕ) (t : Scalar) : Type 0 where
+  -- a branch's value, once it is converted, lies in a register straight, or is moved there
+  pub record StraightCode (home : Option ℕ) (e : Coded) (from to free r : ℕ) (t : Scalar) : Type 0 where
     pub mid : ℕ
     pub ra : ℕ
     pub ta : Scalar
     pub computes : e from mid free ra ta
-    pub moves : GivenBy home (Instr.Move r ra) t mid to free r t
+    pub converts : Converts home ta t ra mid to free r
+
+  pub record MovedCode (home : Option ℕ) (e : Coded) (from to free r : ℕ) (t : Scalar) : Type 0 where
+    pub mid : ℕ
+    pub rc : ℕ
+    pub computes : StraightCode None e from mid free rc t
+    pub moves : GivenBy home (Instr.Move r rc) t mid to free r t
 
   abbrev pub BranchCode : Option ℕ → (Option ℕ → Coded) → Coded
   BranchCode home e from to free r t =
-      ((u : Scalar) × e home from to free r u) ⊎ MovedCode home (e None) from to free r t
+      StraightCode home (e home) from to free r t ⊎ MovedCode home (e None) from to free r t
 
   pub record ConditionalCode (home : Option ℕ) (c : Branching) (a b : Option ℕ → Coded) (from to free r : ℕ)
       (t : Scalar) : Type 0 where
@@ -275,7 +315,7 @@ module _ (code : Code) (layout : Layout) where
       ExprCode home scope (Element x i at) = ElementAt home (global_of p x.text) (ExprCode None scope i)
       ExprCode home scope (Call f es at) = CallCode home p f.text (ArgsCode scope es)
       ExprCode home scope (Parenthesized e at) = ExprCode home scope e
-      ExprCode home scope (Cast u e at) = CastCode u (ExprCode home scope e)
+      ExprCode home scope (Cast u e at) = CastCode home u (ExprCode home scope e)
       ExprCode home scope (Unary Negate e at) = λ from to free r t.
           UnaryCode home (λ ta ra. Instr.Negate ta r ra) (ExprCode None scope e) from to free r t
       ExprCode home scope (Unary Keep e at) = ExprCode home scope e

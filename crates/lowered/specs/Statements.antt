@@ -10,10 +10,9 @@ use Rattle.syntax.specs.declared.tree.Kind.TheVariants.{Plain, Outer}
 use Rattle.syntax.specs.Tree.{Expr, Exprs, Variable, Element, Simple, Evaluate, Assign, Adjust, Declarator, Start, Nothing, Declares, Does, Stmt, Stmts, Empty, Declare, Do, Block, Print, If, IfElse, While, DoWhile, For, Break, Continue, Return, Transaction, Cancel, CancelOuter, Program}
 use Rattle.syntax.specs.Meaning.{op_of, mode_of}
 use Rattle.syntax.specs.Formats.{Piece, Literal, Figure, pieces}
-use Rattle.syntax.specs.Numbers.{operand_type, result_type}
 use Rattle.syntax.specs.Names.{newest, global_of, cells, GlobalCells}
 use Rattle.bytecode.specs.Code.{Instr, Code}
-use Rattle.lowered.specs.Expressions.{LocalScope, Layout, At, LeadsTo, Coded, Branching, computing, GivenBy, LiesReady, OperandCode, ExprCode, CondCode, ArgsCode}
+use Rattle.lowered.specs.Expressions.{LocalScope, Layout, At, LeadsTo, Coded, Branching, GivenBy, OperatorCode, LiesReady, OperandCode, ExprCode, CondCode, ArgsCode}
 
 -- where an assignment goes: a local's register, a cell, or an element whose index lies in a register
 pub data Target : Type 0 where
@@ -200,9 +199,9 @@ module _ (code : Code) (layout : Layout) (p : Program) where
     pub kept : later ≤ after
     pub apart : ro < after
     pub changes : by fetched last after rb tb
-    pub operates : GivenBy code layout (home_of target) (computing op (operand_type op of tb) r ro rb)
-        (result_type op (operand_type op of tb)) last (suc last) later r t
-    pub stores : StoreCode target r (suc last) to
+    pub done : ℕ
+    pub operates : OperatorCode code layout (home_of target) op of tb ro rb last done later r t
+    pub stores : StoreCode target r done to
 
   -- the right side of an operator, and the 1 that is added or subtracted
   abbrev pub Operand : LocalScope → Expr → Coded

@@ -18,6 +18,7 @@ use Rattle.lowered.specs.Expressions as Lowered
 use Rattle.lowered.specs.Expressions.{Coded, Layout, MayTake, GivenBy, LocalIs, LiesReady, OperandCode, VariableCode, ElementCode, CastCode, ValueTransactionCode, UnaryCode, NotCode, BinaryCode, MovedCode, BranchCode}
 use Rattle.picked.specs.Lists.{Lists, used}
 use Rattle.picked.specs.Expressions.{computing, negating, Emitted, above, one, then_one, ready_from, ready, constant_ready, ready_or, in_local, converted_to, in_own_transaction, negated, complemented, compared, both, settled}
+use Rattle.lowered.proofs.Unconverted.{operator_is}
 use Rattle.picked.proofs.stands.Standing.{Stand, front, behind, Grows, grows_same, grows_further, grows_used, max_left, max_right, Fits, fits_before, is_register, given}
 
 -- operators have the instructions of the relation
@@ -88,11 +89,11 @@ module _ (code : Code) (arguments : List ℕ) (layout : Layout) where
       then_emits A (ElementCode code layout home g A) home (own.ReadAt into e.held.register g.cell (cells g.global)) g.global.of from free into l e h m
       (λ a b. record { mid = e.held.to; ri = e.held.register; ti = e.held.of; computes = a; reads = b })
 
-  pub cast_emits : (t : Scalar) (A : Coded) (from free : ℕ) (l : Lists) (e : Emitted) → Emits A from free l e → Emits (CastCode code layout t A) from free l (converted_to t e)
-  cast_emits t A from free l e h = record {
+  pub cast_emits : (home : Option ℕ) (t : Scalar) (A : Coded) (from free : ℕ) (l : Lists) (e : Emitted) → Emits A from free l e → Emits (CastCode code layout home t A) from free l (converted_to t e)
+  cast_emits home t A from free l e h = record {
     to_is = h.to_is;
     grows = h.grows;
-    stands = λ f st. record { te = e.held.of; computes = h.stands f st; type_is = refl };
+    stands = λ f st. record { mid = e.held.to; ra = e.held.register; te = e.held.of; computes = h.stands f st; converts = (refl, refl); type_is = refl };
   }
 
   pub in_own_emits : (A : Coded) (from free : ℕ) (l : Lists) (e : Emitted) → Emits A (from + 1) free l e → Emits (ValueTransactionCode code layout A) from free l (in_own_transaction e)
@@ -203,8 +204,9 @@ module _ (code : Code) (arguments : List ℕ) (layout : Layout) where
               kept = above_free free a.held.register;
               apart = above_it free a.held.register;
               right = g.stands inner (behind code arguments from a.held.to a.code b.code h.to_is first);
-              operates = subst (λ j. GivenBy code layout home j (result_type op t) b.held.to (b.held.to + 1) free into (result_type op t)) (computing_is arguments op t into a.held.register b.held.register)
-                  (given code arguments layout home i (result_type op t) b.held.to (b.held.to + 1) free into (omega arith) m (is_register code arguments layout b.lists into f) last.0);
+              operates = operator_is code layout home op a.held.of b.held.of a.held.register b.held.register b.held.to (b.held.to + 1) free into (result_type op t)
+                  (subst (λ j. GivenBy code layout home j (result_type op t) b.held.to (b.held.to + 1) free into (result_type op t)) (computing_is arguments op t into a.held.register b.held.register)
+                  (given code arguments layout home i (result_type op t) b.held.to (b.held.to + 1) free into (omega arith) m (is_register code arguments layout b.lists into f) last.0));
             };
       }
 
@@ -217,13 +219,13 @@ module _ (code : Code) (arguments : List ℕ) (layout : Layout) where
       there same = record {
         to_is = h.to_is;
         grows = h.grows;
-        stands = λ f st. inl (e.held.of, subst (λ r. A home from e.held.to free r e.held.of) same (h.stands f st));
+        stands = λ f st. inl (record { mid = e.held.to; ra = e.held.register; ta = e.held.of; computes = h.stands f st; converts = (refl, sym same) });
       }
 
       moved : Emits (A None) from free l e → Emits (λ from to free r t'. BranchCode code layout home A from to free into t) from free l (then_one e (own.Move into e.held.register) into e.held.of)
       moved g =
           then_emits (A None) (λ from to free r t'. BranchCode code layout home A from to free into t) home (own.Move into e.held.register) e.held.of from free into l e g m
-          (λ a b. inr (record { mid = e.held.to; ra = e.held.register; ta = e.held.of; computes = a; moves = record { to_is = b.to_is; takes = b.takes; register = b.register; type_is = refl; instr = b.instr } }))
+          (λ a b. inr (record { mid = e.held.to; rc = e.held.register; computes = record { mid = e.held.to; ra = e.held.register; ta = e.held.of; computes = a; converts = (refl, refl) }; moves = record { to_is = b.to_is; takes = b.takes; register = b.register; type_is = refl; instr = b.instr } }))
 
       by : (b : Bool) → (e.held.register == into) ≡ b → Emits (λ from to free r t'. BranchCode code layout home A from to free into t) from free l (if b then e else then_one e (own.Move into e.held.register) into e.held.of)
       by true n = there (eqb-true e.held.register into n)

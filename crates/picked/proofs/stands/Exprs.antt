@@ -236,7 +236,7 @@ module _ (p : Program) (code : Code) (arguments : List ℕ) (layout : Layout) (t
     elsewhere (Call f es at) h from into free l = inr (called_into (callee_of p f.text) (all_emitted p scope es from free l) from into l)
     elsewhere (Parenthesized e at) h from into free l = elsewhere e h from into free l
     elsewhere (Cast t e at) h from into free l =
-        ⊎_elim (λ g. inl (cast_emits code arguments layout t (ExprCode code layout p None scope e) from free l (emitted p scope e from into free l) g)) (λ g. inr g) (elsewhere e h from into free l)
+        ⊎_elim (λ g. inl (cast_emits code arguments layout None t (ExprCode code layout p None scope e) from free l (emitted p scope e from into free l) g)) (λ g. inr g) (elsewhere e h from into free l)
     elsewhere (Unary Keep e at) h from into free l = elsewhere e h.0 from into free l
     elsewhere (InTransaction mode keyword e at) h from into free l =
         ⊎_elim (λ g. inl (in_own_emits code arguments layout (ExprCode code layout p None scope e) from free l (emitted p scope e (from + 1) into free l) g)) (λ g. inr g) (elsewhere e h.0 (from + 1) into free l)
@@ -264,7 +264,7 @@ module _ (p : Program) (code : Code) (arguments : List ℕ) (layout : Layout) (t
           let c = calls f h.0 h.2 in
           call_emits home f.text (ArgsCode code layout p scope es) c (callee_of p f.text) c.callee from into free l (all_emitted p scope es from free l) (all_emits es h.1 from free l) m
       expr_emits home (Parenthesized e at) h from into free l m = expr_emits home e h from into free l m
-      expr_emits home (Cast t e at) h from into free l m = cast_emits code arguments layout t (ExprCode code layout p home scope e) from free l (emitted p scope e from into free l) (expr_emits home e h from into free l m)
+      expr_emits home (Cast t e at) h from into free l m = cast_emits code arguments layout home t (ExprCode code layout p home scope e) from free l (emitted p scope e from into free l) (expr_emits home e h from into free l m)
       expr_emits home (Unary Negate e at) h from into free l m =
           negated_emits code arguments layout home (ExprCode code layout p None scope e) from free into l (emitted p scope e from free free l) (expr_emits None e h.0 from free free l (omega arith)) m
       expr_emits home (Unary Keep e at) h from into free l m = expr_emits home e h.0 from into free l m

@@ -192,7 +192,6 @@ module _ (p : Program) (code : Code) (arguments : List ℕ) (layout : Layout) (t
         (fetched_emits p code arguments layout goal a.to later a.lists) (other old.held.to after old.lists) (may_take_home goal later)))
         (λ g s.
         let b = s.value in
-        let ends : s.mid ≡ suc b.last = b.operates.to_is in
         record {
           target = goal;
           mid = a.to;
@@ -213,8 +212,9 @@ module _ (p : Program) (code : Code) (arguments : List ℕ) (layout : Layout) (t
           kept = b.kept;
           apart = b.apart;
           changes = b.right;
-          operates = subst (λ q. GivenBy code layout (home_of goal) (Lowered.computing op (operand_type op b.ta b.tb) s.r b.ra b.rb) (result_type op (operand_type op b.ta b.tb)) b.last q later s.r s.of) ends b.operates;
-          stores = subst (λ q. StoreCode code layout p goal s.r q (then_stored (own_of goal) whole).to) ends s.stores;
+          done = s.mid;
+          operates = b.operates;
+          stores = s.stores;
         })
 
     adjusted_writes : (op : BinaryOp) (lhs : Expr) (by : Option Expr) (B : Coded) → ((from free : ℕ) (l : Lists) → Emits code arguments layout B from free l (value_or_one p scope by from free l)) → TypedTarget known lhs → IsTrue (may_be_assigned known lhs) → (from : ℕ) (l : Lists) →
