@@ -267,7 +267,7 @@ module _ (p : Program) (call : Caller) (code : Code) (layout : Layout) (frames :
       let after1 : Answer (Unit {0}) → Outcome = λ q. after (go_on q (λ u. rest)) in
       expression_follows p call code layout frames cf are (Some i) inner e N K from c.mid c.value.free c.r c.value.t a sh text ls old (λ q. after1 (go_on q rest1)) c.value.computes (raised inner ls layout c.value.free old c.value.room h) good (on_seen a after1 rest1 (on_seen a after (λ u. rest) s))
       (λ v sh1 text1 rs1 d.
-      stores p call code layout frames cf are (LocalAt (i, t)) (InLocal i t) inner c.value.free a sh1 text1 ls (λ q. after (go_on q (λ e. rest))) c.mid to c.r old rs1 v c.value.room (refl, below, type_is) tt c.stores d.keeps d.here d.word h d.good (on_seen a after (λ e. rest) s)
+      stores p call code layout frames cf are (LocalAt (i, t)) (InLocal i t) inner c.value.free a sh1 text1 ls (λ q. after (go_on q (λ e. rest))) c.mid to c.r c.value.t old rs1 v c.value.room (refl, below, type_is) tt c.stores d.keeps d.here d.word h d.good (on_seen a after (λ e. rest) s)
       (λ sh2 text2 ls2 rs2 good2 h2. go sh2 text2 ls2 rs2 good2 h2))
 
   declare_follows : {N K : ℕ} (t : Scalar) (ds : List Declarator) (x : Exits) (scope : LocalScope) (from to : ℕ) → DeclareCode code layout p t ds scope from to → (a : Around) (sh : Shared) (text : List ℕ) (ls : List Local) (old : List ℕ) (after : Answer End → Outcome) → Here scope ls old → IsGood code a sh → IsSeen a after → GoesNext p call code layout frames cf are N K a after (with_declared t ds scope) to → Goes p call code layout frames cf are N K a sh text ls from old (λ s. after (declare p call t ds s))

@@ -17,7 +17,7 @@ use Rattle.bytecode.specs.Beginning.{beginning}
 use Rattle.lowered.specs.Expressions.{Layout}
 use Rattle.lowered.specs.Statements.{LocalAt, CellAt}
 use Rattle.lowered.specs.Programs.{FunctionIsLowered, IsLowered}
-use Rattle.lowered.proofs.Unconverted.{operator_is}
+use Rattle.lowered.proofs.Unconverted.{operator_is, stored_is}
 
 abbrev nowhere : Span
 nowhere = record { start = 0; end = 0 }
@@ -95,7 +95,7 @@ worker_is_lowered = record {
           t = Int;
           computes = record { to_is = refl; takes = inr refl; register = omega arith; type_is = refl; instr = refl };
         };
-        stores = inr (refl, refl);
+        stores = stored_is code layout program _ _ _ _ _ _ (inr (refl, refl));
       };
       goes_on = refl;
     },
@@ -166,7 +166,7 @@ worker_is_lowered = record {
                 changes = record { known = omega arith; to_is = refl; register = refl; type_is = refl };
                 operates = operator_is code layout _ _ _ _ _ _ _ _ _ _ _ (record { to_is = refl; takes = omega arith; register = omega arith; type_is = refl; instr = refl });
                 done = 8;
-                stores = inl (refl, refl);
+                stores = stored_is code layout program _ _ _ _ _ _ (inl (refl, refl));
               },
               refl,
             );
@@ -195,7 +195,7 @@ worker_is_lowered = record {
               changes = inr (record { number = 1; known = refl; to_is = refl; register = refl; type_is = refl });
               operates = operator_is code layout _ _ _ _ _ _ _ _ _ _ _ (record { to_is = refl; takes = inr refl; register = omega arith; type_is = refl; instr = refl });
               done = 11;
-              stores = inr (refl, refl);
+              stores = stored_is code layout program _ _ _ _ _ _ (inr (refl, refl));
             },
             refl,
           ),

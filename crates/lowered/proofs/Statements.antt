@@ -20,7 +20,8 @@ use Rattle.syntax.proofs.Memories.{written_memory}
 use Rattle.bytecode.specs.Effects.{Effect}
 use Rattle.bytecode.specs.Code.{Code, Frame, Instr, effect, effect_of, setting, bounds_of, stored}
 use Rattle.lowered.specs.Expressions.{LocalScope, IsLike, At, Layout, Coded}
-use Rattle.lowered.specs.Statements.{Target, LocalAt, CellAt, ElementOf, assigning, home_of, Spares, Coding, Testing, ValueCode, TestCode, VariableTarget, CheckedAt, UncheckedAt, TargetCode, ReadTarget, FetchCode, StoreCode, AssignCode, ChangeCode, Operand, OneCode, SimpleCode}
+use Rattle.lowered.specs.Statements.{Target, LocalAt, CellAt, ElementOf, assigning, home_of, Spares, Coding, Testing, ValueCode, TestCode, VariableTarget, CheckedAt, UncheckedAt, TargetCode, ReadTarget, FetchCode, StoreCode, StoredCode, AssignCode, ChangeCode, Operand, OneCode, SimpleCode}
+use Rattle.lowered.proofs.Unconverted.{as_it_lies}
 use Rattle.lowered.proofs.Agreement.{astray, same}
 use Rattle.lowered.proofs.Runs.{Around, Bare, Within, Shared, context_of, state, IsSeen, on_seen, IsBounded, AreBounded, KnownCells, HasCellsOf, IsGood, Holds, Keeps, ready_kept, keeps_all, keeps_more, keeps_set, keeps_on, holds_on, configuration, effect_at, goes_by, writes_by, traps}
 use Rattle.lowered.proofs.Expressions.{CallsFollow, below_as, residue_of, word_same, element_in, newest_like, GoesOn, Does, sets, reads, operates, spot_in, spot_from_is, lies, operand_follows, expr_follows, cond_follows}
@@ -133,18 +134,25 @@ module _ (p : Program) (call : Caller) (code : Code) (layout : Layout) (frames :
       (is_at.2.1 (slice_index rs ri) is_at.1) here (lowered scope ls layout later old rs room h k) g s go)
 
   -- a value goes to its target, or lies there already
-  pub stores : {N K : ℕ} (tg : Target) (at : Spot) (scope : LocalScope) (later : ℕ) (a : Around) (sh : Shared) (text : List ℕ) (ls : List Local) (after : Answer End → Outcome) (q to ra : ℕ) (old rs : List ℕ) (v : Value) → length scope ≤ later → IsAt scope tg old at → Spares tg later → StoreCode code layout p tg ra q to → Keeps layout (home_of tg) later old rs → slice_index rs ra ≡ v.word → v.word < modulus v.of → Holds scope ls layout (length scope) old → IsGood code a sh → IsSeen a after → GoesNext N K a after scope to → Goes N K a sh text ls q rs (λ s. after (go_on (assign at v s) (λ u. pure Next)))
-  stores {N = N} {K = K} tg at scope later a sh text ls after q to ra old rs v room is_at sp (inl c) k here below h g s go =
+  stored_at : {N K : ℕ} (tg : Target) (at : Spot) (scope : LocalScope) (later : ℕ) (a : Around) (sh : Shared) (text : List ℕ) (ls : List Local) (after : Answer End → Outcome) (q to ra : ℕ) (old rs : List ℕ) (v : Value) → length scope ≤ later → IsAt scope tg old at → Spares tg later → StoreCode code layout p tg ra q to → Keeps layout (home_of tg) later old rs → slice_index rs ra ≡ v.word → v.word < modulus v.of → Holds scope ls layout (length scope) old → IsGood code a sh → IsSeen a after → GoesNext N K a after scope to → Goes N K a sh text ls q rs (λ s. after (go_on (assign at v s) (λ u. pure Next)))
+  stored_at {N = N} {K = K} tg at scope later a sh text ls after q to ra old rs v room is_at sp (inl c) k here below h g s go =
       assigns tg at scope later a sh text ls after q ra old rs v room is_at sp c.1 k here below h g s (subst (λ x. GoesNext N K a after scope x) c.0 go)
-  stores {N = N} {K = K} (LocalAt l) at scope later a sh text ls after q to ra old rs v room is_at sp (inr c) k here below h g s go =
+  stored_at {N = N} {K = K} (LocalAt l) at scope later a sh text ls after q to ra old rs v room is_at sp (inr c) k here below h g s go =
       let same_register : l.0 ≡ ra = ap (λ o. unwrap_or o 0) c.1 in
       let w : ℕ = slice_index rs ra in
       same (effect code) (λ n. after (Gives Next (state n (with_word ls l.0 w) (context_of a sh) text)))
       (λ n. ap (λ x. after (go_on (assign x v (state n ls (context_of a sh) text)) (λ u. pure Next))) is_at.0 ∙ ap (λ x. after (Gives Next (state n (with_word ls l.0 x) (context_of a sh) text))) (word_same l.1 v.of v.word below ∙ sym here))
       (subst (λ x. GoesNext N K a after scope x) c.0 go sh text (with_word ls l.0 w) rs g
       (written_local scope ls old rs layout later l.0 w l.1 is_at.1 is_at.2 room h k (ap (slice_index rs) same_register) (subst (λ x. x < modulus l.1) (sym here) (below_as v.of l.1 v.word below))))
-  stores (CellAt g0) at scope later a sh text ls after q to ra old rs v room is_at sp (inr c) k here below h g s go = absurd (missing ra c.1)
-  stores (ElementOf g0 ri) at scope later a sh text ls after q to ra old rs v room is_at sp (inr c) k here below h g s go = absurd (missing ra c.1)
+  stored_at (CellAt g0) at scope later a sh text ls after q to ra old rs v room is_at sp (inr c) k here below h g s go = absurd (missing ra c.1)
+  stored_at (ElementOf g0 ri) at scope later a sh text ls after q to ra old rs v room is_at sp (inr c) k here below h g s go = absurd (missing ra c.1)
+
+  -- likewise, once it is converted
+  pub stores : {N K : ℕ} (tg : Target) (at : Spot) (scope : LocalScope) (later : ℕ) (a : Around) (sh : Shared) (text : List ℕ) (ls : List Local) (after : Answer End → Outcome) (q to ra : ℕ) (t : Scalar) (old rs : List ℕ) (v : Value) → length scope ≤ later → IsAt scope tg old at → Spares tg later → StoredCode code layout p tg t ra q to later → Keeps layout (home_of tg) later old rs → slice_index rs ra ≡ v.word → v.word < modulus v.of → Holds scope ls layout (length scope) old → IsGood code a sh → IsSeen a after → GoesNext N K a after scope to → Goes N K a sh text ls q rs (λ s. after (go_on (assign at v s) (λ u. pure Next)))
+  stores tg at scope later a sh text ls after q to ra t old rs v room is_at sp c k here below h g s go =
+      let there = as_it_lies code layout tg t (home_of tg) ra q c.mid later c.r c.converts in
+      stored_at tg at scope later a sh text ls after q to ra old rs v room is_at sp
+      (subst (λ r. StoreCode code layout p tg r q to) there.1 (subst (λ x. StoreCode code layout p tg c.r x to) there.0 c.stores)) k here below h g s go
 
   -- the left side of an assignment
   abbrev GoesAt : ℕ → ℕ → (a : Around) → (Answer Spot → Outcome) → LocalScope → Target → List Local → (to : ℕ) → List ℕ → Type 0
@@ -239,7 +247,7 @@ module _ (p : Program) (call : Caller) (code : Code) (layout : Layout) (frames :
       (λ at sh1 text1 rs1 is_at h1 good1.
       let after1 : Answer (Unit {0}) → Outcome = λ q. after (go_on q (λ u. pure Next)) in
       follow (home_of c.target) N K c.mid c.last c.later c.r c.t a sh1 text1 ls rs1 (λ q. after1 (go_on q (assign at))) c.value (raised scope ls layout c.later rs1 c.room h1) good1 (on_seen a after1 (assign at) (on_seen a after (λ u. pure Next) s))
-      (λ v sh2 text2 rs2 d. stores c.target at scope c.later a sh2 text2 ls after c.last to c.r rs1 rs2 v c.room is_at c.spares c.stores d.keeps d.here d.word h1 d.good s go))
+      (λ v sh2 text2 rs2 d. stores c.target at scope c.later a sh2 text2 ls after c.last to c.r c.t rs1 rs2 v c.room is_at c.spares c.stores d.keeps d.here d.word h1 d.good s go))
 
   -- once the target is known
   changed_from : {N K : ℕ} (scope : LocalScope) (lhs : Expr) (op : BinaryOp) (by : Action Value) (C : Coded) → Follow None scope by C → (from to : ℕ) (c : ChangeCode code layout p scope lhs op C from to) (at : Spot) (a : Around) (sh1 : Shared) (text1 : List ℕ) (ls : List Local) (rs1 : List ℕ) (after : Answer End → Outcome) → IsAt scope c.target rs1 at → Holds scope ls layout (length scope) rs1 → IsGood code a sh1 → IsSeen a after → GoesNext N K a after scope to → Goes N K a sh1 text1 ls c.mid rs1 (λ s. after (ended (changed p call at by op) s))
@@ -254,7 +262,7 @@ module _ (p : Program) (call : Caller) (code : Code) (layout : Layout) (frames :
       (λ v sh3 text3 rs3 e.
       let keeps : Keeps layout None c.later rs1 rs3 = keeps_on layout None c.later c.after rs1 rs2 rs3 c.kept d.keeps e.keeps in
       operates p call code layout frames op o v c.of c.tb c.ro c.rb a sh3 text3 ls (λ q. after1 (go_on q (assign at))) c.last c.done (home_of c.target) c.later c.r c.t rs1 rs3 d.typed_so e.typed_so (e.keeps.below c.ro c.apart tt ∙ d.here) e.here d.word e.word c.operates (keeps.size ∙ h1.size_is) (keeps_more layout (home_of c.target) c.later rs1 rs3 keeps) e.good (on_seen a after1 (assign at) seen1)
-      (λ new sh4 text4 rs4 f. stores c.target at scope c.later a sh4 text4 ls after c.done to c.r rs1 rs4 new c.room is_at c.spares c.stores f.keeps f.here f.word h1 f.good s go)))
+      (λ new sh4 text4 rs4 f. stores c.target at scope c.later a sh4 text4 ls after c.done to c.r c.t rs1 rs4 new c.room is_at c.spares c.stores f.keeps f.here f.word h1 f.good s go)))
 
   changed_follows : {N K : ℕ} (scope : LocalScope) (lhs : Expr) (op : BinaryOp) (by : Action Value) (C : Coded) → Follow None scope by C → (from to : ℕ) → ChangeCode code layout p scope lhs op C from to → (a : Around) (sh : Shared) (text : List ℕ) (ls : List Local) (old : List ℕ) (after : Answer End → Outcome) → Holds scope ls layout (length scope) old → IsGood code a sh → IsSeen a after → GoesNext N K a after scope to → Goes N K a sh text ls from old (λ s. after ((spot p call lhs >>= λ at. ended (changed p call at by op)) s))
   changed_follows {N = N} {K = K} scope lhs op by C follow from to c a sh text ls old after h good s go = by_target c.goes_to

@@ -60,6 +60,10 @@ computing op t d a b = Instr.Compute op t d a b
 abbrev pub converting : (s u : Scalar) → Option (ℕ → ℕ → Instr)
 converting s u = None
 
+-- likewise of a value that is written to a cell, where the write does not take the residue by itself
+abbrev pub widening : (s u : Scalar) → Option (ℕ → ℕ → Instr)
+widening s u = None
+
 -- what a call takes over: the arguments that a parameter's name binds, and then the others
 abbrev pub named_ones : List Parameter → List ℕ → List ℕ
 named_ones (q ∷ qs) (r ∷ rs) = if is_some q.name then r ∷ named_ones qs rs else named_ones qs rs

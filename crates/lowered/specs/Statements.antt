@@ -12,7 +12,7 @@ use Rattle.syntax.specs.Meaning.{op_of, mode_of}
 use Rattle.syntax.specs.Formats.{Piece, Literal, Figure, pieces}
 use Rattle.syntax.specs.Names.{newest, global_of, cells, GlobalCells}
 use Rattle.bytecode.specs.Code.{Instr, Code}
-use Rattle.lowered.specs.Expressions.{LocalScope, Layout, At, LeadsTo, Coded, Branching, GivenBy, OperatorCode, LiesReady, OperandCode, ExprCode, CondCode, ArgsCode}
+use Rattle.lowered.specs.Expressions.{LocalScope, Layout, At, LeadsTo, Coded, Branching, converting, widening, GivenBy, ConvertedBy, OperatorCode, LiesReady, OperandCode, ExprCode, CondCode, ArgsCode}
 
 -- where an assignment goes: a local's register, a cell, or an element whose index lies in a register
 pub data Target : Type 0 where
@@ -29,6 +29,17 @@ assigning (ElementOf g ri) ra = Instr.WriteAt g.cell (cells g.global) ri ra
 abbrev pub home_of : Target → Option ℕ
 home_of (LocalAt l) = Some l.0
 home_of target = None
+
+-- the type of what lies at a target, and the instruction that takes a value of another type there
+abbrev pub target_type : Target → Scalar
+target_type (LocalAt l) = l.1
+target_type (CellAt g) = g.global.of
+target_type (ElementOf g ri) = g.global.of
+
+abbrev pub due : Target → Scalar → Option (ℕ → ℕ → Instr)
+due (LocalAt l) s = converting s l.1
+due (CellAt g) s = widening s g.global.of
+due (ElementOf g ri) s = widening s g.global.of
 
 -- the index of an element is kept below the free registers
 abbrev pub Spares : Target → ℕ → Type 0
@@ -164,6 +175,13 @@ module _ (code : Code) (layout : Layout) (p : Program) where
   StoreCode target r from to =
       ((to ≡ suc from) × At code from (assigning target r)) ⊎ ((to ≡ from) × (home_of target ≡ Some r))
 
+  -- a value of some type in the register ra, which is converted first
+  pub record StoredCode (target : Target) (s : Scalar) (ra from to free : ℕ) : Type 0 where
+    pub mid : ℕ
+    pub r : ℕ
+    pub converts : ConvertedBy code layout (due target s) (home_of target) (target_type target) ra from mid free r
+    pub stores : StoreCode target r mid to
+
   pub record AssignCode (scope : LocalScope) (lhs : Expr) (e : Option ℕ → Coded) (from to : ℕ) : Type 0 where
     pub target : Target
     pub mid : ℕ
@@ -175,7 +193,7 @@ module _ (code : Code) (layout : Layout) (p : Program) where
     pub room : length scope ≤ later
     pub spares : Spares target later
     pub value : e (home_of target) mid last later r t
-    pub stores : StoreCode target r last to
+    pub stores : StoredCode target t r last to later
 
   -- the old value is read first, and the result goes to its place
   pub record ChangeCode (scope : LocalScope) (lhs : Expr) (op : BinaryOp) (by : Coded) (from to : ℕ) : Type 0 where
@@ -201,7 +219,7 @@ module _ (code : Code) (layout : Layout) (p : Program) where
     pub changes : by fetched last after rb tb
     pub done : ℕ
     pub operates : OperatorCode code layout (home_of target) op of tb ro rb last done later r t
-    pub stores : StoreCode target r done to
+    pub stores : StoredCode target t r done to later
 
   -- the right side of an operator, and the 1 that is added or subtracted
   abbrev pub Operand : LocalScope → Expr → Coded
@@ -222,7 +240,7 @@ module _ (code : Code) (layout : Layout) (p : Program) where
     pub mid : ℕ
     pub r : ℕ
     pub value : ValueCode scope e from mid r
-    pub stores : StoreCode (LocalAt local) r mid to
+    pub stores : StoredCode (LocalAt local) value.t r mid to value.free
 
   abbrev pub FirstValueCode : LocalScope → ℕ × Scalar → Option Expr → (from to : ℕ) → Type 0
   FirstValueCode scope local None from to = to ≡ from

@@ -8,7 +8,6 @@ use Rattle.lex.specs.declared.token.Scalar.TheVariants.{Int}
 use Rattle.syntax.specs.declared.tree.BinaryOp.{BinaryOp}
 use Rattle.syntax.specs.Tree.{Name, Expr, Variable, Element, Simple, Evaluate, Assign, Adjust, Declarator, Start, Nothing, Declares, Does, Program}
 use Rattle.syntax.specs.Meaning.{op_of}
-use Rattle.syntax.specs.Numbers.{operand_type, result_type}
 use Rattle.syntax.specs.Names.{GlobalCells, cells, newest, global_of}
 use Rattle.syntax.specs.Types.{Scope, with_number, running_scope}
 use Rattle.syntax.specs.Typing.{IsTypedProgram, knows, may_be_assigned, scope_of_start}
@@ -20,13 +19,13 @@ use Rattle.syntax.proofs.ValueTypes.{Found}
 use Rattle.bytecode.specs.declared.instr.Instr.{Instr}
 use Rattle.bytecode.specs.declared.instr.Instr.TheVariants as own
 use Rattle.bytecode.specs.Code.{Code, Instr as Plain}
-use Rattle.lowered.specs.Expressions as Lowered
 use Rattle.lowered.specs.Expressions.{LocalScope, Coded, Layout, GivenBy, BinaryCode, ExprCode}
-use Rattle.lowered.specs.Statements.{Target, LocalAt, CellAt, ElementOf, home_of, with_local, with_declared, locals_of_start, VariableTarget, CheckedAt, UncheckedAt, TargetCode, ReadTarget, FetchCode, StoreCode, AssignCode, ChangeCode, Operand, OneCode, SimpleCode, FirstValueCode, DeclareCode, StartCode}
+use Rattle.lowered.specs.Statements.{Target, LocalAt, CellAt, ElementOf, home_of, with_local, with_declared, locals_of_start, VariableTarget, CheckedAt, UncheckedAt, TargetCode, ReadTarget, FetchCode, AssignCode, ChangeCode, Operand, OneCode, SimpleCode, FirstValueCode, DeclareCode, StartCode}
 use Rattle.picked.specs.declared.held.Target.{Target as OwnTarget}
 use Rattle.picked.specs.Lists.{Lists, used}
 use Rattle.picked.specs.Expressions.{Emitted, above, constant, both, emitted}
 use Rattle.picked.specs.Simples.{Written, Aimed, variable_target, element_target, above_target, fetched, home_or, then_stored, behind as aimed_then, aimed, value_or_one, assigned, adjusted, simple_written, first_written, declared_written, start_written}
+use Rattle.lowered.proofs.Unconverted.{stored_is}
 use Rattle.picked.proofs.stands.Standing.{Stand, front, behind, Grows, grows_same, grows_further, grows_used, Fits, fits_before, is_register}
 use Rattle.picked.proofs.stands.Named.{VariableFound, variable_found, array_found, known_number, known_array}
 use Rattle.picked.proofs.stands.Emitting.{Emits, one_emits, ready_or_emits, operand_emits, both_emits}
@@ -164,7 +163,7 @@ module _ (p : Program) (code : Code) (arguments : List ℕ) (layout : Layout) (t
           room = target_above goal (length scope);
           spares = spares goal (length scope);
           value = s.value;
-          stores = s.stores;
+          stores = stored_is code layout p goal s.of s.r s.mid _ later s.stores;
         })
 
     assigned_writes : (lhs e : Expr) → TypedTarget known lhs → TypedExpr known e → IsTrue (may_be_assigned known lhs) → (from : ℕ) (l : Lists) → Writes p code arguments layout (SimpleCode code layout p scope (Assign lhs None e)) from l (assigned p scope lhs e from (length scope) l)
@@ -214,7 +213,7 @@ module _ (p : Program) (code : Code) (arguments : List ℕ) (layout : Layout) (t
           changes = b.right;
           done = s.mid;
           operates = b.operates;
-          stores = s.stores;
+          stores = stored_is code layout p goal s.of s.r s.mid _ later s.stores;
         })
 
     adjusted_writes : (op : BinaryOp) (lhs : Expr) (by : Option Expr) (B : Coded) → ((from free : ℕ) (l : Lists) → Emits code arguments layout B from free l (value_or_one p scope by from free l)) → TypedTarget known lhs → IsTrue (may_be_assigned known lhs) → (from : ℕ) (l : Lists) →
@@ -267,7 +266,7 @@ module _ (p : Program) (code : Code) (arguments : List ℕ) (layout : Layout) (t
         grows = w.grows;
         stands = λ f st.
             let s = w.stands f st in
-            record { mid = s.mid; r = s.r; value = record { free = suc i; room = omega (arith, n); t = s.of; computes = s.value }; stores = s.stores };
+            record { mid = s.mid; r = s.r; value = record { free = suc i; room = omega (arith, n); t = s.of; computes = s.value }; stores = stored_is code layout p _ s.of s.r s.mid _ (suc i) s.stores };
       }
 
   pub declared_writes : (t : Scalar) (ds : List Declarator) (known : Scope) (scope : LocalScope) → Agrees known (running_scope p scope) → TypedDeclarators known t ds → (from : ℕ) (l : Lists) →
