@@ -6,9 +6,9 @@ use bytecode::laws::valid_code_fits_its_cells;
 use separation::laws::never_astray;
 use syntax::laws::threads_leave_memories;
 
-/// Code that stands for a program means it, in both directions, where no thread of the program goes astray. For every
-/// thread and every list of memories that its transactions find: what the source's thread shows after some number of
-/// ticks, the code's thread shows after some number of instructions, and the other way round.
+/// Code that stands for a typed program means it, in both directions, where no thread of the program goes astray. For
+/// every thread and every list of memories that its transactions find: what the source's thread shows after some number
+/// of ticks, the code's thread shows after some number of instructions, and the other way round.
 pub fn lowered_code_means()
     ensures { LoweredCodeMeans }
 {}
