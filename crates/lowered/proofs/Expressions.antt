@@ -33,8 +33,9 @@ use Rattle.syntax.specs.Numbers.{fitted}
 use Rattle.syntax.proofs.Words.{computed_below, fitted_below, narrows, truth_below, word_below}
 use Rattle.bytecode.specs.Effects.{Effect}
 use Rattle.bytecode.specs.Code.{Code, Configuration, Frame, Instr, effect, effect_of, or_traps, setting}
-use Rattle.lowered.specs.Expressions.{ValueTransactionCode, LocalScope, IsLike, At, LeadsTo, Branching, MayTake, computing, arranged, Layout, GivenBy, Converts, OperatorCode, StraightCode, LiesReady, OperandCode, VariableCode, ElementAt, Branches, BothHold, EitherHolds, ComparedWithZero, TruthCode, BranchCode, ConditionalCode, ExprCode, OwnTests, ArgsCode, CondCode}
+use Rattle.lowered.specs.Expressions.{ValueTransactionCode, LocalScope, IsLike, At, LeadsTo, Branching, MayTake, computing, arranged, Layout, GivenBy, Converts, OperatorCode, StraightCode, LiesReady, OperandCode, VariableCode, ElementAt, Branches, BothHold, EitherHolds, ComparedWithZero, TruthCode, BranchCode, ConditionalCode, types_left, ExprCode, OwnTests, ArgsCode, CondCode}
 use Rattle.lowered.proofs.Locals.{word_typed, type_like, KnownLocal, newest_known}
+use Rattle.lowered.proofs.Unconverted.{handed_as_it_lies}
 use Rattle.lowered.proofs.Agreement.{Agrees, astray, same, fewer}
 use Rattle.lowered.proofs.Runs.{Enters, enters, Held, inner_held, outermost_held, begins_inner, begins_outermost, wants_one, commits_inner, leaves_outermost, next_commit, IsBounded, AreBounded, KnownCells, HasCellsOf, AreMemories, Around, Bare, Within, Shared, context_of, holding, state, IsSeen, on_seen, IsGood, registers_in, Holds, Keeps, keeps_all, keeps_more, keeps_set, keeps_on, keeps_then, kept_at, holds_on, configuration, effect_at, goes, goes_by, reads_by, word_read, tick_goes, traps}
 
@@ -534,7 +535,7 @@ module _ (p : Program) (call : Caller) (code : Code) (layout : Layout) (frames :
           element_follows home (global_of p x.text) scope i (expr_follows None scope i) N K from to free r t a sh text ls old after c (are x.text) h good s go
       expr_follows home scope (Call f es at) N K from to free r t a sh text ls old after c h good s go =
           let rest : List Value → Action Value = λ vs. tick >> call f.text vs in
-          args_follow scope es N K from c.mid free c.registers_of a sh text ls old (λ q. after (go_on q rest)) c.gives_args h good (on_seen a after rest s)
+          args_follow scope (map (λ q. q.of) c.f.parameters) es N K from c.mid free c.registers_of a sh text ls old (λ q. after (go_on q rest)) c.gives_args h good (on_seen a after rest s)
           (λ vs sh1 text1 rs1 words below keeps good1.
           tick_goes code a after (call f.text vs) sh1 ls text1 (configuration code c.mid rs1 frames) s
           (cf N K f.text vs c.number c.mid r c.registers_of c.function c.f c.body a sh1 text1 ls rs1 after c.calls.instr c.known c.named c.defined words below good1 s
@@ -628,17 +629,18 @@ module _ (p : Program) (call : Caller) (code : Code) (layout : Layout) (frames :
           N K from met unmet free a sh text ls old after c h good s (flag_of a after ls met unmet free old go)
       own_follows scope e N K from met unmet free a sh text ls old after c h good s go = absurd c
 
-      pub args_follow : (scope : LocalScope) (es : Exprs) (N K from to free : ℕ) (args : List ℕ) (a : Around) (sh : Shared) (text : List ℕ) (ls : List Local) (old : List ℕ) (after : Answer (List Value) → Outcome) → ArgsCode code layout p scope es from to free args → Holds scope ls layout free old → IsGood code a sh → IsSeen a after → GoesArgs N K a after ls to free args old → Does N K a sh text ls from old (λ s. after (exprs p call es s))
-      args_follow scope Exprs.[] N K from to free args a sh text ls old after c h good s go =
+      pub args_follow : (scope : LocalScope) (ts : List Scalar) (es : Exprs) (N K from to free : ℕ) (args : List ℕ) (a : Around) (sh : Shared) (text : List ℕ) (ls : List Local) (old : List ℕ) (after : Answer (List Value) → Outcome) → ArgsCode code layout p scope ts es from to free args → Holds scope ls layout free old → IsGood code a sh → IsSeen a after → GoesArgs N K a after ls to free args old → Does N K a sh text ls from old (λ s. after (exprs p call es s))
+      args_follow scope ts Exprs.[] N K from to free args a sh text ls old after c h good s go =
           subst (λ q. Agrees (effect code) N K (holding a sh text (configuration code q old frames)) (λ n. after (Gives [] (state n ls (context_of a sh) text)))) c.0 (go [] sh text old (ap (map (slice_index old)) c.1) tt (keeps_all layout None free old) good)
-      args_follow scope (Exprs.◌∷◌ e es) N K from to free args a sh text ls old after c h good s go =
+      args_follow scope ts (Exprs.◌∷◌ e es) N K from to free args a sh text ls old after c h good s go =
           let rest : Value → Action (List Value) = λ v. exprs p call es >>= λ vs. pure (v ∷ vs) in
-          expr_follows None scope e N K from c.mid free c.r c.t a sh text ls old (λ q. after (go_on q rest)) c.computes h good (on_seen a after rest s)
+          let there = handed_as_it_lies code layout ts c.t None c.ra c.mid c.last free c.r c.converts in
+          expr_follows None scope e N K from c.mid free c.ra c.t a sh text ls old (λ q. after (go_on q rest)) c.computes h good (on_seen a after rest s)
           (λ v sh1 text1 rs1 d.
           let rest1 : List Value → Action (List Value) = λ vs. pure (v ∷ vs) in
-          args_follow scope es N K c.mid to c.later c.others a sh1 text1 ls rs1 (λ q. after (go_on q rest1)) c.goes_on (holds_on scope ls layout free c.later old rs1 c.kept h d.keeps) d.good (on_seen a after rest1 s)
+          args_follow scope (types_left ts) es N K c.mid to c.later c.others a sh1 text1 ls rs1 (λ q. after (go_on q rest1)) (subst (λ q. ArgsCode code layout p scope (types_left ts) es q to c.later c.others) there.0 c.goes_on) (holds_on scope ls layout free c.later old rs1 c.kept h d.keeps) d.good (on_seen a after rest1 s)
           (λ vs sh2 text2 rs2 words below keeps good2.
-          go (v ∷ vs) sh2 text2 rs2 (ap (map (slice_index rs2)) c.are ∙ ap (λ w. w ∷ map (slice_index rs2) c.others) (keeps.below c.r c.apart tt ∙ d.here) ∙ ap (λ ws. v.word ∷ ws) words) (d.word, below) (keeps_on layout None free c.later old rs1 rs2 c.kept d.keeps keeps) good2))
+          go (v ∷ vs) sh2 text2 rs2 (ap (map (slice_index rs2)) c.are ∙ ap (λ w. w ∷ map (slice_index rs2) c.others) (keeps.below c.r c.apart tt ∙ ap (slice_index rs1) there.1 ∙ d.here) ∙ ap (λ ws. v.word ∷ ws) words) (d.word, below) (keeps_on layout None free c.later old rs1 rs2 c.kept d.keeps keeps) good2))
 
     -- a condition's code
     pub cond_follows : (scope : LocalScope) (e : Expr) → BranchingFollows scope (expr p call e) (CondCode code layout p scope e)

@@ -25,7 +25,7 @@ use Rattle.lowered.specs.Expressions.{LocalScope, IsLike, At, LeadsTo, Layout}
 use Rattle.lowered.specs.Statements.{LocalAt, Exits, with_level, in_transaction, looping, with_local, with_declared, locals_of_start, locals_after, locals_at_end, Testing, Leaves, FirstValueCode, DeclareCode, IfCode, IfElseCode, WhileCode, DoWhileCode, HoldsCode, SteppedCode, StartCode, ForCode, TransactionCode, StmtCode, StmtsCode}
 use Rattle.lowered.proofs.Runs.{Enters, enters, Held, Around, Bare, Within, Shared, context_of, holding, state, IsSeen, on_seen, HasCellsOf, AreMemories, IsGood, Holds, configuration, effect_at, goes, goes_by, seen_spent, tick_goes, tick_counts, inner_held, outermost_held, begins_inner, begins_outermost, wants_one, commits_inner, cancels_inner, leaves_outermost, next_commit, next_cancel}
 use Rattle.lowered.proofs.Locals.{TypeIs, type_last, length_like, word_taken, words_taken, shape_taken, word_new, word_last, words_new, shape_new}
-use Rattle.lowered.proofs.Statements.{raised, stores, Goes, GoesNext, GoesTest, expression_follows, value_follows, test_follows, simple_follows}
+use Rattle.lowered.proofs.Statements.{raised, stores, Goes, GoesNext, GoesTest, expression_follows, result_follows, test_follows, simple_follows}
 use Rattle.lowered.proofs.Prints.{print_rest, print_follows}
 use Rattle.lowered.proofs.Turns.{while_turn, do_turn, for_turn, Falls}
 use Rattle.syntax.proofs.Loops.{loop_is_its_turns}
@@ -721,7 +721,7 @@ module _ (p : Program) (call : Caller) (code : Code) (layout : Layout) (frames :
       stmt_follows (Return (Some e) at) N K x scope from to a sh text ls old after c h good s go =
           let rest : Value → Action End = λ v. pure (Returns v) in
           timed (expr p call e >>= rest) N K from a sh text ls old after s
-          (value_follows p call code layout frames cf are scope e from c.0 c.1 c.2 a sh text ls old (λ q. after (go_on q rest)) h good (on_seen a after rest s)
+          (result_follows p call code layout frames cf are scope x.gives e from c.0 c.1 c.2 a sh text ls old (λ q. after (go_on q rest)) h good (on_seen a after rest s)
           (λ v sh1 text1 rs1 b here h1 good1. go.ends (Returns v) sh1 text1 ls rs1 c.0 good1 (Some c.1, c.3, here, b)))
       stmt_follows (Transaction kind ss at) N K x scope from to a sh text ls old after c h good s go =
           transaction_follows kind ss (stmts_follow ss) N K x scope from to a sh text ls old after c h good s go

@@ -74,7 +74,7 @@ module _ (p : Program) (call : Caller) (code : Code) (layout : Layout) (frames :
   print_goes : {N K : ℕ} (scope : LocalScope) (format : List ℕ) (es : Exprs) (from to : ℕ) (c : PrintCode code layout p scope format es from to) (a : Around) (sh : Shared) (text : List ℕ) (ls : List Local) (old : List ℕ) (after : Answer End → Outcome) → ((sh1 : Shared) → IsGood code a sh1 → MayPrint a sh1) → Holds scope ls layout (length scope) old → IsGood code a sh → IsSeen a after → GoesNext p call code layout frames cf are N K a after scope to → Goes p call code layout frames cf are N K a sh text ls (suc from) old (λ s. after (print_rest format es s))
   print_goes {N = N} {K = K} scope format es from to c a sh text ls old after may h good s go =
       let rest : List Value → Action End = λ vs. print_pieces (pieces format) vs >> pure Next in
-      args_follow p call code layout frames cf are scope es N K (suc from) c.mid c.free c.rs a sh text ls old (λ q. after (go_on q rest)) c.args (raised scope ls layout c.free old c.room h) good (on_seen a after rest s)
+      args_follow p call code layout frames cf are scope [] es N K (suc from) c.mid c.free c.rs a sh text ls old (λ q. after (go_on q rest)) c.args (raised scope ls layout c.free old c.room h) good (on_seen a after rest s)
       (λ vs sh1 text1 rs1 words below keeps good1.
       pieces_follow (pieces format) c.rs vs c.mid to c.prints a sh1 text1 ls rs1 (λ q. after (go_on q (λ u. pure Next))) words (may sh1 good1) (on_seen a after (λ u. pure Next) s)
       (λ text2. go sh1 text2 ls rs1 good1 (lowered scope ls layout c.free old rs1 c.room h keeps)))

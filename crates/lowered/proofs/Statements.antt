@@ -20,7 +20,7 @@ use Rattle.syntax.proofs.Memories.{written_memory}
 use Rattle.bytecode.specs.Effects.{Effect}
 use Rattle.bytecode.specs.Code.{Code, Frame, Instr, effect, effect_of, setting, bounds_of, stored}
 use Rattle.lowered.specs.Expressions.{LocalScope, IsLike, At, Layout, Coded}
-use Rattle.lowered.specs.Statements.{Target, LocalAt, CellAt, ElementOf, assigning, home_of, Spares, Coding, Testing, ValueCode, TestCode, VariableTarget, CheckedAt, UncheckedAt, TargetCode, ReadTarget, FetchCode, StoreCode, StoredCode, AssignCode, ChangeCode, Operand, OneCode, SimpleCode}
+use Rattle.lowered.specs.Statements.{Target, LocalAt, CellAt, ElementOf, assigning, home_of, Spares, Coding, Testing, ValueCode, ResultCode, TestCode, VariableTarget, CheckedAt, UncheckedAt, TargetCode, ReadTarget, FetchCode, StoreCode, StoredCode, AssignCode, ChangeCode, Operand, OneCode, SimpleCode}
 use Rattle.lowered.proofs.Unconverted.{as_it_lies}
 use Rattle.lowered.proofs.Agreement.{astray, same}
 use Rattle.lowered.proofs.Runs.{Around, Bare, Within, Shared, context_of, state, IsSeen, on_seen, IsBounded, AreBounded, KnownCells, HasCellsOf, IsGood, Holds, Keeps, ready_kept, keeps_all, keeps_more, keeps_set, keeps_on, holds_on, configuration, effect_at, goes_by, writes_by, traps}
@@ -297,6 +297,11 @@ module _ (p : Program) (call : Caller) (code : Code) (layout : Layout) (frames :
   value_follows {N = N} {K = K} scope e from to r c a sh text ls old after h good s go =
       expr_follows p call code layout frames cf are None scope e N K from to c.free r c.t a sh text ls old after c.computes (raised scope ls layout c.free old c.room h) good s
       (λ v sh1 text1 rs1 d. go v sh1 text1 rs1 d.word d.here (lowered scope ls layout c.free old rs1 c.room h d.keeps) d.good)
+
+  -- likewise where it is converted
+  pub result_follows : {N K : ℕ} (scope : LocalScope) (u : Scalar) (e : Expr) (from to r : ℕ) → ResultCode code layout p scope u (Coding code layout p None scope e) from to r → (a : Around) (sh : Shared) (text : List ℕ) (ls : List Local) (old : List ℕ) (after : Answer Value → Outcome) → Holds scope ls layout (length scope) old → IsGood code a sh → IsSeen a after → GoesValue N K a after scope ls to r → Goes N K a sh text ls from old (λ s. after (expr p call e s))
+  result_follows {N = N} {K = K} scope u e from to r c a sh text ls old after h good s go =
+      value_follows scope e from c.mid c.ra c.value a sh text ls old after h good s (subst (λ q. GoesValue N K a after scope ls q c.ra) c.converts.0 (subst (λ i. GoesValue N K a after scope ls to i) c.converts.1 go))
 
   -- a condition, from its two places back to its beginning
   abbrev pub GoesTest : ℕ → ℕ → (a : Around) → (Answer Value → Outcome) → LocalScope → List Local → (met unmet : ℕ) → Type 0

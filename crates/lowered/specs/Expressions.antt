@@ -64,6 +64,19 @@ converting s u = None
 abbrev pub widening : (s u : Scalar) → Option (ℕ → ℕ → Instr)
 widening s u = None
 
+-- of the first of several values, which are due in these types: without a type it stays in its own
+abbrev pub handing : List Scalar → Scalar → Option (ℕ → ℕ → Instr)
+handing [] s = None
+handing (u ∷ us) s = converting s u
+
+abbrev pub handed_type : List Scalar → Scalar → Scalar
+handed_type [] s = s
+handed_type (u ∷ us) s = u
+
+abbrev pub types_left : List Scalar → List Scalar
+types_left [] = []
+types_left (u ∷ us) = us
+
 -- what a call takes over: the arguments that a parameter's name binds, and then the others
 abbrev pub named_ones : List Parameter → List ℕ → List ℕ
 named_ones (q ∷ qs) (r ∷ rs) = if is_some q.name then r ∷ named_ones qs rs else named_ones qs rs
@@ -273,28 +286,32 @@ module _ (code : Code) (layout : Layout) where
     pub else_code : BranchCode home b unmet end free r t
     pub else_leads : LeadsTo code end to
 
-  -- arguments from left to right, each in a register of its own
-  pub record ArgCode (first : Coded) (rest : ℕ → ℕ → List ℕ → Type 0) (from free : ℕ) (rs : List ℕ) : Type 0 where
+  -- values from left to right, which are due in these types, each in a register of its own
+  pub record ArgCode (ts : List Scalar) (first : Coded) (rest : ℕ → ℕ → List ℕ → Type 0) (from free : ℕ) (rs : List ℕ) :
+      Type 0 where
     pub mid : ℕ
+    pub last : ℕ
     pub later : ℕ
+    pub ra : ℕ
     pub r : ℕ
     pub t : Scalar
     pub others : List ℕ
-    pub computes : first from mid free r t
+    pub computes : first from mid free ra t
+    pub converts : ConvertedBy (handing ts t) None (handed_type ts t) ra mid last free r
     pub kept : free ≤ later
     pub apart : r < later
-    pub goes_on : rest mid later others
+    pub goes_on : rest last later others
     pub are : rs ≡ r ∷ others
 
-  pub record CallCode (home : Option ℕ) (p : Program) (x : List ℕ) (args : (from to free : ℕ) → List ℕ → Type 0)
-      (from to free r : ℕ) (t : Scalar) : Type 0 where
+  pub record CallCode (home : Option ℕ) (p : Program) (x : List ℕ)
+      (args : List Scalar → (from to free : ℕ) → List ℕ → Type 0) (from to free r : ℕ) (t : Scalar) : Type 0 where
     pub mid : ℕ
     pub number : ℕ
     pub function : FunctionCode
     pub f : Function
     pub body : Stmts
     pub registers_of : List ℕ
-    pub gives_args : args from mid free registers_of
+    pub gives_args : args (map (λ q. q.of) f.parameters) from mid free registers_of
     pub calls : GivenBy home (Instr.Call number r (arranged f.parameters registers_of)) (unwrap_or f.result Int)
         mid to free r t
     pub known : slice_get code.functions number ≡ Some function
@@ -317,7 +334,7 @@ module _ (code : Code) (layout : Layout) where
       ExprCode home scope (Constant n u at) = λ from to free r t.
           GivenBy home (Instr.Constant r (word_of u (pos n))) u from to free r t
       ExprCode home scope (Element x i at) = ElementAt home (global_of p x.text) (ExprCode None scope i)
-      ExprCode home scope (Call f es at) = CallCode home p f.text (ArgsCode scope es)
+      ExprCode home scope (Call f es at) = CallCode home p f.text (λ ts. ArgsCode scope ts es)
       ExprCode home scope (Parenthesized e at) = ExprCode home scope e
       ExprCode home scope (Cast u e at) = CastCode home u (ExprCode home scope e)
       ExprCode home scope (Unary Negate e at) = λ from to free r t.
@@ -356,10 +373,11 @@ module _ (code : Code) (layout : Layout) where
           (Branches (ExprCode None scope b) (OwnTests scope b))
       OwnTests scope e = λ from met unmet free. ⊥
 
-      pub ArgsCode : LocalScope → Exprs → (from to free : ℕ) → List ℕ → Type 0
-      ArgsCode scope Exprs.[] from to free rs = (to ≡ from) × (rs ≡ [])
-      ArgsCode scope (Exprs.◌∷◌ e es) from to free rs =
-          ArgCode (ExprCode None scope e) (λ mid later others. ArgsCode scope es mid to later others) from free rs
+      pub ArgsCode : LocalScope → List Scalar → Exprs → (from to free : ℕ) → List ℕ → Type 0
+      ArgsCode scope ts Exprs.[] from to free rs = (to ≡ from) × (rs ≡ [])
+      ArgsCode scope ts (Exprs.◌∷◌ e es) from to free rs =
+          ArgCode ts (ExprCode None scope e) (λ mid later others. ArgsCode scope (types_left ts) es mid to later others)
+          from free rs
 
     -- code that leads to `met` where an expression's value is not 0, and to `unmet` where it is
     abbrev pub CondCode : LocalScope → Expr → Branching

@@ -1,5 +1,7 @@
 -- Which code stands for a program.
-use Rattle.std.specs.Prelude.{◌≡◌, ℕ, suc, ◌≤◌, ◌+◌, List, [], ◌∷◌, ◌++◌, length, Some, None, unwrap_or, option_map, slice_get}
+use Rattle.std.specs.Prelude.{◌≡◌, ℕ, suc, ◌≤◌, ◌+◌, List, [], ◌∷◌, ◌++◌, length, Option, Some, None, unwrap_or, option_map, slice_get}
+use Rattle.lex.specs.declared.token.Scalar.{Scalar}
+use Rattle.lex.specs.declared.token.Scalar.TheVariants.{Int}
 use Rattle.syntax.specs.Tree.{Parameter, Stmts, Function, Program}
 use Rattle.syntax.specs.Names.{globals, definition_of}
 use Rattle.bytecode.specs.Code.{Instr, FunctionCode, Code}
@@ -13,9 +15,17 @@ parameter_locals [] = []
 parameter_locals (q ∷ qs) =
     unwrap_or (option_map (λ x. record { name = x.text; of = q.of; word = 0 } ∷ []) q.name) [] ++ parameter_locals qs
 
--- a function's own statements stand in no loop and in no transaction
-abbrev pub no_exits : Exits
-no_exits = record { break_to = 0; continue_to = 0; in_loop = 0; in_function = 0; innermost = None; in_outer = None }
+-- a function's own statements stand in no loop and in no transaction, and return values of its type
+abbrev pub no_exits : Option Scalar → Exits
+no_exits result = record {
+  break_to = 0;
+  continue_to = 0;
+  in_loop = 0;
+  in_function = 0;
+  innermost = None;
+  in_outer = None;
+  gives = unwrap_or result Int;
+}
 
 -- words are set in registers from one on, one after another
 abbrev pub ConstantsCode : Code → ℕ → List ℕ → (from to : ℕ) → Type 0
@@ -31,7 +41,7 @@ pub record FunctionIsLowered (p : Program) (code : Code) (g : FunctionCode) (f :
   pub fits : length f.parameters ≤ layout.writable
   pub registers : g.registers ≡ layout.writable + length layout.constants
   pub sets : ConstantsCode code layout.writable layout.constants g.first begins
-  pub runs : StmtsCode code layout p no_exits (parameter_locals f.parameters) body begins last
+  pub runs : StmtsCode code layout p (no_exits f.result) (parameter_locals f.parameters) body begins last
   pub returns : At code last (Instr.Return None)
 
 -- the code of a program: each function's code is that of the definition of its name, one is worker's, and its globals

@@ -12,7 +12,7 @@ use Rattle.syntax.specs.Meaning.{op_of, mode_of}
 use Rattle.syntax.specs.Formats.{Piece, Literal, Figure, pieces}
 use Rattle.syntax.specs.Names.{newest, global_of, cells, GlobalCells}
 use Rattle.bytecode.specs.Code.{Instr, Code}
-use Rattle.lowered.specs.Expressions.{LocalScope, Layout, At, LeadsTo, Coded, Branching, converting, widening, GivenBy, ConvertedBy, OperatorCode, LiesReady, OperandCode, ExprCode, CondCode, ArgsCode}
+use Rattle.lowered.specs.Expressions.{LocalScope, Layout, At, LeadsTo, Coded, Branching, converting, widening, GivenBy, ConvertedBy, Converts, OperatorCode, LiesReady, OperandCode, ExprCode, CondCode, ArgsCode}
 
 -- where an assignment goes: a local's register, a cell, or an element whose index lies in a register
 pub data Target : Type 0 where
@@ -47,7 +47,7 @@ Spares (ElementOf g ri) later = ri < later
 Spares target later = Unit {0}
 
 -- where break and continue lead, how many transactions are open in the loop and in the function, how the innermost of
--- them runs, and how many are open inside the innermost outer one, if there is one
+-- them runs, how many are open inside the innermost outer one, if there is one, and the type of what is returned
 pub record Exits : Type 0 where
   pub break_to : ℕ
   pub continue_to : ℕ
@@ -55,6 +55,7 @@ pub record Exits : Type 0 where
   pub in_function : ℕ
   pub innermost : Option Mode
   pub in_outer : Option ℕ
+  pub gives : Scalar
 
 abbrev pub with_level : Kind → Option ℕ → Option ℕ
 with_level Outer levels = Some 0
@@ -109,13 +110,21 @@ module _ (code : Code) (layout : Layout) (p : Program) where
   Leaves q zero i = At code q i
   Leaves q (suc n) i = At code q Instr.Commit × Leaves (suc q) n i
 
-  -- a value somewhere above the locals, and a condition
+  -- a value somewhere above the locals
   pub record ValueCode (scope : LocalScope) (e : Coded) (from to r : ℕ) : Type 0 where
     pub free : ℕ
     pub room : length scope ≤ free
     pub t : Scalar
     pub computes : e from to free r t
 
+  -- likewise of one that is converted
+  pub record ResultCode (scope : LocalScope) (u : Scalar) (e : Coded) (from to r : ℕ) : Type 0 where
+    pub mid : ℕ
+    pub ra : ℕ
+    pub value : ValueCode scope e from mid ra
+    pub converts : Converts code layout None value.t u ra mid to value.free r
+
+  -- a condition, with what it needs above the locals
   pub record TestCode (scope : LocalScope) (c : Branching) (from met unmet : ℕ) : Type 0 where
     pub free : ℕ
     pub room : length scope ≤ free
@@ -371,7 +380,7 @@ module _ (code : Code) (layout : Layout) (p : Program) where
     pub room : length scope ≤ free
     pub mid : ℕ
     pub rs : List ℕ
-    pub args : ArgsCode code layout p scope es (suc from) mid free rs
+    pub args : ArgsCode code layout p scope [] es (suc from) mid free rs
     pub prints : PiecesCode (pieces format) rs mid to
 
   pub record TransactionCode (kind : Kind) (x : Exits) (body : Exits → ℕ → ℕ → Type 0) (from to : ℕ) : Type 0 where
@@ -404,7 +413,7 @@ module _ (code : Code) (layout : Layout) (p : Program) where
     StmtCode x scope (Continue at) from to = Leaves from x.in_loop (Instr.Jump x.continue_to)
     StmtCode x scope (Return None at) from to = Leaves from x.in_function (Instr.Return None)
     StmtCode x scope (Return (Some e) at) from to =
-        (mid : ℕ) × (r : ℕ) × ValueCode scope (Coding None scope e) from mid r
+        (mid : ℕ) × (r : ℕ) × ResultCode scope x.gives (Coding None scope e) from mid r
         × Leaves mid x.in_function (Instr.Return (Some r))
     StmtCode x scope (Transaction kind ss at) from to = TransactionCode kind x (λ y. StmtsCode y scope ss) from to
     StmtCode x scope (Cancel at) from to = (x.innermost ≡ Some Atomic) × At code from Instr.Cancel

@@ -1,5 +1,5 @@
 -- What is emitted for an expression of a typed program stands for it, and what is picked for a condition decides it.
-use Rattle.std.proofs.Common.{◌≡◌, refl, sym, ap, subst, ◌∙◌, ℕ, pos, ◌+◌, List, [], ◌∷◌, ◌++◌, append_assoc, length, take, drop, arith, Option, Some, None, Bool, true, false, ◌⊎◌, inl, inr, ⊎_elim, not, IsTrue}
+use Rattle.std.proofs.Common.{◌≡◌, refl, sym, ap, subst, ◌∙◌, ℕ, pos, ◌+◌, List, [], ◌∷◌, ◌++◌, append_assoc, length, map, take, drop, arith, Option, Some, None, Bool, true, false, ◌⊎◌, inl, inr, ⊎_elim, not, IsTrue}
 use Rattle.std.specs.Prelude.{if◌then◌else◌, ◌==◌, unwrap_or, option_map, slice_get}
 use Rattle.std.specs.Option.{IfSome}
 use Rattle.std.proofs.lemmas.List.{length-append}
@@ -24,11 +24,12 @@ use Rattle.bytecode.specs.declared.instr.Instr.{Instr}
 use Rattle.bytecode.specs.declared.instr.Instr.TheVariants as own
 use Rattle.bytecode.specs.Code.{Code, FunctionCode, Instr as Plain}
 use Rattle.bytecode.specs.Views.{args_of, instr_of}
-use Rattle.lowered.specs.Expressions.{LocalScope, Layout, IsLike, Coded, Branching, MayTake, GivenBy, VariableCode, ElementAt, BothHold, EitherHolds, CallCode, arranged, OperandCode, ExprCode, OwnTests, ArgsCode, CondCode}
+use Rattle.lowered.specs.Expressions.{LocalScope, Layout, IsLike, Coded, Branching, MayTake, GivenBy, VariableCode, ElementAt, BothHold, EitherHolds, CallCode, arranged, types_left, OperandCode, ExprCode, OwnTests, ArgsCode, CondCode}
 use Rattle.picked.specs.Lists.{Lists, used, holding}
 use Rattle.picked.specs.Names.{Callee, callee_at, callee_of}
 use Rattle.picked.specs.Conditions.{joined}
 use Rattle.picked.specs.Expressions.{Emitted, AllEmitted, above, then_one, ready_from, constant_ready, ready_or, variable, element, called, settled, emitted, own_condition, condition, all_emitted}
+use Rattle.lowered.proofs.Unconverted.{handed_is}
 use Rattle.picked.proofs.stands.Standing.{Stand, front, behind, front_same, front_more, max_left, Grows, grows_same, grows_further, grows_used, Fits, fits_before, is_register, given}
 use Rattle.picked.proofs.stands.Named.{VariableFound, variable_found, array_found, function_found, known_number, known_array, known_callable}
 use Rattle.picked.proofs.stands.Emitting.{above_free, above_it, Emits, one_emits, in_local_emits, element_emits, cast_emits, in_own_emits, negated_emits, complemented_emits, compared_emits, operand_emits, both_emits, settled_emits}
@@ -179,7 +180,7 @@ module _ (p : Program) (code : Code) (arguments : List ℕ) (layout : Layout) (t
     type_is (InTransaction mode keyword e at) h g from into free l = type_is e h.0 h.1 (from + 1) into free l
     type_is e h g from into free l = refl
 
-    call_emits : (home : Option ℕ) (x : List ℕ) (A : (from to free : ℕ) → List ℕ → Type 0) (c : Calls x) (o : Option Callee) → o ≡ Some (callee_at c.number c.definition.0) → (from into free : ℕ) (l : Lists) (args : AllEmitted) → AllEmits A from free l args → MayTake home free into →
+    call_emits : (home : Option ℕ) (x : List ℕ) (A : List Scalar → (from to free : ℕ) → List ℕ → Type 0) (c : Calls x) (o : Option Callee) → o ≡ Some (callee_at c.number c.definition.0) → (from into free : ℕ) (l : Lists) (args : AllEmitted) → AllEmits (A (map (λ q. q.of) c.definition.0.parameters)) from free l args → MayTake home free into →
         Emits code arguments layout (CallCode code layout home p x A) from free l (called o args from into l)
     call_emits home x A c None e from into free l args h m = absurd (cc)
     call_emits home x A c (Some d) e from into free l args h m = subst (λ k. Emits code arguments layout (CallCode code layout home p x A) from free l (called (Some k) args from into l)) (sym (ap (λ o. unwrap_or o d) e)) whole
@@ -262,7 +263,7 @@ module _ (p : Program) (code : Code) (arguments : List ℕ) (layout : Layout) (t
           (expr_emits None i h.1 from free free l (omega arith)) m
       expr_emits home (Call f es at) h from into free l m =
           let c = calls f h.0 h.2 in
-          call_emits home f.text (ArgsCode code layout p scope es) c (callee_of p f.text) c.callee from into free l (all_emitted p scope es from free l) (all_emits es h.1 from free l) m
+          call_emits home f.text (λ ts. ArgsCode code layout p scope ts es) c (callee_of p f.text) c.callee from into free l (all_emitted p scope es from free l) (all_emits (map (λ q. q.of) c.definition.0.parameters) es h.1 from free l) m
       expr_emits home (Parenthesized e at) h from into free l m = expr_emits home e h from into free l m
       expr_emits home (Cast t e at) h from into free l m = cast_emits code arguments layout home t (ExprCode code layout p home scope e) from free l (emitted p scope e from into free l) (expr_emits home e h from into free l m)
       expr_emits home (Unary Negate e at) h from into free l m =
@@ -350,24 +351,27 @@ module _ (p : Program) (code : Code) (arguments : List ℕ) (layout : Layout) (t
           (by_parts b (first.to + 1) free first.lists (own_decides b h.1 (first.to + 1) free first.lists) (expr_emits None b h.1 (first.to + 1) free free first.lists (omega arith))))
       own_decides e h from free l = tt
 
-      pub all_emits : (es : Exprs) → TypedExprs known es → (from free : ℕ) (l : Lists) → AllEmits (ArgsCode code layout p scope es) from free l (all_emitted p scope es from free l)
-      all_emits Exprs.[] h from free l = record { to_is = omega arith; grows = grows_same l; stands = λ f st. (refl, refl) }
-      all_emits (Exprs.◌∷◌ e es) h from free l =
+      pub all_emits : (ts : List Scalar) (es : Exprs) → TypedExprs known es → (from free : ℕ) (l : Lists) → AllEmits (ArgsCode code layout p scope ts es) from free l (all_emitted p scope es from free l)
+      all_emits ts Exprs.[] h from free l = record { to_is = omega arith; grows = grows_same l; stands = λ f st. (refl, refl) }
+      all_emits ts (Exprs.◌∷◌ e es) h from free l =
           let first = emitted p scope e from free free l in
           let later : ℕ = above free first.held.register in
           let rest = all_emitted p scope es first.held.to later first.lists in
           let one = expr_emits None e h.0 from free free l (omega arith) in
-          let others = all_emits es h.1 first.held.to later first.lists in
+          let others = all_emits (types_left ts) es h.1 first.held.to later first.lists in
           record {
             to_is = let a = one.to_is in let b = others.to_is in let u : length (first.code ++ rest.code) ≡ length first.code + length rest.code = length-append first.code rest.code in omega (arith, a, b, u);
             grows = grows_further l first.lists rest.lists one.grows others.grows;
             stands = λ f st. record {
               mid = first.held.to;
+              last = first.held.to;
               later = later;
+              ra = first.held.register;
               r = first.held.register;
               t = first.held.of;
               others = rest.registers;
               computes = one.stands (fits_before code arguments layout first.lists rest.lists others.grows f) (front code arguments from first.code rest.code st);
+              converts = handed_is code layout ts first.held.of None first.held.register first.held.to free;
               kept = above_free free first.held.register;
               apart = above_it free first.held.register;
               goes_on = others.stands f (behind code arguments from first.held.to first.code rest.code one.to_is st);

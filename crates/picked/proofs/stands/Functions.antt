@@ -154,7 +154,7 @@ module _ (p : Program) (typed : IsTypedProgram p) (cancels : CancelsAreFit p) wh
     goes_on : GoesOn l w.lists
     named : length f.parameters ≤ w.lists.registers
     stands : (layout : Layout) → IsReadyIn layout found → w.lists.registers ≤ layout.writable → GoesOn w.lists final → Stand code final.arguments from w.code →
-        StmtsCode code layout p Lowered.no_exits (parameter_locals f.parameters) body from last × At code last (Plain.Return None)
+        StmtsCode code layout p (Lowered.no_exits f.result) (parameter_locals f.parameters) body from last × At code last (Plain.Return None)
 
   body_runs : (found : Layout) (f : Function) (body : Stmts) → definition_of p f.name.text ≡ Some (f, body) → (from : ℕ) (l : Lists) → BodyRuns found f body from l (body_with found p f body from l)
   body_runs found f body e from l =
@@ -167,8 +167,8 @@ module _ (p : Program) (typed : IsTypedProgram p) (cancels : CancelsAreFit p) wh
       let agrees : Agrees known (running_scope p scope) = agrees_by_shape p known scope (subst (λ m. Agrees known (scope_in p m)) (entered_shapes f.parameters vs enters.0 enters.1 ∙ sym (parameters_are f.parameters)) (shape_agrees p known enters.0 (t.fits vs enters.0 enters.1))) in
       let first : Lists = record l { registers = n; layout = found } in
       let made = all_written p body no_exits scope from first in
-      let writes : (layout : Layout) → Writes p code final.arguments layout (StmtsCode code layout p Lowered.no_exits scope body) from first made = (λ layout.
-      stmts_write p code final.arguments layout typed (callees_stand p) (defined_are_callees p) body known false scope no_exits Lowered.no_exits agrees
+      let writes : (layout : Layout) → Writes p code final.arguments layout (StmtsCode code layout p (Lowered.no_exits f.result) scope body) from first made = (λ layout.
+      stmts_write p code final.arguments layout typed (callees_stand p) (defined_are_callees p) body known false scope no_exits (Lowered.no_exits f.result) agrees
       (record { break_to = refl; continue_to = refl; in_loop = refl; in_function = refl; to_outer = refl })
       (stmts_parts f.result body known (parameter_names f.parameters) false t.body) (cancels f.name.text (f, body) e) from first) in
       let w = writes found in

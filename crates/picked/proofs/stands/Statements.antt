@@ -23,7 +23,7 @@ use Rattle.bytecode.specs.Code.{Code, Instr as Plain}
 use Rattle.bytecode.specs.Views.{instr_of}
 use Rattle.lowered.specs.Expressions.{LocalScope, Layout, At, ExprCode, CondCode, ArgsCode}
 use Rattle.lowered.specs.Statements as Lowered
-use Rattle.lowered.specs.Statements.{StartCode, IfCode, IfElseCode, WhileCode, DoWhileCode, ForCode, PrintCode, TransactionCode, OuterCancelCode, Exits, with_level, in_transaction, cancelling, looping, locals_of_start, locals_after, Leaves, ValueCode, TestCode, HoldsCode, SteppedCode, PiecesCode, StmtCode, StmtsCode}
+use Rattle.lowered.specs.Statements.{StartCode, IfCode, IfElseCode, WhileCode, DoWhileCode, ForCode, PrintCode, TransactionCode, OuterCancelCode, Exits, with_level, in_transaction, cancelling, looping, locals_of_start, locals_after, Leaves, ResultCode, TestCode, HoldsCode, SteppedCode, PiecesCode, StmtCode, StmtsCode}
 use Rattle.picked.specs.declared.held.Exits.{Exits as OwnExits}
 use Rattle.picked.specs.Lists.{Lists}
 use Rattle.picked.specs.Expressions.{above, emitted, all_emitted, condition}
@@ -386,23 +386,23 @@ module _ (p : Program) (code : Code) (arguments : List ℕ) (layout : Layout) (t
   test_writes known scope agrees None h there from l = one_writes p code arguments layout (λ from' to. HoldsCode code layout p scope None from' there to) (own.Jump there) from l (λ at. at)
   test_writes known scope agrees (Some c) h there from l = back_writes known scope agrees c h there from l
 
-  return_writes : (known : Scope) (scope : LocalScope) → Agrees known (running_scope p scope) → (e : Expr) → TypedExpr known e → (n m from : ℕ) → m ≡ n → (l : Lists) →
-      Writes p code arguments layout (λ from to. (mid : ℕ) × (r : ℕ) × ValueCode code layout p scope (ExprCode code layout p None scope e) from mid r × Leaves code layout p mid m (Plain.Return (Some r))) from l
+  return_writes : (known : Scope) (scope : LocalScope) → Agrees known (running_scope p scope) → (e : Expr) → TypedExpr known e → (u : Scalar) (n m from : ℕ) → m ≡ n → (l : Lists) →
+      Writes p code arguments layout (λ from to. (mid : ℕ) × (r : ℕ) × ResultCode code layout p scope u (ExprCode code layout p None scope e) from mid r × Leaves code layout p mid m (Plain.Return (Some r))) from l
       (returned n (emitted p scope e from (length scope) (length scope) l))
-  return_writes known scope agrees e h n m from same l =
+  return_writes known scope agrees e h u n m from same l =
       let v = emitted p scope e from (length scope) (length scope) l in
       let i : Instr = own.ReturnValue v.held.register in
       then_writes p code arguments layout (λ from to. ExprCode code layout p None scope e from to (length scope) v.held.register v.held.of) (λ from to. Leaves code layout p from n (Plain.Return (Some v.held.register)))
-      (λ from to. (mid : ℕ) × (r : ℕ) × ValueCode code layout p scope (ExprCode code layout p None scope e) from mid r × Leaves code layout p mid m (Plain.Return (Some r))) from l (evaluated v) (left_by n i v.held.to v.lists)
+      (λ from to. (mid : ℕ) × (r : ℕ) × ResultCode code layout p scope u (ExprCode code layout p None scope e) from mid r × Leaves code layout p mid m (Plain.Return (Some r))) from l (evaluated v) (left_by n i v.held.to v.lists)
       (evaluated_writes p code arguments layout (ExprCode code layout p None scope e) from (length scope) l v (expr_emits p code arguments layout typed stand defined known scope agrees None e h from (length scope) (length scope) l (omega arith)))
       (left_writes p code arguments layout n i v.held.to v.lists)
-      (λ a b. (v.held.to, v.held.register, record { free = length scope; room = omega arith; t = v.held.of; computes = a }, subst (λ k. Leaves code layout p v.held.to k (Plain.Return (Some v.held.register))) (sym same) b))
+      (λ a b. (v.held.to, v.held.register, record { mid = v.held.to; ra = v.held.register; value = record { free = length scope; room = omega arith; t = v.held.of; computes = a }; converts = (refl, refl) }, subst (λ k. Leaves code layout p v.held.to k (Plain.Return (Some v.held.register))) (sym same) b))
 
   print_writes : (known : Scope) (scope : LocalScope) → Agrees known (running_scope p scope) → (format : List ℕ) (es : Exprs) → TypedExprs known es → IsTrue (length (figures (pieces format)) == count es) → (from : ℕ) (l : Lists) →
       Writes p code arguments layout (PrintCode code layout p scope format es) from l (print_written (all_emitted p scope es (from + 1) (length scope) l) (pieces format))
   print_writes known scope agrees format es h n from l =
       let args = all_emitted p scope es (from + 1) (length scope) l in
-      let g = all_emits p code arguments layout typed stand defined known scope agrees es h (from + 1) (length scope) l in
+      let g = all_emits p code arguments layout typed stand defined known scope agrees [] es h (from + 1) (length scope) l in
       let number : length (figures (pieces format)) ≡ count es = eqb-true (length (figures (pieces format))) (count es) n in
       let many = registers_are p scope es (from + 1) (length scope) l in
       let w = pieces_write p code arguments layout (pieces format) args.registers (omega (arith, number, many)) args.to args.lists in
@@ -420,7 +420,7 @@ module _ (p : Program) (code : Code) (arguments : List ℕ) (layout : Layout) (t
               room = omega arith;
               mid = args.to;
               rs = args.registers;
-              args = subst (λ q. ArgsCode code layout p scope es q args.to (length scope) args.registers) (omega arith)
+              args = subst (λ q. ArgsCode code layout p scope [] es q args.to (length scope) args.registers) (omega arith)
                   (g.stands (fits_before code arguments layout args.lists rest.lists w.grows f) (subst (λ q. Stand code arguments q args.code) (omega arith) first.1));
               prints = w.stands f (behind code arguments from args.to head rest.code head_is st);
             };
@@ -508,7 +508,7 @@ module _ (p : Program) (code : Code) (arguments : List ℕ) (layout : Layout) (t
     stmt_writes (Return None at) known looping scope x y agrees same h c from l =
         subst (λ n. Writes p code arguments layout (λ from to. Leaves code layout p from n (Plain.Return None)) from l (left_by x.in_function own.Return from l)) (sym same.in_function)
         (left_writes p code arguments layout x.in_function own.Return from l)
-    stmt_writes (Return (Some e) at) known looping scope x y agrees same h c from l = return_writes known scope agrees e h x.in_function y.in_function from same.in_function l
+    stmt_writes (Return (Some e) at) known looping scope x y agrees same h c from l = return_writes known scope agrees e h y.gives x.in_function y.in_function from same.in_function l
     stmt_writes (Transaction kind ss at) known looping scope x y agrees same h c from l =
         transaction_writes kind y (λ z. StmtsCode code layout p z scope ss) from l (all_written p ss (Own.in_transaction kind x) scope (from + 1) l)
         (stmts_write ss known looping scope (Own.in_transaction kind x) (Lowered.in_transaction kind y) agrees (same_in_transaction kind x y same) h c (from + 1) l)
