@@ -134,7 +134,7 @@ pub fn names<'p, A: Allocator + Copy>(
     ensures { IfOk result (λ n. n.unit.now ≡ typed.now.unit) }
 {
     let unit = typed.unit();
-    let key = 0;
+    let key = unit.key;
     let globals = place_globals(alloc, key, unit.items.as_slice())?;
     let callees = number_callees(alloc, key, unit.items.as_slice())?;
     Ok(Names {

@@ -40,11 +40,12 @@ fn add_definition<'p, A: Allocator + Copy>(
 /// The number of the item that defines each function: the first one of its name.
 fn number_definitions<'p, A: Allocator + Copy>(
     alloc: A,
+    key: u64,
     items: &'p [Item<A>],
 ) -> Result<Definitions<'p, A>, AllocError>
     ensures { IfOk result (AreNumbers (map item_of items.now)) }
 {
-    let mut table = Table::new(alloc, 0);
+    let mut table = Table::new(alloc, key);
     'items: for i in 0..items.len() {
         add_definition(&mut table, i, &items[i])?;
     }
@@ -84,12 +85,13 @@ fn add_globals<'p, A: Allocator + Copy>(
 /// Each global, with its first cell: the first one of its name.
 fn place_globals<'p, A: Allocator + Copy>(
     alloc: A,
+    key: u64,
     items: &'p [Item<A>],
 ) -> Result<Globals<'p, A>, AllocError>
     requires { total_cells (globals (map item_of items.now)) ≤ 2 ^ 32 }
     ensures { IfOk result (AreGlobals (map item_of items.now)) }
 {
-    let mut table = Table::new(alloc, 0);
+    let mut table = Table::new(alloc, key);
     let mut cell = 0;
     'items: for item in items {
         match item {
@@ -141,11 +143,12 @@ fn add_declared<'p, A: Allocator + Copy>(
 /// What each name of the file is first declared as.
 fn place_symbols<'p, A: Allocator + Copy>(
     alloc: A,
+    key: u64,
     items: &'p [Item<A>],
 ) -> Result<Symbols<'p, A>, AllocError>
     ensures { IfOk result (AreSymbols (map item_of items.now)) }
 {
-    let mut table = Table::new(alloc, 0);
+    let mut table = Table::new(alloc, key);
     'items: for item in items {
         add_declared(&mut table, item)?;
     }
@@ -160,9 +163,10 @@ pub(crate) fn source<'p, A: Allocator + Copy>(
     ensures { IfOk result (λ s. s.unit.now ≡ typed.now.unit) }
 {
     let unit = typed.unit();
-    let definitions = number_definitions(alloc, unit.items.as_slice())?;
-    let globals = place_globals(alloc, unit.items.as_slice())?;
-    let symbols = place_symbols(alloc, unit.items.as_slice())?;
+    let key = unit.key;
+    let definitions = number_definitions(alloc, key, unit.items.as_slice())?;
+    let globals = place_globals(alloc, key, unit.items.as_slice())?;
+    let symbols = place_symbols(alloc, key, unit.items.as_slice())?;
     Ok(Source {
         alloc,
         unit,

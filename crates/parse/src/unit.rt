@@ -9,14 +9,16 @@ ghost use Rattle.parse.specs.inner.Reading.{Gives};
 ghost use Rattle.parse.specs.inner.Items.{shared_from, item_at, whole_program};
 ghost use Rattle.parse.specs.inner.Headings.{heading_of};
 ghost use Rattle.parse.specs.Faults.{IsFaultOf, Finds, source_of};
+ghost use Rattle.parse.specs.Keys.{key_of};
 
 use crate::cursor::{counted, is_next};
 use crate::fault::{Failure, ParseFault};
 use crate::functions::{Heading, function, header};
 use crate::globals::globals;
 use containers::Items;
-use lex::token::{Fixed, Punctuator, Span, Token};
+use lex::token::{Fixed, Kind, Punctuator, Span, Token};
 use std::alloc::Allocator;
+use std::hash::{DefaultHasher, Hash, Hasher};
 use syntax::tree::{Item, Unit};
 
 /// How deep a program may be.
@@ -91,6 +93,20 @@ fn end_of(tokens: &[Token]) -> usize
     }
 }
 
+/// The hash of all names among the tokens, in order: so no name can be chosen for the key that it will have a part in.
+fn key_of(tokens: &[Token]) -> u64
+    ensures { result ≡ key_of (toks tokens.now) }
+{
+    let mut hasher = DefaultHasher::new();
+    'each: for token in tokens {
+        match token.kind {
+            Kind::Name(name) => name.hash(&mut hasher),
+            _ => {}
+        }
+    }
+    hasher.finish()
+}
+
 /// The program that the tokens spell, all of them.
 ///
 /// The tree owns its names: it outlives the tokens and their text. Only a refused growth can stop it where the tokens
@@ -99,6 +115,8 @@ pub fn parse<A: Allocator + Copy>(alloc: A, tokens: &[Token<'_>]) -> Result<Unit
     // It is spelled so, within the depth.
     ensures found { IfOk result
         (λ u. Spells (source_of u) (toks tokens.now) × (source_depth (source_of u) ≤ deepest_program)) }
+    // Its key is made of all names.
+    ensures key { IfOk result (λ u. u.key ≡ key_of (toks tokens.now)) }
     // Which fault comes, and at which token.
     ensures fault { IfErr result (λ f. IsFaultOf (toks tokens.now) f) }
     // What is spelled within the depth is found.
@@ -110,6 +128,7 @@ pub fn parse<A: Allocator + Copy>(alloc: A, tokens: &[Token<'_>]) -> Result<Unit
         Ok(items) => Ok(Unit {
             items,
             end: end_of(tokens),
+            key: key_of(tokens),
         }),
         Err(Failure::Memory) => Err(ParseFault::OutOfMemory),
         Err(Failure::Wrong([])) => {

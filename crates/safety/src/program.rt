@@ -14,7 +14,8 @@ use types::Typed;
 pub fn safe<A: Allocator + Copy>(alloc: A, typed: Typed<A>) -> Result<Safe<A>, SafetyFault<A>>
     ensures { Checks typed result }
 {
-    match fault_of(alloc, 0, typed.unit().items.as_slice()) {
+    let unit = typed.unit();
+    match fault_of(alloc, unit.key, unit.items.as_slice()) {
         Ok(None) => Ok(Safe { typed }),
         Ok(Some(violation)) => Err(SafetyFault::Unsafe(typed, violation)),
         Err(_) => Err(SafetyFault::OutOfMemory(typed)),

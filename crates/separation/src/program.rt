@@ -18,7 +18,8 @@ pub fn accept<A: Allocator + Copy>(
 ) -> Result<Accepted<A>, SeparationFault<A>>
     ensures { Checks safe result }
 {
-    match fault_of(alloc, 0, safe.typed().unit().items.as_slice()) {
+    let unit = safe.typed().unit();
+    match fault_of(alloc, unit.key, unit.items.as_slice()) {
         Ok(None) => Ok(Accepted { safe }),
         Ok(Some(violation)) => Err(SeparationFault::NotSeparate(safe, violation)),
         Err(_) => Err(SeparationFault::OutOfMemory(safe)),

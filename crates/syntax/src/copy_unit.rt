@@ -67,6 +67,7 @@ impl<A: Allocator + Copy> Copied<A> for Unit<A> {
         Ok(Unit {
             items,
             end: self.end,
+            key: self.key,
         })
     }
 }

@@ -166,6 +166,6 @@ impl<A: Allocator> Same for Item<A> {
 
 impl<A: Allocator> Same for Unit<A> {
     fn same(&self, other: &Unit<A>) -> bool {
-        self.items.same(&other.items) && self.end == other.end
+        self.items.same(&other.items) && self.end == other.end && self.key == other.key
     }
 }

@@ -129,7 +129,7 @@ fn check_program<A: Allocator + Copy>(
 pub fn check<A: Allocator + Copy>(alloc: A, unit: Unit<A>) -> Result<Typed<A>, TypeFault<A>>
     ensures { Checks unit result }
 {
-    match check_program(alloc, 0, unit.items.as_slice(), unit.end) {
+    match check_program(alloc, unit.key, unit.items.as_slice(), unit.end) {
         Ok(()) => Ok(Typed { unit }),
         Err(Failure::OutOfMemory) => Err(TypeFault::OutOfMemory(unit)),
         Err(Failure::Violation(violation)) => Err(TypeFault::IllTyped(unit, violation)),

@@ -8,7 +8,7 @@ pub returns-in-Ok-None : goal.returns-in-Ok-None
 returns-in-Ok-None g c =
     let safe = c.args.safe in
     let p = program_of safe.typed.unit in
-    let is = c.as_slice.ensures ∙ ap (λ u. u.items) (c.unit.ensures ∙ ap (λ t. t.unit) c.typed.ensures) in
+    let is = c.as_slice.ensures ∙ ap (λ u. u.items) (c.unit-unit.ensures ∙ ap (λ t. t.unit) c.typed.ensures) in
     let judged : Judges p None = subst (λ xs. Judges (map item_of xs) None) is (rw c.in-Ok-None.field-0-is at c.in-Ok-None.ensures) in
     (refl, accepted p safe.typed.typed safe.safe judged.0 judged.1 judged.2)
 
@@ -16,12 +16,12 @@ pub invariant_of-result : goal.invariant_of-result
 invariant_of-result g c =
     let safe = c.args.safe in
     let p = program_of safe.typed.unit in
-    let is = c.as_slice.ensures ∙ ap (λ u. u.items) (c.unit.ensures ∙ ap (λ t. t.unit) c.typed.ensures) in
+    let is = c.as_slice.ensures ∙ ap (λ u. u.items) (c.unit-unit.ensures ∙ ap (λ t. t.unit) c.typed.ensures) in
     let judged : Judges p None = subst (λ xs. Judges (map item_of xs) None) is (rw c.in-Ok-None.field-0-is at c.in-Ok-None.ensures) in
     record { accepted = accepted p safe.typed.typed safe.safe judged.0 judged.1 judged.2 }
 
 pub returns-in-Ok-Some : goal.returns-in-Ok-Some
 returns-in-Ok-Some g c =
-    let is = c.as_slice.ensures ∙ ap (λ u. u.items) (c.unit.ensures ∙ ap (λ t. t.unit) c.typed.ensures) in
+    let is = c.as_slice.ensures ∙ ap (λ u. u.items) (c.unit-unit.ensures ∙ ap (λ t. t.unit) c.typed.ensures) in
     let judged = subst (λ xs. Judges (map item_of xs) (Some c.in-Ok-Some.violation)) is (rw c.in-Ok-Some.field-0-is at c.in-Ok-Some.ensures) in
     (refl, (judged.0, judged.1, sym judged.2))
