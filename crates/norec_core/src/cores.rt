@@ -1,6 +1,6 @@
 //! The core of a thread: an operation's step is prepared, then told the answer to its access.
 
-ghost use Rattle.std.specs.Prelude.{◌≡◌, ◌≢◌, ◌↔◌, ◌+◌, ◌^◌, ◌<◌, ℕ, true, false, None, Some, IsTrue, IsSome, IsSomeAnd, IfOk, IfSome, OnOk, OnErr, OnSome};
+ghost use Rattle.std.specs.Prelude.{◌≡◌, ◌≢◌, ◌↔◌, ◌+◌, ◌^◌, ◌<◌, ℕ, true, false, None, Some, IsTrue, IsSome, IsSomeAnd, IfNone, IfOk, IfSome, OnOk, OnErr, OnSome};
 ghost use Rattle.norec_core.specs.Accesses.{stops};
 ghost use Rattle.norec_core.specs.Phases.{core_access, core_step};
 ghost use Rattle.norec_core.specs.Cores.{ComparesWith, IsAnswered, IsAskedAgain, IsComparing, IsDoneAtOnce, IsDropped, IsStoring, IsWaiting, LoadsBoth, stepped, stepped_twice, is_kept, has_lock};
@@ -209,7 +209,8 @@ impl<A: Allocator + Copy> Core<A> {
     /// From which value of the lock the next step of a commit swaps it, where it does; none where that is its last even value.
     #[inline(always)]
     pub fn swaps_from(&self) -> Option<u64>
-        ensures { IfSome result (λ from. (core_access self.now.attempt Op.Commit ≡ Access.Swap from) × (stops (Access.Swap from) ≡ false)) }
+        ensures some { IfSome result (λ from. (core_access self.now.attempt Op.Commit ≡ Access.Swap from) × (stops (Access.Swap from) ≡ false)) }
+        ensures none { IfNone result ((from : ℕ) → core_access self.now.attempt Op.Commit ≡ Access.Swap from → stops (Access.Swap from) ≡ true) }
     {
         if !self.steps.is_plain() {
             return None;
@@ -244,7 +245,8 @@ impl<A: Allocator + Copy> Core<A> {
     /// The place in the write log that a commit stores next, where one stores; past the last pair it stores the lock.
     #[inline(always)]
     pub fn storing(&self) -> Option<usize>
-        ensures { IfSome result (λ place. IsSomeAnd self.now.attempt (λ a. IsStoring place a)) }
+        ensures some { IfSome result (λ place. IsSomeAnd self.now.attempt (λ a. IsStoring place a)) }
+        ensures none { IfNone result ((place : ℕ) → IsSomeAnd self.now.attempt (λ a. IsStoring place a) → ⊥) }
     {
         self.steps.storing()
     }
@@ -301,7 +303,8 @@ impl<A: Allocator + Copy> Core<A> {
     /// Whether validation loads the lock next, until it is even.
     #[inline(always)]
     pub fn is_waiting(&self) -> bool
-        ensures { result ≡ true → IsSomeAnd self.now.attempt (λ a. IsWaiting a) }
+        ensures waits { result ≡ true → IsSomeAnd self.now.attempt (λ a. IsWaiting a) }
+        ensures not_waits { result ≡ false → IsSomeAnd self.now.attempt (λ a. IsWaiting a) → ⊥ }
     {
         self.steps.is_waiting()
     }
@@ -321,7 +324,8 @@ impl<A: Allocator + Copy> Core<A> {
     /// read log.
     #[inline(always)]
     pub fn comparing(&self) -> Option<(u64, usize)>
-        ensures { IfSome result (λ at. IsSomeAnd self.now.attempt (λ a. IsComparing at.0 at.1 a)) }
+        ensures some { IfSome result (λ at. IsSomeAnd self.now.attempt (λ a. IsComparing at.0 at.1 a)) }
+        ensures none { IfNone result ((time place : ℕ) → IsSomeAnd self.now.attempt (λ a. IsComparing time place a) → ⊥) }
     {
         self.steps.comparing()
     }

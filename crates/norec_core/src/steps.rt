@@ -1,13 +1,13 @@
 //! The steps of an attempt, phase by phase: the access of each, and what comes of its answer.
 
-ghost use Rattle.std.specs.Prelude.{◌≡◌, ◌≢◌, ◌+◌, ◌-◌, ◌^◌, ◌<◌, ◌≤◌, ℕ, true, false, None, IfSome, OnOk, OnErr, OnSome, drop, slice_get};
+ghost use Rattle.std.specs.Prelude.{◌≡◌, ◌≢◌, ◌+◌, ◌-◌, ◌^◌, ◌<◌, ◌≤◌, ℕ, true, false, None, IfNone, IfSome, OnOk, OnErr, OnSome, drop, slice_get};
 ghost use Rattle.write_log.specs.Overlay.{put, written};
 ghost use Rattle.norec_core.specs.Accesses.{stops};
 ghost use Rattle.norec_core.specs.Phases.{core_access, core_step, core_phase, core_operation, core_read, core_commit, core_cancel, core_store, core_swap, core_check, core_time, core_compare, operation_access, commit_access, entry_access, store_access};
 ghost use Rattle.norec_core.specs.Cores.{LoadsBoth, holds};
 ghost use Rattle.norec_core.specs.declared.step.Answer.TheVariants.{Value};
 ghost use Rattle.norec_core.specs.declared.step.Phase.TheVariants.{ReadsLock};
-ghost use Rattle.norec_core.specs.inner.Runs.{attempt_of, IsStep, IsWritten, GainsRoom, HasRoom, CanRelease, SwapsLock};
+ghost use Rattle.norec_core.specs.inner.Runs.{attempt_of, IsStep, IsWritten, GainsRoom, HasRoom, IsPlain, CanRelease, SwapsLock};
 
 use super::step::{Access, Answer, Op, Outcome, Phase, ReadStep};
 use nesting::{Attempt, Saved};
@@ -19,7 +19,7 @@ use std::marker::Model;
 pub(crate) struct Steps<A: Allocator> {
     logs: Attempt<A>,
     begun: bool,
-    // Where true, an attempt stands at an operation without the lock. It may be false there too.
+    // Whether an attempt stands at an operation without the lock.
     plain: bool,
     first: u64,
     snapshot: u64,
@@ -27,14 +27,14 @@ pub(crate) struct Steps<A: Allocator> {
 }
 
 impl<A: Allocator> Model for Steps<A> {
-    ghost use Rattle.std.specs.Prelude.{◌≡◌, ◌%◌, true};
+    ghost use Rattle.std.specs.Prelude.{◌≡◌, ◌↔◌, ◌%◌, true};
     ghost use Rattle.norec_core.specs.inner.Runs.{Run, attempt_by, IsPlain, IsStanding};
 
     ghost Value = { Run };
 
     ghost view = { λ s. record { begun = s.begun; attempt = attempt_by s.logs s.first s.snapshot s.phase; aside = s.logs.aside; begin_room = s.logs.begin_room; read_room = s.logs.read_room; write_room = s.logs.write_room } };
 
-    ghost invariant = { λ s. (s.snapshot % 2 ≡ 0) × IsStanding s.phase s.logs.kept s.snapshot × (s.plain ≡ true → IsPlain s.begun s.logs.kept s.phase) };
+    ghost invariant = { λ s. (s.snapshot % 2 ≡ 0) × IsStanding s.phase s.logs.kept s.snapshot × (s.plain ≡ true ↔ IsPlain s.begun s.logs.kept s.phase) };
 }
 
 impl<A: Allocator + Copy> Steps<A> {
@@ -104,7 +104,7 @@ impl<A: Allocator + Copy> Steps<A> {
         self.logs.aside()
     }
 
-    // How a read of this cell is made next, where it is known to stand at an operation without the lock.
+    // How a read of this cell is made next, where it stands at an operation without the lock.
     #[inline(always)]
     pub(crate) fn reading(&self, cell: u32) -> ReadStep
         ensures written { (word : ℕ) → result ≡ ReadStep.Written word → (self.now.begun ≡ true) × IsWritten self.now.attempt cell word }
@@ -145,10 +145,11 @@ impl<A: Allocator + Copy> Steps<A> {
         Outcome::Going
     }
 
-    // Whether it is known to stand at an operation without the lock.
+    // Whether it stands at an operation without the lock.
     #[inline(always)]
     pub(crate) fn is_plain(&self) -> bool
-        ensures { result ≡ true → (self.now.begun ≡ true) × (self.now.attempt.phase ≡ Phase.AtOperation) }
+        ensures plain { result ≡ true → (self.now.begun ≡ true) × (self.now.attempt.phase ≡ Phase.AtOperation) }
+        ensures not_plain { IsPlain self.now.begun self.now.attempt.kept self.now.attempt.phase → result ≡ true }
     {
         self.plain
     }
@@ -233,7 +234,8 @@ impl<A: Allocator + Copy> Steps<A> {
     // The place in the write log that a commit stores next, where one stores.
     #[inline(always)]
     pub(crate) fn storing(&self) -> Option<usize>
-        ensures { IfSome result (λ place. (self.now.begun ≡ true) × (self.now.attempt.phase ≡ Phase.Stores place)) }
+        ensures some { IfSome result (λ place. (self.now.begun ≡ true) × (self.now.attempt.phase ≡ Phase.Stores place)) }
+        ensures none { IfNone result ((place : ℕ) → self.now.begun ≡ true → self.now.attempt.phase ≡ Phase.Stores place → ⊥) }
     {
         match self.phase {
             Phase::Stores(place) => { if self.begun { Some(place) } else { None } }
@@ -463,12 +465,12 @@ impl<A: Allocator + Copy> Steps<A> {
         requires goes_on { stops (Access.Swap self.old.attempt.snapshot) ≡ false }
         ensures { IsStep (core_swap self.old.attempt (record self.old.attempt { phase = Phase.Stores 0 }) Outcome.Going answer) result self.new }
     {
-        self.plain = false;
         match answer {
             Answer::Won => self.phase = Phase::Stores(0),
             Answer::Lost(_) => self.phase = Phase::ValidatesTime,
-            _ => {}
+            _ => return Outcome::Going,
         }
+        self.plain = false;
         Outcome::Going
     }
 
@@ -619,7 +621,8 @@ impl<A: Allocator + Copy> Steps<A> {
     // Whether validation loads the lock next, until it is even.
     #[inline(always)]
     pub(crate) fn is_waiting(&self) -> bool
-        ensures { result ≡ true → (self.now.begun ≡ true) × (self.now.attempt.phase ≡ Phase.ValidatesTime) }
+        ensures waits { result ≡ true → (self.now.begun ≡ true) × (self.now.attempt.phase ≡ Phase.ValidatesTime) }
+        ensures not_waits { result ≡ false → self.now.begun ≡ true → self.now.attempt.phase ≡ Phase.ValidatesTime → ⊥ }
     {
         match self.phase {
             Phase::ValidatesTime => self.begun,
@@ -643,7 +646,8 @@ impl<A: Allocator + Copy> Steps<A> {
     // The lock value at which validation compares an entry next, and the entry's place in the read log.
     #[inline(always)]
     pub(crate) fn comparing(&self) -> Option<(u64, usize)>
-        ensures { IfSome result (λ at. (self.now.begun ≡ true) × (self.now.attempt.phase ≡ Phase.ValidatesEntry at.0 at.1)) }
+        ensures some { IfSome result (λ at. (self.now.begun ≡ true) × (self.now.attempt.phase ≡ Phase.ValidatesEntry at.0 at.1)) }
+        ensures none { IfNone result ((time place : ℕ) → self.now.begun ≡ true → self.now.attempt.phase ≡ Phase.ValidatesEntry time place → ⊥) }
     {
         match self.phase {
             Phase::ValidatesEntry(time, place) => {

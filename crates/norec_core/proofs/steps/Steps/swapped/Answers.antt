@@ -2,5 +2,5 @@
 use Rattle.std.proofs.Common.{rules}
 use Rattle.norec_core.proofs.steps.Steps.swapped.Goals as goal
 
-pub returns-in-Won : goal.returns-in-Won
-returns-in-Won g c = search rules
+pub returns : goal.returns
+returns g c = search rules
