@@ -1,5 +1,5 @@
 -- The clean tree of a node by the parts that are read of it, and what is picked for it there.
-use Rattle.std.proofs.Common.{◌≡◌, ℕ, List, None, Result, sym, ap, subst, ◌∙◌}
+use Rattle.std.proofs.Common.{◌≡◌, ℕ, List, Option, Some, None, Result, refl, sym, ap, subst, ◌∙◌}
 use Rattle.lex.specs.declared.token.Scalar.{Scalar}
 use Rattle.lex.specs.declared.token.Span.{Span}
 use Rattle.syntax.specs.declared.tree.UnaryOp.{UnaryOp}
@@ -21,7 +21,8 @@ use Rattle.picked.specs.declared.draft.Draft.{Draft}
 use Rattle.picked.specs.declared.held.Held.{Held}
 use Rattle.picked.specs.declared.held.Tested.{Tested}
 use Rattle.picked.specs.Lists.{Lists}
-use Rattle.picked.specs.Expressions.{emitted, own_condition, condition, tested}
+use Rattle.picked.specs.Conditions.{Condition}
+use Rattle.picked.specs.Expressions.{Emitted, emitted, converted_to, own_condition, condition, tested}
 use Rattle.expression_code.specs.declared.fault.Failure.{Failure}
 use Rattle.expression_code.specs.Stretches.{Adds, of_value, of_test}
 
@@ -73,3 +74,12 @@ module _ (p : Program) (scope : LocalScope) {e x : Tree.Expr} (from : ℕ) where
   pub value_test_there : (free : ℕ) (l : Lists) {old new : List Draft} {m : Lists} {r : Result Tested Failure} → e ≡ x → own_condition p scope x from free l ≡ None → Adds (of_test (tested None (emitted p scope e from free free l))) old new m r → Adds (of_test (condition p scope e from free l)) old new m r
   value_test_there free l {old = old} {new = new} {m = m} {r = r} is none k =
       subst (λ o. Adds (of_test (tested o (emitted p scope e from free free l))) old new m r) (sym (ap (λ y. own_condition p scope y from free l) is ∙ none)) k
+
+-- the instructions of a cast are those of its operand, so that it is tested as that is
+cast_tested : (o : Option Condition) (t : Scalar) (v : Emitted) → tested o v ≡ tested o (converted_to t v)
+cast_tested None t v = refl
+cast_tested (Some c) t v = refl
+
+pub cast_test_there : (p : Program) (scope : LocalScope) {e a : Tree.Expr} {t : Scalar} {at : Span} (from free : ℕ) (l : Lists) {old new : List Draft} {m : Lists} {r : Result Tested Failure} → e ≡ Tree.Cast t a at → Adds (of_test (condition p scope a from free l)) old new m r → Adds (of_test (condition p scope e from free l)) old new m r
+cast_test_there p scope {a = a} {t = t} from free l {old = old} {new = new} {m = m} {r = r} is k =
+    test_there p scope from free l is (subst (λ c. Adds (of_test c) old new m r) (cast_tested (own_condition p scope a from free l) t (emitted p scope a from free free l)) k)

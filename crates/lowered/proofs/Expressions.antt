@@ -54,6 +54,17 @@ pub residue_same : (t : Scalar) (w : ℕ) → w < modulus t → residue t w ≡ 
 residue_same Int w h = let e : w % (2 ^ 32) ≡ w = omega (arith, h) in e
 residue_same Unsigned w h = let e : w % (2 ^ 32) ≡ w = omega (arith, h) in e
 
+-- each type has the words 0 and 1
+truth_converted : (t u : Scalar) (b : Bool) → converted u (record { of = t; word = truth b }) ≡ record { of = u; word = truth b }
+truth_converted Int Int false = refl
+truth_converted Int Int true = refl
+truth_converted Int Unsigned false = refl
+truth_converted Int Unsigned true = refl
+truth_converted Unsigned Int false = refl
+truth_converted Unsigned Int true = refl
+truth_converted Unsigned Unsigned false = refl
+truth_converted Unsigned Unsigned true = refl
+
 -- and a conversion keeps it
 pub residue_of : (u t : Scalar) (w : ℕ) → word_of u (number t w) ≡ residue u w
 residue_of u t w = let e = as_many u t in narrows t u w (omega (arith, e))
@@ -260,9 +271,18 @@ module _ (p : Program) (call : Caller) (code : Code) (layout : Layout) (frames :
       (b : Bool) (sh : Shared) (text : List ℕ) (new : List ℕ) → Keeps layout None free old new → IsGood code a sh →
       Agrees (effect code) N K (holding a sh text (configuration code (if b then unmet else met) new frames)) (λ n. after (Gives (flag (not b)) (state n ls (context_of a sh) text)))
 
-  flag_of : {N K : ℕ} (a : Around) (after : Answer Value → Outcome) (ls : List Local) (met unmet free : ℕ) (old : List ℕ) → GoesBoth N K a after ls met unmet free old → GoesFlag N K a after ls met unmet free old
-  flag_of a after ls met unmet free old go true sh text new k g = go (flag false) true sh text new refl (truth_below false) k g
-  flag_of a after ls met unmet free old go false sh text new k g = go (flag true) false sh text new refl (truth_below true) k g
+  -- or with a 0 or 1 of whatever type
+  abbrev GoesTruth : ℕ → ℕ → (a : Around) → (Answer Value → Outcome) → List Local → (met unmet free : ℕ) → List ℕ → Type 0
+  GoesTruth N K a after ls met unmet free old =
+      (t : Scalar) (b : Bool) (sh : Shared) (text : List ℕ) (new : List ℕ) → Keeps layout None free old new → IsGood code a sh →
+      Agrees (effect code) N K (holding a sh text (configuration code (if b then unmet else met) new frames)) (λ n. after (Gives (record { of = t; word = truth (not b) }) (state n ls (context_of a sh) text)))
+
+  truth_of : {N K : ℕ} (a : Around) (after : Answer Value → Outcome) (ls : List Local) (met unmet free : ℕ) (old : List ℕ) → GoesBoth N K a after ls met unmet free old → GoesTruth N K a after ls met unmet free old
+  truth_of a after ls met unmet free old go t true sh text new k g = go (record { of = t; word = truth false }) true sh text new refl (below_as Int t (truth false) (truth_below false)) k g
+  truth_of a after ls met unmet free old go t false sh text new k g = go (record { of = t; word = truth true }) false sh text new refl (below_as Int t (truth true) (truth_below true)) k g
+
+  flag_of : {N K : ℕ} (a : Around) (after : Answer Value → Outcome) (ls : List Local) (met unmet free : ℕ) (old : List ℕ) → GoesTruth N K a after ls met unmet free old → GoesFlag N K a after ls met unmet free old
+  flag_of a after ls met unmet free old go b sh text new k g = go Int b sh text new k g
 
   -- what the code of a condition does: from its two places back to its beginning, by at least one instruction
   abbrev pub BranchingFollows : LocalScope → Action Value → Branching → Type 0
@@ -271,7 +291,14 @@ module _ (p : Program) (call : Caller) (code : Code) (layout : Layout) (frames :
       tests from met unmet free → Holds scope ls layout free old → IsGood code a sh → IsSeen a after →
       GoesBoth N K a after ls met unmet free old → Does N (suc K) a sh text ls from old (λ s. after (run s))
 
-  -- the same of one that gives a flag
+  -- the same of one that gives a 0 or 1
+  abbrev OwnFollows : LocalScope → Action Value → Branching → Type 0
+  OwnFollows scope run tests =
+      (N K from met unmet free : ℕ) (a : Around) (sh : Shared) (text : List ℕ) (ls : List Local) (old : List ℕ) (after : Answer Value → Outcome) →
+      tests from met unmet free → Holds scope ls layout free old → IsGood code a sh → IsSeen a after →
+      GoesTruth N K a after ls met unmet free old → Does N (suc K) a sh text ls from old (λ s. after (run s))
+
+  -- and of one that gives a flag
   abbrev FlagFollows : LocalScope → Action Value → Branching → Type 0
   FlagFollows scope run tests =
       (N K from met unmet free : ℕ) (a : Around) (sh : Shared) (text : List ℕ) (ls : List Local) (old : List ℕ) (after : Answer Value → Outcome) →
@@ -287,7 +314,7 @@ module _ (p : Program) (call : Caller) (code : Code) (layout : Layout) (frames :
   nonzero_jumps false w a sh text q r there on rs does at l here e go = jumps (Instr.JumpNonzero r there) (suc q) there false w a sh text q r rs does at refl here e go
 
   -- a condition, by its value or by its operator
-  branches_follow : (scope : LocalScope) (e : Expr) (own : Branching) → AlwaysFollows None scope e → BranchingFollows scope (expr p call e) own → BranchingFollows scope (expr p call e) (Branches code layout (ExprCode code layout p None scope e) own)
+  branches_follow : (scope : LocalScope) (e : Expr) (own : Branching) → AlwaysFollows None scope e → OwnFollows scope (expr p call e) own → BranchingFollows scope (expr p call e) (Branches code layout (ExprCode code layout p None scope e) own)
   branches_follow scope e own ih iho N K from met unmet free a sh text ls old after (inl c) h good s go =
       ih N (suc K) from c.mid free c.r c.t a sh text ls old after c.computes h good s
       (λ v sh1 text1 rs1 d. zero_jumps (is_zero v) v.word a sh1 text1 c.mid c.r unmet met rs1 _ c.jumps c.leads d.here refl (go v (is_zero v) sh1 text1 rs1 refl d.word d.keeps d.good))
@@ -295,7 +322,7 @@ module _ (p : Program) (call : Caller) (code : Code) (layout : Layout) (frames :
       ih N (suc K) from c.mid free c.r c.t a sh text ls old after c.computes h good s
       (λ v sh1 text1 rs1 d. nonzero_jumps (is_zero v) v.word a sh1 text1 c.mid c.r met unmet rs1 _ c.jumps c.leads d.here refl (go v (is_zero v) sh1 text1 rs1 refl d.word d.keeps d.good))
   branches_follow scope e own ih iho N K from met unmet free a sh text ls old after (inr (inr c)) h good s go =
-      iho N K from met unmet free a sh text ls old after c h good s go
+      iho N K from met unmet free a sh text ls old after c h good s (truth_of a after ls met unmet free old go)
 
   abbrev tested : Value → Action Value
   tested w = pure (flag (not (is_zero w)))
@@ -604,16 +631,19 @@ module _ (p : Program) (call : Caller) (code : Code) (layout : Layout) (frames :
           value_transaction_follows mode home scope e (expr_follows home scope e) N K from to free r t a sh text ls old after c h good s go
 
       -- conditions that lead on by themselves
-      pub own_follows : (scope : LocalScope) (e : Expr) → BranchingFollows scope (expr p call e) (OwnTests code layout p scope e)
+      pub own_follows : (scope : LocalScope) (e : Expr) → OwnFollows scope (expr p call e) (OwnTests code layout p scope e)
       own_follows scope (Parenthesized e at) N K from met unmet free a sh text ls old after c h good s go =
-          branches_follow scope e (OwnTests code layout p scope e) (expr_follows None scope e) (own_follows scope e) N K from met unmet free a sh text ls old after c h good s go
+          own_follows scope e N K from met unmet free a sh text ls old after c h good s go
       own_follows scope (Cast u e at) N K from met unmet free a sh text ls old after c h good s go =
           let rest : Value → Action Value = λ v. pure (converted u v) in
-          branches_follow scope e (OwnTests code layout p scope e) (expr_follows None scope e) (own_follows scope e) N K from met unmet free a sh text ls old (λ q. after (go_on q rest)) c h good (on_seen a after rest s)
-          (λ v b sh1 text1 new e below k g. go (converted u v) b sh1 text1 new (ap (λ w. w == 0) (word_same u v.of v.word below) ∙ e) (word_below u (number_of v)) k g)
+          own_follows scope e N K from met unmet free a sh text ls old (λ q. after (go_on q rest)) c h good (on_seen a after rest s)
+          (λ t b sh1 text1 new k g.
+          same (effect code) (λ n. after (Gives (record { of = u; word = truth (not b) }) (state n ls (context_of a sh1) text1)))
+          (λ n. ap (λ v. after (Gives v (state n ls (context_of a sh1) text1))) (truth_converted t u (not b)))
+          (go u b sh1 text1 new k g))
       own_follows scope (Unary Keep e at) N K from met unmet free a sh text ls old after c h good s go =
           let rest : Value → Action Value = λ v. or_trap (unary Keep v) in
-          branches_follow scope e (OwnTests code layout p scope e) (expr_follows None scope e) (own_follows scope e) N K from met unmet free a sh text ls old (λ q. after (go_on q rest)) c h good (on_seen a after rest s) go
+          own_follows scope e N K from met unmet free a sh text ls old (λ q. after (go_on q rest)) c h good (on_seen a after rest s) go
       own_follows scope (Unary Not e at) N K from met unmet free a sh text ls old after c h good s go =
           let rest : Value → Action Value = λ v. or_trap (unary Not v) in
           branches_follow scope e (OwnTests code layout p scope e) (expr_follows None scope e) (own_follows scope e) N K from unmet met free a sh text ls old (λ q. after (go_on q rest)) c h good (on_seen a after rest s)

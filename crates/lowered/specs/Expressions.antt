@@ -357,11 +357,12 @@ module _ (code : Code) (layout : Layout) where
           × ((ls : List Local) → IsLike scope ls → type_of (running_scope p ls) (Conditional c a b at) ≡ Some t)
       ExprCode home scope (InTransaction mode keyword e at) = ValueTransactionCode (ExprCode home scope e)
 
-      -- a condition whose operator leads on by itself, without a value
+      -- a condition whose operator leads on by itself, without a value: that would be 0 or 1, of which each type has a word,
+      -- so that no cast changes what is tested
       pub OwnTests : LocalScope → Expr → Branching
-      OwnTests scope (Parenthesized e at) = Branches (ExprCode None scope e) (OwnTests scope e)
-      OwnTests scope (Cast u e at) = Branches (ExprCode None scope e) (OwnTests scope e)
-      OwnTests scope (Unary Keep e at) = Branches (ExprCode None scope e) (OwnTests scope e)
+      OwnTests scope (Parenthesized e at) = OwnTests scope e
+      OwnTests scope (Cast u e at) = OwnTests scope e
+      OwnTests scope (Unary Keep e at) = OwnTests scope e
       OwnTests scope (Unary Not e at) = λ from met unmet free.
           Branches (ExprCode None scope e) (OwnTests scope e) from unmet met free
       OwnTests scope (Binary op a b at) = ComparedWithZero op b (Branches (ExprCode None scope a) (OwnTests scope a))

@@ -120,9 +120,9 @@ module _ (p : Program) (scope : LocalScope) where
     emitted_more (InTransaction mode keyword e at) from into free l = emitted_more e (from + 1) into free l
 
     own_more : (e : Expr) (from free : ℕ) (l : Lists) → IfSome (own_condition p scope e from free l) (HasMore l)
-    own_more (Parenthesized e at) from free l = by_parts e from free l (own_more e from free l) (emitted_more e from free free l)
-    own_more (Cast t e at) from free l = by_parts e from free l (own_more e from free l) (emitted_more e from free free l)
-    own_more (Unary Keep e at) from free l = by_parts e from free l (own_more e from free l) (emitted_more e from free free l)
+    own_more (Parenthesized e at) from free l = own_more e from free l
+    own_more (Cast t e at) from free l = own_more e from free l
+    own_more (Unary Keep e at) from free l = own_more e from free l
     own_more (Unary Not e at) from free l = by_parts e from free l (own_more e from free l) (emitted_more e from free free l)
     own_more (Binary op a b at) from free l = zero_more (zero_test op b) l (condition p scope a from free l) (by_parts a from free l (own_more a from free l) (emitted_more a from free free l))
     own_more (Logical op a b at) from free l =

@@ -191,9 +191,9 @@ module _ (p : Program) (scope : LocalScope) where
     emitted_leaner (InTransaction mode keyword e at) from to into free l m h = emitted_leaner e (from + 1) (to + 1) into free l m h
 
     own_leaner : (e : Expr) (from to free : ℕ) (l m : Lists) → IsLeaner l m → BothLeaner (own_condition p scope e from free l) (own_condition p scope e to free m)
-    own_leaner (Parenthesized e at) from to free l m h = by_parts e from to free l m (own_leaner e from to free l m h) (emitted_leaner e from to free free l m h)
-    own_leaner (Cast t e at) from to free l m h = by_parts e from to free l m (own_leaner e from to free l m h) (emitted_leaner e from to free free l m h)
-    own_leaner (Unary Keep e at) from to free l m h = by_parts e from to free l m (own_leaner e from to free l m h) (emitted_leaner e from to free free l m h)
+    own_leaner (Parenthesized e at) from to free l m h = own_leaner e from to free l m h
+    own_leaner (Cast t e at) from to free l m h = own_leaner e from to free l m h
+    own_leaner (Unary Keep e at) from to free l m h = own_leaner e from to free l m h
     own_leaner (Unary Not e at) from to free l m h = by_parts e from to free l m (own_leaner e from to free l m h) (emitted_leaner e from to free free l m h)
     own_leaner (Binary op a b at) from to free l m h =
         zero_leaner (zero_test op b) (condition p scope a from free l) (condition p scope a to free m)

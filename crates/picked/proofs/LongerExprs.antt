@@ -105,9 +105,9 @@ module _ (p : Program) (scope : LocalScope) where
     emitted_longer (InTransaction mode keyword e at) from into free l = emitted_longer e (from + 1) into free l
 
     own_longer : (e : Expr) (from free : ℕ) (l : Lists) → IfSome (own_condition p scope e from free l) (IsLonger l)
-    own_longer (Parenthesized e at) from free l = by_parts e from free l (own_longer e from free l) (emitted_longer e from free free l)
-    own_longer (Cast t e at) from free l = by_parts e from free l (own_longer e from free l) (emitted_longer e from free free l)
-    own_longer (Unary Keep e at) from free l = by_parts e from free l (own_longer e from free l) (emitted_longer e from free free l)
+    own_longer (Parenthesized e at) from free l = own_longer e from free l
+    own_longer (Cast t e at) from free l = own_longer e from free l
+    own_longer (Unary Keep e at) from free l = own_longer e from free l
     own_longer (Unary Not e at) from free l = by_parts e from free l (own_longer e from free l) (emitted_longer e from free free l)
     own_longer (Binary op a b at) from free l = zero_longer (zero_test op b) l (condition p scope a from free l) (by_parts a from free l (own_longer a from free l) (emitted_longer a from free free l))
     own_longer (Logical op a b at) from free l =

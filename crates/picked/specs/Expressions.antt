@@ -243,12 +243,9 @@ module _ (p : Program) (scope : LocalScope) where
 
     -- a condition whose operator says how it is tested
     pub own_condition : Expr → (from free : ℕ) → Lists → Option Condition
-    own_condition (Parenthesized e at) from free l =
-        Some (tested (own_condition e from free l) (emitted e from free free l))
-    own_condition (Cast t e at) from free l =
-        Some (tested (own_condition e from free l) (emitted e from free free l))
-    own_condition (Unary Keep e at) from free l =
-        Some (tested (own_condition e from free l) (emitted e from free free l))
+    own_condition (Parenthesized e at) from free l = own_condition e from free l
+    own_condition (Cast t e at) from free l = own_condition e from free l
+    own_condition (Unary Keep e at) from free l = own_condition e from free l
     own_condition (Unary Not e at) from free l =
         Some (opposite (tested (own_condition e from free l) (emitted e from free free l)))
     own_condition (Binary op a b at) from free l =

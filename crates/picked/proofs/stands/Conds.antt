@@ -137,10 +137,10 @@ module _ (code : Code) (arguments : List ℕ) (layout : Layout) where
     }
 
   -- a condition by its operator, or else by its value
-  pub tested_decides : (A : Coded) (B : Branching) (from free : ℕ) (l : Lists) (o : Option Condition) (e : Emitted) → IfSome o (Decides (Branches code layout A B) from free l) → Emits code arguments layout A from free l e →
+  pub tested_decides : (A : Coded) (B : Branching) (from free : ℕ) (l : Lists) (o : Option Condition) (e : Emitted) → IfSome o (Decides B from free l) → Emits code arguments layout A from free l e →
       Decides (Branches code layout A B) from free l (tested o e)
   tested_decides A B from free l None e h g = value_decides A B from free l e g
-  tested_decides A B from free l (Some c) e h g = h
+  tested_decides A B from free l (Some c) e h g = same_decides B (Branches code layout A B) from free l c (λ met unmet t. inr (inr t)) h
 
   -- a comparison with 0
   pub zero_decides : (op : BinaryOp) (b : Expr) (A : Branching) (T : Branching) (from free : ℕ) (l : Lists) (other : Condition) → Decides A from free l other →

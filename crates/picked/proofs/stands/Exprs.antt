@@ -33,7 +33,7 @@ use Rattle.lowered.proofs.Unconverted.{handed_is}
 use Rattle.picked.proofs.stands.Standing.{Stand, front, behind, front_same, front_more, max_left, Grows, grows_same, grows_further, grows_used, Fits, fits_before, is_register, given}
 use Rattle.picked.proofs.stands.Named.{VariableFound, variable_found, array_found, function_found, known_number, known_array, known_callable}
 use Rattle.picked.proofs.stands.Emitting.{above_free, above_it, Emits, one_emits, in_local_emits, element_emits, cast_emits, in_own_emits, negated_emits, complemented_emits, compared_emits, operand_emits, both_emits, settled_emits}
-use Rattle.picked.proofs.stands.Conds.{Decides, same_decides, opposite_decides, and_decides, or_decides, tested_decides, zero_decides, answered_emits, chosen_emits}
+use Rattle.picked.proofs.stands.Conds.{Decides, opposite_decides, and_decides, or_decides, tested_decides, zero_decides, answered_emits, chosen_emits}
 
 -- a callee's number is that of a function of its name
 abbrev pub CalleesStand : Program → Code → Type 0
@@ -246,7 +246,7 @@ module _ (p : Program) (code : Code) (arguments : List ℕ) (layout : Layout) (t
     abbrev Tests : Expr → Branching
     Tests e = CondCode code layout p scope e
 
-    by_parts : (e : Expr) (from free : ℕ) (l : Lists) → IfSome (own_condition p scope e from free l) (Decides code arguments layout (Tests e) from free l) → Emits code arguments layout (ExprCode code layout p None scope e) from free l (emitted p scope e from free free l) →
+    by_parts : (e : Expr) (from free : ℕ) (l : Lists) → IfSome (own_condition p scope e from free l) (Decides code arguments layout (OwnTests code layout p scope e) from free l) → Emits code arguments layout (ExprCode code layout p None scope e) from free l (emitted p scope e from free free l) →
         Decides code arguments layout (Tests e) from free l (condition p scope e from free l)
     by_parts e from free l h g = tested_decides code arguments layout (ExprCode code layout p None scope e) (OwnTests code layout p scope e) from free l (own_condition p scope e from free l) (emitted p scope e from free free l) h g
 
@@ -318,37 +318,29 @@ module _ (p : Program) (code : Code) (arguments : List ℕ) (layout : Layout) (t
       expr_emits home (InTransaction mode keyword e at) h from into free l m =
           in_own_emits code arguments layout (ExprCode code layout p home scope e) from free l (emitted p scope e (from + 1) into free l) (expr_emits home e h.0 (from + 1) into free l m)
 
-      own_decides : (e : Expr) → TypedExpr known e → (from free : ℕ) (l : Lists) → IfSome (own_condition p scope e from free l) (Decides code arguments layout (Tests e) from free l)
-      own_decides (Parenthesized e at) h from free l =
-          same_decides code arguments layout (Tests e) (Tests (Parenthesized e at)) from free l (condition p scope e from free l) (λ met unmet t. inr (inr t))
-          (by_parts e from free l (own_decides e h from free l) (expr_emits None e h from free free l (omega arith)))
-      own_decides (Cast t e at) h from free l =
-          same_decides code arguments layout (Tests e) (Tests (Cast t e at)) from free l (condition p scope e from free l) (λ met unmet t. inr (inr t))
-          (by_parts e from free l (own_decides e h from free l) (expr_emits None e h from free free l (omega arith)))
-      own_decides (Unary Keep e at) h from free l =
-          same_decides code arguments layout (Tests e) (Tests (Unary Keep e at)) from free l (condition p scope e from free l) (λ met unmet t. inr (inr t))
-          (by_parts e from free l (own_decides e h.0 from free l) (expr_emits None e h.0 from free free l (omega arith)))
+      own_decides : (e : Expr) → TypedExpr known e → (from free : ℕ) (l : Lists) → IfSome (own_condition p scope e from free l) (Decides code arguments layout (OwnTests code layout p scope e) from free l)
+      own_decides (Parenthesized e at) h from free l = own_decides e h from free l
+      own_decides (Cast t e at) h from free l = own_decides e h from free l
+      own_decides (Unary Keep e at) h from free l = own_decides e h.0 from free l
       own_decides (Unary Not e at) h from free l =
-          opposite_decides code arguments layout (Tests e) (Tests (Unary Not e at)) from free l (condition p scope e from free l) (λ met unmet t. inr (inr t))
+          opposite_decides code arguments layout (Tests e) (OwnTests code layout p scope (Unary Not e at)) from free l (condition p scope e from free l) (λ met unmet t. t)
           (by_parts e from free l (own_decides e h.0 from free l) (expr_emits None e h.0 from free free l (omega arith)))
       own_decides (Binary op a b at) h from free l =
-          zero_decides code arguments layout op b (Tests a) (Tests (Binary op a b at)) from free l (condition p scope a from free l)
+          zero_decides code arguments layout op b (Tests a) (OwnTests code layout p scope (Binary op a b at)) from free l (condition p scope a from free l)
           (by_parts a from free l (own_decides a h.0 from free l) (expr_emits None a h.0 from free free l (omega arith)))
-          (λ met unmet t. inr (inr t))
+          (λ met unmet t. t)
       own_decides (Logical AndThen a b at) h from free l =
           let first = condition p scope a from free l in
           let second = condition p scope b (first.to + 1) free first.lists in
-          same_decides code arguments layout (BothHold code layout (Tests a) (Tests b)) (Tests (Logical AndThen a b at)) from free l (joined AndThen first second) (λ met unmet t. inr (inr t))
-          (and_decides code arguments layout (Tests a) (Tests b) from free l first second
+          and_decides code arguments layout (Tests a) (Tests b) from free l first second
           (by_parts a from free l (own_decides a h.0 from free l) (expr_emits None a h.0 from free free l (omega arith)))
-          (by_parts b (first.to + 1) free first.lists (own_decides b h.1 (first.to + 1) free first.lists) (expr_emits None b h.1 (first.to + 1) free free first.lists (omega arith))))
+          (by_parts b (first.to + 1) free first.lists (own_decides b h.1 (first.to + 1) free first.lists) (expr_emits None b h.1 (first.to + 1) free free first.lists (omega arith)))
       own_decides (Logical OrElse a b at) h from free l =
           let first = condition p scope a from free l in
           let second = condition p scope b (first.to + 1) free first.lists in
-          same_decides code arguments layout (EitherHolds code layout (Tests a) (Tests b)) (Tests (Logical OrElse a b at)) from free l (joined OrElse first second) (λ met unmet t. inr (inr t))
-          (or_decides code arguments layout (Tests a) (Tests b) from free l first second
+          or_decides code arguments layout (Tests a) (Tests b) from free l first second
           (by_parts a from free l (own_decides a h.0 from free l) (expr_emits None a h.0 from free free l (omega arith)))
-          (by_parts b (first.to + 1) free first.lists (own_decides b h.1 (first.to + 1) free first.lists) (expr_emits None b h.1 (first.to + 1) free free first.lists (omega arith))))
+          (by_parts b (first.to + 1) free first.lists (own_decides b h.1 (first.to + 1) free first.lists) (expr_emits None b h.1 (first.to + 1) free free first.lists (omega arith)))
       own_decides e h from free l = tt
 
       pub all_emits : (ts : List Scalar) (es : Exprs) → TypedExprs known es → (from free : ℕ) (l : Lists) → AllEmits (ArgsCode code layout p scope ts es) from free l (all_emitted p scope es from free l)

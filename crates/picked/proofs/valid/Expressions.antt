@@ -126,9 +126,9 @@ module _ (p : Program) (code : Code) (arguments : List ℕ) (f : FunctionCode) (
           in_own_sound code arguments f end from l (emitted p scope e (from + 1) into free l) (expr_sound e h.0 (from + 1) into free l)
 
       own_sound : (e : Expr) → TypedExpr known e → (from free : ℕ) (l : Lists) → IfSome (own_condition p scope e from free l) (TestSound code arguments f end from l)
-      own_sound (Parenthesized e at) h from free l = by_parts e from free l (own_sound e h from free l) (expr_sound e h from free free l)
-      own_sound (Cast t e at) h from free l = by_parts e from free l (own_sound e h from free l) (expr_sound e h from free free l)
-      own_sound (Unary Keep e at) h from free l = by_parts e from free l (own_sound e h.0 from free l) (expr_sound e h.0 from free free l)
+      own_sound (Parenthesized e at) h from free l = own_sound e h from free l
+      own_sound (Cast t e at) h from free l = own_sound e h from free l
+      own_sound (Unary Keep e at) h from free l = own_sound e h.0 from free l
       own_sound (Unary Not e at) h from free l =
           opposite_sound code arguments f end from l (condition p scope e from free l) (by_parts e from free l (own_sound e h.0 from free l) (expr_sound e h.0 from free free l))
       own_sound (Binary op a b at) h from free l =

@@ -16,7 +16,7 @@ use Rattle.expression_code.specs.Stretches.{of_value, of_test}
 use Rattle.expression_code.specs.inner.Stretches.{in_place, all_in_place}
 use Rattle.expression_code.specs.inner.Tables.{callee_in, shared_in}
 use Rattle.expression_code.proofs.Adding.{same, in_turn, gathered, value_alone, stops, no_less}
-use Rattle.expression_code.proofs.Nodes.{variable_is, constant_is, call_is, element_is, parenthesized_is, cast_is, unary_is, binary_is, logical_is, conditional_is, in_transaction_is, value_there, test_there, value_test_there}
+use Rattle.expression_code.proofs.Nodes.{variable_is, constant_is, call_is, element_is, parenthesized_is, cast_is, unary_is, binary_is, logical_is, conditional_is, in_transaction_is, value_there, test_there, cast_test_there, value_test_there}
 use Rattle.expression_code.proofs.Conditional.{settled_behind, condition_within, second_within, one_is, two_is, chosen_there}
 use Rattle.expression_code.proofs.Within.{left_within, logical_within, arguments_within}
 use Rattle.expression_code.proofs.Rows.{next_value, first_within, no_more_values}
@@ -217,7 +217,7 @@ lower_condition-returns-in-Parenthesized g t c =
 
 pub lower_condition-returns-in-Cast : goal.lower_condition-returns-in-Cast
 lower_condition-returns-in-Cast g t c =
-    test_there (program_in c.args.names.now) (scope_in c.args.scope.now) c.args.from c.args.free (lists_of c.args.lists.now) (cast_is c.in-Cast.is c.get-in-Cast.ensures) c.lower_condition-in-Cast.ensures
+    cast_test_there (program_in c.args.names.now) (scope_in c.args.scope.now) c.args.from c.args.free (lists_of c.args.lists.now) (cast_is c.in-Cast.is c.get-in-Cast.ensures) c.lower_condition-in-Cast.ensures
 
 pub lower_condition-returns-in-Keep : goal.lower_condition-returns-in-Keep
 lower_condition-returns-in-Keep g t c =
