@@ -24,3 +24,5 @@ pub mod Inside
 pub mod Committing
 -- validation
 pub mod Validating
+-- where no store and no comparison comes next
+pub mod Nexts

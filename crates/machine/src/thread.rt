@@ -291,7 +291,8 @@ impl<A: Allocator + Copy> Thread<A> {
     pub fn swaps_from<B: Allocator>(&self, code: &Code<B>) -> Option<u64>
         requires of { IsThreadOf code.now self.now.thread }
         requires stands { StandsAt code.now self.now Doing.Commit }
-        ensures { IfSome result (λ from. SwapsNext code.now self.now from) }
+        ensures some { IfSome result (λ from. SwapsNext code.now self.now from) }
+        ensures none { IfNone result ((from : ℕ) → SwapsNext code.now self.now from → ⊥) }
     {
         // The prover learns here that the code is valid.
         code.known();
@@ -323,7 +324,8 @@ impl<A: Allocator + Copy> Thread<A> {
     /// The place in the write log that its commit stores next, where it stores; past the last pair it stores the lock.
     #[inline(always)]
     pub fn storing(&self) -> Option<usize>
-        ensures { IfSome result (λ place. StoresNext self.now place) }
+        ensures some { IfSome result (λ place. StoresNext self.now place) }
+        ensures none { IfNone result ((place : ℕ) → StoresNext self.now place → ⊥) }
     {
         match self.held.status {
             Status::Running => self.held.core.storing(),
@@ -407,6 +409,7 @@ impl<A: Allocator + Copy> Thread<A> {
         requires of { IsThreadOf code.now self.now.thread }
         requires stands { StandsAt code.now self.now doing }
         ensures waits { result ≡ true → WaitsNext code.now self.now }
+        ensures not_waits { result ≡ false → WaitsNext code.now self.now → ⊥ }
         ensures access { result ≡ true → access (effect code.now) self.now.thread ≡ Access.LoadLock }
     {
         // The prover learns here that the code is valid.
@@ -441,7 +444,8 @@ impl<A: Allocator + Copy> Thread<A> {
     pub fn comparing<B: Allocator>(&self, code: &Code<B>, doing: Doing) -> Option<(u64, usize)>
         requires of { IsThreadOf code.now self.now.thread }
         requires stands { StandsAt code.now self.now doing }
-        ensures { IfSome result (λ at. ComparesNext code.now self.now at.0 at.1) }
+        ensures some { IfSome result (λ at. ComparesNext code.now self.now at.0 at.1) }
+        ensures none { IfNone result ((time place : ℕ) → ComparesNext code.now self.now time place → ⊥) }
     {
         // The prover learns here that the code is valid.
         code.known();

@@ -1,6 +1,6 @@
 //! Validation as a thread keeps it, step by step.
 
-ghost use Rattle.std.specs.Prelude.{◌≡◌, ◌≢◌, ◌+◌, ◌<◌, ◌^◌, true, None, Some, IsSomeAnd};
+ghost use Rattle.std.specs.Prelude.{◌≡◌, ◌≢◌, ◌↔◌, ◌+◌, ◌<◌, ◌^◌, true, None, Some, IsSomeAnd};
 ghost use Rattle.syntax.specs.declared.numbers.Status.TheVariants.{Running};
 ghost use Rattle.bytecode.specs.Code.{effect};
 ghost use Rattle.bytecode.specs.Valid.{IsValid};
@@ -19,7 +19,7 @@ use std::alloc::Allocator;
 // Whether what is to be done is an operation under which an attempt is validated.
 #[inline(always)]
 pub(crate) fn is_validated(doing: Doing) -> bool
-    ensures { result ≡ true → MayValidate doing }
+    ensures { result ≡ true ↔ MayValidate doing }
 {
     match doing {
         Doing::Read(_, _) => true,
