@@ -1,6 +1,7 @@
 //! Symbol tables: each call once with ample memory, many names, and each growth refused once.
 
 use crate::asserted::assert_all;
+use crate::stages::unit_of;
 use name_tables::{Keyed, Scope, Table};
 use refusing::Refusing;
 use std::alloc::{AllocError, Allocator, Global};
@@ -104,45 +105,93 @@ fn another_key_is_another_hash(rt: HostRuntime) {
     );
 }
 
-/// 10,000 names of 32 letters, one behind the other: all that begin so have one hash, where a hash multiplies eight bytes by eight
-/// with a constant and no key, since behind this beginning one factor is 0.
+/// The key of a text's tree; none where it is no program.
+fn key_of(alloc: Global, text: &str) -> Option<u64> {
+    match unit_of(alloc, text) {
+        Some(unit) => Some(unit.key),
+        None => None,
+    }
+}
+
+/// Whether two programs have keys, and another one each.
+fn have_other_keys(alloc: Global, one: &str, other: &str) -> bool {
+    match (key_of(alloc, one), key_of(alloc, other)) {
+        (Some(one), Some(other)) => one != other,
+        _ => false,
+    }
+}
+
+#[test]
+fn other_names_are_another_key(rt: HostRuntime) {
+    let one = "int g; void worker(int a) { int b; }";
+    assert_all(
+        &rt,
+        &[
+            (
+                "global",
+                have_other_keys(rt.alloc(), one, "int h; void worker(int a) { int b; }"),
+            ),
+            (
+                "parameter",
+                have_other_keys(rt.alloc(), one, "int g; void worker(int b) { int b; }"),
+            ),
+            (
+                "local",
+                have_other_keys(rt.alloc(), one, "int g; void worker(int a) { int a; }"),
+            ),
+            (
+                "parts",
+                have_other_keys(rt.alloc(), "int ab, c;", "int a, bc;"),
+            ),
+            (
+                "order",
+                have_other_keys(rt.alloc(), "int a, b;", "int b, a;"),
+            ),
+        ],
+    );
+}
+
+/// A program with 10,000 globals, whose names have 32 letters: all that begin so have one hash, where a hash multiplies eight bytes
+/// by eight with a constant and no key, since behind this beginning one factor is 0.
 fn colliding(alloc: Global) -> Result<String, AllocError> {
     let mut text = String::new(alloc);
+    text.push_str("int ")?;
     for number in 10000000..10010000u32 {
         text.push_str("aaaaaaaaaaaaassTNo3qMD1o")?;
-        text.push_str(format!(in alloc; "{number}")?.as_str())?;
+        text.push_str(format!(in alloc; "{number},")?.as_str())?;
     }
+    text.push_str("last;")?;
     Ok(text)
 }
 
-/// The name at a place among them.
-fn name_at(names: &str, place: usize) -> Option<&str> {
-    let start = place.checked_mul(32)?;
-    names.get(start..start.checked_add(32)?)
+/// The name at a place among its globals.
+fn name_at(text: &str, place: usize) -> Option<&str> {
+    let start = place.checked_mul(33)?.checked_add(4)?;
+    text.get(start..start.checked_add(32)?)
 }
 
 /// Declares each name in a table and in a scope, and the oldest once more, in a block behind them; none where one is refused.
 fn declare_each<'a>(
-    names: &'a str,
+    text: &'a str,
     table: &mut Table<'a, usize, Global>,
     scope: &mut Scope<'a, usize, Global>,
 ) -> Option<()> {
     for place in 0..10000usize {
-        let name = name_at(names, place)?;
+        let name = name_at(text, place)?;
         table.declare(name, place).ok()?;
         scope.declare(name, place).ok()?;
     }
-    scope.declare(name_at(names, 0)?, 7).ok()
+    scope.declare(name_at(text, 0)?, 7).ok()
 }
 
 /// Whether each name is found at its place.
 fn are_at_their_places<'a>(
-    names: &str,
+    text: &str,
     table: &Table<'a, usize, Global>,
     scope: &Scope<'a, usize, Global>,
 ) -> Option<bool> {
     for place in 0..10000usize {
-        let name = name_at(names, place)?;
+        let name = name_at(text, place)?;
         if table.place_of(name) != Some(place) || scope.newest(name) != Some((place, place)) {
             return Some(false);
         }
@@ -150,21 +199,22 @@ fn are_at_their_places<'a>(
     Some(true)
 }
 
-/// Whether the oldest name is hidden in the block, and each is found behind it.
-fn finds_each(alloc: Global, names: &str) -> Option<bool> {
-    let mut table = Table::new(alloc, 7);
-    let mut scope = Scope::new(alloc, 7);
-    declare_each(names, &mut table, &mut scope)?;
-    let hidden = scope.newest(name_at(names, 0)?) == Some((10000, 7));
+/// Whether the oldest name is hidden in the block, and each is found behind it, by the key of the program.
+fn finds_each(alloc: Global, text: &str) -> Option<bool> {
+    let key = key_of(alloc, text)?;
+    let mut table = Table::new(alloc, key);
+    let mut scope = Scope::new(alloc, key);
+    declare_each(text, &mut table, &mut scope)?;
+    let hidden = scope.newest(name_at(text, 0)?) == Some((10000, 7));
     scope.leave(scope.len().min(10000));
-    let found = are_at_their_places(names, &table, &scope)?;
+    let found = are_at_their_places(text, &table, &scope)?;
     Some(hidden && found)
 }
 
 /// Whether colliding names are each found at their places.
 fn many_are_found(alloc: Global) -> bool {
     match colliding(alloc) {
-        Ok(names) => finds_each(alloc, names.as_str()) == Some(true),
+        Ok(text) => finds_each(alloc, text.as_str()) == Some(true),
         Err(_) => false,
     }
 }
