@@ -1,11 +1,16 @@
 -- What is made of a whole program is within the limits of code, and means the program.
-use Rattle.std.proofs.Common.{◌≡◌, ◌≤◌, length, map, sym, subst, arith}
+use Rattle.std.proofs.Common.{◌≡◌, ◌≤◌, length, map, ap, sym, ◌∙◌, subst, arith}
 use Rattle.std.specs.List.{AllByRecursion}
 use Rattle.std.proofs.Math.Logic.{∥∥₁_elim}
 use Rattle.std.proofs.lemmas.List.{length-map}
+use Rattle.syntax.specs.declared.tree.Unit.{Unit as OwnUnit}
 use Rattle.syntax.specs.Tree.{Program}
+use Rattle.syntax.specs.Views.{program_of}
 use Rattle.syntax.specs.Typing.{IsTypedProgram}
+use Rattle.types.specs.declared.typed.Typed.{Typed}
+use Rattle.safety.specs.declared.checked.Safe.{Safe}
 use Rattle.safety.specs.Safe.{IsSafeProgram}
+use Rattle.separation.specs.declared.checked.Accepted.{Accepted}
 use Rattle.separation.specs.Touching.{IsAccepted}
 use Rattle.separation.specs.Laws.{NeverAstray}
 use Rattle.bytecode.specs.declared.code.Parts.{Parts}
@@ -18,6 +23,10 @@ use Rattle.lowered.specs.Laws.{LoweredCodeMeans}
 use Rattle.picked.specs.Programs.{picked_code}
 use Rattle.picked.specs.Laws.{IsWithinLimits, PickedCodeIsValid, PickedCodeStands}
 use Rattle.lower.proofs.Bodies.{few_at}
+
+-- the program that an accepted one lends
+pub lent_program : {A : Type 0} {unit : OwnUnit A} {typed : Typed A} {safe : Safe A} (accepted : Accepted A) → unit ≡ typed.unit → typed ≡ safe.typed → safe ≡ accepted.safe → program_of unit ≡ program_of accepted.safe.typed.unit
+lent_program accepted u t s = ap program_of u ∙ (λ j. program_of (t j).unit) ∙ (λ j. program_of (s j).typed.unit)
 
 module _ (p : Program) (typed : IsTypedProgram p) (safe : ∥ IsSafeProgram p ∥₁) where
   pub parts_are_valid : PickedCodeIsValid → {A : Type 0} (parts : Parts A) → code_of parts ≡ picked_code p → AllByRecursion (λ (f : FunctionCode). f.registers ≤ 65535) (map function_of parts.functions) → length parts.instructions ≤ 1048576 → IsValid (code_of parts)
