@@ -49,27 +49,27 @@ module _ (format registers bytes : List ℕ) (i k to : ℕ) (l : Lists) where
   byte_goes c next bytes' is n =
       ap (λ ps. pieces_written ps (drop k registers) to l) (ap (λ b. joined b (pieces (drop next format))) n ∙ joined_more bytes c (pieces (drop next format)) ∙ ap (joined bytes) (sym is))
 
-  figure_here : (t : Scalar) (r : ℕ) → pieces (drop i format) ≡ Figure t ∷ pieces (drop (i + 2) format) → k < length registers → r ≡ get_or registers k 0 →
+  figure_here : (t : Scalar) (next r : ℕ) → pieces (drop i format) ≡ Figure t ∷ pieces (drop next format) → k < length registers → r ≡ get_or registers k 0 →
       pieces_written (joined bytes (pieces (drop i format))) (drop k registers) to l
-      ≡ and_then (figure_written bytes t r to l) (pieces_written (pieces (drop (i + 2) format)) (drop (k + 1) registers) (figure_written bytes t r to l).to (figure_written bytes t r to l).lists)
-  figure_here t r is h er =
+      ≡ and_then (figure_written bytes t r to l) (pieces_written (pieces (drop next format)) (drop (k + 1) registers) (figure_written bytes t r to l).to (figure_written bytes t r to l).lists)
+  figure_here t next r is h er =
       (λ j. pieces_written (joined bytes (is j)) ((drop_more registers k 0 h ∙ ap (λ x. x ∷ drop (k + 1) registers) (sym er)) j) to l)
-      ∙ figure_is bytes t (pieces (drop (i + 2) format)) r (drop (k + 1) registers) to l
+      ∙ figure_is bytes t (pieces (drop next format)) r (drop (k + 1) registers) to l
 
-  pub figure_goes : {t : Scalar} {r to' : ℕ} {l' : Lists} {empty : List ℕ} {code code' : List Instr} {whole : Written} → pieces (drop i format) ≡ Figure t ∷ pieces (drop (i + 2) format) → k < length registers → r ≡ get_or registers k 0 → empty ≡ [] →
+  pub figure_goes : (next : ℕ) {t : Scalar} {r to' : ℕ} {l' : Lists} {empty : List ℕ} {code code' : List Instr} {whole : Written} → pieces (drop i format) ≡ Figure t ∷ pieces (drop next format) → k < length registers → r ≡ get_or registers k 0 → empty ≡ [] →
       Adds (of_written (figure_written bytes t r to l)) code code' l' (Ok to') → written_behind code (pieces_written (joined bytes (pieces (drop i format))) (drop k registers) to l) ≡ whole →
-      written_behind code' (pieces_written (joined empty (pieces (drop (i + 2) format))) (drop (k + 1) registers) to' l') ≡ whole
-  figure_goes {t = t} {r = r} {code = code} is h er e0 m inv =
+      written_behind code' (pieces_written (joined empty (pieces (drop next format))) (drop (k + 1) registers) to' l') ≡ whole
+  figure_goes next {t = t} {r = r} {code = code} is h er e0 m inv =
       let put = figure_written bytes t r to l in
-      let rest = pieces_written (pieces (drop (i + 2) format)) (drop (k + 1) registers) put.to put.lists in
-      (λ j. written_behind (m.code j) (pieces_written (joined (e0 j) (pieces (drop (i + 2) format))) (drop (k + 1) registers) (m.end j) (m.lists j)))
+      let rest = pieces_written (pieces (drop next format)) (drop (k + 1) registers) put.to put.lists in
+      (λ j. written_behind (m.code j) (pieces_written (joined (e0 j) (pieces (drop next format))) (drop (k + 1) registers) (m.end j) (m.lists j)))
       ∙ (λ j. record rest { code = append_assoc code put.code rest.code j })
-      ∙ sym (ap (written_behind code) (figure_here t r is h er))
+      ∙ sym (ap (written_behind code) (figure_here t next r is h er))
       ∙ inv
 
   -- no register is left for a figure, and nothing is left of the format
-  pub no_register : (t : Scalar) → pieces (drop i format) ≡ Figure t ∷ pieces (drop (i + 2) format) → length registers ≤ k → pieces_written (joined bytes (pieces (drop i format))) (drop k registers) to l ≡ text_written bytes to l
-  no_register t is h = (λ j. pieces_written (joined bytes (is j)) (drop_all k registers h j) to l) ∙ stop_is bytes t (pieces (drop (i + 2) format)) to l
+  pub no_register : (t : Scalar) (next : ℕ) → pieces (drop i format) ≡ Figure t ∷ pieces (drop next format) → length registers ≤ k → pieces_written (joined bytes (pieces (drop i format))) (drop k registers) to l ≡ text_written bytes to l
+  no_register t next is h = (λ j. pieces_written (joined bytes (is j)) (drop_all k registers h j) to l) ∙ stop_is bytes t (pieces (drop next format)) to l
 
   pub no_piece : length format ≤ i → pieces_written (joined bytes (pieces (drop i format))) (drop k registers) to l ≡ text_written bytes to l
   no_piece h = ap (λ xs. pieces_written (joined bytes (pieces xs)) (drop k registers) to l) (drop_all i format h) ∙ end_is bytes (drop k registers) to l

@@ -1,12 +1,12 @@
 //! The instructions of a print's pieces.
 
-ghost use Rattle.std.specs.Prelude.{◌≡◌, ◌++◌, ◌∷◌, [], ◌<◌, length, OnOk, IfOk};
+ghost use Rattle.std.specs.Prelude.{◌≡◌, ◌++◌, ◌∷◌, [], length, OnOk, IfOk};
 ghost use Rattle.syntax.specs.Formats.{pieces};
 ghost use Rattle.picked.specs.Statements as statements;
 ghost use Rattle.picked.specs.Statements.{pieces_written};
 ghost use Rattle.expression_code.specs.Lists.{lists_of};
 ghost use Rattle.expression_code.specs.Stretches.{Writes};
-ghost use Rattle.lower.specs.inner.Formats.{IsAt, text_written, figure_written};
+ghost use Rattle.lower.specs.inner.Formats.{text_written, figure_written};
 
 use bytecode::Instr;
 use containers::Text;
@@ -15,6 +15,7 @@ use expression_code::lists::Lists;
 use expression_code::put::{after, put};
 use lex::token::Scalar;
 use std::alloc::{AllocError, Allocator};
+use syntax::format::{Unit, unit_at};
 
 /// The instruction that prints a number.
 fn printing(of: Scalar, r: u16) -> Instr
@@ -86,34 +87,6 @@ fn put_figure<A: Allocator>(
     Ok(after(to, 1)?)
 }
 
-/// What stands at a place of a format: a byte of literal text, with the place behind it, or a figure of two bytes.
-enum Unit {
-    Byte(u8, usize),
-    Figure(Scalar),
-}
-
-/// What stands at a place of a format.
-fn unit_at(format: &[u8], i: usize) -> Unit
-    requires { i < length format.now }
-    ensures { IsAt result format.now i }
-{
-    let a = format[i];
-    if a != b'%' {
-        return Unit::Byte(a, i + 1);
-    }
-    if format.len() - i == 1 {
-        return Unit::Byte(a, i + 1);
-    }
-    let b = format[i + 1];
-    if b == b'd' {
-        return Unit::Figure(Scalar::Int);
-    }
-    if b == b'u' {
-        return Unit::Figure(Scalar::Unsigned);
-    }
-    Unit::Byte(b, i + 2)
-}
-
 /// One more byte.
 fn add_byte<A: Allocator>(bytes: &mut Vec<u8, A>, byte: u8) -> Result<(), AllocError>
     ensures { OnOk result (bytes.new.items ≡ bytes.old.items ++ byte ∷ []) }
@@ -147,14 +120,14 @@ pub(crate) fn put_pieces<A: Allocator + Copy>(
                 i = next;
                 continue;
             }
-            Unit::Figure(of) => {
+            Unit::Figure(of, next) => {
                 if k >= registers.len() {
                     return put_text(lists, code, bytes, to);
                 }
                 to = put_figure(lists, code, bytes, of, registers[k], to)?;
                 bytes = Vec::new(alloc);
                 k += 1;
-                i += 2;
+                i = next;
             }
         }
     }

@@ -29,8 +29,8 @@ units-preserved g c =
     let u = c.units in
     record {
       within = c.in-Figure.ensures.within;
-      taken = omega (arith, u.invariant.taken);
-      code = figure_goes c.args.format.now c.args.registers.now u.bytes.items u.i u.k u.to (lists_of u.lists) c.in-Figure.ensures.is c.if-k-registers.false refl c.new-bytes-in-Figure.ensures.items c.in_ok-to-in-Figure.ensures u.invariant.code;
+      taken = omega (arith, u.invariant.taken, c.in-Figure.ensures.after);
+      code = figure_goes c.args.format.now c.args.registers.now u.bytes.items u.i u.k u.to (lists_of u.lists) c.in-Figure.next c.in-Figure.ensures.is c.if-k-registers.false refl c.new-bytes-in-Figure.ensures.items c.in_ok-to-in-Figure.ensures u.invariant.code;
     }
 
 pub returns-in_err-to-in-Figure : goal.returns-in_err-to-in-Figure
@@ -44,7 +44,7 @@ returns-in_err-to-in-Figure g c =
 pub returns-then-k-registers : goal.returns-then-k-registers
 returns-then-k-registers g c =
     let u = c.units in
-    let last = no_register c.args.format.now c.args.registers.now u.bytes.items u.i u.k u.to (lists_of u.lists) c.in-Figure.of c.in-Figure.ensures.is c.if-k-registers.true in
+    let last = no_register c.args.format.now c.args.registers.now u.bytes.items u.i u.k u.to (lists_of u.lists) c.in-Figure.of c.in-Figure.next c.in-Figure.ensures.is c.if-k-registers.true in
     goes_on (ap (written_behind u.code.items) (sym last) ∙ u.invariant.code) c.put_text.ensures
 
 pub returns : goal.returns
