@@ -9,11 +9,8 @@ work=$(mktemp -d)
 trap 'rm -rf "$work"' EXIT
 mkdir -p "$work/crates/meaning_speed/src"
 python3 "$top/scripts/copy_crates.py" "$work" meaning_speed lex meaning parse safety separation types
-# memories that hold 0, and the proof that they are words, are those of the tests
+# memories that hold 0 are those of the tests
 cp "$top/crates/lower_tests/src/of_meaning/memory.rt" "$work/crates/meaning_speed/src/"
-mkdir -p "$work/crates/meaning_speed/proofs"
-cp -r "$top/crates/lower_tests/proofs/of_meaning/memory" "$work/crates/meaning_speed/proofs/"
-find "$work/crates/meaning_speed/proofs" -name '*.antt' -exec sed -i 's/Rattle\.lower_tests\.proofs\.of_meaning/Rattle.meaning_speed.proofs/' {} +
 cat > "$work/crates/meaning_speed/src/main.rt" <<'END_MAIN'
 //! Prints how many ticks a second a thread takes.
 #![tactic(auto)]

@@ -1,15 +1,10 @@
 //! Memories that hold 0 in every cell.
 
-ghost use Rattle.std.specs.Prelude.{◌<◌, ◌^◌, All, IfOk};
-ghost use Rattle.meaning.specs.Outcomes.{AreWords};
-
 use std::alloc::{AllocError, Allocator};
 
-fn zero<A: Allocator + Copy>(alloc: A, cells: usize) -> Result<Vec<u64, A>, AllocError>
-    ensures { IfOk result (λ v. All (λ w. w < 2 ^ 32) v.items) }
-{
+fn zero<A: Allocator + Copy>(alloc: A, cells: usize) -> Result<Vec<u64, A>, AllocError> {
     let mut memory = Vec::new(alloc);
-    'cells: for _ in 0..cells {
+    for _ in 0..cells {
         memory.push(0)?;
     }
     Ok(memory)
@@ -19,11 +14,9 @@ pub(crate) fn zeros<A: Allocator + Copy>(
     alloc: A,
     memories: usize,
     cells: usize,
-) -> Result<Vec<Vec<u64, A>, A>, AllocError>
-    ensures { IfOk result (λ all. AreWords all.items) }
-{
+) -> Result<Vec<Vec<u64, A>, A>, AllocError> {
     let mut all = Vec::new(alloc);
-    'memories: for _ in 0..memories {
+    for _ in 0..memories {
         all.push(zero(alloc, cells)?)?;
     }
     Ok(all)

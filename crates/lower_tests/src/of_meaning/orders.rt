@@ -45,7 +45,7 @@ type Row = (
     u32,
     &'static [u32],
     u64,
-    u32,
+    u64,
     &'static str,
     ThreadEnd,
     &'static str,
@@ -136,7 +136,7 @@ fn are_reports(reports: &[ThreadReport], row: &Row) -> bool {
 }
 
 // Whether a memory is one cell that holds this.
-fn is_cell(memory: &[u32], cell: u32) -> bool {
+fn is_cell(memory: &[u64], cell: u64) -> bool {
     memory.len() == 1 && memory.first().copied() == Some(cell)
 }
 
@@ -177,7 +177,7 @@ fn threads_run_in_an_order(rt: HostRuntime) {
 }
 
 // What 10,000 turns of two threads leave in the first cell.
-fn many_turns(alloc: Global, accepted: &Accepted) -> Option<u32> {
+fn many_turns(alloc: Global, accepted: &Accepted) -> Option<u64> {
     let mut order = Vec::new(alloc);
     for i in 0..10000u32 {
         if order.push(i % 2).is_err() {

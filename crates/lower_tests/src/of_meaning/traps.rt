@@ -1,7 +1,5 @@
 //! A program for each trap, the whole language, and programs that run long.
 
-ghost use Rattle.meaning.specs.Outcomes.{AreWords};
-
 use crate::accepted::accepted_of;
 use crate::asserted::{assert_none, assert_that};
 use crate::of_meaning::memory::zeros;
@@ -118,9 +116,7 @@ fn ends<A: Allocator + Copy>(
     accepted: &Accepted<A>,
     t: u32,
     memories: &[Vec<u64, A>],
-) -> bool
-    requires { AreWords memories.now }
-{
+) -> bool {
     match thread(alloc, accepted, t, memories, 1000000) {
         Ok(outcome) => outcome.end == ThreadEnd::Ended,
         Err(_) => false,
