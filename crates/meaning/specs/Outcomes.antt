@@ -1,8 +1,11 @@
 -- What is seen of a thread.
-use Rattle.std.specs.Prelude.{Vec, ℕ, ◌<◌, ◌^◌, List, map, All}
+use Rattle.std.specs.Prelude.{Vec, ℕ, List, map}
 use Rattle.syntax.specs.declared.numbers.Halt.TheVariants as halt
 use Rattle.syntax.specs.Behaviours as Behaviours
-use Rattle.syntax.specs.Behaviours.{Memory, Outcome}
+use Rattle.std.specs.List.{AllByRecursion}
+use Rattle.syntax.specs.Tree.{Program}
+use Rattle.syntax.specs.Names.{bounds}
+use Rattle.syntax.specs.Behaviours.{Memory, IsMemory, Outcome}
 use Rattle.meaning.specs.declared.outcome.ThreadEnd.{ThreadEnd}
 use Rattle.meaning.specs.declared.outcome.ThreadEnd.TheVariants as end
 use Rattle.meaning.specs.declared.outcome.ThreadOutcome.{ThreadOutcome}
@@ -17,9 +20,9 @@ module _ {A : Type 0} where
   abbrev pub memories_in : List (Vec ℕ A) → List Memory
   memories_in ms = map (λ v. v.items) ms
 
-  -- each word of each memory is below 2^32
-  abbrev pub AreWords : List (Vec ℕ A) → Type 0
-  AreWords ms = All (λ v. All (λ w. w < 2 ^ 32) v.items) ms
+  -- each is a memory of the program: for each cell a word of its type
+  abbrev pub AreMemories : Program → List (Vec ℕ A) → Type 0
+  AreMemories p ms = AllByRecursion (IsMemory (bounds p)) (memories_in ms)
 
   abbrev pub outcome_in : ThreadOutcome A → Outcome
   outcome_in o = record { lefts = memories_in o.lefts.items; text = o.text.items; end = thread_end_in o.end }

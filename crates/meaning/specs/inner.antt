@@ -14,8 +14,6 @@ pub mod Calls
 pub mod Does
 -- what prints a format byte by byte
 pub mod Printing
--- what is seen of a thread, as it is kept
-pub mod Seen
 -- threads that take turns
 pub mod Turns
 -- what a thread has still to do

@@ -45,7 +45,7 @@ fn locals_of<'p, A: Allocator + Copy>(
         mine.push(Local {
             name: x.text.as_str(),
             of: q.of,
-            word: convert(q.of, v).word as u32,
+            word: convert(q.of, v).word,
         })?;
     }
     Ok(Some(mine))

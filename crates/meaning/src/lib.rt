@@ -25,7 +25,6 @@ mod tables;
 mod threads;
 mod transactions;
 mod word;
-mod words;
 
 pub use orders::run_order;
 pub use outcome::{MeaningFault, SourceOutcome, ThreadEnd, ThreadOutcome, ThreadReport};

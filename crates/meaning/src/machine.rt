@@ -9,8 +9,8 @@ ghost use Rattle.syntax.specs.declared.numbers.Value.{Value};
 ghost use Rattle.meaning.specs.inner.Word.{value_of};
 ghost use Rattle.meaning.specs.inner.Machine.{Means, MeansSpot, MeansWord, state_in, local_in, spot_of};
 
-use crate::arithmetic::{apply, apply_unary};
-use crate::word::{Word, convert_word, pack, packed, unpack};
+use crate::arithmetic::{apply, apply_unary, convert};
+use crate::word::{Word, pack, packed, unpack};
 use lex::token::Scalar;
 use std::alloc::Allocator;
 use syntax::numbers::{Halt, Trap};
@@ -21,15 +21,15 @@ use syntax::tree::{BinaryOp, Mode, UnaryOp};
 pub(crate) struct Local<'p> {
     pub name: &'p str,
     pub of: Scalar,
-    pub word: u32,
+    pub word: u64,
 }
 
 /// Outside transactions, with the memories still to be found and those left so far; or inside one: how the innermost one
 /// runs, and the memory as its transaction sees it.
 #[derive(Drop)]
 pub(crate) enum Context<'f, A: Allocator> {
-    Outside(&'f [Vec<u32, A>], Vec<Vec<u32, A>, A>),
-    Inside(Mode, Vec<u32, A>),
+    Outside(&'f [Vec<u64, A>], Vec<Vec<u64, A>, A>),
+    Inside(Mode, Vec<u64, A>),
 }
 
 /// A thread's ticks, locals, context and text; and where it goes no further, why: the meaning's halt, or none where memory
@@ -168,14 +168,14 @@ pub(crate) fn fetch<A: Allocator>(m: &mut Machine<A>, at: Spot) -> Result<Word, 
 
 /// The word of a value that is converted.
 #[inline(always)]
-fn word_as(of: Scalar, w: Word) -> u32
+fn word_as(of: Scalar, w: Word) -> u64
     ensures { result ≡ (converted of (value_of w)).word }
 {
-    unpack(convert_word(of, w)).word as u32
+    convert(of, unpack(w)).word
 }
 
 /// Writes a word into a local.
-fn assign_local(locals: &mut [Local], i: usize, word: u32)
+fn assign_local(locals: &mut [Local], i: usize, word: u64)
     ensures { map local_in locals.new ≡ with_word (map local_in locals.old) i word }
 {
     if i < locals.len() {

@@ -4,32 +4,37 @@ ghost use Rattle.std.specs.Prelude.{◌≡◌, ◌++◌, ◌-◌, ◌∷◌, [],
 ghost use Rattle.syntax.specs.Views.{program_of, item_of, global_of};
 ghost use Rattle.syntax.specs.Names.{globals, first_word, first_words, initial_from, initial_memory as initial_memory_of};
 
+use lex::token::Scalar;
 use std::alloc::{AllocError, Allocator};
 use syntax::tree::{First, Global, Item, Unit};
 
-/// Adds the words that are given for a global's first cells.
-fn push_firsts<A: Allocator>(memory: &mut Vec<u32, A>, firsts: &[First]) -> Result<(), AllocError>
-    ensures { OnOk result (memory.new.items ≡ memory.old.items ++ map first_word firsts.now) }
+/// Adds the words that are given for cells of this type.
+fn push_firsts<A: Allocator>(
+    memory: &mut Vec<u64, A>,
+    of: Scalar,
+    firsts: &[First],
+) -> Result<(), AllocError>
+    ensures { OnOk result (memory.new.items ≡ memory.old.items ++ map (first_word of) firsts.now) }
 {
     'firsts: for first in firsts {
-        memory.push(first.word())?;
+        memory.push(first.word(of))?;
     }
     Ok(())
 }
 
-/// Adds the words of a global: those that are given, and else 0.
-fn push_global<A: Allocator>(memory: &mut Vec<u32, A>, global: &Global<A>) -> Result<(), AllocError>
+/// Adds the words of a global, one for each cell: those that are given, and else 0.
+fn push_global<A: Allocator>(memory: &mut Vec<u64, A>, global: &Global<A>) -> Result<(), AllocError>
     ensures { OnOk result (memory.new.items ≡ memory.old.items ++ first_words (global_of global.now)) }
 {
-    push_firsts(memory, global.first.as_slice())?;
-    let rest = global
-        .cell_count()
-        .saturating_sub(global.first.as_slice().len());
-    push_zeros(memory, rest)
+    let firsts = global.first.as_slice();
+    let cells = global.cell_count();
+    let given = cells.min(firsts.len());
+    push_firsts(memory, global.of, &firsts[..given])?;
+    push_zeros(memory, cells.saturating_sub(firsts.len()))
 }
 
 /// Adds cells that hold 0.
-fn push_zeros<A: Allocator>(memory: &mut Vec<u32, A>, count: usize) -> Result<(), AllocError>
+fn push_zeros<A: Allocator>(memory: &mut Vec<u64, A>, count: usize) -> Result<(), AllocError>
     ensures { OnOk result (memory.new.items ≡ memory.old.items ++ replicate count 0) }
 {
     'zeros: for _ in 0..count {
@@ -39,7 +44,7 @@ fn push_zeros<A: Allocator>(memory: &mut Vec<u32, A>, count: usize) -> Result<()
 }
 
 /// Adds the words of globals.
-fn push_globals<A: Allocator>(memory: &mut Vec<u32, A>, all: &[Global<A>]) -> Result<(), AllocError>
+fn push_globals<A: Allocator>(memory: &mut Vec<u64, A>, all: &[Global<A>]) -> Result<(), AllocError>
     ensures { OnOk result (memory.new.items ≡ memory.old.items ++ initial_from (map global_of all.now)) }
 {
     'all: for global in all {
@@ -49,7 +54,7 @@ fn push_globals<A: Allocator>(memory: &mut Vec<u32, A>, all: &[Global<A>]) -> Re
 }
 
 /// Adds the words of the globals among items.
-fn push_items<A: Allocator>(memory: &mut Vec<u32, A>, items: &[Item<A>]) -> Result<(), AllocError>
+fn push_items<A: Allocator>(memory: &mut Vec<u64, A>, items: &[Item<A>]) -> Result<(), AllocError>
     ensures { OnOk result (memory.new.items ≡ memory.old.items ++ initial_from (globals (map item_of items.now))) }
 {
     'items: for item in items {
@@ -65,7 +70,7 @@ fn push_items<A: Allocator>(memory: &mut Vec<u32, A>, items: &[Item<A>]) -> Resu
 pub(crate) fn initial_memory<A: Allocator + Copy>(
     alloc: A,
     unit: &Unit<A>,
-) -> Result<Vec<u32, A>, AllocError>
+) -> Result<Vec<u64, A>, AllocError>
     ensures { IfOk result (λ m. m.items ≡ initial_memory_of (program_of unit.now)) }
 {
     let mut memory = Vec::new(alloc);

@@ -1,6 +1,6 @@
 //! What the names of a file stand for.
 
-ghost use Rattle.std.specs.Prelude.{◌≡◌, ◌≤◌, ◌^◌, ◌∷◌, List, map, option_map, IfSome};
+ghost use Rattle.std.specs.Prelude.{◌≡◌, ◌+◌, ◌≤◌, ◌^◌, ◌∷◌, List, map, option_map, IfSome};
 ghost use Rattle.std.specs.Option.{option_or};
 ghost use Rattle.syntax.specs.Tree as tree;
 ghost use Rattle.syntax.specs.Names as Names;
@@ -10,23 +10,12 @@ ghost use Rattle.syntax.specs.Views.{expr_of, global_of, item_of};
 ghost use Rattle.meaning.specs.inner.Machine.{local_in, program_in};
 ghost use Rattle.meaning.specs.inner.File.{shared_in, defined_in, known_of};
 
-use crate::arithmetic::common_type;
 use crate::machine::{Local, newest};
 use crate::program::Source;
 use lex::token::Scalar;
 use std::alloc::Allocator;
 use syntax::tree::{BinaryOp, Expr, Function, Global, Item, Name, Stmt, UnaryOp};
-
-/// The number of a global's cells.
-pub(crate) fn cells_of<A: Allocator>(g: &Global<A>) -> usize
-    ensures value { result ≡ Names.cells (global_of g.now) }
-    ensures small { result ≤ 2 ^ 32 }
-{
-    match g.length {
-        Some((n, _)) => n as usize,
-        None => 1,
-    }
-}
+use syntax::types::common_type;
 
 /// A global, with its first cell.
 #[derive(Drop)]
@@ -48,7 +37,7 @@ pub(crate) fn global<'p, A: Allocator + Copy>(
     name: &str,
 ) -> Option<Shared<'p, A>>
     ensures value { option_map shared_in result ≡ Names.global_of (program_in source.now) name.now }
-    ensures low { IfSome result (λ g. g.cell ≤ 2 ^ 32) }
+    ensures low { IfSome result (λ g. g.cell + Names.cells (global_of g.global.now) ≤ 2 ^ 32) }
 {
     match source.globals.get(name) {
         Some(g) => Some(Shared {

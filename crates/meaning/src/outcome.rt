@@ -41,7 +41,7 @@ pub struct ThreadReport<A: Allocator = std::alloc::Global> {
 #[derive(Drop)]
 pub struct SourceOutcome<A: Allocator = std::alloc::Global> {
     /// The last memory, a word for each cell.
-    pub memory: Vec<u32, A>,
+    pub memory: Vec<u64, A>,
     /// Each thread, by its number.
     pub threads: Vec<ThreadReport<A>, A>,
 }

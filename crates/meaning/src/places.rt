@@ -12,7 +12,7 @@ ghost use Rattle.meaning.specs.inner.Does.{called};
 ghost use Rattle.meaning.specs.inner.Word.{value_of};
 
 use crate::machine::{Halted, Machine, Spot, fetch, newest, spot_trap};
-use crate::names::{cells_of, common_if_both, global, type_of};
+use crate::names::{common_if_both, global, type_of};
 use crate::program::Source;
 use crate::word::{Word, convert_word, unpack};
 use std::alloc::Allocator;
@@ -65,7 +65,7 @@ pub(crate) fn indexed<'p, A: Allocator + Copy>(
         return Err(Halted {});
     };
     let k = unpack(index).word as usize;
-    if k < cells_of(g.global) {
+    if k < g.global.cell_count() {
         Ok(Spot::InCell(g.cell + k, g.global.of))
     } else {
         spot_trap(m, Trap::Index)

@@ -1,19 +1,20 @@
 //! What a `printf` prints, piece by piece.
 
 ghost use Rattle.std.specs.Fmt.{signed_decimal};
-ghost use Rattle.std.specs.Prelude.{◌<◌, length, drop};
+ghost use Rattle.std.specs.Prelude.{drop};
 ghost use Rattle.syntax.specs.Actions as act;
 ghost use Rattle.syntax.specs.Formats.{pieces};
 ghost use Rattle.syntax.specs.Meaning as meaning;
 ghost use Rattle.syntax.specs.Numbers as numbers;
 ghost use Rattle.meaning.specs.inner.Machine.{Means, state_in};
-ghost use Rattle.meaning.specs.inner.Printing.{pushed, figure, IsAt};
+ghost use Rattle.meaning.specs.inner.Printing.{pushed, figure};
 
-use crate::arithmetic::number;
 use crate::machine::{Context, Halted, Machine, tick};
 use itoa::Buffer;
 use lex::token::Scalar;
 use std::alloc::Allocator;
+use syntax::format::{Unit, unit_at};
+use syntax::number::number;
 use syntax::numbers::{Halt, Value};
 use syntax::tree::Mode;
 
@@ -53,10 +54,7 @@ fn put_number<A: Allocator>(m: &mut Machine<A>, t: Scalar, v: Value) -> Result<(
 {
     tick(m)?;
     let mut buffer = Buffer::new();
-    let text = buffer.format(number(Value {
-        of: t,
-        word: v.word,
-    }));
+    let text = buffer.format(number(t, v.word));
     if m.text.extend_from_slice(text.as_bytes()).is_err() {
         m.why = None;
         return Err(Halted {});
@@ -82,34 +80,6 @@ fn put_figure<A: Allocator>(
     }
 }
 
-/// What stands at a place of a format: a byte of literal text, with the place behind it, or a figure of two bytes.
-enum Unit {
-    Byte(u8, usize),
-    Figure(Scalar),
-}
-
-/// What stands at a place of a format.
-fn unit_at(format: &[u8], i: usize) -> Unit
-    requires { i < length format.now }
-    ensures { IsAt result format.now i }
-{
-    let a = format[i];
-    if a != b'%' {
-        return Unit::Byte(a, i + 1);
-    }
-    if format.len() - i == 1 {
-        return Unit::Byte(a, i + 1);
-    }
-    let b = format[i + 1];
-    if b == b'd' {
-        return Unit::Figure(Scalar::Int);
-    }
-    if b == b'u' {
-        return Unit::Figure(Scalar::Unsigned);
-    }
-    Unit::Byte(b, i + 2)
-}
-
 /// The pieces of a format, with these values for its figures.
 pub(crate) fn print_pieces<A: Allocator>(
     m: &mut Machine<A>,
@@ -129,11 +99,11 @@ pub(crate) fn print_pieces<A: Allocator>(
                 i = next;
                 continue;
             }
-            Unit::Figure(t) => {
+            Unit::Figure(t, next) => {
                 put_figure(m, t, values, k)?;
                 begun = false;
                 k += 1;
-                i += 2;
+                i = next;
             }
         }
     }

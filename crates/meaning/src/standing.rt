@@ -31,13 +31,13 @@ use syntax::tree::Stmt;
 pub(crate) struct Point<'p, A: Allocator> {
     pub ticks: u64,
     pub locals: Vec<Local<'p>, A>,
-    pub due: Vec<Vec<u32, A>, A>,
+    pub due: Vec<Vec<u64, A>, A>,
 }
 
 /// What is left and printed.
 #[derive(Drop)]
 pub(crate) struct Shown<A: Allocator> {
-    pub lefts: Vec<Vec<u32, A>, A>,
+    pub lefts: Vec<Vec<u64, A>, A>,
     pub text: Vec<u8, A>,
 }
 
@@ -68,8 +68,8 @@ pub(crate) enum Gone<'p, A: Allocator> {
 /// Copies memories.
 fn copy_memories<A: Allocator + Copy>(
     alloc: A,
-    memories: &[Vec<u32, A>],
-) -> Result<Vec<Vec<u32, A>, A>, AllocError>
+    memories: &[Vec<u64, A>],
+) -> Result<Vec<Vec<u64, A>, A>, AllocError>
     ensures { IfOk result (λ v. memories_in v.items ≡ memories_in memories.now) }
 {
     let mut copies = Vec::new(alloc);

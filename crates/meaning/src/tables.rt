@@ -13,7 +13,7 @@ ghost use Rattle.meaning.specs.inner.Tables.{AreNumbers, AreGlobals, AreSymbols,
 ghost use Rattle.name_tables.specs.Known.{entries_in};
 ghost use Rattle.name_tables.specs.Named.{first};
 
-use crate::names::{Shared, Symbol, cells_of};
+use crate::names::{Shared, Symbol};
 use crate::program::{Definitions, Globals, Source, Symbols};
 use name_tables::Table;
 use std::alloc::{AllocError, Allocator};
@@ -77,7 +77,7 @@ fn add_globals<'p, A: Allocator + Copy>(
     let mut cell = first;
     'globals: for g in gs {
         add_global(table, cell, g)?;
-        cell += cells_of(g);
+        cell += g.cell_count();
     }
     Ok(cell)
 }

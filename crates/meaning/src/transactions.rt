@@ -46,8 +46,8 @@ pub(crate) fn copy_locals<'p, A: Allocator + Copy>(
 /// Copies a memory.
 pub(crate) fn copy_memory<A: Allocator + Copy>(
     alloc: A,
-    memory: &[u32],
-) -> Result<Vec<u32, A>, AllocError>
+    memory: &[u64],
+) -> Result<Vec<u64, A>, AllocError>
     ensures { IfOk result (λ v. v.items ≡ memory.now) }
 {
     let copy = Vec::from_slice(alloc, memory)?;
@@ -55,7 +55,7 @@ pub(crate) fn copy_memory<A: Allocator + Copy>(
 }
 
 /// Adds a memory to those left, outside transactions.
-fn add_left<A: Allocator>(m: &mut Machine<A>, memory: Vec<u32, A>) -> Result<(), AllocError>
+fn add_left<A: Allocator>(m: &mut Machine<A>, memory: Vec<u64, A>) -> Result<(), AllocError>
     ensures left { IfOk result (λ _. state_in m.new ≡ left_too memory.items (state_in m.old)) }
     ensures why { m.new.why ≡ m.old.why }
 {
@@ -66,7 +66,7 @@ fn add_left<A: Allocator>(m: &mut Machine<A>, memory: Vec<u32, A>) -> Result<(),
 }
 
 /// The memory inside a transaction.
-fn memory_of<A: Allocator + Copy>(alloc: A, context: Context<A>) -> Vec<u32, A>
+fn memory_of<A: Allocator + Copy>(alloc: A, context: Context<A>) -> Vec<u64, A>
     ensures { result.items ≡ act.memory_in (context_in context.entry) }
 {
     match context {
@@ -105,7 +105,7 @@ fn leave_inner<'p, A: Allocator + Copy>(
     outer: Mode,
     kind: Kind,
     before: Vec<Local<'p>, A>,
-    found: Vec<u32, A>,
+    found: Vec<u64, A>,
     end: End,
     m: &mut Machine<'p, '_, A>,
 ) -> End
@@ -125,10 +125,10 @@ fn leave_inner<'p, A: Allocator + Copy>(
 fn leave<'p, 'f, A: Allocator + Copy>(
     alloc: A,
     kind: Kind,
-    founds: &'f [Vec<u32, A>],
-    lefts: Vec<Vec<u32, A>, A>,
+    founds: &'f [Vec<u64, A>],
+    lefts: Vec<Vec<u64, A>, A>,
     mine: Vec<Local<'p>, A>,
-    found: &[u32],
+    found: &[u64],
     end: End,
     m: &mut Machine<'p, 'f, A>,
 ) -> Result<End, Halted>
@@ -164,7 +164,7 @@ fn leave<'p, 'f, A: Allocator + Copy>(
 /// What an outermost transaction that traps leaves: the memory that was found.
 fn leave_found<A: Allocator + Copy>(
     alloc: A,
-    found: &[u32],
+    found: &[u64],
     m: &mut Machine<A>,
 ) -> Result<(), AllocError>
     ensures left { IfOk result (λ _. state_in m.new ≡ left_too found.now (state_in m.old)) }
@@ -177,9 +177,9 @@ fn leave_found<A: Allocator + Copy>(
 /// What an outermost transaction that stops leaves: a trap leaves the memory that was found.
 fn close_stopped<'p, 'f, A: Allocator + Copy>(
     alloc: A,
-    founds: &'f [Vec<u32, A>],
-    lefts: Vec<Vec<u32, A>, A>,
-    found: &[u32],
+    founds: &'f [Vec<u64, A>],
+    lefts: Vec<Vec<u64, A>, A>,
+    found: &[u64],
     m: &mut Machine<'p, 'f, A>,
 )
     ensures known { Happened m.new.why → Happened m.old.why }
@@ -275,8 +275,8 @@ fn outermost<'p, 'f, A: Allocator + Copy>(
     source: &Source<'p, A>,
     frames: u64,
     kind: Kind,
-    founds: &'f [Vec<u32, A>],
-    lefts: Vec<Vec<u32, A>, A>,
+    founds: &'f [Vec<u64, A>],
+    lefts: Vec<Vec<u64, A>, A>,
     body: &Body<'p, A>,
     m: &mut Machine<'p, 'f, A>,
 ) -> Result<End, Halted>
@@ -321,7 +321,7 @@ fn nested<'p, A: Allocator + Copy>(
     source: &Source<'p, A>,
     frames: u64,
     outer: Mode,
-    found: Vec<u32, A>,
+    found: Vec<u64, A>,
     kind: Kind,
     body: &Body<'p, A>,
     m: &mut Machine<'p, '_, A>,

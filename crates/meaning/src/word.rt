@@ -1,30 +1,30 @@
-//! Values in one register.
+//! Values in two registers.
 
-ghost use Rattle.std.specs.Prelude.{◌≡◌, ◌<◌, ◌^◌, pos};
+ghost use Rattle.std.specs.Prelude.{◌≡◌, pos};
 ghost use Rattle.syntax.specs.Numbers.{converted, flag as flag_due, is_zero as is_zero_due, word_of};
 ghost use Rattle.meaning.specs.inner.Word.{value_of};
 
-use crate::arithmetic::convert;
+use crate::arithmetic::{convert, residue};
 use lex::token::Scalar;
 use syntax::numbers::Value;
 
-/// A value in 64 bits without a gap: its word, and above it 1 where it is unsigned.
+/// A value in 128 bits without a gap: its word, and above it its type: 0 is `int` and 1 `unsigned`.
 #[derive(Clone, Copy)]
 pub(crate) struct Word {
-    bits: u64,
+    bits: u128,
 }
 
 /// The value of this type with this word.
 #[inline(always)]
 #[tactic(auto, unfolding(crate::specs::inner::Word::value_of))]
-pub(crate) fn pack(of: Scalar, word: u32) -> Word
+pub(crate) fn pack(of: Scalar, word: u64) -> Word
     ensures { value_of result ≡ record { of = of; word = word } }
 {
-    let low = u64::from(word);
+    let low = u128::from(word);
     match of {
         Scalar::Int => Word { bits: low },
         Scalar::Unsigned => Word {
-            bits: low + 4294967296,
+            bits: low + 18446744073709551616,
         },
     }
 }
@@ -33,11 +33,10 @@ pub(crate) fn pack(of: Scalar, word: u32) -> Word
 #[inline(always)]
 #[tactic(auto, unfolding(crate::specs::inner::Word::value_of))]
 pub(crate) fn unpack(w: Word) -> Value
-    ensures value { result ≡ value_of w }
-    ensures fits { result.word < 2 ^ 32 }
+    ensures { result ≡ value_of w }
 {
-    let word = w.bits % 4294967296;
-    if w.bits < 4294967296 {
+    let word = (w.bits % 18446744073709551616) as u64;
+    if w.bits < 18446744073709551616 {
         Value {
             of: Scalar::Int,
             word,
@@ -50,21 +49,20 @@ pub(crate) fn unpack(w: Word) -> Value
     }
 }
 
-/// A value whose word fits.
+/// A value in one piece.
 #[inline(always)]
 pub(crate) fn packed(v: Value) -> Word
-    requires { v.word < 2 ^ 32 }
     ensures { value_of result ≡ v }
 {
-    pack(v.of, v.word as u32)
+    pack(v.of, v.word)
 }
 
 /// The value of a constant.
 #[inline(always)]
-pub(crate) fn constant(n: u32, of: Scalar) -> Word
-    ensures { value_of result ≡ record { of = of; word = word_of (pos n) } }
+pub(crate) fn constant(n: u64, of: Scalar) -> Word
+    ensures { value_of result ≡ record { of = of; word = word_of of (pos n) } }
 {
-    pack(of, n)
+    pack(of, residue(of, n))
 }
 
 /// Whether a value is 0.
@@ -80,10 +78,10 @@ pub(crate) fn is_zero(w: Word) -> bool
 pub(crate) fn flag(b: bool) -> Word
     ensures { value_of result ≡ flag_due b }
 {
-    pack(Scalar::Int, u32::from(b))
+    pack(Scalar::Int, u64::from(b))
 }
 
-/// A value of the type, with the number modulo 2^32.
+/// A value of the type, with the number modulo how many numbers the type has.
 #[inline(always)]
 pub(crate) fn convert_word(t: Scalar, w: Word) -> Word
     ensures { value_of result ≡ converted t (value_of w) }

@@ -1,15 +1,13 @@
 -- What prints a format byte by byte.
-use Rattle.std.specs.Prelude.{◌≡◌, ℕ, ◌+◌, ◌<◌, ◌≤◌, length, drop, List, [], ◌∷◌, Bool, true, false}
+use Rattle.std.specs.Prelude.{ℕ, List, [], ◌∷◌, Bool, true, false}
 use Rattle.std.specs.Fmt.{signed_decimal}
 use Rattle.syntax.specs.Tree.{Scalar}
 use Rattle.syntax.specs.declared.numbers.Value.{Value}
 use Rattle.syntax.specs.Numbers.{number}
 use Rattle.syntax.specs.declared.numbers.Halt.TheVariants.{Astray}
 use Rattle.syntax.specs.Actions.{Action, stop, tick, write, print_piece, ◌>>◌}
-use Rattle.syntax.specs.Formats.{Piece, Literal, Figure, literal, pieces}
+use Rattle.syntax.specs.Formats.{Piece, Literal}
 use Rattle.syntax.specs.Meaning.{print_pieces}
-use Rattle.meaning.specs.declared.print.Unit as U
-use Rattle.meaning.specs.declared.print.Unit.TheVariants as unit
 
 -- one byte of a literal piece, which is open already or begins with it
 abbrev pub pushed : Bool → ℕ → Action (Unit {0})
@@ -26,17 +24,3 @@ abbrev pub continued : Bool → List Piece → List Value → Action (Unit {0})
 continued true (Literal cs ∷ ps) vs = write cs >> print_pieces ps vs
 continued true ps vs = print_pieces ps vs
 continued false ps vs = print_pieces ps vs
-
--- a unit stands at this place of a format
-pub record IsByteAt (c next : ℕ) (format : List ℕ) (i : ℕ) : Type 0 where
-  pub is : pieces (drop i format) ≡ literal c (pieces (drop next format))
-  pub after : i < next
-  pub within : next ≤ length format
-
-pub record IsFigureAt (t : Scalar) (format : List ℕ) (i : ℕ) : Type 0 where
-  pub is : pieces (drop i format) ≡ Figure t ∷ pieces (drop (i + 2) format)
-  pub within : i + 2 ≤ length format
-
-abbrev pub IsAt : U.Unit → List ℕ → ℕ → Type 0
-IsAt (unit.Byte c next) format i = IsByteAt c next format i
-IsAt (unit.Figure t) format i = IsFigureAt t format i
