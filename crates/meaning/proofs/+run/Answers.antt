@@ -352,7 +352,7 @@ calls::values-arguments-init g t c =
 pub calls::values-arguments-preserved : goal.calls::values-arguments-preserved
 calls::values-arguments-preserved g t c =
     let grown : c.push.new.self.items ≡ c.arguments.values.items ++ value_of c.in_ok-v.v ∷ [] =
-    c.push.ensures.items ∙ ap (λ (b : Bool). if b then c.arguments.values.items ++ c.unpack.result ∷ [] else c.arguments.values.items) c.if-is_err.ensures.negation ∙ ap (λ v. c.arguments.values.items ++ v ∷ []) c.unpack.ensures.value in
+    c.push.ensures.items ∙ ap (λ (b : Bool). if b then c.arguments.values.items ++ c.unpack.result ∷ [] else c.arguments.values.items) c.if-is_err.ensures.negation ∙ ap (λ v. c.arguments.values.items ++ v ∷ []) c.unpack.ensures in
     values_next (program_in c.args.source.now) (called c.args.source.now c.args.frames) c.args.args.now c.arguments.e-index c.e-item.result (state_in c.arguments.m) (state_in c.eval.new.m) c.arguments.values.items c.push.new.self.items (value_of c.in_ok-v.v) (exprs (program_in c.args.source.now) (called c.args.source.now c.args.frames) (exprs_of c.args.args.now) (state_in c.args.m.now)) c.arguments-test.true c.e-item.is c.arguments.invariant (c.in_ok-v.ensures tt) grown
 
 pub calls::values-eval-requires : goal.calls::values-eval-requires

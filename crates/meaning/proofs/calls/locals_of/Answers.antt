@@ -20,4 +20,4 @@ parameters-preserved g c =
     let k : c.parameters.i < length c.args.values.now = omega arith in
     named c.args.parameters.now c.args.values.now c.parameters.i c.index-parameters-i.result (record { of = Int; word = 0 }) c.parameters.mine.items (entered (map parameter_of c.args.parameters.now) c.args.values.now)
     c.parameters-test.true k c.index-parameters-i.is c.parameters.invariant c.in-Some.x (record { name = c.as_str.result; of = c.index-parameters-i.result.of; word = c.convert.result.word }) c.push.new.self.items
-    c.in-Some.is c.in_ok-push.ensures.items c.as_str.ensures refl (ap (λ v. v.word) c.convert.ensures.value)
+    c.in-Some.is c.in_ok-push.ensures.items c.as_str.ensures refl (ap (λ v. v.word) c.convert.ensures)
