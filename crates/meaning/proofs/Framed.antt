@@ -132,7 +132,7 @@ framed_kept = record {
   locals_holds = record { alike = λ f s. refl };
   put_locals_holds = λ ls. record { alike = λ f s. refl };
   load_holds = λ c. record { alike = λ f s. load_alike f s.context c s };
-  store_holds = λ c w below. record { alike = λ f s. store_alike f s.context c w s };
+  store_holds = λ c w t is below. record { alike = λ f s. store_alike f s.context c w s };
   may_print_holds = record { alike = λ f s. may_print_alike f s.context s };
   print_piece_holds = λ text shown. on_framed tick_framed (λ _. record { alike = λ f s. write_alike f text s });
   loop_holds = λ h. record { alike = λ f s. turns_alike _ h f s.ticks s };
