@@ -107,15 +107,15 @@ module _ {A : Type 0} where
       ∙ put_last (bytes_eq name x) g (first old x) rest
       ∙ ap (λ z. option_or (option_map shared_in (first old x)) (if bytes_eq z x then Some (shared_in g) else rest)) same
 
--- a global's first cell is among the cells
-cell_step : (b : Bool) (g : Global) (c : ℕ) (gs : List Global) (x : List ℕ) (v : GlobalCells) → (if b then Some (record { global = g; cell = c }) else global_from (c + cells g) gs x) ≡ Some v → (global_from (c + cells g) gs x ≡ Some v → v.cell ≤ c + cells g + total_cells gs) → v.cell ≤ c + total_cells (g ∷ gs)
-cell_step true g c gs x v h e = let k : c ≡ v.cell = ap (λ o. cell_or o) h in omega (arith, k)
+-- a global's cells are among the cells
+cell_step : (b : Bool) (g : Global) (c : ℕ) (gs : List Global) (x : List ℕ) (v : GlobalCells) → (if b then Some (record { global = g; cell = c }) else global_from (c + cells g) gs x) ≡ Some v → (global_from (c + cells g) gs x ≡ Some v → v.cell + cells v.global ≤ c + cells g + total_cells gs) → v.cell + cells v.global ≤ c + total_cells (g ∷ gs)
+cell_step true g c gs x v h e = let k : c + cells g ≡ v.cell + cells v.global = ap (λ o. end_or o) h in omega (arith, k)
   where
-    cell_or : Option GlobalCells → ℕ
-    cell_or None = 0
-    cell_or (Some w) = w.cell
+    end_or : Option GlobalCells → ℕ
+    end_or None = 0
+    end_or (Some w) = w.cell + cells w.global
 cell_step false g c gs x v h e = let k = e h in omega (arith, k)
 
-pub cell_few : (c : ℕ) (gs : List Global) (x : List ℕ) (v : GlobalCells) → global_from c gs x ≡ Some v → v.cell ≤ c + total_cells gs
+pub cell_few : (c : ℕ) (gs : List Global) (x : List ℕ) (v : GlobalCells) → global_from c gs x ≡ Some v → v.cell + cells v.global ≤ c + total_cells gs
 cell_few c [] x v h = absurd cc
 cell_few c (g ∷ gs) x v h = cell_step (bytes_eq g.name.text x) g c gs x v h (cell_few (c + cells g) gs x v)
