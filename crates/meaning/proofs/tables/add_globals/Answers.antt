@@ -13,7 +13,7 @@ globals-init g c = record { value = λ x rest. refl; cells = refl }
 pub globals-preserved : goal.globals-preserved
 globals-preserved g c =
     let gs = c.args.gs.now in
-    let more = c.cells_of-cell.ensures.value in
+    let more = c.cell_count-cell.ensures in
     let counted = at_drop_more (λ ys. total_cells (map global_of ys)) gs c.globals.g-index c.g-item.result c.globals-test.true ∙ ap (λ y. total_cells (map global_of (y ∷ drop (c.globals.g-index + 1) gs))) (sym c.g-item.is) in
     let before = c.globals.invariant.cells in
     record {
