@@ -1,4 +1,4 @@
-use Rattle.std.proofs.Common.{◌≡◌, ◌+◌, Err, arith}
+use Rattle.std.proofs.Common.{◌≡◌, Err, arith}
 use Rattle.syntax.specs.Formats.{pieces}
 use Rattle.syntax.specs.Meaning.{print_pieces}
 use Rattle.meaning.specs.inner.Machine.{state_in, halt_of}
@@ -22,6 +22,6 @@ bytes-preserved-in-Byte g c = record {
 pub bytes-preserved : goal.bytes-preserved
 bytes-preserved g c = record {
   within = c.in-Figure.ensures.within;
-  taken = omega (arith, c.bytes.invariant.taken);
-  value = figure_goes c.args.format.now c.args.values.now c.bytes.begun c.bytes.i c.bytes.k (state_in c.bytes.m) (print_pieces (pieces c.args.format.now) c.args.values.now (state_in c.args.m.now)) c.in-Figure.t (c.bytes.i + 2) (state_in c.put_figure.new.m) c.bytes.invariant.value c.in-Figure.ensures.is (c.in_ok-put_figure-in-Figure.ensures tt);
+  taken = omega (arith, c.bytes.invariant.taken, c.in-Figure.ensures.after);
+  value = figure_goes c.args.format.now c.args.values.now c.bytes.begun c.bytes.i c.bytes.k (state_in c.bytes.m) (print_pieces (pieces c.args.format.now) c.args.values.now (state_in c.args.m.now)) c.in-Figure.t c.in-Figure.next (state_in c.put_figure.new.m) c.bytes.invariant.value c.in-Figure.ensures.is (c.in_ok-put_figure-in-Figure.ensures tt);
 }
