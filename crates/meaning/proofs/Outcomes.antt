@@ -1,11 +1,15 @@
 -- A thread from its start to its end.
-use Rattle.std.proofs.Common.{◌≡◌, ◌≢◌, ℕ, List, [], Option, Some, None, sym, ap, ◌∙◌}
+use Rattle.std.proofs.Common.{◌≡◌, ◌≢◌, ℕ, List, [], Option, Some, None, sym, ap, subst, ◌∙◌}
 use Rattle.std.proofs.Math.Logic.{∥∥₁_elim}
 use Rattle.syntax.specs.Tree.{Program}
 use Rattle.syntax.specs.Names.{Local}
 use Rattle.syntax.specs.declared.numbers.Halt.{Halt}
 use Rattle.syntax.specs.declared.numbers.Halt.TheVariants.{Astray}
-use Rattle.syntax.specs.Behaviours.{Memory, Ended, Stopped}
+use Rattle.std.specs.List.{AllByRecursion}
+use Rattle.syntax.specs.Names.{bounds}
+use Rattle.syntax.specs.Typing.{IsTypedProgram}
+use Rattle.syntax.specs.Laws.{LeavesMemories}
+use Rattle.syntax.specs.Behaviours.{Memory, IsMemory, Outcome, Ended, Stopped}
 use Rattle.syntax.specs.Actions.{State, Gives, Stops, Outside, lefts_in}
 use Rattle.separation.specs.Touching.{IsAccepted}
 use Rattle.separation.specs.Laws.{NeverAstray}
@@ -32,3 +36,7 @@ module _ (p : Program) (t n : ℕ) (founds : List Memory) (s0 s1 : State) (start
 pub happened : (o : Option Halt) (why : Halt) → o ≡ Some why → Happened o
 happened (Some k) why e = tt
 happened None why e = absurd (cc)
+
+-- what is told of a thread leaves memories of the program
+pub leaves_memories : (p : Program) (t n : ℕ) (founds : List Memory) (told : Outcome) → LeavesMemories → IsTypedProgram p → told ≡ thread p t founds n → AllByRecursion (IsMemory (bounds p)) founds → AllByRecursion (IsMemory (bounds p)) told.lefts
+leaves_memories p t n founds told law typed is are = subst (λ o. AllByRecursion (IsMemory (bounds p)) o.lefts) (sym is) (law p typed t founds n are)
