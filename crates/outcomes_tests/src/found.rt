@@ -108,19 +108,6 @@ fn are_so<A: Allocator>(found: &Outcomes<A>, row: &Row) -> bool {
         && have(found.listed.as_slice(), row.8)
 }
 
-// Whether two memories are the same, in words of 64 and of 32 bits.
-fn same_memory(wide: &[u64], narrow: &[u32]) -> bool {
-    if wide.len() != narrow.len() {
-        return false;
-    }
-    for i in 0..wide.len() {
-        if wide[i] != u64::from(narrow[i]) {
-            return false;
-        }
-    }
-    true
-}
-
 // Whether two threads have printed the same and end alike.
 fn same_report<A: Allocator>(a: &ThreadReport<A>, b: &ThreadReport<A>) -> bool {
     a.text.as_slice() == b.text.as_slice() && a.end == b.end
@@ -139,7 +126,7 @@ fn same_reports<A: Allocator>(a: &[ThreadReport<A>], b: &[ThreadReport<A>]) -> b
 }
 
 fn same_outcome<A: Allocator>(one: &Listed<A>, ran: &SourceOutcome<A>) -> bool {
-    same_memory(one.memory.as_slice(), ran.memory.as_slice())
+    one.memory.as_slice() == ran.memory.as_slice()
         && same_reports(one.threads.as_slice(), ran.threads.as_slice())
 }
 
