@@ -42,8 +42,8 @@ pub(crate) fn shown_in_order<A: Allocator + Copy>(
 ) -> Result<Printed<A>, AllocError>
     ensures { IfOk result (λ r. printed_of r ≡ program_shown (program_of unit.now) (map report_shown ran.threads.items) ran.memory.items) }
 {
-    let memory = wide(alloc, ran.memory.as_slice())?;
-    let shown = shown_with(alloc, unit, memory.as_slice(), ran.threads)?;
+    let SourceOutcome { memory, threads } = ran;
+    let shown = shown_with(alloc, unit, memory.as_slice(), threads)?;
     Ok(shown)
 }
 
@@ -148,17 +148,6 @@ fn global_shown<A: Allocator + Copy>(
         of: global.of,
         words: Items::from_vec(words),
     })
-}
-
-/// Words in 64 bits.
-fn wide<A: Allocator>(alloc: A, words: &[u32]) -> Result<Vec<u64, A>, AllocError>
-    ensures { IfOk result (λ v. v.items ≡ words.now) }
-{
-    let mut wide = Vec::new(alloc);
-    'words: for word in words {
-        wide.push(u64::from(*word))?;
-    }
-    Ok(wide)
 }
 
 /// The first words, and those after them.
