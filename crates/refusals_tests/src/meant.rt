@@ -1,9 +1,8 @@
 //! What a program means, and its code's threads with transactions as single steps: each call is made again where
 //! memory was refused.
 
-ghost use Rattle.std.specs.Prelude.{◌<◌, ◌^◌, All, IfOk, IfSome};
+ghost use Rattle.std.specs.Prelude.{IfSome};
 ghost use Rattle.atomic_code.specs.Threads.{IsThreadOf};
-ghost use Rattle.meaning.specs.Outcomes.{AreWords};
 
 use crate::seen::Seen;
 use atomic_code::{AtomicThread, Ran, is_memory};
@@ -30,9 +29,7 @@ fn ran<A: Allocator + Copy>(
     alloc: A,
     accepted: &Accepted<A>,
     founds: &[Vec<u64, A>],
-) -> Option<ThreadOutcome<A>>
-    requires { AreWords founds.now }
-{
+) -> Option<ThreadOutcome<A>> {
     match thread(alloc, accepted, 1, founds, MOST) {
         Ok(outcome) => Some(outcome),
         Err(_) => thread(alloc, accepted, 1, founds, MOST).ok(),
@@ -55,9 +52,7 @@ pub fn mean<A: Allocator + Copy>(
     accepted: &Accepted<A>,
     founds: &[Vec<u64, A>],
     seen: &mut Seen,
-) -> Option<()>
-    requires { AreWords founds.now }
-{
+) -> Option<()> {
     let Some(outcome) = ran(alloc, accepted, founds) else {
         return None;
     };
@@ -80,9 +75,9 @@ fn ordered<A: Allocator + Copy>(
 }
 
 // Adds the cells of a memory.
-fn add_memory(memory: &[u32], seen: &mut Seen) -> Option<()> {
+fn add_memory(memory: &[u64], seen: &mut Seen) -> Option<()> {
     for word in memory {
-        let Some(()) = seen.words("cell", &[u64::from(*word)]) else {
+        let Some(()) = seen.words("cell", &[*word]) else {
             return None;
         };
     }
@@ -260,17 +255,10 @@ pub fn carry<A: Allocator + Copy>(
     seen.bytes(status_text(thread.status()), thread.output().as_bytes())
 }
 
-// The first memory of a code, whose words are all below 2^32, with no refusal.
-fn first_memory<A: Allocator + Copy>(alloc: A, code: &Code<A>) -> Result<Vec<u64, A>, AllocError>
-    ensures { IfOk result (λ v. All (λ w. w < 2 ^ 32) v.items) }
-{
-    let mut words = Vec::new(alloc);
-    code.push_initial(&mut words)?;
+// The first memory of a code, with no refusal.
+fn first_memory<A: Allocator + Copy>(alloc: A, code: &Code<A>) -> Result<Vec<u64, A>, AllocError> {
     let mut memory = Vec::new(alloc);
-    'words: for word in &words {
-        let word = u32::try_from(*word).unwrap_or(0);
-        memory.push(u64::from(word))?;
-    }
+    code.push_initial(&mut memory)?;
     Ok(memory)
 }
 
@@ -279,11 +267,9 @@ pub fn founds_of<A: Allocator + Copy>(
     alloc: A,
     code: &Code<A>,
     transactions: usize,
-) -> Result<Vec<Vec<u64, A>, A>, AllocError>
-    ensures { IfOk result (λ v. AreWords v.items) }
-{
+) -> Result<Vec<Vec<u64, A>, A>, AllocError> {
     let mut founds = Vec::new(alloc);
-    'founds: for _ in 0..transactions {
+    for _ in 0..transactions {
         founds.push(first_memory(alloc, code)?)?;
     }
     Ok(founds)

@@ -1,7 +1,5 @@
 //! The whole way of four programs, with each of its growths refused once.
 
-ghost use Rattle.meaning.specs.Outcomes.{AreWords};
-
 use crate::accepted::{accepted_at_once, accepted_of};
 use crate::codes::code_of;
 use crate::halls::work;
@@ -140,9 +138,7 @@ fn show_program<A: Allocator + Copy>(
     accepted: &Accepted<A>,
     founds: &[Vec<u64, A>],
     seen: &mut Seen,
-) -> Option<()>
-    requires { AreWords founds.now }
-{
+) -> Option<()> {
     let Some(()) = mean(alloc, accepted, founds, seen) else {
         return None;
     };
@@ -162,9 +158,7 @@ fn show_text<A: Allocator + Copy>(
     wanted: &Accepted<A>,
     founds: &[Vec<u64, A>],
     seen: &mut Seen,
-) -> Option<()>
-    requires { AreWords founds.now }
-{
+) -> Option<()> {
     match accepted_of(alloc, row.text, wanted, seen) {
         Some(accepted) => show_program(alloc, row, &accepted, founds, seen),
         None => None,
