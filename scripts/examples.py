@@ -173,7 +173,7 @@ use separation::Accepted;
 use std::alloc::Global;
 
 /// A program, the number of the trap in which it ends or 0, what it prints, and the words of the memory that it leaves.
-type Row = (&'static str, u32, &'static str, &'static [u32]);
+type Row = (&'static str, u32, &'static str, &'static [u64]);
 
 fn examples() -> &'static [Row] {{
     static EXAMPLES: [Row; {len(examples)}] = [
