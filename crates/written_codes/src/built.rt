@@ -83,7 +83,7 @@ fn beginning<A: Allocator + Copy>(
     if let Some(value) = value {
         all.push(First {
             negative: false,
-            value,
+            value: u64::from(value),
             of: Scalar::Int,
             span: Span { start: 0, end: 0 },
         })?;

@@ -97,7 +97,7 @@ pub fn global<A: Allocator + Copy>(
             span: nowhere,
         },
         length: match length {
-            Some(cells) => Some((cells, nowhere)),
+            Some(cells) => Some((u64::from(cells), nowhere)),
             None => None,
         },
         first: Items::new(alloc),

@@ -17,7 +17,7 @@ fn push_first<A: Allocator>(
 ) -> Result<(), AllocError> {
     to.first.push(First {
         negative,
-        value,
+        value: u64::from(value),
         of: Scalar::Int,
         span: Span { start: 0, end: 0 },
     })
