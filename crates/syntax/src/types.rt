@@ -12,7 +12,9 @@ pub fn same_type(s: Scalar, t: Scalar) -> bool
     ensures { result ≡ same_type s t }
 {
     match (s, t) {
-        (Scalar::Int, Scalar::Int) | (Scalar::Unsigned, Scalar::Unsigned) => true,
+        (Scalar::Int, Scalar::Int)
+        | (Scalar::Unsigned, Scalar::Unsigned)
+        | (Scalar::LongLong, Scalar::LongLong) => true,
         _ => false,
     }
 }
@@ -22,6 +24,7 @@ pub fn common_type(s: Scalar, t: Scalar) -> Scalar
     ensures { result ≡ common s t }
 {
     match (s, t) {
+        (Scalar::LongLong, _) | (_, Scalar::LongLong) => Scalar::LongLong,
         (Scalar::Int, Scalar::Int) => Scalar::Int,
         (Scalar::Int, Scalar::Unsigned) | (Scalar::Unsigned, _) => Scalar::Unsigned,
     }
