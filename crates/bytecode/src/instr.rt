@@ -18,11 +18,17 @@ pub enum Instr {
     /// `add.u rD rA rB`
     AddUnsigned(u16, u16, u16),
 
+    /// `add.l rD rA rB`
+    AddLong(u16, u16, u16),
+
     /// `sub.s rD rA rB`
     SubtractSigned(u16, u16, u16),
 
     /// `sub.u rD rA rB`
     SubtractUnsigned(u16, u16, u16),
+
+    /// `sub.l rD rA rB`
+    SubtractLong(u16, u16, u16),
 
     /// `mul.s rD rA rB`
     MultiplySigned(u16, u16, u16),
@@ -30,11 +36,17 @@ pub enum Instr {
     /// `mul.u rD rA rB`
     MultiplyUnsigned(u16, u16, u16),
 
+    /// `mul.l rD rA rB`
+    MultiplyLong(u16, u16, u16),
+
     /// `div.s rD rA rB`
     DivideSigned(u16, u16, u16),
 
     /// `div.u rD rA rB`
     DivideUnsigned(u16, u16, u16),
+
+    /// `div.l rD rA rB`
+    DivideLong(u16, u16, u16),
 
     /// `rem.s rD rA rB`
     RemainderSigned(u16, u16, u16),
@@ -42,17 +54,26 @@ pub enum Instr {
     /// `rem.u rD rA rB`
     RemainderUnsigned(u16, u16, u16),
 
+    /// `rem.l rD rA rB`
+    RemainderLong(u16, u16, u16),
+
     /// `shl.s rD rA rB`
     ShiftLeftSigned(u16, u16, u16),
 
     /// `shl.u rD rA rB`
     ShiftLeftUnsigned(u16, u16, u16),
 
+    /// `shl.l rD rA rB`
+    ShiftLeftLong(u16, u16, u16),
+
     /// `shr.s rD rA rB`
     ShiftRightSigned(u16, u16, u16),
 
     /// `shr.u rD rA rB`
     ShiftRightUnsigned(u16, u16, u16),
+
+    /// `shr.l rD rA rB`
+    ShiftRightLong(u16, u16, u16),
 
     /// `and rD rA rB`
     And(u16, u16, u16),
@@ -75,11 +96,17 @@ pub enum Instr {
     /// `lt.u rD rA rB`
     LessUnsigned(u16, u16, u16),
 
+    /// `lt.l rD rA rB`
+    LessLong(u16, u16, u16),
+
     /// `le.s rD rA rB`
     LessEqualSigned(u16, u16, u16),
 
     /// `le.u rD rA rB`
     LessEqualUnsigned(u16, u16, u16),
+
+    /// `le.l rD rA rB`
+    LessEqualLong(u16, u16, u16),
 
     /// `neg.s rD rA`
     NegateSigned(u16, u16),
@@ -87,8 +114,20 @@ pub enum Instr {
     /// `neg.u rD rA`
     NegateUnsigned(u16, u16),
 
+    /// `neg.l rD rA`
+    NegateLong(u16, u16),
+
     /// `not rD rA`
     Complement(u16, u16),
+
+    /// `not.l rD rA`
+    ComplementLong(u16, u16),
+
+    /// `ext rD rA`: the number of an `int`, in 64 bits.
+    Extend(u16, u16),
+
+    /// `low rD rA`: the lower 32 bits.
+    Low(u16, u16),
 
     /// `jump >P`
     Jump(u32),
@@ -147,4 +186,7 @@ pub enum Instr {
 
     /// `print.u rA`
     PrintUnsigned(u16),
+
+    /// `print.l rA`
+    PrintLong(u16),
 }

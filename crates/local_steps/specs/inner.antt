@@ -4,3 +4,4 @@ pub mod Paused
 pub mod Turns
 -- writes to cells of 32 bits
 pub mod Narrow
+pub mod Checked

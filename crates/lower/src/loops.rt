@@ -27,18 +27,25 @@ fn operands_of(instr: Instr) -> Option<(u16, u16)>
     match instr {
         Instr::AddSigned(_, a, b)
         | Instr::AddUnsigned(_, a, b)
+        | Instr::AddLong(_, a, b)
         | Instr::SubtractSigned(_, a, b)
         | Instr::SubtractUnsigned(_, a, b)
+        | Instr::SubtractLong(_, a, b)
         | Instr::MultiplySigned(_, a, b)
         | Instr::MultiplyUnsigned(_, a, b)
+        | Instr::MultiplyLong(_, a, b)
         | Instr::DivideSigned(_, a, b)
         | Instr::DivideUnsigned(_, a, b)
+        | Instr::DivideLong(_, a, b)
         | Instr::RemainderSigned(_, a, b)
         | Instr::RemainderUnsigned(_, a, b)
+        | Instr::RemainderLong(_, a, b)
         | Instr::ShiftLeftSigned(_, a, b)
         | Instr::ShiftLeftUnsigned(_, a, b)
+        | Instr::ShiftLeftLong(_, a, b)
         | Instr::ShiftRightSigned(_, a, b)
         | Instr::ShiftRightUnsigned(_, a, b)
+        | Instr::ShiftRightLong(_, a, b)
         | Instr::And(_, a, b)
         | Instr::Or(_, a, b)
         | Instr::Xor(_, a, b)
@@ -46,11 +53,16 @@ fn operands_of(instr: Instr) -> Option<(u16, u16)>
         | Instr::NotEqual(_, a, b)
         | Instr::LessSigned(_, a, b)
         | Instr::LessUnsigned(_, a, b)
+        | Instr::LessLong(_, a, b)
         | Instr::LessEqualSigned(_, a, b)
-        | Instr::LessEqualUnsigned(_, a, b) => Some((a, b)),
+        | Instr::LessEqualUnsigned(_, a, b)
+        | Instr::LessEqualLong(_, a, b) => Some((a, b)),
         Instr::Constant(_, _)
         | Instr::Move(_, _)
         | Instr::Complement(_, _)
+        | Instr::ComplementLong(_, _)
+        | Instr::Extend(_, _)
+        | Instr::Low(_, _)
         | Instr::Jump(_)
         | Instr::JumpZero(_, _)
         | Instr::JumpNonzero(_, _)
@@ -70,8 +82,10 @@ fn operands_of(instr: Instr) -> Option<(u16, u16)>
         | Instr::PrintText(_)
         | Instr::PrintSigned(_)
         | Instr::PrintUnsigned(_)
+        | Instr::PrintLong(_)
         | Instr::NegateSigned(_, _)
-        | Instr::NegateUnsigned(_, _) => None,
+        | Instr::NegateUnsigned(_, _)
+        | Instr::NegateLong(_, _) => None,
     }
 }
 

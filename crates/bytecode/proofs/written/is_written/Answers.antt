@@ -98,3 +98,45 @@ returns-in-Jump g c = rw c.in-Jump.is c.lies.ensures
 
 pub returns-in-Begin : goal.returns-in-Begin
 returns-in-Begin g c = rw c.in-Begin.is c.lies-in-Begin.ensures
+
+pub returns-in-AddLong : goal.returns-in-AddLong
+returns-in-AddLong g c = rw c.in-AddLong.is c.has_three-in-AddLong.ensures
+
+pub returns-in-SubtractLong : goal.returns-in-SubtractLong
+returns-in-SubtractLong g c = rw c.in-SubtractLong.is c.has_three-in-SubtractLong.ensures
+
+pub returns-in-MultiplyLong : goal.returns-in-MultiplyLong
+returns-in-MultiplyLong g c = rw c.in-MultiplyLong.is c.has_three-in-MultiplyLong.ensures
+
+pub returns-in-DivideLong : goal.returns-in-DivideLong
+returns-in-DivideLong g c = rw c.in-DivideLong.is c.has_three-in-DivideLong.ensures
+
+pub returns-in-RemainderLong : goal.returns-in-RemainderLong
+returns-in-RemainderLong g c = rw c.in-RemainderLong.is c.has_three-in-RemainderLong.ensures
+
+pub returns-in-ShiftLeftLong : goal.returns-in-ShiftLeftLong
+returns-in-ShiftLeftLong g c = rw c.in-ShiftLeftLong.is c.has_three-in-ShiftLeftLong.ensures
+
+pub returns-in-ShiftRightLong : goal.returns-in-ShiftRightLong
+returns-in-ShiftRightLong g c = rw c.in-ShiftRightLong.is c.has_three-in-ShiftRightLong.ensures
+
+pub returns-in-LessLong : goal.returns-in-LessLong
+returns-in-LessLong g c = rw c.in-LessLong.is c.has_three-in-LessLong.ensures
+
+pub returns-in-LessEqualLong : goal.returns-in-LessEqualLong
+returns-in-LessEqualLong g c = rw c.in-LessEqualLong.is c.has_three-in-LessEqualLong.ensures
+
+pub returns-in-NegateLong : goal.returns-in-NegateLong
+returns-in-NegateLong g c = rw c.in-NegateLong.is c.has_two-in-NegateLong.ensures
+
+pub returns-in-ComplementLong : goal.returns-in-ComplementLong
+returns-in-ComplementLong g c = rw c.in-ComplementLong.is c.has_two-in-ComplementLong.ensures
+
+pub returns-in-Extend : goal.returns-in-Extend
+returns-in-Extend g c = rw c.in-Extend.is c.has_two-in-Extend.ensures
+
+pub returns-in-Low : goal.returns-in-Low
+returns-in-Low g c = rw c.in-Low.is c.has_two-in-Low.ensures
+
+pub returns-in-PrintLong : goal.returns-in-PrintLong
+returns-in-PrintLong g c = rw c.in-PrintLong.is c.has-in-PrintLong.ensures
