@@ -24,9 +24,13 @@ pub fn common_type(s: Scalar, t: Scalar) -> Scalar
     ensures { result ≡ common s t }
 {
     match (s, t) {
-        (Scalar::LongLong, _) | (_, Scalar::LongLong) => Scalar::LongLong,
+        (Scalar::LongLong, _)
+        | (Scalar::Int, Scalar::LongLong)
+        | (Scalar::Unsigned, Scalar::LongLong) => Scalar::LongLong,
         (Scalar::Int, Scalar::Int) => Scalar::Int,
-        (Scalar::Int, Scalar::Unsigned) | (Scalar::Unsigned, _) => Scalar::Unsigned,
+        (Scalar::Int, Scalar::Unsigned)
+        | (Scalar::Unsigned, Scalar::Int)
+        | (Scalar::Unsigned, Scalar::Unsigned) => Scalar::Unsigned,
     }
 }
 
