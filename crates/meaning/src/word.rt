@@ -8,7 +8,7 @@ use crate::arithmetic::{convert, residue};
 use lex::token::Scalar;
 use syntax::numbers::Value;
 
-/// A value in 128 bits without a gap: its word, and above it its type: 0 is `int` and 1 `unsigned`.
+/// A value in 128 bits without a gap: its word, and above it 0 for `int`, 1 for `unsigned` and 2 for `long long`.
 #[derive(Clone, Copy)]
 pub(crate) struct Word {
     bits: u128,
@@ -26,6 +26,9 @@ pub(crate) fn pack(of: Scalar, word: u64) -> Word
         Scalar::Unsigned => Word {
             bits: low + 18446744073709551616,
         },
+        Scalar::LongLong => Word {
+            bits: low + 36893488147419103232,
+        },
     }
 }
 
@@ -37,15 +40,20 @@ pub(crate) fn unpack(w: Word) -> Value
 {
     let word = (w.bits % 18446744073709551616) as u64;
     if w.bits < 18446744073709551616 {
-        Value {
+        return Value {
             of: Scalar::Int,
             word,
-        }
-    } else {
-        Value {
+        };
+    }
+    if w.bits < 36893488147419103232 {
+        return Value {
             of: Scalar::Unsigned,
             word,
-        }
+        };
+    }
+    Value {
+        of: Scalar::LongLong,
+        word,
     }
 }
 
