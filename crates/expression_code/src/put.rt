@@ -18,6 +18,7 @@ use picked::draft::Draft;
 use picked::held::{Held, Tested};
 use std::alloc::{AllocError, Allocator};
 use syntax::tree::BinaryOp;
+use syntax::types::common_type;
 
 /// The registers of a function have numbers below this one.
 const MOST_REGISTERS: usize = 65_535;
@@ -121,22 +122,13 @@ pub(crate) fn settle<A: Allocator>(
     })
 }
 
-fn common(left: Scalar, right: Scalar) -> Scalar
-    ensures { result ≡ numbers.common left right }
-{
-    match (left, right) {
-        (Scalar::Int, Scalar::Int) => Scalar::Int,
-        _ => Scalar::Unsigned,
-    }
-}
-
 /// What an operand is converted to.
 pub(crate) fn operand_type(op: BinaryOp, own: Scalar, other: Scalar) -> Scalar
     ensures { result ≡ numbers.operand_type op own other }
 {
     match op {
         BinaryOp::ShiftLeft | BinaryOp::ShiftRight => own,
-        _ => common(own, other),
+        _ => common_type(own, other),
     }
 }
 
@@ -351,7 +343,7 @@ pub(crate) fn put_chosen<A: Allocator>(
     append(code, second)?;
     Ok(Held {
         register: b.register,
-        of: common(a.of, b.of),
+        of: common_type(a.of, b.of),
         to: b.to,
     })
 }
