@@ -4,7 +4,7 @@ use Rattle.std.specs.Prelude.{slice_get, slice_index, slice_set, map, if◌then�
 use Rattle.std.proofs.lemmas.List.{get_or-set_same, get_or-set_other, length-set, length-map}
 use Rattle.lex.specs.declared.token.Span.{Span}
 use Rattle.lex.specs.declared.token.Scalar.{Scalar}
-use Rattle.lex.specs.declared.token.Scalar.TheVariants.{Int, Unsigned}
+use Rattle.lex.specs.declared.token.Scalar.TheVariants.{Int, Unsigned, LongLong}
 use Rattle.syntax.specs.declared.tree.UnaryOp.TheVariants.{Negate, Keep, Not, Complement}
 use Rattle.syntax.specs.declared.tree.BinaryOp.{BinaryOp}
 use Rattle.syntax.specs.declared.tree.BinaryOp.TheVariants.{Or, Equal, NotEqual}
@@ -53,6 +53,7 @@ below_as s t w h = subst (λ n. w < n) (as_many s t) h
 pub residue_same : (t : Scalar) (w : ℕ) → w < modulus t → residue t w ≡ w
 residue_same Int w h = let e : w % (2 ^ 32) ≡ w = omega (arith, h) in e
 residue_same Unsigned w h = let e : w % (2 ^ 32) ≡ w = omega (arith, h) in e
+residue_same LongLong w h = let e : w % (2 ^ 64) ≡ w = omega (arith, h) in e
 
 -- each type has the words 0 and 1
 truth_converted : (t u : Scalar) (b : Bool) → converted u (record { of = t; word = truth b }) ≡ record { of = u; word = truth b }
@@ -60,10 +61,20 @@ truth_converted Int Int false = refl
 truth_converted Int Int true = refl
 truth_converted Int Unsigned false = refl
 truth_converted Int Unsigned true = refl
+truth_converted Int LongLong false = refl
+truth_converted Int LongLong true = refl
 truth_converted Unsigned Int false = refl
 truth_converted Unsigned Int true = refl
 truth_converted Unsigned Unsigned false = refl
 truth_converted Unsigned Unsigned true = refl
+truth_converted Unsigned LongLong false = refl
+truth_converted Unsigned LongLong true = refl
+truth_converted LongLong Int false = refl
+truth_converted LongLong Int true = refl
+truth_converted LongLong Unsigned false = refl
+truth_converted LongLong Unsigned true = refl
+truth_converted LongLong LongLong false = refl
+truth_converted LongLong LongLong true = refl
 
 -- and a conversion keeps it
 pub residue_of : (u t : Scalar) (w : ℕ) → word_of u (number t w) ≡ residue u w
@@ -75,6 +86,7 @@ word_same u t w h = residue_of u t w ∙ residue_same u w (below_as t u w h)
 zero_word : (t : Scalar) → word_of t (pos 0) ≡ 0
 zero_word Int = refl
 zero_word Unsigned = refl
+zero_word LongLong = refl
 
 complement_same : (t : Scalar) (w : ℕ) → complemented t w ≡ complemented Unsigned w
 complement_same Int w = refl
