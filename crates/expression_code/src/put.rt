@@ -193,12 +193,36 @@ fn computing_unsigned(op: BinaryOp, d: u16, a: u16, b: u16) -> Instr
     }
 }
 
+fn computing_long(op: BinaryOp, d: u16, a: u16, b: u16) -> Instr
+    ensures { result ≡ expressions.computing op (Scalar.LongLong) d a b }
+{
+    match op {
+        BinaryOp::Add => Instr::AddLong(d, a, b),
+        BinaryOp::Subtract => Instr::SubtractLong(d, a, b),
+        BinaryOp::Multiply => Instr::MultiplyLong(d, a, b),
+        BinaryOp::Divide => Instr::DivideLong(d, a, b),
+        BinaryOp::Remainder => Instr::RemainderLong(d, a, b),
+        BinaryOp::ShiftLeft => Instr::ShiftLeftLong(d, a, b),
+        BinaryOp::ShiftRight => Instr::ShiftRightLong(d, a, b),
+        BinaryOp::And => Instr::And(d, a, b),
+        BinaryOp::Or => Instr::Or(d, a, b),
+        BinaryOp::Xor => Instr::Xor(d, a, b),
+        BinaryOp::Equal => Instr::Equal(d, a, b),
+        BinaryOp::NotEqual => Instr::NotEqual(d, a, b),
+        BinaryOp::Less => Instr::LessLong(d, a, b),
+        BinaryOp::Greater => Instr::LessLong(d, b, a),
+        BinaryOp::LessEqual => Instr::LessEqualLong(d, a, b),
+        BinaryOp::GreaterEqual => Instr::LessEqualLong(d, b, a),
+    }
+}
+
 fn computing(op: BinaryOp, of: Scalar, d: u16, a: u16, b: u16) -> Instr
     ensures { result ≡ expressions.computing op of d a b }
 {
     match of {
         Scalar::Int => computing_signed(op, d, a, b),
         Scalar::Unsigned => computing_unsigned(op, d, a, b),
+        Scalar::LongLong => computing_long(op, d, a, b),
     }
 }
 
@@ -231,6 +255,16 @@ fn negating(of: Scalar, d: u16, a: u16) -> Instr
     match of {
         Scalar::Int => Instr::NegateSigned(d, a),
         Scalar::Unsigned => Instr::NegateUnsigned(d, a),
+        Scalar::LongLong => Instr::NegateLong(d, a),
+    }
+}
+
+fn complementing(of: Scalar, d: u16, a: u16) -> Instr
+    ensures { result ≡ expressions.complementing of d a }
+{
+    match of {
+        Scalar::Int | Scalar::Unsigned => Instr::Complement(d, a),
+        Scalar::LongLong => Instr::ComplementLong(d, a),
     }
 }
 
@@ -265,7 +299,7 @@ pub(crate) fn put_complemented<A: Allocator>(
         code.old code.new lists.new result }
 {
     let register = take(lists, into)?;
-    put(code, Instr::Complement(register, a.register))?;
+    put(code, complementing(a.of, register, a.register))?;
     let to = after(a.to, 1)?;
     Ok(Held {
         register,

@@ -47,6 +47,7 @@ pub(crate) fn constant_word(of: Scalar, value: u64) -> u64
 {
     match of {
         Scalar::Int | Scalar::Unsigned => value % 4_294_967_296,
+        Scalar::LongLong => value,
     }
 }
 

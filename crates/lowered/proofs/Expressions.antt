@@ -33,7 +33,7 @@ use Rattle.syntax.specs.Numbers.{fitted}
 use Rattle.syntax.proofs.Words.{computed_below, fitted_below, narrows, truth_below, word_below}
 use Rattle.bytecode.specs.Effects.{Effect}
 use Rattle.bytecode.specs.Code.{Code, Configuration, Frame, Instr, effect, effect_of, or_traps, setting}
-use Rattle.lowered.specs.Expressions.{ValueTransactionCode, LocalScope, IsLike, At, LeadsTo, Branching, MayTake, computing, arranged, Layout, GivenBy, Converts, OperatorCode, StraightCode, LiesReady, OperandCode, VariableCode, ElementAt, Branches, BothHold, EitherHolds, ComparedWithZero, TruthCode, BranchCode, ConditionalCode, types_left, ExprCode, OwnTests, ArgsCode, CondCode}
+use Rattle.lowered.specs.Expressions.{ValueTransactionCode, LocalScope, IsLike, At, LeadsTo, Branching, MayTake, computing, complementing, arranged, Layout, GivenBy, Converts, OperatorCode, StraightCode, LiesReady, OperandCode, VariableCode, ElementAt, Branches, BothHold, EitherHolds, ComparedWithZero, TruthCode, BranchCode, ConditionalCode, types_left, ExprCode, OwnTests, ArgsCode, CondCode}
 use Rattle.lowered.proofs.Locals.{word_typed, type_like, KnownLocal, newest_known}
 use Rattle.lowered.proofs.Unconverted.{handed_as_it_lies}
 use Rattle.lowered.proofs.Agreement.{Agrees, astray, same, fewer}
@@ -88,13 +88,10 @@ zero_word Int = refl
 zero_word Unsigned = refl
 zero_word LongLong = refl
 
-complement_same : (t : Scalar) (w : ℕ) → complemented t w ≡ complemented Unsigned w
-complement_same Int w = refl
-complement_same Unsigned w = refl
-
-complement_below : (t : Scalar) (w : ℕ) → complemented Unsigned w < modulus t
+complement_below : (t : Scalar) (w : ℕ) → complemented t w < modulus t
 complement_below Int w = omega arith
 complement_below Unsigned w = omega arith
+complement_below LongLong w = omega arith
 
 -- an operator on values whose words are those of their types
 pub binary_same : (op : BinaryOp) (s t : Scalar) (a b : ℕ) → a < modulus s → b < modulus t → binary op (record { of = s; word = a }) (record { of = t; word = b }) ≡ typed (result_type op (operand_type op s t)) (computed op (operand_type op s t) a b)
@@ -106,6 +103,12 @@ binary_same op s t a b h k =
 pub computing_does : (code : Code) (op : BinaryOp) (t : Scalar) (c : Configuration) (d a b : ℕ) → effect_of code c (Some (computing op t d a b)) ≡ or_traps (computed op t (slice_index c.registers a) (slice_index c.registers b)) (setting c d)
 computing_does code Or t c d a b = refl
 computing_does code op t c d a b = refl
+
+-- and that of a complement makes it
+complementing_does : (code : Code) (t : Scalar) (c : Configuration) (d a : ℕ) → effect_of code c (Some (complementing t d a)) ≡ Effect.Pure (setting c d (complemented t (slice_index c.registers a)))
+complementing_does code Int c d a = refl
+complementing_does code Unsigned c d a = refl
+complementing_does code LongLong c d a = refl
 
 -- the newest local of a name hangs on names and types alone
 newest_shape : ℕ → List (List ℕ × Scalar) → List ℕ → Option (ℕ × Scalar)
@@ -613,9 +616,9 @@ module _ (p : Program) (call : Caller) (code : Code) (layout : Layout) (frames :
           let rest : Value → Action Value = λ v. or_trap (unary Complement v) in
           expr_follows None scope e N K from c.mid free c.ra c.ta a sh text ls old (λ q. after (go_on q rest)) c.computes h good (on_seen a after rest s)
           (λ v sh1 text1 rs1 d.
-          same (effect code) (λ n. after (Gives (record { of = c.ta; word = complemented Unsigned (slice_index rs1 c.ra) }) (state n ls (context_of a sh1) text1)))
-          (λ n. ap (λ x. after (Gives x (state n ls (context_of a sh1) text1))) (ap (λ o. record { of = o; word = complemented o v.word }) d.typed_so ∙ ap (λ w. record { of = c.ta; word = complemented c.ta w }) (sym d.here) ∙ ap (λ w. record { of = c.ta; word = w }) (complement_same c.ta (slice_index rs1 c.ra))))
-          (sets (Instr.Complement r c.ra) c.ta a sh1 text1 ls after c.mid to home free r (complemented Unsigned (slice_index rs1 c.ra)) t old rs1 c.operates refl (d.keeps.size ∙ h.size_is) (complement_below c.ta (slice_index rs1 c.ra)) (keeps_more layout home free old rs1 d.keeps) d.good go))
+          same (effect code) (λ n. after (Gives (record { of = c.ta; word = complemented c.ta (slice_index rs1 c.ra) }) (state n ls (context_of a sh1) text1)))
+          (λ n. ap (λ x. after (Gives x (state n ls (context_of a sh1) text1))) (ap (λ o. record { of = o; word = complemented o v.word }) d.typed_so ∙ ap (λ w. record { of = c.ta; word = complemented c.ta w }) (sym d.here)))
+          (sets (complementing c.ta r c.ra) c.ta a sh1 text1 ls after c.mid to home free r (complemented c.ta (slice_index rs1 c.ra)) t old rs1 c.operates (complementing_does code c.ta (configuration code c.mid rs1 frames) r c.ra) (d.keeps.size ∙ h.size_is) (complement_below c.ta (slice_index rs1 c.ra)) (keeps_more layout home free old rs1 d.keeps) d.good go))
       expr_follows home scope (Binary op x y at) N K from to free r t a sh text ls old after c h good s go =
           let rest : Value → Action Value = λ v. expr p call y >>= λ w. or_trap (binary op v w) in
           expr_follows None scope x N K from c.mid free c.ra c.ta a sh text ls old (λ q. after (go_on q rest)) c.left h good (on_seen a after rest s)

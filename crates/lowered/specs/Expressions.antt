@@ -4,7 +4,7 @@
 use Rattle.std.specs.Prelude.{◌≡◌, ◌⊎◌, ℕ, suc, ◌<◌, ◌≤◌, ◌+◌, pos, List, [], ◌∷◌, ◌++◌, length, map, Option, Some, None, is_some, unwrap_or, slice_get, if◌then◌else◌}
 use Rattle.lex.specs.declared.token.Span.{Span}
 use Rattle.lex.specs.declared.token.Scalar.{Scalar}
-use Rattle.lex.specs.declared.token.Scalar.TheVariants.{Int, Unsigned}
+use Rattle.lex.specs.declared.token.Scalar.TheVariants.{Int, Unsigned, LongLong}
 use Rattle.syntax.specs.declared.tree.UnaryOp.TheVariants.{Negate, Keep, Not, Complement}
 use Rattle.syntax.specs.declared.tree.BinaryOp.{BinaryOp}
 use Rattle.syntax.specs.declared.tree.BinaryOp.TheVariants.{And, Or, Xor, Equal, NotEqual, Less, Greater, LessEqual, GreaterEqual}
@@ -55,6 +55,11 @@ computing Xor t d a b = Instr.Compute Xor Unsigned d a b
 computing Equal t d a b = Instr.Compute Equal Unsigned d a b
 computing NotEqual t d a b = Instr.Compute NotEqual Unsigned d a b
 computing op t d a b = Instr.Compute op t d a b
+
+-- the instruction of a complement: of narrow types it is that of unsigned operands
+abbrev pub complementing : Scalar → (d a : ℕ) → Instr
+complementing LongLong d a = Instr.Complement LongLong d a
+complementing t d a = Instr.Complement Unsigned d a
 
 -- the instruction of a conversion, where a value has another word in the new type: of these types none has
 abbrev pub converting : (s u : Scalar) → Option (ℕ → ℕ → Instr)
@@ -342,7 +347,7 @@ module _ (code : Code) (layout : Layout) where
       ExprCode home scope (Unary Keep e at) = ExprCode home scope e
       ExprCode home scope (Unary Not e at) = NotCode home (ExprCode None scope e)
       ExprCode home scope (Unary Complement e at) = λ from to free r t.
-          UnaryCode home (λ ta ra. Instr.Complement r ra) (ExprCode None scope e) from to free r t
+          UnaryCode home (λ ta ra. complementing ta r ra) (ExprCode None scope e) from to free r t
       ExprCode home scope (Binary op a b at) =
           BinaryCode home op (ExprCode None scope a) (OperandCode b (ExprCode None scope b))
       ExprCode home scope (Logical AndThen a b at) =

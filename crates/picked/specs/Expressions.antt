@@ -3,7 +3,7 @@
 -- registers from `free` on may be written.
 use Rattle.std.specs.Prelude.{ℕ, suc, pos, ◌+◌, List, [], ◌∷◌, ◌++◌, length, Option, Some, None, option_map, max, if◌then◌else◌, ◌==◌}
 use Rattle.lex.specs.declared.token.Scalar.{Scalar}
-use Rattle.lex.specs.declared.token.Scalar.TheVariants.{Int, Unsigned}
+use Rattle.lex.specs.declared.token.Scalar.TheVariants.{Int, Unsigned, LongLong}
 use Rattle.syntax.specs.declared.tree.UnaryOp.TheVariants.{Negate, Keep, Not, Complement}
 use Rattle.syntax.specs.declared.tree.BinaryOp.{BinaryOp}
 use Rattle.syntax.specs.declared.tree.BinaryOp.TheVariants.{Or, Xor, And, Equal, NotEqual, Less, Greater, LessEqual, GreaterEqual, ShiftLeft, ShiftRight, Add, Subtract, Multiply, Divide, Remainder}
@@ -24,18 +24,25 @@ use Rattle.picked.specs.Conditions.{Condition, test_in, going_on, by_value, oppo
 abbrev pub computing : BinaryOp → Scalar → ℕ → ℕ → ℕ → Instr
 computing Add Int d a b = own.AddSigned d a b
 computing Add Unsigned d a b = own.AddUnsigned d a b
+computing Add LongLong d a b = own.AddLong d a b
 computing Subtract Int d a b = own.SubtractSigned d a b
 computing Subtract Unsigned d a b = own.SubtractUnsigned d a b
+computing Subtract LongLong d a b = own.SubtractLong d a b
 computing Multiply Int d a b = own.MultiplySigned d a b
 computing Multiply Unsigned d a b = own.MultiplyUnsigned d a b
+computing Multiply LongLong d a b = own.MultiplyLong d a b
 computing Divide Int d a b = own.DivideSigned d a b
 computing Divide Unsigned d a b = own.DivideUnsigned d a b
+computing Divide LongLong d a b = own.DivideLong d a b
 computing Remainder Int d a b = own.RemainderSigned d a b
 computing Remainder Unsigned d a b = own.RemainderUnsigned d a b
+computing Remainder LongLong d a b = own.RemainderLong d a b
 computing ShiftLeft Int d a b = own.ShiftLeftSigned d a b
 computing ShiftLeft Unsigned d a b = own.ShiftLeftUnsigned d a b
+computing ShiftLeft LongLong d a b = own.ShiftLeftLong d a b
 computing ShiftRight Int d a b = own.ShiftRightSigned d a b
 computing ShiftRight Unsigned d a b = own.ShiftRightUnsigned d a b
+computing ShiftRight LongLong d a b = own.ShiftRightLong d a b
 computing And t d a b = own.And d a b
 computing Or t d a b = own.Or d a b
 computing Xor t d a b = own.Xor d a b
@@ -43,16 +50,25 @@ computing Equal t d a b = own.Equal d a b
 computing NotEqual t d a b = own.NotEqual d a b
 computing Less Int d a b = own.LessSigned d a b
 computing Less Unsigned d a b = own.LessUnsigned d a b
+computing Less LongLong d a b = own.LessLong d a b
 computing Greater Int d a b = own.LessSigned d b a
 computing Greater Unsigned d a b = own.LessUnsigned d b a
+computing Greater LongLong d a b = own.LessLong d b a
 computing LessEqual Int d a b = own.LessEqualSigned d a b
 computing LessEqual Unsigned d a b = own.LessEqualUnsigned d a b
+computing LessEqual LongLong d a b = own.LessEqualLong d a b
 computing GreaterEqual Int d a b = own.LessEqualSigned d b a
 computing GreaterEqual Unsigned d a b = own.LessEqualUnsigned d b a
+computing GreaterEqual LongLong d a b = own.LessEqualLong d b a
 
 abbrev pub negating : Scalar → ℕ → ℕ → Instr
 negating Int d a = own.NegateSigned d a
 negating Unsigned d a = own.NegateUnsigned d a
+negating LongLong d a = own.NegateLong d a
+
+abbrev pub complementing : Scalar → ℕ → ℕ → Instr
+complementing LongLong d a = own.ComplementLong d a
+complementing t d a = own.Complement d a
 
 -- instructions, the lists after them, and where the value lies behind them
 pub record Emitted : Type 0 where
@@ -133,7 +149,7 @@ abbrev pub negated : Emitted → ℕ → Emitted
 negated e into = then_one e (negating e.held.of into e.held.register) into e.held.of
 
 abbrev pub complemented : Emitted → ℕ → Emitted
-complemented e into = then_one e (own.Complement into e.held.register) into e.held.of
+complemented e into = then_one e (complementing e.held.of into e.held.register) into e.held.of
 
 -- `!`: whether it is 0
 abbrev pub compared : Emitted → (into free : ℕ) → Emitted

@@ -2,7 +2,7 @@
 -- pads: places that are known before the body is made, from which a break and a continue go on.
 use Rattle.std.specs.Prelude.{ℕ, zero, suc, ◌+◌, List, [], ◌∷◌, ◌++◌, length, replicate, Option, Some, None}
 use Rattle.lex.specs.declared.token.Scalar.{Scalar}
-use Rattle.lex.specs.declared.token.Scalar.TheVariants.{Int, Unsigned}
+use Rattle.lex.specs.declared.token.Scalar.TheVariants.{Int, Unsigned, LongLong}
 use Rattle.syntax.specs.declared.tree.Kind.{Kind}
 use Rattle.syntax.specs.declared.tree.Kind.TheVariants.{Plain, Outer}
 use Rattle.syntax.specs.Tree.{Expr, Simple, Stmt, Stmts, Empty, Declare, Do, Block, Print, If, IfElse, While, DoWhile, For, Break, Continue, Return, Transaction, Cancel, CancelOuter, Program}
@@ -92,6 +92,7 @@ returned n e = and_then (evaluated e) (left_by n (own.ReturnValue e.held.registe
 abbrev pub printing : Scalar → ℕ → Instr
 printing Int r = own.PrintSigned r
 printing Unsigned r = own.PrintUnsigned r
+printing LongLong r = own.PrintLong r
 
 abbrev pub and_one : Instr → Written → Written
 and_one i a = record { code = i ∷ a.code; lists = a.lists; to = a.to }

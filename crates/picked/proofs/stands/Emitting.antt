@@ -4,7 +4,7 @@ use Rattle.std.specs.Prelude.{if◌then◌else◌, ◌==◌, option_map}
 use Rattle.std.proofs.lemmas.Bool.{eqb-false}
 use Rattle.std.proofs.lemmas.List.{length-append}
 use Rattle.lex.specs.declared.token.Scalar.{Scalar}
-use Rattle.lex.specs.declared.token.Scalar.TheVariants.{Int, Unsigned}
+use Rattle.lex.specs.declared.token.Scalar.TheVariants.{Int, Unsigned, LongLong}
 use Rattle.syntax.specs.declared.tree.BinaryOp.{BinaryOp}
 use Rattle.syntax.specs.declared.tree.BinaryOp.TheVariants.{Or, Less, Greater, LessEqual, GreaterEqual, ShiftLeft, ShiftRight, Add, Subtract, Multiply, Divide, Remainder}
 use Rattle.syntax.specs.Tree.{Expr, Constant}
@@ -17,7 +17,7 @@ use Rattle.bytecode.specs.Views.{instr_of}
 use Rattle.lowered.specs.Expressions as Lowered
 use Rattle.lowered.specs.Expressions.{Coded, Layout, MayTake, GivenBy, LocalIs, LiesReady, OperandCode, VariableCode, ElementCode, CastCode, ValueTransactionCode, UnaryCode, NotCode, BinaryCode, MovedCode, BranchCode}
 use Rattle.picked.specs.Lists.{Lists, used}
-use Rattle.picked.specs.Expressions.{computing, negating, Emitted, above, one, then_one, ready_from, ready, constant_ready, ready_or, in_local, converted_to, in_own_transaction, negated, complemented, compared, both, settled}
+use Rattle.picked.specs.Expressions.{computing, negating, complementing, Emitted, above, one, then_one, ready_from, ready, constant_ready, ready_or, in_local, converted_to, in_own_transaction, negated, complemented, compared, both, settled}
 use Rattle.lowered.proofs.Unconverted.{operator_is}
 use Rattle.picked.proofs.stands.Standing.{Stand, front, behind, Grows, grows_same, grows_further, grows_used, max_left, max_right, Fits, fits_before, is_register, given}
 
@@ -40,6 +40,12 @@ computing_is arguments op t d a b = refl
 pub negating_is : (arguments : List ℕ) (t : Scalar) (d a : ℕ) → instr_of arguments (negating t d a) ≡ Plain.Negate t d a
 negating_is arguments Int d a = refl
 negating_is arguments Unsigned d a = refl
+negating_is arguments LongLong d a = refl
+
+pub complementing_is : (arguments : List ℕ) (t : Scalar) (d a : ℕ) → instr_of arguments (complementing t d a) ≡ Lowered.complementing t d a
+complementing_is arguments Int d a = refl
+complementing_is arguments Unsigned d a = refl
+complementing_is arguments LongLong d a = refl
 
 pub above_free : (free r : ℕ) → free ≤ above free r
 above_free free r = max_left free (suc r)
@@ -129,10 +135,16 @@ module _ (code : Code) (arguments : List ℕ) (layout : Layout) where
       })
 
   pub complemented_emits : (home : Option ℕ) (A : Coded) (from free into : ℕ) (l : Lists) (e : Emitted) → Emits A from free l e → MayTake home free into →
-      Emits (λ from to free r t. UnaryCode code layout home (λ ta ra. Plain.Complement r ra) A from to free r t) from free l (complemented e into)
+      Emits (λ from to free r t. UnaryCode code layout home (λ ta ra. Lowered.complementing ta r ra) A from to free r t) from free l (complemented e into)
   complemented_emits home A from free into l e h m =
-      then_emits A (λ from to free r t. UnaryCode code layout home (λ ta ra. Plain.Complement r ra) A from to free r t) home (own.Complement into e.held.register) e.held.of from free into l e h m
-      (λ a b. record { mid = e.held.to; ra = e.held.register; ta = e.held.of; computes = a; operates = b })
+      then_emits A (λ from to free r t. UnaryCode code layout home (λ ta ra. Lowered.complementing ta r ra) A from to free r t) home (complementing e.held.of into e.held.register) e.held.of from free into l e h m
+      (λ a b. record {
+        mid = e.held.to;
+        ra = e.held.register;
+        ta = e.held.of;
+        computes = a;
+        operates = subst (λ i. GivenBy code layout home i e.held.of e.held.to (e.held.to + 1) free into e.held.of) (complementing_is arguments e.held.of into e.held.register) b;
+      })
 
   pub compared_emits : (home : Option ℕ) (A : Coded) (from free into : ℕ) (l : Lists) (e : Emitted) → Emits A from free l e → MayTake home free into →
       Emits (NotCode code layout home A) from free l (compared e into free)

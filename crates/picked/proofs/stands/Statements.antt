@@ -4,7 +4,7 @@ use Rattle.std.specs.Prelude.{slice_get, ◌==◌}
 use Rattle.std.specs.Option.{IfSome}
 use Rattle.std.proofs.lemmas.List.{length-append, length-replicate}
 use Rattle.lex.specs.declared.token.Scalar.{Scalar}
-use Rattle.lex.specs.declared.token.Scalar.TheVariants.{Int, Unsigned}
+use Rattle.lex.specs.declared.token.Scalar.TheVariants.{Int, Unsigned, LongLong}
 use Rattle.syntax.specs.declared.tree.Mode.{Mode}
 use Rattle.syntax.specs.declared.tree.Mode.TheVariants.{Atomic}
 use Rattle.syntax.specs.declared.tree.Kind.{Kind}
@@ -152,6 +152,7 @@ module _ (p : Program) (code : Code) (arguments : List ℕ) (layout : Layout) wh
   printing_is : (t : Scalar) (r : ℕ) → instr_of arguments (printing t r) ≡ Plain.PrintNumber t r
   printing_is Int r = refl
   printing_is Unsigned r = refl
+  printing_is LongLong r = refl
 
   at_length : (xs ys : List (List ℕ)) (x : List ℕ) → slice_get ((xs ++ x ∷ []) ++ ys) (length xs) ≡ Some x
   at_length [] ys x = refl

@@ -4,7 +4,7 @@ use Rattle.std.specs.Prelude.{option_map, unwrap_or}
 use Rattle.std.specs.Option.{IfSome}
 use Rattle.std.proofs.lemmas.List.{length-map}
 use Rattle.lex.specs.declared.token.Scalar.{Scalar}
-use Rattle.lex.specs.declared.token.Scalar.TheVariants.{Int, Unsigned}
+use Rattle.lex.specs.declared.token.Scalar.TheVariants.{Int, Unsigned, LongLong}
 use Rattle.syntax.specs.declared.tree.UnaryOp.TheVariants.{Negate, Keep, Not, Complement}
 use Rattle.syntax.specs.Tree.{Name, Expr, Exprs, Variable, Constant, Element, Call, Parenthesized, Cast, Unary, Binary, Logical, Conditional, InTransaction, Program}
 use Rattle.syntax.specs.Numbers.{word_of}
@@ -33,6 +33,7 @@ use Rattle.picked.proofs.valid.Shared.{cells_lie, variable_has_one}
 word_written : (t : Scalar) (n : ℕ) → word_of t (pos n) < 2 ^ 64
 word_written Int n = let h = word_below Int (pos n) in omega (arith, h)
 word_written Unsigned n = let h = word_below Unsigned (pos n) in omega (arith, h)
+word_written LongLong n = word_below LongLong (pos n)
 
 -- a callee's number is that of a function of so many parameters
 abbrev pub CalleesTake : Program → Code → Type 0

@@ -5,7 +5,7 @@ use Rattle.std.specs.List.{AllByRecursion}
 use Rattle.std.specs.Option.{IfSome}
 use Rattle.std.proofs.lemmas.List.{length-append, length-map, map-append}
 use Rattle.lex.specs.declared.token.Scalar.{Scalar}
-use Rattle.lex.specs.declared.token.Scalar.TheVariants.{Int, Unsigned}
+use Rattle.lex.specs.declared.token.Scalar.TheVariants.{Int, Unsigned, LongLong}
 use Rattle.syntax.specs.declared.tree.BinaryOp.{BinaryOp}
 use Rattle.syntax.specs.declared.tree.BinaryOp.TheVariants.{Greater, GreaterEqual}
 use Rattle.syntax.specs.declared.tree.LogicalOp.{LogicalOp}
@@ -23,7 +23,7 @@ use Rattle.picked.specs.Lists.{Lists, used, holding}
 use Rattle.picked.specs.Names.{Callee}
 use Rattle.picked.specs.declared.draft.Draft.TheVariants as draft
 use Rattle.picked.specs.Conditions.{Condition, test_in, jump_if, jump_if_not, completed, turned, going_on, going_back, by_value, opposite, first_of, joined, zero_tested}
-use Rattle.picked.specs.Expressions.{computing, negating, Emitted, AllEmitted, above, one, then_one, ready_from, ready, constant_ready, ready_or, in_local, converted_to, in_own_transaction, negated, complemented, compared, both, answered, tested, settled, chosen, followed, called}
+use Rattle.picked.specs.Expressions.{computing, negating, complementing, Emitted, AllEmitted, above, one, then_one, ready_from, ready, constant_ready, ready_or, in_local, converted_to, in_own_transaction, negated, complemented, compared, both, answered, tested, settled, chosen, followed, called}
 use Rattle.picked.proofs.Drafted.{whole_are, turned_are, first_and, first_or, completed_length, on_length, back_length, first_length}
 use Rattle.picked.proofs.stands.Standing.{front_same, front_more, Grows, grows_same, grows_further, grows_used, max_left, max_right}
 use Rattle.picked.proofs.stands.Emitting.{computing_is}
@@ -187,9 +187,15 @@ module _ (code : Code) (arguments : List ℕ) (f : FunctionCode) (end : ℕ) whe
       by : (t : Scalar) → Sound from l (then_one e (negating t into e.held.register) into e.held.of)
       by Int = then_sound (own.NegateSigned into e.held.register) into e.held.of from l e h (λ q bs. (refl, tt)) (λ x y. (x, y))
       by Unsigned = then_sound (own.NegateUnsigned into e.held.register) into e.held.of from l e h (λ q bs. (refl, tt)) (λ x y. (x, y))
+      by LongLong = then_sound (own.NegateLong into e.held.register) into e.held.of from l e h (λ q bs. (refl, tt)) (λ x y. (x, y))
 
   pub complemented_sound : (into from : ℕ) (l : Lists) (e : Emitted) → Sound from l e → Sound from l (complemented e into)
-  complemented_sound into from l e h = then_sound (own.Complement into e.held.register) into e.held.of from l e h (λ q bs. (refl, tt)) (λ x y. (x, y))
+  complemented_sound into from l e h = by e.held.of
+    where
+      by : (t : Scalar) → Sound from l (then_one e (complementing t into e.held.register) into e.held.of)
+      by Int = then_sound (own.Complement into e.held.register) into e.held.of from l e h (λ q bs. (refl, tt)) (λ x y. (x, y))
+      by Unsigned = then_sound (own.Complement into e.held.register) into e.held.of from l e h (λ q bs. (refl, tt)) (λ x y. (x, y))
+      by LongLong = then_sound (own.ComplementLong into e.held.register) into e.held.of from l e h (λ q bs. (refl, tt)) (λ x y. (x, y))
 
   pub compared_sound : (into free from : ℕ) (l : Lists) (e : Emitted) → Sound from l e → Sound from l (compared e into free)
   compared_sound into free from l e h =

@@ -3,7 +3,7 @@ use Rattle.std.proofs.Common.{◌≡◌, refl, ap, subst, ◌∙◌, ℕ, zero, 
 use Rattle.std.specs.Option.{IfSome}
 use Rattle.std.proofs.lemmas.List.{length-append}
 use Rattle.lex.specs.declared.token.Scalar.{Scalar}
-use Rattle.lex.specs.declared.token.Scalar.TheVariants.{Int, Unsigned}
+use Rattle.lex.specs.declared.token.Scalar.TheVariants.{Int, Unsigned, LongLong}
 use Rattle.syntax.specs.Tree.{Expr, Exprs, Simple, Stmt, Stmts, Empty, Declare, Do, Block, Print, If, IfElse, While, DoWhile, For, Break, Continue, Return, Transaction, Cancel, CancelOuter, Program}
 use Rattle.syntax.specs.Formats.{Piece, Literal, Figure, pieces}
 use Rattle.syntax.specs.Names.{globals}
@@ -80,6 +80,7 @@ module _ (code : Code) (arguments : List ℕ) (f : FunctionCode) (end : ℕ) whe
       by : (t : Scalar) → Flat code arguments f end (from + 1) l (pieces_written ps rs (from + 1) l) → Flat code arguments f end from l (and_one (printing t r) (pieces_written ps rs (from + 1) l))
       by Int g = then_flat code arguments f end from l (one_written (own.PrintSigned r) from l) (pieces_written ps rs (from + 1) l) (one_flat code arguments f end (own.PrintSigned r) from l (λ q bs. (refl, tt)) (λ k. in_size code arguments f end r l h.0 k)) g
       by Unsigned g = then_flat code arguments f end from l (one_written (own.PrintUnsigned r) from l) (pieces_written ps rs (from + 1) l) (one_flat code arguments f end (own.PrintUnsigned r) from l (λ q bs. (refl, tt)) (λ k. in_size code arguments f end r l h.0 k)) g
+      by LongLong g = then_flat code arguments f end from l (one_written (own.PrintLong r) from l) (pieces_written ps rs (from + 1) l) (one_flat code arguments f end (own.PrintLong r) from l (λ q bs. (refl, tt)) (λ k. in_size code arguments f end r l h.0 k)) g
 
   -- a condition with its jump
   leading_part : (P : (ℕ → List ℕ) → Type 0) (bs : List ℕ) (there from : ℕ) (l : Lists) (c : Condition) → TestSound code arguments f end from l c → ((open_at : ℕ → List ℕ) → P open_at → Open bs there open_at) → Part code arguments f end P bs from l (leading c there)
