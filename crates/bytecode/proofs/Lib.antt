@@ -27,3 +27,4 @@ mod FlatCodes
 mod Kept
 -- what a valid code reads and writes
 pub mod Fits
+mod Marking

@@ -1,8 +1,10 @@
-//! The memory in which the threads of a code begin.
+//! The memory in which the threads of a code begin, and what its cells keep of a word.
 
-ghost use Rattle.std.specs.Prelude.{◌≡◌, ◌++◌, map, replicate, IfOk, OnOk};
+ghost use Rattle.std.specs.Prelude.{◌≡◌, ◌++◌, ◌<◌, length, map, replicate, IfOk, OnOk};
 ghost use Rattle.syntax.specs.Views.{global_of};
 ghost use Rattle.syntax.specs.Names.{first_word, first_words};
+ghost use Rattle.syntax.specs.Numbers.{residue};
+ghost use Rattle.bytecode.specs.Code.{bounds_of, stored};
 ghost use Rattle.bytecode.specs.Initial.{initial_of};
 ghost use Rattle.bytecode.specs.Valid.{IsValid};
 
@@ -10,6 +12,16 @@ use crate::code::Code;
 use lex::token::Scalar;
 use std::alloc::{AllocError, Allocator};
 use syntax::tree::{First, Global};
+
+// What a type sees of a word.
+fn seen(of: Scalar, word: u64) -> u64
+    ensures { result ≡ residue of word }
+{
+    match of {
+        Scalar::Int | Scalar::Unsigned => word % 4294967296,
+        Scalar::LongLong => word,
+    }
+}
 
 fn push_firsts<A: Allocator>(
     words: &mut Vec<u64, A>,
@@ -58,5 +70,21 @@ impl<A: Allocator> Code<A> {
             push_global(words, global)?;
         }
         Ok(())
+    }
+
+    /// What a cell keeps of a word: its residue for the cell's type. Takes a look at each global up to the cell's.
+    pub fn stored(&self, cell: u32, word: u64) -> u64
+        requires { cell < length (bounds_of self.now) }
+        ensures { result ≡ stored self.now cell word }
+    {
+        let mut left = cell as usize;
+        'globals: for global in self.globals() {
+            let cells = global.cell_count();
+            if left < cells {
+                return seen(global.of, word);
+            }
+            left -= cells;
+        }
+        word
     }
 }
