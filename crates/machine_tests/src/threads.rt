@@ -26,7 +26,7 @@ const LAST: u64 = u64::MAX - 1;
 
 // Whether this is a cell of the code's first global.
 fn is_in_first<A: Allocator>(code: &Code<A>, cell: u32) -> bool
-    ensures { result ≡ true → slice_index (bounds_of code.now) cell ≡ 2 ^ 32 }
+    ensures { result ≡ true → 2 ^ 32 ≤ slice_index (bounds_of code.now) cell }
 {
     match code.globals().first() {
         Some(global) => (cell as usize) < global.cell_count(),
